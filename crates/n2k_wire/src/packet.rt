@@ -1,0 +1,116 @@
+//! A packet: a frame or a whole message, with its stamp.
+ghost use Rattle.std.specs.Prelude.{◌≡◌, ◌≤◌, ◌^◌, ◌<◌, ◌↔◌, length, IsTrue};
+ghost use Rattle.std.specs.List.{list_all};
+ghost use Rattle.std.specs.Option.{SomeIff};
+ghost use Rattle.n2k_wire.specs.Packet.{IsPacket, is_stamp, is_stamp_byte, is_stamp_start};
+
+use crate::identifier::Id;
+use arrayvec::ArrayVec;
+use std::marker::Model;
+
+/// The most bytes of a stamp.
+pub const LONGEST_STAMP: usize = 32;
+
+/// The most bytes of a message.
+pub const LONGEST_MESSAGE: usize = 223;
+
+/// The greatest PGN of a plain line.
+pub const GREATEST_PGN: u32 = 16_777_215;
+
+/// The greatest priority.
+pub const GREATEST_PRIORITY: u8 = 7;
+
+/// A frame or a whole message: when it was seen, its identifier, and its data of at most 223 bytes.
+#[derive(Drop)]
+pub struct Packet {
+    stamp: ArrayVec<u8, 32>,
+    id: Id,
+    data: ArrayVec<u8, 223>,
+}
+
+impl Model for Packet {
+    ghost use Rattle.n2k_wire.specs.Packet.{Parts, IsPacket};
+
+    ghost Value = { Parts };
+
+    ghost view = { λ p. record { stamp = p.stamp.items; id = p.id; payload = p.«data».items } };
+
+    ghost invariant = { λ p. IsPacket p.stamp.items p.id p.«data».items };
+}
+
+// A byte that a stamp may hold.
+fn is_stamp_byte(byte: u8) -> bool
+    ensures { result ≡ is_stamp_byte byte }
+{
+    byte >= b' ' && byte <= b'~' && byte != b','
+}
+
+fn are_stamp_bytes(text: &[u8]) -> bool
+    ensures { result ≡ list_all is_stamp_byte text.now }
+{
+    text.iter().all(|byte| is_stamp_byte(*byte))
+}
+
+// A byte that a stamp may begin with.
+fn is_stamp_start(byte: u8) -> bool
+    ensures { result ≡ is_stamp_start byte }
+{
+    byte != b'(' && byte != b'#'
+}
+
+/// Whether a text is a stamp: 1 to 32 printable ASCII bytes, none of them a comma, the first neither `(` nor `#`.
+pub fn is_stamp(text: &[u8]) -> bool
+    ensures { result ≡ is_stamp text.now }
+{
+    match text {
+        [] => false,
+        [first, ..] => {
+            is_stamp_start(*first) && text.len() <= LONGEST_STAMP && are_stamp_bytes(text)
+        }
+    }
+}
+
+impl Packet {
+    /// The packet of these parts. `None` where the stamp isn't a stamp, the priority is over 7, the PGN over
+    /// 16777215, or the data are over 223 bytes.
+    pub fn new(stamp: &[u8], id: Id, data: &[u8]) -> Option<Packet>
+        ensures { SomeIff result (IsPacket stamp.now id «data».now) (record { stamp = stamp.now; id = id; payload = «data».now }) }
+    {
+        if !is_stamp(stamp) || id.prio > GREATEST_PRIORITY || id.pgn > GREATEST_PGN {
+            return None;
+        }
+        let mut kept_stamp = ArrayVec::new();
+        let mut kept_data = ArrayVec::new();
+        kept_stamp.try_extend_from_slice(stamp).ok()?;
+        kept_data.try_extend_from_slice(data).ok()?;
+        Some(Packet {
+            stamp: kept_stamp,
+            id,
+            data: kept_data,
+        })
+    }
+
+    /// The stamp, as text.
+    pub fn stamp(&self) -> &[u8]
+        ensures value { result.now ≡ self.now.stamp }
+        ensures valid { IsPacket self.now.stamp self.now.id self.now.payload }
+    {
+        self.stamp.as_slice()
+    }
+
+    /// The identifier.
+    pub fn id(&self) -> Id
+        ensures value { result ≡ self.now.id }
+        ensures valid { IsPacket self.now.stamp self.now.id self.now.payload }
+    {
+        self.id
+    }
+
+    /// The data, in the order of the bus.
+    pub fn data(&self) -> &[u8]
+        ensures value { result.now ≡ self.now.payload }
+        ensures valid { IsPacket self.now.stamp self.now.id self.now.payload }
+    {
+        self.data.as_slice()
+    }
+}
