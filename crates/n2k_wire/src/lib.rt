@@ -1,8 +1,15 @@
 //! Lines of a log, CAN identifiers, packets, and the texts of packets.
 #![tactic(auto)]
 
+mod candump;
+mod digits;
+mod entry;
 mod identifier;
 mod packet;
+mod pieces;
+mod plain;
+mod stamp;
 
-pub use identifier::Id;
+pub use entry::{BadCause, Entry, LONGEST_LINE, Packing, read_line};
+pub use identifier::{Id, split_id};
 pub use packet::Packet;

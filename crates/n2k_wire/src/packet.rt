@@ -79,15 +79,26 @@ impl Packet {
         if !is_stamp(stamp) || id.prio > GREATEST_PRIORITY || id.pgn > GREATEST_PGN {
             return None;
         }
+        if data.len() > LONGEST_MESSAGE {
+            return None;
+        }
+        Some(Packet::of_parts(stamp, id, data))
+    }
+
+    /// The packet of parts that make one.
+    pub(crate) fn of_parts(stamp: &[u8], id: Id, data: &[u8]) -> Packet
+        requires { IsPacket stamp.now id «data».now }
+        ensures { result ≡ record { stamp = stamp.now; id = id; payload = «data».now } }
+    {
         let mut kept_stamp = ArrayVec::new();
         let mut kept_data = ArrayVec::new();
-        kept_stamp.try_extend_from_slice(stamp).ok()?;
-        kept_data.try_extend_from_slice(data).ok()?;
-        Some(Packet {
+        let _ = kept_stamp.try_extend_from_slice(stamp);
+        let _ = kept_data.try_extend_from_slice(data);
+        Packet {
             stamp: kept_stamp,
             id,
             data: kept_data,
-        })
+        }
     }
 
     /// The stamp, as text.

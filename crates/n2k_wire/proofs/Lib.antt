@@ -1,0 +1,4 @@
+pub mod CalendarLemmas
+pub mod DigitLemmas
+pub mod PieceLemmas
+pub mod PlainLemmas
