@@ -9,7 +9,9 @@ mod packet;
 mod pieces;
 mod plain;
 mod stamp;
+mod texts;
 
 pub use entry::{BadCause, Entry, LONGEST_LINE, Packing, read_line};
 pub use identifier::{Id, split_id};
 pub use packet::Packet;
+pub use texts::plain_text;
