@@ -15,3 +15,6 @@ pub use entry::{BadCause, Entry, LONGEST_LINE, Packing, read_line};
 pub use identifier::{Id, split_id};
 pub use packet::Packet;
 pub use texts::plain_text;
+
+#[cfg(test)]
+mod tests;
