@@ -5,10 +5,13 @@ mod counts;
 mod device;
 mod fault;
 mod memory;
+mod reading;
 mod standard;
+mod writing;
 
 pub use counts::Counts;
 pub use device::{Failed, Sink, Source};
 pub use fault::{BytesFault, RunFault};
 pub use memory::{MemorySink, MemorySource};
+pub use reading::{MOST_READS, read_bytes};
 pub use standard::{StdSink, StdSource};
