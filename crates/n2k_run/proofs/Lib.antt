@@ -1,2 +1,3 @@
-pub mod Owed
 pub mod Gained
+pub mod Owed
+pub mod Splits

@@ -4,6 +4,7 @@
 mod counts;
 mod device;
 mod fault;
+mod lines;
 mod memory;
 mod reading;
 mod standard;
