@@ -27,12 +27,14 @@ Owes-taken old mid new text rest n owed more =
 -- a front of the next part is written
 pub Owes-front : (old mid new : Option (List ℕ)) (text part rest : List ℕ) → Owes old mid text (part ++ rest) → AppendsFront mid new part → AppendsFront old new text
 Owes-front old mid new text part rest owed more =
-    let split : text ≡ owed.front ++ ((more.1.front ++ more.0) ++ rest) = owed.still ∙ ap (λ p. owed.front ++ (p ++ rest)) more.1.still in
-    (more.0 ++ rest, record {
-      front = owed.front ++ more.1.front;
-      appended = Appends-trans old mid new owed.front more.1.front owed.appended more.1.appended;
-      still = split ∙ ap (λ p. owed.front ++ p) (append_assoc more.1.front more.0 rest) ∙ sym (append_assoc owed.front more.1.front (more.0 ++ rest));
-    })
+    let split : text ≡ owed.front ++ ((more.1.front ++ more.0) ++ rest) = owed.still ∙ ap (λ p. owed.front ++ (p ++ rest)) more.1.still in (
+      more.0 ++ rest,
+      record {
+        front = owed.front ++ more.1.front;
+        appended = Appends-trans old mid new owed.front more.1.front owed.appended more.1.appended;
+        still = split ∙ ap (λ p. owed.front ++ p) (append_assoc more.1.front more.0 rest) ∙ sym (append_assoc owed.front more.1.front (more.0 ++ rest));
+      },
+    )
 
 -- nothing is still to come
 pub Owes-done : (old new : Option (List ℕ)) (text : List ℕ) → Owes old new text [] → Appends old new text

@@ -1,12 +1,11 @@
 -- What is taken from a source into a vector, and why reading may end before the source does.
-use Rattle.std.specs.Prelude.{◌≡◌, ◌⊎◌, ◌≤◌, ◌+◌, ℕ, List, ◌++◌, length, Option, IfSome}
+use Rattle.std.specs.Prelude.{◌≡◌, ◌≤◌, ◌+◌, ℕ, List, ◌++◌, length, Option, IfSome}
 use Rattle.std.specs.Io.KnownBytes.{Consumes}
 use Rattle.n2k_run.specs.declared.reading.TheConstants.{MOST_READS}
 use Rattle.n2k_run.specs.declared.fault.BytesFault.{BytesFault}
 use Rattle.n2k_run.specs.declared.fault.BytesFault.TheVariants.{Read as BytesRead, Memory as BytesMemory}
 use Rattle.n2k_run.specs.declared.reading.ReadFault.{ReadFault}
 use Rattle.n2k_run.specs.declared.reading.ReadFault.TheVariants.{Read, Memory}
-use Rattle.n2k_run.specs.Device.{HasFailed}
 
 -- a vector gained bytes at its end, which a source gave
 pub record Gains (before after : List ℕ) (old new : Option (List ℕ)) : Type 0 where

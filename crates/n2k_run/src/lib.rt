@@ -16,3 +16,6 @@ pub use fault::{BytesFault, RunFault};
 pub use memory::{MemorySink, MemorySource};
 pub use reading::{MOST_READS, read_bytes};
 pub use standard::{StdSink, StdSource};
+
+#[cfg(test)]
+mod tests;

@@ -58,11 +58,9 @@ fn read_more<R: Source>(
 /// Reads the source to its end and puts its bytes at the end of the input. Where that is refused, the
 /// bytes that came before the refusal are kept, and the source still has the others.
 #[tactic(auto, using(crate::proofs::Gained::gain_steps))]
-pub(crate) fn read_all<R: Source>(
-    reader: &mut R,
-    input: &mut Vec<u8>,
-) -> Result<(), ReadFault>
+pub(crate) fn read_all<R: Source>(reader: &mut R, input: &mut Vec<u8>) -> Result<(), ReadFault>
     ensures gains { Gains input.old.items input.new.items (R.remaining reader.old) (R.remaining reader.new) }
+    ensures whole { OnOk result (IfSome (R.remaining reader.old) (λ left. input.new.items ≡ input.old.items ++ left)) }
     ensures end { OnOk result (IsAtEnd (R.remaining reader.new)) }
     ensures no_failure { OnOk result (R.failed_calls reader.new ≡ R.failed_calls reader.old) }
     ensures read { IsErrOf result ReadFault.Read

@@ -7,6 +7,6 @@ pub returns-clause-front : goal.returns-clause-front
 returns-clause-front c =
     whole_lines-is _ _ c.loop-end.invariant.within c.loop-end.invariant.none_after (λ some.
     elim c.loop-end-test.branch [
-      then-loop-end-test+else-bytes-end-ne-LINE_FEED w ↦ search rules
-    | else-loop-end-test w ↦ absurd (omega (arith, some))
+      | then-loop-end-test+else-bytes-end-ne-LINE_FEED w ↦ search rules
+      | else-loop-end-test w ↦ absurd (omega (arith, some))
     ])
