@@ -1,0 +1,5 @@
+pub mod Device
+pub mod Lines
+pub mod Memory
+pub mod Reading
+pub mod Writing

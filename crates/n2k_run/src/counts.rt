@@ -1,0 +1,18 @@
+//! The counts of a run.
+
+/// What a run counts, as its summary prints it.
+#[derive(Clone, Copy, Debug, PartialEq, Eq)]
+pub struct Counts {
+    /// Lines read, skipped ones too.
+    pub lines: u64,
+    /// Messages written.
+    pub messages: u64,
+    /// Bad lines.
+    pub bad: u64,
+    /// Frames and whole messages whose PGN isn't in the table.
+    pub unknown: u64,
+    /// Groups that ended without a message.
+    pub broken: u64,
+    /// Groups that are open at the end; the summary calls them `open`.
+    pub held: u64,
+}

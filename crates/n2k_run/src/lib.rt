@@ -1,0 +1,21 @@
+//! Runs over devices: what is read, what is written, and the lines of a log.
+#![tactic(auto)]
+
+mod counts;
+mod device;
+mod fault;
+mod lines;
+mod memory;
+mod reading;
+mod standard;
+mod writing;
+
+pub use counts::Counts;
+pub use device::{Failed, Sink, Source};
+pub use fault::{BytesFault, RunFault};
+pub use memory::{MemorySink, MemorySource};
+pub use reading::{MOST_READS, read_bytes};
+pub use standard::{StdSink, StdSource};
+
+#[cfg(test)]
+mod tests;
