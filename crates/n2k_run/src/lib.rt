@@ -8,6 +8,7 @@ mod lines;
 mod memory;
 mod reading;
 mod standard;
+mod texts;
 mod writing;
 
 pub use counts::Counts;
@@ -16,6 +17,7 @@ pub use fault::{BytesFault, RunFault};
 pub use memory::{MemorySink, MemorySource};
 pub use reading::{MOST_READS, read_bytes};
 pub use standard::{StdSink, StdSource};
+pub use texts::{bad_text, summary_text};
 
 #[cfg(test)]
 mod tests;
