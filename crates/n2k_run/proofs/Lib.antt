@@ -1,3 +1,5 @@
 pub mod Gained
 pub mod Owed
+pub mod PlainFront
+pub mod PlainSteps
 pub mod Splits

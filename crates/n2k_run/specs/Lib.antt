@@ -3,6 +3,7 @@ pub mod Entries
 pub mod Lines
 pub mod Memory
 pub mod PlainRun
+pub mod Progress
 pub mod Reading
 pub mod Reports
 pub mod Writing

@@ -16,3 +16,15 @@ pub struct Counts {
     /// Groups that are open at the end; the summary calls them `open`.
     pub held: u64,
 }
+
+impl Counts {
+    /// Before the first line.
+    pub const NONE: Counts = Counts {
+        lines: 0,
+        messages: 0,
+        bad: 0,
+        unknown: 0,
+        broken: 0,
+        held: 0,
+    };
+}

@@ -1,5 +1,6 @@
 //! Why a run, or the reading of a file, ends without its answer.
 
+use std::alloc::AllocError;
 use thiserror::Error;
 
 /// Why a run ended before the end of its log.
@@ -20,6 +21,17 @@ pub enum RunFault {
     /// The log has more lines than are counted.
     #[error("too many lines")]
     TooManyLines,
+}
+
+impl From<AllocError> for RunFault {
+    ghost use Rattle.std.specs.Prelude.{◌≡◌};
+    ghost use Rattle.n2k_run.specs.declared.fault.RunFault.TheVariants.{Memory};
+
+    ghost from_gives = { λ _ fault. fault ≡ Memory };
+
+    fn from(_: AllocError) -> Self {
+        RunFault::Memory
+    }
 }
 
 /// Why the bytes of a source can't be had.
