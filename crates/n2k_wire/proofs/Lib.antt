@@ -1,4 +1,5 @@
 pub mod CalendarLemmas
 pub mod DigitLemmas
+pub mod HexDigits
 pub mod PieceLemmas
 pub mod PlainLemmas

@@ -2,6 +2,7 @@ pub mod Calendar
 pub mod Candump
 pub mod Digits
 pub mod Entry
+pub mod HexValue
 pub mod Identifier
 pub mod Moments
 pub mod Packet

@@ -1,6 +1,14 @@
 //! Numbers as digits.
-ghost use Rattle.std.specs.Prelude.{◌≡◌, ◌<◌, ◌≤◌, ◌^◌, length, IfSome};
+ghost use Rattle.std.specs.Prelude.{◌≡◌, ◌<◌, ◌≤◌, ◌^◌, ◌*◌, true, length, IfSome};
+ghost use Rattle.std.specs.Char.{is_ascii_hexdigit};
+ghost use Rattle.std.specs.List.{list_all};
+ghost use Rattle.std.specs.Result.{result_ok};
+ghost use Rattle.hex.specs.Hex.{hex_digit_value, decode_of};
+ghost use Rattle.n2k_wire.specs.HexValue.{hex_value};
+ghost use Rattle.n2k_wire.specs.Steps.{Finds};
 ghost use Rattle.n2k_wire.specs.Digits.{decimal_after, decimal_digit, decimal_number};
+
+use arrayvec::ArrayVec;
 
 /// The number that 1 to `most` decimal digits make.
 #[tactic(auto, unfolding(crate::specs::Digits::decimal_number))]
@@ -40,4 +48,38 @@ fn decimal_digit(byte: u8) -> Option<u64>
     } else {
         None
     }
+}
+
+/// Whether each byte is a hexadecimal digit, of either case.
+pub fn are_hex_digits(digits: &[u8]) -> bool
+    ensures { result ≡ list_all is_ascii_hexdigit digits.now }
+{
+    digits.iter().all(|byte| byte.is_ascii_hexdigit())
+}
+
+// The value of a hexadecimal digit. Digits and letters take the same steps: a branch on their kind would be
+// mispredicted all the time, since the bytes of a bus are as good as random.
+fn hex_value(digit: u8) -> u8
+    requires { is_ascii_hexdigit digit ≡ true }
+    ensures value { result ≡ hex_value digit }
+    ensures bound { result < 16 }
+{
+    digit % 16 + digit / 64 * 9
+}
+
+/// The bytes that up to eight pairs of hexadecimal digits spell, as `hex` decodes them.
+pub fn decode_digits(digits: &[u8]) -> Option<ArrayVec<u8, 8>>
+    requires short { length digits.now ≤ 16 }
+    requires hexadecimal { list_all is_ascii_hexdigit digits.now ≡ true }
+    ensures value { Finds (λ bytes. bytes.items) result (result_ok (decode_of digits.now)) }
+    ensures len { IfSome result (λ bytes. length digits.now ≡ 2 * length bytes.items) }
+{
+    if digits.len() % 2 == 1 {
+        return None;
+    }
+    let mut bytes = ArrayVec::new();
+    for i in 0..digits.len() / 2 {
+        bytes.push(16 * hex_value(digits[2 * i]) + hex_value(digits[2 * i + 1]));
+    }
+    Some(bytes)
 }
