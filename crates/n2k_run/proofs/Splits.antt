@@ -9,7 +9,7 @@ use Rattle.std.proofs.lemmas.List.Quantifiers.{position-Some}
 use Rattle.std.proofs.lemmas.List.Splits.{slice_split_first, slice_split_none}
 use Rattle.std.proofs.lemmas.List.Sums.{fails_before_first, position_or_len_is, suffix_len_is}
 use Rattle.std.proofs.lemmas.Bool.Decides.{nat_tests}
-use Rattle.n2k_run.specs.Lines.{is_line_feed, without_last_empty, without_return, lines, whole_lines}
+use Rattle.n2k_run.specs.Lines.{line_feed, is_line_feed, without_last_empty, without_return, lines, whole_lines}
 
 -- there is a first piece
 first_piece : (bytes : List ℕ) → (first : List ℕ) × ((more : List (List ℕ)) × (slice_split is_line_feed bytes ≡ first ∷ more))
@@ -110,7 +110,7 @@ whole_lines-is bytes end within none last =
     ap (λ n. take n bytes) count
 
 -- after bytes that are empty or end in a line feed, new lines begin
-pub lines-append : (front rest : List ℕ) → IsEmptyOrEndsWith front 10 → lines (front ++ rest) ≡ lines front ++ lines rest
+pub lines-append : (front rest : List ℕ) → IsEmptyOrEndsWith front line_feed → lines (front ++ rest) ≡ lines front ++ lines rest
 lines-append [] rest ends = refl
 lines-append (byte ∷ bytes) rest ends =
     let front = byte ∷ bytes in

@@ -1,7 +1,7 @@
 //! The counts of a run.
 
 /// What a run counts, as its summary prints it.
-#[derive(Clone, Copy, Debug, PartialEq, Eq)]
+#[derive(Clone, Copy, Debug, Default, PartialEq, Eq)]
 pub struct Counts {
     /// Lines read, skipped ones too.
     pub lines: u64,

@@ -2,7 +2,7 @@
 ghost use Rattle.std.specs.Prelude.{◌≡◌, ◌<◌, ◌↔◌, [], ◌∷◌, length, IsNone, IfSome};
 ghost use Rattle.std.specs.List.{position};
 ghost use Rattle.std.specs.Io.{IsEmptyOrEndsWith};
-ghost use Rattle.n2k_run.specs.Lines.{is_line_feed, lines, without_return, whole_lines};
+ghost use Rattle.n2k_run.specs.Lines.{line_feed, is_line_feed, lines, without_return, whole_lines};
 
 const LINE_FEED: u8 = b'\n';
 
@@ -44,7 +44,7 @@ pub(crate) fn split_line(bytes: &[u8]) -> Option<(&[u8], &[u8])>
 /// The bytes up to and with the last LF, none where there is no LF.
 pub(crate) fn whole_lines(bytes: &[u8]) -> &[u8]
     ensures front { result.now ≡ whole_lines bytes.now }
-    ensures whole { IsEmptyOrEndsWith result.now LINE_FEED }
+    ensures whole { IsEmptyOrEndsWith result.now line_feed }
 {
     let mut end = bytes.len();
     while end > 0 && bytes[end - 1] != LINE_FEED {

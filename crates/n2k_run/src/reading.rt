@@ -98,6 +98,7 @@ pub fn read_bytes<R: Source>(
     let mut block = [0; BLOCK];
     let mut bytes = Vec::new(alloc);
     for _reads in 0..MOST_READS {
+        // One byte past the limit tells that there are too many.
         let wanted = (limit - bytes.len()).min(BLOCK - 1) + 1;
         if read_more(reader, &mut block[..wanted], &mut bytes)? == 0 {
             return Ok(bytes);
