@@ -86,6 +86,7 @@ impl Packet {
     }
 
     /// The packet of parts that make one.
+    #[inline]
     pub(crate) fn of_parts(stamp: &[u8], id: Id, data: &[u8]) -> Packet
         requires { IsPacket stamp.now id «data».now }
         ensures { result ≡ record { stamp = stamp.now; id = id; payload = «data».now } }
