@@ -1,15 +1,15 @@
 -- Pairs of hexadecimal digits, by the values of the digits.
-use Rattle.std.proofs.Common.{◌≡◌, ℕ, zero, suc, ◌+◌, ◌*◌, ◌/◌, ◌%◌, ◌<◌, ◌≤◌, Bool, true, false, not, ◌&&◌, ◌||◌, List, [], ◌∷◌, ◌++◌, length, get_or, take, drop, Option, Some, None, Result, Ok, Err, refl, sym, ◌∙◌, append_assoc, arith, ◌-◌, inl, inr}
+use Rattle.std.proofs.Common.{◌≡◌, ℕ, zero, suc, ◌+◌, ◌*◌, ◌%◌, ◌<◌, ◌≤◌, Bool, true, false, not, ◌&&◌, List, [], ◌∷◌, ◌++◌, length, get_or, take, drop, Some, None, Ok, refl, sym, ap, ◌∙◌, append_assoc, arith, ◌-◌, inl, inr}
 use Rattle.std.specs.Char.{is_ascii_hexdigit}
 use Rattle.std.specs.List.{list_all, position_or_len}
 use Rattle.std.specs.Result.{result_ok}
 use Rattle.std.proofs.lemmas.Bool.{cases_Bool}
 use Rattle.std.proofs.lemmas.Bool.Decides.{nat_tests}
+use Rattle.std.proofs.Math.Bool.{and-true, and_assoc}
 use Rattle.std.proofs.Math.Numerals.{one-add}
 use Rattle.std.proofs.Math.Seq.{drop-cons}
 use Rattle.std.proofs.Math.ListN.{drop_of_length-le}
 use Rattle.std.proofs.lemmas.List.{append-nil}
-use Rattle.hex.specs.declared.error.FromHexError.{FromHexError}
 use Rattle.hex.specs.Hex.{hex_digit_value, decode_pairs, decode_of}
 use Rattle.n2k_wire.specs.HexValue.{hex_value}
 
@@ -74,3 +74,22 @@ pub digit_at : (digits : List ℕ) (i : ℕ) → list_all is_ascii_hexdigit digi
 digit_at [] i all within = absurd (omega arith)
 digit_at (digit ∷ digits) zero all within = (both _ _ all).0
 digit_at (digit ∷ digits) (suc i) all within = digit_at digits i (both _ _ all).1 (omega arith)
+
+-- one byte more is looked at
+pub all_more : (p : ℕ → Bool) (bytes : List ℕ) (i : ℕ) (so_far : Bool) → i < length bytes → (so_far && list_all p (drop i bytes)) ≡ list_all p bytes
+    → ((so_far && p (get_or bytes i 0)) && list_all p (drop (i + 1) bytes)) ≡ list_all p bytes
+all_more p bytes i so_far within before =
+    let next : suc i ≡ i + 1 = omega arith in
+    let cut : drop i bytes ≡ get_or bytes i 0 ∷ drop (i + 1) bytes = drop-cons bytes i 0 within ∙ ap (λ k. get_or bytes i 0 ∷ drop k bytes) next in
+    and_assoc so_far (p (get_or bytes i 0)) (list_all p (drop (i + 1) bytes)) ∙ (rw cut at before)
+
+pub all_done : (p : ℕ → Bool) (bytes : List ℕ) (i : ℕ) (so_far : Bool) → length bytes ≤ i → (so_far && list_all p (drop i bytes)) ≡ list_all p bytes → so_far ≡ list_all p bytes
+all_done p bytes i so_far past before = sym (and-true so_far) ∙ (rw (drop_of_length-le bytes {i = i} past) at before)
+
+-- a text of digits alone is as long as the digits that it begins with
+pub all_digits : (p : ℕ → Bool) (text : List ℕ) → list_all p text ≡ true → length text ≡ position_or_len (λ b. not (p b)) text
+all_digits p [] all = refl
+all_digits p (b ∷ text) all =
+    let first : (p b ≡ true) × (list_all p text ≡ true) = both _ _ all in
+    let rest = all_digits p text first.1 in
+    rw first.0 (omega arith)

@@ -153,6 +153,10 @@ fn digits_len(text: &[u8]) -> usize
     ensures value { result ≡ digits_len text.now }
     ensures within { result ≤ length text.now }
 {
+    // Mostly the data end the line, and then one pass without branches tells it.
+    if are_hex_digits(text) {
+        return text.len();
+    }
     match place_of_other(text) {
         Some(at) => at,
         None => text.len(),

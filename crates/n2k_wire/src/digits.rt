@@ -50,19 +50,23 @@ fn decimal_digit(byte: u8) -> Option<u64>
     }
 }
 
-/// Whether a byte is a hexadecimal digit, of either case. No branch goes by the kind of the digit: it would be
-/// mispredicted all the time, since the bytes of a bus are as good as random.
+/// Whether a byte is a hexadecimal digit, of either case.
 pub fn is_hex_digit(byte: u8) -> bool
     ensures { result ≡ is_ascii_hexdigit byte }
 {
     (byte.wrapping_sub(b'0') < 10) | (byte.wrapping_sub(b'A') < 6) | (byte.wrapping_sub(b'a') < 6)
 }
 
-/// Whether each byte is a hexadecimal digit.
+/// Whether each byte is a hexadecimal digit. It looks at each, without a branch that goes by the kind of the
+/// digit: that would be mispredicted all the time, since the bytes of a bus are as good as random.
 pub fn are_hex_digits(digits: &[u8]) -> bool
     ensures { result ≡ list_all is_ascii_hexdigit digits.now }
 {
-    digits.iter().all(|byte| is_hex_digit(*byte))
+    let mut all = true;
+    for byte in digits {
+        all &= is_hex_digit(*byte);
+    }
+    all
 }
 
 // The value of a hexadecimal digit, by the same steps for digits and letters.

@@ -1,4 +1,3 @@
-use Rattle.std.proofs.Common.{◌≡◌}
 use Rattle.std.specs.Char.{is_ascii_hexdigit}
 use Rattle.n2k_wire.proofs.HexDigits.{all_before}
 use Rattle.n2k_wire.proofs.candump.read_payload.Goals as goal

@@ -1,5 +1,5 @@
 use Rattle.std.proofs.Common.{◌≡◌, ◌*◌, ◌/◌, ◌≤◌, length, ap, sym, ◌∙◌, arith, Some}
-use Rattle.n2k_wire.proofs.HexDigits.{spells_on, spells_none, decode_of-even, decode_of-odd, digit_at}
+use Rattle.n2k_wire.proofs.HexDigits.{spells_on, spells_none, decode_of-even}
 use Rattle.n2k_wire.proofs.digits.decode_digits.Goals as goal
 
 pub loop-i-preserved : goal.loop-i-preserved
