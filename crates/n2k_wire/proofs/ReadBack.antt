@@ -29,9 +29,11 @@ HasNoComma text = All (λ b. (b == 44) ≡ false) text
 no_comma : (b : ℕ) → (b ≡ 44 → ⊥) → (b == 44) ≡ false
 no_comma b other = ne_eqb b 44 other
 
+-- a piece and a comma, and what stands behind them
 next_piece : (text more : List ℕ) → HasNoComma text → pieces (text ++ (44 ∷ more)) ≡ text ∷ pieces more
 next_piece text more h = slice_split_at (λ b. b == 44) text 44 more h refl
 
+-- the last piece
 last_piece : (text : List ℕ) → HasNoComma text → pieces text ≡ text ∷ []
 last_piece text h = slice_split_none (λ b. b == 44) text h
 
@@ -61,6 +63,7 @@ one_byte : (b : ℕ) → b < 256 → IsBytes (b ∷ [])
 one_byte b h zero = h
 one_byte b h (suc i) = omega arith
 
+-- the two digits of a byte spell it
 byte_reads : (b : ℕ) → b < 256 → pair (byte_digits b) ≡ Some (b ∷ [])
 unfolding pair
 byte_reads b h = rw (decode_sized-encode_lower (b ∷ []) 1 refl (one_byte b h)) refl
@@ -70,12 +73,14 @@ unfolding pairs
 bytes_read [] h = refl
 bytes_read (b ∷ bytes) h = rw (byte_reads b (h 0), bytes_read bytes (λ i. h (suc i))) refl
 
+-- a piece, and behind it one piece for each byte
 pieces_of_bytes : (front bytes : List ℕ) → HasNoComma front → IsBytes bytes → pieces (front ++ flat_map byte_piece bytes) ≡ front ∷ map byte_digits bytes
 pieces_of_bytes front [] h bs = rw append-nil (last_piece front h)
 pieces_of_bytes front (b ∷ bytes) h bs =
     next_piece front (byte_digits b ++ flat_map byte_piece bytes) h
     ∙ ap (λ more. front ∷ more) (pieces_of_bytes (byte_digits b) bytes (byte_no_comma b (bs 0)) (λ i. bs (suc i)))
 
+-- three characters for each byte
 length-bytes : (bytes : List ℕ) → length (flat_map byte_piece bytes) ≡ 3 * length bytes
 length-bytes [] = refl
 length-bytes (b ∷ bytes) = omega (arith, length-byte_digits b, length-bytes bytes, length-append (byte_piece b) (flat_map byte_piece bytes))
@@ -103,7 +108,7 @@ digit_behind before b (c ∷ digits) n e =
       | Some digit ↦ λ some. digit_behind (10 * before + digit) b digits n some
     ] e
 
--- the number that a text is the decimal of
+-- a text that is read as this number, and is one piece
 abbrev IsReadAs : ℕ → List ℕ → Type 0
 IsReadAs n text = (decimal_after 0 text ≡ Some n) × HasNoComma text
 
@@ -119,12 +124,14 @@ more_digits_read n text h front = (
   All-append (λ x. (x == 44) ≡ false) text ((48 + n % 10) ∷ []) front.1 (glyph_no_comma (n % 10)),
 )
 
+-- the decimal digits of a number are read as that number
 decimal_reads : (n : ℕ) → n < 2 ^ 64 → IsReadAs n (decimal n)
 decimal_reads n h = decimal_by_steps IsReadAs one_digit_reads more_digits_read n h
 
 number_no_comma : (n : ℕ) → n < 10 ^ 10 → HasNoComma (decimal n)
 number_no_comma n h = (decimal_reads n (omega arith)).1
 
+-- so are they where the number is within its limit
 number_reads : (limit n : ℕ) → n ≤ limit → limit < 10 ^ 10 → number_to limit (decimal n) ≡ Some n
 unfolding number_to decimal_number
 number_reads limit n within h =
@@ -139,6 +146,7 @@ length-number_piece n h = omega (arith, length-decimal-le 10 n (omega arith) h (
 
 -- ---- the stamp
 
+-- a stamp begins as none of the other lines do, is short, and is one piece
 stamp_parts : (stamp : List ℕ) → IsTrue (is_stamp stamp) → (starts_stamp stamp ≡ true) × (length stamp ≤ 32) × HasNoComma stamp
 stamp_parts stamp ok =
     let outer = and_parts (starts_stamp stamp && leb (length stamp) 32) (list_all is_stamp_byte stamp) ok in
@@ -158,12 +166,14 @@ not_candump (b ∷ stamp) more h = not-true (b == 40) (and_parts (not (b == 40))
 
 -- ---- the line
 
+-- the seven parts of a plain line, grouped to the right
 regroup : (s a b c d e f : List ℕ) → (((((s ++ a) ++ b) ++ c) ++ d) ++ e) ++ f ≡ s ++ (a ++ (b ++ (c ++ (d ++ (e ++ f)))))
 regroup s a b c d e f = simp append_assoc
 
 lengths : (s a b c d e f : List ℕ) → length ((((((s ++ a) ++ b) ++ c) ++ d) ++ e) ++ f) ≡ length s + length a + length b + length c + length d + length e + length f
 lengths s a b c d e f = simp length-append
 
+-- a line that is neither too long, nor skipped, nor of the other format
 plain_entry : (line : List ℕ) (packing : Packing) → length line ≤ 2048 → is_skipped line ≡ false → is_candump line ≡ false → entry line packing ≡ settled (plain line)
 unfolding entry
 plain_entry line packing short kept other =
@@ -189,6 +199,7 @@ module _ (p : Parts) (ok : IsPacketParts p) (short : length p.payload ≤ 8) whe
   len_small : length p.payload < 10 ^ 10
   len_small = omega arith
 
+  -- what stands behind the stamp
   behind_stamp : List ℕ
   behind_stamp =
       number_piece p.id.prio ++ (number_piece p.id.pgn ++ (number_piece p.id.src ++ (number_piece p.id.dst ++ (number_piece (length p.payload) ++ flat_map byte_piece p.payload))))
@@ -203,6 +214,7 @@ module _ (p : Parts) (ok : IsPacketParts p) (short : length p.payload ≤ 8) whe
       rw (lengths p.stamp (number_piece p.id.prio) (number_piece p.id.pgn) (number_piece p.id.src) (number_piece p.id.dst) (number_piece (length p.payload)) (flat_map byte_piece p.payload))
       (omega (arith, stamp_is.1, length-number_piece p.id.prio prio_small, length-number_piece p.id.pgn pgn_small, length-number_piece p.id.src src_small, length-number_piece p.id.dst dst_small, length-number_piece (length p.payload) len_small, length-bytes p.payload))
 
+  -- the pieces behind the stamp
   behind : List (List ℕ)
   behind =
       decimal p.id.prio ∷ decimal p.id.pgn ∷ decimal p.id.src ∷ decimal p.id.dst ∷ decimal (length p.payload) ∷ map byte_digits p.payload
