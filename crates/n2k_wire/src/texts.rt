@@ -2,7 +2,7 @@
 ghost use Rattle.std.specs.Prelude.{◌≡◌, ◌+◌, ◌*◌, ◌≤◌, ◌++◌, length, OnOk, OnErr};
 ghost use Rattle.std.specs.List.{flat_map};
 ghost use Rattle.arrayvec.specs.ArrayVec.{array_vec_len};
-ghost use Rattle.n2k_wire.specs.Texts.{byte_piece, number_piece, plain_line, plain_text};
+ghost use Rattle.n2k_wire.specs.Texts.{byte_piece, number_piece, plain_text};
 
 use crate::packet::Packet;
 use arrayvec::ArrayVec;
