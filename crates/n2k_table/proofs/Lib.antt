@@ -1,0 +1,4 @@
+pub mod Keys
+pub mod Digits
+pub mod Each
+pub mod FieldFaults

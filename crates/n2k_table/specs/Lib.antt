@@ -1,0 +1,6 @@
+pub mod Fault
+pub mod Tree
+pub mod Resolution
+pub mod Field
+pub mod Definition
+pub mod Table
