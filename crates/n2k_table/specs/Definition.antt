@@ -84,10 +84,12 @@ members_definition m = record {
 abbrev pub definition : Data → DefinitionParts
 definition d = members_definition (members_or_none d)
 
--- the PGN and the kind under which a definition counts, where neither has a fault
-abbrev pub counted_kind : Data → Option (ℕ × Kind)
-counted_kind d = result_ok (do
-  m ← as_members d
+-- The PGN and the kind under which a definition counts, where neither has a fault.
+abbrev pub number_and_kind : Members → Result (ℕ × Kind) TableFault
+number_and_kind m = do
   n ← number_of m
   kind ← kind_of m
-  Ok (n, kind))
+  Ok (n, kind)
+
+abbrev pub counted_kind : Data → Option (ℕ × Kind)
+counted_kind d = result_ok (as_members d >>= number_and_kind)

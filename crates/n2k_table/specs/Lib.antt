@@ -4,3 +4,5 @@ pub mod Resolution
 pub mod Field
 pub mod Definition
 pub mod Table
+pub mod Bits
+pub mod Shown

@@ -6,10 +6,12 @@ ghost use Rattle.toml.specs.View.{view, table_view, array_view};
 ghost use Rattle.n2k_table.specs.Fault.{Gives, GivesOrMemory, judged};
 ghost use Rattle.n2k_table.specs.Tree.{elements};
 ghost use Rattle.n2k_table.specs.Field.{field, field_faults};
+ghost use Rattle.n2k_table.specs.Table.{are_mixed, has_mixed};
 ghost use Rattle.n2k_table.specs.Definition.{named_kind, has_twice, fields_faults, members_faults, members_definition, definition_faults, definition};
 
 use crate::fault::TableFault;
 use crate::field::{Field, read_field};
+use crate::shown::Fields;
 use crate::tree::{Place, any_text_at, as_members, elements_at, has_only_keys, text_at, whole_at};
 use std::alloc::Global;
 use std::marker::Model;
@@ -47,6 +49,84 @@ impl Model for StoredDefinition {
     ghost Value = { DefinitionParts };
 
     ghost view = { λ d. record { number = d.number; kind = d.kind; description = string_bytes d.description; fields = d.fields.items } };
+}
+
+impl StoredDefinition {
+    ghost use Rattle.n2k_table.specs.Table.{are_mixed};
+
+    /// The PGN that it describes.
+    pub fn number(&self) -> u32
+        ensures { result ≡ self.now.number }
+    {
+        self.number
+    }
+
+    /// How its messages are sent.
+    pub fn kind(&self) -> Kind
+        ensures { result ≡ self.now.kind }
+    {
+        self.kind
+    }
+
+    /// The text that names the message.
+    pub fn description(&self) -> &str
+        ensures { result.now ≡ self.now.description }
+    {
+        self.description.as_str()
+    }
+
+    /// The fields in printing order.
+    pub fn fields(&self) -> &[Field]
+        ensures { result.now ≡ self.now.fields }
+    {
+        self.fields.as_slice()
+    }
+
+    // Whether both describe one PGN, and name different kinds.
+    fn is_mixed_with(&self, other: &StoredDefinition) -> bool
+        ensures { result ≡ are_mixed (self.now.number, self.now.kind) (other.now.number, other.now.kind) }
+    {
+        self.number == other.number && self.kind != other.kind
+    }
+}
+
+/// The definition that describes a message. It borrows the table.
+#[derive(Drop)]
+pub struct Definition<'a> {
+    stored: &'a StoredDefinition,
+}
+
+impl<'a> Model for Definition<'a> {
+    ghost use Rattle.n2k_table.specs.Definition.{DefinitionParts};
+
+    ghost Value = { DefinitionParts };
+
+    ghost view = { λ d. d.stored.now };
+}
+
+impl<'a> Definition<'a> {
+    ghost use Rattle.n2k_table.specs.Shown.{all_shown};
+
+    /// The view of a definition that the table keeps.
+    pub(crate) fn of(stored: &'a StoredDefinition) -> Definition<'a>
+        ensures { result ≡ stored.now }
+    {
+        Definition { stored }
+    }
+
+    /// The text that names the message, of 1 to 255 bytes, as the table has it.
+    pub fn description(&self) -> &str
+        ensures { result.now ≡ self.now.description }
+    {
+        self.stored.description()
+    }
+
+    /// What each field shows of the data of a message, in printing order. It takes no memory.
+    pub fn fields(&self, data: &'a [u8]) -> Fields<'a>
+        ensures { result ≡ all_shown self.now.fields «data».now }
+    {
+        Fields::new(self.stored.fields(), data)
+    }
 }
 
 fn named_kind(text: &str) -> Result<Kind, TableFault>
@@ -125,6 +205,31 @@ fn read_members(alloc: Global, table: &Table) -> Result<StoredDefinition, TableF
         description: String::from_str(alloc, description)?,
         fields,
     })
+}
+
+// Whether two definitions of one PGN have different kinds.
+pub fn has_mixed(definitions: &[StoredDefinition]) -> bool
+    ensures { result ≡ has_mixed (map (λ d. (d.number, d.kind)) definitions.now) }
+{
+    let mut rest = definitions;
+    while let Some((definition, others)) = rest.split_first() {
+        if is_mixed_among(others, definition) {
+            return true;
+        }
+        rest = others;
+    }
+    false
+}
+
+fn is_mixed_among(definitions: &[StoredDefinition], definition: &StoredDefinition) -> bool
+    ensures { result ≡ list_any (are_mixed (definition.now.number, definition.now.kind)) (map (λ d. (d.number, d.kind)) definitions.now) }
+{
+    for other in definitions {
+        if definition.is_mixed_with(other) {
+            return true;
+        }
+    }
+    false
 }
 
 /// Reads a definition.

@@ -4,8 +4,10 @@ ghost use Rattle.toml.specs.View.{view, table_view};
 ghost use Rattle.n2k_table.specs.Fault.{GivesOrMemory, judged};
 ghost use Rattle.n2k_table.specs.Field.{number_faults, number_field, field_faults, field};
 
+use crate::bits::raw;
 use crate::fault::TableFault;
 use crate::resolution::{Resolution, resolution_at};
+use crate::shown::{Shown, shown_number};
 use crate::tree::{Place, any_text_at, as_members, has_only_keys, text_at, truth_at, whole_at};
 use std::alloc::Global;
 use std::marker::Model;
@@ -42,14 +44,14 @@ pub struct Field {
 }
 
 impl Model for Field {
-    ghost use Rattle.std.specs.Prelude.{◌≤◌, string_bytes};
-    ghost use Rattle.n2k_table.specs.Field.{FieldParts, most_number_bits};
+    ghost use Rattle.std.specs.Prelude.{◌≤◌, ◌+◌, string_bytes};
+    ghost use Rattle.n2k_table.specs.Field.{FieldParts, message_bits, most_number_bits};
 
     ghost Value = { FieldParts };
 
     ghost view = { λ f. record { name = string_bytes f.name; at = f.at; bits = f.bits; meaning = f.meaning } };
 
-    ghost invariant = { λ f. (1 ≤ f.bits) × (f.bits ≤ most_number_bits) };
+    ghost invariant = { λ f. (f.at + f.bits ≤ message_bits) × (1 ≤ f.bits) × (f.bits ≤ most_number_bits) };
 }
 
 fn number_field(alloc: Global, table: &Table) -> Result<Field, TableFault>
@@ -86,10 +88,27 @@ pub fn read_field(alloc: Global, value: &Value) -> Result<Field, TableFault>
 }
 
 impl Field {
+    ghost use Rattle.n2k_table.specs.Shown.{shown_parts, shown};
+
     /// The name.
     pub fn name(&self) -> &str
         ensures { result.now ≡ self.now.name }
     {
         self.name.as_str()
+    }
+
+    /// What the field shows of the data of a message: nothing where it does not lie wholly inside.
+    pub fn shown(&self, data: &[u8]) -> Shown
+        ensures { shown_parts result ≡ shown self.now «data».now }
+    {
+        if (self.at + self.bits) as usize > data.len().saturating_mul(8) {
+            return Shown::Absent;
+        }
+        let raw = raw(data, self.at, self.bits);
+        match self.meaning {
+            Meaning::Number { signed, resolution } => {
+                shown_number(signed, resolution, self.bits, raw)
+            }
+        }
     }
 }
