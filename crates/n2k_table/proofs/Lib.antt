@@ -4,5 +4,8 @@ pub mod Each
 pub mod FieldFaults
 pub mod DefinitionFaults
 pub mod Documents
+pub mod Decimals
+pub mod Members
 pub mod RawBits
+pub mod Stamps
 pub mod Scaled

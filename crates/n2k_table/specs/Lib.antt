@@ -6,3 +6,5 @@ pub mod Definition
 pub mod Table
 pub mod Bits
 pub mod Shown
+pub mod Decimal
+pub mod Json

@@ -12,6 +12,7 @@ ghost use Rattle.n2k_table.specs.Definition.{named_kind, has_twice, fields_fault
 use crate::fault::TableFault;
 use crate::field::{Field, read_field};
 use crate::shown::Fields;
+use crate::text::text_json;
 use crate::tree::{Place, any_text_at, as_members, elements_at, has_only_keys, text_at, whole_at};
 use std::alloc::Global;
 use std::marker::Model;
@@ -39,20 +40,25 @@ pub struct StoredDefinition {
     number: u32,
     kind: Kind,
     description: String,
+    // The description as JSON, kept since each line needs it.
+    description_json: Vec<u8>,
     fields: Vec<Field>,
 }
 
 impl Model for StoredDefinition {
-    ghost use Rattle.std.specs.Prelude.{string_bytes};
+    ghost use Rattle.std.specs.Prelude.{◌≡◌, string_bytes};
+    ghost use Rattle.n2k_table.specs.Json.{text_json};
     ghost use Rattle.n2k_table.specs.Definition.{DefinitionParts};
 
     ghost Value = { DefinitionParts };
 
     ghost view = { λ d. record { number = d.number; kind = d.kind; description = string_bytes d.description; fields = d.fields.items } };
+
+    ghost invariant = { λ d. d.description_json.items ≡ text_json (string_bytes d.description) };
 }
 
 impl StoredDefinition {
-    ghost use Rattle.n2k_table.specs.Table.{are_mixed};
+    ghost use Rattle.n2k_table.specs.Json.{text_json};
 
     /// The PGN that it describes.
     pub fn number(&self) -> u32
@@ -73,6 +79,12 @@ impl StoredDefinition {
         ensures { result.now ≡ self.now.description }
     {
         self.description.as_str()
+    }
+
+    fn description_json(&self) -> &[u8]
+        ensures { result.now ≡ text_json self.now.description }
+    {
+        self.description_json.as_slice()
     }
 
     /// The fields in printing order.
@@ -105,6 +117,7 @@ impl<'a> Model for Definition<'a> {
 }
 
 impl<'a> Definition<'a> {
+    ghost use Rattle.n2k_table.specs.Json.{text_json};
     ghost use Rattle.n2k_table.specs.Shown.{all_shown};
 
     /// The view of a definition that the table keeps.
@@ -119,6 +132,20 @@ impl<'a> Definition<'a> {
         ensures { result.now ≡ self.now.description }
     {
         self.stored.description()
+    }
+
+    /// The description as JSON.
+    pub(crate) fn description_json(&self) -> &[u8]
+        ensures { result.now ≡ text_json self.now.description }
+    {
+        self.stored.description_json()
+    }
+
+    /// The fields, as the table keeps them.
+    pub(crate) fn stored_fields(&self) -> &[Field]
+        ensures { result.now ≡ self.now.fields }
+    {
+        self.stored.fields()
     }
 
     /// What each field shows of the data of a message, in printing order. It takes no memory.
@@ -203,6 +230,7 @@ fn read_members(alloc: Global, table: &Table) -> Result<StoredDefinition, TableF
         number,
         kind,
         description: String::from_str(alloc, description)?,
+        description_json: text_json(alloc, description)?,
         fields,
     })
 }

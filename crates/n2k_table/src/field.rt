@@ -8,6 +8,7 @@ use crate::bits::raw;
 use crate::fault::TableFault;
 use crate::resolution::{Resolution, resolution_at};
 use crate::shown::{Shown, shown_number};
+use crate::text::text_json;
 use crate::tree::{Place, any_text_at, as_members, has_only_keys, text_at, truth_at, whole_at};
 use std::alloc::Global;
 use std::marker::Model;
@@ -38,20 +39,23 @@ pub enum Meaning {
 #[derive(Drop)]
 pub struct Field {
     name: String,
+    // The name as JSON, kept since each line needs it.
+    name_json: Vec<u8>,
     at: u32,
     bits: u32,
     meaning: Meaning,
 }
 
 impl Model for Field {
-    ghost use Rattle.std.specs.Prelude.{◌≤◌, ◌+◌, string_bytes};
+    ghost use Rattle.std.specs.Prelude.{◌≡◌, ◌≤◌, ◌+◌, string_bytes};
+    ghost use Rattle.n2k_table.specs.Json.{text_json};
     ghost use Rattle.n2k_table.specs.Field.{FieldParts, message_bits, most_number_bits};
 
     ghost Value = { FieldParts };
 
     ghost view = { λ f. record { name = string_bytes f.name; at = f.at; bits = f.bits; meaning = f.meaning } };
 
-    ghost invariant = { λ f. (f.at + f.bits ≤ message_bits) × (1 ≤ f.bits) × (f.bits ≤ most_number_bits) };
+    ghost invariant = { λ f. (f.name_json.items ≡ text_json (string_bytes f.name)) × (f.at + f.bits ≤ message_bits) × (1 ≤ f.bits) × (f.bits ≤ most_number_bits) };
 }
 
 fn number_field(alloc: Global, table: &Table) -> Result<Field, TableFault>
@@ -70,6 +74,7 @@ fn number_field(alloc: Global, table: &Table) -> Result<Field, TableFault>
     }
     Ok(Field {
         name: String::from_str(alloc, name)?,
+        name_json: text_json(alloc, name)?,
         at,
         bits,
         meaning: Meaning::Number { signed, resolution },
@@ -88,6 +93,7 @@ pub fn read_field(alloc: Global, value: &Value) -> Result<Field, TableFault>
 }
 
 impl Field {
+    ghost use Rattle.n2k_table.specs.Json.{text_json};
     ghost use Rattle.n2k_table.specs.Shown.{shown_parts, shown};
 
     /// The name.
@@ -95,6 +101,13 @@ impl Field {
         ensures { result.now ≡ self.now.name }
     {
         self.name.as_str()
+    }
+
+    /// The name as JSON.
+    pub fn name_json(&self) -> &[u8]
+        ensures { result.now ≡ text_json self.now.name }
+    {
+        self.name_json.as_slice()
     }
 
     /// What the field shows of the data of a message: nothing where it does not lie wholly inside.
