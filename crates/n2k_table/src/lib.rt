@@ -19,3 +19,6 @@ pub use fault::TableFault;
 pub use json::json_line;
 pub use shown::{Fields, Shown};
 pub use table::Table;
+
+#[cfg(test)]
+mod tests;
