@@ -1,5 +1,5 @@
 -- What a table says of one field, and the faults that a field may have.
-use Rattle.std.specs.Prelude.{ℕ, ◌+◌, Bool, true, false, not, ◌||◌, nat_le, codes, List, [], ◌++◌, Option, Result, Ok, Err, if◌then◌else◌}
+use Rattle.std.specs.Prelude.{◌≡◌, ◌≤◌, ℕ, ◌+◌, Bool, true, false, not, ◌||◌, nat_le, codes, List, [], ◌++◌, Option, Result, Ok, Err, if◌then◌else◌}
 use Rattle.std.specs.Result.{result_ok}
 use Rattle.std.specs.Str.{bytes_eq}
 use Rattle.toml.specs.Data.{Data, Members, no_members}
@@ -9,6 +9,7 @@ use Rattle.n2k_table.specs.declared.field.Meaning.{Meaning}
 use Rattle.n2k_table.specs.declared.field.Meaning.TheVariants.{Number}
 use Rattle.n2k_table.specs.declared.tree.Place.TheVariants.{OfNumber}
 use Rattle.n2k_table.specs.Fault.{◌>>=◌, fault_of, faults_in, value_or, unless}
+use Rattle.n2k_table.specs.Text.{text_json}
 use Rattle.n2k_table.specs.Tree.{has_only_keys, as_members, whole_at, any_text_at, text_at, truth_at}
 use Rattle.n2k_table.specs.Resolution.{resolution_at, one}
 
@@ -26,6 +27,13 @@ pub record FieldParts : Type 0 where
   pub at : ℕ
   pub bits : ℕ
   pub meaning : Meaning
+
+-- What the code keeps of each field: its name as JSON too, and a place that a message can have.
+pub record IsKept (name name_json : List ℕ) (at bits : ℕ) : Type 0 where
+  pub json : name_json ≡ text_json name
+  pub inside : at + bits ≤ message_bits
+  pub some : 1 ≤ bits
+  pub room : bits ≤ most_number_bits
 
 -- the values of a field, each by itself
 abbrev pub name_of : Members → Result (List ℕ) TableFault

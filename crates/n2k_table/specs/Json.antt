@@ -1,18 +1,13 @@
 -- The JSON line of a message.
 use Rattle.std.specs.Prelude.{ℕ, Bool, codes, decimal, List, [], ◌∷◌, ◌++◌, Option, Some, None, if◌then◌else◌}
 use Rattle.std.specs.List.{filter_map, join_with_byte}
-use Rattle.serde_json.specs.Data.{string}
-use Rattle.serde_json.specs.Written.{compact_text}
 use Rattle.n2k_wire.specs.Packet.{Parts}
 use Rattle.n2k_wire.specs.declared.identifier.Id.{Id}
 use Rattle.n2k_table.specs.Decimal.{dec}
 use Rattle.n2k_table.specs.Definition.{DefinitionParts}
 use Rattle.n2k_table.specs.Shown.{ShownParts, absent, number, all_shown}
 use Rattle.n2k_table.specs.Table.{TableParts, choice}
-
--- a text, as `serde_json` writes it
-unfoldable pub text_json : List ℕ → List ℕ
-text_json text = compact_text (string text)
+use Rattle.n2k_table.specs.Text.{text_json}
 
 -- what a field shows as a value; none where it is absent and absent fields are left out
 abbrev pub value_json : Bool → ShownParts → Option (List ℕ)

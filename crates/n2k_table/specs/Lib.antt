@@ -1,4 +1,5 @@
 pub mod Fault
+pub mod Text
 pub mod Tree
 pub mod Resolution
 pub mod Field

@@ -47,7 +47,7 @@ pub struct StoredDefinition {
 
 impl Model for StoredDefinition {
     ghost use Rattle.std.specs.Prelude.{◌≡◌, string_bytes};
-    ghost use Rattle.n2k_table.specs.Json.{text_json};
+    ghost use Rattle.n2k_table.specs.Text.{text_json};
     ghost use Rattle.n2k_table.specs.Definition.{DefinitionParts};
 
     ghost Value = { DefinitionParts };
@@ -58,7 +58,7 @@ impl Model for StoredDefinition {
 }
 
 impl StoredDefinition {
-    ghost use Rattle.n2k_table.specs.Json.{text_json};
+    ghost use Rattle.n2k_table.specs.Text.{text_json};
 
     /// The PGN that it describes.
     pub fn number(&self) -> u32
@@ -117,7 +117,7 @@ impl<'a> Model for Definition<'a> {
 }
 
 impl<'a> Definition<'a> {
-    ghost use Rattle.n2k_table.specs.Json.{text_json};
+    ghost use Rattle.n2k_table.specs.Text.{text_json};
     ghost use Rattle.n2k_table.specs.Shown.{all_shown};
 
     /// The view of a definition that the table keeps.

@@ -47,15 +47,14 @@ pub struct Field {
 }
 
 impl Model for Field {
-    ghost use Rattle.std.specs.Prelude.{◌≡◌, ◌≤◌, ◌+◌, string_bytes};
-    ghost use Rattle.n2k_table.specs.Json.{text_json};
-    ghost use Rattle.n2k_table.specs.Field.{FieldParts, message_bits, most_number_bits};
+    ghost use Rattle.std.specs.Prelude.{string_bytes};
+    ghost use Rattle.n2k_table.specs.Field.{FieldParts, IsKept};
 
     ghost Value = { FieldParts };
 
     ghost view = { λ f. record { name = string_bytes f.name; at = f.at; bits = f.bits; meaning = f.meaning } };
 
-    ghost invariant = { λ f. (f.name_json.items ≡ text_json (string_bytes f.name)) × (f.at + f.bits ≤ message_bits) × (1 ≤ f.bits) × (f.bits ≤ most_number_bits) };
+    ghost invariant = { λ f. IsKept (string_bytes f.name) f.name_json.items f.at f.bits };
 }
 
 fn number_field(alloc: Global, table: &Table) -> Result<Field, TableFault>
@@ -93,7 +92,7 @@ pub fn read_field(alloc: Global, value: &Value) -> Result<Field, TableFault>
 }
 
 impl Field {
-    ghost use Rattle.n2k_table.specs.Json.{text_json};
+    ghost use Rattle.n2k_table.specs.Text.{text_json};
     ghost use Rattle.n2k_table.specs.Shown.{shown_parts, shown};
 
     /// The name.

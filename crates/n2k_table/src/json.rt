@@ -2,7 +2,8 @@
 ghost use Rattle.std.specs.Prelude.{◌≡◌, ◌++◌, ◌||◌, true, is_some, decimal, IfOk, IfSome, OnOk, OnErr, IsSome};
 ghost use Rattle.n2k_table.specs.Shown.{shown, shown_parts, all_shown};
 ghost use Rattle.n2k_table.specs.Table.{kind};
-ghost use Rattle.n2k_table.specs.Json.{text_json, value_json, member_json, member_text, fields_json, id_json, head_json, json};
+ghost use Rattle.n2k_table.specs.Text.{text_json};
+ghost use Rattle.n2k_table.specs.Json.{value_json, member_json, member_text, fields_json, id_json, head_json, json};
 
 use crate::decimal::push_decimal;
 use crate::definition::Definition;

@@ -118,7 +118,10 @@ fn one_change_each(rt: HostRuntime) -> Result<(), Fail> {
     }
     // the byte FF before the document
     let bytes = b"\xffformat = 1\n";
-    assert_eq!(rt; Table::read(rt.alloc(), bytes).err(), Some(TableFault::NotToml));
+    assert_eq!(rt;
+        Table::read(rt.alloc(), bytes).err(),
+        Some(TableFault::NotToml)
+    );
     Ok(())
 }
 
