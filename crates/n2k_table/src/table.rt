@@ -1,0 +1,138 @@
+//! A table of messages.
+ghost use Rattle.std.specs.Prelude.{◌≡◌, ◌≢◌, [], Contains, IfOk, IfErr, map, flat_map};
+ghost use Rattle.toml.specs.View.{view, table_view, array_view};
+ghost use Rattle.n2k_table.specs.declared.fault.TableFault.TheVariants.{Memory};
+ghost use Rattle.n2k_table.specs.Fault.{GivesOrMemory, judged};
+ghost use Rattle.n2k_table.specs.Tree.{elements};
+ghost use Rattle.n2k_table.specs.Definition.{definition_faults, definition};
+ghost use Rattle.n2k_table.specs.Table.{definitions_faults, top_faults, top_definitions};
+
+use crate::definition::{Definition, Kind, StoredDefinition, has_mixed, read_definition};
+use crate::fault::TableFault;
+use crate::tree::{Place, elements_if_there, has_only_keys, whole_at};
+use sha2::{Digest, Sha256};
+use std::alloc::Global;
+use std::marker::Model;
+use toml::value::Array;
+
+/// The most definitions of a table.
+pub const MOST_DEFINITIONS: usize = 4096;
+
+/// A table of messages: which PGNs there are, how they are sent, and what their bits mean.
+#[derive(Drop)]
+pub struct Table {
+    id: [u8; 32],
+    definitions: Vec<StoredDefinition>,
+}
+
+impl Model for Table {
+    ghost use Rattle.n2k_table.specs.Table.{TableParts};
+
+    ghost Value = { TableParts };
+
+    ghost view = { λ t. record { id = t.id; definitions = t.definitions.items } };
+}
+
+// The definitions, up to a first fault among theirs.
+fn each_definition(alloc: Global, values: &Array) -> Result<Vec<StoredDefinition>, TableFault>
+    ensures { GivesOrMemory (λ definitions. definitions.items) result (judged (flat_map definition_faults (elements (array_view values.now))) (map definition (elements (array_view values.now)))) }
+{
+    let mut definitions = Vec::new(alloc);
+    for value in values {
+        definitions.push(read_definition(alloc, value)?)?;
+    }
+    Ok(definitions)
+}
+
+fn read_definitions(alloc: Global, values: &Array) -> Result<Vec<StoredDefinition>, TableFault>
+    ensures { GivesOrMemory (λ definitions. definitions.items) result (judged (definitions_faults (elements (array_view values.now))) (map definition (elements (array_view values.now)))) }
+{
+    if values.len() > MOST_DEFINITIONS {
+        return Err(TableFault::TooMany);
+    }
+    let definitions = each_definition(alloc, values)?;
+    if has_mixed(&definitions) {
+        return Err(TableFault::Mixed);
+    }
+    Ok(definitions)
+}
+
+fn read_top(alloc: Global, top: &toml::Table) -> Result<Vec<StoredDefinition>, TableFault>
+    ensures { GivesOrMemory (λ definitions. definitions.items) result (judged (top_faults (table_view top.now)) (top_definitions (table_view top.now))) }
+{
+    if whole_at(top, "format", 1, 1).is_err() {
+        return Err(TableFault::Format);
+    }
+    if !has_only_keys(top, Place::Document) {
+        return Err(TableFault::Key);
+    }
+    match elements_if_there(top, "pgn")? {
+        None => Ok(Vec::new(alloc)),
+        Some(values) => read_definitions(alloc, values),
+    }
+}
+
+impl Table {
+    ghost use Rattle.std.specs.Prelude.{option_map, find};
+    ghost use Rattle.n2k_table.specs.Table.{faults, table, kind, choice, is_of};
+
+    fn judge(alloc: Global, bytes: &[u8]) -> Result<Table, TableFault>
+        ensures { GivesOrMemory (λ t. t) result (judged (faults bytes.now) (table bytes.now)) }
+    {
+        let top = match toml::table_from_slice(alloc, bytes) {
+            Ok(top) => top,
+            Err(error) if error.is_memory() => return Err(TableFault::Memory),
+            Err(_) => return Err(TableFault::NotToml),
+        };
+        let definitions = read_top(alloc, &top)?;
+        Ok(Table {
+            id: Sha256::digest(bytes),
+            definitions,
+        })
+    }
+
+    /// The table that the bytes of a TOML 1.1 document in UTF-8 spell, in format 1.
+    ///
+    /// Refused is a document in which a fault stands. Where several stand, `NotToml` and then `Format`
+    /// come before all others, and else any of them may be answered.
+    pub fn read(alloc: Global, bytes: &[u8]) -> Result<Table, TableFault>
+        ensures sound { IfOk result (λ t. (faults bytes.now ≡ []) × (t ≡ table bytes.now)) }
+        // A fault that is answered stands, so a table without one is read, unless memory runs out.
+        ensures stands { IfErr result (λ fault. fault ≢ Memory → Contains (faults bytes.now) fault) }
+    {
+        Table::judge(alloc, bytes)
+    }
+
+    /// The SHA-256 of the bytes that were read. It takes no memory.
+    pub fn id(&self) -> [u8; 32]
+        ensures { result ≡ self.now.id }
+    {
+        self.id
+    }
+
+    fn first(&self, pgn: u32) -> Option<&StoredDefinition>
+        ensures { option_map (λ d. d.now) result ≡ find (is_of pgn) self.now.definitions }
+    {
+        for definition in &self.definitions {
+            if definition.number() == pgn {
+                return Some(definition);
+            }
+        }
+        None
+    }
+
+    /// How a PGN is sent, `None` where the table does not have it. It takes no memory.
+    pub fn kind(&self, pgn: u32) -> Option<Kind>
+        ensures { result ≡ kind self.now pgn }
+    {
+        Some(self.first(pgn)?.kind())
+    }
+
+    /// The definition that describes a message of a PGN with these data, `None` where the table has
+    /// none. It takes no memory.
+    pub fn choose(&self, pgn: u32, data: &[u8]) -> Option<Definition<'_>>
+        ensures { result ≡ choice self.now pgn «data».now }
+    {
+        Some(Definition::of(self.first(pgn)?))
+    }
+}
