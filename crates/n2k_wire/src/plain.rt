@@ -77,8 +77,8 @@ fn read_id(header: &Header<'_>) -> Result<Id, BadCause>
     ensures prio { IfOk result (λ id. id.prio ≤ 7) }
     ensures pgn { IfOk result (λ id. id.pgn ≤ 16_777_215) }
 {
-    let prio = number_to(7, header.prio).ok_or(BadCause::Number)? as u8;
-    let pgn = number_to(16_777_215, header.pgn).ok_or(BadCause::Number)? as u32;
+    let prio = number_to(u64::from(GREATEST_PRIORITY), header.prio).ok_or(BadCause::Number)? as u8;
+    let pgn = number_to(u64::from(GREATEST_PGN), header.pgn).ok_or(BadCause::Number)? as u32;
     let src = number_to(GREATEST_ADDRESS, header.src).ok_or(BadCause::Number)? as u8;
     let dst = number_to(GREATEST_ADDRESS, header.dst).ok_or(BadCause::Number)? as u8;
     Ok(Id {
