@@ -83,3 +83,6 @@ pub fn run_single<R: Source, W: Sink, E: Sink>(
 {
     run_frames_of(alloc, &SingleMessages { table }, reader, writer, reporter)
 }
+
+#[cfg(test)]
+mod tests;
