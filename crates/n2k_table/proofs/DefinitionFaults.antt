@@ -8,7 +8,7 @@ use Rattle.n2k_table.specs.declared.definition.Kind.{Kind}
 use Rattle.n2k_table.specs.declared.definition.Kind.TheVariants.{Single}
 use Rattle.n2k_table.specs.declared.fault.TableFault.{TableFault}
 use Rattle.n2k_table.specs.declared.fault.TableFault.TheVariants.{Key, Mixed, TooMany}
-use Rattle.n2k_table.specs.declared.tree.Place.TheVariants.{OfDefinition}
+use Rattle.n2k_table.specs.declared.tree.Place.TheVariants.{Definition}
 use Rattle.n2k_table.specs.Fault.{◌>>=◌, fault_of, faults_in, value_or, unless, judged}
 use Rattle.n2k_table.specs.Tree.{has_only_keys, as_members}
 use Rattle.n2k_table.specs.Definition.{DefinitionParts, fields_faults, members_faults, definition_faults, members_definition, definition, number_of, kind_of, description_of, fields_of, number_and_kind, counted_kind}
@@ -21,7 +21,7 @@ counted_by : (r : Result Members TableFault) → faults_in r members_faults ≡ 
     → result_ok (r >>= number_and_kind) ≡ Some ((members_definition (value_or no_members r)).number, (members_definition (value_or no_members r)).kind)
 counted_by (Err fault) none = absurd cc
 counted_by (Ok m) none =
-    let a0 = unless (has_only_keys OfDefinition m) Key in
+    let a0 = unless (has_only_keys Definition m) Key in
     let a1 = a0 ++ fault_of (number_of m) in
     let a2 = a1 ++ fault_of (kind_of m) in
     let a3 = a2 ++ fault_of (description_of m) in

@@ -60,8 +60,10 @@ pub fn push_decimal(value: i128, decimals: u8, out: &mut Vec<u8>) -> Result<(), 
 
 /// Appends the decimal text of `value / 10^decimals`, with exactly that many digits after the dot: a minus
 /// sign where the value is below zero, at least one digit before the dot and no leading zero beside
-/// another, and no dot without decimals. So 163083 times 3125 with 11 decimals is `0.00509634375`, and -1
-/// with 2 is `-0.01`. Nothing is rounded.
+/// another, and no dot without decimals. Nothing is rounded, and zero has no sign. A refused growth leaves
+/// `out` as it was.
+///
+/// So -1 with 2 decimals is `-0.01`, 0 with 2 is `0.00`, and 5 with 0 is `5`.
 pub fn decimal_text(
     alloc: Global,
     value: i128,

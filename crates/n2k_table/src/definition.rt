@@ -102,7 +102,7 @@ impl StoredDefinition {
     }
 }
 
-/// The definition that describes a message. It borrows the table.
+/// What the table says of a message: a text that names it, and its fields. It borrows the table.
 #[derive(Drop)]
 pub struct Definition<'a> {
     stored: &'a StoredDefinition,
@@ -127,7 +127,7 @@ impl<'a> Definition<'a> {
         Definition { stored }
     }
 
-    /// The text that names the message, of 1 to 255 bytes, as the table has it.
+    /// The text that names the message, 1 to 255 bytes, as the table has it. It takes no memory.
     pub fn description(&self) -> &str
         ensures { result.now ≡ self.now.description }
     {
@@ -148,7 +148,12 @@ impl<'a> Definition<'a> {
         self.stored.fields()
     }
 
-    /// What each field shows of the data of a message, in printing order. It takes no memory.
+    /// What each field shows of the data of a message (the bytes in the order of the bus), with its name, in
+    /// printing order. It takes no memory.
+    ///
+    /// ```text
+    /// for (name, shown) in definition.fields(packet.data()) { .. }
+    /// ```
     pub fn fields(&self, data: &'a [u8]) -> Fields<'a>
         ensures { result ≡ all_shown self.now.fields «data».now }
     {
@@ -219,7 +224,7 @@ fn read_fields(alloc: Global, values: &Array) -> Result<Vec<Field>, TableFault>
 fn read_members(alloc: Global, table: &Table) -> Result<StoredDefinition, TableFault>
     ensures { GivesOrMemory (λ definition. definition) result (judged (members_faults (table_view table.now)) (members_definition (table_view table.now))) }
 {
-    if !has_only_keys(table, Place::OfDefinition) {
+    if !has_only_keys(table, Place::Definition) {
         return Err(TableFault::Key);
     }
     let number = whole_at(table, "number", 0, GREATEST_NUMBER)?;

@@ -60,7 +60,7 @@ impl Model for Field {
 fn number_field(alloc: Global, table: &Table) -> Result<Field, TableFault>
     ensures { GivesOrMemory (λ field. field) result (judged (number_faults (table_view table.now)) (number_field (table_view table.now))) }
 {
-    if !has_only_keys(table, Place::OfNumber) {
+    if !has_only_keys(table, Place::NumberField) {
         return Err(TableFault::Key);
     }
     let name = text_at(table, "name")?;

@@ -119,8 +119,12 @@ fn push_fields(
 }
 
 /// Appends the JSON line of a packet whose PGN the table has, with its LF: when it was seen, its priority,
-/// source, destination and PGN, and what the first definition of the PGN says of its data. An absent
-/// field is left out, and with `empty` it is `null`.
+/// source, destination and PGN, and the fields of its definition in their order, without spaces. A field
+/// that shows nothing is left out, and with `empty` it is `null`. A refused growth leaves `out` as it was.
+///
+/// ```text
+/// {"timestamp":"2011-11-24-22:42:04.388","prio":2,"src":36,"dst":255,"pgn":127251,"description":"Rate of Turn","fields":{"SID":125,"Rate":0.00509634375}}
+/// ```
 #[tactic(auto, using(std::proofs::Common::append_assoc), unfolding(crate::specs::Json::json))]
 pub fn json_line(
     alloc: Global,

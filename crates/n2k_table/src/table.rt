@@ -91,10 +91,16 @@ impl Table {
         })
     }
 
-    /// The table that the bytes of a TOML 1.1 document in UTF-8 spell, in format 1.
+    /// Reads a table: the bytes of a TOML 1.1 document in UTF-8, of format 1 (docs/PROFILE.md has the
+    /// format). A table with the line `format = 1` alone is one without messages.
     ///
-    /// Refused is a document in which a fault stands. Where several stand, `NotToml` and then `Format`
-    /// come before all others, and else any of them may be answered.
+    /// A document in which a fault stands is refused. Where it is no TOML or of another format, no other
+    /// fault is looked for. Where several of the others stand, any of them may be answered.
+    ///
+    /// ```text
+    /// let table = Table::read(alloc, b"format = 1\n")?;
+    /// assert_eq!(rt; table.kind(129026), None);
+    /// ```
     pub fn read(alloc: Global, bytes: &[u8]) -> Result<Table, TableFault>
         ensures sound { IfOk result (λ t. (faults bytes.now ≡ []) × (t ≡ table bytes.now)) }
         // A fault that is answered stands, so a table without one is read, unless memory runs out.
@@ -103,7 +109,8 @@ impl Table {
         Table::judge(alloc, bytes)
     }
 
-    /// The SHA-256 of the bytes that were read. It takes no memory.
+    /// The SHA-256 of the bytes that the table was read from, 32 bytes. Two spellings of one document have
+    /// two ids. It takes no memory.
     pub fn id(&self) -> [u8; 32]
         ensures { result ≡ self.now.id }
     {
@@ -121,15 +128,16 @@ impl Table {
         None
     }
 
-    /// How a PGN is sent, `None` where the table does not have it. It takes no memory.
+    /// How the messages of a PGN are sent, as its definitions say; `None` where the table has none. It takes
+    /// no memory.
     pub fn kind(&self, pgn: u32) -> Option<Kind>
         ensures { result ≡ kind self.now pgn }
     {
         Some(self.first(pgn)?.kind())
     }
 
-    /// The definition that describes a message of a PGN with these data, `None` where the table has
-    /// none. It takes no memory.
+    /// The definition that describes a message of a PGN with these data (in the order of the bus): the first
+    /// of the PGN in file order, `None` where the table has none. It takes no memory.
     pub fn choose(&self, pgn: u32, data: &[u8]) -> Option<Definition<'_>>
         ensures { result ≡ choice self.now pgn «data».now }
     {
