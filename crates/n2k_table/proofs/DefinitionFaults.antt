@@ -39,7 +39,7 @@ counted_by (Ok m) none =
 pub counted_kind-without_fault : (d : Data) → definition_faults d ≡ [] → counted_kind d ≡ Some ((definition d).number, (definition d).kind)
 counted_kind-without_fault d none = counted_by (as_members d) none
 
-counted_kinds : (ds : List Data) → flat_map definition_faults ds ≡ [] → filter_map counted_kind ds ≡ map (λ (d : DefinitionParts). (d.number, d.kind)) (map definition ds)
+pub counted_kinds : (ds : List Data) → flat_map definition_faults ds ≡ [] → filter_map counted_kind ds ≡ map (λ (d : DefinitionParts). (d.number, d.kind)) (map definition ds)
 counted_kinds ds none = filter_map-counted definition_faults counted_kind definition (λ (d : DefinitionParts). (d.number, d.kind)) counted_kind-without_fault ds none
 
 -- what stands in the definitions of a table: too many of them

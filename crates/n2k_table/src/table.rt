@@ -1,5 +1,5 @@
 //! A table of messages.
-ghost use Rattle.std.specs.Prelude.{◌≡◌, ◌≢◌, [], Contains, IfOk, IfErr, map, flat_map};
+ghost use Rattle.std.specs.Prelude.{◌≡◌, ◌≢◌, [], All, Contains, Some, IfOk, IfErr, map, flat_map};
 ghost use Rattle.toml.specs.View.{view, table_view, array_view};
 ghost use Rattle.n2k_table.specs.declared.fault.TableFault.TheVariants.{Memory};
 ghost use Rattle.n2k_table.specs.Fault.{GivesOrMemory, judged};
@@ -103,6 +103,10 @@ impl Table {
     /// ```
     pub fn read(alloc: Global, bytes: &[u8]) -> Result<Table, TableFault>
         ensures sound { IfOk result (λ t. (faults bytes.now ≡ []) × (t ≡ table bytes.now)) }
+
+        // All definitions of a PGN name one kind, which is the kind of the PGN.
+        ensures kinds { IfOk result (λ t. All (λ d. kind t d.number ≡ Some d.kind) t.definitions) }
+
         // A fault that is answered stands, so a table without one is read, unless memory runs out.
         ensures stands { IfErr result (λ fault. fault ≢ Memory → Contains (faults bytes.now) fault) }
     {
