@@ -12,7 +12,7 @@ use Rattle.n2k_table.specs.declared.fault.TableFault.TheVariants.{Format, Key, M
 use Rattle.n2k_table.specs.declared.tree.Place.TheVariants.{Document}
 use Rattle.n2k_table.specs.Fault.{unless, value_or, faults_in, judged, GivesOrMemory}
 use Rattle.n2k_table.specs.Tree.{has_only_keys}
-use Rattle.n2k_table.specs.Definition.{DefinitionParts, definition_faults, definition, counted_kind}
+use Rattle.n2k_table.specs.Definition.{DefinitionParts, definition_faults, definition, pgn_kind, counted_kind}
 use Rattle.n2k_table.specs.Table.{TableParts, is_format_1, is_same_kind, are_mixed, has_mixed, definitions_faults, definitions_of, top_faults, document, document_faults, faults, top_definitions, table, is_of, kind}
 use Rattle.n2k_table.proofs.Each.{nil_parts, judged_ok}
 use Rattle.n2k_table.proofs.DefinitionFaults.{counted_kinds}
@@ -20,9 +20,6 @@ use Rattle.n2k_table.proofs.DefinitionFaults.{counted_kinds}
 -- the kind of a PGN by the first of some definitions
 abbrev kind_in : List DefinitionParts → ℕ → Option Kind
 kind_in ds pgn = option_map (λ d. d.kind) (find (is_of pgn) ds)
-
-abbrev pair : DefinitionParts → ℕ × Kind
-pair d = (d.number, d.kind)
 
 same_kind : (a b : Kind) → is_same_kind a b ≡ true → a ≡ b
 same_kind Single Single h = refl
@@ -39,7 +36,7 @@ not_true false h = refl
 not_true true h = absurd (false≢true h)
 
 -- one more definition before them, with which none is mixed, changes no kind
-one : (e d : DefinitionParts) (rest : List DefinitionParts) → kind_in rest d.number ≡ Some d.kind → are_mixed (pair e) (pair d) ≡ false
+one : (e d : DefinitionParts) (rest : List DefinitionParts) → kind_in rest d.number ≡ Some d.kind → are_mixed (pgn_kind e) (pgn_kind d) ≡ false
     → kind_in (e ∷ rest) d.number ≡ Some d.kind
 one e d rest known pure =
     elim (cases_Bool (eqb e.number d.number)) [
@@ -50,17 +47,17 @@ one e d rest known pure =
     ]
 
 each_one : (e : DefinitionParts) (rest ds : List DefinitionParts) → AllByRecursion (λ d. kind_in rest d.number ≡ Some d.kind) ds
-    → list_any (are_mixed (pair e)) (map pair ds) ≡ false → AllByRecursion (λ d. kind_in (e ∷ rest) d.number ≡ Some d.kind) ds
+    → list_any (are_mixed (pgn_kind e)) (map pgn_kind ds) ≡ false → AllByRecursion (λ d. kind_in (e ∷ rest) d.number ≡ Some d.kind) ds
 each_one e rest [] known pure = tt
 each_one e rest (d ∷ ds) known pure =
-    let p = or_parts (are_mixed (pair e) (pair d)) (list_any (are_mixed (pair e)) (map pair ds)) pure in
+    let p = or_parts (are_mixed (pgn_kind e) (pgn_kind d)) (list_any (are_mixed (pgn_kind e)) (map pgn_kind ds)) pure in
     (one e d rest known.0 p.0, each_one e rest ds known.1 p.1)
 
 -- definitions of which none are mixed
-kinds_agree : (ds : List DefinitionParts) → has_mixed (map pair ds) ≡ false → AllByRecursion (λ d. kind_in ds d.number ≡ Some d.kind) ds
+kinds_agree : (ds : List DefinitionParts) → has_mixed (map pgn_kind ds) ≡ false → AllByRecursion (λ d. kind_in ds d.number ≡ Some d.kind) ds
 kinds_agree [] pure = tt
 kinds_agree (e ∷ ds) pure =
-    let p = or_parts (list_any (are_mixed (pair e)) (map pair ds)) (has_mixed (map pair ds)) pure in
+    let p = or_parts (list_any (are_mixed (pgn_kind e)) (map pgn_kind ds)) (has_mixed (map pgn_kind ds)) pure in
     let itself : eqb e.number e.number ≡ true = grind (arith, nat_tests) in
     (rw itself, each_one e ds ds (kinds_agree ds p.1) p.0)
 
@@ -69,7 +66,7 @@ kept true fault none = refl
 kept false fault none = absurd cc
 
 -- a table whose definitions have no fault
-definitions_pure : (r : Result (List Data) TableFault) → faults_in r definitions_faults ≡ [] → has_mixed (map pair (map definition (value_or [] r))) ≡ false
+definitions_pure : (r : Result (List Data) TableFault) → faults_in r definitions_faults ≡ [] → has_mixed (map pgn_kind (map definition (value_or [] r))) ≡ false
 definitions_pure (Err fault) none = absurd cc
 definitions_pure (Ok ds) none =
     let a0 = unless (leb (length ds) 4096) TooMany in
@@ -80,7 +77,7 @@ definitions_pure (Ok ds) none =
     let counted = counted_kinds ds p0.1 in
     ap has_mixed (sym counted) ∙ not_true (has_mixed (filter_map counted_kind ds)) pure
 
-top_pure : (top : Members) → top_faults top ≡ [] → has_mixed (map pair (top_definitions top)) ≡ false
+top_pure : (top : Members) → top_faults top ≡ [] → has_mixed (map pgn_kind (top_definitions top)) ≡ false
 top_pure top none =
     elim (cases_Bool (is_format_1 top)) [
       | inl known ↦
@@ -91,7 +88,7 @@ top_pure top none =
           absurd cc
     ]
 
-document_pure : (d : Option Members) → document_faults d ≡ [] → has_mixed (map pair (top_definitions (unwrap_or d no_members))) ≡ false
+document_pure : (d : Option Members) → document_faults d ≡ [] → has_mixed (map pgn_kind (top_definitions (unwrap_or d no_members))) ≡ false
 document_pure None none = absurd cc
 document_pure (Some top) none = top_pure top none
 

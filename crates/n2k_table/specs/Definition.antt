@@ -84,6 +84,10 @@ members_definition m = record {
 abbrev pub definition : Data → DefinitionParts
 definition d = members_definition (members_or_none d)
 
+-- the PGN of a definition, and how it says that the PGN is sent
+abbrev pub pgn_kind : DefinitionParts → ℕ × Kind
+pgn_kind d = (d.number, d.kind)
+
 -- The PGN and the kind under which a definition counts, where neither has a fault.
 abbrev pub number_and_kind : Members → Result (ℕ × Kind) TableFault
 number_and_kind m = do

@@ -67,7 +67,8 @@ fn push_stamp(alloc: Global, packet: &Packet, line: &mut Vec<u8>) -> Result<(), 
 
 // Appends what a field shows as a value.
 fn push_value(shown: Shown, line: &mut Vec<u8>) -> Result<(), AllocError>
-    ensures { OnOk result (IfSome (value_json true (shown_parts shown)) (λ value. line.new.items ≡ line.old.items ++ value)) }
+    ensures { OnOk result (IfSome (value_json true (shown_parts shown))
+        (λ value. line.new.items ≡ line.old.items ++ value)) }
 {
     match shown {
         Shown::Absent => line.extend_from_slice(b"null"),
@@ -84,8 +85,9 @@ fn push_member(
     later: bool,
     line: &mut Vec<u8>,
 ) -> Result<bool, AllocError>
-    ensures { IfOk result (λ more. let member = member_json empty (field.now.name, shown field.now «data».now) in
-        (line.new.items ≡ line.old.items ++ member_text later member) × (more ≡ (later || is_some member))) }
+    ensures { let member = member_json empty (field.now.name, shown field.now «data».now) in
+        IfOk result (λ more. (line.new.items ≡ line.old.items ++ member_text later member)
+        × (more ≡ (later || is_some member))) }
 {
     let shown = field.shown(data);
     if matches!(shown, Shown::Absent) && !empty {
@@ -107,7 +109,8 @@ fn push_fields(
     empty: bool,
     line: &mut Vec<u8>,
 ) -> Result<(), AllocError>
-    ensures { OnOk result (line.new.items ≡ line.old.items ++ fields_json empty (all_shown fields.now «data».now)) }
+    ensures { OnOk result
+        (line.new.items ≡ line.old.items ++ fields_json empty (all_shown fields.now «data».now)) }
 {
     line.push(b'{')?;
     let mut later = false;

@@ -35,7 +35,8 @@ impl Model for Table {
 
 // The definitions, up to a first fault among theirs.
 fn each_definition(alloc: Global, values: &Array) -> Result<Vec<StoredDefinition>, TableFault>
-    ensures { GivesOrMemory (λ definitions. definitions.items) result (judged (flat_map definition_faults (elements (array_view values.now))) (map definition (elements (array_view values.now)))) }
+    ensures { let ds = elements (array_view values.now) in
+        GivesOrMemory (λ v. v.items) result (judged (flat_map definition_faults ds) (map definition ds)) }
 {
     let mut definitions = Vec::new(alloc);
     for value in values {
@@ -45,7 +46,8 @@ fn each_definition(alloc: Global, values: &Array) -> Result<Vec<StoredDefinition
 }
 
 fn read_definitions(alloc: Global, values: &Array) -> Result<Vec<StoredDefinition>, TableFault>
-    ensures { GivesOrMemory (λ definitions. definitions.items) result (judged (definitions_faults (elements (array_view values.now))) (map definition (elements (array_view values.now)))) }
+    ensures { let ds = elements (array_view values.now) in
+        GivesOrMemory (λ v. v.items) result (judged (definitions_faults ds) (map definition ds)) }
 {
     if values.len() > MOST_DEFINITIONS {
         return Err(TableFault::TooMany);
@@ -58,7 +60,8 @@ fn read_definitions(alloc: Global, values: &Array) -> Result<Vec<StoredDefinitio
 }
 
 fn read_top(alloc: Global, top: &toml::Table) -> Result<Vec<StoredDefinition>, TableFault>
-    ensures { GivesOrMemory (λ definitions. definitions.items) result (judged (top_faults (table_view top.now)) (top_definitions (table_view top.now))) }
+    ensures { let m = table_view top.now in
+        GivesOrMemory (λ v. v.items) result (judged (top_faults m) (top_definitions m)) }
 {
     if whole_at(top, "format", 1, 1).is_err() {
         return Err(TableFault::Format);
