@@ -1,5 +1,5 @@
 -- What the lines of a log give one by one is what they give by their numbers.
-use Rattle.std.proofs.Common.{◌≡◌, ℕ, zero, suc, ◌+◌, ◌-◌, Bool, cond, List, [], ◌∷◌, ◌++◌, length, map, Option, Some, None, Result, Ok, Err, refl, sym, ap, subst, ◌∙◌, append_assoc, length-append, arith}
+use Rattle.std.proofs.Common.{◌≡◌, ℕ, ◌+◌, ◌-◌, Bool, cond, List, [], ◌∷◌, ◌++◌, length, map, Option, Some, None, Result, Ok, Err, refl, sym, ap, ◌∙◌, append_assoc, length-append, arith}
 use Rattle.std.specs.Prelude.{flat_map, count_by, is_some, option_and_then, slice_get, IfSome, IfOk, OnOk, OnErr}
 use Rattle.std.specs.List.{range_with_len}
 use Rattle.std.proofs.lemmas.List.Folds.{flat_map-map}
@@ -12,10 +12,10 @@ use Rattle.n2k_wire.specs.declared.entry.Entry.TheVariants.{Skip, Bad, Frame}
 use Rattle.n2k_wire.specs.declared.entry.Packing.TheVariants.{Frames}
 use Rattle.n2k_wire.specs.Packet.{Parts}
 use Rattle.n2k_run.specs.declared.counts.Counts.{Counts}
-use Rattle.n2k_run.specs.Decoded.{entry_message, message, numbers, out_of, out, counts_of_entries, decode_counts}
+use Rattle.n2k_run.specs.Decoded.{entry_message, message, numbers, out_of, out, decode_counts}
 use Rattle.n2k_run.specs.Entries.{entries, is_bad}
 use Rattle.n2k_run.specs.Made.{text_of, is_worth, is_message, is_unknown, texts_of, counts_of}
-use Rattle.n2k_run.specs.Single.{message_by, single_message, worth_by, single_worth, line_of, single_text}
+use Rattle.n2k_run.specs.Single.{message_by, worth_by, single_worth, line_of, single_text}
 
 at_place : (before : List Entry) (e : Entry) (es : List Entry) → slice_get (before ++ e ∷ es) (length before) ≡ Some e
 at_place [] e es = refl

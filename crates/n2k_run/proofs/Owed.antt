@@ -39,3 +39,11 @@ Owes-front old mid new text part rest owed more =
 -- nothing is still to come
 pub Owes-done : (old new : Option (List ℕ)) (text : List ℕ) → Owes old new text [] → Appends old new text
 Owes-done old new text owed = subst (λ t. Appends old new t) (sym (owed.still ∙ append-nil owed.front)) owed.appended
+
+-- more is owed at the end
+pub Owes-on : (old new : Option (List ℕ)) (text rest more : List ℕ) → Owes old new text rest → Owes old new (text ++ more) (rest ++ more)
+Owes-on old new text rest more owed = record {
+  front = owed.front;
+  appended = owed.appended;
+  still = ap (λ t. t ++ more) owed.still ∙ append_assoc owed.front rest more;
+}

@@ -1,22 +1,21 @@
 -- What a run writes of the front of a log is a front of what it writes of the log.
-use Rattle.std.proofs.Common.{◌≡◌, ℕ, ◌+◌, ◌<◌, ◌≤◌, ◌-◌, List, [], ◌∷◌, ◌++◌, length, take, drop, map, refl, sym, ap, ◌∙◌, subst, append_assoc, add-zero, arith, Option, None, Some, Result, Ok, Err, not, length-append}
+use Rattle.std.proofs.Common.{◌≡◌, ℕ, ◌+◌, ◌<◌, ◌-◌, List, ◌++◌, length, drop, map, sym, ap, ◌∙◌, subst, append_assoc, arith, Option, None, Some, Result, Ok, Err, not, length-append}
 use Rattle.std.specs.Prelude.{IfSome, OnErr}
-use Rattle.std.specs.List.{flat_map, enumerate_from, suffix_len}
+use Rattle.std.specs.List.{flat_map, suffix_len}
 use Rattle.std.specs.Io.{IsEmptyOrEndsWith}
-use Rattle.std.specs.Io.KnownBytes.{Appends, Consumes}
-use Rattle.std.proofs.lemmas.List.{append-nil, map-append, take-append-drop, length-map}
+use Rattle.std.specs.Io.KnownBytes.{Consumes}
+use Rattle.std.proofs.lemmas.List.{map-append, take-append-drop}
 use Rattle.std.proofs.lemmas.List.Concat.{flat_map-append}
-use Rattle.n2k_wire.specs.declared.entry.Entry.{Entry}
 use Rattle.n2k_wire.specs.declared.entry.Packing.TheVariants.{Frames}
 use Rattle.n2k_wire.specs.Entry.{entry}
 use Rattle.n2k_run.specs.Lines.{is_line_feed, lines, whole_lines}
 use Rattle.n2k_run.specs.Entries.{entries}
 use Rattle.n2k_wire.specs.Packet.{Parts}
-use Rattle.n2k_run.specs.Made.{text_of, texts_of}
-use Rattle.n2k_run.specs.Reports.{report_of, reports_from, reports}
-use Rattle.n2k_run.specs.Reading.{Gains}
-use Rattle.n2k_run.specs.Writing.{Owes, AppendsFront}
+use Rattle.n2k_run.specs.Made.{text_of, texts_of, ReportsFirst}
+use Rattle.n2k_run.specs.Reports.{reports_from, reports}
+use Rattle.n2k_run.specs.Writing.{AppendsFront}
 use Rattle.n2k_run.proofs.Owed.{Owes-all}
+use Rattle.n2k_run.proofs.RunSteps.{goes_on, reports_from-append}
 use Rattle.n2k_run.proofs.Splits.{lines-append}
 
 -- the whole lines of what came of a log, and the lines that are left of it
@@ -36,29 +35,8 @@ leads None left came whole given is ends = tt
 leads (Some log) None came whole given is ends = absurd given
 leads (Some log) (Some left) came whole given is ends = leads_known log left came whole given is ends
 
--- a front of a text is one of the text that goes on
-goes_on : (old new : Option (List ℕ)) (text more : List ℕ) → AppendsFront old new text → AppendsFront old new (text ++ more)
-goes_on old new text more front = (
-  front.0 ++ more,
-  record {
-    front = front.1.front;
-    appended = front.1.appended;
-    still = ap (λ t. t ++ more) front.1.still ∙ append_assoc front.1.front front.0 more;
-  },
-)
-
-pub all_is_front : (old new : Option (List ℕ)) (text : List ℕ) → Appends old new text → AppendsFront old new text
-all_is_front old new text appended = ([], record { front = text; appended = appended; still = sym (append-nil text) })
-
 entries-leads : (whole log : List ℕ) (l : Leads whole log) → entries Frames log ≡ entries Frames whole ++ entries Frames l.rest
 entries-leads whole log l = ap (map (λ line. entry line Frames)) l.lines_are ∙ map-append (λ line. entry line Frames) (lines whole) (lines l.rest)
-
-reports_from-append : (n : ℕ) (es fs : List Entry) → reports_from n (es ++ fs) ≡ reports_from n es ++ reports_from (n + length es) fs
-reports_from-append n [] fs = ap (λ k. reports_from k fs) (sym (add-zero n))
-reports_from-append n (e ∷ es) fs =
-    let next : n + 1 + length es ≡ n + length (e ∷ es) = omega arith in
-    ap (λ r. report_of n e ++ r) (reports_from-append (n + 1) es fs ∙ ap (λ k. reports_from (n + 1) es ++ reports_from k fs) next)
-    ∙ sym (append_assoc (report_of n e) (reports_from (n + 1) es) (reports_from (n + length (e ∷ es)) fs))
 
 out-leads : (made : Parts → List ℕ) (old new : Option (List ℕ)) (whole log : List ℕ) → Leads whole log → AppendsFront old new (texts_of made whole) → AppendsFront old new (texts_of made log)
 out-leads made old new whole log l front =
@@ -94,3 +72,18 @@ pub whole_front : {T E : Type 0} (text : List ℕ → List ℕ) (known old new :
 whole_front text known old new input (Ok x) is front = tt
 whole_front text None old new input (Err e) is front = tt
 whole_front text (Some log) old new input (Err e) is front = subst (λ t. AppendsFront old new (text t)) is front
+
+-- the same of the reports that come first
+pub first_of_front : (made : Parts → List ℕ) (known w₀ w e₀ e : Option (List ℕ)) (whole : List ℕ) → IfSome known (λ log. Leads whole log) → ReportsFirst made whole w₀ w e₀ e → IfSome known (λ log. ReportsFirst made log w₀ w e₀ e)
+first_of_front made None w₀ w e₀ e whole l first = tt
+first_of_front made (Some log) w₀ w e₀ e whole l first = record {
+  taken = first.taken;
+  left = first.left ++ entries Frames l.rest;
+  lines_taken = entries-leads whole log l ∙ ap (λ es. es ++ entries Frames l.rest) first.lines_taken ∙ append_assoc first.taken first.left (entries Frames l.rest);
+  reported = first.reported;
+  printed = first.printed;
+}
+
+pub first_of_all : (made : Parts → List ℕ) (known w₀ w e₀ e : Option (List ℕ)) (input : List ℕ) → IfSome known (λ log. input ≡ log) → ReportsFirst made input w₀ w e₀ e → IfSome known (λ log. ReportsFirst made log w₀ w e₀ e)
+first_of_all made None w₀ w e₀ e input is first = tt
+first_of_all made (Some log) w₀ w e₀ e input is first = subst (λ t. ReportsFirst made t w₀ w e₀ e) is first

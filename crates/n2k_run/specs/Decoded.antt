@@ -1,5 +1,5 @@
 -- What `decode` writes and counts of a log, by the messages that its lines give.
-use Rattle.std.specs.Prelude.{ℕ, ◌-◌, Bool, List, [], length, count_by, is_some, Option, Some, None, option_and_then, slice_get, flat_map}
+use Rattle.std.specs.Prelude.{ℕ, ◌-◌, List, length, count_by, is_some, Option, None, option_and_then, slice_get, flat_map}
 use Rattle.std.specs.List.{range_with_len}
 use Rattle.n2k_table.specs.Table.{TableParts}
 use Rattle.n2k_wire.specs.declared.entry.Entry.{Entry}

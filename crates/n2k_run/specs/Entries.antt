@@ -1,10 +1,9 @@
 -- The entries of a log, one a line, and what they count for.
-use Rattle.std.specs.Prelude.{ℕ, ◌+◌, Bool, true, false, if◌then◌else◌, List, map, length, count_by}
+use Rattle.std.specs.Prelude.{ℕ, Bool, true, false, List, map}
 use Rattle.n2k_wire.specs.declared.entry.Entry.{Entry}
 use Rattle.n2k_wire.specs.declared.entry.Entry.TheVariants.{Skip, Bad, Frame}
 use Rattle.n2k_wire.specs.declared.entry.Packing.{Packing}
 use Rattle.n2k_wire.specs.Entry.{entry}
-use Rattle.n2k_run.specs.declared.counts.Counts.{Counts}
 use Rattle.n2k_run.specs.Lines.{lines}
 
 -- the most lines of a log

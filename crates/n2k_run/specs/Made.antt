@@ -1,6 +1,7 @@
 -- What a run makes of the frames of a log: of each a text, which may be empty, and a worth to the counts.
-use Rattle.std.specs.Prelude.{ℕ, Bool, true, false, List, [], length, count_by}
+use Rattle.std.specs.Prelude.{◌≡◌, ℕ, Bool, true, false, List, [], ◌++◌, length, count_by, Option}
 use Rattle.std.specs.List.{flat_map}
+use Rattle.std.specs.Io.KnownBytes.{Appends}
 use Rattle.n2k_wire.specs.declared.entry.Entry.{Entry}
 use Rattle.n2k_wire.specs.declared.entry.Entry.TheVariants.{Skip, Bad, Frame}
 use Rattle.n2k_wire.specs.declared.entry.Packing.TheVariants.{Frames}
@@ -9,6 +10,8 @@ use Rattle.n2k_run.specs.declared.counts.Counts.{Counts}
 use Rattle.n2k_run.specs.declared.worth.Worth.{Worth}
 use Rattle.n2k_run.specs.declared.worth.Worth.TheVariants.{Message, Unknown, Neither}
 use Rattle.n2k_run.specs.Entries.{entries, is_bad}
+use Rattle.n2k_run.specs.Reports.{reports_from}
+use Rattle.n2k_run.specs.Writing.{AppendsFront}
 
 abbrev pub is_message : Worth → Bool
 is_message Message = true
@@ -46,3 +49,12 @@ counts_of worth log = record {
   broken = 0;
   held = 0;
 }
+
+-- The reports of the lines up to some line have been written, and a front of the texts of the same lines: no text
+-- stands before the report of its own line or of an earlier one.
+pub record ReportsFirst (text : Parts → List ℕ) (log : List ℕ) (w₀ w e₀ e : Option (List ℕ)) : Type 0 where
+  pub taken : List Entry
+  pub left : List Entry
+  pub lines_taken : entries Frames log ≡ taken ++ left
+  pub reported : Appends e₀ e (reports_from 1 taken)
+  pub printed : AppendsFront w₀ w (flat_map (text_of text) taken)

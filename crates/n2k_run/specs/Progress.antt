@@ -1,6 +1,5 @@
 -- What a run of `plain` has made of the lines so far.
-use Rattle.std.specs.Prelude.{◌≡◌, ◌≤◌, ◌⊎◌, ℕ, ◌+◌, if◌then◌else◌, List, ◌++◌, Option, Result, Err, IfSome, length, count_by}
-use Rattle.std.specs.Io.KnownBytes.{Appends}
+use Rattle.std.specs.Prelude.{◌≤◌, ◌+◌, if◌then◌else◌, List, length, count_by}
 use Rattle.n2k_wire.specs.declared.entry.Entry.{Entry}
 use Rattle.n2k_wire.specs.Packet.{Parts}
 use Rattle.n2k_run.specs.declared.counts.Counts.{Counts}

@@ -3,7 +3,7 @@ ghost use Rattle.std.specs.Prelude.{◌≡◌, ◌⊎◌, ◌<◌, ◌++◌, Lis
 ghost use Rattle.std.specs.Io.KnownBytes.{Appends, Consumes, IsAtEnd};
 ghost use Rattle.n2k_run.specs.Device.{HasFailed};
 ghost use Rattle.n2k_run.specs.Lines.{lines, whole_lines};
-ghost use Rattle.n2k_run.specs.Made.{texts_of, counts_of};
+ghost use Rattle.n2k_run.specs.Made.{texts_of, counts_of, ReportsFirst};
 ghost use Rattle.n2k_run.specs.Reports.{reports};
 ghost use Rattle.n2k_run.specs.Reading.{OutlastsReads};
 ghost use Rattle.n2k_run.specs.Writing.{AppendsFront};
@@ -32,6 +32,7 @@ fn print_lines<M: Maker, W: Sink, E: Sink>(
     ensures report_front { OnErr result (AppendsFront (E.contents reporter.old) (E.contents reporter.new) (reports log.now)) }
     ensures write { IsErrOf result RunFault.Write → HasFailed (W.failed_calls writer.old) (W.failed_calls writer.new) }
     ensures report_fault { IsErrOf result RunFault.Report → HasFailed (E.failed_calls reporter.old) (E.failed_calls reporter.new) }
+    ensures report_first { IsErrOf result RunFault.Write → ReportsFirst (M.text maker.now) log.now (W.contents writer.old) (W.contents writer.new) (E.contents reporter.old) (E.contents reporter.new) }
     ensures too_many { IsErrOf result RunFault.TooManyLines → MOST_LINES < length (lines log.now) }
     ensures no_read { IsErrOf result RunFault.Read → ⊥ }
 {
@@ -81,6 +82,8 @@ pub(crate) fn run_frames_of<M: Maker, R: Source, W: Sink, E: Sink>(
         × Consumes (R.remaining reader.old) (R.remaining reader.new) came
         × Appends (W.contents writer.old) (W.contents writer.new) (texts_of (M.text maker.now) (whole_lines came))
         × Appends (E.contents reporter.old) (E.contents reporter.new) (reports (whole_lines came)) }
+    ensures report_first { IsErrOf result RunFault.Write → IfSome (R.remaining reader.old)
+        (λ log. ReportsFirst (M.text maker.now) log (W.contents writer.old) (W.contents writer.new) (E.contents reporter.old) (E.contents reporter.new)) }
     ensures printed_front { OnErr result (IfSome (R.remaining reader.old)
         (λ log. AppendsFront (W.contents writer.old) (W.contents writer.new) (texts_of (M.text maker.now) log))) }
     ensures reported_front { OnErr result (IfSome (R.remaining reader.old)

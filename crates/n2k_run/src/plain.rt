@@ -1,8 +1,10 @@
 //! The run of `plain`: each frame of a log as a plain line.
 ghost use Rattle.std.specs.Prelude.{◌≡◌, ◌⊎◌, ◌<◌, List, ℕ, length, OnOk, OnErr, IfOk, IfSome, IsErrOf};
 ghost use Rattle.std.specs.Io.KnownBytes.{Appends, Consumes, IsAtEnd};
+ghost use Rattle.n2k_wire.specs.Texts.{plain_text};
 ghost use Rattle.n2k_run.specs.Device.{HasFailed};
 ghost use Rattle.n2k_run.specs.Lines.{lines, whole_lines};
+ghost use Rattle.n2k_run.specs.Made.{ReportsFirst};
 ghost use Rattle.n2k_run.specs.Plain.{plain_out, plain_counts};
 ghost use Rattle.n2k_run.specs.Reading.{OutlastsReads};
 ghost use Rattle.n2k_run.specs.Reports.{reports};
@@ -67,6 +69,8 @@ pub fn run_plain<R: Source, W: Sink, E: Sink>(
         × Consumes (R.remaining reader.old) (R.remaining reader.new) came
         × Appends (W.contents writer.old) (W.contents writer.new) (plain_out (whole_lines came))
         × Appends (E.contents reporter.old) (E.contents reporter.new) (reports (whole_lines came)) }
+    ensures report_first { IsErrOf result RunFault.Write → IfSome (R.remaining reader.old)
+        (λ log. ReportsFirst plain_text log (W.contents writer.old) (W.contents writer.new) (E.contents reporter.old) (E.contents reporter.new)) }
     ensures printed_front { OnErr result (IfSome (R.remaining reader.old)
         (λ log. AppendsFront (W.contents writer.old) (W.contents writer.new) (plain_out log))) }
     ensures reported_front { OnErr result (IfSome (R.remaining reader.old)

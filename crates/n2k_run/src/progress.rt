@@ -99,6 +99,7 @@ impl Progress {
         ensures report_front { OnErr result (AppendsFront (E.contents reports.old) (E.contents reports.new) self.old.report.items) }
         ensures write { IsErrOf result RunFault.Write → HasFailed (W.failed_calls writer.old) (W.failed_calls writer.new) }
         ensures report_fault { IsErrOf result RunFault.Report → HasFailed (E.failed_calls reports.old) (E.failed_calls reports.new) }
+        ensures report_first { IsErrOf result RunFault.Write → Appends (E.contents reports.old) (E.contents reports.new) self.old.report.items }
         ensures no_other { IfErr result IsDeviceFault }
     {
         if write_all(reports, &self.report).is_err() {

@@ -4,8 +4,10 @@ ghost use Rattle.std.specs.Io.KnownBytes.{Appends, Consumes, IsAtEnd};
 ghost use Rattle.n2k_run.specs.Decoded.{out, decode_counts};
 ghost use Rattle.n2k_run.specs.Device.{HasFailed};
 ghost use Rattle.n2k_run.specs.Lines.{lines, whole_lines};
+ghost use Rattle.n2k_run.specs.Made.{ReportsFirst};
 ghost use Rattle.n2k_run.specs.Reading.{OutlastsReads};
 ghost use Rattle.n2k_run.specs.Reports.{reports};
+ghost use Rattle.n2k_run.specs.Single.{single_text};
 ghost use Rattle.n2k_run.specs.Writing.{AppendsFront};
 
 use crate::counts::Counts;
@@ -76,6 +78,8 @@ pub fn run_single<R: Source, W: Sink, E: Sink>(
         × Consumes (R.remaining reader.old) (R.remaining reader.new) came
         × Appends (W.contents writer.old) (W.contents writer.new) (out table.now (whole_lines came))
         × Appends (E.contents reporter.old) (E.contents reporter.new) (reports (whole_lines came)) }
+    ensures report_first { IsErrOf result RunFault.Write → IfSome (R.remaining reader.old)
+        (λ log. ReportsFirst (single_text table.now) log (W.contents writer.old) (W.contents writer.new) (E.contents reporter.old) (E.contents reporter.new)) }
     ensures printed_front { OnErr result (IfSome (R.remaining reader.old)
         (λ log. AppendsFront (W.contents writer.old) (W.contents writer.new) (out table.now log))) }
     ensures reported_front { OnErr result (IfSome (R.remaining reader.old)

@@ -1,7 +1,6 @@
-use Rattle.std.proofs.Common.{◌≡◌, ℕ, List, [], refl, sym, ◌∙◌, arith}
-use Rattle.n2k_run.specs.Made.{texts_of}
-use Rattle.n2k_run.specs.Writing.{AppendsFront}
-use Rattle.n2k_run.proofs.RunSteps.{Stands, on_err, begins, takes_line, writes, text_done, report_done, counts_done, lines_left, text_front, report_front}
+use Rattle.std.proofs.Common.{◌≡◌, [], refl, ◌∙◌, arith}
+use Rattle.std.proofs.lemmas.Result.{err_from_is_err_and}
+use Rattle.n2k_run.proofs.RunSteps.{Stands, on_err, begins, takes_line, writes, text_done, report_done, counts_done, lines_left, text_stands, report_stands, text_front, report_front, reports_first, same_err}
 use Rattle.n2k_run.proofs.engine.print_lines.Given.{Over}
 use Rattle.n2k_run.proofs.engine.print_lines.Goals as goal
 use Rattle.n2k_run.proofs.engine.print_lines.Goals.{In_ok-take_line, In_ok-write-3}
@@ -24,12 +23,12 @@ returns-in_err-write-clause-report_front g c = on_err _ _ (report_front (g.M.Mak
 pub returns-then-progress-eq-MOST_LINES-clause-text_front :
     goal.returns-then-progress-eq-MOST_LINES-clause-text_front
 returns-then-progress-eq-MOST_LINES-clause-text_front g c =
-    (_, (writes (g.M.Maker.text c.args.maker.now) (g.M.Maker.worth c.args.maker.now) c.args.log.now c.loop-line.rest.now _ _ _ _ _ _ _ _ _ c.loop-line.invariant.stands c.in_ok-write.ensures.text c.in_ok-write.ensures.report).texts_owed)
+    text_stands (g.M.Maker.text c.args.maker.now) (g.M.Maker.worth c.args.maker.now) c.args.log.now c.loop-line.rest.now _ _ _ _ _ _ _ (writes (g.M.Maker.text c.args.maker.now) (g.M.Maker.worth c.args.maker.now) c.args.log.now c.loop-line.rest.now _ _ _ _ _ _ _ _ _ c.loop-line.invariant.stands c.in_ok-write.ensures.text c.in_ok-write.ensures.report)
 
 pub returns-then-progress-eq-MOST_LINES-clause-report_front :
     goal.returns-then-progress-eq-MOST_LINES-clause-report_front
 returns-then-progress-eq-MOST_LINES-clause-report_front g c =
-    (_, (writes (g.M.Maker.text c.args.maker.now) (g.M.Maker.worth c.args.maker.now) c.args.log.now c.loop-line.rest.now _ _ _ _ _ _ _ _ _ c.loop-line.invariant.stands c.in_ok-write.ensures.text c.in_ok-write.ensures.report).reports_owed)
+    report_stands (g.M.Maker.text c.args.maker.now) (g.M.Maker.worth c.args.maker.now) c.args.log.now c.loop-line.rest.now _ _ _ _ _ _ _ (writes (g.M.Maker.text c.args.maker.now) (g.M.Maker.worth c.args.maker.now) c.args.log.now c.loop-line.rest.now _ _ _ _ _ _ _ _ _ c.loop-line.invariant.stands c.in_ok-write.ensures.text c.in_ok-write.ensures.report)
 
 pub returns-then-progress-eq-MOST_LINES-clause-too_many :
     goal.returns-then-progress-eq-MOST_LINES-clause-too_many
@@ -87,5 +86,38 @@ returns-clause-counts g c =
 
 pub returns-in_err-take_line-clause-text_front : goal.returns-in_err-take_line-clause-text_front
 returns-in_err-take_line-clause-text_front g c =
-    let front : AppendsFront (g.W.Sink.contents c.args.writer.now) (g.W.Sink.contents c.loop-line.writer) (texts_of (g.M.Maker.text c.args.maker.now) c.args.log.now) = (_, c.loop-line.invariant.stands.texts_owed) in
-    on_err _ _ front
+    on_err _ _ (text_stands (g.M.Maker.text c.args.maker.now) (g.M.Maker.worth c.args.maker.now) c.args.log.now c.loop-line.rest.now _ _ _ _ _ _ _ c.loop-line.invariant.stands)
+
+pub returns-in_err-take_line-clause-report_front : goal.returns-in_err-take_line-clause-report_front
+returns-in_err-take_line-clause-report_front g c =
+    on_err _ _ (report_stands (g.M.Maker.text c.args.maker.now) (g.M.Maker.worth c.args.maker.now) c.args.log.now c.loop-line.rest.now _ _ _ _ _ _ _ c.loop-line.invariant.stands)
+
+pub returns-in_err-write-clause-report_first : goal.returns-in_err-write-clause-report_first
+returns-in_err-write-clause-report_first g c =
+    let p = err_from_is_err_and c.from_residual.result c.from_residual.ensures.1 in
+    let e = c.in_err-write.ensures in
+    rw (p.1, p.2) (λ is. reports_first (g.M.Maker.text c.args.maker.now) (g.M.Maker.worth c.args.maker.now) c.args.log.now c.loop-line.rest.now _ _ _ _ _ _ _ _ _ c.loop-line.invariant.stands e.text_front (e.report_first (same_err _ _ is)))
+
+pub returns-in_err-write-2-clause-report_first : goal.returns-in_err-write-2-clause-report_first
+returns-in_err-write-2-clause-report_first g c =
+    let p = err_from_is_err_and c.from_residual-in_err-write-2.result c.from_residual-in_err-write-2.ensures.1 in
+    let e = c.in_err-write-2.ensures in
+    let taken = after_line g (goal.at.returns-in_err-write-2-clause-report_first g c).In_ok-take_line in
+    rw (p.1, p.2) (λ is. reports_first (g.M.Maker.text c.args.maker.now) (g.M.Maker.worth c.args.maker.now) c.args.log.now c.in-Some.after.now _ _ _ _ _ _ _ _ _ taken e.text_front (e.report_first (same_err _ _ is)))
+
+pub returns-in_err-write-3-clause-report_first : goal.returns-in_err-write-3-clause-report_first
+returns-in_err-write-3-clause-report_first g c =
+    let p = err_from_is_err_and c.from_residual-in_err-write-3.result c.from_residual-in_err-write-3.ensures.1 in
+    let e = c.in_err-write-3.ensures in
+    rw (p.1, p.2) (λ is. reports_first (g.M.Maker.text c.args.maker.now) (g.M.Maker.worth c.args.maker.now) c.args.log.now c.loop-line.rest.now _ _ _ _ _ _ _ _ _ c.loop-line.invariant.stands e.text_front (e.report_first (same_err _ _ is)))
+
+pub loop-line-preserved : goal.loop-line-preserved
+loop-line-preserved g c =
+    let e = c.in_ok-take_line.ensures in
+    record {
+      stands = after_line g (goal.at.loop-line-preserved g c).In_ok-take_line;
+      counted = e.counted;
+      few = rw e.counts (omega (arith, c.loop-line.invariant.few, c.if-progress-eq-MOST_LINES.false));
+      writer_works = c.loop-line.invariant.writer_works;
+      reports_work = c.loop-line.invariant.reports_work;
+    }

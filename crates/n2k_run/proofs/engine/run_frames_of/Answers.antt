@@ -1,12 +1,12 @@
-use Rattle.std.proofs.Common.{◌≡◌, ℕ, ◌<◌, List, ◌++◌, length, ap, ◌∙◌}
+use Rattle.std.proofs.Common.{◌≡◌, ◌++◌, ap, ◌∙◌}
 use Rattle.std.specs.Prelude.{IfSome}
 use Rattle.std.proofs.lemmas.Result.{err_from_is_err_and}
-use Rattle.n2k_run.specs.Lines.{lines, whole_lines}
+use Rattle.n2k_run.specs.Lines.{whole_lines}
 use Rattle.n2k_run.specs.Made.{texts_of}
 use Rattle.n2k_run.specs.Reports.{reports}
 use Rattle.n2k_run.specs.declared.progress.TheConstants.{MOST_LINES}
-use Rattle.n2k_run.proofs.RunFront.{Leads, leads, out_front, reports_front, more_lines, none_written, all_is_front, whole_front}
-use Rattle.n2k_run.proofs.RunSteps.{on_err}
+use Rattle.n2k_run.proofs.RunFront.{Leads, leads, out_front, reports_front, more_lines, none_written, whole_front, first_of_front}
+use Rattle.n2k_run.proofs.RunSteps.{on_err, all_is_front}
 use Rattle.n2k_run.proofs.engine.run_frames_of.Given.{Over}
 use Rattle.n2k_run.proofs.engine.run_frames_of.Goals as goal
 use Rattle.n2k_run.proofs.engine.run_frames_of.Goals.{After-whole_lines}
@@ -52,3 +52,10 @@ returns-in_err-print_lines-in-Err-Read-clause-too_many g c =
 pub returns-in-Ok-clause-printed_front : goal.returns-in-Ok-clause-printed_front
 returns-in-Ok-clause-printed_front g c =
     whole_front (texts_of (g.M.Maker.text c.args.maker.now)) _ _ _ c.read_all.new.input.items c.print_lines.result (simp c.new-input.ensures.items at c.in-Ok.ensures.whole) (rw c.deref.ensures.value at c.print_lines.ensures.text_front)
+
+pub returns-in_err-print_lines-in-Err-Read-clause-report_first :
+    goal.returns-in_err-print_lines-in-Err-Read-clause-report_first
+returns-in_err-print_lines-in-Err-Read-clause-report_first g c =
+    let p = err_from_is_err_and c.from_residual.result c.from_residual.ensures.1 in
+    let l = led g (goal.at.returns-in_err-print_lines-in-Err-Read-clause-report_first g c).After-whole_lines in
+    rw (p.1, p.2) (λ e. first_of_front (g.M.Maker.text c.args.maker.now) _ _ _ _ _ c.whole_lines.result.now l (c.in_err-print_lines-in-Err-Read.ensures.report_first e))
