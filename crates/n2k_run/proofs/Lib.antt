@@ -1,3 +1,4 @@
+pub mod FirstByte
 pub mod Gained
 pub mod Owed
 pub mod PlainFront

@@ -22,7 +22,7 @@ fn without_return(piece: &[u8]) -> &[u8]
 fn line_end(bytes: &[u8]) -> Option<usize>
     ensures { result ≡ position is_line_feed bytes.now }
 {
-    bytes.iter().position(|byte| *byte == LINE_FEED)
+    memchr::memchr(LINE_FEED, bytes)
 }
 
 /// The first line, without its LF and without one CR at its end, and what follows it. None where there are

@@ -96,3 +96,6 @@ pub fn run_plain<R: Source, W: Sink, E: Sink>(
         Err(ReadFault::Memory) => Err(RunFault::Memory),
     }
 }
+
+#[cfg(test)]
+mod tests;

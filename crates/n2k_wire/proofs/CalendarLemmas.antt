@@ -1,8 +1,7 @@
 -- The date that jiff gives for a day number is the one of the definitions.
-use Rattle.std.proofs.Common.{◌≡◌, ℕ, zero, suc, ◌+◌, ◌-◌, ◌<◌, ◌≤◌, Bool, true, false, cond, leb, refl, sym, ap, arith, ℤ, pos, negsuc, ◌+ℤ◌, ◌≤ℤ◌, ◌<ℤ◌, inl, inr}
-use Rattle.std.specs.Prelude.{unsigned_abs}
-use Rattle.std.proofs.lemmas.Bool.{leb-true, leb-false, le-leb, lt-leb, cases_lt}
-use Rattle.jiff_core.specs.Calendar.{day_count, days_from_civil, days_in_month, IsYear, IsCivilDate}
+use Rattle.std.proofs.Common.{◌≡◌, ℕ, zero, suc, ◌+◌, ◌<◌, ◌≤◌, sym, ap, arith, ℤ, pos, negsuc, ◌+ℤ◌, inl, inr}
+use Rattle.std.proofs.lemmas.Bool.{le-leb, lt-leb, cases_lt}
+use Rattle.jiff_core.specs.Calendar.{day_count, days_from_civil, IsYear, IsCivilDate}
 use Rattle.jiff_core.proofs.SignedLemmas.{signed_arith}
 use Rattle.jiff_core.proofs.CalendarLemmas.{day_count-epoch, day_count-lt_year, day_count-lt_month, day_count-day, days_in_month_bounds, days_from_civil-day_count}
 use Rattle.n2k_wire.specs.Calendar.{day_number, last_begun_year, last_begun_month, year_of, month_of, day_of_month}

@@ -3,3 +3,4 @@ pub mod DigitLemmas
 pub mod HexDigits
 pub mod PieceLemmas
 pub mod PlainLemmas
+pub mod ReadBack

@@ -1,5 +1,5 @@
 -- Lines of can-utils' `candump -L`: `(seconds.fraction) interface ID#DATA`.
-use Rattle.std.specs.Prelude.{ℕ, ◌*◌, not, ◌==◌, ◌&&◌, ◌||◌, nat_lt, nat_le, Bool, true, false, if◌then◌else◌, List, [], ◌∷◌, length, take, drop, Option, Some, None, option_and_then, Result, Ok, Err}
+use Rattle.std.specs.Prelude.{ℕ, ◌*◌, not, ◌==◌, ◌&&◌, ◌||◌, nat_lt, nat_le, Bool, true, false, if◌then◌else◌, List, [], ◌∷◌, length, take, drop, Option, Some, None, option_map, option_and_then, Result, Ok, Err}
 use Rattle.std.specs.Char.{is_ascii_hexdigit}
 use Rattle.std.specs.Int.{w32, from_be_bytes}
 use Rattle.std.specs.List.{list_all, position_or_len}
@@ -10,10 +10,9 @@ use Rattle.n2k_wire.specs.declared.entry.BadCause.TheVariants as causes
 use Rattle.n2k_wire.specs.declared.entry.Entry.{Entry}
 use Rattle.n2k_wire.specs.declared.entry.Entry.TheVariants as entries
 use Rattle.n2k_wire.specs.Identifier.{split}
-use Rattle.n2k_wire.specs.Packet.{Parts}
 use Rattle.n2k_wire.specs.Pieces.{cut_at, after_byte, skip_spaces}
 use Rattle.n2k_wire.specs.Stamp.{Moment, moment, utc_text}
-use Rattle.n2k_wire.specs.Steps.{◌>>=◌, or_cause, holds_or, some_if}
+use Rattle.n2k_wire.specs.Steps.{◌>>=◌, or_cause, some_if}
 
 -- the most bytes of an interface's name
 abbrev pub longest_interface : ℕ
@@ -50,9 +49,10 @@ of_number n =
 
 unfoldable pub identifier : List ℕ → Result (Option ℕ) BadCause
 identifier digits =
-    if (length digits == 3) && list_all is_ascii_hexdigit digits then Ok None
+    if not (list_all is_ascii_hexdigit digits) then Err causes.Identifier
+    else if length digits == 3 then Ok None
     else if length digits == 8
-    then (or_cause causes.Identifier (result_ok (decode_of digits)) >>= (λ bytes. of_number (from_be_bytes w32 bytes)))
+    then (or_cause causes.Identifier (option_map (from_be_bytes w32) (result_ok (decode_of digits))) >>= of_number)
     else Err causes.Identifier
 
 -- what may follow the data: nothing, or a space and any bytes

@@ -1,6 +1,6 @@
 -- The 29 bits of a CAN identifier, as NMEA 2000 takes them over from ISO 11783-3. From the low end: the source
 -- address, PDU specific and PDU format (eight bits each), data page and reserved bit (two), the priority (three).
-use Rattle.std.specs.Prelude.{ℕ, ◌+◌, ◌*◌, ◌/◌, ◌%◌, ◌^◌, ◌<◌, nat_lt, if◌then◌else◌}
+use Rattle.std.specs.Prelude.{ℕ, ◌+◌, ◌*◌, ◌/◌, ◌%◌, ◌^◌, nat_lt, if◌then◌else◌}
 use Rattle.n2k_wire.specs.declared.identifier.Id.{Id}
 
 abbrev pub source : ℕ → ℕ

@@ -1,5 +1,5 @@
 -- Plain lines: `stamp,prio,pgn,src,dst,len,b0,b1,..`, the format that canboat's programs read and write.
-use Rattle.std.specs.Prelude.{ℕ, ◌+◌, ◌*◌, ◌==◌, nat_le, Bool, if◌then◌else◌, List, [], ◌∷◌, ◌++◌, length, Option, Some, None, option_and_then, option_map, Result, Ok, Err}
+use Rattle.std.specs.Prelude.{ℕ, ◌==◌, nat_le, if◌then◌else◌, List, [], ◌∷◌, ◌++◌, length, Option, Some, None, option_and_then, option_map, Result, Ok, Err}
 use Rattle.std.specs.List.{slice_split}
 use Rattle.std.specs.Result.{result_ok}
 use Rattle.hex.specs.Hex.{decode_sized}
@@ -10,7 +10,7 @@ use Rattle.n2k_wire.specs.declared.entry.Entry.TheVariants as entries
 use Rattle.n2k_wire.specs.declared.identifier.Id.{Id}
 use Rattle.n2k_wire.specs.Candump.{frame_payload}
 use Rattle.n2k_wire.specs.Digits.{decimal_number}
-use Rattle.n2k_wire.specs.Packet.{Parts, is_stamp, greatest_pgn, greatest_priority}
+use Rattle.n2k_wire.specs.Packet.{is_stamp, greatest_pgn, greatest_priority}
 use Rattle.n2k_wire.specs.Steps.{◌>>=◌, or_cause, holds_or, some_if}
 
 -- the most digits of a number

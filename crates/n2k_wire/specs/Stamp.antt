@@ -1,5 +1,5 @@
 -- Stamps of candump lines, `seconds.fraction` since 1970, and the UTC text that packets keep of them.
-use Rattle.std.specs.Prelude.{ℕ, ◌+◌, ◌*◌, ◌/◌, ◌%◌, ◌≤◌, nat_le, List, [], ◌∷◌, ◌++◌, take, Option, Some, None, codes, option_and_then, if◌then◌else◌}
+use Rattle.std.specs.Prelude.{ℕ, ◌+◌, ◌/◌, ◌%◌, ◌≤◌, nat_le, List, [], ◌∷◌, ◌++◌, take, Option, codes, option_and_then}
 use Rattle.n2k_wire.specs.Calendar.{year_of, month_of, day_of_month}
 use Rattle.n2k_wire.specs.Digits.{decimal_number}
 use Rattle.n2k_wire.specs.Pieces.{cut_at}

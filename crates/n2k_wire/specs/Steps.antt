@@ -1,5 +1,5 @@
 -- Readings that may fail, one step after another: each line has at most one cause, that of the first step that fails.
-use Rattle.std.specs.Prelude.{◌≡◌, Bool, true, false, Option, Some, None, Result, Ok, Err, option_and_then}
+use Rattle.std.specs.Prelude.{◌≡◌, Bool, true, false, Option, Some, None, Result, Ok, Err}
 use Rattle.n2k_wire.specs.declared.entry.BadCause.{BadCause}
 
 infixl 10 ◌>>=◌

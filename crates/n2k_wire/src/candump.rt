@@ -1,12 +1,16 @@
 //! Lines of can-utils' `candump -L`: `(seconds.fraction) interface ID#DATA`.
-ghost use Rattle.std.specs.Prelude.{◌≡◌, ◌≤◌, ◌<◌, ◌^◌, IfSome, IfOk, length, not, position};
+ghost use Rattle.std.specs.Prelude.{◌≡◌, ◌≤◌, ◌<◌, ◌^◌, IfSome, IfOk, length, not, position, option_map, Some, true};
 ghost use Rattle.std.specs.Char.{is_ascii_hexdigit};
 ghost use Rattle.std.specs.List.{list_all};
 ghost use Rattle.n2k_wire.specs.Candump.{candump, is_interface_byte, is_interface, stamped, framed, of_number, identifier, is_end, is_ending, digits_len, payload, is_other_frame, frame_of};
+ghost use Rattle.std.specs.Int.{w32, from_be_bytes};
+ghost use Rattle.std.specs.Result.{result_ok};
+ghost use Rattle.hex.specs.Hex.{decode_of};
 ghost use Rattle.n2k_wire.specs.Moments.{plain_moment};
 ghost use Rattle.n2k_wire.specs.Stamp.{IsMoment};
 ghost use Rattle.n2k_wire.specs.Steps.{Finds, Gives};
 
+use crate::digits::{are_hex_digits, decode_digits, is_hex_digit};
 use crate::entry::{BadCause, Entry};
 use crate::identifier::split_id;
 use crate::packet::Packet;
@@ -68,12 +72,6 @@ fn read_framed(text: &[u8]) -> Option<(&[u8], &[u8])>
     cut_at(b'#', skip_spaces(text)?)
 }
 
-fn are_hex_digits(digits: &[u8]) -> bool
-    ensures { result ≡ list_all is_ascii_hexdigit digits.now }
-{
-    digits.iter().all(|byte| byte.is_ascii_hexdigit())
-}
-
 fn of_number(number: u32) -> Result<Option<u32>, BadCause>
     ensures value { Gives (λ known. known) result (of_number number) }
     ensures bits { IfOk result (λ known. IfSome known (λ n. n < 2 ^ 29)) }
@@ -87,22 +85,36 @@ fn of_number(number: u32) -> Result<Option<u32>, BadCause>
     }
 }
 
+/// The number of eight hexadecimal digits.
+fn read_word(digits: &[u8]) -> u32
+    requires eight { length digits.now ≡ 8 }
+    requires hexadecimal { list_all is_ascii_hexdigit digits.now ≡ true }
+    ensures { option_map (from_be_bytes w32) (result_ok (decode_of digits.now)) ≡ Some result }
+{
+    match decode_digits(digits) {
+        Some(bytes) => {
+            let [a, b, c, d] = bytes.as_slice() else {
+                unreachable!()
+            };
+            u32::from_be_bytes([*a, *b, *c, *d])
+        }
+        None => unreachable!(),
+    }
+}
+
 /// The 29 bits of an extended identifier, or none where the frame is skipped.
 #[tactic(auto, unfolding(crate::specs::Candump::identifier))]
 fn read_identifier(digits: &[u8]) -> Result<Option<u32>, BadCause>
     ensures value { Gives (λ known. known) result (identifier digits.now) }
     ensures bits { IfOk result (λ known. IfSome known (λ n. n < 2 ^ 29)) }
 {
-    if digits.len() == 3 && are_hex_digits(digits) {
-        return Ok(None);
-    }
-    if digits.len() != 8 {
+    if !are_hex_digits(digits) {
         return Err(BadCause::Identifier);
     }
-    let mut bytes = [0u8; 4];
-    match hex::decode_to_slice(digits, &mut bytes) {
-        Ok(()) => of_number(u32::from_be_bytes(bytes)),
-        Err(_) => Err(BadCause::Identifier),
+    match digits.len() {
+        3 => Ok(None),
+        8 => of_number(read_word(digits)),
+        _ => Err(BadCause::Identifier),
     }
 }
 
@@ -133,7 +145,7 @@ fn is_ending(rest: &[u8]) -> bool
 fn place_of_other(text: &[u8]) -> Option<usize>
     ensures { result ≡ position (λ b. not (is_ascii_hexdigit b)) text.now }
 {
-    text.iter().position(|byte| !byte.is_ascii_hexdigit())
+    text.iter().position(|byte| !is_hex_digit(*byte))
 }
 
 /// How many hexadecimal digits a text begins with.
@@ -141,6 +153,10 @@ fn digits_len(text: &[u8]) -> usize
     ensures value { result ≡ digits_len text.now }
     ensures within { result ≤ length text.now }
 {
+    // Mostly the data end the line, and then one pass without branches tells it.
+    if are_hex_digits(text) {
+        return text.len();
+    }
     match place_of_other(text) {
         Some(at) => at,
         None => text.len(),
@@ -168,15 +184,11 @@ fn read_payload(text: &[u8]) -> Option<ArrayVec<u8, FRAME_PAYLOAD>>
     if digits.len() > 2 * FRAME_PAYLOAD || !is_ending(rest) {
         return None;
     }
-    let mut bytes = [0; FRAME_PAYLOAD];
-    let data = &mut bytes[..digits.len() / 2];
-    hex::decode_to_slice(digits, data).ok()?;
-    let mut payload = ArrayVec::new();
-    let _ = payload.try_extend_from_slice(data);
-    Some(payload)
+    decode_digits(digits)
 }
 
 /// The frame of these parts, or one that is skipped.
+#[inline]
 #[tactic(auto, unfolding(crate::specs::Candump::frame_of))]
 fn frame_of(seen: Moment, known: Option<u32>, text: &[u8]) -> Result<Entry, BadCause>
     requires moment { IsMoment (plain_moment seen) }

@@ -1,5 +1,5 @@
 //! Numbers as digits.
-ghost use Rattle.std.specs.Prelude.{◌≡◌, ◌<◌, ◌≤◌, ◌^◌, ◌*◌, true, length, IfSome};
+ghost use Rattle.std.specs.Prelude.{◌≡◌, ◌<◌, ◌≤◌, ◌^◌, ◌*◌, ◌%◌, IsSome, true, length, IfSome};
 ghost use Rattle.std.specs.Char.{is_ascii_hexdigit};
 ghost use Rattle.std.specs.List.{list_all};
 ghost use Rattle.std.specs.Result.{result_ok};
@@ -50,15 +50,26 @@ fn decimal_digit(byte: u8) -> Option<u64>
     }
 }
 
-/// Whether each byte is a hexadecimal digit, of either case.
+/// Whether a byte is a hexadecimal digit, of either case.
+pub fn is_hex_digit(byte: u8) -> bool
+    ensures { result ≡ is_ascii_hexdigit byte }
+{
+    (byte.wrapping_sub(b'0') < 10) | (byte.wrapping_sub(b'A') < 6) | (byte.wrapping_sub(b'a') < 6)
+}
+
+/// Whether each byte is a hexadecimal digit. It looks at each, without a branch that goes by the kind of the
+/// digit: that would be mispredicted all the time, since the bytes of a bus are as good as random.
 pub fn are_hex_digits(digits: &[u8]) -> bool
     ensures { result ≡ list_all is_ascii_hexdigit digits.now }
 {
-    digits.iter().all(|byte| byte.is_ascii_hexdigit())
+    let mut all = true;
+    for byte in digits {
+        all &= is_hex_digit(*byte);
+    }
+    all
 }
 
-// The value of a hexadecimal digit. Digits and letters take the same steps: a branch on their kind would be
-// mispredicted all the time, since the bytes of a bus are as good as random.
+// The value of a hexadecimal digit, by the same steps for digits and letters.
 fn hex_value(digit: u8) -> u8
     requires { is_ascii_hexdigit digit ≡ true }
     ensures value { result ≡ hex_value digit }
@@ -73,13 +84,14 @@ pub fn decode_digits(digits: &[u8]) -> Option<ArrayVec<u8, 8>>
     requires hexadecimal { list_all is_ascii_hexdigit digits.now ≡ true }
     ensures value { Finds (λ bytes. bytes.items) result (result_ok (decode_of digits.now)) }
     ensures len { IfSome result (λ bytes. length digits.now ≡ 2 * length bytes.items) }
+    ensures even { length digits.now % 2 ≡ 0 → IsSome result }
 {
     if digits.len() % 2 == 1 {
         return None;
     }
     let mut bytes = ArrayVec::new();
     for i in 0..digits.len() / 2 {
-        bytes.push(16 * hex_value(digits[2 * i]) + hex_value(digits[2 * i + 1]));
+        bytes.push(hex_value(digits[2 * i]) * 16 + hex_value(digits[2 * i + 1]));
     }
     Some(bytes)
 }

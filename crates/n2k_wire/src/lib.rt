@@ -5,6 +5,7 @@ mod candump;
 mod digits;
 mod entry;
 mod identifier;
+pub mod laws;
 mod packet;
 mod pieces;
 mod plain;

@@ -1,5 +1,5 @@
 //! A packet: a frame or a whole message, with its stamp.
-ghost use Rattle.std.specs.Prelude.{◌≡◌, ◌≤◌, ◌^◌, ◌<◌, ◌↔◌, length, IsTrue};
+ghost use Rattle.std.specs.Prelude.{◌≡◌};
 ghost use Rattle.std.specs.List.{list_all};
 ghost use Rattle.std.specs.Option.{SomeIff};
 ghost use Rattle.n2k_wire.specs.Packet.{IsPacket, is_stamp, is_stamp_byte, is_stamp_start};
@@ -86,6 +86,7 @@ impl Packet {
     }
 
     /// The packet of parts that make one.
+    #[inline]
     pub(crate) fn of_parts(stamp: &[u8], id: Id, data: &[u8]) -> Packet
         requires { IsPacket stamp.now id «data».now }
         ensures { result ≡ record { stamp = stamp.now; id = id; payload = «data».now } }

@@ -1,8 +1,6 @@
 //! Plain lines: `stamp,prio,pgn,src,dst,len,b0,b1,..`, the format that canboat's programs read and write.
-ghost use Rattle.std.specs.Prelude.{◌≡◌, ◌≤◌, [], ◌∷◌, length, MatchOption, OnSome, IfSome, IfOk};
-ghost use Rattle.std.specs.List.{slice_split};
-ghost use Rattle.n2k_wire.specs.Packet.{is_stamp};
-ghost use Rattle.n2k_wire.specs.Plain.{plain, plain_of, pieces, number_to, pair, pairs, header, id_of, bytes_of};
+ghost use Rattle.std.specs.Prelude.{◌≡◌, ◌≤◌, [], ◌∷◌, length, IfSome, IfOk};
+ghost use Rattle.n2k_wire.specs.Plain.{plain, pieces, number_to, pair, header, id_of, bytes_of};
 ghost use Rattle.n2k_wire.specs.PlainPieces.{pieces_left, plain_header};
 ghost use Rattle.n2k_wire.specs.Steps.{Finds, Gives};
 

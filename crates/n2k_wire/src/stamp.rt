@@ -1,5 +1,5 @@
 //! Stamps of candump lines, and the UTC text that packets keep of them.
-ghost use Rattle.std.specs.Prelude.{◌≡◌, ◌≤◌, ◌*◌, ◌+◌, ◌<◌, ◌/◌, ◌%◌, length, IfSome, IsTrue, true};
+ghost use Rattle.std.specs.Prelude.{◌≡◌, ◌≤◌, ◌<◌, IfSome, IsTrue, true};
 ghost use Rattle.n2k_wire.specs.Steps.{Finds};
 ghost use Rattle.std.specs.List.{list_all};
 ghost use Rattle.n2k_wire.specs.Packet.{is_stamp, is_stamp_byte};
@@ -9,7 +9,6 @@ ghost use Rattle.n2k_wire.specs.Calendar.{year_of, month_of, day_of_month};
 
 use crate::digits::decimal_number;
 use crate::pieces::cut_at;
-use arrayvec::ArrayVec;
 use jiff_core::civil::Date;
 
 /// A moment of a candump stamp.

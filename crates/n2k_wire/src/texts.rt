@@ -2,21 +2,22 @@
 ghost use Rattle.std.specs.Prelude.{◌≡◌, ◌+◌, ◌*◌, ◌≤◌, ◌++◌, length, OnOk, OnErr};
 ghost use Rattle.std.specs.List.{flat_map};
 ghost use Rattle.arrayvec.specs.ArrayVec.{array_vec_len};
-ghost use Rattle.n2k_wire.specs.Texts.{byte_piece, number_piece, plain_line, plain_text};
+ghost use Rattle.n2k_wire.specs.Texts.{byte_piece, number_piece, plain_text};
 
 use crate::packet::Packet;
 use arrayvec::ArrayVec;
 use std::alloc::{AllocError, Global};
 
 /// Room for a plain line: a stamp, five numbers, 223 bytes of three characters each, and the LF.
-const LINE_ROOM: usize = 1024;
+const LINE_ROOM: usize = 768;
 
 type Line = ArrayVec<u8, LINE_ROOM>;
 
+#[inline]
 fn push_number(line: &mut Line, number: u32)
-    requires { array_vec_len line.old + 41 ≤ 1024 }
+    requires { array_vec_len line.old + 11 ≤ 768 }
     ensures items { line.new.items ≡ line.old.items ++ number_piece number }
-    ensures len { array_vec_len line.new ≤ array_vec_len line.old + 41 }
+    ensures len { array_vec_len line.new ≤ array_vec_len line.old + 11 }
 {
     line.push(b',');
     let mut buffer = itoa::Buffer::new();
@@ -24,7 +25,7 @@ fn push_number(line: &mut Line, number: u32)
 }
 
 fn push_byte(line: &mut Line, byte: u8)
-    requires { array_vec_len line.old + 3 ≤ 1024 }
+    requires { array_vec_len line.old + 3 ≤ 768 }
     ensures items { line.new.items ≡ line.old.items ++ byte_piece byte }
     ensures len { array_vec_len line.new ≡ array_vec_len line.old + 3 }
 {
@@ -36,7 +37,7 @@ fn push_byte(line: &mut Line, byte: u8)
 }
 
 fn push_bytes(line: &mut Line, bytes: &[u8])
-    requires { array_vec_len line.old + 3 * length bytes.now ≤ 1024 }
+    requires { array_vec_len line.old + 3 * length bytes.now ≤ 768 }
     ensures items { line.new.items ≡ line.old.items ++ flat_map byte_piece bytes.now }
     ensures len { array_vec_len line.new ≡ array_vec_len line.old + 3 * length bytes.now }
 {

@@ -1,9 +1,9 @@
-use Rattle.std.proofs.Common.{◌≡◌, ◌+◌, List, ℕ, [], ◌∷◌, length, Option, None, ap, sym, ◌∙◌, arith}
+use Rattle.std.proofs.Common.{◌≡◌, [], ◌∷◌, length, ap, sym, ◌∙◌, arith}
 use Rattle.std.specs.Prelude.{◌==◌}
 use Rattle.std.proofs.lemmas.List.Splits.{length-slice_split}
-use Rattle.n2k_wire.specs.Plain.{pieces, pairs}
+use Rattle.n2k_wire.specs.Plain.{pieces}
 use Rattle.n2k_wire.specs.PlainPieces.{pieces_left}
-use Rattle.n2k_wire.proofs.PlainLemmas.{with_front, reads_piece, ends_piece, pairs-end, bytes_of-pairs, bytes_of-other, bytes_of-bad}
+use Rattle.n2k_wire.proofs.PlainLemmas.{reads_piece, ends_piece, pairs-end, bytes_of-pairs, bytes_of-other, bytes_of-bad}
 use Rattle.n2k_wire.proofs.plain.read_bytes.Goals as goal
 
 -- there are too few pieces

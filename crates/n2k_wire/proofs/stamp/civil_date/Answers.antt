@@ -1,4 +1,4 @@
-use Rattle.std.proofs.Common.{◌≡◌, ℕ, ◌≤◌, refl, arith, pos, to_z, of_z, w16, FitsSigned, rules}
+use Rattle.std.proofs.Common.{◌≡◌, ℕ, ◌≤◌, refl, arith, pos, to_z, of_z, w16, FitsSigned}
 use Rattle.std.proofs.lemmas.Int.{ints, to_z-of_z}
 use Rattle.n2k_wire.specs.Calendar.{year_of}
 use Rattle.n2k_wire.proofs.CalendarLemmas.{IsDateOf, is_date_of}
