@@ -1,5 +1,5 @@
 -- From what `clap` says of a parse to what the words ask for.
-use Rattle.std.proofs.Common.{◌≡◌, ◌∙◌, ◌⊎◌, List, Bool, cond, true, false, Option, Some, None, Result, Ok, Err, IfOk, IsErrOf, ap, sym, subst, refl, inl, inr, codes, true≢false}
+use Rattle.std.proofs.Common.{◌≡◌, ◌∙◌, ◌⊎◌, List, [], Bool, cond, true, false, Option, Some, None, Result, Ok, Err, IfOk, IsErrOf, ap, sym, subst, refl, inl, inr, codes, true≢false}
 use Rattle.std.specs.Str.{bytes_eq}
 use Rattle.clap.specs.Kinds.{HasKind}
 use Rattle.clap.specs.Words.{App, HasMatchesOf, IsAmong, Row, Text, fault_of, first_of, is_simple, is_simple_and_free, subcommand_of, subcommand_rows_of}
@@ -27,6 +27,9 @@ program_is_free = refl
 pub rows_as_defined : (app : App) (words : List Text) (matches : ArgMatches) → app ≡ program_app → HasMatchesOf app words matches → subcommand_rows_of matches ≡ subcommand_of program_app words
 rows_as_defined app words matches is found = (found (ap is_simple is ∙ program_is_simple)).1 ∙ ap (λ (a : App). subcommand_of a words) is
 
+pub takes_as_defined : (app : App) (words : List Text) → app ≡ program_app → (is_simple_and_free app ≡ true → fault_of app words ≡ []) → fault_of program_app words ≡ []
+takes_as_defined app words is none = subst (λ (a : App). fault_of a words ≡ []) is (none (ap is_simple_and_free is ∙ program_is_free))
+
 pub fails_as_defined : (app : App) (words : List Text) (e : Error) → app ≡ program_app → (is_simple_and_free app ≡ true → HasKind (fault_of app words) e) → HasKind (fault_of program_app words) e
 fails_as_defined app words e is fails = subst (λ (a : App). HasKind (fault_of a words) e) is (fails (ap is_simple_and_free is ∙ program_is_free))
 
@@ -51,12 +54,12 @@ named_is_no_help (Some p) = go (bytes_eq p.0 (codes "plain")) (bytes_eq p.0 (cod
     go false false = refl
 
 -- the matches are those of the definition, so what is named in them is what the words name
-pub asked_by_matches : (words : List Text) (rows : Option (Text × List Row)) (r : Result Words Fault) → rows ≡ subcommand_of program_app words → Names (named rows) r → IfOk r (IsAskedBy words)
+pub asked_by_matches : (words : List Text) (rows : Option (Text × List Row)) (r : Result Words Fault) → rows ≡ subcommand_of program_app words → fault_of program_app words ≡ [] → Names (named rows) r → IfOk r (IsAskedBy words)
 unfolding words_of
-asked_by_matches words rows (Ok (Plain log)) same names = sym (ap named same) ∙ names
-asked_by_matches words rows (Ok (Decode table log)) same names = sym (ap named same) ∙ names
-asked_by_matches words rows (Ok (Help text)) same names = absurd (true≢false (sym (ap is_help names) ∙ named_is_no_help rows))
-asked_by_matches words rows (Err e) same names = tt
+asked_by_matches words rows (Ok (Plain log)) same none names = (none, sym (ap named same) ∙ names)
+asked_by_matches words rows (Ok (Decode table log)) same none names = (none, sym (ap named same) ∙ names)
+asked_by_matches words rows (Ok (Help text)) same none names = absurd (true≢false (sym (ap is_help names) ∙ named_is_no_help rows))
+asked_by_matches words rows (Err e) same none names = tt
 
 pub refused_by_matches : (words : List Text) (rows : Option (Text × List Row)) (r : Result Words Fault) → rows ≡ subcommand_of program_app words → Names (named rows) r → IsErrOf r fault.Words → IsRefused words
 unfolding words_of

@@ -1,5 +1,5 @@
 -- What the words of a command line ask for, by the command's definition and `clap`'s reading of it.
-use Rattle.std.specs.Prelude.{◌≡◌, ◌≢◌, ◌⊎◌, List, Option, Some, None, Result, Ok, Err, if◌then◌else◌, codes, option_map}
+use Rattle.std.specs.Prelude.{◌≡◌, ◌≢◌, ◌⊎◌, List, [], Option, Some, None, Result, Ok, Err, if◌then◌else◌, codes, option_map}
 use Rattle.std.specs.Str.{bytes_eq}
 use Rattle.clap.specs.Words.{IsAmong, Row, Text, fault_of, first_of, subcommand_of}
 use Rattle.clap.specs.declared.error.kind.ErrorKind.{ErrorKind}
@@ -28,14 +28,22 @@ named (Some p) =
 unfoldable pub words_of : List Text → Option Words
 words_of words = named (subcommand_of program_app words)
 
--- the words are not those of a command: `clap` has a fault that is no request for help, or no command is named
-abbrev pub IsRefused : List Text → Type 0
-IsRefused words = ((kind : ErrorKind) × IsAmong kind (fault_of program_app words) × (kind ≢ DisplayHelp)) ⊎ (words_of words ≡ None)
+-- `clap` has a fault at the words that is no request for help
+abbrev pub HasFault : List Text → Type 0
+HasFault words = (kind : ErrorKind) × IsAmong kind (fault_of program_app words) × (kind ≢ DisplayHelp)
 
--- help is given where it is asked for, and a command where it is named
+-- the words are not those of a command
+abbrev pub IsRefused : List Text → Type 0
+IsRefused words = HasFault words ⊎ (words_of words ≡ None)
+
+-- the words name this command, and `clap` has no fault at them
+abbrev pub IsNamedBy : List Text → Words → Type 0
+IsNamedBy words command = (fault_of program_app words ≡ []) × (words_of words ≡ Some command)
+
+-- a command that is named without a fault, or the help that is asked for
 abbrev pub IsAskedBy : List Text → Words → Type 0
-IsAskedBy words (Plain log) = words_of words ≡ Some (Plain log)
-IsAskedBy words (Decode table log) = words_of words ≡ Some (Decode table log)
+IsAskedBy words (Plain log) = IsNamedBy words (Plain log)
+IsAskedBy words (Decode table log) = IsNamedBy words (Decode table log)
 IsAskedBy words (Help text) = IsAmong DisplayHelp (fault_of program_app words)
 
 -- an answer on the command that was named, or on none

@@ -1,5 +1,6 @@
 //! The words of the command line, read with `clap`.
-ghost use Rattle.std.specs.Prelude.{◌≡◌, ◌⊎◌, ℕ, List, true, Some, None, map, IfOk, IfErr, IsErrOf, option_map};
+ghost use Rattle.std.specs.Prelude.{◌≡◌, ◌⊎◌, true, IfOk, IfErr, IsErrOf};
+ghost use Rattle.clap.specs.Walk.{texts};
 ghost use Rattle.clap.specs.Words.{first_of, found_of, kind_of, rows_of, subcommand_rows_of, takes};
 ghost use Rattle.n2kdec.specs.Usage.{program_app};
 ghost use Rattle.n2kdec.specs.Words.{AnswersKind, IsAskedBy, IsRefused, Names, decode_words, named, plain_words, words_of};
@@ -73,14 +74,13 @@ fn help_of(alloc: Global, error: &Error) -> Result<Words, Fault>
 }
 
 /// The command that the words of a command line name, the program's name first, as `clap` reads them by the
-/// command's definition; `Help` where they ask for help. Words that are refused for any other cause are
-/// `Fault::Words`; want of memory is `Fault::Memory`.
+/// command's definition: `["n2kdec", "plain", "trip.log"]` gives `Plain` with that log. `Help` where they ask for
+/// help. Words that are refused for any other cause are `Fault::Words`; want of memory is `Fault::Memory`.
 pub fn words(alloc: Global, words: &[&str]) -> Result<Words, Fault>
-    ensures asked { IfOk result (λ command. IsAskedBy (map (λ word. word.now) words.now) command) }
-    ensures refused { IsErrOf result Fault.Words → IsRefused (map (λ word. word.now) words.now) }
+    ensures asked { IfOk result (IsAskedBy (texts words.now)) }
+    ensures refused { IsErrOf result Fault.Words → IsRefused (texts words.now) }
     ensures faults { IfErr result (λ fault. (fault ≡ Fault.Words) ⊎ (fault ≡ Fault.Memory)) }
-    ensures taken { takes program_app (map (λ word. word.now) words.now) ≡ true
-        → Names (words_of (map (λ word. word.now) words.now)) result }
+    ensures taken { takes program_app (texts words.now) ≡ true → Names (words_of (texts words.now)) result }
 {
     match program(alloc)?.try_get_matches_from(words) {
         Ok(matches) => command_of(alloc, &matches),
