@@ -1,11 +1,11 @@
 -- What a line of a log is: skipped, bad for one cause, or a frame.
-use Rattle.std.specs.Prelude.{ℕ, ◌==◌, nat_lt, Bool, true, false, if◌then◌else◌, List, [], ◌∷◌, length, Result, Ok, Err}
+use Rattle.std.specs.Prelude.{ℕ, ◌≤◌, ◌==◌, nat_lt, Bool, true, false, if◌then◌else◌, List, [], ◌∷◌, length, Result, Ok, Err}
 use Rattle.n2k_wire.specs.declared.entry.BadCause.{BadCause}
 use Rattle.n2k_wire.specs.declared.entry.BadCause.TheVariants as causes
 use Rattle.n2k_wire.specs.declared.entry.Entry.{Entry}
 use Rattle.n2k_wire.specs.declared.entry.Entry.TheVariants as entries
 use Rattle.n2k_wire.specs.declared.entry.Packing.{Packing}
-use Rattle.n2k_wire.specs.Candump.{candump}
+use Rattle.n2k_wire.specs.Candump.{frame_payload, candump}
 use Rattle.n2k_wire.specs.Plain.{plain}
 
 -- the most bytes of a line, comments among them
@@ -34,3 +34,9 @@ entry line packing =
     else if is_skipped line then entries.Skip
     else if is_candump line then settled (candump line)
     else settled (plain line)
+
+-- a frame has at most 8 data bytes
+abbrev pub IsShort : Entry → Type 0
+IsShort entries.Skip = Unit {0}
+IsShort (entries.Bad cause) = Unit {0}
+IsShort (entries.Frame packet) = length packet.payload ≤ frame_payload

@@ -8,6 +8,7 @@ ghost use Rattle.std.specs.Result.{result_ok};
 ghost use Rattle.hex.specs.Hex.{decode_of};
 ghost use Rattle.n2k_wire.specs.Moments.{plain_moment};
 ghost use Rattle.n2k_wire.specs.Stamp.{IsMoment};
+ghost use Rattle.n2k_wire.specs.Entry.{IsShort};
 ghost use Rattle.n2k_wire.specs.Steps.{Finds, Gives};
 
 use crate::digits::{are_hex_digits, decode_digits, is_hex_digit};
@@ -193,7 +194,8 @@ fn read_payload(text: &[u8]) -> Option<ArrayVec<u8, FRAME_PAYLOAD>>
 fn frame_of(seen: Moment, known: Option<u32>, text: &[u8]) -> Result<Entry, BadCause>
     requires moment { IsMoment (plain_moment seen) }
     requires bits { IfSome known (λ n. n < 2 ^ 29) }
-    ensures { Gives (λ e. e) result (frame_of (plain_moment seen) known text.now) }
+    ensures entry { Gives (λ e. e) result (frame_of (plain_moment seen) known text.now) }
+    ensures short { IfOk result IsShort }
 {
     let Some(identifier) = known else {
         return Ok(Entry::Skip);
@@ -209,7 +211,8 @@ fn frame_of(seen: Moment, known: Option<u32>, text: &[u8]) -> Result<Entry, BadC
 /// The entry of a candump line, or the first of its causes.
 #[tactic(auto, unfolding(crate::specs::Candump::candump))]
 pub fn read_candump(line: &[u8]) -> Result<Entry, BadCause>
-    ensures { Gives (λ e. e) result (candump line.now) }
+    ensures entry { Gives (λ e. e) result (candump line.now) }
+    ensures short { IfOk result IsShort }
 {
     let (stamp, text) = read_stamped(line).ok_or(BadCause::Stamp)?;
     let seen = read_moment(stamp).ok_or(BadCause::Stamp)?;

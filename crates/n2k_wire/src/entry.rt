@@ -1,6 +1,6 @@
 //! What a line of a log is.
 ghost use Rattle.std.specs.Prelude.{◌≡◌};
-ghost use Rattle.n2k_wire.specs.Entry.{entry};
+ghost use Rattle.n2k_wire.specs.Entry.{entry, IsShort};
 
 use crate::candump::read_candump;
 use crate::packet::Packet;
@@ -59,7 +59,8 @@ pub enum Entry {
 /// The entry of a line, which is handed in without its LF and CR. It takes no memory.
 #[tactic(auto, unfolding(crate::specs::Entry::entry))]
 pub fn read_line(line: &[u8], packing: Packing) -> Entry
-    ensures { result ≡ entry line.now packing }
+    ensures entry { result ≡ entry line.now packing }
+    ensures short { IsShort result }
 {
     if line.len() > LONGEST_LINE {
         return Entry::Bad(BadCause::Long);

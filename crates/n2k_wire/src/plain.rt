@@ -2,6 +2,7 @@
 ghost use Rattle.std.specs.Prelude.{◌≡◌, ◌≤◌, [], ◌∷◌, length, IfSome, IfOk};
 ghost use Rattle.n2k_wire.specs.Plain.{plain, pieces, number_to, pair, header, id_of, bytes_of};
 ghost use Rattle.n2k_wire.specs.PlainPieces.{pieces_left, plain_header};
+ghost use Rattle.n2k_wire.specs.Entry.{IsShort};
 ghost use Rattle.n2k_wire.specs.Steps.{Finds, Gives};
 
 use crate::digits::decimal_number;
@@ -77,8 +78,8 @@ fn read_id(header: &Header<'_>) -> Result<Id, BadCause>
     ensures prio { IfOk result (λ id. id.prio ≤ 7) }
     ensures pgn { IfOk result (λ id. id.pgn ≤ 16_777_215) }
 {
-    let prio = number_to(7, header.prio).ok_or(BadCause::Number)? as u8;
-    let pgn = number_to(16_777_215, header.pgn).ok_or(BadCause::Number)? as u32;
+    let prio = number_to(u64::from(GREATEST_PRIORITY), header.prio).ok_or(BadCause::Number)? as u8;
+    let pgn = number_to(u64::from(GREATEST_PGN), header.pgn).ok_or(BadCause::Number)? as u32;
     let src = number_to(GREATEST_ADDRESS, header.src).ok_or(BadCause::Number)? as u8;
     let dst = number_to(GREATEST_ADDRESS, header.dst).ok_or(BadCause::Number)? as u8;
     Ok(Id {
@@ -127,7 +128,8 @@ fn read_bytes(len: u64, more: Option<&[u8]>) -> Option<ArrayVec<u8, LONGEST_DATA
 /// The entry of a plain line, or the first of its causes.
 #[tactic(auto, unfolding(crate::specs::Plain::plain_of))]
 pub fn read_plain(line: &[u8]) -> Result<Entry, BadCause>
-    ensures { Gives (λ e. e) result (plain line.now) }
+    ensures entry { Gives (λ e. e) result (plain line.now) }
+    ensures short { IfOk result IsShort }
 {
     let (stamp, more) = first_piece(line);
     if !is_stamp(stamp) {
@@ -135,7 +137,7 @@ pub fn read_plain(line: &[u8]) -> Result<Entry, BadCause>
     }
     let header = read_header(more).ok_or(BadCause::Form)?;
     let id = read_id(&header)?;
-    let len = number_to(8, header.len).ok_or(BadCause::Number)?;
+    let len = number_to(LONGEST_DATA as u64, header.len).ok_or(BadCause::Number)?;
     let data = read_bytes(len, header.more).ok_or(BadCause::Data)?;
     Ok(Entry::Frame(Packet::of_parts(stamp, id, data.as_slice())))
 }

@@ -1,0 +1,12 @@
+pub mod Keys
+pub mod Digits
+pub mod Each
+pub mod FieldFaults
+pub mod DefinitionFaults
+pub mod Documents
+pub mod Decimals
+pub mod OneKind
+pub mod Members
+pub mod RawBits
+pub mod Stamps
+pub mod Scaled

@@ -1,0 +1,99 @@
+-- What a table says of one message, and the faults that a definition may have.
+use Rattle.std.specs.Prelude.{ℕ, Bool, false, not, ◌||◌, nat_le, codes, List, [], ◌∷◌, ◌++◌, length, map, flat_map, Option, Result, Ok, Err, if◌then◌else◌}
+use Rattle.std.specs.List.{list_any, filter_map}
+use Rattle.std.specs.Result.{result_ok}
+use Rattle.std.specs.Str.{bytes_eq}
+use Rattle.toml.specs.Data.{Data, Members}
+use Rattle.n2k_table.specs.declared.definition.Kind.{Kind}
+use Rattle.n2k_table.specs.declared.definition.Kind.TheVariants.{Single, Fast}
+use Rattle.n2k_table.specs.declared.fault.TableFault.{TableFault}
+use Rattle.n2k_table.specs.declared.fault.TableFault.TheVariants.{Key, Text, Twice, TooMany}
+use Rattle.n2k_table.specs.declared.tree.Place.TheVariants.{Definition}
+use Rattle.n2k_table.specs.Fault.{◌>>=◌, fault_of, faults_in, value_or, unless}
+use Rattle.n2k_table.specs.Tree.{has_only_keys, as_members, whole_at, any_text_at, text_at, elements_at}
+use Rattle.n2k_table.specs.Field.{FieldParts, members_or_none, field_faults, field, counted_name}
+
+-- the greatest PGN, 24 bits
+abbrev pub greatest_number : ℕ
+greatest_number = 16777215
+
+-- the most fields of a definition
+abbrev pub most_fields : ℕ
+most_fields = 256
+
+-- a definition: the PGN that it describes, how that is sent, and its fields in printing order
+pub record DefinitionParts : Type 0 where
+  pub number : ℕ
+  pub kind : Kind
+  pub description : List ℕ
+  pub fields : List FieldParts
+
+-- the values of a definition, each by itself
+abbrev pub number_of : Members → Result ℕ TableFault
+number_of = whole_at (codes "number") 0 greatest_number
+
+-- how a PGN is sent: in single frames or as fast packets
+abbrev pub named_kind : List ℕ → Result Kind TableFault
+named_kind text =
+    if bytes_eq text (codes "single") then Ok Single else (if bytes_eq text (codes "fast") then Ok Fast else Err Text)
+
+abbrev pub kind_of : Members → Result Kind TableFault
+kind_of m = do
+  text ← any_text_at (codes "kind") m
+  named_kind text
+
+abbrev pub description_of : Members → Result (List ℕ) TableFault
+description_of = text_at (codes "description")
+
+abbrev pub fields_of : Members → Result (List Data) TableFault
+fields_of = elements_at (codes "fields")
+
+-- a name stands twice
+abbrev pub has_twice : List (List ℕ) → Bool
+has_twice [] = false
+has_twice (name ∷ names) = list_any (λ other. bytes_eq other name) names || has_twice names
+
+-- the faults of the fields of a definition
+abbrev pub fields_faults : List Data → List TableFault
+fields_faults ds =
+    unless (nat_le (length ds) most_fields) TooMany
+    ++ flat_map field_faults ds
+    ++ unless (not (has_twice (filter_map counted_name ds))) Twice
+
+-- the faults of a definition
+abbrev pub members_faults : Members → List TableFault
+members_faults m =
+    unless (has_only_keys Definition m) Key
+    ++ fault_of (number_of m)
+    ++ fault_of (kind_of m)
+    ++ fault_of (description_of m)
+    ++ faults_in (fields_of m) fields_faults
+
+abbrev pub definition_faults : Data → List TableFault
+definition_faults d = faults_in (as_members d) members_faults
+
+-- The definition that the values spell. Where one has a fault the table is refused.
+abbrev pub members_definition : Members → DefinitionParts
+members_definition m = record {
+  number = value_or 0 (number_of m);
+  kind = value_or Single (kind_of m);
+  description = value_or [] (description_of m);
+  fields = map field (value_or [] (fields_of m));
+}
+
+abbrev pub definition : Data → DefinitionParts
+definition d = members_definition (members_or_none d)
+
+-- the PGN of a definition, and how it says that the PGN is sent
+abbrev pub pgn_kind : DefinitionParts → ℕ × Kind
+pgn_kind d = (d.number, d.kind)
+
+-- The PGN and the kind under which a definition counts, where neither has a fault.
+abbrev pub number_and_kind : Members → Result (ℕ × Kind) TableFault
+number_and_kind m = do
+  n ← number_of m
+  kind ← kind_of m
+  Ok (n, kind)
+
+abbrev pub counted_kind : Data → Option (ℕ × Kind)
+counted_kind d = result_ok (as_members d >>= number_and_kind)

@@ -1,0 +1,11 @@
+pub mod Fault
+pub mod Text
+pub mod Tree
+pub mod Resolution
+pub mod Field
+pub mod Definition
+pub mod Table
+pub mod Bits
+pub mod Shown
+pub mod Decimal
+pub mod Json

@@ -1,0 +1,96 @@
+-- The faults that stand in the bytes of a table, the table that they spell, and what is looked up in it.
+use Rattle.std.specs.Prelude.{ℕ, Bool, true, false, not, ◌&&◌, ◌||◌, ◌==◌, nat_le, codes, List, [], ◌∷◌, ◌++◌, length, map, flat_map, Option, Some, None, option_map, unwrap_or, Result, if◌then◌else◌}
+use Rattle.std.specs.List.{list_any, filter_map, find}
+use Rattle.std.specs.Result.{is_ok}
+use Rattle.std.specs.Str.{is_utf8}
+use Rattle.sha2.specs.Sha256.{sha256}
+use Rattle.toml.specs.Data.{Data, Members, no_members, get_member}
+use Rattle.toml.specs.Parse.{parse_document}
+use Rattle.n2k_table.specs.declared.definition.Kind.{Kind}
+use Rattle.n2k_table.specs.declared.definition.Kind.TheVariants.{Single, Fast}
+use Rattle.n2k_table.specs.declared.fault.TableFault.{TableFault}
+use Rattle.n2k_table.specs.declared.fault.TableFault.TheVariants.{NotToml, Format, Key, Mixed, TooMany}
+use Rattle.n2k_table.specs.declared.tree.Place.TheVariants.{Document}
+use Rattle.n2k_table.specs.Fault.{faults_in, value_or, unless}
+use Rattle.n2k_table.specs.Tree.{has_only_keys, whole_at, elements_or_none}
+use Rattle.n2k_table.specs.Definition.{DefinitionParts, definition_faults, definition, counted_kind}
+
+-- the most definitions of a table
+abbrev pub most_definitions : ℕ
+most_definitions = 4096
+
+-- a table: which bytes it was read from, by their SHA-256, and its definitions in file order
+pub record TableParts : Type 0 where
+  pub id : List ℕ
+  pub definitions : List DefinitionParts
+
+-- the TOML 1.1 document that the bytes spell
+abbrev pub document : List ℕ → Option Members
+document bytes = if is_utf8 bytes then parse_document bytes else None
+
+-- the top level says that it is of format 1
+abbrev pub is_format_1 : Members → Bool
+is_format_1 top = is_ok (whole_at (codes "format") 1 1 top)
+
+abbrev pub is_same_kind : Kind → Kind → Bool
+is_same_kind Single Single = true
+is_same_kind Fast Fast = true
+is_same_kind Single Fast = false
+is_same_kind Fast Single = false
+
+-- two definitions of one PGN have different kinds
+abbrev pub are_mixed : ℕ × Kind → ℕ × Kind → Bool
+are_mixed a b = (a.0 == b.0) && not (is_same_kind a.1 b.1)
+
+abbrev pub has_mixed : List (ℕ × Kind) → Bool
+has_mixed [] = false
+has_mixed (d ∷ ds) = list_any (are_mixed d) ds || has_mixed ds
+
+-- the faults of the definitions of a table
+abbrev pub definitions_faults : List Data → List TableFault
+definitions_faults ds =
+    unless (nat_le (length ds) most_definitions) TooMany
+    ++ flat_map definition_faults ds
+    ++ unless (not (has_mixed (filter_map counted_kind ds))) Mixed
+
+-- the definitions of the top level, none where it has no key `pgn`
+abbrev pub definitions_of : Members → Result (List Data) TableFault
+definitions_of top = elements_or_none (get_member (codes "pgn") top)
+
+-- The faults of a document. One that is of no format that is known is judged no further.
+abbrev pub top_faults : Members → List TableFault
+top_faults top =
+    if is_format_1 top
+    then unless (has_only_keys Document top) Key ++ faults_in (definitions_of top) definitions_faults
+    else Format ∷ []
+
+abbrev pub document_faults : Option Members → List TableFault
+document_faults None = NotToml ∷ []
+document_faults (Some top) = top_faults top
+
+-- the faults that stand in the bytes of a table
+abbrev pub faults : List ℕ → List TableFault
+faults bytes = document_faults (document bytes)
+
+-- the definitions that a document spells
+abbrev pub top_definitions : Members → List DefinitionParts
+top_definitions top = map definition (value_or [] (definitions_of top))
+
+-- The table that the bytes spell. Where a fault stands they are refused.
+abbrev pub table : List ℕ → TableParts
+table bytes = record {
+  id = sha256 bytes;
+  definitions = top_definitions (unwrap_or (document bytes) no_members);
+}
+
+-- the definition describes the PGN
+abbrev pub is_of : ℕ → DefinitionParts → Bool
+is_of pgn d = d.number == pgn
+
+-- how a PGN is sent: as any of its definitions says, and nothing where there is none
+abbrev pub kind : TableParts → ℕ → Option Kind
+kind t pgn = option_map (λ d. d.kind) (find (is_of pgn) t.definitions)
+
+-- the definition that describes a message: the first of its PGN in file order
+abbrev pub choice : TableParts → ℕ → List ℕ → Option DefinitionParts
+choice t pgn payload = find (is_of pgn) t.definitions

@@ -1,0 +1,101 @@
+-- One value of a TOML table: of which kind it is, and whether it lies in its range.
+use Rattle.std.specs.Prelude.{ℕ, ℤ, pos, negsuc, Bool, true, false, ◌&&◌, nat_le, codes, List, [], ◌∷◌, length, Option, Some, None, Result, Ok, Err, if◌then◌else◌}
+use Rattle.std.specs.Prelude.{Vec}
+use Rattle.std.specs.declared.alloc.Global.{Global}
+use Rattle.std.specs.Borrow.{Bor}
+use Rattle.std.specs.Option.{ok_or}
+use Rattle.std.specs.Str.{bytes_eq}
+use Rattle.std.specs.List.{list_any}
+use Rattle.toml.specs.Data.{Data, Items, no_items, item, Members, no_members, member, get_member, as_integer, as_str, as_bool, as_array, as_table}
+use Rattle.toml.specs.View.{array_view}
+use Rattle.toml.specs.declared.value.Value.{Value}
+use Rattle.n2k_table.specs.declared.fault.TableFault.{TableFault}
+use Rattle.n2k_table.specs.declared.fault.TableFault.TheVariants.{Key, Range, Text}
+use Rattle.n2k_table.specs.declared.tree.Place.{Place}
+use Rattle.n2k_table.specs.declared.tree.Place.TheVariants.{Document, Definition, NumberField}
+use Rattle.n2k_table.specs.Fault.{◌>>=◌}
+
+-- the most bytes of a name or a description
+abbrev pub longest_text : ℕ
+longest_text = 255
+
+-- the keys that a table of the document may have, by its place
+abbrev pub keys : Place → List (List ℕ)
+keys Document = codes "format" ∷ codes "pgn" ∷ []
+keys Definition = codes "number" ∷ codes "kind" ∷ codes "description" ∷ codes "fields" ∷ []
+keys NumberField = codes "name" ∷ codes "kind" ∷ codes "at" ∷ codes "bits" ∷ codes "signed" ∷ codes "resolution" ∷ []
+
+abbrev pub is_key : Place → List ℕ → Bool
+is_key place key = list_any (λ k. bytes_eq key k) (keys place)
+
+-- each key of the table is one of its place
+abbrev pub has_only_keys : Place → Members → Bool
+has_only_keys place no_members = true
+has_only_keys place (member key d ms) = is_key place key && has_only_keys place ms
+
+-- the value at a key that has to be there
+abbrev pub required : List ℕ → Members → Result Data TableFault
+required key ms = ok_or (get_member key ms) Key
+
+-- a value that has to be a table
+abbrev pub as_members : Data → Result Members TableFault
+as_members d = ok_or (as_table d) Key
+
+-- an integer from least to most
+abbrev pub in_range : ℕ → ℕ → ℤ → Result ℕ TableFault
+in_range least most (pos n) = if nat_le least n && nat_le n most then Ok n else Err Range
+in_range least most (negsuc n) = Err Range
+
+abbrev pub whole_at : List ℕ → ℕ → ℕ → Members → Result ℕ TableFault
+whole_at key least most ms = do
+  d ← required key ms
+  z ← ok_or (as_integer d) Key
+  in_range least most z
+
+-- a text of any length
+abbrev pub any_text_at : List ℕ → Members → Result (List ℕ) TableFault
+any_text_at key ms = do
+  d ← required key ms
+  ok_or (as_str d) Key
+
+-- a text of 1 to 255 bytes
+abbrev pub sized : List ℕ → Result (List ℕ) TableFault
+sized text = if nat_le 1 (length text) && nat_le (length text) longest_text then Ok text else Err Text
+
+abbrev pub text_at : List ℕ → Members → Result (List ℕ) TableFault
+text_at key ms = do
+  text ← any_text_at key ms
+  sized text
+
+-- a truth value, false where the key is missing
+abbrev pub truth_or_false : Option Data → Result Bool TableFault
+truth_or_false None = Ok false
+truth_or_false (Some d) = ok_or (as_bool d) Key
+
+abbrev pub truth_at : List ℕ → Members → Result Bool TableFault
+truth_at key ms = truth_or_false (get_member key ms)
+
+-- the elements of an array, as a list
+abbrev pub elements : Items → List Data
+elements no_items = []
+elements (item d ds) = d ∷ elements ds
+
+abbrev pub as_elements : Data → Result (List Data) TableFault
+as_elements d = do
+  ds ← ok_or (as_array d) Key
+  Ok (elements ds)
+
+abbrev pub elements_at : List ℕ → Members → Result (List Data) TableFault
+elements_at key ms = do
+  d ← required key ms
+  as_elements d
+
+-- no element where the key is missing
+abbrev pub elements_or_none : Option Data → Result (List Data) TableFault
+elements_or_none None = Ok []
+elements_or_none (Some d) = as_elements d
+
+-- for private clauses: what an array that may be missing holds
+abbrev pub elements_of : Option (Bor (Vec Value Global)) → List Data
+elements_of None = []
+elements_of (Some array) = elements (array_view array.now)

@@ -1,0 +1,83 @@
+//! The decimal text of a whole number over a power of ten.
+ghost use Rattle.std.specs.Prelude.{◌≡◌, ◌++◌, ◌≤◌, ℕ, List, length, OnOk, OnErr};
+ghost use Rattle.n2k_table.specs.Decimal.{IsDecimal, dec, dotted, filled, sign_of};
+
+use itoa::Buffer;
+use std::alloc::{AllocError, Global};
+
+// Appends digits with the dot before the last `decimals` of them.
+fn push_dotted(digits: &[u8], decimals: usize, out: &mut Vec<u8>) -> Result<(), AllocError>
+    requires { decimals ≤ length digits.now }
+    ensures { OnOk result (out.new.items ≡ out.old.items ++ dotted decimals digits.now) }
+{
+    let (whole, fraction) = digits.split_at(digits.len() - decimals);
+    out.extend_from_slice(whole)?;
+    if !fraction.is_empty() {
+        out.push(b'.')?;
+        out.extend_from_slice(fraction)?;
+    }
+    Ok(())
+}
+
+// Appends digits that all stand after the dot, behind a zero before it and zeros to fill the decimals.
+fn push_filled(digits: &[u8], decimals: usize, out: &mut Vec<u8>) -> Result<(), AllocError>
+    requires { length digits.now ≤ decimals }
+    ensures { OnOk result (out.new.items ≡ out.old.items ++ filled decimals digits.now) }
+{
+    out.extend_from_slice(b"0.")?;
+    for _ in 0..decimals - digits.len() {
+        out.push(b'0')?;
+    }
+    out.extend_from_slice(digits)?;
+    Ok(())
+}
+
+// Appends a minus sign where the value is below zero.
+fn push_sign(value: i128, out: &mut Vec<u8>) -> Result<(), AllocError>
+    ensures { OnOk result (out.new.items ≡ out.old.items ++ sign_of value) }
+{
+    if value < 0 {
+        out.push(b'-')?;
+    }
+    Ok(())
+}
+
+/// Appends the decimal text of `value / 10^decimals`. Where memory runs out a part of it may stand.
+pub fn push_decimal(value: i128, decimals: u8, out: &mut Vec<u8>) -> Result<(), AllocError>
+    ensures { OnOk result (out.new.items ≡ out.old.items ++ dec value decimals) }
+{
+    let mut buffer = Buffer::new();
+    let digits = buffer.format(value.unsigned_abs()).as_bytes();
+    let decimals = usize::from(decimals);
+    push_sign(value, out)?;
+    if decimals < digits.len() {
+        push_dotted(digits, decimals, out)?;
+    } else {
+        push_filled(digits, decimals, out)?;
+    }
+    Ok(())
+}
+
+/// Appends the decimal text of `value / 10^decimals`, with exactly that many digits after the dot: a minus
+/// sign where the value is below zero, at least one digit before the dot and no leading zero beside
+/// another, and no dot without decimals. Nothing is rounded, and zero has no sign. A refused growth leaves
+/// `out` as it was.
+///
+/// So -1 with 2 decimals is `-0.01`, 0 with 2 is `0.00`, and 5 with 0 is `5`.
+pub fn decimal_text(
+    alloc: Global,
+    value: i128,
+    decimals: u8,
+    out: &mut Vec<u8>,
+) -> Result<(), AllocError>
+    ensures appends { OnOk result (out.new.items ≡ out.old.items ++ dec value decimals) }
+    ensures unchanged { OnErr result (out.new.items ≡ out.old.items) }
+
+    // What is appended is such a text, and no other text is.
+    ensures decimal { IsDecimal value decimals (dec value decimals) }
+    ensures only { (text : List ℕ) → IsDecimal value decimals text → text ≡ dec value decimals }
+{
+    let mut text = Vec::new(alloc);
+    push_decimal(value, decimals, &mut text)?;
+    out.extend_from_slice(text.as_slice())
+}

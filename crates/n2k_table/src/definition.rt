@@ -1,0 +1,283 @@
+//! What a table says of one message.
+ghost use Rattle.std.specs.Prelude.{◌≡◌, map, flat_map};
+ghost use Rattle.std.specs.List.{list_any};
+ghost use Rattle.std.specs.Str.{bytes_eq};
+ghost use Rattle.toml.specs.View.{view, table_view, array_view};
+ghost use Rattle.n2k_table.specs.Fault.{Gives, GivesOrMemory, judged};
+ghost use Rattle.n2k_table.specs.Tree.{elements};
+ghost use Rattle.n2k_table.specs.Field.{field, field_faults};
+ghost use Rattle.n2k_table.specs.Table.{are_mixed, has_mixed};
+ghost use Rattle.n2k_table.specs.Definition.{named_kind, pgn_kind, has_twice, fields_faults, members_faults, members_definition, definition_faults, definition};
+
+use crate::fault::TableFault;
+use crate::field::{Field, read_field};
+use crate::shown::Fields;
+use crate::text::text_json;
+use crate::tree::{Place, any_text_at, as_members, elements_at, has_only_keys, text_at, whole_at};
+use std::alloc::Global;
+use std::marker::Model;
+use toml::value::Array;
+use toml::{Table, Value};
+
+/// The greatest PGN, 24 bits.
+pub const GREATEST_NUMBER: u32 = 16_777_215;
+
+/// The most fields of a definition.
+pub const MOST_FIELDS: usize = 256;
+
+/// How the messages of a PGN are sent.
+#[derive(Clone, Copy, PartialEq, Eq, Debug)]
+pub enum Kind {
+    /// Each in a frame of its own, with at most 8 bytes.
+    Single,
+    /// As fast packets, in up to 32 frames.
+    Fast,
+}
+
+/// A definition, as the table keeps it.
+#[derive(Drop)]
+pub struct StoredDefinition {
+    number: u32,
+    kind: Kind,
+    description: String,
+    // The description as JSON, kept since each line needs it.
+    description_json: Vec<u8>,
+    fields: Vec<Field>,
+}
+
+impl Model for StoredDefinition {
+    ghost use Rattle.std.specs.Prelude.{◌≡◌, string_bytes};
+    ghost use Rattle.n2k_table.specs.Text.{text_json};
+    ghost use Rattle.n2k_table.specs.Definition.{DefinitionParts};
+
+    ghost Value = { DefinitionParts };
+
+    ghost view = { λ d. record {
+      number = d.number;
+      kind = d.kind;
+      description = string_bytes d.description;
+      fields = d.fields.items;
+    } };
+
+    ghost invariant = { λ d. d.description_json.items ≡ text_json (string_bytes d.description) };
+}
+
+impl StoredDefinition {
+    ghost use Rattle.n2k_table.specs.Text.{text_json};
+
+    /// The PGN that it describes.
+    pub fn number(&self) -> u32
+        ensures { result ≡ self.now.number }
+    {
+        self.number
+    }
+
+    /// How its messages are sent.
+    pub fn kind(&self) -> Kind
+        ensures { result ≡ self.now.kind }
+    {
+        self.kind
+    }
+
+    /// The text that names the message.
+    pub fn description(&self) -> &str
+        ensures { result.now ≡ self.now.description }
+    {
+        self.description.as_str()
+    }
+
+    fn description_json(&self) -> &[u8]
+        ensures { result.now ≡ text_json self.now.description }
+    {
+        self.description_json.as_slice()
+    }
+
+    /// The fields in printing order.
+    pub fn fields(&self) -> &[Field]
+        ensures { result.now ≡ self.now.fields }
+    {
+        self.fields.as_slice()
+    }
+
+    // Whether both describe one PGN, and name different kinds.
+    fn is_mixed_with(&self, other: &StoredDefinition) -> bool
+        ensures { result ≡ are_mixed (pgn_kind self.now) (pgn_kind other.now) }
+    {
+        self.number == other.number && self.kind != other.kind
+    }
+}
+
+/// What the table says of a message: a text that names it, and its fields. It borrows the table.
+#[derive(Drop)]
+pub struct Definition<'a> {
+    stored: &'a StoredDefinition,
+}
+
+impl<'a> Model for Definition<'a> {
+    ghost use Rattle.n2k_table.specs.Definition.{DefinitionParts};
+
+    ghost Value = { DefinitionParts };
+
+    ghost view = { λ d. d.stored.now };
+}
+
+impl<'a> Definition<'a> {
+    ghost use Rattle.n2k_table.specs.Text.{text_json};
+    ghost use Rattle.n2k_table.specs.Shown.{all_shown};
+
+    /// The view of a definition that the table keeps.
+    pub(crate) fn of(stored: &'a StoredDefinition) -> Definition<'a>
+        ensures { result ≡ stored.now }
+    {
+        Definition { stored }
+    }
+
+    /// The text that names the message, 1 to 255 bytes, as the table has it. It takes no memory.
+    pub fn description(&self) -> &str
+        ensures { result.now ≡ self.now.description }
+    {
+        self.stored.description()
+    }
+
+    /// The description as JSON.
+    pub(crate) fn description_json(&self) -> &[u8]
+        ensures { result.now ≡ text_json self.now.description }
+    {
+        self.stored.description_json()
+    }
+
+    /// The fields, as the table keeps them.
+    pub(crate) fn stored_fields(&self) -> &[Field]
+        ensures { result.now ≡ self.now.fields }
+    {
+        self.stored.fields()
+    }
+
+    /// What each field shows of the data of a message (the bytes in the order of the bus), with its name, in
+    /// printing order. It takes no memory.
+    ///
+    /// ```text
+    /// for (name, shown) in definition.fields(packet.data()) { .. }
+    /// ```
+    pub fn fields(&self, data: &'a [u8]) -> Fields<'a>
+        ensures { result ≡ all_shown self.now.fields «data».now }
+    {
+        Fields::new(self.stored.fields(), data)
+    }
+}
+
+fn named_kind(text: &str) -> Result<Kind, TableFault>
+    ensures { Gives (λ kind. kind) result (named_kind text.now) }
+{
+    match text {
+        "single" => Ok(Kind::Single),
+        "fast" => Ok(Kind::Fast),
+        _ => Err(TableFault::Text),
+    }
+}
+
+// Whether two fields have one name.
+fn has_twice(fields: &[Field]) -> bool
+    ensures { result ≡ has_twice (map (λ field. field.name) fields.now) }
+{
+    let mut rest = fields;
+    while let Some((field, others)) = rest.split_first() {
+        if is_named(others, field.name()) {
+            return true;
+        }
+        rest = others;
+    }
+    false
+}
+
+// Whether a field has the name.
+fn is_named(fields: &[Field], name: &str) -> bool
+    ensures { let names = map (λ field. field.name) fields.now in
+        result ≡ list_any (λ other. bytes_eq other name.now) names }
+{
+    for field in fields {
+        if field.name() == name {
+            return true;
+        }
+    }
+    false
+}
+
+// The fields, up to a first fault among theirs.
+fn each_field(alloc: Global, values: &Array) -> Result<Vec<Field>, TableFault>
+    ensures { let ds = elements (array_view values.now) in
+        GivesOrMemory (λ fields. fields.items) result (judged (flat_map field_faults ds) (map field ds)) }
+{
+    let mut fields = Vec::new(alloc);
+    for value in values {
+        fields.push(read_field(alloc, value)?)?;
+    }
+    Ok(fields)
+}
+
+fn read_fields(alloc: Global, values: &Array) -> Result<Vec<Field>, TableFault>
+    ensures { let ds = elements (array_view values.now) in
+        GivesOrMemory (λ fields. fields.items) result (judged (fields_faults ds) (map field ds)) }
+{
+    if values.len() > MOST_FIELDS {
+        return Err(TableFault::TooMany);
+    }
+    let fields = each_field(alloc, values)?;
+    if has_twice(&fields) {
+        return Err(TableFault::Twice);
+    }
+    Ok(fields)
+}
+
+fn read_members(alloc: Global, table: &Table) -> Result<StoredDefinition, TableFault>
+    ensures { let m = table_view table.now in
+        GivesOrMemory (λ stored. stored) result (judged (members_faults m) (members_definition m)) }
+{
+    if !has_only_keys(table, Place::Definition) {
+        return Err(TableFault::Key);
+    }
+    let number = whole_at(table, "number", 0, GREATEST_NUMBER)?;
+    let kind = named_kind(any_text_at(table, "kind")?)?;
+    let description = text_at(table, "description")?;
+    let fields = read_fields(alloc, elements_at(table, "fields")?)?;
+    Ok(StoredDefinition {
+        number,
+        kind,
+        description: String::from_str(alloc, description)?,
+        description_json: text_json(alloc, description)?,
+        fields,
+    })
+}
+
+/// Whether two definitions of one PGN have different kinds.
+pub fn has_mixed(definitions: &[StoredDefinition]) -> bool
+    ensures { result ≡ has_mixed (map pgn_kind definitions.now) }
+{
+    let mut rest = definitions;
+    while let Some((definition, others)) = rest.split_first() {
+        if is_mixed_among(others, definition) {
+            return true;
+        }
+        rest = others;
+    }
+    false
+}
+
+fn is_mixed_among(definitions: &[StoredDefinition], definition: &StoredDefinition) -> bool
+    ensures { result ≡ list_any (are_mixed (pgn_kind definition.now)) (map pgn_kind definitions.now) }
+{
+    for other in definitions {
+        if definition.is_mixed_with(other) {
+            return true;
+        }
+    }
+    false
+}
+
+/// Reads a definition.
+pub fn read_definition(alloc: Global, value: &Value) -> Result<StoredDefinition, TableFault>
+    ensures { let d = view value.now in
+        GivesOrMemory (λ stored. stored) result (judged (definition_faults d) (definition d)) }
+{
+    read_members(alloc, as_members(value)?)
+}

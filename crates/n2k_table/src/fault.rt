@@ -1,0 +1,57 @@
+//! Why a table is refused.
+ghost use Rattle.std.specs.Prelude.{◌≡◌};
+ghost use Rattle.n2k_table.specs.declared.fault.TableFault.TheVariants.{Memory};
+
+use std::alloc::{AllocError, AllocFailed};
+use thiserror::Error;
+
+/// Why a table is refused. The numbers are those that users see.
+#[derive(Clone, Copy, PartialEq, Eq, Debug, Error)]
+pub enum TableFault {
+    /// The bytes are not UTF-8, or no TOML 1.1 document.
+    #[error("1 NotToml")]
+    NotToml,
+    /// The top level has no `format`, or it isn't the integer 1.
+    #[error("2 Format")]
+    Format,
+    /// A key is missing or unknown, or a value is of another TOML kind than its key asks.
+    #[error("3 Key")]
+    Key,
+    /// An integer or a mantissa is out of its range, or a field ends past the longest message.
+    #[error("4 Range")]
+    Range,
+    /// A text is empty or too long, or isn't one of those that its key asks.
+    #[error("5 Text")]
+    Text,
+    /// Two things that have to differ have one name.
+    #[error("6 Twice")]
+    Twice,
+    /// A field names a lookup that isn't there.
+    #[error("7 Lookup")]
+    Lookup,
+    /// Two definitions of one PGN have different kinds.
+    #[error("8 Mixed")]
+    Mixed,
+    /// There are too many definitions, or fields in one.
+    #[error("9 TooMany")]
+    TooMany,
+    /// A growth was refused.
+    #[error("10 Memory")]
+    Memory,
+}
+
+impl From<AllocError> for TableFault {
+    ghost from_gives = { λ _ fault. fault ≡ Memory };
+
+    fn from(_refused: AllocError) -> TableFault {
+        TableFault::Memory
+    }
+}
+
+impl<T: Drop> From<AllocFailed<T>> for TableFault {
+    ghost from_gives = { λ _ fault. fault ≡ Memory };
+
+    fn from(_refused: AllocFailed<T>) -> TableFault {
+        TableFault::Memory
+    }
+}

@@ -1,0 +1,153 @@
+//! A table of messages.
+ghost use Rattle.std.specs.Prelude.{◌≡◌, ◌≢◌, [], All, Contains, Some, IfOk, IfErr, map, flat_map};
+ghost use Rattle.toml.specs.View.{view, table_view, array_view};
+ghost use Rattle.n2k_table.specs.declared.fault.TableFault.TheVariants.{Memory};
+ghost use Rattle.n2k_table.specs.Fault.{GivesOrMemory, judged};
+ghost use Rattle.n2k_table.specs.Tree.{elements};
+ghost use Rattle.n2k_table.specs.Definition.{definition_faults, definition};
+ghost use Rattle.n2k_table.specs.Table.{definitions_faults, top_faults, top_definitions};
+
+use crate::definition::{Definition, Kind, StoredDefinition, has_mixed, read_definition};
+use crate::fault::TableFault;
+use crate::tree::{Place, elements_if_there, has_only_keys, whole_at};
+use sha2::{Digest, Sha256};
+use std::alloc::Global;
+use std::marker::Model;
+use toml::value::Array;
+
+/// The most definitions of a table.
+pub const MOST_DEFINITIONS: usize = 4096;
+
+/// A table of messages: which PGNs there are, how they are sent, and what their bits mean.
+#[derive(Drop)]
+pub struct Table {
+    id: [u8; 32],
+    definitions: Vec<StoredDefinition>,
+}
+
+impl Model for Table {
+    ghost use Rattle.n2k_table.specs.Table.{TableParts};
+
+    ghost Value = { TableParts };
+
+    ghost view = { λ t. record { id = t.id; definitions = t.definitions.items } };
+}
+
+// The definitions, up to a first fault among theirs.
+fn each_definition(alloc: Global, values: &Array) -> Result<Vec<StoredDefinition>, TableFault>
+    ensures { let ds = elements (array_view values.now) in
+        GivesOrMemory (λ v. v.items) result (judged (flat_map definition_faults ds) (map definition ds)) }
+{
+    let mut definitions = Vec::new(alloc);
+    for value in values {
+        definitions.push(read_definition(alloc, value)?)?;
+    }
+    Ok(definitions)
+}
+
+fn read_definitions(alloc: Global, values: &Array) -> Result<Vec<StoredDefinition>, TableFault>
+    ensures { let ds = elements (array_view values.now) in
+        GivesOrMemory (λ v. v.items) result (judged (definitions_faults ds) (map definition ds)) }
+{
+    if values.len() > MOST_DEFINITIONS {
+        return Err(TableFault::TooMany);
+    }
+    let definitions = each_definition(alloc, values)?;
+    if has_mixed(&definitions) {
+        return Err(TableFault::Mixed);
+    }
+    Ok(definitions)
+}
+
+fn read_top(alloc: Global, top: &toml::Table) -> Result<Vec<StoredDefinition>, TableFault>
+    ensures { let m = table_view top.now in
+        GivesOrMemory (λ v. v.items) result (judged (top_faults m) (top_definitions m)) }
+{
+    if whole_at(top, "format", 1, 1).is_err() {
+        return Err(TableFault::Format);
+    }
+    if !has_only_keys(top, Place::Document) {
+        return Err(TableFault::Key);
+    }
+    match elements_if_there(top, "pgn")? {
+        None => Ok(Vec::new(alloc)),
+        Some(values) => read_definitions(alloc, values),
+    }
+}
+
+impl Table {
+    ghost use Rattle.std.specs.Prelude.{option_map, find};
+    ghost use Rattle.n2k_table.specs.Table.{faults, table, kind, choice, is_of};
+
+    fn judge(alloc: Global, bytes: &[u8]) -> Result<Table, TableFault>
+        ensures { GivesOrMemory (λ t. t) result (judged (faults bytes.now) (table bytes.now)) }
+    {
+        let top = match toml::table_from_slice(alloc, bytes) {
+            Ok(top) => top,
+            Err(error) if error.is_memory() => return Err(TableFault::Memory),
+            Err(_) => return Err(TableFault::NotToml),
+        };
+        let definitions = read_top(alloc, &top)?;
+        Ok(Table {
+            id: Sha256::digest(bytes),
+            definitions,
+        })
+    }
+
+    /// Reads a table: the bytes of a TOML 1.1 document in UTF-8, of format 1 (docs/PROFILE.md has the
+    /// format). A table with the line `format = 1` alone is one without messages.
+    ///
+    /// A document in which a fault stands is refused. Where it is no TOML or of another format, no other
+    /// fault is looked for. Where several of the others stand, any of them may be answered.
+    ///
+    /// ```text
+    /// let table = Table::read(alloc, b"format = 1\n")?;
+    /// assert_eq!(rt; table.kind(129026), None);
+    /// ```
+    pub fn read(alloc: Global, bytes: &[u8]) -> Result<Table, TableFault>
+        ensures sound { IfOk result (λ t. (faults bytes.now ≡ []) × (t ≡ table bytes.now)) }
+
+        // All definitions of a PGN name one kind, which is the kind of the PGN.
+        ensures kinds { IfOk result (λ t. All (λ d. kind t d.number ≡ Some d.kind) t.definitions) }
+
+        // A fault that is answered stands, so a table without one is read, unless memory runs out.
+        ensures stands { IfErr result (λ fault. fault ≢ Memory → Contains (faults bytes.now) fault) }
+    {
+        Table::judge(alloc, bytes)
+    }
+
+    /// The SHA-256 of the bytes that the table was read from, 32 bytes. Two spellings of one document have
+    /// two ids. It takes no memory.
+    pub fn id(&self) -> [u8; 32]
+        ensures { result ≡ self.now.id }
+    {
+        self.id
+    }
+
+    fn first(&self, pgn: u32) -> Option<&StoredDefinition>
+        ensures { option_map (λ d. d.now) result ≡ find (is_of pgn) self.now.definitions }
+    {
+        for definition in &self.definitions {
+            if definition.number() == pgn {
+                return Some(definition);
+            }
+        }
+        None
+    }
+
+    /// How the messages of a PGN are sent, as its definitions say; `None` where the table has none. It takes
+    /// no memory.
+    pub fn kind(&self, pgn: u32) -> Option<Kind>
+        ensures { result ≡ kind self.now pgn }
+    {
+        Some(self.first(pgn)?.kind())
+    }
+
+    /// The definition that describes a message of a PGN with these data (in the order of the bus): the first
+    /// of the PGN in file order, `None` where the table has none. It takes no memory.
+    pub fn choose(&self, pgn: u32, data: &[u8]) -> Option<Definition<'_>>
+        ensures { result ≡ choice self.now pgn «data».now }
+    {
+        Some(Definition::of(self.first(pgn)?))
+    }
+}

@@ -1,0 +1,143 @@
+//! One value of a TOML table: of which kind it is, and whether it lies in its range.
+ghost use Rattle.std.specs.Prelude.{◌≡◌, ◌≤◌, option_map, IfOk};
+ghost use Rattle.toml.specs.Data.{get_member};
+ghost use Rattle.toml.specs.View.{view, table_view, array_view};
+ghost use Rattle.n2k_table.specs.Fault.{Gives};
+ghost use Rattle.n2k_table.specs.Tree.{has_only_keys, required, as_members, whole_at, any_text_at, text_at, truth_at, elements, as_elements, elements_at, elements_or_none, elements_of};
+
+use crate::fault::TableFault;
+use toml::value::Array;
+use toml::{Table, Value};
+
+/// The most bytes of a name or a description.
+pub const LONGEST_TEXT: usize = 255;
+
+/// Where a table of the document stands, which decides its keys.
+#[derive(Clone, Copy)]
+pub enum Place {
+    /// The top level.
+    Document,
+    /// A definition.
+    Definition,
+    /// A number field.
+    NumberField,
+}
+
+impl Place {
+    ghost use Rattle.n2k_table.specs.Tree.{is_key};
+
+    fn has(self, key: &str) -> bool
+        ensures { result ≡ is_key self key.now }
+    {
+        match self {
+            Place::Document => key == "format" || key == "pgn",
+            Place::Definition => {
+                key == "number" || key == "kind" || key == "description" || key == "fields"
+            }
+            Place::NumberField => {
+                key == "name"
+                    || key == "kind"
+                    || key == "at"
+                    || key == "bits"
+                    || key == "signed"
+                    || key == "resolution"
+            }
+        }
+    }
+}
+
+/// Whether each key of the table is one of its place.
+pub fn has_only_keys(table: &Table, place: Place) -> bool
+    ensures { result ≡ has_only_keys place (table_view table.now) }
+{
+    for key in table.keys() {
+        if !place.has(key.as_str()) {
+            return false;
+        }
+    }
+    true
+}
+
+/// The value at a key, if it is there.
+pub fn found<'a>(table: &'a Table, key: &str) -> Option<&'a Value>
+    ensures { option_map (λ value. view value.now) result ≡ get_member key.now (table_view table.now) }
+{
+    table.get(key)
+}
+
+// The value at a key that has to be there.
+fn required<'a>(table: &'a Table, key: &str) -> Result<&'a Value, TableFault>
+    ensures { Gives (λ value. view value.now) result (required key.now (table_view table.now)) }
+{
+    found(table, key).ok_or(TableFault::Key)
+}
+
+/// A value that has to be a table.
+pub fn as_members(value: &Value) -> Result<&Table, TableFault>
+    ensures { Gives (λ table. table_view table.now) result (as_members (view value.now)) }
+{
+    value.as_table().ok_or(TableFault::Key)
+}
+
+/// An integer from `least` to `most`, at a key that has to be there.
+pub fn whole_at(table: &Table, key: &str, least: u32, most: u32) -> Result<u32, TableFault>
+    ensures value { Gives (λ number. number) result (whole_at key.now least most (table_view table.now)) }
+    ensures range { IfOk result (λ number. (least ≤ number) × (number ≤ most)) }
+{
+    let integer = required(table, key)?.as_integer().ok_or(TableFault::Key)?;
+    match u32::try_from(integer) {
+        Ok(number) if least <= number && number <= most => Ok(number),
+        _ => Err(TableFault::Range),
+    }
+}
+
+/// A text of any length, at a key that has to be there.
+pub fn any_text_at<'a>(table: &'a Table, key: &str) -> Result<&'a str, TableFault>
+    ensures { Gives (λ text. text.now) result (any_text_at key.now (table_view table.now)) }
+{
+    required(table, key)?.as_str().ok_or(TableFault::Key)
+}
+
+/// A text of 1 to 255 bytes, at a key that has to be there.
+pub fn text_at<'a>(table: &'a Table, key: &str) -> Result<&'a str, TableFault>
+    ensures { Gives (λ text. text.now) result (text_at key.now (table_view table.now)) }
+{
+    let text = any_text_at(table, key)?;
+    if text.is_empty() || text.len() > LONGEST_TEXT {
+        return Err(TableFault::Text);
+    }
+    Ok(text)
+}
+
+/// A truth value, false where the key is missing.
+pub fn truth_at(table: &Table, key: &str) -> Result<bool, TableFault>
+    ensures { Gives (λ truth. truth) result (truth_at key.now (table_view table.now)) }
+{
+    match found(table, key) {
+        None => Ok(false),
+        Some(value) => value.as_bool().ok_or(TableFault::Key),
+    }
+}
+
+fn as_elements(value: &Value) -> Result<&Array, TableFault>
+    ensures { Gives (λ array. elements (array_view array.now)) result (as_elements (view value.now)) }
+{
+    value.as_array().ok_or(TableFault::Key)
+}
+
+/// The elements of an array, at a key that has to be there.
+pub fn elements_at<'a>(table: &'a Table, key: &str) -> Result<&'a Array, TableFault>
+    ensures { Gives (λ array. elements (array_view array.now)) result (elements_at key.now (table_view table.now)) }
+{
+    as_elements(required(table, key)?)
+}
+
+/// The elements of an array, `None` where the key is missing.
+pub fn elements_if_there<'a>(table: &'a Table, key: &str) -> Result<Option<&'a Array>, TableFault>
+    ensures { Gives elements_of result (elements_or_none (get_member key.now (table_view table.now))) }
+{
+    match found(table, key) {
+        None => Ok(None),
+        Some(value) => Ok(Some(as_elements(value)?)),
+    }
+}
