@@ -1,8 +1,9 @@
 //! Why the program ends without its answer: the line that it prints, and its status.
 ghost use Rattle.std.specs.Prelude.{◌≡◌, ◌++◌, OnOk, OnErr};
-ghost use Rattle.n2kdec.specs.Fault.{exit_status, fault_line, fault_of_run, status_of};
+ghost use Rattle.n2kdec.specs.Fault.{exit_status, fault_line, fault_of_run, status_of, table_line};
 
 use n2k_run::{Counts, RunFault};
+use n2k_table::TableFault;
 use std::alloc::{AllocError, Global};
 use thiserror::Error;
 
@@ -15,6 +16,9 @@ pub enum Fault {
     /// The file of the table has more bytes than a table may have.
     #[error("the table is too large")]
     TableSize,
+    /// The table is refused.
+    #[error("the table is refused: {0}")]
+    Table(TableFault),
     /// The file of the table can't be read.
     #[error("the table's file can't be read")]
     TableFile,
@@ -63,12 +67,42 @@ impl From<RunFault> for Fault {
     }
 }
 
+impl From<TableFault> for Fault {
+    ghost use Rattle.std.specs.Prelude.{◌≡◌};
+    ghost use Rattle.n2kdec.specs.declared.fault.Fault.TheVariants.{Table};
+
+    ghost from_gives = { λ table fault. fault ≡ Table table };
+
+    fn from(fault: TableFault) -> Self {
+        Fault::Table(fault)
+    }
+}
+
+// Want of memory is told as everywhere else.
+fn table_line(fault: TableFault) -> &'static [u8]
+    ensures { result.now ≡ table_line fault }
+{
+    match fault {
+        TableFault::NotToml => b"n2kdec: table 1 NotToml\n",
+        TableFault::Format => b"n2kdec: table 2 Format\n",
+        TableFault::Key => b"n2kdec: table 3 Key\n",
+        TableFault::Range => b"n2kdec: table 4 Range\n",
+        TableFault::Text => b"n2kdec: table 5 Text\n",
+        TableFault::Twice => b"n2kdec: table 6 Twice\n",
+        TableFault::Lookup => b"n2kdec: table 7 Lookup\n",
+        TableFault::Mixed => b"n2kdec: table 8 Mixed\n",
+        TableFault::TooMany => b"n2kdec: table 9 TooMany\n",
+        TableFault::Memory => b"n2kdec: memory\n",
+    }
+}
+
 fn line_of(fault: Fault) -> &'static [u8]
     ensures { result.now ≡ fault_line fault }
 {
     match fault {
         Fault::Words => b"n2kdec: words\n",
         Fault::TableSize => b"n2kdec: table size\n",
+        Fault::Table(fault) => table_line(fault),
         Fault::TableFile => b"n2kdec: table file\n",
         Fault::Read => b"n2kdec: read\n",
         Fault::Write => b"n2kdec: write\n",
@@ -92,7 +126,8 @@ pub fn status(fault: &Fault) -> u8
     ensures { result ≡ status_of fault.now }
 {
     match fault {
-        Fault::Words | Fault::TableSize => 2,
+        Fault::Table(TableFault::Memory) => 3,
+        Fault::Words | Fault::TableSize | Fault::Table(_) => 2,
         Fault::TableFile
         | Fault::Read
         | Fault::Write

@@ -1,6 +1,7 @@
 use crate::fault::{Fault, exit_status, fault_text, status};
 use crate::words::words;
 use n2k_run::Counts;
+use n2k_table::TableFault;
 use std::test::Fail;
 
 #[test]
@@ -8,6 +9,44 @@ fn each_fault_has_its_line_and_status(rt: HostRuntime) -> Result<(), Fail> {
     let faults = [
         (Fault::Words, "n2kdec: words\n", 2),
         (Fault::TableSize, "n2kdec: table size\n", 2),
+        (
+            Fault::Table(TableFault::NotToml),
+            "n2kdec: table 1 NotToml\n",
+            2,
+        ),
+        (
+            Fault::Table(TableFault::Format),
+            "n2kdec: table 2 Format\n",
+            2,
+        ),
+        (Fault::Table(TableFault::Key), "n2kdec: table 3 Key\n", 2),
+        (
+            Fault::Table(TableFault::Range),
+            "n2kdec: table 4 Range\n",
+            2,
+        ),
+        (Fault::Table(TableFault::Text), "n2kdec: table 5 Text\n", 2),
+        (
+            Fault::Table(TableFault::Twice),
+            "n2kdec: table 6 Twice\n",
+            2,
+        ),
+        (
+            Fault::Table(TableFault::Lookup),
+            "n2kdec: table 7 Lookup\n",
+            2,
+        ),
+        (
+            Fault::Table(TableFault::Mixed),
+            "n2kdec: table 8 Mixed\n",
+            2,
+        ),
+        (
+            Fault::Table(TableFault::TooMany),
+            "n2kdec: table 9 TooMany\n",
+            2,
+        ),
+        (Fault::Table(TableFault::Memory), "n2kdec: memory\n", 3),
         (Fault::TableFile, "n2kdec: table file\n", 3),
         (Fault::Read, "n2kdec: read\n", 3),
         (Fault::Write, "n2kdec: write\n", 3),
