@@ -1,0 +1,85 @@
+-- From what `clap` says of a parse to what the words ask for.
+use Rattle.std.proofs.Common.{◌≡◌, ◌∙◌, ◌⊎◌, List, [], Bool, cond, true, false, Option, Some, None, Result, Ok, Err, IfOk, IsErrOf, ap, sym, subst, refl, inl, inr, codes, true≢false}
+use Rattle.std.specs.Str.{bytes_eq}
+use Rattle.clap.specs.Kinds.{HasKind}
+use Rattle.clap.specs.Words.{App, HasMatchesOf, IsAmong, Row, Text, fault_of, first_of, is_simple, is_simple_and_free, subcommand_of, subcommand_rows_of}
+use Rattle.clap.specs.declared.error.Error.{Error}
+use Rattle.clap.specs.declared.parser.matches.ArgMatches.{ArgMatches}
+use Rattle.clap.specs.declared.error.kind.ErrorKind.{ErrorKind}
+use Rattle.clap.specs.declared.error.kind.ErrorKind.TheVariants.{DisplayHelp, OutOfMemory}
+use Rattle.clap.proofs.OnLiterals.{clap_on_literals}
+use Rattle.n2kdec.specs.declared.fault.Fault.{Fault}
+use Rattle.n2kdec.specs.declared.fault.Fault.TheVariants as fault
+use Rattle.n2kdec.specs.declared.word.Words.{Words}
+use Rattle.n2kdec.specs.declared.word.Words.TheVariants.{Plain, Decode, Help}
+use Rattle.n2kdec.specs.Usage.{program_app}
+use Rattle.n2kdec.specs.Words.{AnswersKind, IsAskedBy, IsRefused, Names, decode_words, named, plain_words, words_of}
+
+-- the command is one of those whose matches and faults are known
+program_is_simple : is_simple program_app ≡ true
+unfolding program_app clap_on_literals
+program_is_simple = refl
+
+program_is_free : is_simple_and_free program_app ≡ true
+unfolding program_app clap_on_literals
+program_is_free = refl
+
+pub rows_as_defined : (app : App) (words : List Text) (matches : ArgMatches) → app ≡ program_app → HasMatchesOf app words matches → subcommand_rows_of matches ≡ subcommand_of program_app words
+rows_as_defined app words matches is found = (found (ap is_simple is ∙ program_is_simple)).1 ∙ ap (λ (a : App). subcommand_of a words) is
+
+pub takes_as_defined : (app : App) (words : List Text) → app ≡ program_app → (is_simple_and_free app ≡ true → fault_of app words ≡ []) → fault_of program_app words ≡ []
+takes_as_defined app words is none = subst (λ (a : App). fault_of a words ≡ []) is (none (ap is_simple_and_free is ∙ program_is_free))
+
+pub fails_as_defined : (app : App) (words : List Text) (e : Error) → app ≡ program_app → (is_simple_and_free app ≡ true → HasKind (fault_of app words) e) → HasKind (fault_of program_app words) e
+fails_as_defined app words e is fails = subst (λ (a : App). HasKind (fault_of a words) e) is (fails (ap is_simple_and_free is ∙ program_is_free))
+
+abbrev is_help : Option Words → Bool
+is_help None = false
+is_help (Some (Plain log)) = false
+is_help (Some (Decode table log)) = false
+is_help (Some (Help text)) = true
+
+decode_is_no_help : (log table : Option Text) → is_help (Rattle.std.specs.Option.option_map (λ t. Decode t log) table) ≡ false
+decode_is_no_help log None = refl
+decode_is_no_help log (Some t) = refl
+
+-- no subcommand is help
+named_is_no_help : (rows : Option (Text × List Row)) → is_help (named rows) ≡ false
+named_is_no_help None = refl
+named_is_no_help (Some p) = go (bytes_eq p.0 (codes "plain")) (bytes_eq p.0 (codes "decode"))
+  where
+    go : (is_plain is_decode : Bool) → is_help (cond is_plain (plain_words p.1) (cond is_decode (decode_words p.1) None)) ≡ false
+    go true is_decode = refl
+    go false true = decode_is_no_help (first_of (codes "log") p.1) (first_of (codes "table") p.1)
+    go false false = refl
+
+-- the matches are those of the definition, so what is named in them is what the words name
+pub asked_by_matches : (words : List Text) (rows : Option (Text × List Row)) (r : Result Words Fault) → rows ≡ subcommand_of program_app words → fault_of program_app words ≡ [] → Names (named rows) r → IfOk r (IsAskedBy words)
+unfolding words_of
+asked_by_matches words rows (Ok (Plain log)) same none names = (none, sym (ap named same) ∙ names)
+asked_by_matches words rows (Ok (Decode table log)) same none names = (none, sym (ap named same) ∙ names)
+asked_by_matches words rows (Ok (Help text)) same none names = absurd (true≢false (sym (ap is_help names) ∙ named_is_no_help rows))
+asked_by_matches words rows (Err e) same none names = tt
+
+pub refused_by_matches : (words : List Text) (rows : Option (Text × List Row)) (r : Result Words Fault) → rows ≡ subcommand_of program_app words → Names (named rows) r → IsErrOf r fault.Words → IsRefused words
+unfolding words_of
+refused_by_matches words rows r same names is = inr (sym (ap named same) ∙ subst (λ x. Names (named rows) x) is names)
+
+pub named_by_matches : (words : List Text) (rows : Option (Text × List Row)) (r : Result Words Fault) → rows ≡ subcommand_of program_app words → Names (named rows) r → Names (words_of words) r
+unfolding words_of
+named_by_matches words rows r same names = subst (λ x. Names (named x) r) same names
+
+-- the parse failed, by a kind among those of the definition, or for want of memory
+pub asked_by_kind : (words : List Text) (kind : ErrorKind) (r : Result Words Fault) → (kind ≡ OutOfMemory) ⊎ IsAmong kind (fault_of program_app words) → AnswersKind kind r → IfOk r (IsAskedBy words)
+asked_by_kind words kind (Ok (Plain log)) fails answers = absurd answers
+asked_by_kind words kind (Ok (Decode table log)) fails answers = absurd answers
+asked_by_kind words kind (Ok (Help text)) (inl memory) answers = let bad : DisplayHelp ≡ OutOfMemory = sym answers ∙ memory in cc
+asked_by_kind words kind (Ok (Help text)) (inr among) answers = subst (λ k. IsAmong k (fault_of program_app words)) answers among
+asked_by_kind words kind (Err e) fails answers = tt
+
+refusal_kind : (words : List Text) (kind : ErrorKind) → (kind ≡ OutOfMemory) ⊎ IsAmong kind (fault_of program_app words) → AnswersKind kind (Err fault.Words) → IsRefused words
+refusal_kind words kind (inl memory) answers = absurd (answers.1 memory)
+refusal_kind words kind (inr among) answers = inl (kind, among, answers.0)
+
+pub refused_by_kind : (words : List Text) (kind : ErrorKind) (r : Result Words Fault) → (kind ≡ OutOfMemory) ⊎ IsAmong kind (fault_of program_app words) → AnswersKind kind r → IsErrOf r fault.Words → IsRefused words
+refused_by_kind words kind r fails answers is = refusal_kind words kind fails (subst (AnswersKind kind) is answers)

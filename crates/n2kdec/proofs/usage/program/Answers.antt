@@ -1,0 +1,15 @@
+use Rattle.std.proofs.Common.{rules, ◌≡◌, ◌∙◌, ap, ap₂}
+use Rattle.std.proofs.lemmas.Result.{IfOk-weaker}
+use Rattle.clap.specs.Words.{App, app_of, with_subcommand}
+use Rattle.n2kdec.specs.Usage.{plain_app, program_app, program_top}
+use Rattle.n2kdec.proofs.usage.program.Goals as goal
+
+pub returns : goal.returns
+unfolding program_app
+returns c =
+    let top_is : app_of c.disable_help_subcommand.result ≡ program_top = search rules in
+    let first_is : app_of c.in_ok-subcommand.field-0 ≡ with_subcommand program_top plain_app.top =
+    c.in_ok-subcommand.ensures.shape c.in_ok-plain_command.ensures.own
+    ∙ ap₂ with_subcommand top_is (ap (λ (a : App). a.top) c.in_ok-plain_command.ensures.app) in
+    IfOk-weaker c.subcommand-2.result _ _ (λ command added. added.shape c.in_ok-decode_command.ensures.own
+    ∙ ap₂ with_subcommand first_is (ap (λ (a : App). a.top) c.in_ok-decode_command.ensures.app)) c.subcommand-2.ensures

@@ -1,0 +1,70 @@
+-- The line that a fault prints, and the status that the program ends with.
+use Rattle.std.specs.Prelude.{ℕ, List, codes, ◌==◌, if◌then◌else◌}
+use Rattle.n2k_run.specs.declared.counts.Counts.{Counts}
+use Rattle.n2k_run.specs.declared.fault.RunFault.{RunFault}
+use Rattle.n2k_run.specs.declared.fault.RunFault.TheVariants as run
+use Rattle.n2k_table.specs.declared.fault.TableFault.{TableFault}
+use Rattle.n2k_table.specs.declared.fault.TableFault.TheVariants as table
+use Rattle.n2kdec.specs.declared.fault.Fault.{Fault}
+use Rattle.n2kdec.specs.declared.fault.Fault.TheVariants.{Words, TableSize, Table, TableFile, Read, Write, Report, Memory, Lines}
+
+-- the number and the name of a refused table's fault; want of memory is told as everywhere else
+abbrev pub table_line : TableFault → List ℕ
+table_line table.NotToml = codes "n2kdec: table 1 NotToml\n"
+table_line table.Format = codes "n2kdec: table 2 Format\n"
+table_line table.Key = codes "n2kdec: table 3 Key\n"
+table_line table.Range = codes "n2kdec: table 4 Range\n"
+table_line table.Text = codes "n2kdec: table 5 Text\n"
+table_line table.Twice = codes "n2kdec: table 6 Twice\n"
+table_line table.Lookup = codes "n2kdec: table 7 Lookup\n"
+table_line table.Mixed = codes "n2kdec: table 8 Mixed\n"
+table_line table.TooMany = codes "n2kdec: table 9 TooMany\n"
+table_line table.Memory = codes "n2kdec: memory\n"
+
+-- the line, with its LF
+abbrev pub fault_line : Fault → List ℕ
+fault_line Words = codes "n2kdec: words\n"
+fault_line TableSize = codes "n2kdec: table size\n"
+fault_line (Table fault) = table_line fault
+fault_line TableFile = codes "n2kdec: table file\n"
+fault_line Read = codes "n2kdec: read\n"
+fault_line Write = codes "n2kdec: write\n"
+fault_line Report = codes "n2kdec: report\n"
+fault_line Memory = codes "n2kdec: memory\n"
+fault_line Lines = codes "n2kdec: lines\n"
+
+abbrev pub table_status : TableFault → ℕ
+table_status table.NotToml = 2
+table_status table.Format = 2
+table_status table.Key = 2
+table_status table.Range = 2
+table_status table.Text = 2
+table_status table.Twice = 2
+table_status table.Lookup = 2
+table_status table.Mixed = 2
+table_status table.TooMany = 2
+table_status table.Memory = 3
+
+-- 2 where the words or the table are refused, 3 where a file, a device, memory or the limit of lines ended the run
+abbrev pub status_of : Fault → ℕ
+status_of Words = 2
+status_of TableSize = 2
+status_of (Table fault) = table_status fault
+status_of TableFile = 3
+status_of Read = 3
+status_of Write = 3
+status_of Report = 3
+status_of Memory = 3
+status_of Lines = 3
+
+-- what the program says of a run's fault
+abbrev pub fault_of_run : RunFault → Fault
+fault_of_run run.Read = Read
+fault_of_run run.Write = Write
+fault_of_run run.Report = Report
+fault_of_run run.Memory = Memory
+fault_of_run run.TooManyLines = Lines
+
+-- 0 where no line was bad
+abbrev pub exit_status : Counts → ℕ
+exit_status counts = if counts.bad == 0 then 0 else 1

@@ -1,0 +1,31 @@
+-- The command line of the program, as `clap`'s contracts see a command:
+--     n2kdec plain [LOG]
+--     n2kdec decode --table F [LOG]
+use Rattle.std.specs.Prelude.{true, Some, codes}
+use Rattle.clap.specs.Words.{App, Rule, new_app, new_rule, with_rule, with_subcommand}
+
+-- a positional that may be missing
+abbrev pub log_rule : Rule
+log_rule = record (new_rule (codes "log")) { value_names = 1 }
+
+abbrev pub table_rule : Rule
+table_rule = record (new_rule (codes "table")) {
+  long = Some (codes "table");
+  value_names = 1;
+  required = true;
+}
+
+abbrev pub plain_app : App
+plain_app = with_rule (new_app (codes "plain")) log_rule
+
+abbrev pub decode_app : App
+decode_app = with_rule (with_rule (new_app (codes "decode")) table_rule) log_rule
+
+-- a command without its subcommands: one of them is required, and `help` is none
+abbrev pub program_top : App
+program_top = let app = new_app (codes "n2kdec") in record app {
+  top = record app.top { subcommand_required = true; disable_help_subcommand = true };
+}
+
+unfoldable pub program_app : App
+program_app = with_subcommand (with_subcommand program_top plain_app.top) decode_app.top

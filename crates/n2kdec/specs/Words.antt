@@ -1,0 +1,63 @@
+-- What the words of a command line ask for, by the command's definition and `clap`'s reading of it.
+use Rattle.std.specs.Prelude.{◌≡◌, ◌≢◌, ◌⊎◌, List, [], Option, Some, None, Result, Ok, Err, if◌then◌else◌, codes, option_map}
+use Rattle.std.specs.Str.{bytes_eq}
+use Rattle.clap.specs.Words.{IsAmong, Row, Text, fault_of, first_of, subcommand_of}
+use Rattle.clap.specs.declared.error.kind.ErrorKind.{ErrorKind}
+use Rattle.clap.specs.declared.error.kind.ErrorKind.TheVariants.{DisplayHelp, OutOfMemory}
+use Rattle.n2kdec.specs.declared.fault.Fault.{Fault}
+use Rattle.n2kdec.specs.declared.fault.Fault.TheVariants as fault
+use Rattle.n2kdec.specs.declared.word.Words.{Words}
+use Rattle.n2kdec.specs.declared.word.Words.TheVariants.{Plain, Decode, Help}
+use Rattle.n2kdec.specs.Usage.{program_app}
+
+-- the values of a subcommand's words; `decode` has a table
+abbrev pub plain_words : List Row → Option Words
+plain_words rows = Some (Plain (first_of (codes "log") rows))
+
+abbrev pub decode_words : List Row → Option Words
+decode_words rows = option_map (λ table. Decode table (first_of (codes "log") rows)) (first_of (codes "table") rows)
+
+-- the command of that name, with the values of its words
+abbrev pub named : Option (Text × List Row) → Option Words
+named None = None
+named (Some p) =
+    if bytes_eq p.0 (codes "plain") then plain_words p.1
+    else (if bytes_eq p.0 (codes "decode") then decode_words p.1 else None)
+
+-- the command that the words name, the program's name first; none where they name none
+unfoldable pub words_of : List Text → Option Words
+words_of words = named (subcommand_of program_app words)
+
+-- `clap` has a fault at the words that is no request for help
+abbrev pub HasFault : List Text → Type 0
+HasFault words = (kind : ErrorKind) × IsAmong kind (fault_of program_app words) × (kind ≢ DisplayHelp)
+
+-- the words are not those of a command
+abbrev pub IsRefused : List Text → Type 0
+IsRefused words = HasFault words ⊎ (words_of words ≡ None)
+
+-- the words name this command, and `clap` has no fault at them
+abbrev pub IsNamedBy : List Text → Words → Type 0
+IsNamedBy words command = (fault_of program_app words ≡ []) × (words_of words ≡ Some command)
+
+-- a command that is named without a fault, or the help that is asked for
+abbrev pub IsAskedBy : List Text → Words → Type 0
+IsAskedBy words (Plain log) = IsNamedBy words (Plain log)
+IsAskedBy words (Decode table log) = IsNamedBy words (Decode table log)
+IsAskedBy words (Help text) = IsAmong DisplayHelp (fault_of program_app words)
+
+-- an answer on the command that was named, or on none
+abbrev pub Names : Option Words → Result Words Fault → Type 0
+Names command (Ok words) = command ≡ Some words
+Names command (Err fault.Words) = command ≡ None
+Names command (Err fault.Memory) = Unit {0}
+Names command (Err _) = ⊥
+
+-- an answer on a parse that failed
+abbrev pub AnswersKind : ErrorKind → Result Words Fault → Type 0
+AnswersKind kind (Ok (Help text)) = kind ≡ DisplayHelp
+AnswersKind kind (Ok (Plain log)) = ⊥
+AnswersKind kind (Ok (Decode table log)) = ⊥
+AnswersKind kind (Err fault.Words) = (kind ≢ DisplayHelp) × (kind ≢ OutOfMemory)
+AnswersKind kind (Err fault.Memory) = Unit {0}
+AnswersKind kind (Err _) = ⊥

@@ -1,0 +1,145 @@
+//! Why the program ends without its answer: the line that it prints, and its status.
+ghost use Rattle.std.specs.Prelude.{◌≡◌, ◌++◌, OnOk, OnErr};
+ghost use Rattle.n2kdec.specs.Fault.{exit_status, fault_line, fault_of_run, status_of, table_line};
+
+use n2k_run::{Counts, RunFault};
+use n2k_table::TableFault;
+use std::alloc::{AllocError, Global};
+use thiserror::Error;
+
+/// Why the program ends without its answer. Each fault has a line of its own, which `fault_text` gives.
+#[derive(Clone, Copy, Debug, PartialEq, Eq, Error)]
+pub enum Fault {
+    /// The words of the command line are not those of a command.
+    #[error("the words are refused")]
+    Words,
+    /// The file of the table has more bytes than a table may have.
+    #[error("the table is too large")]
+    TableSize,
+    /// The table is refused.
+    #[error("the table is refused: {0}")]
+    Table(TableFault),
+    /// The file of the table can't be read.
+    #[error("the table's file can't be read")]
+    TableFile,
+    /// The log can't be opened or read.
+    #[error("the log can't be read")]
+    Read,
+    /// The output can't be written.
+    #[error("the output can't be written")]
+    Write,
+    /// A report or the summary can't be written.
+    #[error("the reports can't be written")]
+    Report,
+    /// Memory is refused.
+    #[error("out of memory")]
+    Memory,
+    /// The log has more lines than are counted.
+    #[error("too many lines")]
+    Lines,
+}
+
+impl From<AllocError> for Fault {
+    ghost use Rattle.std.specs.Prelude.{◌≡◌};
+    ghost use Rattle.n2kdec.specs.declared.fault.Fault.TheVariants.{Memory};
+
+    ghost from_gives = { λ _ fault. fault ≡ Memory };
+
+    fn from(_: AllocError) -> Self {
+        Fault::Memory
+    }
+}
+
+impl From<RunFault> for Fault {
+    ghost use Rattle.std.specs.Prelude.{◌≡◌};
+    ghost use Rattle.n2kdec.specs.Fault.{fault_of_run};
+
+    ghost from_gives = { λ run fault. fault ≡ fault_of_run run };
+
+    fn from(fault: RunFault) -> Self {
+        match fault {
+            RunFault::Read => Fault::Read,
+            RunFault::Write => Fault::Write,
+            RunFault::Report => Fault::Report,
+            RunFault::Memory => Fault::Memory,
+            RunFault::TooManyLines => Fault::Lines,
+        }
+    }
+}
+
+impl From<TableFault> for Fault {
+    ghost use Rattle.std.specs.Prelude.{◌≡◌};
+    ghost use Rattle.n2kdec.specs.declared.fault.Fault.TheVariants.{Table};
+
+    ghost from_gives = { λ table fault. fault ≡ Table table };
+
+    fn from(fault: TableFault) -> Self {
+        Fault::Table(fault)
+    }
+}
+
+// Want of memory is told as everywhere else.
+fn table_line(fault: TableFault) -> &'static [u8]
+    ensures { result.now ≡ table_line fault }
+{
+    match fault {
+        TableFault::NotToml => b"n2kdec: table 1 NotToml\n",
+        TableFault::Format => b"n2kdec: table 2 Format\n",
+        TableFault::Key => b"n2kdec: table 3 Key\n",
+        TableFault::Range => b"n2kdec: table 4 Range\n",
+        TableFault::Text => b"n2kdec: table 5 Text\n",
+        TableFault::Twice => b"n2kdec: table 6 Twice\n",
+        TableFault::Lookup => b"n2kdec: table 7 Lookup\n",
+        TableFault::Mixed => b"n2kdec: table 8 Mixed\n",
+        TableFault::TooMany => b"n2kdec: table 9 TooMany\n",
+        TableFault::Memory => b"n2kdec: memory\n",
+    }
+}
+
+fn line_of(fault: Fault) -> &'static [u8]
+    ensures { result.now ≡ fault_line fault }
+{
+    match fault {
+        Fault::Words => b"n2kdec: words\n",
+        Fault::TableSize => b"n2kdec: table size\n",
+        Fault::Table(fault) => table_line(fault),
+        Fault::TableFile => b"n2kdec: table file\n",
+        Fault::Read => b"n2kdec: read\n",
+        Fault::Write => b"n2kdec: write\n",
+        Fault::Report => b"n2kdec: report\n",
+        Fault::Memory => b"n2kdec: memory\n",
+        Fault::Lines => b"n2kdec: lines\n",
+    }
+}
+
+/// Appends the line of a fault, as `n2kdec: read` with an LF. `out` is as it was where memory is refused.
+pub fn fault_text(_alloc: Global, fault: &Fault, out: &mut Vec<u8>) -> Result<(), AllocError>
+    ensures ok { OnOk result (out.new.items ≡ out.old.items ++ fault_line fault.now) }
+    ensures err { OnErr result (out.new.items ≡ out.old.items) }
+{
+    out.extend_from_slice(line_of(*fault))
+}
+
+/// The status that the program ends with after a fault: 2 where the words or the table are refused, 3 where a
+/// file, a device, memory or the limit of lines ended it. It takes no memory.
+pub fn status(fault: &Fault) -> u8
+    ensures { result ≡ status_of fault.now }
+{
+    match fault {
+        Fault::Table(TableFault::Memory) => 3,
+        Fault::Words | Fault::TableSize | Fault::Table(_) => 2,
+        Fault::TableFile
+        | Fault::Read
+        | Fault::Write
+        | Fault::Report
+        | Fault::Memory
+        | Fault::Lines => 3,
+    }
+}
+
+/// The status of a run that came to its end: 0 where no line was bad, else 1.
+pub fn exit_status(counts: &Counts) -> u8
+    ensures { result ≡ exit_status counts.now }
+{
+    if counts.bad == 0 { 0 } else { 1 }
+}

@@ -1,0 +1,57 @@
+//! What the words of the command line ask for.
+
+use std::alloc::{AllocError, Global};
+use std::marker::Model;
+
+/// A text of the command line. Contracts see its bytes.
+#[derive(Debug, Drop)]
+pub struct Word {
+    text: String,
+}
+
+impl Model for Word {
+    ghost use Rattle.std.specs.Prelude.{ℕ, List, string_bytes};
+
+    ghost Value = { List ℕ };
+
+    ghost view = { λ word. string_bytes word.text };
+}
+
+impl Word {
+    ghost use Rattle.std.specs.Prelude.{◌≡◌, IfOk};
+
+    /// A word with this text.
+    pub fn new(alloc: Global, text: &str) -> Result<Word, AllocError>
+        ensures { IfOk result (λ word. word ≡ text.now) }
+    {
+        Ok(Word {
+            text: String::from_str(alloc, text)?,
+        })
+    }
+
+    /// The word's text.
+    pub fn as_str(&self) -> &str
+        ensures { result.now ≡ self.now }
+    {
+        self.text.as_str()
+    }
+}
+
+/// A command with the values of its words, or the request for help.
+#[derive(Debug, Drop)]
+pub enum Words {
+    /// `plain [LOG]`
+    Plain {
+        /// The file of the log; none is standard input.
+        log: Option<Word>,
+    },
+    /// `decode --table F [LOG]`
+    Decode {
+        /// The file of the table.
+        table: Word,
+        /// The file of the log; none is standard input.
+        log: Option<Word>,
+    },
+    /// `--help`, with the text to print.
+    Help(Word),
+}

@@ -1,0 +1,89 @@
+//! The words of the command line, read with `clap`.
+ghost use Rattle.std.specs.Prelude.{◌≡◌, ◌⊎◌, true, IfOk, IfErr, IsErrOf};
+ghost use Rattle.clap.specs.Walk.{texts};
+ghost use Rattle.clap.specs.Words.{first_of, found_of, kind_of, rows_of, subcommand_rows_of, takes};
+ghost use Rattle.n2kdec.specs.Usage.{program_app};
+ghost use Rattle.n2kdec.specs.Words.{AnswersKind, IsAskedBy, IsRefused, Names, decode_words, named, plain_words, words_of};
+
+use crate::fault::Fault;
+use crate::usage::program;
+use crate::word::{Word, Words};
+use clap::error::ErrorKind;
+use clap::{ArgMatches, Error};
+use std::alloc::{AllocError, Global};
+
+// The value of an argument, where it has one.
+#[tactic(auto, using(crate::proofs::Rows::value_of_rows))]
+fn value_of(alloc: Global, matches: &ArgMatches<'_>, id: &str) -> Result<Option<Word>, AllocError>
+    ensures { IfOk result (λ value. value ≡ first_of id.now (rows_of (found_of matches.now))) }
+{
+    match matches.get_str(id) {
+        Some(text) => Ok(Some(Word::new(alloc, text)?)),
+        None => Ok(None),
+    }
+}
+
+// The values of `plain`.
+fn plain_of(alloc: Global, matches: &ArgMatches<'_>) -> Result<Words, Fault>
+    ensures { Names (plain_words (rows_of (found_of matches.now))) result }
+{
+    let log = value_of(alloc, matches, "log")?;
+    Ok(Words::Plain { log })
+}
+
+// The values of `decode`.
+fn decode_of(alloc: Global, matches: &ArgMatches<'_>) -> Result<Words, Fault>
+    ensures { Names (decode_words (rows_of (found_of matches.now))) result }
+{
+    let log = value_of(alloc, matches, "log")?;
+    match value_of(alloc, matches, "table")? {
+        Some(table) => Ok(Words::Decode { table, log }),
+        None => Err(Fault::Words),
+    }
+}
+
+// The command that was named, with its values.
+fn command_of(alloc: Global, matches: &ArgMatches<'_>) -> Result<Words, Fault>
+    ensures { Names (named (subcommand_rows_of matches.now)) result }
+{
+    let Some((name, values)) = matches.subcommand() else {
+        return Err(Fault::Words);
+    };
+    if name == "plain" {
+        plain_of(alloc, values)
+    } else if name == "decode" {
+        decode_of(alloc, values)
+    } else {
+        Err(Fault::Words)
+    }
+}
+
+// What a parse that gave no matches comes to: a request for help is no fault.
+fn help_of(alloc: Global, error: &Error) -> Result<Words, Fault>
+    ensures answers { AnswersKind (kind_of error.now) result }
+    ensures memory { kind_of error.now ≡ ErrorKind.OutOfMemory → IsErrOf result Fault.Memory }
+{
+    match error.kind() {
+        ErrorKind::DisplayHelp => {
+            let text = error.to_string(alloc)?;
+            Ok(Words::Help(Word::new(alloc, text.as_str())?))
+        }
+        ErrorKind::OutOfMemory => Err(Fault::Memory),
+        _ => Err(Fault::Words),
+    }
+}
+
+/// The command that the words of a command line name, the program's name first, as `clap` reads them by the
+/// command's definition: `["n2kdec", "plain", "trip.log"]` gives `Plain` with that log. `Help` where they ask for
+/// help. Words that are refused for any other cause are `Fault::Words`; want of memory is `Fault::Memory`.
+pub fn words(alloc: Global, words: &[&str]) -> Result<Words, Fault>
+    ensures asked { IfOk result (IsAskedBy (texts words.now)) }
+    ensures refused { IsErrOf result Fault.Words → IsRefused (texts words.now) }
+    ensures faults { IfErr result (λ fault. (fault ≡ Fault.Words) ⊎ (fault ≡ Fault.Memory)) }
+    ensures taken { takes program_app (texts words.now) ≡ true → Names (words_of (texts words.now)) result }
+{
+    match program(alloc)?.try_get_matches_from(words) {
+        Ok(matches) => command_of(alloc, &matches),
+        Err(error) => help_of(alloc, &error),
+    }
+}
