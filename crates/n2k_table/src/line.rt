@@ -3,14 +3,13 @@ ghost use Rattle.std.specs.Prelude.{◌≡◌, ◌++◌, ◌||◌, true, is_some
 ghost use Rattle.n2k_table.specs.Shown.{shown, shown_parts, all_shown};
 ghost use Rattle.n2k_table.specs.Table.{kind};
 ghost use Rattle.n2k_table.specs.Text.{text_json};
-ghost use Rattle.n2k_table.specs.Json.{value_json, member_json, member_text, fields_json, id_json, head_json, json};
+ghost use Rattle.n2k_table.specs.Line.{value_json, member_json, member_text, fields_json, id_json, head_json, json};
 
 use crate::decimal::push_decimal;
 use crate::definition::Definition;
 use crate::field::Field;
 use crate::shown::Shown;
 use crate::table::Table;
-use crate::text::text_json;
 use itoa::Buffer;
 use n2k_wire::{Id, Packet};
 use std::alloc::{AllocError, Global};
@@ -28,7 +27,7 @@ fn push_number(label: &[u8], number: u32, line: &mut Vec<u8>) -> Result<(), Allo
 }
 
 // Appends who sent what to whom.
-#[tactic(auto, using(std::proofs::Common::append_assoc), unfolding(crate::specs::Json::id_json))]
+#[tactic(auto, using(std::proofs::Common::append_assoc), unfolding(crate::specs::Line::id_json))]
 fn push_id(id: Id, line: &mut Vec<u8>) -> Result<(), AllocError>
     ensures { OnOk result (line.new.items ≡ line.old.items ++ id_json id) }
 {
@@ -39,9 +38,8 @@ fn push_id(id: Id, line: &mut Vec<u8>) -> Result<(), AllocError>
 }
 
 // Appends what stands before the fields.
-#[tactic(auto, using(std::proofs::Common::append_assoc), unfolding(crate::specs::Json::head_json))]
+#[tactic(auto, using(std::proofs::Common::append_assoc), unfolding(crate::specs::Line::head_json))]
 fn push_head(
-    alloc: Global,
     definition: &Definition<'_>,
     packet: &Packet,
     line: &mut Vec<u8>,
@@ -49,7 +47,7 @@ fn push_head(
     ensures { OnOk result (line.new.items ≡ line.old.items ++ head_json definition.now packet.now) }
 {
     line.extend_from_slice(b"{\"timestamp\":")?;
-    push_stamp(alloc, packet, line)?;
+    push_stamp(packet, line)?;
     push_id(packet.id(), line)?;
     line.extend_from_slice(b",\"description\":")?;
     line.extend_from_slice(definition.description_json())?;
@@ -57,12 +55,19 @@ fn push_head(
     Ok(())
 }
 
-// Appends the stamp as a text.
-fn push_stamp(alloc: Global, packet: &Packet, line: &mut Vec<u8>) -> Result<(), AllocError>
+// Appends the stamp as a text. Its bytes are printable, so a quote and a backslash alone are escaped.
+fn push_stamp(packet: &Packet, line: &mut Vec<u8>) -> Result<(), AllocError>
     ensures { OnOk result (line.new.items ≡ line.old.items ++ text_json packet.now.stamp) }
 {
-    let stamp = std::str::from_utf8(packet.stamp()).unwrap();
-    line.extend_from_slice(&text_json(alloc, stamp)?)
+    line.push(b'"')?;
+    for byte in packet.stamp() {
+        if *byte == b'"' || *byte == b'\\' {
+            line.push(b'\\')?;
+        }
+        line.push(*byte)?;
+    }
+    line.push(b'"')?;
+    Ok(())
 }
 
 // Appends what a field shows as a value.
@@ -128,7 +133,7 @@ fn push_fields(
 /// ```text
 /// {"timestamp":"2011-11-24-22:42:04.388","prio":2,"src":36,"dst":255,"pgn":127251,"description":"Rate of Turn","fields":{"SID":125,"Rate":0.00509634375}}
 /// ```
-#[tactic(auto, using(std::proofs::Common::append_assoc), unfolding(crate::specs::Json::json))]
+#[tactic(auto, using(std::proofs::Common::append_assoc), unfolding(crate::specs::Line::json))]
 pub fn json_line(
     alloc: Global,
     table: &Table,
@@ -146,7 +151,7 @@ pub fn json_line(
         unreachable!();
     };
     let mut line = Vec::with_capacity(alloc, USUAL_LINE)?;
-    push_head(alloc, &definition, packet, &mut line)?;
+    push_head(&definition, packet, &mut line)?;
     push_fields(definition.stored_fields(), data, empty, &mut line)?;
     line.extend_from_slice(b"}\n")?;
     out.extend_from_slice(&line)?;
