@@ -39,11 +39,11 @@ escape_byte-printable b h =
     let above : ltb b 32 ≡ false = grind (arith, nat_tests) in
     elim (cases_Bool (eqb b 34 || eqb b 92)) [
       | inl quote ↦
-        let is : escape_letter b ≡ b = letter ∙ ap (λ t. cond t b 0) quote in
-        rw (is, quote, some)
+          let is : escape_letter b ≡ b = letter ∙ ap (λ t. cond t b 0) quote in
+          rw (is, quote, some)
       | inr plain ↦
-        let is : escape_letter b ≡ 0 = letter ∙ ap (λ t. cond t b 0) plain in
-        rw (is, plain, above)
+          let is : escape_letter b ≡ 0 = letter ∙ ap (λ t. cond t b 0) plain in
+          rw (is, plain, above)
     ]
 
 escape-printable : (stamp : List ℕ) → list_all is_stamp_byte stamp ≡ true → flat_map escape_byte stamp ≡ flat_map escaped stamp

@@ -8,4 +8,4 @@ pub mod Table
 pub mod Bits
 pub mod Shown
 pub mod Decimal
-pub mod Line
+pub mod Json

@@ -3,7 +3,7 @@ ghost use Rattle.std.specs.Prelude.{◌≡◌, ◌++◌, ◌||◌, true, is_some
 ghost use Rattle.n2k_table.specs.Shown.{shown, shown_parts, all_shown};
 ghost use Rattle.n2k_table.specs.Table.{kind};
 ghost use Rattle.n2k_table.specs.Text.{text_json};
-ghost use Rattle.n2k_table.specs.Line.{value_json, member_json, member_text, fields_json, id_json, head_json, json};
+ghost use Rattle.n2k_table.specs.Json.{value_json, member_json, member_text, fields_json, id_json, head_json, json};
 
 use crate::decimal::push_decimal;
 use crate::definition::Definition;
@@ -27,7 +27,7 @@ fn push_number(label: &[u8], number: u32, line: &mut Vec<u8>) -> Result<(), Allo
 }
 
 // Appends who sent what to whom.
-#[tactic(auto, using(std::proofs::Common::append_assoc), unfolding(crate::specs::Line::id_json))]
+#[tactic(auto, using(std::proofs::Common::append_assoc), unfolding(crate::specs::Json::id_json))]
 fn push_id(id: Id, line: &mut Vec<u8>) -> Result<(), AllocError>
     ensures { OnOk result (line.new.items ≡ line.old.items ++ id_json id) }
 {
@@ -38,7 +38,7 @@ fn push_id(id: Id, line: &mut Vec<u8>) -> Result<(), AllocError>
 }
 
 // Appends what stands before the fields.
-#[tactic(auto, using(std::proofs::Common::append_assoc), unfolding(crate::specs::Line::head_json))]
+#[tactic(auto, using(std::proofs::Common::append_assoc), unfolding(crate::specs::Json::head_json))]
 fn push_head(
     definition: &Definition<'_>,
     packet: &Packet,
@@ -133,7 +133,7 @@ fn push_fields(
 /// ```text
 /// {"timestamp":"2011-11-24-22:42:04.388","prio":2,"src":36,"dst":255,"pgn":127251,"description":"Rate of Turn","fields":{"SID":125,"Rate":0.00509634375}}
 /// ```
-#[tactic(auto, using(std::proofs::Common::append_assoc), unfolding(crate::specs::Line::json))]
+#[tactic(auto, using(std::proofs::Common::append_assoc), unfolding(crate::specs::Json::json))]
 pub fn json_line(
     alloc: Global,
     table: &Table,

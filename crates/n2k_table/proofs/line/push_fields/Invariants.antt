@@ -1,7 +1,7 @@
 -- The members so far, and those of the fields that are left.
 use Rattle.std.proofs.Common.{◌≡◌, ◌∷◌, ◌++◌, false, drop}
 use Rattle.std.specs.List.{filter_map}
-use Rattle.n2k_table.specs.Line.{member_json}
+use Rattle.n2k_table.specs.Json.{member_json}
 use Rattle.n2k_table.specs.Shown.{all_shown}
 use Rattle.n2k_table.proofs.Members.{members_from}
 use Rattle.n2k_table.proofs.line.push_fields.Given as goal

@@ -1,5 +1,5 @@
 use Rattle.std.proofs.Common.{codes}
-use Rattle.n2k_table.specs.Line.{id_json, head_json}
+use Rattle.n2k_table.specs.Json.{id_json, head_json}
 use Rattle.n2k_table.specs.Text.{text_json}
 use Rattle.n2k_table.proofs.Members.{six_parts}
 use Rattle.n2k_table.proofs.line.push_head.Goals as goal
