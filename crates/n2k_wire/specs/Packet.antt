@@ -1,6 +1,7 @@
 -- What contracts see of a packet: its parts, and which parts make one.
-use Rattle.std.specs.Prelude.{ℕ, ◌≤◌, ◌≡◌, Bool, true, false, not, ◌&&◌, ◌==◌, nat_le, List, [], ◌∷◌, length, IsTrue}
+use Rattle.std.specs.Prelude.{ℕ, ◌≤◌, Bool, false, not, ◌&&◌, ◌==◌, nat_le, List, [], ◌∷◌, length, IsTrue}
 use Rattle.std.specs.List.{list_all}
+use Rattle.hex.specs.Hex.{IsBytes}
 use Rattle.n2k_wire.specs.declared.identifier.Id.{Id}
 
 -- the most bytes of a stamp
@@ -54,3 +55,11 @@ pub record IsPacket (stamp : List ℕ) (id : Id) (payload : List ℕ) : Type 0 w
   pub prio_ok : id.prio ≤ greatest_priority
   pub pgn_ok : id.pgn ≤ greatest_pgn
   pub payload_ok : length payload ≤ longest_message
+
+-- Parts that a packet of the program can have: they make one, its addresses are of eight bits, and its data are
+-- bytes. The types of the code say the last two, but a law over all parts takes them as its premise.
+pub record IsPacketParts (p : Parts) : Type 0 where
+  pub packet_ok : IsPacket p.stamp p.id p.payload
+  pub src_ok : p.id.src ≤ 255
+  pub dst_ok : p.id.dst ≤ 255
+  pub bytes_ok : IsBytes p.payload

@@ -1,5 +1,5 @@
 //! A packet: a frame or a whole message, with its stamp.
-ghost use Rattle.std.specs.Prelude.{◌≡◌, ◌≤◌, ◌^◌, ◌<◌, ◌↔◌, length, IsTrue};
+ghost use Rattle.std.specs.Prelude.{◌≡◌};
 ghost use Rattle.std.specs.List.{list_all};
 ghost use Rattle.std.specs.Option.{SomeIff};
 ghost use Rattle.n2k_wire.specs.Packet.{IsPacket, is_stamp, is_stamp_byte, is_stamp_start};
@@ -79,15 +79,27 @@ impl Packet {
         if !is_stamp(stamp) || id.prio > GREATEST_PRIORITY || id.pgn > GREATEST_PGN {
             return None;
         }
+        if data.len() > LONGEST_MESSAGE {
+            return None;
+        }
+        Some(Packet::of_parts(stamp, id, data))
+    }
+
+    /// The packet of parts that make one.
+    #[inline]
+    pub(crate) fn of_parts(stamp: &[u8], id: Id, data: &[u8]) -> Packet
+        requires { IsPacket stamp.now id «data».now }
+        ensures { result ≡ record { stamp = stamp.now; id = id; payload = «data».now } }
+    {
         let mut kept_stamp = ArrayVec::new();
         let mut kept_data = ArrayVec::new();
-        kept_stamp.try_extend_from_slice(stamp).ok()?;
-        kept_data.try_extend_from_slice(data).ok()?;
-        Some(Packet {
+        let _ = kept_stamp.try_extend_from_slice(stamp);
+        let _ = kept_data.try_extend_from_slice(data);
+        Packet {
             stamp: kept_stamp,
             id,
             data: kept_data,
-        })
+        }
     }
 
     /// The stamp, as text.

@@ -1,0 +1,48 @@
+-- The texts of reports and of the summary.
+use Rattle.std.specs.Prelude.{ℕ, List, [], ◌++◌, codes, decimal}
+use Rattle.std.specs.List.{flat_map, enumerate_from}
+use Rattle.n2k_wire.specs.declared.entry.BadCause.{BadCause}
+use Rattle.n2k_wire.specs.declared.entry.BadCause.TheVariants as causes
+use Rattle.n2k_wire.specs.declared.entry.Entry.{Entry}
+use Rattle.n2k_wire.specs.declared.entry.Entry.TheVariants.{Skip, Bad, Frame}
+use Rattle.n2k_wire.specs.declared.entry.Packing.TheVariants.{Frames}
+use Rattle.n2k_run.specs.Entries.{entries}
+use Rattle.n2k_run.specs.declared.counts.Counts.{Counts}
+
+-- a cause's number and word
+abbrev pub cause_text : BadCause → List ℕ
+cause_text causes.Long = codes "B1 long"
+cause_text causes.Stamp = codes "B2 stamp"
+cause_text causes.Form = codes "B3 form"
+cause_text causes.Identifier = codes "B4 identifier"
+cause_text causes.Number = codes "B5 number"
+cause_text causes.Data = codes "B6 data"
+cause_text causes.Fast = codes "B7 fast"
+cause_text causes.Unknown = codes "B8 unknown"
+cause_text causes.Size = codes "B9 size"
+cause_text causes.Frame = codes "B10 frame"
+cause_text causes.Time = codes "B11 time"
+cause_text causes.Address = codes "B12 address"
+
+-- `line 3 bad B6 data`, of the number of a line and its cause
+unfoldable pub bad_text : ℕ → BadCause → List ℕ
+bad_text number cause = codes "line " ++ decimal number ++ codes " bad " ++ cause_text cause ++ codes "\n"
+
+-- `lines 3 messages 1 bad 0 unknown 0 broken 0 open 0`
+unfoldable pub summary_text : Counts → List ℕ
+summary_text counts =
+    codes "lines " ++ decimal counts.lines ++ codes " messages " ++ decimal counts.messages ++ codes " bad " ++ decimal counts.bad ++ codes " unknown " ++ decimal counts.unknown ++ codes " broken " ++ decimal counts.broken ++ codes " open " ++ decimal counts.held ++ codes "\n"
+
+-- what is reported of the entry of that line
+abbrev pub report_of : ℕ → Entry → List ℕ
+report_of number Skip = []
+report_of number (Bad cause) = bad_text number cause
+report_of number (Frame packet) = []
+
+-- the reports of entries, whose first is that of line `first`
+abbrev pub reports_from : ℕ → List Entry → List ℕ
+reports_from first entries = flat_map (λ numbered. report_of numbered.0 numbered.1) (enumerate_from first entries)
+
+-- a report for each bad line of a log, in the order of its lines
+unfoldable pub reports : List ℕ → List ℕ
+reports log = reports_from 1 (entries Frames log)

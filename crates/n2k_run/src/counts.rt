@@ -1,0 +1,30 @@
+//! The counts of a run.
+
+/// What a run counts, as its summary prints it.
+#[derive(Clone, Copy, Debug, Default, PartialEq, Eq)]
+pub struct Counts {
+    /// Lines read, skipped ones too.
+    pub lines: u64,
+    /// Messages written.
+    pub messages: u64,
+    /// Bad lines.
+    pub bad: u64,
+    /// Frames and whole messages whose PGN isn't in the table.
+    pub unknown: u64,
+    /// Groups that ended without a message.
+    pub broken: u64,
+    /// Groups that are open at the end; the summary calls them `open`.
+    pub held: u64,
+}
+
+impl Counts {
+    /// Before the first line.
+    pub const NONE: Counts = Counts {
+        lines: 0,
+        messages: 0,
+        bad: 0,
+        unknown: 0,
+        broken: 0,
+        held: 0,
+    };
+}

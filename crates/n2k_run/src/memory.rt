@@ -1,0 +1,157 @@
+//! Devices in memory, for tests: they move as many bytes a call as they are told, and fail where they are told.
+
+use crate::device::{Failed, Sink, Source};
+use std::alloc::Global;
+use std::marker::Model;
+
+/// A source of bytes in memory.
+#[derive(Drop)]
+pub struct MemorySource<'a> {
+    left: &'a [u8],
+    at_once: usize,
+    fails_at: u64,
+    failed_calls: u64,
+}
+
+impl<'a> Model for MemorySource<'a> {
+    ghost use Rattle.std.specs.Prelude.{◌<◌};
+    ghost use Rattle.n2k_run.specs.Memory.{Supply};
+
+    ghost Value = { Supply };
+
+    ghost view = { λ s. record { left = s.left.now; at_once = s.at_once; fails_at = s.fails_at; failed_calls = s.failed_calls } };
+
+    ghost invariant = { λ s. 0 < s.at_once };
+}
+
+impl<'a> MemorySource<'a> {
+    ghost use Rattle.std.specs.Prelude.{◌≡◌, ◌<◌};
+
+    /// A source that gives these bytes. A call moves `piece` bytes, or all that is asked or left if that is
+    /// less; call number `fail_at`, counted from 1, fails (0: none does).
+    pub fn new(bytes: &'a [u8], piece: usize, fail_at: u64) -> Self
+        requires { 0 < piece }
+        ensures { result ≡ record { left = bytes.now; at_once = piece; fails_at = fail_at; failed_calls = 0 } }
+    {
+        MemorySource {
+            left: bytes,
+            at_once: piece,
+            fails_at: fail_at,
+            failed_calls: 0,
+        }
+    }
+}
+
+impl<'a> Source for MemorySource<'a> {
+    ghost use Rattle.std.specs.Prelude.{◌≡◌, ◌≤◌, ◌↔◌, min, length, take, IsErr, IfOk, OnErr, Some};
+    ghost use Rattle.std.specs.Io.KnownBytes.{ReadConsumes};
+    ghost use Rattle.n2k_run.specs.Device.{CountsFailure};
+    ghost use Rattle.n2k_run.specs.Memory.{after_read, after_failed_read};
+
+    ghost failed_calls = { λ s. s.failed_calls };
+
+    ghost remaining = { λ s. Some s.left };
+
+    fn read(&mut self, buffer: &mut [u8]) -> Result<usize, Failed>
+        ensures bound { IfOk result (λ n. n ≤ length buffer.new) }
+        ensures bytes { ReadConsumes (Some self.old.left) (Some self.new.left) result buffer.new }
+        ensures counted { CountsFailure self.old.failed_calls self.new.failed_calls result }
+
+        ensures fails { IsErr result ↔ (self.old.fails_at ≡ 1) }
+        ensures count { IfOk result (λ n. n ≡ min self.old.at_once (min (length buffer.old) (length self.old.left))) }
+        ensures given { IfOk result (λ n. take n buffer.new ≡ take n self.old.left) }
+        ensures ok { IfOk result (λ n. self.new ≡ after_read self.old n) }
+        ensures err { OnErr result (self.new ≡ after_failed_read self.old) }
+    {
+        let fails = self.fails_at == 1;
+        self.fails_at = self.fails_at.saturating_sub(1);
+        if fails {
+            self.failed_calls = self.failed_calls.saturating_add(1);
+            return Err(Failed);
+        }
+        let count = self.at_once.min(buffer.len()).min(self.left.len());
+        let (given, left) = self.left.split_at(count);
+        buffer[..count].copy_from_slice(given);
+        self.left = left;
+        Ok(count)
+    }
+}
+
+/// A sink of bytes in memory.
+#[derive(Drop)]
+pub struct MemorySink {
+    held: Vec<u8>,
+    at_once: usize,
+    fails_at: u64,
+    failed_calls: u64,
+}
+
+impl Model for MemorySink {
+    ghost use Rattle.std.specs.Prelude.{◌<◌};
+    ghost use Rattle.n2k_run.specs.Memory.{Store};
+
+    ghost Value = { Store };
+
+    ghost view = { λ s. record { held = s.held.items; at_once = s.at_once; fails_at = s.fails_at; failed_calls = s.failed_calls } };
+
+    ghost invariant = { λ s. 0 < s.at_once };
+}
+
+impl MemorySink {
+    ghost use Rattle.std.specs.Prelude.{◌≡◌, ◌<◌, []};
+
+    /// A sink that holds nothing yet. A call moves `piece` bytes, or all that is handed in if that is less;
+    /// call number `fail_at`, counted from 1, fails (0: none does), and so does a call for which the
+    /// allocator has no memory.
+    pub fn new(alloc: Global, piece: usize, fail_at: u64) -> Self
+        requires { 0 < piece }
+        ensures { result ≡ record { held = []; at_once = piece; fails_at = fail_at; failed_calls = 0 } }
+    {
+        MemorySink {
+            held: Vec::new(alloc),
+            at_once: piece,
+            fails_at: fail_at,
+            failed_calls: 0,
+        }
+    }
+
+    /// The bytes that were written.
+    pub fn bytes(&self) -> &[u8]
+        ensures { result.now ≡ self.now.held }
+    {
+        &self.held
+    }
+}
+
+impl Sink for MemorySink {
+    ghost use Rattle.std.specs.Prelude.{◌≡◌, ◌<◌, ◌≤◌, min, length, take, IsErr, IfOk, OnErr, Some};
+    ghost use Rattle.std.specs.Io.KnownBytes.{WriteAppends};
+    ghost use Rattle.n2k_run.specs.Device.{CountsFailure};
+    ghost use Rattle.n2k_run.specs.Memory.{after_write, after_failed_write};
+
+    ghost failed_calls = { λ s. s.failed_calls };
+
+    ghost contents = { λ s. Some s.held };
+
+    fn write(&mut self, piece: &[u8]) -> Result<usize, Failed>
+        ensures bound { IfOk result (λ n. n ≤ length piece.now) }
+        ensures moves { IfOk result (λ n. 0 < length piece.now → 0 < n) }
+        ensures bytes { WriteAppends (Some self.old.held) (Some self.new.held) result piece.now }
+        ensures counted { CountsFailure self.old.failed_calls self.new.failed_calls result }
+
+        // It also fails where memory is refused.
+        ensures fails { self.old.fails_at ≡ 1 → IsErr result }
+        ensures count { IfOk result (λ n. n ≡ min self.old.at_once (length piece.now)) }
+        ensures ok { IfOk result (λ n. self.new ≡ after_write self.old (take n piece.now)) }
+        ensures err { OnErr result (self.new ≡ after_failed_write self.old) }
+    {
+        let fails = self.fails_at == 1;
+        self.fails_at = self.fails_at.saturating_sub(1);
+        let count = self.at_once.min(piece.len());
+        if fails || self.held.extend_from_slice(&piece[..count]).is_err() {
+            self.failed_calls = self.failed_calls.saturating_add(1);
+            return Err(Failed);
+        }
+        Ok(count)
+    }
+}

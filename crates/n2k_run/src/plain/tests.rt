@@ -1,0 +1,208 @@
+ghost use Rattle.std.specs.Prelude.{◌<◌};
+
+use super::run_plain;
+use crate::{Counts, MemorySink, MemorySource, RunFault, summary_text};
+use std::process::Abort;
+use std::test::Fail;
+
+// The two frames of two senders in turns, 43 bytes a line.
+const TWO_SOURCES: &[u8] = b"(10.000001) can0 1DFF0405#000BA39901414243
+(10.100000) can0 1DFF0406#200BA39902585920
+(10.200000) can0 1DFF0406#212020202020FFFF
+(10.300000) can0 1DFF0405#010000000000FFFF
+";
+
+const TWO_SOURCES_TEXT: &[u8] = b"1970-01-01T00:00:10.000Z,7,130820,5,255,8,00,0b,a3,99,01,41,42,43
+1970-01-01T00:00:10.100Z,7,130820,6,255,8,20,0b,a3,99,02,58,59,20
+1970-01-01T00:00:10.200Z,7,130820,6,255,8,21,20,20,20,20,20,ff,ff
+1970-01-01T00:00:10.300Z,7,130820,5,255,8,01,00,00,00,00,00,ff,ff
+";
+
+struct Example {
+    log: &'static [u8],
+    text: &'static [u8],
+    reports: &'static [u8],
+    summary: &'static [u8],
+}
+
+const EXAMPLES: [Example; 6] = [
+    // cog-and-sog
+    Example {
+        log: b"(1502979132.106111) can0 09F8027F#00FCFFFF0000FFFF",
+        text: b"2017-08-17T14:12:12.106Z,2,129026,127,255,8,00,fc,ff,ff,00,00,ff,ff\n",
+        reports: b"",
+        summary: b"lines 1 messages 1 bad 0 unknown 0 broken 0 open 0\n",
+    },
+    // rate-of-turn, with a CR
+    Example {
+        log: b"2011-11-24-22:42:04.388,2,127251,36,255,8,7d,0b,7d,02,00,ff,ff,ff\r\n",
+        text: b"2011-11-24-22:42:04.388,2,127251,36,255,8,7d,0b,7d,02,00,ff,ff,ff\n",
+        reports: b"",
+        summary: b"lines 1 messages 1 bad 0 unknown 0 broken 0 open 0\n",
+    },
+    // unknown-pgn
+    Example {
+        log: b"(1.0) can0 18EAFF01#14F001\n",
+        text: b"1970-01-01T00:00:01.000Z,6,59904,1,255,3,14,f0,01\n",
+        reports: b"",
+        summary: b"lines 1 messages 1 bad 0 unknown 0 broken 0 open 0\n",
+    },
+    // empty-log
+    Example {
+        log: b"",
+        text: b"",
+        reports: b"",
+        summary: b"lines 0 messages 0 bad 0 unknown 0 broken 0 open 0\n",
+    },
+    // candump-forms
+    Example {
+        log: b"(1.0)  can0  09f8027f#00fcffff0000ffff R
+(1.0) can0 09F8027F#00FCFFFF0000FFFF_9
+(1.0) can0 123#00
+(1.0) can0 09F8027F#R8
+(1.0) can0 09F8027F##100
+(1.0) can0 20000080#0000000000000000
+# note
+
+(253402300799.999999999) can0 18EAFF01#
+(253402300800.0) can0 18EAFF01#
+",
+        text: b"1970-01-01T00:00:01.000Z,2,129026,127,255,8,00,fc,ff,ff,00,00,ff,ff
+1970-01-01T00:00:01.000Z,2,129026,127,255,8,00,fc,ff,ff,00,00,ff,ff
+9999-12-31T23:59:59.999Z,6,59904,1,255,0
+",
+        reports: b"line 10 bad B2 stamp\n",
+        summary: b"lines 10 messages 3 bad 1 unknown 0 broken 0 open 0\n",
+    },
+    // two-sources
+    Example {
+        log: TWO_SOURCES,
+        text: TWO_SOURCES_TEXT,
+        reports: b"",
+        summary: b"lines 4 messages 4 bad 0 unknown 0 broken 0 open 0\n",
+    },
+];
+
+fn prints<R: Abort + AllocGlobal>(rt: &R, example: &Example, piece: usize) -> Result<(), Fail>
+    requires { 0 < piece }
+{
+    let mut reader = MemorySource::new(example.log, piece, 0);
+    let mut writer = MemorySink::new(rt.alloc(), piece, 0);
+    let mut reports = MemorySink::new(rt.alloc(), piece, 0);
+    let counts = run_plain(rt.alloc(), &mut reader, &mut writer, &mut reports)?;
+    assert_eq!(rt; writer.bytes(), example.text);
+    assert_eq!(rt; reports.bytes(), example.reports);
+    let mut summary = Vec::new(rt.alloc());
+    summary_text(rt.alloc(), &counts, &mut summary)?;
+    assert_eq!(rt; summary.as_slice(), example.summary);
+    Ok(())
+}
+
+#[test]
+fn worked_examples_in_pieces_of_1_of_7_and_all_bytes(rt: HostRuntime) -> Result<(), Fail> {
+    for example in &EXAMPLES {
+        prints(&rt, example, 1)?;
+        prints(&rt, example, 7)?;
+        prints(&rt, example, 100_000)?;
+    }
+    Ok(())
+}
+
+#[test]
+fn ten_lines_of_which_seven_are_bad(rt: HostRuntime) -> Result<(), Fail> {
+    let mut log = Vec::new(rt.alloc());
+    log.extend_from_slice(b"(10.0) can0 1DFF0405#000BA39901414243\n")?;
+    let long = vec![in rt.alloc(); b'x'; 2049]?;
+    log.extend_from_slice(&long)?;
+    log.extend_from_slice(
+        b"
+(10.1) can0 1DFF0405#010
+(10.2) can0 40000000#00
+2011-11-24-22:42:04.388,2,127251,36,255,3,7d,0b
+(10.3) can0 1DFF0405#
+(10.4) can0 1DFF0405#010000000000FFFF
+(10) can0 1DFF0405#00
+x,8,127251,36,255,0
+hello
+",
+    )?;
+    let mut reader = MemorySource::new(&log, 100, 0);
+    let mut writer = MemorySink::new(rt.alloc(), 100, 0);
+    let mut reports = MemorySink::new(rt.alloc(), 100, 0);
+    let counts = run_plain(rt.alloc(), &mut reader, &mut writer, &mut reports)?;
+    let text = b"1970-01-01T00:00:10.000Z,7,130820,5,255,8,00,0b,a3,99,01,41,42,43
+1970-01-01T00:00:10.300Z,7,130820,5,255,0
+1970-01-01T00:00:10.400Z,7,130820,5,255,8,01,00,00,00,00,00,ff,ff
+";
+    assert_eq!(rt; writer.bytes(), text.as_slice());
+    let wanted = b"line 2 bad B1 long
+line 3 bad B6 data
+line 4 bad B4 identifier
+line 5 bad B6 data
+line 8 bad B2 stamp
+line 9 bad B5 number
+line 10 bad B3 form
+";
+    assert_eq!(rt; reports.bytes(), wanted.as_slice());
+    let wanted = Counts {
+        lines: 10,
+        messages: 3,
+        bad: 7,
+        ..Counts::NONE
+    };
+    assert_eq!(rt; counts, wanted);
+    Ok(())
+}
+
+// How many bytes of the text are written before each failing read.
+#[test]
+fn a_failed_read_keeps_the_lines_that_came(rt: HostRuntime) -> Result<(), Fail> {
+    for (piece, fail_at, written) in [(60, 3, 132), (43, 4, 198), (43, 1, 0), (171, 2, 198)] {
+        if piece > 0 {
+            let mut reader = MemorySource::new(TWO_SOURCES, piece, fail_at);
+            let mut writer = MemorySink::new(rt.alloc(), 7, 0);
+            let mut reports = MemorySink::new(rt.alloc(), 7, 0);
+            let answer = run_plain(rt.alloc(), &mut reader, &mut writer, &mut reports);
+            assert_eq!(rt; answer, Err(RunFault::Read));
+            assert_eq!(rt; writer.bytes(), &TWO_SOURCES_TEXT[..written]);
+        }
+    }
+    Ok(())
+}
+
+#[test]
+fn a_failed_write_leaves_a_front(rt: HostRuntime) -> Result<(), Fail> {
+    let mut reader = MemorySource::new(TWO_SOURCES, 60, 0);
+    let mut writer = MemorySink::new(rt.alloc(), 10, 3);
+    let mut reports = MemorySink::new(rt.alloc(), 10, 0);
+    let answer = run_plain(rt.alloc(), &mut reader, &mut writer, &mut reports);
+    assert_eq!(rt; answer, Err(RunFault::Write));
+    assert_eq!(rt; writer.bytes(), &TWO_SOURCES_TEXT[..20]);
+
+    let mut reader = MemorySource::new(b"hello\n", 60, 0);
+    let mut writer = MemorySink::new(rt.alloc(), 10, 0);
+    let mut reports = MemorySink::new(rt.alloc(), 10, 2);
+    let answer = run_plain(rt.alloc(), &mut reader, &mut writer, &mut reports);
+    assert_eq!(rt; answer, Err(RunFault::Report));
+    assert_eq!(rt; reports.bytes(), b"line 1 bad".as_slice());
+    Ok(())
+}
+
+// Under `rt try --test --fail-alloc N` each growth of one run fails in turn: the answer is that with ample
+// memory or a refusal, and what was written is a front.
+#[test]
+fn refused_memory_leaves_a_front(rt: HostRuntime) {
+    let mut reader = MemorySource::new(TWO_SOURCES, 60, 0);
+    let mut writer = MemorySink::new(rt.alloc(), 10, 0);
+    let mut reports = MemorySink::new(rt.alloc(), 10, 0);
+    match run_plain(rt.alloc(), &mut reader, &mut writer, &mut reports) {
+        Ok(counts) => {
+            assert_eq!(rt; counts.messages, 4);
+            assert_eq!(rt; writer.bytes(), TWO_SOURCES_TEXT);
+        }
+        Err(fault) => {
+            assert!(rt; fault == RunFault::Memory || fault == RunFault::Write);
+            assert!(rt; TWO_SOURCES_TEXT.starts_with(writer.bytes()));
+        }
+    }
+}

@@ -1,0 +1,113 @@
+//! Devices over the readers and writers of the standard library.
+ghost use Rattle.std.specs.Prelude.{◌<◌, ◌≤◌, length, IfOk};
+ghost use Rattle.std.specs.Io.KnownBytes.{ReadConsumes, WriteAppends};
+
+use crate::device::{Failed, Sink, Source};
+use std::io::{ErrorKind, Read, Write};
+
+// How often a call is made that signals interrupt, before it counts as failed.
+const MOST_TRIES: u32 = 1000;
+
+// One read, made again where a signal interrupts it.
+fn read_retrying<R: Read>(reader: &mut R, buffer: &mut [u8]) -> Result<usize, Failed>
+    ensures bound { IfOk result (λ n. n ≤ length buffer.new) }
+    ensures bytes { ReadConsumes (R.remaining reader.old) (R.remaining reader.new) result buffer.new }
+{
+    for _ in 0..MOST_TRIES {
+        match reader.read(buffer) {
+            Ok(count) => return Ok(count),
+            Err(error) if error.kind() == ErrorKind::Interrupted => {}
+            Err(_) => return Err(Failed),
+        }
+    }
+    Err(Failed)
+}
+
+// One write, made again where a signal interrupts it. A writer that takes nothing of some bytes has failed.
+fn write_retrying<W: Write>(writer: &mut W, piece: &[u8]) -> Result<usize, Failed>
+    ensures bound { IfOk result (λ n. n ≤ length piece.now) }
+    ensures moves { IfOk result (λ n. 0 < length piece.now → 0 < n) }
+    ensures bytes { WriteAppends (W.contents writer.old) (W.contents writer.new) result piece.now }
+{
+    for _ in 0..MOST_TRIES {
+        match writer.write(piece) {
+            Ok(0) if !piece.is_empty() => return Err(Failed),
+            Ok(count) => return Ok(count),
+            Err(error) if error.kind() == ErrorKind::Interrupted => {}
+            Err(_) => return Err(Failed),
+        }
+    }
+    Err(Failed)
+}
+
+/// A reader of the standard library as a source.
+#[derive(Drop)]
+pub struct StdSource<R> {
+    reader: R,
+    failed_calls: u64,
+}
+
+impl<R: Read> StdSource<R> {
+    ghost use Rattle.std.specs.Prelude.{◌≡◌};
+
+    /// A source that gives what the reader gives.
+    pub fn new(reader: R) -> Self
+        ensures bytes { ⟦<StdSource<R> as Source>⟧.remaining result ≡ R.remaining reader }
+        ensures none_failed { ⟦<StdSource<R> as Source>⟧.failed_calls result ≡ 0 }
+    {
+        StdSource {
+            reader,
+            failed_calls: 0,
+        }
+    }
+}
+
+impl<R: Read> Source for StdSource<R> {
+    ghost failed_calls = { λ s. s.failed_calls };
+
+    ghost remaining = { λ s. R.remaining s.reader };
+
+    fn read(&mut self, buffer: &mut [u8]) -> Result<usize, Failed> {
+        let answer = read_retrying(&mut self.reader, buffer);
+        if answer.is_err() {
+            self.failed_calls = self.failed_calls.saturating_add(1);
+        }
+        answer
+    }
+}
+
+/// A writer of the standard library as a sink.
+#[derive(Drop)]
+pub struct StdSink<W> {
+    writer: W,
+    failed_calls: u64,
+}
+
+impl<W: Write> StdSink<W> {
+    ghost use Rattle.std.specs.Prelude.{◌≡◌};
+
+    /// A sink whose bytes go to the writer.
+    pub fn new(writer: W) -> Self
+        ensures bytes { ⟦<StdSink<W> as Sink>⟧.contents result ≡ W.contents writer }
+        ensures none_failed { ⟦<StdSink<W> as Sink>⟧.failed_calls result ≡ 0 }
+    {
+        StdSink {
+            writer,
+            failed_calls: 0,
+        }
+    }
+}
+
+impl<W: Write> Sink for StdSink<W> {
+    ghost failed_calls = { λ s. s.failed_calls };
+
+    ghost contents = { λ s. W.contents s.writer };
+
+    fn write(&mut self, piece: &[u8]) -> Result<usize, Failed> {
+        let answer = write_retrying(&mut self.writer, piece);
+        if answer.is_err() {
+            self.failed_calls = self.failed_calls.saturating_add(1);
+        }
+        answer
+    }
+}

@@ -1,0 +1,21 @@
+//! Writing a whole text to a sink that may take it in parts.
+ghost use Rattle.std.specs.Prelude.{OnOk, OnErr};
+ghost use Rattle.std.specs.Io.KnownBytes.{Appends};
+ghost use Rattle.n2k_run.specs.Device.{CountsFailure};
+ghost use Rattle.n2k_run.specs.Writing.{AppendsFront};
+
+use crate::device::{Failed, Sink};
+
+/// Writes the whole text. Where the device fails, a front of the text has been written.
+pub(crate) fn write_all<W: Sink>(writer: &mut W, text: &[u8]) -> Result<(), Failed>
+    ensures written { OnOk result (Appends (W.contents writer.old) (W.contents writer.new) text.now) }
+    ensures front { OnErr result (AppendsFront (W.contents writer.old) (W.contents writer.new) text.now) }
+    ensures counted { CountsFailure (W.failed_calls writer.old) (W.failed_calls writer.new) result }
+{
+    let mut rest = text;
+    while !rest.is_empty() {
+        let taken = writer.write(rest)?;
+        rest = &rest[taken..];
+    }
+    Ok(())
+}

@@ -1,0 +1,6 @@
+pub mod CalendarLemmas
+pub mod DigitLemmas
+pub mod HexDigits
+pub mod PieceLemmas
+pub mod PlainLemmas
+pub mod ReadBack

@@ -1,0 +1,43 @@
+-- Reading the bytes of a plain line, one piece at a time.
+use Rattle.std.proofs.Common.{◌≡◌, ℕ, List, [], ◌∷◌, ◌++◌, length, Option, Some, None, refl, ap, ◌∙◌, append_assoc, inl, inr}
+use Rattle.std.specs.Prelude.{option_map}
+use Rattle.std.proofs.lemmas.Bool.{eq-eqb, ne_eqb, cases_eq}
+use Rattle.std.proofs.lemmas.List.{append-nil}
+use Rattle.n2k_wire.specs.Plain.{pair, pairs, bytes_of}
+
+-- what was read before, and what is still read
+abbrev pub with_front : List ℕ → Option (List ℕ) → Option (List ℕ)
+with_front front read = option_map (λ bytes. front ++ bytes) read
+
+regroup : (front byte : List ℕ) (read : Option (List ℕ)) → with_front front (option_map (λ bytes. byte ++ bytes) read) ≡ with_front (front ++ byte) read
+regroup front byte None = refl
+regroup front byte (Some bytes) = simp append_assoc
+
+pub reads_piece : (front byte piece : List ℕ) (more : List (List ℕ)) → pair piece ≡ Some byte → with_front front (pairs (piece ∷ more)) ≡ with_front (front ++ byte) (pairs more)
+unfolding pairs
+reads_piece front byte piece more e = rw e (regroup front byte (pairs more))
+
+pub ends_piece : (front piece : List ℕ) (more : List (List ℕ)) → pair piece ≡ None → with_front front (pairs (piece ∷ more)) ≡ None
+unfolding pairs
+ends_piece front piece more e = rw e refl
+
+pub pairs-end : (front : List ℕ) → with_front front (pairs []) ≡ Some front
+unfolding pairs
+pairs-end front = ap Some (append-nil front)
+
+pub bytes_of-pairs : (len : ℕ) (more : List (List ℕ)) → length more ≡ len → bytes_of len more ≡ pairs more
+unfolding bytes_of
+bytes_of-pairs len more e = rw (eq-eqb (length more) len e) refl
+
+-- another number of pieces
+pub bytes_of-other : (len : ℕ) (more : List (List ℕ)) → (length more ≡ len → ⊥) → bytes_of len more ≡ None
+unfolding bytes_of
+bytes_of-other len more other = rw (ne_eqb (length more) len other) refl
+
+-- a piece that is no byte, among as many pieces as there should be or not
+pub bytes_of-bad : (len : ℕ) (more : List (List ℕ)) → pairs more ≡ None → bytes_of len more ≡ None
+bytes_of-bad len more bad =
+    elim (cases_eq (length more) len) [
+      | inl same ↦ bytes_of-pairs len more same ∙ bad
+      | inr other ↦ bytes_of-other len more other
+    ]

@@ -1,0 +1,251 @@
+-- The plain line of a frame is read as that frame.
+use Rattle.std.proofs.Common.{◌≡◌, ℕ, zero, suc, ◌+◌, ◌*◌, ◌/◌, ◌%◌, ◌^◌, ◌<◌, ◌≤◌, true, false, List, [], ◌∷◌, ◌++◌, map, length, Some, None, Ok, ltb, leb, not, refl, ap, ◌∙◌, arith, append_assoc, length-append}
+use Rattle.std.specs.Prelude.{◌==◌, ◌&&◌, decimal, option_and_then, slice_index, IsTrue}
+use Rattle.std.specs.List.{All, list_all, flat_map}
+use Rattle.std.proofs.lemmas.Bool.{and_parts, leb-true, le-leb, le-ltb, lt-ltb, ne_eqb, not-true}
+use Rattle.std.proofs.lemmas.Fmt.{decimal_by_steps, length-decimal-le, decimal_nonempty}
+use Rattle.std.proofs.lemmas.List.{append-nil, length-map}
+use Rattle.std.proofs.lemmas.List.Elements.{All-nil, All-cons, All-append, All-weaker}
+use Rattle.std.proofs.lemmas.List.Splits.{slice_split_at, slice_split_none}
+use Rattle.std.proofs.lemmas.List.Sums.{AllPass-from_list_all}
+use Rattle.hex.specs.Hex.{IsBytes, encode_with, encode_lower, lower_digits, hex_digit_value}
+use Rattle.hex.proofs.HexLemmas.{IsDigits-lower_digits, decode_sized-encode_lower}
+use Rattle.n2k_wire.specs.declared.entry.Entry.TheVariants as entries
+use Rattle.n2k_wire.specs.declared.entry.Packing.{Packing}
+use Rattle.n2k_wire.specs.declared.entry.Packing.TheVariants as packings
+use Rattle.n2k_wire.specs.Digits.{decimal_digit, decimal_after, decimal_number}
+use Rattle.n2k_wire.specs.Entry.{entry, is_skipped, is_candump, settled}
+use Rattle.n2k_wire.specs.Packet.{Parts, IsPacketParts, is_printable, is_stamp, is_stamp_byte, starts_stamp}
+use Rattle.n2k_wire.specs.Plain.{pieces, number_to, pair, pairs, header, id_of, bytes_of, plain_of, plain_pieces, plain}
+use Rattle.n2k_wire.specs.Texts.{byte_piece, number_piece, plain_line}
+use Rattle.n2k_wire.proofs.PlainLemmas.{bytes_of-pairs}
+
+-- ---- pieces
+
+-- a text without a comma
+abbrev HasNoComma : List ℕ → Type 0
+HasNoComma text = All (λ b. (b == 44) ≡ false) text
+
+no_comma : (b : ℕ) → (b ≡ 44 → ⊥) → (b == 44) ≡ false
+no_comma b other = ne_eqb b 44 other
+
+-- a piece and a comma, and what stands behind them
+next_piece : (text more : List ℕ) → HasNoComma text → pieces (text ++ (44 ∷ more)) ≡ text ∷ pieces more
+next_piece text more h = slice_split_at (λ b. b == 44) text 44 more h refl
+
+-- the last piece
+last_piece : (text : List ℕ) → HasNoComma text → pieces text ≡ text ∷ []
+last_piece text h = slice_split_none (λ b. b == 44) text h
+
+-- ---- bytes
+
+-- a byte as two digits
+abbrev byte_digits : ℕ → List ℕ
+byte_digits b = encode_lower (b ∷ [])
+
+digit_no_comma : (d : ℕ) → d < 16 → (slice_index lower_digits d == 44) ≡ false
+digit_no_comma d h =
+    no_comma (slice_index lower_digits d) (λ e. let read : hex_digit_value 44 ≡ Some d = rw e at (IsDigits-lower_digits d h) in cc)
+
+byte_no_comma : (b : ℕ) → b < 256 → HasNoComma (byte_digits b)
+unfolding encode_with
+byte_no_comma b h =
+    let high = digit_no_comma (b / 16) (omega arith) in
+    let low = digit_no_comma (b % 16) (omega arith) in
+    All-cons (λ x. (x == 44) ≡ false) (slice_index lower_digits (b / 16)) (slice_index lower_digits (b % 16) ∷ []) high
+    (All-cons (λ x. (x == 44) ≡ false) (slice_index lower_digits (b % 16)) [] low (All-nil (λ x. (x == 44) ≡ false)))
+
+length-byte_digits : (b : ℕ) → length (byte_digits b) ≡ 2
+unfolding encode_with
+length-byte_digits b = refl
+
+one_byte : (b : ℕ) → b < 256 → IsBytes (b ∷ [])
+one_byte b h zero = h
+one_byte b h (suc i) = omega arith
+
+-- the two digits of a byte spell it
+byte_reads : (b : ℕ) → b < 256 → pair (byte_digits b) ≡ Some (b ∷ [])
+unfolding pair
+byte_reads b h = rw (decode_sized-encode_lower (b ∷ []) 1 refl (one_byte b h)) refl
+
+bytes_read : (bytes : List ℕ) → IsBytes bytes → pairs (map byte_digits bytes) ≡ Some bytes
+unfolding pairs
+bytes_read [] h = refl
+bytes_read (b ∷ bytes) h = rw (byte_reads b (h 0), bytes_read bytes (λ i. h (suc i))) refl
+
+-- a piece, and behind it one piece for each byte
+pieces_of_bytes : (front bytes : List ℕ) → HasNoComma front → IsBytes bytes → pieces (front ++ flat_map byte_piece bytes) ≡ front ∷ map byte_digits bytes
+pieces_of_bytes front [] h bs = rw append-nil (last_piece front h)
+pieces_of_bytes front (b ∷ bytes) h bs =
+    next_piece front (byte_digits b ++ flat_map byte_piece bytes) h
+    ∙ ap (λ more. front ∷ more) (pieces_of_bytes (byte_digits b) bytes (byte_no_comma b (bs 0)) (λ i. bs (suc i)))
+
+-- three characters for each byte
+length-bytes : (bytes : List ℕ) → length (flat_map byte_piece bytes) ≡ 3 * length bytes
+length-bytes [] = refl
+length-bytes (b ∷ bytes) = omega (arith, length-byte_digits b, length-bytes bytes, length-append (byte_piece b) (flat_map byte_piece bytes))
+
+-- ---- numbers
+
+digit_reads : (d : ℕ) → d < 10 → decimal_digit (48 + d) ≡ Some d
+unfolding decimal_digit
+digit_reads d h =
+    let low : leb 48 (48 + d) ≡ true = le-leb 48 (48 + d) (omega arith) in
+    let high : leb (48 + d) 57 ≡ true = le-leb (48 + d) 57 (omega arith) in
+    rw (low, high) (ap Some (omega arith))
+
+one_digit : (before d : ℕ) → d < 10 → decimal_after before ((48 + d) ∷ []) ≡ Some (10 * before + d)
+unfolding decimal_after
+one_digit before d h = rw (digit_reads d h) refl
+
+-- one digit more on the right
+digit_behind : (before b : ℕ) (digits : List ℕ) (n : ℕ) → decimal_after before digits ≡ Some n → decimal_after before (digits ++ (b ∷ [])) ≡ decimal_after n (b ∷ [])
+unfolding decimal_after
+digit_behind before b [] n e = let same : before ≡ n = cc in rw same refl
+digit_behind before b (c ∷ digits) n e =
+    elim (decimal_digit c) as (λ o. option_and_then (λ digit. decimal_after (10 * before + digit) digits) o ≡ Some n → option_and_then (λ digit. decimal_after (10 * before + digit) (digits ++ (b ∷ []))) o ≡ decimal_after n (b ∷ [])) [
+      | None ↦ λ none. cc
+      | Some digit ↦ λ some. digit_behind (10 * before + digit) b digits n some
+    ] e
+
+-- a text that is read as this number, and is one piece
+abbrev IsReadAs : ℕ → List ℕ → Type 0
+IsReadAs n text = (decimal_after 0 text ≡ Some n) × HasNoComma text
+
+glyph_no_comma : (d : ℕ) → HasNoComma ((48 + d) ∷ [])
+glyph_no_comma d = All-cons (λ x. (x == 44) ≡ false) (48 + d) [] (no_comma (48 + d) (λ e. omega arith)) (All-nil (λ x. (x == 44) ≡ false))
+
+one_digit_reads : (n : ℕ) → n < 10 → IsReadAs n ((48 + n) ∷ [])
+one_digit_reads n h = (one_digit 0 n h ∙ ap Some (omega arith), glyph_no_comma n)
+
+more_digits_read : (n : ℕ) (text : List ℕ) → 10 ≤ n → IsReadAs (n / 10) text → IsReadAs n (text ++ ((48 + n % 10) ∷ []))
+more_digits_read n text h front = (
+  digit_behind 0 (48 + n % 10) text (n / 10) front.0 ∙ one_digit (n / 10) (n % 10) (omega arith) ∙ ap Some (omega arith),
+  All-append (λ x. (x == 44) ≡ false) text ((48 + n % 10) ∷ []) front.1 (glyph_no_comma (n % 10)),
+)
+
+-- the decimal digits of a number are read as that number
+decimal_reads : (n : ℕ) → n < 2 ^ 64 → IsReadAs n (decimal n)
+decimal_reads n h = decimal_by_steps IsReadAs one_digit_reads more_digits_read n h
+
+number_no_comma : (n : ℕ) → n < 10 ^ 10 → HasNoComma (decimal n)
+number_no_comma n h = (decimal_reads n (omega arith)).1
+
+-- so are they where the number is within its limit
+number_reads : (limit n : ℕ) → n ≤ limit → limit < 10 ^ 10 → number_to limit (decimal n) ≡ Some n
+unfolding number_to decimal_number
+number_reads limit n within h =
+    let wide : n < 2 ^ 64 = omega arith in
+    let some : ltb 0 (length (decimal n)) ≡ true = lt-ltb 0 (length (decimal n)) (decimal_nonempty n wide) in
+    let few : leb (length (decimal n)) 10 ≡ true = le-leb (length (decimal n)) 10 (length-decimal-le 10 n (omega arith) (omega arith) wide) in
+    let small : leb n limit ≡ true = le-leb n limit within in
+    rw (some, few, (decimal_reads n wide).0, small) refl
+
+length-number_piece : (n : ℕ) → n < 10 ^ 10 → length (number_piece n) ≤ 11
+length-number_piece n h = omega (arith, length-decimal-le 10 n (omega arith) h (omega arith))
+
+-- ---- the stamp
+
+-- a stamp begins as none of the other lines do, is short, and is one piece
+stamp_parts : (stamp : List ℕ) → IsTrue (is_stamp stamp) → (starts_stamp stamp ≡ true) × (length stamp ≤ 32) × HasNoComma stamp
+stamp_parts stamp ok =
+    let outer = and_parts (starts_stamp stamp && leb (length stamp) 32) (list_all is_stamp_byte stamp) ok in
+    let inner = and_parts (starts_stamp stamp) (leb (length stamp) 32) outer.0 in (
+      inner.0,
+      leb-true (length stamp) 32 inner.1,
+      All-weaker (λ b. is_stamp_byte b ≡ true) (λ b. (b == 44) ≡ false) (λ b h. not-true (b == 44) (and_parts (is_printable b) (not (b == 44)) h).1) stamp (AllPass-from_list_all is_stamp_byte stamp outer.1),
+    )
+
+not_skipped : (stamp more : List ℕ) → starts_stamp stamp ≡ true → is_skipped (stamp ++ more) ≡ false
+not_skipped [] more h = cc
+not_skipped (b ∷ stamp) more h = not-true (b == 35) (and_parts (not (b == 40)) (not (b == 35)) h).1
+
+not_candump : (stamp more : List ℕ) → starts_stamp stamp ≡ true → is_candump (stamp ++ more) ≡ false
+not_candump [] more h = cc
+not_candump (b ∷ stamp) more h = not-true (b == 40) (and_parts (not (b == 40)) (not (b == 35)) h).0
+
+-- ---- the line
+
+-- the seven parts of a plain line, grouped to the right
+regroup : (s a b c d e f : List ℕ) → (((((s ++ a) ++ b) ++ c) ++ d) ++ e) ++ f ≡ s ++ (a ++ (b ++ (c ++ (d ++ (e ++ f)))))
+regroup s a b c d e f = simp append_assoc
+
+lengths : (s a b c d e f : List ℕ) → length ((((((s ++ a) ++ b) ++ c) ++ d) ++ e) ++ f) ≡ length s + length a + length b + length c + length d + length e + length f
+lengths s a b c d e f = simp length-append
+
+-- a line that is neither too long, nor skipped, nor of the other format
+plain_entry : (line : List ℕ) (packing : Packing) → length line ≤ 2048 → is_skipped line ≡ false → is_candump line ≡ false → entry line packing ≡ settled (plain line)
+unfolding entry
+plain_entry line packing short kept other =
+    let fits : ltb 2048 (length line) ≡ false = le-ltb 2048 (length line) short in
+    rw (fits, kept, other) refl
+
+module _ (p : Parts) (ok : IsPacketParts p) (short : length p.payload ≤ 8) where
+  stamp_is : (starts_stamp p.stamp ≡ true) × (length p.stamp ≤ 32) × HasNoComma p.stamp
+  stamp_is = stamp_parts p.stamp ok.packet_ok.stamp_ok
+
+  prio_small : p.id.prio < 10 ^ 10
+  prio_small = omega (arith, ok.packet_ok.prio_ok)
+
+  pgn_small : p.id.pgn < 10 ^ 10
+  pgn_small = omega (arith, ok.packet_ok.pgn_ok)
+
+  src_small : p.id.src < 10 ^ 10
+  src_small = omega (arith, ok.src_ok)
+
+  dst_small : p.id.dst < 10 ^ 10
+  dst_small = omega (arith, ok.dst_ok)
+
+  len_small : length p.payload < 10 ^ 10
+  len_small = omega arith
+
+  -- what stands behind the stamp
+  behind_stamp : List ℕ
+  behind_stamp =
+      number_piece p.id.prio ++ (number_piece p.id.pgn ++ (number_piece p.id.src ++ (number_piece p.id.dst ++ (number_piece (length p.payload) ++ flat_map byte_piece p.payload))))
+
+  line_is : plain_line p ≡ p.stamp ++ behind_stamp
+  unfolding plain_line behind_stamp
+  line_is = regroup p.stamp (number_piece p.id.prio) (number_piece p.id.pgn) (number_piece p.id.src) (number_piece p.id.dst) (number_piece (length p.payload)) (flat_map byte_piece p.payload)
+
+  line_short : length (plain_line p) ≤ 2048
+  unfolding plain_line
+  line_short =
+      rw (lengths p.stamp (number_piece p.id.prio) (number_piece p.id.pgn) (number_piece p.id.src) (number_piece p.id.dst) (number_piece (length p.payload)) (flat_map byte_piece p.payload))
+      (omega (arith, stamp_is.1, length-number_piece p.id.prio prio_small, length-number_piece p.id.pgn pgn_small, length-number_piece p.id.src src_small, length-number_piece p.id.dst dst_small, length-number_piece (length p.payload) len_small, length-bytes p.payload))
+
+  -- the pieces behind the stamp
+  behind : List (List ℕ)
+  behind =
+      decimal p.id.prio ∷ decimal p.id.pgn ∷ decimal p.id.src ∷ decimal p.id.dst ∷ decimal (length p.payload) ∷ map byte_digits p.payload
+
+  pieces_are : pieces (p.stamp ++ behind_stamp) ≡ p.stamp ∷ behind
+  unfolding behind_stamp behind
+  pieces_are =
+      next_piece p.stamp _ stamp_is.2
+      ∙ ap (λ more. p.stamp ∷ more)
+      (next_piece (decimal p.id.prio) _ (number_no_comma p.id.prio prio_small)
+      ∙ ap (λ more. decimal p.id.prio ∷ more)
+      (next_piece (decimal p.id.pgn) _ (number_no_comma p.id.pgn pgn_small)
+      ∙ ap (λ more. decimal p.id.pgn ∷ more)
+      (next_piece (decimal p.id.src) _ (number_no_comma p.id.src src_small)
+      ∙ ap (λ more. decimal p.id.src ∷ more)
+      (next_piece (decimal p.id.dst) _ (number_no_comma p.id.dst dst_small)
+      ∙ ap (λ more. decimal p.id.dst ∷ more)
+      (pieces_of_bytes (decimal (length p.payload)) p.payload (number_no_comma (length p.payload) len_small) ok.bytes_ok)))))
+
+  frame_read : plain_of p.stamp behind ≡ Ok (entries.Frame p)
+  unfolding behind plain_of header id_of
+  frame_read =
+      let bytes : bytes_of (length p.payload) (map byte_digits p.payload) ≡ Some p.payload =
+      bytes_of-pairs (length p.payload) (map byte_digits p.payload) (length-map p.payload byte_digits) ∙ bytes_read p.payload ok.bytes_ok in
+      rw (ok.packet_ok.stamp_ok, number_reads 7 p.id.prio ok.packet_ok.prio_ok (omega arith), number_reads 16777215 p.id.pgn ok.packet_ok.pgn_ok (omega arith), number_reads 255 p.id.src ok.src_ok (omega arith), number_reads 255 p.id.dst ok.dst_ok (omega arith), number_reads 8 (length p.payload) short (omega arith), bytes) refl
+
+  pub reads_back : entry (plain_line p) packings.Frames ≡ entries.Frame p
+  reads_back =
+      let kept : is_skipped (plain_line p) ≡ false = rw line_is (not_skipped p.stamp behind_stamp stamp_is.0) in
+      let other : is_candump (plain_line p) ≡ false = rw line_is (not_candump p.stamp behind_stamp stamp_is.0) in
+      let same : pieces (plain_line p) ≡ p.stamp ∷ behind = rw line_is pieces_are in
+      plain_entry (plain_line p) packings.Frames line_short kept other
+      ∙ ap (λ all. settled (plain_pieces all)) same
+      ∙ ap settled frame_read

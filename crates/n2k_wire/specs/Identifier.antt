@@ -1,0 +1,45 @@
+-- The 29 bits of a CAN identifier, as NMEA 2000 takes them over from ISO 11783-3. From the low end: the source
+-- address, PDU specific and PDU format (eight bits each), data page and reserved bit (two), the priority (three).
+use Rattle.std.specs.Prelude.{ℕ, ◌+◌, ◌*◌, ◌/◌, ◌%◌, ◌^◌, nat_lt, if◌then◌else◌}
+use Rattle.n2k_wire.specs.declared.identifier.Id.{Id}
+
+abbrev pub source : ℕ → ℕ
+source n = n % 2 ^ 8
+
+abbrev pub pdu_specific : ℕ → ℕ
+pdu_specific n = n / 2 ^ 8 % 2 ^ 8
+
+abbrev pub pdu_format : ℕ → ℕ
+pdu_format n = n / 2 ^ 16 % 2 ^ 8
+
+-- the reserved bit and the data page
+abbrev pub data_page : ℕ → ℕ
+data_page n = n / 2 ^ 24 % 2 ^ 2
+
+abbrev pub priority : ℕ → ℕ
+priority n = n / 2 ^ 26 % 2 ^ 3
+
+-- below this format a PDU is for one address (PDU1), from it on for all (PDU2)
+abbrev pub first_broadcast_format : ℕ
+first_broadcast_format = 240
+
+-- the address that stands for all
+abbrev pub everyone : ℕ
+everyone = 255
+
+-- what an identifier says. In a PDU1 the specific byte is the destination, in a PDU2 the low byte of the PGN.
+unfoldable pub split : ℕ → Id
+split n =
+    if nat_lt (pdu_format n) first_broadcast_format
+    then record {
+      prio = priority n;
+      pgn = data_page n * 2 ^ 16 + pdu_format n * 2 ^ 8;
+      src = source n;
+      dst = pdu_specific n;
+    }
+    else record {
+      prio = priority n;
+      pgn = data_page n * 2 ^ 16 + pdu_format n * 2 ^ 8 + pdu_specific n;
+      src = source n;
+      dst = everyone;
+    }

@@ -1,0 +1,15 @@
+-- Parts of a line, by the bytes that stand between them.
+use Rattle.std.specs.Prelude.{ℕ, ◌+◌, not, ◌==◌, if◌then◌else◌, List, [], ◌∷◌, take, drop, Option, Some, None, option_map, position}
+
+-- what stands before the first such byte, and what stands after it
+unfoldable pub cut_at : ℕ → List ℕ → Option (List ℕ × List ℕ)
+cut_at separator bytes = option_map (λ i. (take i bytes, drop (i + 1) bytes)) (position (λ b. b == separator) bytes)
+
+-- what follows this byte, where the bytes begin with it
+unfoldable pub after_byte : ℕ → List ℕ → Option (List ℕ)
+after_byte first [] = None
+after_byte first (b ∷ bytes) = if b == first then Some bytes else None
+
+-- the bytes from the first on that isn't a space, if there is one
+unfoldable pub skip_spaces : List ℕ → Option (List ℕ)
+skip_spaces bytes = option_map (λ i. drop i bytes) (position (λ b. not (b == 32)) bytes)

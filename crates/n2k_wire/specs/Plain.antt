@@ -1,0 +1,84 @@
+-- Plain lines: `stamp,prio,pgn,src,dst,len,b0,b1,..`, the format that canboat's programs read and write.
+use Rattle.std.specs.Prelude.{ℕ, ◌==◌, nat_le, if◌then◌else◌, List, [], ◌∷◌, ◌++◌, length, Option, Some, None, option_and_then, option_map, Result, Ok, Err}
+use Rattle.std.specs.List.{slice_split}
+use Rattle.std.specs.Result.{result_ok}
+use Rattle.hex.specs.Hex.{decode_sized}
+use Rattle.n2k_wire.specs.declared.entry.BadCause.{BadCause}
+use Rattle.n2k_wire.specs.declared.entry.BadCause.TheVariants as causes
+use Rattle.n2k_wire.specs.declared.entry.Entry.{Entry}
+use Rattle.n2k_wire.specs.declared.entry.Entry.TheVariants as entries
+use Rattle.n2k_wire.specs.declared.identifier.Id.{Id}
+use Rattle.n2k_wire.specs.Candump.{frame_payload}
+use Rattle.n2k_wire.specs.Digits.{decimal_number}
+use Rattle.n2k_wire.specs.Packet.{is_stamp, greatest_pgn, greatest_priority}
+use Rattle.n2k_wire.specs.Steps.{◌>>=◌, or_cause, holds_or, some_if}
+
+-- the most digits of a number
+abbrev pub most_number_digits : ℕ
+most_number_digits = 10
+
+-- the greatest address
+abbrev pub greatest_address : ℕ
+greatest_address = 255
+
+-- the pieces between the commas
+abbrev pub pieces : List ℕ → List (List ℕ)
+pieces text = slice_split (λ b. b == 44) text
+
+-- a piece as a number up to a limit
+unfoldable pub number_to : ℕ → List ℕ → Option ℕ
+number_to limit piece = option_and_then (λ n. some_if (nat_le n limit) n) (decimal_number most_number_digits piece)
+
+-- a piece of two hexadecimal digits, as the one byte that they spell
+unfoldable pub pair : List ℕ → Option (List ℕ)
+pair piece = result_ok (decode_sized piece 1)
+
+-- each piece as a byte
+unfoldable pub pairs : List (List ℕ) → Option (List ℕ)
+pairs [] = Some []
+pairs (piece ∷ more) = option_and_then (λ byte. option_map (λ bytes. byte ++ bytes) (pairs more)) (pair piece)
+
+-- the five pieces behind the stamp, and the pieces behind those
+pub record Header : Type 0 where
+  pub prio : List ℕ
+  pub pgn : List ℕ
+  pub src : List ℕ
+  pub dst : List ℕ
+  pub len : List ℕ
+  pub more : List (List ℕ)
+
+unfoldable pub header : List (List ℕ) → Option Header
+header (prio ∷ pgn ∷ src ∷ dst ∷ len ∷ more) =
+    Some (record { prio = prio; pgn = pgn; src = src; dst = dst; len = len; more = more })
+header fewer = None
+
+-- the identifier of four numbers in their ranges
+unfoldable pub id_of : Header → Result Id BadCause
+id_of h = do
+  prio ← or_cause causes.Number (number_to greatest_priority h.prio)
+  pgn ← or_cause causes.Number (number_to greatest_pgn h.pgn)
+  src ← or_cause causes.Number (number_to greatest_address h.src)
+  dst ← or_cause causes.Number (number_to greatest_address h.dst)
+  Ok (record { prio = prio; pgn = pgn; src = src; dst = dst })
+
+-- exactly so many pieces, each as a byte
+unfoldable pub bytes_of : ℕ → List (List ℕ) → Option (List ℕ)
+bytes_of len more = if length more == len then pairs more else None
+
+-- the entry of a plain line whose pieces are these, or the first of its causes
+unfoldable pub plain_of : List ℕ → List (List ℕ) → Result Entry BadCause
+plain_of stamp more = do
+  stamped ← holds_or causes.Stamp (is_stamp stamp)
+  h ← or_cause causes.Form (header more)
+  id ← id_of h
+  len ← or_cause causes.Number (number_to frame_payload h.len)
+  bytes ← or_cause causes.Data (bytes_of len h.more)
+  Ok (entries.Frame (record { stamp = stamp; id = id; payload = bytes }))
+
+-- the same of the pieces as a list, which is never empty
+abbrev pub plain_pieces : List (List ℕ) → Result Entry BadCause
+plain_pieces [] = Err causes.Stamp
+plain_pieces (stamp ∷ more) = plain_of stamp more
+
+abbrev pub plain : List ℕ → Result Entry BadCause
+plain line = plain_pieces (pieces line)

@@ -1,0 +1,222 @@
+//! Lines of can-utils' `candump -L`: `(seconds.fraction) interface ID#DATA`.
+ghost use Rattle.std.specs.Prelude.{◌≡◌, ◌≤◌, ◌<◌, ◌^◌, IfSome, IfOk, length, not, position, option_map, Some, true};
+ghost use Rattle.std.specs.Char.{is_ascii_hexdigit};
+ghost use Rattle.std.specs.List.{list_all};
+ghost use Rattle.n2k_wire.specs.Candump.{candump, is_interface_byte, is_interface, stamped, framed, of_number, identifier, is_end, is_ending, digits_len, payload, is_other_frame, frame_of};
+ghost use Rattle.std.specs.Int.{w32, from_be_bytes};
+ghost use Rattle.std.specs.Result.{result_ok};
+ghost use Rattle.hex.specs.Hex.{decode_of};
+ghost use Rattle.n2k_wire.specs.Moments.{plain_moment};
+ghost use Rattle.n2k_wire.specs.Stamp.{IsMoment};
+ghost use Rattle.n2k_wire.specs.Entry.{IsShort};
+ghost use Rattle.n2k_wire.specs.Steps.{Finds, Gives};
+
+use crate::digits::{are_hex_digits, decode_digits, is_hex_digit};
+use crate::entry::{BadCause, Entry};
+use crate::identifier::split_id;
+use crate::packet::Packet;
+use crate::pieces::{after_byte, cut_at, skip_spaces};
+use crate::stamp::{Moment, read_moment, utc_text};
+use arrayvec::ArrayVec;
+
+/// The most bytes of an interface's name.
+const LONGEST_INTERFACE: usize = 15;
+
+/// The most data bytes of a frame.
+const FRAME_PAYLOAD: usize = 8;
+
+/// The first number that isn't a CAN identifier of 29 bits.
+const FIRST_ERROR_FRAME: u32 = 0x2000_0000;
+
+/// The first number with the flag of an extended identifier, which `candump -L` doesn't print.
+const FIRST_OTHER: u32 = 0x4000_0000;
+
+fn is_interface_byte(byte: u8) -> bool
+    ensures { result ≡ is_interface_byte byte }
+{
+    byte >= b'!' && byte <= b'~'
+}
+
+fn are_interface_bytes(name: &[u8]) -> bool
+    ensures { result ≡ list_all is_interface_byte name.now }
+{
+    name.iter().all(|byte| is_interface_byte(*byte))
+}
+
+/// Whether a text is the name of an interface: 1 to 15 bytes from `!` to `~`.
+#[tactic(auto, unfolding(crate::specs::Candump::is_interface))]
+pub fn is_interface(name: &[u8]) -> bool
+    ensures { result ≡ is_interface name.now }
+{
+    !name.is_empty() && name.len() <= LONGEST_INTERFACE && are_interface_bytes(name)
+}
+
+/// What stands between the parentheses, and what follows them.
+#[tactic(auto, unfolding(crate::specs::Candump::stamped))]
+fn read_stamped(line: &[u8]) -> Option<(&[u8], &[u8])>
+    ensures { Finds (λ x. (x.0.now, x.1.now)) result (stamped line.now) }
+{
+    let inner = after_byte(b'(', line)?;
+    cut_at(b')', inner)
+}
+
+/// The text up to its first `#` and behind it, after spaces, an interface and spaces.
+#[tactic(auto, unfolding(crate::specs::Candump::framed))]
+fn read_framed(text: &[u8]) -> Option<(&[u8], &[u8])>
+    ensures { Finds (λ x. (x.0.now, x.1.now)) result (framed text.now) }
+{
+    let text = skip_spaces(after_byte(b' ', text)?)?;
+    let (interface, text) = cut_at(b' ', text)?;
+    if !is_interface(interface) {
+        return None;
+    }
+    cut_at(b'#', skip_spaces(text)?)
+}
+
+fn of_number(number: u32) -> Result<Option<u32>, BadCause>
+    ensures value { Gives (λ known. known) result (of_number number) }
+    ensures bits { IfOk result (λ known. IfSome known (λ n. n < 2 ^ 29)) }
+{
+    if number < FIRST_ERROR_FRAME {
+        Ok(Some(number))
+    } else if number < FIRST_OTHER {
+        Ok(None)
+    } else {
+        Err(BadCause::Identifier)
+    }
+}
+
+/// The number of eight hexadecimal digits.
+fn read_word(digits: &[u8]) -> u32
+    requires eight { length digits.now ≡ 8 }
+    requires hexadecimal { list_all is_ascii_hexdigit digits.now ≡ true }
+    ensures { option_map (from_be_bytes w32) (result_ok (decode_of digits.now)) ≡ Some result }
+{
+    match decode_digits(digits) {
+        Some(bytes) => {
+            let [a, b, c, d] = bytes.as_slice() else {
+                unreachable!()
+            };
+            u32::from_be_bytes([*a, *b, *c, *d])
+        }
+        None => unreachable!(),
+    }
+}
+
+/// The 29 bits of an extended identifier, or none where the frame is skipped.
+#[tactic(auto, unfolding(crate::specs::Candump::identifier))]
+fn read_identifier(digits: &[u8]) -> Result<Option<u32>, BadCause>
+    ensures value { Gives (λ known. known) result (identifier digits.now) }
+    ensures bits { IfOk result (λ known. IfSome known (λ n. n < 2 ^ 29)) }
+{
+    if !are_hex_digits(digits) {
+        return Err(BadCause::Identifier);
+    }
+    match digits.len() {
+        3 => Ok(None),
+        8 => of_number(read_word(digits)),
+        _ => Err(BadCause::Identifier),
+    }
+}
+
+// Whether nothing follows, or a space and any bytes.
+fn is_end(rest: &[u8]) -> bool
+    ensures { result ≡ is_end rest.now }
+{
+    match rest {
+        [] => true,
+        [byte, ..] => *byte == b' ',
+    }
+}
+
+/// Whether this may follow the data of a frame.
+#[tactic(auto, unfolding(crate::specs::Candump::is_ending))]
+fn is_ending(rest: &[u8]) -> bool
+    ensures { result ≡ is_ending rest.now }
+{
+    match rest {
+        [] => true,
+        [byte] => *byte == b' ',
+        [byte, code, rest @ ..] => {
+            *byte == b' ' || *byte == b'_' && code.is_ascii_hexdigit() && is_end(rest)
+        }
+    }
+}
+
+fn place_of_other(text: &[u8]) -> Option<usize>
+    ensures { result ≡ position (λ b. not (is_ascii_hexdigit b)) text.now }
+{
+    text.iter().position(|byte| !is_hex_digit(*byte))
+}
+
+/// How many hexadecimal digits a text begins with.
+fn digits_len(text: &[u8]) -> usize
+    ensures value { result ≡ digits_len text.now }
+    ensures within { result ≤ length text.now }
+{
+    // Mostly the data end the line, and then one pass without branches tells it.
+    if are_hex_digits(text) {
+        return text.len();
+    }
+    match place_of_other(text) {
+        Some(at) => at,
+        None => text.len(),
+    }
+}
+
+/// Whether a frame of another kind follows the first `#`: an FD frame (`#`) or a remote frame (`R`, `r`).
+#[tactic(auto, unfolding(crate::specs::Candump::is_other_frame))]
+fn is_other_frame(text: &[u8]) -> bool
+    ensures { result ≡ is_other_frame text.now }
+{
+    match text {
+        [] => false,
+        [byte, ..] => *byte == b'#' || *byte == b'R' || *byte == b'r',
+    }
+}
+
+/// The data of a frame.
+#[tactic(auto, unfolding(crate::specs::Candump::payload))]
+fn read_payload(text: &[u8]) -> Option<ArrayVec<u8, FRAME_PAYLOAD>>
+    ensures value { Finds (λ payload. payload.items) result (payload text.now) }
+    ensures short { IfSome result (λ payload. length payload.items ≤ 8) }
+{
+    let (digits, rest) = text.split_at(digits_len(text));
+    if digits.len() > 2 * FRAME_PAYLOAD || !is_ending(rest) {
+        return None;
+    }
+    decode_digits(digits)
+}
+
+/// The frame of these parts, or one that is skipped.
+#[inline]
+#[tactic(auto, unfolding(crate::specs::Candump::frame_of))]
+fn frame_of(seen: Moment, known: Option<u32>, text: &[u8]) -> Result<Entry, BadCause>
+    requires moment { IsMoment (plain_moment seen) }
+    requires bits { IfSome known (λ n. n < 2 ^ 29) }
+    ensures entry { Gives (λ e. e) result (frame_of (plain_moment seen) known text.now) }
+    ensures short { IfOk result IsShort }
+{
+    let Some(identifier) = known else {
+        return Ok(Entry::Skip);
+    };
+    if is_other_frame(text) {
+        return Ok(Entry::Skip);
+    }
+    let data = read_payload(text).ok_or(BadCause::Data)?;
+    let id = split_id(identifier);
+    Ok(Entry::Frame(Packet::of_parts(&utc_text(seen), id, data.as_slice())))
+}
+
+/// The entry of a candump line, or the first of its causes.
+#[tactic(auto, unfolding(crate::specs::Candump::candump))]
+pub fn read_candump(line: &[u8]) -> Result<Entry, BadCause>
+    ensures entry { Gives (λ e. e) result (candump line.now) }
+    ensures short { IfOk result IsShort }
+{
+    let (stamp, text) = read_stamped(line).ok_or(BadCause::Stamp)?;
+    let seen = read_moment(stamp).ok_or(BadCause::Stamp)?;
+    let (digits, text) = read_framed(text).ok_or(BadCause::Form)?;
+    let known = read_identifier(digits)?;
+    frame_of(seen, known, text)
+}

@@ -1,0 +1,97 @@
+//! Numbers as digits.
+ghost use Rattle.std.specs.Prelude.{◌≡◌, ◌<◌, ◌≤◌, ◌^◌, ◌*◌, ◌%◌, IsSome, true, length, IfSome};
+ghost use Rattle.std.specs.Char.{is_ascii_hexdigit};
+ghost use Rattle.std.specs.List.{list_all};
+ghost use Rattle.std.specs.Result.{result_ok};
+ghost use Rattle.hex.specs.Hex.{hex_digit_value, decode_of};
+ghost use Rattle.n2k_wire.specs.HexValue.{hex_value};
+ghost use Rattle.n2k_wire.specs.Steps.{Finds};
+ghost use Rattle.n2k_wire.specs.Digits.{decimal_after, decimal_digit, decimal_number};
+
+use arrayvec::ArrayVec;
+
+/// The number that 1 to `most` decimal digits make.
+#[tactic(auto, unfolding(crate::specs::Digits::decimal_number))]
+pub fn decimal_number(most: usize, digits: &[u8]) -> Option<u64>
+    requires { most ≤ 18 }
+    ensures value { result ≡ decimal_number most digits.now }
+    ensures bound { IfSome result (λ n. n < 10 ^ length digits.now) }
+{
+    if digits.is_empty() || digits.len() > most {
+        return None;
+    }
+    decimal_digits(digits)
+}
+
+fn decimal_digits(digits: &[u8]) -> Option<u64>
+    requires { length digits.now ≤ 18 }
+    ensures value { result ≡ decimal_after 0 digits.now }
+    ensures bound { IfSome result (λ n. n < 10 ^ length digits.now) }
+{
+    let mut number = 0u64;
+    for byte in digits {
+        match decimal_digit(*byte) {
+            Some(digit) => number = 10 * number + digit,
+            None => return None,
+        }
+    }
+    Some(number)
+}
+
+#[tactic(auto, unfolding(crate::specs::Digits::decimal_digit))]
+fn decimal_digit(byte: u8) -> Option<u64>
+    ensures value { result ≡ decimal_digit byte }
+    ensures small { IfSome result (λ digit. digit ≤ 9) }
+{
+    if byte.is_ascii_digit() {
+        Some(u64::from(byte - b'0'))
+    } else {
+        None
+    }
+}
+
+/// Whether a byte is a hexadecimal digit, of either case.
+pub fn is_hex_digit(byte: u8) -> bool
+    ensures { result ≡ is_ascii_hexdigit byte }
+{
+    (byte.wrapping_sub(b'0') < 10) | (byte.wrapping_sub(b'A') < 6) | (byte.wrapping_sub(b'a') < 6)
+}
+
+/// Whether each byte is a hexadecimal digit. It looks at each, without a branch that goes by the kind of the
+/// digit: that would be mispredicted all the time, since the bytes of a bus are as good as random.
+pub fn are_hex_digits(digits: &[u8]) -> bool
+    ensures { result ≡ list_all is_ascii_hexdigit digits.now }
+{
+    let mut all = true;
+    for byte in digits {
+        all &= is_hex_digit(*byte);
+    }
+    all
+}
+
+// The value of a hexadecimal digit, by the same steps for digits and letters.
+fn hex_value(digit: u8) -> u8
+    requires { is_ascii_hexdigit digit ≡ true }
+    ensures value { result ≡ hex_value digit }
+    ensures bound { result < 16 }
+{
+    digit % 16 + digit / 64 * 9
+}
+
+/// The bytes that up to eight pairs of hexadecimal digits spell, as `hex` decodes them.
+pub fn decode_digits(digits: &[u8]) -> Option<ArrayVec<u8, 8>>
+    requires short { length digits.now ≤ 16 }
+    requires hexadecimal { list_all is_ascii_hexdigit digits.now ≡ true }
+    ensures value { Finds (λ bytes. bytes.items) result (result_ok (decode_of digits.now)) }
+    ensures len { IfSome result (λ bytes. length digits.now ≡ 2 * length bytes.items) }
+    ensures even { length digits.now % 2 ≡ 0 → IsSome result }
+{
+    if digits.len() % 2 == 1 {
+        return None;
+    }
+    let mut bytes = ArrayVec::new();
+    for i in 0..digits.len() / 2 {
+        bytes.push(hex_value(digits[2 * i]) * 16 + hex_value(digits[2 * i + 1]));
+    }
+    Some(bytes)
+}

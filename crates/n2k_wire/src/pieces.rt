@@ -1,0 +1,49 @@
+//! Parts of a line.
+ghost use Rattle.std.specs.Prelude.{◌≡◌, ◌==◌, not, position};
+ghost use Rattle.n2k_wire.specs.Steps.{Finds};
+ghost use Rattle.n2k_wire.specs.Pieces.{cut_at, after_byte, skip_spaces};
+
+fn place_of(byte: u8, bytes: &[u8]) -> Option<usize>
+    ensures { result ≡ position (λ b. b == byte) bytes.now }
+{
+    bytes.iter().position(|b| *b == byte)
+}
+
+fn place_of_other(byte: u8, bytes: &[u8]) -> Option<usize>
+    ensures { result ≡ position (λ b. not (b == byte)) bytes.now }
+{
+    bytes.iter().position(|b| *b != byte)
+}
+
+/// What stands before the first such byte, and what stands after it.
+#[tactic(auto, unfolding(crate::specs::Pieces::cut_at))]
+pub fn cut_at(separator: u8, bytes: &[u8]) -> Option<(&[u8], &[u8])>
+    ensures { Finds (λ x. (x.0.now, x.1.now)) result (cut_at separator bytes.now) }
+{
+    match place_of(separator, bytes) {
+        Some(at) => Some((bytes.split_at(at).0, bytes.split_at(at + 1).1)),
+        None => None,
+    }
+}
+
+/// What follows this byte, where the bytes begin with it.
+#[tactic(auto, unfolding(crate::specs::Pieces::after_byte))]
+pub fn after_byte(first: u8, bytes: &[u8]) -> Option<&[u8]>
+    ensures { Finds (λ x. x.now) result (after_byte first bytes.now) }
+{
+    match bytes {
+        [b, rest @ ..] if *b == first => Some(rest),
+        _ => None,
+    }
+}
+
+/// The bytes from the first on that isn't a space.
+#[tactic(auto, unfolding(crate::specs::Pieces::skip_spaces))]
+pub fn skip_spaces(bytes: &[u8]) -> Option<&[u8]>
+    ensures { Finds (λ x. x.now) result (skip_spaces bytes.now) }
+{
+    match place_of_other(b' ', bytes) {
+        Some(at) => Some(bytes.split_at(at).1),
+        None => None,
+    }
+}

@@ -1,0 +1,143 @@
+//! Plain lines: `stamp,prio,pgn,src,dst,len,b0,b1,..`, the format that canboat's programs read and write.
+ghost use Rattle.std.specs.Prelude.{◌≡◌, ◌≤◌, [], ◌∷◌, length, IfSome, IfOk};
+ghost use Rattle.n2k_wire.specs.Plain.{plain, pieces, number_to, pair, header, id_of, bytes_of};
+ghost use Rattle.n2k_wire.specs.PlainPieces.{pieces_left, plain_header};
+ghost use Rattle.n2k_wire.specs.Entry.{IsShort};
+ghost use Rattle.n2k_wire.specs.Steps.{Finds, Gives};
+
+use crate::digits::decimal_number;
+use crate::entry::{BadCause, Entry};
+use crate::identifier::Id;
+use crate::packet::{GREATEST_PGN, GREATEST_PRIORITY, Packet, is_stamp};
+use crate::pieces::cut_at;
+use arrayvec::ArrayVec;
+
+/// The most data bytes of a line.
+const LONGEST_DATA: usize = 8;
+
+/// The greatest address.
+const GREATEST_ADDRESS: u64 = 255;
+
+/// The five pieces behind the stamp, and what is left behind those: nothing, or a text of pieces.
+#[derive(Clone, Copy)]
+struct Header<'a> {
+    prio: &'a [u8],
+    pgn: &'a [u8],
+    src: &'a [u8],
+    dst: &'a [u8],
+    len: &'a [u8],
+    more: Option<&'a [u8]>,
+}
+
+/// The first piece of a text, and the text of those behind it, if there are any.
+fn first_piece(text: &[u8]) -> (&[u8], Option<&[u8]>)
+    ensures { pieces text.now ≡ result.0.now ∷ pieces_left result.1 }
+{
+    match cut_at(b',', text) {
+        Some((piece, more)) => (piece, Some(more)),
+        None => (text, None),
+    }
+}
+
+/// A piece as a number up to a limit.
+#[tactic(auto, unfolding(crate::specs::Plain::number_to))]
+fn number_to(limit: u64, piece: &[u8]) -> Option<u64>
+    ensures value { result ≡ number_to limit piece.now }
+    ensures bound { IfSome result (λ n. n ≤ limit) }
+{
+    let number = decimal_number(10, piece)?;
+    if number > limit {
+        return None;
+    }
+    Some(number)
+}
+
+#[tactic(auto, unfolding(crate::specs::Plain::header))]
+fn read_header(text: Option<&[u8]>) -> Option<Header<'_>>
+    ensures { Finds plain_header result (header (pieces_left text.entry)) }
+{
+    let (prio, text) = first_piece(text?);
+    let (pgn, text) = first_piece(text?);
+    let (src, text) = first_piece(text?);
+    let (dst, text) = first_piece(text?);
+    let (len, more) = first_piece(text?);
+    Some(Header {
+        prio,
+        pgn,
+        src,
+        dst,
+        len,
+        more,
+    })
+}
+
+/// The identifier of four numbers in their ranges.
+#[tactic(auto, unfolding(crate::specs::Plain::id_of))]
+fn read_id(header: &Header<'_>) -> Result<Id, BadCause>
+    ensures value { Gives (λ id. id) result (id_of (plain_header header.now)) }
+    ensures prio { IfOk result (λ id. id.prio ≤ 7) }
+    ensures pgn { IfOk result (λ id. id.pgn ≤ 16_777_215) }
+{
+    let prio = number_to(u64::from(GREATEST_PRIORITY), header.prio).ok_or(BadCause::Number)? as u8;
+    let pgn = number_to(u64::from(GREATEST_PGN), header.pgn).ok_or(BadCause::Number)? as u32;
+    let src = number_to(GREATEST_ADDRESS, header.src).ok_or(BadCause::Number)? as u8;
+    let dst = number_to(GREATEST_ADDRESS, header.dst).ok_or(BadCause::Number)? as u8;
+    Ok(Id {
+        prio,
+        pgn,
+        src,
+        dst,
+    })
+}
+
+/// A piece of two hexadecimal digits, as the one byte that they spell.
+#[tactic(auto, unfolding(crate::specs::Plain::pair))]
+fn read_pair(piece: &[u8]) -> Option<u8>
+    ensures { Finds (λ byte. byte ∷ []) result (pair piece.now) }
+{
+    let mut byte = [0; 1];
+    hex::decode_to_slice(piece, &mut byte).ok()?;
+    Some(byte[0])
+}
+
+/// Exactly so many pieces, each as a byte.
+fn read_bytes(len: u64, more: Option<&[u8]>) -> Option<ArrayVec<u8, LONGEST_DATA>>
+    requires { len ≤ 8 }
+    ensures value { Finds (λ bytes. bytes.items) result (bytes_of len (pieces_left more.entry)) }
+    ensures short { IfSome result (λ bytes. length bytes.items ≤ 8) }
+{
+    let mut bytes = ArrayVec::new();
+    let mut left = more;
+    for _ in 0..len {
+        let Some(text) = left else {
+            return None;
+        };
+        let (piece, rest) = first_piece(text);
+        match read_pair(piece) {
+            Some(byte) => bytes.push(byte),
+            None => return None,
+        }
+        left = rest;
+    }
+    match left {
+        Some(_) => None,
+        None => Some(bytes),
+    }
+}
+
+/// The entry of a plain line, or the first of its causes.
+#[tactic(auto, unfolding(crate::specs::Plain::plain_of))]
+pub fn read_plain(line: &[u8]) -> Result<Entry, BadCause>
+    ensures entry { Gives (λ e. e) result (plain line.now) }
+    ensures short { IfOk result IsShort }
+{
+    let (stamp, more) = first_piece(line);
+    if !is_stamp(stamp) {
+        return Err(BadCause::Stamp);
+    }
+    let header = read_header(more).ok_or(BadCause::Form)?;
+    let id = read_id(&header)?;
+    let len = number_to(LONGEST_DATA as u64, header.len).ok_or(BadCause::Number)?;
+    let data = read_bytes(len, header.more).ok_or(BadCause::Data)?;
+    Ok(Entry::Frame(Packet::of_parts(stamp, id, data.as_slice())))
+}
