@@ -17,7 +17,7 @@ mod decimal;
 mod definition;
 mod fault;
 mod field;
-mod json;
+mod line;
 mod resolution;
 mod shown;
 mod table;
@@ -27,7 +27,7 @@ mod tree;
 pub use decimal::decimal_text;
 pub use definition::{Definition, Kind};
 pub use fault::TableFault;
-pub use json::json_line;
+pub use line::json_line;
 pub use shown::{Fields, Shown};
 pub use table::Table;
 

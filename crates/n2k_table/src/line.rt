@@ -10,7 +10,6 @@ use crate::definition::Definition;
 use crate::field::Field;
 use crate::shown::Shown;
 use crate::table::Table;
-use crate::text::text_json;
 use itoa::Buffer;
 use n2k_wire::{Id, Packet};
 use std::alloc::{AllocError, Global};
@@ -41,7 +40,6 @@ fn push_id(id: Id, line: &mut Vec<u8>) -> Result<(), AllocError>
 // Appends what stands before the fields.
 #[tactic(auto, using(std::proofs::Common::append_assoc), unfolding(crate::specs::Json::head_json))]
 fn push_head(
-    alloc: Global,
     definition: &Definition<'_>,
     packet: &Packet,
     line: &mut Vec<u8>,
@@ -49,7 +47,7 @@ fn push_head(
     ensures { OnOk result (line.new.items ≡ line.old.items ++ head_json definition.now packet.now) }
 {
     line.extend_from_slice(b"{\"timestamp\":")?;
-    push_stamp(alloc, packet, line)?;
+    push_stamp(packet, line)?;
     push_id(packet.id(), line)?;
     line.extend_from_slice(b",\"description\":")?;
     line.extend_from_slice(definition.description_json())?;
@@ -57,12 +55,19 @@ fn push_head(
     Ok(())
 }
 
-// Appends the stamp as a text.
-fn push_stamp(alloc: Global, packet: &Packet, line: &mut Vec<u8>) -> Result<(), AllocError>
+// Appends the stamp as a text. Its bytes are printable, so a quote and a backslash alone are escaped.
+fn push_stamp(packet: &Packet, line: &mut Vec<u8>) -> Result<(), AllocError>
     ensures { OnOk result (line.new.items ≡ line.old.items ++ text_json packet.now.stamp) }
 {
-    let stamp = std::str::from_utf8(packet.stamp()).unwrap();
-    line.extend_from_slice(&text_json(alloc, stamp)?)
+    line.push(b'"')?;
+    for byte in packet.stamp() {
+        if *byte == b'"' || *byte == b'\\' {
+            line.push(b'\\')?;
+        }
+        line.push(*byte)?;
+    }
+    line.push(b'"')?;
+    Ok(())
 }
 
 // Appends what a field shows as a value.
@@ -146,7 +151,7 @@ pub fn json_line(
         unreachable!();
     };
     let mut line = Vec::with_capacity(alloc, USUAL_LINE)?;
-    push_head(alloc, &definition, packet, &mut line)?;
+    push_head(&definition, packet, &mut line)?;
     push_fields(definition.stored_fields(), data, empty, &mut line)?;
     line.extend_from_slice(b"}\n")?;
     out.extend_from_slice(&line)?;

@@ -3,7 +3,7 @@ use Rattle.std.specs.List.{filter_map, join_with_byte}
 use Rattle.n2k_table.specs.Shown.{all_shown}
 use Rattle.n2k_table.specs.Json.{member_json}
 use Rattle.n2k_table.proofs.Members.{members_from-joined, is_done}
-use Rattle.n2k_table.proofs.json.push_fields.Goals as goal
+use Rattle.n2k_table.proofs.line.push_fields.Goals as goal
 
 pub returns : goal.returns
 returns c =

@@ -2,7 +2,7 @@ use Rattle.std.proofs.Common.{codes}
 use Rattle.n2k_table.specs.Json.{id_json, head_json}
 use Rattle.n2k_table.specs.Text.{text_json}
 use Rattle.n2k_table.proofs.Members.{six_parts}
-use Rattle.n2k_table.proofs.json.push_head.Goals as goal
+use Rattle.n2k_table.proofs.line.push_head.Goals as goal
 
 pub returns : goal.returns
 unfolding head_json

@@ -4,7 +4,7 @@ use Rattle.std.specs.List.{filter_map}
 use Rattle.n2k_table.specs.Json.{member_json}
 use Rattle.n2k_table.specs.Shown.{all_shown}
 use Rattle.n2k_table.proofs.Members.{members_from}
-use Rattle.n2k_table.proofs.json.push_fields.Given as goal
+use Rattle.n2k_table.proofs.line.push_fields.Given as goal
 
 abbrev pub invariant-loop-field : goal.invariant-loop-field
 invariant-loop-field l =
