@@ -1,6 +1,7 @@
+pub mod Decoding
 pub mod FirstByte
 pub mod Gained
 pub mod Owed
-pub mod PlainFront
-pub mod PlainSteps
+pub mod RunFront
+pub mod RunSteps
 pub mod Splits

@@ -1,9 +1,12 @@
+pub mod Decoded
 pub mod Device
 pub mod Entries
 pub mod Lines
+pub mod Made
 pub mod Memory
-pub mod PlainRun
+pub mod Plain
 pub mod Progress
 pub mod Reading
 pub mod Reports
+pub mod Single
 pub mod Writing

@@ -5,6 +5,8 @@ use Rattle.n2k_wire.specs.declared.entry.BadCause.{BadCause}
 use Rattle.n2k_wire.specs.declared.entry.BadCause.TheVariants as causes
 use Rattle.n2k_wire.specs.declared.entry.Entry.{Entry}
 use Rattle.n2k_wire.specs.declared.entry.Entry.TheVariants.{Skip, Bad, Frame}
+use Rattle.n2k_wire.specs.declared.entry.Packing.TheVariants.{Frames}
+use Rattle.n2k_run.specs.Entries.{entries}
 use Rattle.n2k_run.specs.declared.counts.Counts.{Counts}
 
 -- a cause's number and word
@@ -40,3 +42,7 @@ report_of number (Frame packet) = []
 -- the reports of entries, whose first is that of line `first`
 abbrev pub reports_from : ℕ → List Entry → List ℕ
 reports_from first entries = flat_map (λ numbered. report_of numbered.0 numbered.1) (enumerate_from first entries)
+
+-- a report for each bad line of a log, in the order of its lines
+unfoldable pub reports : List ℕ → List ℕ
+reports log = reports_from 1 (entries Frames log)

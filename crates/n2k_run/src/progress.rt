@@ -4,17 +4,19 @@ ghost use Rattle.std.specs.Io.KnownBytes.{Appends};
 ghost use Rattle.n2k_wire.specs.Entry.{entry};
 ghost use Rattle.n2k_wire.specs.declared.entry.Packing.TheVariants.{Frames};
 ghost use Rattle.n2k_run.specs.Device.{HasFailed};
-ghost use Rattle.n2k_run.specs.PlainRun.{text_of};
-ghost use Rattle.n2k_run.specs.Progress.{plain_counted, AreCounts, IsDeviceFault};
+ghost use Rattle.n2k_run.specs.Made.{text_of};
+ghost use Rattle.n2k_run.specs.Progress.{counted, AreCounts, IsDeviceFault};
 ghost use Rattle.n2k_run.specs.Reports.{report_of};
 ghost use Rattle.n2k_run.specs.Writing.{AppendsFront};
 
 use crate::counts::Counts;
 use crate::device::Sink;
 use crate::fault::RunFault;
+use crate::maker::Maker;
 use crate::texts::bad_text;
+use crate::worth::Worth;
 use crate::writing::write_all;
-use n2k_wire::{Entry, Packing, plain_text, read_line};
+use n2k_wire::{Entry, Packing, read_line};
 use std::alloc::{AllocError, Global};
 
 /// The most lines of a log.
@@ -45,13 +47,18 @@ impl Progress {
         }
     }
 
-    /// One more line, which is printed where it is a frame and reported where it is bad.
-    pub(crate) fn take_line(&mut self, alloc: Global, line: &[u8]) -> Result<(), AllocError>
+    /// One more line: the maker's text where it is a frame, and a report where it is bad.
+    pub(crate) fn take_line<M: Maker>(
+        &mut self,
+        alloc: Global,
+        maker: &M,
+        line: &[u8],
+    ) -> Result<(), AllocError>
         requires few { self.old.counts.lines < MOST_LINES }
         requires counted { AreCounts self.old.counts }
-        ensures counts { OnOk result (self.new.counts ≡ plain_counted self.old.counts (entry line.now Frames)) }
+        ensures counts { OnOk result (self.new.counts ≡ counted (M.worth maker.now) self.old.counts (entry line.now Frames)) }
         ensures counted { OnOk result (AreCounts self.new.counts) }
-        ensures text { OnOk result (self.new.text.items ≡ self.old.text.items ++ text_of (entry line.now Frames)) }
+        ensures text { OnOk result (self.new.text.items ≡ self.old.text.items ++ text_of (M.text maker.now) (entry line.now Frames)) }
         ensures report { OnOk result (self.new.report.items ≡ self.old.report.items ++ report_of (self.old.counts.lines + 1) (entry line.now Frames)) }
     {
         self.counts.lines += 1;
@@ -62,8 +69,12 @@ impl Progress {
                 bad_text(alloc, self.counts.lines, cause, &mut self.report)
             }
             Entry::Frame(packet) => {
-                self.counts.messages += 1;
-                plain_text(alloc, &packet, &mut self.text)
+                match maker.make(alloc, &packet, &mut self.text)? {
+                    Worth::Message => self.counts.messages += 1,
+                    Worth::Unknown => self.counts.unknown += 1,
+                    Worth::Neither => {}
+                }
+                Ok(())
             }
         }
     }

@@ -1,5 +1,5 @@
 -- The decimal text of x / 10 ^ e is one text, and no other is.
-use Rattle.std.proofs.Common.{◌≡◌, ◌≢◌, ℕ, zero, suc, ◌+◌, ◌-◌, ◌*◌, ◌%◌, ◌^◌, ◌<◌, ◌≤◌, ℤ, List, [], ◌∷◌, ◌++◌, length, get_or, take, drop, replicate, refl, sym, ap, ◌∙◌, arith, inl, inr, lit<}
+use Rattle.std.proofs.Common.{◌≡◌, ◌≢◌, ℕ, zero, suc, ◌+◌, ◌-◌, ◌*◌, ◌%◌, ◌^◌, ◌<◌, ◌≤◌, ℤ, List, [], ◌∷◌, ◌++◌, length, get_or, take, drop, replicate, refl, sym, ap, ◌∙◌, append_assoc, arith, inl, inr, lit<}
 use Rattle.std.specs.Int.{w128}
 use Rattle.std.specs.Prelude.{decimal, unsigned_abs, FitsSigned}
 use Rattle.std.proofs.lemmas.Int.{ints}
@@ -11,7 +11,7 @@ use Rattle.std.proofs.lemmas.Fmt.{decimal_is_IsNumeral_wide, decimal_by_steps_wi
 use Rattle.std.proofs.lemmas.Int.Digits.{digits_value-lt}
 use Rattle.std.proofs.lemmas.List.{length-append, length-replicate, length-take, length-drop, take-append-drop, take_at, drop_at, get_or_append_left, get_or-take}
 use Rattle.std.proofs.lemmas.Str.Parse.{digit_from_value}
-use Rattle.n2k_table.specs.Decimal.{sign_of, after_dot, IsDecimal, padded_digits, dotted, dec}
+use Rattle.n2k_table.specs.Decimal.{sign_of, after_dot, IsDecimal, padded_digits, dotted, filled, dec}
 use Rattle.n2k_table.proofs.Digits.{digit_value_is, digits_value_after-append}
 
 -- digits of n, at least e + 1 of them, and where there are more none of them leads as a zero
@@ -183,3 +183,43 @@ dec_only x e small text t =
 -- the size of a number of 128 bits
 pub size_lt : (x : ℤ) → FitsSigned w128 x → unsigned_abs x < 10 ^ 64
 size_lt x fits = omega (arith, ints, fits)
+
+-- as the code appends it: digits that are more than the decimals
+pub dec_dotted : (x : ℤ) (e : ℕ) → e < length (decimal (unsigned_abs x)) → dec x e ≡ sign_of x ++ dotted e (decimal (unsigned_abs x))
+unfolding dec
+dec_dotted x e more =
+    let none : e + 1 - length (decimal (unsigned_abs x)) ≡ 0 = omega arith in
+    ap (λ k. sign_of x ++ dotted e (replicate k 48 ++ decimal (unsigned_abs x))) none
+
+-- a zero before e digits
+dotted_after : (e : ℕ) (ds : List ℕ) → length ds ≡ e → 0 < e → dotted e (48 ∷ ds) ≡ 48 ∷ 46 ∷ ds
+dotted_after e [] len some = absurd (omega arith)
+dotted_after e (d ∷ ds) len some =
+    let place : length (48 ∷ d ∷ ds) - e ≡ 1 = omega arith in
+    rw place refl
+
+-- and digits that are not
+pub dec_filled : (x : ℤ) (e : ℕ) → unsigned_abs x < 10 ^ 64 → length (decimal (unsigned_abs x)) ≤ e → dec x e ≡ sign_of x ++ filled e (decimal (unsigned_abs x))
+unfolding dec
+dec_filled x e small less =
+    let ds = decimal (unsigned_abs x) in
+    let some = (has_first (unsigned_abs x) small).some in
+    let zeros : e + 1 - length ds ≡ suc (e - length ds) = omega arith in
+    let len : length (replicate (e - length ds) 48 ++ ds) ≡ e = omega (arith, length-append (replicate (e - length ds) 48) ds, length-replicate {A = ℕ} (e - length ds) 48) in
+    ap (λ (r : List ℕ). sign_of x ++ r)
+    (ap (λ k. dotted e (replicate k 48 ++ ds)) zeros ∙ dotted_after e (replicate (e - length ds) 48 ++ ds) len (omega arith))
+
+-- the sign and then the digits
+onto : (x : ℤ) (e : ℕ) (text l0 l1 l2 : List ℕ) → dec x e ≡ sign_of x ++ text → l1 ≡ l0 ++ sign_of x → l2 ≡ l1 ++ text → l2 ≡ l0 ++ dec x e
+onto x e text l0 l1 l2 is sign rest =
+    rest ∙ ap (λ (l : List ℕ). l ++ text) sign ∙ append_assoc l0 (sign_of x) text ∙ ap (λ (t : List ℕ). l0 ++ t) (sym is)
+
+pub onto_dotted : (x : ℤ) (e : ℕ) (ds l0 l1 l2 : List ℕ) → ds ≡ decimal (unsigned_abs x) → e < length ds
+    → l1 ≡ l0 ++ sign_of x → l2 ≡ l1 ++ dotted e ds → l2 ≡ l0 ++ dec x e
+onto_dotted x e ds l0 l1 l2 is more sign rest =
+    onto x e (dotted e ds) l0 l1 l2 (rw is (dec_dotted x e (omega (arith, ap length is)))) sign rest
+
+pub onto_filled : (x : ℤ) (e : ℕ) (ds l0 l1 l2 : List ℕ) → unsigned_abs x < 10 ^ 64 → ds ≡ decimal (unsigned_abs x) → length ds ≤ e
+    → l1 ≡ l0 ++ sign_of x → l2 ≡ l1 ++ filled e ds → l2 ≡ l0 ++ dec x e
+onto_filled x e ds l0 l1 l2 small is less sign rest =
+    onto x e (filled e ds) l0 l1 l2 (rw is (dec_filled x e small (omega (arith, ap length is)))) sign rest

@@ -8,10 +8,10 @@ use Rattle.n2k_table.specs.declared.definition.Kind.{Kind}
 use Rattle.n2k_table.specs.declared.definition.Kind.TheVariants.{Single}
 use Rattle.n2k_table.specs.declared.fault.TableFault.{TableFault}
 use Rattle.n2k_table.specs.declared.fault.TableFault.TheVariants.{Key, Mixed, TooMany}
-use Rattle.n2k_table.specs.declared.tree.Place.TheVariants.{OfDefinition}
+use Rattle.n2k_table.specs.declared.tree.Place.TheVariants.{Definition}
 use Rattle.n2k_table.specs.Fault.{◌>>=◌, fault_of, faults_in, value_or, unless, judged}
 use Rattle.n2k_table.specs.Tree.{has_only_keys, as_members}
-use Rattle.n2k_table.specs.Definition.{DefinitionParts, fields_faults, members_faults, definition_faults, members_definition, definition, number_of, kind_of, description_of, fields_of, number_and_kind, counted_kind}
+use Rattle.n2k_table.specs.Definition.{DefinitionParts, fields_faults, members_faults, definition_faults, members_definition, definition, number_of, kind_of, description_of, fields_of, number_and_kind, pgn_kind, counted_kind}
 use Rattle.n2k_table.specs.Table.{has_mixed, definitions_faults}
 use Rattle.n2k_table.proofs.Each.{nil_parts, filter_map-counted, judged_ok, listed_many, listed_fault, listed_late, listed_none}
 use Rattle.n2k_table.proofs.FieldFaults.{ok_without_fault}
@@ -21,7 +21,7 @@ counted_by : (r : Result Members TableFault) → faults_in r members_faults ≡ 
     → result_ok (r >>= number_and_kind) ≡ Some ((members_definition (value_or no_members r)).number, (members_definition (value_or no_members r)).kind)
 counted_by (Err fault) none = absurd cc
 counted_by (Ok m) none =
-    let a0 = unless (has_only_keys OfDefinition m) Key in
+    let a0 = unless (has_only_keys Definition m) Key in
     let a1 = a0 ++ fault_of (number_of m) in
     let a2 = a1 ++ fault_of (kind_of m) in
     let a3 = a2 ++ fault_of (description_of m) in
@@ -39,8 +39,8 @@ counted_by (Ok m) none =
 pub counted_kind-without_fault : (d : Data) → definition_faults d ≡ [] → counted_kind d ≡ Some ((definition d).number, (definition d).kind)
 counted_kind-without_fault d none = counted_by (as_members d) none
 
-counted_kinds : (ds : List Data) → flat_map definition_faults ds ≡ [] → filter_map counted_kind ds ≡ map (λ (d : DefinitionParts). (d.number, d.kind)) (map definition ds)
-counted_kinds ds none = filter_map-counted definition_faults counted_kind definition (λ (d : DefinitionParts). (d.number, d.kind)) counted_kind-without_fault ds none
+pub counted_kinds : (ds : List Data) → flat_map definition_faults ds ≡ [] → filter_map counted_kind ds ≡ map pgn_kind (map definition ds)
+counted_kinds ds none = filter_map-counted definition_faults counted_kind definition pgn_kind counted_kind-without_fault ds none
 
 -- what stands in the definitions of a table: too many of them
 pub definitions_many : {X : Type 0} (ds : List Data) (x : X) → 4096 < length ds → judged (definitions_faults ds) x ≡ Err TooMany
@@ -57,21 +57,21 @@ definitions_fault ds f x y few first =
 
 -- two of different kinds
 pub definitions_mixed : (ds : List Data) (definitions : List DefinitionParts) → length ds ≤ 4096 → judged (flat_map definition_faults ds) (map definition ds) ≡ Ok definitions
-    → has_mixed (map (λ (d : DefinitionParts). (d.number, d.kind)) definitions) ≡ true → judged (definitions_faults ds) (map definition ds) ≡ Err Mixed
+    → has_mixed (map pgn_kind definitions) ≡ true → judged (definitions_faults ds) (map definition ds) ≡ Err Mixed
 definitions_mixed ds definitions few read mixed =
     let within : leb (length ds) 4096 ≡ true = grind (arith, nat_tests) in
     let p = judged_ok (flat_map definition_faults ds) (map definition ds) definitions read in
-    let kinds : filter_map counted_kind ds ≡ map (λ (d : DefinitionParts). (d.number, d.kind)) definitions = counted_kinds ds p.0 ∙ ap (map (λ (d : DefinitionParts). (d.number, d.kind))) p.1 in
+    let kinds : filter_map counted_kind ds ≡ map pgn_kind definitions = counted_kinds ds p.0 ∙ ap (map pgn_kind) p.1 in
     listed_late (leb (length ds) 4096) (flat_map definition_faults ds) (not (has_mixed (filter_map counted_kind ds))) Mixed (map definition ds) within p.0
     (ap (λ ks. not (has_mixed ks)) kinds ∙ ap not mixed)
 
 -- nothing
 pub definitions_read : (ds : List Data) (definitions : List DefinitionParts) → length ds ≤ 4096 → judged (flat_map definition_faults ds) (map definition ds) ≡ Ok definitions
-    → has_mixed (map (λ (d : DefinitionParts). (d.number, d.kind)) definitions) ≡ false → judged (definitions_faults ds) (map definition ds) ≡ Ok definitions
+    → has_mixed (map pgn_kind definitions) ≡ false → judged (definitions_faults ds) (map definition ds) ≡ Ok definitions
 definitions_read ds definitions few read pure =
     let within : leb (length ds) 4096 ≡ true = grind (arith, nat_tests) in
     let p = judged_ok (flat_map definition_faults ds) (map definition ds) definitions read in
-    let kinds : filter_map counted_kind ds ≡ map (λ (d : DefinitionParts). (d.number, d.kind)) definitions = counted_kinds ds p.0 ∙ ap (map (λ (d : DefinitionParts). (d.number, d.kind))) p.1 in
+    let kinds : filter_map counted_kind ds ≡ map pgn_kind definitions = counted_kinds ds p.0 ∙ ap (map pgn_kind) p.1 in
     listed_none (leb (length ds) 4096) (flat_map definition_faults ds) (not (has_mixed (filter_map counted_kind ds))) Mixed (map definition ds) within p.0
     (ap (λ ks. not (has_mixed ks)) kinds ∙ ap not pure)
     ∙ ap (λ ts. Ok ts) p.1

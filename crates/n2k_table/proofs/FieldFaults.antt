@@ -6,7 +6,7 @@ use Rattle.std.specs.List.{flat_map, filter_map}
 use Rattle.toml.specs.Data.{Data, Members}
 use Rattle.n2k_table.specs.declared.fault.TableFault.{TableFault}
 use Rattle.n2k_table.specs.declared.fault.TableFault.TheVariants.{Key, Range, Twice, TooMany}
-use Rattle.n2k_table.specs.declared.tree.Place.TheVariants.{OfNumber, OfDefinition}
+use Rattle.n2k_table.specs.declared.tree.Place.TheVariants.{NumberField, Definition}
 use Rattle.n2k_table.specs.Fault.{◌>>=◌, fault_of, faults_in, value_or, unless, judged}
 use Rattle.n2k_table.specs.Tree.{has_only_keys}
 use Rattle.n2k_table.specs.Resolution.{resolution_at}
@@ -23,7 +23,7 @@ ok_without_fault other (Err fault) none = absurd cc
 -- the name of a number field without a fault
 named : (f : Members) → number_faults f ≡ [] → name_of f ≡ Ok ((number_field f).name)
 named f none =
-    let a0 = unless (has_only_keys OfNumber f) Key in
+    let a0 = unless (has_only_keys NumberField f) Key in
     let a1 = a0 ++ fault_of (name_of f) in
     let a2 = a1 ++ fault_of (at_of f) in
     let a3 = a2 ++ fault_of (number_bits_of f) in
@@ -87,7 +87,7 @@ fields_read ds fields few read once =
 
 -- a definition whose fields have a fault
 pub members_fields_fault : {X Y : Type 0} (m : Members) (n : ℕ) (k : Kind) (t : List ℕ) (ds : List Data) (f : TableFault) (x : X) (y : Y)
-    → has_only_keys OfDefinition m ≡ true → number_of m ≡ Ok n → kind_of m ≡ Ok k → description_of m ≡ Ok t → fields_of m ≡ Ok ds
+    → has_only_keys Definition m ≡ true → number_of m ≡ Ok n → kind_of m ≡ Ok k → description_of m ≡ Ok t → fields_of m ≡ Ok ds
     → judged (fields_faults ds) y ≡ Err f → judged (members_faults m) x ≡ Err f
 members_fields_fault m n k t ds f x y keys number kind description fields first =
     rw (keys, number, kind, description, fields) (judged_err (fields_faults ds) y x f first)

@@ -5,6 +5,7 @@ pub mod FieldFaults
 pub mod DefinitionFaults
 pub mod Documents
 pub mod Decimals
+pub mod OneKind
 pub mod Members
 pub mod RawBits
 pub mod Stamps

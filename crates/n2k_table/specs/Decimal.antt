@@ -3,15 +3,25 @@ use Rattle.std.specs.Prelude.{◌≡◌, ◌≢◌, ℕ, ℤ, pos, negsuc, ◌+�
 use Rattle.std.specs.Int.RustNames.{unsigned_abs}
 use Rattle.std.specs.Str.Parse.{AllDigits, digits_value}
 
+-- `-`, `.` and `0`
+abbrev pub minus : ℕ
+minus = 45
+
+abbrev pub dot : ℕ
+dot = 46
+
+abbrev pub nought : ℕ
+nought = 48
+
 -- a minus sign where x is below zero
 abbrev pub sign_of : ℤ → List ℕ
 sign_of (pos n) = []
-sign_of (negsuc n) = 45 ∷ []
+sign_of (negsuc n) = minus ∷ []
 
 -- a dot and the decimals, and nothing where there are none
 abbrev pub after_dot : List ℕ → List ℕ
 after_dot [] = []
-after_dot (d ∷ ds) = 46 ∷ d ∷ ds
+after_dot (d ∷ ds) = dot ∷ d ∷ ds
 
 -- The text is x / 10 ^ e with exactly e decimals. One text is, and no other.
 pub record IsDecimal (x : ℤ) (e : ℕ) (text : List ℕ) : Type 0 where
@@ -24,17 +34,21 @@ pub record IsDecimal (x : ℤ) (e : ℕ) (text : List ℕ) : Type 0 where
   pub count : length decimals ≡ e
   pub begins : 0 < length whole
   -- beside another digit before the dot no zero leads
-  pub no_leading_zero : 1 < length whole → slice_index whole 0 ≢ 48
+  pub no_leading_zero : 1 < length whole → slice_index whole 0 ≢ nought
   -- the digits without the dot make the size of x
   pub size : digits_value 10 (whole ++ decimals) ≡ unsigned_abs x
 
 -- the digits of n, with zeros before them where they are fewer than e + 1
 abbrev pub padded_digits : ℕ → ℕ → List ℕ
-padded_digits n e = replicate (e + 1 - length (decimal n)) 48 ++ decimal n
+padded_digits n e = replicate (e + 1 - length (decimal n)) nought ++ decimal n
 
 -- digits with the dot before the last e
 abbrev pub dotted : ℕ → List ℕ → List ℕ
 dotted e ds = take (length ds - e) ds ++ after_dot (drop (length ds - e) ds)
+
+-- for private clauses: e digits after the dot, of which the last are these, and a zero before it
+abbrev pub filled : ℕ → List ℕ → List ℕ
+filled e ds = nought ∷ dot ∷ (replicate (e - length ds) nought ++ ds)
 
 -- the decimal text of x / 10 ^ e
 unfoldable pub dec : ℤ → ℕ → List ℕ

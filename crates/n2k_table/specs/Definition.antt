@@ -8,7 +8,7 @@ use Rattle.n2k_table.specs.declared.definition.Kind.{Kind}
 use Rattle.n2k_table.specs.declared.definition.Kind.TheVariants.{Single, Fast}
 use Rattle.n2k_table.specs.declared.fault.TableFault.{TableFault}
 use Rattle.n2k_table.specs.declared.fault.TableFault.TheVariants.{Key, Text, Twice, TooMany}
-use Rattle.n2k_table.specs.declared.tree.Place.TheVariants.{OfDefinition}
+use Rattle.n2k_table.specs.declared.tree.Place.TheVariants.{Definition}
 use Rattle.n2k_table.specs.Fault.{◌>>=◌, fault_of, faults_in, value_or, unless}
 use Rattle.n2k_table.specs.Tree.{has_only_keys, as_members, whole_at, any_text_at, text_at, elements_at}
 use Rattle.n2k_table.specs.Field.{FieldParts, members_or_none, field_faults, field, counted_name}
@@ -63,7 +63,7 @@ fields_faults ds =
 -- the faults of a definition
 abbrev pub members_faults : Members → List TableFault
 members_faults m =
-    unless (has_only_keys OfDefinition m) Key
+    unless (has_only_keys Definition m) Key
     ++ fault_of (number_of m)
     ++ fault_of (kind_of m)
     ++ fault_of (description_of m)
@@ -83,6 +83,10 @@ members_definition m = record {
 
 abbrev pub definition : Data → DefinitionParts
 definition d = members_definition (members_or_none d)
+
+-- the PGN of a definition, and how it says that the PGN is sent
+abbrev pub pgn_kind : DefinitionParts → ℕ × Kind
+pgn_kind d = (d.number, d.kind)
 
 -- The PGN and the kind under which a definition counts, where neither has a fault.
 abbrev pub number_and_kind : Members → Result (ℕ × Kind) TableFault

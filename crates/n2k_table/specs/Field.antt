@@ -7,7 +7,7 @@ use Rattle.n2k_table.specs.declared.fault.TableFault.{TableFault}
 use Rattle.n2k_table.specs.declared.fault.TableFault.TheVariants.{Key, Range, Text}
 use Rattle.n2k_table.specs.declared.field.Meaning.{Meaning}
 use Rattle.n2k_table.specs.declared.field.Meaning.TheVariants.{Number}
-use Rattle.n2k_table.specs.declared.tree.Place.TheVariants.{OfNumber}
+use Rattle.n2k_table.specs.declared.tree.Place.TheVariants.{NumberField}
 use Rattle.n2k_table.specs.Fault.{◌>>=◌, fault_of, faults_in, value_or, unless}
 use Rattle.n2k_table.specs.Text.{text_json}
 use Rattle.n2k_table.specs.Tree.{has_only_keys, as_members, whole_at, any_text_at, text_at, truth_at}
@@ -16,6 +16,10 @@ use Rattle.n2k_table.specs.Resolution.{resolution_at, one}
 -- the bits of the longest message
 abbrev pub message_bits : ℕ
 message_bits = 1784
+
+-- the last bit of a message at which a field may begin
+abbrev pub last_bit : ℕ
+last_bit = 1783
 
 -- the most bits of a number
 abbrev pub most_number_bits : ℕ
@@ -40,7 +44,7 @@ abbrev pub name_of : Members → Result (List ℕ) TableFault
 name_of = text_at (codes "name")
 
 abbrev pub at_of : Members → Result ℕ TableFault
-at_of = whole_at (codes "at") 0 1783
+at_of = whole_at (codes "at") 0 last_bit
 
 abbrev pub number_bits_of : Members → Result ℕ TableFault
 number_bits_of = whole_at (codes "bits") 1 most_number_bits
@@ -65,7 +69,7 @@ has_room_for_sign signed bits = value_or true (do
 -- the faults of a number field
 abbrev pub number_faults : Members → List TableFault
 number_faults f =
-    unless (has_only_keys OfNumber f) Key
+    unless (has_only_keys NumberField f) Key
     ++ fault_of (name_of f)
     ++ fault_of (at_of f)
     ++ fault_of (number_bits_of f)

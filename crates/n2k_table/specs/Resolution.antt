@@ -8,6 +8,7 @@ use Rattle.toml.specs.Data.{Data, Members, get_member, as_str}
 use Rattle.n2k_table.specs.declared.fault.TableFault.{TableFault}
 use Rattle.n2k_table.specs.declared.fault.TableFault.TheVariants.{Key, Range, Text}
 use Rattle.n2k_table.specs.declared.resolution.Resolution.{Resolution}
+use Rattle.n2k_table.specs.Decimal.{dot}
 use Rattle.n2k_table.specs.Fault.{◌>>=◌}
 
 -- the most digits before the dot
@@ -29,12 +30,12 @@ is_digits most text = nat_le 1 (length text) && nat_le (length text) most && lis
 -- the digits before the dot and those after it
 abbrev pub parts_at : Option ℕ → List ℕ → Result (List ℕ × List ℕ) TableFault
 parts_at None text = if is_digits most_whole_digits text then Ok (text, []) else Err Text
-parts_at (Some dot) text =
-    if is_digits most_whole_digits (take dot text) && is_digits most_decimals (drop (dot + 1) text)
-    then Ok (take dot text, drop (dot + 1) text) else Err Text
+parts_at (Some i) text =
+    if is_digits most_whole_digits (take i text) && is_digits most_decimals (drop (i + 1) text)
+    then Ok (take i text, drop (i + 1) text) else Err Text
 
 abbrev pub parts : List ℕ → Result (List ℕ × List ℕ) TableFault
-parts text = parts_at (position (λ b. b == 46) text) text
+parts text = parts_at (position (λ b. b == dot) text) text
 
 -- for private clauses: digits alone, and not too many after the dot
 abbrev pub ArePartsOfDigits : List ℕ → List ℕ → Type 0

@@ -12,7 +12,7 @@ use Rattle.toml.specs.declared.value.Value.{Value}
 use Rattle.n2k_table.specs.declared.fault.TableFault.{TableFault}
 use Rattle.n2k_table.specs.declared.fault.TableFault.TheVariants.{Key, Range, Text}
 use Rattle.n2k_table.specs.declared.tree.Place.{Place}
-use Rattle.n2k_table.specs.declared.tree.Place.TheVariants.{Document, OfDefinition, OfNumber}
+use Rattle.n2k_table.specs.declared.tree.Place.TheVariants.{Document, Definition, NumberField}
 use Rattle.n2k_table.specs.Fault.{◌>>=◌}
 
 -- the most bytes of a name or a description
@@ -22,8 +22,8 @@ longest_text = 255
 -- the keys that a table of the document may have, by its place
 abbrev pub keys : Place → List (List ℕ)
 keys Document = codes "format" ∷ codes "pgn" ∷ []
-keys OfDefinition = codes "number" ∷ codes "kind" ∷ codes "description" ∷ codes "fields" ∷ []
-keys OfNumber = codes "name" ∷ codes "kind" ∷ codes "at" ∷ codes "bits" ∷ codes "signed" ∷ codes "resolution" ∷ []
+keys Definition = codes "number" ∷ codes "kind" ∷ codes "description" ∷ codes "fields" ∷ []
+keys NumberField = codes "name" ∷ codes "kind" ∷ codes "at" ∷ codes "bits" ∷ codes "signed" ∷ codes "resolution" ∷ []
 
 abbrev pub is_key : Place → List ℕ → Bool
 is_key place key = list_any (λ k. bytes_eq key k) (keys place)

@@ -11,7 +11,8 @@ fn bit(data: &[u8], i: usize) -> u8
     (data[i / 8] >> (i % 8)) % 2
 }
 
-/// The raw value of some bits, the sum of bit `at + j` times `2^j`.
+/// The raw value of some bits, the sum of bit `at + j` times `2^j`. It is read from the top, by whole bytes
+/// where they lie wholly inside.
 pub fn raw(data: &[u8], at: u32, bits: u32) -> u64
     requires within { at + bits ≤ 8 * length «data».now }
     requires room { bits ≤ 64 }
@@ -21,8 +22,14 @@ pub fn raw(data: &[u8], at: u32, bits: u32) -> u64
     let mut value = 0;
     let mut left = bits;
     while left > 0 {
-        left -= 1;
-        value = 2 * value + u64::from(bit(data, at as usize + left as usize));
+        let end = at as usize + left as usize;
+        if left >= 8 && end % 8 == 0 {
+            left -= 8;
+            value = 256 * value + u64::from(data[end / 8 - 1]);
+        } else {
+            left -= 1;
+            value = 2 * value + u64::from(bit(data, end - 1));
+        }
     }
     value
 }

@@ -7,7 +7,7 @@ ghost use Rattle.n2k_table.specs.Fault.{Gives, GivesOrMemory, judged};
 ghost use Rattle.n2k_table.specs.Tree.{elements};
 ghost use Rattle.n2k_table.specs.Field.{field, field_faults};
 ghost use Rattle.n2k_table.specs.Table.{are_mixed, has_mixed};
-ghost use Rattle.n2k_table.specs.Definition.{named_kind, has_twice, fields_faults, members_faults, members_definition, definition_faults, definition};
+ghost use Rattle.n2k_table.specs.Definition.{named_kind, pgn_kind, has_twice, fields_faults, members_faults, members_definition, definition_faults, definition};
 
 use crate::fault::TableFault;
 use crate::field::{Field, read_field};
@@ -52,7 +52,12 @@ impl Model for StoredDefinition {
 
     ghost Value = { DefinitionParts };
 
-    ghost view = { λ d. record { number = d.number; kind = d.kind; description = string_bytes d.description; fields = d.fields.items } };
+    ghost view = { λ d. record {
+      number = d.number;
+      kind = d.kind;
+      description = string_bytes d.description;
+      fields = d.fields.items;
+    } };
 
     ghost invariant = { λ d. d.description_json.items ≡ text_json (string_bytes d.description) };
 }
@@ -96,13 +101,13 @@ impl StoredDefinition {
 
     // Whether both describe one PGN, and name different kinds.
     fn is_mixed_with(&self, other: &StoredDefinition) -> bool
-        ensures { result ≡ are_mixed (self.now.number, self.now.kind) (other.now.number, other.now.kind) }
+        ensures { result ≡ are_mixed (pgn_kind self.now) (pgn_kind other.now) }
     {
         self.number == other.number && self.kind != other.kind
     }
 }
 
-/// The definition that describes a message. It borrows the table.
+/// What the table says of a message: a text that names it, and its fields. It borrows the table.
 #[derive(Drop)]
 pub struct Definition<'a> {
     stored: &'a StoredDefinition,
@@ -127,7 +132,7 @@ impl<'a> Definition<'a> {
         Definition { stored }
     }
 
-    /// The text that names the message, of 1 to 255 bytes, as the table has it.
+    /// The text that names the message, 1 to 255 bytes, as the table has it. It takes no memory.
     pub fn description(&self) -> &str
         ensures { result.now ≡ self.now.description }
     {
@@ -148,7 +153,12 @@ impl<'a> Definition<'a> {
         self.stored.fields()
     }
 
-    /// What each field shows of the data of a message, in printing order. It takes no memory.
+    /// What each field shows of the data of a message (the bytes in the order of the bus), with its name, in
+    /// printing order. It takes no memory.
+    ///
+    /// ```text
+    /// for (name, shown) in definition.fields(packet.data()) { .. }
+    /// ```
     pub fn fields(&self, data: &'a [u8]) -> Fields<'a>
         ensures { result ≡ all_shown self.now.fields «data».now }
     {
@@ -182,7 +192,8 @@ fn has_twice(fields: &[Field]) -> bool
 
 // Whether a field has the name.
 fn is_named(fields: &[Field], name: &str) -> bool
-    ensures { result ≡ list_any (λ other. bytes_eq other name.now) (map (λ field. field.name) fields.now) }
+    ensures { let names = map (λ field. field.name) fields.now in
+        result ≡ list_any (λ other. bytes_eq other name.now) names }
 {
     for field in fields {
         if field.name() == name {
@@ -194,7 +205,8 @@ fn is_named(fields: &[Field], name: &str) -> bool
 
 // The fields, up to a first fault among theirs.
 fn each_field(alloc: Global, values: &Array) -> Result<Vec<Field>, TableFault>
-    ensures { GivesOrMemory (λ fields. fields.items) result (judged (flat_map field_faults (elements (array_view values.now))) (map field (elements (array_view values.now)))) }
+    ensures { let ds = elements (array_view values.now) in
+        GivesOrMemory (λ fields. fields.items) result (judged (flat_map field_faults ds) (map field ds)) }
 {
     let mut fields = Vec::new(alloc);
     for value in values {
@@ -204,7 +216,8 @@ fn each_field(alloc: Global, values: &Array) -> Result<Vec<Field>, TableFault>
 }
 
 fn read_fields(alloc: Global, values: &Array) -> Result<Vec<Field>, TableFault>
-    ensures { GivesOrMemory (λ fields. fields.items) result (judged (fields_faults (elements (array_view values.now))) (map field (elements (array_view values.now)))) }
+    ensures { let ds = elements (array_view values.now) in
+        GivesOrMemory (λ fields. fields.items) result (judged (fields_faults ds) (map field ds)) }
 {
     if values.len() > MOST_FIELDS {
         return Err(TableFault::TooMany);
@@ -217,9 +230,10 @@ fn read_fields(alloc: Global, values: &Array) -> Result<Vec<Field>, TableFault>
 }
 
 fn read_members(alloc: Global, table: &Table) -> Result<StoredDefinition, TableFault>
-    ensures { GivesOrMemory (λ definition. definition) result (judged (members_faults (table_view table.now)) (members_definition (table_view table.now))) }
+    ensures { let m = table_view table.now in
+        GivesOrMemory (λ stored. stored) result (judged (members_faults m) (members_definition m)) }
 {
-    if !has_only_keys(table, Place::OfDefinition) {
+    if !has_only_keys(table, Place::Definition) {
         return Err(TableFault::Key);
     }
     let number = whole_at(table, "number", 0, GREATEST_NUMBER)?;
@@ -235,9 +249,9 @@ fn read_members(alloc: Global, table: &Table) -> Result<StoredDefinition, TableF
     })
 }
 
-// Whether two definitions of one PGN have different kinds.
+/// Whether two definitions of one PGN have different kinds.
 pub fn has_mixed(definitions: &[StoredDefinition]) -> bool
-    ensures { result ≡ has_mixed (map (λ d. (d.number, d.kind)) definitions.now) }
+    ensures { result ≡ has_mixed (map pgn_kind definitions.now) }
 {
     let mut rest = definitions;
     while let Some((definition, others)) = rest.split_first() {
@@ -250,7 +264,7 @@ pub fn has_mixed(definitions: &[StoredDefinition]) -> bool
 }
 
 fn is_mixed_among(definitions: &[StoredDefinition], definition: &StoredDefinition) -> bool
-    ensures { result ≡ list_any (are_mixed (definition.now.number, definition.now.kind)) (map (λ d. (d.number, d.kind)) definitions.now) }
+    ensures { result ≡ list_any (are_mixed (pgn_kind definition.now)) (map pgn_kind definitions.now) }
 {
     for other in definitions {
         if definition.is_mixed_with(other) {
@@ -262,7 +276,8 @@ fn is_mixed_among(definitions: &[StoredDefinition], definition: &StoredDefinitio
 
 /// Reads a definition.
 pub fn read_definition(alloc: Global, value: &Value) -> Result<StoredDefinition, TableFault>
-    ensures { GivesOrMemory (λ definition. definition) result (judged (definition_faults (view value.now)) (definition (view value.now))) }
+    ensures { let d = view value.now in
+        GivesOrMemory (λ stored. stored) result (judged (definition_faults d) (definition d)) }
 {
     read_members(alloc, as_members(value)?)
 }

@@ -52,15 +52,21 @@ impl Model for Field {
 
     ghost Value = { FieldParts };
 
-    ghost view = { λ f. record { name = string_bytes f.name; at = f.at; bits = f.bits; meaning = f.meaning } };
+    ghost view = { λ f. record {
+      name = string_bytes f.name;
+      at = f.at;
+      bits = f.bits;
+      meaning = f.meaning;
+    } };
 
     ghost invariant = { λ f. IsKept (string_bytes f.name) f.name_json.items f.at f.bits };
 }
 
 fn number_field(alloc: Global, table: &Table) -> Result<Field, TableFault>
-    ensures { GivesOrMemory (λ field. field) result (judged (number_faults (table_view table.now)) (number_field (table_view table.now))) }
+    ensures { let f = table_view table.now in
+        GivesOrMemory (λ field. field) result (judged (number_faults f) (number_field f)) }
 {
-    if !has_only_keys(table, Place::OfNumber) {
+    if !has_only_keys(table, Place::NumberField) {
         return Err(TableFault::Key);
     }
     let name = text_at(table, "name")?;
@@ -82,7 +88,8 @@ fn number_field(alloc: Global, table: &Table) -> Result<Field, TableFault>
 
 /// Reads a field, by its kind.
 pub fn read_field(alloc: Global, value: &Value) -> Result<Field, TableFault>
-    ensures { GivesOrMemory (λ field. field) result (judged (field_faults (view value.now)) (field (view value.now))) }
+    ensures { let d = view value.now in
+        GivesOrMemory (λ field. field) result (judged (field_faults d) (field d)) }
 {
     let table = as_members(value)?;
     match any_text_at(table, "kind")? {

@@ -67,7 +67,8 @@ fn push_stamp(alloc: Global, packet: &Packet, line: &mut Vec<u8>) -> Result<(), 
 
 // Appends what a field shows as a value.
 fn push_value(shown: Shown, line: &mut Vec<u8>) -> Result<(), AllocError>
-    ensures { OnOk result (IfSome (value_json true (shown_parts shown)) (λ value. line.new.items ≡ line.old.items ++ value)) }
+    ensures { OnOk result (IfSome (value_json true (shown_parts shown))
+        (λ value. line.new.items ≡ line.old.items ++ value)) }
 {
     match shown {
         Shown::Absent => line.extend_from_slice(b"null"),
@@ -84,8 +85,9 @@ fn push_member(
     later: bool,
     line: &mut Vec<u8>,
 ) -> Result<bool, AllocError>
-    ensures { IfOk result (λ more. let member = member_json empty (field.now.name, shown field.now «data».now) in
-        (line.new.items ≡ line.old.items ++ member_text later member) × (more ≡ (later || is_some member))) }
+    ensures { let member = member_json empty (field.now.name, shown field.now «data».now) in
+        IfOk result (λ more. (line.new.items ≡ line.old.items ++ member_text later member)
+        × (more ≡ (later || is_some member))) }
 {
     let shown = field.shown(data);
     if matches!(shown, Shown::Absent) && !empty {
@@ -107,7 +109,8 @@ fn push_fields(
     empty: bool,
     line: &mut Vec<u8>,
 ) -> Result<(), AllocError>
-    ensures { OnOk result (line.new.items ≡ line.old.items ++ fields_json empty (all_shown fields.now «data».now)) }
+    ensures { OnOk result
+        (line.new.items ≡ line.old.items ++ fields_json empty (all_shown fields.now «data».now)) }
 {
     line.push(b'{')?;
     let mut later = false;
@@ -119,8 +122,12 @@ fn push_fields(
 }
 
 /// Appends the JSON line of a packet whose PGN the table has, with its LF: when it was seen, its priority,
-/// source, destination and PGN, and what the first definition of the PGN says of its data. An absent
-/// field is left out, and with `empty` it is `null`.
+/// source, destination and PGN, and the fields of its definition in their order, without spaces. A field
+/// that shows nothing is left out, and with `empty` it is `null`. A refused growth leaves `out` as it was.
+///
+/// ```text
+/// {"timestamp":"2011-11-24-22:42:04.388","prio":2,"src":36,"dst":255,"pgn":127251,"description":"Rate of Turn","fields":{"SID":125,"Rate":0.00509634375}}
+/// ```
 #[tactic(auto, using(std::proofs::Common::append_assoc), unfolding(crate::specs::Json::json))]
 pub fn json_line(
     alloc: Global,

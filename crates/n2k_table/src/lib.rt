@@ -1,4 +1,15 @@
-//! A table of messages read from TOML, field values, and JSON lines.
+//! What the bits of a message mean: a table of messages read from TOML, field values, and JSON lines.
+//!
+//! - `Table::read` reads a table, or says which fault stands in it (`TableFault`). `Table::id` is the
+//!   SHA-256 of what was read.
+//! - `Table::kind` says how a PGN is sent, and `Table::choose` gives the `Definition` of a message.
+//! - `Definition::fields` gives each field's name and what it shows of the data (`Shown`).
+//! - `decimal_text` appends a number with its decimals, and `json_line` the line of a message.
+//!
+//! A table that reads has no fault, and an answered fault stands in it. What a field shows is its raw value,
+//! the sum of its bits times powers of two, taken as two's complement where it is signed, times a resolution
+//! that is kept as whole numbers. So each decimal that is printed is exact: nothing is rounded, and there is
+//! no floating-point number.
 #![tactic(auto)]
 
 mod bits;

@@ -48,7 +48,8 @@ fn dot_of(text: &[u8]) -> Option<usize>
 // The number that digits make after those that made `before`, where it has 32 bits at most.
 fn read_on(before: u32, digits: &[u8]) -> Option<u32>
     requires { list_all is_ascii_digit digits.now ≡ true }
-    ensures { SomeIff result (digits_value_after 10 before digits.now < 2 ^ 32) (digits_value_after 10 before digits.now) }
+    ensures { let number = digits_value_after 10 before digits.now in
+        SomeIff result (number < 2 ^ 32) number }
 {
     let mut number = before;
     for digit in digits {

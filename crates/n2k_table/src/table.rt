@@ -1,5 +1,5 @@
 //! A table of messages.
-ghost use Rattle.std.specs.Prelude.{◌≡◌, ◌≢◌, [], Contains, IfOk, IfErr, map, flat_map};
+ghost use Rattle.std.specs.Prelude.{◌≡◌, ◌≢◌, [], All, Contains, Some, IfOk, IfErr, map, flat_map};
 ghost use Rattle.toml.specs.View.{view, table_view, array_view};
 ghost use Rattle.n2k_table.specs.declared.fault.TableFault.TheVariants.{Memory};
 ghost use Rattle.n2k_table.specs.Fault.{GivesOrMemory, judged};
@@ -35,7 +35,8 @@ impl Model for Table {
 
 // The definitions, up to a first fault among theirs.
 fn each_definition(alloc: Global, values: &Array) -> Result<Vec<StoredDefinition>, TableFault>
-    ensures { GivesOrMemory (λ definitions. definitions.items) result (judged (flat_map definition_faults (elements (array_view values.now))) (map definition (elements (array_view values.now)))) }
+    ensures { let ds = elements (array_view values.now) in
+        GivesOrMemory (λ v. v.items) result (judged (flat_map definition_faults ds) (map definition ds)) }
 {
     let mut definitions = Vec::new(alloc);
     for value in values {
@@ -45,7 +46,8 @@ fn each_definition(alloc: Global, values: &Array) -> Result<Vec<StoredDefinition
 }
 
 fn read_definitions(alloc: Global, values: &Array) -> Result<Vec<StoredDefinition>, TableFault>
-    ensures { GivesOrMemory (λ definitions. definitions.items) result (judged (definitions_faults (elements (array_view values.now))) (map definition (elements (array_view values.now)))) }
+    ensures { let ds = elements (array_view values.now) in
+        GivesOrMemory (λ v. v.items) result (judged (definitions_faults ds) (map definition ds)) }
 {
     if values.len() > MOST_DEFINITIONS {
         return Err(TableFault::TooMany);
@@ -58,7 +60,8 @@ fn read_definitions(alloc: Global, values: &Array) -> Result<Vec<StoredDefinitio
 }
 
 fn read_top(alloc: Global, top: &toml::Table) -> Result<Vec<StoredDefinition>, TableFault>
-    ensures { GivesOrMemory (λ definitions. definitions.items) result (judged (top_faults (table_view top.now)) (top_definitions (table_view top.now))) }
+    ensures { let m = table_view top.now in
+        GivesOrMemory (λ v. v.items) result (judged (top_faults m) (top_definitions m)) }
 {
     if whole_at(top, "format", 1, 1).is_err() {
         return Err(TableFault::Format);
@@ -91,19 +94,30 @@ impl Table {
         })
     }
 
-    /// The table that the bytes of a TOML 1.1 document in UTF-8 spell, in format 1.
+    /// Reads a table: the bytes of a TOML 1.1 document in UTF-8, of format 1 (docs/PROFILE.md has the
+    /// format). A table with the line `format = 1` alone is one without messages.
     ///
-    /// Refused is a document in which a fault stands. Where several stand, `NotToml` and then `Format`
-    /// come before all others, and else any of them may be answered.
+    /// A document in which a fault stands is refused. Where it is no TOML or of another format, no other
+    /// fault is looked for. Where several of the others stand, any of them may be answered.
+    ///
+    /// ```text
+    /// let table = Table::read(alloc, b"format = 1\n")?;
+    /// assert_eq!(rt; table.kind(129026), None);
+    /// ```
     pub fn read(alloc: Global, bytes: &[u8]) -> Result<Table, TableFault>
         ensures sound { IfOk result (λ t. (faults bytes.now ≡ []) × (t ≡ table bytes.now)) }
+
+        // All definitions of a PGN name one kind, which is the kind of the PGN.
+        ensures kinds { IfOk result (λ t. All (λ d. kind t d.number ≡ Some d.kind) t.definitions) }
+
         // A fault that is answered stands, so a table without one is read, unless memory runs out.
         ensures stands { IfErr result (λ fault. fault ≢ Memory → Contains (faults bytes.now) fault) }
     {
         Table::judge(alloc, bytes)
     }
 
-    /// The SHA-256 of the bytes that were read. It takes no memory.
+    /// The SHA-256 of the bytes that the table was read from, 32 bytes. Two spellings of one document have
+    /// two ids. It takes no memory.
     pub fn id(&self) -> [u8; 32]
         ensures { result ≡ self.now.id }
     {
@@ -121,15 +135,16 @@ impl Table {
         None
     }
 
-    /// How a PGN is sent, `None` where the table does not have it. It takes no memory.
+    /// How the messages of a PGN are sent, as its definitions say; `None` where the table has none. It takes
+    /// no memory.
     pub fn kind(&self, pgn: u32) -> Option<Kind>
         ensures { result ≡ kind self.now pgn }
     {
         Some(self.first(pgn)?.kind())
     }
 
-    /// The definition that describes a message of a PGN with these data, `None` where the table has
-    /// none. It takes no memory.
+    /// The definition that describes a message of a PGN with these data (in the order of the bus): the first
+    /// of the PGN in file order, `None` where the table has none. It takes no memory.
     pub fn choose(&self, pgn: u32, data: &[u8]) -> Option<Definition<'_>>
         ensures { result ≡ choice self.now pgn «data».now }
     {

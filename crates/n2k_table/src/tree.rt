@@ -18,9 +18,9 @@ pub enum Place {
     /// The top level.
     Document,
     /// A definition.
-    OfDefinition,
+    Definition,
     /// A number field.
-    OfNumber,
+    NumberField,
 }
 
 impl Place {
@@ -31,10 +31,10 @@ impl Place {
     {
         match self {
             Place::Document => key == "format" || key == "pgn",
-            Place::OfDefinition => {
+            Place::Definition => {
                 key == "number" || key == "kind" || key == "description" || key == "fields"
             }
-            Place::OfNumber => {
+            Place::NumberField => {
                 key == "name"
                     || key == "kind"
                     || key == "at"
@@ -46,7 +46,7 @@ impl Place {
     }
 }
 
-// Each key of the table is one of its place.
+/// Whether each key of the table is one of its place.
 pub fn has_only_keys(table: &Table, place: Place) -> bool
     ensures { result ≡ has_only_keys place (table_view table.now) }
 {

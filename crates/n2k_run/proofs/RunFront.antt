@@ -1,6 +1,6 @@
--- What a run of `plain` writes of the front of a log is a front of what it writes of the log.
-use Rattle.std.proofs.Common.{◌≡◌, ℕ, ◌+◌, ◌<◌, ◌≤◌, ◌-◌, List, [], ◌∷◌, ◌++◌, length, take, drop, map, refl, sym, ap, ◌∙◌, subst, append_assoc, add-zero, arith, Option, None, Some, not, length-append}
-use Rattle.std.specs.Prelude.{IfSome}
+-- What a run writes of the front of a log is a front of what it writes of the log.
+use Rattle.std.proofs.Common.{◌≡◌, ℕ, ◌+◌, ◌<◌, ◌≤◌, ◌-◌, List, [], ◌∷◌, ◌++◌, length, take, drop, map, refl, sym, ap, ◌∙◌, subst, append_assoc, add-zero, arith, Option, None, Some, Result, Ok, Err, not, length-append}
+use Rattle.std.specs.Prelude.{IfSome, OnErr}
 use Rattle.std.specs.List.{flat_map, enumerate_from, suffix_len}
 use Rattle.std.specs.Io.{IsEmptyOrEndsWith}
 use Rattle.std.specs.Io.KnownBytes.{Appends, Consumes}
@@ -11,8 +11,9 @@ use Rattle.n2k_wire.specs.declared.entry.Packing.TheVariants.{Frames}
 use Rattle.n2k_wire.specs.Entry.{entry}
 use Rattle.n2k_run.specs.Lines.{is_line_feed, lines, whole_lines}
 use Rattle.n2k_run.specs.Entries.{entries}
-use Rattle.n2k_run.specs.PlainRun.{text_of, plain_out, plain_reports}
-use Rattle.n2k_run.specs.Reports.{report_of, reports_from}
+use Rattle.n2k_wire.specs.Packet.{Parts}
+use Rattle.n2k_run.specs.Made.{text_of, texts_of}
+use Rattle.n2k_run.specs.Reports.{report_of, reports_from, reports}
 use Rattle.n2k_run.specs.Reading.{Gains}
 use Rattle.n2k_run.specs.Writing.{Owes, AppendsFront}
 use Rattle.n2k_run.proofs.Owed.{Owes-all}
@@ -59,24 +60,23 @@ reports_from-append n (e ∷ es) fs =
     ap (λ r. report_of n e ++ r) (reports_from-append (n + 1) es fs ∙ ap (λ k. reports_from (n + 1) es ++ reports_from k fs) next)
     ∙ sym (append_assoc (report_of n e) (reports_from (n + 1) es) (reports_from (n + length (e ∷ es)) fs))
 
-out-leads : (old new : Option (List ℕ)) (whole log : List ℕ) → Leads whole log → AppendsFront old new (plain_out whole) → AppendsFront old new (plain_out log)
-unfolding plain_out
-out-leads old new whole log l front =
-    let is = ap (flat_map text_of) (entries-leads whole log l) ∙ flat_map-append text_of (entries Frames whole) (entries Frames l.rest) in
-    subst (λ t. AppendsFront old new t) (sym is) (goes_on old new (plain_out whole) (flat_map text_of (entries Frames l.rest)) front)
+out-leads : (made : Parts → List ℕ) (old new : Option (List ℕ)) (whole log : List ℕ) → Leads whole log → AppendsFront old new (texts_of made whole) → AppendsFront old new (texts_of made log)
+out-leads made old new whole log l front =
+    let is = ap (flat_map (text_of made)) (entries-leads whole log l) ∙ flat_map-append (text_of made) (entries Frames whole) (entries Frames l.rest) in
+    subst (λ t. AppendsFront old new t) (sym is) (goes_on old new (texts_of made whole) (texts_of made l.rest) front)
 
-reports-leads : (old new : Option (List ℕ)) (whole log : List ℕ) → Leads whole log → AppendsFront old new (plain_reports whole) → AppendsFront old new (plain_reports log)
-unfolding plain_reports
+reports-leads : (old new : Option (List ℕ)) (whole log : List ℕ) → Leads whole log → AppendsFront old new (reports whole) → AppendsFront old new (reports log)
+unfolding reports
 reports-leads old new whole log l front =
     let is = ap (reports_from 1) (entries-leads whole log l) ∙ reports_from-append 1 (entries Frames whole) (entries Frames l.rest) in
-    subst (λ t. AppendsFront old new t) (sym is) (goes_on old new (plain_reports whole) (reports_from (1 + length (entries Frames whole)) (entries Frames l.rest)) front)
+    subst (λ t. AppendsFront old new t) (sym is) (goes_on old new (reports whole) (reports_from (1 + length (entries Frames whole)) (entries Frames l.rest)) front)
 
 -- the same where the log's bytes are known
-pub out_front : (known old new : Option (List ℕ)) (whole : List ℕ) → IfSome known (λ log. Leads whole log) → AppendsFront old new (plain_out whole) → IfSome known (λ log. AppendsFront old new (plain_out log))
-out_front None old new whole l front = tt
-out_front (Some log) old new whole l front = out-leads old new whole log l front
+pub out_front : (made : Parts → List ℕ) (known old new : Option (List ℕ)) (whole : List ℕ) → IfSome known (λ log. Leads whole log) → AppendsFront old new (texts_of made whole) → IfSome known (λ log. AppendsFront old new (texts_of made log))
+out_front made None old new whole l front = tt
+out_front made (Some log) old new whole l front = out-leads made old new whole log l front
 
-pub reports_front : (known old new : Option (List ℕ)) (whole : List ℕ) → IfSome known (λ log. Leads whole log) → AppendsFront old new (plain_reports whole) → IfSome known (λ log. AppendsFront old new (plain_reports log))
+pub reports_front : (known old new : Option (List ℕ)) (whole : List ℕ) → IfSome known (λ log. Leads whole log) → AppendsFront old new (reports whole) → IfSome known (λ log. AppendsFront old new (reports log))
 reports_front None old new whole l front = tt
 reports_front (Some log) old new whole l front = reports-leads old new whole log l front
 
@@ -88,3 +88,9 @@ more_lines (Some log) whole n l few = omega (arith, ap length l.lines_are, lengt
 pub none_written : (known old : Option (List ℕ)) (text : List ℕ → List ℕ) → IfSome known (λ log. AppendsFront old old (text log))
 none_written None old text = tt
 none_written (Some log) old text = (text log, Owes-all old (text log))
+
+-- a front of the texts of all that was read is one of those of the log
+pub whole_front : {T E : Type 0} (text : List ℕ → List ℕ) (known old new : Option (List ℕ)) (input : List ℕ) (r : Result T E) → IfSome known (λ log. input ≡ log) → OnErr r (AppendsFront old new (text input)) → OnErr r (IfSome known (λ log. AppendsFront old new (text log)))
+whole_front text known old new input (Ok x) is front = tt
+whole_front text None old new input (Err e) is front = tt
+whole_front text (Some log) old new input (Err e) is front = subst (λ t. AppendsFront old new (text t)) is front

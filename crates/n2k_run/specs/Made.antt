@@ -1,0 +1,48 @@
+-- What a run makes of the frames of a log: of each a text, which may be empty, and a worth to the counts.
+use Rattle.std.specs.Prelude.{ℕ, Bool, true, false, List, [], length, count_by}
+use Rattle.std.specs.List.{flat_map}
+use Rattle.n2k_wire.specs.declared.entry.Entry.{Entry}
+use Rattle.n2k_wire.specs.declared.entry.Entry.TheVariants.{Skip, Bad, Frame}
+use Rattle.n2k_wire.specs.declared.entry.Packing.TheVariants.{Frames}
+use Rattle.n2k_wire.specs.Packet.{Parts}
+use Rattle.n2k_run.specs.declared.counts.Counts.{Counts}
+use Rattle.n2k_run.specs.declared.worth.Worth.{Worth}
+use Rattle.n2k_run.specs.declared.worth.Worth.TheVariants.{Message, Unknown, Neither}
+use Rattle.n2k_run.specs.Entries.{entries, is_bad}
+
+abbrev pub is_message : Worth → Bool
+is_message Message = true
+is_message Unknown = false
+is_message Neither = false
+
+abbrev pub is_unknown : Worth → Bool
+is_unknown Message = false
+is_unknown Unknown = true
+is_unknown Neither = false
+
+-- what is written of an entry: of a frame its text, of others nothing
+abbrev pub text_of : (Parts → List ℕ) → Entry → List ℕ
+text_of text Skip = []
+text_of text (Bad cause) = []
+text_of text (Frame packet) = text packet
+
+-- whether an entry is a frame whose worth passes the test
+abbrev pub is_worth : (Worth → Bool) → (Parts → Worth) → Entry → Bool
+is_worth test worth Skip = false
+is_worth test worth (Bad cause) = false
+is_worth test worth (Frame packet) = test (worth packet)
+
+-- the texts of a log's frames, in the order of its lines
+abbrev pub texts_of : (Parts → List ℕ) → List ℕ → List ℕ
+texts_of text log = flat_map (text_of text) (entries Frames log)
+
+-- The counts of a log. Skipped lines count as lines, and there are no groups.
+abbrev pub counts_of : (Parts → Worth) → List ℕ → Counts
+counts_of worth log = record {
+  lines = length (entries Frames log);
+  messages = count_by (is_worth is_message worth) (entries Frames log);
+  bad = count_by is_bad (entries Frames log);
+  unknown = count_by (is_worth is_unknown worth) (entries Frames log);
+  broken = 0;
+  held = 0;
+}

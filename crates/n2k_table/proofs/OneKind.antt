@@ -1,0 +1,106 @@
+-- All definitions of a PGN name the kind of the PGN, where no fault stands.
+use Rattle.std.proofs.Common.{◌≡◌, ℕ, Bool, true, false, not, eqb, leb, length, List, [], ◌∷◌, ◌++◌, Option, Some, None, option_map, unwrap_or, Result, Ok, Err, All, map, refl, sym, ap, subst, IfOk, ◌∙◌, inl, inr, arith}
+use Rattle.std.specs.List.{list_any, find, flat_map, filter_map, AllByRecursion}
+use Rattle.std.proofs.lemmas.Bool.{cases_Bool, or_parts, false≢true}
+use Rattle.std.proofs.lemmas.Bool.Decides.{nat_tests}
+use Rattle.std.proofs.lemmas.List.Elements.{All-from_recursion}
+use Rattle.toml.specs.Data.{Data, Members, no_members}
+use Rattle.n2k_table.specs.declared.definition.Kind.{Kind}
+use Rattle.n2k_table.specs.declared.definition.Kind.TheVariants.{Single, Fast}
+use Rattle.n2k_table.specs.declared.fault.TableFault.{TableFault}
+use Rattle.n2k_table.specs.declared.fault.TableFault.TheVariants.{Format, Key, Mixed, TooMany}
+use Rattle.n2k_table.specs.declared.tree.Place.TheVariants.{Document}
+use Rattle.n2k_table.specs.Fault.{unless, value_or, faults_in, judged, GivesOrMemory}
+use Rattle.n2k_table.specs.Tree.{has_only_keys}
+use Rattle.n2k_table.specs.Definition.{DefinitionParts, definition_faults, definition, pgn_kind, counted_kind}
+use Rattle.n2k_table.specs.Table.{TableParts, is_format_1, is_same_kind, are_mixed, has_mixed, definitions_faults, definitions_of, top_faults, document, document_faults, faults, top_definitions, table, is_of, kind}
+use Rattle.n2k_table.proofs.Each.{nil_parts, judged_ok}
+use Rattle.n2k_table.proofs.DefinitionFaults.{counted_kinds}
+
+-- the kind of a PGN by the first of some definitions
+abbrev kind_in : List DefinitionParts → ℕ → Option Kind
+kind_in ds pgn = option_map (λ d. d.kind) (find (is_of pgn) ds)
+
+same_kind : (a b : Kind) → is_same_kind a b ≡ true → a ≡ b
+same_kind Single Single h = refl
+same_kind Fast Fast h = refl
+same_kind Single Fast h = absurd (false≢true h)
+same_kind Fast Single h = absurd (false≢true h)
+
+not_mixed : (same : Bool) → not same ≡ false → same ≡ true
+not_mixed true h = refl
+not_mixed false h = absurd (false≢true (sym h))
+
+not_true : (b : Bool) → not b ≡ true → b ≡ false
+not_true false h = refl
+not_true true h = absurd (false≢true h)
+
+-- one more definition before them, with which none is mixed, changes no kind
+one : (e d : DefinitionParts) (rest : List DefinitionParts) → kind_in rest d.number ≡ Some d.kind → are_mixed (pgn_kind e) (pgn_kind d) ≡ false
+    → kind_in (e ∷ rest) d.number ≡ Some d.kind
+one e d rest known pure =
+    elim (cases_Bool (eqb e.number d.number)) [
+      | inl same ↦
+          let other : not (is_same_kind e.kind d.kind) ≡ false = rw same at pure in
+          rw same (ap (λ k. Some k) (same_kind e.kind d.kind (not_mixed (is_same_kind e.kind d.kind) other)))
+      | inr differs ↦ rw differs known
+    ]
+
+each_one : (e : DefinitionParts) (rest ds : List DefinitionParts) → AllByRecursion (λ d. kind_in rest d.number ≡ Some d.kind) ds
+    → list_any (are_mixed (pgn_kind e)) (map pgn_kind ds) ≡ false → AllByRecursion (λ d. kind_in (e ∷ rest) d.number ≡ Some d.kind) ds
+each_one e rest [] known pure = tt
+each_one e rest (d ∷ ds) known pure =
+    let p = or_parts (are_mixed (pgn_kind e) (pgn_kind d)) (list_any (are_mixed (pgn_kind e)) (map pgn_kind ds)) pure in
+    (one e d rest known.0 p.0, each_one e rest ds known.1 p.1)
+
+-- definitions of which none are mixed
+kinds_agree : (ds : List DefinitionParts) → has_mixed (map pgn_kind ds) ≡ false → AllByRecursion (λ d. kind_in ds d.number ≡ Some d.kind) ds
+kinds_agree [] pure = tt
+kinds_agree (e ∷ ds) pure =
+    let p = or_parts (list_any (are_mixed (pgn_kind e)) (map pgn_kind ds)) (has_mixed (map pgn_kind ds)) pure in
+    let itself : eqb e.number e.number ≡ true = grind (arith, nat_tests) in
+    (rw itself, each_one e ds ds (kinds_agree ds p.1) p.0)
+
+kept : (b : Bool) (fault : TableFault) → unless b fault ≡ [] → b ≡ true
+kept true fault none = refl
+kept false fault none = absurd cc
+
+-- a table whose definitions have no fault
+definitions_pure : (r : Result (List Data) TableFault) → faults_in r definitions_faults ≡ [] → has_mixed (map pgn_kind (map definition (value_or [] r))) ≡ false
+definitions_pure (Err fault) none = absurd cc
+definitions_pure (Ok ds) none =
+    let a0 = unless (leb (length ds) 4096) TooMany in
+    let a1 = a0 ++ flat_map definition_faults ds in
+    let p1 = nil_parts a1 (unless (not (has_mixed (filter_map counted_kind ds))) Mixed) none in
+    let p0 = nil_parts a0 (flat_map definition_faults ds) p1.0 in
+    let pure : not (has_mixed (filter_map counted_kind ds)) ≡ true = kept _ Mixed p1.1 in
+    let counted = counted_kinds ds p0.1 in
+    ap has_mixed (sym counted) ∙ not_true (has_mixed (filter_map counted_kind ds)) pure
+
+top_pure : (top : Members) → top_faults top ≡ [] → has_mixed (map pgn_kind (top_definitions top)) ≡ false
+top_pure top none =
+    elim (cases_Bool (is_format_1 top)) [
+      | inl known ↦
+          let parts : unless (has_only_keys Document top) Key ++ faults_in (definitions_of top) definitions_faults ≡ [] = rw known at none in
+          definitions_pure (definitions_of top) (nil_parts (unless (has_only_keys Document top) Key) (faults_in (definitions_of top) definitions_faults) parts).1
+      | inr other ↦
+          let parts : Format ∷ [] ≡ [] = rw other at none in
+          absurd cc
+    ]
+
+document_pure : (d : Option Members) → document_faults d ≡ [] → has_mixed (map pgn_kind (top_definitions (unwrap_or d no_members))) ≡ false
+document_pure None none = absurd cc
+document_pure (Some top) none = top_pure top none
+
+-- a table that is read
+pub one_kind : (bytes : List ℕ) → faults bytes ≡ [] → All (λ d. kind (table bytes) d.number ≡ Some d.kind) (table bytes).definitions
+one_kind bytes none =
+    All-from_recursion (λ d. kind (table bytes) d.number ≡ Some d.kind) (table bytes).definitions
+    (kinds_agree (table bytes).definitions (document_pure (document bytes) none))
+
+pub read_kinds : (r : Result TableParts TableFault) (bytes : List ℕ) → GivesOrMemory (λ t. t) r (judged (faults bytes) (table bytes))
+    → IfOk r (λ t. All (λ d. kind t d.number ≡ Some d.kind) t.definitions)
+read_kinds (Ok t) bytes given =
+    let p = judged_ok (faults bytes) (table bytes) t given in
+    subst (λ (t : TableParts). All (λ d. kind t d.number ≡ Some d.kind) t.definitions) p.1 (one_kind bytes p.0)
+read_kinds (Err fault) bytes given = tt

@@ -1,0 +1,6 @@
+-- As many zeros as rounds, behind what stood before.
+use Rattle.std.proofs.Common.{◌≡◌, ◌∷◌, ◌++◌, replicate}
+use Rattle.n2k_table.proofs.decimal.push_filled.Given as goal
+
+abbrev pub invariant-loop : goal.invariant-loop
+invariant-loop l = l.out.items ≡ l.fn.out.items ++ (48 ∷ 46 ∷ replicate l.counter 48)
