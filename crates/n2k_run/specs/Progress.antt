@@ -1,4 +1,4 @@
--- What a run of `plain` has made of the lines so far.
+-- What a run has counted of the lines so far, and which faults its devices may cause.
 use Rattle.std.specs.Prelude.{◌≤◌, ◌+◌, if◌then◌else◌, List, length, count_by}
 use Rattle.n2k_wire.specs.declared.entry.Entry.{Entry}
 use Rattle.n2k_wire.specs.Packet.{Parts}

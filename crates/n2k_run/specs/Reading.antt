@@ -1,11 +1,14 @@
 -- What is taken from a source into a vector, and why reading may end before the source does.
 use Rattle.std.specs.Prelude.{◌≡◌, ◌≤◌, ◌+◌, ℕ, List, ◌++◌, length, Option, IfSome}
 use Rattle.std.specs.Io.KnownBytes.{Consumes}
-use Rattle.n2k_run.specs.declared.reading.TheConstants.{MOST_READS}
 use Rattle.n2k_run.specs.declared.fault.BytesFault.{BytesFault}
 use Rattle.n2k_run.specs.declared.fault.BytesFault.TheVariants.{Read as BytesRead, Memory as BytesMemory}
 use Rattle.n2k_run.specs.declared.reading.ReadFault.{ReadFault}
 use Rattle.n2k_run.specs.declared.reading.ReadFault.TheVariants.{Read, Memory}
+
+-- the most calls of a source that a run makes
+abbrev pub most_reads : ℕ
+most_reads = 1_000_000_000_000
 
 -- a vector gained bytes at its end, which a source gave
 pub record Gains (before after : List ℕ) (old new : Option (List ℕ)) : Type 0 where
@@ -15,11 +18,11 @@ pub record Gains (before after : List ℕ) (old new : Option (List ℕ)) : Type 
 
 -- reading a vector full found no end: each of the most reads gave a byte
 abbrev pub RunsOut : List ℕ → List ℕ → Type 0
-RunsOut before after = length before + MOST_READS ≤ length after
+RunsOut before after = length before + most_reads ≤ length after
 
 -- where the bytes of a source are known, they are at least as many as the most reads
 abbrev pub OutlastsReads : Option (List ℕ) → Type 0
-OutlastsReads known = IfSome known (λ bytes. MOST_READS ≤ length bytes)
+OutlastsReads known = IfSome known (λ bytes. most_reads ≤ length bytes)
 
 -- the same refusal, of a call that has a limit of bytes
 abbrev pub bytes_fault : ReadFault → BytesFault

@@ -1,7 +1,8 @@
 //! The engine of the runs: a log is read whole, and its lines are taken one by one.
-ghost use Rattle.std.specs.Prelude.{◌≡◌, ◌⊎◌, ◌<◌, ◌++◌, List, ℕ, length, OnOk, OnErr, IfOk, IfErr, IfSome, IsErrOf};
+ghost use Rattle.std.specs.Prelude.{◌≤◌, ◌≡◌, ◌⊎◌, ◌<◌, ◌++◌, List, ℕ, length, OnOk, OnErr, IfOk, IfErr, IfSome, IsErrOf};
 ghost use Rattle.std.specs.Io.KnownBytes.{Appends, Consumes, IsAtEnd};
 ghost use Rattle.n2k_run.specs.Device.{HasFailed};
+ghost use Rattle.n2k_run.specs.Entries.{most_lines};
 ghost use Rattle.n2k_run.specs.Lines.{lines, whole_lines};
 ghost use Rattle.n2k_run.specs.Made.{texts_of, counts_of, ReportsFirst};
 ghost use Rattle.n2k_run.specs.Reports.{reports};
@@ -33,7 +34,8 @@ fn print_lines<M: Maker, W: Sink, E: Sink>(
     ensures write { IsErrOf result RunFault.Write → HasFailed (W.failed_calls writer.old) (W.failed_calls writer.new) }
     ensures report_fault { IsErrOf result RunFault.Report → HasFailed (E.failed_calls reporter.old) (E.failed_calls reporter.new) }
     ensures report_first { IsErrOf result RunFault.Write → ReportsFirst (M.text maker.now) log.now (W.contents writer.old) (W.contents writer.new) (E.contents reporter.old) (E.contents reporter.new) }
-    ensures too_many { IsErrOf result RunFault.TooManyLines → MOST_LINES < length (lines log.now) }
+    ensures few { IfOk result (λ counts. counts.lines ≤ most_lines) }
+    ensures too_many { IsErrOf result RunFault.TooManyLines → most_lines < length (lines log.now) }
     ensures no_read { IsErrOf result RunFault.Read → ⊥ }
 {
     let mut progress = Progress::new(alloc);
@@ -74,8 +76,9 @@ pub(crate) fn run_frames_of<M: Maker, R: Source, W: Sink, E: Sink>(
         → HasFailed (R.failed_calls reader.old) (R.failed_calls reader.new) ⊎ OutlastsReads (R.remaining reader.old) }
     ensures write { IsErrOf result RunFault.Write → HasFailed (W.failed_calls writer.old) (W.failed_calls writer.new) }
     ensures report { IsErrOf result RunFault.Report → HasFailed (E.failed_calls reporter.old) (E.failed_calls reporter.new) }
+    ensures few { IfOk result (λ counts. counts.lines ≤ most_lines) }
     ensures too_many { IsErrOf result RunFault.TooManyLines
-        → IfSome (R.remaining reader.old) (λ log. MOST_LINES < length (lines log)) }
+        → IfSome (R.remaining reader.old) (λ log. most_lines < length (lines log)) }
 
     // After Read: the texts of the lines whose LF was read. After any fault: a front of the texts.
     ensures read_lines { IsErrOf result RunFault.Read → (came : List ℕ)

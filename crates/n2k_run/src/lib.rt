@@ -1,4 +1,15 @@
-//! Runs over devices: what is read, what is written, and the lines of a log.
+//! Runs over devices: a log is read, its lines are taken one by one, and texts and reports are written.
+//!
+//! - `run_plain` prints each frame of a log as a plain line, `run_single` the JSON line of each message that fits
+//!   into one frame. Both report each bad line by its number, and answer the `Counts` of the log.
+//! - `Source` and `Sink` are devices: `StdSource` and `StdSink` over the standard library's, `MemorySource` and
+//!   `MemorySink` for tests, whose calls can be short and can fail.
+//! - `read_bytes` reads a source whole, up to a limit. `bad_text` is the report of a bad line, `summary_text` the
+//!   summary of a run.
+//!
+//! A run that answers Ok has written exactly the texts and reports of the log's lines, in their order, and its
+//! counts are the log's. A run that answers a fault has written a front of them: the fault is that of a device
+//! whose call failed, of memory, or of too many lines.
 #![tactic(auto)]
 
 mod counts;

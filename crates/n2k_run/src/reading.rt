@@ -2,7 +2,7 @@
 ghost use Rattle.std.specs.Prelude.{◌≡◌, ◌⊎◌, ◌<◌, ◌≤◌, ◌+◌, ℕ, List, length, IfOk, IfSome, OnOk, OnErr, IsErrOf, vec_len, ◌++◌};
 ghost use Rattle.std.specs.Io.KnownBytes.{Consumes, IsAtEnd, Keeps};
 ghost use Rattle.n2k_run.specs.Device.{HasFailed};
-ghost use Rattle.n2k_run.specs.Reading.{Gains, RunsOut, OutlastsReads, bytes_fault};
+ghost use Rattle.n2k_run.specs.Reading.{Gains, RunsOut, OutlastsReads, bytes_fault, most_reads};
 
 use crate::device::Source;
 use crate::fault::BytesFault;
@@ -91,7 +91,7 @@ pub fn read_bytes<R: Source>(
         → IfSome (R.remaining reader.old) (λ left. limit < length left) }
     ensures read { IsErrOf result BytesFault.Read
         → HasFailed (R.failed_calls reader.old) (R.failed_calls reader.new)
-        ⊎ (OutlastsReads (R.remaining reader.old) × (MOST_READS ≤ limit)) }
+        ⊎ (OutlastsReads (R.remaining reader.old) × (most_reads ≤ limit)) }
     ensures taken { (taken : List ℕ)
         × Consumes (R.remaining reader.old) (R.remaining reader.new) taken × (length taken ≤ limit + 1) }
 {

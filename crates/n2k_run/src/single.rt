@@ -1,8 +1,9 @@
 //! The run of `decode` on single-frame messages.
-ghost use Rattle.std.specs.Prelude.{◌≡◌, ◌⊎◌, ◌<◌, List, ℕ, length, OnOk, OnErr, IfOk, IfSome, IsErrOf};
+ghost use Rattle.std.specs.Prelude.{◌≤◌, ◌≡◌, ◌⊎◌, ◌<◌, List, ℕ, length, OnOk, OnErr, IfOk, IfSome, IsErrOf};
 ghost use Rattle.std.specs.Io.KnownBytes.{Appends, Consumes, IsAtEnd};
 ghost use Rattle.n2k_run.specs.Decoded.{out, decode_counts};
 ghost use Rattle.n2k_run.specs.Device.{HasFailed};
+ghost use Rattle.n2k_run.specs.Entries.{most_lines};
 ghost use Rattle.n2k_run.specs.Lines.{lines, whole_lines};
 ghost use Rattle.n2k_run.specs.Made.{ReportsFirst};
 ghost use Rattle.n2k_run.specs.Reading.{OutlastsReads};
@@ -15,7 +16,6 @@ use crate::device::{Sink, Source};
 use crate::engine::run_frames_of;
 use crate::fault::RunFault;
 use crate::maker::Maker;
-use crate::progress::MOST_LINES;
 use crate::worth::Worth;
 use n2k_table::{Kind, Table, json_line};
 use n2k_wire::Packet;
@@ -70,8 +70,9 @@ pub fn run_single<R: Source, W: Sink, E: Sink>(
         → HasFailed (R.failed_calls reader.old) (R.failed_calls reader.new) ⊎ OutlastsReads (R.remaining reader.old) }
     ensures write { IsErrOf result RunFault.Write → HasFailed (W.failed_calls writer.old) (W.failed_calls writer.new) }
     ensures report { IsErrOf result RunFault.Report → HasFailed (E.failed_calls reporter.old) (E.failed_calls reporter.new) }
+    ensures few { IfOk result (λ counts. counts.lines ≤ most_lines) }
     ensures too_many { IsErrOf result RunFault.TooManyLines
-        → IfSome (R.remaining reader.old) (λ log. MOST_LINES < length (lines log)) }
+        → IfSome (R.remaining reader.old) (λ log. most_lines < length (lines log)) }
 
     // After Read: the texts of the lines whose LF was read. After any fault: a front of the texts.
     ensures read_lines { IsErrOf result RunFault.Read → (came : List ℕ)

@@ -28,7 +28,8 @@ const FRAME_PAYLOAD: usize = 8;
 /// The first number that isn't a CAN identifier of 29 bits.
 const FIRST_ERROR_FRAME: u32 = 0x2000_0000;
 
-/// The first number with the flag of an extended identifier, which `candump -L` doesn't print.
+/// The first number past those of error frames. SocketCAN's flags of remote frames and of extended identifiers
+/// lie here, which `candump -L` doesn't print.
 const FIRST_OTHER: u32 = 0x4000_0000;
 
 fn is_interface_byte(byte: u8) -> bool

@@ -18,7 +18,8 @@ pub enum BadCause {
     Stamp,
     /// 3: pieces are missing.
     Form,
-    /// 4: a CAN identifier of another form than 3 or 8 hexadecimal digits, or of more than 29 bits.
+    /// 4: a CAN identifier of another form than 3 or 8 hexadecimal digits, or of 40000000 and more. From 20000000
+    /// on it is an error frame's, which is skipped.
     Identifier,
     /// 5: a number of a plain line.
     Number,

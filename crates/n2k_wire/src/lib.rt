@@ -1,4 +1,12 @@
 //! Lines of a log, CAN identifiers, packets, and the texts of packets.
+//!
+//! - `read_line` says what a line of a log is (`Entry`): a frame of `candump -L` or a plain line as a `Packet`, a
+//!   line to skip, or a bad line with its cause (`BadCause`).
+//! - `split_id` splits a CAN identifier into priority, PGN, source and destination (`Id`).
+//! - `Packet` holds a message or a frame: its stamp, its `Id`, and up to 223 bytes.
+//! - `plain_text` appends the plain line of a packet. `laws` has what ties these calls together.
+//!
+//! No call but `plain_text` takes memory. Each answer is a stated function of the bytes that were given.
 #![tactic(auto)]
 
 mod candump;
