@@ -38,6 +38,7 @@ pub use reading::{MOST_READS, read_bytes};
 pub use single::run_single;
 pub use standard::{StdSink, StdSource};
 pub use texts::{bad_text, summary_text};
+pub use writing::write_all;
 
 #[cfg(test)]
 mod tests;

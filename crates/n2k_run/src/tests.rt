@@ -39,6 +39,14 @@ fn a_limit_of_bytes(rt: HostRuntime) -> Result<(), Fail> {
         b"abc".as_slice()
     );
 
+    let mut past = MemorySource::new(b"abc", 100, 0);
+    assert!(rt;
+        matches!(
+            read_bytes(rt.alloc(), &mut past, 2),
+            Err(BytesFault::TooLong)
+        )
+    );
+
     let mut long = MemorySource::new(b"abcde", 100, 0);
     let refused = read_bytes(rt.alloc(), &mut long, 2);
     assert!(rt; matches!(refused, Err(BytesFault::TooLong)));

@@ -6,8 +6,9 @@ ghost use Rattle.n2k_run.specs.Writing.{AppendsFront};
 
 use crate::device::{Failed, Sink};
 
-/// Writes the whole text. Where the device fails, a front of the text has been written.
-pub(crate) fn write_all<W: Sink>(writer: &mut W, text: &[u8]) -> Result<(), Failed>
+/// Writes the whole text, by as many calls as the device asks for. Where the device fails, a front of the text has
+/// been written.
+pub fn write_all<W: Sink>(writer: &mut W, text: &[u8]) -> Result<(), Failed>
     ensures written { OnOk result (Appends (W.contents writer.old) (W.contents writer.new) text.now) }
     ensures front { OnErr result (AppendsFront (W.contents writer.old) (W.contents writer.new) text.now) }
     ensures counted { CountsFailure (W.failed_calls writer.old) (W.failed_calls writer.new) result }

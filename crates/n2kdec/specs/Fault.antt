@@ -8,6 +8,10 @@ use Rattle.n2k_table.specs.declared.fault.TableFault.TheVariants as table
 use Rattle.n2kdec.specs.declared.fault.Fault.{Fault}
 use Rattle.n2kdec.specs.declared.fault.Fault.TheVariants.{Words, TableSize, Table, TableFile, Read, Write, Report, Memory, Lines}
 
+-- the most bytes of a table's file
+abbrev pub longest_table : ℕ
+longest_table = 16_777_216
+
 -- the number and the name of a refused table's fault; want of memory is told as everywhere else
 abbrev pub table_line : TableFault → List ℕ
 table_line table.NotToml = codes "n2kdec: table 1 NotToml\n"

@@ -1,6 +1,7 @@
+use crate::commands::{decode, plain};
 use crate::fault::{Fault, exit_status, fault_text, status};
 use crate::words::words;
-use n2k_run::Counts;
+use n2k_run::{Counts, MemorySink, MemorySource};
 use n2k_table::TableFault;
 use std::test::Fail;
 
@@ -143,5 +144,127 @@ fn help_is_no_fault(rt: HostRuntime) -> Result<(), Fail> {
         assert!(rt; text.as_str().starts_with("Help("));
         assert!(rt; text.as_str().contains("Usage: n2kdec"));
     }
+    Ok(())
+}
+
+const COG_AND_SOG: &[u8] = b"(1502979132.106111) can0 09F8027F#00FCFFFF0000FFFF\n";
+
+const SAMPLE: &[u8] = b"format = 1
+
+[[pgn]]
+number = 129026
+kind = \"single\"
+description = \"COG & SOG, Rapid Update\"
+fields = [
+  { name = \"SID\", kind = \"number\", at = 0, bits = 8 },
+  { name = \"COG\", kind = \"number\", at = 16, bits = 16, resolution = \"0.0001\" },
+  { name = \"SOG\", kind = \"number\", at = 32, bits = 16, resolution = \"0.01\" },
+]
+";
+
+#[test]
+fn plain_prints_frames_and_then_the_summary(rt: HostRuntime) -> Result<(), Fail> {
+    let alloc = rt.alloc();
+    let mut log = MemorySource::new(COG_AND_SOG, 7, 0);
+    let (mut output, mut errors) = (MemorySink::new(alloc, 5, 0), MemorySink::new(alloc, 5, 0));
+    let status = plain(alloc, &mut log, &mut output, &mut errors);
+    assert_eq!(rt; status, Ok(0));
+    assert_eq!(rt;
+        output.bytes(),
+        b"2017-08-17T14:12:12.106Z,2,129026,127,255,8,00,fc,ff,ff,00,00,ff,ff\n".as_slice()
+    );
+    assert_eq!(rt;
+        errors.bytes(),
+        b"lines 1 messages 1 bad 0 unknown 0 broken 0 open 0\n".as_slice()
+    );
+    Ok(())
+}
+
+#[test]
+fn a_bad_line_is_reported_and_gives_status_1(rt: HostRuntime) -> Result<(), Fail> {
+    let alloc = rt.alloc();
+    let mut log = MemorySource::new(b"# trip\nhello\n", 100, 0);
+    let (mut output, mut errors) = (
+        MemorySink::new(alloc, 100, 0),
+        MemorySink::new(alloc, 100, 0),
+    );
+    let status = decode(alloc, SAMPLE, &mut log, &mut output, &mut errors);
+    assert_eq!(rt; status, Ok(1));
+    assert_eq!(rt; output.bytes(), b"".as_slice());
+    assert_eq!(rt;
+        errors.bytes(),
+        b"line 2 bad B3 form\nlines 2 messages 0 bad 1 unknown 0 broken 0 open 0\n".as_slice()
+    );
+    Ok(())
+}
+
+#[test]
+fn decode_prints_messages_and_then_the_summary(rt: HostRuntime) -> Result<(), Fail> {
+    let alloc = rt.alloc();
+    let mut log = MemorySource::new(COG_AND_SOG, 100, 0);
+    let (mut output, mut errors) = (
+        MemorySink::new(alloc, 100, 0),
+        MemorySink::new(alloc, 100, 0),
+    );
+    let status = decode(alloc, SAMPLE, &mut log, &mut output, &mut errors);
+    assert_eq!(rt; status, Ok(0));
+    let line = "{\"timestamp\":\"2017-08-17T14:12:12.106Z\",\"prio\":2,\"src\":127,\"dst\":255,\
+        \"pgn\":129026,\"description\":\"COG & SOG, Rapid Update\",\"fields\":{\"SID\":0,\"SOG\":0.00}}\n";
+    assert_eq!(rt; output.bytes(), line.as_bytes());
+    assert_eq!(rt;
+        errors.bytes(),
+        b"lines 1 messages 1 bad 0 unknown 0 broken 0 open 0\n".as_slice()
+    );
+    Ok(())
+}
+
+#[test]
+fn a_refused_table_reads_no_log(rt: HostRuntime) -> Result<(), Fail> {
+    let alloc = rt.alloc();
+    let mut log = MemorySource::new(COG_AND_SOG, 100, 1);
+    let (mut output, mut errors) = (
+        MemorySink::new(alloc, 100, 0),
+        MemorySink::new(alloc, 100, 0),
+    );
+    let status = decode(alloc, b"format = 2", &mut log, &mut output, &mut errors);
+    assert_eq!(rt; status, Err(Fault::Table(TableFault::Format)));
+    assert_eq!(rt; output.bytes(), b"".as_slice());
+    assert_eq!(rt; errors.bytes(), b"".as_slice());
+    Ok(())
+}
+
+#[test]
+fn devices_that_fail(rt: HostRuntime) -> Result<(), Fail> {
+    let alloc = rt.alloc();
+    let mut log = MemorySource::new(COG_AND_SOG, 100, 1);
+    let (mut output, mut errors) = (
+        MemorySink::new(alloc, 100, 0),
+        MemorySink::new(alloc, 100, 0),
+    );
+    assert_eq!(rt;
+        decode(alloc, SAMPLE, &mut log, &mut output, &mut errors),
+        Err(Fault::Read)
+    );
+    assert_eq!(rt; errors.bytes(), b"".as_slice());
+
+    let mut log = MemorySource::new(COG_AND_SOG, 100, 0);
+    let mut output = MemorySink::new(alloc, 100, 1);
+    assert_eq!(rt;
+        decode(alloc, SAMPLE, &mut log, &mut output, &mut errors),
+        Err(Fault::Write)
+    );
+    assert_eq!(rt; errors.bytes(), b"".as_slice());
+
+    // The summary is the first text that goes to the reports.
+    let mut log = MemorySource::new(COG_AND_SOG, 100, 0);
+    let (mut output, mut errors) = (
+        MemorySink::new(alloc, 100, 0),
+        MemorySink::new(alloc, 100, 1),
+    );
+    assert_eq!(rt;
+        decode(alloc, SAMPLE, &mut log, &mut output, &mut errors),
+        Err(Fault::Report)
+    );
+    assert_eq!(rt; errors.bytes(), b"".as_slice());
     Ok(())
 }
