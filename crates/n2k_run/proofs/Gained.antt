@@ -18,10 +18,6 @@ Gains-more before mid after old between new first second = record {
 pub ruleset gain_steps = (Gains-none, Gains-more)
 
 -- a source that gave so many bytes has at least as many
-pub RunsOut-outlasts : (before after : List ℕ) (old new : Option (List ℕ)) → Gains before after old new → RunsOut before after → OutlastsReads old
-RunsOut-outlasts before after None new gains out = tt
-RunsOut-outlasts before after (Some bytes) None gains out = absurd gains.given
-RunsOut-outlasts before after (Some bytes) (Some rest) gains out =
-    let all = ap length gains.appended ∙ length-append before gains.gained in
-    let given = ap length gains.given ∙ length-append gains.gained rest in
-    omega (arith, all, given, out)
+pub RunsOut-outlasts : (before after : List ℕ) (old new : Option (List ℕ)) → Gains before after old new → RunsOut before after → OutlastsReads old new
+RunsOut-outlasts before after old new gains out =
+    (gains.gained, gains.given, omega (arith, out, ap length gains.appended, length-append before gains.gained))

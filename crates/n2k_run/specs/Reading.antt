@@ -1,5 +1,5 @@
 -- What is taken from a source into a vector, and why reading may end before the source does.
-use Rattle.std.specs.Prelude.{◌≡◌, ◌≤◌, ◌+◌, ℕ, List, ◌++◌, length, Option, IfSome}
+use Rattle.std.specs.Prelude.{◌≡◌, ◌≤◌, ◌+◌, ℕ, List, ◌++◌, length, Option}
 use Rattle.std.specs.Io.KnownBytes.{Consumes}
 use Rattle.n2k_run.specs.declared.fault.BytesFault.{BytesFault}
 use Rattle.n2k_run.specs.declared.fault.BytesFault.TheVariants.{Read as BytesRead, Memory as BytesMemory}
@@ -20,9 +20,9 @@ pub record Gains (before after : List ℕ) (old new : Option (List ℕ)) : Type 
 abbrev pub RunsOut : List ℕ → List ℕ → Type 0
 RunsOut before after = length before + most_reads ≤ length after
 
--- where the bytes of a source are known, they are at least as many as the most reads
-abbrev pub OutlastsReads : Option (List ℕ) → Type 0
-OutlastsReads known = IfSome known (λ bytes. most_reads ≤ length bytes)
+-- a source gave at least as many bytes as the most reads
+abbrev pub OutlastsReads : Option (List ℕ) → Option (List ℕ) → Type 0
+OutlastsReads old new = (came : List ℕ) × Consumes old new came × (most_reads ≤ length came)
 
 -- the same refusal, of a call that has a limit of bytes
 abbrev pub bytes_fault : ReadFault → BytesFault

@@ -34,6 +34,8 @@ fn print_lines<M: Maker, W: Sink, E: Sink>(
     ensures write { IsErrOf result RunFault.Write → HasFailed (W.failed_calls writer.old) (W.failed_calls writer.new) }
     ensures report_fault { IsErrOf result RunFault.Report → HasFailed (E.failed_calls reporter.old) (E.failed_calls reporter.new) }
     ensures report_first { IsErrOf result RunFault.Write → ReportsFirst (M.text maker.now) log.now (W.contents writer.old) (W.contents writer.new) (E.contents reporter.old) (E.contents reporter.new) }
+    ensures none_failed { OnOk result ((W.failed_calls writer.new ≡ W.failed_calls writer.old)
+        × (E.failed_calls reporter.new ≡ E.failed_calls reporter.old)) }
     ensures few { IfOk result (λ counts. counts.lines ≤ most_lines) }
     ensures too_many { IsErrOf result RunFault.TooManyLines → most_lines < length (lines log.now) }
     ensures no_read { IsErrOf result RunFault.Read → ⊥ }
@@ -73,9 +75,12 @@ pub(crate) fn run_frames_of<M: Maker, R: Source, W: Sink, E: Sink>(
 
     // A fault has a device, or a limit.
     ensures read { IsErrOf result RunFault.Read
-        → HasFailed (R.failed_calls reader.old) (R.failed_calls reader.new) ⊎ OutlastsReads (R.remaining reader.old) }
+        → HasFailed (R.failed_calls reader.old) (R.failed_calls reader.new) ⊎ OutlastsReads (R.remaining reader.old) (R.remaining reader.new) }
     ensures write { IsErrOf result RunFault.Write → HasFailed (W.failed_calls writer.old) (W.failed_calls writer.new) }
     ensures report { IsErrOf result RunFault.Report → HasFailed (E.failed_calls reporter.old) (E.failed_calls reporter.new) }
+    ensures none_failed { OnOk result ((R.failed_calls reader.new ≡ R.failed_calls reader.old)
+        × (W.failed_calls writer.new ≡ W.failed_calls writer.old)
+        × (E.failed_calls reporter.new ≡ E.failed_calls reporter.old)) }
     ensures few { IfOk result (λ counts. counts.lines ≤ most_lines) }
     ensures too_many { IsErrOf result RunFault.TooManyLines
         → IfSome (R.remaining reader.old) (λ log. most_lines < length (lines log)) }

@@ -9,7 +9,7 @@
 //!
 //! A run that answers Ok has written exactly the texts and reports of the log's lines, in their order, and its
 //! counts are the log's. A run that answers a fault has written a front of them: the fault is that of a device
-//! whose call failed, of memory, or of too many lines.
+//! whose call failed, of memory, of 10^12 reads without an end, or of too many lines.
 #![tactic(auto)]
 
 mod counts;

@@ -58,9 +58,12 @@ pub fn run_plain<R: Source, W: Sink, E: Sink>(
 
     // A fault has a device, or a limit.
     ensures read { IsErrOf result RunFault.Read
-        → HasFailed (R.failed_calls reader.old) (R.failed_calls reader.new) ⊎ OutlastsReads (R.remaining reader.old) }
+        → HasFailed (R.failed_calls reader.old) (R.failed_calls reader.new) ⊎ OutlastsReads (R.remaining reader.old) (R.remaining reader.new) }
     ensures write { IsErrOf result RunFault.Write → HasFailed (W.failed_calls writer.old) (W.failed_calls writer.new) }
     ensures report { IsErrOf result RunFault.Report → HasFailed (E.failed_calls reporter.old) (E.failed_calls reporter.new) }
+    ensures none_failed { OnOk result ((R.failed_calls reader.new ≡ R.failed_calls reader.old)
+        × (W.failed_calls writer.new ≡ W.failed_calls writer.old)
+        × (E.failed_calls reporter.new ≡ E.failed_calls reporter.old)) }
     ensures few { IfOk result (λ counts. counts.lines ≤ most_lines) }
     ensures too_many { IsErrOf result RunFault.TooManyLines
         → IfSome (R.remaining reader.old) (λ log. most_lines < length (lines log)) }

@@ -91,7 +91,7 @@ pub fn read_bytes<R: Source>(
         → IfSome (R.remaining reader.old) (λ left. limit < length left) }
     ensures read { IsErrOf result BytesFault.Read
         → HasFailed (R.failed_calls reader.old) (R.failed_calls reader.new)
-        ⊎ (OutlastsReads (R.remaining reader.old) × (most_reads ≤ limit)) }
+        ⊎ (OutlastsReads (R.remaining reader.old) (R.remaining reader.new) × (most_reads ≤ limit)) }
     ensures taken { (taken : List ℕ)
         × Consumes (R.remaining reader.old) (R.remaining reader.new) taken × (length taken ≤ limit + 1) }
 {

@@ -16,6 +16,7 @@ use std::alloc::Global;
 // The summary of a run that came to its end, and the run's status.
 fn ended<E: Sink>(alloc: Global, counts: &Counts, errors: &mut E) -> Result<u8, Fault>
     ensures written { OnOk result (Appends (E.contents errors.old) (E.contents errors.new) (summary_text counts.now)) }
+    ensures none_failed { OnOk result (E.failed_calls errors.new ≡ E.failed_calls errors.old) }
     ensures status { IfOk result (λ status. status ≡ exit_status counts.now) }
     ensures fault { IfErr result (λ fault. (fault ≡ Fault.Report) ⊎ (fault ≡ Fault.Memory)) }
 {
@@ -38,6 +39,9 @@ pub fn plain<R: Source, W: Sink, E: Sink>(
     ensures text { OnOk result (IfSome (R.remaining log.old) (λ bytes. Appends (W.contents output.old) (W.contents output.new) (plain_out bytes))) }
     ensures report { OnOk result (IfSome (R.remaining log.old) (λ bytes. Appends (E.contents errors.old) (E.contents errors.new) (reports bytes ++ summary_text (plain_counts bytes)))) }
     ensures status { IfOk result (λ status. IfSome (R.remaining log.old) (λ bytes. status ≡ exit_status (plain_counts bytes))) }
+    ensures none_failed { OnOk result ((R.failed_calls log.new ≡ R.failed_calls log.old)
+        × (W.failed_calls output.new ≡ W.failed_calls output.old)
+        × (E.failed_calls errors.new ≡ E.failed_calls errors.old)) }
     ensures end { IfOk result (λ status. status ≤ 1) }
     ensures fault { IfErr result (λ fault. status_of fault ≡ 3) }
 {
@@ -57,6 +61,9 @@ pub fn decode<R: Source, W: Sink, E: Sink>(
     ensures text { OnOk result (IfSome (R.remaining log.old) (λ bytes. Appends (W.contents output.old) (W.contents output.new) (out (table_of table.now) bytes))) }
     ensures report { OnOk result (IfSome (R.remaining log.old) (λ bytes. Appends (E.contents errors.old) (E.contents errors.new) (reports bytes ++ summary_text (decode_counts (table_of table.now) bytes)))) }
     ensures status { IfOk result (λ status. IfSome (R.remaining log.old) (λ bytes. status ≡ exit_status (decode_counts (table_of table.now) bytes))) }
+    ensures none_failed { OnOk result ((R.failed_calls log.new ≡ R.failed_calls log.old)
+        × (W.failed_calls output.new ≡ W.failed_calls output.old)
+        × (E.failed_calls errors.new ≡ E.failed_calls errors.old)) }
     ensures end { IfOk result (λ status. status ≤ 1) }
     ensures read { OnOk result (faults table.now ≡ []) }
     ensures refused { (fault : TableFault) → IsErrOf result (Fault.Table fault) → fault ≢ TableFault.Memory
