@@ -1,8 +1,12 @@
 //! The commands over their devices: what they print, and the status that they end with.
-ghost use Rattle.std.specs.Prelude.{◌≡◌, ◌≢◌, ◌⊎◌, ◌≤◌, ◌++◌, [], Contains, IfErr, IfOk, IfSome, IsErrOf, OnOk};
+ghost use Rattle.std.specs.Prelude.{◌≡◌, ◌≢◌, ◌⊎◌, ◌<◌, ◌≤◌, ◌++◌, [], Contains, IfErr, IfOk, IfSome, IsErrOf, OnOk, length};
 ghost use Rattle.std.specs.Io.KnownBytes.{Appends};
 ghost use Rattle.n2k_run.specs.Decoded.{decode_counts, out};
+ghost use Rattle.n2k_run.specs.Device.{HasFailed};
+ghost use Rattle.n2k_run.specs.Entries.{most_lines};
+ghost use Rattle.n2k_run.specs.Lines.{lines};
 ghost use Rattle.n2k_run.specs.Plain.{plain_counts, plain_out};
+ghost use Rattle.n2k_run.specs.Reading.{OutlastsReads};
 ghost use Rattle.n2k_run.specs.Reports.{reports, summary_text};
 ghost use Rattle.n2k_table.specs.Table.{faults, table as table_of};
 ghost use Rattle.n2k_table.specs.declared.fault.TableFault.{TableFault};
@@ -19,6 +23,7 @@ fn ended<E: Sink>(alloc: Global, counts: &Counts, errors: &mut E) -> Result<u8, 
     ensures none_failed { OnOk result (E.failed_calls errors.new ≡ E.failed_calls errors.old) }
     ensures status { IfOk result (λ status. status ≡ exit_status counts.now) }
     ensures fault { IfErr result (λ fault. (fault ≡ Fault.Report) ⊎ (fault ≡ Fault.Memory)) }
+    ensures report { IsErrOf result Fault.Report → HasFailed (E.failed_calls errors.old) (E.failed_calls errors.new) }
 {
     let mut summary = Vec::new(alloc);
     summary_text(alloc, counts, &mut summary)?;
@@ -44,6 +49,11 @@ pub fn plain<R: Source, W: Sink, E: Sink>(
         × (E.failed_calls errors.new ≡ E.failed_calls errors.old)) }
     ensures end { IfOk result (λ status. status ≤ 1) }
     ensures fault { IfErr result (λ fault. status_of fault ≡ 3) }
+    ensures read_fault { IsErrOf result Fault.Read
+        → HasFailed (R.failed_calls log.old) (R.failed_calls log.new) ⊎ OutlastsReads (R.remaining log.old) (R.remaining log.new) }
+    ensures write_fault { IsErrOf result Fault.Write → HasFailed (W.failed_calls output.old) (W.failed_calls output.new) }
+    ensures report_fault { IsErrOf result Fault.Report → HasFailed (E.failed_calls errors.old) (E.failed_calls errors.new) }
+    ensures lines_fault { IsErrOf result Fault.Lines → IfSome (R.remaining log.old) (λ bytes. most_lines < length (lines bytes)) }
 {
     let counts = run_plain(alloc, log, output, errors)?;
     ended(alloc, &counts, errors)
@@ -68,6 +78,11 @@ pub fn decode<R: Source, W: Sink, E: Sink>(
     ensures read { OnOk result (faults table.now ≡ []) }
     ensures refused { (fault : TableFault) → IsErrOf result (Fault.Table fault) → fault ≢ TableFault.Memory
         → Contains (faults table.now) fault }
+    ensures read_fault { IsErrOf result Fault.Read
+        → HasFailed (R.failed_calls log.old) (R.failed_calls log.new) ⊎ OutlastsReads (R.remaining log.old) (R.remaining log.new) }
+    ensures write_fault { IsErrOf result Fault.Write → HasFailed (W.failed_calls output.old) (W.failed_calls output.new) }
+    ensures report_fault { IsErrOf result Fault.Report → HasFailed (E.failed_calls errors.old) (E.failed_calls errors.new) }
+    ensures lines_fault { IsErrOf result Fault.Lines → IfSome (R.remaining log.old) (λ bytes. most_lines < length (lines bytes)) }
 {
     let table = Table::read(alloc, table)?;
     let counts = run_single(alloc, &table, log, output, errors)?;
