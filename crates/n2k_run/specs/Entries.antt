@@ -6,10 +6,6 @@ use Rattle.n2k_wire.specs.declared.entry.Packing.{Packing}
 use Rattle.n2k_wire.specs.Entry.{entry}
 use Rattle.n2k_run.specs.Lines.{lines}
 
--- the most lines of a log
-abbrev pub most_lines : ℕ
-most_lines = 999_999_999_999_999
-
 -- the entry of each line, in order
 abbrev pub entries : Packing → List ℕ → List Entry
 entries packing log = map (λ line. entry line packing) (lines log)

@@ -7,7 +7,7 @@ use Rattle.n2k_wire.specs.declared.entry.Entry.{Entry}
 use Rattle.n2k_wire.specs.declared.entry.Entry.TheVariants.{Skip, Bad, Frame}
 use Rattle.n2k_wire.specs.declared.entry.Packing.TheVariants.{Frames}
 use Rattle.n2k_run.specs.Entries.{entries}
-use Rattle.n2k_run.specs.declared.counts.Counts.{Counts}
+use Rattle.n2k_join.specs.declared.counts.Counts.{Counts}
 
 -- a cause's number and word
 abbrev pub cause_text : BadCause → List ℕ

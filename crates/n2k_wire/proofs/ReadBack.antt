@@ -15,7 +15,7 @@ use Rattle.n2k_wire.specs.declared.entry.Packing.{Packing}
 use Rattle.n2k_wire.specs.declared.entry.Packing.TheVariants as packings
 use Rattle.n2k_wire.specs.Digits.{decimal_digit, decimal_after, decimal_number}
 use Rattle.n2k_wire.specs.Entry.{entry, is_skipped, is_candump, settled}
-use Rattle.n2k_wire.specs.Packet.{Parts, IsPacketParts, is_printable, is_stamp, is_stamp_byte, starts_stamp}
+use Rattle.n2k_wire.specs.Packet.{PacketParts, IsPacketParts, is_printable, is_stamp, is_stamp_byte, starts_stamp}
 use Rattle.n2k_wire.specs.Plain.{pieces, number_to, pair, pairs, header, id_of, bytes_of, plain_of, plain_pieces, plain}
 use Rattle.n2k_wire.specs.Texts.{byte_piece, number_piece, plain_line}
 use Rattle.n2k_wire.proofs.PlainLemmas.{bytes_of-pairs}
@@ -180,7 +180,7 @@ plain_entry line packing short kept other =
     let fits : ltb 2048 (length line) ≡ false = le-ltb 2048 (length line) short in
     rw (fits, kept, other) refl
 
-module _ (p : Parts) (ok : IsPacketParts p) (short : length p.payload ≤ 8) where
+module _ (p : PacketParts) (ok : IsPacketParts p) (short : length p.payload ≤ 8) where
   stamp_is : (starts_stamp p.stamp ≡ true) × (length p.stamp ≤ 32) × HasNoComma p.stamp
   stamp_is = stamp_parts p.stamp ok.packet_ok.stamp_ok
 
