@@ -13,7 +13,7 @@ use Rattle.hex.proofs.HexLemmas.{IsDigits-lower_digits, decode_sized-encode_lowe
 use Rattle.n2k_wire.specs.declared.entry.Packing.{Packing}
 use Rattle.n2k_wire.specs.Digits.{decimal_digit, decimal_after, decimal_number}
 use Rattle.n2k_wire.specs.Entry.{entry, is_skipped, is_candump, settled}
-use Rattle.n2k_wire.specs.Packet.{Parts, IsPacketParts, is_printable, is_stamp, is_stamp_byte, starts_stamp}
+use Rattle.n2k_wire.specs.Packet.{PacketParts, IsPacketParts, is_printable, is_stamp, is_stamp_byte, starts_stamp}
 use Rattle.n2k_wire.specs.Plain.{pieces, number_to, pair, pairs, header, id_of, bytes_of, packed, plain_of, plain_pieces, plain}
 use Rattle.n2k_wire.specs.Texts.{byte_piece, number_piece, plain_line}
 use Rattle.n2k_wire.proofs.PlainLemmas.{bytes_of-pairs}
@@ -178,7 +178,7 @@ plain_entry line packing short kept other =
     let fits : ltb 2048 (length line) ≡ false = le-ltb 2048 (length line) short in
     rw (fits, kept, other) refl
 
-module _ (p : Parts) (packing : Packing) (ok : IsPacketParts p) where
+module _ (p : PacketParts) (packing : Packing) (ok : IsPacketParts p) where
   stamp_is : (starts_stamp p.stamp ≡ true) × (length p.stamp ≤ 32) × HasNoComma p.stamp
   stamp_is = stamp_parts p.stamp ok.packet_ok.stamp_ok
 

@@ -12,7 +12,7 @@ use Rattle.n2k_wire.specs.declared.entry.Packing.TheVariants as packings
 use Rattle.n2k_wire.specs.declared.identifier.Id.{Id}
 use Rattle.n2k_wire.specs.Candump.{frame_payload}
 use Rattle.n2k_wire.specs.Digits.{decimal_number}
-use Rattle.n2k_wire.specs.Packet.{Parts, is_stamp, greatest_pgn, greatest_priority, longest_message}
+use Rattle.n2k_wire.specs.Packet.{PacketParts, is_stamp, greatest_pgn, greatest_priority, longest_message}
 use Rattle.n2k_wire.specs.Steps.{◌>>=◌, or_cause, holds_or, some_if}
 
 -- the most digits of a number
@@ -73,7 +73,7 @@ is_frame packings.Frames len = nat_le len frame_payload
 is_frame packings.Whole len = false
 
 -- a plain line's packet, as a frame or as a whole message
-abbrev pub packed : Packing → Parts → Entry
+abbrev pub packed : Packing → PacketParts → Entry
 packed packing p = if is_frame packing (length p.payload) then entries.Frame p else entries.Whole p
 
 -- the entry of a plain line whose pieces are these, or the first of its causes

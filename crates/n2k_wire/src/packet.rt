@@ -29,9 +29,9 @@ pub struct Packet {
 }
 
 impl Model for Packet {
-    ghost use Rattle.n2k_wire.specs.Packet.{Parts, IsPacket};
+    ghost use Rattle.n2k_wire.specs.Packet.{PacketParts, IsPacket};
 
-    ghost Value = { Parts };
+    ghost Value = { PacketParts };
 
     ghost view = { λ p. record { stamp = p.stamp.items; id = p.id; payload = p.«data».items } };
 

@@ -7,7 +7,7 @@ fn shown(alloc: Global, line: &[u8]) -> Result<String, Fail> {
     match read_line(line, Packing::Frames) {
         Entry::Skip => Ok("skipped".to_string(alloc)?),
         Entry::Bad(cause) => Ok(format!(in alloc; "{cause:?}")?),
-        Entry::Frame(packet) => {
+        Entry::Frame(packet) | Entry::Whole(packet) => {
             let mut text = Vec::new(alloc);
             plain_text(alloc, &packet, &mut text)?;
             Ok(String::from_utf8(text)?)
