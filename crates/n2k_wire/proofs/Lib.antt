@@ -4,3 +4,4 @@ pub mod HexDigits
 pub mod PieceLemmas
 pub mod PlainLemmas
 pub mod ReadBack
+pub mod TextLemmas

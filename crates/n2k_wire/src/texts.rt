@@ -4,18 +4,22 @@ ghost use Rattle.std.specs.List.{flat_map};
 ghost use Rattle.arrayvec.specs.ArrayVec.{array_vec_len};
 ghost use Rattle.n2k_wire.specs.Texts.{byte_piece, number_piece, plain_text};
 
+use crate::candump::FRAME_PAYLOAD;
 use crate::packet::Packet;
 use arrayvec::ArrayVec;
 use std::alloc::{AllocError, Global};
 
-/// Room for a plain line: a stamp, five numbers, 223 bytes of three characters each, and the LF.
+/// Room for the plain line of a frame: a stamp, five numbers, 8 bytes of three characters each, and the LF.
+const FRAME_ROOM: usize = 96;
+
+/// Room for any plain line, of up to 223 bytes.
 const LINE_ROOM: usize = 768;
 
-type Line = ArrayVec<u8, LINE_ROOM>;
+const DIGITS: [u8; 16] = *b"0123456789abcdef";
 
 #[inline]
-fn push_number(line: &mut Line, number: u32)
-    requires { array_vec_len line.old + 11 ≤ 768 }
+fn push_number<const ROOM: usize>(line: &mut ArrayVec<u8, ROOM>, number: u32)
+    requires { array_vec_len line.old + 11 ≤ ROOM }
     ensures items { line.new.items ≡ line.old.items ++ number_piece number }
     ensures len { array_vec_len line.new ≤ array_vec_len line.old + 11 }
 {
@@ -24,20 +28,44 @@ fn push_number(line: &mut Line, number: u32)
     let _ = line.try_extend_from_slice(buffer.format(number).as_bytes());
 }
 
-fn push_byte(line: &mut Line, byte: u8)
-    requires { array_vec_len line.old + 3 ≤ 768 }
+#[inline]
+fn push_small<const ROOM: usize>(line: &mut ArrayVec<u8, ROOM>, number: u8)
+    requires { array_vec_len line.old + 4 ≤ ROOM }
+    ensures items { line.new.items ≡ line.old.items ++ number_piece number }
+    ensures len { array_vec_len line.new ≤ array_vec_len line.old + 4 }
+{
+    let ones = b'0' + number % 10;
+    let tens = b'0' + number / 10 % 10;
+    let hundreds = b'0' + number / 100;
+    let _ = match number {
+        0..=9 => line.try_extend_from_slice(&[b',', ones]),
+        10..=99 => line.try_extend_from_slice(&[b',', tens, ones]),
+        _ => line.try_extend_from_slice(&[b',', hundreds, tens, ones]),
+    };
+}
+
+// A byte as a piece of a plain line.
+#[tactic(auto, unfolding(hex::specs::Hex::encode_with))]
+fn byte_piece(byte: u8) -> [u8; 3]
+    ensures { result ≡ byte_piece byte }
+{
+    let high = DIGITS[usize::from(byte / 16)];
+    let low = DIGITS[usize::from(byte % 16)];
+    [b',', high, low]
+}
+
+#[inline]
+fn push_byte<const ROOM: usize>(line: &mut ArrayVec<u8, ROOM>, byte: u8)
+    requires { array_vec_len line.old + 3 ≤ ROOM }
     ensures items { line.new.items ≡ line.old.items ++ byte_piece byte }
     ensures len { array_vec_len line.new ≡ array_vec_len line.old + 3 }
 {
-    let mut digits = [0; 2];
-    let _ = hex::encode_to_slice(&[byte], &mut digits);
-    line.push(b',');
-    line.push(digits[0]);
-    line.push(digits[1]);
+    let _ = line.try_extend_from_slice(&byte_piece(byte));
 }
 
-fn push_bytes(line: &mut Line, bytes: &[u8])
-    requires { array_vec_len line.old + 3 * length bytes.now ≤ 768 }
+#[inline]
+fn push_bytes<const ROOM: usize>(line: &mut ArrayVec<u8, ROOM>, bytes: &[u8])
+    requires { array_vec_len line.old + 3 * length bytes.now ≤ ROOM }
     ensures items { line.new.items ≡ line.old.items ++ flat_map byte_piece bytes.now }
     ensures len { array_vec_len line.new ≡ array_vec_len line.old + 3 * length bytes.now }
 {
@@ -46,23 +74,36 @@ fn push_bytes(line: &mut Line, bytes: &[u8])
     }
 }
 
-/// Appends the plain line of a packet, `stamp,prio,pgn,src,dst,len,b0,b1,..` with its LF: numbers without
-/// leading zeros, each byte as two digits in lower case. `out` is as it was where memory is refused.
+/// The plain line of a packet, with its LF.
+#[inline]
 #[tactic(auto, unfolding(crate::specs::Texts::plain_line))]
-pub fn plain_text(_alloc: Global, packet: &Packet, out: &mut Vec<u8>) -> Result<(), AllocError>
-    ensures ok { OnOk result (out.new.items ≡ out.old.items ++ plain_text packet.now) }
-    ensures err { OnErr result (out.new.items ≡ out.old.items) }
+fn line_of<const ROOM: usize>(packet: &Packet) -> ArrayVec<u8, ROOM>
+    requires { 60 + 3 * length packet.now.payload ≤ ROOM }
+    ensures { result.items ≡ plain_text packet.now }
 {
     let id = packet.id();
     let data = packet.data();
     let mut line = ArrayVec::new();
     let _ = line.try_extend_from_slice(packet.stamp());
-    push_number(&mut line, u32::from(id.prio));
+    push_small(&mut line, id.prio);
     push_number(&mut line, id.pgn);
-    push_number(&mut line, u32::from(id.src));
-    push_number(&mut line, u32::from(id.dst));
-    push_number(&mut line, data.len() as u32);
+    push_small(&mut line, id.src);
+    push_small(&mut line, id.dst);
+    push_small(&mut line, data.len() as u8);
     push_bytes(&mut line, data);
     line.push(b'\n');
-    out.extend_from_slice(line.as_slice())
+    line
+}
+
+/// Appends the plain line of a packet, `stamp,prio,pgn,src,dst,len,b0,b1,..` with its LF: numbers without
+/// leading zeros, each byte as two digits in lower case. `out` is as it was where memory is refused.
+pub fn plain_text(_alloc: Global, packet: &Packet, out: &mut Vec<u8>) -> Result<(), AllocError>
+    ensures ok { OnOk result (out.new.items ≡ out.old.items ++ plain_text packet.now) }
+    ensures unchanged { OnErr result (out.new.items ≡ out.old.items) }
+{
+    if packet.data().len() <= FRAME_PAYLOAD {
+        out.extend_from_slice(line_of::<FRAME_ROOM>(packet).as_slice())
+    } else {
+        out.extend_from_slice(line_of::<LINE_ROOM>(packet).as_slice())
+    }
 }
