@@ -3,7 +3,7 @@ ghost use Rattle.std.specs.Prelude.{◌≡◌, ◌≤◌, ◌<◌, IfSome, IsTru
 ghost use Rattle.n2k_wire.specs.Steps.{Finds};
 ghost use Rattle.std.specs.List.{list_all};
 ghost use Rattle.n2k_wire.specs.Packet.{is_stamp, is_stamp_byte};
-ghost use Rattle.n2k_wire.specs.Moments.{plain_moment};
+ghost use Rattle.n2k_wire.specs.PrivateWords.{plain_moment};
 ghost use Rattle.n2k_wire.specs.Stamp.{IsMoment, moment, three_digits, two_digits, date_text, time_text, utc_text};
 ghost use Rattle.n2k_wire.specs.Calendar.{year_of, month_of, day_of_month};
 

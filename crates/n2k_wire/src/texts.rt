@@ -74,16 +74,18 @@ fn push_bytes<const ROOM: usize>(line: &mut ArrayVec<u8, ROOM>, bytes: &[u8])
     }
 }
 
-/// The plain line of a packet, with its LF.
-#[inline]
+/// Appends the plain line of a packet, which is built in an array of that room.
+#[inline(never)]
 #[tactic(auto, unfolding(crate::specs::Texts::plain_line))]
-fn line_of<const ROOM: usize>(packet: &Packet) -> ArrayVec<u8, ROOM>
-    requires { 60 + 3 * length packet.now.payload ≤ ROOM }
-    ensures { result.items ≡ plain_text packet.now }
+fn append_line<const ROOM: usize>(packet: &Packet, out: &mut Vec<u8>) -> Result<(), AllocError>
+    requires fits { 60 + 3 * length packet.now.payload ≤ ROOM }
+    requires small { ROOM ≤ 768 }
+    ensures ok { OnOk result (out.new.items ≡ out.old.items ++ plain_text packet.now) }
+    ensures unchanged { OnErr result (out.new.items ≡ out.old.items) }
 {
     let id = packet.id();
     let data = packet.data();
-    let mut line = ArrayVec::new();
+    let mut line = ArrayVec::<u8, ROOM>::new();
     let _ = line.try_extend_from_slice(packet.stamp());
     push_small(&mut line, id.prio);
     push_number(&mut line, id.pgn);
@@ -92,7 +94,7 @@ fn line_of<const ROOM: usize>(packet: &Packet) -> ArrayVec<u8, ROOM>
     push_small(&mut line, data.len() as u8);
     push_bytes(&mut line, data);
     line.push(b'\n');
-    line
+    out.extend_from_slice(line.as_slice())
 }
 
 /// Appends the plain line of a packet, `stamp,prio,pgn,src,dst,len,b0,b1,..` with its LF: numbers without
@@ -102,8 +104,8 @@ pub fn plain_text(_alloc: Global, packet: &Packet, out: &mut Vec<u8>) -> Result<
     ensures unchanged { OnErr result (out.new.items ≡ out.old.items) }
 {
     if packet.data().len() <= FRAME_PAYLOAD {
-        out.extend_from_slice(line_of::<FRAME_ROOM>(packet).as_slice())
+        append_line::<FRAME_ROOM>(packet, out)
     } else {
-        out.extend_from_slice(line_of::<LINE_ROOM>(packet).as_slice())
+        append_line::<LINE_ROOM>(packet, out)
     }
 }
