@@ -7,7 +7,7 @@ ghost use Rattle.n2k_wire.specs.Packet.{IsPacket};
 ghost use Rattle.n2k_wire.specs.Steps.{Finds, Gives};
 
 use crate::candump::FRAME_PAYLOAD;
-use crate::digits::{decimal_number, hex_value, is_hex_digit};
+use crate::digits::{decimal_number, is_hex_digit, spelled_byte};
 use crate::entry::{BadCause, Entry, Packing};
 use crate::identifier::Id;
 use crate::packet::{GREATEST_PGN, GREATEST_PRIORITY, LONGEST_MESSAGE, Packet, is_stamp};
@@ -96,7 +96,7 @@ fn read_pair(piece: &[u8]) -> Option<u8>
 {
     match piece {
         [high, low] if is_hex_digit(*high) & is_hex_digit(*low) => {
-            Some(hex_value(*high) * 16 + hex_value(*low))
+            Some(spelled_byte(*high, *low))
         }
         _ => None,
     }
