@@ -5,3 +5,4 @@ pub mod PieceLemmas
 pub mod PlainLemmas
 pub mod ReadBack
 pub mod TextLemmas
+pub mod IdentifierLemmas

@@ -1,14 +1,22 @@
 //! Laws that hold of the definitions: each is the contract of a function that does nothing.
-ghost use Rattle.std.specs.Prelude.{◌≡◌};
+ghost use Rattle.std.specs.Prelude.{◌≡◌, ℕ, ◌<◌, ◌^◌, Some};
 ghost use Rattle.n2k_wire.specs.Entry.{entry};
+ghost use Rattle.n2k_wire.specs.Identifier.{join, split};
 ghost use Rattle.n2k_wire.specs.Packet.{PacketParts, IsPacketParts};
 ghost use Rattle.n2k_wire.specs.Plain.{packed};
 ghost use Rattle.n2k_wire.specs.Texts.{plain_line};
 
 use crate::entry::Packing;
+use crate::identifier::Id;
 
 /// The plain line of a packet is read as that packet, with the same stamp, identifier and data: as a whole message
 /// under `Packing::Whole` or with more than 8 bytes, else as a frame.
 pub fn plain_line_reads_back()
     ensures { (p : PacketParts) (packing : Packing) → IsPacketParts p → entry (plain_line p) packing ≡ packed packing p }
+{}
+
+/// An identifier is split into what it says, and what it says is joined to that identifier, both ways.
+pub fn identifiers_round_trip()
+    ensures joined { (id : Id) (n : ℕ) → id.src < 2 ^ 8 → id.dst < 2 ^ 8 → join id ≡ Some n → split n ≡ id }
+    ensures split_up { (n : ℕ) → n < 2 ^ 29 → join (split n) ≡ Some n }
 {}

@@ -2,7 +2,7 @@
 //!
 //! - `read_line` says what a line of a log is (`Entry`): a frame or a whole message as a `Packet`, a line to skip, or
 //!   a bad line with its cause (`BadCause`). A line is one of `candump -L` or a plain line.
-//! - `split_id` splits a CAN identifier into priority, PGN, source and destination (`Id`).
+//! - `split_id` splits a CAN identifier into priority, PGN, source and destination (`Id`), and `join_id` joins them.
 //! - `Packet` holds a message or a frame: its stamp, its `Id`, and up to 223 bytes.
 //! - `plain_text` appends the plain line of a packet. `laws` has what ties these calls together.
 //!
@@ -21,7 +21,7 @@ mod stamp;
 mod texts;
 
 pub use entry::{BadCause, Entry, LONGEST_LINE, Packing, read_line};
-pub use identifier::{Id, split_id};
+pub use identifier::{Id, join_id, split_id};
 pub use packet::Packet;
 pub use texts::plain_text;
 
