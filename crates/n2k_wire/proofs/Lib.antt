@@ -6,3 +6,4 @@ pub mod PlainLemmas
 pub mod ReadBack
 pub mod TextLemmas
 pub mod IdentifierLemmas
+pub mod CandumpLemmas

@@ -75,9 +75,7 @@ pub fn spelled_byte(high: u8, low: u8) -> u8
     requires low { is_ascii_hexdigit low ≡ true }
     ensures { result ≡ hex_value high * 16 + hex_value low }
 {
-    // In 32 bits, so that no step has to be cut to eight.
-    let (high, low) = (u32::from(high), u32::from(low));
-    ((high % 16 + high / 64 * 9) * 16 + low % 16 + low / 64 * 9) as u8
+    (high % 16 + high / 64 * 9) * 16 + low % 16 + low / 64 * 9
 }
 
 /// The bytes that up to eight pairs of hexadecimal digits spell, as `hex` decodes them.
