@@ -7,3 +7,4 @@ pub mod ReadBack
 pub mod TextLemmas
 pub mod IdentifierLemmas
 pub mod CandumpLemmas
+pub mod UtcBack
