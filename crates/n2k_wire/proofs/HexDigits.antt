@@ -96,7 +96,7 @@ all_digits p (b ∷ text) all =
     rw first.0 (omega arith)
 
 -- a byte that is no digit has no value
-hex_digit_value-none : (digit : ℕ) → is_ascii_hexdigit digit ≡ false → hex_digit_value digit ≡ None
+pub hex_digit_value-none : (digit : ℕ) → is_ascii_hexdigit digit ≡ false → hex_digit_value digit ≡ None
 hex_digit_value-none digit e = grind (arith, nat_tests)
 
 -- two digits spell one byte

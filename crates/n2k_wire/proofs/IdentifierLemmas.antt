@@ -99,6 +99,18 @@ join_split id n src dst e =
       | inr fails ↦ absurd (join_none id n fails e)
     ]
 
+-- an identifier has 29 bits
+pub join_bits : (id : Id) (n : ℕ) → id.src < 2 ^ 8 → id.dst < 2 ^ 8 → join id ≡ Some n → n < 2 ^ 29
+join_bits id n src dst e =
+    elim (cases_Bool (is_joinable id)) [
+      | inl holds ↦
+          let number : number_of id ≡ n = let same = sym (join_some id holds) ∙ e in cc in
+          let facts = joinable id holds in
+          let specific : specific_of id < 256 = elim (cases_Bool (is_addressed id.pgn)) [ inl one ↦ rw one dst | inr all ↦ rw all (omega arith) ] in
+          omega (arith, facts.0, facts.1)
+      | inr fails ↦ absurd (join_none id n fails e)
+    ]
+
 -- a PGN with its page, its format and its low byte
 format_is_of : (page format low : ℕ) → format < 256 → low < 256 → format_of (page * 2 ^ 16 + format * 2 ^ 8 + low) ≡ format
 format_is_of page format low f l = omega arith

@@ -8,3 +8,4 @@ pub mod TextLemmas
 pub mod IdentifierLemmas
 pub mod CandumpLemmas
 pub mod UtcBack
+pub mod CandumpBack

@@ -124,7 +124,7 @@ more_digits_read n text h front = (
 )
 
 -- the decimal digits of a number are read as that number
-decimal_reads : (n : ℕ) → n < 2 ^ 64 → IsReadAs n (decimal n)
+pub decimal_reads : (n : ℕ) → n < 2 ^ 64 → IsReadAs n (decimal n)
 decimal_reads n h = decimal_by_steps IsReadAs one_digit_reads more_digits_read n h
 
 number_no_comma : (n : ℕ) → n < 10 ^ 10 → HasNoComma (decimal n)

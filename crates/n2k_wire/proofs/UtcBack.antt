@@ -1,5 +1,5 @@
 -- The text `YYYY-MM-DDTHH:MM:SS.mmmZ` of the moment that such a text names is that text.
-use Rattle.std.proofs.Common.{◌≡◌, ℕ, suc, ◌+◌, ◌-◌, ◌*◌, ◌/◌, ◌%◌, ◌<◌, ◌≤◌, Bool, true, false, List, [], ◌∷◌, ◌++◌, length, get_or, take, drop, Option, Some, None, refl, sym, ap, subst, ◌∙◌, append_assoc, arith, ltb, leb, pos, inl, inr}
+use Rattle.std.proofs.Common.{◌≡◌, ℕ, suc, ◌+◌, ◌-◌, ◌*◌, ◌/◌, ◌%◌, ◌<◌, ◌≤◌, Bool, true, false, List, [], ◌∷◌, ◌++◌, length, take, drop, Option, Some, None, refl, sym, ap, subst, ◌∙◌, append_assoc, arith, ltb, leb, pos, inl, inr}
 use Rattle.std.specs.Prelude.{codes, option_and_then, slice_index, ◌&&◌, ◌==◌}
 use Rattle.std.specs.Char.{is_ascii_digit}
 use Rattle.std.proofs.lemmas.Bool.{and_parts, cases_Bool, eqb-true, leb-true, ltb-true}
@@ -197,8 +197,7 @@ civil_of y m d few date =
     let p4 = and_parts (leb 1970 y && leb 1 m && leb m 12 && leb 1 d) (leb d (days_in_month (pos y) m)) date in
     let p3 = and_parts (leb 1970 y && leb 1 m && leb m 12) (leb 1 d) p4.0 in
     let p2 = and_parts (leb 1970 y && leb 1 m) (leb m 12) p3.0 in
-    let p1 = and_parts (leb 1970 y) (leb 1 m) p2.0 in
-    (
+    let p1 = and_parts (leb 1970 y) (leb 1 m) p2.0 in (
       leb-true 1970 y p1.0,
       (
         (omega (arith, signed_arith), omega (arith, signed_arith)),
@@ -243,8 +242,7 @@ module _ (text : List ℕ) (form : has_utc_form text ≡ true) where
       let date : IsDateOf day (pos y) m d = subst (λ n. IsDateOf n (pos y) m d) found.1 (date_of_number y m d civil.0 civil.1) in
       let year_is : year_of day ≡ y = sym (same_pos y (year_of day) date.year_is) in
       let month_is : month_of day ≡ m = sym date.month_is in
-      let day_is : day_of_month day ≡ d = sym date.day_is in
-      (
+      let day_is : day_of_month day ≡ d = sym date.day_is in (
         date_by day y m d year_is month_is day_is ∙ three_parts (codes "-") _ _ _ _ _ _ years.0 months.0 days.0,
         subst (λ n. n ≤ 2_932_896) found.1 (to_last_day y m d civil.0 civil.1),
       )
@@ -273,8 +271,7 @@ module _ (text : List ℕ) (form : has_utc_form text ≡ true) where
       let seconds : second % 60 ≡ s = omega (arith, sum, s_small) in
       let a = two_at text form 11 h (omega arith) eh in
       let b = two_at text form 14 m (omega arith) em in
-      let c = two_at text form 17 s (omega arith) es in
-      (
+      let c = two_at text form 17 s (omega arith) es in (
         time_by second h m s hours minutes seconds ∙ three_parts (codes ":") _ _ _ _ _ _ a.0 b.0 c.0,
         omega (arith, sum, h_small, m_small, s_small),
       )
@@ -300,12 +297,11 @@ found_parts text seen day second millis form ed es em seconds fraction =
     let time = time_back text form second es in
     let digits = three_at text form 20 millis (omega arith) em in
     let day_is : day ≡ seen.seconds / 86400 = omega (arith, seconds, time.1) in
-    let second_is : second ≡ seen.seconds % 86400 = omega (arith, seconds, time.1) in
-    (
+    let second_is : second ≡ seen.seconds % 86400 = omega (arith, seconds, time.1) in (
       text_by seen (date_text day) (time_text second) (millis_digits millis) (ap date_text day_is) (ap time_text second_is) (ap millis_digits fraction)
-      ∙ three_texts _ _ _ _ _ _ date.0 time.0 digits.0
-      ∙ grouped (take 4 (drop 0 text)) (take 2 (drop 5 text)) (take 2 (drop 8 text)) (take 2 (drop 11 text)) (take 2 (drop 14 text)) (take 2 (drop 17 text)) (take 3 (drop 20 text))
-      ∙ sym (whole text form),
+          ∙ three_texts _ _ _ _ _ _ date.0 time.0 digits.0
+          ∙ grouped (take 4 (drop 0 text)) (take 2 (drop 5 text)) (take 2 (drop 8 text)) (take 2 (drop 11 text)) (take 2 (drop 14 text)) (take 2 (drop 17 text)) (take 3 (drop 20 text))
+          ∙ sym (whole text form),
       record { seconds_fit = omega (arith, seconds, time.1, date.1); millis_fit = omega (arith, fraction, digits.1) },
     )
 

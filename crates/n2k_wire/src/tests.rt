@@ -314,9 +314,6 @@ fn replayed(alloc: Global, line: &[u8]) -> Result<String, Fail> {
     let Entry::Frame(packet) = read_line(line, Packing::Frames) else {
         return Ok("no frame".to_string(alloc)?);
     };
-    if packet.data().len() > 8 {
-        return Ok("long".to_string(alloc)?);
-    }
     let mut text = Vec::new(alloc);
     match candump_text(alloc, &packet, "can0", &mut text) {
         Ok(()) => Ok(String::from_utf8(text)?),

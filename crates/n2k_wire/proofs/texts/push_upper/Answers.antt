@@ -1,7 +1,7 @@
-use Rattle.std.proofs.Common.{◌≡◌, ◌∙◌, ◌++◌, ◌≤◌, ◌+◌, length, sym, ap, refl, drop, append_assoc, arith}
+use Rattle.std.proofs.Common.{◌∙◌, ◌++◌, sym, ap, append_assoc, arith}
 use Rattle.std.proofs.lemmas.List.{append-nil}
 use Rattle.std.proofs.Math.ListN.{drop_of_length-le}
-use Rattle.hex.specs.Hex.{encode_upper, encode_with}
+use Rattle.hex.specs.Hex.{encode_with}
 use Rattle.n2k_wire.proofs.CandumpLemmas.{upper_next}
 use Rattle.n2k_wire.proofs.texts.push_upper.Goals as goal
 
