@@ -4,7 +4,8 @@
 //!   a bad line with its cause (`BadCause`). A line is one of `candump -L` or a plain line.
 //! - `split_id` splits a CAN identifier into priority, PGN, source and destination (`Id`), and `join_id` joins them.
 //! - `Packet` holds a message or a frame: its stamp, its `Id`, and up to 223 bytes.
-//! - `plain_text` and `candump_text` append a packet as a line. `laws` has what ties these calls together.
+//! - `plain_text` and `candump_text` append a packet as a line; `is_interface` is the test of an interface's name.
+//!   `laws` has what ties these calls together.
 //!
 //! No other call takes memory. Each answer is a stated function of the bytes that were given.
 #![tactic(auto)]
@@ -21,6 +22,7 @@ mod plain;
 mod stamp;
 mod texts;
 
+pub use candump::is_interface;
 pub use entry::{BadCause, Entry, LONGEST_LINE, Packing, read_line};
 pub use fault::WireFault;
 pub use identifier::{Id, join_id, split_id};

@@ -310,6 +310,7 @@ fn calendar(rt: HostRuntime) -> Result<(), Fail> {
 }
 
 // The candump line of a plain line's frame, or the fault's name.
+#[tactic(auto, unfolding(crate::specs::Candump::is_interface))]
 fn replayed(alloc: Global, line: &[u8]) -> Result<String, Fail> {
     let Entry::Frame(packet) = read_line(line, Packing::Frames) else {
         return Ok("no frame".to_string(alloc)?);

@@ -228,6 +228,7 @@ fn candump_parts(packet: &Packet) -> Result<(Moment, u32), WireFault>
 /// from `!` to `~`: `(0000000010.300000) can0 1DFF0405#000BA39901414243` with its LF, digits in upper case.
 /// `NoStamp` where its stamp isn't `YYYY-MM-DDTHH:MM:SS.mmmZ` of a day that the calendar has from 1970 on, else
 /// `NoId` where `join_id` has no identifier for it. `out` is as it was where the answer is a fault.
+#[tactic(auto, using(crate::proofs::CandumpLemmas::interface_short))]
 pub fn candump_text(
     _alloc: Global,
     packet: &Packet,
@@ -240,7 +241,7 @@ pub fn candump_text(
     ensures unchanged { OnErr result (out.new.items ≡ out.old.items) }
 {
     let (seen, identifier) = candump_parts(packet)?;
-    let line = candump_line(seen, identifier, packet.data(), interface.as_bytes());
-    out.extend_from_slice(line.as_slice())
+    let text = candump_line(seen, identifier, packet.data(), interface.as_bytes());
+    out.extend_from_slice(text.as_slice())
         .map_err(|_| WireFault::Memory)
 }
