@@ -1,0 +1,5 @@
+pub mod Carried
+pub mod Cuts
+pub mod Held
+pub mod Keys
+pub mod Rising
