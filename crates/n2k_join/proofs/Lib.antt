@@ -1,5 +1,7 @@
+pub mod Advanced
 pub mod Carried
 pub mod Cuts
 pub mod Held
 pub mod Keys
+pub mod Opened
 pub mod Rising
