@@ -77,7 +77,7 @@ pub first-all : (l : ℕ) (g : List Frame) → AllByRecursion (λ (f : Frame). f
 first-all l [] all some = absurd (omega (arith, some))
 first-all l (f ∷ g) all some = all.0
 
-length-held : (o : Group) (ps : List Piece) → length (held_frames o ps) ≡ length ps
+pub length-held : (o : Group) (ps : List Piece) → length (held_frames o ps) ≡ length ps
 length-held o ps = length-map (reverse ps) (held_frame o) ∙ length-reverse ps
 
 pub first-held : (o : Group) (ps : List Piece) → 0 < length ps → first (held_frames o ps) ≡ o.first

@@ -4,4 +4,5 @@ pub mod Cuts
 pub mod Held
 pub mod Keys
 pub mod Opened
+pub mod Resumed
 pub mod Rising

@@ -77,18 +77,18 @@ module _ (ends : Ends) (is_ending : IsEnding ends) where
         (both AreNumbered (λ g. (has_twice g ≡ false) × (0 < length g)) (so_far ends fs) (so_far-all ends (λ (f : Frame). f.number < most_frames) fs numbers) (so_far-once fs))
 
   -- what is kept of a group ends, completes and takes a frame as the group does
-  ends-kept : (k : Key) (g : List Frame) (x : Frame) → IsFine g → ends (held_of (group_of k g)) x ≡ ends g x
+  pub ends-kept : (k : Key) (g : List Frame) (x : Frame) → IsFine g → ends (held_of (group_of k g)) x ≡ ends g x
   ends-kept k g x fine = is_ending.alike (held_of (group_of k g)) g x (carried-kept k g fine.numbers) (first-kept k g fine.numbers fine.nonempty)
 
-  complete-kept : (k : Key) (g : List Frame) → IsFine g → complete (held_of (group_of k g)) ≡ complete g
+  pub complete-kept : (k : Key) (g : List Frame) → IsFine g → complete (held_of (group_of k g)) ≡ complete g
   complete-kept k g fine = complete-same (held_of (group_of k g)) g (carried-kept k g fine.numbers) (has_twice-kept k g ∙ sym fine.once)
 
-  complete-kept_push : (k : Key) (g : List Frame) (x : Frame) → IsFine g → complete (held_of (group_of k g) ++ x ∷ []) ≡ complete (g ++ x ∷ [])
+  pub complete-kept_push : (k : Key) (g : List Frame) (x : Frame) → IsFine g → complete (held_of (group_of k g) ++ x ∷ []) ≡ complete (g ++ x ∷ [])
   complete-kept_push k g x fine =
       complete-same (held_of (group_of k g) ++ x ∷ []) (g ++ x ∷ []) (carried-push (held_of (group_of k g)) g x (carried-kept k g fine.numbers))
         (has_twice-push (held_of (group_of k g)) x (has_twice-kept k g) ∙ ap (λ (c : ℕ → Option (List ℕ)). is_some (c x.number)) (carried-kept k g fine.numbers) ∙ sym (has_twice-push g x fine.once))
 
-  with_frame-kept : (k : Key) (g : List Frame) (x : Frame) → IsFine g → with_frame (group_of k g) x ≡ group_of k (g ++ x ∷ [])
+  pub with_frame-kept : (k : Key) (g : List Frame) (x : Frame) → IsFine g → with_frame (group_of k g) x ≡ group_of k (g ++ x ∷ [])
   with_frame-kept k g x fine = λ i. record {
     first = sym (first-push g x fine.nonempty) i;
     key = k;
@@ -175,7 +175,7 @@ module _ (ends : Ends) (is_ending : IsEnding ends) where
           ∙ both_none (complete h)
           ∙ sym (ap (λ b. cond b (begun x) None) (ends-kept x.key g x fine ∙ t))
 
-  numbers_of_key : (k : Key) (fs : List Frame) → AreNumbered fs → AreNumbered (of_key k fs)
+  pub numbers_of_key : (k : Key) (fs : List Frame) → AreNumbered fs → AreNumbered (of_key k fs)
   numbers_of_key k fs all = all-map _ (λ (f : Frame). f.number < most_frames) (of_key k fs) (λ f h. h.0) (of_key-keeps (λ (f : Frame). f.number < most_frames) k fs all)
 
   open_at-push : (k : Key) (fs : List Frame) (x : Frame) (i : ℕ) → AreNumbered fs → (x.line ≡ i → ⊥) → open_at k (fs ++ x ∷ []) i ≡ option_and_then (taken ends x) (open_at k fs i)
@@ -225,7 +225,7 @@ module _ (ends : Ends) (is_ending : IsEnding ends) where
 
   -- ---- the open group of a key is found among the open groups
 
-  begun_at-is : (fs : List Frame) (i : ℕ) (o : Group) → begun_at ends fs i ≡ Some o → (o.first ≡ i) × (option_map (group_of o.key) (open_of ends o.key fs) ≡ Some o)
+  pub begun_at-is : (fs : List Frame) (i : ℕ) (o : Group) → begun_at ends fs i ≡ Some o → (o.first ≡ i) × (option_map (group_of o.key) (open_of ends o.key fs) ≡ Some o)
   begun_at-is fs i o e = by (key_at i fs) (sym (begun_at-key fs i) ∙ e)
     where
       by_line : (k : Key) (g : List Frame) → open_of ends k fs ≡ Some g → (b : Bool) → (first g == i) ≡ b → cond b (Some (group_of k g)) None ≡ Some o → (o.first ≡ i) × (option_map (group_of o.key) (open_of ends o.key fs) ≡ Some o)
@@ -241,12 +241,12 @@ module _ (ends : Ends) (is_ending : IsEnding ends) where
       by None e = absurd (none-some o e)
       by (Some k) e = by_open k (open_of ends k fs) refl e
 
-  open_groups-each : (n : ℕ) (fs : List Frame) → AllByRecursion (λ (o : Group). option_map (group_of o.key) (open_of ends o.key fs) ≡ Some o) (open_groups ends n fs)
+  pub open_groups-each : (n : ℕ) (fs : List Frame) → AllByRecursion (λ (o : Group). option_map (group_of o.key) (open_of ends o.key fs) ≡ Some o) (open_groups ends n fs)
   unfolding open_groups
   open_groups-each n fs = all-range (λ (o : Group). option_map (group_of o.key) (open_of ends o.key fs) ≡ Some o) (begun_at ends fs) 1 n (λ i o l u e. (begun_at-is fs i o e).1)
 
   -- a group of a key's cut begins at a line of the log, where a frame of that key stands
-  so_far-begins : (n : ℕ) (k : Key) (fs : List Frame) → IsLog n fs → IfSome (so_far ends (of_key k fs)) (λ g. (1 ≤ first g) × (first g ≤ n) × (key_at (first g) fs ≡ Some k))
+  pub so_far-begins : (n : ℕ) (k : Key) (fs : List Frame) → IsLog n fs → IfSome (so_far ends (of_key k fs)) (λ g. (1 ≤ first g) × (first g ≤ n) × (key_at (first g) fs ≡ Some k))
   so_far-begins n k fs log =
       on_some _ _ (so_far ends (of_key k fs)) (λ g h. at_first g h.0 h.1.nonempty)
         (both (AllByRecursion P) IsFine (so_far ends (of_key k fs)) (so_far-all ends P (of_key k fs) of_it) (so_far-fine (of_key k fs) (numbers_of_key k fs log.numbers)))

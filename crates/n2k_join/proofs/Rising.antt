@@ -1,5 +1,5 @@
 -- Lists whose numbers rise strictly: looked up by number and read off a range of numbers.
-use Rattle.std.proofs.Common.{◌≡◌, ◌==◌, ◌≤◌, ◌<◌, ◌+◌, ℕ, suc, zero, Bool, true, false, cond, List, [], ◌∷◌, ◌++◌, refl, sym, ap, ◌∙◌, subst, arith, Option, Some, None, filter_map, find, option_and_then, option_to_list, option_map, length}
+use Rattle.std.proofs.Common.{◌≡◌, ◌==◌, ◌≤◌, ◌<◌, ◌+◌, ℕ, suc, zero, Bool, true, false, cond, List, [], ◌∷◌, ◌++◌, refl, sym, ap, ◌∙◌, subst, arith, Option, Some, None, filter_map, find, option_and_then, option_to_list, option_map, length, flat_map}
 use Rattle.std.specs.Prelude.{is_some, count_by}
 use Rattle.std.specs.Option.{option_or}
 use Rattle.std.specs.List.{range_with_len, cons_option, AllByRecursion}
@@ -64,9 +64,17 @@ pub all-map : {X : Type 0} (P Q : X → Type 0) (xs : List X) → ((x : X) → P
 all-map P Q [] h all = tt
 all-map P Q (x ∷ xs) h all = (h x all.0, all-map P Q xs h all.1)
 
+pub all-zip : {X : Type 0} (P Q : X → Type 0) (xs : List X) → AllByRecursion P xs → AllByRecursion Q xs → AllByRecursion (λ x. P x × Q x) xs
+all-zip P Q [] p q = tt
+all-zip P Q (x ∷ xs) p q = ((p.0, q.0), all-zip P Q xs p.1 q.1)
+
 pub all-append : {X : Type 0} (P : X → Type 0) (xs ys : List X) → AllByRecursion P xs → AllByRecursion P ys → AllByRecursion P (xs ++ ys)
 all-append P [] ys a b = b
 all-append P (x ∷ xs) ys a b = (a.0, all-append P xs ys a.1 b)
+
+pub all-flat_map : {X Y : Type 0} (P : Y → Type 0) (f : X → List Y) (xs : List X) → AllByRecursion (λ x. AllByRecursion P (f x)) xs → AllByRecursion P (flat_map f xs)
+all-flat_map P f [] all = tt
+all-flat_map P f (x ∷ xs) all = all-append P (f x) (flat_map f xs) all.0 (all-flat_map P f xs all.1)
 
 module _ {A : Type 0} (number : A → ℕ) where
   -- the item of a number
@@ -76,6 +84,11 @@ module _ {A : Type 0} (number : A → ℕ) where
   pub rise-less : (a b : ℕ) (xs : List A) → a ≤ b → Rise number b xs → Rise number a xs
   rise-less a b [] l r = tt
   rise-less a b (x ∷ xs) l r = (omega (arith, r.0), r.1)
+
+  -- all are from the least on
+  pub rise-least : (least : ℕ) (xs : List A) → Rise number least xs → AllByRecursion (λ x. least ≤ number x) xs
+  rise-least least [] r = tt
+  rise-least least (x ∷ xs) r = (r.0, all-map (λ y. number x + 1 ≤ number y) (λ y. least ≤ number y) xs (λ y l. omega (arith, l, r.0)) (rise-least (number x + 1) xs r.1))
 
   -- below the least number there is none
   pub look-below : (least n : ℕ) (xs : List A) → Rise number least xs → n < least → look xs n ≡ None
