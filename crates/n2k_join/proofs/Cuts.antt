@@ -121,6 +121,18 @@ module _ (ends : Ends) where
   cut-keeps Q one more [] = tt
   cut-keeps Q one more (f ∷ fs) = cut_from-keeps Q one more (f ∷ []) fs (one f)
 
+  -- what holds of each frame holds of those of each group
+  cut_from-all : (P : Frame → Type 0) (g fs : List Frame) → AllByRecursion P g → AllByRecursion P fs → AllByRecursion (AllByRecursion P) (cut_from ends g fs)
+  cut_from-all P g [] h all = (h, tt)
+  cut_from-all P g (f ∷ fs) h all =
+      elim (closes ends g f) as (λ b. AllByRecursion (AllByRecursion P) (cond b (g ∷ cut_from ends (f ∷ []) fs) (cut_from ends (g ++ f ∷ []) fs)))
+        [ true ↦ (h, cut_from-all P (f ∷ []) fs (all.0, tt) all.1) | false ↦ cut_from-all P (g ++ f ∷ []) fs (all-push P g f h all.0) all.1 ]
+
+  pub cut-all : (P : Frame → Type 0) (fs : List Frame) → AllByRecursion P fs → AllByRecursion (AllByRecursion P) (cut ends fs)
+  unfolding cut
+  cut-all P [] all = tt
+  cut-all P (f ∷ fs) all = cut_from-all P (f ∷ []) fs (all.0, tt) all.1
+
   -- the groups joined are the frames
   cut_from-joined : (g fs : List Frame) → flat_map (λ (h : List Frame). h) (cut_from ends g fs) ≡ g ++ fs
   cut_from-joined g [] = refl

@@ -3,6 +3,7 @@ pub mod Carried
 pub mod Cuts
 pub mod Held
 pub mod Keys
+pub mod Lines
 pub mod Opened
 pub mod Resumed
 pub mod Rising

@@ -49,6 +49,23 @@ on_some : {X : Type 0} (P Q : X → Type 0) (o : Option X) → ((x : X) → P x 
 on_some P Q None f p = tt
 on_some P Q (Some x) f p = f x p
 
+-- ---- where frames stand
+
+pub at_line : (i : ℕ) (fs : List Frame) (x : Frame) → (x.line ≡ i → ⊥) → frame_at i (fs ++ x ∷ []) ≡ frame_at i fs
+at_line i fs x other =
+    find-append (λ (f : Frame). f.line == i) fs (x ∷ [])
+    ∙ ap (λ b. option_or (frame_at i fs) (cond b (Some x) None)) (ne_eqb x.line i other)
+    ∙ elim (frame_at i fs) as (λ o. option_or o None ≡ o) [ None ↦ refl | Some f ↦ refl ]
+
+pub none_at : (n i : ℕ) (fs : List Frame) → IsLog n fs → n < i → frame_at i fs ≡ None
+none_at n i fs log l = find-none (λ (f : Frame). f.line == i) fs (all-map _ (λ (f : Frame). (f.line == i) ≡ false) fs (λ f h. ne_eqb f.line i (λ e. omega (arith, h.1, e))) log.lines)
+
+pub at_last : (n : ℕ) (fs : List Frame) (x : Frame) → IsLog n fs → n < x.line → frame_at x.line (fs ++ x ∷ []) ≡ Some x
+at_last n fs x log l =
+    find-append (λ (f : Frame). f.line == x.line) fs (x ∷ [])
+    ∙ ap (λ o. option_or o (cond (x.line == x.line) (Some x) None)) (none_at n x.line fs log l)
+    ∙ ap (λ b. cond b (Some x) None) (eq-eqb x.line x.line refl)
+
 module _ (ends : Ends) (is_ending : IsEnding ends) where
   -- the open group of a key, where it begins at a line
   abbrev pub open_at : Key → List Frame → ℕ → Option Group
@@ -194,23 +211,6 @@ module _ (ends : Ends) (is_ending : IsEnding ends) where
           untouched None = refl
           untouched (Some g) =
               and_then-cond_not (taken ends x) (first g == i) (group_of k g) ∙ ap (λ b. cond (first g == i) (cond b (joined ends x (group_of k g)) (Some (group_of k g))) None) differs
-
-  -- ---- where frames stand
-
-  at_line : (i : ℕ) (fs : List Frame) (x : Frame) → (x.line ≡ i → ⊥) → frame_at i (fs ++ x ∷ []) ≡ frame_at i fs
-  at_line i fs x other =
-      find-append (λ (f : Frame). f.line == i) fs (x ∷ [])
-      ∙ ap (λ b. option_or (frame_at i fs) (cond b (Some x) None)) (ne_eqb x.line i other)
-      ∙ elim (frame_at i fs) as (λ o. option_or o None ≡ o) [ None ↦ refl | Some f ↦ refl ]
-
-  pub none_at : (n i : ℕ) (fs : List Frame) → IsLog n fs → n < i → frame_at i fs ≡ None
-  none_at n i fs log l = find-none (λ (f : Frame). f.line == i) fs (all-map _ (λ (f : Frame). (f.line == i) ≡ false) fs (λ f h. ne_eqb f.line i (λ e. omega (arith, h.1, e))) log.lines)
-
-  pub at_last : (n : ℕ) (fs : List Frame) (x : Frame) → IsLog n fs → n < x.line → frame_at x.line (fs ++ x ∷ []) ≡ Some x
-  at_last n fs x log l =
-      find-append (λ (f : Frame). f.line == x.line) fs (x ∷ [])
-      ∙ ap (λ o. option_or o (cond (x.line == x.line) (Some x) None)) (none_at n x.line fs log l)
-      ∙ ap (λ b. cond b (Some x) None) (eq-eqb x.line x.line refl)
 
   begun_at-push : (fs : List Frame) (x : Frame) (i : ℕ) → AreNumbered fs → (x.line ≡ i → ⊥) → begun_at ends (fs ++ x ∷ []) i ≡ option_and_then (taken ends x) (begun_at ends fs i)
   begun_at-push fs x i numbers other =
