@@ -7,3 +7,4 @@ pub mod Lines
 pub mod Opened
 pub mod Resumed
 pub mod Rising
+pub mod Steps

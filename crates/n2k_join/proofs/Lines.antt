@@ -1,18 +1,15 @@
 -- What the last line of a log gives, and that earlier lines keep what they gave.
-use Rattle.std.proofs.Common.{◌≡◌, ◌==◌, ◌≤◌, ◌<◌, ◌+◌, ℕ, Bool, true, false, cond, not, ◌||◌, ◌&&◌, List, [], ◌∷◌, ◌++◌, length, map, refl, sym, ap, ◌∙◌, subst, arith, Option, Some, None, option_map, option_and_then, option_to_list, find, flat_map}
-use Rattle.std.specs.Prelude.{IfSome}
-use Rattle.std.specs.Option.{option_or}
+use Rattle.std.proofs.Common.{◌≡◌, ◌==◌, ◌≤◌, ◌<◌, ℕ, Bool, true, false, cond, not, ◌||◌, ◌&&◌, List, [], ◌∷◌, ◌++◌, length, map, refl, sym, ap, ◌∙◌, arith, Option, Some, None, option_map, option_and_then, option_to_list, find, flat_map}
 use Rattle.std.specs.List.{last_or, AllByRecursion}
 use Rattle.std.proofs.lemmas.List.{append-nil, length-append}
-use Rattle.std.proofs.lemmas.Bool.{eqb-true, eqb-false, eq-eqb, ne_eqb, or_parts}
-use Rattle.n2k_join.specs.declared.broken.Broken.{Broken}
+use Rattle.std.proofs.lemmas.Bool.{eqb-true, eq-eqb, ne_eqb, or_parts}
 use Rattle.n2k_join.specs.Frames.{Key, same_key, Frame, of_key, frame_at}
 use Rattle.n2k_join.specs.Groups.{Ends, closes, complete, cut, first, last_line}
 use Rattle.n2k_join.specs.Messages.{Keyed, message_of, is_done_at, gathered_by, gathered, broken_of, broken_before, broken_by, broken_with}
 use Rattle.n2k_join.proofs.Cuts.{next, so_far, grown, cut-push, last-cut, cut-keeps, cut-all}
 use Rattle.n2k_join.proofs.Keys.{same_key-refl, of_key-same, of_key-other, of_key-keeps}
 use Rattle.n2k_join.proofs.Opened.{IsLog, none_at, at_last, at_line}
-use Rattle.n2k_join.proofs.Rising.{find-append, find-passes, find-none, all-map, all-zip}
+use Rattle.n2k_join.proofs.Rising.{find-passes, all-map, all-zip}
 
 -- a group of lines up to n: not empty, and each of its lines is at most n
 pub record IsUpTo (n : ℕ) (g : List Frame) : Type 0 where
@@ -64,9 +61,10 @@ module _ (ends : Ends) where
   found_last : (gs : List (List Frame)) (x : Frame) → AllByRecursion (λ g. is_done_at x.line g ≡ false) gs → find (is_done_at x.line) (grown ends gs x) ≡ completed (last_or None gs) x
   found_last [] x all = found_alone x
   found_last (g ∷ []) x all =
-      elim (closes ends g x) as (λ b. find (is_done_at x.line) (cond b (g ∷ (x ∷ []) ∷ []) ((g ++ x ∷ []) ∷ [])) ≡ cond (complete (cond b (x ∷ []) (g ++ x ∷ []))) (Some (cond b (x ∷ []) (g ++ x ∷ []))) None)
-        [ true ↦ ap (λ b. cond b (Some g) (find (is_done_at x.line) ((x ∷ []) ∷ []))) all.0 ∙ found_alone x
-        | false ↦ ap (λ b. cond b (Some (g ++ x ∷ [])) None) (done-here g x) ]
+      elim (closes ends g x) as (λ b. find (is_done_at x.line) (cond b (g ∷ (x ∷ []) ∷ []) ((g ++ x ∷ []) ∷ [])) ≡ cond (complete (cond b (x ∷ []) (g ++ x ∷ []))) (Some (cond b (x ∷ []) (g ++ x ∷ []))) None) [
+        | true ↦ ap (λ b. cond b (Some g) (find (is_done_at x.line) ((x ∷ []) ∷ []))) all.0 ∙ found_alone x
+        | false ↦ ap (λ b. cond b (Some (g ++ x ∷ [])) None) (done-here g x)
+      ]
   found_last (g ∷ h ∷ gs) x all = ap (λ b. cond b (Some g) (find (is_done_at x.line) (grown ends (h ∷ gs) x))) all.0 ∙ found_last (h ∷ gs) x all.1
 
   found_stays : (i : ℕ) (gs : List (List Frame)) (x : Frame) → (x.line ≡ i → ⊥) → find (is_done_at i) (grown ends gs x) ≡ find (is_done_at i) gs
@@ -125,9 +123,9 @@ module _ (ends : Ends) where
   groups-up_to : (n : ℕ) (fs : List Frame) → AllByRecursion (λ (f : Frame). f.line ≤ n) fs → AllByRecursion (IsUpTo n) (cut ends fs)
   groups-up_to n fs all =
       all-map _ (IsUpTo n) (cut ends fs) (λ g h. record { nonempty = h.0; lines = h.1 })
-        (all-zip (λ g. 0 < length g) (AllByRecursion (λ (f : Frame). f.line ≤ n)) (cut ends fs)
-          (cut-keeps ends (λ g. 0 < length g) (λ x. omega arith) (λ g x c h. omega (arith, length-append g (x ∷ []))) fs)
-          (cut-all ends (λ (f : Frame). f.line ≤ n) fs all))
+      (all-zip (λ g. 0 < length g) (AllByRecursion (λ (f : Frame). f.line ≤ n)) (cut ends fs)
+      (cut-keeps ends (λ g. 0 < length g) (λ x. omega arith) (λ g x c h. omega (arith, length-append g (x ∷ []))) fs)
+      (cut-all ends (λ (f : Frame). f.line ≤ n) fs all))
 
   last_of : (k : Key) (fs : List Frame) → last_or None (cut ends (of_key k fs)) ≡ so_far ends (of_key k fs)
   last_of k fs = last-cut ends (of_key k fs)
@@ -135,7 +133,7 @@ module _ (ends : Ends) where
   up_to : (n : ℕ) (k : Key) (fs : List Frame) → IsLog n fs → AllByRecursion (IsUpTo n) (cut ends (of_key k fs))
   up_to n k fs log =
       groups-up_to n (of_key k fs)
-        (all-map _ (λ (f : Frame). f.line ≤ n) (of_key k fs) (λ f h. h.0.1) (of_key-keeps (λ (f : Frame). (1 ≤ f.line) × (f.line ≤ n)) k fs log.lines))
+      (all-map _ (λ (f : Frame). f.line ≤ n) (of_key k fs) (λ f h. h.0.1) (of_key-keeps (λ (f : Frame). (1 ≤ f.line) × (f.line ≤ n)) k fs log.lines))
 
   cut_of_key : (fs : List Frame) (x : Frame) → cut ends (of_key x.key (fs ++ x ∷ [])) ≡ grown ends (cut ends (of_key x.key fs)) x
   cut_of_key fs x = ap (cut ends) (of_key-same x.key fs x (same_key-refl x.key)) ∙ cut-push ends (of_key x.key fs) x
@@ -151,9 +149,9 @@ module _ (ends : Ends) where
       ap (option_and_then (gathered_by ends (fs ++ x ∷ []))) (at_last n fs x log l)
       ∙ ap (λ gs. option_map (keyed x) (find (is_done_at x.line) gs)) (cut_of_key fs x)
       ∙ ap (option_map (keyed x))
-          (found_last (cut ends (of_key x.key fs)) x
-             (all-map (IsUpTo n) (λ g. is_done_at x.line g ≡ false) (cut ends (of_key x.key fs)) (λ g up. done-not x.line g (λ e. omega (arith, last_line-all n g up.lines, l, e))) (up_to n x.key fs log))
-           ∙ ap (λ s. completed s x) (last-cut ends (of_key x.key fs)))
+      (found_last (cut ends (of_key x.key fs)) x
+      (all-map (IsUpTo n) (λ g. is_done_at x.line g ≡ false) (cut ends (of_key x.key fs)) (λ g up. done-not x.line g (λ e. omega (arith, last_line-all n g up.lines, l, e))) (up_to n x.key fs log))
+      ∙ ap (λ s. completed s x) (last-cut ends (of_key x.key fs)))
 
   -- It breaks the group so far that its frame can't join.
   pub broken-last : (n : ℕ) (fs : List Frame) (x : Frame) → IsLog n fs → n < x.line → broken_with ends (fs ++ x ∷ []) x.line ≡ map (broken_of x.key) (broke (so_far ends (of_key x.key fs)) x)
@@ -188,6 +186,7 @@ module _ (ends : Ends) where
       keyed_stays : (f : Frame) → f.line ≡ i → (b : Bool) → same_key f.key x.key ≡ b → gathered_by ends (fs ++ x ∷ []) f ≡ gathered_by ends fs f
       keyed_stays f at true e = ap (λ gs. option_map (keyed f) (find (is_done_at f.line) gs)) (cut_of_same f.key fs x e) ∙ ap (option_map (keyed f)) (found_stays f.line (cut ends (of_key f.key fs)) x (λ t. other (t ∙ at)))
       keyed_stays f at false e = ap (λ gs. option_map (keyed f) (find (is_done_at f.line) gs)) (cut_of_other f.key fs x e)
+
       by : (o : Option Frame) → frame_at i fs ≡ o → option_and_then (gathered_by ends (fs ++ x ∷ [])) o ≡ option_and_then (gathered_by ends fs) o
       by None e = refl
       by (Some f) e = keyed_stays f (eqb-true f.line i (find-passes (λ (f : Frame). f.line == i) fs f e)) (same_key f.key x.key) refl
@@ -199,6 +198,7 @@ module _ (ends : Ends) where
       broken_stay : (f : Frame) → f.line ≡ i → (b : Bool) → same_key f.key x.key ≡ b → broken_by ends (fs ++ x ∷ []) f ≡ broken_by ends fs f
       broken_stay f at true e = ap (λ gs. map (broken_of f.key) (broken_before f.line gs)) (cut_of_same f.key fs x e) ∙ ap (map (broken_of f.key)) (broken_stays f.line n (cut ends (of_key f.key fs)) x (up_to n f.key fs log) (λ t. other (t ∙ at)))
       broken_stay f at false e = ap (λ gs. map (broken_of f.key) (broken_before f.line gs)) (cut_of_other f.key fs x e)
+
       by : (o : Option Frame) → frame_at i fs ≡ o → flat_map (broken_by ends (fs ++ x ∷ [])) (option_to_list o) ≡ flat_map (broken_by ends fs) (option_to_list o)
       by None e = refl
       by (Some f) e = ap (λ t. t ++ []) (broken_stay f (eqb-true f.line i (find-passes (λ (f : Frame). f.line == i) fs f e)) (same_key f.key x.key) refl)
