@@ -1,1 +1,5 @@
+mod Counting
+mod PieceFrames
 pub mod Splitting
+mod Stretches
+mod WholePieces
