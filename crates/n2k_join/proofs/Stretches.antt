@@ -7,13 +7,9 @@ use Rattle.std.proofs.lemmas.List.{append-nil}
 use Rattle.n2k_join.specs.Frames.{Frame}
 use Rattle.n2k_join.specs.Groups.{Ends, carried, has_number, has_twice, complete, repeats, closes, cut_from, cut}
 use Rattle.n2k_join.specs.Pieces.{last_piece, Sending}
-use Rattle.n2k_join.specs.Scattered.{IsPieceOf}
+use Rattle.n2k_join.specs.Scattered.{IsPieceOf, joined}
 use Rattle.n2k_join.proofs.Counting.{has_number-cons}
 use Rattle.n2k_join.proofs.WholePieces.{complete_pieces}
-
--- groups joined
-abbrev pub joined : List (List Frame) → List Frame
-joined groups = flat_map (λ (g : List Frame). g) groups
 
 -- frames that are complete, and don't end before the last
 pub record IsStretch (ends : Ends) (g : List Frame) : Type 0 where
