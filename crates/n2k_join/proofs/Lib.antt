@@ -1,5 +1,13 @@
-mod Counting
-mod PieceFrames
+pub mod Arriving
+pub mod Carried
+pub mod Counting
+pub mod Cuts
+pub mod GroupLines
+pub mod Held
+pub mod Keys
+pub mod Lines
+pub mod PieceFrames
+pub mod Rising
 pub mod Splitting
-mod Stretches
-mod WholePieces
+pub mod Stretches
+pub mod WholePieces
