@@ -1,19 +1,18 @@
 -- Scattered frames arrive whole.
-use Rattle.std.proofs.Common.{◌≡◌, ℕ, zero, suc, ◌+◌, ◌<◌, ◌≤◌, Bool, true, false, cond, not, ◌&&◌, ◌||◌, List, [], ◌∷◌, ◌++◌, length, refl, ap, subst, ◌∙◌, sym, arith, Option, Some, None, inl, inr}
-use Rattle.std.specs.Prelude.{◌==◌, is_some, if◌then◌else◌, find, filter, flat_map, filter_map, map, option_map, option_and_then, option_to_list}
+use Rattle.std.proofs.Common.{◌≡◌, ℕ, true, List, [], ◌∷◌, ◌++◌, length, refl, ap, subst, ◌∙◌, sym, Option, Some, None}
+use Rattle.std.specs.Prelude.{find, flat_map, filter_map, map, option_map, option_and_then, option_to_list}
 use Rattle.std.specs.Option.{option_or}
-use Rattle.std.specs.List.{AllByRecursion, AllZip, All, last_or, range_with_len}
+use Rattle.std.specs.List.{AllByRecursion, AllZip, last_or, range_with_len}
 use Rattle.std.proofs.lemmas.List.Elements.{recursion_from_All}
 use Rattle.n2k_wire.specs.Packet.{PacketParts}
 use Rattle.n2k_wire.specs.declared.entry.Entry.{Entry}
 use Rattle.n2k_table.specs.declared.definition.Kind.{Kind}
-use Rattle.n2k_join.specs.declared.broken.Broken.{Broken}
 use Rattle.n2k_join.specs.Frames.{Key, same_key, Frame, frames, of_key, frame_at}
 use Rattle.n2k_join.specs.Groups.{Ends, repeats, complete, cut, last_line, data_of, incomplete, open_of}
-use Rattle.n2k_join.specs.Messages.{Keyed, message_of, is_done_at, gathered_by, gathered, alone, entry_at, message, broken_of, broken_before, broken_by, broken_with, broken}
-use Rattle.n2k_join.specs.Open.{Group, where_begun, begun_at, open_groups}
-use Rattle.n2k_join.specs.Pieces.{Sending, last_piece}
-use Rattle.n2k_join.specs.Scattered.{joined, IsPieceOf, IsStretchOf, FallInto, sendings_of, IsScattered}
+use Rattle.n2k_join.specs.Messages.{Keyed, message_of, is_done_at, gathered_by, gathered, alone, entry_at, broken_of, broken_before, broken_by, broken_with}
+use Rattle.n2k_join.specs.Open.{where_begun, begun_at, open_groups}
+use Rattle.n2k_join.specs.Pieces.{Sending}
+use Rattle.n2k_join.specs.Scattered.{joined, IsPieceOf, IsStretchOf, sendings_of, IsScattered}
 use Rattle.n2k_join.specs.Arrival.{Brings, ArriveWhole}
 use Rattle.n2k_join.proofs.Keys.{of_key-keeps}
 use Rattle.n2k_join.proofs.PieceFrames.{piece_says}
@@ -66,13 +65,13 @@ brings kind es k x g is standing found =
     let stretch : IsStretch repeats g = stretch_pieces x g pieces is.pieces.apart is.whole in
     let carries : data_of g ≡ x.message.payload = data_pieces x g pieces is.pieces.apart is.whole in
     let last : LastFrame (λ f. StandsAt (frames kind es) k f × IsPieceOf x f) g =
-      last_frame (λ f. StandsAt (frames kind es) k f × IsPieceOf x f) g stretch.nonempty (all_with (StandsAt (frames kind es) k) (IsPieceOf x) _ (λ f a b. (a, b)) g standing pieces) in
+    last_frame (λ f. StandsAt (frames kind es) k f × IsPieceOf x f) g stretch.nonempty (all_with (StandsAt (frames kind es) k) (IsPieceOf x) _ (λ f a b. (a, b)) g standing pieces) in
     let says = piece_says x last.frame last.holds.1 in
     record {
       whole = stretch.whole;
       carries = carries;
       given = ap (λ (o : Option Keyed). option_or (option_map (λ (m : Keyed). m.message) o) (option_and_then (alone kind) (entry_at es (last_line g)))) (gathered_group repeats (frames kind es) k g last.frame last.at last.holds.0 found)
-        ∙ ap Some (message_is x.message last.frame g says.stamp says.id carries);
+          ∙ ap Some (message_is x.message last.frame g says.stamp says.id carries);
     }
 
 groups_whole : (xs : List Sending) (gs : List (List Frame)) → AllZip IsStretchOf xs gs → AllByRecursion (IsStretch repeats) gs
@@ -89,9 +88,9 @@ brought kind ms es scattered k =
     let standing : AllByRecursion (λ g. AllByRecursion (StandsAt (frames kind es) k) g) gs = all-joined (StandsAt (frames kind es) k) gs (subst (AllByRecursion (StandsAt (frames kind es) k)) falls.one_behind_the_other (stand kind es k)) in
     let done : AllByRecursion (IsDone gs) gs = done_found 1 gs (all_with (IsStretch repeats) (IsStretch repeats) IsGroup (λ g is same. is.nonempty) gs whole whole) rise in
     let both : AllByRecursion (λ g. AllByRecursion (StandsAt (frames kind es) k) g × IsDone gs g × IsStretch repeats g) gs =
-      all_with _ _ _ (λ g a b. (a, b.0, b.1)) gs standing (all_with (IsDone gs) (IsStretch repeats) (λ g. IsDone gs g × IsStretch repeats g) (λ g a b. (a, b)) gs done whole) in
+    all_with _ _ _ (λ g a b. (a, b.0, b.1)) gs standing (all_with (IsDone gs) (IsStretch repeats) (λ g. IsDone gs g × IsStretch repeats g) (λ g a b. (a, b)) gs done whole) in
     subst (AllZip (Brings kind es) xs) (sym cut_is)
-      (zip-with IsStretchOf (Brings kind es) _ (λ x g is facts. brings kind es k x g is facts.0 (ap (find (is_done_at (last_line g))) cut_is ∙ facts.1 facts.2.whole)) xs gs falls.each both)
+    (zip-with IsStretchOf (Brings kind es) _ (λ x g is facts. brings kind es k x g is facts.0 (ap (find (is_done_at (last_line g))) cut_is ∙ facts.1 facts.2.whole)) xs gs falls.each both)
 
 -- no group of any key is incomplete
 abbrev pub AllWhole : Ends → List Frame → Type 0

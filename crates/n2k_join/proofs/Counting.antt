@@ -1,8 +1,8 @@
 -- How many of the numbers below a limit a group has: as many as it has frames, where none comes twice.
-use Rattle.std.proofs.Common.{◌≡◌, ℕ, zero, suc, ◌+◌, ◌<◌, ◌≤◌, Bool, true, false, cond, ◌&&◌, ◌||◌, List, [], ◌∷◌, length, refl, ap, ◌∙◌, sym, arith, Option, Some, None, inl, inr}
+use Rattle.std.proofs.Common.{◌≡◌, ℕ, zero, suc, ◌+◌, ◌<◌, ◌≤◌, Bool, true, false, cond, ◌&&◌, ◌||◌, List, [], ◌∷◌, length, refl, ap, ◌∙◌, sym, arith, Some, inl, inr}
 use Rattle.std.specs.Prelude.{◌==◌, is_some, count_by, if◌then◌else◌}
 use Rattle.std.specs.List.{range_with_len, list_all, AllByRecursion}
-use Rattle.std.proofs.lemmas.Bool.{false≢true, eqb-true, eqb-false, eq-eqb, ne_eqb, or_parts, cases_eq}
+use Rattle.std.proofs.lemmas.Bool.{false≢true, eqb-true, eq-eqb, ne_eqb, or_parts, cases_eq}
 use Rattle.std.proofs.lemmas.List.Sums.{sum_by-cons, count_by-le-length}
 use Rattle.n2k_join.specs.Frames.{Frame}
 use Rattle.n2k_join.specs.Groups.{carried, has_number, has_twice}
@@ -32,9 +32,9 @@ count_within x a (suc m) h k =
     elim (cases_eq x a) [
       | inl same ↦ rw (count_cons (λ n. x == n) a (range_with_len (a + 1) m), eq-eqb x a same, count_above x (a + 1) m (omega arith)) refl
       | inr other ↦
-        let low : a + 1 ≤ x = omega arith in
-        let high : x < (a + 1) + m = omega arith in
-        rw (count_cons (λ n. x == n) a (range_with_len (a + 1) m), ne_eqb x a other, count_within x (a + 1) m low high) refl
+          let low : a + 1 ≤ x = omega arith in
+          let high : x < (a + 1) + m = omega arith in
+          rw (count_cons (λ n. x == n) a (range_with_len (a + 1) m), ne_eqb x a other, count_within x (a + 1) m low high) refl
     ]
 
 count_none : (ns : List ℕ) → count_by (λ n. false) ns ≡ 0
@@ -58,7 +58,6 @@ abbrev pub numbers_below : ℕ → List Frame → ℕ
 numbers_below m fs = count_by (λ n. has_number n fs) (range_with_len 0 m)
 
 pub count_numbers : (m : ℕ) (fs : List Frame) → AllByRecursion (λ (f : Frame). f.number < m) fs → has_twice fs ≡ false → numbers_below m fs ≡ length fs
-
 count_numbers m [] below apart = count_none (range_with_len 0 m)
 count_numbers m (f ∷ fs) below apart =
     let parts = or_parts _ _ apart in

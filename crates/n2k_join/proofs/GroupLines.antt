@@ -1,13 +1,13 @@
 -- Groups whose frames' lines rise: each is the one that is done at its last line, and the one that begins at its first.
-use Rattle.std.proofs.Common.{◌≡◌, ℕ, zero, suc, ◌+◌, ◌<◌, ◌≤◌, Bool, true, false, cond, not, ◌&&◌, ◌||◌, List, [], ◌∷◌, ◌++◌, length, refl, ap, subst, ◌∙◌, sym, arith, Option, Some, None, inl, inr}
-use Rattle.std.specs.Prelude.{◌==◌, is_some, if◌then◌else◌, find}
+use Rattle.std.proofs.Common.{◌≡◌, ℕ, ◌+◌, ◌<◌, ◌≤◌, true, false, List, [], ◌∷◌, ◌++◌, length, refl, subst, sym, arith, Some}
+use Rattle.std.specs.Prelude.{find}
 use Rattle.std.specs.List.{AllByRecursion}
-use Rattle.std.proofs.lemmas.Bool.{false≢true, eq-eqb, ne_eqb, and_right, and_from}
+use Rattle.std.proofs.lemmas.Bool.{eq-eqb, ne_eqb, and_right}
 use Rattle.n2k_join.specs.Frames.{Frame}
 use Rattle.n2k_join.specs.Groups.{complete, first, last_line}
 use Rattle.n2k_join.specs.Messages.{is_done_at}
 use Rattle.n2k_join.specs.Scattered.{joined}
-use Rattle.n2k_join.proofs.Lines.{RiseFrom, all_with, rise-weaker, rise-all}
+use Rattle.n2k_join.proofs.Lines.{RiseFrom, all_with, rise-all}
 
 -- a group has a frame
 abbrev pub IsGroup : List Frame → Type 0
@@ -32,11 +32,11 @@ last_frame P (f ∷ g ∷ fs) some each =
     let rest = last_frame P (g ∷ fs) (omega arith) each.1 in
     record { frame = rest.frame; at = rest.at; holds = rest.holds }
 
-all-front : {X : Type 0} (P : X → Type 0) (xs ys : List X) → AllByRecursion P (xs ++ ys) → AllByRecursion P xs
+pub all-front : {X : Type 0} (P : X → Type 0) (xs ys : List X) → AllByRecursion P (xs ++ ys) → AllByRecursion P xs
 all-front P [] ys each = tt
 all-front P (x ∷ xs) ys each = (each.0, all-front P xs ys each.1)
 
-all-back : {X : Type 0} (P : X → Type 0) (xs ys : List X) → AllByRecursion P (xs ++ ys) → AllByRecursion P ys
+pub all-back : {X : Type 0} (P : X → Type 0) (xs ys : List X) → AllByRecursion P (xs ++ ys) → AllByRecursion P ys
 all-back P [] ys each = each
 all-back P (x ∷ xs) ys each = all-back P xs ys each.1
 
@@ -48,7 +48,7 @@ all-joined P (g ∷ gs) each = (all-front P g (joined gs) each, all-joined P gs 
 last_above : (n : ℕ) (g : List Frame) → IsGroup g → AllByRecursion (λ (f : Frame). n ≤ f.line) g → n ≤ last_line g
 last_above n g some each = let last = last_frame (λ (f : Frame). n ≤ f.line) g some each in subst (λ l. n ≤ l) (sym last.at) last.holds
 
-first_above : (n : ℕ) (g : List Frame) → IsGroup g → AllByRecursion (λ (f : Frame). n ≤ f.line) g → n ≤ first g
+pub first_above : (n : ℕ) (g : List Frame) → IsGroup g → AllByRecursion (λ (f : Frame). n ≤ f.line) g → n ≤ first g
 first_above n [] some each = absurd (omega (arith, some))
 first_above n (f ∷ g) some each = each.0
 
@@ -65,8 +65,9 @@ IsDone gs g = complete g ≡ true → find (is_done_at (last_line g)) gs ≡ Som
 pub done_found : (n : ℕ) (gs : List (List Frame)) → AllByRecursion IsGroup gs → RiseFrom n (joined gs) → AllByRecursion (IsDone gs) gs
 done_found n [] some rise = tt
 done_found n (g ∷ gs) some rise =
-    let after : RiseFrom (last_line g + 1) (joined gs) = rise-after n g (joined gs) some.0 rise in
-    ((λ whole. rw (whole, eq-eqb (last_line g) (last_line g) refl) refl),
-     all_with (λ h. last_line g + 1 ≤ last_line h) (IsDone gs) (IsDone (g ∷ gs))
-       (λ h above found whole. rw (ne_eqb (last_line g) (last_line h) (λ same. omega arith), and_right (complete g) false refl) (found whole))
-       gs (lasts_above (last_line g + 1) gs some.1 after) (done_found (last_line g + 1) gs some.1 after))
+    let after : RiseFrom (last_line g + 1) (joined gs) = rise-after n g (joined gs) some.0 rise in (
+      (λ whole. rw (whole, eq-eqb (last_line g) (last_line g) refl) refl),
+      all_with (λ h. last_line g + 1 ≤ last_line h) (IsDone gs) (IsDone (g ∷ gs))
+          (λ h above found whole. rw (ne_eqb (last_line g) (last_line h) (λ same. omega arith), and_right (complete g) false refl) (found whole))
+          gs (lasts_above (last_line g + 1) gs some.1 after) (done_found (last_line g + 1) gs some.1 after),
+    )

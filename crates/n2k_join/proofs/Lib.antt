@@ -3,6 +3,7 @@ pub mod Carried
 pub mod Counting
 pub mod Cuts
 pub mod GroupLines
+pub mod Healing
 pub mod Held
 pub mod Keys
 pub mod Lines

@@ -1,17 +1,14 @@
 -- Lines rise: so a frame is found by its line, and a group by that of its last frame.
-use Rattle.std.proofs.Common.{◌≡◌, ℕ, zero, suc, ◌+◌, ◌<◌, ◌≤◌, Bool, true, false, cond, not, ◌&&◌, ◌||◌, List, [], ◌∷◌, ◌++◌, length, refl, ap, subst, ◌∙◌, sym, arith, append_assoc, length-append, Option, Some, None, inl, inr}
-use Rattle.std.specs.Prelude.{◌==◌, is_some, if◌then◌else◌, find, filter, drop, slice_index_or}
+use Rattle.std.proofs.Common.{◌≡◌, ℕ, ◌+◌, ◌≤◌, Bool, true, false, cond, List, [], ◌∷◌, refl, ap, ◌∙◌, sym, arith, Option, Some, None}
+use Rattle.std.specs.Prelude.{if◌then◌else◌, filter, drop, slice_index_or}
 use Rattle.std.specs.List.{AllByRecursion, cons_option}
-use Rattle.std.proofs.lemmas.Bool.{false≢true, eq-eqb, ne_eqb, and_right}
+use Rattle.std.proofs.lemmas.Bool.{eq-eqb, ne_eqb}
 use Rattle.n2k_wire.specs.Packet.{PacketParts}
 use Rattle.n2k_wire.specs.declared.entry.Entry.{Entry}
 use Rattle.n2k_wire.specs.declared.entry.Entry.TheVariants as entries
 use Rattle.n2k_table.specs.declared.definition.Kind.{Kind}
 use Rattle.n2k_table.specs.declared.definition.Kind.TheVariants.{Single, Fast}
-use Rattle.n2k_join.specs.Frames.{Key, Frame, fast_frame, frame_with, is_fast_payload, frame_by, frame_in, frames_from, frames, of_key, frame_at}
-use Rattle.n2k_join.specs.Groups.{complete, first, last_line}
-use Rattle.n2k_join.specs.Messages.{is_done_at}
-use Rattle.n2k_join.specs.Scattered.{joined}
+use Rattle.n2k_join.specs.Frames.{Frame, fast_frame, frame_with, is_fast_payload, frame_by, frame_in, frames_from, frame_at}
 
 abbrev pub line_of : Frame → ℕ
 line_of f = f.line
@@ -48,6 +45,7 @@ fast_frame-line n p f e = by_test (is_fast_payload p.payload) e
   where
     some_line : (g : Frame) → g.line ≡ n → Some g ≡ Some f → f.line ≡ n
     some_line g h same = let e' : g ≡ f = cc in ap line_of (sym e') ∙ h
+
     by_test : (b : Bool) → (if b then Some (frame_with n p (slice_index_or p.payload 0 0) (drop 1 p.payload)) else None) ≡ Some f → f.line ≡ n
     by_test true same = some_line _ refl same
     by_test false same = absurd (let e' : None ≡ Some f = same in cc)
@@ -72,8 +70,9 @@ frames-rise kind n (e ∷ es) = by_frame (frame_in kind n e) (frame_in-line kind
 -- each frame is the one found at its line
 pub frames_found : (n : ℕ) (fs : List Frame) → RiseFrom n fs → AllByRecursion (λ (f : Frame). frame_at f.line fs ≡ Some f) fs
 frames_found n [] rise = tt
-frames_found n (h ∷ fs) rise =
-    (rw (eq-eqb h.line h.line refl) refl,
-     all_with (λ (f : Frame). h.line + 1 ≤ f.line) (λ (f : Frame). frame_at f.line fs ≡ Some f) (λ (f : Frame). frame_at f.line (h ∷ fs) ≡ Some f)
-       (λ f after found. rw (ne_eqb h.line f.line (λ same. omega arith)) found)
-       fs (rise-all (h.line + 1) fs rise.1) (frames_found (h.line + 1) fs rise.1))
+frames_found n (h ∷ fs) rise = (
+  rw (eq-eqb h.line h.line refl) refl,
+  all_with (λ (f : Frame). h.line + 1 ≤ f.line) (λ (f : Frame). frame_at f.line fs ≡ Some f) (λ (f : Frame). frame_at f.line (h ∷ fs) ≡ Some f)
+      (λ f after found. rw (ne_eqb h.line f.line (λ same. omega arith)) found)
+      fs (rise-all (h.line + 1) fs rise.1) (frames_found (h.line + 1) fs rise.1),
+)

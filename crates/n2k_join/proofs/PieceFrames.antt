@@ -1,10 +1,9 @@
 -- What a frame that is a piece of a message says of it.
-use Rattle.std.proofs.Common.{◌≡◌, ℕ, zero, suc, ◌+◌, ◌*◌, ◌%◌, ◌/◌, ◌<◌, ◌≤◌, Bool, true, false, cond, not, ◌||◌, List, [], ◌∷◌, length, refl, ap, ◌∙◌, sym, arith, Option, Some, None, inl, inr}
-use Rattle.std.specs.Prelude.{◌==◌, is_some, if◌then◌else◌, nat_le}
+use Rattle.std.proofs.Common.{◌≡◌, ℕ, ◌+◌, ◌*◌, ◌%◌, ◌/◌, ◌<◌, ◌≤◌, Bool, true, false, not, ◌||◌, List, ◌∷◌, length, refl, ap, ◌∙◌, sym, arith, Some, None}
+use Rattle.std.specs.Prelude.{◌==◌, if◌then◌else◌}
 use Rattle.std.proofs.lemmas.Bool.{leb-true}
-use Rattle.n2k_wire.specs.Packet.{PacketParts}
-use Rattle.n2k_join.specs.Frames.{Key, Frame, fast_frame, frame_with, seven_bytes, has_total, is_fast_payload, most_frames, longest_total}
-use Rattle.n2k_join.specs.Pieces.{sent_byte, piece_bytes, piece, last_piece, Sending}
+use Rattle.n2k_join.specs.Frames.{Frame, fast_frame, frame_with, seven_bytes, has_total, is_fast_payload, longest_total}
+use Rattle.n2k_join.specs.Pieces.{piece_bytes, piece, Sending}
 use Rattle.n2k_join.specs.Scattered.{key_of_sending, IsPieceOf}
 
 -- seven bytes are filled already

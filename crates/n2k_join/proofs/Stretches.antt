@@ -1,11 +1,11 @@
 -- Where frames fall into stretches, each of which ends by its last frame and not before, these are the groups.
-use Rattle.std.proofs.Common.{◌≡◌, ℕ, zero, suc, ◌+◌, ◌<◌, ◌≤◌, Bool, true, false, cond, not, ◌&&◌, ◌||◌, List, [], ◌∷◌, ◌++◌, length, refl, ap, subst, ◌∙◌, sym, arith, append_assoc, length-append, Option, Some, None, inl, inr}
-use Rattle.std.specs.Prelude.{◌==◌, is_some, if◌then◌else◌, flat_map}
+use Rattle.std.proofs.Common.{◌≡◌, ℕ, ◌+◌, ◌<◌, true, false, List, [], ◌∷◌, ◌++◌, length, refl, ap, subst, ◌∙◌, sym, arith, append_assoc, length-append, inl, inr}
+use Rattle.std.specs.Prelude.{◌==◌}
 use Rattle.std.specs.List.{AllByRecursion}
-use Rattle.std.proofs.lemmas.Bool.{false≢true, or_parts, or_left, or_from, eqb-true, eq-eqb, ne_eqb, cases_eq}
+use Rattle.std.proofs.lemmas.Bool.{false≢true, or_parts, or_from, eq-eqb, ne_eqb, cases_eq}
 use Rattle.std.proofs.lemmas.List.{append-nil}
 use Rattle.n2k_join.specs.Frames.{Frame}
-use Rattle.n2k_join.specs.Groups.{Ends, carried, has_number, has_twice, complete, repeats, closes, cut_from, cut}
+use Rattle.n2k_join.specs.Groups.{Ends, has_number, has_twice, complete, repeats, closes, cut_from, cut}
 use Rattle.n2k_join.specs.Pieces.{last_piece, Sending}
 use Rattle.n2k_join.specs.Scattered.{IsPieceOf, joined}
 use Rattle.n2k_join.proofs.Counting.{has_number-cons}
@@ -77,10 +77,10 @@ stretch_pieces x g each apart full = record {
   nonempty = omega arith;
   whole = complete_pieces x g each apart ∙ eq-eqb _ _ full;
   goes_on = λ f h front back e.
-    let apart' : has_twice ((f ∷ front) ++ (h ∷ back)) ≡ false = ap has_twice (sym e) ∙ apart in
-    let fronts = apart-front (f ∷ front) back h apart' in
-    let pieces : AllByRecursion (IsPieceOf x) ((f ∷ front) ++ (h ∷ back)) = subst (AllByRecursion (IsPieceOf x)) e each in
-    let lengths : length g ≡ length (f ∷ front) + length (h ∷ back) = ap length e ∙ length-append (f ∷ front) (h ∷ back) in
-    let unfinished : complete (f ∷ front) ≡ false = complete_pieces x (f ∷ front) (all-front (IsPieceOf x) (f ∷ front) (h ∷ back) pieces) fronts.0 ∙ ne_eqb _ _ (λ same. omega arith) in
-    or_from _ _ unfinished fronts.1;
+      let apart' : has_twice ((f ∷ front) ++ (h ∷ back)) ≡ false = ap has_twice (sym e) ∙ apart in
+      let fronts = apart-front (f ∷ front) back h apart' in
+      let pieces : AllByRecursion (IsPieceOf x) ((f ∷ front) ++ (h ∷ back)) = subst (AllByRecursion (IsPieceOf x)) e each in
+      let lengths : length g ≡ length (f ∷ front) + length (h ∷ back) = ap length e ∙ length-append (f ∷ front) (h ∷ back) in
+      let unfinished : complete (f ∷ front) ≡ false = complete_pieces x (f ∷ front) (all-front (IsPieceOf x) (f ∷ front) (h ∷ back) pieces) fronts.0 ∙ ne_eqb _ _ (λ same. omega arith) in
+      or_from _ _ unfinished fronts.1;
 }

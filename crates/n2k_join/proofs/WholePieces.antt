@@ -1,16 +1,18 @@
 -- Frames that are different pieces of a message are complete where they are as many as its pieces, and carry its data.
-use Rattle.std.proofs.Common.{◌≡◌, ℕ, zero, suc, ◌+◌, ◌*◌, ◌-◌, ◌%◌, ◌/◌, ◌<◌, ◌≤◌, Bool, true, false, cond, not, ◌&&◌, List, [], ◌∷◌, ◌++◌, map, take, drop, length, refl, ap, ◌∙◌, sym, arith, Option, Some, None, inl, inr}
-use Rattle.std.specs.Prelude.{◌==◌, is_some, if◌then◌else◌, nat_le, flat_map, slice_index_or, unwrap_or}
+use Rattle.std.proofs.Common.{◌≡◌, ℕ, zero, suc, ◌+◌, ◌*◌, ◌-◌, ◌/◌, ◌<◌, Bool, true, false, not, ◌&&◌, List, [], ◌∷◌, ◌++◌, map, take, drop, length, refl, ap, ◌∙◌, sym, arith, Option, Some}
+use Rattle.std.specs.Prelude.{◌==◌, is_some, if◌then◌else◌, flat_map, slice_index_or, unwrap_or}
 use Rattle.std.specs.List.{range_with_len, list_all, AllByRecursion}
-use Rattle.std.proofs.lemmas.Bool.{false≢true, and_parts, leb-true, le-leb, eqb-true, eq-eqb, cases_eq, false_from_ne_true, cases_Bool}
+use Rattle.std.proofs.lemmas.Bool.{false≢true, and_parts, le-leb, eqb-true, eq-eqb, ne_eqb, false_from_ne_true}
 use Rattle.std.proofs.lemmas.List.{map-append}
-use Rattle.std.proofs.lemmas.List.FromFn.{length-range_with_len, take-map-range_with_len}
-use Rattle.n2k_join.specs.Frames.{Key, Frame}
+use Rattle.std.proofs.lemmas.List.Elements.{recursion_from_All}
+use Rattle.std.proofs.lemmas.List.FromFn.{take-map-range_with_len}
+use Rattle.n2k_join.specs.Frames.{Frame}
 use Rattle.n2k_join.specs.Groups.{carried, has_number, has_twice, total_by, total, last_number, has_all, is_within, complete, bytes_at, data_of}
-use Rattle.n2k_join.specs.Pieces.{sent_byte, piece_bytes, piece, last_piece, Sending}
-use Rattle.n2k_join.specs.Scattered.{key_of_sending, IsPieceOf}
-use Rattle.n2k_join.proofs.Counting.{has_number-cons, has_all_numbers}
-use Rattle.n2k_join.proofs.PieceFrames.{SaysPiece, piece_says}
+use Rattle.n2k_join.specs.Pieces.{sent_byte, piece_bytes, last_piece, Sending}
+use Rattle.n2k_join.specs.Scattered.{IsPieceOf}
+use Rattle.n2k_join.specs.Arrival.{PiecesJoin}
+use Rattle.n2k_join.proofs.Counting.{has_all_numbers}
+use Rattle.n2k_join.proofs.PieceFrames.{piece_says}
 
 -- a number that the pieces have carries the bytes of that piece
 pub carried_pieces : (x : Sending) (fs : List Frame) (n : ℕ) → AllByRecursion (IsPieceOf x) fs → has_number n fs ≡ true → carried fs n ≡ Some (piece_bytes x.message.payload n)
@@ -53,8 +55,10 @@ complete_pieces x fs pieces apart = by_first (has_number 0 fs) refl
   where
     m : ℕ
     m = last_piece x.message + 1
+
     all_there : list_all (λ n. has_number n fs) (range_with_len 0 m) ≡ (length fs == m)
     all_there = has_all_numbers m fs (pieces_below x fs pieces) apart
+
     by_first : (b : Bool) → has_number 0 fs ≡ b → not (has_twice fs) && (b && (has_all (last_number (total fs)) fs && is_within (last_number (total fs)) fs)) ≡ (length fs == m)
     by_first true e = rw (apart, total_of x fs pieces e, none_past x fs pieces) (and_true _ ∙ all_there)
     by_first false e = rw apart (sym (false_from_ne_true _ (λ full. false≢true (sym e ∙ all_at_first (λ n. has_number n fs) m (omega arith) (all_there ∙ full)))))
@@ -77,7 +81,7 @@ chunks payload a (suc k) =
     let e : 7 * suc k ≡ 7 + 7 * k = omega arith in
     let e' : 7 * (a + 1) ≡ 7 * a + 7 = omega arith in
     let step : map (sent_byte payload) (range_with_len (7 * a) (7 * suc k)) ≡ map (sent_byte payload) (range_with_len (7 * a) 7) ++ map (sent_byte payload) (range_with_len (7 * a + 7) (7 * k)) =
-      ap (λ n. map (sent_byte payload) (range_with_len (7 * a) n)) e ∙ (ap (map (sent_byte payload)) (range-append (7 * a) 7 (7 * k)) ∙ map-append (sent_byte payload) (range_with_len (7 * a) 7) (range_with_len (7 * a + 7) (7 * k))) in
+    ap (λ n. map (sent_byte payload) (range_with_len (7 * a) n)) e ∙ (ap (map (sent_byte payload)) (range-append (7 * a) 7 (7 * k)) ∙ map-append (sent_byte payload) (range_with_len (7 * a) 7) (range_with_len (7 * a + 7) (7 * k))) in
     ap (λ l. piece_bytes payload a ++ l) (chunks payload (a + 1) k ∙ ap (λ j. map (sent_byte payload) (range_with_len j (7 * k))) e') ∙ sym step
 
 -- a list is what it holds at its places
@@ -117,3 +121,10 @@ data_pieces x fs pieces apart full =
     ap (λ t. take t (drop 1 (flat_map (bytes_at fs) (range_with_len 0 (last_number t + 1))))) (total_of x fs pieces first)
     ∙ (ap (λ l. take (length x.message.payload) (drop 1 l)) (bytes_pieces x fs (range_with_len 0 m) pieces all_there ∙ chunks x.message.payload 0 m)
     ∙ sent_data x.message.payload)
+
+pub pieces_join : (x : Sending) → PiecesJoin x
+pieces_join x = record {
+  complete_together = λ fs is. complete_pieces x fs (recursion_from_All (IsPieceOf x) fs is.pieces.each) is.pieces.apart ∙ eq-eqb _ _ is.whole;
+  carry_data = λ fs is. data_pieces x fs (recursion_from_All (IsPieceOf x) fs is.pieces.each) is.pieces.apart is.whole;
+  no_part = λ fs are few. complete_pieces x fs (recursion_from_All (IsPieceOf x) fs are.each) are.apart ∙ ne_eqb _ _ (λ same. omega arith);
+}
