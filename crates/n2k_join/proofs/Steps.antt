@@ -25,7 +25,7 @@ use Rattle.n2k_join.proofs.Carried.{carried-push, data_of-same}
 use Rattle.n2k_join.proofs.Cuts.{next, so_far, repeats-ends}
 use Rattle.n2k_join.proofs.Held.{carried-kept, first-kept, so_far-held}
 use Rattle.n2k_join.proofs.Keys.{same_key-true, same_key-sym}
-use Rattle.n2k_join.proofs.Lines.{completed, broke, keyed, gathered-last, broken-last, gathered-none, broken-none}
+use Rattle.n2k_join.proofs.Given.{completed, broke, keyed, gathered-last, broken-last, gathered-none, broken-none}
 use Rattle.n2k_join.proofs.Opened.{IsFine, complete-kept_push, with_frame-kept, open_groups-push, open_groups-none}
 use Rattle.n2k_join.proofs.Resumed.{held-log, held-own, held-other, open_groups-held}
 use Rattle.n2k_join.proofs.Rising.{find-passes, find-all, find-none, passes_none, all-map, all-zip}
@@ -42,6 +42,7 @@ pub only_frame : (kind : ℕ → Option Kind) (line : ℕ) (e : Entry) (x : Fram
 unfolding fast_frame
 only_frame kind line entries.Skip x e = absurd (none-some x e)
 only_frame kind line (entries.Bad cause) x e = absurd (none-some x e)
+only_frame kind line (entries.Whole packet) x e = absurd (none-some x e)
 only_frame kind line (entries.Frame packet) x e = by_kind (kind packet.id.pgn) refl e
   where
     by_test : (b : Bool) → is_fast_payload packet.payload ≡ b → kind packet.id.pgn ≡ Some Fast → (f : Frame) → f.line ≡ line → cond b (Some f) None ≡ Some x → IsOnlyFrame kind line (entries.Frame packet) x

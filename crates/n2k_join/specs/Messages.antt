@@ -47,9 +47,15 @@ single_by None packet = None
 single_by (Some Single) packet = Some packet
 single_by (Some Fast) packet = None
 
+-- the message that a whole message is: it is one where its PGN is in the table, however that is sent
+abbrev pub whole_by : Option Kind → PacketParts → Option PacketParts
+whole_by None packet = None
+whole_by (Some kind) packet = Some packet
+
 -- the message that an entry gives alone
 abbrev pub alone : (ℕ → Option Kind) → Entry → Option PacketParts
 alone kind (entries.Frame packet) = single_by (kind packet.id.pgn) packet
+alone kind (entries.Whole packet) = whole_by (kind packet.id.pgn) packet
 alone kind _ = None
 
 -- the message that a line gives: of the group that it completes, or of its entry alone
@@ -96,6 +102,7 @@ broken kind es line = broken_with repeats (frames kind es) line
 -- the PGN of an entry isn't in the table
 abbrev pub is_unknown : (ℕ → Option Kind) → Entry → Bool
 is_unknown kind (entries.Frame packet) = not (is_some (kind packet.id.pgn))
+is_unknown kind (entries.Whole packet) = not (is_some (kind packet.id.pgn))
 is_unknown kind _ = false
 
 -- the numbers of the lines
