@@ -1,4 +1,5 @@
 pub mod Advanced
+pub mod Agreeing
 pub mod Arriving
 pub mod Carried
 pub mod Counting
@@ -9,6 +10,7 @@ pub mod Healing
 pub mod Held
 pub mod Keys
 pub mod Lines
+pub mod Logs
 pub mod Opened
 pub mod PieceFrames
 pub mod Resumed
