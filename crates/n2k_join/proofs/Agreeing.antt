@@ -1,5 +1,5 @@
 -- The step from a log's state is the state of the longer log.
-use Rattle.std.proofs.Common.{◌≡◌, ◌==◌, ◌≤◌, ◌<◌, ◌+◌, ℕ, Bool, true, false, cond, ◌||◌, List, [], ◌∷◌, ◌++◌, length, map, refl, sym, ap, ◌∙◌, subst, arith, Option, Some, None, option_map, option_and_then, option_to_list}
+use Rattle.std.proofs.Common.{◌≡◌, ◌<◌, ◌+◌, ℕ, Bool, true, false, cond, ◌||◌, List, [], ◌∷◌, ◌++◌, length, map, refl, sym, ap, ◌∙◌, subst, arith, Option, Some, None, option_map, option_and_then, option_to_list}
 use Rattle.std.specs.Prelude.{is_some, IfSome, sum_by, count_by}
 use Rattle.std.specs.Option.{option_or}
 use Rattle.std.specs.List.{range_with_len}
@@ -9,22 +9,21 @@ use Rattle.n2k_wire.specs.declared.entry.Entry.{Entry}
 use Rattle.n2k_wire.specs.Packet.{PacketParts}
 use Rattle.n2k_table.specs.declared.definition.Kind.{Kind}
 use Rattle.n2k_join.specs.declared.broken.Broken.{Broken}
-use Rattle.n2k_join.specs.declared.counts.Counts.{Counts}
 use Rattle.n2k_join.specs.Frames.{Key, Frame, of_key, frame_in, frames}
-use Rattle.n2k_join.specs.Groups.{repeats, complete, incomplete, first}
+use Rattle.n2k_join.specs.Groups.{repeats, complete, incomplete}
 use Rattle.n2k_join.specs.Open.{Group, group_of, open_groups}
 use Rattle.n2k_join.specs.Messages.{Keyed, message_of, alone, cause_in, gathered, broken_of, broken_with, message, broken, entry_at, is_unknown, numbers, counts}
-use Rattle.n2k_join.specs.State.{State, Given, state, held_of, next_line, step_given, step_after, counted, one_if, AreOpen}
+use Rattle.n2k_join.specs.State.{Given, state, held_of, step_after, counted, one_if, AreOpen}
 use Rattle.n2k_join.proofs.Advanced.{of_the_key, advanced}
 use Rattle.n2k_join.proofs.Carried.{carried-push, data_of-same}
 use Rattle.n2k_join.proofs.Cuts.{next, so_far, repeats-ends}
 use Rattle.n2k_join.proofs.Held.{carried-kept, first-kept}
 use Rattle.n2k_join.proofs.Given.{completed, broke, keyed, gathered-last, broken-last, gathered-none, broken-none}
-use Rattle.n2k_join.proofs.Opened.{IsLog, IsFine, so_far-fine, numbers_of_key, found-open, open_of-so_far, ends-kept, complete-kept, complete-kept_push, open_groups-push, open_groups-none}
+use Rattle.n2k_join.proofs.Opened.{IsFine, so_far-fine, numbers_of_key, found-open, open_of-so_far, ends-kept, complete-kept, complete-kept_push, open_groups-push, open_groups-none}
 use Rattle.n2k_join.proofs.Resumed.{open_groups-open}
 use Rattle.n2k_join.proofs.Rising.{range-push}
 use Rattle.n2k_join.proofs.Logs.{frames-log, frames-push, entry_at-last, message-before, broken-before, sum_by-range}
-use Rattle.n2k_join.proofs.Steps.{StepsTo, IsOnlyFrame, only_frame, frame_gives, step-none, step-frame}
+use Rattle.n2k_join.proofs.Steps.{StepsTo, only_frame, frame_gives, step-none, step-frame}
 
 -- what is kept of the open group of a key
 abbrev kept_of : Key → Option (List Frame) → Option (List Frame)
@@ -73,6 +72,7 @@ gives-kept_open x g e fine c t =
     joins : (e : Bool) → message_from x (cond e (x ∷ []) (g ++ x ∷ [])) ≡ message_from x (cond e (x ∷ []) (held_of (group_of x.key g) ++ x ∷ []))
     joins true = refl
     joins false = message-joined x g fine
+
     breaks : (e : Bool) → map (broken_of x.key) (cond e (g ∷ []) []) ≡ map (broken_of x.key) (cond e (held_of (group_of x.key g) ∷ []) [])
     breaks true = ap (λ b. b ∷ []) (broken-kept x g fine)
     breaks false = refl
@@ -108,9 +108,9 @@ module _ (kind : ℕ → Option Kind) (es : List Entry) (e : Entry) where
       let log = frames-log kind es in
       let fs : frames kind (es ++ e ∷ []) ≡ frames kind es = frames-push kind es e ∙ ap (λ o. frames kind es ++ option_to_list o) none ∙ append-nil (frames kind es) in
       λ i. given_of
-        ((ap (λ fs. gathered repeats fs (length es + 1)) fs ∙ gathered-none repeats (length es) (length es + 1) (frames kind es) log (omega arith)) i)
-        (last-alone i)
-        ((ap (λ fs. broken_with repeats fs (length es + 1)) fs ∙ broken-none repeats (length es) (length es + 1) (frames kind es) log (omega arith)) i)
+      ((ap (λ fs. gathered repeats fs (length es + 1)) fs ∙ gathered-none repeats (length es) (length es + 1) (frames kind es) log (omega arith)) i)
+      (last-alone i)
+      ((ap (λ fs. broken_with repeats fs (length es + 1)) fs ∙ broken-none repeats (length es) (length es + 1) (frames kind es) log (omega arith)) i)
 
   groups-none : frame_in kind (length es + 1) e ≡ None → open_groups repeats (length (es ++ e ∷ [])) (frames kind (es ++ e ∷ [])) ≡ open_groups repeats (length es) (frames kind es)
   groups-none none =
@@ -128,12 +128,12 @@ module _ (kind : ℕ → Option Kind) (es : List Entry) (e : Entry) where
       let fs : frames kind (es ++ e ∷ []) ≡ frames kind es ++ x ∷ [] = frames-push kind es e ∙ ap (λ o. frames kind es ++ option_to_list o) some in
       let past : length es < x.line = omega (arith, only.line) in
       let found : option_map (group_of x.key) (option_and_then incomplete s) ≡ of_the_key x.key (open_groups repeats (length es) (frames kind es)) =
-          sym (found-open repeats repeats-ends (length es) x.key (frames kind es) log ∙ ap (option_map (group_of x.key)) (open_of-so_far repeats repeats-ends x.key (frames kind es))) in
+      sym (found-open repeats repeats-ends (length es) x.key (frames kind es) log ∙ ap (option_map (group_of x.key)) (open_of-so_far repeats repeats-ends x.key (frames kind es))) in
       let like : GivesAlike x s (kept_of x.key s) = gives-kept x s (so_far-fine repeats repeats-ends (of_key x.key (frames kind es)) (numbers_of_key repeats repeats-ends x.key (frames kind es) log.numbers)) in
       let gathered_is : gathered repeats (frames kind (es ++ e ∷ [])) (length es + 1) ≡ option_map (keyed repeats x) (completed repeats s x) =
-          ap (λ fs. gathered repeats fs (length es + 1)) fs ∙ ap (gathered repeats (frames kind es ++ x ∷ [])) (sym only.line) ∙ gathered-last repeats (length es) (frames kind es) x log past in
+      ap (λ fs. gathered repeats fs (length es + 1)) fs ∙ ap (gathered repeats (frames kind es ++ x ∷ [])) (sym only.line) ∙ gathered-last repeats (length es) (frames kind es) x log past in
       let broken_is : broken_with repeats (frames kind (es ++ e ∷ [])) (length es + 1) ≡ map (broken_of x.key) (broke repeats s x) =
-          ap (λ fs. broken_with repeats fs (length es + 1)) fs ∙ ap (broken_with repeats (frames kind es ++ x ∷ [])) (sym only.line) ∙ broken-last repeats (length es) (frames kind es) x log past in
+      ap (λ fs. broken_with repeats fs (length es + 1)) fs ∙ ap (broken_with repeats (frames kind es ++ x ∷ [])) (sym only.line) ∙ broken-last repeats (length es) (frames kind es) x log past in
       (λ i. given_of (gathered_is i) ((last-alone ∙ only.alone) i) (broken_is i))
       ∙ (λ i. record {
         message = (message_alone (completed repeats s x) ∙ like.message ∙ ap (λ q. option_map (message_of x) (completed repeats (option_map held_of q) x)) found) i;
@@ -168,14 +168,14 @@ module _ (kind : ℕ → Option Kind) (es : List Entry) (e : Entry) where
       ap (count_by (λ i. is_some (message kind (es ++ e ∷ []) i))) numbers-push
       ∙ sum_by_push (λ i. cond (is_some (message kind (es ++ e ∷ []) i)) 1 0) (range_with_len 1 (length es)) (1 + length es)
       ∙ (λ j. sum_by-range (λ i. cond (is_some (message kind (es ++ e ∷ []) i)) 1 0) (λ i. cond (is_some (message kind es i)) 1 0) 1 (length es) (λ i l u. ap (λ m. cond (is_some m) 1 0) (message-before repeats kind es e i l (omega arith))) j
-          + (ap (λ i. cond (is_some (message kind (es ++ e ∷ []) i)) 1 0) next_number ∙ one_is (is_some (message kind (es ++ e ∷ []) (length es + 1)))) j)
+      + (ap (λ i. cond (is_some (message kind (es ++ e ∷ []) i)) 1 0) next_number ∙ one_is (is_some (message kind (es ++ e ∷ []) (length es + 1)))) j)
 
   broken-push : sum_by (λ i. length (broken kind (es ++ e ∷ []) i)) (numbers (es ++ e ∷ [])) ≡ sum_by (λ i. length (broken kind es i)) (numbers es) + length (broken kind (es ++ e ∷ []) (length es + 1))
   broken-push =
       ap (sum_by (λ i. length (broken kind (es ++ e ∷ []) i))) numbers-push
       ∙ sum_by_push (λ i. length (broken kind (es ++ e ∷ []) i)) (range_with_len 1 (length es)) (1 + length es)
       ∙ (λ j. sum_by-range (λ i. length (broken kind (es ++ e ∷ []) i)) (λ i. length (broken kind es i)) 1 (length es) (λ i l u. ap length (broken-before repeats kind es e i (omega arith))) j
-          + ap (λ i. length (broken kind (es ++ e ∷ []) i)) next_number j)
+      + ap (λ i. length (broken kind (es ++ e ∷ []) i)) next_number j)
 
   one_more : (p : Entry → Bool) → count_by p (es ++ e ∷ []) ≡ count_by p es + one_if (p e)
   one_more p = sum_by_push (λ x. cond (p x) 1 0) es e ∙ ap (λ n. count_by p es + n) (one_is (p e))

@@ -8,6 +8,7 @@ pub mod Given
 pub mod GroupLines
 pub mod Healing
 pub mod Held
+pub mod Keeping
 pub mod Keys
 pub mod Lines
 pub mod Logs
