@@ -1,8 +1,10 @@
 pub mod Advanced
 pub mod Agreeing
 pub mod Arriving
+pub mod BadLines
 pub mod Carried
 pub mod Counting
+pub mod CutLaws
 pub mod Cuts
 pub mod Given
 pub mod GroupLines
