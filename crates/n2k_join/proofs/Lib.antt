@@ -22,3 +22,4 @@ pub mod Splitting
 pub mod Steps
 pub mod Stretches
 pub mod WholePieces
+pub mod Worked
