@@ -5,9 +5,11 @@ pub mod Cuts
 pub mod GroupLines
 pub mod Healing
 pub mod Held
+pub mod KeyCounts
 pub mod Keys
 pub mod Lines
 pub mod PieceFrames
+pub mod Replaying
 pub mod Rising
 pub mod Splitting
 pub mod Stretches
