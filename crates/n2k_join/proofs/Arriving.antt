@@ -75,7 +75,7 @@ pub gathers : (kind : ℕ → Option Kind) (es : List Entry) (k : Key) (x : Send
 gathers kind es k x g comes =
     let pieces = pieces_in x g comes.stretch in
     let last : LastFrame (λ f. StandsAt (frames kind es) k f × IsPieceOf x f) g =
-      last_frame (λ f. StandsAt (frames kind es) k f × IsPieceOf x f) g (as_stretch x g comes.stretch).nonempty (all_with (StandsAt (frames kind es) k) (IsPieceOf x) _ (λ f a b. (a, b)) g comes.stands pieces) in
+    last_frame (λ f. StandsAt (frames kind es) k f × IsPieceOf x f) g (as_stretch x g comes.stretch).nonempty (all_with (StandsAt (frames kind es) k) (IsPieceOf x) _ (λ f a b. (a, b)) g comes.stands pieces) in
     let says = piece_says x last.frame last.holds.1 in
     gathered_group repeats (frames kind es) k g last.frame last.at last.holds.0 comes.found
     ∙ ap (λ m. Some (record { key = k; message = m })) (message_is x.message last.frame g says.stamp says.id (data_pieces x g pieces comes.stretch.pieces.apart comes.stretch.whole))
@@ -116,8 +116,8 @@ settled kind ms es scattered k =
       nonempty = nonempty;
       rise = rise;
       each = zip-with IsStretchOf (Comes kind es k) (λ g. AllByRecursion (StandsAt (frames kind es) k) g × IsDone gs g)
-        (λ x g is facts. record { stretch = is; stands = facts.0; found = ap (find (is_done_at (last_line g))) cut_is ∙ facts.1 (as_stretch x g is).whole })
-        (sendings_of k ms) gs falls.each both;
+          (λ x g is facts. record { stretch = is; stands = facts.0; found = ap (find (is_done_at (last_line g))) cut_is ∙ facts.1 (as_stretch x g is).whole })
+          (sendings_of k ms) gs falls.each both;
     }
 
 pub zip-map : {X Y : Type 0} (R S : X → Y → Type 0) → ((x : X) (y : Y) → R x y → S x y) → (xs : List X) (ys : List Y) → AllZip R xs ys → AllZip S xs ys

@@ -34,9 +34,11 @@ all-others key k c (x ∷ xs) other = by_test (same_key k (key x)) refl (all-oth
   where
     apart : same_key k (key x) ≡ true → same_key c (key x) ≡ false
     apart e = ap (same_key c) (sym (same_key-true k (key x) e)) ∙ (same_key-sym c k ∙ other)
+
     skipped : (b : Bool) → same_key k (key x) ≡ false → of key k (others key c xs) ≡ of key k xs → of key k (cond b (x ∷ others key c xs) (others key c xs)) ≡ of key k xs
     skipped true e ih = rw e ih
     skipped false e ih = ih
+
     by_test : (b : Bool) → same_key k (key x) ≡ b → of key k (others key c xs) ≡ of key k xs → of key k (cond (not (same_key c (key x))) (x ∷ others key c xs) (others key c xs)) ≡ cond b (x ∷ of key k xs) (of key k xs)
     by_test true e ih = rw (apart e, e) (ap (λ l. x ∷ l) ih)
     by_test false e ih = skipped (not (same_key c (key x))) e ih

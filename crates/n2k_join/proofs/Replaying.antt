@@ -49,13 +49,14 @@ read_off R n (suc count) (x ∷ xs) (g ∷ gs) each rise within = by_place (case
   where
     shifted : (hs : List (List Frame)) → AllByRecursion (λ h. last_line h < n + suc count) hs → AllByRecursion (λ h. last_line h < (n + 1) + count) hs
     shifted hs all = all-map _ (λ h. last_line h < (n + 1) + count) hs (λ h l. omega arith) all
+
     by_place : (last_line g ≡ n) ⊎ (last_line g ≡ n → ⊥)
-      → (LastsRise (n + 1) gs → AllByRecursion (λ h. last_line h < (n + 1) + count) gs → filter_map (at_line xs gs) (range_with_len (n + 1) count) ≡ xs)
-      → (LastsRise (n + 1) (g ∷ gs) → AllByRecursion (λ h. last_line h < (n + 1) + count) (g ∷ gs) → filter_map (at_line (x ∷ xs) (g ∷ gs)) (range_with_len (n + 1) count) ≡ x ∷ xs)
-      → cons_option (at_line (x ∷ xs) (g ∷ gs) n) (filter_map (at_line (x ∷ xs) (g ∷ gs)) (range_with_len (n + 1) count)) ≡ x ∷ xs
+        → (LastsRise (n + 1) gs → AllByRecursion (λ h. last_line h < (n + 1) + count) gs → filter_map (at_line xs gs) (range_with_len (n + 1) count) ≡ xs)
+        → (LastsRise (n + 1) (g ∷ gs) → AllByRecursion (λ h. last_line h < (n + 1) + count) (g ∷ gs) → filter_map (at_line (x ∷ xs) (g ∷ gs)) (range_with_len (n + 1) count) ≡ x ∷ xs)
+        → cons_option (at_line (x ∷ xs) (g ∷ gs) n) (filter_map (at_line (x ∷ xs) (g ∷ gs)) (range_with_len (n + 1) count)) ≡ x ∷ xs
     by_place (inl here) next again =
         let later : filter_map (at_line (x ∷ xs) (g ∷ gs)) (range_with_len (n + 1) count) ≡ filter_map (at_line xs gs) (range_with_len (n + 1) count) =
-          filter_map-range (at_line (x ∷ xs) (g ∷ gs)) (at_line xs gs) (n + 1) count (λ i low high. rw (ne_eqb (last_line g) i (λ same. omega arith)) refl) in
+        filter_map-range (at_line (x ∷ xs) (g ∷ gs)) (at_line xs gs) (n + 1) count (λ i low high. rw (ne_eqb (last_line g) i (λ same. omega arith)) refl) in
         let rest : LastsRise (n + 1) gs = subst (λ l. LastsRise (l + 1) gs) here rise.1 in
         rw (eq-eqb (last_line g) n here) (ap (λ l. x ∷ l) (later ∙ next rest (shifted gs within.1)))
     by_place (inr other) next again =
@@ -98,14 +99,16 @@ none_of_key fs k gs line cut_is none = by_frame (frame_at line fs) refl
     other_key : (f : Frame) → same_key k f.key ≡ false → (o : Option (List Frame)) → kept k (made f o) ≡ None
     other_key f other None = refl
     other_key f other (Some g) = rw other refl
+
     of_frame : (f : Frame) → frame_at line fs ≡ Some f → (b : Bool) → same_key k f.key ≡ b → kept k (gathered_by repeats fs f) ≡ None
     of_frame f e true same =
         let at : line ≡ f.line = sym (eqb-true f.line line (find-passes (λ (g : Frame). g.line == line) fs f e)) in
         let undone : AllByRecursion (λ g. is_done_at f.line g ≡ false) gs = subst (λ l. AllByRecursion (λ g. is_done_at l g ≡ false) gs) at (all-map (λ g. (last_line g == line) ≡ false) (λ g. is_done_at line g ≡ false) gs (λ g other. and_right (complete g) _ other) none) in
         let nothing : find (is_done_at f.line) (cut repeats (of_key f.key fs)) ≡ None =
-          ap (λ c. find (is_done_at f.line) (cut repeats (of_key c fs))) (sym (same_key-true k f.key same)) ∙ (ap (find (is_done_at f.line)) cut_is ∙ find-none (is_done_at f.line) gs undone) in
+        ap (λ c. find (is_done_at f.line) (cut repeats (of_key c fs))) (sym (same_key-true k f.key same)) ∙ (ap (find (is_done_at f.line)) cut_is ∙ find-none (is_done_at f.line) gs undone) in
         ap (λ o. kept k (made f o)) nothing
     of_frame f e false other = other_key f other (find (is_done_at f.line) (cut repeats (of_key f.key fs)))
+
     by_frame : (o : Option Frame) → frame_at line fs ≡ o → kept k (option_and_then (gathered_by repeats fs) o) ≡ None
     by_frame None e = refl
     by_frame (Some f) e = of_frame f e (same_key k f.key) refl
@@ -117,6 +120,7 @@ filter-filter_map k h (x ∷ xs) = by_given (h x) (filter-filter_map k h xs)
     by_test : (b : Bool) (m : Keyed) (rest : List Keyed) → cond b (m ∷ rest) rest ≡ cons_option (if b then Some m else None) rest
     by_test true m rest = refl
     by_test false m rest = refl
+
     by_given : (o : Option Keyed) → filter (λ (m : Keyed). same_key k m.key) (filter_map h xs) ≡ filter_map (λ y. kept k (h y)) xs → filter (λ (m : Keyed). same_key k m.key) (cons_option o (filter_map h xs)) ≡ cons_option (kept k o) (filter_map (λ y. kept k (h y)) xs)
     by_given None ih = ih
     by_given (Some m) ih = by_test (same_key k m.key) m _ ∙ ap (cons_option (kept k (Some m))) ih
@@ -155,6 +159,7 @@ line_of_key kind ms es k at i = by_line (at_line-cases (gathered repeats (frames
   where
     own : (x : Sending) → kept k (Some (keyed k x)) ≡ Some (keyed k x)
     own x = rw (same_key-refl k) refl
+
     by_line : AtLine (gathered repeats (frames kind es)) k (sendings_of k ms) at.groups i → kept k (gathered repeats (frames kind es) i) ≡ option_map (keyed k) (at_line (sendings_of k ms) at.groups i)
     by_line (inl here) = ap (kept k) here.2 ∙ (own here.0 ∙ sym (ap (option_map (keyed k)) here.1))
     by_line (inr there) = none_of_key (frames kind es) k at.groups i at.cut_is there.1 ∙ sym (ap (option_map (keyed k)) there.0)
@@ -211,7 +216,7 @@ length-sendings earlier (m ∷ ms) = ap suc (length-sendings (earlier ++ m ∷ [
 pub gathers_all : (kind : ℕ → Option Kind) (ms : List PacketParts) (es : List Entry) → IsScattered kind ms es → length (gathered_messages kind es) ≡ length ms
 gathers_all kind ms es scattered =
     same_length (λ (m : Keyed). m.key) key_of_sending (length (gathered_messages kind es)) (gathered_messages kind es) (sendings ms) (omega arith)
-      (λ k. ap length (gathered_of_key kind ms es scattered k) ∙ length-map (keyed k) (sendings_of k ms))
+    (λ k. ap length (gathered_of_key kind ms es scattered k) ∙ length-map (keyed k) (sendings_of k ms))
     ∙ length-sendings [] ms
 
 pub replays : (kind : ℕ → Option Kind) (ms : List PacketParts) (es : List Entry) → IsScattered kind ms es → IsMute kind es → Replays kind ms es

@@ -1,10 +1,9 @@
 -- Lists whose numbers rise strictly: looked up by number and read off a range of numbers.
-use Rattle.std.proofs.Common.{◌≡◌, ◌==◌, ◌≤◌, ◌<◌, ◌+◌, ℕ, suc, zero, Bool, true, false, cond, List, [], ◌∷◌, ◌++◌, refl, sym, ap, ◌∙◌, subst, arith, Option, Some, None, filter_map, find, option_and_then, option_to_list, option_map, length}
-use Rattle.std.specs.Prelude.{is_some, count_by}
+use Rattle.std.proofs.Common.{◌≡◌, ◌==◌, ◌≤◌, ◌<◌, ◌+◌, ℕ, suc, zero, Bool, true, false, cond, List, [], ◌∷◌, ◌++◌, refl, sym, ap, ◌∙◌, subst, arith, Option, Some, None, filter_map, find, option_and_then, option_to_list, flat_map}
 use Rattle.std.specs.Option.{option_or}
 use Rattle.std.specs.List.{range_with_len, cons_option, AllByRecursion}
 use Rattle.std.proofs.lemmas.List.Elements.{filter_map-append}
-use Rattle.std.proofs.lemmas.Bool.{eqb-true, eqb-false, eq-eqb, ne_eqb, false≢true}
+use Rattle.std.proofs.lemmas.Bool.{eqb-true, eqb-false, eq-eqb, ne_eqb}
 use Rattle.std.proofs.lemmas.Option.{none-some, same_Some}
 use Rattle.n2k_join.specs.State.{Rise}
 
@@ -60,13 +59,30 @@ pub find-none : {X : Type 0} (p : X → Bool) (xs : List X) → AllByRecursion (
 find-none p [] all = refl
 find-none p (x ∷ xs) all = ap (λ b. cond b (Some x) (find p xs)) all.0 ∙ find-none p xs all.1
 
+-- nothing is found where nothing passes
+pub passes_none : {X : Type 0} (p : X → Bool) (xs : List X) → find p xs ≡ None → AllByRecursion (λ x. p x ≡ false) xs
+passes_none p [] e = tt
+passes_none {X} p (x ∷ xs) e = by (p x) refl e (passes_none p xs)
+  where
+    by : (b : Bool) → p x ≡ b → cond b (Some x) (find p xs) ≡ None → (find p xs ≡ None → AllByRecursion (λ x. p x ≡ false) xs) → AllByRecursion (λ x. p x ≡ false) (x ∷ xs)
+    by true t e rest = absurd (none-some x (sym e))
+    by false t e rest = (t, rest e)
+
 pub all-map : {X : Type 0} (P Q : X → Type 0) (xs : List X) → ((x : X) → P x → Q x) → AllByRecursion P xs → AllByRecursion Q xs
 all-map P Q [] h all = tt
 all-map P Q (x ∷ xs) h all = (h x all.0, all-map P Q xs h all.1)
 
+pub all-zip : {X : Type 0} (P Q : X → Type 0) (xs : List X) → AllByRecursion P xs → AllByRecursion Q xs → AllByRecursion (λ x. P x × Q x) xs
+all-zip P Q [] p q = tt
+all-zip P Q (x ∷ xs) p q = ((p.0, q.0), all-zip P Q xs p.1 q.1)
+
 pub all-append : {X : Type 0} (P : X → Type 0) (xs ys : List X) → AllByRecursion P xs → AllByRecursion P ys → AllByRecursion P (xs ++ ys)
 all-append P [] ys a b = b
 all-append P (x ∷ xs) ys a b = (a.0, all-append P xs ys a.1 b)
+
+pub all-flat_map : {X Y : Type 0} (P : Y → Type 0) (f : X → List Y) (xs : List X) → AllByRecursion (λ x. AllByRecursion P (f x)) xs → AllByRecursion P (flat_map f xs)
+all-flat_map P f [] all = tt
+all-flat_map P f (x ∷ xs) all = all-append P (f x) (flat_map f xs) all.0 (all-flat_map P f xs all.1)
 
 module _ {A : Type 0} (number : A → ℕ) where
   -- the item of a number
@@ -76,6 +92,11 @@ module _ {A : Type 0} (number : A → ℕ) where
   pub rise-less : (a b : ℕ) (xs : List A) → a ≤ b → Rise number b xs → Rise number a xs
   rise-less a b [] l r = tt
   rise-less a b (x ∷ xs) l r = (omega (arith, r.0), r.1)
+
+  -- all are from the least on
+  pub rise-least : (least : ℕ) (xs : List A) → Rise number least xs → AllByRecursion (λ x. least ≤ number x) xs
+  rise-least least [] r = tt
+  rise-least least (x ∷ xs) r = (r.0, all-map (λ y. number x + 1 ≤ number y) (λ y. least ≤ number y) xs (λ y l. omega (arith, l, r.0)) (rise-least (number x + 1) xs r.1))
 
   -- below the least number there is none
   pub look-below : (least n : ℕ) (xs : List A) → Rise number least xs → n < least → look xs n ≡ None
@@ -112,6 +133,7 @@ module _ {A : Type 0} (number : A → ℕ) where
     where
       shifted : (ys : List A) → AllByRecursion (λ y. number y < a + suc n) ys → AllByRecursion (λ y. number y < (a + 1) + n) ys
       shifted ys h = all-map (λ y. number y < a + suc n) (λ y. number y < (a + 1) + n) ys (λ y l. omega arith) h
+
       by : (b : Bool) → (number x == a) ≡ b
           → (Rise number (a + 1) xs → AllByRecursion (λ y. number y < (a + 1) + n) xs → filter_map (look xs) (range_with_len (a + 1) n) ≡ xs)
           → (Rise number (a + 1) (x ∷ xs) → AllByRecursion (λ y. number y < (a + 1) + n) (x ∷ xs) → filter_map (look (x ∷ xs)) (range_with_len (a + 1) n) ≡ x ∷ xs)
@@ -143,6 +165,7 @@ module _ {A : Type 0} (number : A → ℕ) where
     where
       rest : List A
       rest = filter_map h (range_with_len (a + 1) n)
+
       by : (o : Option A) → h a ≡ o → (b : Bool) → (a == i) ≡ b → (a + 1 ≤ i → i < (a + 1) + n → look rest i ≡ h i) → look (cons_option o rest) i ≡ h i
       by None e true t later =
           let here : a ≡ i = eqb-true a i t in
