@@ -1,24 +1,24 @@
 -- A log over which messages are scattered, and which gives no other, gives these messages.
-use Rattle.std.proofs.Common.{◌≡◌, ℕ, zero, suc, ◌+◌, ◌<◌, ◌≤◌, Bool, true, false, cond, not, ◌&&◌, List, [], ◌∷◌, ◌++◌, length, refl, ap, subst, ◌∙◌, sym, arith, Option, Some, None, inl, inr}
-use Rattle.std.specs.Prelude.{◌==◌, ◌⊎◌, is_some, if◌then◌else◌, find, filter, filter_map, map, option_map, option_and_then, slice_get}
+use Rattle.std.proofs.Common.{◌≡◌, ℕ, zero, suc, ◌+◌, ◌<◌, ◌≤◌, Bool, true, false, cond, List, [], ◌∷◌, ◌++◌, length, refl, ap, subst, ◌∙◌, sym, arith, Option, Some, None, inl, inr}
+use Rattle.std.specs.Prelude.{◌==◌, ◌⊎◌, if◌then◌else◌, find, filter, filter_map, map, option_map, option_and_then, slice_get}
 use Rattle.std.specs.Option.{option_or}
-use Rattle.std.specs.List.{AllByRecursion, AllZip, All, range_with_len, cons_option}
-use Rattle.std.proofs.lemmas.Bool.{false≢true, eq-eqb, ne_eqb, eqb-true, and_right, cases_eq}
+use Rattle.std.specs.List.{AllByRecursion, AllZip, range_with_len, cons_option}
+use Rattle.std.proofs.lemmas.Bool.{eq-eqb, ne_eqb, eqb-true, and_right, cases_eq}
 use Rattle.std.proofs.lemmas.List.Elements.{recursion_from_All}
 use Rattle.n2k_wire.specs.Packet.{PacketParts}
 use Rattle.n2k_wire.specs.declared.entry.Entry.{Entry}
 use Rattle.n2k_table.specs.declared.definition.Kind.{Kind}
 use Rattle.n2k_join.specs.Frames.{Key, same_key, Frame, frame_in, frames_from, frames, of_key, frame_at}
 use Rattle.n2k_join.specs.Groups.{repeats, complete, cut, last_line}
-use Rattle.n2k_join.specs.Messages.{Keyed, message_of, is_done_at, gathered_by, gathered, alone, entry_at, message, numbers}
+use Rattle.n2k_join.specs.Messages.{Keyed, message_of, is_done_at, gathered_by, gathered, alone, message, numbers}
 use Rattle.n2k_join.specs.Pieces.{Sending, sendings, sendings_after}
 use Rattle.n2k_join.specs.Scattered.{key_of_sending, joined, sendings_of, IsScattered, IsMute}
 use Rattle.n2k_join.specs.Replay.{messages, gathered_messages, given_to, sent_to, Replays}
 use Rattle.n2k_join.proofs.Keys.{same_key-true, same_key-refl}
 use Rattle.n2k_join.proofs.KeyCounts.{same_length}
 use Rattle.n2k_join.proofs.Rising.{find-passes, find-all, find-none, filter_map-range, all-map}
-use Rattle.n2k_join.proofs.Lines.{RiseFrom, all_with, frame_in-line}
-use Rattle.n2k_join.proofs.GroupLines.{IsGroup, rise-after, LastFrame, last_frame, lasts_above}
+use Rattle.n2k_join.proofs.Lines.{RiseFrom, frame_in-line}
+use Rattle.n2k_join.proofs.GroupLines.{IsGroup, rise-after, last_frame, lasts_above}
 use Rattle.n2k_join.proofs.Arriving.{StandsAt, Comes, gathers, Settled, settled, zip-map, zip-all, as_stretch, filter_map-none}
 
 -- the sending whose group's last frame stands at the line
