@@ -14,7 +14,7 @@ use Rattle.n2k_run.specs.declared.fault.RunFault.{RunFault}
 use Rattle.n2k_run.specs.declared.fault.RunFault.TheVariants as run
 use Rattle.n2k_table.specs.Table.{TableParts}
 use Rattle.n2k_table.specs.declared.fault.TableFault.{TableFault}
-use Rattle.n2kdec.specs.Commands.{Devices, HasCause, HasRead, IsRefusedOrStopped, IsStopped, Texts, decode_texts, summed_up}
+use Rattle.n2kdec.specs.Commands.{Devices, HasCause, HasRead, IsRefusedOrStopped, IsStopped, Texts, decode_texts}
 use Rattle.n2kdec.specs.Fault.{fault_of_run}
 use Rattle.n2kdec.specs.declared.fault.Fault.{Fault}
 use Rattle.n2kdec.specs.declared.fault.Fault.TheVariants.{Table, Read, Write, Report, Memory, Lines}
