@@ -11,11 +11,13 @@ pub mod GroupLines
 pub mod Healing
 pub mod Held
 pub mod Keeping
+pub mod KeyCounts
 pub mod Keys
 pub mod Lines
 pub mod Logs
 pub mod Opened
 pub mod PieceFrames
+pub mod Replaying
 pub mod Resumed
 pub mod Rising
 pub mod Splitting
