@@ -107,7 +107,7 @@ none_below m a (suc n) (f ∷ fs) below numbers =
     let rest : map (λ (g : Frame). g.number) fs ≡ range_with_len (a + 1) n = cc in
     has_number-cons f fs m ∙ or_from _ _ (ne_eqb f.number m (λ same. omega arith)) (none_below m (a + 1) n fs (omega arith) rest)
 
-rising-apart : (a n : ℕ) (fs : List Frame) → map (λ (f : Frame). f.number) fs ≡ range_with_len a n → has_twice fs ≡ false
+pub rising-apart : (a n : ℕ) (fs : List Frame) → map (λ (f : Frame). f.number) fs ≡ range_with_len a n → has_twice fs ≡ false
 rising-apart a n [] numbers = refl
 rising-apart a zero (f ∷ fs) numbers = absurd (cc)
 rising-apart a (suc n) (f ∷ fs) numbers =
@@ -115,7 +115,7 @@ rising-apart a (suc n) (f ∷ fs) numbers =
     let rest : map (λ (g : Frame). g.number) fs ≡ range_with_len (a + 1) n = cc in
     or_from _ _ (none_below f.number (a + 1) n fs (omega arith) rest) (rising-apart (a + 1) n fs rest)
 
-rising-length : (a n : ℕ) (fs : List Frame) → map (λ (f : Frame). f.number) fs ≡ range_with_len a n → length fs ≡ n
+pub rising-length : (a n : ℕ) (fs : List Frame) → map (λ (f : Frame). f.number) fs ≡ range_with_len a n → length fs ≡ n
 rising-length a zero [] numbers = refl
 rising-length a (suc n) [] numbers = absurd (cc)
 rising-length a zero (f ∷ fs) numbers = absurd (cc)

@@ -19,3 +19,4 @@ pub mod Splitting
 pub mod Steps
 pub mod Stretches
 pub mod WholePieces
+pub mod Written
