@@ -1,4 +1,5 @@
 pub mod Advanced
+pub mod Agreeing
 pub mod Arriving
 pub mod Carried
 pub mod Counting
@@ -7,9 +8,11 @@ pub mod Given
 pub mod GroupLines
 pub mod Healing
 pub mod Held
+pub mod Keeping
 pub mod KeyCounts
 pub mod Keys
 pub mod Lines
+pub mod Logs
 pub mod Opened
 pub mod PieceFrames
 pub mod Replaying
