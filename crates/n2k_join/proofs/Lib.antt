@@ -25,3 +25,4 @@ pub mod Steps
 pub mod Stretches
 pub mod WholePieces
 pub mod Worked
+pub mod Written
