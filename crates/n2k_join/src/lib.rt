@@ -3,6 +3,15 @@
 
 mod broken;
 mod counts;
+mod fault;
+mod frame;
+mod group;
+mod join;
 
 pub use broken::Broken;
 pub use counts::{Counts, MOST_LINES};
+pub use fault::JoinFault;
+pub use join::{Join, Step};
+
+#[cfg(test)]
+mod tests;
