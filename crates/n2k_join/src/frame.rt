@@ -1,58 +1,53 @@
 //! Frames of fast packets.
+ghost use Rattle.std.specs.Prelude.{◌≡◌, ℕ, option_map, slice_index_or};
+ghost use Rattle.n2k_join.specs.Frames.{fast_frame, seven_bytes};
+ghost use Rattle.n2k_join.specs.Stored.{frame_of};
 
+use crate::piece::{FastFrame, FrameKey, StoredPiece};
 use n2k_wire::Packet;
 
 /// The most bytes of a message.
-pub const LONGEST_MESSAGE: u8 = 223;
+pub const LONGEST_TOTAL: u8 = 223;
 
-/// The group that a frame belongs to: frames of one sender, PGN and receiver, that count as one message.
-#[derive(Clone, Copy, Debug, PartialEq, Eq)]
-pub struct Key {
-    pub src: u8,
-    pub dst: u8,
-    pub pgn: u32,
-    pub sequence: u8,
-}
+/// What the bytes of a frame are filled with.
+const FILLER: u8 = 0xff;
 
-/// A frame as a group keeps it: its number, and the seven bytes after it.
-#[derive(Clone, Copy, Debug, PartialEq, Eq)]
-pub struct Piece {
-    pub number: u8,
-    pub bytes: [u8; 7],
-}
-
-/// What the data of a fast packet's frame say.
-#[derive(Clone, Copy)]
-pub struct FastFrame {
-    pub key: Key,
-    pub piece: Piece,
-}
-
-// The bytes after the first, filled with FF to seven.
-fn seven_bytes(rest: &[u8]) -> [u8; 7] {
-    let mut bytes = [0xff; 7];
-    for (byte, sent) in bytes.iter_mut().zip(rest) {
-        *byte = *sent;
+fn byte_or_filler(bytes: &[u8], at: usize) -> u8
+    ensures { result ≡ slice_index_or bytes.now at 255 }
+{
+    match bytes.get(at) {
+        Some(byte) => *byte,
+        None => FILLER,
     }
-    bytes
 }
 
-/// The frame that a packet is, its PGN being one of fast packets. `None` where it can't be one: it has no byte, or
-/// is a frame 0 without a total or with one over 223.
-pub fn fast_frame(packet: &Packet) -> Option<FastFrame> {
-    let (head, rest) = packet.data().split_first()?;
-    let number = *head % 32;
+// The bytes after the header, filled up to seven.
+fn seven_bytes(rest: &[u8]) -> [u8; 7]
+    ensures { result ≡ seven_bytes rest.now }
+{
+    let at = |i| byte_or_filler(rest, i);
+    [at(0), at(1), at(2), at(3), at(4), at(5), at(6)]
+}
+
+/// The frame that a packet of a fast PGN is. `None` where its data can't be a frame's: there is no byte, or it is a
+/// frame 0 without a total or with one over 223.
+#[tactic(auto, unfolding(crate::specs::Frames::fast_frame))]
+pub fn fast_frame(packet: &Packet) -> Option<FastFrame>
+    ensures { (line : ℕ) → option_map (λ frame. frame_of line packet.now frame) result ≡ fast_frame line packet.now }
+{
+    let (header, rest) = packet.data().split_first()?;
+    let number = *header % 32;
     let bytes = seven_bytes(rest);
-    if number == 0 && (rest.is_empty() || bytes[0] > LONGEST_MESSAGE) {
+    if number == 0 && (rest.is_empty() || bytes[0] > LONGEST_TOTAL) {
         return None;
     }
     let id = packet.id();
-    let key = Key {
+    let key = FrameKey {
         src: id.src,
         dst: id.dst,
         pgn: id.pgn,
-        sequence: *head / 32,
+        sequence: *header / 32,
     };
-    let piece = Piece { number, bytes };
+    let piece = StoredPiece { number, bytes };
     Some(FastFrame { key, piece })
 }

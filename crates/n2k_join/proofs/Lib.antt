@@ -1,0 +1,4 @@
+pub mod Carried
+pub mod Rising
+pub mod StoredLemmas
+pub mod CompleteLemmas
