@@ -1,4 +1,5 @@
 pub mod Carried
-pub mod Rising
-pub mod StoredLemmas
 pub mod CompleteLemmas
+pub mod Rising
+pub mod Splitting
+pub mod StoredLemmas

@@ -6,13 +6,14 @@ mod counts;
 mod fault;
 mod frame;
 mod group;
-// mod join;
+mod join;
+pub mod laws;
 mod piece;
 
 pub use broken::Broken;
 pub use counts::{Counts, MOST_LINES};
 pub use fault::JoinFault;
-// pub use join::{Join, Step};
+pub use join::{Join, Step};
 
-//#[cfg(test)]
-//mod tests;
+#[cfg(test)]
+mod tests;
