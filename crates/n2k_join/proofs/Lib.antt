@@ -1,5 +1,12 @@
+pub mod Advanced
 pub mod Carried
 pub mod CompleteLemmas
+pub mod Cuts
+pub mod Held
+pub mod Keys
+pub mod Lines
+pub mod Opened
+pub mod Resumed
 pub mod Rising
 pub mod Splitting
 pub mod StoredLemmas
