@@ -10,3 +10,4 @@ pub mod Resumed
 pub mod Rising
 pub mod Splitting
 pub mod StoredLemmas
+pub mod JoinLemmas
