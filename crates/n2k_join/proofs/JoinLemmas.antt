@@ -218,3 +218,30 @@ module _ (x : Frame) (gs : List Group) (i : ℕ) (o : Group) (apart : AreApart g
         after-place
         ∙ ap (λ b. (take i gs ++ (option_to_list (cond b None (cond (complete (held_of o ++ x ∷ [])) None (Some (with_frame o x)))) ++ drop (suc i) gs)) ++ option_to_list (cond b (begun x) None)) there
         ∙ ap (λ j. (take i gs ++ drop j gs) ++ option_to_list (begun x)) suc_is
+
+-- what holds of each group holds of the one at a place
+pub all-at : (P : Group → Type 0) (gs : List Group) (i : ℕ) (d : Group) → AllByRecursion P gs → i < length gs → P (get_or gs i d)
+all-at P [] i d all l = absurd (omega arith)
+all-at P (g ∷ gs) zero d all l = all.0
+all-at P (g ∷ gs) (suc i) d all l = all-at P gs i d all.1 (omega arith)
+
+-- what is told of an open group
+pub broken-held : (o : Group) (key : Key) → IsOpen o → key ≡ o.key → record { pgn = o.key.pgn; src = o.key.src; dst = o.key.dst; seq = o.key.sequence; first = o.first } ≡ broken_of key (held_of o)
+broken-held o key fit of =
+    (λ i. record { pgn = o.key.pgn; src = o.key.src; dst = o.key.dst; seq = o.key.sequence; first = sym (first-held o o.pieces fit.nonempty) i })
+    ∙ ap (λ (k : Key). broken_of k (held_of o)) (sym of)
+
+-- a group that a frame begins: its message, and what stays open of it
+module _ (x : Frame) (g : Group) (small : x.number < most_frames) (is : g ≡ group_of x.key (x ∷ [])) where
+  pub complete-begun : complete (held_of g) ≡ complete (x ∷ [])
+  complete-begun = ap (λ (h : Group). complete (held_of h)) is ∙ complete-group_of x.key (x ∷ []) (fine-one x small)
+
+  pub message-begun : cond (complete (held_of g)) (Some (record { stamp = x.stamp; id = x.id; payload = data_of (held_of g) })) None ≡ message_if x (x ∷ [])
+  message-begun =
+      ap (λ b. cond b (Some (record { stamp = x.stamp; id = x.id; payload = data_of (held_of g) })) None) complete-begun
+      ∙ ap (λ d. cond (complete (x ∷ [])) (Some (record { stamp = x.stamp; id = x.id; payload = d })) None) (ap (λ (h : Group). data_of (held_of h)) is ∙ data_of-group_of x.key (x ∷ []) (fine-one x small))
+
+  pub groups-begun : cond (complete (held_of g)) [] (g ∷ []) ≡ option_to_list (begun x)
+  groups-begun =
+      ap (λ b. cond b [] (g ∷ [])) complete-begun ∙ ap (λ (h : Group). cond (complete (x ∷ [])) [] (h ∷ [])) is
+      ∙ elim (complete (x ∷ [])) as (λ b. cond b [] (group_of x.key (x ∷ []) ∷ []) ≡ option_to_list (cond b None (Some (group_of x.key (x ∷ []))))) [ true ↦ refl | false ↦ refl ]

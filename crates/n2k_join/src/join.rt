@@ -1,5 +1,5 @@
 //! The join: the open groups, taken on line by line.
-ghost use Rattle.std.specs.Prelude.{◌≡◌, ℕ, if◌then◌else◌, Some, None, ◌<◌, ◌≤◌, ◌++◌, [], ◌∷◌, OnOk, OnErr, IfOk, IfSome, vec_len, vec_capacity, slice_get, position, false};
+ghost use Rattle.std.specs.Prelude.{◌≡◌, ℕ, if◌then◌else◌, Some, None, ◌<◌, ◌≤◌, ◌++◌, [], ◌∷◌, OnOk, OnErr, IfOk, IfSome, vec_len, vec_capacity, slice_get, position, true, false};
 ghost use Rattle.std.specs.List.{AllByRecursion};
 ghost use Rattle.n2k_join.specs.Frames.{same_key};
 ghost use Rattle.n2k_join.specs.Groups.{has_number, complete, repeats, data_of};
@@ -108,7 +108,6 @@ fn open_last(
 ) -> Result<Option<Packet>, AllocError>
     requires place { position (λ g. same_key (key_of frame.now.key) g.key) groups.old.items ≡ None }
     ensures message { let x = frame_of line packet.now frame.now in IfOk result (λ m. m ≡ gained x (of_the_key x.key groups.old.items)) }
-    ensures broken { let x = frame_of line packet.now frame.now in lost x (of_the_key x.key groups.old.items) ≡ None }
     ensures groups { OnOk result (groups.new.items ≡ groups_after groups.old.items (frame_of line packet.now frame.now)) }
     ensures unchanged { OnErr result (groups.new.items ≡ groups.old.items) }
 {
