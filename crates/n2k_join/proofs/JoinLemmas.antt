@@ -158,7 +158,7 @@ none_at_all x gs none =
 
 -- where the group of its key stands at a place
 module _ (x : Frame) (gs : List Group) (i : ℕ) (o : Group) (apart : AreApart gs) (place : position (λ (g : Group). same_key x.key g.key) gs ≡ Some i) (is : o ≡ get_or gs i o) where
-  at_place : (i < length gs) × (same_key x.key (get_or gs i o).key ≡ true) × ((k : ℕ) → k < i → same_key x.key (get_or gs k o).key ≡ false)
+  pub at_place : (i < length gs) × (same_key x.key (get_or gs i o).key ≡ true) × ((k : ℕ) → k < i → same_key x.key (get_or gs k o).key ≡ false)
   at_place = position-Some (λ (g : Group). same_key x.key g.key) gs i o place
 
   pub found-place : of_the_key x.key gs ≡ Some o

@@ -114,3 +114,34 @@ fn open_last(
     let group = StoredGroup::open(alloc, line, frame)?;
     place(groups, group, packet)
 }
+
+// Takes a frame into the open groups.
+fn take_frame(
+    alloc: Global,
+    groups: &mut Vec<StoredGroup>,
+    line: u64,
+    frame: &FastFrame,
+    packet: &Packet,
+) -> Result<Taken, AllocError>
+    requires open { AllByRecursion IsOpen groups.old.items }
+    requires apart { AreApart groups.old.items }
+    ensures message { let x = frame_of line packet.now frame.now in IfOk result (λ t. t.message ≡ gained x (of_the_key x.key groups.old.items)) }
+    ensures broken { let x = frame_of line packet.now frame.now in IfOk result (λ t. t.broken ≡ lost x (of_the_key x.key groups.old.items)) }
+    ensures groups { OnOk result (groups.new.items ≡ groups_after groups.old.items (frame_of line packet.now frame.now)) }
+    ensures unchanged { OnErr result (groups.new.items ≡ groups.old.items) }
+    ensures memory { OnErr result (of_the_key (key_of frame.now.key) groups.old.items ≡ None) }
+{
+    let Some(at) = place_of(groups, &frame.key) else {
+        return Ok(Taken {
+            message: open_last(alloc, groups, line, frame, packet)?,
+            broken: None,
+        });
+    };
+    if groups[at].has_number(frame.piece.number) {
+        return Ok(reopen_at(groups, at, line, frame, packet));
+    }
+    Ok(Taken {
+        message: join_at(groups, at, frame, packet),
+        broken: None,
+    })
+}
