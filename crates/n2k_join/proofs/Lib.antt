@@ -1,4 +1,5 @@
 pub mod Advanced
+pub mod Agreeing
 pub mod Arriving
 pub mod Carried
 pub mod CompleteLemmas
@@ -9,8 +10,10 @@ pub mod GroupLines
 pub mod Healing
 pub mod Held
 pub mod JoinLemmas
+pub mod Keeping
 pub mod Keys
 pub mod Lines
+pub mod Logs
 pub mod Opened
 pub mod PieceFrames
 pub mod Resumed
