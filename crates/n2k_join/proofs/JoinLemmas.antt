@@ -1,11 +1,11 @@
 -- The fit groups after a frame, as the code makes them: by the place of the group of its key.
-use Rattle.std.proofs.Common.{◌≡◌, ◌==◌, ℕ, zero, suc, ◌+◌, ◌<◌, ◌≤◌, Bool, true, false, not, cond, List, [], ◌∷◌, ◌++◌, length, ltb, get_or, take, drop, set, Option, Some, None, option_to_list, filter_map, find, reverse, length-append, refl, sym, ap, ◌∙◌, subst, arith}
+use Rattle.std.proofs.Common.{◌≡◌, ◌==◌, ℕ, zero, suc, ◌+◌, ◌<◌, ◌≤◌, Bool, true, false, not, cond, List, [], ◌∷◌, ◌++◌, length, ltb, get_or, take, drop, set, ◌||◌, Result, Ok, Err, OnErr, Option, Some, None, option_to_list, filter_map, find, reverse, length-append, refl, sym, ap, ◌∙◌, subst, arith}
 use mathlib.Core.Path.{fun_ext}
 use Rattle.std.specs.Prelude.{is_some, position}
 use Rattle.n2k_wire.specs.Packet.{PacketParts}
 use Rattle.n2k_join.specs.declared.piece.FastFrame.{FastFrame}
-use Rattle.std.specs.List.{AllByRecursion, cons_option, position_or_len}
-use Rattle.std.proofs.lemmas.Bool.{false≢true, ltb-false}
+use Rattle.std.specs.List.{AllByRecursion, cons_option, list_any, position_or_len}
+use Rattle.std.proofs.lemmas.Bool.{false≢true, ltb-false, or_from}
 use Rattle.std.proofs.lemmas.List.{append-nil, take-set, drop-set-lt}
 use Rattle.std.proofs.lemmas.List.Quantifiers.{position-Some}
 use Rattle.std.proofs.lemmas.Option.{none-some}
@@ -245,3 +245,17 @@ module _ (x : Frame) (g : Group) (small : x.number < most_frames) (is : g ≡ gr
   groups-begun =
       ap (λ b. cond b [] (g ∷ [])) complete-begun ∙ ap (λ (h : Group). cond (complete (x ∷ [])) [] (h ∷ [])) is
       ∙ elim (complete (x ∷ [])) as (λ b. cond b [] (group_of x.key (x ∷ []) ∷ []) ≡ option_to_list (cond b None (Some (group_of x.key (x ∷ []))))) [ true ↦ refl | false ↦ refl ]
+
+-- where no group of a key is found, none has it
+pub none-listed : (P : Group → Bool) (gs : List Group) → find P gs ≡ None → list_any P gs ≡ false
+none-listed P [] none = refl
+none-listed P (g ∷ gs) none = by (P g) refl none (none-listed P gs)
+  where
+    by : (b : Bool) → P g ≡ b → cond b (Some g) (find P gs) ≡ None → (find P gs ≡ None → list_any P gs ≡ false) → (P g || list_any P gs) ≡ false
+    by true e n rest = absurd (none-some g (sym n))
+    by false e n rest = or_from (P g) (list_any P gs) e (rest n)
+
+-- what holds holds on a refusal
+pub on_err : {T E : Type 0} (r : Result T E) (P : Type 0) → P → OnErr r P
+on_err (Ok x) P p = tt
+on_err (Err e) P p = p

@@ -23,3 +23,4 @@ pub mod Steps
 pub mod StoredLemmas
 pub mod Stretches
 pub mod WholePieces
+pub mod LineLemmas

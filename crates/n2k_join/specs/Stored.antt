@@ -2,6 +2,7 @@
 use Rattle.std.specs.Prelude.{◌≡◌, ◌≤◌, ℕ, List, [], ◌∷◌, ◌++◌, map, false, if◌then◌else◌, Option, Some, None, filter_map, find, option_to_list}
 use Rattle.n2k_join.specs.declared.broken.Broken.{Broken}
 use Rattle.n2k_wire.specs.Packet.{PacketParts}
+use Rattle.n2k_wire.specs.declared.entry.BadCause.{BadCause}
 use Rattle.n2k_join.specs.declared.piece.FrameKey.{FrameKey}
 use Rattle.n2k_join.specs.declared.piece.StoredPiece.{StoredPiece}
 use Rattle.n2k_join.specs.declared.piece.FastFrame.{FastFrame}
@@ -9,7 +10,7 @@ use Rattle.n2k_join.specs.Frames.{Key, same_key, Frame, most_frames}
 use Rattle.n2k_join.specs.Groups.{repeats, has_twice, complete}
 use Rattle.n2k_join.specs.Open.{Piece, Group, pieces_of, group_of}
 use Rattle.n2k_join.specs.Messages.{message_of, broken_of}
-use Rattle.n2k_join.specs.State.{held_frame, held_of}
+use Rattle.n2k_join.specs.State.{Given, held_frame, held_of}
 
 abbrev pub key_of : FrameKey → Key
 key_of key = record { src = key.src; dst = key.dst; pgn = key.pgn; sequence = key.sequence }
@@ -89,3 +90,13 @@ gained x (Some o) = if repeats (held_of o) x then message_if x (x ∷ []) else m
 abbrev pub lost : Frame → Option Group → Option Broken
 lost x None = None
 lost x (Some o) = if repeats (held_of o) x then Some (broken_of x.key (held_of o)) else None
+
+-- What a line gives, by its frame. Without one that is a message alone, or a cause.
+abbrev pub gives_by : Option PacketParts → Option BadCause → List Group → Option Frame → Given
+gives_by alone cause groups None = record { message = alone; cause = cause; broken = [] }
+gives_by alone cause groups (Some x) = record { message = gained x (of_the_key x.key groups); cause = None; broken = option_to_list (lost x (of_the_key x.key groups)) }
+
+-- the open groups that it leaves
+abbrev pub leaves_by : List Group → Option Frame → List Group
+leaves_by groups None = groups
+leaves_by groups (Some x) = groups_after groups x

@@ -1,147 +1,132 @@
-//! The join: the open groups, taken on line by line.
-ghost use Rattle.std.specs.Prelude.{◌≡◌, ℕ, if◌then◌else◌, Some, None, ◌<◌, ◌≤◌, ◌++◌, [], ◌∷◌, OnOk, OnErr, IfOk, IfSome, vec_len, vec_capacity, slice_get, position, true, false};
-ghost use Rattle.std.specs.List.{AllByRecursion};
-ghost use Rattle.n2k_join.specs.Frames.{same_key};
-ghost use Rattle.n2k_join.specs.Groups.{has_number, complete, repeats, data_of};
-ghost use Rattle.n2k_join.specs.State.{held_of, IsOpen, AreApart};
-ghost use Rattle.n2k_join.specs.Stored.{key_of, frame_of, of_the_key, groups_after, gained, lost};
+//! The join: the open groups and the counts of a log, taken on line by line.
+ghost use Rattle.std.specs.Prelude.{◌≡◌, ◌+◌, ◌<◌, ◌↔◌, ℕ, [], IfOk, OnOk, OnErr, IsErrOf, true, is_some};
+ghost use Rattle.n2k_table.specs.Table.{kind};
+ghost use Rattle.n2k_wire.specs.Entry.{IsShort, IsEntry};
+ghost use Rattle.n2k_wire.specs.Packet.{IsPacket, IsPacketParts};
+ghost use Rattle.n2k_join.specs.Counts.{most_lines};
+ghost use Rattle.n2k_join.specs.State.{state, step_given, step_after, AreCounts, one_if};
+ghost use Rattle.n2k_join.specs.Step.{given_of, opens};
 
-use crate::broken::Broken;
 use crate::counts::{Counts, MOST_LINES};
 use crate::fault::JoinFault;
-use crate::frame::fast_frame;
 use crate::group::StoredGroup;
-use crate::piece::{FastFrame, FrameKey};
-use n2k_table::{Kind, Table};
-use n2k_wire::{BadCause, Entry, Packet};
-use std::alloc::{AllocError, Global};
+use crate::outcome::{Outcome, take_entry};
+use crate::step::Step;
+use n2k_table::Table;
+use n2k_wire::{Entry, Id, Packet};
+use std::alloc::Global;
+use std::marker::Model;
 
-// Places a group that a frame begins, as the last, or gives its message where it is complete.
-fn place(
-    groups: &mut Vec<StoredGroup>,
-    group: StoredGroup,
-    packet: &Packet,
-) -> Result<Option<Packet>, AllocError>
-    ensures message { IfOk result (λ m. m ≡ (if complete (held_of group) then Some (record { stamp = packet.now.stamp; id = packet.now.id; payload = data_of (held_of group) }) else None)) }
-    ensures groups { OnOk result (groups.new.items ≡ groups.old.items ++ (if complete (held_of group) then [] else group ∷ [])) }
-    ensures unchanged { OnErr result (groups.new.items ≡ groups.old.items) }
-    ensures full { OnErr result (vec_capacity groups.old ≤ vec_len groups.old) }
-{
-    if group.is_complete() {
-        return Ok(Some(group.message(packet)));
-    }
-    groups.push(group)?;
-    Ok(None)
-}
-
-// What a frame gave.
+/// What is known after the lines of a log: what they count, and the groups of frames that are open, by the lines
+/// that opened them. It holds no line and no stamp.
 #[derive(Drop)]
-struct Taken {
-    message: Option<Packet>,
-    broken: Option<Broken>,
+pub struct Join {
+    id: [u8; 32],
+    counts: Counts,
+    groups: Vec<StoredGroup>,
 }
 
-// The place of the group of a key.
-fn place_of(groups: &[StoredGroup], key: &FrameKey) -> Option<usize>
-    ensures { result ≡ position (λ g. same_key (key_of key.now) g.key) groups.now }
-{
-    groups.iter().position(|group| group.is_of(key))
+impl Model for Join {
+    ghost use Rattle.n2k_join.specs.State.{State, IsState};
+
+    ghost Value = { State };
+
+    ghost view = { λ j. record { id = j.id; counts = j.counts; groups = j.groups.items } };
+
+    ghost invariant = { λ j. IsState (record { id = j.id; counts = j.counts; groups = j.groups.items }) };
 }
 
-// Takes a frame into the group of its key, which lacks its number. The group goes where that completes it.
-fn join_at(
-    groups: &mut Vec<StoredGroup>,
-    at: usize,
-    frame: &FastFrame,
-    packet: &Packet,
-) -> Option<Packet>
-    requires open { AllByRecursion IsOpen groups.old.items }
-    requires apart { AreApart groups.old.items }
-    requires place { position (λ g. same_key (key_of frame.now.key) g.key) groups.old.items ≡ Some at }
-    requires missing { IfSome (of_the_key (key_of frame.now.key) groups.old.items) (λ o. has_number frame.now.piece.number (held_of o) ≡ false) }
-    ensures message { (line : ℕ) → let x = frame_of line packet.now frame.now in result ≡ gained x (of_the_key x.key groups.old.items) }
-    ensures groups { (line : ℕ) → groups.new.items ≡ groups_after groups.old.items (frame_of line packet.now frame.now) }
+// What the types say of the parts of a packet.
+fn know_parts(stamp: &[u8], id: Id, data: &[u8])
+    requires { IsPacket stamp.now id «data».now }
+    ensures { IsPacketParts (record { stamp = stamp.now; id = id; payload = «data».now }) }
+{}
+
+// What the types say of a packet.
+fn know_packet(packet: &Packet)
+    ensures { IsPacketParts packet.now }
 {
-    let group = &mut groups[at];
-    let message = group.add(frame, packet);
-    if message.is_some() {
-        groups.remove(at);
-    }
-    message
+    know_parts(packet.stamp(), packet.id(), packet.data());
 }
 
-// Ends the group of a frame's key, which has its number, and begins another with the frame. It takes no memory.
-fn reopen_at(
-    groups: &mut Vec<StoredGroup>,
-    at: usize,
-    line: u64,
-    frame: &FastFrame,
-    packet: &Packet,
-) -> Taken
-    requires open { AllByRecursion IsOpen groups.old.items }
-    requires apart { AreApart groups.old.items }
-    requires place { position (λ g. same_key (key_of frame.now.key) g.key) groups.old.items ≡ Some at }
-    requires there { IfSome (of_the_key (key_of frame.now.key) groups.old.items) (λ o. has_number frame.now.piece.number (held_of o) ≡ true) }
-    ensures message { let x = frame_of line packet.now frame.now in result.message ≡ gained x (of_the_key x.key groups.old.items) }
-    ensures broken { let x = frame_of line packet.now frame.now in result.broken ≡ lost x (of_the_key x.key groups.old.items) }
-    ensures groups { groups.new.items ≡ groups_after groups.old.items (frame_of line packet.now frame.now) }
+// What the types say of an entry.
+fn know_entry(entry: &Entry)
+    ensures { IsShort entry.now → IsEntry entry.now }
 {
-    let mut group = groups.remove(at);
-    let broken = group.broken();
-    group.restart(line, frame);
-    match place(groups, group, packet) {
-        Ok(message) => Taken {
-            message,
-            broken: Some(broken),
-        },
-        Err(_) => unreachable!(),
+    match entry {
+        Entry::Skip | Entry::Bad(_) => {}
+        Entry::Frame(packet) | Entry::Whole(packet) => know_packet(packet),
     }
 }
 
-// Begins the group of a frame whose key has none.
-fn open_last(
-    alloc: Global,
-    groups: &mut Vec<StoredGroup>,
-    line: u64,
-    frame: &FastFrame,
-    packet: &Packet,
-) -> Result<Option<Packet>, AllocError>
-    requires place { position (λ g. same_key (key_of frame.now.key) g.key) groups.old.items ≡ None }
-    ensures message { let x = frame_of line packet.now frame.now in IfOk result (λ m. m ≡ gained x (of_the_key x.key groups.old.items)) }
-    ensures groups { OnOk result (groups.new.items ≡ groups_after groups.old.items (frame_of line packet.now frame.now)) }
-    ensures unchanged { OnErr result (groups.new.items ≡ groups.old.items) }
+// The counts after a line.
+fn counted(counts: Counts, outcome: &Outcome, held: usize) -> Counts
+    requires are { AreCounts counts }
+    requires below { counts.lines < most_lines }
+    ensures { result ≡ record {
+        lines = counts.lines + 1;
+        messages = counts.messages + one_if (is_some outcome.now.step.message);
+        bad = counts.bad + one_if (is_some outcome.now.step.bad);
+        unknown = counts.unknown + one_if outcome.now.is_unknown;
+        broken = counts.broken + one_if (is_some outcome.now.step.broken);
+        held = held;
+    } }
 {
-    let group = StoredGroup::open(alloc, line, frame)?;
-    place(groups, group, packet)
+    let step = &outcome.step;
+    Counts {
+        lines: counts.lines + 1,
+        messages: counts.messages + u64::from(step.message.is_some()),
+        bad: counts.bad + u64::from(step.bad.is_some()),
+        unknown: counts.unknown + u64::from(outcome.is_unknown),
+        broken: counts.broken + u64::from(step.broken.is_some()),
+        held: held as u64,
+    }
 }
 
-// Takes a frame into the open groups.
-fn take_frame(
-    alloc: Global,
-    groups: &mut Vec<StoredGroup>,
-    line: u64,
-    frame: &FastFrame,
-    packet: &Packet,
-) -> Result<Taken, AllocError>
-    requires open { AllByRecursion IsOpen groups.old.items }
-    requires apart { AreApart groups.old.items }
-    ensures message { let x = frame_of line packet.now frame.now in IfOk result (λ t. t.message ≡ gained x (of_the_key x.key groups.old.items)) }
-    ensures broken { let x = frame_of line packet.now frame.now in IfOk result (λ t. t.broken ≡ lost x (of_the_key x.key groups.old.items)) }
-    ensures groups { OnOk result (groups.new.items ≡ groups_after groups.old.items (frame_of line packet.now frame.now)) }
-    ensures unchanged { OnErr result (groups.new.items ≡ groups.old.items) }
-    ensures memory { OnErr result (of_the_key (key_of frame.now.key) groups.old.items ≡ None) }
-{
-    let Some(at) = place_of(groups, &frame.key) else {
-        return Ok(Taken {
-            message: open_last(alloc, groups, line, frame, packet)?,
-            broken: None,
-        });
-    };
-    if groups[at].has_number(frame.piece.number) {
-        return Ok(reopen_at(groups, at, line, frame, packet));
+impl Join {
+    /// Before the first line, with a table. It takes no memory.
+    pub fn new(alloc: Global, table: &Table) -> Join
+        ensures { result ≡ state table.now.id (kind table.now) [] }
+    {
+        Join {
+            id: table.id(),
+            counts: Counts::NONE,
+            groups: Vec::new(alloc),
+        }
     }
-    Ok(Taken {
-        message: join_at(groups, at, frame, packet),
-        broken: None,
-    })
+
+    /// What the lines so far count. It takes no memory.
+    pub fn counts(&self) -> Counts
+        ensures { result ≡ self.now.counts }
+    {
+        self.counts
+    }
+
+    /// Takes the next line, as its entry, and answers what it gives: the message that it is or completes, why it is
+    /// bad, and the group that it breaks. The table says how each PGN is sent.
+    ///
+    /// At 999,999,999,999,999 lines it is refused as too many. Memory is taken only where a group is opened of a
+    /// key that has none open. After a refusal the join is as it was.
+    ///
+    /// ```text
+    /// let step = join.line(&table, read_line(line, Packing::Frames))?;
+    /// ```
+    pub fn line(&mut self, table: &Table, entry: Entry) -> Result<Step, JoinFault>
+        requires { IsShort entry }
+        ensures given { IfOk result (λ step. given_of step ≡ step_given (kind table.now) self.old entry) }
+        ensures after { OnOk result (self.new ≡ step_after (kind table.now) self.old entry) }
+        ensures unchanged { OnErr result (self.new ≡ self.old) }
+        ensures full { IsErrOf result JoinFault.TooManyLines ↔ (self.old.counts.lines ≡ most_lines) }
+        ensures memory { IsErrOf result JoinFault.Memory → opens (kind table.now) self.old entry ≡ true }
+    {
+        if self.counts.lines == MOST_LINES {
+            return Err(JoinFault::TooManyLines);
+        }
+        know_entry(&entry);
+        let alloc = *self.groups.allocator();
+        let line = self.counts.lines + 1;
+        let outcome = take_entry(alloc, &mut self.groups, line, table, entry)?;
+        self.counts = counted(self.counts, &outcome, self.groups.len());
+        Ok(outcome.step)
+    }
 }

@@ -8,12 +8,16 @@ mod frame;
 mod group;
 mod join;
 pub mod laws;
+mod outcome;
 mod piece;
+mod step;
+mod taking;
 
 pub use broken::Broken;
 pub use counts::{Counts, MOST_LINES};
 pub use fault::JoinFault;
-//pub use join::{Join, Step};
+pub use join::Join;
+pub use step::Step;
 
-//#[cfg(test)]
-//mod tests;
+#[cfg(test)]
+mod tests;

@@ -7,7 +7,7 @@ use Rattle.n2k_join.specs.Open.{Group}
 use Rattle.n2k_join.specs.State.{held_of, AreApart}
 use Rattle.n2k_join.specs.Stored.{frame_of, of_the_key, message_if}
 use Rattle.n2k_join.proofs.JoinLemmas.{is_some-message_if, found-place, gained-joins, joins-done, joins-left}
-use Rattle.n2k_join.proofs.join.join_at.Goals as goal
+use Rattle.n2k_join.proofs.taking.join_at.Goals as goal
 
 -- the group of its key is the one at the place
 lacks : (x : Frame) (gs : List Group) (i : ℕ) (o : Group) → AreApart gs → position (λ (g : Group). same_key x.key g.key) gs ≡ Some i → o ≡ get_or gs i o

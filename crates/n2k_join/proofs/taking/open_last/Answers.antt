@@ -2,7 +2,7 @@ use Rattle.std.proofs.Common.{◌≡◌, ◌++◌, ap, sym, subst, ◌∙◌, If
 use Rattle.n2k_wire.specs.Packet.{PacketParts}
 use Rattle.n2k_join.specs.Stored.{frame_of, gained, groups_after}
 use Rattle.n2k_join.proofs.JoinLemmas.{none_at_all, message-begun, groups-begun}
-use Rattle.n2k_join.proofs.join.open_last.Goals as goal
+use Rattle.n2k_join.proofs.taking.open_last.Goals as goal
 
 pub returns-clause-message : goal.returns-clause-message
 returns-clause-message c =

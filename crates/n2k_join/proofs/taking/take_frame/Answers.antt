@@ -7,7 +7,7 @@ use Rattle.n2k_join.specs.Open.{Group}
 use Rattle.n2k_join.specs.State.{held_of, AreApart}
 use Rattle.n2k_join.specs.Stored.{frame_of, of_the_key, lost}
 use Rattle.n2k_join.proofs.JoinLemmas.{none_at_all, found-place, lost-joins}
-use Rattle.n2k_join.proofs.join.take_frame.Goals as goal
+use Rattle.n2k_join.proofs.taking.take_frame.Goals as goal
 
 -- what the group at the place says is what the group of the key does
 says : (x : Frame) (gs : List Group) (i : ℕ) (o : Group) (b : Bool) → AreApart gs → position (λ (g : Group). same_key x.key g.key) gs ≡ Some i → o ≡ get_or gs i o

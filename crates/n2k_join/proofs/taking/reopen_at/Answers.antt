@@ -7,7 +7,7 @@ use Rattle.n2k_join.specs.Open.{Group}
 use Rattle.n2k_join.specs.State.{held_of, AreApart, IsOpen}
 use Rattle.n2k_join.specs.Stored.{frame_of, of_the_key, begun}
 use Rattle.n2k_join.proofs.JoinLemmas.{found-place, key-place, at_place, gained-repeats, lost-repeats, after-repeats, all-at, broken-held, message-begun, groups-begun}
-use Rattle.n2k_join.proofs.join.reopen_at.Goals as goal
+use Rattle.n2k_join.proofs.taking.reopen_at.Goals as goal
 
 -- the group of its key is the one at the place
 has : (x : Frame) (gs : List Group) (i : ℕ) (o : Group) → AreApart gs → position (λ (g : Group). same_key x.key g.key) gs ≡ Some i → o ≡ get_or gs i o
