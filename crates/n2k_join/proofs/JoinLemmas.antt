@@ -1,23 +1,23 @@
 -- The fit groups after a frame, as the code makes them: by the place of the group of its key.
-use Rattle.std.proofs.Common.{◌≡◌, ◌==◌, ℕ, zero, suc, ◌+◌, ◌<◌, ◌≤◌, Bool, true, false, not, cond, List, [], ◌∷◌, ◌++◌, length, ltb, get_or, take, drop, set, ◌||◌, Result, Ok, Err, OnErr, Option, Some, None, option_to_list, filter_map, find, reverse, length-append, refl, sym, ap, ◌∙◌, subst, arith}
+use Rattle.std.proofs.Common.{◌≡◌, ℕ, zero, suc, ◌+◌, ◌<◌, ◌≤◌, Bool, true, false, not, cond, List, [], ◌∷◌, ◌++◌, length, ltb, get_or, take, drop, set, ◌||◌, Result, Ok, Err, OnErr, Option, Some, None, option_to_list, filter_map, find, reverse, length-append, refl, sym, ap, ◌∙◌, arith}
 use mathlib.Core.Path.{fun_ext}
 use Rattle.std.specs.Prelude.{is_some, position}
 use Rattle.n2k_wire.specs.Packet.{PacketParts}
 use Rattle.n2k_join.specs.declared.piece.FastFrame.{FastFrame}
 use Rattle.std.specs.List.{AllByRecursion, cons_option, list_any, position_or_len}
-use Rattle.std.proofs.lemmas.Bool.{false≢true, ltb-false, or_from}
+use Rattle.std.proofs.lemmas.Bool.{ltb-false, or_from}
 use Rattle.std.proofs.lemmas.List.{append-nil, take-set, drop-set-lt}
 use Rattle.std.proofs.lemmas.List.Quantifiers.{position-Some}
 use Rattle.std.proofs.lemmas.Option.{none-some}
 use Rattle.n2k_join.specs.Messages.{message_of, broken_of}
 use Rattle.n2k_join.specs.Frames.{Key, same_key, Frame, most_frames}
-use Rattle.n2k_join.specs.Groups.{complete, carried, has_number, has_twice, data_of, first}
+use Rattle.n2k_join.specs.Groups.{complete, has_number, data_of, first}
 use Rattle.n2k_join.specs.Open.{Piece, Group, pieces_of, group_of}
 use Rattle.n2k_join.specs.State.{held_frame, held_of, IsOpen, AreApart}
 use Rattle.n2k_join.specs.Stored.{key_of, frame_of, stored_frames, stored_group, with_frame, joined, taken, begun, of_the_key, opened, groups_after, message_if, gained, lost}
-use Rattle.n2k_join.proofs.Carried.{carried-append, carried-push, has_twice-push, complete-same, data_of-same, pieces_of-same}
-use Rattle.n2k_join.proofs.Held.{AreNumbered, carried-kept, has_twice-kept, has_twice-held, length-held, all-held, all-reverse, group_of-held, first-held}
-use Rattle.n2k_join.proofs.Keys.{same_key-true, same_key-refl}
+use Rattle.n2k_join.proofs.Carried.{carried-append, has_twice-push, complete-same, data_of-same, pieces_of-same}
+use Rattle.n2k_join.proofs.Held.{carried-kept, has_twice-kept, has_twice-held, length-held, all-held, all-reverse, first-held}
+use Rattle.n2k_join.proofs.Keys.{same_key-true}
 use Rattle.n2k_join.proofs.Opened.{IsFine}
 use Rattle.n2k_join.proofs.Rising.{all-append, all-map, find-none}
 
@@ -78,7 +78,7 @@ module _ (o : Group) (x : Frame) (fit : IsOpen o) (missing : has_number x.number
 pub begun_by : (line : ℕ) (packet : PacketParts) (frame : FastFrame) → stored_group line (key_of frame.key) (frame.piece ∷ []) ≡ group_of (key_of frame.key) (frame_of line packet frame ∷ [])
 begun_by line packet frame =
     ap (λ ps. record { first = line; key = key_of frame.key; pieces = ps })
-      (pieces_of-same (stored_frames line (key_of frame.key) (frame.piece ∷ [])) (frame_of line packet frame ∷ []) refl)
+    (pieces_of-same (stored_frames line (key_of frame.key) (frame.piece ∷ [])) (frame_of line packet frame ∷ []) refl)
 
 -- ---- the group of a key among groups
 
@@ -151,10 +151,11 @@ pub none_at_all : (x : Frame) (gs : List Group) → position (λ (g : Group). sa
 unfolding groups_after
 none_at_all x gs none =
     let each = position-None (λ (h : Group). same_key x.key h.key) gs none in
-    let found = none-found x.key gs each in
-    (found,
-     ap (λ hs. hs ++ option_to_list (opened x (of_the_key x.key gs))) (taken-others x gs each)
-     ∙ ap (λ (o : Option Group). gs ++ option_to_list (opened x o)) found)
+    let found = none-found x.key gs each in (
+      found,
+      ap (λ hs. hs ++ option_to_list (opened x (of_the_key x.key gs))) (taken-others x gs each)
+          ∙ ap (λ (o : Option Group). gs ++ option_to_list (opened x o)) found,
+    )
 
 -- where the group of its key stands at a place
 module _ (x : Frame) (gs : List Group) (i : ℕ) (o : Group) (apart : AreApart gs) (place : position (λ (g : Group). same_key x.key g.key) gs ≡ Some i) (is : o ≡ get_or gs i o) where

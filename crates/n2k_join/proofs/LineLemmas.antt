@@ -1,5 +1,5 @@
 -- What a line gives and leaves, as the code says it, is what the step says.
-use Rattle.std.proofs.Common.{◌≡◌, ◌<◌, ◌+◌, ◌||◌, ℕ, Bool, true, false, not, cond, List, [], ◌∷◌, ◌++◌, length, map, refl, sym, ap, ◌∙◌, subst, arith, Option, Some, None, option_map, option_to_list, IfSome}
+use Rattle.std.proofs.Common.{◌≡◌, ◌+◌, ◌||◌, ℕ, Bool, true, false, cond, List, [], ◌∷◌, ◌++◌, length, map, refl, sym, ap, ◌∙◌, subst, Option, Some, None, option_map, option_to_list, IfSome}
 use Rattle.std.specs.Prelude.{is_some}
 use Rattle.n2k_wire.specs.declared.entry.Entry.{Entry}
 use Rattle.n2k_table.specs.declared.definition.Kind.{Kind}
@@ -58,7 +58,7 @@ line-steps kind s e are = by (frame_in kind (next_line s) e) refl
     by (Some x) some =
         let fit = found-open x.key s.groups (of_the_key x.key s.groups) refl (λ g found. find-all IsOpen (λ (h : Group). same_key x.key h.key) s.groups g are.each found) in
         subst (λ gs. StepsTo kind s e (gives_by (alone kind e) (cause_in kind e) s.groups (Some x)) gs) (same-groups x s.groups)
-          (subst (λ g. StepsTo kind s e g (advanced repeats s.groups x)) (frame-gives x (of_the_key x.key s.groups) fit) (step-frame kind s e are x some))
+        (subst (λ g. StepsTo kind s e g (advanced repeats s.groups x)) (frame-gives x (of_the_key x.key s.groups) fit) (step-frame kind s e are x some))
 
 -- one group at most is told
 pub length-told : (o : Option Broken) → length (option_to_list o) ≡ one_if (is_some o)
@@ -87,3 +87,16 @@ line-after kind s e step gives leaves gs r steps given groups counts =
     ap (λ (c : Counts). record { id = s.id; counts = c; groups = gs }) counts
     ∙ (λ i. record { id = s.id; counts = counted kind s.counts e (given i) (length (groups i)); groups = groups i })
     ∙ sym steps.after
+
+-- the state that the code reaches, by its parts
+pub line-reached : (kind : ℕ → Option Kind) (s : State) (e : Entry) (step : Step) (unknown : Bool) (n : ℕ) (gs : List Group) (r : Counts) → AreOpen s.counts.lines s.groups
+    → given_of step ≡ gives_by (alone kind e) (cause_in kind e) s.groups (frame_in kind (next_line s) e)
+    → unknown ≡ is_unknown kind e
+    → gs ≡ leaves_by s.groups (frame_in kind (next_line s) e)
+    → n ≡ length gs
+    → r ≡ record { lines = s.counts.lines + 1; messages = s.counts.messages + one_if (is_some step.message); bad = s.counts.bad + one_if (is_some step.bad); unknown = s.counts.unknown + one_if unknown; broken = s.counts.broken + one_if (is_some step.broken); held = n }
+    → record { id = s.id; counts = r; groups = gs } ≡ step_after kind s e
+line-reached kind s e step unknown n gs r are given known groups count is =
+    let o = frame_in kind (next_line s) e in
+    line-after kind s e step (gives_by (alone kind e) (cause_in kind e) s.groups o) (leaves_by s.groups o) gs r (line-steps kind s e are) given groups
+    (counts-after kind s.counts e step unknown n (length gs) r known count is)

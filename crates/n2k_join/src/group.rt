@@ -105,7 +105,7 @@ impl StoredGroup {
     fn take(&mut self, piece: StoredPiece)
         requires { has_number piece.number (held_of self.old) ≡ false }
         ensures { self.new ≡ record self.old {
-            pieces = pieces_of (held_of self.old ++ held_frame self.old (piece_of piece) ∷ [])
+          pieces = pieces_of (held_of self.old ++ held_frame self.old (piece_of piece) ∷ []);
         } }
     {
         let _ = self.pieces.push(piece);
@@ -130,8 +130,7 @@ impl StoredGroup {
             None => false,
             Some(total) => {
                 let last = total / 7;
-                self.pieces.len() == last as usize + 1
-                    && are_within(&self.pieces, last)
+                self.pieces.len() == last as usize + 1 && are_within(&self.pieces, last)
             }
         }
     }

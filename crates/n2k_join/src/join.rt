@@ -64,12 +64,12 @@ fn counted(counts: Counts, outcome: &Outcome, held: usize) -> Counts
     requires are { AreCounts counts }
     requires below { counts.lines < most_lines }
     ensures { result ≡ record {
-        lines = counts.lines + 1;
-        messages = counts.messages + one_if (is_some outcome.now.step.message);
-        bad = counts.bad + one_if (is_some outcome.now.step.bad);
-        unknown = counts.unknown + one_if outcome.now.is_unknown;
-        broken = counts.broken + one_if (is_some outcome.now.step.broken);
-        held = held;
+      lines = counts.lines + 1;
+      messages = counts.messages + one_if (is_some outcome.now.step.message);
+      bad = counts.bad + one_if (is_some outcome.now.step.bad);
+      unknown = counts.unknown + one_if outcome.now.is_unknown;
+      broken = counts.broken + one_if (is_some outcome.now.step.broken);
+      held = held;
     } }
 {
     let step = &outcome.step;

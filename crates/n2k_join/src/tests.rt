@@ -25,7 +25,8 @@ fields = []
 fn push_step(alloc: Global, line: u64, step: &Step, text: &mut Vec<u8>) -> Result<(), Fail> {
     if let Some(broken) = &step.broken {
         let told = format!(in alloc;
-            "{line} broken {} {} {} {} {}\n", broken.pgn, broken.src, broken.dst, broken.seq, broken.first
+            "{line} broken {} {} {} {} {}\n",
+            broken.pgn, broken.src, broken.dst, broken.seq, broken.first
         )?;
         text.extend_from_slice(told.as_bytes())?;
     }
@@ -184,7 +185,10 @@ fn longest_message(rt: HostRuntime) -> Result<(), Fail> {
     let alloc = rt.alloc();
     let table = Table::read(alloc, SAMPLE.as_bytes())?;
     let mut join = Join::new(alloc, &table);
-    let first = join.line(&table, read_line(b"(1.0) can0 1DFF0405#00DFA399054A4B4C", Packing::Frames))?;
+    let first = join.line(
+        &table,
+        read_line(b"(1.0) can0 1DFF0405#00DFA399054A4B4C", Packing::Frames),
+    )?;
     assert!(rt; first.message.is_none());
     for number in 1..32u8 {
         let line = format!(in alloc; "({number}.0) can0 1DFF0405#{number:02X}20202020202020")?;
@@ -192,10 +196,16 @@ fn longest_message(rt: HostRuntime) -> Result<(), Fail> {
         assert_eq!(rt; step.message.is_some(), number == 31);
         if let Some(message) = &step.message {
             assert_eq!(rt; message.data().len(), 223);
-            assert_eq!(rt; &message.data()[..7], [0xa3, 0x99, 0x05, 0x4a, 0x4b, 0x4c, 0x20].as_slice());
+            assert_eq!(rt;
+                &message.data()[..7],
+                [0xa3, 0x99, 0x05, 0x4a, 0x4b, 0x4c, 0x20].as_slice()
+            );
         }
     }
-    let over = join.line(&table, read_line(b"(33.0) can0 1DFF0405#00E0A399054A4B4C", Packing::Frames))?;
+    let over = join.line(
+        &table,
+        read_line(b"(33.0) can0 1DFF0405#00E0A399054A4B4C", Packing::Frames),
+    )?;
     assert_eq!(rt; over.bad, Some(BadCause::Fast));
     Ok(())
 }
@@ -207,12 +217,19 @@ fn eight_under_way(rt: HostRuntime) -> Result<(), Fail> {
     let table = Table::read(alloc, SAMPLE.as_bytes())?;
     let mut join = Join::new(alloc, &table);
     for sequence in 0..8u8 {
-        let line = format!(in alloc; "(1.0) can0 1DFF0405#{:02X}0000000000FFFF", 32 * sequence + 1)?;
+        let line = format!(in alloc;
+            "(1.0) can0 1DFF0405#{:02X}0000000000FFFF",
+            32 * sequence + 1
+        )?;
         join.line(&table, read_line(line.as_bytes(), Packing::Frames))?;
         assert_eq!(rt; join.counts().held, u64::from(sequence) + 1);
     }
     for left in 0..8u8 {
-        let line = format!(in alloc; "(2.0) can0 1DFF0405#{:02X}0BA399{:02X}414243", 32 * (7 - left), 8 - left)?;
+        let line = format!(in alloc;
+            "(2.0) can0 1DFF0405#{:02X}0BA399{:02X}414243",
+            32 * (7 - left),
+            8 - left
+        )?;
         let step = join.line(&table, read_line(line.as_bytes(), Packing::Frames))?;
         let message = step.message.ok_or("a message")?;
         let data = [0xa3, 0x99, 8 - left, 0x41, 0x42, 0x43, 0, 0, 0, 0, 0];

@@ -1,11 +1,10 @@
-use Rattle.std.proofs.Common.{◌≡◌, ◌<◌, ◌++◌, ◌∷◌, [], cond, ℕ, List, Some, Bool, true, IfSome, get_or, length, take, drop, option_to_list, ap, sym, subst, ◌+◌, ◌∙◌}
+use Rattle.std.proofs.Common.{◌≡◌, ◌++◌, ◌∷◌, [], cond, ℕ, List, Some, true, IfSome, get_or, take, drop, ap, sym, subst, ◌+◌, ◌∙◌}
 use Rattle.std.specs.Prelude.{position}
-use Rattle.std.specs.List.{AllByRecursion}
 use Rattle.n2k_join.specs.Frames.{Frame, same_key}
 use Rattle.n2k_join.specs.Groups.{complete, has_number}
 use Rattle.n2k_join.specs.Open.{Group}
 use Rattle.n2k_join.specs.State.{held_of, AreApart, IsOpen}
-use Rattle.n2k_join.specs.Stored.{frame_of, of_the_key, begun}
+use Rattle.n2k_join.specs.Stored.{frame_of, of_the_key}
 use Rattle.n2k_join.proofs.JoinLemmas.{found-place, key-place, at_place, gained-repeats, lost-repeats, after-repeats, all-at, broken-held, message-begun, groups-begun}
 use Rattle.n2k_join.proofs.taking.reopen_at.Goals as goal
 

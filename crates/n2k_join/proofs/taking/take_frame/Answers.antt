@@ -1,6 +1,5 @@
-use Rattle.std.proofs.Common.{◌≡◌, ℕ, List, Some, None, Bool, true, false, IfSome, Result, Ok, Err, OnErr, get_or, ap, sym, subst, ◌∙◌}
+use Rattle.std.proofs.Common.{◌≡◌, ℕ, List, Some, Bool, true, false, IfSome, Result, Ok, Err, OnErr, get_or, ap, sym, subst, ◌∙◌}
 use Rattle.std.specs.Prelude.{position}
-use Rattle.std.proofs.lemmas.Result.{err_from_is_err_and}
 use Rattle.n2k_join.specs.Frames.{Frame, same_key}
 use Rattle.n2k_join.specs.Groups.{has_number}
 use Rattle.n2k_join.specs.Open.{Group}

@@ -1,5 +1,4 @@
-use Rattle.std.proofs.Common.{◌≡◌, ◌<◌, ◌++◌, ◌∷◌, [], ℕ, Bool, true, false, cond, Some, None, ap, sym, ◌∙◌}
-use Rattle.n2k_wire.specs.Packet.{PacketParts}
+use Rattle.std.proofs.Common.{◌≡◌, ◌<◌, ◌++◌, ◌∷◌, [], Bool, false, cond, Some, None, ap, sym, ◌∙◌}
 use Rattle.n2k_join.specs.Frames.{Frame, most_frames}
 use Rattle.n2k_join.specs.Groups.{complete, has_number, data_of}
 use Rattle.n2k_join.specs.Messages.{message_of}
