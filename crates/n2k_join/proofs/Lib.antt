@@ -1,9 +1,11 @@
 pub mod Advanced
 pub mod Agreeing
 pub mod Arriving
+pub mod BadLines
 pub mod Carried
 pub mod CompleteLemmas
 pub mod Counting
+pub mod CutLaws
 pub mod Cuts
 pub mod Given
 pub mod GroupLines
@@ -11,11 +13,13 @@ pub mod Healing
 pub mod Held
 pub mod JoinLemmas
 pub mod Keeping
+pub mod KeyCounts
 pub mod Keys
 pub mod Lines
 pub mod Logs
 pub mod Opened
 pub mod PieceFrames
+pub mod Replaying
 pub mod Resumed
 pub mod Rising
 pub mod Splitting
@@ -24,3 +28,5 @@ pub mod StoredLemmas
 pub mod Stretches
 pub mod WholePieces
 pub mod LineLemmas
+pub mod Worked
+pub mod Written
