@@ -3,6 +3,7 @@ pub mod Agreeing
 pub mod Arriving
 pub mod BadLines
 pub mod Carried
+pub mod CompleteLemmas
 pub mod Counting
 pub mod CutLaws
 pub mod Cuts
@@ -10,9 +11,11 @@ pub mod Given
 pub mod GroupLines
 pub mod Healing
 pub mod Held
+pub mod JoinLemmas
 pub mod Keeping
 pub mod KeyCounts
 pub mod Keys
+pub mod LineLemmas
 pub mod Lines
 pub mod Logs
 pub mod Opened
@@ -22,6 +25,7 @@ pub mod Resumed
 pub mod Rising
 pub mod Splitting
 pub mod Steps
+pub mod StoredLemmas
 pub mod Stretches
 pub mod WholePieces
 pub mod Worked
