@@ -1,6 +1,7 @@
 pub mod Keys
 pub mod Digits
 pub mod Each
+pub mod Listed
 pub mod FieldFaults
 pub mod DefinitionFaults
 pub mod Documents
@@ -10,3 +11,5 @@ pub mod Members
 pub mod RawBits
 pub mod Stamps
 pub mod Scaled
+pub mod Names
+pub mod LookupFaults

@@ -1,25 +1,37 @@
 -- The JSON line of a message.
-use Rattle.std.specs.Prelude.{ℕ, Bool, codes, decimal, List, [], ◌∷◌, ◌++◌, Option, Some, None, if◌then◌else◌}
+use Rattle.std.specs.Prelude.{ℕ, Bool, codes, decimal, List, [], ◌∷◌, ◌++◌, map, Option, Some, None, if◌then◌else◌}
 use Rattle.std.specs.List.{filter_map, join_with_byte}
+use Rattle.std.specs.Str.{encode_utf8_all}
+use Rattle.hex.specs.Hex.{encode_upper}
 use Rattle.n2k_wire.specs.Packet.{PacketParts}
 use Rattle.n2k_wire.specs.declared.identifier.Id.{Id}
 use Rattle.n2k_table.specs.Decimal.{dec}
 use Rattle.n2k_table.specs.Definition.{DefinitionParts}
-use Rattle.n2k_table.specs.Shown.{ShownParts, absent, number, all_shown}
+use Rattle.n2k_table.specs.Shown.{ShownParts, absent, number, name, text, bytes, all_shown}
 use Rattle.n2k_table.specs.Table.{TableParts, choice}
 use Rattle.n2k_table.specs.Text.{text_json}
 
--- `,` and `:`
+-- `,`, `:` and the space
 abbrev pub comma : ℕ
 comma = 44
 
 abbrev pub colon : ℕ
 colon = 58
 
+abbrev pub space : ℕ
+space = 32
+
+-- the text of bytes: two upper-case hexadecimal digits a byte, and a space between
+abbrev pub pairs : List ℕ → List ℕ
+pairs payload = join_with_byte space (map (λ b. encode_upper (b ∷ [])) payload)
+
 -- what a field shows as a value; none where it is absent and absent fields are left out
 abbrev pub value_json : Bool → ShownParts → Option (List ℕ)
 value_json empty absent = if empty then Some (codes "null") else None
 value_json empty (number value decimals) = Some (dec value decimals)
+value_json empty (name n) = Some (text_json n)
+value_json empty (text bytes) = Some (text_json (encode_utf8_all bytes))
+value_json empty (bytes payload) = Some (text_json (pairs payload))
 
 -- a name and its value
 abbrev pub pair_json : List ℕ → Option (List ℕ) → Option (List ℕ)
@@ -42,22 +54,22 @@ id_json id =
     ++ codes ",\"pgn\":" ++ decimal id.pgn
 
 -- what stands before the fields
-unfoldable pub head_json : DefinitionParts → PacketParts → List ℕ
-head_json d m =
+unfoldable pub head_json : List ℕ → PacketParts → List ℕ
+head_json description m =
     codes "{\"timestamp\":" ++ text_json m.stamp
     ++ id_json m.id
-    ++ codes ",\"description\":" ++ text_json d.description
+    ++ codes ",\"description\":" ++ text_json description
     ++ codes ",\"fields\":"
 
--- the line of a message under a definition, with its LF
-abbrev pub line_json : DefinitionParts → PacketParts → Bool → List ℕ
-line_json d m empty = head_json d m ++ fields_json empty (all_shown d.fields m.payload) ++ codes "}\n"
+-- the line of a message, with its LF
+abbrev pub line_json : List ℕ → List (List ℕ × ShownParts) → PacketParts → Bool → List ℕ
+line_json description fields m empty = head_json description m ++ fields_json empty fields ++ codes "}\n"
 
--- The line of a message under the definition that is chosen for it. Where there is none, which `json_line` rules
--- out, it is empty.
+-- The line of a message under the definition that is chosen for it. Where there is none it is unmatched, and has
+-- its data as they are.
 abbrev pub chosen_json : Option DefinitionParts → PacketParts → Bool → List ℕ
-chosen_json None m empty = []
-chosen_json (Some d) m empty = line_json d m empty
+chosen_json (Some d) m empty = line_json d.description (all_shown d.fields m.payload) m empty
+chosen_json None m empty = line_json (codes "Unmatched") ((codes "Data", bytes m.payload) ∷ []) m empty
 
 unfoldable pub json : TableParts → PacketParts → Bool → List ℕ
 json t m empty = chosen_json (choice t m.id.pgn m.payload) m empty

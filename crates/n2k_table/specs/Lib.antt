@@ -2,7 +2,11 @@ pub mod Fault
 pub mod Text
 pub mod Tree
 pub mod Resolution
+pub mod Twice
+pub mod Lookup
+pub mod Entries
 pub mod Field
+pub mod Kept
 pub mod Definition
 pub mod Table
 pub mod Bits

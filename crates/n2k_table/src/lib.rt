@@ -18,6 +18,7 @@ mod definition;
 mod fault;
 mod field;
 mod line;
+mod lookup;
 mod resolution;
 mod shown;
 mod table;
