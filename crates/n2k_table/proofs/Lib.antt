@@ -13,3 +13,5 @@ pub mod Stamps
 pub mod Scaled
 pub mod Names
 pub mod LookupFaults
+pub mod Trims
+pub mod Tops

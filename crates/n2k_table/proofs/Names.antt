@@ -1,5 +1,6 @@
 -- The names of values: as the code's map finds them, and as entries of a document.
 use Rattle.std.proofs.Common.{◌≡◌, ℕ, ◌+◌, ◌<◌, get_or, drop, Bool, true, false, ◌||◌, cond, nat_eq, eqb, List, [], ◌∷◌, ◌++◌, length, map, Option, Some, None, is_some, option_map, Result, Ok, Err, String, Global, string_bytes, refl, sym, ap, ◌∙◌, append_assoc, inl, inr, arith}
+use Rattle.std.specs.Str.{bytes_eq}
 use Rattle.std.specs.Map.{lookup as value_at}
 use Rattle.std.specs.List.{list_any, find}
 use Rattle.std.proofs.lemmas.Bool.{cases_Bool, or_parts, false≢true}
@@ -15,7 +16,7 @@ use Rattle.n2k_table.specs.Fault.{◌>>=◌}
 use Rattle.n2k_table.specs.Tree.{elements, as_elements}
 use Rattle.n2k_table.specs.Twice.{has_twice}
 use Rattle.n2k_table.specs.Entries.{seen, once}
-use Rattle.n2k_table.specs.Lookup.{name_of_value, pair_in, pair_of}
+use Rattle.n2k_table.specs.Lookup.{LookupParts, name_of_value, pair_in, pair_of}
 use Rattle.n2k_table.proofs.Each.{length-elements}
 
 pub name_of_value-seen : (value : ℕ) (es : List (ℕ × String Global)) → name_of_value (map seen es) value ≡ option_map string_bytes (value_at (nat_eq value) es)
@@ -130,3 +131,12 @@ module _ {S : Type 0} (m : IndexMap ℕ (String Global) S) (v : ℕ) (s : String
 pub is_none : {X : Type 0} (o : Option X) → is_some o ≡ false → o ≡ None
 is_none None none = refl
 is_none (Some x) none = absurd (false≢true (sym none))
+
+-- the first of a name is there where the name is among the names
+pub among_names : (name : List ℕ) (ls : List LookupParts) → list_any (bytes_eq name) (map (λ (l : LookupParts). l.name) ls) ≡ is_some (find (λ (l : LookupParts). bytes_eq name l.name) ls)
+among_names name [] = refl
+among_names name (l ∷ ls) =
+    elim (cases_Bool (bytes_eq name l.name)) [
+      | inl same ↦ rw same refl
+      | inr other ↦ rw other (among_names name ls)
+    ]

@@ -123,8 +123,8 @@ fits_bits wanted bits = value_or true (do
 -- a lookup has the name, where the name has no fault by itself
 abbrev pub is_there : List (List ℕ) → Result (List ℕ) TableFault → Bool
 is_there names name = value_or true (do
-  text ← name
-  Ok (list_any (bytes_eq text) names))
+  wanted ← name
+  Ok (list_any (bytes_eq wanted) names))
 
 -- the faults of a number field
 abbrev pub number_faults : Members → List TableFault

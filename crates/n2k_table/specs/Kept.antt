@@ -1,16 +1,23 @@
 -- For private clauses: what the code keeps of a field, and that it is a field that can be shown.
 use Rattle.std.specs.Prelude.{◌≡◌, ◌≤◌, ℕ, ◌+◌, List, Option, IfSome}
-use Rattle.n2k_table.specs.declared.field.Meaning as code
+use Rattle.n2k_table.specs.declared.field.Meaning.{Meaning as CodeMeaning}
 use Rattle.n2k_table.specs.declared.field.Meaning.TheVariants as code
 use Rattle.n2k_table.specs.Field.{Meaning, number, named, text, bytes, message_bits, most_number_bits}
 use Rattle.n2k_table.specs.Text.{text_json}
 
 -- what the bits mean, as contracts see it
-abbrev pub meaning : code.Meaning → Meaning
+abbrev pub meaning : CodeMeaning → Meaning
 meaning (code.Number signed resolution) = number signed resolution
 meaning (code.Named lookup) = named lookup.value.entries
 meaning code.Text = text
 meaning code.Bytes = bytes
+
+-- a text or bytes
+abbrev pub IsByteMeaning : Meaning → Type 0
+IsByteMeaning (number signed resolution) = ⊥
+IsByteMeaning (named entries) = ⊥
+IsByteMeaning text = Unit {0}
+IsByteMeaning bytes = Unit {0}
 
 -- so many bits can have the meaning
 abbrev pub HasRoom : Meaning → ℕ → Type 0

@@ -1,5 +1,6 @@
 pub mod Fault
 pub mod Text
+pub mod Tail
 pub mod Tree
 pub mod Resolution
 pub mod Twice

@@ -1,5 +1,5 @@
 -- What a field shows of a message.
-use Rattle.std.specs.Prelude.{ℕ, ℤ, pos, ◌*ℤ◌, ◌+◌, ◌*◌, ◌-◌, ◌/◌, ◌==◌, Bool, ◌&&◌, ◌||◌, nat_le, List, [], ◌∷◌, length, map, slice_range, Option, Some, None, if◌then◌else◌}
+use Rattle.std.specs.Prelude.{ℕ, ℤ, pos, ◌*ℤ◌, ◌+◌, ◌*◌, ◌-◌, ◌/◌, ◌==◌, Bool, false, ◌&&◌, ◌||◌, nat_le, List, [], ◌∷◌, length, map, slice_range, Option, Some, None, if◌then◌else◌}
 use Rattle.std.specs.List.{list_all}
 use Rattle.std.specs.Ordering.{int_eq}
 use Rattle.n2k_table.specs.declared.resolution.Resolution.{Resolution}
@@ -48,7 +48,7 @@ shown_unnamed n r = if nat_le 2 n && r == greatest false n then absent else numb
 
 -- a value of n bits by its name, if it has one: the names are asked first, for the greatest value too
 abbrev pub shown_name : Option (List ℕ) → ℕ → ℕ → ShownParts
-shown_name (Some text) n r = name text
+shown_name (Some found) n r = name found
 shown_name None n r = shown_unnamed n r
 
 -- a byte that fills a text up: 00, FF, `@` or a space

@@ -90,9 +90,13 @@ faults bytes = document_faults (document bytes)
 abbrev pub top_lookups : Members → List LookupParts
 top_lookups top = map lookup (value_or [] (lookups_of top))
 
+-- the definitions that a document spells in a table of these lookups
+abbrev pub definitions_in : List LookupParts → Members → List DefinitionParts
+definitions_in lookups top = map (definition lookups) (value_or [] (definitions_of top))
+
 -- the definitions that a document spells, each lookup field with the entries of its lookup
 abbrev pub top_definitions : Members → List DefinitionParts
-top_definitions top = map (definition (top_lookups top)) (value_or [] (definitions_of top))
+top_definitions top = definitions_in (top_lookups top) top
 
 -- The table that the bytes spell. Where a fault stands they are refused.
 abbrev pub table : List ℕ → TableParts

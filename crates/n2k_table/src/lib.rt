@@ -22,6 +22,7 @@ mod lookup;
 mod resolution;
 mod shown;
 mod table;
+mod tail;
 mod text;
 mod tree;
 
