@@ -1,7 +1,7 @@
 -- The faults of fields, and what a definition is read as where none stands.
 use Rattle.std.proofs.Common.{◌≡◌, ℕ, ◌<◌, ◌≤◌, true, false, List, [], ◌++◌, length, Some, Result, Ok, Err, ap, map}
 use Rattle.std.specs.Result.{result_ok}
-use Rattle.std.specs.List.{flat_map, filter_map}
+use Rattle.std.specs.List.{flat_map}
 use Rattle.std.specs.Str.{bytes_eq}
 use Rattle.toml.specs.Data.{Data, Members}
 use Rattle.n2k_table.specs.declared.fault.TableFault.{TableFault}

@@ -9,7 +9,7 @@ pub mod Decimals
 pub mod OneKind
 pub mod Members
 pub mod RawBits
-pub mod Stamps
+pub mod Escapes
 pub mod Scaled
 pub mod Names
 pub mod LookupFaults

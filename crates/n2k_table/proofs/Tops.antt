@@ -1,18 +1,17 @@
 -- The faults of the top level, by those of its lookups and definitions.
-use Rattle.std.proofs.Common.{◌≡◌, ℕ, true, not, leb, length, List, [], ◌∷◌, ◌++◌, Result, Ok, Err, refl, sym, ap, ◌∙◌, append_assoc, map}
+use Rattle.std.proofs.Common.{◌≡◌, true, not, leb, length, List, [], ◌∷◌, ◌++◌, Result, Ok, Err, refl, ap, ◌∙◌, map}
 use Rattle.std.specs.List.{flat_map, filter_map}
 use Rattle.std.specs.Str.{bytes_eq}
-use Rattle.std.proofs.lemmas.List.{append-nil}
 use Rattle.toml.specs.Data.{Data, Members}
 use Rattle.n2k_table.specs.declared.fault.TableFault.{TableFault}
-use Rattle.n2k_table.specs.declared.fault.TableFault.TheVariants.{Key, Twice, TooMany}
+use Rattle.n2k_table.specs.declared.fault.TableFault.TheVariants.{Twice, TooMany}
 use Rattle.n2k_table.specs.declared.tree.Place.TheVariants.{Document}
 use Rattle.n2k_table.specs.Fault.{faults_in, value_or, unless, judged}
 use Rattle.n2k_table.specs.Tree.{has_only_keys}
 use Rattle.n2k_table.specs.Twice.{has_twice}
 use Rattle.n2k_table.specs.Lookup.{LookupParts, lookup, lookup_faults, lookups_faults, counted_lookup}
 use Rattle.n2k_table.specs.Table.{is_format_1, lookups_of, lookup_names, definitions_of, definitions_faults, definitions_in, top_faults, top_lookups, top_definitions}
-use Rattle.n2k_table.proofs.Each.{nil_parts, filter_map-counted, judged_ok, judged_err}
+use Rattle.n2k_table.proofs.Each.{nil_parts, filter_map-counted, judged_ok}
 use Rattle.n2k_table.proofs.LookupFaults.{counted_lookup-without_fault}
 
 -- the names of lookups without a fault

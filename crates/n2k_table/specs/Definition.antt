@@ -1,5 +1,5 @@
 -- What a table says of one message, and the faults that a definition may have.
-use Rattle.std.specs.Prelude.{ℕ, not, nat_le, codes, List, [], ◌∷◌, ◌++◌, length, map, flat_map, Option, Result, Ok, Err, if◌then◌else◌}
+use Rattle.std.specs.Prelude.{ℕ, not, nat_le, codes, List, [], ◌++◌, length, map, flat_map, Option, Result, Ok, Err, if◌then◌else◌}
 use Rattle.std.specs.List.{filter_map}
 use Rattle.std.specs.Result.{result_ok}
 use Rattle.std.specs.Str.{bytes_eq}

@@ -1,5 +1,5 @@
 -- What a table says of one field, and the faults that a field may have.
-use Rattle.std.specs.Prelude.{◌≡◌, ◌≤◌, ℕ, ℤ, pos, negsuc, ◌+◌, ◌^◌, ◌%◌, ◌==◌, Bool, true, false, not, ◌||◌, nat_le, nat_lt, codes, List, [], ◌++◌, Option, Some, None, option_map, unwrap_or, IfSome, Result, Ok, Err, if◌then◌else◌}
+use Rattle.std.specs.Prelude.{ℕ, ℤ, pos, negsuc, ◌+◌, ◌^◌, ◌%◌, ◌==◌, Bool, true, false, not, ◌||◌, nat_le, nat_lt, codes, List, [], ◌++◌, Option, Some, None, option_map, unwrap_or, Result, Ok, Err, if◌then◌else◌}
 use Rattle.std.specs.List.{list_any, find}
 use Rattle.std.specs.Option.{ok_or}
 use Rattle.std.specs.Result.{result_ok}

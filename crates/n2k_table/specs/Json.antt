@@ -1,5 +1,5 @@
 -- The JSON line of a message.
-use Rattle.std.specs.Prelude.{ℕ, Bool, codes, decimal, List, [], ◌∷◌, ◌++◌, flat_map, Option, Some, None, if◌then◌else◌}
+use Rattle.std.specs.Prelude.{ℕ, Bool, false, codes, decimal, List, [], ◌∷◌, ◌++◌, flat_map, Option, Some, None, if◌then◌else◌}
 use Rattle.std.specs.List.{filter_map, join_with_byte}
 use Rattle.n2k_wire.specs.Packet.{PacketParts}
 use Rattle.n2k_wire.specs.declared.identifier.Id.{Id}
@@ -56,14 +56,14 @@ head_json description_json m =
 abbrev pub line_json : List ℕ → List (List ℕ × ShownParts) → PacketParts → Bool → List ℕ
 line_json description fields m empty = head_json (text_json description) m ++ fields_json empty fields ++ codes "}\n"
 
--- the line of a message that no definition matches: its data as they are
-abbrev pub unmatched_json : PacketParts → Bool → List ℕ
-unmatched_json m empty = line_json (codes "Unmatched") ((codes "Data", bytes m.payload) ∷ []) m empty
+-- the line of a message that no definition matches: its data as they are (never absent, whatever `empty` says)
+abbrev pub unmatched_json : PacketParts → List ℕ
+unmatched_json m = line_json (codes "Unmatched") ((codes "Data", bytes m.payload) ∷ []) m false
 
 -- The line of a message under the definition that is chosen for it. Where there is none it is unmatched.
 abbrev pub chosen_json : Option DefinitionParts → PacketParts → Bool → List ℕ
 chosen_json (Some d) m empty = line_json d.description (all_shown d.fields m.payload) m empty
-chosen_json None m empty = unmatched_json m empty
+chosen_json None m empty = unmatched_json m
 
 unfoldable pub json : TableParts → PacketParts → Bool → List ℕ
 json t m empty = chosen_json (choice t m.id.pgn m.payload) m empty

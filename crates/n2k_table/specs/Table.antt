@@ -74,8 +74,8 @@ abbrev pub top_faults : Members → List TableFault
 top_faults top =
     if is_format_1 top
     then unless (has_only_keys Document top) Key
-      ++ faults_in (lookups_of top) lookups_faults
-      ++ faults_in (definitions_of top) (definitions_faults (lookup_names top))
+    ++ faults_in (lookups_of top) lookups_faults
+    ++ faults_in (definitions_of top) (definitions_faults (lookup_names top))
     else Format ∷ []
 
 abbrev pub document_faults : Option Members → List TableFault

@@ -1,5 +1,5 @@
 //! The decimal text of a whole number over a power of ten.
-ghost use Rattle.std.specs.Prelude.{◌≡◌, ◌++◌, ◌≤◌, ℕ, List, length, OnOk, OnErr};
+ghost use Rattle.std.specs.Prelude.{◌≡◌, ◌++◌, ◌≤◌, ℕ, List, length, decimal, OnOk, OnErr};
 ghost use Rattle.n2k_table.specs.Decimal.{IsDecimal, dec, dotted, filled, sign_of};
 
 use crate::tail::Tail;
@@ -47,13 +47,23 @@ fn push_sign(value: i128, line: &mut Tail) -> Result<(), AllocError>
     Ok(())
 }
 
+// The digits of a number. Most have 64 bits, which cost less than 128.
+fn digits_of(size: u128, buffer: &mut Buffer) -> &str
+    ensures { result.now ≡ decimal size }
+{
+    match u64::try_from(size) {
+        Ok(short) => buffer.format(short),
+        Err(_) => buffer.format(size),
+    }
+}
+
 /// Appends the decimal text of `value / 10^decimals`.
 pub fn push_decimal(value: i128, decimals: u8, line: &mut Tail) -> Result<(), AllocError>
     ensures appends { OnOk result (line.new.items ≡ line.old.items ++ dec value decimals) }
     ensures before { line.new.before ≡ line.old.before }
 {
     let mut buffer = Buffer::new();
-    let digits = buffer.format(value.unsigned_abs()).as_bytes();
+    let digits = digits_of(value.unsigned_abs(), &mut buffer).as_bytes();
     let decimals = usize::from(decimals);
     push_sign(value, line)?;
     if decimals < digits.len() {

@@ -228,11 +228,7 @@ fn each_field(alloc: Global, lookups: &Lookups, values: &Array) -> Result<Vec<Fi
     Ok(fields)
 }
 
-fn read_fields(
-    alloc: Global,
-    lookups: &Lookups,
-    values: &Array,
-) -> Result<Vec<Field>, TableFault>
+fn read_fields(alloc: Global, lookups: &Lookups, values: &Array) -> Result<Vec<Field>, TableFault>
     ensures { let names = map (λ (lookup : LookupParts). lookup.name) lookups.now in
         let ds = elements (array_view values.now) in
         GivesOrMemory (λ fields. fields.items) result (judged (fields_faults names ds) (map (field lookups.now) ds)) }

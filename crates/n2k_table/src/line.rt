@@ -7,9 +7,9 @@ ghost use Rattle.n2k_table.specs.Json.{value_json, member_json, member_text, fie
 use crate::decimal::push_decimal;
 use crate::definition::Definition;
 use crate::field::Field;
-use crate::tail::Tail;
 use crate::shown::Shown;
 use crate::table::Table;
+use crate::tail::Tail;
 use crate::text::{push_characters, push_pairs, push_text};
 use itoa::Buffer;
 use n2k_wire::{Id, Packet};
@@ -48,12 +48,13 @@ fn push_head(description_json: &[u8], packet: &Packet, line: &mut Tail) -> Resul
     push_id(packet.id(), line)?;
     line.extend_from_slice(b",\"description\":")?;
     line.extend_from_slice(description_json)?;
-    line.extend_from_slice(b",\"fields\":")
+    line.extend_from_slice(b",\"fields\":")?;
+    Ok(())
 }
 
 // Appends what a field shows as a value.
 fn push_value(shown: Shown<'_>, line: &mut Tail) -> Result<(), AllocError>
-    ensures appends { OnOk result (IfSome (value_json true (shown_parts shown))
+    ensures appends { OnOk result (IfSome (value_json true (shown_parts shown.entry))
         (λ value. line.new.items ≡ line.old.items ++ value)) }
     ensures before { line.new.before ≡ line.old.before }
 {
@@ -109,7 +110,8 @@ fn push_fields(
     for field in fields {
         later = push_member(field, data, empty, later, line)?;
     }
-    line.push(b'}')
+    line.push(b'}')?;
+    Ok(())
 }
 
 // Appends the line of a message under a definition.
@@ -125,19 +127,20 @@ fn push_matched(
 {
     push_head(definition.description_json(), packet, line)?;
     push_fields(definition.stored_fields(), packet.data(), empty, line)?;
-    line.extend_from_slice(b"}\n")
+    line.extend_from_slice(b"}\n")?;
+    Ok(())
 }
 
 // Appends the line of a message that no definition matches: its data as they are.
-#[tactic(auto, using(std::proofs::Common::append_assoc))]
 fn push_unmatched(packet: &Packet, line: &mut Tail) -> Result<(), AllocError>
-    ensures appends { (empty : Bool) → OnOk result (line.new.items ≡ line.old.items ++ unmatched_json packet.now empty) }
+    ensures appends { OnOk result (line.new.items ≡ line.old.items ++ unmatched_json packet.now) }
     ensures before { line.new.before ≡ line.old.before }
 {
     push_head(b"\"Unmatched\"", packet, line)?;
     line.extend_from_slice(b"{\"Data\":")?;
     push_pairs(packet.data(), line)?;
-    line.extend_from_slice(b"}}\n")
+    line.extend_from_slice(b"}}\n")?;
+    Ok(())
 }
 
 fn push_line(
@@ -146,7 +149,7 @@ fn push_line(
     empty: bool,
     line: &mut Tail,
 ) -> Result<(), AllocError>
-    ensures appends { OnOk result (line.new.items ≡ line.old.items ++ chosen_json definition packet.now empty) }
+    ensures appends { OnOk result (line.new.items ≡ line.old.items ++ chosen_json definition.entry packet.now empty) }
     ensures before { line.new.before ≡ line.old.before }
 {
     match definition {

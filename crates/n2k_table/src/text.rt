@@ -3,7 +3,6 @@ ghost use Rattle.std.specs.Char.{digit_char};
 ghost use Rattle.std.specs.Prelude.{◌≡◌, ◌++◌, ◌<◌, ◌%◌, IfOk, OnOk, map, unwrap_or};
 ghost use Rattle.std.specs.List.{list_all, flat_map};
 ghost use Rattle.std.specs.Option.{IfSome};
-
 ghost use Rattle.json.specs.Print.{escape_letter, escape_byte};
 ghost use Rattle.n2k_table.specs.Text.{text_json, pair, pairs, is_plain, character};
 
@@ -57,7 +56,11 @@ fn escape_digit(byte: u8) -> u8
     ensures { result ≡ digit_char (byte % 16) }
 {
     let digit = byte % 16;
-    if digit < 10 { b'0' + digit } else { b'a' + digit - 10 }
+    if digit < 10 {
+        b'0' + digit
+    } else {
+        b'a' + digit - 10
+    }
 }
 
 // Appends what stands in a text for a byte.

@@ -1,6 +1,5 @@
 -- The lookups so far are shared, and the others are left.
 use Rattle.std.proofs.Common.{◌≡◌, map}
-use Rattle.n2k_table.specs.Lookup.{LookupParts}
 use Rattle.n2k_table.proofs.lookup.shared.Given as goal
 
 abbrev pub invariant-loop-lookup : goal.invariant-loop-lookup
