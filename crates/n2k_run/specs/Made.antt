@@ -3,7 +3,7 @@ use Rattle.std.specs.Prelude.{◌≡◌, ℕ, Bool, true, false, List, [], ◌++
 use Rattle.std.specs.List.{flat_map}
 use Rattle.std.specs.Io.KnownBytes.{Appends}
 use Rattle.n2k_wire.specs.declared.entry.Entry.{Entry}
-use Rattle.n2k_wire.specs.declared.entry.Entry.TheVariants.{Skip, Bad, Frame}
+use Rattle.n2k_wire.specs.declared.entry.Entry.TheVariants.{Skip, Bad, Frame, Whole}
 use Rattle.n2k_wire.specs.declared.entry.Packing.TheVariants.{Frames}
 use Rattle.n2k_wire.specs.Packet.{PacketParts}
 use Rattle.n2k_join.specs.declared.counts.Counts.{Counts}
@@ -28,12 +28,14 @@ abbrev pub text_of : (PacketParts → List ℕ) → Entry → List ℕ
 text_of text Skip = []
 text_of text (Bad cause) = []
 text_of text (Frame packet) = text packet
+text_of text (Whole packet) = text packet
 
 -- whether an entry is a frame whose worth passes the test
 abbrev pub is_worth : (Worth → Bool) → (PacketParts → Worth) → Entry → Bool
 is_worth test worth Skip = false
 is_worth test worth (Bad cause) = false
 is_worth test worth (Frame packet) = test (worth packet)
+is_worth test worth (Whole packet) = test (worth packet)
 
 -- the texts of a log's frames, in the order of its lines
 abbrev pub texts_of : (PacketParts → List ℕ) → List ℕ → List ℕ

@@ -65,7 +65,7 @@ impl Progress {
                 self.counts.bad += 1;
                 bad_text(alloc, self.counts.lines, cause, &mut self.report)
             }
-            Entry::Frame(packet) => {
+            Entry::Frame(packet) | Entry::Whole(packet) => {
                 match maker.make(alloc, &packet, &mut self.text)? {
                     Worth::Message => self.counts.messages += 1,
                     Worth::Unknown => self.counts.unknown += 1,
