@@ -14,3 +14,4 @@ pub mod Bits
 pub mod Shown
 pub mod Decimal
 pub mod Json
+pub mod OneLine
