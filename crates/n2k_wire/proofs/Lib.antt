@@ -9,3 +9,4 @@ pub mod IdentifierLemmas
 pub mod CandumpLemmas
 pub mod UtcBack
 pub mod CandumpBack
+pub mod CleanTexts

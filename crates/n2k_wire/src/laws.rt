@@ -1,5 +1,5 @@
 //! Laws that hold of the definitions: each is the contract of a function that does nothing.
-ghost use Rattle.std.specs.Prelude.{◌≡◌, ℕ, List, ◌<◌, ◌≤◌, ◌^◌, ◌++◌, Some, Ok, IsTrue, codes, length};
+ghost use Rattle.std.specs.Prelude.{◌≡◌, ℕ, All, List, ◌<◌, ◌≤◌, ◌^◌, ◌++◌, Some, Ok, IsTrue, codes, length};
 ghost use Rattle.n2k_wire.specs.Entry.{entry};
 ghost use Rattle.n2k_wire.specs.Identifier.{join, split};
 ghost use Rattle.n2k_wire.specs.Packet.{PacketParts, IsPacketParts};
@@ -25,4 +25,9 @@ pub fn identifiers_round_trip()
 /// The candump line of a packet of at most 8 bytes is read as the frame of that packet, under each packing.
 pub fn candump_line_reads_back()
     ensures { (p : PacketParts) (interface line : List ℕ) (packing : Packing) → IsPacketParts p → length p.payload ≤ frame_payload → IsTrue (is_interface interface) → candump_text interface p ≡ Ok (line ++ codes "\n") → entry line packing ≡ Entry.Frame p }
+{}
+
+/// A plain line is one line: no byte of it is below the space.
+pub fn plain_line_is_one_line()
+    ensures { (p : PacketParts) → IsPacketParts p → All (λ b. 32 ≤ b) (plain_line p) }
 {}
