@@ -10,6 +10,7 @@ pub mod Held
 pub mod Keys
 pub mod Lines
 pub mod Opened
+pub mod PieceBytes
 pub mod PieceFrames
 pub mod Resumed
 pub mod Rising

@@ -1,0 +1,113 @@
+//! The writer: messages are split into the frames of the bus.
+ghost use Rattle.std.specs.Prelude.{◌≡◌, ◌+◌, ◌*◌, ◌<◌, ◌≤◌, ◌++◌, [], ◌∷◌, IfOk, OnOk, OnErr, IsOkUnless, MatchOption, Err, length, map, vec_len, vec_capacity};
+ghost use Rattle.std.specs.List.{range_with_len};
+ghost use Rattle.n2k_table.specs.Table.{kind};
+ghost use Rattle.n2k_join.specs.declared.split_fault.SplitFault.TheVariants.{Memory};
+ghost use Rattle.n2k_join.specs.Pieces.{piece, last_piece, sent_byte, piece_bytes, pieces_by, stream_of, raised, first_sequences};
+ghost use Rattle.n2k_join.specs.Splitter.{sequences, refusal};
+
+use crate::split_fault::SplitFault;
+use crate::stream::Stream;
+use indexmap::IndexMap;
+use n2k_table::{Kind, Table};
+use n2k_wire::Packet;
+use std::alloc::Global;
+use std::marker::Model;
+
+/// The most bytes of a frame.
+const FRAME_PAYLOAD: usize = 8;
+
+/// The bytes of a frame after its header.
+const FRAME_BYTES: usize = 7;
+
+/// What stands behind the data in a last frame.
+const FILLER: u8 = 0xff;
+
+/// Splits messages into frames. It numbers the messages of each stream, a sender's messages of one PGN to one
+/// receiver, from 0 to 7 and again from 0.
+#[derive(Drop)]
+pub struct Splitter {
+    // The sequence of the next message of each stream that has had one.
+    next: IndexMap<Stream, u8>,
+}
+
+impl Model for Splitter {
+    ghost use Rattle.std.specs.Prelude.{ℕ, List, All, ◌<◌};
+    ghost use Rattle.n2k_join.specs.Pieces.{Stream};
+
+    ghost Value = { List (Stream × ℕ) };
+
+    ghost view = { λ s. s.next.entries };
+
+    ghost invariant = { λ s. All (λ (e : Stream × ℕ). e.1 < 8) s.next.entries };
+}
+
+// A packet like another, with these data.
+fn with_data(packet: &Packet, data: &[u8]) -> Packet
+    requires { length «data».now ≤ 223 }
+    ensures { result ≡ record { stamp = packet.now.stamp; id = packet.now.id; payload = «data».now } }
+{
+    match Packet::new(packet.stamp(), packet.id(), data) {
+        Some(packet) => packet,
+        None => unreachable!(),
+    }
+}
+
+// The byte at a place of what the frames carry: the length of the data, the data, and then the filler.
+fn sent_byte(data: &[u8], place: usize) -> u8
+    requires short { length «data».now ≤ 223 }
+    ensures value { result ≡ sent_byte «data».now place }
+{
+    if place == 0 {
+        return data.len() as u8;
+    }
+    match data.get(place - 1) {
+        Some(byte) => *byte,
+        None => FILLER,
+    }
+}
+
+// The seven bytes that a frame carries.
+#[tactic(auto, using(crate::proofs::PieceBytes::bytes_by_place), unfolding(crate::specs::Pieces::piece_bytes))]
+fn piece_bytes(data: &[u8], number: u8) -> [u8; 7]
+    requires { length «data».now ≤ 223 }
+    ensures { result ≡ piece_bytes «data».now number }
+{
+    let first = FRAME_BYTES * number as usize;
+    let at = |i| sent_byte(data, first + i);
+    [at(0), at(1), at(2), at(3), at(4), at(5), at(6)]
+}
+
+// Frame `number` of a message.
+fn piece(message: &Packet, sequence: u8, number: u8) -> Packet
+    requires sequence { sequence < 8 }
+    requires number { number < 32 }
+    ensures value { result ≡ piece message.now sequence number }
+{
+    let header = 32 * sequence + number;
+    let [a, b, c, d, e, f, g] = piece_bytes(message.data(), number);
+    with_data(message, &[header, a, b, c, d, e, f, g])
+}
+
+// Appends the frames of a message of a fast PGN, for which there is room.
+fn append_pieces(packets: &mut Vec<Packet>, message: &Packet, sequence: u8, count: u8)
+    requires sequence { sequence < 8 }
+    requires count { count ≤ 32 }
+    requires room { vec_len packets.old + count ≤ vec_capacity packets.old }
+    ensures frames { packets.new.items ≡ packets.old.items ++ map (piece message.now sequence) (range_with_len 0 count) }
+{
+    for number in 0..count {
+        packets.push(piece(message, sequence, number)).unwrap();
+    }
+}
+
+impl Splitter {
+    /// A splitter before its first message: every stream begins with sequence 0. It takes no memory.
+    pub fn new(alloc: Global) -> Splitter
+        ensures { sequences result ≡ first_sequences }
+    {
+        Splitter {
+            next: IndexMap::new(alloc),
+        }
+    }
+}
