@@ -9,6 +9,7 @@ pub mod Healing
 pub mod Held
 pub mod Keys
 pub mod Lines
+pub mod Numbered
 pub mod Opened
 pub mod PieceBytes
 pub mod PieceFrames

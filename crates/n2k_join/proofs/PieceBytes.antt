@@ -1,5 +1,5 @@
 -- The seven bytes of a frame, by their places in it.
-use Rattle.std.proofs.Common.{◌≡◌, ℕ, ◌+◌, ◌*◌, List, [], ◌∷◌, map, refl, ap, add_assoc, add-zero, arith}
+use Rattle.std.proofs.Common.{◌≡◌, ℕ, ◌+◌, ◌*◌, List, [], ◌∷◌, map, ap, add_assoc, add-zero}
 use Rattle.std.specs.List.{range_with_len}
 use Rattle.n2k_join.specs.Pieces.{sent_byte, piece_bytes}
 

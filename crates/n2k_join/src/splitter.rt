@@ -1,9 +1,10 @@
 //! The writer: messages are split into the frames of the bus.
-ghost use Rattle.std.specs.Prelude.{◌≡◌, ◌+◌, ◌*◌, ◌<◌, ◌≤◌, ◌++◌, [], ◌∷◌, IfOk, OnOk, OnErr, IsOkUnless, MatchOption, Err, length, map, vec_len, vec_capacity};
+ghost use Rattle.std.specs.Prelude.{◌≡◌, ◌+◌, ◌*◌, ◌/◌, ◌%◌, if◌then◌else◌, ◌<◌, ◌≤◌, ◌++◌, [], ◌∷◌, IfOk, OnOk, OnErr, IsOkUnless, MatchOption, Some, Err, length, map, vec_len, vec_capacity};
 ghost use Rattle.std.specs.List.{range_with_len};
 ghost use Rattle.n2k_table.specs.Table.{kind};
+ghost use Rattle.n2k_table.specs.declared.definition.Kind.TheVariants.{Single, Fast};
 ghost use Rattle.n2k_join.specs.declared.split_fault.SplitFault.TheVariants.{Memory};
-ghost use Rattle.n2k_join.specs.Pieces.{piece, last_piece, sent_byte, piece_bytes, pieces_by, stream_of, raised, first_sequences};
+ghost use Rattle.n2k_join.specs.Pieces.{piece, last_piece, sent_byte, piece_bytes, pieces_by, Stream, same_stream, stream_of, raised, first_sequences};
 ghost use Rattle.n2k_join.specs.Splitter.{sequences, refusal};
 
 use crate::split_fault::SplitFault;
@@ -32,14 +33,15 @@ pub struct Splitter {
 }
 
 impl Model for Splitter {
-    ghost use Rattle.std.specs.Prelude.{ℕ, List, All, ◌<◌};
+    ghost use Rattle.std.specs.Prelude.{ℕ, List, IsTrue};
     ghost use Rattle.n2k_join.specs.Pieces.{Stream};
+    ghost use Rattle.n2k_join.specs.Splitter.{are_sequences};
 
     ghost Value = { List (Stream × ℕ) };
 
     ghost view = { λ s. s.next.entries };
 
-    ghost invariant = { λ s. All (λ (e : Stream × ℕ). e.1 < 8) s.next.entries };
+    ghost invariant = { λ s. IsTrue (are_sequences s.next.entries) };
 }
 
 // A packet like another, with these data.
@@ -101,6 +103,19 @@ fn append_pieces(packets: &mut Vec<Packet>, message: &Packet, sequence: u8, coun
     }
 }
 
+// Appends a message of a single PGN, which is its own frame.
+fn append_single(packets: &mut Vec<Packet>, message: &Packet) -> Result<usize, SplitFault>
+    ensures sent { IfOk result (λ count. (count ≡ 1) × (packets.new.items ≡ packets.old.items ++ message.now ∷ [])) }
+    ensures refused { MatchOption (refusal (Some Single) message.now) (IsOkUnless result Memory) (λ fault. result ≡ Err fault) }
+    ensures unchanged { OnErr result (packets.new.items ≡ packets.old.items) }
+{
+    if message.data().len() > FRAME_PAYLOAD {
+        return Err(SplitFault::TooLong);
+    }
+    packets.push(with_data(message, message.data()))?;
+    Ok(1)
+}
+
 impl Splitter {
     /// A splitter before its first message: every stream begins with sequence 0. It takes no memory.
     pub fn new(alloc: Global) -> Splitter
@@ -108,6 +123,79 @@ impl Splitter {
     {
         Splitter {
             next: IndexMap::new(alloc),
+        }
+    }
+
+    // The sequence of a stream's next message.
+    #[tactic(auto, using(crate::proofs::Numbered::found_below))]
+    fn sequence(&self, stream: Stream) -> u8
+        ensures value { result ≡ sequences self.now stream }
+        ensures small { result < 8 }
+    {
+        match self.next.get(&stream) {
+            Some(sequence) => *sequence,
+            None => 0,
+        }
+    }
+
+    // The stream's next message gets the next sequence.
+    fn raise(&mut self, stream: Stream, sequence: u8) -> Result<(), SplitFault>
+        requires current { sequence ≡ sequences self.old stream }
+        requires small { sequence < 8 }
+        ensures raised { OnOk result ((s : Stream) → sequences self.new s ≡ (if same_stream stream s then (sequences self.old s + 1) % 8 else sequences self.old s)) }
+        ensures memory { IsOkUnless result Memory }
+        ensures unchanged { OnErr result (self.new ≡ self.old) }
+    {
+        self.next.insert(stream, (sequence + 1) % 8)?;
+        Ok(())
+    }
+
+    // Appends the frames of a message of a fast PGN. Room is taken for all of them before anything is changed.
+    fn append_fast(
+        &mut self,
+        packets: &mut Vec<Packet>,
+        message: &Packet,
+    ) -> Result<usize, SplitFault>
+        ensures sent { IfOk result (λ count. (count ≡ last_piece message.now + 1) × (packets.new.items ≡ packets.old.items ++ map (piece message.now (sequences self.old (stream_of message.now.id))) (range_with_len 0 count))) }
+        ensures raised { OnOk result ((s : Stream) → sequences self.new s ≡ (if same_stream (stream_of message.now.id) s then (sequences self.old s + 1) % 8 else sequences self.old s)) }
+        ensures memory { IsOkUnless result Memory }
+        ensures splitter_unchanged { OnErr result (self.new ≡ self.old) }
+        ensures packets_unchanged { OnErr result (packets.new.items ≡ packets.old.items) }
+    {
+        let stream = Stream::of(message.id());
+        let sequence = self.sequence(stream);
+        let count = message.data().len() / FRAME_BYTES + 1;
+        packets.reserve(count)?;
+        self.raise(stream, sequence)?;
+        append_pieces(packets, message, sequence, count as u8);
+        Ok(count)
+    }
+
+    /// Appends the frames of a message, and answers how many they are. A message of a single PGN is its own frame. One
+    /// of a fast PGN is cut into frames of seven bytes each, the length of the data first and FF behind the data,
+    /// under its stream's sequence, which this raises by one modulo 8.
+    ///
+    /// `Unknown`: the table doesn't have the PGN. `TooLong`: the PGN is single, and the data are over 8 bytes.
+    /// `Memory`: a growth was refused. After each of them the splitter and the vector are as they were.
+    pub fn message(
+        &mut self,
+        table: &Table,
+        message: &Packet,
+        packets: &mut Vec<Packet>,
+    ) -> Result<usize, SplitFault>
+        ensures sent { let frames = pieces_by (kind table.now) message.now (sequences self.old (stream_of message.now.id)) in
+            IfOk result (λ count. (count ≡ length frames) × (packets.new.items ≡ packets.old.items ++ frames)) }
+        ensures raised { OnOk result (sequences self.new ≡ raised (kind table.now) (sequences self.old) (stream_of message.now.id)) }
+
+        // A message is refused where its PGN or its length asks for it, else only for want of memory.
+        ensures refused { MatchOption (refusal (kind table.now message.now.id.pgn) message.now) (IsOkUnless result Memory) (λ fault. result ≡ Err fault) }
+        ensures unchanged { OnErr result (self.new ≡ self.old) }
+        ensures vector_unchanged { OnErr result (packets.new.items ≡ packets.old.items) }
+    {
+        match table.kind(message.id().pgn) {
+            None => Err(SplitFault::Unknown),
+            Some(Kind::Single) => append_single(packets, message),
+            Some(Kind::Fast) => self.append_fast(packets, message),
         }
     }
 }
