@@ -199,3 +199,6 @@ impl Splitter {
         }
     }
 }
+
+#[cfg(test)]
+mod tests;
