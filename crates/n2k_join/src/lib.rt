@@ -4,6 +4,8 @@
 //!   the message that the line is or completes, why it is bad, and the group that it breaks (`Step`, `Broken`).
 //!   A line that can't be taken (`JoinFault`) leaves the join as it was.
 //! - `Join::counts` are the lines, messages, bad lines, unknown PGNs, broken and open groups so far (`Counts`).
+//! - `Splitter::message` makes the frames of a message, under the sequence that its stream stands at, or refuses it
+//!   (`SplitFault`).
 //! - `laws` has what holds of the definitions.
 //!
 //! What the messages of a log are is said over the whole log (specs/Messages): the frames of each key are cut into
