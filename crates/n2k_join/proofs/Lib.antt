@@ -17,8 +17,10 @@ pub mod KeyCounts
 pub mod Keys
 pub mod LineLemmas
 pub mod Lines
+pub mod Numbered
 pub mod Logs
 pub mod Opened
+pub mod PieceBytes
 pub mod PieceFrames
 pub mod Replaying
 pub mod Resumed

@@ -7,6 +7,7 @@ use Rattle.n2k_wire.specs.declared.identifier.Id.{Id}
 use Rattle.n2k_wire.specs.Packet.{PacketParts}
 use Rattle.n2k_table.specs.declared.definition.Kind.{Kind}
 use Rattle.n2k_table.specs.declared.definition.Kind.TheVariants.{Single, Fast}
+pub use Rattle.n2k_join.specs.declared.stream.Stream.{Stream}
 
 -- What the frames of a fast packet carry, one behind the other: the length of the data, the data, and FF without end.
 -- This is the byte at a place of that.
@@ -35,12 +36,7 @@ pieces_as (Some Fast) m sequence = map (piece m sequence) (range_with_len 0 (las
 abbrev pub pieces_by : (ℕ → Option Kind) → PacketParts → ℕ → List PacketParts
 pieces_by kind m sequence = pieces_as (kind m.id.pgn) m sequence
 
--- A stream: who sends what to whom. Its messages are numbered in turn.
-pub record Stream : Type 0 where
-  pub src : ℕ
-  pub pgn : ℕ
-  pub dst : ℕ
-
+-- the stream of an identifier: who sends what to whom
 abbrev pub stream_of : Id → Stream
 stream_of id = record { src = id.src; pgn = id.pgn; dst = id.dst }
 
