@@ -15,6 +15,7 @@ pub mod JoinLemmas
 pub mod Keeping
 pub mod KeyCounts
 pub mod Keys
+pub mod LineLemmas
 pub mod Lines
 pub mod Logs
 pub mod Opened
@@ -27,6 +28,5 @@ pub mod Steps
 pub mod StoredLemmas
 pub mod Stretches
 pub mod WholePieces
-pub mod LineLemmas
 pub mod Worked
 pub mod Written
