@@ -99,7 +99,8 @@ impl Join {
     pub fn counts(&self) -> Counts
         ensures { result ≡ self.now.counts }
     {
-        self.counts
+        let Join { counts, .. } = self;
+        *counts
     }
 
     /// Takes the next line, as its entry, and answers what it gives: the message that it is or completes, why it is
