@@ -17,6 +17,7 @@ mod decimal;
 mod definition;
 mod fault;
 mod field;
+mod index;
 mod line;
 mod lookup;
 mod resolution;
