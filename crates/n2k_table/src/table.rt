@@ -173,8 +173,8 @@ impl Table {
         self.id
     }
 
-    // The places of the definitions of a PGN, in file order.
-    fn places(&self, pgn: u32) -> &[usize]
+    /// The places of the definitions of a PGN, in file order.
+    pub(crate) fn places(&self, pgn: u32) -> &[usize]
         ensures value { result.now ≡ places pgn (numbers self.now.definitions) }
         ensures within { EachIndex result.now (λ k. slice_index result.now k < length self.now.definitions) }
     {
