@@ -15,3 +15,4 @@ pub mod Names
 pub mod LookupFaults
 pub mod Trims
 pub mod Tops
+pub mod Places

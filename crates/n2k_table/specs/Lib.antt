@@ -10,6 +10,7 @@ pub mod Field
 pub mod Kept
 pub mod Definition
 pub mod Table
+pub mod Index
 pub mod Bits
 pub mod Shown
 pub mod Decimal
