@@ -82,7 +82,7 @@ slice_split-feed (byte ∷ front) rest =
     ap (λ ps. cond (is_line_feed byte) ([] ∷ ps) (onto_first byte ps)) (slice_split-feed front rest) ∙ split
 
 -- the lines of bytes are those up to a line feed and those after it
-lines_feed : (front rest : List ℕ) → lines (front ++ (10 ∷ rest)) ≡ map without_return (slice_split is_line_feed front) ++ lines rest
+pub lines_feed : (front rest : List ℕ) → lines (front ++ (10 ∷ rest)) ≡ map without_return (slice_split is_line_feed front) ++ lines rest
 lines_feed front rest =
     let first = first_piece rest in
     let pieces = slice_split is_line_feed front in

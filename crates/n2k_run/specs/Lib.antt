@@ -1,6 +1,8 @@
+pub mod Blocks
 pub mod Decoded
 pub mod Device
 pub mod Entries
+pub mod Inner
 pub mod Lines
 pub mod Made
 pub mod Memory

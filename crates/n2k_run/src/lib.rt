@@ -12,6 +12,7 @@
 //! whose call failed, of memory, of 10^12 reads without an end, or of too many lines.
 #![tactic(auto)]
 
+mod blocks;
 mod device;
 mod engine;
 mod fault;
@@ -27,6 +28,7 @@ mod texts;
 mod worth;
 mod writing;
 
+pub use blocks::{Blocks, Next};
 pub use device::{Failed, Sink, Source};
 pub use fault::{BytesFault, RunFault};
 pub use memory::{MemorySink, MemorySource};
