@@ -80,40 +80,40 @@ feed_or_none bytes feed none =
     cc
 
 -- the line that is answered is the first of all that is unanswered
-pub finds_line : (passing : Bool) (kept line rest : List ℕ) (size : ℕ) (found : Found) (left : Option (List ℕ)) → EndsAt kept size → Judges passing (without_return (take size kept)) line found → rest ≡ drop (size + 1) kept
-    → Finds ((if passing then passed else []) ++ kept) rest left line found
-finds_line false kept line rest size Line left at judged is = (
-  record { piece = take size kept; line_is = judged.1; no_feed = at.no_feed; ends = inl (at.split ∙ ap (λ r. take size kept ++ (10 ∷ r)) (sym is)) },
+pub finds_line : (passing : Bool) (kept : List ℕ) (new : Held) (size : ℕ) (found : Found) (left : Option (List ℕ)) → EndsAt kept size → Judges passing (without_return (take size kept)) new.line found → unanswered new ≡ drop (size + 1) kept → new.has_ended ≡ false
+    → Finds ((if passing then passed else []) ++ kept) new left found
+finds_line false kept new size Line left at judged is on = (
+  record { piece = take size kept; line_is = judged.1; no_feed = at.no_feed; ends = inl (on, at.split ∙ ap (λ r. take size kept ++ (10 ∷ r)) (sym is)) },
   rw judged.1 judged.2,
 )
-finds_line false kept line rest size Long left at judged is =
-    (without_return (take size kept), record { piece = take size kept; line_is = refl; no_feed = at.no_feed; ends = inl (at.split ∙ ap (λ r. take size kept ++ (10 ∷ r)) (sym is)) },
+finds_line false kept new size Long left at judged is on =
+    (without_return (take size kept), record { piece = take size kept; line_is = refl; no_feed = at.no_feed; ends = inl (on, at.split ∙ ap (λ r. take size kept ++ (10 ∷ r)) (sym is)) },
     elim judged [ inl p ↦ cc | inr p ↦ p ])
-finds_line false kept line rest size End left at judged is = absurd judged
-finds_line true kept line rest size Line left at judged is = cc
-finds_line true kept line rest size Long left at judged is =
+finds_line false kept new size End left at judged is on = absurd judged
+finds_line true kept new size Line left at judged is on = cc
+finds_line true kept new size Long left at judged is on =
     let piece : List ℕ = passed ++ take size kept in
-    (without_return piece, record { piece = piece; line_is = refl; no_feed = All-append is_plain passed (take size kept) passed-no_feed at.no_feed; ends = inl (ap (λ k. passed ++ k) (at.split ∙ ap (λ r. take size kept ++ (10 ∷ r)) (sym is)) ∙ sym (append_assoc passed (take size kept) (10 ∷ rest))) },
+    (without_return piece, record { piece = piece; line_is = refl; no_feed = All-append is_plain passed (take size kept) passed-no_feed at.no_feed; ends = inl (on, ap (λ k. passed ++ k) (at.split ∙ ap (λ r. take size kept ++ (10 ∷ r)) (sym is)) ∙ sym (append_assoc passed (take size kept) (10 ∷ unanswered new))) },
     long_after (take size kept))
-finds_line true kept line rest size End left at judged is = absurd judged
+finds_line true kept new size End left at judged is on = absurd judged
 
 -- the same at the end of the source
-pub finds_rest : (passing : Bool) (kept line rest text : List ℕ) (found : Found) (left : Option (List ℕ)) → HasNoFeed kept → (passing ≡ true) ⊎ (0 < length kept) → Judges passing (without_return text) line found → text ≡ kept → rest ≡ [] → IsAtEnd left
-    → Finds ((if passing then passed else []) ++ kept) rest left line found
-finds_rest false kept line rest text Line left none some judged is nothing end = (
-  record { piece = kept; line_is = judged.1 ∙ ap without_return is; no_feed = none; ends = inr (refl, elim some [ inl p ↦ cc | inr p ↦ p ], nothing, end) },
+pub finds_rest : (passing : Bool) (kept text : List ℕ) (new : Held) (found : Found) (left : Option (List ℕ)) → HasNoFeed kept → (passing ≡ true) ⊎ (0 < length kept) → Judges passing (without_return text) new.line found → text ≡ kept → unanswered new ≡ [] → new.has_ended ≡ true → IsAtEnd left
+    → Finds ((if passing then passed else []) ++ kept) new left found
+finds_rest false kept text new Line left none some judged is nothing ended end = (
+  record { piece = kept; line_is = judged.1 ∙ ap without_return is; no_feed = none; ends = inr (end, ended, refl, elim some [ inl p ↦ cc | inr p ↦ p ], nothing) },
   rw judged.1 judged.2,
 )
-finds_rest false kept line rest text Long left none some judged is nothing end =
-    (without_return kept, record { piece = kept; line_is = refl; no_feed = none; ends = inr (refl, elim some [ inl p ↦ cc | inr p ↦ p ], nothing, end) },
+finds_rest false kept text new Long left none some judged is nothing ended end =
+    (without_return kept, record { piece = kept; line_is = refl; no_feed = none; ends = inr (end, ended, refl, elim some [ inl p ↦ cc | inr p ↦ p ], nothing) },
     elim judged [ inl p ↦ cc | inr p ↦ subst (λ t. longest_line < length (without_return t)) is p ])
-finds_rest false kept line rest text End left none some judged is nothing end = absurd judged
-finds_rest true kept line rest text Line left none some judged is nothing end = cc
-finds_rest true kept line rest text Long left none some judged is nothing end =
+finds_rest false kept text new End left none some judged is nothing ended end = absurd judged
+finds_rest true kept text new Line left none some judged is nothing ended end = cc
+finds_rest true kept text new Long left none some judged is nothing ended end =
     let piece : List ℕ = passed ++ kept in
-    (without_return piece, record { piece = piece; line_is = refl; no_feed = All-append is_plain passed kept passed-no_feed none; ends = inr (refl, omega (arith, length-append passed kept, length-passed), nothing, end) },
+    (without_return piece, record { piece = piece; line_is = refl; no_feed = All-append is_plain passed kept passed-no_feed none; ends = inr (end, ended, refl, omega (arith, length-append passed kept, length-passed), nothing) },
     long_after kept)
-finds_rest true kept line rest text End left none some judged is nothing end = absurd judged
+finds_rest true kept text new End left none some judged is nothing ended end = absurd judged
 
 -- no line ends in what is unanswered where none ends in what is kept
 pub unanswered-no_feed : (held : Held) → HasNoFeed held.kept → HasNoFeed (unanswered held)

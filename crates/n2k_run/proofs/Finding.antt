@@ -109,42 +109,41 @@ reads_round old loop taken made new left₀ left left' calls₀ calls calls' so_
     reads_more old made new left₀ left left' calls₀ calls calls' (reads_room old taken made left₀ left calls₀ calls here no_feed room room_reads) gains passing reads called
 
 -- a first line of what stands for the bytes is one of the bytes
-long_first : (whole bytes line rest : List ℕ) (left : Option (List ℕ)) (r : Replaces whole bytes) → FirstLine bytes line rest left → FirstLong whole rest left × (longest_line < length line)
-long_first whole bytes line rest left r f =
-    let feed : bytes ≡ f.piece ++ (10 ∷ rest) → FirstLong whole rest left × (longest_line < length line) = λ e.
-      let parts = split_past passed r.rest f.piece rest passed-no_feed (sym r.bytes_are ∙ e) in
+long_first : (whole bytes line rest : List ℕ) (ended : Bool) (left : Option (List ℕ)) (r : Replaces whole bytes) → FirstLine bytes line rest ended left → FirstLong whole rest ended left × (longest_line < length line)
+long_first whole bytes line rest ended left r f =
+    let feed : (ended ≡ false) × (bytes ≡ f.piece ++ (10 ∷ rest)) → FirstLong whole rest ended left × (longest_line < length line) = λ e.
+      let parts = split_past passed r.rest f.piece rest passed-no_feed (sym r.bytes_are ∙ e.1) in
       let none : HasNoFeed (passed ++ parts.0) = subst HasNoFeed parts.1 f.no_feed in
       let more : HasNoFeed parts.0 = subst HasNoFeed (drop_at passed parts.0 (longest_line + 1) length-passed) (All-drop is_plain (longest_line + 1) (passed ++ parts.0) none) in
       let piece : List ℕ = r.front ++ parts.0 in
       let whole_is : whole ≡ piece ++ (10 ∷ rest) = r.whole_is ∙ ap (λ x. r.front ++ x) parts.2 ∙ sym (append_assoc r.front parts.0 (10 ∷ rest)) in
       let long : longest_line < length (without_return piece) = long_piece piece (omega (arith, length-append r.front parts.0, r.long)) in
       let over : longest_line < length line = subst (λ p. longest_line < length p) (sym (f.line_is ∙ ap without_return parts.1)) (long_after parts.0) in
-      ((without_return piece, record { piece = piece; line_is = refl; no_feed = All-append is_plain r.front parts.0 r.no_feed more; ends = inl whole_is }, long), over) in
-    let end : (bytes ≡ f.piece) × (0 < length f.piece) × (rest ≡ []) × IsAtEnd left → FirstLong whole rest left × (longest_line < length line) = λ e.
-      let parts : f.piece ≡ passed ++ r.rest = sym e.0 ∙ r.bytes_are in
-      let none : HasNoFeed whole = no_feed_whole whole bytes (inr r) (subst HasNoFeed (sym e.0) f.no_feed) in
+      ((without_return piece, record { piece = piece; line_is = refl; no_feed = All-append is_plain r.front parts.0 r.no_feed more; ends = inl (e.0, whole_is) }, long), over) in
+    let end : IsAtEnd left × (ended ≡ true) × (bytes ≡ f.piece) × (0 < length f.piece) × (rest ≡ []) → FirstLong whole rest ended left × (longest_line < length line) = λ e.
+      let parts : f.piece ≡ passed ++ r.rest = sym e.2 ∙ r.bytes_are in
+      let none : HasNoFeed whole = no_feed_whole whole bytes (inr r) (subst HasNoFeed (sym e.2) f.no_feed) in
       let size : longest_line + 1 < length whole = omega (arith, ap length r.whole_is, length-append r.front r.rest, r.long) in
       let over : longest_line < length line = subst (λ p. longest_line < length p) (sym (f.line_is ∙ ap without_return parts)) (long_after r.rest) in
-      ((without_return whole, record { piece = whole; line_is = refl; no_feed = none; ends = inr (refl, omega (arith, size), e.2, e.3) }, long_piece whole size), over) in
+      ((without_return whole, record { piece = whole; line_is = refl; no_feed = none; ends = inr (e.0, e.1, refl, omega (arith, size), e.4) }, long_piece whole size), over) in
     elim f.ends [ inl e ↦ feed e | inr e ↦ end e ]
 
-finds_replaced : (whole bytes rest line : List ℕ) (left : Option (List ℕ)) (found : Found) → Replaces whole bytes → Finds bytes rest left line found → Finds whole rest left line found
-finds_replaced whole bytes rest line left Line r f = absurd (omega (arith, f.1, (long_first whole bytes line rest left r f.0).1))
-finds_replaced whole bytes rest line left Long r f = (long_first whole bytes f.0 rest left r f.1).0
-finds_replaced whole bytes rest line left End r f = absurd (omega (arith, ap length f.0, ap length r.bytes_are, length-append passed r.rest, length-passed))
+finds_replaced : (whole bytes : List ℕ) (new : Held) (left : Option (List ℕ)) (found : Found) → Replaces whole bytes → Finds bytes new left found → Finds whole new left found
+finds_replaced whole bytes new left Line r f = absurd (omega (arith, f.1, (long_first whole bytes new.line (unanswered new) new.has_ended left r f.0).1))
+finds_replaced whole bytes new left Long r f = (long_first whole bytes f.0 (unanswered new) new.has_ended left r f.1).0
+finds_replaced whole bytes new left End r f = absurd (omega (arith, ap length f.2, ap length r.bytes_are, length-append passed r.rest, length-passed))
 
-finds_whole : (whole bytes rest line : List ℕ) (left : Option (List ℕ)) (found : Found) → Stays whole bytes → Finds bytes rest left line found → Finds whole rest left line found
-finds_whole whole bytes rest line left found (inl same) f = subst (λ b. Finds b rest left line found) same f
-finds_whole whole bytes rest line left found (inr r) f = finds_replaced whole bytes rest line left found r f
+finds_whole : (whole bytes : List ℕ) (new : Held) (left : Option (List ℕ)) (found : Found) → Stays whole bytes → Finds bytes new left found → Finds whole new left found
+finds_whole whole bytes new left found (inl same) f = subst (λ b. Finds b new left found) same f
+finds_whole whole bytes new left found (inr r) f = finds_replaced whole bytes new left found r f
 
 -- the line is there
-pub found_line : (old mid new : Held) (left₀ left : Option (List ℕ)) (calls₀ calls : ℕ) (found : Found) → Reads old mid left₀ left calls₀ calls → Finds (unanswered mid) (unanswered new) left new.line found → (new.has_ended ≡ true → (unanswered new ≡ []) × IsAtEnd left) → new.reads ≡ mid.reads
+pub found_line : (old mid new : Held) (left₀ left : Option (List ℕ)) (calls₀ calls : ℕ) (found : Found) → Reads old mid left₀ left calls₀ calls → Finds (unanswered mid) new left found → new.reads ≡ mid.reads
     → AnswersFound old new left₀ left calls₀ calls (Ok found)
-found_line old mid new left₀ left calls₀ calls found so_far finds ended reads = record {
+found_line old mid new left₀ left calls₀ calls found so_far finds reads = record {
   came = so_far.came;
   given = so_far.given;
-  answer = finds_whole _ _ _ _ left found so_far.stays finds;
-  ended = ended;
+  answer = finds_whole _ _ new left found so_far.stays finds;
   called = subst (λ r. CallsAre calls₀ calls old.reads r) (sym reads) so_far.called;
 }
 
@@ -154,6 +153,5 @@ found_none old new left₀ left calls₀ calls failed so_far none = record {
   came = so_far.came;
   given = so_far.given;
   answer = (no_feed_whole _ _ so_far.stays (unanswered-no_feed new none), so_far.stays);
-  ended = tt;
   called = so_far.called;
 }

@@ -1,5 +1,5 @@
 -- What a run reads its log through: what a block holds of the log, and what its next line is.
-use Rattle.std.specs.Prelude.{◌≡◌, ◌⊎◌, ◌<◌, ◌≤◌, ◌+◌, ◌-◌, ◌^◌, ℕ, Bool, true, false, if◌then◌else◌, List, [], ◌∷◌, ◌++◌, length, Option, Some, replicate, Result, Ok, Err, IfSome, OnOk}
+use Rattle.std.specs.Prelude.{◌≡◌, ◌⊎◌, ◌<◌, ◌≤◌, ◌+◌, ◌-◌, ◌^◌, ℕ, Bool, true, false, if◌then◌else◌, List, [], ◌∷◌, ◌++◌, length, Option, Some, replicate, Result, Ok, Err, IfSome}
 use Rattle.std.specs.List.{All}
 use Rattle.std.specs.Io.KnownBytes.{Consumes, IsAtEnd}
 use Rattle.n2k_wire.specs.Entry.{longest_line}
@@ -39,16 +39,17 @@ HasFeed bytes = (piece : List ℕ) × (rest : List ℕ) × (bytes ≡ piece ++ l
 abbrev pub HasNoFeed : List ℕ → Type 0
 HasNoFeed bytes = All (λ byte. is_line_feed byte ≡ false) bytes
 
--- The bytes begin with this line, and the rest stands after it: it ends at a line feed, or at the end of the source.
-pub record FirstLine (bytes line rest : List ℕ) (left : Option (List ℕ)) : Type 0 where
+-- The bytes begin with this line, and the rest stands after it: it ends at a line feed, or at the end of the source,
+-- where nothing is left.
+pub record FirstLine (bytes line rest : List ℕ) (has_ended : Bool) (left : Option (List ℕ)) : Type 0 where
   pub piece : List ℕ
   pub line_is : line ≡ without_return piece
   pub no_feed : HasNoFeed piece
-  pub ends : (bytes ≡ piece ++ line_feed ∷ rest) ⊎ ((bytes ≡ piece) × (0 < length piece) × (rest ≡ []) × IsAtEnd left)
+  pub ends : ((has_ended ≡ false) × (bytes ≡ piece ++ line_feed ∷ rest)) ⊎ (IsAtEnd left × (has_ended ≡ true) × (bytes ≡ piece) × (0 < length piece) × (rest ≡ []))
 
 -- the same, for a line over the limit
-abbrev pub FirstLong : List ℕ → List ℕ → Option (List ℕ) → Type 0
-FirstLong bytes rest left = (line : List ℕ) × FirstLine bytes line rest left × (longest_line < length line)
+abbrev pub FirstLong : List ℕ → List ℕ → Bool → Option (List ℕ) → Type 0
+FirstLong bytes rest has_ended left = (line : List ℕ) × FirstLine bytes line rest has_ended left × (longest_line < length line)
 
 -- Nothing was answered: the bytes are what they were, or a front of them that no line of the limit can have was
 -- replaced by what stands for it.
@@ -64,11 +65,11 @@ abbrev pub Stays : List ℕ → List ℕ → Type 0
 Stays whole bytes = (bytes ≡ whole) ⊎ Replaces whole bytes
 
 -- What an answer says of all the bytes that it was given of: those unanswered before, and those that came.
-abbrev pub Gives : List ℕ → List ℕ → Option (List ℕ) → Result Next Failed → Type 0
-Gives whole rest left (Ok (Line line)) = FirstLine whole line.now rest left × (length line.now ≤ longest_line)
-Gives whole rest left (Ok Long) = FirstLong whole rest left
-Gives whole rest left (Ok End) = (whole ≡ []) × (rest ≡ []) × IsAtEnd left
-Gives whole rest left (Err failed) = HasNoFeed whole × Stays whole rest
+abbrev pub Gives : List ℕ → List ℕ → Bool → Option (List ℕ) → Result Next Failed → Type 0
+Gives whole rest has_ended left (Ok (Line line)) = FirstLine whole line.now rest has_ended left × (length line.now ≤ longest_line)
+Gives whole rest has_ended left (Ok Long) = FirstLong whole rest has_ended left
+Gives whole rest has_ended left (Ok End) = IsAtEnd left × (has_ended ≡ true) × (whole ≡ []) × (rest ≡ [])
+Gives whole rest has_ended left (Err failed) = HasNoFeed whole × Stays whole rest
 
 -- the calls of a source are those that were counted, unless their number stands at its greatest
 abbrev pub CallsAre : ℕ → ℕ → ℕ → ℕ → Type 0
@@ -79,9 +80,7 @@ pub record Answers (old new : Held) (left₀ left : Option (List ℕ)) (calls₀
   -- the bytes that came of the source
   pub came : List ℕ
   pub given : Consumes left₀ left came
-  pub answer : Gives (unanswered old ++ came) (unanswered new) left result
-  -- no byte is held after an answer at the end of the source
-  pub ended : OnOk result (new.has_ended ≡ true → (unanswered new ≡ []) × IsAtEnd left)
+  pub answer : Gives (unanswered old ++ came) (unanswered new) new.has_ended left result
   pub called : CallsAre calls₀ calls old.reads new.reads
 
 -- an answer, by the lines of the bytes that are unanswered and those that the source has left

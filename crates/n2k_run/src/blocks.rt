@@ -1,5 +1,5 @@
 //! A log's bytes in blocks of a fixed size, and its lines, which are lent from them.
-ghost use Rattle.std.specs.Prelude.{◌≡◌, ◌⊎◌, ◌<◌, ◌≤◌, ◌+◌, ℕ, List, Option, [], true, false, length, take, drop, IfOk, IfSome, IfNone, IsSome, OnOk, OnErr};
+ghost use Rattle.std.specs.Prelude.{◌≡◌, ◌⊎◌, ◌<◌, ◌≤◌, ◌+◌, ℕ, List, Option, [], true, false, length, take, drop, IfOk, IfSome, IfNone, OnOk, OnErr};
 ghost use Rattle.n2k_run.specs.Inner.Block.{FindsEnd};
 ghost use Rattle.n2k_run.specs.Lines.{without_return};
 
@@ -166,8 +166,7 @@ impl Blocks {
     // Takes the first line, where its end is held.
     fn take_line(&mut self) -> Option<Found>
         ensures none { IfNone result ((self.new ≡ self.old) × HasNoFeed self.old.kept) }
-        ensures found { IfSome result (λ found. (left : Option (List ℕ)) → Finds (unanswered self.old) (unanswered self.new) left self.new.line found) }
-        ensures ended { IsSome result → self.new.has_ended ≡ false }
+        ensures found { IfSome result (λ found. (left : Option (List ℕ)) → Finds (unanswered self.old) self.new left found) }
         ensures reads { self.new.reads ≡ self.old.reads }
     {
         let size = line_end(&self.block[self.start..self.end])?;
@@ -178,8 +177,7 @@ impl Blocks {
     // Takes all that is left at the end of the source, where no line ends in it.
     fn take_rest(&mut self) -> Found
         requires { HasNoFeed self.old.kept }
-        ensures found { (left : Option (List ℕ)) → IsAtEnd left → Finds (unanswered self.old) (unanswered self.new) left self.new.line result }
-        ensures none { unanswered self.new ≡ [] }
+        ensures found { (left : Option (List ℕ)) → IsAtEnd left → Finds (unanswered self.old) self.new left result }
         ensures reads { self.new.reads ≡ self.old.reads }
     {
         self.has_ended = true;

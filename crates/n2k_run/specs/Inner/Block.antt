@@ -1,5 +1,5 @@
 -- How a block stands: its places in order, and what each private step of it does.
-use Rattle.std.specs.Prelude.{◌≡◌, ◌⊎◌, ◌<◌, ◌≤◌, ◌+◌, ◌-◌, ℕ, Bool, true, false, List, [], ◌∷◌, ◌++◌, length, take, drop, slice_range, Option, Some, None, MatchOption, Result, Ok, Err, OnOk}
+use Rattle.std.specs.Prelude.{◌≡◌, ◌⊎◌, ◌<◌, ◌≤◌, ◌+◌, ◌-◌, ℕ, Bool, true, false, List, [], ◌∷◌, ◌++◌, length, take, drop, slice_range, Option, Some, None, MatchOption, Result, Ok, Err}
 use Rattle.std.specs.Io.KnownBytes.{Consumes, IsAtEnd}
 use Rattle.n2k_wire.specs.Entry.{longest_line}
 use Rattle.n2k_run.specs.declared.blocks.Blocks.TheInside.{Inside}
@@ -52,21 +52,20 @@ abbrev pub MakesRoom : List ℕ → List ℕ → Type 0
 MakesRoom old new = (new ≡ old) ⊎ ((longest_line + 1 < length old) × (new ≡ passed))
 
 -- what an answer is, where the line that it lends stands beside it
-abbrev pub Finds : List ℕ → List ℕ → Option (List ℕ) → List ℕ → Found → Type 0
-Finds whole rest left line Line = FirstLine whole line rest left × (length line ≤ longest_line)
-Finds whole rest left line Long = FirstLong whole rest left
-Finds whole rest left line End = (whole ≡ []) × (rest ≡ []) × IsAtEnd left
+abbrev pub Finds : List ℕ → Held → Option (List ℕ) → Found → Type 0
+Finds whole new left Line = FirstLine whole new.line (unanswered new) new.has_ended left × (length new.line ≤ longest_line)
+Finds whole new left Long = FirstLong whole (unanswered new) new.has_ended left
+Finds whole new left End = IsAtEnd left × (new.has_ended ≡ true) × (whole ≡ []) × (unanswered new ≡ [])
 
 -- an answer whose line is lent later
-abbrev pub GivesFound : List ℕ → List ℕ → Option (List ℕ) → List ℕ → Result Found Failed → Type 0
-GivesFound whole rest left line (Ok found) = Finds whole rest left line found
-GivesFound whole rest left line (Err failed) = HasNoFeed whole × Stays whole rest
+abbrev pub GivesFound : List ℕ → Held → Option (List ℕ) → Result Found Failed → Type 0
+GivesFound whole new left (Ok found) = Finds whole new left found
+GivesFound whole new left (Err failed) = HasNoFeed whole × Stays whole (unanswered new)
 
 pub record AnswersFound (old new : Held) (left₀ left : Option (List ℕ)) (calls₀ calls : ℕ) (result : Result Found Failed) : Type 0 where
   pub came : List ℕ
   pub given : Consumes left₀ left came
-  pub answer : GivesFound (unanswered old ++ came) (unanswered new) left new.line result
-  pub ended : OnOk result (new.has_ended ≡ true → (unanswered new ≡ []) × IsAtEnd left)
+  pub answer : GivesFound (unanswered old ++ came) new left result
   pub called : CallsAre calls₀ calls old.reads new.reads
 
 -- what came while no answer was found

@@ -10,7 +10,7 @@ pub loop-found-init : goal.loop-found-init
 loop-found-init g c = record { reads = reads_none _ _ _; quiet = λ _. (refl, refl); none_failed = refl }
 
 pub returns-in-Some-clause-found : goal.returns-in-Some-clause-found
-returns-in-Some-clause-found g c = found_line _ _ _ _ _ _ _ _ c.loop-found.invariant.reads (c.in-Some.ensures.found _) (λ ended. let open_yet = c.in-Some.ensures.ended refl in cc) c.take_line.ensures.reads
+returns-in-Some-clause-found g c = found_line _ _ _ _ _ _ _ _ c.loop-found.invariant.reads (c.in-Some.ensures.found _) c.take_line.ensures.reads
 
 pub returns-then-self-eq-MOST_READS-clause-found : goal.returns-then-self-eq-MOST_READS-clause-found
 returns-then-self-eq-MOST_READS-clause-found g c =
@@ -35,7 +35,7 @@ returns-then-branch-eq0-clause-found g c =
     let e = c.read_some.ensures in
     let end = c.in_ok-read_some.ensures.end c.if-branch-eq0.true in
     let reads = reads_round c.args.self.now c.loop-found.self c.take_line.new.self c.make_room.new.self c.read_some.new.self _ _ _ _ _ _ c.loop-found.invariant.reads none.0 none.1 c.make_room.ensures.stays c.make_room.ensures.reads e.gains e.passing e.reads e.called in
-    found_line c.args.self.now c.read_some.new.self c.take_rest.new.self _ _ _ _ _ reads (c.take_rest.ensures.found _ end.1) (λ _. (c.take_rest.ensures.none, end.1)) c.take_rest.ensures.reads
+    found_line c.args.self.now c.read_some.new.self c.take_rest.new.self _ _ _ _ _ reads (c.take_rest.ensures.found _ end.1) c.take_rest.ensures.reads
 
 pub returns-then-branch-eq0-clause-quiet : goal.returns-then-branch-eq0-clause-quiet
 returns-then-branch-eq0-clause-quiet g c = λ feed.

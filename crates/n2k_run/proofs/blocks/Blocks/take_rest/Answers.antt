@@ -19,4 +19,4 @@ returns-clause-found c = λ left end.
     ] in
     let all = take_all (c.self.inside.end - c.self.inside.start) kept (omega (arith, size)) in
     let nothing = e.kept ∙ drop_all (c.self.inside.end - c.self.inside.start + 0) kept (omega (arith, size)) in
-    rw (← c.self.view_is, unanswered_plain c.answer.new.self e.passing) (finds_rest c.self.inside.is_passing kept _ _ _ c.answer.result left none some e.found all nothing end)
+    rw (← c.self.view_is) (finds_rest c.self.inside.is_passing kept _ c.answer.new.self c.answer.result left none some e.found all (unanswered_plain c.answer.new.self e.passing ∙ nothing) e.ended end)
