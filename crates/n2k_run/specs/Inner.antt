@@ -1,2 +1,4 @@
 -- Words that only private clauses, invariants and proofs of this crate use.
 pub mod Block
+pub mod Counting
+pub mod Engine

@@ -33,16 +33,12 @@ unfoldable pub summary_text : Counts → List ℕ
 summary_text counts =
     codes "lines " ++ decimal counts.lines ++ codes " messages " ++ decimal counts.messages ++ codes " bad " ++ decimal counts.bad ++ codes " unknown " ++ decimal counts.unknown ++ codes " broken " ++ decimal counts.broken ++ codes " open " ++ decimal counts.held ++ codes "\n"
 
--- what is reported of the entry of that line
-abbrev pub report_of : ℕ → Entry → List ℕ
-report_of number Skip = []
-report_of number (Bad cause) = bad_text number cause
-report_of number (Frame packet) = []
+-- what is reported of the entry of that line by itself
+abbrev pub bad_report : ℕ → Entry → List ℕ
+bad_report number Skip = []
+bad_report number (Bad cause) = bad_text number cause
+bad_report number (Frame packet) = []
 
--- the reports of entries, whose first is that of line `first`
-abbrev pub reports_from : ℕ → List Entry → List ℕ
-reports_from first entries = flat_map (λ numbered. report_of numbered.0 numbered.1) (enumerate_from first entries)
-
--- a report for each bad line of a log, in the order of its lines
-unfoldable pub reports : List ℕ → List ℕ
-reports log = reports_from 1 (entries Frames log)
+-- the reports of bad lines among these entries, whose first is that of line `first`
+abbrev pub bad_reports_from : ℕ → List Entry → List ℕ
+bad_reports_from first entries = flat_map (λ numbered. bad_report numbered.0 numbered.1) (enumerate_from first entries)

@@ -16,16 +16,14 @@ mod blocks;
 mod device;
 mod engine;
 mod fault;
-mod lines;
+mod kept;
 mod maker;
 mod memory;
 mod plain;
-mod progress;
 mod reading;
 mod single;
 mod standard;
 mod texts;
-mod worth;
 mod writing;
 
 pub use blocks::{Blocks, Next};
