@@ -3,6 +3,7 @@
 
 mod broken;
 mod counts;
+pub mod laws;
 
 pub use broken::Broken;
 pub use counts::{Counts, MOST_LINES};

@@ -1,11 +1,8 @@
 pub mod Answering
-pub mod Decoding
 pub mod Feeds
 pub mod Finding
 pub mod FirstByte
 pub mod Gained
 pub mod Owed
 pub mod Ranges
-pub mod RunFront
-pub mod RunSteps
 pub mod Splits

@@ -1,14 +1,13 @@
 -- What `plain` writes, reports and counts of a log.
-use Rattle.std.specs.Prelude.{ℕ, ◌+◌, List, [], ◌++◌, length, count_by}
+use Rattle.std.specs.Prelude.{ℕ, List, [], length, count_by}
 use Rattle.std.specs.List.{flat_map}
 use Rattle.n2k_wire.specs.declared.entry.Entry.{Entry}
-use Rattle.n2k_wire.specs.declared.entry.Entry.TheVariants.{Skip, Bad, Frame}
+use Rattle.n2k_wire.specs.declared.entry.Entry.TheVariants.{Skip, Bad, Frame, Whole}
 use Rattle.n2k_wire.specs.declared.entry.Packing.TheVariants.{Frames}
 use Rattle.n2k_wire.specs.Texts.{plain_text}
 use Rattle.n2k_join.specs.declared.counts.Counts.{Counts}
 use Rattle.n2k_run.specs.Entries.{entries, is_bad, is_packet}
-use Rattle.n2k_run.specs.Making.{Making}
-use Rattle.n2k_run.specs.Reports.{bad_report, bad_reports_from}
+use Rattle.n2k_run.specs.Reports.{bad_reports_from}
 use Rattle.n2k_run.specs.Runs.{Output}
 
 -- the plain line of a frame or of a whole message
@@ -16,6 +15,7 @@ abbrev pub plain_line : Entry → List ℕ
 plain_line Skip = []
 plain_line (Bad cause) = []
 plain_line (Frame packet) = plain_text packet
+plain_line (Whole packet) = plain_text packet
 
 -- the plain lines of these entries, in their order
 abbrev pub plain_lines : List Entry → List ℕ
@@ -48,18 +48,3 @@ plain_reports log = plain_reports_of (entries Frames log)
 
 abbrev pub plain_counts : List ℕ → Counts
 plain_counts log = plain_counts_of (entries Frames log)
-
--- the counts with one more entry
-abbrev pub plain_counted : Counts → Entry → Counts
-plain_counted c Skip = record c { lines = c.lines + 1 }
-plain_counted c (Bad cause) = record c { lines = c.lines + 1; bad = c.bad + 1 }
-plain_counted c (Frame packet) = record c { lines = c.lines + 1; messages = c.messages + 1 }
-
--- an entry at a time
-abbrev pub plain_making : Making Counts
-plain_making = record {
-  text = λ c e. plain_line e;
-  report = λ c e. bad_report (c.lines + 1) e;
-  after = plain_counted;
-  lines = λ c. c.lines;
-}

@@ -16,12 +16,14 @@ use std::alloc::Global;
 struct PlainLines;
 
 impl Maker for PlainLines {
-    ghost use Rattle.n2k_run.specs.Plain.{plain_making};
-    ghost use Rattle.n2k_run.specs.Inner.Counting.{AreCounts};
+    ghost use Rattle.std.specs.Prelude.{false};
+    ghost use Rattle.n2k_run.specs.Entries.{is_packet};
+    ghost use Rattle.n2k_run.specs.Inner.Counting.{AreCounts, counting};
+    ghost use Rattle.n2k_run.specs.Plain.{plain_line};
 
     type State = Counts;
 
-    ghost making = { λ _. plain_making };
+    ghost making = { λ _. counting plain_line is_packet (λ _. false) };
 
     ghost is_ready = { λ _ counts. AreCounts counts };
 
@@ -43,7 +45,7 @@ impl Maker for PlainLines {
                 bad_text(alloc, counts.lines, cause, report)?;
                 counts.bad += 1;
             }
-            Entry::Frame(packet) => {
+            Entry::Frame(packet) | Entry::Whole(packet) => {
                 plain_text(alloc, &packet, text)?;
                 counts.messages += 1;
             }
