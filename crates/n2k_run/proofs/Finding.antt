@@ -14,7 +14,7 @@ use Rattle.n2k_run.specs.Blocks.{Held, FirstLine, FirstLong, HasNoFeed, Replaces
 use Rattle.n2k_run.specs.Device.{one_more}
 use Rattle.n2k_run.specs.Inner.Block.{Finds, MakesRoom, Reads, AnswersFound}
 use Rattle.n2k_run.specs.Lines.{line_feed, is_line_feed, without_return}
-use Rattle.n2k_run.specs.Reading.{Gains}
+use Rattle.n2k_run.specs.Reading.{Gains, OutlastsReads, most_reads}
 use Rattle.n2k_run.proofs.Feeds.{is_plain, long_piece, long_after, length-passed, passed-no_feed, split_past, unanswered-no_feed}
 
 -- no line ends in all of it where none ends in what stands for it
@@ -52,7 +52,7 @@ stays_room whole bytes after none stays (inr (long, is)) = inr (record {
   long = whole-long whole bytes stays long;
 })
 
-calls_more : (c₀ c c' r₀ r r' : ℕ) → CallsAre c₀ c r₀ r → c' ≡ one_more c → r' ≡ r + 1 → CallsAre c₀ c' r₀ r'
+pub calls_more : (c₀ c c' r₀ r r' : ℕ) → CallsAre c₀ c r₀ r → c' ≡ one_more c → r' ≡ r + 1 → CallsAre c₀ c' r₀ r'
 calls_more c₀ c c' r₀ r r' (inl same) is more =
     let P : Bool → Type 0 = λ b. c' ≡ cond b c (c + 1) → (c == (2 ^ 64 - 1)) ≡ b → CallsAre c₀ c' r₀ r' in
     let split : (b : Bool) → P b = λ b. elim b as P [
@@ -67,6 +67,11 @@ calls_more c₀ c c' r₀ r r' (inr full) is more =
       | false ↦ λ e. inr (omega (arith, e, full))
     ] in
     split (c == (2 ^ 64 - 1)) is
+
+-- so many calls were made as are made at most
+pub calls_end : (calls₀ calls reads : ℕ) → CallsAre calls₀ calls 0 reads → reads ≡ most_reads → OutlastsReads calls₀ calls
+calls_end calls₀ calls reads (inl same) all = inl (omega (arith, same, all))
+calls_end calls₀ calls reads (inr full) all = inr full
 
 -- nothing came yet
 pub reads_none : (held : Held) (left : Option (List ℕ)) (calls : ℕ) → Reads held held left left calls calls

@@ -2,7 +2,7 @@
 use Rattle.std.proofs.Common.{ℕ, List, [], ◌++◌, length, sym, ap, ◌∙◌, append_assoc, Option, None, Some, length-append, arith}
 use Rattle.std.proofs.lemmas.List.{append-nil}
 use Rattle.std.proofs.KnownBytes.{Consumes-nil, Consumes-trans}
-use Rattle.n2k_run.specs.Reading.{Gains, RunsOut, OutlastsReads}
+use Rattle.n2k_run.specs.Reading.{Gains}
 
 pub Gains-none : (before : List ℕ) (old : Option (List ℕ)) → Gains before before old old
 Gains-none before old = record { gained = []; appended = sym (append-nil before); given = Consumes-nil old }
@@ -16,8 +16,3 @@ Gains-more before mid after old between new first second = record {
 
 -- no read, and one more
 pub ruleset gain_steps = (Gains-none, Gains-more)
-
--- a source that gave so many bytes has at least as many
-pub RunsOut-outlasts : (before after : List ℕ) (old new : Option (List ℕ)) → Gains before after old new → RunsOut before after → OutlastsReads old new
-RunsOut-outlasts before after old new gains out =
-    (gains.gained, gains.given, omega (arith, out, ap length gains.appended, length-append before gains.gained))

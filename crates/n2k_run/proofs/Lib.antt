@@ -1,4 +1,5 @@
 pub mod Answering
+pub mod Counting
 pub mod Feeds
 pub mod Finding
 pub mod FirstByte
@@ -6,3 +7,4 @@ pub mod Gained
 pub mod Owed
 pub mod Ranges
 pub mod Splits
+pub mod Taking

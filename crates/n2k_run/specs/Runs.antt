@@ -55,14 +55,14 @@ pub record Gained (o : Output) (before after : Devices) (es : List Entry) : Type
 pub record IsWhole (o : Output) (stands : List Entry → Type 0) (before after : Devices) : Type 0 where
   pub at_end : IsAtEnd after.left
   pub gained : IfSome before.left (λ log. Gained o before after (entries o.packing log))
-  pub stands : IfSome before.left (λ log. stands (entries o.packing log))
+  pub holds : IfSome before.left (λ log. stands (entries o.packing log))
 
 -- After Read the run stands after the last line whose LF came: it has taken the lines up to there, and no more.
 pub record IsCut (o : Output) (stands : List Entry → Type 0) (before after : Devices) : Type 0 where
   pub came : List ℕ
   pub given : Consumes before.left after.left came
   pub gained : Gained o before after (entries o.packing (whole_lines came))
-  pub stands : stands (entries o.packing (whole_lines came))
+  pub holds : stands (entries o.packing (whole_lines came))
 
 -- After TooManyLines the run stands at the last number: it has taken as many lines as are counted, and one more came.
 pub record IsFull (o : Output) (stands : List Entry → Type 0) (before after : Devices) : Type 0 where
@@ -70,7 +70,7 @@ pub record IsFull (o : Output) (stands : List Entry → Type 0) (before after : 
   pub full : o.counted + length taken ≡ most_lines
   pub left : IfSome before.left (λ log. (next : Entry) × (more : List Entry) × (entries o.packing log ≡ taken ++ next ∷ more))
   pub gained : Gained o before after taken
-  pub stands : stands taken
+  pub holds : stands taken
 
 -- how a run ends
 abbrev pub Ends : {T : Type 0} → Output → (List Entry → Type 0) → Devices → Devices → Result T RunFault → Type 0

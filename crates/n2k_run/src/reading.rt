@@ -40,6 +40,7 @@ fn read_more<R: Source>(
 /// All bytes of a source that has at most `limit` of them. `TooLong` where it has more; `Read` where the
 /// device failed or 10^12 reads found no end; `Memory` where an allocation was refused. No more is asked of
 /// the source than tells whether the limit is passed: one byte more than the limit.
+#[tactic(auto, using(crate::proofs::Finding::calls_more, crate::proofs::Finding::calls_end))]
 pub fn read_bytes<R: Source>(
     alloc: Global,
     reader: &mut R,

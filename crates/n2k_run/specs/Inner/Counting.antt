@@ -2,12 +2,14 @@
 use Rattle.std.specs.Prelude.{◌≤◌, ◌+◌, ℕ, Bool, if◌then◌else◌, List, length, count_by}
 use Rattle.n2k_wire.specs.declared.entry.Entry.{Entry}
 use Rattle.n2k_join.specs.declared.counts.Counts.{Counts}
+use Rattle.n2k_join.specs.Counts.{most_lines}
 use Rattle.n2k_run.specs.Entries.{is_bad}
 use Rattle.n2k_run.specs.Making.{Making}
 use Rattle.n2k_run.specs.Reports.{bad_report}
 
--- no count is above that of the lines
+-- no count is above that of the lines, and no more lines are counted than there can be
 pub record AreCounts (c : Counts) : Type 0 where
+  pub few : c.lines ≤ most_lines
   pub messages : c.messages ≤ c.lines
   pub bad : c.bad ≤ c.lines
   pub unknown : c.unknown ≤ c.lines

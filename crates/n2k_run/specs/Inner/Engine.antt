@@ -19,17 +19,17 @@ use Rattle.n2k_run.specs.Writing.{AppendsFront}
 
 -- a maker took an entry: the state, the text and the report moved on
 pub record MovesOn {S : Type 0} (m : Making S) (s s' : S) (x : Entry) (text text' report report' : List ℕ) : Type 0 where
-  pub state : s' ≡ m.after s x
-  pub text : text' ≡ text ++ m.text s x
-  pub report : report' ≡ report ++ m.report s x
+  pub state_after : s' ≡ m.after s x
+  pub text_after : text' ≡ text ++ m.text s x
+  pub report_after : report' ≡ report ++ m.report s x
   pub counted : m.lines s' ≡ m.lines s + 1
   pub few : m.lines s < most_lines
 
 -- nothing moved
 pub record StandsStill {S : Type 0} (s s' : S) (text text' report report' : List ℕ) : Type 0 where
-  pub state : s' ≡ s
-  pub text : text' ≡ text
-  pub report : report' ≡ report
+  pub same_state : s' ≡ s
+  pub same_text : text' ≡ text
+  pub same_report : report' ≡ report
 
 -- what a maker answers on an entry
 abbrev pub Takes : {S T : Type 0} → Making S → S → S → Entry → List ℕ → List ℕ → List ℕ → List ℕ → Result T RunFault → Type 0
