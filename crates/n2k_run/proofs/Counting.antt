@@ -44,3 +44,9 @@ module _ (text : Entry → List ℕ) (p q : Entry → Bool) where
   counts_after c (e ∷ es) =
       counts_after (counted p q c e) es
       ∙ counts_are _ _ _ _ _ _ _ _ (omega arith) (one_more p c.messages e es) (one_more is_bad c.bad e es) (one_more q c.unknown e es) c
+
+  -- a run from the start
+  pub counts_from_none : (es : List Entry) → after_all (counting text p q) (record { lines = 0; messages = 0; bad = 0; unknown = 0; broken = 0; held = 0 }) es ≡ record { lines = length es; messages = count_by p es; bad = count_by is_bad es; unknown = count_by q es; broken = 0; held = 0 }
+  counts_from_none es =
+      let none : Counts = record { lines = 0; messages = 0; bad = 0; unknown = 0; broken = 0; held = 0 } in
+      counts_after none es ∙ counts_are _ _ _ _ _ _ _ _ (zero-add (length es)) (zero-add (count_by p es)) (zero-add (count_by is_bad es)) (zero-add (count_by q es)) none

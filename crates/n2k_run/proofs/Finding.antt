@@ -52,30 +52,33 @@ stays_room whole bytes after none stays (inr (long, is)) = inr (record {
   long = whole-long whole bytes stays long;
 })
 
-pub calls_more : (c₀ c c' r₀ r r' : ℕ) → CallsAre c₀ c r₀ r → c' ≡ one_more c → r' ≡ r + 1 → CallsAre c₀ c' r₀ r'
-calls_more c₀ c c' r₀ r r' (inl same) is more =
-    let P : Bool → Type 0 = λ b. c' ≡ cond b c (c + 1) → (c == (2 ^ 64 - 1)) ≡ b → CallsAre c₀ c' r₀ r' in
+calls_on : (c₀ c c' r₀ r r' : ℕ) → (c + r₀ ≡ c₀ + r) ⊎ (2 ^ 64 - 1 ≤ c) → c' ≡ one_more c → r' ≡ r + 1 → (c' + r₀ ≡ c₀ + r') ⊎ (2 ^ 64 - 1 ≤ c')
+calls_on c₀ c c' r₀ r r' (inl same) is more =
+    let P : Bool → Type 0 = λ b. c' ≡ cond b c (c + 1) → (c == (2 ^ 64 - 1)) ≡ b → (c' + r₀ ≡ c₀ + r') ⊎ (2 ^ 64 - 1 ≤ c') in
     let split : (b : Bool) → P b = λ b. elim b as P [
       | true ↦ λ e t. inr (grind (arith, nat_tests))
       | false ↦ λ e t. inl (omega (arith, e, more, same))
     ] in
     split (c == (2 ^ 64 - 1)) is refl
-calls_more c₀ c c' r₀ r r' (inr full) is more =
-    let P : Bool → Type 0 = λ b. c' ≡ cond b c (c + 1) → CallsAre c₀ c' r₀ r' in
+calls_on c₀ c c' r₀ r r' (inr full) is more =
+    let P : Bool → Type 0 = λ b. c' ≡ cond b c (c + 1) → (c' + r₀ ≡ c₀ + r') ⊎ (2 ^ 64 - 1 ≤ c') in
     let split : (b : Bool) → P b = λ b. elim b as P [
       | true ↦ λ e. inr (omega (arith, e, full))
       | false ↦ λ e. inr (omega (arith, e, full))
     ] in
     split (c == (2 ^ 64 - 1)) is
 
+pub calls_more : (c₀ c c' r₀ r r' : ℕ) → CallsAre c₀ c r₀ r → c' ≡ one_more c → r' ≡ r + 1 → CallsAre c₀ c' r₀ r'
+calls_more c₀ c c' r₀ r r' (rise, so_far) is more = (omega (arith, rise, more), calls_on c₀ c c' r₀ r r' so_far is more)
+
 -- so many calls were made as are made at most
 pub calls_end : (calls₀ calls reads : ℕ) → CallsAre calls₀ calls 0 reads → reads ≡ most_reads → OutlastsReads calls₀ calls
-calls_end calls₀ calls reads (inl same) all = inl (omega (arith, same, all))
-calls_end calls₀ calls reads (inr full) all = inr full
+calls_end calls₀ calls reads (rise, inl same) all = inl (omega (arith, same, all))
+calls_end calls₀ calls reads (rise, inr full) all = inr full
 
 -- nothing came yet
 pub reads_none : (held : Held) (left : Option (List ℕ)) (calls : ℕ) → Reads held held left left calls calls
-reads_none held left calls = record { came = []; given = Consumes-nil left; stays = inl (sym (append-nil (unanswered held))); called = inl refl }
+reads_none held left calls = record { came = []; given = Consumes-nil left; stays = inl (sym (append-nil (unanswered held))); called = (omega arith, inl refl) }
 
 pub reads_room : (old mid new : Held) (left₀ left : Option (List ℕ)) (calls₀ calls : ℕ) → Reads old mid left₀ left calls₀ calls → HasNoFeed mid.kept → MakesRoom (unanswered mid) (unanswered new) → new.reads ≡ mid.reads → Reads old new left₀ left calls₀ calls
 reads_room old mid new left₀ left calls₀ calls so_far none room reads =

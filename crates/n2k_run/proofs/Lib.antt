@@ -3,8 +3,11 @@ pub mod Counting
 pub mod Feeds
 pub mod Finding
 pub mod FirstByte
+pub mod Folds
+pub mod Fronts
 pub mod Gained
 pub mod Owed
 pub mod Ranges
+pub mod Running
 pub mod Splits
 pub mod Taking

@@ -73,7 +73,7 @@ Gives whole rest has_ended left (Err failed) = HasNoFeed whole × Stays whole re
 
 -- the calls of a source are those that were counted, unless their number stands at its greatest
 abbrev pub CallsAre : ℕ → ℕ → ℕ → ℕ → Type 0
-CallsAre calls₀ calls reads₀ reads = (calls + reads₀ ≡ calls₀ + reads) ⊎ (2 ^ 64 - 1 ≤ calls)
+CallsAre calls₀ calls reads₀ reads = (reads₀ ≤ reads) × ((calls + reads₀ ≡ calls₀ + reads) ⊎ (2 ^ 64 - 1 ≤ calls))
 
 -- an answer, what it took of the source, and what is held after it
 pub record Answers (old new : Held) (left₀ left : Option (List ℕ)) (calls₀ calls : ℕ) (result : Result Next Failed) : Type 0 where

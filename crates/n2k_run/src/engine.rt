@@ -75,11 +75,13 @@ pub(crate) fn run_entries<M: Maker, R: Source, W: Sink, E: Sink>(
         }
         match take_next(alloc, maker, packing, state, &mut blocks, reader, &mut kept) {
             Ok(()) => {}
-            Err(RunFault::Memory) => return Err(RunFault::Memory),
-            Err(fault) => {
-                kept.write(writer, reporter)?;
-                return Err(fault);
-            }
+            Err(fault) => match fault {
+                RunFault::Memory => return Err(fault),
+                _ => {
+                    kept.write(writer, reporter)?;
+                    return Err(fault);
+                }
+            },
         }
     }
     kept.write(writer, reporter)
