@@ -1,5 +1,6 @@
 pub mod Answering
 pub mod Counting
+pub mod Ending
 pub mod Feeds
 pub mod Finding
 pub mod FirstByte

@@ -35,7 +35,7 @@ more_front old mid new text part more whole first second is =
     ap (λ p. (text ++ p) ++ more) owes.still ∙ ap (λ p. p ++ more) (sym (append_assoc text owes.front second.0)) ∙ append_assoc (text ++ owes.front) second.0 more in
     (second.0 ++ more, record { front = text ++ owes.front; appended = Appends-trans old mid new text owes.front first owes.appended; still = is ∙ parts })
 
-known_more : (known : Option (List ℕ)) (P Q : List ℕ → Type 0) → ((log : List ℕ) → P log → Q log) → IfSome known P → IfSome known Q
+pub known_more : (known : Option (List ℕ)) (P Q : List ℕ → Type 0) → ((log : List ℕ) → P log → Q log) → IfSome known P → IfSome known Q
 known_more None P Q follows p = tt
 known_more (Some log) P Q follows p = follows log p
 
