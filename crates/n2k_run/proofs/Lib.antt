@@ -1,5 +1,6 @@
 pub mod Answering
 pub mod Counting
+pub mod Decoding
 pub mod Ending
 pub mod Feeds
 pub mod Finding

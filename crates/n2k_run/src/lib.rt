@@ -22,7 +22,7 @@ mod memory;
 mod options;
 mod plain;
 mod reading;
-mod single;
+mod run;
 mod standard;
 mod texts;
 mod writing;
@@ -34,10 +34,10 @@ pub use memory::{MemorySink, MemorySource};
 pub use options::Options;
 pub use plain::run_plain;
 pub use reading::{MOST_READS, read_bytes};
-pub use single::run_single;
+pub use run::run;
 pub use n2k_join::{Counts, MOST_LINES};
 pub use standard::{StdSink, StdSource};
-pub use texts::{bad_text, summary_text};
+pub use texts::{bad_text, broken_text, summary_text};
 pub use writing::write_all;
 
 #[cfg(test)]
