@@ -1,6 +1,5 @@
 pub mod Answering
 pub mod Counting
-pub mod Decoding
 pub mod Ending
 pub mod Feeds
 pub mod Finding
@@ -8,6 +7,7 @@ pub mod FirstByte
 pub mod Folds
 pub mod Fronts
 pub mod Gained
+pub mod LogSteps
 pub mod Owed
 pub mod Ranges
 pub mod Running

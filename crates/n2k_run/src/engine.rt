@@ -57,11 +57,10 @@ pub(crate) fn run_entries<M: Maker, R: Source, W: Sink, E: Sink>(
     reporter: &mut E,
 ) -> Result<(), RunFault>
     requires { M.is_ready maker.now state.old }
-    ensures runs {
-        let before = devices (R.remaining reader.old) (R.calls reader.old) (R.failed_calls reader.old)
-            (W.contents writer.old) (W.failed_calls writer.old) (E.contents reporter.old) (E.failed_calls reporter.old) in
+    ensures runs { let before = devices (R.remaining reader.old) (R.calls reader.old) (R.failed_calls reader.old)
+        (W.contents writer.old) (W.failed_calls writer.old) (E.contents reporter.old) (E.failed_calls reporter.old) in
         let after = devices (R.remaining reader.new) (R.calls reader.new) (R.failed_calls reader.new)
-            (W.contents writer.new) (W.failed_calls writer.new) (E.contents reporter.new) (E.failed_calls reporter.new) in
+        (W.contents writer.new) (W.failed_calls writer.new) (E.contents reporter.new) (E.failed_calls reporter.new) in
         Runs (output_from (M.making maker.now) packing state.old) (λ es. state.new ≡ after_all (M.making maker.now) state.old es) before after result }
     ensures ready { OnOk result (M.is_ready maker.now state.new) }
 {

@@ -65,15 +65,22 @@ pub fn run_plain<R: Source, W: Sink, E: Sink>(
     writer: &mut W,
     reporter: &mut E,
 ) -> Result<Counts, RunFault>
-    ensures {
-        let before = devices (R.remaining reader.old) (R.calls reader.old) (R.failed_calls reader.old)
-            (W.contents writer.old) (W.failed_calls writer.old) (E.contents reporter.old) (E.failed_calls reporter.old) in
+    ensures { let before = devices (R.remaining reader.old) (R.calls reader.old) (R.failed_calls reader.old)
+        (W.contents writer.old) (W.failed_calls writer.old) (E.contents reporter.old) (E.failed_calls reporter.old) in
         let after = devices (R.remaining reader.new) (R.calls reader.new) (R.failed_calls reader.new)
-            (W.contents writer.new) (W.failed_calls writer.new) (E.contents reporter.new) (E.failed_calls reporter.new) in
+        (W.contents writer.new) (W.failed_calls writer.new) (E.contents reporter.new) (E.failed_calls reporter.new) in
         Runs plain_output (λ es. IfOk result (λ counts. counts ≡ plain_counts_of es)) before after result }
 {
     let mut counts = Counts::NONE;
-    match run_entries(alloc, &PlainLines, Packing::Frames, &mut counts, reader, writer, reporter) {
+    match run_entries(
+        alloc,
+        &PlainLines,
+        Packing::Frames,
+        &mut counts,
+        reader,
+        writer,
+        reporter,
+    ) {
         Ok(()) => Ok(counts),
         Err(fault) => Err(fault),
     }

@@ -143,7 +143,8 @@ fn long_lines(rt: HostRuntime) -> Result<(), Fail> {
     log.extend_from_slice(b"\n#")?;
     log.extend_from_slice(&longest)?;
     log.extend_from_slice(b"\n\r")?;
-    let reports = b"line 1 bad B2 stamp\nline 2 bad B1 long\nline 3 bad B1 long\nline 5 bad B1 long\n";
+    let reports =
+        b"line 1 bad B2 stamp\nline 2 bad B1 long\nline 3 bad B1 long\nline 5 bad B1 long\n";
     let counts = Counts {
         lines: 6,
         bad: 4,

@@ -100,7 +100,15 @@ fn decodes<R: Abort + AllocGlobal>(
     let mut reader = MemorySource::new(example.log, piece, 0);
     let mut writer = MemorySink::new(rt.alloc(), piece, 0);
     let mut reporter = MemorySink::new(rt.alloc(), piece, 0);
-    run(rt.alloc(), table, &mut join, FRAMES, &mut reader, &mut writer, &mut reporter)?;
+    run(
+        rt.alloc(),
+        table,
+        &mut join,
+        FRAMES,
+        &mut reader,
+        &mut writer,
+        &mut reporter,
+    )?;
     assert_eq!(rt; writer.bytes(), example.text);
     assert_eq!(rt; reporter.bytes(), example.reports);
     let mut summary = Vec::new(rt.alloc());
@@ -132,7 +140,15 @@ fn each_line_is_read_by_serde_json(rt: HostRuntime) -> Result<(), Fail> {
     let mut reader = MemorySource::new(log, 1000, 0);
     let mut writer = MemorySink::new(rt.alloc(), 1000, 0);
     let mut reporter = MemorySink::new(rt.alloc(), 1000, 0);
-    run(rt.alloc(), &table, &mut join, FRAMES, &mut reader, &mut writer, &mut reporter)?;
+    run(
+        rt.alloc(),
+        &table,
+        &mut join,
+        FRAMES,
+        &mut reader,
+        &mut writer,
+        &mut reporter,
+    )?;
     let text = std::str::from_utf8(writer.bytes())?;
     let mut stamps = Vec::new(rt.alloc());
     for line in text.lines() {
@@ -158,13 +174,29 @@ fn a_failed_read_leaves_the_join_at_a_line(rt: HostRuntime) -> Result<(), Fail> 
     let mut reader = MemorySource::new(log, 60, 3);
     let mut writer = MemorySink::new(rt.alloc(), 7, 0);
     let mut reporter = MemorySink::new(rt.alloc(), 7, 0);
-    let answer = run(rt.alloc(), &table, &mut join, FRAMES, &mut reader, &mut writer, &mut reporter);
+    let answer = run(
+        rt.alloc(),
+        &table,
+        &mut join,
+        FRAMES,
+        &mut reader,
+        &mut writer,
+        &mut reporter,
+    );
     assert_eq!(rt; answer, Err(RunFault::Read));
     assert_eq!(rt; writer.bytes(), b"".as_slice());
     assert_eq!(rt; join.counts().lines, 2);
 
     let mut rest = MemorySource::new(&log[86..], 60, 0);
-    run(rt.alloc(), &table, &mut join, FRAMES, &mut rest, &mut writer, &mut reporter)?;
+    run(
+        rt.alloc(),
+        &table,
+        &mut join,
+        FRAMES,
+        &mut rest,
+        &mut writer,
+        &mut reporter,
+    )?;
     assert_eq!(rt; writer.bytes(), EXAMPLES[1].text);
     Ok(())
 }

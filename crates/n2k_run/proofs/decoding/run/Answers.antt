@@ -4,9 +4,9 @@ use Rattle.n2k_join.specs.State.{State, state}
 use Rattle.n2k_run.specs.Decoded.{join_making, output_after}
 use Rattle.n2k_run.specs.Making.{after_all}
 use Rattle.n2k_run.specs.Runs.{output_from}
-use Rattle.n2k_run.proofs.Decoding.{output_after-is, state_after}
+use Rattle.n2k_run.proofs.LogSteps.{output_after-is, state_after}
 use Rattle.n2k_run.proofs.Ending.{runs_same, runs_more}
-use Rattle.n2k_run.proofs.run.run.Goals as goal
+use Rattle.n2k_run.proofs.decoding.run.Goals as goal
 
 pub returns-clause-log : goal.returns-clause-log
 returns-clause-log g c = λ front is.

@@ -1,21 +1,53 @@
 -- What the steps of a join give of a log's lines is what the whole log says of them.
-use Rattle.std.proofs.Common.{◌≡◌, ℕ, suc, ◌+◌, ◌≤◌, Bool, List, [], ◌∷◌, ◌++◌, length, Option, Some, None, refl, sym, ap, ◌∙◌, append_assoc, append-nil, length-append, arith}
-use Rattle.std.specs.Prelude.{option_and_then, slice_get}
+use Rattle.std.proofs.Common.{◌≡◌, ℕ, suc, ◌+◌, ◌<◌, ◌≤◌, Bool, List, [], ◌∷◌, ◌++◌, length, Option, Some, None, refl, sym, ap, ◌∙◌, append_assoc, append-nil, length-append, arith}
+use Rattle.std.specs.Prelude.{option_and_then, option_to_list, slice_get}
 use Rattle.std.specs.List.{flat_map, range_with_len}
 use Rattle.n2k_wire.specs.declared.entry.Entry.{Entry}
 use Rattle.n2k_wire.specs.Packet.{PacketParts}
 use Rattle.n2k_table.specs.declared.definition.Kind.{Kind}
 use Rattle.n2k_table.specs.Table.{TableParts, kind}
 use Rattle.n2k_join.specs.declared.broken.Broken.{Broken}
+use Rattle.n2k_join.specs.declared.step.Step.{Step}
+use Rattle.n2k_join.specs.Counts.{most_lines}
+use Rattle.n2k_join.specs.Step.{given_of}
 use Rattle.n2k_join.specs.Laws.{StepsAgree, LinesStay}
 use Rattle.n2k_join.specs.Messages.{message, broken, cause_in, entry_at}
 use Rattle.n2k_join.specs.State.{Given, State, state, step_after, step_given}
 use Rattle.n2k_run.specs.declared.options.Options.{Options}
 use Rattle.n2k_run.specs.Decoded.{cause_at, join_making, message_line, numbers_after, output_after, report_at, text_at}
 use Rattle.n2k_run.specs.Making.{after_all, texts_from, reports_from}
-use Rattle.n2k_run.specs.Reports.{line_report}
+use Rattle.n2k_run.specs.Reports.{broken_text, cause_report, line_report}
+use Rattle.n2k_run.specs.Inner.Engine.{MovesOn}
 use Rattle.n2k_run.specs.Runs.{Output, output_from}
 use Rattle.n2k_run.proofs.Ending.{output_same}
+
+-- a line more is counted
+lines_after : (k : ℕ → Option Kind) (s : State) (e : Entry) → (step_after k s e).counts.lines ≡ s.counts.lines + 1
+unfolding step_after
+lines_after k s e = refl
+
+-- an entry was taken by the join, and what it gave was made into texts
+pub join_moves : (t : TableParts) (empty : Bool) (s s' : State) (e : Entry) (step : Step) (n : ℕ) (text text' report mid report' : List ℕ) → n ≡ s'.counts.lines → given_of step ≡ step_given (kind t) s e → s' ≡ step_after (kind t) s e → s.counts.lines < most_lines
+    → mid ≡ report ++ flat_map (broken_text n) (option_to_list step.broken) → report' ≡ mid ++ cause_report n step.bad → text' ≡ text ++ message_line t empty step.message
+    → MovesOn (join_making t empty) s s' e text text' report report'
+join_moves t empty s s' e step n text text' report mid report' number given after few broken cause message =
+    let counted : s'.counts.lines ≡ s.counts.lines + 1 = ap (λ (x : State). x.counts.lines) after ∙ lines_after (kind t) s e in
+    let line : n ≡ s.counts.lines + 1 = number ∙ counted in
+    let b : option_to_list step.broken ≡ (step_given (kind t) s e).broken = ap (λ (g : Given). g.broken) given in
+    let c : step.bad ≡ (step_given (kind t) s e).cause = ap (λ (g : Given). g.cause) given in
+    let m : step.message ≡ (step_given (kind t) s e).message = ap (λ (g : Given). g.message) given in
+    record {
+      state_after = after;
+      text_after = message ∙ ap (λ x. text ++ message_line t empty x) m;
+      report_after =
+          cause ∙ ap (λ r. r ++ cause_report n step.bad) broken
+          ∙ append_assoc report (flat_map (broken_text n) (option_to_list step.broken)) (cause_report n step.bad)
+          ∙ ap (λ n. report ++ line_report n (option_to_list step.broken) step.bad) line
+          ∙ ap (λ g. report ++ line_report (s.counts.lines + 1) g step.bad) b
+          ∙ ap (λ g. report ++ line_report (s.counts.lines + 1) (step_given (kind t) s e).broken g) c;
+      counted = counted;
+      few = few;
+    }
 
 at_place : (front : List Entry) (e : Entry) (es : List Entry) → slice_get (front ++ e ∷ es) (length front) ≡ Some e
 at_place [] e es = refl
@@ -73,10 +105,10 @@ module _ (agree : (id : List ℕ) (kind : ℕ → Option Kind) (es : List Entry)
       let here = ap (message_line t empty) (message_next front e es) in
       let next : length (front ++ e ∷ []) + 1 ≡ length front + 1 + 1 = omega (arith, length-append front (e ∷ [])) in
       let rest =
-        ap (λ s. texts_from (join_making t empty) s es) (agree id (kind t) front e).after
-        ∙ texts_after (front ++ e ∷ []) es
-        ∙ ap (λ xs. flat_map (text_at t empty xs) (range_with_len (length (front ++ e ∷ []) + 1) (length es))) (append_assoc front (e ∷ []) es)
-        ∙ ap (λ n. flat_map (text_at t empty (front ++ e ∷ es)) (range_with_len n (length es))) next in
+      ap (λ s. texts_from (join_making t empty) s es) (agree id (kind t) front e).after
+      ∙ texts_after (front ++ e ∷ []) es
+      ∙ ap (λ xs. flat_map (text_at t empty xs) (range_with_len (length (front ++ e ∷ []) + 1) (length es))) (append_assoc front (e ∷ []) es)
+      ∙ ap (λ n. flat_map (text_at t empty (front ++ e ∷ es)) (range_with_len n (length es))) next in
       ap (λ x. x ++ texts_from (join_making t empty) (step_after (kind t) (state id (kind t) front) e) es) here
       ∙ ap (λ r. text_at t empty (front ++ e ∷ es) (length front + 1) ++ r) rest
 
@@ -90,10 +122,10 @@ module _ (agree : (id : List ℕ) (kind : ℕ → Option Kind) (es : List Entry)
   reports_after front (e ∷ es) =
       let next : length (front ++ e ∷ []) + 1 ≡ length front + 1 + 1 = omega (arith, length-append front (e ∷ [])) in
       let rest =
-        ap (λ s. reports_from (join_making t empty) s es) (agree id (kind t) front e).after
-        ∙ reports_after (front ++ e ∷ []) es
-        ∙ ap (λ xs. flat_map (report_at t xs) (range_with_len (length (front ++ e ∷ []) + 1) (length es))) (append_assoc front (e ∷ []) es)
-        ∙ ap (λ n. flat_map (report_at t (front ++ e ∷ es)) (range_with_len n (length es))) next in
+      ap (λ s. reports_from (join_making t empty) s es) (agree id (kind t) front e).after
+      ∙ reports_after (front ++ e ∷ []) es
+      ∙ ap (λ xs. flat_map (report_at t xs) (range_with_len (length (front ++ e ∷ []) + 1) (length es))) (append_assoc front (e ∷ []) es)
+      ∙ ap (λ n. flat_map (report_at t (front ++ e ∷ es)) (range_with_len n (length es))) next in
       ap (λ x. x ++ reports_from (join_making t empty) (step_after (kind t) (state id (kind t) front) e) es) (report_next front e es)
       ∙ ap (λ r. report_at t (front ++ e ∷ es) (length front + 1) ++ r) rest
 

@@ -1,10 +1,12 @@
 //! The run of `decode`: the JSON line of each message of a log.
-ghost use Rattle.std.specs.Prelude.{◌≡◌, ◌++◌, List};
+ghost use Rattle.std.specs.Prelude.{◌≡◌, ◌++◌, List, OnOk, option_to_list};
+ghost use Rattle.std.specs.List.{flat_map};
 ghost use Rattle.n2k_wire.specs.declared.entry.Entry.{Entry};
 ghost use Rattle.n2k_table.specs.Table.{kind};
 ghost use Rattle.n2k_join.specs.State.{state};
-ghost use Rattle.n2k_run.specs.Decoded.{join_making, output_after};
+ghost use Rattle.n2k_run.specs.Decoded.{join_making, message_line, output_after};
 ghost use Rattle.n2k_run.specs.Making.{after_all};
+ghost use Rattle.n2k_run.specs.Reports.{broken_text, cause_report};
 ghost use Rattle.n2k_run.specs.Runs.{Runs, devices, output_from};
 
 use crate::device::{Sink, Source};
@@ -13,10 +15,56 @@ use crate::fault::RunFault;
 use crate::maker::Maker;
 use crate::options::Options;
 use crate::texts::{bad_text, broken_text};
-use n2k_join::{Join, laws};
+use n2k_join::{Broken, Join, laws};
 use n2k_table::{Table, json_line};
-use n2k_wire::Entry;
-use std::alloc::Global;
+use n2k_wire::{BadCause, Entry, Packet};
+use std::alloc::{AllocError, Global};
+
+// The report of the group that a line breaks.
+fn push_broken(
+    alloc: Global,
+    line: u64,
+    broken: &Option<Broken>,
+    report: &mut Vec<u8>,
+) -> Result<(), AllocError>
+    ensures { OnOk result (report.new.items ≡ report.old.items ++ flat_map (broken_text line) (option_to_list broken.now)) }
+{
+    match broken {
+        None => Ok(()),
+        Some(group) => broken_text(alloc, line, group, report),
+    }
+}
+
+// The report of why a line is bad.
+fn push_cause(
+    alloc: Global,
+    line: u64,
+    cause: Option<BadCause>,
+    report: &mut Vec<u8>,
+) -> Result<(), AllocError>
+    ensures { OnOk result (report.new.items ≡ report.old.items ++ cause_report line cause) }
+{
+    match cause {
+        None => Ok(()),
+        Some(cause) => bad_text(alloc, line, cause, report),
+    }
+}
+
+// The JSON line of the message that a line gives.
+fn push_message(
+    alloc: Global,
+    table: &Table,
+    message: &Option<Packet>,
+    empty: bool,
+    text: &mut Vec<u8>,
+) -> Result<(), AllocError>
+    ensures { OnOk result (text.new.items ≡ text.old.items ++ message_line table.now empty message.now) }
+{
+    match message {
+        None => Ok(()),
+        Some(packet) => json_line(alloc, table, packet, empty, text),
+    }
+}
 
 // Makes the JSON lines of the messages that a join gives.
 #[derive(Drop)]
@@ -45,15 +93,9 @@ impl<'a> Maker for JsonLines<'a> {
     ) -> Result<(), RunFault> {
         let step = join.line(self.table, entry)?;
         let line = join.counts().lines;
-        if let Some(group) = &step.broken {
-            broken_text(alloc, line, group, report)?;
-        }
-        if let Some(cause) = step.bad {
-            bad_text(alloc, line, cause, report)?;
-        }
-        if let Some(message) = &step.message {
-            json_line(alloc, self.table, message, self.empty, text)?;
-        }
+        push_broken(alloc, line, &step.broken, report)?;
+        push_cause(alloc, line, step.bad, report)?;
+        push_message(alloc, self.table, &step.message, self.empty, text)?;
         Ok(())
     }
 }
@@ -73,20 +115,19 @@ pub fn run<R: Source, W: Sink, E: Sink>(
     reporter: &mut E,
 ) -> Result<(), RunFault>
     // From any join: the texts and reports of the steps of the log's entries, one after the other.
-    ensures steps {
-        let before = devices (R.remaining reader.old) (R.calls reader.old) (R.failed_calls reader.old)
-            (W.contents writer.old) (W.failed_calls writer.old) (E.contents reporter.old) (E.failed_calls reporter.old) in
+    ensures steps { let before = devices (R.remaining reader.old) (R.calls reader.old) (R.failed_calls reader.old)
+        (W.contents writer.old) (W.failed_calls writer.old) (E.contents reporter.old) (E.failed_calls reporter.old) in
         let after = devices (R.remaining reader.new) (R.calls reader.new) (R.failed_calls reader.new)
-            (W.contents writer.new) (W.failed_calls writer.new) (E.contents reporter.new) (E.failed_calls reporter.new) in
+        (W.contents writer.new) (W.failed_calls writer.new) (E.contents reporter.new) (E.failed_calls reporter.new) in
         let making = join_making table.now options.empty in
         Runs (output_from making options.packing join.old) (λ es. join.new ≡ after_all making join.old es) before after result }
 
     // From a join that stands after these entries, with this table: what the whole log says of the lines after them.
     ensures log { (front : List Entry) → join.old ≡ state table.now.id (kind table.now) front →
         let before = devices (R.remaining reader.old) (R.calls reader.old) (R.failed_calls reader.old)
-            (W.contents writer.old) (W.failed_calls writer.old) (E.contents reporter.old) (E.failed_calls reporter.old) in
+        (W.contents writer.old) (W.failed_calls writer.old) (E.contents reporter.old) (E.failed_calls reporter.old) in
         let after = devices (R.remaining reader.new) (R.calls reader.new) (R.failed_calls reader.new)
-            (W.contents writer.new) (W.failed_calls writer.new) (E.contents reporter.new) (E.failed_calls reporter.new) in
+        (W.contents writer.new) (W.failed_calls writer.new) (E.contents reporter.new) (E.failed_calls reporter.new) in
         Runs (output_after table.now options front) (λ es. join.new ≡ state table.now.id (kind table.now) (front ++ es)) before after result }
 {
     laws::steps_agree();
@@ -95,7 +136,15 @@ pub fn run<R: Source, W: Sink, E: Sink>(
         table,
         empty: options.empty,
     };
-    run_entries(alloc, &maker, options.packing, join, reader, writer, reporter)
+    run_entries(
+        alloc,
+        &maker,
+        options.packing,
+        join,
+        reader,
+        writer,
+        reporter,
+    )
 }
 
 #[cfg(test)]
