@@ -16,3 +16,4 @@ pub mod LookupFaults
 pub mod Trims
 pub mod Tops
 pub mod Places
+pub mod OneLine

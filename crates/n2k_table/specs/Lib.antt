@@ -15,3 +15,4 @@ pub mod Bits
 pub mod Shown
 pub mod Decimal
 pub mod Json
+pub mod OneLine

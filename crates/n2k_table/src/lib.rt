@@ -20,6 +20,7 @@ mod definition;
 mod fault;
 mod field;
 mod index;
+pub mod laws;
 mod line;
 mod lookup;
 mod resolution;
