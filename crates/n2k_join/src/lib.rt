@@ -4,6 +4,9 @@
 mod broken;
 mod counts;
 pub mod laws;
+mod saved;
+mod state_fault;
 
 pub use broken::Broken;
 pub use counts::{Counts, MOST_LINES};
+pub use state_fault::StateFault;

@@ -1,0 +1,6 @@
+//! The saved state: its text, and the reading of one.
+
+mod place;
+mod reader;
+mod spelled;
+mod value;
