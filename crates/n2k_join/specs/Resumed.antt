@@ -1,6 +1,6 @@
 -- What a text says as a saved state: which state it spells, or the first reason why it is refused. Any JSON text is taken
 -- that `serde_json` reads as such an object: spaces, another order of members, digits of either case.
-use Rattle.std.specs.Prelude.{ℕ, ◌+◌, ◌==◌, nat_le, Bool, true, false, not, ◌&&◌, codes, List, [], ◌∷◌, length, reverse, map, if◌then◌else◌, Option, Some, None, option_and_then, option_map, Result, Ok, Err}
+use Rattle.std.specs.Prelude.{ℕ, ◌+◌, ◌==◌, nat_le, Bool, true, false, not, ◌&&◌, ◌||◌, slice_index_or, codes, List, [], ◌∷◌, length, reverse, map, if◌then◌else◌, Option, Some, None, option_and_then, option_map, Result, Ok, Err}
 use Rattle.std.specs.List.{list_any}
 use Rattle.std.specs.Result.{result_ok}
 use Rattle.std.specs.Str.{bytes_eq, is_utf8}
@@ -173,11 +173,7 @@ key_holds kind k = nat_le k.pgn greatest_pgn && (is_fast (kind k.pgn) && (nat_le
 
 -- numbers rise and are below 32, and a frame 0 has a total that isn't too large
 abbrev pub total_holds : ℕ → List ℕ → Bool
-total_holds number bytes = if number == 0 then first_holds bytes else true
-  where
-    first_holds : List ℕ → Bool
-    first_holds [] = false
-    first_holds (b ∷ bs) = nat_le b longest_total
+total_holds number bytes = not (number == 0) || nat_le (slice_index_or bytes 0 0) longest_total
 
 unfoldable pub pieces_rise : ℕ → List Piece → Bool
 pieces_rise least [] = true

@@ -2,5 +2,6 @@
 
 mod place;
 mod reader;
+mod rules;
 mod spelled;
 mod value;

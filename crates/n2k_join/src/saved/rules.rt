@@ -1,0 +1,97 @@
+//! The rules of a valid state.
+ghost use Rattle.std.specs.Prelude.{◌≡◌, ◌≤◌};
+ghost use Rattle.n2k_table.specs.Table.{kind};
+ghost use Rattle.n2k_join.specs.Counts.{most_lines};
+ghost use Rattle.n2k_join.specs.Resumed.{counts_hold, firsts_rise, is_fast, key_holds, total_holds, pieces_rise};
+
+use crate::counts::{Counts, MOST_LINES};
+use crate::saved::spelled::{SpelledGroup, SpelledKey, SpelledPiece};
+use n2k_table::{Kind, Table};
+
+/// The greatest PGN, 24 bits.
+const GREATEST_PGN: u64 = 16_777_215;
+
+/// The greatest address.
+const GREATEST_ADDRESS: u64 = 255;
+
+/// The greatest sequence of a fast packet.
+const GREATEST_SEQUENCE: u64 = 7;
+
+/// The greatest number of a frame.
+const GREATEST_NUMBER: u64 = 31;
+
+/// The most bytes of a message.
+const LONGEST_TOTAL: u8 = 223;
+
+/// Whether these can be the counts of lines. No sum of them wraps.
+#[tactic(auto, unfolding(crate::specs::Resumed::counts_hold))]
+pub fn counts_hold(counts: &Counts) -> bool
+    ensures { result ≡ counts_hold counts.now }
+{
+    let messages = u128::from(counts.messages);
+    let given = messages + u128::from(counts.bad) + u128::from(counts.unknown);
+    counts.lines <= MOST_LINES
+        && (counts.broken <= counts.lines && given <= u128::from(counts.lines))
+}
+
+/// Whether the first lines rise strictly from 1, and none is past the last line.
+#[tactic(auto, unfolding(crate::specs::Resumed::firsts_rise))]
+pub fn firsts_rise(lines: u64, groups: &[SpelledGroup]) -> bool
+    requires { lines ≤ most_lines }
+    ensures { result ≡ firsts_rise 1 lines groups.now }
+{
+    let mut least = 1;
+    for group in groups {
+        if group.first < least || group.first > lines {
+            return false;
+        }
+        least = group.first + 1;
+    }
+    true
+}
+
+fn is_fast(table: &Table, pgn: u64) -> bool
+    requires { pgn ≤ 16_777_215 }
+    ensures { result ≡ is_fast (kind table.now pgn) }
+{
+    match table.kind(pgn as u32) {
+        Some(Kind::Fast) => true,
+        _ => false,
+    }
+}
+
+/// Whether frames of a fast PGN of the table can have the key.
+#[tactic(auto, unfolding(crate::specs::Resumed::key_holds))]
+pub fn key_holds(table: &Table, key: &SpelledKey) -> bool
+    ensures { result ≡ key_holds (kind table.now) key.now }
+{
+    key.pgn <= GREATEST_PGN
+        && (is_fast(table, key.pgn)
+            && (key.src <= GREATEST_ADDRESS
+                && (key.dst <= GREATEST_ADDRESS && key.sequence <= GREATEST_SEQUENCE)))
+}
+
+// Whether a frame has a total that isn't too large, where it has the number 0.
+fn total_holds(number: u64, bytes: &[u8; 7]) -> bool
+    ensures { result ≡ total_holds number bytes.now }
+{
+    number != 0 || bytes[0] <= LONGEST_TOTAL
+}
+
+/// Whether the numbers of frames rise strictly, none is past the greatest, and a total isn't too large.
+#[tactic(auto, unfolding(crate::specs::Resumed::pieces_rise))]
+pub fn pieces_rise(pieces: &[SpelledPiece]) -> bool
+    ensures { result ≡ pieces_rise 0 pieces.now }
+{
+    let mut least = 0;
+    for piece in pieces {
+        if piece.number < least || piece.number > GREATEST_NUMBER {
+            return false;
+        }
+        if !total_holds(piece.number, &piece.bytes) {
+            return false;
+        }
+        least = piece.number + 1;
+    }
+    true
+}
