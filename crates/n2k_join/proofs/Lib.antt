@@ -1,2 +1,3 @@
 pub mod Splitting
-mod SavedLists
+pub mod SavedLists
+pub mod SavedDigits

@@ -4,4 +4,5 @@ mod place;
 mod reader;
 mod rules;
 mod spelled;
+mod text;
 mod value;

@@ -1,0 +1,30 @@
+-- For private clauses: the text of a saved state, token by token.
+use Rattle.std.specs.Prelude.{◌≡◌, ℕ, List, [], ◌∷◌, ◌++◌, decimal, OnOk, Result}
+use Rattle.std.specs.List.{flat_map}
+use Rattle.json.specs.Token.{Token}
+use Rattle.json.specs.Tree.{json_tokens}
+use Rattle.json.specs.Written.{Written}
+use Rattle.serde_json.specs.Data.{Data}
+use Rattle.serde_json.specs.Written.{outline}
+use Rattle.n2k_join.specs.Open.{Piece, Group}
+use Rattle.n2k_join.specs.Saved.{piece_tree, group_tree}
+
+-- the tokens of a value
+abbrev pub tokens_of : Data → List Token
+tokens_of d = json_tokens (outline d)
+
+-- a member that is a whole number
+abbrev pub count_tokens : List ℕ → ℕ → List Token
+count_tokens name n = Token.key name ∷ Token.number (decimal n) ∷ []
+
+-- the frames of a group, and the groups of a state, without their brackets
+unfoldable pub pieces_tokens : List Piece → List Token
+pieces_tokens ps = flat_map (λ p. tokens_of (piece_tree p)) ps
+
+unfoldable pub groups_tokens : List Group → List Token
+groups_tokens gs = flat_map (λ g. tokens_of (group_tree g)) gs
+
+-- these tokens were written behind those from before, and nothing else changed
+pub record Appends {E : Type 0} (result : Result (Unit {0}) E) (old new : Written) (added : List Token) : Type 0 where
+  pub tokens : OnOk result (new.tokens ≡ old.tokens ++ added)
+  pub before : new.before ≡ old.before
