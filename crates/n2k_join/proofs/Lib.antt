@@ -1,3 +1,14 @@
-pub mod Splitting
-pub mod SavedLists
+pub mod Advanced
+pub mod Carried
+pub mod CompleteLemmas
+pub mod Cuts
+pub mod Held
+pub mod Keys
+pub mod Lines
+pub mod Opened
+pub mod Resumed
+pub mod Rising
 pub mod SavedDigits
+pub mod SavedLists
+pub mod Splitting
+pub mod StoredLemmas

@@ -111,35 +111,42 @@ pub record IsKey (key : Key) : Type 0 where
 
 -- a piece that a frame can carry: seven bytes, and with number 0 a total that isn't too large
 pub record IsPiece (piece : Piece) : Type 0 where
-  pub number : piece.number < most_frames
   pub seven : length piece.bytes ≡ frame_bytes
   pub are_bytes : AllByRecursion (λ byte. byte < 256) piece.bytes
   pub total : piece.number ≡ 0 → slice_index_or piece.bytes 0 0 ≤ longest_total
 
--- numbers from `least` on rise strictly
-abbrev pub Rise : ℕ → List Piece → Type 0
-Rise least [] = Unit {0}
-Rise least (piece ∷ pieces) = (least ≤ piece.number) × Rise (piece.number + 1) pieces
-
--- a group that can be open: it has pieces, they rise, and they don't make it complete
-pub record IsOpen (group : Group) : Type 0 where
+-- the parts of a group are such as frames have
+pub record HasParts (group : Group) : Type 0 where
   pub key : IsKey group.key
-  pub nonempty : 0 < length group.pieces
   pub pieces : AllByRecursion IsPiece group.pieces
-  pub rise : Rise 0 group.pieces
+
+-- these numbers of the items rise strictly, from `least` on
+abbrev pub Rise : {A : Type 0} → (A → ℕ) → ℕ → List A → Type 0
+Rise number least [] = Unit {0}
+Rise number least (x ∷ xs) = (least ≤ number x) × Rise number (number x + 1) xs
+
+-- a group that can be open: it has pieces, by rising number, and they don't make it complete
+pub record IsOpen (group : Group) : Type 0 where
+  pub nonempty : 0 < length group.pieces
+  pub rise : Rise (λ (p : Piece). p.number) 0 group.pieces
+  pub numbers : AllByRecursion (λ (p : Piece). p.number < most_frames) group.pieces
   pub incomplete : complete (held_of group) ≡ false
 
--- the key is that of no group
-abbrev pub IsApart : Key → List Group → Type 0
-IsApart key groups = AllByRecursion (λ (g : Group). same_key key g.key ≡ false) groups
+-- no two of the groups have one key
+abbrev pub AreApart : List Group → Type 0
+AreApart [] = Unit {0}
+AreApart (g ∷ gs) = AllByRecursion (λ (h : Group). same_key g.key h.key ≡ false) gs × AreApart gs
 
--- Open groups after so many lines: each is open, their first lines rise strictly from `least` on, and their keys differ.
-abbrev pub AreOpen : ℕ → ℕ → List Group → Type 0
-AreOpen least lines [] = Unit {0}
-AreOpen least lines (g ∷ gs) = IsOpen g × (least ≤ g.first) × (g.first ≤ lines) × IsApart g.key gs × AreOpen (g.first + 1) lines gs
+-- groups that can be open after so many lines
+pub record AreOpen (lines : ℕ) (groups : List Group) : Type 0 where
+  pub each : AllByRecursion IsOpen groups
+  pub rise : Rise (λ (g : Group). g.first) 1 groups
+  pub begun : AllByRecursion (λ (g : Group). g.first ≤ lines) groups
+  pub apart : AreApart groups
 
 -- a state that a join can have, whether or not a log leads to it
 pub record IsState (s : State) : Type 0 where
   pub counted : AreCounts s.counts
   pub held : s.counts.held ≡ length s.groups
-  pub groups : AreOpen 1 s.counts.lines s.groups
+  pub groups : AreOpen s.counts.lines s.groups
+  pub parts : AllByRecursion HasParts s.groups

@@ -3,10 +3,15 @@
 
 mod broken;
 mod counts;
+mod fault;
+mod frame;
+mod group;
 pub mod laws;
+mod piece;
 mod saved;
 mod state_fault;
 
 pub use broken::Broken;
 pub use counts::{Counts, MOST_LINES};
+pub use fault::JoinFault;
 pub use state_fault::StateFault;
