@@ -1,6 +1,6 @@
 -- The step on open groups as a program makes it: the group of the frame's key takes the frame, or goes, and a new one
 -- may be opened.
-use Rattle.std.proofs.Common.{ℕ, Bool, cond, List, [], ◌∷◌, ◌++◌, Option, Some, None, option_to_list, filter_map, find}
+use Rattle.std.proofs.Common.{cond, List, [], ◌∷◌, ◌++◌, Option, Some, None, option_to_list, filter_map, find}
 use Rattle.n2k_join.specs.Frames.{Key, same_key, Frame}
 use Rattle.n2k_join.specs.Groups.{Ends, complete}
 use Rattle.n2k_join.specs.Open.{Group, pieces_of, group_of}

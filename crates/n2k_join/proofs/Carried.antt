@@ -1,12 +1,12 @@
 -- The order of a group's frames does not matter: what they carry decides whether it is complete, its data and its pieces.
-use Rattle.std.proofs.Common.{◌≡◌, ◌==◌, ◌≤◌, ◌<◌, ◌+◌, ℕ, Bool, true, false, cond, not, ◌||◌, ◌&&◌, nat_le, List, [], ◌∷◌, ◌++◌, refl, sym, ap, ◌∙◌, subst, arith, Option, Some, None, unwrap_or, take, drop, flat_map, filter_map}
+use Rattle.std.proofs.Common.{◌≡◌, ◌==◌, ◌+◌, ℕ, Bool, true, false, cond, not, ◌||◌, ◌&&◌, nat_le, List, [], ◌∷◌, ◌++◌, refl, sym, ap, ◌∙◌, subst, Option, Some, None, unwrap_or, take, drop, flat_map, filter_map}
 use mathlib.Core.Path.{fun_ext}
 use Rattle.std.specs.Prelude.{is_some}
 use Rattle.std.specs.Option.{option_or}
-use Rattle.std.specs.List.{range_with_len, list_all, AllByRecursion}
-use Rattle.std.proofs.lemmas.Bool.{or_parts, or_from, or_left, or_right, and_parts, and_from, and_left, false_from_ne_true, true≢false, false≢true, eqb-true, eqb-false, eq-eqb, ne_eqb}
+use Rattle.std.specs.List.{range_with_len, list_all}
+use Rattle.std.proofs.lemmas.Bool.{or_parts, and_parts, and_from, false≢true, eqb-true, eq-eqb}
 use Rattle.n2k_join.specs.Frames.{Frame, most_frames}
-use Rattle.n2k_join.specs.Groups.{complete, repeats, carried, has_number, has_twice, total, total_by, last_number, has_all, is_within, data_of, bytes_at, closes}
+use Rattle.n2k_join.specs.Groups.{complete, carried, has_number, has_twice, total, total_by, last_number, has_all, is_within, data_of}
 use Rattle.n2k_join.specs.Open.{piece_at, pieces_of}
 
 -- two tests that say the same are one
@@ -41,8 +41,10 @@ has_one f x = same_bool _ _ there back
     there_by : (b : Bool) → (x.number == f.number) ≡ b → is_some (cond b (Some x.bytes) None) ≡ true → (f.number == x.number) ≡ true
     there_by true e h = eq-eqb f.number x.number (sym (eqb-true x.number f.number e))
     there_by false e h = absurd (false≢true h)
+
     there : has_number f.number (x ∷ []) ≡ true → (f.number == x.number) ≡ true
     there = there_by (x.number == f.number) refl
+
     back : (f.number == x.number) ≡ true → has_number f.number (x ∷ []) ≡ true
     back e = ap (λ b. is_some (cond b (Some x.bytes) None)) (eq-eqb x.number f.number (sym (eqb-true f.number x.number e)))
 
@@ -66,7 +68,7 @@ within_back : (last : ℕ) (g : List Frame) → ((n : ℕ) → has_number n g �
 within_back last [] all = refl
 within_back last (f ∷ g) all =
     and_from _ _ (all f.number (ap (λ b. is_some (cond b (Some f.bytes) (carried g f.number))) (eq-eqb f.number f.number refl)))
-      (within_back last g (λ n h. all n (also n h)))
+    (within_back last g (λ n h. all n (also n h)))
   where
     also : (n : ℕ) → has_number n g ≡ true → has_number n (f ∷ g) ≡ true
     also n h = elim (f.number == n) as (λ b. is_some (cond b (Some f.bytes) (carried g n)) ≡ true) [ true ↦ refl | false ↦ h ]
@@ -74,8 +76,8 @@ within_back last (f ∷ g) all =
 within-same : (last : ℕ) (g h : List Frame) → carried g ≡ carried h → is_within last g ≡ is_within last h
 within-same last g h e =
     same_bool (is_within last g) (is_within last h)
-      (λ w. within_back last h (λ n k. within_there last g n w (ap (λ (c : ℕ → Option (List ℕ)). is_some (c n)) e ∙ k)))
-      (λ w. within_back last g (λ n k. within_there last h n w (ap (λ (c : ℕ → Option (List ℕ)). is_some (c n)) (sym e) ∙ k)))
+    (λ w. within_back last h (λ n k. within_there last g n w (ap (λ (c : ℕ → Option (List ℕ)). is_some (c n)) e ∙ k)))
+    (λ w. within_back last g (λ n k. within_there last h n w (ap (λ (c : ℕ → Option (List ℕ)). is_some (c n)) (sym e) ∙ k)))
 
 -- what completeness is of: whether a number stands twice, what is carried, and whether all is within the last
 complete_by : Bool → (ℕ → Option (List ℕ)) → Bool → Bool

@@ -1,12 +1,10 @@
 -- The groups of a list of frames, and those of a list with one frame more.
-use Rattle.std.proofs.Common.{◌≡◌, ◌<◌, ◌+◌, ℕ, Bool, true, false, cond, ◌||◌, List, [], ◌∷◌, ◌++◌, length, refl, sym, ap, ◌∙◌, append_assoc, arith, Option, Some, None}
+use Rattle.std.proofs.Common.{◌≡◌, ℕ, Bool, true, false, cond, List, [], ◌∷◌, ◌++◌, refl, sym, ap, ◌∙◌, append_assoc, Option, Some, None}
 use Rattle.std.specs.Prelude.{fold, is_some, IfSome}
 use Rattle.std.specs.List.{last_or, flat_map, AllByRecursion}
-use Rattle.std.proofs.lemmas.List.{append-nil, length-append}
 use Rattle.std.proofs.lemmas.List.Sums.{fold_push}
-use Rattle.std.proofs.lemmas.Bool.{or_parts, or_from, or_left, or_right, false_from_ne_true}
 use Rattle.n2k_join.specs.Frames.{Frame}
-use Rattle.n2k_join.specs.Groups.{Ends, closes, complete, repeats, cut_from, cut, carried, has_number, has_twice, first}
+use Rattle.n2k_join.specs.Groups.{Ends, closes, repeats, cut_from, cut, carried, has_number, first}
 
 pub all-push : {A : Type 0} (P : A → Type 0) (xs : List A) (x : A) → AllByRecursion P xs → P x → AllByRecursion P (xs ++ x ∷ [])
 all-push P [] x h px = (px, tt)
@@ -49,13 +47,13 @@ module _ (ends : Ends) where
   grown-cons g h [] x = refl
   grown-cons g h (f ∷ fs) x =
       elim (closes ends h f) as (λ b. grown ends (g ∷ cond b (h ∷ cut_from ends (f ∷ []) fs) (cut_from ends (h ++ f ∷ []) fs)) x ≡ g ∷ grown ends (cond b (h ∷ cut_from ends (f ∷ []) fs) (cut_from ends (h ++ f ∷ []) fs)) x)
-        [ true ↦ refl | false ↦ grown-cons g (h ++ f ∷ []) fs x ]
+      [ true ↦ refl | false ↦ grown-cons g (h ++ f ∷ []) fs x ]
 
   cut_from-push : (g fs : List Frame) (x : Frame) → cut_from ends g (fs ++ x ∷ []) ≡ grown ends (cut_from ends g fs) x
   cut_from-push g [] x = refl
   cut_from-push g (f ∷ fs) x =
       elim (closes ends g f) as (λ b. cond b (g ∷ cut_from ends (f ∷ []) (fs ++ x ∷ [])) (cut_from ends (g ++ f ∷ []) (fs ++ x ∷ [])) ≡ grown ends (cond b (g ∷ cut_from ends (f ∷ []) fs) (cut_from ends (g ++ f ∷ []) fs)) x)
-        [ true ↦ ap (λ gs. g ∷ gs) (cut_from-push (f ∷ []) fs x) ∙ sym (grown-cons g (f ∷ []) fs x) | false ↦ cut_from-push (g ++ f ∷ []) fs x ]
+      [ true ↦ ap (λ gs. g ∷ gs) (cut_from-push (f ∷ []) fs x) ∙ sym (grown-cons g (f ∷ []) fs x) | false ↦ cut_from-push (g ++ f ∷ []) fs x ]
 
   -- one frame more joins the last group, or begins one
   pub cut-push : (fs : List Frame) (x : Frame) → cut ends (fs ++ x ∷ []) ≡ grown ends (cut ends fs) x
@@ -67,7 +65,7 @@ module _ (ends : Ends) where
   last-cut_from o g [] = refl
   last-cut_from o g (f ∷ fs) =
       elim (closes ends g f) as (λ b. last_or o (cond b (g ∷ cut_from ends (f ∷ []) fs) (cut_from ends (g ++ f ∷ []) fs)) ≡ fold (taken_in ends) (Some (cond b (f ∷ []) (g ++ f ∷ []))) fs)
-        [ true ↦ last-cut_from (Some g) (f ∷ []) fs | false ↦ last-cut_from o (g ++ f ∷ []) fs ]
+      [ true ↦ last-cut_from (Some g) (f ∷ []) fs | false ↦ last-cut_from o (g ++ f ∷ []) fs ]
 
   -- the last group, as the frames come
   pub last-cut : (fs : List Frame) → last_or None (cut ends fs) ≡ so_far ends fs
@@ -126,7 +124,7 @@ module _ (ends : Ends) where
   cut_from-all P g [] h all = (h, tt)
   cut_from-all P g (f ∷ fs) h all =
       elim (closes ends g f) as (λ b. AllByRecursion (AllByRecursion P) (cond b (g ∷ cut_from ends (f ∷ []) fs) (cut_from ends (g ++ f ∷ []) fs)))
-        [ true ↦ (h, cut_from-all P (f ∷ []) fs (all.0, tt) all.1) | false ↦ cut_from-all P (g ++ f ∷ []) fs (all-push P g f h all.0) all.1 ]
+      [ true ↦ (h, cut_from-all P (f ∷ []) fs (all.0, tt) all.1) | false ↦ cut_from-all P (g ++ f ∷ []) fs (all-push P g f h all.0) all.1 ]
 
   pub cut-all : (P : Frame → Type 0) (fs : List Frame) → AllByRecursion P fs → AllByRecursion (AllByRecursion P) (cut ends fs)
   unfolding cut
@@ -138,7 +136,7 @@ module _ (ends : Ends) where
   cut_from-joined g [] = refl
   cut_from-joined g (f ∷ fs) =
       elim (closes ends g f) as (λ b. flat_map (λ (h : List Frame). h) (cond b (g ∷ cut_from ends (f ∷ []) fs) (cut_from ends (g ++ f ∷ []) fs)) ≡ g ++ (f ∷ fs))
-        [ true ↦ ap (λ t. g ++ t) (cut_from-joined (f ∷ []) fs) | false ↦ cut_from-joined (g ++ f ∷ []) fs ∙ append_assoc g (f ∷ []) fs ]
+      [ true ↦ ap (λ t. g ++ t) (cut_from-joined (f ∷ []) fs) | false ↦ cut_from-joined (g ++ f ∷ []) fs ∙ append_assoc g (f ∷ []) fs ]
 
   pub cut-joined : (fs : List Frame) → flat_map (λ (h : List Frame). h) (cut ends fs) ≡ fs
   unfolding cut

@@ -1,15 +1,15 @@
 -- The frames that are held of an open group: they carry what its frames carried, and they are one group.
-use Rattle.std.proofs.Common.{◌≡◌, ◌==◌, ◌≤◌, ◌<◌, ◌+◌, ℕ, Bool, true, false, cond, ◌||◌, List, [], ◌∷◌, ◌++◌, length, map, reverse, refl, sym, ap, ◌∙◌, subst, arith, Option, Some, None, option_map, filter_map, fold}
+use Rattle.std.proofs.Common.{◌≡◌, ◌==◌, ◌≤◌, ◌<◌, ◌+◌, ℕ, Bool, true, false, cond, List, [], ◌∷◌, ◌++◌, length, map, reverse, refl, sym, ap, ◌∙◌, subst, arith, Option, Some, None, option_map}
 use mathlib.Core.Path.{fun_ext}
 use mathlib.Core.List.{reverse-cons}
 use mathlib.Core.Logic.{◌⊎◌, inl, inr}
 use Rattle.std.specs.Prelude.{is_some}
 use Rattle.std.specs.Option.{option_or}
-use Rattle.std.specs.List.{range_with_len, AllByRecursion}
-use Rattle.std.proofs.lemmas.List.{map-append, length-map, length-reverse, length-append}
-use Rattle.std.proofs.lemmas.Bool.{eqb-true, eqb-false, eq-eqb, ne_eqb, or_from, cases_lt, false≢true}
-use Rattle.n2k_join.specs.Frames.{Key, same_key, Frame, most_frames}
-use Rattle.n2k_join.specs.Groups.{Ends, closes, complete, carried, has_number, has_twice, first}
+use Rattle.std.specs.List.{AllByRecursion}
+use Rattle.std.proofs.lemmas.List.{map-append, length-map, length-reverse}
+use Rattle.std.proofs.lemmas.Bool.{eqb-true, eq-eqb, ne_eqb, or_from, cases_lt, false≢true}
+use Rattle.n2k_join.specs.Frames.{Key, Frame, most_frames}
+use Rattle.n2k_join.specs.Groups.{Ends, complete, carried, has_number, has_twice, first}
 use Rattle.n2k_join.specs.Open.{Piece, Group, piece_at, pieces_of, group_of}
 use Rattle.n2k_join.specs.State.{held_frame, held_of, Rise, IsOpen}
 use Rattle.n2k_join.proofs.Cuts.{next, so_far, so_far-push, IsEnding}
@@ -101,6 +101,7 @@ piece_at-number c n p e = by (c n) e
     number_or : Option Piece → ℕ
     number_or None = n
     number_or (Some p) = p.number
+
     by : (o : Option (List ℕ)) → option_map (λ (bytes : List ℕ). record { number = n; bytes = bytes }) o ≡ Some p → p.number ≡ n
     by None e = sym (ap number_or e)
     by (Some b) e = sym (ap number_or e)
@@ -119,13 +120,14 @@ bytes_in-pieces g n all = by (cases n)
   where
     cases : (n : ℕ) → (n < most_frames) ⊎ (most_frames ≤ n)
     cases n = cases_lt n most_frames
+
     by : (n < most_frames) ⊎ (most_frames ≤ n) → bytes_in (pieces_of g) n ≡ carried g n
     by (inl l) =
         ap (option_map (λ (p : Piece). p.bytes)) (look-filter_map number_of (piece_at (carried g)) (piece_at-number (carried g)) 0 most_frames n (omega arith) (omega arith))
         ∙ elim (carried g n) as (λ o. option_map (λ (p : Piece). p.bytes) (option_map (λ (bytes : List ℕ). record { number = n; bytes = bytes }) o) ≡ o) [ None ↦ refl | Some b ↦ refl ]
     by (inr l) =
         ap (option_map (λ (p : Piece). p.bytes))
-          (find-none (λ (p : Piece). p.number == n) (pieces_of g) (all-map (λ (p : Piece). p.number < most_frames) (λ (p : Piece). (p.number == n) ≡ false) (pieces_of g) (λ p u. ne_eqb p.number n (λ e. omega (arith, u, e))) (pieces_of-numbers g)))
+        (find-none (λ (p : Piece). p.number == n) (pieces_of g) (all-map (λ (p : Piece). p.number < most_frames) (λ (p : Piece). (p.number == n) ≡ false) (pieces_of g) (λ p u. ne_eqb p.number n (λ e. omega (arith, u, e))) (pieces_of-numbers g)))
         ∙ sym (carried-past g n all l)
 
 -- what is kept of a group carries what the group does
@@ -163,6 +165,7 @@ pieces_of-held o is =
     by : (n : ℕ) (q : Option Piece) → piece_in o.pieces n ≡ q → option_map (λ (bytes : List ℕ). record { number = n; bytes = bytes }) (option_map (λ (p : Piece). p.bytes) q) ≡ q
     by n None e = refl
     by n (Some p) e = numbered n p (eqb-true p.number n (find-passes (λ (p : Piece). p.number == n) o.pieces p e))
+
     same : (n : ℕ) → piece_at (carried (held_of o)) n ≡ piece_in o.pieces n
     same n = ap (option_map (λ (bytes : List ℕ). record { number = n; bytes = bytes })) (carried-held o 0 o.pieces n is.rise) ∙ by n (piece_in o.pieces n) refl
 

@@ -1,21 +1,21 @@
 -- The open groups of a list of frames, and those of a list with one frame more.
-use Rattle.std.proofs.Common.{◌≡◌, ◌==◌, ◌≤◌, ◌<◌, ◌+◌, ℕ, Bool, true, false, cond, ◌||◌, List, [], ◌∷◌, ◌++◌, length, refl, sym, ap, ◌∙◌, subst, arith, Option, Some, None, option_map, option_and_then, option_to_list, filter_map, find}
+use Rattle.std.proofs.Common.{◌≡◌, ◌==◌, ◌≤◌, ◌<◌, ◌+◌, ℕ, Bool, true, false, cond, ◌||◌, List, [], ◌∷◌, ◌++◌, length, refl, sym, ap, ◌∙◌, subst, arith, Option, Some, None, option_map, option_and_then, option_to_list, filter_map}
 use Rattle.std.specs.Prelude.{is_some, IfSome}
 use Rattle.std.specs.Option.{option_or}
 use Rattle.std.specs.List.{range_with_len, last_or, AllByRecursion}
 use Rattle.std.proofs.lemmas.List.{length-append, append-nil}
-use Rattle.std.proofs.lemmas.Bool.{eqb-true, eqb-false, eq-eqb, ne_eqb, or_parts, false≢true, false_from_ne_true}
+use Rattle.std.proofs.lemmas.Bool.{eqb-true, eq-eqb, ne_eqb, or_parts, false≢true, false_from_ne_true}
 use Rattle.std.proofs.lemmas.Option.{none-some, same_Some}
 use Rattle.n2k_join.specs.Frames.{Key, same_key, Frame, of_key, frame_at, most_frames}
-use Rattle.n2k_join.specs.Groups.{Ends, closes, complete, cut, carried, has_number, has_twice, first, incomplete, open_of}
-use Rattle.n2k_join.specs.Open.{Piece, Group, pieces_of, group_of, where_begun, begun_at, open_groups}
-use Rattle.n2k_join.specs.State.{held_of, held, Rise, IsOpen, AreApart, AreOpen}
+use Rattle.n2k_join.specs.Groups.{Ends, closes, complete, cut, has_number, has_twice, first, incomplete, open_of}
+use Rattle.n2k_join.specs.Open.{Group, group_of, where_begun, begun_at, open_groups}
+use Rattle.n2k_join.specs.State.{held_of}
 use Rattle.n2k_join.proofs.Advanced.{with_frame, joined, taken, begun, of_the_key, opened, advanced}
 use Rattle.n2k_join.proofs.Carried.{carried-push, complete-same, pieces_of-same, has_twice-push}
 use Rattle.n2k_join.proofs.Cuts.{IsEnding, next, so_far, so_far-push, so_far-all, so_far-keeps, last-cut}
-use Rattle.n2k_join.proofs.Held.{AreNumbered, carried-kept, has_twice-kept, first-kept, pieces_of-rise, pieces_of-numbers, pieces_of-some, group_of-held, so_far-held, all-held, all-reverse, all-any, first-held}
-use Rattle.n2k_join.proofs.Keys.{same_key-true, same_key-refl, same_key-sym, same_key-from, of_key-same, of_key-other, of_key-append, of_key-all, of_key-none, of_key-keeps}
-use Rattle.n2k_join.proofs.Rising.{range-push, filter_map-push, filter_map-fused, filter_map-range, find-append, find-passes, find-all, find-none, look, look-all, look-range, look-filter_map, rise-range, all-range, all-map, all-append}
+use Rattle.n2k_join.proofs.Held.{AreNumbered, carried-kept, has_twice-kept, first-kept}
+use Rattle.n2k_join.proofs.Keys.{same_key-true, same_key-refl, same_key-sym, of_key-same, of_key-other, of_key-keeps}
+use Rattle.n2k_join.proofs.Rising.{range-push, filter_map-push, filter_map-fused, filter_map-range, find-append, find-passes, find-all, find-none, look, look-filter_map, all-range, all-map, passes_none}
 
 -- the key of the frame at a line
 abbrev pub key_at : ℕ → List Frame → Option Key
@@ -75,7 +75,7 @@ module _ (ends : Ends) (is_ending : IsEnding ends) where
   unfolding begun_at
   begun_at-key fs i =
       elim (frame_at i fs) as (λ o. option_and_then (λ (f : Frame). option_and_then (where_begun i f.key) (open_of ends f.key fs)) o ≡ option_and_then (λ (k : Key). open_at k fs i) (option_map (λ (f : Frame). f.key) o))
-        [ None ↦ refl | Some f ↦ refl ]
+      [ None ↦ refl | Some f ↦ refl ]
 
   pub open_of-so_far : (k : Key) (fs : List Frame) → open_of ends k fs ≡ option_and_then incomplete (so_far ends (of_key k fs))
   open_of-so_far k fs = ap (option_and_then incomplete) (last-cut ends (of_key k fs))
@@ -91,7 +91,7 @@ module _ (ends : Ends) (is_ending : IsEnding ends) where
   pub so_far-fine : (fs : List Frame) → AreNumbered fs → IfSome (so_far ends fs) IsFine
   so_far-fine fs numbers =
       on_some _ _ (so_far ends fs) (λ g h. record { numbers = h.0; once = h.1.0; nonempty = h.1.1 })
-        (both AreNumbered (λ g. (has_twice g ≡ false) × (0 < length g)) (so_far ends fs) (so_far-all ends (λ (f : Frame). f.number < most_frames) fs numbers) (so_far-once fs))
+      (both AreNumbered (λ g. (has_twice g ≡ false) × (0 < length g)) (so_far ends fs) (so_far-all ends (λ (f : Frame). f.number < most_frames) fs numbers) (so_far-once fs))
 
   -- what is kept of a group ends, completes and takes a frame as the group does
   pub ends-kept : (k : Key) (g : List Frame) (x : Frame) → IsFine g → ends (held_of (group_of k g)) x ≡ ends g x
@@ -103,7 +103,7 @@ module _ (ends : Ends) (is_ending : IsEnding ends) where
   pub complete-kept_push : (k : Key) (g : List Frame) (x : Frame) → IsFine g → complete (held_of (group_of k g) ++ x ∷ []) ≡ complete (g ++ x ∷ [])
   complete-kept_push k g x fine =
       complete-same (held_of (group_of k g) ++ x ∷ []) (g ++ x ∷ []) (carried-push (held_of (group_of k g)) g x (carried-kept k g fine.numbers))
-        (has_twice-push (held_of (group_of k g)) x (has_twice-kept k g) ∙ ap (λ (c : ℕ → Option (List ℕ)). is_some (c x.number)) (carried-kept k g fine.numbers) ∙ sym (has_twice-push g x fine.once))
+      (has_twice-push (held_of (group_of k g)) x (has_twice-kept k g) ∙ ap (λ (c : ℕ → Option (List ℕ)). is_some (c x.number)) (carried-kept k g fine.numbers) ∙ sym (has_twice-push g x fine.once))
 
   pub with_frame-kept : (k : Key) (g : List Frame) (x : Frame) → IsFine g → with_frame (group_of k g) x ≡ group_of k (g ++ x ∷ [])
   with_frame-kept k g x fine = λ i. record {
@@ -128,12 +128,12 @@ module _ (ends : Ends) (is_ending : IsEnding ends) where
   not_here : (k : Key) (x : Frame) (i : ℕ) → (x.line ≡ i → ⊥) → option_and_then (where_begun i k) (incomplete (x ∷ [])) ≡ None
   not_here k x i other =
       elim (complete (x ∷ [])) as (λ b. option_and_then (where_begun i k) (cond b None (Some (x ∷ []))) ≡ None)
-        [ true ↦ refl | false ↦ ap (λ b. cond b (Some (group_of k (x ∷ []))) None) (ne_eqb x.line i other) ]
+      [ true ↦ refl | false ↦ ap (λ b. cond b (Some (group_of k (x ∷ []))) None) (ne_eqb x.line i other) ]
 
   here : (x : Frame) → option_and_then (where_begun x.line x.key) (incomplete (x ∷ [])) ≡ begun x
   here x =
       elim (complete (x ∷ [])) as (λ b. option_and_then (where_begun x.line x.key) (cond b None (Some (x ∷ []))) ≡ cond b None (Some (group_of x.key (x ∷ []))))
-        [ true ↦ refl | false ↦ ap (λ b. cond b (Some (group_of x.key (x ∷ []))) None) (eq-eqb x.line x.line refl) ]
+      [ true ↦ refl | false ↦ ap (λ b. cond b (Some (group_of x.key (x ∷ []))) None) (eq-eqb x.line x.line refl) ]
 
   and_then-cond : {X Y : Type 0} (f : X → Option Y) (b : Bool) (x : X) → option_and_then f (cond b None (Some x)) ≡ cond b None (f x)
   and_then-cond f true x = refl
@@ -161,14 +161,16 @@ module _ (ends : Ends) (is_ending : IsEnding ends) where
     where
       h : List Frame
       h = g ++ x ∷ []
+
       where_same : where_begun i k h ≡ cond (first g == i) (Some (group_of k h)) None
       where_same = ap (λ n. cond (n == i) (Some (group_of k h)) None) (first-push g x fine.nonempty)
+
       by : (c e : Bool) → ends g x ≡ e → option_and_then (where_begun i k) (incomplete (cond (c || e) (x ∷ []) h)) ≡ option_and_then (taken ends x) (option_and_then (where_begun i k) (cond c None (Some g)))
       by true e t = not_here k x i other
       by false true t =
           not_here k x i other
           ∙ sym (and_then-cond_not (taken ends x) (first g == i) (group_of k g) ∙ ap (λ o. cond (first g == i) o None) (taken-ended k g x fine same t)
-            ∙ both_none (first g == i))
+          ∙ both_none (first g == i))
       by false false t =
           and_then-cond (where_begun i k) (complete h) h
           ∙ ap (λ o. cond (complete h) None o) where_same
@@ -183,6 +185,7 @@ module _ (ends : Ends) (is_ending : IsEnding ends) where
     where
       h : List Frame
       h = g ++ x ∷ []
+
       by : (c e : Bool) → ends g x ≡ e → option_and_then (where_begun x.line x.key) (incomplete (cond (c || e) (x ∷ []) h)) ≡ opened ends x (option_map (group_of x.key) (cond c None (Some g)))
       by true e t = here x
       by false true t = here x ∙ sym (ap (λ b. cond b (begun x) None) (ends-kept x.key g x fine ∙ t))
@@ -230,13 +233,16 @@ module _ (ends : Ends) (is_ending : IsEnding ends) where
     where
       by_line : (k : Key) (g : List Frame) → open_of ends k fs ≡ Some g → (b : Bool) → (first g == i) ≡ b → cond b (Some (group_of k g)) None ≡ Some o → (o.first ≡ i) × (option_map (group_of o.key) (open_of ends o.key fs) ≡ Some o)
       by_line k g is true t e =
-          let same : group_of k g ≡ o = same_Some (group_of k g) o e in
-          (ap (λ (o : Group). o.first) (sym same) ∙ eqb-true (first g) i t,
-           subst (λ (o : Group). option_map (group_of o.key) (open_of ends o.key fs) ≡ Some o) same (ap (option_map (group_of k)) is))
+          let same : group_of k g ≡ o = same_Some (group_of k g) o e in (
+            ap (λ (o : Group). o.first) (sym same) ∙ eqb-true (first g) i t,
+            subst (λ (o : Group). option_map (group_of o.key) (open_of ends o.key fs) ≡ Some o) same (ap (option_map (group_of k)) is),
+          )
       by_line k g is false t e = absurd (none-some o e)
+
       by_open : (k : Key) (g : Option (List Frame)) → open_of ends k fs ≡ g → option_and_then (where_begun i k) g ≡ Some o → (o.first ≡ i) × (option_map (group_of o.key) (open_of ends o.key fs) ≡ Some o)
       by_open k None is e = absurd (none-some o e)
       by_open k (Some g) is e = by_line k g is (first g == i) refl e
+
       by : (k : Option Key) → option_and_then (λ (k : Key). open_at k fs i) k ≡ Some o → (o.first ≡ i) × (option_map (group_of o.key) (open_of ends o.key fs) ≡ Some o)
       by None e = absurd (none-some o e)
       by (Some k) e = by_open k (open_of ends k fs) refl e
@@ -249,17 +255,21 @@ module _ (ends : Ends) (is_ending : IsEnding ends) where
   pub so_far-begins : (n : ℕ) (k : Key) (fs : List Frame) → IsLog n fs → IfSome (so_far ends (of_key k fs)) (λ g. (1 ≤ first g) × (first g ≤ n) × (key_at (first g) fs ≡ Some k))
   so_far-begins n k fs log =
       on_some _ _ (so_far ends (of_key k fs)) (λ g h. at_first g h.0 h.1.nonempty)
-        (both (AllByRecursion P) IsFine (so_far ends (of_key k fs)) (so_far-all ends P (of_key k fs) of_it) (so_far-fine (of_key k fs) (numbers_of_key k fs log.numbers)))
+      (both (AllByRecursion P) IsFine (so_far ends (of_key k fs)) (so_far-all ends P (of_key k fs) of_it) (so_far-fine (of_key k fs) (numbers_of_key k fs log.numbers)))
     where
       L : Frame → Type 0
       L f = (1 ≤ f.line) × (f.line ≤ n)
+
       P : Frame → Type 0
       P f = (1 ≤ f.line) × (f.line ≤ n) × (key_at f.line fs ≡ Some k)
+
       zipped : (gs : List Frame) → AllByRecursion L gs → AllByRecursion (λ (f : Frame). key_at f.line fs ≡ Some f.key) gs → AllByRecursion (λ (f : Frame). (1 ≤ f.line) × (f.line ≤ n) × (key_at f.line fs ≡ Some f.key)) gs
       zipped [] a b = tt
       zipped (f ∷ gs) a b = ((a.0.0, a.0.1, b.0), zipped gs a.1 b.1)
+
       of_it : AllByRecursion P (of_key k fs)
       of_it = all-map _ P (of_key k fs) (λ f h. (h.0.0, h.0.1, h.0.2 ∙ ap Some h.1)) (of_key-keeps (λ (f : Frame). (1 ≤ f.line) × (f.line ≤ n) × (key_at f.line fs ≡ Some f.key)) k fs (zipped fs log.lines log.keys))
+
       at_first : (g : List Frame) → AllByRecursion P g → 0 < length g → (1 ≤ first g) × (first g ≤ n) × (key_at (first g) fs ≡ Some k)
       at_first [] all some = absurd (omega (arith, some))
       at_first (f ∷ g) all some = all.0
@@ -270,18 +280,10 @@ module _ (ends : Ends) (is_ending : IsEnding ends) where
       by_test : (h : List Frame) (b : Bool) → cond b None (Some h) ≡ Some g → (1 ≤ first h) × (first h ≤ n) × (key_at (first h) fs ≡ Some k) → (1 ≤ first g) × (first g ≤ n) × (key_at (first g) fs ≡ Some k)
       by_test h true e p = absurd (none-some g e)
       by_test h false e p = subst (λ g. (1 ≤ first g) × (first g ≤ n) × (key_at (first g) fs ≡ Some k)) (same_Some h g e) p
+
       by : (s : Option (List Frame)) → option_and_then incomplete s ≡ Some g → IfSome s (λ g. (1 ≤ first g) × (first g ≤ n) × (key_at (first g) fs ≡ Some k)) → (1 ≤ first g) × (first g ≤ n) × (key_at (first g) fs ≡ Some k)
       by None e p = absurd (none-some g e)
       by (Some h) e p = by_test h (complete h) e p
-
-  -- nothing is found where nothing passes
-  passes_none : {X : Type 0} (p : X → Bool) (xs : List X) → find p xs ≡ None → AllByRecursion (λ x. p x ≡ false) xs
-  passes_none p [] e = tt
-  passes_none {X} p (x ∷ xs) e = by (p x) refl e (passes_none p xs)
-    where
-      by : (b : Bool) → p x ≡ b → cond b (Some x) (find p xs) ≡ None → (find p xs ≡ None → AllByRecursion (λ x. p x ≡ false) xs) → AllByRecursion (λ x. p x ≡ false) (x ∷ xs)
-      by true t e rest = absurd (none-some x (sym e))
-      by false t e rest = (t, rest e)
 
   pub found-open : (n : ℕ) (k : Key) (fs : List Frame) → IsLog n fs → of_the_key k (open_groups ends n fs) ≡ option_map (group_of k) (open_of ends k fs)
   unfolding open_groups
@@ -292,11 +294,12 @@ module _ (ends : Ends) (is_ending : IsEnding ends) where
       by_none e (Some g) is =
           let at = open_of-begins n k fs g log is in
           let stands : begun_at ends fs (first g) ≡ Some (group_of k g) =
-              begun_at-key fs (first g) ∙ ap (option_and_then (λ (k : Key). open_at k fs (first g))) at.2 ∙ ap (option_and_then (where_begun (first g) k)) is ∙ ap (λ b. cond b (Some (group_of k g)) None) (eq-eqb (first g) (first g) refl) in
+          begun_at-key fs (first g) ∙ ap (option_and_then (λ (k : Key). open_at k fs (first g))) at.2 ∙ ap (option_and_then (where_begun (first g) k)) is ∙ ap (λ b. cond b (Some (group_of k g)) None) (eq-eqb (first g) (first g) refl) in
           let listed : look (λ (o : Group). o.first) (open_groups ends n fs) (first g) ≡ Some (group_of k g) =
-              look-filter_map (λ (o : Group). o.first) (begun_at ends fs) (λ i o e. (begun_at-is fs i o e).0) 1 n (first g) at.0 (omega (arith, at.1)) ∙ stands in
+          look-filter_map (λ (o : Group). o.first) (begun_at ends fs) (λ i o e. (begun_at-is fs i o e).0) 1 n (first g) at.0 (omega (arith, at.1)) ∙ stands in
           let differs : same_key k k ≡ false = find-all (λ (o : Group). same_key k o.key ≡ false) (λ (o : Group). o.first == first g) (open_groups ends n fs) (group_of k g) (passes_none (λ (o : Group). same_key k o.key) (open_groups ends n fs) e) listed in
           absurd (false≢true (sym differs ∙ same_key-refl k))
+
       by_found : (o : Option Group) → of_the_key k (open_groups ends n fs) ≡ o → of_the_key k (open_groups ends n fs) ≡ option_map (group_of k) (open_of ends k fs)
       by_found None e = e ∙ by_none e (open_of ends k fs) refl
       by_found (Some o) e =
@@ -319,7 +322,7 @@ module _ (ends : Ends) (is_ending : IsEnding ends) where
       ∙ ap (λ o. option_and_then (λ (k : Key). open_at k (fs ++ x ∷ []) x.line) (option_map (λ (f : Frame). f.key) o)) (at_last n fs x log l)
       ∙ ap (option_and_then (where_begun x.line x.key)) (open_of-so_far x.key (fs ++ x ∷ []) ∙ ap (λ t. option_and_then incomplete (so_far ends t)) (of_key-same x.key fs x (same_key-refl x.key)) ∙ ap (option_and_then incomplete) (so_far-push ends (of_key x.key fs) x))
       ∙ is_opened x (so_far ends (of_key x.key fs)) (so_far-fine (of_key x.key fs) (numbers_of_key x.key fs log.numbers))
-          (on_some (λ g. (1 ≤ first g) × (first g ≤ n) × (key_at (first g) fs ≡ Some x.key)) (λ g. first g ≡ x.line → ⊥) (so_far ends (of_key x.key fs)) (λ g h e. omega (arith, h.1, e)) (so_far-begins n x.key fs log))
+      (on_some (λ g. (1 ≤ first g) × (first g ≤ n) × (key_at (first g) fs ≡ Some x.key)) (λ g. first g ≡ x.line → ⊥) (so_far ends (of_key x.key fs)) (λ g h e. omega (arith, h.1, e)) (so_far-begins n x.key fs log))
       ∙ ap (λ o. opened ends x (option_map (group_of x.key) o)) (sym (open_of-so_far x.key fs))
       ∙ ap (opened ends x) (sym (found-open n x.key fs log))
 
@@ -330,6 +333,6 @@ module _ (ends : Ends) (is_ending : IsEnding ends) where
       let line : 1 + n ≡ x.line = omega (arith, at) in
       ap (filter_map (begun_at ends (fs ++ x ∷ []))) (range-push 1 n) ∙ filter_map-push (begun_at ends (fs ++ x ∷ [])) (range_with_len 1 n) (1 + n)
       ∙ ap (λ t. t ++ option_to_list (begun_at ends (fs ++ x ∷ []) (1 + n)))
-          (filter_map-range (begun_at ends (fs ++ x ∷ [])) (λ i. option_and_then (taken ends x) (begun_at ends fs i)) 1 n (λ i l u. begun_at-push fs x i log.numbers (λ e. omega (arith, e, at)))
-           ∙ filter_map-fused (taken ends x) (begun_at ends fs) (range_with_len 1 n))
+      (filter_map-range (begun_at ends (fs ++ x ∷ [])) (λ i. option_and_then (taken ends x) (begun_at ends fs i)) 1 n (λ i l u. begun_at-push fs x i log.numbers (λ e. omega (arith, e, at)))
+      ∙ filter_map-fused (taken ends x) (begun_at ends fs) (range_with_len 1 n))
       ∙ ap (λ o. filter_map (taken ends x) (open_groups ends n fs) ++ option_to_list o) (ap (begun_at ends (fs ++ x ∷ [])) line ∙ begun_at-last n fs x log (omega (arith, at)))

@@ -1,20 +1,20 @@
 -- What open groups hold is read back: frames held of groups have these groups open.
-use Rattle.std.proofs.Common.{◌≡◌, ◌==◌, ◌≤◌, ◌<◌, ◌+◌, ℕ, Bool, true, false, cond, List, [], ◌∷◌, ◌++◌, length, reverse, refl, sym, ap, ◌∙◌, subst, arith, Option, Some, None, option_map, option_and_then, option_to_list, filter_map, find, flat_map}
+use Rattle.std.proofs.Common.{◌≡◌, ◌==◌, ◌≤◌, ◌<◌, ◌+◌, ℕ, Bool, true, false, cond, List, [], ◌∷◌, ◌++◌, length, reverse, refl, sym, ap, ◌∙◌, subst, arith, Option, Some, None, option_map, option_and_then}
 use Rattle.std.specs.Prelude.{IfSome}
 use Rattle.std.specs.Option.{option_or}
-use Rattle.std.specs.List.{range_with_len, AllByRecursion}
+use Rattle.std.specs.List.{AllByRecursion}
 use Rattle.std.proofs.lemmas.List.{append-nil}
-use Rattle.std.proofs.lemmas.Bool.{eqb-true, eq-eqb, ne_eqb, eqb-false, false≢true, false_from_ne_true}
+use Rattle.std.proofs.lemmas.Bool.{eqb-true, eq-eqb, ne_eqb, eqb-false, false_from_ne_true}
 use Rattle.std.proofs.lemmas.Option.{none-some, same_Some}
 use Rattle.n2k_join.specs.Frames.{Key, same_key, Frame, of_key, frame_at, most_frames}
 use Rattle.n2k_join.specs.Groups.{Ends, complete, first, incomplete, open_of}
 use Rattle.n2k_join.specs.Open.{Piece, Group, group_of, where_begun, begun_at, open_groups}
 use Rattle.n2k_join.specs.State.{held_frame, held_of, held, Rise, IsOpen, AreApart, AreOpen}
 use Rattle.n2k_join.proofs.Cuts.{IsEnding, so_far}
-use Rattle.n2k_join.proofs.Held.{AreNumbered, has_twice-kept, pieces_of-rise, pieces_of-numbers, pieces_of-some, group_of-held, so_far-held, all-held, all-reverse, all-any, first-held, held_frames, length-held}
-use Rattle.n2k_join.proofs.Keys.{same_key-true, same_key-refl, same_key-sym, same_key-from, of_key-append, of_key-all, of_key-none}
+use Rattle.n2k_join.proofs.Held.{AreNumbered, pieces_of-rise, pieces_of-numbers, pieces_of-some, group_of-held, so_far-held, all-held, all-reverse, all-any, first-held, length-held}
+use Rattle.n2k_join.proofs.Keys.{same_key-true, same_key-refl, same_key-sym, of_key-append, of_key-all, of_key-none}
 use Rattle.n2k_join.proofs.Opened.{key_at, IsLog, IsFine, open_at, begun_at-key, begun_at-is, open_of-so_far, so_far-fine, complete-kept, numbers_of_key, open_groups-each}
-use Rattle.n2k_join.proofs.Rising.{find-append, find-passes, find-all, find-none, look, look-all, look-range, rise-range, rise-least, all-range, all-map, all-zip, all-append, all-flat_map, filter_map-range}
+use Rattle.n2k_join.proofs.Rising.{find-append, find-passes, find-all, find-none, look, look-all, look-range, rise-range, rise-least, all-range, all-map, all-zip, all-flat_map, filter_map-range}
 
 abbrev first_of : Group → ℕ
 first_of o = o.first
@@ -59,7 +59,7 @@ held-log n gs are = record {
 }
 
 -- the frames held of groups of other keys
-held-other : (k : Key) (gs : List Group) → AllByRecursion (λ (g : Group). same_key k g.key ≡ false) gs → of_key k (held gs) ≡ []
+pub held-other : (k : Key) (gs : List Group) → AllByRecursion (λ (g : Group). same_key k g.key ≡ false) gs → of_key k (held gs) ≡ []
 held-other k gs all = of_key-none k (held gs) (all-flat_map _ held_of gs (all-map _ _ gs (λ g h. held_of-any (λ (f : Frame). same_key k f.key ≡ false) g (λ p. h)) all))
 
 held-same : (g : Group) → of_key g.key (held_of g) ≡ held_of g
@@ -68,19 +68,20 @@ held-same g = of_key-all g.key (held_of g) (held_of-any (λ (f : Frame). same_ke
 -- those of a group's key are its own
 pub held-own : (gs : List Group) → AreApart gs → AllByRecursion (λ (g : Group). of_key g.key (held gs) ≡ held_of g) gs
 held-own [] apart = tt
-held-own (g ∷ gs) apart =
-    (of_key-append g.key (held_of g) (held gs) ∙ ap (λ t. t ++ of_key g.key (held gs)) (held-same g) ∙ ap (λ t. held_of g ++ t) (held-other g.key gs apart.0) ∙ append-nil (held_of g),
-     all-map _ (λ (h : Group). of_key h.key (held (g ∷ gs)) ≡ held_of h) gs
-       (λ h e. of_key-append h.key (held_of g) (held gs) ∙ ap (λ t. t ++ of_key h.key (held gs)) (of_key-none h.key (held_of g) (held_of-any (λ (f : Frame). same_key h.key f.key ≡ false) g (λ p. same_key-sym h.key g.key ∙ e.0))) ∙ e.1)
-       (all-zip (λ (h : Group). same_key g.key h.key ≡ false) (λ (h : Group). of_key h.key (held gs) ≡ held_of h) gs apart.0 (held-own gs apart.1)))
+held-own (g ∷ gs) apart = (
+  of_key-append g.key (held_of g) (held gs) ∙ ap (λ t. t ++ of_key g.key (held gs)) (held-same g) ∙ ap (λ t. held_of g ++ t) (held-other g.key gs apart.0) ∙ append-nil (held_of g),
+  all-map _ (λ (h : Group). of_key h.key (held (g ∷ gs)) ≡ held_of h) gs
+      (λ h e. of_key-append h.key (held_of g) (held gs) ∙ ap (λ t. t ++ of_key h.key (held gs)) (of_key-none h.key (held_of g) (held_of-any (λ (f : Frame). same_key h.key f.key ≡ false) g (λ p. same_key-sym h.key g.key ∙ e.0))) ∙ e.1)
+      (all-zip (λ (h : Group). same_key g.key h.key ≡ false) (λ (h : Group). of_key h.key (held gs) ≡ held_of h) gs apart.0 (held-own gs apart.1)),
+)
 
 module _ (ends : Ends) (is_ending : IsEnding ends) where
   -- each of the groups is the open one of its key
   pub open_of-held : (n : ℕ) (gs : List Group) → AreOpen n gs → AllByRecursion (λ (g : Group). open_of ends g.key (held gs) ≡ Some (held_of g)) gs
   open_of-held n gs are =
       all-map _ (λ (g : Group). open_of ends g.key (held gs) ≡ Some (held_of g)) gs
-        (λ g h. open_of-so_far ends is_ending g.key (held gs) ∙ ap (λ t. option_and_then incomplete (so_far ends t)) h.1 ∙ ap (option_and_then incomplete) (so_far-held ends is_ending g h.0) ∙ ap (λ b. cond b None (Some (held_of g))) h.0.incomplete)
-        (all-zip IsOpen (λ (g : Group). of_key g.key (held gs) ≡ held_of g) gs are.each (held-own gs are.apart))
+      (λ g h. open_of-so_far ends is_ending g.key (held gs) ∙ ap (λ t. option_and_then incomplete (so_far ends t)) h.1 ∙ ap (option_and_then incomplete) (so_far-held ends is_ending g h.0) ∙ ap (λ b. cond b None (Some (held_of g))) h.0.incomplete)
+      (all-zip IsOpen (λ (g : Group). of_key g.key (held gs) ≡ held_of g) gs are.each (held-own gs are.apart))
 
   begun_at-held : (n i : ℕ) (gs : List Group) → AreOpen n gs → begun_at ends (held gs) i ≡ look first_of gs i
   begun_at-held n i gs are =
@@ -116,9 +117,11 @@ module _ (ends : Ends) (is_ending : IsEnding ends) where
         numbers = pieces_of-numbers h;
         incomplete = complete-kept ends is_ending o.key h fine ∙ c;
       })
+
       by_group : (g : List Frame) (s : Option (List Frame)) → IfSome s IsFine → Some g ≡ option_and_then incomplete s → IsOpen (group_of o.key g)
       by_group g None fine is = absurd (none-some g (sym is))
       by_group g (Some h) fine is = by_test h fine (complete h) refl g is
+
       by : (s : Option (List Frame)) → option_map (group_of o.key) s ≡ Some o → s ≡ option_and_then incomplete (so_far ends (of_key o.key fs)) → IsOpen o
       by None gives is = absurd (none-some o gives)
       by (Some g) gives is = subst IsOpen (same_Some (group_of o.key g) o gives) (by_group g (so_far ends (of_key o.key fs)) (so_far-fine ends is_ending (of_key o.key fs) (numbers_of_key ends is_ending o.key fs numbers)) is)
@@ -126,9 +129,10 @@ module _ (ends : Ends) (is_ending : IsEnding ends) where
   -- groups that are the open ones of their keys are apart, since their lines are
   apart_from : (fs : List Frame) (least : ℕ) (gs : List Group) → Rise first_of least gs → AllByRecursion (λ (o : Group). option_map (group_of o.key) (open_of ends o.key fs) ≡ Some o) gs → AreApart gs
   apart_from fs least [] r all = tt
-  apart_from fs least (g ∷ gs) r all =
-      (all-map _ (λ (h : Group). same_key g.key h.key ≡ false) gs (λ h e. differs h e.0 e.1) (all-zip (λ (h : Group). g.first + 1 ≤ h.first) (λ (o : Group). option_map (group_of o.key) (open_of ends o.key fs) ≡ Some o) gs (rise-least first_of (g.first + 1) gs r.1) all.1),
-       apart_from fs (g.first + 1) gs r.1 all.1)
+  apart_from fs least (g ∷ gs) r all = (
+    all-map _ (λ (h : Group). same_key g.key h.key ≡ false) gs (λ h e. differs h e.0 e.1) (all-zip (λ (h : Group). g.first + 1 ≤ h.first) (λ (o : Group). option_map (group_of o.key) (open_of ends o.key fs) ≡ Some o) gs (rise-least first_of (g.first + 1) gs r.1) all.1),
+    apart_from fs (g.first + 1) gs r.1 all.1,
+  )
     where
       differs : (h : Group) → g.first + 1 ≤ h.first → option_map (group_of h.key) (open_of ends h.key fs) ≡ Some h → same_key g.key h.key ≡ false
       differs h l e = false_from_ne_true (same_key g.key h.key) (λ t.

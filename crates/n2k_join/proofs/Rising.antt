@@ -1,10 +1,9 @@
 -- Lists whose numbers rise strictly: looked up by number and read off a range of numbers.
-use Rattle.std.proofs.Common.{◌≡◌, ◌==◌, ◌≤◌, ◌<◌, ◌+◌, ℕ, suc, zero, Bool, true, false, cond, List, [], ◌∷◌, ◌++◌, refl, sym, ap, ◌∙◌, subst, arith, Option, Some, None, filter_map, find, option_and_then, option_to_list, option_map, length, flat_map}
-use Rattle.std.specs.Prelude.{is_some, count_by}
+use Rattle.std.proofs.Common.{◌≡◌, ◌==◌, ◌≤◌, ◌<◌, ◌+◌, ℕ, suc, zero, Bool, true, false, cond, List, [], ◌∷◌, ◌++◌, refl, sym, ap, ◌∙◌, subst, arith, Option, Some, None, filter_map, find, option_and_then, option_to_list, flat_map}
 use Rattle.std.specs.Option.{option_or}
 use Rattle.std.specs.List.{range_with_len, cons_option, AllByRecursion}
 use Rattle.std.proofs.lemmas.List.Elements.{filter_map-append}
-use Rattle.std.proofs.lemmas.Bool.{eqb-true, eqb-false, eq-eqb, ne_eqb, false≢true}
+use Rattle.std.proofs.lemmas.Bool.{eqb-true, eqb-false, eq-eqb, ne_eqb}
 use Rattle.std.proofs.lemmas.Option.{none-some, same_Some}
 use Rattle.n2k_join.specs.State.{Rise}
 
@@ -59,6 +58,15 @@ find-all P p (y ∷ ys) x all e = by (p y) e (find-all P p ys x all.1)
 pub find-none : {X : Type 0} (p : X → Bool) (xs : List X) → AllByRecursion (λ x. p x ≡ false) xs → find p xs ≡ None
 find-none p [] all = refl
 find-none p (x ∷ xs) all = ap (λ b. cond b (Some x) (find p xs)) all.0 ∙ find-none p xs all.1
+
+-- nothing is found where nothing passes
+pub passes_none : {X : Type 0} (p : X → Bool) (xs : List X) → find p xs ≡ None → AllByRecursion (λ x. p x ≡ false) xs
+passes_none p [] e = tt
+passes_none {X} p (x ∷ xs) e = by (p x) refl e (passes_none p xs)
+  where
+    by : (b : Bool) → p x ≡ b → cond b (Some x) (find p xs) ≡ None → (find p xs ≡ None → AllByRecursion (λ x. p x ≡ false) xs) → AllByRecursion (λ x. p x ≡ false) (x ∷ xs)
+    by true t e rest = absurd (none-some x (sym e))
+    by false t e rest = (t, rest e)
 
 pub all-map : {X : Type 0} (P Q : X → Type 0) (xs : List X) → ((x : X) → P x → Q x) → AllByRecursion P xs → AllByRecursion Q xs
 all-map P Q [] h all = tt
@@ -125,6 +133,7 @@ module _ {A : Type 0} (number : A → ℕ) where
     where
       shifted : (ys : List A) → AllByRecursion (λ y. number y < a + suc n) ys → AllByRecursion (λ y. number y < (a + 1) + n) ys
       shifted ys h = all-map (λ y. number y < a + suc n) (λ y. number y < (a + 1) + n) ys (λ y l. omega arith) h
+
       by : (b : Bool) → (number x == a) ≡ b
           → (Rise number (a + 1) xs → AllByRecursion (λ y. number y < (a + 1) + n) xs → filter_map (look xs) (range_with_len (a + 1) n) ≡ xs)
           → (Rise number (a + 1) (x ∷ xs) → AllByRecursion (λ y. number y < (a + 1) + n) (x ∷ xs) → filter_map (look (x ∷ xs)) (range_with_len (a + 1) n) ≡ x ∷ xs)
@@ -156,6 +165,7 @@ module _ {A : Type 0} (number : A → ℕ) where
     where
       rest : List A
       rest = filter_map h (range_with_len (a + 1) n)
+
       by : (o : Option A) → h a ≡ o → (b : Bool) → (a == i) ≡ b → (a + 1 ≤ i → i < (a + 1) + n → look rest i ≡ h i) → look (cons_option o rest) i ≡ h i
       by None e true t later =
           let here : a ≡ i = eqb-true a i t in
