@@ -21,3 +21,4 @@ pub mod Steps
 pub mod StoredLemmas
 pub mod Stretches
 pub mod WholePieces
+pub mod SavedPieces

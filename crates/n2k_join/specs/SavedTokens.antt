@@ -1,13 +1,14 @@
 -- For private clauses: the text of a saved state, token by token.
-use Rattle.std.specs.Prelude.{◌≡◌, ℕ, List, [], ◌∷◌, ◌++◌, decimal, OnOk, Result}
+use Rattle.std.specs.Prelude.{◌≡◌, ℕ, List, [], ◌∷◌, ◌++◌, decimal, codes, map, Option, Some, None, OnOk, Result}
 use Rattle.std.specs.List.{flat_map}
 use Rattle.json.specs.Token.{Token}
 use Rattle.json.specs.Tree.{json_tokens}
 use Rattle.json.specs.Written.{Written}
 use Rattle.serde_json.specs.Data.{Data}
 use Rattle.serde_json.specs.Written.{outline}
+use Rattle.n2k_join.specs.Frames.{Key}
 use Rattle.n2k_join.specs.Open.{Piece, Group}
-use Rattle.n2k_join.specs.Saved.{piece_tree, group_tree}
+use Rattle.n2k_join.specs.Saved.{list, piece_tree, group_tree}
 
 -- the tokens of a value
 abbrev pub tokens_of : Data → List Token
@@ -20,6 +21,19 @@ count_tokens name n = Token.key name ∷ Token.number (decimal n) ∷ []
 -- the frames of a group, and the groups of a state, without their brackets
 unfoldable pub pieces_tokens : List Piece → List Token
 pieces_tokens ps = flat_map (λ p. tokens_of (piece_tree p)) ps
+
+-- a frame that may be missing
+abbrev pub piece_tokens : Option Piece → List Token
+piece_tokens None = []
+piece_tokens (Some p) = tokens_of (piece_tree p)
+
+-- the frames of a group as a member of it
+abbrev pub frames_tokens : List Piece → List Token
+frames_tokens ps = Token.key (codes "frames") ∷ tokens_of (list (map piece_tree ps))
+
+-- the members of a group behind its frames
+abbrev pub key_tokens : Key → List Token
+key_tokens key = count_tokens (codes "pgn") key.pgn ++ count_tokens (codes "seq") key.sequence ++ count_tokens (codes "src") key.src
 
 unfoldable pub groups_tokens : List Group → List Token
 groups_tokens gs = flat_map (λ g. tokens_of (group_tree g)) gs

@@ -68,6 +68,21 @@ impl StoredGroup {
         })
     }
 
+    /// The line that opened it.
+    pub fn first(&self) -> u64
+        ensures value { result ≡ self.now.first }
+        ensures kept { pieces_of (held_of self.now) ≡ self.now.pieces }
+    {
+        self.first
+    }
+
+    /// What its frames have in common.
+    pub fn key(&self) -> FrameKey
+        ensures { key_of result ≡ self.now.key }
+    {
+        self.key
+    }
+
     /// Whether it is the group of the key.
     pub fn is_of(&self, key: &FrameKey) -> bool
         ensures { result ≡ same_key (key_of key.now) self.now.key }
@@ -75,8 +90,8 @@ impl StoredGroup {
         key.is(&self.key)
     }
 
-    // What its frame of a number carries.
-    fn carried(&self, number: u8) -> Option<&[u8; 7]>
+    /// What its frame of a number carries.
+    pub fn carried(&self, number: u8) -> Option<&[u8; 7]>
         ensures bytes { option_map (λ bytes. bytes.now) result ≡ carried (held_of self.now) number }
         ensures seven { IfSome result (λ bytes. length bytes.now ≡ 7) }
     {

@@ -2,13 +2,22 @@
 ghost use Rattle.std.specs.Prelude.{◌≡◌, [], ◌∷◌};
 ghost use Rattle.hex.specs.Hex.{encode_lower};
 ghost use Rattle.json.specs.Token.{Token};
-ghost use Rattle.n2k_join.specs.Saved.{piece_tree};
-ghost use Rattle.n2k_join.specs.SavedTokens.{Appends, tokens_of, count_tokens};
+ghost use Rattle.n2k_join.specs.Groups.{carried};
+ghost use Rattle.n2k_join.specs.Open.{piece_at, pieces_of};
+ghost use Rattle.n2k_join.specs.Saved.{piece_tree, group_tree};
+ghost use Rattle.n2k_join.specs.SavedTokens.{Appends, tokens_of, count_tokens, piece_tokens, pieces_tokens, frames_tokens, key_tokens};
+ghost use Rattle.n2k_join.specs.State.{held_of};
+ghost use Rattle.n2k_join.specs.Stored.{key_of};
 ghost use Rattle.std.specs.Str.{IsUtf8};
 
+use crate::group::StoredGroup;
+use crate::piece::FrameKey;
 use json::Writer;
 use std::alloc::AllocError;
 use std::str;
+
+/// The most frames of a group.
+const MOST_FRAMES: u8 = 32;
 
 /// Writes a member that is a whole number.
 fn push_count(name: &str, number: u64, out: &mut Writer) -> Result<(), AllocError>
@@ -55,4 +64,58 @@ fn push_piece(number: u8, bytes: &[u8; 7], out: &mut Writer) -> Result<(), Alloc
     out.u64(u64::from(number))?;
     push_seven(bytes, out)?;
     out.end_array()
+}
+
+// Writes the frame of a number, where the group has it.
+fn push_numbered(group: &StoredGroup, number: u8, out: &mut Writer) -> Result<(), AllocError>
+    ensures { Appends result out.old out.new (piece_tokens (piece_at (carried (held_of group.now)) number)) }
+{
+    match group.carried(number) {
+        Some(bytes) => push_piece(number, bytes, out),
+        None => Ok(()),
+    }
+}
+
+// Writes the frames of a group, by rising number.
+fn push_pieces(group: &StoredGroup, out: &mut Writer) -> Result<(), AllocError>
+    ensures { Appends result out.old out.new (pieces_tokens (pieces_of (held_of group.now))) }
+{
+    for number in 0..MOST_FRAMES {
+        push_numbered(group, number, out)?;
+    }
+    Ok(())
+}
+
+// Writes the frames of a group as a member.
+fn push_frames(group: &StoredGroup, out: &mut Writer) -> Result<(), AllocError>
+    ensures { Appends result out.old out.new (frames_tokens (pieces_of (held_of group.now))) }
+{
+    out.key("frames")?;
+    out.begin_array()?;
+    push_pieces(group, out)?;
+    out.end_array()?;
+    Ok(())
+}
+
+// Writes what the frames of a group have in common, but for the destination.
+fn push_key(key: &FrameKey, out: &mut Writer) -> Result<(), AllocError>
+    ensures { Appends result out.old out.new (key_tokens (key_of key.now)) }
+{
+    push_count("pgn", u64::from(key.pgn), out)?;
+    push_count("seq", u64::from(key.sequence), out)?;
+    push_count("src", u64::from(key.src), out)
+}
+
+// Writes an open group.
+fn push_group(group: &StoredGroup, out: &mut Writer) -> Result<(), AllocError>
+    ensures { Appends result out.old out.new (tokens_of (group_tree group.now)) }
+{
+    let key = group.key();
+    out.begin_object()?;
+    push_count("dst", u64::from(key.dst), out)?;
+    push_count("first", group.first(), out)?;
+    push_frames(group, out)?;
+    push_key(&key, out)?;
+    out.end_object()?;
+    Ok(())
 }
