@@ -22,7 +22,7 @@ use Rattle.n2k_join.proofs.Lines.{RiseFrom, all_with, rise-filter, frames-rise, 
 use Rattle.n2k_join.proofs.GroupLines.{IsGroup, IsDone, LastFrame, last_frame, all-joined, done_found}
 
 -- what R gives of the second list
-zip-all : {X Y : Type 0} (R : X → Y → Type 0) (Q : Y → Type 0) → ((x : X) (y : Y) → R x y → Q y) → (xs : List X) (ys : List Y) → AllZip R xs ys → AllByRecursion Q ys
+pub zip-all : {X Y : Type 0} (R : X → Y → Type 0) (Q : Y → Type 0) → ((x : X) (y : Y) → R x y → Q y) → (xs : List X) (ys : List Y) → AllZip R xs ys → AllByRecursion Q ys
 zip-all R Q h [] [] each = tt
 zip-all R Q h [] (y ∷ ys) each = absurd each
 zip-all R Q h (x ∷ xs) [] each = absurd each
@@ -58,39 +58,78 @@ gathered_group ends fs k g f at stands found =
 message_is : (m : PacketParts) (f : Frame) (g : List Frame) → f.stamp ≡ m.stamp → f.id ≡ m.id → data_of g ≡ m.payload → message_of f g ≡ m
 message_is m f g stamp id payload = λ i. record { stamp = stamp i; id = id i; payload = payload i }
 
--- all pieces of a message bring it, where they are the group that is done at its last line
-pub brings : (kind : ℕ → Option Kind) (es : List Entry) (k : Key) (x : Sending) (g : List Frame) → IsStretchOf x g → AllByRecursion (StandsAt (frames kind es) k) g → find (is_done_at (last_line g)) (cut repeats (of_key k (frames kind es))) ≡ Some g → Brings kind es x g
-brings kind es k x g is standing found =
-    let pieces : AllByRecursion (IsPieceOf x) g = recursion_from_All (IsPieceOf x) g is.pieces.each in
-    let stretch : IsStretch repeats g = stretch_pieces x g pieces is.pieces.apart is.whole in
-    let carries : data_of g ≡ x.message.payload = data_pieces x g pieces is.pieces.apart is.whole in
+-- a key, the group's frames as its stretch, and where they stand and are done
+pub record Comes (kind : ℕ → Option Kind) (es : List Entry) (k : Key) (x : Sending) (g : List Frame) : Type 0 where
+  pub stretch : IsStretchOf x g
+  pub stands : AllByRecursion (StandsAt (frames kind es) k) g
+  pub found : find (is_done_at (last_line g)) (cut repeats (of_key k (frames kind es))) ≡ Some g
+
+abbrev pub pieces_in : (x : Sending) (g : List Frame) → IsStretchOf x g → AllByRecursion (IsPieceOf x) g
+pieces_in x g is = recursion_from_All (IsPieceOf x) g is.pieces.each
+
+abbrev pub as_stretch : (x : Sending) (g : List Frame) → IsStretchOf x g → IsStretch repeats g
+as_stretch x g is = stretch_pieces x g (pieces_in x g is) is.pieces.apart is.whole
+
+-- all pieces of a message are gathered as that message
+pub gathers : (kind : ℕ → Option Kind) (es : List Entry) (k : Key) (x : Sending) (g : List Frame) → Comes kind es k x g → gathered repeats (frames kind es) (last_line g) ≡ Some (record { key = k; message = x.message })
+gathers kind es k x g comes =
+    let pieces = pieces_in x g comes.stretch in
     let last : LastFrame (λ f. StandsAt (frames kind es) k f × IsPieceOf x f) g =
-    last_frame (λ f. StandsAt (frames kind es) k f × IsPieceOf x f) g stretch.nonempty (all_with (StandsAt (frames kind es) k) (IsPieceOf x) _ (λ f a b. (a, b)) g standing pieces) in
+    last_frame (λ f. StandsAt (frames kind es) k f × IsPieceOf x f) g (as_stretch x g comes.stretch).nonempty (all_with (StandsAt (frames kind es) k) (IsPieceOf x) _ (λ f a b. (a, b)) g comes.stands pieces) in
     let says = piece_says x last.frame last.holds.1 in
-    record {
-      whole = stretch.whole;
-      carries = carries;
-      given = ap (λ (o : Option Keyed). option_or (option_map (λ (m : Keyed). m.message) o) (option_and_then (alone kind) (entry_at es (last_line g)))) (gathered_group repeats (frames kind es) k g last.frame last.at last.holds.0 found)
-          ∙ ap Some (message_is x.message last.frame g says.stamp says.id carries);
-    }
+    gathered_group repeats (frames kind es) k g last.frame last.at last.holds.0 comes.found
+    ∙ ap (λ m. Some (record { key = k; message = m })) (message_is x.message last.frame g says.stamp says.id (data_pieces x g pieces comes.stretch.pieces.apart comes.stretch.whole))
+
+-- and bring it
+pub brings : (kind : ℕ → Option Kind) (es : List Entry) (k : Key) (x : Sending) (g : List Frame) → Comes kind es k x g → Brings kind es x g
+brings kind es k x g comes = record {
+  whole = (as_stretch x g comes.stretch).whole;
+  carries = data_pieces x g (pieces_in x g comes.stretch) comes.stretch.pieces.apart comes.stretch.whole;
+  given = ap (λ (o : Option Keyed). option_or (option_map (λ (m : Keyed). m.message) o) (option_and_then (alone kind) (entry_at es (last_line g)))) (gathers kind es k x g comes);
+}
 
 groups_whole : (xs : List Sending) (gs : List (List Frame)) → AllZip IsStretchOf xs gs → AllByRecursion (IsStretch repeats) gs
-groups_whole xs gs each = zip-all IsStretchOf (IsStretch repeats) (λ x g is. stretch_pieces x g (recursion_from_All (IsPieceOf x) g is.pieces.each) is.pieces.apart is.whole) xs gs each
+groups_whole xs gs each = zip-all IsStretchOf (IsStretch repeats) as_stretch xs gs each
 
-pub brought : (kind : ℕ → Option Kind) (ms : List PacketParts) (es : List Entry) → IsScattered kind ms es → (k : Key) → AllZip (Brings kind es) (sendings_of k ms) (cut repeats (of_key k (frames kind es)))
-brought kind ms es scattered k =
+-- the groups of a key are the stretches of its messages
+pub record Settled (kind : ℕ → Option Kind) (ms : List PacketParts) (es : List Entry) (k : Key) : Type 0 where
+  pub groups : List (List Frame)
+  pub cut_is : cut repeats (of_key k (frames kind es)) ≡ groups
+  pub nonempty : AllByRecursion IsGroup groups
+  pub rise : RiseFrom 1 (joined groups)
+  pub each : AllZip (Comes kind es k) (sendings_of k ms) groups
+
+pub settled : (kind : ℕ → Option Kind) (ms : List PacketParts) (es : List Entry) → IsScattered kind ms es → (k : Key) → Settled kind ms es k
+settled kind ms es scattered k =
     let falls = scattered.falls k in
     let gs = falls.stretches in
-    let xs = sendings_of k ms in
-    let whole : AllByRecursion (IsStretch repeats) gs = groups_whole xs gs falls.each in
+    let whole : AllByRecursion (IsStretch repeats) gs = groups_whole (sendings_of k ms) gs falls.each in
     let cut_is : cut repeats (of_key k (frames kind es)) ≡ gs = ap (cut repeats) falls.one_behind_the_other ∙ cut_stretches repeats gs whole in
     let rise : RiseFrom 1 (joined gs) = subst (RiseFrom 1) falls.one_behind_the_other (key-rise kind es k) in
     let standing : AllByRecursion (λ g. AllByRecursion (StandsAt (frames kind es) k) g) gs = all-joined (StandsAt (frames kind es) k) gs (subst (AllByRecursion (StandsAt (frames kind es) k)) falls.one_behind_the_other (stand kind es k)) in
-    let done : AllByRecursion (IsDone gs) gs = done_found 1 gs (all_with (IsStretch repeats) (IsStretch repeats) IsGroup (λ g is same. is.nonempty) gs whole whole) rise in
-    let both : AllByRecursion (λ g. AllByRecursion (StandsAt (frames kind es) k) g × IsDone gs g × IsStretch repeats g) gs =
-    all_with _ _ _ (λ g a b. (a, b.0, b.1)) gs standing (all_with (IsDone gs) (IsStretch repeats) (λ g. IsDone gs g × IsStretch repeats g) (λ g a b. (a, b)) gs done whole) in
-    subst (AllZip (Brings kind es) xs) (sym cut_is)
-    (zip-with IsStretchOf (Brings kind es) _ (λ x g is facts. brings kind es k x g is facts.0 (ap (find (is_done_at (last_line g))) cut_is ∙ facts.1 facts.2.whole)) xs gs falls.each both)
+    let nonempty : AllByRecursion IsGroup gs = all_with (IsStretch repeats) (IsStretch repeats) IsGroup (λ g is same. is.nonempty) gs whole whole in
+    let done : AllByRecursion (IsDone gs) gs = done_found 1 gs nonempty rise in
+    let both : AllByRecursion (λ g. AllByRecursion (StandsAt (frames kind es) k) g × IsDone gs g) gs = all_with _ _ _ (λ g a b. (a, b)) gs standing done in
+    record {
+      groups = gs;
+      cut_is = cut_is;
+      nonempty = nonempty;
+      rise = rise;
+      each = zip-with IsStretchOf (Comes kind es k) (λ g. AllByRecursion (StandsAt (frames kind es) k) g × IsDone gs g)
+          (λ x g is facts. record { stretch = is; stands = facts.0; found = ap (find (is_done_at (last_line g))) cut_is ∙ facts.1 (as_stretch x g is).whole })
+          (sendings_of k ms) gs falls.each both;
+    }
+
+pub zip-map : {X Y : Type 0} (R S : X → Y → Type 0) → ((x : X) (y : Y) → R x y → S x y) → (xs : List X) (ys : List Y) → AllZip R xs ys → AllZip S xs ys
+zip-map R S h [] [] each = tt
+zip-map R S h [] (y ∷ ys) each = absurd each
+zip-map R S h (x ∷ xs) [] each = absurd each
+zip-map R S h (x ∷ xs) (y ∷ ys) each = (h x y each.0, zip-map R S h xs ys each.1)
+
+pub brought : (kind : ℕ → Option Kind) (ms : List PacketParts) (es : List Entry) → IsScattered kind ms es → (k : Key) → AllZip (Brings kind es) (sendings_of k ms) (cut repeats (of_key k (frames kind es)))
+brought kind ms es scattered k =
+    let at = settled kind ms es scattered k in
+    subst (AllZip (Brings kind es) (sendings_of k ms)) (sym at.cut_is) (zip-map (Comes kind es k) (Brings kind es) (brings kind es k) (sendings_of k ms) at.groups at.each)
 
 -- no group of any key is incomplete
 abbrev pub AllWhole : Ends → List Frame → Type 0
@@ -113,7 +152,7 @@ none_last : (o : Option (List Frame)) (gs : List (List Frame)) → option_and_th
 none_last o [] e each = e
 none_last o (g ∷ gs) e each = none_last (Some g) gs (rw each.0 refl) each.1
 
-filter_map-none : {X Y : Type 0} (h : X → Option Y) → ((x : X) → h x ≡ None) → (xs : List X) → filter_map h xs ≡ []
+pub filter_map-none : {X Y : Type 0} (h : X → Option Y) → ((x : X) → h x ≡ None) → (xs : List X) → filter_map h xs ≡ []
 filter_map-none h e [] = refl
 filter_map-none h e (x ∷ xs) = rw (e x) (filter_map-none h e xs)
 

@@ -165,7 +165,7 @@ heals kind front back x (f ∷ g) after comes =
     let standing : AllByRecursion (StandsAt (frames kind es) k) (f ∷ g) =
     all-front (StandsAt (frames kind es) k) (f ∷ g) after (all-back (StandsAt (frames kind es) k) before ((f ∷ g) ++ after) (subst (AllByRecursion (StandsAt (frames kind es) k)) comes.next (stand kind es k))) in
     let brought : Brings kind es x (f ∷ g) =
-    brings kind es k x (f ∷ g) (record { pieces = record { each = comes.each; apart = apart }; whole = full }) standing (ap (find (is_done_at (last_line (f ∷ g)))) cuts ∙ done stretch.whole) in
+    brings kind es k x (f ∷ g) (record { stretch = record { pieces = record { each = comes.each; apart = apart }; whole = full }; stands = standing; found = ap (find (is_done_at (last_line (f ∷ g)))) cuts ∙ done stretch.whole }) in
     record {
       given = brought.given;
       breaks = broken_at_frame repeats (frames kind es) k f standing.0

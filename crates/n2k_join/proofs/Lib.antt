@@ -1,4 +1,5 @@
 pub mod Advanced
+pub mod Agreeing
 pub mod Arriving
 pub mod Carried
 pub mod CompleteLemmas
@@ -8,10 +9,14 @@ pub mod Given
 pub mod GroupLines
 pub mod Healing
 pub mod Held
+pub mod Keeping
+pub mod KeyCounts
 pub mod Keys
 pub mod Lines
+pub mod Logs
 pub mod Opened
 pub mod PieceFrames
+pub mod Replaying
 pub mod Resumed
 pub mod Rising
 pub mod SavedDigits

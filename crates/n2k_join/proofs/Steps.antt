@@ -1,6 +1,6 @@
 -- The step in the forms in which a program makes it. A stored group is a list of frames as they came, and what a state
 -- keeps of it is `group_of` of its key and that list.
-use Rattle.std.proofs.Common.{◌≡◌, ◌<◌, ℕ, Bool, true, false, cond, ◌||◌, List, [], ◌∷◌, ◌++◌, length, map, refl, sym, ap, ◌∙◌, subst, arith, Option, Some, None, option_map, option_to_list, filter_map, find}
+use Rattle.std.proofs.Common.{◌≡◌, ◌<◌, ℕ, Bool, true, false, cond, not, ◌||◌, List, [], ◌∷◌, ◌++◌, length, map, refl, sym, ap, ◌∙◌, subst, arith, Option, Some, None, option_map, option_to_list, filter_map, find}
 use Rattle.std.specs.Prelude.{is_some}
 use Rattle.std.specs.Option.{option_or}
 use Rattle.std.specs.List.{cons_option, AllByRecursion}
@@ -18,7 +18,7 @@ use Rattle.n2k_join.specs.declared.broken.Broken.{Broken}
 use Rattle.n2k_join.specs.Frames.{Key, same_key, Frame, of_key, frame_by, frame_in, fast_frame, is_fast_payload}
 use Rattle.n2k_join.specs.Groups.{repeats, complete, has_number}
 use Rattle.n2k_join.specs.Open.{Group, group_of, open_groups}
-use Rattle.n2k_join.specs.Messages.{Keyed, message_of, alone, single_by, cause_in, fast_cause, gathered, broken_of, broken_with}
+use Rattle.n2k_join.specs.Messages.{Keyed, message_of, alone, single_by, cause_in, fast_cause, gathered, broken_of, broken_with, is_unknown}
 use Rattle.n2k_join.specs.State.{State, Given, held_of, held, next_line, step_frames, step_given, step_groups, step_after, counted, IsOpen, AreApart, AreOpen}
 use Rattle.n2k_join.proofs.Advanced.{joined, taken, begun, of_the_key, opened, advanced, with_frame}
 use Rattle.n2k_join.proofs.Carried.{carried-push, data_of-same}
@@ -37,6 +37,7 @@ pub record IsOnlyFrame (kind : ℕ → Option Kind) (n : ℕ) (e : Entry) (x : F
   pub line : x.line ≡ n
   pub alone : alone kind e ≡ None
   pub cause : cause_in kind e ≡ None
+  pub known : is_unknown kind e ≡ false
 
 pub only_frame : (kind : ℕ → Option Kind) (line : ℕ) (e : Entry) (x : Frame) → frame_in kind line e ≡ Some x → IsOnlyFrame kind line e x
 unfolding fast_frame
@@ -49,6 +50,7 @@ only_frame kind line (entries.Frame packet) x e = by_kind (kind packet.id.pgn) r
     by_test true t k f at e = record {
       line = ap (λ (f : Frame). f.line) (sym (same_Some f x e)) ∙ at;
       alone = ap (λ k. single_by k packet) k;
+      known = ap (λ k. not (is_some k)) k;
       cause = ap (λ k. fast_cause k packet) k ∙ ap (λ b. cond b None (Some causes.Fast)) t;
     }
     by_test false t k f at e = absurd (none-some x e)

@@ -5,7 +5,8 @@ ghost use Rattle.n2k_wire.specs.Packet.{PacketParts};
 ghost use Rattle.n2k_table.specs.declared.definition.Kind.{Kind};
 ghost use Rattle.n2k_join.specs.Pieces.{Sending, split, written};
 ghost use Rattle.n2k_join.specs.Frames.{Frame};
-ghost use Rattle.n2k_join.specs.Scattered.{IsScattered};
+ghost use Rattle.n2k_join.specs.Scattered.{IsScattered, IsMute};
+ghost use Rattle.n2k_join.specs.Replay.{Replays};
 ghost use Rattle.n2k_join.specs.Arrival.{PiecesJoin, ArriveWhole, ComesNext, Heals};
 
 /// What a new splitter makes of messages, with one counter a stream, is what the whole list says: each message's
@@ -21,9 +22,10 @@ pub fn pieces_join()
 {}
 
 /// Messages whose frames are scattered over a log arrive whole, each key's in their order: no group is broken, and none
-/// stays open.
+/// stays open. Where no entry gives a message alone, the log gives these messages and no other.
 pub fn arrives_whole()
-    ensures { (kind : ℕ → Option Kind) (ms : List PacketParts) (es : List Entry) → IsScattered kind ms es → ArriveWhole kind ms es }
+    ensures whole { (kind : ℕ → Option Kind) (ms : List PacketParts) (es : List Entry) → IsScattered kind ms es → ArriveWhole kind ms es }
+    ensures replayed { (kind : ℕ → Option Kind) (ms : List PacketParts) (es : List Entry) → IsScattered kind ms es → IsMute kind es → Replays kind ms es }
 {}
 
 /// A stream heals: where the next frames of a key are the pieces of one message by rising number, and what the key has
