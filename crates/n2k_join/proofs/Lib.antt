@@ -21,9 +21,11 @@ pub mod Resumed
 pub mod Rising
 pub mod SavedDigits
 pub mod SavedLists
+pub mod SavedPieces
 pub mod Splitting
 pub mod Steps
 pub mod StoredLemmas
 pub mod Stretches
 pub mod WholePieces
-pub mod SavedPieces
+pub mod WrittenReads
+pub mod StateReads
