@@ -14,6 +14,7 @@ use Rattle.n2k_join.specs.Groups.{repeats, complete, incomplete}
 use Rattle.n2k_join.specs.Open.{Group, group_of, open_groups}
 use Rattle.n2k_join.specs.Messages.{Keyed, message_of, alone, cause_in, gathered, broken_of, broken_with, message, broken, entry_at, is_unknown, numbers, counts}
 use Rattle.n2k_join.specs.State.{Given, state, held_of, step_after, counted, one_if, AreOpen}
+use Rattle.n2k_join.specs.Laws.{StepsAgree}
 use Rattle.n2k_join.proofs.Advanced.{of_the_key, advanced}
 use Rattle.n2k_join.proofs.Carried.{carried-push, data_of-same}
 use Rattle.n2k_join.proofs.Cuts.{next, so_far, repeats-ends}
@@ -207,3 +208,6 @@ module _ (kind : ℕ → Option Kind) (es : List Entry) (e : Entry) where
 
     pub after_longer : step_after kind (state id kind es) e ≡ state id kind (es ++ e ∷ [])
     after_longer = steps_to_longer.after ∙ (λ i. record { id = id; counts = sym counts-push i; groups = open_groups repeats (length (es ++ e ∷ [])) (frames kind (es ++ e ∷ [])) })
+
+pub steps_agree : (id : List ℕ) (kind : ℕ → Option Kind) (es : List Entry) (e : Entry) → StepsAgree id kind es e
+steps_agree id kind es e = record { after = after_longer kind es e id; given = (steps_to_longer kind es e id).given }

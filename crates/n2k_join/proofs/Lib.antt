@@ -1,9 +1,11 @@
 pub mod Advanced
 pub mod Agreeing
 pub mod Arriving
+pub mod BadLines
 pub mod Carried
 pub mod CompleteLemmas
 pub mod Counting
+pub mod CutLaws
 pub mod Cuts
 pub mod Given
 pub mod GroupLines
@@ -29,3 +31,4 @@ pub mod Stretches
 pub mod WholePieces
 pub mod WrittenReads
 pub mod StateReads
+pub mod Worked

@@ -1,5 +1,5 @@
 //! Laws that hold of the definitions: each is the contract of a function that does nothing.
-ghost use Rattle.std.specs.Prelude.{◌≡◌, ℕ, List, Option};
+ghost use Rattle.std.specs.Prelude.{◌≡◌, ℕ, true, List, Option, is_some};
 ghost use Rattle.n2k_wire.specs.declared.entry.Entry.{Entry};
 ghost use Rattle.n2k_wire.specs.Packet.{PacketParts};
 ghost use Rattle.n2k_table.specs.declared.definition.Kind.{Kind};
@@ -7,7 +7,37 @@ ghost use Rattle.n2k_join.specs.Pieces.{Sending, split, written};
 ghost use Rattle.n2k_join.specs.Frames.{Frame};
 ghost use Rattle.n2k_join.specs.Scattered.{IsScattered, IsMute};
 ghost use Rattle.n2k_join.specs.Replay.{Replays};
+ghost use Rattle.n2k_join.specs.Messages.{cause_in};
+ghost use Rattle.n2k_join.specs.Laws.{CutJoins, CutFirst, CutGrows, StepsAgree, BadAlone};
 ghost use Rattle.n2k_join.specs.Arrival.{PiecesJoin, ArriveWhole, ComesNext, Heals};
+
+/// The groups that frames are cut into are the frames in their order; none is empty, and none has a number twice.
+pub fn cut_joins()
+    ensures { (fs : List Frame) → CutJoins fs }
+{}
+
+/// What the groups are, in other words: the first is the shortest front of the frames that has ended, because it is
+/// complete, or no frame follows, or the next one's number is in it; and the rest is cut likewise.
+pub fn cut_first()
+    ensures { (fs : List Frame) → CutFirst fs }
+{}
+
+/// One frame more at the end leaves each group that is complete, and each that is broken, as it was.
+pub fn cut_grows()
+    ensures { (fs : List Frame) (x : Frame) → CutGrows fs x }
+{}
+
+/// The step knows only the state, and yet agrees with the whole log: from the state of a log it leads to the state of the
+/// log with the entry, and gives the message, the cause and the broken groups of that one's last line.
+pub fn steps_agree()
+    ensures { (id : List ℕ) (kind : ℕ → Option Kind) (es : List Entry) (e : Entry) → StepsAgree id kind es e }
+{}
+
+/// A bad line is bad alone: with an empty line in its place every message, every broken group and every open group stays,
+/// and so does every count but that of bad lines, which is one less.
+pub fn bad_alone()
+    ensures { (kind : ℕ → Option Kind) (front : List Entry) (e : Entry) (back : List Entry) → is_some (cause_in kind e) ≡ true → BadAlone kind front e back }
+{}
 
 /// What a new splitter makes of messages, with one counter a stream, is what the whole list says: each message's
 /// frames under the number of earlier messages of its stream, modulo 8.
