@@ -12,12 +12,12 @@ use Rattle.n2k_join.specs.Groups.{Ends, repeats, complete, cut, last_line, data_
 use Rattle.n2k_join.specs.Messages.{Keyed, message_of, is_done_at, gathered_by, gathered, alone, entry_at, broken_of, broken_before, broken_by, broken_with}
 use Rattle.n2k_join.specs.Open.{where_begun, begun_at, open_groups}
 use Rattle.n2k_join.specs.Pieces.{Sending}
-use Rattle.n2k_join.specs.Scattered.{joined, IsPieceOf, IsStretchOf, sendings_of, IsScattered}
+use Rattle.n2k_join.specs.Scattered.{joined, IsPieceOf, IsStretchOf, FallInto, sendings_of, IsScattered}
 use Rattle.n2k_join.specs.Arrival.{Brings, ArriveWhole}
 use Rattle.n2k_join.proofs.Keys.{of_key-keeps}
 use Rattle.n2k_join.proofs.PieceFrames.{piece_says}
 use Rattle.n2k_join.proofs.WholePieces.{data_pieces}
-use Rattle.n2k_join.proofs.Stretches.{IsStretch, cut_stretches, stretch_pieces}
+use Rattle.n2k_join.proofs.Stretches.{IsStretch, cut_stretches, GoesOn, goes_on-repeats, stretch_pieces}
 use Rattle.n2k_join.proofs.Lines.{RiseFrom, all_with, rise-filter, frames-rise, frames_found}
 use Rattle.n2k_join.proofs.GroupLines.{IsGroup, IsDone, LastFrame, last_frame, all-joined, done_found}
 
@@ -33,6 +33,12 @@ zip-with R S Q h [] [] each all = tt
 zip-with R S Q h [] (y ∷ ys) each all = absurd each
 zip-with R S Q h (x ∷ xs) [] each all = absurd each
 zip-with R S Q h (x ∷ xs) (y ∷ ys) each all = (h x y each.0 all.0, zip-with R S Q h xs ys each.1 all.1)
+
+pub zip-map : {X Y : Type 0} (R S : X → Y → Type 0) → ((x : X) (y : Y) → R x y → S x y) → (xs : List X) (ys : List Y) → AllZip R xs ys → AllZip S xs ys
+zip-map R S h [] [] each = tt
+zip-map R S h [] (y ∷ ys) each = absurd each
+zip-map R S h (x ∷ xs) [] each = absurd each
+zip-map R S h (x ∷ xs) (y ∷ ys) each = (h x y each.0, zip-map R S h xs ys each.1)
 
 -- a frame is the one at its line, and has the key
 abbrev pub StandsAt : List Frame → Key → Frame → Type 0
@@ -58,56 +64,68 @@ gathered_group ends fs k g f at stands found =
 message_is : (m : PacketParts) (f : Frame) (g : List Frame) → f.stamp ≡ m.stamp → f.id ≡ m.id → data_of g ≡ m.payload → message_of f g ≡ m
 message_is m f g stamp id payload = λ i. record { stamp = stamp i; id = id i; payload = payload i }
 
--- a key, the group's frames as its stretch, and where they stand and are done
-pub record Comes (kind : ℕ → Option Kind) (es : List Entry) (k : Key) (x : Sending) (g : List Frame) : Type 0 where
+-- the group is a sending's stretch, goes on to its end, and is found at its last line among the groups of its key
+pub record Comes (ends : Ends) (kind : ℕ → Option Kind) (es : List Entry) (k : Key) (x : Sending) (g : List Frame) : Type 0 where
   pub stretch : IsStretchOf x g
+  pub goes_on : GoesOn ends g
   pub stands : AllByRecursion (StandsAt (frames kind es) k) g
-  pub found : find (is_done_at (last_line g)) (cut repeats (of_key k (frames kind es))) ≡ Some g
+  pub found : find (is_done_at (last_line g)) (cut ends (of_key k (frames kind es))) ≡ Some g
 
 abbrev pub pieces_in : (x : Sending) (g : List Frame) → IsStretchOf x g → AllByRecursion (IsPieceOf x) g
 pieces_in x g is = recursion_from_All (IsPieceOf x) g is.pieces.each
 
-abbrev pub as_stretch : (x : Sending) (g : List Frame) → IsStretchOf x g → IsStretch repeats g
-as_stretch x g is = stretch_pieces x g (pieces_in x g is) is.pieces.apart is.whole
+abbrev pub as_stretch : (ends : Ends) (x : Sending) (g : List Frame) → IsStretchOf x g → GoesOn ends g → IsStretch ends g
+as_stretch ends x g is goes = stretch_pieces ends x g (pieces_in x g is) is.pieces.apart is.whole goes
 
 -- all pieces of a message are gathered as that message
-pub gathers : (kind : ℕ → Option Kind) (es : List Entry) (k : Key) (x : Sending) (g : List Frame) → Comes kind es k x g → gathered repeats (frames kind es) (last_line g) ≡ Some (record { key = k; message = x.message })
-gathers kind es k x g comes =
+pub gathers : (ends : Ends) (kind : ℕ → Option Kind) (es : List Entry) (k : Key) (x : Sending) (g : List Frame) → Comes ends kind es k x g → gathered ends (frames kind es) (last_line g) ≡ Some (record { key = k; message = x.message })
+gathers ends kind es k x g comes =
     let pieces = pieces_in x g comes.stretch in
     let last : LastFrame (λ f. StandsAt (frames kind es) k f × IsPieceOf x f) g =
-    last_frame (λ f. StandsAt (frames kind es) k f × IsPieceOf x f) g (as_stretch x g comes.stretch).nonempty (all_with (StandsAt (frames kind es) k) (IsPieceOf x) _ (λ f a b. (a, b)) g comes.stands pieces) in
+    last_frame (λ f. StandsAt (frames kind es) k f × IsPieceOf x f) g (as_stretch ends x g comes.stretch comes.goes_on).nonempty (all_with (StandsAt (frames kind es) k) (IsPieceOf x) _ (λ f a b. (a, b)) g comes.stands pieces) in
     let says = piece_says x last.frame last.holds.1 in
-    gathered_group repeats (frames kind es) k g last.frame last.at last.holds.0 comes.found
+    gathered_group ends (frames kind es) k g last.frame last.at last.holds.0 comes.found
     ∙ ap (λ m. Some (record { key = k; message = m })) (message_is x.message last.frame g says.stamp says.id (data_pieces x g pieces comes.stretch.pieces.apart comes.stretch.whole))
 
 -- and bring it
-pub brings : (kind : ℕ → Option Kind) (es : List Entry) (k : Key) (x : Sending) (g : List Frame) → Comes kind es k x g → Brings kind es x g
+pub brings : (kind : ℕ → Option Kind) (es : List Entry) (k : Key) (x : Sending) (g : List Frame) → Comes repeats kind es k x g → Brings kind es x g
 brings kind es k x g comes = record {
-  whole = (as_stretch x g comes.stretch).whole;
+  whole = (as_stretch repeats x g comes.stretch comes.goes_on).whole;
   carries = data_pieces x g (pieces_in x g comes.stretch) comes.stretch.pieces.apart comes.stretch.whole;
-  given = ap (λ (o : Option Keyed). option_or (option_map (λ (m : Keyed). m.message) o) (option_and_then (alone kind) (entry_at es (last_line g)))) (gathers kind es k x g comes);
+  given = ap (λ (o : Option Keyed). option_or (option_map (λ (m : Keyed). m.message) o) (option_and_then (alone kind) (entry_at es (last_line g)))) (gathers repeats kind es k x g comes);
 }
 
-groups_whole : (xs : List Sending) (gs : List (List Frame)) → AllZip IsStretchOf xs gs → AllByRecursion (IsStretch repeats) gs
-groups_whole xs gs each = zip-all IsStretchOf (IsStretch repeats) as_stretch xs gs each
+-- frames fall into stretches that go on to their ends
+pub record FallOn (ends : Ends) (xs : List Sending) (fs : List Frame) : Type 0 where
+  pub stretches : List (List Frame)
+  pub one_behind_the_other : fs ≡ joined stretches
+  pub each : AllZip (λ x g. IsStretchOf x g × GoesOn ends g) xs stretches
+
+-- a number that doesn't repeat ends nothing
+pub falls_on : (xs : List Sending) (fs : List Frame) → FallInto xs fs → FallOn repeats xs fs
+falls_on xs fs falls = record {
+  stretches = falls.stretches;
+  one_behind_the_other = falls.one_behind_the_other;
+  each = zip-map IsStretchOf (λ x g. IsStretchOf x g × GoesOn repeats g) (λ x g is. (is, goes_on-repeats g is.pieces.apart)) xs falls.stretches falls.each;
+}
 
 -- the groups of a key are the stretches of its messages
-pub record Settled (kind : ℕ → Option Kind) (ms : List PacketParts) (es : List Entry) (k : Key) : Type 0 where
+pub record Settled (ends : Ends) (kind : ℕ → Option Kind) (ms : List PacketParts) (es : List Entry) (k : Key) : Type 0 where
   pub groups : List (List Frame)
-  pub cut_is : cut repeats (of_key k (frames kind es)) ≡ groups
+  pub cut_is : cut ends (of_key k (frames kind es)) ≡ groups
   pub nonempty : AllByRecursion IsGroup groups
   pub rise : RiseFrom 1 (joined groups)
-  pub each : AllZip (Comes kind es k) (sendings_of k ms) groups
+  pub each : AllZip (Comes ends kind es k) (sendings_of k ms) groups
 
-pub settled : (kind : ℕ → Option Kind) (ms : List PacketParts) (es : List Entry) → IsScattered kind ms es → (k : Key) → Settled kind ms es k
-settled kind ms es scattered k =
-    let falls = scattered.falls k in
+pub settled : (ends : Ends) (kind : ℕ → Option Kind) (ms : List PacketParts) (es : List Entry) (k : Key) → FallOn ends (sendings_of k ms) (of_key k (frames kind es)) → Settled ends kind ms es k
+settled ends kind ms es k falls =
     let gs = falls.stretches in
-    let whole : AllByRecursion (IsStretch repeats) gs = groups_whole (sendings_of k ms) gs falls.each in
-    let cut_is : cut repeats (of_key k (frames kind es)) ≡ gs = ap (cut repeats) falls.one_behind_the_other ∙ cut_stretches repeats gs whole in
+    let xs = sendings_of k ms in
+    let whole : AllByRecursion (IsStretch ends) gs = zip-all (λ x g. IsStretchOf x g × GoesOn ends g) (IsStretch ends) (λ x g is. as_stretch ends x g is.0 is.1) xs gs falls.each in
+    let cut_is : cut ends (of_key k (frames kind es)) ≡ gs = ap (cut ends) falls.one_behind_the_other ∙ cut_stretches ends gs whole in
     let rise : RiseFrom 1 (joined gs) = subst (RiseFrom 1) falls.one_behind_the_other (key-rise kind es k) in
     let standing : AllByRecursion (λ g. AllByRecursion (StandsAt (frames kind es) k) g) gs = all-joined (StandsAt (frames kind es) k) gs (subst (AllByRecursion (StandsAt (frames kind es) k)) falls.one_behind_the_other (stand kind es k)) in
-    let nonempty : AllByRecursion IsGroup gs = all_with (IsStretch repeats) (IsStretch repeats) IsGroup (λ g is same. is.nonempty) gs whole whole in
+    let nonempty : AllByRecursion IsGroup gs = all_with (IsStretch ends) (IsStretch ends) IsGroup (λ g is same. is.nonempty) gs whole whole in
     let done : AllByRecursion (IsDone gs) gs = done_found 1 gs nonempty rise in
     let both : AllByRecursion (λ g. AllByRecursion (StandsAt (frames kind es) k) g × IsDone gs g) gs = all_with _ _ _ (λ g a b. (a, b)) gs standing done in
     record {
@@ -115,21 +133,19 @@ settled kind ms es scattered k =
       cut_is = cut_is;
       nonempty = nonempty;
       rise = rise;
-      each = zip-with IsStretchOf (Comes kind es k) (λ g. AllByRecursion (StandsAt (frames kind es) k) g × IsDone gs g)
-          (λ x g is facts. record { stretch = is; stands = facts.0; found = ap (find (is_done_at (last_line g))) cut_is ∙ facts.1 (as_stretch x g is).whole })
-          (sendings_of k ms) gs falls.each both;
+      each = zip-with (λ x g. IsStretchOf x g × GoesOn ends g) (Comes ends kind es k) (λ g. AllByRecursion (StandsAt (frames kind es) k) g × IsDone gs g)
+          (λ x g is facts. record { stretch = is.0; goes_on = is.1; stands = facts.0; found = ap (find (is_done_at (last_line g))) cut_is ∙ facts.1 (as_stretch ends x g is.0 is.1).whole })
+          xs gs falls.each both;
     }
 
-pub zip-map : {X Y : Type 0} (R S : X → Y → Type 0) → ((x : X) (y : Y) → R x y → S x y) → (xs : List X) (ys : List Y) → AllZip R xs ys → AllZip S xs ys
-zip-map R S h [] [] each = tt
-zip-map R S h [] (y ∷ ys) each = absurd each
-zip-map R S h (x ∷ xs) [] each = absurd each
-zip-map R S h (x ∷ xs) (y ∷ ys) each = (h x y each.0, zip-map R S h xs ys each.1)
+-- each message of a scattered log is settled
+pub settles : (kind : ℕ → Option Kind) (ms : List PacketParts) (es : List Entry) → IsScattered kind ms es → (k : Key) → Settled repeats kind ms es k
+settles kind ms es scattered k = settled repeats kind ms es k (falls_on (sendings_of k ms) (of_key k (frames kind es)) (scattered.falls k))
 
 pub brought : (kind : ℕ → Option Kind) (ms : List PacketParts) (es : List Entry) → IsScattered kind ms es → (k : Key) → AllZip (Brings kind es) (sendings_of k ms) (cut repeats (of_key k (frames kind es)))
 brought kind ms es scattered k =
-    let at = settled kind ms es scattered k in
-    subst (AllZip (Brings kind es) (sendings_of k ms)) (sym at.cut_is) (zip-map (Comes kind es k) (Brings kind es) (brings kind es k) (sendings_of k ms) at.groups at.each)
+    let at = settles kind ms es scattered k in
+    subst (AllZip (Brings kind es) (sendings_of k ms)) (sym at.cut_is) (zip-map (Comes repeats kind es k) (Brings kind es) (brings kind es k) (sendings_of k ms) at.groups at.each)
 
 -- no group of any key is incomplete
 abbrev pub AllWhole : Ends → List Frame → Type 0

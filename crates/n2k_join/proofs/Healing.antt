@@ -14,7 +14,7 @@ use Rattle.n2k_join.specs.Pieces.{Sending, last_piece}
 use Rattle.n2k_join.specs.Scattered.{key_of_sending, joined, IsPieceOf}
 use Rattle.n2k_join.specs.Arrival.{Brings, ComesNext, Heals}
 use Rattle.n2k_join.proofs.Counting.{has_number-cons}
-use Rattle.n2k_join.proofs.Stretches.{IsStretch, cut_stretch, stretch_pieces}
+use Rattle.n2k_join.proofs.Stretches.{IsStretch, cut_stretch, goes_on-repeats, stretch_pieces}
 use Rattle.n2k_join.proofs.Lines.{RiseFrom, all_with, rise-all, rise-weaker}
 use Rattle.n2k_join.proofs.GroupLines.{IsGroup, IsDone, all-front, all-back, all-joined, first_above, done_found}
 use Rattle.n2k_join.proofs.Arriving.{StandsAt, stand, key-rise, brings}
@@ -107,7 +107,7 @@ none_below m a (suc n) (f ∷ fs) below numbers =
     let rest : map (λ (g : Frame). g.number) fs ≡ range_with_len (a + 1) n = cc in
     has_number-cons f fs m ∙ or_from _ _ (ne_eqb f.number m (λ same. omega arith)) (none_below m (a + 1) n fs (omega arith) rest)
 
-rising-apart : (a n : ℕ) (fs : List Frame) → map (λ (f : Frame). f.number) fs ≡ range_with_len a n → has_twice fs ≡ false
+pub rising-apart : (a n : ℕ) (fs : List Frame) → map (λ (f : Frame). f.number) fs ≡ range_with_len a n → has_twice fs ≡ false
 rising-apart a n [] numbers = refl
 rising-apart a zero (f ∷ fs) numbers = absurd (cc)
 rising-apart a (suc n) (f ∷ fs) numbers =
@@ -115,7 +115,7 @@ rising-apart a (suc n) (f ∷ fs) numbers =
     let rest : map (λ (g : Frame). g.number) fs ≡ range_with_len (a + 1) n = cc in
     or_from _ _ (none_below f.number (a + 1) n fs (omega arith) rest) (rising-apart (a + 1) n fs rest)
 
-rising-length : (a n : ℕ) (fs : List Frame) → map (λ (f : Frame). f.number) fs ≡ range_with_len a n → length fs ≡ n
+pub rising-length : (a n : ℕ) (fs : List Frame) → map (λ (f : Frame). f.number) fs ≡ range_with_len a n → length fs ≡ n
 rising-length a zero [] numbers = refl
 rising-length a (suc n) [] numbers = absurd (cc)
 rising-length a zero (f ∷ fs) numbers = absurd (cc)
@@ -152,7 +152,8 @@ heals kind front back x (f ∷ g) after comes =
     let pieces : AllByRecursion (IsPieceOf x) (f ∷ g) = recursion_from_All (IsPieceOf x) (f ∷ g) comes.each in
     let apart : has_twice (f ∷ g) ≡ false = rising-apart 0 _ (f ∷ g) comes.rising in
     let full : length (f ∷ g) ≡ last_piece x.message + 1 = rising-length 0 _ (f ∷ g) comes.rising in
-    let stretch : IsStretch repeats (f ∷ g) = stretch_pieces x (f ∷ g) pieces apart full in
+    let goes_on = goes_on-repeats (f ∷ g) apart in
+    let stretch : IsStretch repeats (f ∷ g) = stretch_pieces repeats x (f ∷ g) pieces apart full goes_on in
     let zeroth : f.number ≡ 0 = rising-first (last_piece x.message + 1) f g (omega arith) comes.rising in
     let gs = cut repeats before ++ ((f ∷ g) ∷ cut repeats after) in
     let cuts : cut repeats (of_key k (frames kind es)) ≡ gs =
@@ -165,7 +166,7 @@ heals kind front back x (f ∷ g) after comes =
     let standing : AllByRecursion (StandsAt (frames kind es) k) (f ∷ g) =
     all-front (StandsAt (frames kind es) k) (f ∷ g) after (all-back (StandsAt (frames kind es) k) before ((f ∷ g) ++ after) (subst (AllByRecursion (StandsAt (frames kind es) k)) comes.next (stand kind es k))) in
     let brought : Brings kind es x (f ∷ g) =
-    brings kind es k x (f ∷ g) (record { stretch = record { pieces = record { each = comes.each; apart = apart }; whole = full }; stands = standing; found = ap (find (is_done_at (last_line (f ∷ g)))) cuts ∙ done stretch.whole }) in
+    brings kind es k x (f ∷ g) (record { stretch = record { pieces = record { each = comes.each; apart = apart }; whole = full }; goes_on = goes_on; stands = standing; found = ap (find (is_done_at (last_line (f ∷ g)))) cuts ∙ done stretch.whole }) in
     record {
       given = brought.given;
       breaks = broken_at_frame repeats (frames kind es) k f standing.0

@@ -32,3 +32,4 @@ pub mod WholePieces
 pub mod WrittenReads
 pub mod StateReads
 pub mod Worked
+pub mod Written

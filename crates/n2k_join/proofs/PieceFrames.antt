@@ -32,7 +32,7 @@ total_fits payload h n e f t =
     leb-true _ _ at_zero
 
 -- the frame that a piece gives, where it gives one
-abbrev given_frame : Sending → ℕ → ℕ → Frame
+abbrev pub given_frame : Sending → ℕ → ℕ → Frame
 given_frame x line n = frame_with line (piece x.message x.sequence n) (32 * x.sequence + n) (piece_bytes x.message.payload n)
 
 says_given : (x : Sending) (f : Frame) → given_frame x f.line f.number ≡ f → is_fast_payload ((32 * x.sequence + f.number) ∷ piece_bytes x.message.payload f.number) ≡ true → SaysPiece x f

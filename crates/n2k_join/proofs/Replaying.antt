@@ -9,7 +9,7 @@ use Rattle.n2k_wire.specs.Packet.{PacketParts}
 use Rattle.n2k_wire.specs.declared.entry.Entry.{Entry}
 use Rattle.n2k_table.specs.declared.definition.Kind.{Kind}
 use Rattle.n2k_join.specs.Frames.{Key, same_key, Frame, frame_in, frames_from, frames, of_key, frame_at}
-use Rattle.n2k_join.specs.Groups.{repeats, complete, cut, last_line}
+use Rattle.n2k_join.specs.Groups.{Ends, repeats, complete, cut, last_line}
 use Rattle.n2k_join.specs.Messages.{Keyed, message_of, is_done_at, gathered_by, gathered, alone, message, numbers}
 use Rattle.n2k_join.specs.Pieces.{Sending, sendings, sendings_after}
 use Rattle.n2k_join.specs.Scattered.{key_of_sending, joined, sendings_of, IsScattered, IsMute}
@@ -19,7 +19,7 @@ use Rattle.n2k_join.proofs.KeyCounts.{same_length}
 use Rattle.n2k_join.proofs.Rising.{find-passes, find-all, find-none, filter_map-range, all-map}
 use Rattle.n2k_join.proofs.Lines.{RiseFrom, frame_in-line}
 use Rattle.n2k_join.proofs.GroupLines.{IsGroup, rise-after, last_frame, lasts_above}
-use Rattle.n2k_join.proofs.Arriving.{StandsAt, Comes, gathers, Settled, settled, zip-map, zip-all, as_stretch, filter_map-none}
+use Rattle.n2k_join.proofs.Arriving.{StandsAt, Comes, gathers, Settled, settles, zip-map, zip-all, as_stretch, filter_map-none}
 
 -- the sending whose group's last frame stands at the line
 unfoldable at_line : List Sending → List (List Frame) → ℕ → Option Sending
@@ -92,24 +92,24 @@ abbrev made : Frame → Option (List Frame) → Option Keyed
 made f o = option_map (λ group. record { key = f.key; message = message_of f group }) o
 
 -- where no group of the key ends at the line, the line gathers nothing of the key
-none_of_key : (fs : List Frame) (k : Key) (gs : List (List Frame)) (line : ℕ) → cut repeats (of_key k fs) ≡ gs → AllByRecursion (λ g. (last_line g == line) ≡ false) gs → kept k (gathered repeats fs line) ≡ None
+none_of_key : (ends : Ends) (fs : List Frame) (k : Key) (gs : List (List Frame)) (line : ℕ) → cut ends (of_key k fs) ≡ gs → AllByRecursion (λ g. (last_line g == line) ≡ false) gs → kept k (gathered ends fs line) ≡ None
 unfolding gathered
-none_of_key fs k gs line cut_is none = by_frame (frame_at line fs) refl
+none_of_key ends fs k gs line cut_is none = by_frame (frame_at line fs) refl
   where
     other_key : (f : Frame) → same_key k f.key ≡ false → (o : Option (List Frame)) → kept k (made f o) ≡ None
     other_key f other None = refl
     other_key f other (Some g) = rw other refl
 
-    of_frame : (f : Frame) → frame_at line fs ≡ Some f → (b : Bool) → same_key k f.key ≡ b → kept k (gathered_by repeats fs f) ≡ None
+    of_frame : (f : Frame) → frame_at line fs ≡ Some f → (b : Bool) → same_key k f.key ≡ b → kept k (gathered_by ends fs f) ≡ None
     of_frame f e true same =
         let at : line ≡ f.line = sym (eqb-true f.line line (find-passes (λ (g : Frame). g.line == line) fs f e)) in
         let undone : AllByRecursion (λ g. is_done_at f.line g ≡ false) gs = subst (λ l. AllByRecursion (λ g. is_done_at l g ≡ false) gs) at (all-map (λ g. (last_line g == line) ≡ false) (λ g. is_done_at line g ≡ false) gs (λ g other. and_right (complete g) _ other) none) in
-        let nothing : find (is_done_at f.line) (cut repeats (of_key f.key fs)) ≡ None =
-        ap (λ c. find (is_done_at f.line) (cut repeats (of_key c fs))) (sym (same_key-true k f.key same)) ∙ (ap (find (is_done_at f.line)) cut_is ∙ find-none (is_done_at f.line) gs undone) in
+        let nothing : find (is_done_at f.line) (cut ends (of_key f.key fs)) ≡ None =
+        ap (λ c. find (is_done_at f.line) (cut ends (of_key c fs))) (sym (same_key-true k f.key same)) ∙ (ap (find (is_done_at f.line)) cut_is ∙ find-none (is_done_at f.line) gs undone) in
         ap (λ o. kept k (made f o)) nothing
-    of_frame f e false other = other_key f other (find (is_done_at f.line) (cut repeats (of_key f.key fs)))
+    of_frame f e false other = other_key f other (find (is_done_at f.line) (cut ends (of_key f.key fs)))
 
-    by_frame : (o : Option Frame) → frame_at line fs ≡ o → kept k (option_and_then (gathered_by repeats fs) o) ≡ None
+    by_frame : (o : Option Frame) → frame_at line fs ≡ o → kept k (option_and_then (gathered_by ends fs) o) ≡ None
     by_frame None e = refl
     by_frame (Some f) e = of_frame f e (same_key k f.key) refl
 
@@ -148,42 +148,41 @@ frames-within kind n (e ∷ es) = by_frame (frame_in kind n e) (frame_in-line ki
     by_frame None line rest = rest
     by_frame (Some f) line rest = (omega (arith, line f refl), rest)
 
-comes-within : (kind : ℕ → Option Kind) (es : List Entry) (k : Key) (x : Sending) (g : List Frame) → Comes kind es k x g → last_line g < 1 + length es
-comes-within kind es k x g comes =
-    let last = last_frame (StandsAt (frames kind es) k) g (as_stretch x g comes.stretch).nonempty comes.stands in
+comes-within : (ends : Ends) (kind : ℕ → Option Kind) (es : List Entry) (k : Key) (x : Sending) (g : List Frame) → Comes ends kind es k x g → last_line g < 1 + length es
+comes-within ends kind es k x g comes =
+    let last = last_frame (StandsAt (frames kind es) k) g (as_stretch ends x g comes.stretch comes.goes_on).nonempty comes.stands in
     subst (λ l. l < 1 + length es) (sym last.at) (find-all (λ (f : Frame). f.line < 1 + length es) (λ (f : Frame). f.line == last.frame.line) (frames kind es) last.frame (frames-within kind 1 es) last.holds.0)
 
 -- of a key a line gathers what is sent under the key and ends there
-line_of_key : (kind : ℕ → Option Kind) (ms : List PacketParts) (es : List Entry) (k : Key) (at : Settled kind ms es k) (i : ℕ) → kept k (gathered repeats (frames kind es) i) ≡ option_map (keyed k) (at_line (sendings_of k ms) at.groups i)
-line_of_key kind ms es k at i = by_line (at_line-cases (gathered repeats (frames kind es)) k (sendings_of k ms) at.groups i (zip-map (Comes kind es k) _ (gathers kind es k) (sendings_of k ms) at.groups at.each))
+line_of_key : (ends : Ends) (kind : ℕ → Option Kind) (ms : List PacketParts) (es : List Entry) (k : Key) (at : Settled ends kind ms es k) (i : ℕ) → kept k (gathered ends (frames kind es) i) ≡ option_map (keyed k) (at_line (sendings_of k ms) at.groups i)
+line_of_key ends kind ms es k at i = by_line (at_line-cases (gathered ends (frames kind es)) k (sendings_of k ms) at.groups i (zip-map (Comes ends kind es k) _ (gathers ends kind es k) (sendings_of k ms) at.groups at.each))
   where
     own : (x : Sending) → kept k (Some (keyed k x)) ≡ Some (keyed k x)
     own x = rw (same_key-refl k) refl
 
-    by_line : AtLine (gathered repeats (frames kind es)) k (sendings_of k ms) at.groups i → kept k (gathered repeats (frames kind es) i) ≡ option_map (keyed k) (at_line (sendings_of k ms) at.groups i)
+    by_line : AtLine (gathered ends (frames kind es)) k (sendings_of k ms) at.groups i → kept k (gathered ends (frames kind es) i) ≡ option_map (keyed k) (at_line (sendings_of k ms) at.groups i)
     by_line (inl here) = ap (kept k) here.2 ∙ (own here.0 ∙ sym (ap (option_map (keyed k)) here.1))
-    by_line (inr there) = none_of_key (frames kind es) k at.groups i at.cut_is there.1 ∙ sym (ap (option_map (keyed k)) there.0)
+    by_line (inr there) = none_of_key ends (frames kind es) k at.groups i at.cut_is there.1 ∙ sym (ap (option_map (keyed k)) there.0)
 
 filter_map-agree : {X Y : Type 0} (g h : X → Option Y) → ((x : X) → g x ≡ h x) → (xs : List X) → filter_map g xs ≡ filter_map h xs
 filter_map-agree g h e [] = refl
 filter_map-agree g h e (x ∷ xs) = ap (λ o. cons_option o (filter_map g xs)) (e x) ∙ ap (cons_option (h x)) (filter_map-agree g h e xs)
 
 -- what the groups of a key give, is what was sent under it, in order
-pub gathered_of_key : (kind : ℕ → Option Kind) (ms : List PacketParts) (es : List Entry) → IsScattered kind ms es → (k : Key) → filter (λ (m : Keyed). same_key k m.key) (gathered_messages kind es) ≡ map (keyed k) (sendings_of k ms)
-gathered_of_key kind ms es scattered k =
-    let at = settled kind ms es scattered k in
-    let within : AllByRecursion (λ g. last_line g < 1 + length es) at.groups = zip-all (Comes kind es k) (λ g. last_line g < 1 + length es) (comes-within kind es k) (sendings_of k ms) at.groups at.each in
-    filter-filter_map k (gathered repeats (frames kind es)) (numbers es)
-    ∙ (filter_map-agree (λ i. kept k (gathered repeats (frames kind es) i)) (λ i. option_map (keyed k) (at_line (sendings_of k ms) at.groups i)) (line_of_key kind ms es k at) (numbers es)
+pub gathered_of_key : (ends : Ends) (kind : ℕ → Option Kind) (ms : List PacketParts) (es : List Entry) (k : Key) → Settled ends kind ms es k → filter (λ (m : Keyed). same_key k m.key) (filter_map (gathered ends (frames kind es)) (numbers es)) ≡ map (keyed k) (sendings_of k ms)
+gathered_of_key ends kind ms es k at =
+    let within : AllByRecursion (λ g. last_line g < 1 + length es) at.groups = zip-all (Comes ends kind es k) (λ g. last_line g < 1 + length es) (comes-within ends kind es k) (sendings_of k ms) at.groups at.each in
+    filter-filter_map k (gathered ends (frames kind es)) (numbers es)
+    ∙ (filter_map-agree (λ i. kept k (gathered ends (frames kind es) i)) (λ i. option_map (keyed k) (at_line (sendings_of k ms) at.groups i)) (line_of_key ends kind ms es k at) (numbers es)
     ∙ (sym (map-filter_map (keyed k) (at_line (sendings_of k ms) at.groups) (numbers es))
-    ∙ ap (map (keyed k)) (read_off (Comes kind es k) 1 (length es) (sendings_of k ms) at.groups at.each (lasts_rise 1 at.groups at.nonempty at.rise) within)))
+    ∙ ap (map (keyed k)) (read_off (Comes ends kind es k) 1 (length es) (sendings_of k ms) at.groups at.each (lasts_rise 1 at.groups at.nonempty at.rise) within)))
 
 messages-keyed : (k : Key) (xs : List Sending) → map (λ (m : Keyed). m.message) (map (keyed k) xs) ≡ map (λ (x : Sending). x.message) xs
 messages-keyed k [] = refl
 messages-keyed k (x ∷ xs) = ap (λ l. x.message ∷ l) (messages-keyed k xs)
 
 pub gives_in_order : (kind : ℕ → Option Kind) (ms : List PacketParts) (es : List Entry) → IsScattered kind ms es → (k : Key) → given_to k kind es ≡ sent_to k ms
-gives_in_order kind ms es scattered k = ap (map (λ (m : Keyed). m.message)) (gathered_of_key kind ms es scattered k) ∙ messages-keyed k (sendings_of k ms)
+gives_in_order kind ms es scattered k = ap (map (λ (m : Keyed). m.message)) (gathered_of_key repeats kind ms es k (settles kind ms es scattered k)) ∙ messages-keyed k (sendings_of k ms)
 
 -- where no entry gives a message alone, every message is a group's
 entry-mute : (kind : ℕ → Option Kind) (es : List Entry) (i : ℕ) → AllByRecursion (λ (e : Entry). alone kind e ≡ None) es → option_and_then (alone kind) (slice_get es i) ≡ None
@@ -216,7 +215,7 @@ length-sendings earlier (m ∷ ms) = ap suc (length-sendings (earlier ++ m ∷ [
 pub gathers_all : (kind : ℕ → Option Kind) (ms : List PacketParts) (es : List Entry) → IsScattered kind ms es → length (gathered_messages kind es) ≡ length ms
 gathers_all kind ms es scattered =
     same_length (λ (m : Keyed). m.key) key_of_sending (length (gathered_messages kind es)) (gathered_messages kind es) (sendings ms) (omega arith)
-    (λ k. ap length (gathered_of_key kind ms es scattered k) ∙ length-map (keyed k) (sendings_of k ms))
+    (λ k. ap length (gathered_of_key repeats kind ms es k (settles kind ms es scattered k)) ∙ length-map (keyed k) (sendings_of k ms))
     ∙ length-sendings [] ms
 
 pub replays : (kind : ℕ → Option Kind) (ms : List PacketParts) (es : List Entry) → IsScattered kind ms es → IsMute kind es → Replays kind ms es

@@ -71,16 +71,22 @@ all-front : (P : Frame → Type 0) (fs back : List Frame) → AllByRecursion P (
 all-front P [] back each = tt
 all-front P (f ∷ fs) back each = (each.0, all-front P fs back each.1)
 
--- all pieces of a message are a stretch
-pub stretch_pieces : (x : Sending) (g : List Frame) → AllByRecursion (IsPieceOf x) g → has_twice g ≡ false → length g ≡ last_piece x.message + 1 → IsStretch repeats g
-stretch_pieces x g each apart full = record {
+-- the frames go on together: no front of them ends before the frame after it
+pub record GoesOn (ends : Ends) (g : List Frame) : Type 0 where
+  pub on : (f h : Frame) (front back : List Frame) → g ≡ (f ∷ front) ++ (h ∷ back) → ends (f ∷ front) h ≡ false
+
+pub goes_on-repeats : (g : List Frame) → has_twice g ≡ false → GoesOn repeats g
+goes_on-repeats g apart = record { on = λ f h front back e. (apart-front (f ∷ front) back h (ap has_twice (sym e) ∙ apart)).1 }
+
+-- all pieces of a message are a stretch, where they go on together
+pub stretch_pieces : (ends : Ends) (x : Sending) (g : List Frame) → AllByRecursion (IsPieceOf x) g → has_twice g ≡ false → length g ≡ last_piece x.message + 1 → GoesOn ends g → IsStretch ends g
+stretch_pieces ends x g each apart full goes = record {
   nonempty = omega arith;
   whole = complete_pieces x g each apart ∙ eq-eqb _ _ full;
   goes_on = λ f h front back e.
       let apart' : has_twice ((f ∷ front) ++ (h ∷ back)) ≡ false = ap has_twice (sym e) ∙ apart in
-      let fronts = apart-front (f ∷ front) back h apart' in
       let pieces : AllByRecursion (IsPieceOf x) ((f ∷ front) ++ (h ∷ back)) = subst (AllByRecursion (IsPieceOf x)) e each in
       let lengths : length g ≡ length (f ∷ front) + length (h ∷ back) = ap length e ∙ length-append (f ∷ front) (h ∷ back) in
-      let unfinished : complete (f ∷ front) ≡ false = complete_pieces x (f ∷ front) (all-front (IsPieceOf x) (f ∷ front) (h ∷ back) pieces) fronts.0 ∙ ne_eqb _ _ (λ same. omega arith) in
-      or_from _ _ unfinished fronts.1;
+      let unfinished : complete (f ∷ front) ≡ false = complete_pieces x (f ∷ front) (all-front (IsPieceOf x) (f ∷ front) (h ∷ back) pieces) (apart-front (f ∷ front) back h apart').0 ∙ ne_eqb _ _ (λ same. omega arith) in
+      or_from _ _ unfinished (goes.on f h front back e);
 }

@@ -1,15 +1,17 @@
 -- Logs in which the frames of messages stand mixed: each message's frames in any order, and messages of different keys
 -- between one another.
-use Rattle.std.specs.Prelude.{◌≡◌, ℕ, ◌+◌, ◌≤◌, false, List, length, filter, flat_map, Option, Some, None}
+use Rattle.std.specs.Prelude.{◌≡◌, ℕ, ◌+◌, ◌≤◌, false, List, map, length, filter, flat_map, Option, Some, None}
 use Rattle.std.specs.List.{All, AllZip}
 use Rattle.n2k_wire.specs.declared.entry.Entry.{Entry}
+use Rattle.n2k_wire.specs.declared.entry.Entry.TheVariants as entries
+use Rattle.n2k_wire.specs.Entry.{IsEntry}
 use Rattle.n2k_wire.specs.Packet.{PacketParts}
 use Rattle.n2k_table.specs.declared.definition.Kind.{Kind}
 use Rattle.n2k_table.specs.declared.definition.Kind.TheVariants.{Fast}
 use Rattle.n2k_join.specs.Frames.{Key, same_key, Frame, fast_frame, frames, of_key}
 use Rattle.n2k_join.specs.Groups.{has_twice}
 use Rattle.n2k_join.specs.Messages.{alone}
-use Rattle.n2k_join.specs.Pieces.{piece, last_piece, Sending, sendings}
+use Rattle.n2k_join.specs.Pieces.{piece, last_piece, Sending, sendings, written}
 
 -- the key of a sending's frames
 abbrev pub key_of_sending : Sending → Key
@@ -53,3 +55,13 @@ pub record IsScattered (kind : ℕ → Option Kind) (ms : List PacketParts) (es 
 -- no entry gives a message alone
 abbrev pub IsMute : (ℕ → Option Kind) → List Entry → Type 0
 IsMute kind es = All (λ (e : Entry). alone kind e ≡ None) es
+
+-- packets as the frames of a log, a line each
+abbrev pub as_entries : List PacketParts → List Entry
+as_entries packets = map (λ p. entries.Frame p) packets
+
+-- The frames that are written, a line each and in their order, make such a log, and it gives no message alone.
+pub record WrittenLog (kind : ℕ → Option Kind) (ms : List PacketParts) : Type 0 where
+  pub entries : All IsEntry (as_entries (written kind ms))
+  pub mute : IsMute kind (as_entries (written kind ms))
+  pub scattered : IsScattered kind ms (as_entries (written kind ms))

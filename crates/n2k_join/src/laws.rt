@@ -1,11 +1,12 @@
 //! Laws that hold of the definitions: each is the contract of a function that does nothing.
-ghost use Rattle.std.specs.Prelude.{◌≡◌, ℕ, true, List, Option, is_some};
+ghost use Rattle.std.specs.Prelude.{◌≡◌, ℕ, All, true, List, Option, Some, is_some};
 ghost use Rattle.n2k_wire.specs.declared.entry.Entry.{Entry};
-ghost use Rattle.n2k_wire.specs.Packet.{PacketParts};
+ghost use Rattle.n2k_wire.specs.Packet.{PacketParts, IsPacketParts};
 ghost use Rattle.n2k_table.specs.declared.definition.Kind.{Kind};
+ghost use Rattle.n2k_table.specs.declared.definition.Kind.TheVariants.{Fast};
 ghost use Rattle.n2k_join.specs.Pieces.{Sending, split, written};
 ghost use Rattle.n2k_join.specs.Frames.{Frame};
-ghost use Rattle.n2k_join.specs.Scattered.{IsScattered, IsMute};
+ghost use Rattle.n2k_join.specs.Scattered.{IsScattered, IsMute, WrittenLog};
 ghost use Rattle.n2k_join.specs.Replay.{Replays};
 ghost use Rattle.n2k_join.specs.Messages.{cause_in};
 ghost use Rattle.n2k_join.specs.Laws.{CutJoins, CutFirst, CutGrows, StepsAgree, BadAlone};
@@ -56,6 +57,12 @@ pub fn pieces_join()
 pub fn arrives_whole()
     ensures whole { (kind : ℕ → Option Kind) (ms : List PacketParts) (es : List Entry) → IsScattered kind ms es → ArriveWhole kind ms es }
     ensures replayed { (kind : ℕ → Option Kind) (ms : List PacketParts) (es : List Entry) → IsScattered kind ms es → IsMute kind es → Replays kind ms es }
+{}
+
+/// The frames of fast packets that are written, a line each and in their order, make a log over which the messages are
+/// scattered, and which gives no message alone: so `arrives_whole` speaks of it.
+pub fn written_is_scattered()
+    ensures { (kind : ℕ → Option Kind) (ms : List PacketParts) → All IsPacketParts ms → All (λ (m : PacketParts). kind m.id.pgn ≡ Some Fast) ms → WrittenLog kind ms }
 {}
 
 /// A stream heals: where the next frames of a key are the pieces of one message by rising number, and what the key has
