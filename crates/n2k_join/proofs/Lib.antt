@@ -25,11 +25,11 @@ pub mod SavedDigits
 pub mod SavedLists
 pub mod SavedPieces
 pub mod Splitting
+pub mod StateReads
 pub mod Steps
 pub mod StoredLemmas
 pub mod Stretches
 pub mod WholePieces
-pub mod WrittenReads
-pub mod StateReads
 pub mod Worked
 pub mod Written
+pub mod WrittenReads

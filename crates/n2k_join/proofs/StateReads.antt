@@ -1,5 +1,5 @@
 -- The text of a valid state is read as that state.
-use Rattle.std.proofs.Common.{◌≡◌, ◌≤◌, ◌<◌, ◌^◌, ◌+◌, ℕ, Bool, true, false, List, [], ◌∷◌, length, map, Option, Some, None, option_map, option_and_then, Result, Ok, Err, decimal, codes, refl, sym, ap, ◌∙◌, subst, arith}
+use Rattle.std.proofs.Common.{◌≡◌, ◌≤◌, ◌<◌, ◌^◌, ◌+◌, ℕ, zero, suc, Bool, true, false, List, [], ◌∷◌, length, map, Option, Some, None, option_map, option_and_then, Result, Ok, Err, decimal, codes, refl, sym, ap, ◌∙◌, subst, arith}
 use Rattle.std.specs.List.{AllByRecursion}
 use Rattle.hex.specs.Hex.{encode_lower, decode_sized, IsBytes}
 use Rattle.hex.proofs.HexLemmas.{decode_sized-encode_lower}
@@ -12,7 +12,11 @@ use Rattle.serde_json.proofs.Numbers.{number_of-decimal}
 use Rattle.n2k_join.specs.Open.{Piece, Group}
 use Rattle.n2k_join.specs.Resumed.{each, elements, piece_of, group_of, key_of, pieces_at}
 use Rattle.n2k_join.specs.Saved.{whole, list, piece_tree, group_tree}
-use Rattle.n2k_join.specs.State.{IsPiece, IsOpen}
+use Rattle.n2k_join.specs.State.{IsKey, IsPiece, IsOpen}
+use Rattle.n2k_join.specs.declared.state_fault.StateFault.{StateFault}
+use Rattle.n2k_join.specs.Counts.{most_lines}
+use Rattle.n2k_join.specs.Frames.{most_frames}
+use Rattle.n2k_join.proofs.Rising.{all-map, all-zip}
 use Rattle.n2k_join.proofs.SavedDigits.{IsUtf8-encode_lower}
 use Rattle.n2k_join.proofs.SavedLists.{elements-items_of}
 use Rattle.n2k_join.proofs.WrittenReads.{IsPlain, ArePlain}
@@ -24,26 +28,67 @@ pub record IsTree (deep : ℕ) (d : Data) : Type 0 where
   pub back : of_json (outline d) ≡ Some d
 
 -- a list of trees
-pub lists : {X : Type 0} (deep : ℕ) (f : X → Data) (P : X → Type 0) → ((x : X) → P x → IsTree deep (f x)) → (xs : List X) → AllByRecursion P xs → IsTree (deep + 1) (list (map f xs))
-lists deep f P each xs all = record { plain = plain xs all; shallow = ?; back = ap (option_map array) (back xs all) }
-  where
-    plain : (xs : List _) → AllByRecursion P xs → ArePlain (items_of (map f xs))
-    plain [] all = tt
-    plain (x ∷ xs) all = ((each x all.0).plain, plain xs all.1)
+lists_plain : {X : Type 0} (deep : ℕ) (f : X → Data) (xs : List X) → AllByRecursion (λ x. IsTree deep (f x)) xs → ArePlain (items_of (map f xs))
+lists_plain deep f [] all = tt
+lists_plain deep f (x ∷ xs) all = (all.0.plain, lists_plain deep f xs all.1)
 
-    back : (xs : List _) → AllByRecursion P xs → of_items (items_outline (items_of (map f xs))) ≡ Some (items_of (map f xs))
-    back [] all = refl
-    back (x ∷ xs) all = rw ((each x all.0).back, back xs all.1) refl
+lists_shallow : {X : Type 0} (deep : ℕ) (f : X → Data) (xs : List X) → AllByRecursion (λ x. IsTree deep (f x)) xs → items_depth (items_outline (items_of (map f xs))) ≤ deep
+lists_shallow deep f [] all = omega arith
+lists_shallow deep f (x ∷ xs) all =
+    let one : depth (outline (f x)) ≤ deep = all.0.shallow in
+    let more = lists_shallow deep f xs all.1 in
+    omega arith
 
--- a whole number
-number_back : (n : ℕ) → n < 2 ^ 64 → number_of (decimal n) ≡ Some (unsigned n)
-number_back n h = number_of-decimal n h
+lists_back : {X : Type 0} (deep : ℕ) (f : X → Data) (xs : List X) → AllByRecursion (λ x. IsTree deep (f x)) xs → of_items (items_outline (items_of (map f xs))) ≡ Some (items_of (map f xs))
+lists_back deep f [] all = refl
+lists_back deep f (x ∷ xs) all = rw (all.0.back, lists_back deep f xs all.1) refl
 
--- a frame
-pub piece_tree-tree : (p : Piece) → IsPiece p → IsTree 1 (piece_tree p)
-unfolding piece_tree
-piece_tree-tree p is = record {
-  plain = (omega (arith, is.number), (IsUtf8-encode_lower p.bytes, tt));
-  shallow = omega arith;
-  back = rw (number_back p.number (omega (arith, is.number))) refl;
+pub lists : {X : Type 0} (deep : ℕ) (f : X → Data) (xs : List X) → AllByRecursion (λ x. IsTree deep (f x)) xs → IsTree (deep + 1) (list (map f xs))
+lists deep f xs all = record {
+  plain = lists_plain deep f xs all;
+  shallow = let more = lists_shallow deep f xs all in omega arith;
+  back = ap (option_map array) (lists_back deep f xs all);
 }
+
+-- a frame that a state can hold
+pub record IsHeld (p : Piece) : Type 0 where
+  pub small : p.number < most_frames
+  pub piece : IsPiece p
+
+bytes_at : (bs : List ℕ) → AllByRecursion (λ byte. byte < 256) bs → IsBytes bs
+bytes_at [] all i = omega arith
+bytes_at (b ∷ bs) all zero = all.0
+bytes_at (b ∷ bs) all (suc i) = bytes_at bs all.1 i
+
+pub piece-tree : (p : Piece) → IsHeld p → IsTree 1 (piece_tree p)
+unfolding piece_tree
+piece-tree p is = record {
+  plain = (omega (arith, is.small), (IsUtf8-encode_lower p.bytes, tt));
+  shallow = omega arith;
+  back = rw (number_of-decimal p.number (omega (arith, is.small))) refl;
+}
+
+pub piece-reads : (p : Piece) → IsHeld p → piece_of (piece_tree p) ≡ Ok p
+unfolding piece_of piece_tree
+piece-reads p is = rw (decode_sized-encode_lower p.bytes 7 is.piece.seven (bytes_at p.bytes is.piece.are_bytes)) refl
+
+-- each of a list is read back
+pub each-reads : {X : Type 0} (f : X → Data) (g : Data → Result X StateFault) (xs : List X) → AllByRecursion (λ x. g (f x) ≡ Ok x) xs → each g (elements (items_of (map f xs))) ≡ Ok xs
+each-reads f g [] all = refl
+each-reads f g (x ∷ xs) all = rw (all.0, each-reads f g xs all.1) refl
+
+-- a group that a state can hold
+pub record IsKept (g : Group) : Type 0 where
+  pub key : IsKey g.key
+  pub first : g.first ≤ most_lines
+  pub pieces : AllByRecursion IsHeld g.pieces
+
+pub group-tree : (g : Group) → IsKept g → IsTree 3 (group_tree g)
+unfolding group_tree
+group-tree g is =
+    let frames = lists 1 piece_tree g.pieces (all-map IsHeld (λ p. IsTree 1 (piece_tree p)) g.pieces piece-tree is.pieces) in
+    record { plain = ?; shallow = ?; back = ? }
+
+pub group-reads : (g : Group) → IsKept g → group_of (group_tree g) ≡ Ok g
+unfolding group_of key_of pieces_at group_tree
+group-reads g is = rw (each-reads piece_tree piece_of g.pieces (all-map IsHeld (λ p. piece_of (piece_tree p) ≡ Ok p) g.pieces piece-reads is.pieces)) refl
