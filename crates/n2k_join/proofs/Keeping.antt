@@ -1,9 +1,9 @@
 -- The step leads from a state that a join can have to another.
-use Rattle.std.proofs.Common.{◌≡◌, ◌==◌, ◌≤◌, ◌<◌, ◌+◌, ◌%◌, ℕ, suc, zero, Bool, true, false, cond, not, List, [], ◌∷◌, ◌++◌, length, map, refl, sym, ap, ◌∙◌, subst, arith, Option, Some, None, option_map, option_and_then, option_to_list, drop}
+use Rattle.std.proofs.Common.{◌≡◌, ◌==◌, ◌≤◌, ◌<◌, ◌+◌, ◌%◌, ℕ, suc, zero, Bool, true, false, cond, not, List, [], ◌∷◌, ◌++◌, length, map, refl, sym, ap, ◌∙◌, subst, arith, append_assoc, Option, Some, None, option_map, option_and_then, option_to_list, drop}
 use mathlib.Core.Logic.{◌⊎◌, inl, inr}
 use Rattle.std.specs.Prelude.{is_some, IfSome, slice_index_or, slice_index}
 use Rattle.std.specs.List.{range_with_len, AllByRecursion}
-use Rattle.std.proofs.lemmas.List.{append-nil}
+use Rattle.std.proofs.lemmas.List.{append-nil, length-append}
 use Rattle.std.proofs.lemmas.Bool.{eqb-true, eq-eqb, leb-true, not-true, or_cases, false≢true}
 use Rattle.std.proofs.lemmas.Option.{none-some, same_Some}
 use Rattle.n2k_wire.specs.declared.entry.BadCause.{BadCause}
@@ -20,15 +20,16 @@ use Rattle.n2k_join.specs.Frames.{Key, Frame, most_frames, longest_total, filler
 use Rattle.n2k_join.specs.Groups.{Ends, repeats, carried, complete, open_of, incomplete}
 use Rattle.n2k_join.specs.Open.{Piece, Group, piece_at, pieces_of, group_of, begun_at, open_groups}
 use Rattle.n2k_join.specs.Messages.{message_of, alone, single_by, whole_by, cause_in, fast_cause, is_unknown, broken_of}
-use Rattle.n2k_join.specs.State.{State, state, Given, held_of, held, next_line, step_frames, step_given, step_groups, step_after, counted, one_if, AreCounts, IsKey, IsPiece, HasParts, IsState}
-use Rattle.n2k_join.proofs.Cuts.{IsEnding, so_far, so_far-all, repeats-ends}
+use Rattle.n2k_join.specs.State.{State, state, Given, held_of, held, next_line, step_frames, step_given, step_groups, step_after, counted, one_if, AreCounts, IsKey, IsPiece, HasParts, IsState, AreFast}
+use Rattle.n2k_join.proofs.Cuts.{IsEnding, so_far, so_far-all, so_far-keeps, repeats-ends}
 use Rattle.n2k_join.proofs.Held.{AreNumbered}
 use Rattle.n2k_join.proofs.Keys.{of_key-keeps}
 use Rattle.n2k_join.proofs.Given.{broke, completed}
 use Rattle.n2k_join.proofs.Lines.{frame_in-line}
 use Rattle.n2k_join.proofs.Logs.{frame_in-number}
 use Rattle.n2k_join.proofs.Opened.{IsLog, IsFine, key_at, at_line, at_last, begun_at-is, open_of-so_far, so_far-fine, numbers_of_key}
-use Rattle.n2k_join.proofs.Resumed.{held_of-all, held-log, open_groups-open}
+use Rattle.n2k_join.proofs.Resumed.{held_of-all, held_of-any, held-log, open_groups-open}
+use Rattle.n2k_join.proofs.Agreeing.{after_longer}
 use Rattle.n2k_join.proofs.Advanced.{of_the_key}
 use Rattle.n2k_join.proofs.Steps.{only_frame, frame_gives, step-none, step-frame}
 use Rattle.n2k_join.proofs.Rising.{all-map, all-append, all-zip, all-flat_map, all-range, all-filter_map}
@@ -153,6 +154,46 @@ module _ (ends : Ends) (is_ending : IsEnding ends) where
   unfolding open_groups
   open_groups-parts n fs numbers parts = all-range HasParts (begun_at ends fs) 1 n (λ i o l u is. begun_at-parts fs i o numbers parts is)
 
+  -- what holds of the key of each frame holds of those of the open groups
+  begun_at-key_part : (P : Key → Type 0) (fs : List Frame) (i : ℕ) (o : Group) → AllByRecursion (λ (f : Frame). P f.key) fs → begun_at ends fs i ≡ Some o → P o.key
+  begun_at-key_part P fs i o all is = by_open (open_of ends o.key fs) (begun_at-is ends is_ending fs i o is).1 (open_of-so_far ends is_ending o.key fs)
+    where
+      first_key : (g : List Frame) → AllByRecursion (λ (f : Frame). P f.key × (f.key ≡ o.key)) g → 0 < length g → P o.key
+      first_key [] known some = absurd (omega (arith, some))
+      first_key (f ∷ g) known some = subst P known.0.1 known.0.0
+
+      by_group : (s : Option (List Frame)) → IfSome s (AllByRecursion (λ (f : Frame). P f.key × (f.key ≡ o.key))) → IfSome s (λ g. 0 < length g) → (g : List Frame) → Some g ≡ option_and_then incomplete s → P o.key
+      by_group None known some g same = absurd (none-some g (sym same))
+      by_group (Some h) known some g same = first_key h known some
+
+      by_open : (s : Option (List Frame)) → option_map (group_of o.key) s ≡ Some o → s ≡ option_and_then incomplete (so_far ends (of_key o.key fs)) → P o.key
+      by_open None gives same = absurd (none-some o gives)
+      by_open (Some g) gives same =
+          by_group (so_far ends (of_key o.key fs))
+          (so_far-all ends (λ (f : Frame). P f.key × (f.key ≡ o.key)) (of_key o.key fs) (of_key-keeps (λ (f : Frame). P f.key) o.key fs all))
+          (so_far-keeps ends (λ g. 0 < length g) (λ x. omega arith) (λ g x c h. omega (arith, length-append g (x ∷ []))) (of_key o.key fs)) g same
+
+  pub open_groups-keys : (P : Key → Type 0) (n : ℕ) (fs : List Frame) → AllByRecursion (λ (f : Frame). P f.key) fs → AllByRecursion (λ (g : Group). P g.key) (open_groups ends n fs)
+  unfolding open_groups
+  open_groups-keys P n fs all = all-range (λ (g : Group). P g.key) (begun_at ends fs) 1 n (λ i o l u is. begun_at-key_part P fs i o all is)
+
+-- the frame of an entry is of a fast PGN
+frame_in-fast : (kind : ℕ → Option Kind) (line : ℕ) (e : Entry) (x : Frame) → frame_in kind line e ≡ Some x → kind x.key.pgn ≡ Some Fast
+unfolding fast_frame
+frame_in-fast kind line entries.Skip x is = absurd (none-some x is)
+frame_in-fast kind line (entries.Bad cause) x is = absurd (none-some x is)
+frame_in-fast kind line (entries.Whole packet) x is = absurd (none-some x is)
+frame_in-fast kind line (entries.Frame packet) x is = by_kind (kind packet.id.pgn) refl is
+  where
+    by_test : (b : Bool) (f : Frame) → kind f.key.pgn ≡ Some Fast → cond b (Some f) None ≡ Some x → kind x.key.pgn ≡ Some Fast
+    by_test true f k is = ap (λ (f : Frame). kind f.key.pgn) (sym (same_Some f x is)) ∙ k
+    by_test false f k is = absurd (none-some x is)
+
+    by_kind : (k : Option Kind) → kind packet.id.pgn ≡ k → frame_by k line packet ≡ Some x → kind x.key.pgn ≡ Some Fast
+    by_kind None k is = absurd (none-some x is)
+    by_kind (Some Single) k is = absurd (none-some x is)
+    by_kind (Some Fast) k is = by_test (is_fast_payload packet.payload) (frame_with line packet (slice_index_or packet.payload 0 0) (drop 1 packet.payload)) k is
+
 -- ---- a log with one frame more
 
 log-wider : (n : ℕ) (fs : List Frame) → IsLog n fs → IsLog (n + 1) fs
@@ -273,3 +314,36 @@ state-new id kind = record {
   groups = record { each = tt; rise = tt; begun = tt; apart = tt };
   parts = tt;
 }
+
+-- groups of fast PGNs stay such
+pub step-fast : (kind : ℕ → Option Kind) (s : State) (e : Entry) → AreFast kind s.groups → AreFast kind (step_after kind s e).groups
+unfolding step_after
+step-fast kind s e fast =
+    open_groups-keys repeats repeats-ends (λ (k : Key). kind k.pgn ≡ Some Fast) (next_line s) (step_frames kind s e)
+    (all-append (λ (f : Frame). kind f.key.pgn ≡ Some Fast) (held s.groups) (option_to_list (frame_in kind (next_line s) e))
+    (all-flat_map (λ (f : Frame). kind f.key.pgn ≡ Some Fast) held_of s.groups (all-map (λ (g : Group). kind g.key.pgn ≡ Some Fast) (λ (g : Group). AllByRecursion (λ (f : Frame). kind f.key.pgn ≡ Some Fast) (held_of g)) s.groups (λ g k. held_of-any (λ (f : Frame). kind f.key.pgn ≡ Some Fast) g (λ p. k)) fast))
+    (by (frame_in kind (next_line s) e) refl))
+  where
+    by : (o : Option Frame) → frame_in kind (next_line s) e ≡ o → AllByRecursion (λ (f : Frame). kind f.key.pgn ≡ Some Fast) (option_to_list o)
+    by None none = tt
+    by (Some x) some = (frame_in-fast kind (next_line s) e x some, tt)
+
+-- ---- the states of logs
+
+-- the state of a log is one that a join can have, and its groups are of fast PGNs
+pub record IsLogState (kind : ℕ → Option Kind) (s : State) : Type 0 where
+  pub valid : IsState s
+  pub fast : AreFast kind s.groups
+
+state-from : (id : List ℕ) (kind : ℕ → Option Kind) (front es : List Entry) → IsLogState kind (state id kind front) → AllByRecursion IsEntry es → length front + length es ≤ most_lines → IsLogState kind (state id kind (front ++ es))
+state-from id kind front [] so_far entries_valid few = subst (λ es. IsLogState kind (state id kind es)) (sym (append-nil front)) so_far
+state-from id kind front (e ∷ es) so_far entries_valid few =
+    let next : IsLogState kind (state id kind (front ++ e ∷ [])) = subst (IsLogState kind) (after_longer kind front e id) (record {
+      valid = step-keeps kind (state id kind front) e so_far.valid entries_valid.0 (omega (arith, few));
+      fast = step-fast kind (state id kind front) e so_far.fast;
+    }) in
+    subst (λ es. IsLogState kind (state id kind es)) (append_assoc front (e ∷ []) es) (state-from id kind (front ++ e ∷ []) es next entries_valid.1 (omega (arith, few, length-append front (e ∷ []))))
+
+pub state-valid : (id : List ℕ) (kind : ℕ → Option Kind) (es : List Entry) → AllByRecursion IsEntry es → length es ≤ most_lines → IsLogState kind (state id kind es)
+unfolding open_groups
+state-valid id kind es entries_valid few = state-from id kind [] es (record { valid = state-new id kind; fast = tt }) entries_valid (omega (arith, few))

@@ -23,7 +23,7 @@ first_of o = o.first
 pub held_of-all : (P : Frame → Type 0) (Q : Piece → Type 0) (o : Group) → ((p : Piece) → Q p → P (held_frame o p)) → AllByRecursion Q o.pieces → AllByRecursion P (held_of o)
 held_of-all P Q o each all = all-held P Q o each (reverse o.pieces) (all-reverse Q o.pieces all)
 
-held_of-any : (P : Frame → Type 0) (o : Group) → ((p : Piece) → P (held_frame o p)) → AllByRecursion P (held_of o)
+pub held_of-any : (P : Frame → Type 0) (o : Group) → ((p : Piece) → P (held_frame o p)) → AllByRecursion P (held_of o)
 held_of-any P o each = held_of-all P (λ _. Unit {0}) o (λ p _. each p) (all-any (λ _. Unit {0}) (λ _. tt) o.pieces)
 
 -- frames of one line and key

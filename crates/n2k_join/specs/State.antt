@@ -1,12 +1,13 @@
 -- The state of a join after a log, and the step that one more entry makes. The step knows no log: it is read off the
 -- cuts of the frames that the state holds, followed by the entry's.
-use Rattle.std.specs.Prelude.{◌≡◌, ◌≤◌, ◌<◌, ℕ, ◌+◌, ◌^◌, false, true, Bool, List, [], ◌∷◌, ◌++◌, map, reverse, length, flat_map, Option, option_map, option_to_list, is_some, slice_index_or}
+use Rattle.std.specs.Prelude.{◌≡◌, ◌≤◌, ◌<◌, ℕ, ◌+◌, ◌^◌, false, true, Bool, List, [], ◌∷◌, ◌++◌, map, reverse, length, flat_map, Option, option_map, option_to_list, is_some, slice_index_or, Some}
 use Rattle.std.specs.Option.{option_or}
 use Rattle.std.specs.List.{AllByRecursion}
 use Rattle.n2k_wire.specs.declared.entry.BadCause.{BadCause}
 use Rattle.n2k_wire.specs.declared.entry.Entry.{Entry}
 use Rattle.n2k_wire.specs.Packet.{PacketParts}
 use Rattle.n2k_table.specs.declared.definition.Kind.{Kind}
+use Rattle.n2k_table.specs.declared.definition.Kind.TheVariants.{Fast}
 use Rattle.n2k_join.specs.declared.broken.Broken.{Broken}
 use Rattle.n2k_join.specs.declared.counts.Counts.{Counts}
 use Rattle.n2k_join.specs.Counts.{most_lines}
@@ -150,3 +151,7 @@ pub record IsState (s : State) : Type 0 where
   pub held : s.counts.held ≡ length s.groups
   pub groups : AreOpen s.counts.lines s.groups
   pub parts : AllByRecursion HasParts s.groups
+
+-- the groups are of PGNs that are sent in fast packets
+abbrev pub AreFast : (ℕ → Option Kind) → List Group → Type 0
+AreFast kind groups = AllByRecursion (λ (g : Group). kind g.key.pgn ≡ Some Fast) groups
