@@ -1,8 +1,8 @@
 -- Where no number stands twice, a group is complete exactly where it has as many frames as its message asks for, and none past its last.
-use Rattle.std.proofs.Common.{◌≡◌, ◌≢◌, ◌⊎◌, ℕ, zero, suc, ◌+◌, ◌<◌, ◌≤◌, ◌/◌, ◌==◌, nat_le, Bool, true, false, not, cond, ◌&&◌, ◌||◌, eqb, leb, zero-add, List, [], ◌∷◌, ◌++◌, take, drop, flat_map, length, map, Option, Some, None, eq-eqb, ne_eqb, inl, inr, refl, sym, ap, ◌∙◌, subst, arith}
+use Rattle.std.proofs.Common.{◌≡◌, ◌⊎◌, ℕ, zero, suc, ◌+◌, ◌<◌, ◌≤◌, ◌/◌, nat_le, Bool, true, false, not, cond, ◌&&◌, ◌||◌, eqb, zero-add, List, [], ◌∷◌, ◌++◌, take, drop, flat_map, length, Option, Some, None, ne_eqb, inl, inr, refl, sym, ap, ◌∙◌, subst, arith}
 use Rattle.std.specs.Prelude.{is_some, option_map, slice_index}
 use Rattle.std.specs.List.{range_with_len, list_all, list_any, IsDistinct, AllByRecursion}
-use Rattle.std.proofs.lemmas.Bool.{cases_eq, cases_Bool, eqb-true, eqb-false, leb-true, true≢false, false≢true, or_cases, or_parts, and_parts, and_from, and_left, and_right, false_from_ne_true, or_left, or_right}
+use Rattle.std.proofs.lemmas.Bool.{cases_eq, cases_Bool, eqb-true, leb-true, false≢true, or_cases, and_parts, and_from, and_right, false_from_ne_true}
 use Rattle.std.proofs.lemmas.Option.{none-some, same_Some}
 use mathlib.Core.Path.{fun_ext}
 use Rattle.std.proofs.lemmas.Cmp.{nat_eq_equiv}
@@ -35,14 +35,16 @@ all_at_range test a zero i all l u = absurd (omega arith)
 all_at_range test a (suc n) i all l u =
     let parts = and_parts (test a) (list_all test (range_with_len (a + 1) n)) all in
     elim (cases_eq a i) [
-        inl here ↦ subst (λ j. test j ≡ true) here parts.0
-      | inr other ↦ all_at_range test (a + 1) n i parts.1 (omega (arith, other)) (omega arith) ]
+      | inl here ↦ subst (λ j. test j ≡ true) here parts.0
+      | inr other ↦ all_at_range test (a + 1) n i parts.1 (omega (arith, other)) (omega arith)
+    ]
 
 within_range : (a n q : ℕ) → list_any (eqb q) (range_with_len a n) ≡ true → (a ≤ q) × (q < a + n)
 within_range a zero q h = absurd (false≢true h)
 within_range a (suc n) q h = elim (or_cases (eqb q a) (list_any (eqb q) (range_with_len (a + 1) n)) h) [
-    inl here ↦ (let same = eqb-true q a here in (omega arith, omega arith))
-  | inr later ↦ (let rest = within_range (a + 1) n q later in (omega (arith, rest.0), omega (arith, rest.1))) ]
+  | inl here ↦ (let same = eqb-true q a here in (omega arith, omega arith))
+  | inr later ↦ (let rest = within_range (a + 1) n q later in (omega (arith, rest.0), omega (arith, rest.1)))
+]
 
 apart_range : (a b n : ℕ) → a < b → AllByRecursion (λ m. eqb a m ≡ false) (range_with_len b n)
 apart_range a b zero h = tt
@@ -67,8 +69,9 @@ bounded last [] q within h = absurd (false≢true h)
 bounded last (p ∷ ps) q within h =
     let parts = and_parts (nat_le p.number last) (list_all (λ (p : StoredPiece). nat_le p.number last) ps) within in
     elim (or_cases (eqb q p.number) (list_any (eqb q) (numbers_of ps)) h) [
-        inl here ↦ (let same = eqb-true q p.number here in let low = leb-true p.number last parts.0 in omega arith)
-      | inr later ↦ bounded last ps q parts.1 later ]
+      | inl here ↦ (let same = eqb-true q p.number here in let low = leb-true p.number last parts.0 in omega arith)
+      | inr later ↦ bounded last ps q parts.1 later
+    ]
 
 module _ (first : ℕ) (key : Key) (ps : List StoredPiece) (once : has_twice (stored_frames first key ps) ≡ false) (last : ℕ) where
   abbrev pub within : Bool
@@ -81,8 +84,8 @@ module _ (first : ℕ) (key : Key) (ps : List StoredPiece) (once : has_twice (st
   enough : has_all last (stored_frames first key ps) ≡ true → last + 1 ≤ length ps
   enough all =
       let there : (q : ℕ) → list_any (eqb q) (range_with_len 0 (last + 1)) ≡ true → list_any (eqb q) (numbers_of ps) ≡ true
-            = λ q h. let range = within_range 0 (last + 1) q h in
-              sym (has_number-numbers first key ps q) ∙ all_at_range (λ n. has_number n (stored_frames first key ps)) 0 (last + 1) q all range.0 range.1 in
+      = λ q h. let range = within_range 0 (last + 1) q h in
+      sym (has_number-numbers first key ps q) ∙ all_at_range (λ n. has_number n (stored_frames first key ps)) 0 (last + 1) q all range.0 range.1 in
       let l = length-le_from_is_member nat_eq_equiv (range_with_len 0 (last + 1)) (numbers_of ps) (distinct_range 0 (last + 1)) there in
       omega (arith, l, length-map {A = StoredPiece} {B = ℕ}, length-range_with_len 0 (last + 1))
 
@@ -98,8 +101,10 @@ module _ (first : ℕ) (key : Key) (ps : List StoredPiece) (once : has_twice (st
         where
           small : (q : ℕ) → list_any (eqb q) (i ∷ numbers_of ps) ≡ true → q < last + 1
           small q h = elim (or_cases (eqb q i) (list_any (eqb q) (numbers_of ps)) h) [
-              inl same ↦ (let e = eqb-true q i same in omega arith)
-            | inr later ↦ bounded last ps q w later ]
+            | inl same ↦ (let e = eqb-true q i same in omega arith)
+            | inr later ↦ bounded last ps q w later
+          ]
+
       here : (i : ℕ) → i < 0 + (last + 1) → ((has_number i (stored_frames first key ps) ≡ true) ⊎ (has_number i (stored_frames first key ps) ≡ false)) → has_number i (stored_frames first key ps) ≡ true
       here i u (inl there) = there
       here i u (inr none) = absurd (missing i (omega arith) none)

@@ -11,9 +11,11 @@ pub mod Given
 pub mod GroupLines
 pub mod Healing
 pub mod Held
+pub mod JoinLemmas
 pub mod Keeping
 pub mod KeyCounts
 pub mod Keys
+pub mod LineLemmas
 pub mod Lines
 pub mod Logs
 pub mod Opened

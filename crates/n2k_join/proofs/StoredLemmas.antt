@@ -1,19 +1,19 @@
 -- What the frames of a stored group, which lie as they came, have in common with its pieces by rising number.
-use Rattle.std.proofs.Common.{◌≡◌, ℕ, zero, suc, ◌+◌, ◌<◌, ◌≤◌, Bool, true, false, not, cond, ◌||◌, eqb, leb, ltb, List, [], ◌∷◌, ◌++◌, length, map, Option, Some, None, zero-add, eq-eqb, ne_eqb, inl, inr, refl, sym, ap, ap₂, ◌∙◌, subst, arith, append_assoc}
+use Rattle.std.proofs.Common.{◌≡◌, ℕ, zero, suc, ◌+◌, ◌<◌, ◌≤◌, Bool, true, false, cond, eqb, List, [], ◌∷◌, ◌++◌, length, map, Option, Some, None, zero-add, eq-eqb, ne_eqb, inl, inr, refl, sym, ap, ◌∙◌, subst, arith}
 use Rattle.std.proofs.lemmas.List.{append-nil, map-append, length-map}
 use Rattle.std.proofs.lemmas.Bool.{cases_eq, cases_lt, eqb-true, eqb-false, true≢false, false≢true, or_parts, or_cases}
 use Rattle.std.proofs.lemmas.Map.Steps.{length-le_from_distinct_below}
 use mathlib.Core.Path.{fun_ext}
 use Rattle.std.proofs.lemmas.List.Elements.{filter_map-append}
 use Rattle.std.proofs.lemmas.List.{reverse-append}
-use Rattle.std.specs.Prelude.{reverse, is_some, option_map, nat_le, ◌==◌}
-use Rattle.std.specs.List.{range_with_len, filter_map, cons_option, list_all, list_any, find, IsDistinct, AllByRecursion}
+use Rattle.std.specs.Prelude.{reverse, is_some, option_map, ◌==◌}
+use Rattle.std.specs.List.{range_with_len, filter_map, cons_option, list_any, find, IsDistinct, AllByRecursion}
 use Rattle.n2k_join.specs.declared.piece.StoredPiece.{StoredPiece}
-use Rattle.n2k_join.specs.Frames.{Key, Frame, most_frames}
-use Rattle.n2k_join.specs.Groups.{carried, has_number, has_twice, complete, is_within}
+use Rattle.n2k_join.specs.Frames.{Key, most_frames}
+use Rattle.n2k_join.specs.Groups.{carried, has_number, has_twice}
 use Rattle.n2k_join.specs.Open.{Piece, Group, piece_at, pieces_of}
 use Rattle.n2k_join.specs.State.{held_frame, held_of}
-use Rattle.n2k_join.proofs.Carried.{carried-push, has_twice-push, pieces_of-same, complete-same, data_of-same}
+use Rattle.n2k_join.proofs.Carried.{carried-push, has_twice-push, pieces_of-same}
 use Rattle.n2k_join.specs.Stored.{stored_frame, stored_frames, stored_group, piece_of}
 
 -- what a stored piece carries is found by its number
@@ -80,8 +80,9 @@ carried_below g c zero n below = absurd (omega arith)
 carried_below g c (suc k) n below =
     ap (λ ps. carried (map (held_frame g) ps) n) (falling-suc c k)
     ∙ (elim (cases_eq k n) [
-        inl same ↦ subst (λ j. carried (map (held_frame g) (falling_by (c k) k (falling c k))) j ≡ c j) same (step_at g (c k) k (falling c k) (carried_past g c k k (omega arith)))
-      | inr other ↦ step_other g (c k) k n (falling c k) (ne_eqb k n other) ∙ carried_below g c k n (lt_from_ne k n other below) ])
+      | inl same ↦ subst (λ j. carried (map (held_frame g) (falling_by (c k) k (falling c k))) j ≡ c j) same (step_at g (c k) k (falling c k) (carried_past g c k k (omega arith)))
+      | inr other ↦ step_other g (c k) k n (falling c k) (ne_eqb k n other) ∙ carried_below g c k n (lt_from_ne k n other below)
+    ])
 
 -- none of them stands twice
 once_one : (g : Group) (o : Option (List ℕ)) (k : ℕ) (rest : List Piece) → carried (map (held_frame g) rest) k ≡ None → has_twice (map (held_frame g) rest) ≡ false
@@ -115,8 +116,9 @@ carried-held first key ps n =
     let c = carried (stored_frames first key ps) in
     ap (λ fs. carried fs n) (held_falling first key ps)
     ∙ (elim (cases_lt n most_frames) [
-        inl small ↦ carried_below g c most_frames n small
-      | inr past ↦ carried_past g c most_frames n past ∙ sym (carried_small first key ps n past) ])
+      | inl small ↦ carried_below g c most_frames n small
+      | inr past ↦ carried_past g c most_frames n past ∙ sym (carried_small first key ps n past)
+    ])
 
 pub once-held : (first : ℕ) (key : Key) (ps : List StoredPiece) → has_twice (held_of (stored_group first key ps)) ≡ false
 once-held first key ps = ap has_twice (held_falling first key ps) ∙ once_falling (stored_group first key ps) (carried (stored_frames first key ps)) most_frames
@@ -136,7 +138,7 @@ stored_frames-push first key ps p = map-append (stored_frame first key) ps (p �
 -- the group with one piece more, among the frames that it holds
 pub stored-push : (first : ℕ) (key : Key) (ps : List StoredPiece) (p : StoredPiece)
     → let g = stored_group first key ps in
-      stored_group first key (ps ++ p ∷ []) ≡ record g { pieces = pieces_of (held_of g ++ held_frame g (piece_of p) ∷ []) }
+    stored_group first key (ps ++ p ∷ []) ≡ record g { pieces = pieces_of (held_of g ++ held_frame g (piece_of p) ∷ []) }
 stored-push first key ps p =
     let g = stored_group first key ps in
     let same : carried (stored_frames first key ps) ≡ carried (held_of g) = sym (fun_ext (λ n. carried-held first key ps n)) in
@@ -173,8 +175,9 @@ distinct_numbers first key (p ∷ ps) h =
 small_numbers : (ps : List StoredPiece) (q : ℕ) → list_any (eqb q) (numbers_of ps) ≡ true → q < most_frames
 small_numbers [] q h = absurd (false≢true h)
 small_numbers (p ∷ ps) q h = elim (or_cases (eqb q p.number) (list_any (eqb q) (numbers_of ps)) h) [
-    inl here ↦ (let same = eqb-true q p.number here in omega (arith, p.small))
-  | inr later ↦ small_numbers ps q later ]
+  | inl here ↦ (let same = eqb-true q p.number here in omega (arith, p.small))
+  | inr later ↦ small_numbers ps q later
+]
 
 -- a number that isn't there leaves room for its piece
 pub has_room : (first : ℕ) (key : Key) (ps : List StoredPiece) (p : StoredPiece) → has_twice (stored_frames first key ps) ≡ false → has_number p.number (held_of (stored_group first key ps)) ≡ false
@@ -183,5 +186,5 @@ unfolding IsDistinct
 has_room first key ps p once apart =
     let there = ap is_some (sym (carried-held first key ps p.number)) ∙ apart in
     let few = length-le_from_distinct_below (p.number ∷ numbers_of ps) most_frames (apart_from first key ps p.number there, distinct_numbers first key ps once)
-      (λ q h. small_numbers (p ∷ ps) q h) in
+    (λ q h. small_numbers (p ∷ ps) q h) in
     omega (arith, few, length-map {A = StoredPiece} {B = ℕ})

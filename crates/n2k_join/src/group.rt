@@ -1,12 +1,13 @@
 //! A group of frames that is open.
-ghost use Rattle.std.specs.Prelude.{◌≡◌, ◌+◌, ◌*◌, ◌<◌, ◌≤◌, ◌++◌, ◌==◌, [], ◌∷◌, true, false, not, option_map, find, IfOk, IfSome, nat_le, slice_index, flat_map, length};
+ghost use Rattle.std.specs.Prelude.{◌≡◌, ℕ, ◌+◌, ◌*◌, ◌<◌, ◌≤◌, ◌++◌, ◌==◌, [], ◌∷◌, true, false, not, option_map, find, IfOk, IfSome, nat_le, slice_index, flat_map, length};
 ghost use Rattle.std.specs.List.{range_with_len, list_all};
+ghost use Rattle.n2k_wire.specs.Packet.{PacketParts};
 ghost use Rattle.n2k_join.specs.Frames.{same_key, longest_total};
 ghost use Rattle.n2k_join.specs.Groups.{carried, has_number, has_all, complete, total, bytes_at, data_of};
 ghost use Rattle.n2k_join.specs.Messages.{broken_of};
-ghost use Rattle.n2k_join.specs.Open.{pieces_of};
-ghost use Rattle.n2k_join.specs.State.{held_frame, held_of};
-ghost use Rattle.n2k_join.specs.Stored.{key_of, piece_of, stored_group};
+ghost use Rattle.n2k_join.specs.Open.{pieces_of, group_of};
+ghost use Rattle.n2k_join.specs.State.{held_frame, held_of, IsOpen};
+ghost use Rattle.n2k_join.specs.Stored.{key_of, piece_of, frame_of, with_frame, message_if};
 
 use crate::broken::Broken;
 use crate::piece::{FastFrame, FrameKey, StoredPiece};
@@ -57,7 +58,7 @@ fn are_within(pieces: &[StoredPiece], last: u8) -> bool
 impl StoredGroup {
     /// The group that a frame opens at a line.
     pub fn open(alloc: Global, first: u64, frame: &FastFrame) -> Result<StoredGroup, AllocError>
-        ensures { IfOk result (λ g. g ≡ stored_group first (key_of frame.now.key) (frame.now.piece ∷ [])) }
+        ensures { (packet : PacketParts) → IfOk result (λ g. g ≡ group_of (key_of frame.now.key) (frame_of first packet frame.now ∷ [])) }
     {
         let mut pieces = Vec::with_capacity(alloc, MOST_FRAMES)?;
         pieces.push(frame.piece)?;
@@ -83,6 +84,16 @@ impl StoredGroup {
         self.key
     }
 
+    /// Ends it, and begins another with a frame at a line, in the same room.
+    pub fn restart(&mut self, first: u64, frame: &FastFrame)
+        ensures { (packet : PacketParts) → self.new ≡ group_of (key_of frame.now.key) (frame_of first packet frame.now ∷ []) }
+    {
+        self.first = first;
+        self.key = frame.key;
+        self.pieces.clear();
+        let _ = self.pieces.push(frame.piece);
+    }
+
     /// Whether it is the group of the key.
     pub fn is_of(&self, key: &FrameKey) -> bool
         ensures { result ≡ same_key (key_of key.now) self.now.key }
@@ -105,11 +116,11 @@ impl StoredGroup {
         self.carried(number).is_some()
     }
 
-    /// Takes a frame whose number isn't there yet.
-    pub fn take(&mut self, piece: StoredPiece)
+    // Takes a piece whose number isn't there yet.
+    fn take(&mut self, piece: StoredPiece)
         requires { has_number piece.number (held_of self.old) ≡ false }
         ensures { self.new ≡ record self.old {
-            pieces = pieces_of (held_of self.old ++ held_frame self.old (piece_of piece) ∷ [])
+          pieces = pieces_of (held_of self.old ++ held_frame self.old (piece_of piece) ∷ []);
         } }
     {
         let _ = self.pieces.push(piece);
@@ -134,8 +145,7 @@ impl StoredGroup {
             None => false,
             Some(total) => {
                 let last = total / 7;
-                self.pieces.len() == last as usize + 1
-                    && are_within(&self.pieces, last)
+                self.pieces.len() == last as usize + 1 && are_within(&self.pieces, last)
             }
         }
     }
@@ -181,6 +191,21 @@ impl StoredGroup {
         match Packet::new(packet.stamp(), packet.id(), data) {
             Some(message) => message,
             None => unreachable!(),
+        }
+    }
+
+    /// Takes a frame whose number isn't there yet, and answers the message where that completes it.
+    pub fn add(&mut self, frame: &FastFrame, packet: &Packet) -> Option<Packet>
+        requires open { IsOpen self.old }
+        requires missing { has_number frame.now.piece.number (held_of self.old) ≡ false }
+        ensures message { (line : ℕ) → let x = frame_of line packet.now frame.now in result ≡ message_if x (held_of self.old ++ x ∷ []) }
+        ensures group { (line : ℕ) → self.new ≡ with_frame self.old (frame_of line packet.now frame.now) }
+    {
+        self.take(frame.piece);
+        if self.is_complete() {
+            Some(self.message(packet))
+        } else {
+            None
         }
     }
 

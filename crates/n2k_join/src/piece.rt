@@ -37,7 +37,6 @@ impl FrameKey {
         ensures { result ≡ same_key (key_of self.now) (key_of other.now) }
     {
         self.src == other.src
-            && (self.dst == other.dst
-                && (self.pgn == other.pgn && self.sequence == other.sequence))
+            && (self.dst == other.dst && (self.pgn == other.pgn && self.sequence == other.sequence))
     }
 }

@@ -11,7 +11,7 @@ use Rattle.std.proofs.Math.Seq.{drop-cons}
 use Rattle.std.proofs.Math.ListN.{drop_of_length-le}
 use Rattle.std.proofs.lemmas.List.{append-nil}
 use Rattle.hex.specs.Hex.{hex_digit_value, decode_pairs, decode_of}
-use Rattle.n2k_wire.specs.HexValue.{hex_value}
+use Rattle.n2k_wire.specs.PrivateWords.{hex_value}
 use Rattle.n2k_wire.specs.Plain.{pair}
 
 -- the value that `hex` gives a digit
@@ -96,7 +96,7 @@ all_digits p (b ∷ text) all =
     rw first.0 (omega arith)
 
 -- a byte that is no digit has no value
-hex_digit_value-none : (digit : ℕ) → is_ascii_hexdigit digit ≡ false → hex_digit_value digit ≡ None
+pub hex_digit_value-none : (digit : ℕ) → is_ascii_hexdigit digit ≡ false → hex_digit_value digit ≡ None
 hex_digit_value-none digit e = grind (arith, nat_tests)
 
 -- two digits spell one byte

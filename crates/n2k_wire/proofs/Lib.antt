@@ -4,3 +4,8 @@ pub mod HexDigits
 pub mod PieceLemmas
 pub mod PlainLemmas
 pub mod ReadBack
+pub mod TextLemmas
+pub mod IdentifierLemmas
+pub mod CandumpLemmas
+pub mod UtcBack
+pub mod CandumpBack

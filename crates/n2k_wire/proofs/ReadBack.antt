@@ -14,7 +14,8 @@ use Rattle.n2k_wire.specs.declared.entry.Packing.{Packing}
 use Rattle.n2k_wire.specs.Digits.{decimal_digit, decimal_after, decimal_number}
 use Rattle.n2k_wire.specs.Entry.{entry, is_skipped, is_candump, settled}
 use Rattle.n2k_wire.specs.Packet.{PacketParts, IsPacketParts, is_printable, is_stamp, is_stamp_byte, starts_stamp}
-use Rattle.n2k_wire.specs.Plain.{pieces, number_to, pair, pairs, header, id_of, bytes_of, packed, plain_of, plain_pieces, plain}
+use Rattle.n2k_wire.specs.Plain.{pieces, number_to, pair, pairs, header, id_of, bytes_of, packed, packet_of, packet_of_pieces, plain}
+use Rattle.n2k_wire.specs.Steps.{◌>>=◌}
 use Rattle.n2k_wire.specs.Texts.{byte_piece, number_piece, plain_line}
 use Rattle.n2k_wire.proofs.PlainLemmas.{bytes_of-pairs}
 
@@ -123,7 +124,7 @@ more_digits_read n text h front = (
 )
 
 -- the decimal digits of a number are read as that number
-decimal_reads : (n : ℕ) → n < 2 ^ 64 → IsReadAs n (decimal n)
+pub decimal_reads : (n : ℕ) → n < 2 ^ 64 → IsReadAs n (decimal n)
 decimal_reads n h = decimal_by_steps IsReadAs one_digit_reads more_digits_read n h
 
 number_no_comma : (n : ℕ) → n < 10 ^ 10 → HasNoComma (decimal n)
@@ -232,8 +233,8 @@ module _ (p : PacketParts) (packing : Packing) (ok : IsPacketParts p) where
       ∙ ap (λ more. decimal p.id.dst ∷ more)
       (pieces_of_bytes (decimal (length p.payload)) p.payload (number_no_comma (length p.payload) len_small) ok.bytes_ok)))))
 
-  packet_read : plain_of packing p.stamp behind ≡ Ok (packed packing p)
-  unfolding behind plain_of header id_of
+  packet_read : packet_of p.stamp behind ≡ Ok p
+  unfolding behind packet_of header id_of
   packet_read =
       let bytes : bytes_of (length p.payload) (map byte_digits p.payload) ≡ Some p.payload =
       bytes_of-pairs (length p.payload) (map byte_digits p.payload) (length-map p.payload byte_digits) ∙ bytes_read p.payload ok.bytes_ok in
@@ -245,5 +246,5 @@ module _ (p : PacketParts) (packing : Packing) (ok : IsPacketParts p) where
       let other : is_candump (plain_line p) ≡ false = rw line_is (not_candump p.stamp behind_stamp stamp_is.0) in
       let same : pieces (plain_line p) ≡ p.stamp ∷ behind = rw line_is pieces_are in
       plain_entry (plain_line p) packing line_short kept other
-      ∙ ap (λ all. settled (plain_pieces packing all)) same
-      ∙ ap settled packet_read
+      ∙ ap (λ all. settled (packet_of_pieces all >>= (λ q. Ok (packed packing q)))) same
+      ∙ ap (λ read. settled (read >>= (λ q. Ok (packed packing q)))) packet_read

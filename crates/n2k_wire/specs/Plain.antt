@@ -67,29 +67,33 @@ id_of h = do
 unfoldable pub bytes_of : ℕ → List (List ℕ) → Option (List ℕ)
 bytes_of len more = if length more == len then pairs more else None
 
--- whether a plain line with so many bytes is a frame, and no whole message
-abbrev pub is_frame : Packing → ℕ → Bool
-is_frame packings.Frames len = nat_le len frame_payload
-is_frame packings.Whole len = false
-
--- a plain line's packet, as a frame or as a whole message
-abbrev pub packed : Packing → PacketParts → Entry
-packed packing p = if is_frame packing (length p.payload) then entries.Frame p else entries.Whole p
-
--- the entry of a plain line whose pieces are these, or the first of its causes
-unfoldable pub plain_of : Packing → List ℕ → List (List ℕ) → Result Entry BadCause
-plain_of packing stamp more = do
+-- the packet of a plain line whose pieces are these, or the first of its causes
+unfoldable pub packet_of : List ℕ → List (List ℕ) → Result PacketParts BadCause
+packet_of stamp more = do
   stamped ← holds_or causes.Stamp (is_stamp stamp)
   h ← or_cause causes.Form (header more)
   id ← id_of h
   len ← or_cause causes.Number (number_to longest_message h.len)
   bytes ← or_cause causes.Data (bytes_of len h.more)
-  Ok (packed packing (record { stamp = stamp; id = id; payload = bytes }))
+  Ok (record { stamp = stamp; id = id; payload = bytes })
 
 -- the same of the pieces as a list, which is never empty
-abbrev pub plain_pieces : Packing → List (List ℕ) → Result Entry BadCause
-plain_pieces packing [] = Err causes.Stamp
-plain_pieces packing (stamp ∷ more) = plain_of packing stamp more
+abbrev pub packet_of_pieces : List (List ℕ) → Result PacketParts BadCause
+packet_of_pieces [] = Err causes.Stamp
+packet_of_pieces (stamp ∷ more) = packet_of stamp more
 
+abbrev pub plain_packet : List ℕ → Result PacketParts BadCause
+plain_packet line = packet_of_pieces (pieces line)
+
+-- whether a plain line with so many bytes is a frame, and no whole message
+abbrev pub is_frame : Packing → ℕ → Bool
+is_frame packings.Frames len = nat_le len frame_payload
+is_frame packings.Whole len = false
+
+-- the entry of a plain line's packet: a frame or a whole message
+abbrev pub packed : Packing → PacketParts → Entry
+packed packing p = if is_frame packing (length p.payload) then entries.Frame p else entries.Whole p
+
+-- the entry of a plain line, or the first of its causes
 abbrev pub plain : Packing → List ℕ → Result Entry BadCause
-plain packing line = plain_pieces packing (pieces line)
+plain packing line = plain_packet line >>= (λ p. Ok (packed packing p))

@@ -1,10 +1,10 @@
 //! Numbers as digits.
-ghost use Rattle.std.specs.Prelude.{◌≡◌, ◌<◌, ◌≤◌, ◌^◌, ◌*◌, ◌%◌, IsSome, true, length, IfSome};
+ghost use Rattle.std.specs.Prelude.{◌≡◌, ◌+◌, ◌<◌, ◌≤◌, ◌^◌, ◌*◌, ◌%◌, IsSome, true, length, IfSome};
 ghost use Rattle.std.specs.Char.{is_ascii_hexdigit};
 ghost use Rattle.std.specs.List.{list_all};
 ghost use Rattle.std.specs.Result.{result_ok};
 ghost use Rattle.hex.specs.Hex.{hex_digit_value, decode_of};
-ghost use Rattle.n2k_wire.specs.HexValue.{hex_value};
+ghost use Rattle.n2k_wire.specs.PrivateWords.{hex_value};
 ghost use Rattle.n2k_wire.specs.Steps.{Finds};
 ghost use Rattle.n2k_wire.specs.Digits.{decimal_after, decimal_digit, decimal_number};
 
@@ -69,13 +69,13 @@ pub fn are_hex_digits(digits: &[u8]) -> bool
     all
 }
 
-// The value of a hexadecimal digit, by the same steps for digits and letters.
-pub fn hex_value(digit: u8) -> u8
-    requires { is_ascii_hexdigit digit ≡ true }
-    ensures value { result ≡ hex_value digit }
-    ensures bound { result < 16 }
+/// The byte that two hexadecimal digits spell, by the same steps for digits and letters.
+pub fn spelled_byte(high: u8, low: u8) -> u8
+    requires high { is_ascii_hexdigit high ≡ true }
+    requires low { is_ascii_hexdigit low ≡ true }
+    ensures { result ≡ hex_value high * 16 + hex_value low }
 {
-    digit % 16 + digit / 64 * 9
+    (high % 16 + high / 64 * 9) * 16 + low % 16 + low / 64 * 9
 }
 
 /// The bytes that up to eight pairs of hexadecimal digits spell, as `hex` decodes them.
@@ -91,7 +91,7 @@ pub fn decode_digits(digits: &[u8]) -> Option<ArrayVec<u8, 8>>
     }
     let mut bytes = ArrayVec::new();
     for i in 0..digits.len() / 2 {
-        bytes.push(hex_value(digits[2 * i]) * 16 + hex_value(digits[2 * i + 1]));
+        bytes.push(spelled_byte(digits[2 * i], digits[2 * i + 1]));
     }
     Some(bytes)
 }

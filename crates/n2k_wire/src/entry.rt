@@ -71,13 +71,9 @@ pub fn read_line(line: &[u8], packing: Packing) -> Entry
     if line.len() > LONGEST_LINE {
         return Entry::Bad(BadCause::Long);
     }
-    let read = match line {
-        [] | [b'#', ..] => return Entry::Skip,
+    match line {
+        [] | [b'#', ..] => Entry::Skip,
         [b'(', ..] => read_candump(line),
         _ => read_plain(line, packing),
-    };
-    match read {
-        Ok(entry) => entry,
-        Err(cause) => Entry::Bad(cause),
     }
 }

@@ -1,12 +1,13 @@
 //! Plain lines: `stamp,prio,pgn,src,dst,len,b0,b1,..`, the format that canboat's programs read and write.
 ghost use Rattle.std.specs.Prelude.{◌≡◌, ◌≤◌, [], ◌∷◌, length, IfSome, IfOk};
-ghost use Rattle.n2k_wire.specs.Plain.{plain, pieces, number_to, pair, header, id_of, bytes_of, is_frame};
-ghost use Rattle.n2k_wire.specs.PlainPieces.{pieces_left, plain_header};
-ghost use Rattle.n2k_wire.specs.Entry.{IsEntry, IsShort};
+ghost use Rattle.n2k_wire.specs.Plain.{plain, plain_packet, pieces, number_to, pair, header, id_of, bytes_of, is_frame};
+ghost use Rattle.n2k_wire.specs.PrivateWords.{pieces_left, plain_header};
+ghost use Rattle.n2k_wire.specs.Entry.{IsEntry, settled};
+ghost use Rattle.n2k_wire.specs.Packet.{IsPacket};
 ghost use Rattle.n2k_wire.specs.Steps.{Finds, Gives};
 
 use crate::candump::FRAME_PAYLOAD;
-use crate::digits::{decimal_number, hex_value, is_hex_digit};
+use crate::digits::{decimal_number, is_hex_digit, spelled_byte};
 use crate::entry::{BadCause, Entry, Packing};
 use crate::identifier::Id;
 use crate::packet::{GREATEST_PGN, GREATEST_PRIORITY, LONGEST_MESSAGE, Packet, is_stamp};
@@ -95,19 +96,23 @@ fn read_pair(piece: &[u8]) -> Option<u8>
 {
     match piece {
         [high, low] if is_hex_digit(*high) & is_hex_digit(*low) => {
-            Some(hex_value(*high) * 16 + hex_value(*low))
+            Some(spelled_byte(*high, *low))
         }
         _ => None,
     }
 }
 
-/// Exactly so many pieces, each as a byte.
-fn read_bytes(len: u64, more: Option<&[u8]>) -> Option<ArrayVec<u8, LONGEST_MESSAGE>>
-    requires { len ≤ 223 }
-    ensures value { Finds (λ bytes. bytes.items) result (bytes_of len (pieces_left more.entry)) }
-    ensures len { IfSome result (λ bytes. length bytes.items ≡ len) }
+/// Exactly so many pieces, each as a byte, which `bytes` holds then.
+fn read_bytes(
+    len: u64,
+    more: Option<&[u8]>,
+    bytes: &mut ArrayVec<u8, LONGEST_MESSAGE>,
+) -> Option<()>
+    requires few { len ≤ 223 }
+    requires empty { bytes.old.items ≡ [] }
+    ensures value { Finds (λ done. bytes.new.items) result (bytes_of len (pieces_left more.entry)) }
+    ensures len { IfSome result (λ done. length bytes.new.items ≡ len) }
 {
-    let mut bytes = ArrayVec::new();
     let mut left = more;
     for _ in 0..len {
         let Some(text) = left else {
@@ -122,7 +127,7 @@ fn read_bytes(len: u64, more: Option<&[u8]>) -> Option<ArrayVec<u8, LONGEST_MESS
     }
     match left {
         Some(_) => None,
-        None => Some(bytes),
+        None => Some(()),
     }
 }
 
@@ -136,12 +141,15 @@ fn is_frame(packing: Packing, len: usize) -> bool
     }
 }
 
-/// The entry of a plain line, or the first of its causes.
-#[tactic(auto, unfolding(crate::specs::Plain::plain_of))]
-pub fn read_plain(line: &[u8], packing: Packing) -> Result<Entry, BadCause>
-    ensures entry { Gives (λ e. e) result (plain packing line.now) }
-    ensures valid { IfOk result IsEntry }
-    ensures short { IfOk result IsShort }
+/// The stamp and the identifier of a plain line's packet, whose data `bytes` holds then, or the first of its causes.
+#[tactic(auto, unfolding(crate::specs::Plain::packet_of))]
+fn read_packet<'a>(
+    line: &'a [u8],
+    bytes: &mut ArrayVec<u8, LONGEST_MESSAGE>,
+) -> Result<(&'a [u8], Id), BadCause>
+    requires empty { bytes.old.items ≡ [] }
+    ensures packet { Gives (λ r. record { stamp = r.0.now; id = r.1; payload = bytes.new.items }) result (plain_packet line.now) }
+    ensures valid { IfOk result (λ r. IsPacket r.0.now r.1 bytes.new.items) }
 {
     let (stamp, more) = first_piece(line);
     if !is_stamp(stamp) {
@@ -150,11 +158,22 @@ pub fn read_plain(line: &[u8], packing: Packing) -> Result<Entry, BadCause>
     let header = read_header(more).ok_or(BadCause::Form)?;
     let id = read_id(&header)?;
     let len = number_to(LONGEST_MESSAGE as u64, header.len).ok_or(BadCause::Number)?;
-    let data = read_bytes(len, header.more).ok_or(BadCause::Data)?;
-    let packet = Packet::of_parts(stamp, id, data.as_slice());
-    if is_frame(packing, data.len()) {
-        Ok(Entry::Frame(packet))
-    } else {
-        Ok(Entry::Whole(packet))
+    read_bytes(len, header.more, bytes).ok_or(BadCause::Data)?;
+    Ok((stamp, id))
+}
+
+/// The entry of a plain line.
+#[inline]
+pub fn read_plain(line: &[u8], packing: Packing) -> Entry
+    ensures entry { result ≡ settled (plain packing line.now) }
+    ensures valid { IsEntry result }
+{
+    let mut data = ArrayVec::new();
+    match read_packet(line, &mut data) {
+        Ok((stamp, id)) if is_frame(packing, data.len()) => {
+            Entry::Frame(Packet::of_parts(stamp, id, data.as_slice()))
+        }
+        Ok((stamp, id)) => Entry::Whole(Packet::of_parts(stamp, id, data.as_slice())),
+        Err(cause) => Entry::Bad(cause),
     }
 }

@@ -1,11 +1,12 @@
 //! Stamps of candump lines, and the UTC text that packets keep of them.
-ghost use Rattle.std.specs.Prelude.{◌≡◌, ◌≤◌, ◌<◌, IfSome, IsTrue, true};
-ghost use Rattle.n2k_wire.specs.Steps.{Finds};
+ghost use Rattle.std.specs.Prelude.{◌≡◌, ◌+◌, ◌^◌, ◌≤◌, ◌<◌, ◌↔◌, IfSome, IsSome, IsTrue, true, length, pos};
+ghost use Rattle.jiff_core.specs.Calendar.{IsCivilDate};
+ghost use Rattle.n2k_wire.specs.Steps.{Finds, some_if};
 ghost use Rattle.std.specs.List.{list_all};
 ghost use Rattle.n2k_wire.specs.Packet.{is_stamp, is_stamp_byte};
-ghost use Rattle.n2k_wire.specs.Moments.{plain_moment};
-ghost use Rattle.n2k_wire.specs.Stamp.{IsMoment, moment, three_digits, two_digits, date_text, time_text, utc_text};
-ghost use Rattle.n2k_wire.specs.Calendar.{year_of, month_of, day_of_month};
+ghost use Rattle.n2k_wire.specs.PrivateWords.{plain_moment};
+ghost use Rattle.n2k_wire.specs.Stamp.{IsMoment, moment, three_digits, two_digits, date_text, time_text, utc_text, has_utc_form, number_at, day_at_start, second_behind_date, utc_moment};
+ghost use Rattle.n2k_wire.specs.Calendar.{day_number, is_date, year_of, month_of, day_of_month};
 
 use crate::digits::decimal_number;
 use crate::pieces::cut_at;
@@ -116,4 +117,104 @@ pub fn utc_text(moment: Moment) -> [u8; 24]
     [
         a, b, c, d, e, f, g, h, i, j, b'T', k, l, m, n, o, p, q, r, b'.', s, t, u, b'Z',
     ]
+}
+
+/// The date of a year, a month and a day, where the calendar has it.
+fn date_of(year: u32, month: u32, day: u32) -> Option<Date>
+    requires year { year ≤ 9999 }
+    requires month { month ≤ 99 }
+    requires day { day ≤ 99 }
+    ensures some { IsSome result ↔ IsCivilDate (pos year) month day }
+    ensures year { IfSome result (λ date. date.year ≡ pos year) }
+    ensures month { IfSome result (λ date. date.month ≡ month) }
+    ensures day { IfSome result (λ date. date.day ≡ day) }
+{
+    Date::new(year as i16, month as i8, day as i8).ok()
+}
+
+/// The day number of a date, where the calendar has it and it is no earlier than 1970.
+fn day_of_date(year: u32, month: u32, day: u32) -> Option<u32>
+    requires year { year ≤ 9999 }
+    requires month { month ≤ 99 }
+    requires day { day ≤ 99 }
+    ensures value { result ≡ some_if (is_date year month day) (day_number year month day) }
+    ensures bound { IfSome result (λ n. n ≤ 2_932_896) }
+{
+    if year < 1970 {
+        return None;
+    }
+    let date = date_of(year, month, day)?;
+    Some(date.days_since_min() - DAYS_BEFORE_1970)
+}
+
+/// The number of so many decimal digits from a place on.
+fn number_at(place: usize, digits: usize, text: &[u8]) -> Option<u32>
+    requires inside { place + digits ≤ length text.now }
+    requires few { digits ≤ 4 }
+    ensures value { result ≡ number_at place digits text.now }
+    ensures bound { IfSome result (λ n. n < 10 ^ digits) }
+{
+    let number = decimal_number(digits, &text[place..place + digits])?;
+    Some(number as u32)
+}
+
+fn has_utc_form(text: &[u8]) -> bool
+    ensures { result ≡ has_utc_form text.now }
+{
+    text.len() == 24
+        && text[4] == b'-'
+        && text[7] == b'-'
+        && text[10] == b'T'
+        && text[13] == b':'
+        && text[16] == b':'
+        && text[19] == b'.'
+        && text[23] == b'Z'
+}
+
+/// The day number of `YYYY-MM-DD` at the start of a text.
+#[tactic(auto, unfolding(crate::specs::Stamp::day_at_start))]
+fn day_at_start(text: &[u8]) -> Option<u32>
+    requires { length text.now ≡ 24 }
+    ensures value { result ≡ day_at_start text.now }
+    ensures bound { IfSome result (λ n. n ≤ 2_932_896) }
+{
+    let year = number_at(0, 4, text)?;
+    let month = number_at(5, 2, text)?;
+    let day = number_at(8, 2, text)?;
+    day_of_date(year, month, day)
+}
+
+/// The second of the day of `HH:MM:SS` behind `YYYY-MM-DDT`.
+#[tactic(auto, unfolding(crate::specs::Stamp::second_behind_date))]
+fn second_behind_date(text: &[u8]) -> Option<u32>
+    requires { length text.now ≡ 24 }
+    ensures value { result ≡ second_behind_date text.now }
+    ensures bound { IfSome result (λ n. n < 86_400) }
+{
+    let hour = number_at(11, 2, text)?;
+    let minute = number_at(14, 2, text)?;
+    let second = number_at(17, 2, text)?;
+    if hour < 24 && minute < 60 && second < 60 {
+        Some(hour * 3600 + minute * 60 + second)
+    } else {
+        None
+    }
+}
+
+/// The moment of a text `YYYY-MM-DDTHH:MM:SS.mmmZ` of a day that the calendar has from 1970 on.
+#[tactic(auto, unfolding(crate::specs::Stamp::utc_moment))]
+pub fn read_utc(text: &[u8]) -> Option<Moment>
+    ensures value { Finds plain_moment result (utc_moment text.now) }
+    ensures range { IfSome result (λ m. IsMoment (plain_moment m)) }
+{
+    if !has_utc_form(text) {
+        return None;
+    }
+    let day = u64::from(day_at_start(text)?);
+    let second = u64::from(second_behind_date(text)?);
+    let millis = number_at(20, 3, text)?;
+    Some(Moment {
+        seconds: day * SECONDS_OF_DAY + second,
+        millis,
+    })
 }

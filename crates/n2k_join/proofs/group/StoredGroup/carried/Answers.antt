@@ -1,4 +1,4 @@
-use Rattle.std.proofs.Common.{◌≡◌, None, Some, option_map, ap, ◌∙◌}
+use Rattle.std.proofs.Common.{None, Some, option_map, ap, ◌∙◌}
 use Rattle.n2k_join.specs.Stored.{key_of}
 use Rattle.n2k_join.proofs.StoredLemmas.{carried_found}
 use Rattle.n2k_join.proofs.group.StoredGroup.carried.Goals as goal

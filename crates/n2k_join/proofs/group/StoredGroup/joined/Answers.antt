@@ -1,5 +1,4 @@
-use Rattle.std.proofs.Common.{◌≡◌, ◌+◌, ◌++◌, ◌∙◌, ap, sym, arith, true, Result, Ok, Err, OnOk, length, flat_map, IsOk, is_ok, length-append}
-use Rattle.std.specs.List.{range_with_len}
+use Rattle.std.proofs.Common.{◌≡◌, ◌+◌, ◌++◌, ◌∙◌, ap, sym, arith, true, Result, Ok, Err, OnOk, length, IsOk, is_ok, length-append}
 use Rattle.std.proofs.lemmas.Bool.{false≢true}
 use Rattle.n2k_join.specs.Groups.{has_number, bytes_at}
 use Rattle.n2k_join.specs.State.{held_of}
@@ -19,7 +18,7 @@ loop-number-preserved c =
     let room : IsOk c.try_extend_from_slice.result = c.try_extend_from_slice.ensures.variant.1 (omega (arith, c.bytes_of-bytes.ensures.seven, c.loop-number.invariant.1)) in
     let extended = ok_at c.try_extend_from_slice.result _ room c.try_extend_from_slice.ensures.ok in
     let items = extended
-      ∙ ap (λ bytes. c.loop-number.joined.items ++ bytes) c.bytes_of-bytes.ensures.bytes
-      ∙ ap (λ before. before ++ bytes_at (held_of c.args.self.now) c.loop-number.number) c.loop-number.invariant.0
-      ∙ sym (joined_more (held_of c.args.self.now) c.loop-number.number) in
+    ∙ ap (λ bytes. c.loop-number.joined.items ++ bytes) c.bytes_of-bytes.ensures.bytes
+    ∙ ap (λ before. before ++ bytes_at (held_of c.args.self.now) c.loop-number.number) c.loop-number.invariant.0
+    ∙ sym (joined_more (held_of c.args.self.now) c.loop-number.number) in
     (items, omega (arith, ap length extended, length-append c.loop-number.joined.items c.bytes_of-bytes.result, c.bytes_of-bytes.ensures.seven, c.loop-number.invariant.1))

@@ -22,5 +22,5 @@ returns c =
     let cut = data_of-joined (held_of c.args.self.now) c.in-Some.total (sym c.in-Some.ensures.value) in
     let count : (1 + c.in-Some.total) - 1 ≡ c.in-Some.total = omega arith in
     let payload : take ((1 + c.in-Some.total) - 1) (drop 1 c.as_slice.result.now) ≡ data_of (held_of c.args.self.now)
-      = ap (λ n. take n (drop 1 c.as_slice.result.now)) count ∙ ap (λ xs. take c.in-Some.total (drop 1 xs)) (c.as_slice.ensures.value ∙ c.joined-joined.ensures.items) ∙ sym cut in
+    = ap (λ n. take n (drop 1 c.as_slice.result.now)) count ∙ ap (λ xs. take c.in-Some.total (drop 1 xs)) (c.as_slice.ensures.value ∙ c.joined-joined.ensures.items) ∙ sym cut in
     c.in-Some-new.ensures.1 ∙ same_packet c.stamp.ensures.value c.id.ensures.value payload

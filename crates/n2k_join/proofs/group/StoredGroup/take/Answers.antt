@@ -1,6 +1,4 @@
-use Rattle.std.proofs.Common.{◌≡◌, ◌<◌, ◌≤◌, ◌++◌, ◌∷◌, [], List, length, false, ap, sym, subst, ◌∙◌, arith, is_ok, vec_len, vec_capacity, cond, IsOk}
-use Rattle.n2k_join.specs.declared.piece.StoredPiece.{StoredPiece}
-use Rattle.n2k_join.specs.Frames.{most_frames}
+use Rattle.std.proofs.Common.{◌≡◌, ◌++◌, ◌∷◌, [], false, ap, sym, subst, ◌∙◌, arith, cond, IsOk}
 use Rattle.n2k_join.specs.Groups.{has_number}
 use Rattle.n2k_join.specs.Open.{Group, pieces_of}
 use Rattle.n2k_join.specs.State.{held_frame, held_of}
