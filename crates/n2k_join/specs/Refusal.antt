@@ -27,3 +27,8 @@ Gives view (Err fault) read = read ≡ Err fault
 abbrev pub GivesOrMemory : {X Y : Type 0} → (X → Y) → Result X StateFault → Result Y StateFault → Type 0
 GivesOrMemory view (Ok x) read = read ≡ Ok (view x)
 GivesOrMemory view (Err fault) read = fault ≢ Memory → read ≡ Err fault
+
+-- What a function answered, seen by view, is this value, where the test holds, and nothing where it doesn't.
+abbrev pub SomeUnder : {X Y : Type 0} → (X → Y) → Option X → Bool → Y → Type 0
+SomeUnder view (Some x) test y = (test ≡ true) × (view x ≡ y)
+SomeUnder view None test y = test ≡ false

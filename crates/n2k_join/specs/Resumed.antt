@@ -175,9 +175,12 @@ key_holds kind k = nat_le k.pgn greatest_pgn && (is_fast (kind k.pgn) && (nat_le
 abbrev pub total_holds : ℕ → List ℕ → Bool
 total_holds number bytes = not (number == 0) || nat_le (slice_index_or bytes 0 0) longest_total
 
+abbrev pub piece_holds : ℕ → Piece → Bool
+piece_holds least p = nat_le least p.number && (nat_le p.number 31 && total_holds p.number p.bytes)
+
 unfoldable pub pieces_rise : ℕ → List Piece → Bool
 pieces_rise least [] = true
-pieces_rise least (p ∷ ps) = nat_le least p.number && (nat_le p.number 31 && (total_holds p.number p.bytes && pieces_rise (p.number + 1) ps))
+pieces_rise least (p ∷ ps) = piece_holds least p && pieces_rise (p.number + 1) ps
 
 abbrev pub is_some_list : {A : Type 0} → List A → Bool
 is_some_list [] = false
@@ -194,6 +197,11 @@ groups_hold kind (g ∷ gs) = group_holds kind g && (not (list_any (λ (other : 
 unfoldable pub is_valid : (ℕ → Option Kind) → State → Bool
 is_valid kind s = counts_hold s.counts && (firsts_rise 1 s.counts.lines s.groups && groups_hold kind s.groups)
 
+-- a value where the test holds, and else Invalid
+abbrev pub valid_if : {A : Type 0} → Bool → A → Result A StateFault
+valid_if true x = Ok x
+valid_if false x = Err Invalid
+
 -- the JSON value of a text in UTF-8
 abbrev pub parsed : List ℕ → Option Data
 parsed bytes = if is_utf8 bytes then read bytes else None
@@ -205,5 +213,4 @@ judged kind id bytes = do
   known ← holds_or Format (has_format d)
   s ← state_of d
   same ← holds_or TableDiffers (bytes_eq s.id id)
-  valid ← holds_or Invalid (is_valid kind s)
-  Ok s
+  valid_if (is_valid kind s) s

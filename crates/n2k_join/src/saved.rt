@@ -2,6 +2,7 @@
 
 mod place;
 mod reader;
+mod resume;
 mod rules;
 mod spelled;
 mod text;

@@ -2,9 +2,12 @@
 ghost use Rattle.std.specs.Prelude.{◌≡◌, ◌≤◌};
 ghost use Rattle.n2k_table.specs.Table.{kind};
 ghost use Rattle.n2k_join.specs.Counts.{most_lines};
-ghost use Rattle.n2k_join.specs.Resumed.{counts_hold, firsts_rise, is_fast, key_holds, total_holds, pieces_rise};
+ghost use Rattle.n2k_join.specs.Refusal.{SomeUnder};
+ghost use Rattle.n2k_join.specs.Stored.{piece_of};
+ghost use Rattle.n2k_join.specs.Resumed.{counts_hold, firsts_rise, is_fast, key_holds, total_holds, piece_holds};
 
 use crate::counts::{Counts, MOST_LINES};
+use crate::piece::StoredPiece;
 use crate::saved::spelled::{SpelledGroup, SpelledKey, SpelledPiece};
 use n2k_table::{Kind, Table};
 
@@ -78,20 +81,18 @@ fn total_holds(number: u64, bytes: &[u8; 7]) -> bool
     number != 0 || bytes[0] <= LONGEST_TOTAL
 }
 
-/// Whether the numbers of frames rise strictly, none is past the greatest, and a total isn't too large.
-#[tactic(auto, unfolding(crate::specs::Resumed::pieces_rise))]
-pub fn pieces_rise(pieces: &[SpelledPiece]) -> bool
-    ensures { result ≡ pieces_rise 0 pieces.now }
+/// A frame as a group keeps it, where its number is from `least` to the greatest and its total isn't too large.
+pub fn stored_piece(least: u8, piece: &SpelledPiece) -> Option<StoredPiece>
+    ensures { SomeUnder piece_of result (piece_holds least piece.now) piece.now }
 {
-    let mut least = 0;
-    for piece in pieces {
-        if piece.number < least || piece.number > GREATEST_NUMBER {
-            return false;
-        }
-        if !total_holds(piece.number, &piece.bytes) {
-            return false;
-        }
-        least = piece.number + 1;
+    if piece.number < u64::from(least) || piece.number > GREATEST_NUMBER {
+        return None;
     }
-    true
+    if !total_holds(piece.number, &piece.bytes) {
+        return None;
+    }
+    Some(StoredPiece {
+        number: piece.number as u8,
+        bytes: piece.bytes,
+    })
 }
