@@ -24,13 +24,16 @@ pub mod Replaying
 pub mod Resumed
 pub mod Rising
 pub mod SavedDigits
+pub mod SavedGroups
 pub mod SavedLists
 pub mod SavedPieces
 pub mod Splitting
 pub mod StateReads
+pub mod StateTests
 pub mod Steps
 pub mod StoredLemmas
 pub mod Stretches
+pub mod ValidStates
 pub mod WholePieces
 pub mod Worked
 pub mod Written

@@ -11,16 +11,21 @@ use Rattle.serde_json.specs.View.{items_of}
 use Rattle.serde_json.specs.Written.{outline, items_outline}
 use Rattle.serde_json.proofs.Numbers.{number_of-decimal}
 use Rattle.n2k_join.specs.Open.{Piece, Group}
-use Rattle.n2k_join.specs.Resumed.{each, elements, piece_of, group_of, key_of, pieces_at, groups_at, counts_of, id_at, state_of}
-use Rattle.n2k_join.specs.Saved.{saved_format, whole, list, piece_tree, group_tree, state_tree}
-use Rattle.n2k_join.specs.State.{State, IsState, IsKey, IsPiece, IsOpen, HasParts}
+use Rattle.n2k_join.specs.Resumed.{each, elements, piece_of, group_of, key_of, pieces_at, groups_at, counts_of, id_at, state_of, judged}
+use Rattle.n2k_join.specs.Saved.{IsId, saved_format, whole, list, piece_tree, group_tree, state_tree, state_text}
+use Rattle.n2k_join.specs.State.{State, IsState, AreFast, IsKey, IsPiece, IsOpen, HasParts}
 use Rattle.n2k_join.specs.declared.state_fault.StateFault.{StateFault}
+use Rattle.n2k_table.specs.declared.definition.Kind.{Kind}
+use Rattle.n2k_join.proofs.ValidStates.{state_valid, parsed_some}
 use Rattle.n2k_join.specs.Counts.{most_lines}
 use Rattle.n2k_join.specs.Frames.{most_frames}
 use Rattle.n2k_join.proofs.Rising.{all-map, all-zip}
 use Rattle.n2k_join.proofs.SavedDigits.{IsUtf8-encode_lower}
 use Rattle.n2k_join.proofs.SavedLists.{elements-items_of}
-use Rattle.n2k_join.proofs.WrittenReads.{IsPlain, ArePlain}
+use Rattle.std.specs.Str.{bytes_eq}
+use Rattle.std.proofs.lemmas.Slice.Eq.{bytes_eq-Decides}
+use Rattle.serde_json.specs.Written.{compact_text}
+use Rattle.n2k_join.proofs.WrittenReads.{IsPlain, ArePlain, compact_utf8, compact_reads}
 
 -- A tree that is written and read back: it is plain, nests no deeper than this, and stands for itself.
 pub record IsTree (deep : ℕ) (d : Data) : Type 0 where
@@ -130,14 +135,21 @@ state-tree s is =
         number_of-decimal s.counts.lines (omega (arith, c.lines)), number_of-decimal s.counts.messages (omega (arith, c.lines, c.given)), number_of-decimal s.counts.unknown (omega (arith, c.lines, c.given))) refl;
     }
 
--- an id is 32 bytes
-pub record IsId (id : List ℕ) : Type 0 where
-  pub long : length id ≡ 32
-  pub are_bytes : IsBytes id
-
 pub state-reads : (s : State) → IsState s → IsId s.id → state_of (state_tree s) ≡ Ok s
 unfolding state_of counts_of id_at groups_at state_tree
 state-reads s is id =
     rw (decode_sized-encode_lower s.id 32 id.long id.are_bytes,
       each-reads group_tree group_of s.groups (all-map IsKept (λ (g : Group). group_of (group_tree g) ≡ Ok g) s.groups group-reads (kept_groups s is)))
     (ap (λ n. Ok (record { id = s.id; counts = record s.counts { held = n }; groups = s.groups })) (sym is.held))
+
+bytes_eq-same : (bs : List ℕ) → bytes_eq bs bs ≡ true
+bytes_eq-same bs = (bytes_eq-Decides bs bs).1 refl
+
+-- The text of a valid state, whose groups are of fast PGNs of its table, spells that state.
+pub state_back : (kind : ℕ → Option Kind) (s : State) → IsState s → AreFast kind s.groups → IsId s.id → judged kind s.id (state_text s) ≡ Ok s
+unfolding judged state_text state_tree
+state_back kind s is fast id =
+    let tree = state-tree s is in
+    let depth_ok : depth (outline (state_tree s)) ≤ 127 = let few = tree.shallow in omega arith in
+    let text = parsed_some (compact_text (state_tree s)) (state_tree s) (compact_utf8 (state_tree s) tree.plain) (compact_reads (state_tree s) tree.plain depth_ok tree.back) in
+    rw text (rw (state-reads s is id) (rw (bytes_eq-same s.id) (rw (state_valid kind s is fast) refl)))

@@ -135,6 +135,10 @@ id_at d = do
   e ← required (codes "table") d
   digits_of 32 e
 
+-- a state whose count of open groups is their number
+abbrev pub state_of_parts : List ℕ → Counts → List Group → State
+state_of_parts id counts groups = record { id = id; counts = record counts { held = length groups }; groups = groups }
+
 -- the state that a value spells, whatever its numbers
 unfoldable pub state_of : Data → Result State StateFault
 state_of d = do
@@ -142,7 +146,7 @@ state_of d = do
   counts ← counts_of d
   id ← id_at d
   groups ← groups_at d
-  Ok (record { id = id; counts = record counts { held = length groups }; groups = groups })
+  Ok (state_of_parts id counts groups)
 
 -- it is of this format
 abbrev pub is_whole : ℕ → Option ℕ → Bool

@@ -1,10 +1,10 @@
 -- The text of a saved state: one JSON object, as `serde_json` writes it. It is compact, and the members of each object stand
 -- in the order of their names.
-use Rattle.std.specs.Prelude.{ℕ, List, map, codes}
+use Rattle.std.specs.Prelude.{◌≡◌, ℕ, List, length, map, codes}
 use Rattle.serde_json.specs.Data.{Data, number, unsigned, string, array, object, Items, no_items, item, Members, no_members, member}
 use Rattle.serde_json.specs.View.{items_of}
 use Rattle.serde_json.specs.Written.{compact_text}
-use Rattle.hex.specs.Hex.{encode_lower}
+use Rattle.hex.specs.Hex.{encode_lower, IsBytes}
 use Rattle.n2k_join.specs.Open.{Piece, Group}
 use Rattle.n2k_join.specs.State.{State}
 
@@ -49,3 +49,8 @@ state_tree s = object (
 -- its text
 unfoldable pub state_text : State → List ℕ
 state_text s = compact_text (state_tree s)
+
+-- the id of a table: 32 bytes
+pub record IsId (id : List ℕ) : Type 0 where
+  pub long : length id ≡ 32
+  pub are_bytes : IsBytes id

@@ -7,6 +7,11 @@ ghost use Rattle.n2k_join.specs.Groups.{carried, has_number, has_all, complete, 
 ghost use Rattle.n2k_join.specs.Messages.{broken_of};
 ghost use Rattle.n2k_join.specs.Open.{pieces_of, group_of};
 ghost use Rattle.n2k_join.specs.State.{held_frame, held_of, IsOpen};
+ghost use Rattle.n2k_join.specs.Frames.{most_frames};
+ghost use Rattle.n2k_join.specs.Resumed.{pieces_rise};
+ghost use Rattle.n2k_join.specs.State.{IsKey, IsPiece, HasParts};
+ghost use Rattle.std.specs.List.{AllByRecursion};
+ghost use Rattle.std.specs.Prelude.{map, vec_capacity};
 ghost use Rattle.n2k_join.specs.Stored.{key_of, piece_of, frame_of, with_frame, message_if};
 
 use crate::broken::Broken;
@@ -67,6 +72,21 @@ impl StoredGroup {
             key: frame.key,
             pieces,
         })
+    }
+
+    /// The group of frames by rising number, which lie in room for all that it can get.
+    pub fn of_pieces(first: u64, key: FrameKey, rising: Vec<StoredPiece>) -> StoredGroup
+        requires rise { pieces_rise 0 (map piece_of rising.items) ≡ true }
+        requires room { most_frames ≤ vec_capacity rising }
+        requires key { IsKey (key_of key) }
+        requires parts { AllByRecursion IsPiece (map piece_of rising.items) }
+        ensures value { result ≡ record { first = first; key = key_of key; pieces = map piece_of rising.items } }
+        ensures parts { HasParts result }
+    {
+        let mut pieces = rising;
+        // By falling number, as a state holds them.
+        pieces.reverse();
+        StoredGroup { first, key, pieces }
     }
 
     /// The line that opened it.
