@@ -1,5 +1,5 @@
 //! Laws that hold of the definitions: each is the contract of a function that does nothing.
-ghost use Rattle.std.specs.Prelude.{◌≡◌, ℕ, All, true, List, Option, Some, is_some};
+ghost use Rattle.std.specs.Prelude.{◌≡◌, ℕ, All, true, List, Ok, Option, Some, is_some};
 ghost use Rattle.n2k_wire.specs.declared.entry.Entry.{Entry};
 ghost use Rattle.n2k_wire.specs.Packet.{PacketParts, IsPacketParts};
 ghost use Rattle.n2k_table.specs.declared.definition.Kind.{Kind};
@@ -10,6 +10,9 @@ ghost use Rattle.n2k_join.specs.Scattered.{IsScattered, IsMute, WrittenLog};
 ghost use Rattle.n2k_join.specs.Replay.{Replays};
 ghost use Rattle.n2k_join.specs.Messages.{cause_in};
 ghost use Rattle.n2k_join.specs.Laws.{CutJoins, CutFirst, CutGrows, StepsAgree, LinesStay, BadAlone};
+ghost use Rattle.n2k_join.specs.Resumed.{judged};
+ghost use Rattle.n2k_join.specs.Saved.{IsId, state_text};
+ghost use Rattle.n2k_join.specs.State.{State, IsState, AreFast};
 ghost use Rattle.n2k_join.specs.Arrival.{PiecesJoin, ArriveWhole, ComesNext, Heals};
 
 /// The groups that frames are cut into are the frames in their order; none is empty, and none has a number twice.
@@ -76,4 +79,10 @@ pub fn written_is_scattered()
 /// line of its first. So with a sender in rising order a lost frame other than frame 0 costs its own message alone.
 pub fn heals()
     ensures { (kind : ℕ → Option Kind) (front back : List Entry) (x : Sending) (group after : List Frame) → ComesNext kind front back x group after → Heals kind front back x group }
+{}
+
+/// The text of a state, read under its own table, gives that state: for every state that a join can have, whose open groups
+/// are of fast PGNs of the table.
+pub fn state_reads_back()
+    ensures { (kind : ℕ → Option Kind) (s : State) → IsState s → AreFast kind s.groups → IsId s.id → judged kind s.id (state_text s) ≡ Ok s }
 {}

@@ -24,6 +24,8 @@ mod outcome;
 mod piece;
 mod split_fault;
 mod splitter;
+mod saved;
+mod state_fault;
 mod step;
 mod stream;
 mod taking;
@@ -34,6 +36,7 @@ pub use fault::JoinFault;
 pub use join::Join;
 pub use split_fault::SplitFault;
 pub use splitter::Splitter;
+pub use state_fault::StateFault;
 pub use step::Step;
 pub use stream::Stream;
 
