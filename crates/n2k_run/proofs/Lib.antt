@@ -6,8 +6,11 @@ pub mod Finding
 pub mod Folds
 pub mod Fronts
 pub mod LogSteps
+pub mod OutputLines
 pub mod Owed
+pub mod PrintedBack
 pub mod Ranges
 pub mod Running
 pub mod Splits
 pub mod Taking
+pub mod WrittenTexts

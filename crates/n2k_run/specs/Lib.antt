@@ -8,6 +8,7 @@ pub mod Making
 pub mod Memory
 pub mod Plain
 pub mod Reading
+pub mod Replayed
 pub mod Reports
 pub mod Runs
 pub mod Writing

@@ -20,6 +20,7 @@ mod device;
 mod engine;
 mod fault;
 mod kept;
+pub mod laws;
 mod maker;
 mod memory;
 mod options;

@@ -9,5 +9,4 @@ pub mod PlainLemmas
 pub mod ReadBack
 pub mod TextLemmas
 pub mod UtcBack
-pub mod CandumpBack
 pub mod CleanTexts

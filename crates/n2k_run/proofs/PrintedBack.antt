@@ -1,0 +1,46 @@
+-- A log over which messages are scattered prints these messages.
+use Rattle.std.proofs.Common.{◌≡◌, ℕ, Bool, List, [], ◌∷◌, ◌++◌, map, length, refl, ap, ◌∙◌, sym, suc, Option, Some, None}
+use Rattle.std.specs.Prelude.{flat_map, filter_map}
+use Rattle.std.specs.List.{cons_option}
+use Rattle.n2k_wire.specs.Packet.{PacketParts}
+use Rattle.n2k_table.specs.Json.{json}
+use Rattle.n2k_table.specs.OneLine.{IsOneLine}
+use Rattle.n2k_table.specs.Table.{TableParts, kind}
+use Rattle.n2k_join.specs.Messages.{message, numbers}
+use Rattle.n2k_join.specs.Replay.{messages, Replays}
+use Rattle.n2k_run.specs.declared.options.Options.{Options}
+use Rattle.n2k_run.specs.Decoded.{message_line, out}
+use Rattle.n2k_run.specs.Entries.{entries}
+use Rattle.n2k_run.specs.Lines.{lines}
+use Rattle.n2k_run.specs.Replayed.{json_lines, with_line_feeds, PrintsBack}
+use Rattle.n2k_run.proofs.OutputLines.{lines_of_texts}
+
+-- what is written of lines, is written of the messages that they give
+texts_of_messages : (t : TableParts) (empty : Bool) (gives : ℕ → Option PacketParts) (ns : List ℕ) → flat_map (λ n. message_line t empty (gives n)) ns ≡ flat_map (λ m. json t m empty) (filter_map gives ns)
+texts_of_messages t empty gives [] = refl
+texts_of_messages t empty gives (n ∷ ns) = by_given (gives n) (texts_of_messages t empty gives ns)
+  where
+    by_given : (o : Option PacketParts) → flat_map (λ k. message_line t empty (gives k)) ns ≡ flat_map (λ m. json t m empty) (filter_map gives ns) → message_line t empty o ++ flat_map (λ k. message_line t empty (gives k)) ns ≡ flat_map (λ m. json t m empty) (cons_option o (filter_map gives ns))
+    by_given None ih = ih
+    by_given (Some m) ih = ap (λ l. json t m empty ++ l) ih
+
+length-map : {X Y : Type 0} (h : X → Y) (xs : List X) → length (map h xs) ≡ length xs
+length-map h [] = refl
+length-map h (x ∷ xs) = ap suc (length-map h xs)
+
+-- the lines of the output are the JSON lines of the messages
+out-lines : (t : TableParts) (o : Options) (log : List ℕ) → ((m : PacketParts) (empty : Bool) → IsOneLine (json t m empty)) → with_line_feeds (lines (out t o log)) ≡ json_lines t o (messages (kind t) (entries o.packing log))
+unfolding out
+out-lines t o log one =
+    let es = entries o.packing log in
+    ap (λ l. with_line_feeds (lines l)) (texts_of_messages t o.empty (message (kind t) es) (numbers es))
+    ∙ lines_of_texts (λ m. json t m o.empty) (λ m. one m o.empty) (messages (kind t) es)
+
+pub prints_back : (t : TableParts) (ms : List PacketParts) (o : Options) (log : List ℕ) → ((m : PacketParts) (empty : Bool) → IsOneLine (json t m empty)) → Replays (kind t) ms (entries o.packing log) → PrintsBack t ms o log
+prints_back t ms o log one replays =
+    let printed = out-lines t o log one in
+    record {
+      as_many = sym (length-map (λ text. text ++ 10 ∷ []) (lines (out t o log))) ∙ (ap length printed ∙ (length-map (λ m. json t m o.empty) (messages (kind t) (entries o.packing log)) ∙ replays.as_many));
+      gathered = printed ∙ ap (json_lines t o) replays.by_groups;
+      in_order = λ key. ap (json_lines t o) (replays.in_order key);
+    }

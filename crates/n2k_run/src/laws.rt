@@ -1,0 +1,34 @@
+//! Laws that hold of the definitions: each is the contract of a function that does nothing.
+ghost use Rattle.std.specs.Prelude.{◌≡◌, ℕ, All, List, Some, flat_map};
+ghost use Rattle.n2k_wire.specs.Packet.{PacketParts, IsPacketParts};
+ghost use Rattle.n2k_wire.specs.Texts.{plain_text};
+ghost use Rattle.n2k_table.specs.Table.{TableParts, kind};
+ghost use Rattle.n2k_table.specs.declared.definition.Kind.TheVariants.{Fast};
+ghost use Rattle.n2k_join.specs.Pieces.{written};
+ghost use Rattle.n2k_join.specs.Scattered.{IsScattered, IsMute};
+ghost use Rattle.n2k_run.specs.declared.options.Options.{Options};
+ghost use Rattle.n2k_run.specs.Entries.{entries};
+ghost use Rattle.n2k_run.specs.Replayed.{PrintsBack};
+
+use n2k_wire::Packing;
+
+/// A log over which messages are scattered, and which gives no message alone, prints these messages: as many lines as there
+/// are messages, and each key's in their order. None is lost, none invented.
+pub fn replayed()
+    ensures { (t : TableParts) (ms : List PacketParts) (o : Options) (log : List ℕ) → IsScattered (kind t) ms (entries o.packing log) → IsMute (kind t) (entries o.packing log) → PrintsBack t ms o log }
+{
+    n2k_table::laws::json_is_one_line();
+    n2k_join::laws::arrives_whole();
+}
+
+/// What is written is read back: fast packets of the table's PGNs, written as plain lines of frames in their order, are a log
+/// that prints these messages.
+pub fn written_then_read()
+    ensures { (t : TableParts) (ms : List PacketParts) (o : Options) → o.packing ≡ Packing.Frames → All IsPacketParts ms → All (λ (m : PacketParts). kind t m.id.pgn ≡ Some Fast) ms → PrintsBack t ms o (flat_map plain_text (written (kind t) ms)) }
+{
+    n2k_wire::laws::plain_line_is_one_line();
+    n2k_wire::laws::plain_line_reads_back();
+    n2k_table::laws::json_is_one_line();
+    n2k_join::laws::written_is_scattered();
+    n2k_join::laws::arrives_whole();
+}
