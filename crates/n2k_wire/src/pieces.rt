@@ -1,4 +1,4 @@
-//! PacketParts of a line.
+//! The parts of a line.
 ghost use Rattle.std.specs.Prelude.{◌≡◌, ◌==◌, not, position};
 ghost use Rattle.n2k_wire.specs.PrivateWords.{Finds};
 ghost use Rattle.n2k_wire.specs.Pieces.{cut_at, after_byte, skip_spaces};
