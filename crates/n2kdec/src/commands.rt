@@ -3,15 +3,18 @@ ghost use Rattle.std.specs.Prelude.{◌≡◌, ◌⊎◌, [], IfErr, IfOk, IsErr
 ghost use Rattle.std.specs.Io.KnownBytes.{Appends};
 ghost use Rattle.n2k_run.specs.Device.{HasFailed};
 ghost use Rattle.n2k_run.specs.Reports.{summary_text};
+ghost use Rattle.n2k_run.specs.Runs.{devices};
 ghost use Rattle.n2k_run.specs.Writing.{AppendsFront};
 ghost use Rattle.n2k_table.specs.Table.{faults, table as table_of};
 ghost use Rattle.n2k_table.specs.declared.fault.TableFault.{TableFault};
-ghost use Rattle.n2kdec.specs.Commands.{IsDone, IsRefusedOrStopped, IsStopped, decode_texts, devices, plain_texts};
+ghost use Rattle.n2kdec.specs.Commands.{IsDone, IsRefusedOrStopped, IsStopped, decode_texts, default_options, plain_texts};
 ghost use Rattle.n2kdec.specs.Fault.{exit_status};
 
 use crate::fault::{Fault, exit_status};
-use n2k_run::{Counts, Sink, Source, run_plain, run_single, summary_text, write_all};
+use n2k_join::{Counts, Join};
+use n2k_run::{Options, Sink, Source, run, run_plain, summary_text, write_all};
 use n2k_table::Table;
+use n2k_wire::Packing;
 use std::alloc::Global;
 
 // Writes the summary of a run that came to its end, and answers the run's status.
@@ -40,14 +43,14 @@ pub fn plain<R: Source, W: Sink, E: Sink>(
     errors: &mut E,
 ) -> Result<u8, Fault>
     ensures done { IfOk result (IsDone plain_texts
-        (devices (R.remaining log.old) (R.failed_calls log.old) (W.contents output.old) (W.failed_calls output.old)
+        (devices (R.remaining log.old) (R.calls log.old) (R.failed_calls log.old) (W.contents output.old) (W.failed_calls output.old)
         (E.contents errors.old) (E.failed_calls errors.old))
-        (devices (R.remaining log.new) (R.failed_calls log.new) (W.contents output.new) (W.failed_calls output.new)
+        (devices (R.remaining log.new) (R.calls log.new) (R.failed_calls log.new) (W.contents output.new) (W.failed_calls output.new)
         (E.contents errors.new) (E.failed_calls errors.new))) }
     ensures stopped { IfErr result (IsStopped plain_texts
-        (devices (R.remaining log.old) (R.failed_calls log.old) (W.contents output.old) (W.failed_calls output.old)
+        (devices (R.remaining log.old) (R.calls log.old) (R.failed_calls log.old) (W.contents output.old) (W.failed_calls output.old)
         (E.contents errors.old) (E.failed_calls errors.old))
-        (devices (R.remaining log.new) (R.failed_calls log.new) (W.contents output.new) (W.failed_calls output.new)
+        (devices (R.remaining log.new) (R.calls log.new) (R.failed_calls log.new) (W.contents output.new) (W.failed_calls output.new)
         (E.contents errors.new) (E.failed_calls errors.new))) }
 {
     let counts = run_plain(alloc, log, output, errors)?;
@@ -63,21 +66,26 @@ pub fn decode<R: Source, W: Sink, E: Sink>(
     output: &mut W,
     errors: &mut E,
 ) -> Result<u8, Fault>
-    ensures done { IfOk result (IsDone (decode_texts (table_of table.now))
-        (devices (R.remaining log.old) (R.failed_calls log.old) (W.contents output.old) (W.failed_calls output.old)
+    ensures done { IfOk result (IsDone (decode_texts (table_of table.now) default_options)
+        (devices (R.remaining log.old) (R.calls log.old) (R.failed_calls log.old) (W.contents output.old) (W.failed_calls output.old)
         (E.contents errors.old) (E.failed_calls errors.old))
-        (devices (R.remaining log.new) (R.failed_calls log.new) (W.contents output.new) (W.failed_calls output.new)
+        (devices (R.remaining log.new) (R.calls log.new) (R.failed_calls log.new) (W.contents output.new) (W.failed_calls output.new)
         (E.contents errors.new) (E.failed_calls errors.new))) }
-    ensures stopped { IfErr result (IsRefusedOrStopped (faults table.now) (decode_texts (table_of table.now))
-        (devices (R.remaining log.old) (R.failed_calls log.old) (W.contents output.old) (W.failed_calls output.old)
+    ensures stopped { IfErr result (IsRefusedOrStopped (faults table.now) (decode_texts (table_of table.now) default_options)
+        (devices (R.remaining log.old) (R.calls log.old) (R.failed_calls log.old) (W.contents output.old) (W.failed_calls output.old)
         (E.contents errors.old) (E.failed_calls errors.old))
-        (devices (R.remaining log.new) (R.failed_calls log.new) (W.contents output.new) (W.failed_calls output.new)
+        (devices (R.remaining log.new) (R.calls log.new) (R.failed_calls log.new) (W.contents output.new) (W.failed_calls output.new)
         (E.contents errors.new) (E.failed_calls errors.new))) }
     ensures read { OnOk result (faults table.now ≡ []) }
     ensures untouched { (fault : TableFault) → IsErrOf result (Fault.Table fault)
         → (log.new ≡ log.old) × (output.new ≡ output.old) × (errors.new ≡ errors.old) }
 {
     let table = Table::read(alloc, table)?;
-    let counts = run_single(alloc, &table, log, output, errors)?;
-    sum_up(alloc, &counts, errors)
+    let mut join = Join::new(alloc, &table);
+    let options = Options {
+        packing: Packing::Frames,
+        empty: false,
+    };
+    run(alloc, &table, &mut join, options, log, output, errors)?;
+    sum_up(alloc, &join.counts(), errors)
 }
