@@ -8,10 +8,10 @@ use Rattle.n2k_table.specs.declared.definition.Kind.{Kind}
 use Rattle.n2k_table.specs.declared.definition.Kind.TheVariants.{Single, Fast}
 use Rattle.n2k_table.specs.Table.{TableParts, kind}
 use Rattle.n2k_wire.specs.declared.entry.Entry.{Entry}
-use Rattle.n2k_wire.specs.declared.entry.Entry.TheVariants.{Skip, Bad, Frame}
+use Rattle.n2k_wire.specs.declared.entry.Entry.TheVariants.{Skip, Bad, Frame, Whole}
 use Rattle.n2k_wire.specs.declared.entry.Packing.TheVariants.{Frames}
-use Rattle.n2k_wire.specs.Packet.{Parts}
-use Rattle.n2k_run.specs.declared.counts.Counts.{Counts}
+use Rattle.n2k_wire.specs.Packet.{PacketParts}
+use Rattle.n2k_join.specs.declared.counts.Counts.{Counts}
 use Rattle.n2k_run.specs.Decoded.{entry_message, message, numbers, out_of, out, decode_counts}
 use Rattle.n2k_run.specs.Entries.{entries, is_bad}
 use Rattle.n2k_run.specs.Made.{text_of, is_worth, is_message, is_unknown, texts_of, counts_of}
@@ -50,8 +50,9 @@ entry_text : (t : TableParts) (e : Entry) → line_of t (entry_message t e) ≡ 
 entry_text t Skip = refl
 entry_text t (Bad cause) = refl
 entry_text t (Frame packet) = refl
+entry_text t (Whole packet) = refl
 
-some_by : (k : Option Kind) (packet : Parts) → is_some (message_by k packet) ≡ is_message (worth_by k)
+some_by : (k : Option Kind) (packet : PacketParts) → is_some (message_by k packet) ≡ is_message (worth_by k)
 some_by None packet = refl
 some_by (Some Single) packet = refl
 some_by (Some Fast) packet = refl
@@ -60,6 +61,7 @@ entry_some : (t : TableParts) (e : Entry) → is_some (entry_message t e) ≡ is
 entry_some t Skip = refl
 entry_some t (Bad cause) = refl
 entry_some t (Frame packet) = some_by (kind t packet.id.pgn) packet
+entry_some t (Whole packet) = some_by (kind t packet.id.pgn) packet
 
 out_of-is : (t : TableParts) (es : List Entry) → flat_map (text_of (single_text t)) es ≡ out_of t es
 out_of-is t es =

@@ -10,7 +10,7 @@ use Rattle.n2k_wire.specs.declared.entry.Packing.TheVariants.{Frames}
 use Rattle.n2k_wire.specs.Entry.{entry}
 use Rattle.n2k_run.specs.Lines.{is_line_feed, lines, whole_lines}
 use Rattle.n2k_run.specs.Entries.{entries}
-use Rattle.n2k_wire.specs.Packet.{Parts}
+use Rattle.n2k_wire.specs.Packet.{PacketParts}
 use Rattle.n2k_run.specs.Made.{text_of, texts_of, ReportsFirst}
 use Rattle.n2k_run.specs.Reports.{reports_from, reports}
 use Rattle.n2k_run.specs.Writing.{AppendsFront}
@@ -38,7 +38,7 @@ leads (Some log) (Some left) came whole given is ends = leads_known log left cam
 entries-leads : (whole log : List ℕ) (l : Leads whole log) → entries Frames log ≡ entries Frames whole ++ entries Frames l.rest
 entries-leads whole log l = ap (map (λ line. entry line Frames)) l.lines_are ∙ map-append (λ line. entry line Frames) (lines whole) (lines l.rest)
 
-out-leads : (made : Parts → List ℕ) (old new : Option (List ℕ)) (whole log : List ℕ) → Leads whole log → AppendsFront old new (texts_of made whole) → AppendsFront old new (texts_of made log)
+out-leads : (made : PacketParts → List ℕ) (old new : Option (List ℕ)) (whole log : List ℕ) → Leads whole log → AppendsFront old new (texts_of made whole) → AppendsFront old new (texts_of made log)
 out-leads made old new whole log l front =
     let is = ap (flat_map (text_of made)) (entries-leads whole log l) ∙ flat_map-append (text_of made) (entries Frames whole) (entries Frames l.rest) in
     subst (λ t. AppendsFront old new t) (sym is) (goes_on old new (texts_of made whole) (texts_of made l.rest) front)
@@ -50,7 +50,7 @@ reports-leads old new whole log l front =
     subst (λ t. AppendsFront old new t) (sym is) (goes_on old new (reports whole) (reports_from (1 + length (entries Frames whole)) (entries Frames l.rest)) front)
 
 -- the same where the log's bytes are known
-pub out_front : (made : Parts → List ℕ) (known old new : Option (List ℕ)) (whole : List ℕ) → IfSome known (λ log. Leads whole log) → AppendsFront old new (texts_of made whole) → IfSome known (λ log. AppendsFront old new (texts_of made log))
+pub out_front : (made : PacketParts → List ℕ) (known old new : Option (List ℕ)) (whole : List ℕ) → IfSome known (λ log. Leads whole log) → AppendsFront old new (texts_of made whole) → IfSome known (λ log. AppendsFront old new (texts_of made log))
 out_front made None old new whole l front = tt
 out_front made (Some log) old new whole l front = out-leads made old new whole log l front
 
@@ -74,7 +74,7 @@ whole_front text None old new input (Err e) is front = tt
 whole_front text (Some log) old new input (Err e) is front = subst (λ t. AppendsFront old new (text t)) is front
 
 -- the same of the reports that come first
-pub first_of_front : (made : Parts → List ℕ) (known w₀ w e₀ e : Option (List ℕ)) (whole : List ℕ) → IfSome known (λ log. Leads whole log) → ReportsFirst made whole w₀ w e₀ e → IfSome known (λ log. ReportsFirst made log w₀ w e₀ e)
+pub first_of_front : (made : PacketParts → List ℕ) (known w₀ w e₀ e : Option (List ℕ)) (whole : List ℕ) → IfSome known (λ log. Leads whole log) → ReportsFirst made whole w₀ w e₀ e → IfSome known (λ log. ReportsFirst made log w₀ w e₀ e)
 first_of_front made None w₀ w e₀ e whole l first = tt
 first_of_front made (Some log) w₀ w e₀ e whole l first = record {
   taken = first.taken;
@@ -84,6 +84,6 @@ first_of_front made (Some log) w₀ w e₀ e whole l first = record {
   printed = first.printed;
 }
 
-pub first_of_all : (made : Parts → List ℕ) (known w₀ w e₀ e : Option (List ℕ)) (input : List ℕ) → IfSome known (λ log. input ≡ log) → ReportsFirst made input w₀ w e₀ e → IfSome known (λ log. ReportsFirst made log w₀ w e₀ e)
+pub first_of_all : (made : PacketParts → List ℕ) (known w₀ w e₀ e : Option (List ℕ)) (input : List ℕ) → IfSome known (λ log. input ≡ log) → ReportsFirst made input w₀ w e₀ e → IfSome known (λ log. ReportsFirst made log w₀ w e₀ e)
 first_of_all made None w₀ w e₀ e input is first = tt
 first_of_all made (Some log) w₀ w e₀ e input is first = subst (λ t. ReportsFirst made t w₀ w e₀ e) is first

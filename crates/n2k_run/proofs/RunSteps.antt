@@ -12,12 +12,12 @@ use Rattle.n2k_wire.specs.declared.entry.Packing.TheVariants.{Frames}
 use Rattle.n2k_wire.specs.Entry.{entry}
 use Rattle.n2k_run.specs.Lines.{lines}
 use Rattle.n2k_run.specs.Entries.{entries, is_bad}
-use Rattle.n2k_wire.specs.Packet.{Parts}
+use Rattle.n2k_wire.specs.Packet.{PacketParts}
 use Rattle.n2k_run.specs.declared.worth.Worth.{Worth}
 use Rattle.n2k_run.specs.Made.{text_of, is_worth, is_message, is_unknown, texts_of, counts_of, ReportsFirst}
 use Rattle.n2k_run.specs.Progress.{counted, counted_all}
 use Rattle.n2k_run.specs.Reports.{report_of, reports_from, reports}
-use Rattle.n2k_run.specs.declared.counts.Counts.{Counts}
+use Rattle.n2k_join.specs.declared.counts.Counts.{Counts}
 use Rattle.n2k_run.specs.Writing.{Owes, AppendsFront}
 use Rattle.n2k_run.proofs.Owed.{Owes-all, Owes-part, Owes-front, Owes-done, Owes-on}
 
@@ -38,7 +38,7 @@ abbrev pub no_counts : Counts
 no_counts = record { lines = 0; messages = 0; bad = 0; unknown = 0; broken = 0; held = 0 }
 
 -- What a run has made of the lines that it has taken: their texts and reports are written but for what is kept.
-pub record Stands (made : Parts → List ℕ) (worth : Parts → Worth) (log rest : List ℕ) (counts : Counts) (text report : List ℕ) (w₀ w e₀ e : Option (List ℕ)) : Type 0 where
+pub record Stands (made : PacketParts → List ℕ) (worth : PacketParts → Worth) (log rest : List ℕ) (counts : Counts) (text report : List ℕ) (w₀ w e₀ e : Option (List ℕ)) : Type 0 where
   pub taken : List Entry
   pub lines_taken : entries Frames log ≡ taken ++ entries Frames rest
   pub texts_owed : Owes w₀ w (flat_map (text_of made) taken) text
@@ -76,7 +76,7 @@ goes_on old new text more front = (
 pub all_is_front : (old new : Option (List ℕ)) (text : List ℕ) → Appends old new text → AppendsFront old new text
 all_is_front old new text appended = ([], record { front = text; appended = appended; still = sym (append-nil text) })
 
-module _ (made : Parts → List ℕ) (worth : Parts → Worth) where
+module _ (made : PacketParts → List ℕ) (worth : PacketParts → Worth) where
   pub begins : (log : List ℕ) (w e : Option (List ℕ)) → Stands made worth log log no_counts [] [] w w e e
   begins log w e = record { taken = []; lines_taken = refl; texts_owed = Owes-all w []; reports_owed = Owes-all e []; counted_so = refl }
 

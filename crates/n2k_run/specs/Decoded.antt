@@ -3,22 +3,23 @@ use Rattle.std.specs.Prelude.{ℕ, ◌-◌, List, length, count_by, is_some, Opt
 use Rattle.std.specs.List.{range_with_len}
 use Rattle.n2k_table.specs.Table.{TableParts}
 use Rattle.n2k_wire.specs.declared.entry.Entry.{Entry}
-use Rattle.n2k_wire.specs.declared.entry.Entry.TheVariants.{Skip, Bad, Frame}
+use Rattle.n2k_wire.specs.declared.entry.Entry.TheVariants.{Skip, Bad, Frame, Whole}
 use Rattle.n2k_wire.specs.declared.entry.Packing.TheVariants.{Frames}
-use Rattle.n2k_wire.specs.Packet.{Parts}
-use Rattle.n2k_run.specs.declared.counts.Counts.{Counts}
+use Rattle.n2k_wire.specs.Packet.{PacketParts}
+use Rattle.n2k_join.specs.declared.counts.Counts.{Counts}
 use Rattle.n2k_run.specs.Entries.{entries, is_bad}
 use Rattle.n2k_run.specs.Made.{is_worth, is_unknown}
 use Rattle.n2k_run.specs.Single.{single_message, single_worth, line_of}
 
 -- the message that an entry gives by itself
-abbrev pub entry_message : TableParts → Entry → Option Parts
+abbrev pub entry_message : TableParts → Entry → Option PacketParts
 entry_message t Skip = None
 entry_message t (Bad cause) = None
 entry_message t (Frame packet) = single_message t packet
+entry_message t (Whole packet) = single_message t packet
 
 -- the message that line i gives, the lines being counted from 1
-abbrev pub message : TableParts → List Entry → ℕ → Option Parts
+abbrev pub message : TableParts → List Entry → ℕ → Option PacketParts
 message t es i = option_and_then (entry_message t) (slice_get es (i - 1))
 
 -- the numbers of the lines

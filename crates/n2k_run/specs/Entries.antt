@@ -1,14 +1,10 @@
 -- The entries of a log, one a line, and what they count for.
 use Rattle.std.specs.Prelude.{ℕ, Bool, true, false, List, map}
 use Rattle.n2k_wire.specs.declared.entry.Entry.{Entry}
-use Rattle.n2k_wire.specs.declared.entry.Entry.TheVariants.{Skip, Bad, Frame}
+use Rattle.n2k_wire.specs.declared.entry.Entry.TheVariants.{Skip, Bad, Frame, Whole}
 use Rattle.n2k_wire.specs.declared.entry.Packing.{Packing}
 use Rattle.n2k_wire.specs.Entry.{entry}
 use Rattle.n2k_run.specs.Lines.{lines}
-
--- the most lines of a log
-abbrev pub most_lines : ℕ
-most_lines = 999_999_999_999_999
 
 -- the entry of each line, in order
 abbrev pub entries : Packing → List ℕ → List Entry
@@ -18,3 +14,4 @@ abbrev pub is_bad : Entry → Bool
 is_bad Skip = false
 is_bad (Bad cause) = true
 is_bad (Frame packet) = false
+is_bad (Whole packet) = false

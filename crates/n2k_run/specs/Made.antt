@@ -3,10 +3,10 @@ use Rattle.std.specs.Prelude.{◌≡◌, ℕ, Bool, true, false, List, [], ◌++
 use Rattle.std.specs.List.{flat_map}
 use Rattle.std.specs.Io.KnownBytes.{Appends}
 use Rattle.n2k_wire.specs.declared.entry.Entry.{Entry}
-use Rattle.n2k_wire.specs.declared.entry.Entry.TheVariants.{Skip, Bad, Frame}
+use Rattle.n2k_wire.specs.declared.entry.Entry.TheVariants.{Skip, Bad, Frame, Whole}
 use Rattle.n2k_wire.specs.declared.entry.Packing.TheVariants.{Frames}
-use Rattle.n2k_wire.specs.Packet.{Parts}
-use Rattle.n2k_run.specs.declared.counts.Counts.{Counts}
+use Rattle.n2k_wire.specs.Packet.{PacketParts}
+use Rattle.n2k_join.specs.declared.counts.Counts.{Counts}
 use Rattle.n2k_run.specs.declared.worth.Worth.{Worth}
 use Rattle.n2k_run.specs.declared.worth.Worth.TheVariants.{Message, Unknown, Neither}
 use Rattle.n2k_run.specs.Entries.{entries, is_bad}
@@ -24,23 +24,25 @@ is_unknown Unknown = true
 is_unknown Neither = false
 
 -- what is written of an entry: of a frame its text, of others nothing
-abbrev pub text_of : (Parts → List ℕ) → Entry → List ℕ
+abbrev pub text_of : (PacketParts → List ℕ) → Entry → List ℕ
 text_of text Skip = []
 text_of text (Bad cause) = []
 text_of text (Frame packet) = text packet
+text_of text (Whole packet) = text packet
 
 -- whether an entry is a frame whose worth passes the test
-abbrev pub is_worth : (Worth → Bool) → (Parts → Worth) → Entry → Bool
+abbrev pub is_worth : (Worth → Bool) → (PacketParts → Worth) → Entry → Bool
 is_worth test worth Skip = false
 is_worth test worth (Bad cause) = false
 is_worth test worth (Frame packet) = test (worth packet)
+is_worth test worth (Whole packet) = test (worth packet)
 
 -- the texts of a log's frames, in the order of its lines
-abbrev pub texts_of : (Parts → List ℕ) → List ℕ → List ℕ
+abbrev pub texts_of : (PacketParts → List ℕ) → List ℕ → List ℕ
 texts_of text log = flat_map (text_of text) (entries Frames log)
 
 -- The counts of a log. Skipped lines count as lines, and there are no groups.
-abbrev pub counts_of : (Parts → Worth) → List ℕ → Counts
+abbrev pub counts_of : (PacketParts → Worth) → List ℕ → Counts
 counts_of worth log = record {
   lines = length (entries Frames log);
   messages = count_by (is_worth is_message worth) (entries Frames log);
@@ -52,7 +54,7 @@ counts_of worth log = record {
 
 -- The reports of the lines up to some line have been written, and a front of the texts of the same lines: no text
 -- stands before the report of its own line or of an earlier one.
-pub record ReportsFirst (text : Parts → List ℕ) (log : List ℕ) (w₀ w e₀ e : Option (List ℕ)) : Type 0 where
+pub record ReportsFirst (text : PacketParts → List ℕ) (log : List ℕ) (w₀ w e₀ e : Option (List ℕ)) : Type 0 where
   pub taken : List Entry
   pub left : List Entry
   pub lines_taken : entries Frames log ≡ taken ++ left

@@ -1,8 +1,8 @@
 -- What a run has counted of the lines so far, and which faults its devices may cause.
 use Rattle.std.specs.Prelude.{◌≤◌, ◌+◌, if◌then◌else◌, List, length, count_by}
 use Rattle.n2k_wire.specs.declared.entry.Entry.{Entry}
-use Rattle.n2k_wire.specs.Packet.{Parts}
-use Rattle.n2k_run.specs.declared.counts.Counts.{Counts}
+use Rattle.n2k_wire.specs.Packet.{PacketParts}
+use Rattle.n2k_join.specs.declared.counts.Counts.{Counts}
 use Rattle.n2k_run.specs.declared.fault.RunFault.{RunFault}
 use Rattle.n2k_run.specs.declared.fault.RunFault.TheVariants.{Read, Write, Report, Memory, TooManyLines}
 use Rattle.n2k_run.specs.Entries.{is_bad}
@@ -10,7 +10,7 @@ use Rattle.n2k_run.specs.declared.worth.Worth.{Worth}
 use Rattle.n2k_run.specs.Made.{is_worth, is_message, is_unknown}
 
 -- the counts with one more entry
-abbrev pub counted : (Parts → Worth) → Counts → Entry → Counts
+abbrev pub counted : (PacketParts → Worth) → Counts → Entry → Counts
 counted worth c e = record c {
   lines = c.lines + 1;
   messages = c.messages + (if is_worth is_message worth e then 1 else 0);
@@ -19,7 +19,7 @@ counted worth c e = record c {
 }
 
 -- the counts with all of these
-abbrev pub counted_all : (Parts → Worth) → Counts → List Entry → Counts
+abbrev pub counted_all : (PacketParts → Worth) → Counts → List Entry → Counts
 counted_all worth c es = record c {
   lines = c.lines + length es;
   messages = c.messages + count_by (is_worth is_message worth) es;

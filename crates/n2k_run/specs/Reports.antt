@@ -4,10 +4,10 @@ use Rattle.std.specs.List.{flat_map, enumerate_from}
 use Rattle.n2k_wire.specs.declared.entry.BadCause.{BadCause}
 use Rattle.n2k_wire.specs.declared.entry.BadCause.TheVariants as causes
 use Rattle.n2k_wire.specs.declared.entry.Entry.{Entry}
-use Rattle.n2k_wire.specs.declared.entry.Entry.TheVariants.{Skip, Bad, Frame}
+use Rattle.n2k_wire.specs.declared.entry.Entry.TheVariants.{Skip, Bad, Frame, Whole}
 use Rattle.n2k_wire.specs.declared.entry.Packing.TheVariants.{Frames}
 use Rattle.n2k_run.specs.Entries.{entries}
-use Rattle.n2k_run.specs.declared.counts.Counts.{Counts}
+use Rattle.n2k_join.specs.declared.counts.Counts.{Counts}
 
 -- a cause's number and word
 abbrev pub cause_text : BadCause → List ℕ
@@ -38,6 +38,7 @@ abbrev pub report_of : ℕ → Entry → List ℕ
 report_of number Skip = []
 report_of number (Bad cause) = bad_text number cause
 report_of number (Frame packet) = []
+report_of number (Whole packet) = []
 
 -- the reports of entries, whose first is that of line `first`
 abbrev pub reports_from : ℕ → List Entry → List ℕ

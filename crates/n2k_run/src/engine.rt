@@ -2,20 +2,20 @@
 ghost use Rattle.std.specs.Prelude.{◌≤◌, ◌≡◌, ◌⊎◌, ◌<◌, ◌++◌, List, ℕ, length, OnOk, OnErr, IfOk, IfErr, IfSome, IsErrOf};
 ghost use Rattle.std.specs.Io.KnownBytes.{Appends, Consumes, IsAtEnd};
 ghost use Rattle.n2k_run.specs.Device.{HasFailed};
-ghost use Rattle.n2k_run.specs.Entries.{most_lines};
+ghost use Rattle.n2k_join.specs.Counts.{most_lines};
 ghost use Rattle.n2k_run.specs.Lines.{lines, whole_lines};
 ghost use Rattle.n2k_run.specs.Made.{texts_of, counts_of, ReportsFirst};
 ghost use Rattle.n2k_run.specs.Reports.{reports};
 ghost use Rattle.n2k_run.specs.Reading.{OutlastsReads};
 ghost use Rattle.n2k_run.specs.Writing.{AppendsFront};
 
-use crate::counts::Counts;
 use crate::device::{Sink, Source};
 use crate::fault::RunFault;
 use crate::lines::{split_line, whole_lines};
 use crate::maker::Maker;
-use crate::progress::{MOST_LINES, Progress};
+use crate::progress::Progress;
 use crate::reading::{ReadFault, read_all};
+use n2k_join::{Counts, MOST_LINES};
 use std::alloc::Global;
 
 // Prints and reports the lines of a log in memory.

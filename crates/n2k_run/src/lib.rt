@@ -12,7 +12,6 @@
 //! whose call failed, of memory, of 10^12 reads without an end, or of too many lines.
 #![tactic(auto)]
 
-mod counts;
 mod device;
 mod engine;
 mod fault;
@@ -28,14 +27,13 @@ mod texts;
 mod worth;
 mod writing;
 
-pub use counts::Counts;
 pub use device::{Failed, Sink, Source};
 pub use fault::{BytesFault, RunFault};
 pub use memory::{MemorySink, MemorySource};
 pub use plain::run_plain;
-pub use progress::MOST_LINES;
 pub use reading::{MOST_READS, read_bytes};
 pub use single::run_single;
+pub use n2k_join::{Counts, MOST_LINES};
 pub use standard::{StdSink, StdSource};
 pub use texts::{bad_text, summary_text};
 pub use writing::write_all;

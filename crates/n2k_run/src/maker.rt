@@ -1,6 +1,6 @@
 //! What a run makes of a frame.
 ghost use Rattle.std.specs.Prelude.{◌≡◌, ◌++◌, ℕ, List, IfOk, OnOk};
-ghost use Rattle.n2k_wire.specs.Packet.{Parts};
+ghost use Rattle.n2k_wire.specs.Packet.{PacketParts};
 ghost use Rattle.n2k_run.specs.declared.worth.Worth.{Worth};
 
 use crate::worth::Worth;
@@ -10,10 +10,10 @@ use std::alloc::{AllocError, Global};
 /// What makes texts of frames.
 pub(crate) trait Maker {
     /// The text of a packet, which may be empty.
-    ghost text: { Self → Parts → List ℕ };
+    ghost text: { Self → PacketParts → List ℕ };
 
     /// What a packet counts as.
-    ghost worth: { Self → Parts → Worth };
+    ghost worth: { Self → PacketParts → Worth };
 
     /// Appends the text of a packet, and answers what it counts as.
     fn make(&self, alloc: Global, packet: &Packet, out: &mut Vec<u8>) -> Result<Worth, AllocError>

@@ -9,18 +9,15 @@ ghost use Rattle.n2k_run.specs.Progress.{counted, AreCounts, IsDeviceFault};
 ghost use Rattle.n2k_run.specs.Reports.{report_of};
 ghost use Rattle.n2k_run.specs.Writing.{AppendsFront};
 
-use crate::counts::Counts;
 use crate::device::Sink;
 use crate::fault::RunFault;
 use crate::maker::Maker;
 use crate::texts::bad_text;
 use crate::worth::Worth;
 use crate::writing::write_all;
+use n2k_join::{Counts, MOST_LINES};
 use n2k_wire::{Entry, Packing, read_line};
 use std::alloc::{AllocError, Global};
-
-/// The most lines of a log.
-pub const MOST_LINES: u64 = 999_999_999_999_999;
 
 /// How many bytes of texts are kept before they are written.
 const KEPT: usize = 65_536;
@@ -68,7 +65,7 @@ impl Progress {
                 self.counts.bad += 1;
                 bad_text(alloc, self.counts.lines, cause, &mut self.report)
             }
-            Entry::Frame(packet) => {
+            Entry::Frame(packet) | Entry::Whole(packet) => {
                 match maker.make(alloc, &packet, &mut self.text)? {
                     Worth::Message => self.counts.messages += 1,
                     Worth::Unknown => self.counts.unknown += 1,

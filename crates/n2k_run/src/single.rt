@@ -3,7 +3,7 @@ ghost use Rattle.std.specs.Prelude.{◌≤◌, ◌≡◌, ◌⊎◌, ◌<◌, Li
 ghost use Rattle.std.specs.Io.KnownBytes.{Appends, Consumes, IsAtEnd};
 ghost use Rattle.n2k_run.specs.Decoded.{out, decode_counts};
 ghost use Rattle.n2k_run.specs.Device.{HasFailed};
-ghost use Rattle.n2k_run.specs.Entries.{most_lines};
+ghost use Rattle.n2k_join.specs.Counts.{most_lines};
 ghost use Rattle.n2k_run.specs.Lines.{lines, whole_lines};
 ghost use Rattle.n2k_run.specs.Made.{ReportsFirst};
 ghost use Rattle.n2k_run.specs.Reading.{OutlastsReads};
@@ -11,12 +11,12 @@ ghost use Rattle.n2k_run.specs.Reports.{reports};
 ghost use Rattle.n2k_run.specs.Single.{single_text};
 ghost use Rattle.n2k_run.specs.Writing.{AppendsFront};
 
-use crate::counts::Counts;
 use crate::device::{Sink, Source};
 use crate::engine::run_frames_of;
 use crate::fault::RunFault;
 use crate::maker::Maker;
 use crate::worth::Worth;
+use n2k_join::Counts;
 use n2k_table::{Kind, Table, json_line};
 use n2k_wire::Packet;
 use std::alloc::{AllocError, Global};

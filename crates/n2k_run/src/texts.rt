@@ -2,7 +2,7 @@
 ghost use Rattle.std.specs.Prelude.{◌≡◌, ◌++◌, ◌+◌, ◌≤◌, OnOk, OnErr, decimal};
 ghost use Rattle.n2k_run.specs.Reports.{bad_text, cause_text, summary_text};
 
-use crate::counts::Counts;
+use n2k_join::Counts;
 use n2k_wire::BadCause;
 use std::alloc::{AllocError, Global};
 

@@ -1,7 +1,7 @@
 -- The JSON line of a message.
 use Rattle.std.specs.Prelude.{ℕ, Bool, codes, decimal, List, [], ◌∷◌, ◌++◌, Option, Some, None, if◌then◌else◌}
 use Rattle.std.specs.List.{filter_map, join_with_byte}
-use Rattle.n2k_wire.specs.Packet.{Parts}
+use Rattle.n2k_wire.specs.Packet.{PacketParts}
 use Rattle.n2k_wire.specs.declared.identifier.Id.{Id}
 use Rattle.n2k_table.specs.Decimal.{dec}
 use Rattle.n2k_table.specs.Definition.{DefinitionParts}
@@ -42,7 +42,7 @@ id_json id =
     ++ codes ",\"pgn\":" ++ decimal id.pgn
 
 -- what stands before the fields
-unfoldable pub head_json : DefinitionParts → Parts → List ℕ
+unfoldable pub head_json : DefinitionParts → PacketParts → List ℕ
 head_json d m =
     codes "{\"timestamp\":" ++ text_json m.stamp
     ++ id_json m.id
@@ -50,16 +50,16 @@ head_json d m =
     ++ codes ",\"fields\":"
 
 -- the line of a message under a definition, with its LF
-abbrev pub line_json : DefinitionParts → Parts → Bool → List ℕ
+abbrev pub line_json : DefinitionParts → PacketParts → Bool → List ℕ
 line_json d m empty = head_json d m ++ fields_json empty (all_shown d.fields m.payload) ++ codes "}\n"
 
 -- The line of a message under the definition that is chosen for it. Where there is none, which `json_line` rules
 -- out, it is empty.
-abbrev pub chosen_json : Option DefinitionParts → Parts → Bool → List ℕ
+abbrev pub chosen_json : Option DefinitionParts → PacketParts → Bool → List ℕ
 chosen_json None m empty = []
 chosen_json (Some d) m empty = line_json d m empty
 
-unfoldable pub json : TableParts → Parts → Bool → List ℕ
+unfoldable pub json : TableParts → PacketParts → Bool → List ℕ
 json t m empty = chosen_json (choice t m.id.pgn m.payload) m empty
 
 -- for private clauses: a member after those before it

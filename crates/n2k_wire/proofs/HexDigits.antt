@@ -12,6 +12,7 @@ use Rattle.std.proofs.Math.ListN.{drop_of_length-le}
 use Rattle.std.proofs.lemmas.List.{append-nil}
 use Rattle.hex.specs.Hex.{hex_digit_value, decode_pairs, decode_of}
 use Rattle.n2k_wire.specs.HexValue.{hex_value}
+use Rattle.n2k_wire.specs.Plain.{pair}
 
 -- the value that `hex` gives a digit
 pub hex_digit_value-is : (digit : ℕ) → is_ascii_hexdigit digit ≡ true → hex_digit_value digit ≡ Some (hex_value digit)
@@ -93,3 +94,34 @@ all_digits p (b ∷ text) all =
     let first : (p b ≡ true) × (list_all p text ≡ true) = both _ _ all in
     let rest = all_digits p text first.1 in
     rw first.0 (omega arith)
+
+-- a byte that is no digit has no value
+hex_digit_value-none : (digit : ℕ) → is_ascii_hexdigit digit ≡ false → hex_digit_value digit ≡ None
+hex_digit_value-none digit e = grind (arith, nat_tests)
+
+-- two digits spell one byte
+pub pair_spelled : (piece : List ℕ) → length piece ≡ 2 → (is_ascii_hexdigit (get_or piece 0 0) && is_ascii_hexdigit (get_or piece 1 0)) ≡ true
+    → pair piece ≡ Some ((hex_value (get_or piece 0 0) * 16 + hex_value (get_or piece 1 0)) ∷ [])
+unfolding pair decode_pairs
+pair_spelled [] two digits = absurd (omega arith)
+pair_spelled (high ∷ []) two digits = absurd (omega arith)
+pair_spelled (high ∷ low ∷ []) two digits =
+    let each : (is_ascii_hexdigit high ≡ true) × (is_ascii_hexdigit low ≡ true) = both _ _ digits in
+    rw (hex_digit_value-is high each.0, hex_digit_value-is low each.1) refl
+pair_spelled (high ∷ low ∷ other ∷ more) two digits = absurd (omega arith)
+
+-- two bytes of which one is no digit spell none
+pub pair_none : (piece : List ℕ) → length piece ≡ 2 → (is_ascii_hexdigit (get_or piece 0 0) && is_ascii_hexdigit (get_or piece 1 0)) ≡ false → pair piece ≡ None
+unfolding pair decode_pairs
+pair_none [] two others = absurd (omega arith)
+pair_none (high ∷ []) two others = absurd (omega arith)
+pair_none (high ∷ low ∷ []) two others =
+    elim (cases_Bool (is_ascii_hexdigit high)) [
+      | inl digit ↦
+          elim (cases_Bool (is_ascii_hexdigit low)) [
+            | inl too ↦ absurd (let all : (is_ascii_hexdigit high && is_ascii_hexdigit low) ≡ true = rw (digit, too) refl in cc)
+            | inr other ↦ rw (hex_digit_value-is high digit, hex_digit_value-none low other) refl
+          ]
+      | inr other ↦ rw (hex_digit_value-none high other) refl
+    ]
+pair_none (high ∷ low ∷ other ∷ more) two others = absurd (omega arith)

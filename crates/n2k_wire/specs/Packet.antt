@@ -21,7 +21,7 @@ abbrev pub greatest_priority : ℕ
 greatest_priority = 7
 
 -- a message or a frame, as it is read from a line or written to one
-pub record Parts : Type 0 where
+pub record PacketParts : Type 0 where
   -- when it was seen, as text
   pub stamp : List ℕ
   -- who sent what to whom
@@ -56,9 +56,9 @@ pub record IsPacket (stamp : List ℕ) (id : Id) (payload : List ℕ) : Type 0 w
   pub pgn_ok : id.pgn ≤ greatest_pgn
   pub payload_ok : length payload ≤ longest_message
 
--- Parts that a packet of the program can have: they make one, its addresses are of eight bits, and its data are
+-- PacketParts that a packet of the program can have: they make one, its addresses are of eight bits, and its data are
 -- bytes. The types of the code say the last two, but a law over all parts takes them as its premise.
-pub record IsPacketParts (p : Parts) : Type 0 where
+pub record IsPacketParts (p : PacketParts) : Type 0 where
   pub packet_ok : IsPacket p.stamp p.id p.payload
   pub src_ok : p.id.src ≤ 255
   pub dst_ok : p.id.dst ≤ 255

@@ -8,7 +8,7 @@ ghost use Rattle.std.specs.Result.{result_ok};
 ghost use Rattle.hex.specs.Hex.{decode_of};
 ghost use Rattle.n2k_wire.specs.Moments.{plain_moment};
 ghost use Rattle.n2k_wire.specs.Stamp.{IsMoment};
-ghost use Rattle.n2k_wire.specs.Entry.{IsShort};
+ghost use Rattle.n2k_wire.specs.Entry.{IsEntry, IsShort};
 ghost use Rattle.n2k_wire.specs.Steps.{Finds, Gives};
 
 use crate::digits::{are_hex_digits, decode_digits, is_hex_digit};
@@ -23,7 +23,7 @@ use arrayvec::ArrayVec;
 const LONGEST_INTERFACE: usize = 15;
 
 /// The most data bytes of a frame.
-const FRAME_PAYLOAD: usize = 8;
+pub const FRAME_PAYLOAD: usize = 8;
 
 /// The first number that isn't a CAN identifier of 29 bits.
 const FIRST_ERROR_FRAME: u32 = 0x2000_0000;
@@ -196,6 +196,7 @@ fn frame_of(seen: Moment, known: Option<u32>, text: &[u8]) -> Result<Entry, BadC
     requires moment { IsMoment (plain_moment seen) }
     requires bits { IfSome known (λ n. n < 2 ^ 29) }
     ensures entry { Gives (λ e. e) result (frame_of (plain_moment seen) known text.now) }
+    ensures valid { IfOk result IsEntry }
     ensures short { IfOk result IsShort }
 {
     let Some(identifier) = known else {
@@ -213,6 +214,7 @@ fn frame_of(seen: Moment, known: Option<u32>, text: &[u8]) -> Result<Entry, BadC
 #[tactic(auto, unfolding(crate::specs::Candump::candump))]
 pub fn read_candump(line: &[u8]) -> Result<Entry, BadCause>
     ensures entry { Gives (λ e. e) result (candump line.now) }
+    ensures valid { IfOk result IsEntry }
     ensures short { IfOk result IsShort }
 {
     let (stamp, text) = read_stamped(line).ok_or(BadCause::Stamp)?;

@@ -70,7 +70,7 @@ pub fn are_hex_digits(digits: &[u8]) -> bool
 }
 
 // The value of a hexadecimal digit, by the same steps for digits and letters.
-fn hex_value(digit: u8) -> u8
+pub fn hex_value(digit: u8) -> u8
     requires { is_ascii_hexdigit digit ≡ true }
     ensures value { result ≡ hex_value digit }
     ensures bound { result < 16 }

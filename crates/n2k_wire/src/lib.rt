@@ -1,7 +1,7 @@
 //! Lines of a log, CAN identifiers, packets, and the texts of packets.
 //!
-//! - `read_line` says what a line of a log is (`Entry`): a frame of `candump -L` or a plain line as a `Packet`, a
-//!   line to skip, or a bad line with its cause (`BadCause`).
+//! - `read_line` says what a line of a log is (`Entry`): a frame or a whole message as a `Packet`, a line to skip, or
+//!   a bad line with its cause (`BadCause`). A line is one of `candump -L` or a plain line.
 //! - `split_id` splits a CAN identifier into priority, PGN, source and destination (`Id`).
 //! - `Packet` holds a message or a frame: its stamp, its `Id`, and up to 223 bytes.
 //! - `plain_text` appends the plain line of a packet. `laws` has what ties these calls together.

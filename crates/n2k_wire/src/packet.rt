@@ -2,7 +2,7 @@
 ghost use Rattle.std.specs.Prelude.{◌≡◌};
 ghost use Rattle.std.specs.List.{list_all};
 ghost use Rattle.std.specs.Option.{SomeIff};
-ghost use Rattle.n2k_wire.specs.Packet.{IsPacket, is_stamp, is_stamp_byte, is_stamp_start};
+ghost use Rattle.n2k_wire.specs.Packet.{IsPacket, IsPacketParts, is_stamp, is_stamp_byte, is_stamp_start};
 
 use crate::identifier::Id;
 use arrayvec::ArrayVec;
@@ -29,9 +29,9 @@ pub struct Packet {
 }
 
 impl Model for Packet {
-    ghost use Rattle.n2k_wire.specs.Packet.{Parts, IsPacket};
+    ghost use Rattle.n2k_wire.specs.Packet.{PacketParts, IsPacket};
 
-    ghost Value = { Parts };
+    ghost Value = { PacketParts };
 
     ghost view = { λ p. record { stamp = p.stamp.items; id = p.id; payload = p.«data».items } };
 
@@ -89,7 +89,8 @@ impl Packet {
     #[inline]
     pub(crate) fn of_parts(stamp: &[u8], id: Id, data: &[u8]) -> Packet
         requires { IsPacket stamp.now id «data».now }
-        ensures { result ≡ record { stamp = stamp.now; id = id; payload = «data».now } }
+        ensures value { result ≡ record { stamp = stamp.now; id = id; payload = «data».now } }
+        ensures valid { IsPacketParts result }
     {
         let mut kept_stamp = ArrayVec::new();
         let mut kept_data = ArrayVec::new();

@@ -1,4 +1,4 @@
-//! Parts of a line.
+//! PacketParts of a line.
 ghost use Rattle.std.specs.Prelude.{◌≡◌, ◌==◌, not, position};
 ghost use Rattle.n2k_wire.specs.Steps.{Finds};
 ghost use Rattle.n2k_wire.specs.Pieces.{cut_at, after_byte, skip_spaces};

@@ -1,19 +1,17 @@
 //! Plain lines: `stamp,prio,pgn,src,dst,len,b0,b1,..`, the format that canboat's programs read and write.
 ghost use Rattle.std.specs.Prelude.{◌≡◌, ◌≤◌, [], ◌∷◌, length, IfSome, IfOk};
-ghost use Rattle.n2k_wire.specs.Plain.{plain, pieces, number_to, pair, header, id_of, bytes_of};
+ghost use Rattle.n2k_wire.specs.Plain.{plain, pieces, number_to, pair, header, id_of, bytes_of, is_frame};
 ghost use Rattle.n2k_wire.specs.PlainPieces.{pieces_left, plain_header};
-ghost use Rattle.n2k_wire.specs.Entry.{IsShort};
+ghost use Rattle.n2k_wire.specs.Entry.{IsEntry, IsShort};
 ghost use Rattle.n2k_wire.specs.Steps.{Finds, Gives};
 
-use crate::digits::decimal_number;
-use crate::entry::{BadCause, Entry};
+use crate::candump::FRAME_PAYLOAD;
+use crate::digits::{decimal_number, hex_value, is_hex_digit};
+use crate::entry::{BadCause, Entry, Packing};
 use crate::identifier::Id;
-use crate::packet::{GREATEST_PGN, GREATEST_PRIORITY, Packet, is_stamp};
+use crate::packet::{GREATEST_PGN, GREATEST_PRIORITY, LONGEST_MESSAGE, Packet, is_stamp};
 use crate::pieces::cut_at;
 use arrayvec::ArrayVec;
-
-/// The most data bytes of a line.
-const LONGEST_DATA: usize = 8;
 
 /// The greatest address.
 const GREATEST_ADDRESS: u64 = 255;
@@ -90,21 +88,24 @@ fn read_id(header: &Header<'_>) -> Result<Id, BadCause>
     })
 }
 
-/// A piece of two hexadecimal digits, as the one byte that they spell.
+/// A piece of two hexadecimal digits, as the one byte that they spell. No branch goes by the kind of a digit.
 #[tactic(auto, unfolding(crate::specs::Plain::pair))]
 fn read_pair(piece: &[u8]) -> Option<u8>
     ensures { Finds (λ byte. byte ∷ []) result (pair piece.now) }
 {
-    let mut byte = [0; 1];
-    hex::decode_to_slice(piece, &mut byte).ok()?;
-    Some(byte[0])
+    match piece {
+        [high, low] if is_hex_digit(*high) & is_hex_digit(*low) => {
+            Some(hex_value(*high) * 16 + hex_value(*low))
+        }
+        _ => None,
+    }
 }
 
 /// Exactly so many pieces, each as a byte.
-fn read_bytes(len: u64, more: Option<&[u8]>) -> Option<ArrayVec<u8, LONGEST_DATA>>
-    requires { len ≤ 8 }
+fn read_bytes(len: u64, more: Option<&[u8]>) -> Option<ArrayVec<u8, LONGEST_MESSAGE>>
+    requires { len ≤ 223 }
     ensures value { Finds (λ bytes. bytes.items) result (bytes_of len (pieces_left more.entry)) }
-    ensures short { IfSome result (λ bytes. length bytes.items ≤ 8) }
+    ensures len { IfSome result (λ bytes. length bytes.items ≡ len) }
 {
     let mut bytes = ArrayVec::new();
     let mut left = more;
@@ -125,10 +126,21 @@ fn read_bytes(len: u64, more: Option<&[u8]>) -> Option<ArrayVec<u8, LONGEST_DATA
     }
 }
 
+/// Whether a plain line with so many bytes is a frame.
+fn is_frame(packing: Packing, len: usize) -> bool
+    ensures { result ≡ is_frame packing len }
+{
+    match packing {
+        Packing::Frames => len <= FRAME_PAYLOAD,
+        Packing::Whole => false,
+    }
+}
+
 /// The entry of a plain line, or the first of its causes.
 #[tactic(auto, unfolding(crate::specs::Plain::plain_of))]
-pub fn read_plain(line: &[u8]) -> Result<Entry, BadCause>
-    ensures entry { Gives (λ e. e) result (plain line.now) }
+pub fn read_plain(line: &[u8], packing: Packing) -> Result<Entry, BadCause>
+    ensures entry { Gives (λ e. e) result (plain packing line.now) }
+    ensures valid { IfOk result IsEntry }
     ensures short { IfOk result IsShort }
 {
     let (stamp, more) = first_piece(line);
@@ -137,7 +149,12 @@ pub fn read_plain(line: &[u8]) -> Result<Entry, BadCause>
     }
     let header = read_header(more).ok_or(BadCause::Form)?;
     let id = read_id(&header)?;
-    let len = number_to(LONGEST_DATA as u64, header.len).ok_or(BadCause::Number)?;
+    let len = number_to(LONGEST_MESSAGE as u64, header.len).ok_or(BadCause::Number)?;
     let data = read_bytes(len, header.more).ok_or(BadCause::Data)?;
-    Ok(Entry::Frame(Packet::of_parts(stamp, id, data.as_slice())))
+    let packet = Packet::of_parts(stamp, id, data.as_slice());
+    if is_frame(packing, data.len()) {
+        Ok(Entry::Frame(packet))
+    } else {
+        Ok(Entry::Whole(packet))
+    }
 }

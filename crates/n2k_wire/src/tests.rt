@@ -2,17 +2,25 @@ use crate::{BadCause, Entry, Id, LONGEST_LINE, Packet, Packing, plain_text, read
 use std::alloc::Global;
 use std::test::Fail;
 
-// What a line is: its plain text, the cause it is bad for, or `skipped`.
-fn shown(alloc: Global, line: &[u8]) -> Result<String, Fail> {
-    match read_line(line, Packing::Frames) {
+// A packet's plain text behind a word.
+fn text_behind(alloc: Global, word: &str, packet: &Packet) -> Result<String, Fail> {
+    let mut text = word.as_bytes().to_vec(alloc)?;
+    plain_text(alloc, packet, &mut text)?;
+    Ok(String::from_utf8(text)?)
+}
+
+// What a line is: its plain text, with `whole` in front where it is no frame; the cause it is bad for; or `skipped`.
+fn packed(alloc: Global, line: &[u8], packing: Packing) -> Result<String, Fail> {
+    match read_line(line, packing) {
         Entry::Skip => Ok("skipped".to_string(alloc)?),
         Entry::Bad(cause) => Ok(format!(in alloc; "{cause:?}")?),
-        Entry::Frame(packet) => {
-            let mut text = Vec::new(alloc);
-            plain_text(alloc, &packet, &mut text)?;
-            Ok(String::from_utf8(text)?)
-        }
+        Entry::Frame(packet) => text_behind(alloc, "", &packet),
+        Entry::Whole(packet) => text_behind(alloc, "whole ", &packet),
     }
+}
+
+fn shown(alloc: Global, line: &[u8]) -> Result<String, Fail> {
+    packed(alloc, line, Packing::Frames)
 }
 
 #[test]
@@ -165,6 +173,11 @@ fn plain_lines(rt: HostRuntime) -> Result<(), Fail> {
             "12345678901234567890123456789012,0,0,0,0,0\n",
         ),
         (" ~,0,0,0,0,0", " ~,0,0,0,0,0\n"),
+        // whole-among-frames: more bytes than a frame holds
+        (
+            "2020-01-01T00:00:00.000Z,7,130820,5,255,9,07,98,01,41,42,43,44,45,46",
+            "whole 2020-01-01T00:00:00.000Z,7,130820,5,255,9,07,98,01,41,42,43,44,45,46\n",
+        ),
         // the stamp
         ("123456789012345678901234567890123,0,0,0,0,0", "Stamp"),
         (",0,0,0,0,0", "Stamp"),
@@ -179,7 +192,7 @@ fn plain_lines(rt: HostRuntime) -> Result<(), Fail> {
         ("x,0,16777216,0,0,0", "Number"),
         ("x,0,0,256,0,0", "Number"),
         ("x,0,0,0,256,0", "Number"),
-        ("x,0,0,0,0,9,00,00,00,00,00,00,00,00,00", "Number"),
+        ("x,0,0,0,0,224", "Number"),
         ("x,00000000001,0,0,0,0", "Number"),
         ("x,0,0,0,0,-0", "Number"),
         ("x,0,0,0,0, 0", "Number"),
@@ -193,6 +206,7 @@ fn plain_lines(rt: HostRuntime) -> Result<(), Fail> {
         ("x,0,0,0,0,1,g0", "Data"),
         ("x,0,0,0,0,2,00,0", "Data"),
         ("x,0,0,0,0,1,00,", "Data"),
+        ("x,0,0,0,0,223,00", "Data"),
         // of two causes the first row counts
         ("(x,9,0,0,0", "Stamp"),
         ("\u{7f},9", "Stamp"),
@@ -206,6 +220,38 @@ fn plain_lines(rt: HostRuntime) -> Result<(), Fail> {
             "of {line}"
         );
     }
+    Ok(())
+}
+
+#[test]
+fn whole_lines(rt: HostRuntime) -> Result<(), Fail> {
+    let alloc = rt.alloc();
+    let cases = [
+        // whole-among-frames, and a candump line, which is a frame always
+        (
+            "2020-01-01T00:00:00.000Z,7,130820,5,255,6,a3,99,01,41,42,43",
+            "whole 2020-01-01T00:00:00.000Z,7,130820,5,255,6,a3,99,01,41,42,43\n",
+        ),
+        ("x,0,0,0,0,0", "whole x,0,0,0,0,0\n"),
+        ("x,0,0,0,0,224", "Number"),
+        (
+            "(1.0) can0 18EAFF01#14F001",
+            "1970-01-01T00:00:01.000Z,6,59904,1,255,3,14,f0,01\n",
+        ),
+    ];
+    for (line, wanted) in cases {
+        assert_eq!(rt;
+            packed(alloc, line.as_bytes(), Packing::Whole)?.as_str(),
+            wanted,
+            "of {line}"
+        );
+    }
+    // the longest message
+    let packet = Packet::new(b"x", split_id(0), &[0xab; 223]).ok_or("refused")?;
+    let text = text_behind(alloc, "", &packet)?;
+    let (_, line) = text.as_bytes().split_last().ok_or("empty")?;
+    let wanted = text_behind(alloc, "whole ", &packet)?;
+    assert_eq!(rt; shown(alloc, line)?.as_str(), wanted.as_str());
     Ok(())
 }
 

@@ -3,7 +3,7 @@ ghost use Rattle.std.specs.Prelude.{◌≡◌, ◌≢◌, ◌⊎◌, ◌<◌, �
 ghost use Rattle.std.specs.Io.KnownBytes.{Appends};
 ghost use Rattle.n2k_run.specs.Decoded.{decode_counts, out};
 ghost use Rattle.n2k_run.specs.Device.{HasFailed};
-ghost use Rattle.n2k_run.specs.Entries.{most_lines};
+ghost use Rattle.n2k_join.specs.Counts.{most_lines};
 ghost use Rattle.n2k_run.specs.Lines.{lines};
 ghost use Rattle.n2k_run.specs.Plain.{plain_counts, plain_out};
 ghost use Rattle.n2k_run.specs.Reading.{OutlastsReads};

@@ -1,5 +1,5 @@
 use Rattle.std.proofs.Common.{◌≡◌, ◌≤◌, length}
-use Rattle.n2k_run.specs.declared.progress.TheConstants.{MOST_LINES}
+use Rattle.n2k_join.specs.declared.counts.TheConstants.{MOST_LINES}
 use Rattle.n2k_run.specs.Progress.{AreCounts}
 use Rattle.n2k_run.proofs.RunSteps.{Stands}
 use Rattle.n2k_run.proofs.engine.print_lines.Given as goal

@@ -4,7 +4,7 @@ use Rattle.std.proofs.lemmas.Result.{err_from_is_err_and}
 use Rattle.n2k_run.specs.Lines.{whole_lines}
 use Rattle.n2k_run.specs.Made.{texts_of}
 use Rattle.n2k_run.specs.Reports.{reports}
-use Rattle.n2k_run.specs.declared.progress.TheConstants.{MOST_LINES}
+use Rattle.n2k_join.specs.declared.counts.TheConstants.{MOST_LINES}
 use Rattle.n2k_run.proofs.RunFront.{Leads, leads, out_front, reports_front, more_lines, none_written, whole_front, first_of_front}
 use Rattle.n2k_run.proofs.RunSteps.{on_err, all_is_front}
 use Rattle.n2k_run.proofs.engine.run_frames_of.Given.{Over}

@@ -1,6 +1,6 @@
 use Rattle.std.proofs.Common.{◌≡◌, ℕ, List, subst, ◌∙◌}
 use Rattle.std.specs.Io.KnownBytes.{Appends}
-use Rattle.n2k_run.specs.declared.counts.Counts.{Counts}
+use Rattle.n2k_join.specs.declared.counts.Counts.{Counts}
 use Rattle.n2k_run.specs.Decoded.{decode_counts}
 use Rattle.n2k_run.specs.Lines.{whole_lines}
 use Rattle.n2k_run.specs.Made.{counts_of}

@@ -28,3 +28,6 @@ impl Counts {
         held: 0,
     };
 }
+
+/// The most lines of a log.
+pub const MOST_LINES: u64 = 999_999_999_999_999;

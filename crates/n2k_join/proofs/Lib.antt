@@ -1,0 +1,14 @@
+pub mod Arriving
+pub mod Carried
+pub mod Counting
+pub mod Cuts
+pub mod GroupLines
+pub mod Healing
+pub mod Held
+pub mod Keys
+pub mod Lines
+pub mod PieceFrames
+pub mod Rising
+pub mod Splitting
+pub mod Stretches
+pub mod WholePieces

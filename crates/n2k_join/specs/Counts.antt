@@ -1,0 +1,6 @@
+-- What a log counts.
+use Rattle.std.specs.Prelude.{ℕ}
+
+-- the most lines of a log
+abbrev pub most_lines : ℕ
+most_lines = 999_999_999_999_999
