@@ -1,8 +1,44 @@
 //! Groups of frames that make fast packets, and the counts of a log.
+//!
+//! - `Join::new` is the join before the first line, and `Join::line` takes the next line, as its entry: it answers
+//!   the message that the line is or completes, why it is bad, and the group that it breaks (`Step`, `Broken`).
+//!   A line that can't be taken (`JoinFault`) leaves the join as it was.
+//! - `Join::counts` are the lines, messages, bad lines, unknown PGNs, broken and open groups so far (`Counts`).
+//! - `Splitter::message` makes the frames of a message, under the sequence that its stream stands at, or refuses it
+//!   (`SplitFault`).
+//! - `laws` has what holds of the definitions.
+//!
+//! What the messages of a log are is said over the whole log (specs/Messages): the frames of each key are cut into
+//! groups, and a complete group is a message. A join holds the open groups alone, and one line of it is one step of
+//! that definition, on a join of any state.
 #![tactic(auto)]
 
 mod broken;
 mod counts;
+mod fault;
+mod frame;
+mod group;
+mod join;
+pub mod laws;
+mod outcome;
+mod piece;
+mod saved;
+mod split_fault;
+mod splitter;
+mod state_fault;
+mod step;
+mod stream;
+mod taking;
 
 pub use broken::Broken;
 pub use counts::{Counts, MOST_LINES};
+pub use fault::JoinFault;
+pub use join::Join;
+pub use split_fault::SplitFault;
+pub use splitter::Splitter;
+pub use state_fault::StateFault;
+pub use step::Step;
+pub use stream::Stream;
+
+#[cfg(test)]
+mod tests;

@@ -1,12 +1,13 @@
+pub mod Blocks
 pub mod Decoded
 pub mod Device
 pub mod Entries
+pub mod Inner
 pub mod Lines
-pub mod Made
+pub mod Making
 pub mod Memory
 pub mod Plain
-pub mod Progress
 pub mod Reading
 pub mod Reports
-pub mod Single
+pub mod Runs
 pub mod Writing

@@ -1,12 +1,11 @@
 -- The texts of reports and of the summary.
-use Rattle.std.specs.Prelude.{ℕ, List, [], ◌++◌, codes, decimal}
+use Rattle.std.specs.Prelude.{ℕ, List, [], ◌++◌, Option, Some, None, codes, decimal}
 use Rattle.std.specs.List.{flat_map, enumerate_from}
 use Rattle.n2k_wire.specs.declared.entry.BadCause.{BadCause}
 use Rattle.n2k_wire.specs.declared.entry.BadCause.TheVariants as causes
 use Rattle.n2k_wire.specs.declared.entry.Entry.{Entry}
-use Rattle.n2k_wire.specs.declared.entry.Entry.TheVariants.{Skip, Bad, Frame}
-use Rattle.n2k_wire.specs.declared.entry.Packing.TheVariants.{Frames}
-use Rattle.n2k_run.specs.Entries.{entries}
+use Rattle.n2k_wire.specs.declared.entry.Entry.TheVariants.{Skip, Bad, Frame, Whole}
+use Rattle.n2k_join.specs.declared.broken.Broken.{Broken}
 use Rattle.n2k_join.specs.declared.counts.Counts.{Counts}
 
 -- a cause's number and word
@@ -28,21 +27,31 @@ cause_text causes.Address = codes "B12 address"
 unfoldable pub bad_text : ℕ → BadCause → List ℕ
 bad_text number cause = codes "line " ++ decimal number ++ codes " bad " ++ cause_text cause ++ codes "\n"
 
+-- `line 3 broken pgn 130820 src 5 dst 255 seq 3 first 1`, of the number of a line and the group that it breaks
+unfoldable pub broken_text : ℕ → Broken → List ℕ
+broken_text number group =
+    codes "line " ++ decimal number ++ codes " broken pgn " ++ decimal group.pgn ++ codes " src " ++ decimal group.src ++ codes " dst " ++ decimal group.dst ++ codes " seq " ++ decimal group.seq ++ codes " first " ++ decimal group.first ++ codes "\n"
+
+-- what is reported of a line: first the groups that it breaks, then its cause
+abbrev pub cause_report : ℕ → Option BadCause → List ℕ
+cause_report number None = []
+cause_report number (Some cause) = bad_text number cause
+
+abbrev pub line_report : ℕ → List Broken → Option BadCause → List ℕ
+line_report number groups cause = flat_map (broken_text number) groups ++ cause_report number cause
+
 -- `lines 3 messages 1 bad 0 unknown 0 broken 0 open 0`
 unfoldable pub summary_text : Counts → List ℕ
 summary_text counts =
     codes "lines " ++ decimal counts.lines ++ codes " messages " ++ decimal counts.messages ++ codes " bad " ++ decimal counts.bad ++ codes " unknown " ++ decimal counts.unknown ++ codes " broken " ++ decimal counts.broken ++ codes " open " ++ decimal counts.held ++ codes "\n"
 
--- what is reported of the entry of that line
-abbrev pub report_of : ℕ → Entry → List ℕ
-report_of number Skip = []
-report_of number (Bad cause) = bad_text number cause
-report_of number (Frame packet) = []
+-- what is reported of the entry of that line by itself
+abbrev pub bad_report : ℕ → Entry → List ℕ
+bad_report number Skip = []
+bad_report number (Bad cause) = bad_text number cause
+bad_report number (Frame packet) = []
+bad_report number (Whole packet) = []
 
--- the reports of entries, whose first is that of line `first`
-abbrev pub reports_from : ℕ → List Entry → List ℕ
-reports_from first entries = flat_map (λ numbered. report_of numbered.0 numbered.1) (enumerate_from first entries)
-
--- a report for each bad line of a log, in the order of its lines
-unfoldable pub reports : List ℕ → List ℕ
-reports log = reports_from 1 (entries Frames log)
+-- the reports of bad lines among these entries, whose first is that of line `first`
+abbrev pub bad_reports_from : ℕ → List Entry → List ℕ
+bad_reports_from first entries = flat_map (λ numbered. bad_report numbered.0 numbered.1) (enumerate_from first entries)

@@ -1,7 +1,7 @@
 //! Devices: where a run's bytes come from, and where its texts go.
-ghost use Rattle.std.specs.Prelude.{◌<◌, ◌≤◌, ℕ, List, Option, length, IfOk};
+ghost use Rattle.std.specs.Prelude.{◌≡◌, ◌<◌, ◌≤◌, ℕ, List, Option, length, IfOk};
 ghost use Rattle.std.specs.Io.KnownBytes.{ReadConsumes, WriteAppends};
-ghost use Rattle.n2k_run.specs.Device.{CountsFailure};
+ghost use Rattle.n2k_run.specs.Device.{CountsFailure, one_more};
 
 /// A device failed in this call. The call moved no bytes.
 #[derive(Clone, Copy, Debug, PartialEq, Eq)]
@@ -9,6 +9,9 @@ pub struct Failed;
 
 /// A device that gives bytes.
 pub trait Source {
+    /// How many calls were made of it. At 2^64 - 1 the number stays.
+    ghost calls: { Self → ℕ };
+
     /// How many of its calls have failed. At 2^64 - 1 the number stays.
     ghost failed_calls: { Self → ℕ };
 
@@ -21,6 +24,7 @@ pub trait Source {
     fn read(&mut self, buffer: &mut [u8]) -> Result<usize, Failed>
         ensures bound { IfOk result (λ n. n ≤ length buffer.new) }
         ensures bytes { ReadConsumes (remaining self.old) (remaining self.new) result buffer.new }
+        ensures called { calls self.new ≡ one_more (calls self.old) }
         ensures counted { CountsFailure (failed_calls self.old) (failed_calls self.new) result };
 }
 

@@ -1,22 +1,36 @@
-//! What a run makes of a frame.
-ghost use Rattle.std.specs.Prelude.{◌≡◌, ◌++◌, ℕ, List, IfOk, OnOk};
-ghost use Rattle.n2k_wire.specs.Packet.{PacketParts};
-ghost use Rattle.n2k_run.specs.declared.worth.Worth.{Worth};
+//! What a run makes of the entries of its log.
+ghost use Rattle.std.specs.Prelude.{OnOk};
+ghost use Rattle.n2k_wire.specs.Entry.{IsShort};
+ghost use Rattle.n2k_run.specs.Making.{Making};
+ghost use Rattle.n2k_run.specs.Inner.Engine.{Takes};
 
-use crate::worth::Worth;
-use n2k_wire::Packet;
-use std::alloc::{AllocError, Global};
+use crate::fault::RunFault;
+use n2k_wire::Entry;
+use std::alloc::Global;
 
-/// What makes texts of frames.
+/// What takes the entries of a log one after the other, and makes texts and reports of them.
 pub(crate) trait Maker {
-    /// The text of a packet, which may be empty.
-    ghost text: { Self → PacketParts → List ℕ };
+    /// What it knows of the entries that it took.
+    type State;
 
-    /// What a packet counts as.
-    ghost worth: { Self → PacketParts → Worth };
+    /// What it makes of an entry in a state.
+    ghost making: { Self → Making Self.State };
 
-    /// Appends the text of a packet, and answers what it counts as.
-    fn make(&self, alloc: Global, packet: &Packet, out: &mut Vec<u8>) -> Result<Worth, AllocError>
-        ensures text { OnOk result (out.new.items ≡ out.old.items ++ text self.now packet.now) }
-        ensures worth { IfOk result (λ counted. counted ≡ worth self.now packet.now) };
+    /// A state in which it can take an entry.
+    ghost is_ready: { Self → Self.State → Type 0 };
+
+    /// Takes the entry of the next line, and appends its text and its report. `TooManyLines` where no more lines
+    /// are counted, and then nothing has changed; `Memory` where an allocation was refused.
+    fn take(
+        &self,
+        alloc: Global,
+        state: &mut Self::State,
+        entry: Entry,
+        text: &mut Vec<u8>,
+        report: &mut Vec<u8>,
+    ) -> Result<(), RunFault>
+        requires short { IsShort entry }
+        requires ready { is_ready self.now state.old }
+        ensures taken { Takes (making self.now) state.old state.new entry text.old.items text.new.items report.old.items report.new.items result }
+        ensures ready { OnOk result (is_ready self.now state.new) };
 }

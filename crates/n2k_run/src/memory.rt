@@ -10,6 +10,7 @@ pub struct MemorySource<'a> {
     left: &'a [u8],
     at_once: usize,
     fails_at: u64,
+    calls: u64,
     failed_calls: u64,
 }
 
@@ -19,7 +20,7 @@ impl<'a> Model for MemorySource<'a> {
 
     ghost Value = { Supply };
 
-    ghost view = { λ s. record { left = s.left.now; at_once = s.at_once; fails_at = s.fails_at; failed_calls = s.failed_calls } };
+    ghost view = { λ s. record { left = s.left.now; at_once = s.at_once; fails_at = s.fails_at; calls = s.calls; failed_calls = s.failed_calls } };
 
     ghost invariant = { λ s. 0 < s.at_once };
 }
@@ -31,12 +32,13 @@ impl<'a> MemorySource<'a> {
     /// less; call number `fail_at`, counted from 1, fails (0: none does).
     pub fn new(bytes: &'a [u8], piece: usize, fail_at: u64) -> Self
         requires { 0 < piece }
-        ensures { result ≡ record { left = bytes.now; at_once = piece; fails_at = fail_at; failed_calls = 0 } }
+        ensures { result ≡ record { left = bytes.now; at_once = piece; fails_at = fail_at; calls = 0; failed_calls = 0 } }
     {
         MemorySource {
             left: bytes,
             at_once: piece,
             fails_at: fail_at,
+            calls: 0,
             failed_calls: 0,
         }
     }
@@ -45,8 +47,10 @@ impl<'a> MemorySource<'a> {
 impl<'a> Source for MemorySource<'a> {
     ghost use Rattle.std.specs.Prelude.{◌≡◌, ◌≤◌, ◌↔◌, min, length, take, IsErr, IfOk, OnErr, Some};
     ghost use Rattle.std.specs.Io.KnownBytes.{ReadConsumes};
-    ghost use Rattle.n2k_run.specs.Device.{CountsFailure};
+    ghost use Rattle.n2k_run.specs.Device.{CountsFailure, one_more};
     ghost use Rattle.n2k_run.specs.Memory.{after_read, after_failed_read};
+
+    ghost calls = { λ s. s.calls };
 
     ghost failed_calls = { λ s. s.failed_calls };
 
@@ -55,6 +59,7 @@ impl<'a> Source for MemorySource<'a> {
     fn read(&mut self, buffer: &mut [u8]) -> Result<usize, Failed>
         ensures bound { IfOk result (λ n. n ≤ length buffer.new) }
         ensures bytes { ReadConsumes (Some self.old.left) (Some self.new.left) result buffer.new }
+        ensures called { self.new.calls ≡ one_more self.old.calls }
         ensures counted { CountsFailure self.old.failed_calls self.new.failed_calls result }
 
         ensures fails { IsErr result ↔ (self.old.fails_at ≡ 1) }
@@ -65,6 +70,7 @@ impl<'a> Source for MemorySource<'a> {
     {
         let fails = self.fails_at == 1;
         self.fails_at = self.fails_at.saturating_sub(1);
+        self.calls = self.calls.saturating_add(1);
         if fails {
             self.failed_calls = self.failed_calls.saturating_add(1);
             return Err(Failed);

@@ -1,9 +1,10 @@
-//! Reading a source to its end, into a vector.
+//! Reading a source whole, into a vector.
 ghost use Rattle.std.specs.Prelude.{◌≡◌, ◌⊎◌, ◌<◌, ◌≤◌, ◌+◌, ℕ, List, length, IfOk, IfSome, OnOk, OnErr, IsErrOf, vec_len, ◌++◌};
 ghost use Rattle.std.specs.Io.KnownBytes.{Consumes, IsAtEnd, Keeps};
-ghost use Rattle.n2k_run.specs.Device.{HasFailed};
-ghost use Rattle.n2k_run.specs.Reading.{Gains, RunsOut, OutlastsReads, bytes_fault, most_reads};
+ghost use Rattle.n2k_run.specs.Device.{HasFailed, one_more};
+ghost use Rattle.n2k_run.specs.Reading.{Gains, OutlastsReads, most_reads};
 
+use crate::blocks::BLOCK;
 use crate::device::Source;
 use crate::fault::BytesFault;
 use std::alloc::Global;
@@ -11,73 +12,33 @@ use std::alloc::Global;
 /// The most reads of one call. A source that has not ended by then counts as one that can't be read.
 pub const MOST_READS: u64 = 1_000_000_000_000;
 
-// How many bytes a read asks for at most.
-const BLOCK: usize = 4096;
-
-/// Why a source was not read to its end.
-#[derive(Clone, Copy, Debug, PartialEq, Eq)]
-pub(crate) enum ReadFault {
-    /// The device failed, or the most reads found no end.
-    Read,
-    /// An allocation was refused.
-    Memory,
-}
-
-impl From<ReadFault> for BytesFault {
-    ghost from_gives = { λ fault bytes. bytes ≡ bytes_fault fault };
-
-    fn from(fault: ReadFault) -> Self {
-        match fault {
-            ReadFault::Read => BytesFault::Read,
-            ReadFault::Memory => BytesFault::Memory,
-        }
-    }
-}
-
 // One read into the block, whose bytes go to the end of the input: how many there are. Room is made
 // first, so that a refused allocation loses no byte.
 fn read_more<R: Source>(
     reader: &mut R,
     block: &mut [u8],
     input: &mut Vec<u8>,
-) -> Result<usize, ReadFault>
+) -> Result<usize, BytesFault>
     requires { 0 < length block.old }
     ensures gains { Gains input.old.items input.new.items (R.remaining reader.old) (R.remaining reader.new) }
     ensures count { IfOk result (λ n. vec_len input.new ≡ vec_len input.old + n) }
     ensures few { vec_len input.new ≤ vec_len input.old + length block.old }
     ensures end { IfOk result (λ n. n ≡ 0 → IsAtEnd (R.remaining reader.new)) }
     ensures no_failure { OnOk result (R.failed_calls reader.new ≡ R.failed_calls reader.old) }
-    ensures read { IsErrOf result ReadFault.Read → HasFailed (R.failed_calls reader.old) (R.failed_calls reader.new) }
+    ensures read { IsErrOf result BytesFault.Read → HasFailed (R.failed_calls reader.old) (R.failed_calls reader.new) }
+    ensures called { OnOk result (R.calls reader.new ≡ one_more (R.calls reader.old)) }
+    ensures short { IsErrOf result BytesFault.TooLong → ⊥ }
 {
-    input.reserve(block.len()).map_err(|_| ReadFault::Memory)?;
-    let count = reader.read(block).map_err(|_| ReadFault::Read)?;
+    input.reserve(block.len()).map_err(|_| BytesFault::Memory)?;
+    let count = reader.read(block).map_err(|_| BytesFault::Read)?;
     input.extend_from_slice(&block[..count]).unwrap();
     Ok(count)
-}
-
-/// Reads the source to its end and puts its bytes at the end of the input. Where that is refused, the
-/// bytes that came before the refusal are kept, and the source still has the others.
-#[tactic(auto, using(crate::proofs::Gained::gain_steps))]
-pub(crate) fn read_all<R: Source>(reader: &mut R, input: &mut Vec<u8>) -> Result<(), ReadFault>
-    ensures gains { Gains input.old.items input.new.items (R.remaining reader.old) (R.remaining reader.new) }
-    ensures whole { OnOk result (IfSome (R.remaining reader.old) (λ left. input.new.items ≡ input.old.items ++ left)) }
-    ensures end { OnOk result (IsAtEnd (R.remaining reader.new)) }
-    ensures no_failure { OnOk result (R.failed_calls reader.new ≡ R.failed_calls reader.old) }
-    ensures read { IsErrOf result ReadFault.Read
-        → HasFailed (R.failed_calls reader.old) (R.failed_calls reader.new) ⊎ RunsOut input.old.items input.new.items }
-{
-    let mut block = [0; BLOCK];
-    for _reads in 0..MOST_READS {
-        if read_more(reader, &mut block, input)? == 0 {
-            return Ok(());
-        }
-    }
-    Err(ReadFault::Read)
 }
 
 /// All bytes of a source that has at most `limit` of them. `TooLong` where it has more; `Read` where the
 /// device failed or 10^12 reads found no end; `Memory` where an allocation was refused. No more is asked of
 /// the source than tells whether the limit is passed: one byte more than the limit.
+#[tactic(auto, using(crate::proofs::Finding::calls_more, crate::proofs::Finding::calls_end))]
 pub fn read_bytes<R: Source>(
     alloc: Global,
     reader: &mut R,
@@ -91,7 +52,7 @@ pub fn read_bytes<R: Source>(
         → IfSome (R.remaining reader.old) (λ left. limit < length left) }
     ensures read { IsErrOf result BytesFault.Read
         → HasFailed (R.failed_calls reader.old) (R.failed_calls reader.new)
-        ⊎ (OutlastsReads (R.remaining reader.old) (R.remaining reader.new) × (most_reads ≤ limit)) }
+        ⊎ (OutlastsReads (R.calls reader.old) (R.calls reader.new) × (most_reads ≤ limit)) }
     ensures taken { (taken : List ℕ)
         × Consumes (R.remaining reader.old) (R.remaining reader.new) taken × (length taken ≤ limit + 1) }
 {

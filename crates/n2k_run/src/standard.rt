@@ -44,6 +44,7 @@ fn write_retrying<W: Write>(writer: &mut W, piece: &[u8]) -> Result<usize, Faile
 #[derive(Drop)]
 pub struct StdSource<R> {
     reader: R,
+    calls: u64,
     failed_calls: u64,
 }
 
@@ -53,22 +54,27 @@ impl<R: Read> StdSource<R> {
     /// A source that gives what the reader gives.
     pub fn new(reader: R) -> Self
         ensures bytes { ⟦<StdSource<R> as Source>⟧.remaining result ≡ R.remaining reader }
+        ensures none_called { ⟦<StdSource<R> as Source>⟧.calls result ≡ 0 }
         ensures none_failed { ⟦<StdSource<R> as Source>⟧.failed_calls result ≡ 0 }
     {
         StdSource {
             reader,
+            calls: 0,
             failed_calls: 0,
         }
     }
 }
 
 impl<R: Read> Source for StdSource<R> {
+    ghost calls = { λ s. s.calls };
+
     ghost failed_calls = { λ s. s.failed_calls };
 
     ghost remaining = { λ s. R.remaining s.reader };
 
     fn read(&mut self, buffer: &mut [u8]) -> Result<usize, Failed> {
         let answer = read_retrying(&mut self.reader, buffer);
+        self.calls = self.calls.saturating_add(1);
         if answer.is_err() {
             self.failed_calls = self.failed_calls.saturating_add(1);
         }

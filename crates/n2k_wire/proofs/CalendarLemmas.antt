@@ -1,10 +1,10 @@
 -- The date that jiff gives for a day number is the one of the definitions.
-use Rattle.std.proofs.Common.{◌≡◌, ℕ, zero, suc, ◌+◌, ◌<◌, ◌≤◌, sym, ap, arith, ℤ, pos, negsuc, ◌+ℤ◌, inl, inr}
+use Rattle.std.proofs.Common.{◌≡◌, ℕ, zero, suc, ◌+◌, ◌<◌, ◌≤◌, sym, ap, arith, ℤ, pos, negsuc, ◌+ℤ◌, ◌-◌, true, leb, refl, inl, inr}
 use Rattle.std.proofs.lemmas.Bool.{le-leb, lt-leb, cases_lt}
-use Rattle.jiff_core.specs.Calendar.{day_count, days_from_civil, IsYear, IsCivilDate}
+use Rattle.jiff_core.specs.Calendar.{day_count, days_from_civil, days_in_month, IsYear, IsCivilDate}
 use Rattle.jiff_core.proofs.SignedLemmas.{signed_arith}
-use Rattle.jiff_core.proofs.CalendarLemmas.{day_count-epoch, day_count-lt_year, day_count-lt_month, day_count-day, days_in_month_bounds, days_from_civil-day_count}
-use Rattle.n2k_wire.specs.Calendar.{day_number, last_begun_year, last_begun_month, year_of, month_of, day_of_month}
+use Rattle.jiff_core.proofs.CalendarLemmas.{day_count-epoch, day_count-lt_year, day_count-lt_month, day_count-day, day_count-day_of_year, day_count_bounds, days_in_month_bounds, days_from_civil-day_count}
+use Rattle.n2k_wire.specs.Calendar.{day_number, is_date, last_begun_year, last_begun_month, year_of, month_of, day_of_month}
 
 -- a year that has begun, where no later one has
 pub last_begun_year-is : (n day year : ℕ) → 1970 ≤ year → year ≤ 1970 + n → day_number year 1 1 ≤ day → ((later : ℕ) → year < later → day < day_number later 1 1) → last_begun_year n day ≡ year
@@ -93,3 +93,42 @@ is_date_of day (pos year) m d civil e =
     date_of day year m d civil (omega (arith, signed_arith, days_from_civil-day_count (pos year) m d))
 is_date_of day (negsuc n) m d civil e =
     absurd (omega (arith, signed_arith, day_count-epoch, days_from_civil-day_count (negsuc n) m d, day_count-lt_year (negsuc n) m d (pos 1970) 1 1 civil (omega arith) (omega (arith, signed_arith))))
+
+-- ---- from a date to its day number
+
+module _ (y m d : ℕ) (late : 1970 ≤ y) (civil : IsCivilDate (pos y) m d) where
+  first_of_year : day_count (pos 1970) 1 1 ≤ day_count (pos y) 1 1
+  first_of_year =
+      elim (cases_lt 1970 y) [
+        | inl lt ↦ omega (arith, day_count-lt_year (pos 1970) 1 1 (pos y) 1 1 (first_day (pos 1970) (omega (arith, signed_arith), omega (arith, signed_arith))) (omega arith) (omega (arith, signed_arith)))
+        | inr le ↦ let e : y ≡ 1970 = omega (arith, late) in rw e (omega arith)
+      ]
+
+  pub from_epoch : 4_371_953 ≤ day_count (pos y) m d
+  from_epoch = omega (arith, civil.2.0, first_of_year, day_count-epoch, day_count-day_of_year (pos y) m d civil.2.0)
+
+  pub to_last_day : day_number y m d ≤ 2_932_896
+  to_last_day = omega (arith, day_count-epoch, from_epoch, day_count_bounds (pos y) m d civil)
+
+  pub date_is : is_date y m d ≡ true
+  date_is =
+      let a : leb 1970 y ≡ true = le-leb 1970 y late in
+      let b : leb 1 m ≡ true = le-leb 1 m civil.1.0 in
+      let c : leb m 12 ≡ true = le-leb m 12 civil.1.1 in
+      let e : leb 1 d ≡ true = le-leb 1 d civil.2.0 in
+      let f : leb d (days_in_month (pos y) m) ≡ true = le-leb d (days_in_month (pos y) m) civil.2.1 in
+      rw (a, b, c, e, f) refl
+
+  -- the date that has this day number is the one that it was counted from
+  pub date_of_number : IsDateOf (day_number y m d) (pos y) m d
+  date_of_number = date_of (day_number y m d) y m d civil (omega (arith, day_count-epoch, from_epoch))
+
+-- the day number by jiff's first day
+pub day_number-is : (y m d n : ℕ) (year : ℤ) (month day : ℕ) → 1970 ≤ y → year ≡ pos y → month ≡ m → day ≡ d → IsCivilDate year month day
+    → days_from_civil year month day +ℤ pos 4_371_587 ≡ pos n → (4_371_587 ≤ n) × (n - 4_371_587 ≡ day_number y m d) × (is_date y m d ≡ true)
+day_number-is y m d n year month day late ey em ed civil e =
+    let c : IsCivilDate (pos y) m d = rw (ey, em, ed) at civil in
+    let s = rw (ey, em, ed) at e in
+    let low = from_epoch y m d late c in
+    let counted = days_from_civil-day_count (pos y) m d in
+    (omega (arith, signed_arith), omega (arith, signed_arith, day_count-epoch), date_is y m d late c)

@@ -1,4 +1,4 @@
--- The plain line of a frame is read as that frame.
+-- The plain line of a packet is read as that packet.
 use Rattle.std.proofs.Common.{◌≡◌, ℕ, zero, suc, ◌+◌, ◌*◌, ◌/◌, ◌%◌, ◌^◌, ◌<◌, ◌≤◌, true, false, List, [], ◌∷◌, ◌++◌, map, length, Some, None, Ok, ltb, leb, not, refl, ap, ◌∙◌, arith, append_assoc, length-append}
 use Rattle.std.specs.Prelude.{◌==◌, ◌&&◌, decimal, option_and_then, slice_index, IsTrue}
 use Rattle.std.specs.List.{All, list_all, flat_map}
@@ -10,13 +10,12 @@ use Rattle.std.proofs.lemmas.List.Splits.{slice_split_at, slice_split_none}
 use Rattle.std.proofs.lemmas.List.Sums.{AllPass-from_list_all}
 use Rattle.hex.specs.Hex.{IsBytes, encode_with, encode_lower, lower_digits, hex_digit_value}
 use Rattle.hex.proofs.HexLemmas.{IsDigits-lower_digits, decode_sized-encode_lower}
-use Rattle.n2k_wire.specs.declared.entry.Entry.TheVariants as entries
 use Rattle.n2k_wire.specs.declared.entry.Packing.{Packing}
-use Rattle.n2k_wire.specs.declared.entry.Packing.TheVariants as packings
 use Rattle.n2k_wire.specs.Digits.{decimal_digit, decimal_after, decimal_number}
 use Rattle.n2k_wire.specs.Entry.{entry, is_skipped, is_candump, settled}
 use Rattle.n2k_wire.specs.Packet.{PacketParts, IsPacketParts, is_printable, is_stamp, is_stamp_byte, starts_stamp}
-use Rattle.n2k_wire.specs.Plain.{pieces, number_to, pair, pairs, header, id_of, bytes_of, plain_of, plain_pieces, plain}
+use Rattle.n2k_wire.specs.Plain.{pieces, number_to, pair, pairs, header, id_of, bytes_of, packed, packet_of, packet_of_pieces, plain}
+use Rattle.n2k_wire.specs.Steps.{◌>>=◌}
 use Rattle.n2k_wire.specs.Texts.{byte_piece, number_piece, plain_line}
 use Rattle.n2k_wire.proofs.PlainLemmas.{bytes_of-pairs}
 
@@ -125,7 +124,7 @@ more_digits_read n text h front = (
 )
 
 -- the decimal digits of a number are read as that number
-decimal_reads : (n : ℕ) → n < 2 ^ 64 → IsReadAs n (decimal n)
+pub decimal_reads : (n : ℕ) → n < 2 ^ 64 → IsReadAs n (decimal n)
 decimal_reads n h = decimal_by_steps IsReadAs one_digit_reads more_digits_read n h
 
 number_no_comma : (n : ℕ) → n < 10 ^ 10 → HasNoComma (decimal n)
@@ -174,13 +173,13 @@ lengths : (s a b c d e f : List ℕ) → length ((((((s ++ a) ++ b) ++ c) ++ d) 
 lengths s a b c d e f = simp length-append
 
 -- a line that is neither too long, nor skipped, nor of the other format
-plain_entry : (line : List ℕ) (packing : Packing) → length line ≤ 2048 → is_skipped line ≡ false → is_candump line ≡ false → entry line packing ≡ settled (plain line)
+plain_entry : (line : List ℕ) (packing : Packing) → length line ≤ 2048 → is_skipped line ≡ false → is_candump line ≡ false → entry line packing ≡ settled (plain packing line)
 unfolding entry
 plain_entry line packing short kept other =
     let fits : ltb 2048 (length line) ≡ false = le-ltb 2048 (length line) short in
     rw (fits, kept, other) refl
 
-module _ (p : PacketParts) (ok : IsPacketParts p) (short : length p.payload ≤ 8) where
+module _ (p : PacketParts) (packing : Packing) (ok : IsPacketParts p) where
   stamp_is : (starts_stamp p.stamp ≡ true) × (length p.stamp ≤ 32) × HasNoComma p.stamp
   stamp_is = stamp_parts p.stamp ok.packet_ok.stamp_ok
 
@@ -197,7 +196,7 @@ module _ (p : PacketParts) (ok : IsPacketParts p) (short : length p.payload ≤ 
   dst_small = omega (arith, ok.dst_ok)
 
   len_small : length p.payload < 10 ^ 10
-  len_small = omega arith
+  len_small = omega (arith, ok.packet_ok.payload_ok)
 
   -- what stands behind the stamp
   behind_stamp : List ℕ
@@ -212,7 +211,7 @@ module _ (p : PacketParts) (ok : IsPacketParts p) (short : length p.payload ≤ 
   unfolding plain_line
   line_short =
       rw (lengths p.stamp (number_piece p.id.prio) (number_piece p.id.pgn) (number_piece p.id.src) (number_piece p.id.dst) (number_piece (length p.payload)) (flat_map byte_piece p.payload))
-      (omega (arith, stamp_is.1, length-number_piece p.id.prio prio_small, length-number_piece p.id.pgn pgn_small, length-number_piece p.id.src src_small, length-number_piece p.id.dst dst_small, length-number_piece (length p.payload) len_small, length-bytes p.payload))
+      (omega (arith, ok.packet_ok.payload_ok, stamp_is.1, length-number_piece p.id.prio prio_small, length-number_piece p.id.pgn pgn_small, length-number_piece p.id.src src_small, length-number_piece p.id.dst dst_small, length-number_piece (length p.payload) len_small, length-bytes p.payload))
 
   -- the pieces behind the stamp
   behind : List (List ℕ)
@@ -234,18 +233,18 @@ module _ (p : PacketParts) (ok : IsPacketParts p) (short : length p.payload ≤ 
       ∙ ap (λ more. decimal p.id.dst ∷ more)
       (pieces_of_bytes (decimal (length p.payload)) p.payload (number_no_comma (length p.payload) len_small) ok.bytes_ok)))))
 
-  frame_read : plain_of p.stamp behind ≡ Ok (entries.Frame p)
-  unfolding behind plain_of header id_of
-  frame_read =
+  packet_read : packet_of p.stamp behind ≡ Ok p
+  unfolding behind packet_of header id_of
+  packet_read =
       let bytes : bytes_of (length p.payload) (map byte_digits p.payload) ≡ Some p.payload =
       bytes_of-pairs (length p.payload) (map byte_digits p.payload) (length-map p.payload byte_digits) ∙ bytes_read p.payload ok.bytes_ok in
-      rw (ok.packet_ok.stamp_ok, number_reads 7 p.id.prio ok.packet_ok.prio_ok (omega arith), number_reads 16777215 p.id.pgn ok.packet_ok.pgn_ok (omega arith), number_reads 255 p.id.src ok.src_ok (omega arith), number_reads 255 p.id.dst ok.dst_ok (omega arith), number_reads 8 (length p.payload) short (omega arith), bytes) refl
+      rw (ok.packet_ok.stamp_ok, number_reads 7 p.id.prio ok.packet_ok.prio_ok (omega arith), number_reads 16777215 p.id.pgn ok.packet_ok.pgn_ok (omega arith), number_reads 255 p.id.src ok.src_ok (omega arith), number_reads 255 p.id.dst ok.dst_ok (omega arith), number_reads 223 (length p.payload) ok.packet_ok.payload_ok (omega arith), bytes) refl
 
-  pub reads_back : entry (plain_line p) packings.Frames ≡ entries.Frame p
+  pub reads_back : entry (plain_line p) packing ≡ packed packing p
   reads_back =
       let kept : is_skipped (plain_line p) ≡ false = rw line_is (not_skipped p.stamp behind_stamp stamp_is.0) in
       let other : is_candump (plain_line p) ≡ false = rw line_is (not_candump p.stamp behind_stamp stamp_is.0) in
       let same : pieces (plain_line p) ≡ p.stamp ∷ behind = rw line_is pieces_are in
-      plain_entry (plain_line p) packings.Frames line_short kept other
-      ∙ ap (λ all. settled (plain_pieces all)) same
-      ∙ ap settled frame_read
+      plain_entry (plain_line p) packing line_short kept other
+      ∙ ap (λ all. settled (packet_of_pieces all >>= (λ q. Ok (packed packing q)))) same
+      ∙ ap (λ read. settled (read >>= (λ q. Ok (packed packing q)))) packet_read

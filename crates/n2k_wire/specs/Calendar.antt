@@ -1,11 +1,20 @@
 -- The Gregorian calendar from 1970 to 9999, by day numbers: 0 is 1 January 1970. The lengths of years and
 -- months are those of jiff's calendar, which `day_count` adds up.
-use Rattle.std.specs.Prelude.{ℕ, zero, suc, ◌+◌, ◌-◌, nat_le, if◌then◌else◌, pos}
-use Rattle.jiff_core.specs.Calendar.{day_count}
+use Rattle.std.specs.Prelude.{ℕ, zero, suc, ◌+◌, ◌-◌, ◌&&◌, nat_le, Bool, if◌then◌else◌, pos}
+use Rattle.jiff_core.specs.Calendar.{day_count, days_in_month}
+
+-- the day number of 31 December 9999
+abbrev pub last_day : ℕ
+last_day = 2932896
 
 -- the day number of a date
 abbrev pub day_number : ℕ → ℕ → ℕ → ℕ
 day_number year month day = day_count (pos year) month day - day_count (pos 1970) 1 1
+
+-- whether the calendar has this day, from 1970 on
+abbrev pub is_date : ℕ → ℕ → ℕ → Bool
+is_date year month day =
+    nat_le 1970 year && nat_le 1 month && nat_le month 12 && nat_le 1 day && nat_le day (days_in_month (pos year) month)
 
 -- the last of the n years after 1970 that has begun by the day, or 1970
 unfoldable pub last_begun_year : ℕ → ℕ → ℕ

@@ -1,4 +1,4 @@
--- What a line of a log is: skipped, bad for one cause, or a frame.
+-- What a line of a log is: skipped, bad for one cause, a frame, or a whole message.
 use Rattle.std.specs.Prelude.{ℕ, ◌≤◌, ◌==◌, nat_lt, Bool, true, false, if◌then◌else◌, List, [], ◌∷◌, length, Result, Ok, Err}
 use Rattle.n2k_wire.specs.declared.entry.BadCause.{BadCause}
 use Rattle.n2k_wire.specs.declared.entry.BadCause.TheVariants as causes
@@ -6,6 +6,7 @@ use Rattle.n2k_wire.specs.declared.entry.Entry.{Entry}
 use Rattle.n2k_wire.specs.declared.entry.Entry.TheVariants as entries
 use Rattle.n2k_wire.specs.declared.entry.Packing.{Packing}
 use Rattle.n2k_wire.specs.Candump.{frame_payload, candump}
+use Rattle.n2k_wire.specs.Packet.{IsPacketParts}
 use Rattle.n2k_wire.specs.Plain.{plain}
 
 -- the most bytes of a line, comments among them
@@ -33,10 +34,19 @@ entry line packing =
     if nat_lt longest_line (length line) then entries.Bad causes.Long
     else if is_skipped line then entries.Skip
     else if is_candump line then settled (candump line)
-    else settled (plain line)
+    else settled (plain packing line)
 
 -- a frame has at most 8 data bytes
 abbrev pub IsShort : Entry → Type 0
 IsShort entries.Skip = Unit {0}
 IsShort (entries.Bad cause) = Unit {0}
 IsShort (entries.Frame packet) = length packet.payload ≤ frame_payload
+IsShort (entries.Whole packet) = Unit {0}
+
+-- An entry that a line can be: its packet's parts make one, and a frame has at most 8 data bytes. Reading a line
+-- promises it, and a join's state stays valid under such entries.
+abbrev pub IsEntry : Entry → Type 0
+IsEntry entries.Skip = Unit {0}
+IsEntry (entries.Bad cause) = Unit {0}
+IsEntry (entries.Frame packet) = IsPacketParts packet × length packet.payload ≤ frame_payload
+IsEntry (entries.Whole packet) = IsPacketParts packet

@@ -1,6 +1,6 @@
 -- The 29 bits of a CAN identifier, as NMEA 2000 takes them over from ISO 11783-3. From the low end: the source
 -- address, PDU specific and PDU format (eight bits each), data page and reserved bit (two), the priority (three).
-use Rattle.std.specs.Prelude.{ℕ, ◌+◌, ◌*◌, ◌/◌, ◌%◌, ◌^◌, nat_lt, if◌then◌else◌}
+use Rattle.std.specs.Prelude.{ℕ, ◌+◌, ◌*◌, ◌/◌, ◌%◌, ◌^◌, ◌==◌, ◌&&◌, nat_lt, Bool, if◌then◌else◌, Option, Some, None}
 use Rattle.n2k_wire.specs.declared.identifier.Id.{Id}
 
 abbrev pub source : ℕ → ℕ
@@ -43,3 +43,31 @@ split n =
       src = source n;
       dst = everyone;
     }
+
+-- the PDU format and the PDU specific byte that a PGN holds
+abbrev pub format_of : ℕ → ℕ
+format_of pgn = pgn / 2 ^ 8 % 2 ^ 8
+
+abbrev pub low_byte : ℕ → ℕ
+low_byte pgn = pgn % 2 ^ 8
+
+-- whether a PGN is one of PDUs for one address
+abbrev pub is_addressed : ℕ → Bool
+is_addressed pgn = nat_lt (format_of pgn) first_broadcast_format
+
+-- Whether an identifier of 29 bits says this: the priority has three bits and the PGN eighteen; of a PDU1 the PGN has
+-- no low byte, and a PDU2 is for all.
+unfoldable pub is_joinable : Id → Bool
+is_joinable id =
+    nat_lt id.prio (2 ^ 3) && nat_lt id.pgn (2 ^ 18) && (if is_addressed id.pgn then low_byte id.pgn == 0 else id.dst == everyone)
+
+-- the PDU specific byte: in a PDU1 the destination, in a PDU2 the low byte of the PGN
+abbrev pub specific_of : Id → ℕ
+specific_of id = if is_addressed id.pgn then id.dst else low_byte id.pgn
+
+-- the identifier that says this, where there is one
+unfoldable pub join : Id → Option ℕ
+join id =
+    if is_joinable id
+    then Some (id.prio * 2 ^ 26 + id.pgn / 2 ^ 8 * 2 ^ 16 + specific_of id * 2 ^ 8 + id.src)
+    else None

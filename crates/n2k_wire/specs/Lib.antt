@@ -2,13 +2,11 @@ pub mod Calendar
 pub mod Candump
 pub mod Digits
 pub mod Entry
-pub mod HexValue
 pub mod Identifier
-pub mod Moments
 pub mod Packet
 pub mod Pieces
 pub mod Plain
-pub mod PlainPieces
+pub mod PrivateWords
 pub mod Stamp
 pub mod Steps
 pub mod Texts

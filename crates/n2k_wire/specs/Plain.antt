@@ -1,5 +1,5 @@
 -- Plain lines: `stamp,prio,pgn,src,dst,len,b0,b1,..`, the format that canboat's programs read and write.
-use Rattle.std.specs.Prelude.{ℕ, ◌==◌, nat_le, if◌then◌else◌, List, [], ◌∷◌, ◌++◌, length, Option, Some, None, option_and_then, option_map, Result, Ok, Err}
+use Rattle.std.specs.Prelude.{ℕ, ◌==◌, nat_le, Bool, false, if◌then◌else◌, List, [], ◌∷◌, ◌++◌, length, Option, Some, None, option_and_then, option_map, Result, Ok, Err}
 use Rattle.std.specs.List.{slice_split}
 use Rattle.std.specs.Result.{result_ok}
 use Rattle.hex.specs.Hex.{decode_sized}
@@ -7,10 +7,12 @@ use Rattle.n2k_wire.specs.declared.entry.BadCause.{BadCause}
 use Rattle.n2k_wire.specs.declared.entry.BadCause.TheVariants as causes
 use Rattle.n2k_wire.specs.declared.entry.Entry.{Entry}
 use Rattle.n2k_wire.specs.declared.entry.Entry.TheVariants as entries
+use Rattle.n2k_wire.specs.declared.entry.Packing.{Packing}
+use Rattle.n2k_wire.specs.declared.entry.Packing.TheVariants as packings
 use Rattle.n2k_wire.specs.declared.identifier.Id.{Id}
 use Rattle.n2k_wire.specs.Candump.{frame_payload}
 use Rattle.n2k_wire.specs.Digits.{decimal_number}
-use Rattle.n2k_wire.specs.Packet.{is_stamp, greatest_pgn, greatest_priority}
+use Rattle.n2k_wire.specs.Packet.{PacketParts, is_stamp, greatest_pgn, greatest_priority, longest_message}
 use Rattle.n2k_wire.specs.Steps.{◌>>=◌, or_cause, holds_or, some_if}
 
 -- the most digits of a number
@@ -65,20 +67,33 @@ id_of h = do
 unfoldable pub bytes_of : ℕ → List (List ℕ) → Option (List ℕ)
 bytes_of len more = if length more == len then pairs more else None
 
--- the entry of a plain line whose pieces are these, or the first of its causes
-unfoldable pub plain_of : List ℕ → List (List ℕ) → Result Entry BadCause
-plain_of stamp more = do
+-- the packet of a plain line whose pieces are these, or the first of its causes
+unfoldable pub packet_of : List ℕ → List (List ℕ) → Result PacketParts BadCause
+packet_of stamp more = do
   stamped ← holds_or causes.Stamp (is_stamp stamp)
   h ← or_cause causes.Form (header more)
   id ← id_of h
-  len ← or_cause causes.Number (number_to frame_payload h.len)
+  len ← or_cause causes.Number (number_to longest_message h.len)
   bytes ← or_cause causes.Data (bytes_of len h.more)
-  Ok (entries.Frame (record { stamp = stamp; id = id; payload = bytes }))
+  Ok (record { stamp = stamp; id = id; payload = bytes })
 
 -- the same of the pieces as a list, which is never empty
-abbrev pub plain_pieces : List (List ℕ) → Result Entry BadCause
-plain_pieces [] = Err causes.Stamp
-plain_pieces (stamp ∷ more) = plain_of stamp more
+abbrev pub packet_of_pieces : List (List ℕ) → Result PacketParts BadCause
+packet_of_pieces [] = Err causes.Stamp
+packet_of_pieces (stamp ∷ more) = packet_of stamp more
 
-abbrev pub plain : List ℕ → Result Entry BadCause
-plain line = plain_pieces (pieces line)
+abbrev pub plain_packet : List ℕ → Result PacketParts BadCause
+plain_packet line = packet_of_pieces (pieces line)
+
+-- whether a plain line with so many bytes is a frame, and no whole message
+abbrev pub is_frame : Packing → ℕ → Bool
+is_frame packings.Frames len = nat_le len frame_payload
+is_frame packings.Whole len = false
+
+-- the entry of a plain line's packet: a frame or a whole message
+abbrev pub packed : Packing → PacketParts → Entry
+packed packing p = if is_frame packing (length p.payload) then entries.Frame p else entries.Whole p
+
+-- the entry of a plain line, or the first of its causes
+abbrev pub plain : Packing → List ℕ → Result Entry BadCause
+plain packing line = plain_packet line >>= (λ p. Ok (packed packing p))

@@ -1,6 +1,6 @@
 -- Stamps of candump lines, `seconds.fraction` since 1970, and the UTC text that packets keep of them.
-use Rattle.std.specs.Prelude.{ℕ, ◌+◌, ◌/◌, ◌%◌, ◌≤◌, nat_le, List, [], ◌∷◌, ◌++◌, take, Option, codes, option_and_then}
-use Rattle.n2k_wire.specs.Calendar.{year_of, month_of, day_of_month}
+use Rattle.std.specs.Prelude.{ℕ, ◌+◌, ◌*◌, ◌/◌, ◌%◌, ◌≤◌, ◌==◌, ◌&&◌, nat_lt, nat_le, Bool, List, [], ◌∷◌, ◌++◌, length, slice_index, take, drop, Option, Some, codes, option_and_then}
+use Rattle.n2k_wire.specs.Calendar.{day_number, is_date, year_of, month_of, day_of_month}
 use Rattle.n2k_wire.specs.Digits.{decimal_number}
 use Rattle.n2k_wire.specs.Pieces.{cut_at}
 use Rattle.n2k_wire.specs.Steps.{some_if}
@@ -70,3 +70,41 @@ time_text second =
 unfoldable pub utc_text : Moment → List ℕ
 utc_text m =
     date_text (m.seconds / seconds_of_day) ++ codes "T" ++ time_text (m.seconds % seconds_of_day) ++ codes "." ++ millis_digits m.millis ++ codes "Z"
+
+-- the bytes of such a text
+abbrev pub utc_len : ℕ
+utc_len = 24
+
+-- whether the bytes that are no digits stand in their places
+abbrev pub has_utc_form : List ℕ → Bool
+has_utc_form text =
+    (length text == utc_len) && (slice_index text 4 == 45) && (slice_index text 7 == 45) && (slice_index text 10 == 84) && (slice_index text 13 == 58) && (slice_index text 16 == 58) && (slice_index text 19 == 46) && (slice_index text 23 == 90)
+
+-- the number of so many decimal digits from a place on
+abbrev pub number_at : ℕ → ℕ → List ℕ → Option ℕ
+number_at place digits text = decimal_number digits (take digits (drop place text))
+
+-- the day number of `YYYY-MM-DD` at the start of a text, where the calendar has that day
+unfoldable pub day_at_start : List ℕ → Option ℕ
+day_at_start text = do
+  year ← number_at 0 4 text
+  month ← number_at 5 2 text
+  day ← number_at 8 2 text
+  some_if (is_date year month day) (day_number year month day)
+
+-- the second of the day of `HH:MM:SS` behind `YYYY-MM-DDT`
+unfoldable pub second_behind_date : List ℕ → Option ℕ
+second_behind_date text = do
+  hour ← number_at 11 2 text
+  minute ← number_at 14 2 text
+  second ← number_at 17 2 text
+  some_if (nat_lt hour 24 && nat_lt minute 60 && nat_lt second 60) (hour * 3600 + minute * 60 + second)
+
+-- the moment of a text `YYYY-MM-DDTHH:MM:SS.mmmZ` of a day that the calendar has from 1970 on
+unfoldable pub utc_moment : List ℕ → Option Moment
+utc_moment text = do
+  form ← some_if (has_utc_form text) text
+  day ← day_at_start text
+  second ← second_behind_date text
+  millis ← number_at 20 3 text
+  Some (record { seconds = day * seconds_of_day + second; millis = millis })

@@ -1,19 +1,18 @@
--- Readings that may fail, one step after another: each line has at most one cause, that of the first step that fails.
-use Rattle.std.specs.Prelude.{◌≡◌, Bool, true, false, Option, Some, None, Result, Ok, Err}
-use Rattle.n2k_wire.specs.declared.entry.BadCause.{BadCause}
+-- Steps that may fail, one after another: the cause is that of the first step that fails.
+use Rattle.std.specs.Prelude.{Bool, true, false, Option, Some, None, Result, Ok, Err}
 
 infixl 10 ◌>>=◌
-abbrev pub ◌>>=◌ : {A B : Type 0} → Result A BadCause → (A → Result B BadCause) → Result B BadCause
+abbrev pub ◌>>=◌ : {A B E : Type 0} → Result A E → (A → Result B E) → Result B E
 (Ok x) >>= f = f x
 (Err cause) >>= f = Err cause
 
 -- what was found, or this cause
-abbrev pub or_cause : {A : Type 0} → BadCause → Option A → Result A BadCause
+abbrev pub or_cause : {A E : Type 0} → E → Option A → Result A E
 or_cause cause None = Err cause
 or_cause cause (Some x) = Ok x
 
 -- go on where the test holds, and else this cause
-abbrev pub holds_or : BadCause → Bool → Result (Unit {0}) BadCause
+abbrev pub holds_or : {E : Type 0} → E → Bool → Result (Unit {0}) E
 holds_or cause true = Ok tt
 holds_or cause false = Err cause
 
@@ -21,13 +20,3 @@ holds_or cause false = Err cause
 abbrev pub some_if : {A : Type 0} → Bool → A → Option A
 some_if true x = Some x
 some_if false x = None
-
--- What a function answered, seen by view, is what the definition says.
-abbrev pub Gives : {X Y : Type 0} → (X → Y) → Result X BadCause → Result Y BadCause → Type 0
-Gives view (Ok x) said = said ≡ Ok (view x)
-Gives view (Err cause) said = said ≡ Err cause
-
--- The same of a function that answers a value or nothing.
-abbrev pub Finds : {X Y : Type 0} → (X → Y) → Option X → Option Y → Type 0
-Finds view (Some x) said = said ≡ Some (view x)
-Finds view None said = said ≡ None

@@ -1,8 +1,14 @@
 -- Packets as texts.
-use Rattle.std.specs.Prelude.{ℕ, List, [], ◌∷◌, ◌++◌, length, codes, decimal}
+use Rattle.std.specs.Prelude.{◌≡◌, ℕ, List, [], ◌∷◌, ◌++◌, length, drop, codes, decimal, Result, Ok, Err, OnOk, IfErr}
+use Rattle.std.specs.Int.{w32, to_be_bytes}
 use Rattle.std.specs.List.{flat_map}
-use Rattle.hex.specs.Hex.{encode_lower}
+use Rattle.hex.specs.Hex.{encode_lower, encode_upper}
+use Rattle.n2k_wire.specs.declared.fault.WireFault.{WireFault}
+use Rattle.n2k_wire.specs.declared.fault.WireFault.TheVariants.{NoStamp, NoId, Memory}
+use Rattle.n2k_wire.specs.Identifier.{join}
 use Rattle.n2k_wire.specs.Packet.{PacketParts}
+use Rattle.n2k_wire.specs.Stamp.{Moment, millis_digits, utc_moment}
+use Rattle.n2k_wire.specs.Steps.{◌>>=◌, or_cause}
 
 -- a byte as a piece of a plain line: a comma and two digits in lower case
 abbrev pub byte_piece : ℕ → List ℕ
@@ -20,3 +26,31 @@ plain_line p =
 -- the same with its LF
 abbrev pub plain_text : PacketParts → List ℕ
 plain_text p = plain_line p ++ codes "\n"
+
+-- seconds as at least ten digits: zeros stand where they leave some of ten places free
+abbrev pub second_digits : ℕ → List ℕ
+second_digits n = drop (length (decimal n)) (codes "0000000000") ++ decimal n
+
+-- `(0000000010.300000) can0 1DFF0405#000BA39901414243`, of a moment, the 29 bits of an identifier and the data
+unfoldable pub candump_line : List ℕ → Moment → ℕ → List ℕ → List ℕ
+candump_line interface seen identifier payload =
+    codes "(" ++ second_digits seen.seconds ++ codes "." ++ millis_digits seen.millis ++ codes "000) " ++ interface ++ codes " " ++ encode_upper (to_be_bytes w32 identifier) ++ codes "#" ++ encode_upper payload
+
+-- What candump writes of a packet in front of its data: the moment of its stamp and its identifier. The first that
+-- isn't there is the fault.
+unfoldable pub candump_parts : PacketParts → Result (Moment × ℕ) WireFault
+candump_parts p = do
+  seen ← or_cause NoStamp (utc_moment p.stamp)
+  identifier ← or_cause NoId (join p.id)
+  Ok (seen, identifier)
+
+-- the candump line of a packet as it is seen at an interface, with its LF
+abbrev pub candump_text : List ℕ → PacketParts → Result (List ℕ) WireFault
+candump_text interface p =
+    candump_parts p >>= (λ parts. Ok (candump_line interface parts.0 parts.1 p.payload ++ codes "\n"))
+
+-- An answer of a call that appends this text: the text is appended, or memory is refused. Where there is no text its
+-- fault is the answer.
+abbrev pub Appends : Result (List ℕ) WireFault → Result (Unit {0}) WireFault → List ℕ → List ℕ → Type 0
+Appends (Ok text) answer old new = OnOk answer (new ≡ old ++ text) × IfErr answer (λ fault. fault ≡ Memory)
+Appends (Err fault) answer old new = answer ≡ Err fault

@@ -1,6 +1,6 @@
 //! What a line of a log is.
 ghost use Rattle.std.specs.Prelude.{◌≡◌};
-ghost use Rattle.n2k_wire.specs.Entry.{entry, IsShort};
+ghost use Rattle.n2k_wire.specs.Entry.{entry, IsEntry, IsShort};
 
 use crate::candump::read_candump;
 use crate::packet::Packet;
@@ -42,8 +42,10 @@ pub enum BadCause {
 /// How the data of a log's lines are packed.
 #[derive(Clone, Copy, Debug, PartialEq, Eq)]
 pub enum Packing {
-    /// Each line is a frame of at most 8 bytes.
+    /// A line of at most 8 bytes is a frame, and a plain line of 9 to 223 bytes a whole message.
     Frames,
+    /// Each plain line is a whole message.
+    Whole,
 }
 
 /// What a line of a log is.
@@ -55,24 +57,23 @@ pub enum Entry {
     Bad(BadCause),
     /// A frame, of at most 8 bytes.
     Frame(Packet),
+    /// A whole message, which stood in a plain line.
+    Whole(Packet),
 }
 
 /// The entry of a line, which is handed in without its LF and CR. It takes no memory.
 #[tactic(auto, unfolding(crate::specs::Entry::entry))]
 pub fn read_line(line: &[u8], packing: Packing) -> Entry
     ensures entry { result ≡ entry line.now packing }
+    ensures valid { IsEntry result }
     ensures short { IsShort result }
 {
     if line.len() > LONGEST_LINE {
         return Entry::Bad(BadCause::Long);
     }
-    let read = match line {
-        [] | [b'#', ..] => return Entry::Skip,
+    match line {
+        [] | [b'#', ..] => Entry::Skip,
         [b'(', ..] => read_candump(line),
-        _ => read_plain(line),
-    };
-    match read {
-        Ok(entry) => entry,
-        Err(cause) => Entry::Bad(cause),
+        _ => read_plain(line, packing),
     }
 }

@@ -1,6 +1,8 @@
 //! CAN identifiers of 29 bits, as NMEA 2000 takes them over from ISO 11783-3.
-ghost use Rattle.std.specs.Prelude.{◌≡◌, ◌^◌, ◌<◌, ◌≤◌};
-ghost use Rattle.n2k_wire.specs.Identifier.{split};
+ghost use Rattle.std.specs.Prelude.{◌≡◌, ◌^◌, ◌<◌, ◌≤◌, IfSome};
+ghost use Rattle.n2k_wire.specs.Identifier.{split, join, is_addressed, is_joinable, specific_of};
+
+use crate::packet::GREATEST_PRIORITY;
 
 /// What an identifier says of a frame: its priority, what it carries, who sent it, and to whom.
 #[derive(Clone, Copy, Debug, PartialEq, Eq)]
@@ -17,6 +19,12 @@ pub struct Id {
 
 /// From this PDU format on a frame is for all (PDU2), and below it for one address (PDU1).
 const FIRST_BROADCAST_FORMAT: u32 = 240;
+
+/// The address that stands for all.
+const EVERYONE: u8 = 255;
+
+/// The greatest PGN of the bus, of 18 bits.
+const GREATEST_BUS_PGN: u32 = 0x3_ffff;
 
 /// What the 29 bits of an identifier say (ISO 11783-3).
 #[tactic(auto, unfolding(crate::specs::Identifier::split))]
@@ -45,7 +53,58 @@ pub fn split_id(identifier: u32) -> Id
             prio,
             pgn: group + specific,
             src,
-            dst: 255,
+            dst: EVERYONE,
         }
     }
+}
+
+/// Whether a PGN is one of frames for one address (PDU1).
+fn is_addressed(pgn: u32) -> bool
+    ensures { result ≡ is_addressed pgn }
+{
+    pgn / 0x100 % 0x100 < FIRST_BROADCAST_FORMAT
+}
+
+#[tactic(auto, unfolding(crate::specs::Identifier::is_joinable))]
+fn is_joinable(id: &Id) -> bool
+    ensures { result ≡ is_joinable id.now }
+{
+    let specific_fits = if is_addressed(id.pgn) {
+        id.pgn % 0x100 == 0
+    } else {
+        id.dst == EVERYONE
+    };
+    id.prio <= GREATEST_PRIORITY && id.pgn <= GREATEST_BUS_PGN && specific_fits
+}
+
+/// The PDU specific byte.
+fn specific_of(id: &Id) -> u8
+    ensures { result ≡ specific_of id.now }
+{
+    if is_addressed(id.pgn) {
+        id.dst
+    } else {
+        (id.pgn % 0x100) as u8
+    }
+}
+
+/// The 29 bits of the identifier that says this (ISO 11783-3). `None` where no identifier does: the priority is over
+/// 7, the PGN has more than 18 bits, a PGN for one address (PDU1) has a low byte, or one for all (PDU2) has another
+/// destination than 255.
+#[tactic(auto, unfolding(crate::specs::Identifier::join, crate::specs::Identifier::is_joinable))]
+pub fn join_id(id: &Id) -> Option<u32>
+    ensures value { result ≡ join id.now }
+    ensures bits { IfSome result (λ n. n < 2 ^ 29) }
+{
+    if !is_joinable(id) {
+        return None;
+    }
+    let format_and_page = id.pgn / 0x100;
+    let specific = u32::from(specific_of(id));
+    Some(
+        u32::from(id.prio) * 0x400_0000
+            + format_and_page * 0x1_0000
+            + specific * 0x100
+            + u32::from(id.src),
+    )
 }

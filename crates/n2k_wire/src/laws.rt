@@ -1,12 +1,28 @@
 //! Laws that hold of the definitions: each is the contract of a function that does nothing.
-ghost use Rattle.std.specs.Prelude.{◌≡◌, ◌≤◌, length};
+ghost use Rattle.std.specs.Prelude.{◌≡◌, ℕ, List, ◌<◌, ◌≤◌, ◌^◌, ◌++◌, Some, Ok, IsTrue, codes, length};
 ghost use Rattle.n2k_wire.specs.Entry.{entry};
+ghost use Rattle.n2k_wire.specs.Identifier.{join, split};
 ghost use Rattle.n2k_wire.specs.Packet.{PacketParts, IsPacketParts};
-ghost use Rattle.n2k_wire.specs.Texts.{plain_line};
+ghost use Rattle.n2k_wire.specs.Plain.{packed};
+ghost use Rattle.n2k_wire.specs.Candump.{frame_payload, is_interface};
+ghost use Rattle.n2k_wire.specs.Texts.{plain_line, candump_text};
 
 use crate::entry::{Entry, Packing};
+use crate::identifier::Id;
 
-/// The plain line of a frame is read as that frame: the same stamp, identifier and data.
+/// The plain line of a packet is read as that packet, with the same stamp, identifier and data: as a whole message
+/// under `Packing::Whole` or with more than 8 bytes, else as a frame.
 pub fn plain_line_reads_back()
-    ensures { (p : PacketParts) → IsPacketParts p → length p.payload ≤ 8 → entry (plain_line p) Packing.Frames ≡ Entry.Frame p }
+    ensures { (p : PacketParts) (packing : Packing) → IsPacketParts p → entry (plain_line p) packing ≡ packed packing p }
+{}
+
+/// An identifier is split into what it says, and what it says is joined to that identifier, both ways.
+pub fn identifiers_round_trip()
+    ensures joined { (id : Id) (n : ℕ) → id.src < 2 ^ 8 → id.dst < 2 ^ 8 → join id ≡ Some n → split n ≡ id }
+    ensures split_up { (n : ℕ) → n < 2 ^ 29 → join (split n) ≡ Some n }
+{}
+
+/// The candump line of a packet of at most 8 bytes is read as the frame of that packet, under each packing.
+pub fn candump_line_reads_back()
+    ensures { (p : PacketParts) (interface line : List ℕ) (packing : Packing) → IsPacketParts p → length p.payload ≤ frame_payload → IsTrue (is_interface interface) → candump_text interface p ≡ Ok (line ++ codes "\n") → entry line packing ≡ Entry.Frame p }
 {}

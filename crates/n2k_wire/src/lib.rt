@@ -1,17 +1,19 @@
 //! Lines of a log, CAN identifiers, packets, and the texts of packets.
 //!
-//! - `read_line` says what a line of a log is (`Entry`): a frame of `candump -L` or a plain line as a `Packet`, a
-//!   line to skip, or a bad line with its cause (`BadCause`).
-//! - `split_id` splits a CAN identifier into priority, PGN, source and destination (`Id`).
+//! - `read_line` says what a line of a log is (`Entry`): a frame or a whole message as a `Packet`, a line to skip, or
+//!   a bad line with its cause (`BadCause`). A line is one of `candump -L` or a plain line.
+//! - `split_id` splits a CAN identifier into priority, PGN, source and destination (`Id`), and `join_id` joins them.
 //! - `Packet` holds a message or a frame: its stamp, its `Id`, and up to 223 bytes.
-//! - `plain_text` appends the plain line of a packet. `laws` has what ties these calls together.
+//! - `plain_text` and `candump_text` append a packet as a line; `is_interface` is the test of an interface's name.
+//!   `laws` has what ties these calls together.
 //!
-//! No call but `plain_text` takes memory. Each answer is a stated function of the bytes that were given.
+//! No other call takes memory. Each answer is a stated function of the bytes that were given.
 #![tactic(auto)]
 
 mod candump;
 mod digits;
 mod entry;
+mod fault;
 mod identifier;
 pub mod laws;
 mod packet;
@@ -20,10 +22,12 @@ mod plain;
 mod stamp;
 mod texts;
 
+pub use candump::is_interface;
 pub use entry::{BadCause, Entry, LONGEST_LINE, Packing, read_line};
-pub use identifier::{Id, split_id};
+pub use fault::WireFault;
+pub use identifier::{Id, join_id, split_id};
 pub use packet::Packet;
-pub use texts::plain_text;
+pub use texts::{candump_text, plain_text};
 
 #[cfg(test)]
 mod tests;

@@ -1,19 +1,17 @@
 //! Plain lines: `stamp,prio,pgn,src,dst,len,b0,b1,..`, the format that canboat's programs read and write.
 ghost use Rattle.std.specs.Prelude.{◌≡◌, ◌≤◌, [], ◌∷◌, length, IfSome, IfOk};
-ghost use Rattle.n2k_wire.specs.Plain.{plain, pieces, number_to, pair, header, id_of, bytes_of};
-ghost use Rattle.n2k_wire.specs.PlainPieces.{pieces_left, plain_header};
-ghost use Rattle.n2k_wire.specs.Entry.{IsShort};
-ghost use Rattle.n2k_wire.specs.Steps.{Finds, Gives};
+ghost use Rattle.n2k_wire.specs.Plain.{plain, plain_packet, pieces, number_to, pair, header, id_of, bytes_of, is_frame};
+ghost use Rattle.n2k_wire.specs.PrivateWords.{Finds, Gives, pieces_left, plain_header};
+ghost use Rattle.n2k_wire.specs.Entry.{IsEntry, settled};
+ghost use Rattle.n2k_wire.specs.Packet.{IsPacket, greatest_pgn, greatest_priority, longest_message};
 
-use crate::digits::decimal_number;
-use crate::entry::{BadCause, Entry};
+use crate::candump::FRAME_PAYLOAD;
+use crate::digits::{decimal_number, is_hex_digit, spelled_byte};
+use crate::entry::{BadCause, Entry, Packing};
 use crate::identifier::Id;
-use crate::packet::{GREATEST_PGN, GREATEST_PRIORITY, Packet, is_stamp};
+use crate::packet::{GREATEST_PGN, GREATEST_PRIORITY, LONGEST_MESSAGE, Packet, is_stamp};
 use crate::pieces::cut_at;
 use arrayvec::ArrayVec;
-
-/// The most data bytes of a line.
-const LONGEST_DATA: usize = 8;
 
 /// The greatest address.
 const GREATEST_ADDRESS: u64 = 255;
@@ -75,8 +73,8 @@ fn read_header(text: Option<&[u8]>) -> Option<Header<'_>>
 #[tactic(auto, unfolding(crate::specs::Plain::id_of))]
 fn read_id(header: &Header<'_>) -> Result<Id, BadCause>
     ensures value { Gives (λ id. id) result (id_of (plain_header header.now)) }
-    ensures prio { IfOk result (λ id. id.prio ≤ 7) }
-    ensures pgn { IfOk result (λ id. id.pgn ≤ 16_777_215) }
+    ensures prio { IfOk result (λ id. id.prio ≤ greatest_priority) }
+    ensures pgn { IfOk result (λ id. id.pgn ≤ greatest_pgn) }
 {
     let prio = number_to(u64::from(GREATEST_PRIORITY), header.prio).ok_or(BadCause::Number)? as u8;
     let pgn = number_to(u64::from(GREATEST_PGN), header.pgn).ok_or(BadCause::Number)? as u32;
@@ -90,23 +88,30 @@ fn read_id(header: &Header<'_>) -> Result<Id, BadCause>
     })
 }
 
-/// A piece of two hexadecimal digits, as the one byte that they spell.
+/// A piece of two hexadecimal digits, as the one byte that they spell. No branch goes by the kind of a digit.
 #[tactic(auto, unfolding(crate::specs::Plain::pair))]
 fn read_pair(piece: &[u8]) -> Option<u8>
     ensures { Finds (λ byte. byte ∷ []) result (pair piece.now) }
 {
-    let mut byte = [0; 1];
-    hex::decode_to_slice(piece, &mut byte).ok()?;
-    Some(byte[0])
+    match piece {
+        [high, low] if is_hex_digit(*high) & is_hex_digit(*low) => {
+            Some(spelled_byte(*high, *low))
+        }
+        _ => None,
+    }
 }
 
-/// Exactly so many pieces, each as a byte.
-fn read_bytes(len: u64, more: Option<&[u8]>) -> Option<ArrayVec<u8, LONGEST_DATA>>
-    requires { len ≤ 8 }
-    ensures value { Finds (λ bytes. bytes.items) result (bytes_of len (pieces_left more.entry)) }
-    ensures short { IfSome result (λ bytes. length bytes.items ≤ 8) }
+/// Exactly so many pieces, each as a byte, which `bytes` holds then.
+fn read_bytes(
+    len: u64,
+    more: Option<&[u8]>,
+    bytes: &mut ArrayVec<u8, LONGEST_MESSAGE>,
+) -> Option<()>
+    requires few { len ≤ longest_message }
+    requires empty { bytes.old.items ≡ [] }
+    ensures value { Finds (λ done. bytes.new.items) result (bytes_of len (pieces_left more.entry)) }
+    ensures len { IfSome result (λ done. length bytes.new.items ≡ len) }
 {
-    let mut bytes = ArrayVec::new();
     let mut left = more;
     for _ in 0..len {
         let Some(text) = left else {
@@ -121,15 +126,29 @@ fn read_bytes(len: u64, more: Option<&[u8]>) -> Option<ArrayVec<u8, LONGEST_DATA
     }
     match left {
         Some(_) => None,
-        None => Some(bytes),
+        None => Some(()),
     }
 }
 
-/// The entry of a plain line, or the first of its causes.
-#[tactic(auto, unfolding(crate::specs::Plain::plain_of))]
-pub fn read_plain(line: &[u8]) -> Result<Entry, BadCause>
-    ensures entry { Gives (λ e. e) result (plain line.now) }
-    ensures short { IfOk result IsShort }
+/// Whether a plain line with so many bytes is a frame.
+fn is_frame(packing: Packing, len: usize) -> bool
+    ensures { result ≡ is_frame packing len }
+{
+    match packing {
+        Packing::Frames => len <= FRAME_PAYLOAD,
+        Packing::Whole => false,
+    }
+}
+
+/// The stamp and the identifier of a plain line's packet, whose data `bytes` holds then, or the first of its causes.
+#[tactic(auto, unfolding(crate::specs::Plain::packet_of))]
+fn read_packet<'a>(
+    line: &'a [u8],
+    bytes: &mut ArrayVec<u8, LONGEST_MESSAGE>,
+) -> Result<(&'a [u8], Id), BadCause>
+    requires empty { bytes.old.items ≡ [] }
+    ensures packet { Gives (λ r. record { stamp = r.0.now; id = r.1; payload = bytes.new.items }) result (plain_packet line.now) }
+    ensures valid { IfOk result (λ r. IsPacket r.0.now r.1 bytes.new.items) }
 {
     let (stamp, more) = first_piece(line);
     if !is_stamp(stamp) {
@@ -137,7 +156,23 @@ pub fn read_plain(line: &[u8]) -> Result<Entry, BadCause>
     }
     let header = read_header(more).ok_or(BadCause::Form)?;
     let id = read_id(&header)?;
-    let len = number_to(LONGEST_DATA as u64, header.len).ok_or(BadCause::Number)?;
-    let data = read_bytes(len, header.more).ok_or(BadCause::Data)?;
-    Ok(Entry::Frame(Packet::of_parts(stamp, id, data.as_slice())))
+    let len = number_to(LONGEST_MESSAGE as u64, header.len).ok_or(BadCause::Number)?;
+    read_bytes(len, header.more, bytes).ok_or(BadCause::Data)?;
+    Ok((stamp, id))
+}
+
+/// The entry of a plain line.
+#[inline]
+pub(crate) fn read_plain(line: &[u8], packing: Packing) -> Entry
+    ensures entry { result ≡ settled (plain packing line.now) }
+    ensures valid { IsEntry result }
+{
+    let mut data = ArrayVec::new();
+    match read_packet(line, &mut data) {
+        Ok((stamp, id)) if is_frame(packing, data.len()) => {
+            Entry::Frame(Packet::of_parts(stamp, id, data.as_slice()))
+        }
+        Ok((stamp, id)) => Entry::Whole(Packet::of_parts(stamp, id, data.as_slice())),
+        Err(cause) => Entry::Bad(cause),
+    }
 }

@@ -1,18 +1,29 @@
-use crate::{BadCause, Entry, Id, LONGEST_LINE, Packet, Packing, plain_text, read_line, split_id};
+use crate::{
+    BadCause, Entry, Id, LONGEST_LINE, Packet, Packing, candump_text, join_id, plain_text,
+    read_line, split_id,
+};
 use std::alloc::Global;
 use std::test::Fail;
 
-// What a line is: its plain text, the cause it is bad for, or `skipped`.
-fn shown(alloc: Global, line: &[u8]) -> Result<String, Fail> {
-    match read_line(line, Packing::Frames) {
+// A packet's plain text behind a word.
+fn text_behind(alloc: Global, word: &str, packet: &Packet) -> Result<String, Fail> {
+    let mut text = word.as_bytes().to_vec(alloc)?;
+    plain_text(alloc, packet, &mut text)?;
+    Ok(String::from_utf8(text)?)
+}
+
+// What a line is: its plain text, with `whole` in front where it is no frame; the cause it is bad for; or `skipped`.
+fn packed(alloc: Global, line: &[u8], packing: Packing) -> Result<String, Fail> {
+    match read_line(line, packing) {
         Entry::Skip => Ok("skipped".to_string(alloc)?),
         Entry::Bad(cause) => Ok(format!(in alloc; "{cause:?}")?),
-        Entry::Frame(packet) => {
-            let mut text = Vec::new(alloc);
-            plain_text(alloc, &packet, &mut text)?;
-            Ok(String::from_utf8(text)?)
-        }
+        Entry::Frame(packet) => text_behind(alloc, "", &packet),
+        Entry::Whole(packet) => text_behind(alloc, "whole ", &packet),
     }
+}
+
+fn shown(alloc: Global, line: &[u8]) -> Result<String, Fail> {
+    packed(alloc, line, Packing::Frames)
 }
 
 #[test]
@@ -165,6 +176,11 @@ fn plain_lines(rt: HostRuntime) -> Result<(), Fail> {
             "12345678901234567890123456789012,0,0,0,0,0\n",
         ),
         (" ~,0,0,0,0,0", " ~,0,0,0,0,0\n"),
+        // whole-among-frames: more bytes than a frame holds
+        (
+            "2020-01-01T00:00:00.000Z,7,130820,5,255,9,07,98,01,41,42,43,44,45,46",
+            "whole 2020-01-01T00:00:00.000Z,7,130820,5,255,9,07,98,01,41,42,43,44,45,46\n",
+        ),
         // the stamp
         ("123456789012345678901234567890123,0,0,0,0,0", "Stamp"),
         (",0,0,0,0,0", "Stamp"),
@@ -179,7 +195,7 @@ fn plain_lines(rt: HostRuntime) -> Result<(), Fail> {
         ("x,0,16777216,0,0,0", "Number"),
         ("x,0,0,256,0,0", "Number"),
         ("x,0,0,0,256,0", "Number"),
-        ("x,0,0,0,0,9,00,00,00,00,00,00,00,00,00", "Number"),
+        ("x,0,0,0,0,224", "Number"),
         ("x,00000000001,0,0,0,0", "Number"),
         ("x,0,0,0,0,-0", "Number"),
         ("x,0,0,0,0, 0", "Number"),
@@ -193,6 +209,7 @@ fn plain_lines(rt: HostRuntime) -> Result<(), Fail> {
         ("x,0,0,0,0,1,g0", "Data"),
         ("x,0,0,0,0,2,00,0", "Data"),
         ("x,0,0,0,0,1,00,", "Data"),
+        ("x,0,0,0,0,223,00", "Data"),
         // of two causes the first row counts
         ("(x,9,0,0,0", "Stamp"),
         ("\u{7f},9", "Stamp"),
@@ -206,6 +223,38 @@ fn plain_lines(rt: HostRuntime) -> Result<(), Fail> {
             "of {line}"
         );
     }
+    Ok(())
+}
+
+#[test]
+fn whole_lines(rt: HostRuntime) -> Result<(), Fail> {
+    let alloc = rt.alloc();
+    let cases = [
+        // whole-among-frames, and a candump line, which is a frame always
+        (
+            "2020-01-01T00:00:00.000Z,7,130820,5,255,6,a3,99,01,41,42,43",
+            "whole 2020-01-01T00:00:00.000Z,7,130820,5,255,6,a3,99,01,41,42,43\n",
+        ),
+        ("x,0,0,0,0,0", "whole x,0,0,0,0,0\n"),
+        ("x,0,0,0,0,224", "Number"),
+        (
+            "(1.0) can0 18EAFF01#14F001",
+            "1970-01-01T00:00:01.000Z,6,59904,1,255,3,14,f0,01\n",
+        ),
+    ];
+    for (line, wanted) in cases {
+        assert_eq!(rt;
+            packed(alloc, line.as_bytes(), Packing::Whole)?.as_str(),
+            wanted,
+            "of {line}"
+        );
+    }
+    // the longest message
+    let packet = Packet::new(b"x", split_id(0), &[0xab; 223]).ok_or("refused")?;
+    let text = text_behind(alloc, "", &packet)?;
+    let (_, line) = text.as_bytes().split_last().ok_or("empty")?;
+    let wanted = text_behind(alloc, "whole ", &packet)?;
+    assert_eq!(rt; shown(alloc, line)?.as_str(), wanted.as_str());
     Ok(())
 }
 
@@ -257,6 +306,70 @@ fn calendar(rt: HostRuntime) -> Result<(), Fail> {
             "of {stamp}"
         );
     }
+    Ok(())
+}
+
+// The candump line of a plain line's frame, or the fault's name.
+#[tactic(auto, unfolding(crate::specs::Candump::is_interface))]
+fn replayed(alloc: Global, line: &[u8]) -> Result<String, Fail> {
+    let Entry::Frame(packet) = read_line(line, Packing::Frames) else {
+        return Ok("no frame".to_string(alloc)?);
+    };
+    let mut text = Vec::new(alloc);
+    match candump_text(alloc, &packet, "can0", &mut text) {
+        Ok(()) => Ok(String::from_utf8(text)?),
+        Err(fault) => Ok(format!(in alloc; "{fault:?}")?),
+    }
+}
+
+#[test]
+fn candump_texts(rt: HostRuntime) -> Result<(), Fail> {
+    let cases = [
+        // split-and-back, cog-and-sog, the last moment, and a leap day by Python's datetime
+        (
+            "1970-01-01T00:00:10.300Z,7,130820,5,255,8,00,0b,a3,99,01,41,42,43",
+            "(0000000010.300000) can0 1DFF0405#000BA39901414243\n",
+        ),
+        (
+            "2017-08-17T14:12:12.106Z,2,129026,127,255,8,00,fc,ff,ff,00,00,ff,ff",
+            "(1502979132.106000) can0 09F8027F#00FCFFFF0000FFFF\n",
+        ),
+        (
+            "9999-12-31T23:59:59.999Z,6,59904,1,35,0",
+            "(253402300799.999000) can0 18EA2301#\n",
+        ),
+        (
+            "2024-02-29T23:59:59.120Z,0,0,0,0,1,ab",
+            "(1709251199.120000) can0 00000000#AB\n",
+        ),
+        // no such stamp
+        ("2011-11-24-22:42:04.388,2,127251,36,255,1,7d", "NoStamp"),
+        ("1969-12-31T23:59:59.999Z,0,0,0,0,0", "NoStamp"),
+        ("2023-02-29T00:00:00.000Z,0,0,0,0,0", "NoStamp"),
+        ("2023-04-31T00:00:00.000Z,0,0,0,0,0", "NoStamp"),
+        ("2023-00-10T00:00:00.000Z,0,0,0,0,0", "NoStamp"),
+        ("2023-13-10T00:00:00.000Z,0,0,0,0,0", "NoStamp"),
+        ("2023-12-00T00:00:00.000Z,0,0,0,0,0", "NoStamp"),
+        ("2023-12-10T24:00:00.000Z,0,0,0,0,0", "NoStamp"),
+        ("2023-12-10T23:60:00.000Z,0,0,0,0,0", "NoStamp"),
+        ("2023-12-10T23:59:60.000Z,0,0,0,0,0", "NoStamp"),
+        ("2023-12-10T23:59:59.000z,0,0,0,0,0", "NoStamp"),
+        ("2023-12-10T23:59:59.0000,0,0,0,0,0", "NoStamp"),
+        ("2023-12-10T23:59:5+.000Z,0,0,0,0,0", "NoStamp"),
+        // no such identifier, and both
+        ("1970-01-01T00:00:10.300Z,7,130820,5,9,0", "NoId"),
+        ("1970-01-01T00:00:10.300Z,6,59905,1,255,0", "NoId"),
+        ("1970-01-01T00:00:10.300Z,6,262144,1,255,0", "NoId"),
+        ("x,7,130820,5,9,0", "NoStamp"),
+    ];
+    for (line, wanted) in cases {
+        assert_eq!(rt;
+            replayed(rt.alloc(), line.as_bytes())?.as_str(),
+            wanted,
+            "of {line}"
+        );
+    }
+    assert_eq!(rt; join_id(&split_id(0x09f8_027f)), Some(0x09f8_027f));
     Ok(())
 }
 

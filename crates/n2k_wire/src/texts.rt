@@ -1,21 +1,42 @@
 //! Packets as texts.
-ghost use Rattle.std.specs.Prelude.{◌≡◌, ◌+◌, ◌*◌, ◌≤◌, ◌++◌, length, OnOk, OnErr};
+ghost use Rattle.std.specs.Prelude.{◌≡◌, ◌+◌, ◌-◌, ◌*◌, ◌≤◌, ◌++◌, [], ◌∷◌, codes, drop, length, IfOk, IsTrue, OnOk, OnErr};
 ghost use Rattle.std.specs.List.{flat_map};
 ghost use Rattle.arrayvec.specs.ArrayVec.{array_vec_len};
-ghost use Rattle.n2k_wire.specs.Texts.{byte_piece, number_piece, plain_text};
+ghost use Rattle.hex.specs.Hex.{encode_upper};
+ghost use Rattle.n2k_wire.specs.Candump.{frame_payload, is_interface, longest_interface};
+ghost use Rattle.n2k_wire.specs.PrivateWords.{Gives, plain_moment};
+ghost use Rattle.n2k_wire.specs.Stamp.{IsMoment, last_second, millis_digits};
+ghost use Rattle.n2k_wire.specs.Texts.{Appends, byte_piece, number_piece, plain_text, second_digits, candump_line, candump_parts, candump_text};
 
+use crate::candump::FRAME_PAYLOAD;
+use crate::fault::WireFault;
+use crate::identifier::join_id;
 use crate::packet::Packet;
+use crate::stamp::{Moment, read_utc};
 use arrayvec::ArrayVec;
 use std::alloc::{AllocError, Global};
 
-/// Room for a plain line: a stamp, five numbers, 223 bytes of three characters each, and the LF.
+/// Room for the plain line of a frame: a stamp, five numbers, 8 bytes of three characters each, and the LF.
+const FRAME_ROOM: usize = 96;
+
+/// Room for any plain line, of up to 223 bytes.
 const LINE_ROOM: usize = 768;
 
-type Line = ArrayVec<u8, LINE_ROOM>;
+/// Room for any candump line of a frame, with twelve digits of seconds, an interface of 15 bytes, and the LF.
+const CANDUMP_ROOM: usize = 64;
+
+type CandumpLine = ArrayVec<u8, CANDUMP_ROOM>;
+
+const DIGITS: [u8; 16] = *b"0123456789abcdef";
+
+const UPPER_DIGITS: [u8; 16] = *b"0123456789ABCDEF";
+
+/// As many zeros as the seconds of a candump line have digits at least.
+const ZEROS: [u8; 10] = *b"0000000000";
 
 #[inline]
-fn push_number(line: &mut Line, number: u32)
-    requires { array_vec_len line.old + 11 ≤ 768 }
+fn push_number<const ROOM: usize>(line: &mut ArrayVec<u8, ROOM>, number: u32)
+    requires { array_vec_len line.old + 11 ≤ ROOM }
     ensures items { line.new.items ≡ line.old.items ++ number_piece number }
     ensures len { array_vec_len line.new ≤ array_vec_len line.old + 11 }
 {
@@ -24,20 +45,44 @@ fn push_number(line: &mut Line, number: u32)
     let _ = line.try_extend_from_slice(buffer.format(number).as_bytes());
 }
 
-fn push_byte(line: &mut Line, byte: u8)
-    requires { array_vec_len line.old + 3 ≤ 768 }
+#[inline]
+fn push_small<const ROOM: usize>(line: &mut ArrayVec<u8, ROOM>, number: u8)
+    requires { array_vec_len line.old + 4 ≤ ROOM }
+    ensures items { line.new.items ≡ line.old.items ++ number_piece number }
+    ensures len { array_vec_len line.new ≤ array_vec_len line.old + 4 }
+{
+    let ones = b'0' + number % 10;
+    let tens = b'0' + number / 10 % 10;
+    let hundreds = b'0' + number / 100;
+    let _ = match number {
+        0..=9 => line.try_extend_from_slice(&[b',', ones]),
+        10..=99 => line.try_extend_from_slice(&[b',', tens, ones]),
+        _ => line.try_extend_from_slice(&[b',', hundreds, tens, ones]),
+    };
+}
+
+// A byte as a piece of a plain line.
+#[tactic(auto, unfolding(hex::specs::Hex::encode_with))]
+fn byte_piece(byte: u8) -> [u8; 3]
+    ensures { result ≡ byte_piece byte }
+{
+    let high = DIGITS[usize::from(byte / 16)];
+    let low = DIGITS[usize::from(byte % 16)];
+    [b',', high, low]
+}
+
+#[inline]
+fn push_byte<const ROOM: usize>(line: &mut ArrayVec<u8, ROOM>, byte: u8)
+    requires { array_vec_len line.old + 3 ≤ ROOM }
     ensures items { line.new.items ≡ line.old.items ++ byte_piece byte }
     ensures len { array_vec_len line.new ≡ array_vec_len line.old + 3 }
 {
-    let mut digits = [0; 2];
-    let _ = hex::encode_to_slice(&[byte], &mut digits);
-    line.push(b',');
-    line.push(digits[0]);
-    line.push(digits[1]);
+    let _ = line.try_extend_from_slice(&byte_piece(byte));
 }
 
-fn push_bytes(line: &mut Line, bytes: &[u8])
-    requires { array_vec_len line.old + 3 * length bytes.now ≤ 768 }
+#[inline]
+fn push_bytes<const ROOM: usize>(line: &mut ArrayVec<u8, ROOM>, bytes: &[u8])
+    requires { array_vec_len line.old + 3 * length bytes.now ≤ ROOM }
     ensures items { line.new.items ≡ line.old.items ++ flat_map byte_piece bytes.now }
     ensures len { array_vec_len line.new ≡ array_vec_len line.old + 3 * length bytes.now }
 {
@@ -46,23 +91,156 @@ fn push_bytes(line: &mut Line, bytes: &[u8])
     }
 }
 
-/// Appends the plain line of a packet, `stamp,prio,pgn,src,dst,len,b0,b1,..` with its LF: numbers without
-/// leading zeros, each byte as two digits in lower case. `out` is as it was where memory is refused.
+/// Appends the plain line of a packet, which is built in an array of that room.
+#[inline(never)]
 #[tactic(auto, unfolding(crate::specs::Texts::plain_line))]
-pub fn plain_text(_alloc: Global, packet: &Packet, out: &mut Vec<u8>) -> Result<(), AllocError>
+fn append_line<const ROOM: usize>(packet: &Packet, out: &mut Vec<u8>) -> Result<(), AllocError>
+    requires fits { 60 + 3 * length packet.now.payload ≤ ROOM }
+    requires small { ROOM ≤ 768 }
     ensures ok { OnOk result (out.new.items ≡ out.old.items ++ plain_text packet.now) }
-    ensures err { OnErr result (out.new.items ≡ out.old.items) }
+    ensures unchanged { OnErr result (out.new.items ≡ out.old.items) }
 {
     let id = packet.id();
     let data = packet.data();
-    let mut line = ArrayVec::new();
+    let mut line = ArrayVec::<u8, ROOM>::new();
     let _ = line.try_extend_from_slice(packet.stamp());
-    push_number(&mut line, u32::from(id.prio));
+    push_small(&mut line, id.prio);
     push_number(&mut line, id.pgn);
-    push_number(&mut line, u32::from(id.src));
-    push_number(&mut line, u32::from(id.dst));
-    push_number(&mut line, data.len() as u32);
+    push_small(&mut line, id.src);
+    push_small(&mut line, id.dst);
+    push_small(&mut line, data.len() as u8);
     push_bytes(&mut line, data);
     line.push(b'\n');
     out.extend_from_slice(line.as_slice())
+}
+
+/// Appends the plain line of a packet, `stamp,prio,pgn,src,dst,len,b0,b1,..` with its LF: numbers without
+/// leading zeros, each byte as two digits in lower case. `out` is as it was where memory is refused.
+pub fn plain_text(_alloc: Global, packet: &Packet, out: &mut Vec<u8>) -> Result<(), AllocError>
+    ensures ok { OnOk result (out.new.items ≡ out.old.items ++ plain_text packet.now) }
+    ensures unchanged { OnErr result (out.new.items ≡ out.old.items) }
+{
+    if packet.data().len() <= FRAME_PAYLOAD {
+        append_line::<FRAME_ROOM>(packet, out)
+    } else {
+        append_line::<LINE_ROOM>(packet, out)
+    }
+}
+
+fn push_text(line: &mut CandumpLine, text: &[u8])
+    requires { array_vec_len line.old + length text.now ≤ 64 }
+    ensures items { line.new.items ≡ line.old.items ++ text.now }
+    ensures len { array_vec_len line.new ≡ array_vec_len line.old + length text.now }
+{
+    let _ = line.try_extend_from_slice(text);
+}
+
+// What so many digits leave free of ten places.
+fn filling_zeros(digits: usize) -> &'static [u8]
+    ensures zeros { result.now ≡ drop digits (codes "0000000000") }
+    ensures len { length result.now ≡ 10 - digits }
+{
+    &ZEROS[digits.min(ZEROS.len())..]
+}
+
+#[tactic(auto, using(crate::proofs::CandumpLemmas::seconds_short, std::proofs::Common::append_assoc))]
+fn push_seconds(line: &mut CandumpLine, seconds: u64)
+    requires few { seconds ≤ last_second }
+    requires room { array_vec_len line.old + 12 ≤ 64 }
+    ensures items { line.new.items ≡ line.old.items ++ second_digits seconds }
+    ensures len { array_vec_len line.new ≤ array_vec_len line.old + 12 }
+{
+    let mut buffer = itoa::Buffer::new();
+    let digits = buffer.format(seconds).as_bytes();
+    push_text(line, filling_zeros(digits.len()));
+    push_text(line, digits);
+}
+
+fn push_millis(line: &mut CandumpLine, millis: u32)
+    requires few { millis ≤ 999 }
+    requires room { array_vec_len line.old + 3 ≤ 64 }
+    ensures items { line.new.items ≡ line.old.items ++ millis_digits millis }
+    ensures len { array_vec_len line.new ≡ array_vec_len line.old + 3 }
+{
+    let hundreds = b'0' + (millis / 100) as u8;
+    let tens = b'0' + (millis % 100 / 10) as u8;
+    let ones = b'0' + (millis % 100 % 10) as u8;
+    push_text(line, &[hundreds, tens, ones]);
+}
+
+// A byte as two digits in upper case.
+#[tactic(auto, unfolding(hex::specs::Hex::encode_with))]
+fn upper_pair(byte: u8) -> [u8; 2]
+    ensures { result ≡ encode_upper (byte ∷ []) }
+{
+    [
+        UPPER_DIGITS[usize::from(byte / 16)],
+        UPPER_DIGITS[usize::from(byte % 16)],
+    ]
+}
+
+fn push_upper(line: &mut CandumpLine, bytes: &[u8])
+    requires { array_vec_len line.old + 2 * length bytes.now ≤ 64 }
+    ensures items { line.new.items ≡ line.old.items ++ encode_upper bytes.now }
+    ensures len { array_vec_len line.new ≡ array_vec_len line.old + 2 * length bytes.now }
+{
+    for byte in bytes {
+        push_text(line, &upper_pair(*byte));
+    }
+}
+
+/// A candump line, with its LF.
+#[tactic(auto, unfolding(crate::specs::Texts::candump_line))]
+fn candump_line(seen: Moment, identifier: u32, payload: &[u8], interface: &[u8]) -> CandumpLine
+    requires moment { IsMoment (plain_moment seen) }
+    requires short { length payload.now ≤ frame_payload }
+    requires interface { length interface.now ≤ longest_interface }
+    ensures { result.items ≡ candump_line interface.now (plain_moment seen) identifier payload.now ++ codes "\n" }
+{
+    let mut line = ArrayVec::new();
+    line.push(b'(');
+    push_seconds(&mut line, seen.seconds);
+    line.push(b'.');
+    push_millis(&mut line, seen.millis);
+    push_text(&mut line, b"000) ");
+    push_text(&mut line, interface);
+    line.push(b' ');
+    push_upper(&mut line, &identifier.to_be_bytes());
+    line.push(b'#');
+    push_upper(&mut line, payload);
+    line.push(b'\n');
+    line
+}
+
+/// What candump writes of a packet in front of its data.
+#[tactic(auto, unfolding(crate::specs::Texts::candump_parts))]
+fn candump_parts(packet: &Packet) -> Result<(Moment, u32), WireFault>
+    ensures value { Gives (λ parts. (plain_moment parts.0, parts.1)) result (candump_parts packet.now) }
+    ensures moment { IfOk result (λ parts. IsMoment (plain_moment parts.0)) }
+{
+    let seen = read_utc(packet.stamp()).ok_or(WireFault::NoStamp)?;
+    let identifier = join_id(&packet.id()).ok_or(WireFault::NoId)?;
+    Ok((seen, identifier))
+}
+
+/// Appends a packet of at most 8 bytes as `candump -L` writes a frame that came in at an interface of 1 to 15 bytes
+/// from `!` to `~`: `(0000000010.300000) can0 1DFF0405#000BA39901414243` with its LF, digits in upper case.
+/// `NoStamp` where its stamp isn't `YYYY-MM-DDTHH:MM:SS.mmmZ` of a day that the calendar has from 1970 on, else
+/// `NoId` where `join_id` has no identifier for it. `out` is as it was where the answer is a fault.
+#[tactic(auto, using(crate::proofs::CandumpLemmas::interface_short))]
+pub fn candump_text(
+    _alloc: Global,
+    packet: &Packet,
+    interface: &str,
+    out: &mut Vec<u8>,
+) -> Result<(), WireFault>
+    requires short { length packet.now.payload ≤ frame_payload }
+    requires interface { IsTrue (is_interface interface.now) }
+    ensures text { Appends (candump_text interface.now packet.now) result out.old.items out.new.items }
+    ensures unchanged { OnErr result (out.new.items ≡ out.old.items) }
+{
+    let (seen, identifier) = candump_parts(packet)?;
+    let text = candump_line(seen, identifier, packet.data(), interface.as_bytes());
+    out.extend_from_slice(text.as_slice())
+        .map_err(|_| WireFault::Memory)
 }

@@ -1,3 +1,4 @@
+pub mod Commands
 pub mod Fault
 pub mod Usage
 pub mod Words

@@ -3,6 +3,7 @@ use crate::fault::{Fault, exit_status, fault_text, status};
 use crate::words::words;
 use n2k_run::{Counts, MemorySink, MemorySource};
 use n2k_table::TableFault;
+use std::alloc::{AllocError, Global};
 use std::test::Fail;
 
 #[test]
@@ -180,20 +181,56 @@ fn plain_prints_frames_and_then_the_summary(rt: HostRuntime) -> Result<(), Fail>
     Ok(())
 }
 
+// The ten lines of which eight are bad to `decode`; the second has 2,049 bytes.
+fn ten_lines(alloc: Global) -> Result<Vec<u8>, AllocError> {
+    let mut log = b"(10.0) can0 1DFF0405#000BA39901414243\n".to_vec(alloc)?;
+    log.extend_from_slice(&[b'x'; 2049])?;
+    log.extend_from_slice(
+        b"
+(10.1) can0 1DFF0405#010
+(10.2) can0 40000000#00
+2011-11-24-22:42:04.388,2,127251,36,255,3,7d,0b
+(10.3) can0 1DFF0405#
+(10.4) can0 1DFF0405#010000000000FFFF
+(10) can0 1DFF0405#00
+x,8,127251,36,255,0
+hello
+",
+    )?;
+    Ok(log)
+}
+
 #[test]
-fn a_bad_line_is_reported_and_gives_status_1(rt: HostRuntime) -> Result<(), Fail> {
+fn ten_lines_eight_bad_ends_with_status_1(rt: HostRuntime) -> Result<(), Fail> {
     let alloc = rt.alloc();
-    let mut log = MemorySource::new(b"# trip\nhello\n", 100, 0);
+    let bytes = ten_lines(alloc)?;
+    let mut log = MemorySource::new(&bytes, 100, 0);
     let (mut output, mut errors) = (
         MemorySink::new(alloc, 100, 0),
         MemorySink::new(alloc, 100, 0),
     );
-    let status = decode(alloc, SAMPLE, &mut log, &mut output, &mut errors);
+    let status = plain(alloc, &mut log, &mut output, &mut errors);
     assert_eq!(rt; status, Ok(1));
-    assert_eq!(rt; output.bytes(), b"".as_slice());
+    assert_eq!(rt;
+        output.bytes(),
+        b"1970-01-01T00:00:10.000Z,7,130820,5,255,8,00,0b,a3,99,01,41,42,43
+1970-01-01T00:00:10.300Z,7,130820,5,255,0
+1970-01-01T00:00:10.400Z,7,130820,5,255,8,01,00,00,00,00,00,ff,ff
+"
+            .as_slice()
+    );
     assert_eq!(rt;
         errors.bytes(),
-        b"line 2 bad B3 form\nlines 2 messages 0 bad 1 unknown 0 broken 0 open 0\n".as_slice()
+        b"line 2 bad B1 long
+line 3 bad B6 data
+line 4 bad B4 identifier
+line 5 bad B6 data
+line 8 bad B2 stamp
+line 9 bad B5 number
+line 10 bad B3 form
+lines 10 messages 3 bad 7 unknown 0 broken 0 open 0
+"
+            .as_slice()
     );
     Ok(())
 }

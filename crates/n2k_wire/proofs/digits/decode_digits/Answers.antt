@@ -5,7 +5,7 @@ use Rattle.n2k_wire.proofs.digits.decode_digits.Goals as goal
 pub loop-i-preserved : goal.loop-i-preserved
 loop-i-preserved c = record {
   taken = omega (arith, c.push.ensures.len);
-  read = rw (c.push.ensures.items, c.hex_value.ensures.value, c.hex_value-in-loop-i.ensures.value) (spells_on c.args.digits.now c.loop-i.bytes.items c.loop-i.i (omega arith) c.loop-i.invariant.read);
+  read = rw (c.push.ensures.items, c.spelled_byte.ensures) (spells_on c.args.digits.now c.loop-i.bytes.items c.loop-i.i (omega arith) c.loop-i.invariant.read);
 }
 
 pub returns-clause-value : goal.returns-clause-value

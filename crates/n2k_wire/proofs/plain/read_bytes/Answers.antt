@@ -2,7 +2,7 @@ use Rattle.std.proofs.Common.{◌≡◌, [], ◌∷◌, length, ap, sym, ◌∙�
 use Rattle.std.specs.Prelude.{◌==◌}
 use Rattle.std.proofs.lemmas.List.Splits.{length-slice_split}
 use Rattle.n2k_wire.specs.Plain.{pieces}
-use Rattle.n2k_wire.specs.PlainPieces.{pieces_left}
+use Rattle.n2k_wire.specs.PrivateWords.{pieces_left}
 use Rattle.n2k_wire.proofs.PlainLemmas.{reads_piece, ends_piece, pairs-end, bytes_of-pairs, bytes_of-other, bytes_of-bad}
 use Rattle.n2k_wire.proofs.plain.read_bytes.Goals as goal
 

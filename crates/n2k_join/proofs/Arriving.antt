@@ -1,0 +1,191 @@
+-- Scattered frames arrive whole.
+use Rattle.std.proofs.Common.{◌≡◌, ℕ, true, List, [], ◌∷◌, ◌++◌, length, refl, ap, subst, ◌∙◌, sym, Option, Some, None}
+use Rattle.std.specs.Prelude.{find, flat_map, filter_map, map, option_map, option_and_then, option_to_list}
+use Rattle.std.specs.Option.{option_or}
+use Rattle.std.specs.List.{AllByRecursion, AllZip, last_or, range_with_len}
+use Rattle.std.proofs.lemmas.List.Elements.{recursion_from_All}
+use Rattle.n2k_wire.specs.Packet.{PacketParts}
+use Rattle.n2k_wire.specs.declared.entry.Entry.{Entry}
+use Rattle.n2k_table.specs.declared.definition.Kind.{Kind}
+use Rattle.n2k_join.specs.Frames.{Key, same_key, Frame, frames, of_key, frame_at}
+use Rattle.n2k_join.specs.Groups.{Ends, repeats, complete, cut, last_line, data_of, incomplete, open_of}
+use Rattle.n2k_join.specs.Messages.{Keyed, message_of, is_done_at, gathered_by, gathered, alone, entry_at, broken_of, broken_before, broken_by, broken_with}
+use Rattle.n2k_join.specs.Open.{where_begun, begun_at, open_groups}
+use Rattle.n2k_join.specs.Pieces.{Sending}
+use Rattle.n2k_join.specs.Scattered.{joined, IsPieceOf, IsStretchOf, FallInto, sendings_of, IsScattered}
+use Rattle.n2k_join.specs.Arrival.{Brings, ArriveWhole}
+use Rattle.n2k_join.proofs.Keys.{of_key-keeps}
+use Rattle.n2k_join.proofs.PieceFrames.{piece_says}
+use Rattle.n2k_join.proofs.WholePieces.{data_pieces}
+use Rattle.n2k_join.proofs.Stretches.{IsStretch, cut_stretches, GoesOn, goes_on-repeats, stretch_pieces}
+use Rattle.n2k_join.proofs.Lines.{RiseFrom, all_with, rise-filter, frames-rise, frames_found}
+use Rattle.n2k_join.proofs.GroupLines.{IsGroup, IsDone, LastFrame, last_frame, all-joined, done_found}
+
+-- what R gives of the second list
+pub zip-all : {X Y : Type 0} (R : X → Y → Type 0) (Q : Y → Type 0) → ((x : X) (y : Y) → R x y → Q y) → (xs : List X) (ys : List Y) → AllZip R xs ys → AllByRecursion Q ys
+zip-all R Q h [] [] each = tt
+zip-all R Q h [] (y ∷ ys) each = absurd each
+zip-all R Q h (x ∷ xs) [] each = absurd each
+zip-all R Q h (x ∷ xs) (y ∷ ys) each = (h x y each.0, zip-all R Q h xs ys each.1)
+
+zip-with : {X Y : Type 0} (R S : X → Y → Type 0) (Q : Y → Type 0) → ((x : X) (y : Y) → R x y → Q y → S x y) → (xs : List X) (ys : List Y) → AllZip R xs ys → AllByRecursion Q ys → AllZip S xs ys
+zip-with R S Q h [] [] each all = tt
+zip-with R S Q h [] (y ∷ ys) each all = absurd each
+zip-with R S Q h (x ∷ xs) [] each all = absurd each
+zip-with R S Q h (x ∷ xs) (y ∷ ys) each all = (h x y each.0 all.0, zip-with R S Q h xs ys each.1 all.1)
+
+pub zip-map : {X Y : Type 0} (R S : X → Y → Type 0) → ((x : X) (y : Y) → R x y → S x y) → (xs : List X) (ys : List Y) → AllZip R xs ys → AllZip S xs ys
+zip-map R S h [] [] each = tt
+zip-map R S h [] (y ∷ ys) each = absurd each
+zip-map R S h (x ∷ xs) [] each = absurd each
+zip-map R S h (x ∷ xs) (y ∷ ys) each = (h x y each.0, zip-map R S h xs ys each.1)
+
+-- a frame is the one at its line, and has the key
+abbrev pub StandsAt : List Frame → Key → Frame → Type 0
+StandsAt fs k f = (frame_at f.line fs ≡ Some f) × (f.key ≡ k)
+
+-- the frames of a key, each found at its line
+pub stand : (kind : ℕ → Option Kind) (es : List Entry) (k : Key) → AllByRecursion (StandsAt (frames kind es) k) (of_key k (frames kind es))
+stand kind es k = of_key-keeps (λ (f : Frame). frame_at f.line (frames kind es) ≡ Some f) k (frames kind es) (frames_found 1 (frames kind es) (frames-rise kind 1 es))
+
+pub key-rise : (kind : ℕ → Option Kind) (es : List Entry) (k : Key) → RiseFrom 1 (of_key k (frames kind es))
+key-rise kind es k = rise-filter (λ (f : Frame). same_key k f.key) 1 (frames kind es) (frames-rise kind 1 es)
+
+-- the group that is done at its last line, is gathered there
+pub gathered_group : (ends : Ends) (fs : List Frame) (k : Key) (g : List Frame) (f : Frame) → last_line g ≡ f.line → StandsAt fs k f → find (is_done_at (last_line g)) (cut ends (of_key k fs)) ≡ Some g → gathered ends fs (last_line g) ≡ Some (record { key = k; message = message_of f g })
+unfolding gathered
+gathered_group ends fs k g f at stands found =
+    ap (λ l. option_and_then (gathered_by ends fs) (frame_at l fs)) at
+    ∙ (ap (option_and_then (gathered_by ends fs)) stands.0
+    ∙ (ap (λ (c : Key). option_map (λ group. record { key = c; message = message_of f group }) (find (is_done_at f.line) (cut ends (of_key c fs)))) stands.1
+    ∙ (ap (λ l. option_map (λ group. record { key = k; message = message_of f group }) (find (is_done_at l) (cut ends (of_key k fs)))) (sym at)
+    ∙ ap (option_map (λ group. record { key = k; message = message_of f group })) found)))
+
+message_is : (m : PacketParts) (f : Frame) (g : List Frame) → f.stamp ≡ m.stamp → f.id ≡ m.id → data_of g ≡ m.payload → message_of f g ≡ m
+message_is m f g stamp id payload = λ i. record { stamp = stamp i; id = id i; payload = payload i }
+
+-- the group is a sending's stretch, goes on to its end, and is found at its last line among the groups of its key
+pub record Comes (ends : Ends) (kind : ℕ → Option Kind) (es : List Entry) (k : Key) (x : Sending) (g : List Frame) : Type 0 where
+  pub stretch : IsStretchOf x g
+  pub goes_on : GoesOn ends g
+  pub stands : AllByRecursion (StandsAt (frames kind es) k) g
+  pub found : find (is_done_at (last_line g)) (cut ends (of_key k (frames kind es))) ≡ Some g
+
+abbrev pub pieces_in : (x : Sending) (g : List Frame) → IsStretchOf x g → AllByRecursion (IsPieceOf x) g
+pieces_in x g is = recursion_from_All (IsPieceOf x) g is.pieces.each
+
+abbrev pub as_stretch : (ends : Ends) (x : Sending) (g : List Frame) → IsStretchOf x g → GoesOn ends g → IsStretch ends g
+as_stretch ends x g is goes = stretch_pieces ends x g (pieces_in x g is) is.pieces.apart is.whole goes
+
+-- all pieces of a message are gathered as that message
+pub gathers : (ends : Ends) (kind : ℕ → Option Kind) (es : List Entry) (k : Key) (x : Sending) (g : List Frame) → Comes ends kind es k x g → gathered ends (frames kind es) (last_line g) ≡ Some (record { key = k; message = x.message })
+gathers ends kind es k x g comes =
+    let pieces = pieces_in x g comes.stretch in
+    let last : LastFrame (λ f. StandsAt (frames kind es) k f × IsPieceOf x f) g =
+    last_frame (λ f. StandsAt (frames kind es) k f × IsPieceOf x f) g (as_stretch ends x g comes.stretch comes.goes_on).nonempty (all_with (StandsAt (frames kind es) k) (IsPieceOf x) _ (λ f a b. (a, b)) g comes.stands pieces) in
+    let says = piece_says x last.frame last.holds.1 in
+    gathered_group ends (frames kind es) k g last.frame last.at last.holds.0 comes.found
+    ∙ ap (λ m. Some (record { key = k; message = m })) (message_is x.message last.frame g says.stamp says.id (data_pieces x g pieces comes.stretch.pieces.apart comes.stretch.whole))
+
+-- and bring it
+pub brings : (kind : ℕ → Option Kind) (es : List Entry) (k : Key) (x : Sending) (g : List Frame) → Comes repeats kind es k x g → Brings kind es x g
+brings kind es k x g comes = record {
+  stretch = comes.stretch;
+  whole = (as_stretch repeats x g comes.stretch comes.goes_on).whole;
+  carries = data_pieces x g (pieces_in x g comes.stretch) comes.stretch.pieces.apart comes.stretch.whole;
+  given = ap (λ (o : Option Keyed). option_or (option_map (λ (m : Keyed). m.message) o) (option_and_then (alone kind) (entry_at es (last_line g)))) (gathers repeats kind es k x g comes);
+}
+
+-- frames fall into stretches that go on to their ends
+pub record FallOn (ends : Ends) (xs : List Sending) (fs : List Frame) : Type 0 where
+  pub stretches : List (List Frame)
+  pub one_behind_the_other : fs ≡ joined stretches
+  pub each : AllZip (λ x g. IsStretchOf x g × GoesOn ends g) xs stretches
+
+-- a number that doesn't repeat ends nothing
+pub falls_on : (xs : List Sending) (fs : List Frame) → FallInto xs fs → FallOn repeats xs fs
+falls_on xs fs falls = record {
+  stretches = falls.stretches;
+  one_behind_the_other = falls.one_behind_the_other;
+  each = zip-map IsStretchOf (λ x g. IsStretchOf x g × GoesOn repeats g) (λ x g is. (is, goes_on-repeats g is.pieces.apart)) xs falls.stretches falls.each;
+}
+
+-- the groups of a key are the stretches of its messages
+pub record Settled (ends : Ends) (kind : ℕ → Option Kind) (ms : List PacketParts) (es : List Entry) (k : Key) : Type 0 where
+  pub groups : List (List Frame)
+  pub cut_is : cut ends (of_key k (frames kind es)) ≡ groups
+  pub nonempty : AllByRecursion IsGroup groups
+  pub rise : RiseFrom 1 (joined groups)
+  pub each : AllZip (Comes ends kind es k) (sendings_of k ms) groups
+
+pub settled : (ends : Ends) (kind : ℕ → Option Kind) (ms : List PacketParts) (es : List Entry) (k : Key) → FallOn ends (sendings_of k ms) (of_key k (frames kind es)) → Settled ends kind ms es k
+settled ends kind ms es k falls =
+    let gs = falls.stretches in
+    let xs = sendings_of k ms in
+    let whole : AllByRecursion (IsStretch ends) gs = zip-all (λ x g. IsStretchOf x g × GoesOn ends g) (IsStretch ends) (λ x g is. as_stretch ends x g is.0 is.1) xs gs falls.each in
+    let cut_is : cut ends (of_key k (frames kind es)) ≡ gs = ap (cut ends) falls.one_behind_the_other ∙ cut_stretches ends gs whole in
+    let rise : RiseFrom 1 (joined gs) = subst (RiseFrom 1) falls.one_behind_the_other (key-rise kind es k) in
+    let standing : AllByRecursion (λ g. AllByRecursion (StandsAt (frames kind es) k) g) gs = all-joined (StandsAt (frames kind es) k) gs (subst (AllByRecursion (StandsAt (frames kind es) k)) falls.one_behind_the_other (stand kind es k)) in
+    let nonempty : AllByRecursion IsGroup gs = all_with (IsStretch ends) (IsStretch ends) IsGroup (λ g is same. is.nonempty) gs whole whole in
+    let done : AllByRecursion (IsDone gs) gs = done_found 1 gs nonempty rise in
+    let both : AllByRecursion (λ g. AllByRecursion (StandsAt (frames kind es) k) g × IsDone gs g) gs = all_with _ _ _ (λ g a b. (a, b)) gs standing done in
+    record {
+      groups = gs;
+      cut_is = cut_is;
+      nonempty = nonempty;
+      rise = rise;
+      each = zip-with (λ x g. IsStretchOf x g × GoesOn ends g) (Comes ends kind es k) (λ g. AllByRecursion (StandsAt (frames kind es) k) g × IsDone gs g)
+          (λ x g is facts. record { stretch = is.0; goes_on = is.1; stands = facts.0; found = ap (find (is_done_at (last_line g))) cut_is ∙ facts.1 (as_stretch ends x g is.0 is.1).whole })
+          xs gs falls.each both;
+    }
+
+-- each message of a scattered log is settled
+pub settles : (kind : ℕ → Option Kind) (ms : List PacketParts) (es : List Entry) → IsScattered kind ms es → (k : Key) → Settled repeats kind ms es k
+settles kind ms es scattered k = settled repeats kind ms es k (falls_on (sendings_of k ms) (of_key k (frames kind es)) (scattered.falls k))
+
+pub brought : (kind : ℕ → Option Kind) (ms : List PacketParts) (es : List Entry) → IsScattered kind ms es → (k : Key) → AllZip (Brings kind es) (sendings_of k ms) (cut repeats (of_key k (frames kind es)))
+brought kind ms es scattered k =
+    let at = settles kind ms es scattered k in
+    subst (AllZip (Brings kind es) (sendings_of k ms)) (sym at.cut_is) (zip-map (Comes repeats kind es k) (Brings kind es) (brings kind es k) (sendings_of k ms) at.groups at.each)
+
+-- no group of any key is incomplete
+abbrev pub AllWhole : Ends → List Frame → Type 0
+AllWhole ends fs = (k : Key) → AllByRecursion (λ g. complete g ≡ true) (cut ends (of_key k fs))
+
+broken_before-none : (line : ℕ) (gs : List (List Frame)) → AllByRecursion (λ g. complete g ≡ true) gs → broken_before line gs ≡ []
+broken_before-none line [] each = refl
+broken_before-none line (g ∷ []) each = refl
+broken_before-none line (g ∷ h ∷ gs) each = rw each.0 (broken_before-none line (h ∷ gs) each.1)
+
+pub none_broken : (ends : Ends) (fs : List Frame) → AllWhole ends fs → (line : ℕ) → broken_with ends fs line ≡ []
+unfolding broken_with
+none_broken ends fs whole line = by_frame (frame_at line fs)
+  where
+    by_frame : (o : Option Frame) → flat_map (broken_by ends fs) (option_to_list o) ≡ []
+    by_frame None = refl
+    by_frame (Some f) = ap (λ (gs : List (List Frame)). map (broken_of f.key) gs ++ []) (broken_before-none f.line (cut ends (of_key f.key fs)) (whole f.key))
+
+none_last : (o : Option (List Frame)) (gs : List (List Frame)) → option_and_then incomplete o ≡ None → AllByRecursion (λ g. complete g ≡ true) gs → option_and_then incomplete (last_or o gs) ≡ None
+none_last o [] e each = e
+none_last o (g ∷ gs) e each = none_last (Some g) gs (rw each.0 refl) each.1
+
+pub filter_map-none : {X Y : Type 0} (h : X → Option Y) → ((x : X) → h x ≡ None) → (xs : List X) → filter_map h xs ≡ []
+filter_map-none h e [] = refl
+filter_map-none h e (x ∷ xs) = rw (e x) (filter_map-none h e xs)
+
+pub none_open : (ends : Ends) (fs : List Frame) (n : ℕ) → AllWhole ends fs → open_groups ends n fs ≡ []
+unfolding open_groups begun_at
+none_open ends fs n whole = filter_map-none (begun_at ends fs) (λ line. by_frame line (frame_at line fs)) (range_with_len 1 n)
+  where
+    by_frame : (line : ℕ) (o : Option Frame) → option_and_then (λ (f : Frame). option_and_then (where_begun line f.key) (open_of ends f.key fs)) o ≡ None
+    by_frame line None = refl
+    by_frame line (Some f) = ap (option_and_then (where_begun line f.key)) (none_last None (cut ends (of_key f.key fs)) refl (whole f.key))
+
+pub arrive : (kind : ℕ → Option Kind) (ms : List PacketParts) (es : List Entry) → IsScattered kind ms es → ArriveWhole kind ms es
+arrive kind ms es scattered =
+    let whole : AllWhole repeats (frames kind es) = λ k. zip-all (Brings kind es) (λ g. complete g ≡ true) (λ x g is. is.whole) _ _ (brought kind ms es scattered k) in
+    record {
+      brought = brought kind ms es scattered;
+      none_broken = none_broken repeats (frames kind es) whole;
+      none_open = none_open repeats (frames kind es) (length es) whole;
+    }

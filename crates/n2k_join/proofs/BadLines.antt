@@ -1,0 +1,105 @@
+-- A bad line and one that stands for nothing give the same, but for the count.
+use Rattle.std.proofs.Common.{◌≡◌, ◌+◌, ℕ, suc, zero, Bool, true, false, cond, not, List, [], ◌∷◌, ◌++◌, length, refl, sym, ap, ◌∙◌, arith, Option, Some, None, option_map, option_and_then, slice_get}
+use Rattle.std.specs.Prelude.{is_some, sum_by, count_by, slice_index_or, drop}
+use Rattle.std.specs.Option.{option_or}
+use Rattle.std.specs.List.{cons_option, range_with_len}
+use Rattle.std.proofs.lemmas.List.{length-append}
+use Rattle.std.proofs.lemmas.List.Sums.{sum_by-cons, sum_by-append}
+use Rattle.std.proofs.lemmas.Bool.{false≢true}
+use Rattle.n2k_wire.specs.declared.entry.BadCause.TheVariants as causes
+use Rattle.n2k_wire.specs.declared.entry.Entry.{Entry}
+use Rattle.n2k_wire.specs.declared.entry.Entry.TheVariants as entries
+use Rattle.n2k_table.specs.declared.definition.Kind.{Kind}
+use Rattle.n2k_table.specs.declared.definition.Kind.TheVariants.{Single, Fast}
+use Rattle.n2k_join.specs.Frames.{is_fast_payload, fast_frame, frame_with, frame_by, frame_in, frames_from, frames}
+use Rattle.n2k_join.specs.Groups.{repeats}
+use Rattle.n2k_join.specs.Messages.{Keyed, alone, single_by, cause_in, fast_cause, is_unknown, gathered, message, broken_with, broken, entry_at, counts}
+use Rattle.n2k_join.specs.Open.{open_groups}
+use Rattle.n2k_join.specs.Laws.{BadAlone}
+
+-- an entry that gives nothing but its cause
+record IsNothing (kind : ℕ → Option Kind) (e : Entry) : Type 0 where
+  no_frame : (line : ℕ) → frame_in kind line e ≡ None
+  no_message : alone kind e ≡ None
+  known : is_unknown kind e ≡ false
+
+bad-nothing : (kind : ℕ → Option Kind) (e : Entry) → is_some (cause_in kind e) ≡ true → IsNothing kind e
+unfolding fast_frame
+bad-nothing kind entries.Skip bad = absurd (false≢true bad)
+bad-nothing kind (entries.Bad cause) bad = record { no_frame = λ line. refl; no_message = refl; known = refl }
+bad-nothing kind (entries.Whole packet) bad = absurd (false≢true bad)
+bad-nothing kind (entries.Frame packet) bad = by_kind (kind packet.id.pgn) refl bad
+  where
+    by_test : (b : Bool) → is_fast_payload packet.payload ≡ b → kind packet.id.pgn ≡ Some Fast → is_some (cond b None (Some causes.Fast)) ≡ true → IsNothing kind (entries.Frame packet)
+    by_test true t k bad = absurd (false≢true bad)
+    by_test false t k bad = record {
+      no_frame = λ line. ap (λ k. frame_by k line packet) k ∙ ap (λ b. cond b (Some (frame_with line packet (slice_index_or packet.payload 0 0) (drop 1 packet.payload))) None) t;
+      no_message = ap (λ k. single_by k packet) k;
+      known = ap (λ k. not (is_some k)) k;
+    }
+
+    by_kind : (k : Option Kind) → kind packet.id.pgn ≡ k → is_some (fast_cause k packet) ≡ true → IsNothing kind (entries.Frame packet)
+    by_kind None k bad = absurd (false≢true bad)
+    by_kind (Some Single) k bad = absurd (false≢true bad)
+    by_kind (Some Fast) k bad = by_test (is_fast_payload packet.payload) refl k bad
+
+module _ (kind : ℕ → Option Kind) (e : Entry) (nothing : IsNothing kind e) where
+  frames_from-same : (n : ℕ) (front back : List Entry) → frames_from kind n (front ++ e ∷ back) ≡ frames_from kind n (front ++ entries.Skip ∷ back)
+  frames_from-same n [] back = ap (λ o. cons_option o (frames_from kind (n + 1) back)) (nothing.no_frame n)
+  frames_from-same n (f ∷ front) back = ap (cons_option (frame_in kind n f)) (frames_from-same (n + 1) front back)
+
+  alone-same : (front back : List Entry) (i : ℕ) → option_and_then (alone kind) (slice_get (front ++ e ∷ back) i) ≡ option_and_then (alone kind) (slice_get (front ++ entries.Skip ∷ back) i)
+  alone-same [] back zero = nothing.no_message
+  alone-same [] back (suc i) = refl
+  alone-same (f ∷ front) back zero = refl
+  alone-same (f ∷ front) back (suc i) = alone-same front back i
+
+  message-same : (front back : List Entry) (i : ℕ) → message kind (front ++ e ∷ back) i ≡ message kind (front ++ entries.Skip ∷ back) i
+  message-same front back i = λ j. option_or (option_map (λ (m : Keyed). m.message) (gathered repeats (frames_from-same 1 front back j) i)) (by i j)
+    where
+      by : (i : ℕ) → option_and_then (alone kind) (entry_at (front ++ e ∷ back) i) ≡ option_and_then (alone kind) (entry_at (front ++ entries.Skip ∷ back) i)
+      by zero = refl
+      by (suc i) = alone-same front back i
+
+  broken-same : (front back : List Entry) (i : ℕ) → broken kind (front ++ e ∷ back) i ≡ broken kind (front ++ entries.Skip ∷ back) i
+  broken-same front back i = ap (λ fs. broken_with repeats fs i) (frames_from-same 1 front back)
+
+  length-same : (front back : List Entry) → length (front ++ e ∷ back) ≡ length (front ++ entries.Skip ∷ back)
+  length-same front back = length-append front (e ∷ back) ∙ sym (length-append front (entries.Skip ∷ back))
+
+  -- a count of entries, of which this one counts so much
+  count-with : (p : Entry → Bool) (x : Entry) (front back : List Entry) → count_by p (front ++ x ∷ back) ≡ count_by p front + (cond (p x) 1 0 + count_by p back)
+  count-with p x front back = sum_by-append (λ x. cond (p x) 1 0) front (x ∷ back) ∙ ap (λ n. count_by p front + n) (sum_by-cons (λ x. cond (p x) 1 0) x back)
+
+  count-same : (p : Entry → Bool) (front back : List Entry) → p e ≡ p entries.Skip → count_by p (front ++ e ∷ back) ≡ count_by p (front ++ entries.Skip ∷ back)
+  count-same p front back same =
+      count-with p e front back ∙ ap (λ b. count_by p front + (cond b 1 0 + count_by p back)) same ∙ sym (count-with p entries.Skip front back)
+
+  count-one : (p : Entry → Bool) (front back : List Entry) → p e ≡ true → p entries.Skip ≡ false → count_by p (front ++ e ∷ back) ≡ count_by p (front ++ entries.Skip ∷ back) + 1
+  count-one p front back counts_it not_skip =
+      let more = count-with p e front back ∙ ap (λ b. count_by p front + (cond b 1 0 + count_by p back)) counts_it in
+      let less = count-with p entries.Skip front back ∙ ap (λ b. count_by p front + (cond b 1 0 + count_by p back)) not_skip in
+      omega (arith, more, less)
+
+  open-same : (front back : List Entry) → open_groups repeats (length (front ++ e ∷ back)) (frames kind (front ++ e ∷ back)) ≡ open_groups repeats (length (front ++ entries.Skip ∷ back)) (frames kind (front ++ entries.Skip ∷ back))
+  open-same front back = λ i. open_groups repeats (length-same front back i) (frames_from-same 1 front back i)
+
+  counts-same : (front back : List Entry) → is_some (cause_in kind e) ≡ true → counts kind (front ++ e ∷ back) ≡ record (counts kind (front ++ entries.Skip ∷ back)) { bad = (counts kind (front ++ entries.Skip ∷ back)).bad + 1 }
+  counts-same front back bad = λ i. record {
+    lines = length-same front back i;
+    messages = count_by (λ line. is_some (message-same front back line i)) (range_with_len 1 (length-same front back i));
+    bad = count-one (λ e. is_some (cause_in kind e)) front back bad refl i;
+    unknown = count-same (is_unknown kind) front back nothing.known i;
+    broken = sum_by (λ line. length (broken-same front back line i)) (range_with_len 1 (length-same front back i));
+    held = length (open-same front back i);
+  }
+
+pub bad_alone : (kind : ℕ → Option Kind) (front : List Entry) (e : Entry) (back : List Entry) → is_some (cause_in kind e) ≡ true → BadAlone kind front e back
+bad_alone kind front e back bad =
+    let nothing = bad-nothing kind e bad in
+    record {
+      messages = message-same kind e nothing front back;
+      broken_groups = broken-same kind e nothing front back;
+      open_still = open-same kind e nothing front back;
+      counted = counts-same kind e nothing front back bad;
+    }

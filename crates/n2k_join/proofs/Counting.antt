@@ -1,0 +1,90 @@
+-- How many of the numbers below a limit a group has: as many as it has frames, where none comes twice.
+use Rattle.std.proofs.Common.{◌≡◌, ℕ, zero, suc, ◌+◌, ◌<◌, ◌≤◌, Bool, true, false, cond, ◌&&◌, ◌||◌, List, [], ◌∷◌, length, refl, ap, ◌∙◌, sym, arith, Some, inl, inr}
+use Rattle.std.specs.Prelude.{◌==◌, is_some, count_by, if◌then◌else◌}
+use Rattle.std.specs.List.{range_with_len, list_all, AllByRecursion}
+use Rattle.std.proofs.lemmas.Bool.{false≢true, eqb-true, eq-eqb, ne_eqb, or_parts, cases_eq}
+use Rattle.std.proofs.lemmas.List.Sums.{sum_by-cons, count_by-le-length}
+use Rattle.n2k_join.specs.Frames.{Frame}
+use Rattle.n2k_join.specs.Groups.{carried, has_number, has_twice}
+
+pub count_cons : {X : Type 0} (p : X → Bool) (x : X) (xs : List X) → count_by p (x ∷ xs) ≡ cond (p x) 1 0 + count_by p xs
+count_cons p x xs = sum_by-cons (λ y. cond (p y) 1 0) x xs
+
+-- two tests that never hold together
+count_or : (p q : ℕ → Bool) (ns : List ℕ) → ((n : ℕ) → p n ≡ true → q n ≡ false) → count_by (λ n. p n || q n) ns ≡ count_by p ns + count_by q ns
+count_or p q [] apart = refl
+count_or p q (n ∷ ns) apart = rw (count_cons (λ k. p k || q k) n ns, count_cons p n ns, count_cons q n ns, count_or p q ns apart) (one (p n) (q n) (apart n))
+  where
+    one : (a b : Bool) → (a ≡ true → b ≡ false) → cond (a || b) 1 0 + (count_by p ns + count_by q ns) ≡ (cond a 1 0 + count_by p ns) + (cond b 1 0 + count_by q ns)
+    one true true e = absurd (false≢true (sym (e refl)))
+    one true false e = omega arith
+    one false true e = omega arith
+    one false false e = omega arith
+
+-- a number counts once in a range that it lies in, and not at all in one above it
+count_above : (x a m : ℕ) → x < a → count_by (λ n. x == n) (range_with_len a m) ≡ 0
+count_above x a zero h = refl
+count_above x a (suc m) h = rw (count_cons (λ n. x == n) a (range_with_len (a + 1) m), ne_eqb x a (omega arith), count_above x (a + 1) m (omega arith)) refl
+
+count_within : (x a m : ℕ) → a ≤ x → x < a + m → count_by (λ n. x == n) (range_with_len a m) ≡ 1
+count_within x a zero h k = absurd (omega arith)
+count_within x a (suc m) h k =
+    elim (cases_eq x a) [
+      | inl same ↦ rw (count_cons (λ n. x == n) a (range_with_len (a + 1) m), eq-eqb x a same, count_above x (a + 1) m (omega arith)) refl
+      | inr other ↦
+          let low : a + 1 ≤ x = omega arith in
+          let high : x < (a + 1) + m = omega arith in
+          rw (count_cons (λ n. x == n) a (range_with_len (a + 1) m), ne_eqb x a other, count_within x (a + 1) m low high) refl
+    ]
+
+count_none : (ns : List ℕ) → count_by (λ n. false) ns ≡ 0
+count_none [] = refl
+count_none (n ∷ ns) = rw (count_cons (λ k. false) n ns, count_none ns) refl
+
+count_agree : (p q : ℕ → Bool) → ((n : ℕ) → p n ≡ q n) → (ns : List ℕ) → count_by p ns ≡ count_by q ns
+count_agree p q e [] = refl
+count_agree p q e (n ∷ ns) = rw (count_cons p n ns, count_cons q n ns, e n, count_agree p q e ns) refl
+
+-- a frame more has its own number, and those of the others
+pub has_number-cons : (f : Frame) (fs : List Frame) (n : ℕ) → has_number n (f ∷ fs) ≡ (f.number == n) || has_number n fs
+has_number-cons f fs n = by_test (f.number == n)
+  where
+    by_test : (b : Bool) → is_some (if b then Some f.bytes else carried fs n) ≡ b || is_some (carried fs n)
+    by_test true = refl
+    by_test false = refl
+
+-- the numbers below m that the frames have
+abbrev pub numbers_below : ℕ → List Frame → ℕ
+numbers_below m fs = count_by (λ n. has_number n fs) (range_with_len 0 m)
+
+pub count_numbers : (m : ℕ) (fs : List Frame) → AllByRecursion (λ (f : Frame). f.number < m) fs → has_twice fs ≡ false → numbers_below m fs ≡ length fs
+count_numbers m [] below apart = count_none (range_with_len 0 m)
+count_numbers m (f ∷ fs) below apart =
+    let parts = or_parts _ _ apart in
+    count_agree _ _ (has_number-cons f fs) (range_with_len 0 m)
+    ∙ (count_or (λ n. f.number == n) (λ n. has_number n fs) (range_with_len 0 m) (λ n same. ap (λ k. has_number k fs) (sym (eqb-true f.number n same)) ∙ parts.0)
+    ∙ rw (count_within f.number 0 m (omega arith) (omega (arith, below.0)), count_numbers m fs below.1 parts.1) (omega arith))
+
+eqb_suc : (c l : ℕ) → (c == l) ≡ ((1 + c) == suc l)
+eqb_suc c l =
+    elim (cases_eq c l) [
+      | inl same ↦ eq-eqb c l same ∙ sym (eq-eqb (1 + c) (suc l) (omega arith))
+      | inr other ↦ ne_eqb c l other ∙ sym (ne_eqb (1 + c) (suc l) (λ e. other (omega arith)))
+    ]
+
+-- a test holds of each where it holds of as many as there are
+all_by_count : (p : ℕ → Bool) (ns : List ℕ) → list_all p ns ≡ (count_by p ns == length ns)
+all_by_count p [] = refl
+all_by_count p (n ∷ ns) = rw (count_cons p n ns) (one (p n) (all_by_count p ns))
+  where
+    one : (b : Bool) → list_all p ns ≡ (count_by p ns == length ns) → b && list_all p ns ≡ ((cond b 1 0 + count_by p ns) == suc (length ns))
+    one true ih = ih ∙ eqb_suc _ _
+    one false ih = sym (ne_eqb _ _ (λ e. omega (arith, count_by-le-length p ns)))
+
+pub length-range : (a n : ℕ) → length (range_with_len a n) ≡ n
+length-range a zero = refl
+length-range a (suc n) = ap suc (length-range (a + 1) n)
+
+-- frames without a number twice, all below m: they have every number below m where they are m
+pub has_all_numbers : (m : ℕ) (fs : List Frame) → AllByRecursion (λ (f : Frame). f.number < m) fs → has_twice fs ≡ false → list_all (λ n. has_number n fs) (range_with_len 0 m) ≡ (length fs == m)
+has_all_numbers m fs below apart = rw (all_by_count (λ n. has_number n fs) (range_with_len 0 m), count_numbers m fs below apart, length-range 0 m) refl

@@ -1,0 +1,147 @@
+-- The laws of what frames are cut into.
+use Rattle.std.proofs.Common.{◌≡◌, ◌≤◌, ◌<◌, ◌+◌, ℕ, suc, zero, Bool, true, false, cond, List, [], ◌∷◌, ◌++◌, length, refl, sym, ap, ◌∙◌, subst, arith, append_assoc, Some, slice_get}
+use Rattle.std.specs.Prelude.{option_map}
+use Rattle.std.specs.List.{AllByRecursion}
+use mathlib.Core.Logic.{◌⊎◌, inl, inr}
+use Rattle.std.proofs.lemmas.List.{append-nil, length-append, same_from_push}
+use Rattle.std.proofs.lemmas.List.Elements.{All-from_recursion}
+use Rattle.std.proofs.lemmas.Bool.{or_parts, or_left}
+use Rattle.std.proofs.lemmas.Option.{none-some, same_Some}
+use Rattle.n2k_join.specs.Frames.{Frame}
+use Rattle.n2k_join.specs.Groups.{Ends, closes, complete, repeats, has_twice, cut_from, cut, HasEnded, IsFirstGroup, first}
+use Rattle.n2k_join.specs.Laws.{CutJoins, HasFirstGroup, CutFirst, CutGrows}
+use Rattle.n2k_join.proofs.Carried.{has_twice-push}
+use Rattle.n2k_join.proofs.Cuts.{grown, cut-push, cut-joined, cut-keeps}
+
+-- no group is empty
+abbrev AreGroups : List (List Frame) → Type 0
+AreGroups gs = AllByRecursion (λ (g : List Frame). 0 < length g) gs
+
+cut-nonempty : (fs : List Frame) → AreGroups (cut repeats fs)
+cut-nonempty fs = cut-keeps repeats (λ g. 0 < length g) (λ x. omega arith) (λ g x c h. omega (arith, length-append g (x ∷ []))) fs
+
+pub cut_joins : (fs : List Frame) → CutJoins fs
+cut_joins fs = record {
+  joined = cut-joined repeats fs;
+  nonempty = All-from_recursion (λ (g : List Frame). 0 < length g) (cut repeats fs) (cut-nonempty fs);
+  once = All-from_recursion (λ (g : List Frame). has_twice g ≡ false) (cut repeats fs) (cut-keeps repeats (λ g. has_twice g ≡ false) (λ x. refl) more fs);
+}
+  where
+    more : (g : List Frame) (x : Frame) → closes repeats g x ≡ false → has_twice g ≡ false → has_twice (g ++ x ∷ []) ≡ false
+    more g x c h = has_twice-push g x h ∙ (or_parts (complete g) (repeats g x) c).1
+
+-- ---- the first group
+
+is_last : (ends : Ends) (f : Frame) (front rest : List Frame) → HasEnded ends (f ∷ front) rest → cut_from ends (f ∷ front) rest ≡ (f ∷ front) ∷ cut ends rest
+unfolding cut
+is_last ends f front [] ended = refl
+is_last ends f front (x ∷ rest) ended = ap (λ b. cond b ((f ∷ front) ∷ cut_from ends (x ∷ []) rest) (cut_from ends ((f ∷ front) ++ x ∷ []) rest)) ended
+
+-- no shorter front of a group has ended
+abbrev NoneEnds : Ends → List Frame → Type 0
+NoneEnds ends group = (f g : Frame) (front back : List Frame) → group ≡ (f ∷ front) ++ (g ∷ back) → closes ends (f ∷ front) g ≡ false
+
+goes_on : (ends : Ends) (f : Frame) (front more rest group : List Frame) → group ≡ (f ∷ front) ++ more → NoneEnds ends group → HasEnded ends group rest → cut_from ends (f ∷ front) (more ++ rest) ≡ group ∷ cut ends rest
+goes_on ends f front [] rest group e none ended =
+    let is : group ≡ f ∷ front = e ∙ append-nil (f ∷ front) in
+    is_last ends f front rest (subst (λ g. HasEnded ends g rest) is ended) ∙ ap (λ g. g ∷ cut ends rest) (sym is)
+goes_on ends f front (x ∷ more) rest group e none ended =
+    ap (λ b. cond b ((f ∷ front) ∷ cut_from ends (x ∷ []) (more ++ rest)) (cut_from ends ((f ∷ front) ++ x ∷ []) (more ++ rest))) (none f x front more e)
+    ∙ goes_on ends f (front ++ x ∷ []) more rest group (e ∙ sym (append_assoc (f ∷ front) (x ∷ []) more)) none ended
+
+first_follows : (ends : Ends) (fs group rest : List Frame) → IsFirstGroup ends fs group rest → cut ends fs ≡ group ∷ cut ends rest
+unfolding cut
+first_follows ends fs group rest is = ap (cut ends) is.joined ∙ by group refl is.nonempty
+  where
+    by : (g : List Frame) → group ≡ g → 0 < length g → cut ends (group ++ rest) ≡ group ∷ cut ends rest
+    by [] e some = absurd (omega (arith, some))
+    by (f ∷ more) e some = ap (λ g. cut ends (g ++ rest)) e ∙ goes_on ends f [] more rest group e is.shortest is.ended
+
+-- a list is empty, or it has a last item
+record HasLast (xs : List Frame) : Type 0 where
+  before : List Frame
+  last : Frame
+  is : xs ≡ before ++ last ∷ []
+
+last_or_none : (xs : List Frame) → (xs ≡ []) ⊎ HasLast xs
+last_or_none [] = inl refl
+last_or_none (x ∷ xs) = by (last_or_none xs)
+  where
+    by : (xs ≡ []) ⊎ HasLast xs → (x ∷ xs ≡ []) ⊎ HasLast (x ∷ xs)
+    by (inl e) = inr (record { before = []; last = x; is = ap (λ t. x ∷ t) e })
+    by (inr h) = inr (record { before = x ∷ h.before; last = h.last; is = ap (λ t. x ∷ t) h.is })
+
+none_more : (ends : Ends) (f : Frame) (front : List Frame) (x : Frame) → NoneEnds ends (f ∷ front) → closes ends (f ∷ front) x ≡ false → NoneEnds ends ((f ∷ front) ++ x ∷ [])
+none_more ends f front x none open_still h g before back e = by (last_or_none back)
+  where
+    by : (back ≡ []) ⊎ HasLast back → closes ends (h ∷ before) g ≡ false
+    by (inl is) =
+        let same = same_from_push (f ∷ front) (h ∷ before) x g (e ∙ ap (λ t. (h ∷ before) ++ (g ∷ t)) is) in
+        ap (λ xs. closes ends xs g) (sym same.0) ∙ ap (closes ends (f ∷ front)) (sym same.1) ∙ open_still
+    by (inr l) =
+        let same = same_from_push (f ∷ front) ((h ∷ before) ++ (g ∷ l.before)) x l.last (e ∙ ap (λ t. (h ∷ before) ++ (g ∷ t)) l.is ∙ sym (append_assoc (h ∷ before) (g ∷ l.before) (l.last ∷ []))) in
+        none h g before l.before same.0
+
+none_alone : (ends : Ends) (f : Frame) → NoneEnds ends (f ∷ [])
+none_alone ends f h g before back e = absurd (omega (arith, ap length e, length-append (h ∷ before) (g ∷ back)))
+
+first_from : (f : Frame) (front rest : List Frame) → NoneEnds repeats (f ∷ front) → HasFirstGroup ((f ∷ front) ++ rest)
+first_from f front [] none = record { group = f ∷ front; rest = []; is = record { joined = refl; nonempty = omega arith; ended = tt; shortest = none } }
+first_from f front (x ∷ rest) none = by (closes repeats (f ∷ front) x) refl (first_from f (front ++ x ∷ []) rest)
+  where
+    by : (b : Bool) → closes repeats (f ∷ front) x ≡ b → (NoneEnds repeats ((f ∷ front) ++ x ∷ []) → HasFirstGroup (((f ∷ front) ++ x ∷ []) ++ rest)) → HasFirstGroup ((f ∷ front) ++ (x ∷ rest))
+    by true e later = record { group = f ∷ front; rest = x ∷ rest; is = record { joined = refl; nonempty = omega arith; ended = e; shortest = none } }
+    by false e later = subst HasFirstGroup (append_assoc (f ∷ front) (x ∷ []) rest) (later (none_more repeats f front x none e))
+
+pub cut_first : (fs : List Frame) → CutFirst fs
+unfolding cut
+cut_first fs = record { none = refl; begins = begins fs; follows = first_follows repeats fs }
+  where
+    begins : (fs : List Frame) → 0 < length fs → HasFirstGroup fs
+    begins [] some = absurd (omega (arith, some))
+    begins (f ∷ fs) some = first_from f [] fs (none_alone repeats f)
+
+-- ---- with a frame more
+
+grown-stays : (gs : List (List Frame)) (x : Frame) (i : ℕ) (g : List Frame) → slice_get gs i ≡ Some g → (complete g ≡ true) ⊎ (i + 1 < length gs) → slice_get (grown repeats gs x) i ≡ Some g
+grown-stays [] x i g e settled = absurd (none-some g e)
+grown-stays (h ∷ []) x zero g e settled = by settled
+  where
+    by : (complete g ≡ true) ⊎ (0 + 1 < 1) → slice_get (cond (closes repeats h x) (h ∷ (x ∷ []) ∷ []) ((h ++ x ∷ []) ∷ [])) 0 ≡ Some g
+    by (inl done) = ap (λ b. slice_get (cond b (h ∷ (x ∷ []) ∷ []) ((h ++ x ∷ []) ∷ [])) 0) (or_left (complete h) (repeats h x) (ap complete (same_Some h g e) ∙ done)) ∙ e
+    by (inr past) = absurd (omega (arith, past))
+grown-stays (h ∷ []) x (suc i) g e settled = absurd (none-some g e)
+grown-stays (h ∷ k ∷ gs) x zero g e settled = e
+grown-stays (h ∷ k ∷ gs) x (suc i) g e settled = grown-stays (k ∷ gs) x i g e (by settled)
+  where
+    by : (complete g ≡ true) ⊎ (suc i + 1 < length (h ∷ k ∷ gs)) → (complete g ≡ true) ⊎ (i + 1 < length (k ∷ gs))
+    by (inl done) = inl done
+    by (inr l) = inr (omega (arith, l))
+
+grown-length : (gs : List (List Frame)) (x : Frame) → length gs ≤ length (grown repeats gs x)
+grown-length [] x = omega arith
+grown-length (g ∷ []) x = by (closes repeats g x)
+  where
+    by : (b : Bool) → 1 ≤ length (cond b (g ∷ (x ∷ []) ∷ []) ((g ++ x ∷ []) ∷ []))
+    by true = omega arith
+    by false = omega arith
+grown-length (g ∷ h ∷ gs) x = omega (arith, grown-length (h ∷ gs) x)
+
+grown-begins : (gs : List (List Frame)) (x : Frame) (i : ℕ) (g : List Frame) → AreGroups gs → slice_get gs i ≡ Some g → option_map first (slice_get (grown repeats gs x) i) ≡ Some (first g)
+grown-begins [] x i g some e = absurd (none-some g e)
+grown-begins ([] ∷ gs) x i g some e = absurd (omega (arith, some.0))
+grown-begins ((f ∷ h) ∷ []) x zero g some e = by (closes repeats (f ∷ h) x)
+  where
+    by : (b : Bool) → option_map first (slice_get (cond b ((f ∷ h) ∷ (x ∷ []) ∷ []) (((f ∷ h) ++ x ∷ []) ∷ [])) 0) ≡ Some (first g)
+    by true = ap (option_map first) e
+    by false = ap (option_map first) e
+grown-begins ((f ∷ h) ∷ []) x (suc i) g some e = absurd (none-some g e)
+grown-begins ((f ∷ h) ∷ k ∷ gs) x zero g some e = ap (option_map first) e
+grown-begins ((f ∷ h) ∷ k ∷ gs) x (suc i) g some e = grown-begins (k ∷ gs) x i g some.1 e
+
+pub cut_grows : (fs : List Frame) (x : Frame) → CutGrows fs x
+cut_grows fs x = record {
+  stays = λ place group at settled. ap (λ gs. slice_get gs place) (cut-push repeats fs x) ∙ grown-stays (cut repeats fs) x place group at settled;
+  begins = λ place group at. ap (λ gs. option_map first (slice_get gs place)) (cut-push repeats fs x) ∙ grown-begins (cut repeats fs) x place group (cut-nonempty fs) at;
+  no_fewer = omega (arith, grown-length (cut repeats fs) x, ap length (cut-push repeats fs x));
+}

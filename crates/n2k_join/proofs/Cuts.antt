@@ -1,0 +1,144 @@
+-- The groups of a list of frames, and those of a list with one frame more.
+use Rattle.std.proofs.Common.{◌≡◌, ℕ, Bool, true, false, cond, List, [], ◌∷◌, ◌++◌, refl, sym, ap, ◌∙◌, append_assoc, Option, Some, None}
+use Rattle.std.specs.Prelude.{fold, is_some, IfSome}
+use Rattle.std.specs.List.{last_or, flat_map, AllByRecursion}
+use Rattle.std.proofs.lemmas.List.Sums.{fold_push}
+use Rattle.n2k_join.specs.Frames.{Frame}
+use Rattle.n2k_join.specs.Groups.{Ends, closes, repeats, cut_from, cut, carried, has_number, first}
+
+pub all-push : {A : Type 0} (P : A → Type 0) (xs : List A) (x : A) → AllByRecursion P xs → P x → AllByRecursion P (xs ++ x ∷ [])
+all-push P [] x h px = (px, tt)
+all-push P (y ∷ ys) x h px = (h.0, all-push P ys x h.1 px)
+
+-- A test that ends groups: a number that comes again ends, and what else does depends on what a group carries and where
+-- it began alone, and not on frames of the line where it began.
+pub record IsEnding (ends : Ends) : Type 0 where
+  pub repeated : (g : List Frame) (x : Frame) → has_number x.number g ≡ true → ends g x ≡ true
+  pub alike : (g h : List Frame) (x : Frame) → carried g ≡ carried h → first g ≡ first h → ends g x ≡ ends h x
+  pub own_line : (g : List Frame) (x : Frame) → first g ≡ x.line → has_number x.number g ≡ false → ends g x ≡ false
+
+pub repeats-ends : IsEnding repeats
+repeats-ends = record {
+  repeated = λ g x e. e;
+  alike = λ g h x e f. ap (λ (c : ℕ → Option (List ℕ)). is_some (c x.number)) e;
+  own_line = λ g x e h. h;
+}
+
+-- the group that a frame joins or begins, where this is the group so far
+abbrev pub next : Ends → Option (List Frame) → Frame → List Frame
+next ends None x = x ∷ []
+next ends (Some g) x = cond (closes ends g x) (x ∷ []) (g ++ x ∷ [])
+
+abbrev pub taken_in : Ends → Option (List Frame) → Frame → Option (List Frame)
+taken_in ends g x = Some (next ends g x)
+
+-- the last group of the frames of a key
+unfoldable pub so_far : Ends → List Frame → Option (List Frame)
+so_far ends fs = fold (taken_in ends) None fs
+
+-- the groups with one frame more
+abbrev pub grown : Ends → List (List Frame) → Frame → List (List Frame)
+grown ends [] x = (x ∷ []) ∷ []
+grown ends (g ∷ []) x = cond (closes ends g x) (g ∷ (x ∷ []) ∷ []) ((g ++ x ∷ []) ∷ [])
+grown ends (g ∷ h ∷ gs) x = g ∷ grown ends (h ∷ gs) x
+
+module _ (ends : Ends) where
+  grown-cons : (g h fs : List Frame) (x : Frame) → grown ends (g ∷ cut_from ends h fs) x ≡ g ∷ grown ends (cut_from ends h fs) x
+  grown-cons g h [] x = refl
+  grown-cons g h (f ∷ fs) x =
+      elim (closes ends h f) as (λ b. grown ends (g ∷ cond b (h ∷ cut_from ends (f ∷ []) fs) (cut_from ends (h ++ f ∷ []) fs)) x ≡ g ∷ grown ends (cond b (h ∷ cut_from ends (f ∷ []) fs) (cut_from ends (h ++ f ∷ []) fs)) x)
+      [ true ↦ refl | false ↦ grown-cons g (h ++ f ∷ []) fs x ]
+
+  cut_from-push : (g fs : List Frame) (x : Frame) → cut_from ends g (fs ++ x ∷ []) ≡ grown ends (cut_from ends g fs) x
+  cut_from-push g [] x = refl
+  cut_from-push g (f ∷ fs) x =
+      elim (closes ends g f) as (λ b. cond b (g ∷ cut_from ends (f ∷ []) (fs ++ x ∷ [])) (cut_from ends (g ++ f ∷ []) (fs ++ x ∷ [])) ≡ grown ends (cond b (g ∷ cut_from ends (f ∷ []) fs) (cut_from ends (g ++ f ∷ []) fs)) x)
+      [ true ↦ ap (λ gs. g ∷ gs) (cut_from-push (f ∷ []) fs x) ∙ sym (grown-cons g (f ∷ []) fs x) | false ↦ cut_from-push (g ++ f ∷ []) fs x ]
+
+  -- one frame more joins the last group, or begins one
+  pub cut-push : (fs : List Frame) (x : Frame) → cut ends (fs ++ x ∷ []) ≡ grown ends (cut ends fs) x
+  unfolding cut
+  cut-push [] x = refl
+  cut-push (f ∷ fs) x = cut_from-push (f ∷ []) fs x
+
+  last-cut_from : (o : Option (List Frame)) (g fs : List Frame) → last_or o (cut_from ends g fs) ≡ fold (taken_in ends) (Some g) fs
+  last-cut_from o g [] = refl
+  last-cut_from o g (f ∷ fs) =
+      elim (closes ends g f) as (λ b. last_or o (cond b (g ∷ cut_from ends (f ∷ []) fs) (cut_from ends (g ++ f ∷ []) fs)) ≡ fold (taken_in ends) (Some (cond b (f ∷ []) (g ++ f ∷ []))) fs)
+      [ true ↦ last-cut_from (Some g) (f ∷ []) fs | false ↦ last-cut_from o (g ++ f ∷ []) fs ]
+
+  -- the last group, as the frames come
+  pub last-cut : (fs : List Frame) → last_or None (cut ends fs) ≡ so_far ends fs
+  unfolding cut so_far
+  last-cut [] = refl
+  last-cut (f ∷ fs) = last-cut_from None (f ∷ []) fs
+
+  pub so_far-push : (fs : List Frame) (x : Frame) → so_far ends (fs ++ x ∷ []) ≡ Some (next ends (so_far ends fs) x)
+  unfolding so_far
+  so_far-push fs x = fold_push (taken_in ends) None fs x
+
+  next-all : (P : Frame → Type 0) (o : Option (List Frame)) (x : Frame) → P x → IfSome o (AllByRecursion P) → AllByRecursion P (next ends o x)
+  next-all P None x px h = (px, tt)
+  next-all P (Some g) x px h =
+      elim (closes ends g x) as (λ b. AllByRecursion P (cond b (x ∷ []) (g ++ x ∷ []))) [ true ↦ (px, tt) | false ↦ all-push P g x h px ]
+
+  -- what holds of each frame holds of those of the last group
+  so_far-all_from : (P : Frame → Type 0) (o : Option (List Frame)) (fs : List Frame) → IfSome o (AllByRecursion P) → AllByRecursion P fs → IfSome (fold (taken_in ends) o fs) (AllByRecursion P)
+  so_far-all_from P o [] h all = h
+  so_far-all_from P o (f ∷ fs) h all = so_far-all_from P (Some (next ends o f)) fs (next-all P o f all.0 h) all.1
+
+  pub so_far-all : (P : Frame → Type 0) (fs : List Frame) → AllByRecursion P fs → IfSome (so_far ends fs) (AllByRecursion P)
+  unfolding so_far
+  so_far-all P fs all = so_far-all_from P None fs tt all
+
+  -- what holds of a frame alone and stays where one joins holds of the last group
+  so_far-keeps_from : (Q : List Frame → Type 0) → ((x : Frame) → Q (x ∷ [])) → ((g : List Frame) (x : Frame) → closes ends g x ≡ false → Q g → Q (g ++ x ∷ [])) → (o : Option (List Frame)) (fs : List Frame) → IfSome o Q → IfSome (fold (taken_in ends) o fs) Q
+  so_far-keeps_from Q one more o [] h = h
+  so_far-keeps_from Q one more None (f ∷ fs) h = so_far-keeps_from Q one more (Some (f ∷ [])) fs (one f)
+  so_far-keeps_from Q one more (Some g) (f ∷ fs) h = so_far-keeps_from Q one more (Some (next ends (Some g) f)) fs (kept (closes ends g f) refl)
+    where
+      kept : (b : Bool) → closes ends g f ≡ b → Q (cond b (f ∷ []) (g ++ f ∷ []))
+      kept true e = one f
+      kept false e = more g f e h
+
+  pub so_far-keeps : (Q : List Frame → Type 0) → ((x : Frame) → Q (x ∷ [])) → ((g : List Frame) (x : Frame) → closes ends g x ≡ false → Q g → Q (g ++ x ∷ [])) → (fs : List Frame) → IfSome (so_far ends fs) Q
+  unfolding so_far
+  so_far-keeps Q one more fs = so_far-keeps_from Q one more None fs tt
+
+  -- the same of each group
+  cut_from-keeps : (Q : List Frame → Type 0) → ((x : Frame) → Q (x ∷ [])) → ((g : List Frame) (x : Frame) → closes ends g x ≡ false → Q g → Q (g ++ x ∷ [])) → (g fs : List Frame) → Q g → AllByRecursion Q (cut_from ends g fs)
+  cut_from-keeps Q one more g [] h = (h, tt)
+  cut_from-keeps Q one more g (f ∷ fs) h = kept (closes ends g f) refl (cut_from-keeps Q one more (f ∷ []) fs (one f)) (cut_from-keeps Q one more (g ++ f ∷ []) fs)
+    where
+      kept : (b : Bool) → closes ends g f ≡ b → AllByRecursion Q (cut_from ends (f ∷ []) fs) → (Q (g ++ f ∷ []) → AllByRecursion Q (cut_from ends (g ++ f ∷ []) fs)) → AllByRecursion Q (cond b (g ∷ cut_from ends (f ∷ []) fs) (cut_from ends (g ++ f ∷ []) fs))
+      kept true e ended joined = (h, ended)
+      kept false e ended joined = joined (more g f e h)
+
+  pub cut-keeps : (Q : List Frame → Type 0) → ((x : Frame) → Q (x ∷ [])) → ((g : List Frame) (x : Frame) → closes ends g x ≡ false → Q g → Q (g ++ x ∷ [])) → (fs : List Frame) → AllByRecursion Q (cut ends fs)
+  unfolding cut
+  cut-keeps Q one more [] = tt
+  cut-keeps Q one more (f ∷ fs) = cut_from-keeps Q one more (f ∷ []) fs (one f)
+
+  -- what holds of each frame holds of those of each group
+  cut_from-all : (P : Frame → Type 0) (g fs : List Frame) → AllByRecursion P g → AllByRecursion P fs → AllByRecursion (AllByRecursion P) (cut_from ends g fs)
+  cut_from-all P g [] h all = (h, tt)
+  cut_from-all P g (f ∷ fs) h all =
+      elim (closes ends g f) as (λ b. AllByRecursion (AllByRecursion P) (cond b (g ∷ cut_from ends (f ∷ []) fs) (cut_from ends (g ++ f ∷ []) fs)))
+      [ true ↦ (h, cut_from-all P (f ∷ []) fs (all.0, tt) all.1) | false ↦ cut_from-all P (g ++ f ∷ []) fs (all-push P g f h all.0) all.1 ]
+
+  pub cut-all : (P : Frame → Type 0) (fs : List Frame) → AllByRecursion P fs → AllByRecursion (AllByRecursion P) (cut ends fs)
+  unfolding cut
+  cut-all P [] all = tt
+  cut-all P (f ∷ fs) all = cut_from-all P (f ∷ []) fs (all.0, tt) all.1
+
+  -- the groups joined are the frames
+  cut_from-joined : (g fs : List Frame) → flat_map (λ (h : List Frame). h) (cut_from ends g fs) ≡ g ++ fs
+  cut_from-joined g [] = refl
+  cut_from-joined g (f ∷ fs) =
+      elim (closes ends g f) as (λ b. flat_map (λ (h : List Frame). h) (cond b (g ∷ cut_from ends (f ∷ []) fs) (cut_from ends (g ++ f ∷ []) fs)) ≡ g ++ (f ∷ fs))
+      [ true ↦ ap (λ t. g ++ t) (cut_from-joined (f ∷ []) fs) | false ↦ cut_from-joined (g ++ f ∷ []) fs ∙ append_assoc g (f ∷ []) fs ]
+
+  pub cut-joined : (fs : List Frame) → flat_map (λ (h : List Frame). h) (cut ends fs) ≡ fs
+  unfolding cut
+  cut-joined [] = refl
+  cut-joined (f ∷ fs) = cut_from-joined (f ∷ []) fs

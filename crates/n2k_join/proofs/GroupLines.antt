@@ -1,0 +1,73 @@
+-- Groups whose frames' lines rise: each is the one that is done at its last line, and the one that begins at its first.
+use Rattle.std.proofs.Common.{◌≡◌, ℕ, ◌+◌, ◌<◌, ◌≤◌, true, false, List, [], ◌∷◌, ◌++◌, length, refl, subst, sym, arith, Some}
+use Rattle.std.specs.Prelude.{find}
+use Rattle.std.specs.List.{AllByRecursion}
+use Rattle.std.proofs.lemmas.Bool.{eq-eqb, ne_eqb, and_right}
+use Rattle.n2k_join.specs.Frames.{Frame}
+use Rattle.n2k_join.specs.Groups.{complete, first, last_line}
+use Rattle.n2k_join.specs.Messages.{is_done_at}
+use Rattle.n2k_join.specs.Scattered.{joined}
+use Rattle.n2k_join.proofs.Lines.{RiseFrom, all_with, rise-all}
+
+-- a group has a frame
+abbrev pub IsGroup : List Frame → Type 0
+IsGroup g = 0 < length g
+
+-- what follows a group, lies behind its last line
+pub rise-after : (n : ℕ) (g rest : List Frame) → IsGroup g → RiseFrom n (g ++ rest) → RiseFrom (last_line g + 1) rest
+rise-after n [] rest some rise = absurd (omega (arith, some))
+rise-after n (f ∷ []) rest some rise = rise.1
+rise-after n (f ∷ g ∷ fs) rest some rise = rise-after (f.line + 1) (g ∷ fs) rest (omega arith) rise.1
+
+-- what holds of all its frames, holds of its last
+pub record LastFrame (P : Frame → Type 0) (g : List Frame) : Type 0 where
+  pub frame : Frame
+  pub at : last_line g ≡ frame.line
+  pub holds : P frame
+
+pub last_frame : (P : Frame → Type 0) (g : List Frame) → IsGroup g → AllByRecursion P g → LastFrame P g
+last_frame P [] some each = absurd (omega (arith, some))
+last_frame P (f ∷ []) some each = record { frame = f; at = refl; holds = each.0 }
+last_frame P (f ∷ g ∷ fs) some each =
+    let rest = last_frame P (g ∷ fs) (omega arith) each.1 in
+    record { frame = rest.frame; at = rest.at; holds = rest.holds }
+
+pub all-front : {X : Type 0} (P : X → Type 0) (xs ys : List X) → AllByRecursion P (xs ++ ys) → AllByRecursion P xs
+all-front P [] ys each = tt
+all-front P (x ∷ xs) ys each = (each.0, all-front P xs ys each.1)
+
+pub all-back : {X : Type 0} (P : X → Type 0) (xs ys : List X) → AllByRecursion P (xs ++ ys) → AllByRecursion P ys
+all-back P [] ys each = each
+all-back P (x ∷ xs) ys each = all-back P xs ys each.1
+
+-- what holds of all frames, holds of each group's
+pub all-joined : (P : Frame → Type 0) (gs : List (List Frame)) → AllByRecursion P (joined gs) → AllByRecursion (λ g. AllByRecursion P g) gs
+all-joined P [] each = tt
+all-joined P (g ∷ gs) each = (all-front P g (joined gs) each, all-joined P gs (all-back P g (joined gs) each))
+
+last_above : (n : ℕ) (g : List Frame) → IsGroup g → AllByRecursion (λ (f : Frame). n ≤ f.line) g → n ≤ last_line g
+last_above n g some each = let last = last_frame (λ (f : Frame). n ≤ f.line) g some each in subst (λ l. n ≤ l) (sym last.at) last.holds
+
+pub first_above : (n : ℕ) (g : List Frame) → IsGroup g → AllByRecursion (λ (f : Frame). n ≤ f.line) g → n ≤ first g
+first_above n [] some each = absurd (omega (arith, some))
+first_above n (f ∷ g) some each = each.0
+
+pub lasts_above : (n : ℕ) (gs : List (List Frame)) → AllByRecursion IsGroup gs → RiseFrom n (joined gs) → AllByRecursion (λ g. n ≤ last_line g) gs
+lasts_above n gs some rise = all_with IsGroup (λ g. AllByRecursion (λ (f : Frame). n ≤ f.line) g) (λ g. n ≤ last_line g) (λ g here each. last_above n g here each) gs some (all-joined _ gs (rise-all n (joined gs) rise))
+
+pub firsts_above : (n : ℕ) (gs : List (List Frame)) → AllByRecursion IsGroup gs → RiseFrom n (joined gs) → AllByRecursion (λ g. n ≤ first g) gs
+firsts_above n gs some rise = all_with IsGroup (λ g. AllByRecursion (λ (f : Frame). n ≤ f.line) g) (λ g. n ≤ first g) (λ g here each. first_above n g here each) gs some (all-joined _ gs (rise-all n (joined gs) rise))
+
+-- a complete group is the one that is done at its last line
+abbrev pub IsDone : List (List Frame) → List Frame → Type 0
+IsDone gs g = complete g ≡ true → find (is_done_at (last_line g)) gs ≡ Some g
+
+pub done_found : (n : ℕ) (gs : List (List Frame)) → AllByRecursion IsGroup gs → RiseFrom n (joined gs) → AllByRecursion (IsDone gs) gs
+done_found n [] some rise = tt
+done_found n (g ∷ gs) some rise =
+    let after : RiseFrom (last_line g + 1) (joined gs) = rise-after n g (joined gs) some.0 rise in (
+      (λ whole. rw (whole, eq-eqb (last_line g) (last_line g) refl) refl),
+      all_with (λ h. last_line g + 1 ≤ last_line h) (IsDone gs) (IsDone (g ∷ gs))
+          (λ h above found whole. rw (ne_eqb (last_line g) (last_line h) (λ same. omega arith), and_right (complete g) false refl) (found whole))
+          gs (lasts_above (last_line g + 1) gs some.1 after) (done_found (last_line g + 1) gs some.1 after),
+    )

@@ -1,0 +1,196 @@
+-- The frames that are held of an open group: they carry what its frames carried, and they are one group.
+use Rattle.std.proofs.Common.{◌≡◌, ◌==◌, ◌≤◌, ◌<◌, ◌+◌, ℕ, Bool, true, false, cond, List, [], ◌∷◌, ◌++◌, length, map, reverse, refl, sym, ap, ◌∙◌, subst, arith, Option, Some, None, option_map}
+use mathlib.Core.Path.{fun_ext}
+use mathlib.Core.List.{reverse-cons}
+use mathlib.Core.Logic.{◌⊎◌, inl, inr}
+use Rattle.std.specs.Prelude.{is_some}
+use Rattle.std.specs.Option.{option_or}
+use Rattle.std.specs.List.{AllByRecursion}
+use Rattle.std.proofs.lemmas.List.{map-append, length-map, length-reverse}
+use Rattle.std.proofs.lemmas.Bool.{eqb-true, eq-eqb, ne_eqb, or_from, cases_lt, false≢true}
+use Rattle.n2k_join.specs.Frames.{Key, Frame, most_frames}
+use Rattle.n2k_join.specs.Groups.{Ends, complete, carried, has_number, has_twice, first}
+use Rattle.n2k_join.specs.Open.{Piece, Group, piece_at, pieces_of, group_of}
+use Rattle.n2k_join.specs.State.{held_frame, held_of, Rise, IsOpen}
+use Rattle.n2k_join.proofs.Cuts.{next, so_far, so_far-push, IsEnding}
+use Rattle.n2k_join.proofs.Carried.{carried-append, option_or_none, has_twice-push, complete-without_zero}
+use Rattle.n2k_join.proofs.Rising.{look, look-below, look-range, look-filter_map, rise-range, all-range, filter_map-range, find-none, find-passes, all-map}
+
+abbrev number_of : Piece → ℕ
+number_of p = p.number
+
+-- the piece of a number among pieces
+abbrev pub piece_in : List Piece → ℕ → Option Piece
+piece_in ps n = look (λ (p : Piece). p.number) ps n
+
+abbrev pub bytes_in : List Piece → ℕ → Option (List ℕ)
+bytes_in ps n = option_map (λ (p : Piece). p.bytes) (piece_in ps n)
+
+-- pieces as frames of a group
+abbrev pub held_frames : Group → List Piece → List Frame
+held_frames o ps = map (held_frame o) (reverse ps)
+
+held-cons : (o : Group) (p : Piece) (ps : List Piece) → held_frames o (p ∷ ps) ≡ held_frames o ps ++ held_frame o p ∷ []
+held-cons o p ps = ap (map (held_frame o)) (reverse-cons p ps) ∙ map-append (held_frame o) (reverse ps) (p ∷ [])
+
+-- they carry the pieces' bytes
+pub carried-held : (o : Group) (least : ℕ) (ps : List Piece) (n : ℕ) → Rise number_of least ps → carried (held_frames o ps) n ≡ bytes_in ps n
+carried-held o least [] n r = refl
+carried-held o least (p ∷ ps) n r =
+    ap (λ fs. carried fs n) (held-cons o p ps) ∙ carried-append (held_frames o ps) (held_frame o p ∷ []) n
+    ∙ ap (λ c. option_or c (cond (p.number == n) (Some p.bytes) None)) (carried-held o (p.number + 1) ps n r.1)
+    ∙ by (p.number == n) refl
+  where
+    by : (b : Bool) → (p.number == n) ≡ b → option_or (bytes_in ps n) (cond b (Some p.bytes) None) ≡ option_map (λ (q : Piece). q.bytes) (cond b (Some p) (piece_in ps n))
+    by true e =
+        let is = eqb-true p.number n e in
+        ap (λ q. option_or (option_map (λ (q : Piece). q.bytes) q) (Some p.bytes)) (look-below number_of (p.number + 1) n ps r.1 (omega (arith, is)))
+    by false e = option_or_none (bytes_in ps n)
+
+-- each number once
+pub has_twice-held : (o : Group) (least : ℕ) (ps : List Piece) → Rise number_of least ps → has_twice (held_frames o ps) ≡ false
+has_twice-held o least [] r = refl
+has_twice-held o least (p ∷ ps) r =
+    ap has_twice (held-cons o p ps)
+    ∙ has_twice-push (held_frames o ps) (held_frame o p) (has_twice-held o (p.number + 1) ps r.1)
+    ∙ ap is_some (carried-held o (p.number + 1) ps p.number r.1)
+    ∙ ap (λ q. is_some (option_map (λ (q : Piece). q.bytes) q)) (look-below number_of (p.number + 1) p.number ps r.1 (omega arith))
+
+pub all-held : (P : Frame → Type 0) (Q : Piece → Type 0) (o : Group) → ((p : Piece) → Q p → P (held_frame o p)) → (ps : List Piece) → AllByRecursion Q ps → AllByRecursion P (map (held_frame o) ps)
+all-held P Q o each [] all = tt
+all-held P Q o each (p ∷ ps) all = (each p all.0, all-held P Q o each ps all.1)
+
+pub all-reverse : {X : Type 0} (P : X → Type 0) (xs : List X) → AllByRecursion P xs → AllByRecursion P (reverse xs)
+all-reverse P [] all = tt
+all-reverse P (x ∷ xs) all = subst (AllByRecursion P) (sym (reverse-cons x xs)) (push (reverse xs) (all-reverse P xs all.1))
+  where
+    push : (ys : List _) → AllByRecursion P ys → AllByRecursion P (ys ++ x ∷ [])
+    push [] a = (all.0, tt)
+    push (y ∷ ys) a = (a.0, push ys a.1)
+
+-- any fact of all things holds of those of a list
+pub all-any : {X : Type 0} (P : X → Type 0) → ((x : X) → P x) → (xs : List X) → AllByRecursion P xs
+all-any P each [] = tt
+all-any P each (x ∷ xs) = (each x, all-any P each xs)
+
+pub first-all : (l : ℕ) (g : List Frame) → AllByRecursion (λ (f : Frame). f.line ≡ l) g → 0 < length g → first g ≡ l
+first-all l [] all some = absurd (omega (arith, some))
+first-all l (f ∷ g) all some = all.0
+
+pub length-held : (o : Group) (ps : List Piece) → length (held_frames o ps) ≡ length ps
+length-held o ps = length-map (reverse ps) (held_frame o) ∙ length-reverse ps
+
+pub first-held : (o : Group) (ps : List Piece) → 0 < length ps → first (held_frames o ps) ≡ o.first
+first-held o ps some = first-all o.first (held_frames o ps) (all-held (λ (f : Frame). f.line ≡ o.first) (λ _. Unit {0}) o (λ p _. refl) (reverse ps) (all-any (λ _. Unit {0}) (λ _. tt) (reverse ps))) (omega (arith, some, length-held o ps))
+
+-- ---- what is kept of a group
+
+-- frames whose numbers are those of five bits
+abbrev pub AreNumbered : List Frame → Type 0
+AreNumbered g = AllByRecursion (λ (f : Frame). f.number < most_frames) g
+
+carried-past : (g : List Frame) (n : ℕ) → AreNumbered g → most_frames ≤ n → carried g n ≡ None
+carried-past [] n all l = refl
+carried-past (f ∷ g) n all l =
+    let other : f.number ≡ n → ⊥ = λ e. omega (arith, all.0, e) in
+    ap (λ b. cond b (Some f.bytes) (carried g n)) (ne_eqb f.number n other) ∙ carried-past g n all.1 l
+
+piece_at-number : (c : ℕ → Option (List ℕ)) (n : ℕ) (p : Piece) → piece_at c n ≡ Some p → p.number ≡ n
+piece_at-number c n p e = by (c n) e
+  where
+    number_or : Option Piece → ℕ
+    number_or None = n
+    number_or (Some p) = p.number
+
+    by : (o : Option (List ℕ)) → option_map (λ (bytes : List ℕ). record { number = n; bytes = bytes }) o ≡ Some p → p.number ≡ n
+    by None e = sym (ap number_or e)
+    by (Some b) e = sym (ap number_or e)
+
+pub pieces_of-rise : (g : List Frame) → Rise number_of 0 (pieces_of g)
+unfolding pieces_of
+pieces_of-rise g = rise-range number_of (piece_at (carried g)) (piece_at-number (carried g)) 0 0 most_frames (omega arith)
+
+pub pieces_of-numbers : (g : List Frame) → AllByRecursion (λ (p : Piece). p.number < most_frames) (pieces_of g)
+unfolding pieces_of
+pieces_of-numbers g = all-range (λ (p : Piece). p.number < most_frames) (piece_at (carried g)) 0 most_frames (λ i p l u e. let at : p.number ≡ i = piece_at-number (carried g) i p e in omega (arith, at))
+
+bytes_in-pieces : (g : List Frame) (n : ℕ) → AreNumbered g → bytes_in (pieces_of g) n ≡ carried g n
+unfolding pieces_of
+bytes_in-pieces g n all = by (cases n)
+  where
+    cases : (n : ℕ) → (n < most_frames) ⊎ (most_frames ≤ n)
+    cases n = cases_lt n most_frames
+
+    by : (n < most_frames) ⊎ (most_frames ≤ n) → bytes_in (pieces_of g) n ≡ carried g n
+    by (inl l) =
+        ap (option_map (λ (p : Piece). p.bytes)) (look-filter_map number_of (piece_at (carried g)) (piece_at-number (carried g)) 0 most_frames n (omega arith) (omega arith))
+        ∙ elim (carried g n) as (λ o. option_map (λ (p : Piece). p.bytes) (option_map (λ (bytes : List ℕ). record { number = n; bytes = bytes }) o) ≡ o) [ None ↦ refl | Some b ↦ refl ]
+    by (inr l) =
+        ap (option_map (λ (p : Piece). p.bytes))
+        (find-none (λ (p : Piece). p.number == n) (pieces_of g) (all-map (λ (p : Piece). p.number < most_frames) (λ (p : Piece). (p.number == n) ≡ false) (pieces_of g) (λ p u. ne_eqb p.number n (λ e. omega (arith, u, e))) (pieces_of-numbers g)))
+        ∙ sym (carried-past g n all l)
+
+-- what is kept of a group carries what the group does
+pub carried-kept : (k : Key) (g : List Frame) → AreNumbered g → carried (held_of (group_of k g)) ≡ carried g
+carried-kept k g all = fun_ext (λ n. carried-held (group_of k g) 0 (pieces_of g) n (pieces_of-rise g) ∙ bytes_in-pieces g n all)
+
+pub has_twice-kept : (k : Key) (g : List Frame) → has_twice (held_of (group_of k g)) ≡ false
+has_twice-kept k g = has_twice-held (group_of k g) 0 (pieces_of g) (pieces_of-rise g)
+
+some_carried : (f : Frame) (g : List Frame) → is_some (carried (f ∷ g) f.number) ≡ true
+some_carried f g = ap (λ b. is_some (cond b (Some f.bytes) (carried g f.number))) (eq-eqb f.number f.number refl)
+
+pub pieces_of-some : (g : List Frame) → AreNumbered g → 0 < length g → 0 < length (pieces_of g)
+pieces_of-some [] all some = absurd (omega (arith, some))
+pieces_of-some (f ∷ g) all some = by (pieces_of (f ∷ g)) (bytes_in-pieces (f ∷ g) f.number all)
+  where
+    by : (ps : List Piece) → bytes_in ps f.number ≡ carried (f ∷ g) f.number → 0 < length ps
+    by [] e = absurd (false≢true (ap is_some e ∙ some_carried f g))
+    by (p ∷ ps) e = omega arith
+
+pub first-kept : (k : Key) (g : List Frame) → AreNumbered g → 0 < length g → first (held_of (group_of k g)) ≡ first g
+first-kept k g all some = first-held (group_of k g) (pieces_of g) (pieces_of-some g all some)
+
+-- ---- the frames that are held of a group are one group, and that is kept again
+
+numbered : (n : ℕ) (p : Piece) → p.number ≡ n → ◌≡◌ {A = Option Piece} (Some (record { number = n; bytes = p.bytes })) (Some p)
+numbered n p e = λ i. Some (record { number = sym e i; bytes = p.bytes })
+
+pub pieces_of-held : (o : Group) → IsOpen o → pieces_of (held_of o) ≡ o.pieces
+unfolding pieces_of
+pieces_of-held o is =
+    filter_map-range (piece_at (carried (held_of o))) (piece_in o.pieces) 0 most_frames (λ n l u. same n)
+    ∙ look-range number_of 0 most_frames o.pieces is.rise is.numbers
+  where
+    by : (n : ℕ) (q : Option Piece) → piece_in o.pieces n ≡ q → option_map (λ (bytes : List ℕ). record { number = n; bytes = bytes }) (option_map (λ (p : Piece). p.bytes) q) ≡ q
+    by n None e = refl
+    by n (Some p) e = numbered n p (eqb-true p.number n (find-passes (λ (p : Piece). p.number == n) o.pieces p e))
+
+    same : (n : ℕ) → piece_at (carried (held_of o)) n ≡ piece_in o.pieces n
+    same n = ap (option_map (λ (bytes : List ℕ). record { number = n; bytes = bytes })) (carried-held o 0 o.pieces n is.rise) ∙ by n (piece_in o.pieces n) refl
+
+pub group_of-held : (o : Group) → IsOpen o → group_of o.key (held_of o) ≡ o
+group_of-held o is = λ i. record { first = first-held o o.pieces is.nonempty i; key = o.key; pieces = pieces_of-held o is i }
+
+module _ (ends : Ends) (is_ending : IsEnding ends) where
+  so_far-pieces : (o : Group) (least : ℕ) (p : Piece) (ps : List Piece) → Rise number_of least (p ∷ ps) → so_far ends (held_frames o (p ∷ ps)) ≡ Some (held_frames o (p ∷ ps))
+  unfolding so_far
+  so_far-pieces o least p [] r = refl
+  so_far-pieces o least p (q ∷ qs) r =
+      let before = held_frames o (q ∷ qs) in
+      let x = held_frame o p in
+      let none_below : (n : ℕ) → n ≤ p.number → has_number n before ≡ false = λ n l. ap is_some (carried-held o (p.number + 1) (q ∷ qs) n r.1) ∙ ap (λ c. is_some (option_map (λ (q : Piece). q.bytes) c)) (look-below number_of (p.number + 1) n (q ∷ qs) r.1 (omega arith)) in
+      let not_complete : complete before ≡ false = complete-without_zero before (none_below 0 (omega arith)) in
+      let not_ended : ends before x ≡ false = is_ending.own_line before x (first-held o (q ∷ qs) (omega arith)) (none_below p.number (omega arith)) in
+      ap (so_far ends) (held-cons o p (q ∷ qs))
+      ∙ so_far-push ends before x
+      ∙ ap (λ g. Some (next ends g x)) (so_far-pieces o (p.number + 1) q qs r.1)
+      ∙ ap (λ b. Some (cond b (x ∷ []) (before ++ x ∷ []))) (or_from _ _ not_complete not_ended)
+      ∙ ap Some (sym (held-cons o p (q ∷ qs)))
+
+  pub so_far-held : (o : Group) → IsOpen o → so_far ends (held_of o) ≡ Some (held_of o)
+  so_far-held o is = by o.pieces is.nonempty is.rise
+    where
+      by : (ps : List Piece) → 0 < length ps → Rise number_of 0 ps → so_far ends (held_frames o ps) ≡ Some (held_frames o ps)
+      by [] some r = absurd (omega (arith, some))
+      by (p ∷ ps) some r = so_far-pieces o 0 p ps r

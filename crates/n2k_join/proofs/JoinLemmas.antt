@@ -1,0 +1,262 @@
+-- The fit groups after a frame, as the code makes them: by the place of the group of its key.
+use Rattle.std.proofs.Common.{◌≡◌, ℕ, zero, suc, ◌+◌, ◌<◌, ◌≤◌, Bool, true, false, not, cond, List, [], ◌∷◌, ◌++◌, length, ltb, get_or, take, drop, set, ◌||◌, Result, Ok, Err, OnErr, Option, Some, None, option_to_list, filter_map, find, reverse, length-append, refl, sym, ap, ◌∙◌, arith}
+use mathlib.Core.Path.{fun_ext}
+use Rattle.std.specs.Prelude.{is_some, position}
+use Rattle.n2k_wire.specs.Packet.{PacketParts}
+use Rattle.n2k_join.specs.declared.piece.FastFrame.{FastFrame}
+use Rattle.std.specs.List.{AllByRecursion, cons_option, list_any, position_or_len}
+use Rattle.std.proofs.lemmas.Bool.{ltb-false, or_from}
+use Rattle.std.proofs.lemmas.List.{append-nil, take-set, drop-set-lt}
+use Rattle.std.proofs.lemmas.List.Quantifiers.{position-Some}
+use Rattle.std.proofs.lemmas.Option.{none-some}
+use Rattle.n2k_join.specs.Messages.{message_of, broken_of}
+use Rattle.n2k_join.specs.Frames.{Key, same_key, Frame, most_frames}
+use Rattle.n2k_join.specs.Groups.{complete, has_number, data_of, first}
+use Rattle.n2k_join.specs.Open.{Piece, Group, pieces_of, group_of}
+use Rattle.n2k_join.specs.State.{held_frame, held_of, IsOpen, AreApart}
+use Rattle.n2k_join.specs.Stored.{key_of, frame_of, stored_frames, stored_group, with_frame, joined, taken, begun, of_the_key, opened, groups_after, message_if, gained, lost}
+use Rattle.n2k_join.proofs.Carried.{carried-append, has_twice-push, complete-same, data_of-same, pieces_of-same}
+use Rattle.n2k_join.proofs.Held.{carried-kept, has_twice-kept, has_twice-held, length-held, all-held, all-reverse, first-held}
+use Rattle.n2k_join.proofs.Keys.{same_key-true}
+use Rattle.n2k_join.proofs.Opened.{IsFine}
+use Rattle.n2k_join.proofs.Rising.{all-append, all-map, find-none}
+
+-- ---- one group
+
+-- a frame's number and what it carries
+abbrev pub piece_in : Frame → Piece
+piece_in x = record { number = x.number; bytes = x.bytes }
+
+-- what an fit group holds
+pub fine-held : (o : Group) → IsOpen o → IsFine (held_of o)
+fine-held o fit = record {
+  numbers = all-held (λ (f : Frame). f.number < most_frames) (λ (p : Piece). p.number < most_frames) o (λ p l. l) (reverse o.pieces) (all-reverse (λ (p : Piece). p.number < most_frames) o.pieces fit.numbers);
+  once = has_twice-held o 0 o.pieces fit.rise;
+  nonempty = omega (arith, fit.nonempty, length-held o o.pieces);
+}
+
+pub fine-push : (g : List Frame) (x : Frame) → IsFine g → has_number x.number g ≡ false → x.number < most_frames → IsFine (g ++ x ∷ [])
+fine-push g x fine missing small = record {
+  numbers = all-append (λ (f : Frame). f.number < most_frames) g (x ∷ []) fine.numbers (small, tt);
+  once = has_twice-push g x fine.once ∙ missing;
+  nonempty = omega (arith, fine.nonempty, length-append {A = Frame});
+}
+
+pub fine-one : (x : Frame) → x.number < most_frames → IsFine (x ∷ [])
+fine-one x small = record { numbers = (small, tt); once = refl; nonempty = omega arith }
+
+-- what is kept of a group is complete where the group is, with the same data
+pub complete-group_of : (k : Key) (g : List Frame) → IsFine g → complete (held_of (group_of k g)) ≡ complete g
+complete-group_of k g fine = complete-same (held_of (group_of k g)) g (carried-kept k g fine.numbers) (has_twice-kept k g ∙ sym fine.once)
+
+pub data_of-group_of : (k : Key) (g : List Frame) → IsFine g → data_of (held_of (group_of k g)) ≡ data_of g
+data_of-group_of k g fine = data_of-same (held_of (group_of k g)) g (carried-kept k g fine.numbers)
+
+first_push : (g : List Frame) (x : Frame) → 0 < length g → first (g ++ x ∷ []) ≡ first g
+first_push [] x some = absurd (omega (arith, some))
+first_push (f ∷ g) x some = refl
+
+pub with_frame-group_of : (o : Group) (x : Frame) → IsOpen o → with_frame o x ≡ group_of o.key (held_of o ++ x ∷ [])
+with_frame-group_of o x fit =
+    let at : first (held_of o ++ x ∷ []) ≡ o.first = first_push (held_of o) x (fine-held o fit).nonempty ∙ first-held o o.pieces fit.nonempty in
+    λ i. record { first = sym at i; key = o.key; pieces = pieces_of (held_of o ++ x ∷ []) }
+
+-- an fit group with a piece more is that with the frame
+pub with_piece : (o : Group) (x : Frame) → record o { pieces = pieces_of (held_of o ++ held_frame o (piece_in x) ∷ []) } ≡ with_frame o x
+with_piece o x =
+    let same = fun_ext (λ n. carried-append (held_of o) (held_frame o (piece_in x) ∷ []) n ∙ sym (carried-append (held_of o) (x ∷ []) n)) in
+    ap (λ ps. record o { pieces = ps }) (pieces_of-same (held_of o ++ held_frame o (piece_in x) ∷ []) (held_of o ++ x ∷ []) same)
+
+module _ (o : Group) (x : Frame) (fit : IsOpen o) (missing : has_number x.number (held_of o) ≡ false) (small : x.number < most_frames) where
+  pub complete-with_frame : complete (held_of (with_frame o x)) ≡ complete (held_of o ++ x ∷ [])
+  complete-with_frame = ap (λ (g : Group). complete (held_of g)) (with_frame-group_of o x fit) ∙ complete-group_of o.key (held_of o ++ x ∷ []) (fine-push (held_of o) x (fine-held o fit) missing small)
+
+  pub data_of-with_frame : data_of (held_of (with_frame o x)) ≡ data_of (held_of o ++ x ∷ [])
+  data_of-with_frame = ap (λ (g : Group). data_of (held_of g)) (with_frame-group_of o x fit) ∙ data_of-group_of o.key (held_of o ++ x ∷ []) (fine-push (held_of o) x (fine-held o fit) missing small)
+
+-- the group that a frame opens, by its piece
+pub begun_by : (line : ℕ) (packet : PacketParts) (frame : FastFrame) → stored_group line (key_of frame.key) (frame.piece ∷ []) ≡ group_of (key_of frame.key) (frame_of line packet frame ∷ [])
+begun_by line packet frame =
+    ap (λ ps. record { first = line; key = key_of frame.key; pieces = ps })
+    (pieces_of-same (stored_frames line (key_of frame.key) (frame.piece ∷ [])) (frame_of line packet frame ∷ []) refl)
+
+-- ---- the group of a key among groups
+
+-- groups of other keys stay as they are
+pub taken-others : (x : Frame) (gs : List Group) → AllByRecursion (λ (g : Group). same_key x.key g.key ≡ false) gs → filter_map (taken x) gs ≡ gs
+taken-others x [] all = refl
+taken-others x (g ∷ gs) all =
+    ap (λ b. cons_option (cond b (joined x g) (Some g)) (filter_map (taken x) gs)) all.0 ∙ ap (λ hs. g ∷ hs) (taken-others x gs all.1)
+
+none-found : (key : Key) (gs : List Group) → AllByRecursion (λ (g : Group). same_key key g.key ≡ false) gs → of_the_key key gs ≡ None
+none-found key gs all = find-none (λ (g : Group). same_key key g.key) gs all
+
+-- where no place is found, no group passes
+none-pass : (P : Group → Bool) (gs : List Group) → length gs ≤ position_or_len P gs → AllByRecursion (λ (g : Group). P g ≡ false) gs
+none-pass P [] past = tt
+none-pass P (g ∷ gs) past = by (P g) refl past (λ l. none-pass P gs l)
+  where
+    by : (b : Bool) → P g ≡ b → suc (length gs) ≤ cond (not b) (1 + position_or_len P gs) 0 → (length gs ≤ position_or_len P gs → AllByRecursion (λ (g : Group). P g ≡ false) gs) → AllByRecursion (λ (g : Group). P g ≡ false) (g ∷ gs)
+    by true e l rest = absurd (omega (arith, l))
+    by false e l rest = (e, rest (omega (arith, l)))
+
+position-None : (P : Group → Bool) (gs : List Group) → position P gs ≡ None → AllByRecursion (λ (g : Group). P g ≡ false) gs
+position-None P gs none = by (ltb (position_or_len P gs) (length gs)) refl none
+  where
+    by : (b : Bool) → ltb (position_or_len P gs) (length gs) ≡ b → cond b (Some (position_or_len P gs)) None ≡ None → AllByRecursion (λ (g : Group). P g ≡ false) gs
+    by true e n = absurd (none-some (position_or_len P gs) (sym n))
+    by false e n = none-pass P gs (ltb-false (position_or_len P gs) (length gs) e)
+
+one_or_none : (o : Option Group) (gs : List Group) → cons_option o gs ≡ option_to_list o ++ gs
+one_or_none None gs = refl
+one_or_none (Some g) gs = refl
+
+module _ (x : Frame) where
+  same : Group → Bool
+  same g = same_key x.key g.key
+
+  -- the group of the frame's key goes its way, and the others stay
+  pub taken-at : (gs : List Group) (i : ℕ) (d : Group) → AreApart gs → i < length gs → same_key x.key (get_or gs i d).key ≡ true → ((k : ℕ) → k < i → same_key x.key (get_or gs k d).key ≡ false)
+      → filter_map (taken x) gs ≡ take i gs ++ (option_to_list (joined x (get_or gs i d)) ++ drop (suc i) gs)
+  taken-at [] i d apart l here before = absurd (omega arith)
+  taken-at (g ∷ gs) zero d apart l here before =
+      let others = all-map (λ (h : Group). same_key g.key h.key ≡ false) (λ (h : Group). same_key x.key h.key ≡ false) gs (λ h e. ap (λ (k : Key). same_key k h.key) (same_key-true x.key g.key here) ∙ e) apart.0 in
+      ap (λ b. cons_option (cond b (joined x g) (Some g)) (filter_map (taken x) gs)) here
+      ∙ ap (cons_option (joined x g)) (taken-others x gs others)
+      ∙ one_or_none (joined x g) gs
+  taken-at (g ∷ gs) (suc i) d apart l here before =
+      ap (λ b. cons_option (cond b (joined x g) (Some g)) (filter_map (taken x) gs)) (before 0 (omega arith))
+      ∙ ap (λ hs. g ∷ hs) (taken-at gs i d apart.1 (omega arith) here (λ k m. before (suc k) (omega arith)))
+
+  pub found-at : (gs : List Group) (i : ℕ) (d : Group) → i < length gs → same_key x.key (get_or gs i d).key ≡ true → ((k : ℕ) → k < i → same_key x.key (get_or gs k d).key ≡ false)
+      → of_the_key x.key gs ≡ Some (get_or gs i d)
+  found-at [] i d l here before = absurd (omega arith)
+  found-at (g ∷ gs) zero d l here before = ap (λ b. cond b (Some g) (of_the_key x.key gs)) here
+  found-at (g ∷ gs) (suc i) d l here before =
+      ap (λ b. cond b (Some g) (of_the_key x.key gs)) (before 0 (omega arith)) ∙ found-at gs i d (omega arith) here (λ k m. before (suc k) (omega arith))
+
+-- a write at a place
+set-parts : (gs : List Group) (i : ℕ) (y : Group) → i < length gs → set gs i y ≡ take i gs ++ y ∷ drop (suc i) gs
+set-parts [] i y l = absurd (omega arith)
+set-parts (g ∷ gs) zero y l = refl
+set-parts (g ∷ gs) (suc i) y l = ap (λ hs. g ∷ hs) (set-parts gs i y (omega arith))
+
+-- a message is there exactly where the frames are complete
+pub is_some-message_if : (x : Frame) (g : List Frame) → is_some (message_if x g) ≡ complete g
+is_some-message_if x g = elim (complete g) as (λ b. is_some (cond b (Some (message_of x g)) None) ≡ b) [ true ↦ refl | false ↦ refl ]
+
+-- where no group has the frame's key
+pub none_at_all : (x : Frame) (gs : List Group) → position (λ (g : Group). same_key x.key g.key) gs ≡ None
+    → (of_the_key x.key gs ≡ None) × (groups_after gs x ≡ gs ++ option_to_list (begun x))
+unfolding groups_after
+none_at_all x gs none =
+    let each = position-None (λ (h : Group). same_key x.key h.key) gs none in
+    let found = none-found x.key gs each in (
+      found,
+      ap (λ hs. hs ++ option_to_list (opened x (of_the_key x.key gs))) (taken-others x gs each)
+          ∙ ap (λ (o : Option Group). gs ++ option_to_list (opened x o)) found,
+    )
+
+-- where the group of its key stands at a place
+module _ (x : Frame) (gs : List Group) (i : ℕ) (o : Group) (apart : AreApart gs) (place : position (λ (g : Group). same_key x.key g.key) gs ≡ Some i) (is : o ≡ get_or gs i o) where
+  pub at_place : (i < length gs) × (same_key x.key (get_or gs i o).key ≡ true) × ((k : ℕ) → k < i → same_key x.key (get_or gs k o).key ≡ false)
+  at_place = position-Some (λ (g : Group). same_key x.key g.key) gs i o place
+
+  pub found-place : of_the_key x.key gs ≡ Some o
+  found-place = found-at x gs i o at_place.0 at_place.1 at_place.2 ∙ ap Some (sym is)
+
+  pub key-place : x.key ≡ o.key
+  key-place = same_key-true x.key o.key (ap (λ (g : Group). same_key x.key g.key) is ∙ at_place.1)
+
+  taken-place : filter_map (taken x) gs ≡ take i gs ++ (option_to_list (joined x o) ++ drop (suc i) gs)
+  taken-place = taken-at x gs i o apart at_place.0 at_place.1 at_place.2 ∙ ap (λ (g : Group). take i gs ++ (option_to_list (joined x g) ++ drop (suc i) gs)) (sym is)
+
+  after-place : groups_after gs x ≡ (take i gs ++ (option_to_list (joined x o) ++ drop (suc i) gs)) ++ option_to_list (opened x (Some o))
+  unfolding groups_after
+  after-place = ap (λ hs. hs ++ option_to_list (opened x (of_the_key x.key gs))) taken-place ∙ ap (λ (p : Option Group). (take i gs ++ (option_to_list (joined x o) ++ drop (suc i) gs)) ++ option_to_list (opened x p)) found-place
+
+  -- its number isn't there: the frame joins it
+  module _ (missing : has_number x.number (held_of o) ≡ false) where
+    pub gained-joins : gained x (of_the_key x.key gs) ≡ message_if x (held_of o ++ x ∷ [])
+    gained-joins = ap (gained x) found-place ∙ ap (λ b. cond b (message_if x (x ∷ [])) (message_if x (held_of o ++ x ∷ []))) missing
+
+    pub lost-joins : lost x (of_the_key x.key gs) ≡ None
+    lost-joins = ap (lost x) found-place ∙ ap (λ b. cond b (Some (broken_of x.key (held_of o))) None) missing
+
+    after-joins : groups_after gs x ≡ take i gs ++ (option_to_list (cond (complete (held_of o ++ x ∷ [])) None (Some (with_frame o x))) ++ drop (suc i) gs)
+    after-joins =
+        after-place
+        ∙ ap (λ b. (take i gs ++ (option_to_list (cond b None (cond (complete (held_of o ++ x ∷ [])) None (Some (with_frame o x)))) ++ drop (suc i) gs)) ++ option_to_list (cond b (begun x) None)) missing
+        ∙ append-nil (take i gs ++ (option_to_list (cond (complete (held_of o ++ x ∷ [])) None (Some (with_frame o x))) ++ drop (suc i) gs))
+
+    pub joins-done : (y : Group) → complete (held_of o ++ x ∷ []) ≡ true → take i (set gs i y) ++ drop (i + 1) (set gs i y) ≡ groups_after gs x
+    joins-done y done =
+        let next : i < i + 1 = omega arith in
+        let suc_is : i + 1 ≡ suc i = omega arith in
+        ap (λ hs. hs ++ drop (i + 1) (set gs i y)) (take-set gs i y)
+        ∙ ap (λ hs. take i gs ++ hs) (drop-set-lt (i + 1) gs i y next ∙ ap (λ j. drop j gs) suc_is)
+        ∙ ap (λ b. take i gs ++ (option_to_list (cond b None (Some (with_frame o x))) ++ drop (suc i) gs)) (sym done)
+        ∙ sym after-joins
+
+    pub joins-left : (y : Group) → complete (held_of o ++ x ∷ []) ≡ false → y ≡ with_frame o x → set gs i y ≡ groups_after gs x
+    joins-left y left grown =
+        set-parts gs i y at_place.0
+        ∙ ap (λ g. take i gs ++ g ∷ drop (suc i) gs) grown
+        ∙ ap (λ b. take i gs ++ (option_to_list (cond b None (Some (with_frame o x))) ++ drop (suc i) gs)) (sym left)
+        ∙ sym after-joins
+
+  -- its number is there: the frame breaks it
+  module _ (there : has_number x.number (held_of o) ≡ true) where
+    pub gained-repeats : gained x (of_the_key x.key gs) ≡ message_if x (x ∷ [])
+    gained-repeats = ap (gained x) found-place ∙ ap (λ b. cond b (message_if x (x ∷ [])) (message_if x (held_of o ++ x ∷ []))) there
+
+    pub lost-repeats : lost x (of_the_key x.key gs) ≡ Some (broken_of x.key (held_of o))
+    lost-repeats = ap (lost x) found-place ∙ ap (λ b. cond b (Some (broken_of x.key (held_of o))) None) there
+
+    pub after-repeats : groups_after gs x ≡ (take i gs ++ drop (i + 1) gs) ++ option_to_list (begun x)
+    after-repeats =
+        let suc_is : suc i ≡ i + 1 = omega arith in
+        after-place
+        ∙ ap (λ b. (take i gs ++ (option_to_list (cond b None (cond (complete (held_of o ++ x ∷ [])) None (Some (with_frame o x)))) ++ drop (suc i) gs)) ++ option_to_list (cond b (begun x) None)) there
+        ∙ ap (λ j. (take i gs ++ drop j gs) ++ option_to_list (begun x)) suc_is
+
+-- what holds of each group holds of the one at a place
+pub all-at : (P : Group → Type 0) (gs : List Group) (i : ℕ) (d : Group) → AllByRecursion P gs → i < length gs → P (get_or gs i d)
+all-at P [] i d all l = absurd (omega arith)
+all-at P (g ∷ gs) zero d all l = all.0
+all-at P (g ∷ gs) (suc i) d all l = all-at P gs i d all.1 (omega arith)
+
+-- what is told of an open group
+pub broken-held : (o : Group) (key : Key) → IsOpen o → key ≡ o.key → record { pgn = o.key.pgn; src = o.key.src; dst = o.key.dst; seq = o.key.sequence; first = o.first } ≡ broken_of key (held_of o)
+broken-held o key fit of =
+    (λ i. record { pgn = o.key.pgn; src = o.key.src; dst = o.key.dst; seq = o.key.sequence; first = sym (first-held o o.pieces fit.nonempty) i })
+    ∙ ap (λ (k : Key). broken_of k (held_of o)) (sym of)
+
+-- a group that a frame begins: its message, and what stays open of it
+module _ (x : Frame) (g : Group) (small : x.number < most_frames) (is : g ≡ group_of x.key (x ∷ [])) where
+  pub complete-begun : complete (held_of g) ≡ complete (x ∷ [])
+  complete-begun = ap (λ (h : Group). complete (held_of h)) is ∙ complete-group_of x.key (x ∷ []) (fine-one x small)
+
+  pub message-begun : cond (complete (held_of g)) (Some (record { stamp = x.stamp; id = x.id; payload = data_of (held_of g) })) None ≡ message_if x (x ∷ [])
+  message-begun =
+      ap (λ b. cond b (Some (record { stamp = x.stamp; id = x.id; payload = data_of (held_of g) })) None) complete-begun
+      ∙ ap (λ d. cond (complete (x ∷ [])) (Some (record { stamp = x.stamp; id = x.id; payload = d })) None) (ap (λ (h : Group). data_of (held_of h)) is ∙ data_of-group_of x.key (x ∷ []) (fine-one x small))
+
+  pub groups-begun : cond (complete (held_of g)) [] (g ∷ []) ≡ option_to_list (begun x)
+  groups-begun =
+      ap (λ b. cond b [] (g ∷ [])) complete-begun ∙ ap (λ (h : Group). cond (complete (x ∷ [])) [] (h ∷ [])) is
+      ∙ elim (complete (x ∷ [])) as (λ b. cond b [] (group_of x.key (x ∷ []) ∷ []) ≡ option_to_list (cond b None (Some (group_of x.key (x ∷ []))))) [ true ↦ refl | false ↦ refl ]
+
+-- where no group of a key is found, none has it
+pub none-listed : (P : Group → Bool) (gs : List Group) → find P gs ≡ None → list_any P gs ≡ false
+none-listed P [] none = refl
+none-listed P (g ∷ gs) none = by (P g) refl none (none-listed P gs)
+  where
+    by : (b : Bool) → P g ≡ b → cond b (Some g) (find P gs) ≡ None → (find P gs ≡ None → list_any P gs ≡ false) → (P g || list_any P gs) ≡ false
+    by true e n rest = absurd (none-some g (sym n))
+    by false e n rest = or_from (P g) (list_any P gs) e (rest n)
+
+-- what holds holds on a refusal
+pub on_err : {T E : Type 0} (r : Result T E) (P : Type 0) → P → OnErr r P
+on_err (Ok x) P p = tt
+on_err (Err e) P p = p

@@ -1,0 +1,349 @@
+-- The step leads from a state that a join can have to another.
+use Rattle.std.proofs.Common.{◌≡◌, ◌==◌, ◌≤◌, ◌<◌, ◌+◌, ◌%◌, ℕ, suc, zero, Bool, true, false, cond, not, List, [], ◌∷◌, ◌++◌, length, map, refl, sym, ap, ◌∙◌, subst, arith, append_assoc, Option, Some, None, option_map, option_and_then, option_to_list, drop}
+use mathlib.Core.Logic.{◌⊎◌, inl, inr}
+use Rattle.std.specs.Prelude.{is_some, IfSome, slice_index_or, slice_index}
+use Rattle.std.specs.List.{range_with_len, AllByRecursion}
+use Rattle.std.proofs.lemmas.List.{append-nil, length-append}
+use Rattle.std.proofs.lemmas.Bool.{eqb-true, eq-eqb, leb-true, not-true, or_cases, false≢true}
+use Rattle.std.proofs.lemmas.Option.{none-some, same_Some}
+use Rattle.n2k_wire.specs.declared.entry.BadCause.{BadCause}
+use Rattle.n2k_wire.specs.declared.entry.BadCause.TheVariants as causes
+use Rattle.n2k_wire.specs.declared.entry.Entry.{Entry}
+use Rattle.n2k_wire.specs.declared.entry.Entry.TheVariants as entries
+use Rattle.n2k_wire.specs.Entry.{IsEntry}
+use Rattle.n2k_wire.specs.Packet.{PacketParts, IsPacketParts}
+use Rattle.n2k_table.specs.declared.definition.Kind.{Kind}
+use Rattle.n2k_table.specs.declared.definition.Kind.TheVariants.{Single, Fast}
+use Rattle.n2k_join.specs.declared.counts.Counts.{Counts}
+use Rattle.n2k_join.specs.Counts.{most_lines}
+use Rattle.n2k_join.specs.Frames.{Key, Frame, most_frames, longest_total, filler, has_total, is_fast_payload, fast_frame, frame_with, frame_by, frame_in, of_key}
+use Rattle.n2k_join.specs.Groups.{Ends, repeats, carried, complete, open_of, incomplete}
+use Rattle.n2k_join.specs.Open.{Piece, Group, piece_at, pieces_of, group_of, begun_at, open_groups}
+use Rattle.n2k_join.specs.Messages.{message_of, alone, single_by, whole_by, cause_in, fast_cause, is_unknown, broken_of}
+use Rattle.n2k_join.specs.State.{State, state, Given, held_of, held, next_line, step_frames, step_given, step_groups, step_after, counted, one_if, AreCounts, IsKey, IsPiece, HasParts, IsState, AreFast}
+use Rattle.n2k_join.proofs.Cuts.{IsEnding, so_far, so_far-all, so_far-keeps, repeats-ends}
+use Rattle.n2k_join.proofs.Held.{AreNumbered}
+use Rattle.n2k_join.proofs.Keys.{of_key-keeps}
+use Rattle.n2k_join.proofs.Given.{broke, completed}
+use Rattle.n2k_join.proofs.Lines.{frame_in-line}
+use Rattle.n2k_join.proofs.Logs.{frame_in-number}
+use Rattle.n2k_join.proofs.Opened.{IsLog, IsFine, key_at, at_line, at_last, begun_at-is, open_of-so_far, so_far-fine, numbers_of_key}
+use Rattle.n2k_join.proofs.Resumed.{held_of-all, held_of-any, held-log, open_groups-open}
+use Rattle.n2k_join.proofs.Agreeing.{after_longer}
+use Rattle.n2k_join.proofs.Advanced.{of_the_key}
+use Rattle.n2k_join.proofs.Steps.{only_frame, frame_gives, step-none, step-frame}
+use Rattle.n2k_join.proofs.Rising.{all-map, all-append, all-zip, all-flat_map, all-range, all-filter_map}
+
+-- the parts of a frame are such as the program's packets give
+pub record IsFramePart (f : Frame) : Type 0 where
+  pub key : IsKey f.key
+  pub piece : IsPiece (record { number = f.number; bytes = f.bytes })
+
+-- ---- frames of entries
+
+abbrev AreBytes : List ℕ → Type 0
+AreBytes xs = (i : ℕ) → slice_index xs i < 256
+
+filled : (xs : List ℕ) (j : ℕ) → AreBytes xs → slice_index_or xs j filler < 256
+filled [] j bytes = omega arith
+filled (x ∷ xs) zero bytes = bytes 0
+filled (x ∷ xs) (suc j) bytes = filled xs j (λ i. bytes (suc i))
+
+total_is : (header : ℕ) (rest : List ℕ) → is_fast_payload (header ∷ rest) ≡ true → header % 32 ≡ 0 → slice_index_or rest 0 filler ≤ longest_total
+total_is header rest fast zero_is = by (or_cases (not (header % 32 == 0)) (has_total rest) fast)
+  where
+    of_total : (rest : List ℕ) → has_total rest ≡ true → slice_index_or rest 0 filler ≤ longest_total
+    of_total [] t = absurd (false≢true t)
+    of_total (total ∷ rest) t = leb-true total longest_total t
+
+    by : (not (header % 32 == 0) ≡ true) ⊎ (has_total rest ≡ true) → slice_index_or rest 0 filler ≤ longest_total
+    by (inl other) = absurd (false≢true (sym (not-true (header % 32 == 0) other) ∙ eq-eqb (header % 32) 0 zero_is))
+    by (inr total) = of_total rest total
+
+frame_part : (line : ℕ) (packet : PacketParts) (header : ℕ) (rest : List ℕ) → IsPacketParts packet → packet.payload ≡ header ∷ rest → is_fast_payload (header ∷ rest) ≡ true → IsFramePart (frame_with line packet header rest)
+frame_part line packet header rest parts is fast =
+    let bytes : AreBytes (header ∷ rest) = subst AreBytes is parts.bytes_ok in
+    let small : header < 256 = bytes 0 in
+    let rest_bytes : AreBytes rest = λ i. bytes (suc i) in
+    record {
+      key = record { src = omega (arith, parts.src_ok); dst = omega (arith, parts.dst_ok); pgn = omega (arith, parts.packet_ok.pgn_ok); sequence = omega arith };
+      piece = record {
+        seven = refl;
+        are_bytes = (filled rest 0 rest_bytes, (filled rest 1 rest_bytes, (filled rest 2 rest_bytes, (filled rest 3 rest_bytes, (filled rest 4 rest_bytes, (filled rest 5 rest_bytes, (filled rest 6 rest_bytes, tt)))))));
+        total = λ z. total_is header rest fast z;
+      };
+    }
+
+pub frame_in-part : (kind : ℕ → Option Kind) (line : ℕ) (e : Entry) (x : Frame) → IsEntry e → frame_in kind line e ≡ Some x → IsFramePart x
+unfolding fast_frame
+frame_in-part kind line entries.Skip x valid is = absurd (none-some x is)
+frame_in-part kind line (entries.Bad cause) x valid is = absurd (none-some x is)
+frame_in-part kind line (entries.Whole packet) x valid is = absurd (none-some x is)
+frame_in-part kind line (entries.Frame packet) x valid is = by_kind (kind packet.id.pgn) is
+  where
+    by_payload : (payload : List ℕ) → packet.payload ≡ payload → (b : Bool) → is_fast_payload payload ≡ b → cond b (Some (frame_with line packet (slice_index_or payload 0 0) (drop 1 payload))) None ≡ Some x → IsFramePart x
+    by_payload [] at true t is = absurd (false≢true t)
+    by_payload [] at false t is = absurd (none-some x is)
+    by_payload (header ∷ rest) at true t is = subst IsFramePart (same_Some (frame_with line packet header rest) x is) (frame_part line packet header rest valid.0 at t)
+    by_payload (header ∷ rest) at false t is = absurd (none-some x is)
+
+    by_kind : (k : Option Kind) → frame_by k line packet ≡ Some x → IsFramePart x
+    by_kind None is = absurd (none-some x is)
+    by_kind (Some Single) is = absurd (none-some x is)
+    by_kind (Some Fast) is = by_payload packet.payload refl (is_fast_payload packet.payload) refl is
+
+-- frames that are held of groups
+pub held-parts : (gs : List Group) → AllByRecursion HasParts gs → AllByRecursion IsFramePart (held gs)
+held-parts gs all = all-flat_map IsFramePart held_of gs (all-map HasParts (λ (g : Group). AllByRecursion IsFramePart (held_of g)) gs (λ g parts. held_of-all IsFramePart IsPiece g (λ p is. record { key = parts.key; piece = is }) parts.pieces) all)
+
+-- ---- groups of frames
+
+carried-part : (fs : List Frame) (n : ℕ) (b : List ℕ) → AllByRecursion IsFramePart fs → carried fs n ≡ Some b → IsPiece (record { number = n; bytes = b })
+carried-part [] n b all is = absurd (none-some b is)
+carried-part (f ∷ fs) n b all is = by (f.number == n) refl is (carried-part fs n b all.1)
+  where
+    by : (t : Bool) → (f.number == n) ≡ t → cond t (Some f.bytes) (carried fs n) ≡ Some b → (carried fs n ≡ Some b → IsPiece (record { number = n; bytes = b })) → IsPiece (record { number = n; bytes = b })
+    by true t is rest = subst (λ (b : List ℕ). IsPiece (record { number = n; bytes = b })) (same_Some f.bytes b is) (subst (λ n. IsPiece (record { number = n; bytes = f.bytes })) (eqb-true f.number n t) all.0.piece)
+    by false t is rest = rest is
+
+pieces-parts : (fs : List Frame) → AllByRecursion IsFramePart fs → AllByRecursion IsPiece (pieces_of fs)
+unfolding pieces_of
+pieces-parts fs all = all-filter_map IsPiece (piece_at (carried fs)) (range_with_len 0 most_frames) each
+  where
+    by : (n : ℕ) (p : Piece) (o : Option (List ℕ)) → carried fs n ≡ o → option_map (λ (bytes : List ℕ). record { number = n; bytes = bytes }) o ≡ Some p → IsPiece p
+    by n p None c is = absurd (none-some p is)
+    by n p (Some b) c is = subst IsPiece (same_Some (record { number = n; bytes = b }) p is) (carried-part fs n b all c)
+
+    each : (n : ℕ) (p : Piece) → piece_at (carried fs) n ≡ Some p → IsPiece p
+    each n p is = by n p (carried fs n) refl is
+
+key_part : (k : Key) (g : List Frame) → AllByRecursion (λ (f : Frame). IsFramePart f × (f.key ≡ k)) g → 0 < length g → IsKey k
+key_part k [] all some = absurd (omega (arith, some))
+key_part k (f ∷ g) all some = subst IsKey all.0.1 all.0.0.key
+
+module _ (ends : Ends) (is_ending : IsEnding ends) where
+  begun_at-parts : (fs : List Frame) (i : ℕ) (o : Group) → AreNumbered fs → AllByRecursion IsFramePart fs → begun_at ends fs i ≡ Some o → HasParts o
+  begun_at-parts fs i o numbers parts is = by_open (open_of ends o.key fs) (begun_at-is ends is_ending fs i o is).1 (open_of-so_far ends is_ending o.key fs)
+    where
+      Good : List Frame → Type 0
+      Good g = (AllByRecursion (λ (f : Frame). IsFramePart f × (f.key ≡ o.key)) g) × IsFine g
+
+      good : (h : List Frame) → Good h → HasParts (group_of o.key h)
+      good h known = record {
+        key = key_part o.key h known.0 known.1.nonempty;
+        pieces = pieces-parts h (all-map (λ (f : Frame). IsFramePart f × (f.key ≡ o.key)) IsFramePart h (λ f p. p.0) known.0);
+      }
+
+      by_test : (h : List Frame) → Good h → (b : Bool) → (g : List Frame) → Some g ≡ cond b None (Some h) → HasParts (group_of o.key g)
+      by_test h known true g same = absurd (none-some g (sym same))
+      by_test h known false g same = subst (λ g. HasParts (group_of o.key g)) (sym (same_Some g h same)) (good h known)
+
+      by_group : (s : Option (List Frame)) → IfSome s (AllByRecursion (λ (f : Frame). IsFramePart f × (f.key ≡ o.key))) → IfSome s IsFine → (g : List Frame) → Some g ≡ option_and_then incomplete s → HasParts (group_of o.key g)
+      by_group None all fine g same = absurd (none-some g (sym same))
+      by_group (Some h) all fine g same = by_test h (all, fine) (complete h) g same
+
+      by_open : (s : Option (List Frame)) → option_map (group_of o.key) s ≡ Some o → s ≡ option_and_then incomplete (so_far ends (of_key o.key fs)) → HasParts o
+      by_open None gives same = absurd (none-some o gives)
+      by_open (Some g) gives same =
+          subst HasParts (same_Some (group_of o.key g) o gives)
+          (by_group (so_far ends (of_key o.key fs))
+          (so_far-all ends (λ (f : Frame). IsFramePart f × (f.key ≡ o.key)) (of_key o.key fs) (of_key-keeps IsFramePart o.key fs parts))
+          (so_far-fine ends is_ending (of_key o.key fs) (numbers_of_key ends is_ending o.key fs numbers)) g same)
+
+  pub open_groups-parts : (n : ℕ) (fs : List Frame) → AreNumbered fs → AllByRecursion IsFramePart fs → AllByRecursion HasParts (open_groups ends n fs)
+  unfolding open_groups
+  open_groups-parts n fs numbers parts = all-range HasParts (begun_at ends fs) 1 n (λ i o l u is. begun_at-parts fs i o numbers parts is)
+
+  -- what holds of the key of each frame holds of those of the open groups
+  begun_at-key_part : (P : Key → Type 0) (fs : List Frame) (i : ℕ) (o : Group) → AllByRecursion (λ (f : Frame). P f.key) fs → begun_at ends fs i ≡ Some o → P o.key
+  begun_at-key_part P fs i o all is = by_open (open_of ends o.key fs) (begun_at-is ends is_ending fs i o is).1 (open_of-so_far ends is_ending o.key fs)
+    where
+      first_key : (g : List Frame) → AllByRecursion (λ (f : Frame). P f.key × (f.key ≡ o.key)) g → 0 < length g → P o.key
+      first_key [] known some = absurd (omega (arith, some))
+      first_key (f ∷ g) known some = subst P known.0.1 known.0.0
+
+      by_group : (s : Option (List Frame)) → IfSome s (AllByRecursion (λ (f : Frame). P f.key × (f.key ≡ o.key))) → IfSome s (λ g. 0 < length g) → (g : List Frame) → Some g ≡ option_and_then incomplete s → P o.key
+      by_group None known some g same = absurd (none-some g (sym same))
+      by_group (Some h) known some g same = first_key h known some
+
+      by_open : (s : Option (List Frame)) → option_map (group_of o.key) s ≡ Some o → s ≡ option_and_then incomplete (so_far ends (of_key o.key fs)) → P o.key
+      by_open None gives same = absurd (none-some o gives)
+      by_open (Some g) gives same =
+          by_group (so_far ends (of_key o.key fs))
+          (so_far-all ends (λ (f : Frame). P f.key × (f.key ≡ o.key)) (of_key o.key fs) (of_key-keeps (λ (f : Frame). P f.key) o.key fs all))
+          (so_far-keeps ends (λ g. 0 < length g) (λ x. omega arith) (λ g x c h. omega (arith, length-append g (x ∷ []))) (of_key o.key fs)) g same
+
+  pub open_groups-keys : (P : Key → Type 0) (n : ℕ) (fs : List Frame) → AllByRecursion (λ (f : Frame). P f.key) fs → AllByRecursion (λ (g : Group). P g.key) (open_groups ends n fs)
+  unfolding open_groups
+  open_groups-keys P n fs all = all-range (λ (g : Group). P g.key) (begun_at ends fs) 1 n (λ i o l u is. begun_at-key_part P fs i o all is)
+
+-- the frame of an entry is of a fast PGN
+frame_in-fast : (kind : ℕ → Option Kind) (line : ℕ) (e : Entry) (x : Frame) → frame_in kind line e ≡ Some x → kind x.key.pgn ≡ Some Fast
+unfolding fast_frame
+frame_in-fast kind line entries.Skip x is = absurd (none-some x is)
+frame_in-fast kind line (entries.Bad cause) x is = absurd (none-some x is)
+frame_in-fast kind line (entries.Whole packet) x is = absurd (none-some x is)
+frame_in-fast kind line (entries.Frame packet) x is = by_kind (kind packet.id.pgn) refl is
+  where
+    by_test : (b : Bool) (f : Frame) → kind f.key.pgn ≡ Some Fast → cond b (Some f) None ≡ Some x → kind x.key.pgn ≡ Some Fast
+    by_test true f k is = ap (λ (f : Frame). kind f.key.pgn) (sym (same_Some f x is)) ∙ k
+    by_test false f k is = absurd (none-some x is)
+
+    by_kind : (k : Option Kind) → kind packet.id.pgn ≡ k → frame_by k line packet ≡ Some x → kind x.key.pgn ≡ Some Fast
+    by_kind None k is = absurd (none-some x is)
+    by_kind (Some Single) k is = absurd (none-some x is)
+    by_kind (Some Fast) k is = by_test (is_fast_payload packet.payload) (frame_with line packet (slice_index_or packet.payload 0 0) (drop 1 packet.payload)) k is
+
+-- ---- a log with one frame more
+
+log-wider : (n : ℕ) (fs : List Frame) → IsLog n fs → IsLog (n + 1) fs
+log-wider n fs log = record {
+  lines = all-map (λ (f : Frame). (1 ≤ f.line) × (f.line ≤ n)) (λ (f : Frame). (1 ≤ f.line) × (f.line ≤ n + 1)) fs (λ f h. (h.0, omega (arith, h.1))) log.lines;
+  numbers = log.numbers;
+  keys = log.keys;
+}
+
+log-push : (n : ℕ) (fs : List Frame) (x : Frame) → IsLog n fs → x.line ≡ n + 1 → x.number < most_frames → IsLog (n + 1) (fs ++ x ∷ [])
+log-push n fs x log at number = record {
+  lines = all-append _ fs (x ∷ []) (log-wider n fs log).lines ((omega (arith, at), omega (arith, at)), tt);
+  numbers = all-append _ fs (x ∷ []) log.numbers (number, tt);
+  keys = all-append _ fs (x ∷ [])
+      (all-map _ (λ (f : Frame). key_at f.line (fs ++ x ∷ []) ≡ Some f.key) fs
+      (λ f h. ap (option_map (λ (f : Frame). f.key)) (at_line f.line fs x (λ e. omega (arith, h.0.1, at, e))) ∙ h.1)
+      (all-zip (λ (f : Frame). (1 ≤ f.line) × (f.line ≤ n)) (λ (f : Frame). key_at f.line fs ≡ Some f.key) fs log.lines log.keys))
+      (ap (option_map (λ (f : Frame). f.key)) (at_last n fs x log (omega (arith, at))), tt);
+}
+
+-- ---- the step
+
+-- a line gives at most one of a message, a cause and an unknown PGN
+one_of : (kind : ℕ → Option Kind) (e : Entry) → one_if (is_some (alone kind e)) + one_if (is_some (cause_in kind e)) + one_if (is_unknown kind e) ≤ 1
+one_of kind entries.Skip = omega arith
+one_of kind (entries.Bad cause) = omega arith
+one_of kind (entries.Whole packet) = by (kind packet.id.pgn)
+  where
+    by : (k : Option Kind) → one_if (is_some (whole_by k packet)) + one_if (is_some {T = BadCause} None) + one_if (not (is_some k)) ≤ 1
+    by None = omega arith
+    by (Some k) = omega arith
+one_of kind (entries.Frame packet) = by (kind packet.id.pgn) (is_fast_payload packet.payload)
+  where
+    by_fast : (b : Bool) → one_if (is_some {T = PacketParts} None) + one_if (is_some (cond b None (Some causes.Fast))) + one_if (not (is_some (Some Fast))) ≤ 1
+    by_fast true = omega arith
+    by_fast false = omega arith
+
+    by : (k : Option Kind) (b : Bool) → one_if (is_some (single_by k packet)) + one_if (is_some (fast_cause k packet)) + one_if (not (is_some k)) ≤ 1
+    by None b = omega arith
+    by (Some Single) b = omega arith
+    by (Some Fast) b = by_fast (is_fast_payload packet.payload)
+
+one-le : (b : Bool) → one_if b ≤ 1
+one-le true = omega arith
+one-le false = omega arith
+
+broke-le : (x : Frame) (s : Option (List Frame)) → length (map (broken_of x.key) (broke repeats s x)) ≤ 1
+broke-le x None = omega arith
+broke-le x (Some g) = by (complete g) (repeats g x)
+  where
+    by : (c e : Bool) → length (map (broken_of x.key) (cond c [] (cond e (g ∷ []) []))) ≤ 1
+    by true e = omega arith
+    by false true = omega arith
+    by false false = omega arith
+
+-- what a line gives, in numbers
+pub record GivesOnce (kind : ℕ → Option Kind) (e : Entry) (gives : Given) : Type 0 where
+  pub one : one_if (is_some gives.message) + one_if (is_some gives.cause) + one_if (is_unknown kind e) ≤ 1
+  pub broken : length gives.broken ≤ 1
+
+frame-once : (kind : ℕ → Option Kind) (e : Entry) (x : Frame) (o : Option Group) → is_unknown kind e ≡ false → GivesOnce kind e (frame_gives x o)
+frame-once kind e x o known = record {
+  one =
+      let message = one-le (is_some (option_map (message_of x) (completed repeats (option_map held_of o) x))) in
+      let unknown : one_if (is_unknown kind e) ≡ 0 = ap one_if known in
+      omega (arith, message, unknown);
+  broken = broke-le x (option_map held_of o);
+}
+
+counted-kept : (kind : ℕ → Option Kind) (c : Counts) (e : Entry) (gives : Given) (n : ℕ) → AreCounts c → c.lines < most_lines → GivesOnce kind e gives → AreCounts (counted kind c e gives n)
+counted-kept kind c e gives n are below once = record {
+  lines = omega (arith, below);
+  given = omega (arith, are.given, once.one);
+  broken = omega (arith, are.broken, once.broken);
+}
+
+module _ (kind : ℕ → Option Kind) (s : State) (e : Entry) (is : IsState s) where
+  step-log : IsLog (next_line s) (step_frames kind s e)
+  step-log = by (frame_in kind (next_line s) e) refl
+    where
+      log : IsLog s.counts.lines (held s.groups)
+      log = held-log s.counts.lines s.groups is.groups
+
+      by : (o : Option Frame) → frame_in kind (next_line s) e ≡ o → IsLog (next_line s) (held s.groups ++ option_to_list o)
+      by None none = subst (λ fs. IsLog (next_line s) fs) (sym (append-nil (held s.groups))) (log-wider s.counts.lines (held s.groups) log)
+      by (Some x) some = log-push s.counts.lines (held s.groups) x log (frame_in-line kind (next_line s) e x some) (frame_in-number kind (next_line s) e x some)
+
+  step-parts : IsEntry e → AllByRecursion IsFramePart (step_frames kind s e)
+  step-parts valid = all-append IsFramePart (held s.groups) (option_to_list (frame_in kind (next_line s) e)) (held-parts s.groups is.parts) (by (frame_in kind (next_line s) e) refl)
+    where
+      by : (o : Option Frame) → frame_in kind (next_line s) e ≡ o → AllByRecursion IsFramePart (option_to_list o)
+      by None none = tt
+      by (Some x) some = (frame_in-part kind (next_line s) e x valid some, tt)
+
+  pub step-once : GivesOnce kind e (step_given kind s e)
+  step-once = by (frame_in kind (next_line s) e) refl
+    where
+      by : (o : Option Frame) → frame_in kind (next_line s) e ≡ o → GivesOnce kind e (step_given kind s e)
+      by None none = subst (GivesOnce kind e) (sym (step-none kind s e is.groups none).given) (record { one = one_of kind e; broken = omega arith })
+      by (Some x) some = subst (GivesOnce kind e) (sym (step-frame kind s e is.groups x some).given) (frame-once kind e x (of_the_key x.key s.groups) (only_frame kind (next_line s) e x some).known)
+
+  -- after one more line the state is again one that a join can have
+  pub step-keeps : IsEntry e → s.counts.lines < most_lines → IsState (step_after kind s e)
+  unfolding step_after
+  step-keeps valid below = record {
+    counted = counted-kept kind s.counts e (step_given kind s e) (length (step_groups kind s e)) is.counted below step-once;
+    held = refl;
+    groups = open_groups-open repeats repeats-ends (next_line s) (step_frames kind s e) step-log;
+    parts = open_groups-parts repeats repeats-ends (next_line s) (step_frames kind s e) step-log.numbers (step-parts valid);
+  }
+
+-- before the first line
+pub state-new : (id : List ℕ) (kind : ℕ → Option Kind) → IsState (state id kind [])
+unfolding open_groups
+state-new id kind = record {
+  counted = record { lines = omega arith; given = omega arith; broken = omega arith };
+  held = refl;
+  groups = record { each = tt; rise = tt; begun = tt; apart = tt };
+  parts = tt;
+}
+
+-- groups of fast PGNs stay such
+pub step-fast : (kind : ℕ → Option Kind) (s : State) (e : Entry) → AreFast kind s.groups → AreFast kind (step_after kind s e).groups
+unfolding step_after
+step-fast kind s e fast =
+    open_groups-keys repeats repeats-ends (λ (k : Key). kind k.pgn ≡ Some Fast) (next_line s) (step_frames kind s e)
+    (all-append (λ (f : Frame). kind f.key.pgn ≡ Some Fast) (held s.groups) (option_to_list (frame_in kind (next_line s) e))
+    (all-flat_map (λ (f : Frame). kind f.key.pgn ≡ Some Fast) held_of s.groups (all-map (λ (g : Group). kind g.key.pgn ≡ Some Fast) (λ (g : Group). AllByRecursion (λ (f : Frame). kind f.key.pgn ≡ Some Fast) (held_of g)) s.groups (λ g k. held_of-any (λ (f : Frame). kind f.key.pgn ≡ Some Fast) g (λ p. k)) fast))
+    (by (frame_in kind (next_line s) e) refl))
+  where
+    by : (o : Option Frame) → frame_in kind (next_line s) e ≡ o → AllByRecursion (λ (f : Frame). kind f.key.pgn ≡ Some Fast) (option_to_list o)
+    by None none = tt
+    by (Some x) some = (frame_in-fast kind (next_line s) e x some, tt)
+
+-- ---- the states of logs
+
+-- the state of a log is one that a join can have, and its groups are of fast PGNs
+pub record IsLogState (kind : ℕ → Option Kind) (s : State) : Type 0 where
+  pub valid : IsState s
+  pub fast : AreFast kind s.groups
+
+state-from : (id : List ℕ) (kind : ℕ → Option Kind) (front es : List Entry) → IsLogState kind (state id kind front) → AllByRecursion IsEntry es → length front + length es ≤ most_lines → IsLogState kind (state id kind (front ++ es))
+state-from id kind front [] so_far entries_valid few = subst (λ es. IsLogState kind (state id kind es)) (sym (append-nil front)) so_far
+state-from id kind front (e ∷ es) so_far entries_valid few =
+    let next : IsLogState kind (state id kind (front ++ e ∷ [])) = subst (IsLogState kind) (after_longer kind front e id) (record {
+      valid = step-keeps kind (state id kind front) e so_far.valid entries_valid.0 (omega (arith, few));
+      fast = step-fast kind (state id kind front) e so_far.fast;
+    }) in
+    subst (λ es. IsLogState kind (state id kind es)) (append_assoc front (e ∷ []) es) (state-from id kind (front ++ e ∷ []) es next entries_valid.1 (omega (arith, few, length-append front (e ∷ []))))
+
+pub state-valid : (id : List ℕ) (kind : ℕ → Option Kind) (es : List Entry) → AllByRecursion IsEntry es → length es ≤ most_lines → IsLogState kind (state id kind es)
+unfolding open_groups
+state-valid id kind es entries_valid few = state-from id kind [] es (record { valid = state-new id kind; fast = tt }) entries_valid (omega (arith, few))

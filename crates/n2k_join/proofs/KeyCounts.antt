@@ -1,0 +1,70 @@
+-- Two lists with equally many items of each key are equally long.
+use Rattle.std.proofs.Common.{◌≡◌, ℕ, zero, suc, ◌+◌, ◌≤◌, Bool, true, false, cond, not, List, [], ◌∷◌, length, refl, ap, subst, ◌∙◌, sym, arith}
+use Rattle.std.specs.Prelude.{filter}
+use Rattle.n2k_join.specs.Frames.{Key, same_key}
+use Rattle.n2k_join.proofs.Keys.{same_key-true, same_key-refl, same_key-sym}
+
+-- the items of a key, and the others
+abbrev of : {X : Type 0} → (X → Key) → Key → List X → List X
+of key k xs = filter (λ x. same_key k (key x)) xs
+
+abbrev others : {X : Type 0} → (X → Key) → Key → List X → List X
+others key k xs = filter (λ x. not (same_key k (key x))) xs
+
+of-others : {X : Type 0} (key : X → Key) (k : Key) (xs : List X) → length xs ≡ length (of key k xs) + length (others key k xs)
+of-others key k [] = refl
+of-others key k (x ∷ xs) = by_test (same_key k (key x)) (of-others key k xs)
+  where
+    by_test : (b : Bool) → length xs ≡ length (of key k xs) + length (others key k xs) → suc (length xs) ≡ length (cond b (x ∷ of key k xs) (of key k xs)) + length (cond (not b) (x ∷ others key k xs) (others key k xs))
+    by_test true ih = omega arith
+    by_test false ih = omega arith
+
+none-others : {X : Type 0} (key : X → Key) (k : Key) (xs : List X) → of key k (others key k xs) ≡ []
+none-others key k [] = refl
+none-others key k (x ∷ xs) = by_test (same_key k (key x)) refl (none-others key k xs)
+  where
+    by_test : (b : Bool) → same_key k (key x) ≡ b → of key k (others key k xs) ≡ [] → of key k (cond (not b) (x ∷ others key k xs) (others key k xs)) ≡ []
+    by_test true e ih = ih
+    by_test false e ih = rw e ih
+
+all-others : {X : Type 0} (key : X → Key) (k c : Key) (xs : List X) → same_key k c ≡ false → of key k (others key c xs) ≡ of key k xs
+all-others key k c [] other = refl
+all-others key k c (x ∷ xs) other = by_test (same_key k (key x)) refl (all-others key k c xs other)
+  where
+    apart : same_key k (key x) ≡ true → same_key c (key x) ≡ false
+    apart e = ap (same_key c) (sym (same_key-true k (key x) e)) ∙ (same_key-sym c k ∙ other)
+
+    skipped : (b : Bool) → same_key k (key x) ≡ false → of key k (others key c xs) ≡ of key k xs → of key k (cond b (x ∷ others key c xs) (others key c xs)) ≡ of key k xs
+    skipped true e ih = rw e ih
+    skipped false e ih = ih
+
+    by_test : (b : Bool) → same_key k (key x) ≡ b → of key k (others key c xs) ≡ of key k xs → of key k (cond (not (same_key c (key x))) (x ∷ others key c xs) (others key c xs)) ≡ cond b (x ∷ of key k xs) (of key k xs)
+    by_test true e ih = rw (apart e, e) (ap (λ l. x ∷ l) ih)
+    by_test false e ih = skipped (not (same_key c (key x))) e ih
+
+others-shorter : {X : Type 0} (key : X → Key) (k : Key) (xs : List X) → length (others key k xs) ≤ length xs
+others-shorter key k xs = omega (arith, of-others key k xs)
+
+-- where each key has equally many
+pub same_length : {X Y : Type 0} (key : X → Key) (key' : Y → Key) (n : ℕ) (xs : List X) (ys : List Y) → length xs ≤ n → ((k : Key) → length (of key k xs) ≡ length (of key' k ys)) → length xs ≡ length ys
+same_length key key' n [] [] short each = refl
+same_length key key' n [] (y ∷ ys) short each = absurd (let e : 0 ≡ suc (length (of key' (key' y) ys)) = each (key' y) ∙ ap (λ b. length (cond b (y ∷ of key' (key' y) ys) (of key' (key' y) ys))) (same_key-refl (key' y)) in omega arith)
+same_length key key' zero (x ∷ xs) ys short each = absurd (omega arith)
+same_length key key' (suc n) (x ∷ xs) ys short each =
+    let c = key x in
+    let left : length (x ∷ xs) ≡ length (of key c (x ∷ xs)) + length (others key c (x ∷ xs)) = of-others key c (x ∷ xs) in
+    let right : length ys ≡ length (of key' c ys) + length (others key' c ys) = of-others key' c ys in
+    let dropped : others key c (x ∷ xs) ≡ others key c xs = ap (λ b. cond (not b) (x ∷ others key c xs) (others key c xs)) (same_key-refl c) in
+    let rest : (k : Key) → length (of key k (others key c xs)) ≡ length (of key' k (others key' c ys)) = λ k. by_key k (same_key k c) refl dropped in
+    let ih : length (others key c xs) ≡ length (others key' c ys) = same_length key key' n (others key c xs) (others key' c ys) (omega (arith, others-shorter key c xs)) rest in
+    let here = each c in
+    let lengths : length (others key c (x ∷ xs)) ≡ length (others key c xs) = ap length dropped in
+    omega arith
+  where
+    by_key : (k : Key) (b : Bool) → same_key k (key x) ≡ b → others key (key x) (x ∷ xs) ≡ others key (key x) xs → length (of key k (others key (key x) xs)) ≡ length (of key' k (others key' (key x) ys))
+    by_key k true e dropped =
+        let same : k ≡ key x = same_key-true k (key x) e in
+        subst (λ c. length (of key c (others key (key x) xs)) ≡ length (of key' c (others key' (key x) ys))) (sym same) (ap length (none-others key (key x) xs) ∙ sym (ap length (none-others key' (key x) ys)))
+    by_key k false e dropped =
+        ap (λ l. length (of key k l)) (sym dropped)
+        ∙ (ap length (all-others key k (key x) (x ∷ xs) e) ∙ (each k ∙ sym (ap length (all-others key' k (key x) ys e))))

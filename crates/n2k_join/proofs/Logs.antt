@@ -1,0 +1,131 @@
+-- The frames of a log's entries, and what its lines keep where an entry more comes.
+use Rattle.std.proofs.Common.{◌≡◌, ◌≤◌, ◌<◌, ◌+◌, ℕ, suc, zero, Bool, true, false, cond, List, [], ◌∷◌, ◌++◌, length, refl, sym, ap, ◌∙◌, subst, arith, add-zero, Option, Some, None, option_map, option_and_then, option_to_list, slice_get, drop, mod-lt}
+use Rattle.std.specs.Prelude.{sum_by, slice_index_or}
+use Rattle.std.specs.Option.{option_or}
+use Rattle.std.specs.List.{range_with_len, cons_option, AllByRecursion}
+use Rattle.std.proofs.lemmas.List.{append-nil}
+use Rattle.std.proofs.lemmas.List.Sums.{sum_by-cons}
+use Rattle.std.proofs.lemmas.Option.{none-some, same_Some}
+use Rattle.n2k_wire.specs.declared.entry.Entry.{Entry}
+use Rattle.n2k_wire.specs.declared.entry.Entry.TheVariants as entries
+use Rattle.n2k_table.specs.declared.definition.Kind.{Kind}
+use Rattle.n2k_table.specs.declared.definition.Kind.TheVariants.{Single, Fast}
+use Rattle.n2k_join.specs.Frames.{Frame, most_frames, is_fast_payload, fast_frame, frame_with, frame_by, frame_in, frames_from, frames, frame_at}
+use Rattle.n2k_join.specs.Groups.{Ends}
+use Rattle.n2k_join.specs.Messages.{Keyed, gathered, broken_with, message_with, alone, entry_at}
+use Rattle.n2k_join.proofs.Given.{gathered-stays, broken-stays}
+use Rattle.n2k_join.proofs.Lines.{frames-rise, frame_in-line, frames_found, rise-all}
+use Rattle.n2k_join.proofs.Opened.{IsLog, key_at}
+use Rattle.n2k_join.proofs.Rising.{all-map, all-zip}
+
+-- What holds of a frame of each entry holds of all frames.
+pub frames-all : (P : Frame → Type 0) (Q : Entry → Type 0) (kind : ℕ → Option Kind) (n : ℕ) → ((i : ℕ) (e : Entry) (f : Frame) → Q e → frame_in kind i e ≡ Some f → P f) → (es : List Entry) → AllByRecursion Q es → AllByRecursion P (frames_from kind n es)
+frames-all P Q kind n each [] all = tt
+frames-all P Q kind n each (e ∷ es) all = by (frame_in kind n e) (λ f is. each n e f all.0 is) (frames-all P Q kind (n + 1) each es all.1)
+  where
+    by : (o : Option Frame) → ((f : Frame) → o ≡ Some f → P f) → AllByRecursion P (frames_from kind (n + 1) es) → AllByRecursion P (cons_option o (frames_from kind (n + 1) es))
+    by None here rest = rest
+    by (Some f) here rest = (here f refl, rest)
+
+all_entries : (es : List Entry) → AllByRecursion (λ _. Unit {0}) es
+all_entries [] = tt
+all_entries (e ∷ es) = (tt, all_entries es)
+
+frames-below : (kind : ℕ → Option Kind) (n : ℕ) (es : List Entry) → AllByRecursion (λ (f : Frame). f.line < n + length es) (frames_from kind n es)
+frames-below kind n [] = tt
+frames-below kind n (e ∷ es) =
+    by (frame_in kind n e) (λ f is. frame_in-line kind n e f is) (all-map (λ (f : Frame). f.line < (n + 1) + length es) (λ (f : Frame). f.line < n + length (e ∷ es)) (frames_from kind (n + 1) es) (λ f l. omega (arith, l)) (frames-below kind (n + 1) es))
+  where
+    by : (o : Option Frame) → ((f : Frame) → o ≡ Some f → f.line ≡ n) → AllByRecursion (λ (f : Frame). f.line < n + length (e ∷ es)) (frames_from kind (n + 1) es) → AllByRecursion (λ (f : Frame). f.line < n + length (e ∷ es)) (cons_option o (frames_from kind (n + 1) es))
+    by None here rest = rest
+    by (Some f) here rest = let at : f.line ≡ n = here f refl in (omega (arith, at), rest)
+
+-- a frame's number has five bits
+pub frame_in-number : (kind : ℕ → Option Kind) (i : ℕ) (e : Entry) (f : Frame) → frame_in kind i e ≡ Some f → f.number < most_frames
+unfolding fast_frame
+frame_in-number kind i entries.Skip f is = absurd (none-some f is)
+frame_in-number kind i (entries.Bad cause) f is = absurd (none-some f is)
+frame_in-number kind i (entries.Whole packet) f is = absurd (none-some f is)
+frame_in-number kind i (entries.Frame packet) f is = by_kind (kind packet.id.pgn) is
+  where
+    by_test : (b : Bool) (g : Frame) → g.number < most_frames → cond b (Some g) None ≡ Some f → f.number < most_frames
+    by_test true g l is = subst (λ (f : Frame). f.number < most_frames) (same_Some g f is) l
+    by_test false g l is = absurd (none-some f is)
+
+    by_kind : (k : Option Kind) → frame_by k i packet ≡ Some f → f.number < most_frames
+    by_kind None is = absurd (none-some f is)
+    by_kind (Some Single) is = absurd (none-some f is)
+    by_kind (Some Fast) is = by_test (is_fast_payload packet.payload) (frame_with i packet (slice_index_or packet.payload 0 0) (drop 1 packet.payload)) (mod-lt (slice_index_or packet.payload 0 0) (omega arith)) is
+
+-- the frames of entries are a log
+pub frames-log : (kind : ℕ → Option Kind) (es : List Entry) → IsLog (length es) (frames kind es)
+frames-log kind es =
+    let rises = frames-rise kind 1 es in
+    record {
+      lines = all-map _ (λ (f : Frame). (1 ≤ f.line) × (f.line ≤ length es)) (frames kind es) (λ f h. (h.0, omega (arith, h.1))) (all-zip (λ (f : Frame). 1 ≤ f.line) (λ (f : Frame). f.line < 1 + length es) (frames kind es) (rise-all 1 (frames kind es) rises) (frames-below kind 1 es));
+      numbers = frames-all (λ (f : Frame). f.number < most_frames) (λ _. Unit {0}) kind 1 (λ i e f _ is. frame_in-number kind i e f is) es (all_entries es);
+      keys = all-map (λ (f : Frame). frame_at f.line (frames kind es) ≡ Some f) (λ (f : Frame). key_at f.line (frames kind es) ≡ Some f.key) (frames kind es) (λ f h. ap (option_map (λ (f : Frame). f.key)) h) (frames_found 1 (frames kind es) rises);
+    }
+
+cons_option-append : {X : Type 0} (o : Option X) (xs ys : List X) → cons_option o (xs ++ ys) ≡ cons_option o xs ++ ys
+cons_option-append None xs ys = refl
+cons_option-append (Some x) xs ys = refl
+
+cons_option-list : {X : Type 0} (o : Option X) → cons_option o [] ≡ option_to_list o
+cons_option-list None = refl
+cons_option-list (Some x) = refl
+
+frames_from-push : (kind : ℕ → Option Kind) (n : ℕ) (es : List Entry) (e : Entry) → frames_from kind n (es ++ e ∷ []) ≡ frames_from kind n es ++ option_to_list (frame_in kind (n + length es) e)
+frames_from-push kind n [] e = cons_option-list (frame_in kind n e) ∙ ap (λ k. option_to_list (frame_in kind k e)) (sym (add-zero n))
+frames_from-push kind n (f ∷ es) e =
+    let at : n + 1 + length es ≡ n + length (f ∷ es) = omega arith in
+    ap (cons_option (frame_in kind n f)) (frames_from-push kind (n + 1) es e ∙ ap (λ k. frames_from kind (n + 1) es ++ option_to_list (frame_in kind k e)) at)
+    ∙ cons_option-append (frame_in kind n f) (frames_from kind (n + 1) es) (option_to_list (frame_in kind (n + length (f ∷ es)) e))
+
+-- one entry more
+pub frames-push : (kind : ℕ → Option Kind) (es : List Entry) (e : Entry) → frames kind (es ++ e ∷ []) ≡ frames kind es ++ option_to_list (frame_in kind (length es + 1) e)
+frames-push kind es e =
+    let at : 1 + length es ≡ length es + 1 = omega arith in
+    frames_from-push kind 1 es e ∙ ap (λ k. frames kind es ++ option_to_list (frame_in kind k e)) at
+
+slice_get-before : {X : Type 0} (xs : List X) (x : X) (i : ℕ) → i < length xs → slice_get (xs ++ x ∷ []) i ≡ slice_get xs i
+slice_get-before [] x i l = absurd (omega (arith, l))
+slice_get-before (y ∷ ys) x zero l = refl
+slice_get-before (y ∷ ys) x (suc i) l = slice_get-before ys x i (omega (arith, l))
+
+slice_get-last : {X : Type 0} (xs : List X) (x : X) → slice_get (xs ++ x ∷ []) (length xs) ≡ Some x
+slice_get-last [] x = refl
+slice_get-last (y ∷ ys) x = slice_get-last ys x
+
+pub entry_at-before : (es : List Entry) (e : Entry) (i : ℕ) → 1 ≤ i → i ≤ length es → entry_at (es ++ e ∷ []) i ≡ entry_at es i
+entry_at-before es e zero l u = absurd (omega arith)
+entry_at-before es e (suc i) l u = slice_get-before es e i (omega arith)
+
+pub entry_at-last : (es : List Entry) (e : Entry) → entry_at (es ++ e ∷ []) (length es + 1) ≡ Some e
+entry_at-last es e = let at : length es + 1 ≡ suc (length es) = omega arith in ap (entry_at (es ++ e ∷ [])) at ∙ slice_get-last es e
+
+-- earlier lines keep what they gave
+gathered-before : (ends : Ends) (kind : ℕ → Option Kind) (es : List Entry) (e : Entry) (i : ℕ) → i ≤ length es → gathered ends (frames kind (es ++ e ∷ [])) i ≡ gathered ends (frames kind es) i
+gathered-before ends kind es e i u = ap (λ fs. gathered ends fs i) (frames-push kind es e) ∙ by (frame_in kind (length es + 1) e) (λ x is. frame_in-line kind (length es + 1) e x is)
+  where
+    by : (o : Option Frame) → ((x : Frame) → o ≡ Some x → x.line ≡ length es + 1) → gathered ends (frames kind es ++ option_to_list o) i ≡ gathered ends (frames kind es) i
+    by None line = ap (λ fs. gathered ends fs i) (append-nil (frames kind es))
+    by (Some x) line = let at : x.line ≡ length es + 1 = line x refl in gathered-stays ends (frames kind es) x i (λ t. omega (arith, t, at, u))
+
+pub message-before : (ends : Ends) (kind : ℕ → Option Kind) (es : List Entry) (e : Entry) (i : ℕ) → 1 ≤ i → i ≤ length es → message_with ends kind (es ++ e ∷ []) i ≡ message_with ends kind es i
+message-before ends kind es e i l u = λ j. option_or (option_map (λ (m : Keyed). m.message) (gathered-before ends kind es e i u j)) (option_and_then (alone kind) (entry_at-before es e i l u j))
+
+pub broken-before : (ends : Ends) (kind : ℕ → Option Kind) (es : List Entry) (e : Entry) (i : ℕ) → i ≤ length es → broken_with ends (frames kind (es ++ e ∷ [])) i ≡ broken_with ends (frames kind es) i
+broken-before ends kind es e i u = ap (λ fs. broken_with ends fs i) (frames-push kind es e) ∙ by (frame_in kind (length es + 1) e) (λ x is. frame_in-line kind (length es + 1) e x is)
+  where
+    by : (o : Option Frame) → ((x : Frame) → o ≡ Some x → x.line ≡ length es + 1) → broken_with ends (frames kind es ++ option_to_list o) i ≡ broken_with ends (frames kind es) i
+    by None line = ap (λ fs. broken_with ends fs i) (append-nil (frames kind es))
+    by (Some x) line = let at : x.line ≡ length es + 1 = line x refl in broken-stays ends (length es) (frames kind es) x i (frames-log kind es) (λ t. omega (arith, t, at, u))
+
+-- sums over a range, of what agrees there
+pub sum_by-range : (f g : ℕ → ℕ) (a n : ℕ) → ((i : ℕ) → a ≤ i → i < a + n → f i ≡ g i) → sum_by f (range_with_len a n) ≡ sum_by g (range_with_len a n)
+sum_by-range f g a zero e = refl
+sum_by-range f g a (suc n) e =
+    sum_by-cons f a (range_with_len (a + 1) n)
+    ∙ (λ j. e a (omega arith) (omega arith) j + sum_by-range f g (a + 1) n (λ i l u. e i (omega arith) (omega arith)) j)
+    ∙ sym (sum_by-cons g a (range_with_len (a + 1) n))

@@ -1,0 +1,338 @@
+-- The open groups of a list of frames, and those of a list with one frame more.
+use Rattle.std.proofs.Common.{◌≡◌, ◌==◌, ◌≤◌, ◌<◌, ◌+◌, ℕ, Bool, true, false, cond, ◌||◌, List, [], ◌∷◌, ◌++◌, length, refl, sym, ap, ◌∙◌, subst, arith, Option, Some, None, option_map, option_and_then, option_to_list, filter_map}
+use Rattle.std.specs.Prelude.{is_some, IfSome}
+use Rattle.std.specs.Option.{option_or}
+use Rattle.std.specs.List.{range_with_len, last_or, AllByRecursion}
+use Rattle.std.proofs.lemmas.List.{length-append, append-nil}
+use Rattle.std.proofs.lemmas.Bool.{eqb-true, eq-eqb, ne_eqb, or_parts, false≢true, false_from_ne_true}
+use Rattle.std.proofs.lemmas.Option.{none-some, same_Some}
+use Rattle.n2k_join.specs.Frames.{Key, same_key, Frame, of_key, frame_at, most_frames}
+use Rattle.n2k_join.specs.Groups.{Ends, closes, complete, cut, has_number, has_twice, first, incomplete, open_of}
+use Rattle.n2k_join.specs.Open.{Group, group_of, where_begun, begun_at, open_groups}
+use Rattle.n2k_join.specs.State.{held_of}
+use Rattle.n2k_join.proofs.Advanced.{with_frame, joined, taken, begun, of_the_key, opened, advanced}
+use Rattle.n2k_join.proofs.Carried.{carried-push, complete-same, pieces_of-same, has_twice-push}
+use Rattle.n2k_join.proofs.Cuts.{IsEnding, next, so_far, so_far-push, so_far-all, so_far-keeps, last-cut}
+use Rattle.n2k_join.proofs.Held.{AreNumbered, carried-kept, has_twice-kept, first-kept}
+use Rattle.n2k_join.proofs.Keys.{same_key-true, same_key-refl, same_key-sym, of_key-same, of_key-other, of_key-keeps}
+use Rattle.n2k_join.proofs.Rising.{range-push, filter_map-push, filter_map-fused, filter_map-range, find-append, find-passes, find-all, find-none, look, look-filter_map, all-range, all-map, passes_none}
+
+-- the key of the frame at a line
+abbrev pub key_at : ℕ → List Frame → Option Key
+key_at line fs = option_map (λ (f : Frame). f.key) (frame_at line fs)
+
+-- frames of lines 1 to n, with numbers of five bits, those of one line of one key
+pub record IsLog (n : ℕ) (fs : List Frame) : Type 0 where
+  pub lines : AllByRecursion (λ (f : Frame). (1 ≤ f.line) × (f.line ≤ n)) fs
+  pub numbers : AreNumbered fs
+  pub keys : AllByRecursion (λ (f : Frame). key_at f.line fs ≡ Some f.key) fs
+
+-- what is known of a group of a cut
+pub record IsFine (g : List Frame) : Type 0 where
+  pub numbers : AreNumbered g
+  pub once : has_twice g ≡ false
+  pub nonempty : 0 < length g
+
+first-push : (g : List Frame) (x : Frame) → 0 < length g → first (g ++ x ∷ []) ≡ first g
+first-push [] x some = absurd (omega (arith, some))
+first-push (f ∷ g) x some = refl
+
+at_some : {X : Type 0} (P : X → Type 0) (o : Option X) (x : X) → IfSome o P → o ≡ Some x → P x
+at_some P None x h e = absurd (none-some x e)
+at_some P (Some y) x h e = subst P (same_Some y x e) h
+
+both : {X : Type 0} (P Q : X → Type 0) (o : Option X) → IfSome o P → IfSome o Q → IfSome o (λ x. P x × Q x)
+both P Q None p q = tt
+both P Q (Some x) p q = (p, q)
+
+on_some : {X : Type 0} (P Q : X → Type 0) (o : Option X) → ((x : X) → P x → Q x) → IfSome o P → IfSome o Q
+on_some P Q None f p = tt
+on_some P Q (Some x) f p = f x p
+
+-- ---- where frames stand
+
+pub at_line : (i : ℕ) (fs : List Frame) (x : Frame) → (x.line ≡ i → ⊥) → frame_at i (fs ++ x ∷ []) ≡ frame_at i fs
+at_line i fs x other =
+    find-append (λ (f : Frame). f.line == i) fs (x ∷ [])
+    ∙ ap (λ b. option_or (frame_at i fs) (cond b (Some x) None)) (ne_eqb x.line i other)
+    ∙ elim (frame_at i fs) as (λ o. option_or o None ≡ o) [ None ↦ refl | Some f ↦ refl ]
+
+pub none_at : (n i : ℕ) (fs : List Frame) → IsLog n fs → n < i → frame_at i fs ≡ None
+none_at n i fs log l = find-none (λ (f : Frame). f.line == i) fs (all-map _ (λ (f : Frame). (f.line == i) ≡ false) fs (λ f h. ne_eqb f.line i (λ e. omega (arith, h.1, e))) log.lines)
+
+pub at_last : (n : ℕ) (fs : List Frame) (x : Frame) → IsLog n fs → n < x.line → frame_at x.line (fs ++ x ∷ []) ≡ Some x
+at_last n fs x log l =
+    find-append (λ (f : Frame). f.line == x.line) fs (x ∷ [])
+    ∙ ap (λ o. option_or o (cond (x.line == x.line) (Some x) None)) (none_at n x.line fs log l)
+    ∙ ap (λ b. cond b (Some x) None) (eq-eqb x.line x.line refl)
+
+module _ (ends : Ends) (is_ending : IsEnding ends) where
+  -- the open group of a key, where it begins at a line
+  abbrev pub open_at : Key → List Frame → ℕ → Option Group
+  open_at k fs i = option_and_then (where_begun i k) (open_of ends k fs)
+
+  pub begun_at-key : (fs : List Frame) (i : ℕ) → begun_at ends fs i ≡ option_and_then (λ (k : Key). open_at k fs i) (key_at i fs)
+  unfolding begun_at
+  begun_at-key fs i =
+      elim (frame_at i fs) as (λ o. option_and_then (λ (f : Frame). option_and_then (where_begun i f.key) (open_of ends f.key fs)) o ≡ option_and_then (λ (k : Key). open_at k fs i) (option_map (λ (f : Frame). f.key) o))
+      [ None ↦ refl | Some f ↦ refl ]
+
+  pub open_of-so_far : (k : Key) (fs : List Frame) → open_of ends k fs ≡ option_and_then incomplete (so_far ends (of_key k fs))
+  open_of-so_far k fs = ap (option_and_then incomplete) (last-cut ends (of_key k fs))
+
+  so_far-once : (fs : List Frame) → IfSome (so_far ends fs) (λ g. (has_twice g ≡ false) × (0 < length g))
+  so_far-once fs = so_far-keeps ends (λ g. (has_twice g ≡ false) × (0 < length g)) (λ x. (refl, omega arith)) more fs
+    where
+      more : (g : List Frame) (x : Frame) → closes ends g x ≡ false → (has_twice g ≡ false) × (0 < length g) → (has_twice (g ++ x ∷ []) ≡ false) × (0 < length (g ++ x ∷ []))
+      more g x c h =
+          let new : has_number x.number g ≡ false = false_from_ne_true (has_number x.number g) (λ e. false≢true (sym (or_parts (complete g) (ends g x) c).1 ∙ is_ending.repeated g x e)) in
+          (has_twice-push g x h.0 ∙ new, omega (arith, length-append g (x ∷ []), h.1))
+
+  pub so_far-fine : (fs : List Frame) → AreNumbered fs → IfSome (so_far ends fs) IsFine
+  so_far-fine fs numbers =
+      on_some _ _ (so_far ends fs) (λ g h. record { numbers = h.0; once = h.1.0; nonempty = h.1.1 })
+      (both AreNumbered (λ g. (has_twice g ≡ false) × (0 < length g)) (so_far ends fs) (so_far-all ends (λ (f : Frame). f.number < most_frames) fs numbers) (so_far-once fs))
+
+  -- what is kept of a group ends, completes and takes a frame as the group does
+  pub ends-kept : (k : Key) (g : List Frame) (x : Frame) → IsFine g → ends (held_of (group_of k g)) x ≡ ends g x
+  ends-kept k g x fine = is_ending.alike (held_of (group_of k g)) g x (carried-kept k g fine.numbers) (first-kept k g fine.numbers fine.nonempty)
+
+  pub complete-kept : (k : Key) (g : List Frame) → IsFine g → complete (held_of (group_of k g)) ≡ complete g
+  complete-kept k g fine = complete-same (held_of (group_of k g)) g (carried-kept k g fine.numbers) (has_twice-kept k g ∙ sym fine.once)
+
+  pub complete-kept_push : (k : Key) (g : List Frame) (x : Frame) → IsFine g → complete (held_of (group_of k g) ++ x ∷ []) ≡ complete (g ++ x ∷ [])
+  complete-kept_push k g x fine =
+      complete-same (held_of (group_of k g) ++ x ∷ []) (g ++ x ∷ []) (carried-push (held_of (group_of k g)) g x (carried-kept k g fine.numbers))
+      (has_twice-push (held_of (group_of k g)) x (has_twice-kept k g) ∙ ap (λ (c : ℕ → Option (List ℕ)). is_some (c x.number)) (carried-kept k g fine.numbers) ∙ sym (has_twice-push g x fine.once))
+
+  pub with_frame-kept : (k : Key) (g : List Frame) (x : Frame) → IsFine g → with_frame (group_of k g) x ≡ group_of k (g ++ x ∷ [])
+  with_frame-kept k g x fine = λ i. record {
+    first = sym (first-push g x fine.nonempty) i;
+    key = k;
+    pieces = pieces_of-same (held_of (group_of k g) ++ x ∷ []) (g ++ x ∷ []) (carried-push (held_of (group_of k g)) g x (carried-kept k g fine.numbers)) i;
+  }
+
+  taken-ended : (k : Key) (g : List Frame) (x : Frame) → IsFine g → same_key x.key k ≡ true → ends g x ≡ true → taken ends x (group_of k g) ≡ None
+  taken-ended k g x fine same e =
+      ap (λ b. cond b (joined ends x (group_of k g)) (Some (group_of k g))) same
+      ∙ ap (λ b. cond b None (cond (complete (held_of (group_of k g) ++ x ∷ [])) None (Some (with_frame (group_of k g) x)))) (ends-kept k g x fine ∙ e)
+
+  taken-joined : (k : Key) (g : List Frame) (x : Frame) → IsFine g → same_key x.key k ≡ true → ends g x ≡ false → taken ends x (group_of k g) ≡ cond (complete (g ++ x ∷ [])) None (Some (group_of k (g ++ x ∷ [])))
+  taken-joined k g x fine same e =
+      ap (λ b. cond b (joined ends x (group_of k g)) (Some (group_of k g))) same
+      ∙ ap (λ b. cond b None (cond (complete (held_of (group_of k g) ++ x ∷ [])) None (Some (with_frame (group_of k g) x)))) (ends-kept k g x fine ∙ e)
+      ∙ ap (λ b. cond b None (Some (with_frame (group_of k g) x))) (complete-kept_push k g x fine)
+      ∙ ap (λ o. cond (complete (g ++ x ∷ [])) None (Some o)) (with_frame-kept k g x fine)
+
+  -- a group of the frame alone begins at the frame's line only
+  not_here : (k : Key) (x : Frame) (i : ℕ) → (x.line ≡ i → ⊥) → option_and_then (where_begun i k) (incomplete (x ∷ [])) ≡ None
+  not_here k x i other =
+      elim (complete (x ∷ [])) as (λ b. option_and_then (where_begun i k) (cond b None (Some (x ∷ []))) ≡ None)
+      [ true ↦ refl | false ↦ ap (λ b. cond b (Some (group_of k (x ∷ []))) None) (ne_eqb x.line i other) ]
+
+  here : (x : Frame) → option_and_then (where_begun x.line x.key) (incomplete (x ∷ [])) ≡ begun x
+  here x =
+      elim (complete (x ∷ [])) as (λ b. option_and_then (where_begun x.line x.key) (cond b None (Some (x ∷ []))) ≡ cond b None (Some (group_of x.key (x ∷ []))))
+      [ true ↦ refl | false ↦ ap (λ b. cond b (Some (group_of x.key (x ∷ []))) None) (eq-eqb x.line x.line refl) ]
+
+  and_then-cond : {X Y : Type 0} (f : X → Option Y) (b : Bool) (x : X) → option_and_then f (cond b None (Some x)) ≡ cond b None (f x)
+  and_then-cond f true x = refl
+  and_then-cond f false x = refl
+
+  and_then-cond_not : {X Y : Type 0} (f : X → Option Y) (b : Bool) (x : X) → option_and_then f (cond b (Some x) None) ≡ cond b (f x) None
+  and_then-cond_not f true x = refl
+  and_then-cond_not f false x = refl
+
+  cond-swap : {X : Type 0} (a b : Bool) (x : X) → cond a None (cond b (Some x) None) ≡ cond b (cond a None (Some x)) None
+  cond-swap true true x = refl
+  cond-swap true false x = refl
+  cond-swap false true x = refl
+  cond-swap false false x = refl
+
+  both_none : (b : Bool) → ◌≡◌ {A = Option Group} (cond b None None) None
+  both_none true = refl
+  both_none false = refl
+
+  -- A key's group so far with a frame more, seen at another line than the frame's.
+  stays_or_goes : (k : Key) (x : Frame) (i : ℕ) → same_key x.key k ≡ true → (x.line ≡ i → ⊥) → (s : Option (List Frame)) → IfSome s IsFine
+      → option_and_then (where_begun i k) (incomplete (next ends s x)) ≡ option_and_then (taken ends x) (option_and_then (where_begun i k) (option_and_then incomplete s))
+  stays_or_goes k x i same other None fine = not_here k x i other
+  stays_or_goes k x i same other (Some g) fine = by (complete g) (ends g x) refl
+    where
+      h : List Frame
+      h = g ++ x ∷ []
+
+      where_same : where_begun i k h ≡ cond (first g == i) (Some (group_of k h)) None
+      where_same = ap (λ n. cond (n == i) (Some (group_of k h)) None) (first-push g x fine.nonempty)
+
+      by : (c e : Bool) → ends g x ≡ e → option_and_then (where_begun i k) (incomplete (cond (c || e) (x ∷ []) h)) ≡ option_and_then (taken ends x) (option_and_then (where_begun i k) (cond c None (Some g)))
+      by true e t = not_here k x i other
+      by false true t =
+          not_here k x i other
+          ∙ sym (and_then-cond_not (taken ends x) (first g == i) (group_of k g) ∙ ap (λ o. cond (first g == i) o None) (taken-ended k g x fine same t)
+          ∙ both_none (first g == i))
+      by false false t =
+          and_then-cond (where_begun i k) (complete h) h
+          ∙ ap (λ o. cond (complete h) None o) where_same
+          ∙ cond-swap (complete h) (first g == i) (group_of k h)
+          ∙ sym (and_then-cond_not (taken ends x) (first g == i) (group_of k g) ∙ ap (λ o. cond (first g == i) o None) (taken-joined k g x fine same t))
+
+  -- and at the frame's own
+  is_opened : (x : Frame) (s : Option (List Frame)) → IfSome s IsFine → IfSome s (λ g. first g ≡ x.line → ⊥)
+      → option_and_then (where_begun x.line x.key) (incomplete (next ends s x)) ≡ opened ends x (option_map (group_of x.key) (option_and_then incomplete s))
+  is_opened x None fine past = here x
+  is_opened x (Some g) fine past = by (complete g) (ends g x) refl
+    where
+      h : List Frame
+      h = g ++ x ∷ []
+
+      by : (c e : Bool) → ends g x ≡ e → option_and_then (where_begun x.line x.key) (incomplete (cond (c || e) (x ∷ []) h)) ≡ opened ends x (option_map (group_of x.key) (cond c None (Some g)))
+      by true e t = here x
+      by false true t = here x ∙ sym (ap (λ b. cond b (begun x) None) (ends-kept x.key g x fine ∙ t))
+      by false false t =
+          and_then-cond (where_begun x.line x.key) (complete h) h
+          ∙ ap (λ b. cond (complete h) None (cond b (Some (group_of x.key h)) None)) (ap (λ n. n == x.line) (first-push g x fine.nonempty) ∙ ne_eqb (first g) x.line past)
+          ∙ both_none (complete h)
+          ∙ sym (ap (λ b. cond b (begun x) None) (ends-kept x.key g x fine ∙ t))
+
+  pub numbers_of_key : (k : Key) (fs : List Frame) → AreNumbered fs → AreNumbered (of_key k fs)
+  numbers_of_key k fs all = all-map _ (λ (f : Frame). f.number < most_frames) (of_key k fs) (λ f h. h.0) (of_key-keeps (λ (f : Frame). f.number < most_frames) k fs all)
+
+  open_at-push : (k : Key) (fs : List Frame) (x : Frame) (i : ℕ) → AreNumbered fs → (x.line ≡ i → ⊥) → open_at k (fs ++ x ∷ []) i ≡ option_and_then (taken ends x) (open_at k fs i)
+  open_at-push k fs x i numbers other = by (same_key x.key k) refl
+    where
+      by : (b : Bool) → same_key x.key k ≡ b → open_at k (fs ++ x ∷ []) i ≡ option_and_then (taken ends x) (open_at k fs i)
+      by true same =
+          ap (option_and_then (where_begun i k)) (open_of-so_far k (fs ++ x ∷ []) ∙ ap (λ t. option_and_then incomplete (so_far ends t)) (of_key-same k fs x (same_key-sym k x.key ∙ same)) ∙ ap (option_and_then incomplete) (so_far-push ends (of_key k fs) x))
+          ∙ stays_or_goes k x i same other (so_far ends (of_key k fs)) (so_far-fine (of_key k fs) (numbers_of_key k fs numbers))
+          ∙ ap (λ o. option_and_then (taken ends x) (option_and_then (where_begun i k) o)) (sym (open_of-so_far k fs))
+      by false differs =
+          ap (λ t. option_and_then (where_begun i k) (option_and_then incomplete (last_or None (cut ends t)))) (of_key-other k fs x (same_key-sym k x.key ∙ differs))
+          ∙ sym (untouched (open_of ends k fs))
+        where
+          untouched : (o : Option (List Frame)) → option_and_then (taken ends x) (option_and_then (where_begun i k) o) ≡ option_and_then (where_begun i k) o
+          untouched None = refl
+          untouched (Some g) =
+              and_then-cond_not (taken ends x) (first g == i) (group_of k g) ∙ ap (λ b. cond (first g == i) (cond b (joined ends x (group_of k g)) (Some (group_of k g))) None) differs
+
+  begun_at-push : (fs : List Frame) (x : Frame) (i : ℕ) → AreNumbered fs → (x.line ≡ i → ⊥) → begun_at ends (fs ++ x ∷ []) i ≡ option_and_then (taken ends x) (begun_at ends fs i)
+  begun_at-push fs x i numbers other =
+      begun_at-key (fs ++ x ∷ []) i
+      ∙ ap (λ o. option_and_then (λ (k : Key). open_at k (fs ++ x ∷ []) i) (option_map (λ (f : Frame). f.key) o)) (at_line i fs x other)
+      ∙ by (key_at i fs)
+      ∙ ap (option_and_then (taken ends x)) (sym (begun_at-key fs i))
+    where
+      by : (o : Option Key) → option_and_then (λ (k : Key). open_at k (fs ++ x ∷ []) i) o ≡ option_and_then (taken ends x) (option_and_then (λ (k : Key). open_at k fs i) o)
+      by None = refl
+      by (Some k) = open_at-push k fs x i numbers other
+
+  -- ---- the open group of a key is found among the open groups
+
+  pub begun_at-is : (fs : List Frame) (i : ℕ) (o : Group) → begun_at ends fs i ≡ Some o → (o.first ≡ i) × (option_map (group_of o.key) (open_of ends o.key fs) ≡ Some o)
+  begun_at-is fs i o e = by (key_at i fs) (sym (begun_at-key fs i) ∙ e)
+    where
+      by_line : (k : Key) (g : List Frame) → open_of ends k fs ≡ Some g → (b : Bool) → (first g == i) ≡ b → cond b (Some (group_of k g)) None ≡ Some o → (o.first ≡ i) × (option_map (group_of o.key) (open_of ends o.key fs) ≡ Some o)
+      by_line k g is true t e =
+          let same : group_of k g ≡ o = same_Some (group_of k g) o e in (
+            ap (λ (o : Group). o.first) (sym same) ∙ eqb-true (first g) i t,
+            subst (λ (o : Group). option_map (group_of o.key) (open_of ends o.key fs) ≡ Some o) same (ap (option_map (group_of k)) is),
+          )
+      by_line k g is false t e = absurd (none-some o e)
+
+      by_open : (k : Key) (g : Option (List Frame)) → open_of ends k fs ≡ g → option_and_then (where_begun i k) g ≡ Some o → (o.first ≡ i) × (option_map (group_of o.key) (open_of ends o.key fs) ≡ Some o)
+      by_open k None is e = absurd (none-some o e)
+      by_open k (Some g) is e = by_line k g is (first g == i) refl e
+
+      by : (k : Option Key) → option_and_then (λ (k : Key). open_at k fs i) k ≡ Some o → (o.first ≡ i) × (option_map (group_of o.key) (open_of ends o.key fs) ≡ Some o)
+      by None e = absurd (none-some o e)
+      by (Some k) e = by_open k (open_of ends k fs) refl e
+
+  pub open_groups-each : (n : ℕ) (fs : List Frame) → AllByRecursion (λ (o : Group). option_map (group_of o.key) (open_of ends o.key fs) ≡ Some o) (open_groups ends n fs)
+  unfolding open_groups
+  open_groups-each n fs = all-range (λ (o : Group). option_map (group_of o.key) (open_of ends o.key fs) ≡ Some o) (begun_at ends fs) 1 n (λ i o l u e. (begun_at-is fs i o e).1)
+
+  -- a group of a key's cut begins at a line of the log, where a frame of that key stands
+  pub so_far-begins : (n : ℕ) (k : Key) (fs : List Frame) → IsLog n fs → IfSome (so_far ends (of_key k fs)) (λ g. (1 ≤ first g) × (first g ≤ n) × (key_at (first g) fs ≡ Some k))
+  so_far-begins n k fs log =
+      on_some _ _ (so_far ends (of_key k fs)) (λ g h. at_first g h.0 h.1.nonempty)
+      (both (AllByRecursion P) IsFine (so_far ends (of_key k fs)) (so_far-all ends P (of_key k fs) of_it) (so_far-fine (of_key k fs) (numbers_of_key k fs log.numbers)))
+    where
+      L : Frame → Type 0
+      L f = (1 ≤ f.line) × (f.line ≤ n)
+
+      P : Frame → Type 0
+      P f = (1 ≤ f.line) × (f.line ≤ n) × (key_at f.line fs ≡ Some k)
+
+      zipped : (gs : List Frame) → AllByRecursion L gs → AllByRecursion (λ (f : Frame). key_at f.line fs ≡ Some f.key) gs → AllByRecursion (λ (f : Frame). (1 ≤ f.line) × (f.line ≤ n) × (key_at f.line fs ≡ Some f.key)) gs
+      zipped [] a b = tt
+      zipped (f ∷ gs) a b = ((a.0.0, a.0.1, b.0), zipped gs a.1 b.1)
+
+      of_it : AllByRecursion P (of_key k fs)
+      of_it = all-map _ P (of_key k fs) (λ f h. (h.0.0, h.0.1, h.0.2 ∙ ap Some h.1)) (of_key-keeps (λ (f : Frame). (1 ≤ f.line) × (f.line ≤ n) × (key_at f.line fs ≡ Some f.key)) k fs (zipped fs log.lines log.keys))
+
+      at_first : (g : List Frame) → AllByRecursion P g → 0 < length g → (1 ≤ first g) × (first g ≤ n) × (key_at (first g) fs ≡ Some k)
+      at_first [] all some = absurd (omega (arith, some))
+      at_first (f ∷ g) all some = all.0
+
+  open_of-begins : (n : ℕ) (k : Key) (fs : List Frame) (g : List Frame) → IsLog n fs → open_of ends k fs ≡ Some g → (1 ≤ first g) × (first g ≤ n) × (key_at (first g) fs ≡ Some k)
+  open_of-begins n k fs g log e = by (so_far ends (of_key k fs)) (sym (open_of-so_far k fs) ∙ e) (so_far-begins n k fs log)
+    where
+      by_test : (h : List Frame) (b : Bool) → cond b None (Some h) ≡ Some g → (1 ≤ first h) × (first h ≤ n) × (key_at (first h) fs ≡ Some k) → (1 ≤ first g) × (first g ≤ n) × (key_at (first g) fs ≡ Some k)
+      by_test h true e p = absurd (none-some g e)
+      by_test h false e p = subst (λ g. (1 ≤ first g) × (first g ≤ n) × (key_at (first g) fs ≡ Some k)) (same_Some h g e) p
+
+      by : (s : Option (List Frame)) → option_and_then incomplete s ≡ Some g → IfSome s (λ g. (1 ≤ first g) × (first g ≤ n) × (key_at (first g) fs ≡ Some k)) → (1 ≤ first g) × (first g ≤ n) × (key_at (first g) fs ≡ Some k)
+      by None e p = absurd (none-some g e)
+      by (Some h) e p = by_test h (complete h) e p
+
+  pub found-open : (n : ℕ) (k : Key) (fs : List Frame) → IsLog n fs → of_the_key k (open_groups ends n fs) ≡ option_map (group_of k) (open_of ends k fs)
+  unfolding open_groups
+  found-open n k fs log = by_found (of_the_key k (open_groups ends n fs)) refl
+    where
+      by_none : of_the_key k (open_groups ends n fs) ≡ None → (o : Option (List Frame)) → open_of ends k fs ≡ o → None ≡ option_map (group_of k) o
+      by_none e None is = refl
+      by_none e (Some g) is =
+          let at = open_of-begins n k fs g log is in
+          let stands : begun_at ends fs (first g) ≡ Some (group_of k g) =
+          begun_at-key fs (first g) ∙ ap (option_and_then (λ (k : Key). open_at k fs (first g))) at.2 ∙ ap (option_and_then (where_begun (first g) k)) is ∙ ap (λ b. cond b (Some (group_of k g)) None) (eq-eqb (first g) (first g) refl) in
+          let listed : look (λ (o : Group). o.first) (open_groups ends n fs) (first g) ≡ Some (group_of k g) =
+          look-filter_map (λ (o : Group). o.first) (begun_at ends fs) (λ i o e. (begun_at-is fs i o e).0) 1 n (first g) at.0 (omega (arith, at.1)) ∙ stands in
+          let differs : same_key k k ≡ false = find-all (λ (o : Group). same_key k o.key ≡ false) (λ (o : Group). o.first == first g) (open_groups ends n fs) (group_of k g) (passes_none (λ (o : Group). same_key k o.key) (open_groups ends n fs) e) listed in
+          absurd (false≢true (sym differs ∙ same_key-refl k))
+
+      by_found : (o : Option Group) → of_the_key k (open_groups ends n fs) ≡ o → of_the_key k (open_groups ends n fs) ≡ option_map (group_of k) (open_of ends k fs)
+      by_found None e = e ∙ by_none e (open_of ends k fs) refl
+      by_found (Some o) e =
+          let is : k ≡ o.key = same_key-true k o.key (find-passes (λ (o : Group). same_key k o.key) (open_groups ends n fs) o e) in
+          let gives : option_map (group_of o.key) (open_of ends o.key fs) ≡ Some o = find-all (λ (o : Group). option_map (group_of o.key) (open_of ends o.key fs) ≡ Some o) (λ (o : Group). same_key k o.key) (open_groups ends n fs) o (open_groups-each n fs) e in
+          e ∙ sym (subst (λ k. option_map (group_of k) (open_of ends k fs) ≡ Some o) (sym is) gives)
+
+  -- ---- the step
+
+  pub open_groups-none : (n : ℕ) (fs : List Frame) → IsLog n fs → open_groups ends (n + 1) fs ≡ open_groups ends n fs
+  unfolding open_groups
+  open_groups-none n fs log =
+      ap (filter_map (begun_at ends fs)) (range-push 1 n) ∙ filter_map-push (begun_at ends fs) (range_with_len 1 n) (1 + n)
+      ∙ ap (λ o. filter_map (begun_at ends fs) (range_with_len 1 n) ++ option_to_list o) (begun_at-key fs (1 + n) ∙ ap (λ o. option_and_then (λ (k : Key). open_at k fs (1 + n)) (option_map (λ (f : Frame). f.key) o)) (none_at n (1 + n) fs log (omega arith)))
+      ∙ append-nil (filter_map (begun_at ends fs) (range_with_len 1 n))
+
+  begun_at-last : (n : ℕ) (fs : List Frame) (x : Frame) → IsLog n fs → n < x.line → begun_at ends (fs ++ x ∷ []) x.line ≡ opened ends x (of_the_key x.key (open_groups ends n fs))
+  begun_at-last n fs x log l =
+      begun_at-key (fs ++ x ∷ []) x.line
+      ∙ ap (λ o. option_and_then (λ (k : Key). open_at k (fs ++ x ∷ []) x.line) (option_map (λ (f : Frame). f.key) o)) (at_last n fs x log l)
+      ∙ ap (option_and_then (where_begun x.line x.key)) (open_of-so_far x.key (fs ++ x ∷ []) ∙ ap (λ t. option_and_then incomplete (so_far ends t)) (of_key-same x.key fs x (same_key-refl x.key)) ∙ ap (option_and_then incomplete) (so_far-push ends (of_key x.key fs) x))
+      ∙ is_opened x (so_far ends (of_key x.key fs)) (so_far-fine (of_key x.key fs) (numbers_of_key x.key fs log.numbers))
+      (on_some (λ g. (1 ≤ first g) × (first g ≤ n) × (key_at (first g) fs ≡ Some x.key)) (λ g. first g ≡ x.line → ⊥) (so_far ends (of_key x.key fs)) (λ g h e. omega (arith, h.1, e)) (so_far-begins n x.key fs log))
+      ∙ ap (λ o. opened ends x (option_map (group_of x.key) o)) (sym (open_of-so_far x.key fs))
+      ∙ ap (opened ends x) (sym (found-open n x.key fs log))
+
+  -- one frame more: the open groups advance
+  pub open_groups-push : (n : ℕ) (fs : List Frame) (x : Frame) → IsLog n fs → x.line ≡ n + 1 → open_groups ends (n + 1) (fs ++ x ∷ []) ≡ advanced ends (open_groups ends n fs) x
+  unfolding open_groups advanced
+  open_groups-push n fs x log at =
+      let line : 1 + n ≡ x.line = omega (arith, at) in
+      ap (filter_map (begun_at ends (fs ++ x ∷ []))) (range-push 1 n) ∙ filter_map-push (begun_at ends (fs ++ x ∷ [])) (range_with_len 1 n) (1 + n)
+      ∙ ap (λ t. t ++ option_to_list (begun_at ends (fs ++ x ∷ []) (1 + n)))
+      (filter_map-range (begun_at ends (fs ++ x ∷ [])) (λ i. option_and_then (taken ends x) (begun_at ends fs i)) 1 n (λ i l u. begun_at-push fs x i log.numbers (λ e. omega (arith, e, at)))
+      ∙ filter_map-fused (taken ends x) (begun_at ends fs) (range_with_len 1 n))
+      ∙ ap (λ o. filter_map (taken ends x) (open_groups ends n fs) ++ option_to_list o) (ap (begun_at ends (fs ++ x ∷ [])) line ∙ begun_at-last n fs x log (omega (arith, at)))

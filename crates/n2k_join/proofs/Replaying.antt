@@ -1,0 +1,226 @@
+-- A log over which messages are scattered, and which gives no other, gives these messages.
+use Rattle.std.proofs.Common.{◌≡◌, ℕ, zero, suc, ◌+◌, ◌<◌, ◌≤◌, Bool, true, false, cond, List, [], ◌∷◌, ◌++◌, length, refl, ap, subst, ◌∙◌, sym, arith, Option, Some, None, inl, inr}
+use Rattle.std.specs.Prelude.{◌==◌, ◌⊎◌, if◌then◌else◌, find, filter, filter_map, map, option_map, option_and_then, slice_get}
+use Rattle.std.specs.Option.{option_or}
+use Rattle.std.specs.List.{AllByRecursion, AllZip, range_with_len, cons_option}
+use Rattle.std.proofs.lemmas.Bool.{eq-eqb, ne_eqb, eqb-true, and_right, cases_eq}
+use Rattle.std.proofs.lemmas.List.Elements.{recursion_from_All}
+use Rattle.n2k_wire.specs.Packet.{PacketParts}
+use Rattle.n2k_wire.specs.declared.entry.Entry.{Entry}
+use Rattle.n2k_table.specs.declared.definition.Kind.{Kind}
+use Rattle.n2k_join.specs.Frames.{Key, same_key, Frame, frame_in, frames_from, frames, of_key, frame_at}
+use Rattle.n2k_join.specs.Groups.{Ends, repeats, complete, cut, last_line}
+use Rattle.n2k_join.specs.Messages.{Keyed, message_of, is_done_at, gathered_by, gathered, alone, message, numbers}
+use Rattle.n2k_join.specs.Pieces.{Sending, sendings, sendings_after}
+use Rattle.n2k_join.specs.Scattered.{key_of_sending, joined, sendings_of, IsScattered, IsMute}
+use Rattle.n2k_join.specs.Replay.{messages, gathered_messages, given_to, sent_to, Replays}
+use Rattle.n2k_join.proofs.Keys.{same_key-true, same_key-refl}
+use Rattle.n2k_join.proofs.KeyCounts.{same_length}
+use Rattle.n2k_join.proofs.Rising.{find-passes, find-all, find-none, filter_map-range, all-map}
+use Rattle.n2k_join.proofs.Lines.{RiseFrom, frame_in-line}
+use Rattle.n2k_join.proofs.GroupLines.{IsGroup, rise-after, last_frame, lasts_above}
+use Rattle.n2k_join.proofs.Arriving.{StandsAt, Comes, gathers, Settled, settles, zip-map, zip-all, as_stretch, filter_map-none}
+
+-- the sending whose group's last frame stands at the line
+unfoldable at_line : List Sending → List (List Frame) → ℕ → Option Sending
+at_line [] gs line = None
+at_line (x ∷ xs) [] line = None
+at_line (x ∷ xs) (g ∷ gs) line = if last_line g == line then Some x else at_line xs gs line
+
+-- the groups' last lines rise, from n on
+abbrev LastsRise : ℕ → List (List Frame) → Type 0
+LastsRise n [] = Unit {0}
+LastsRise n (g ∷ gs) = (n ≤ last_line g) × LastsRise (last_line g + 1) gs
+
+at_line-before : (n line : ℕ) (xs : List Sending) (gs : List (List Frame)) → LastsRise n gs → line < n → at_line xs gs line ≡ None
+unfolding at_line
+at_line-before n line [] gs rise before = refl
+at_line-before n line (x ∷ xs) [] rise before = refl
+at_line-before n line (x ∷ xs) (g ∷ gs) rise before = rw (ne_eqb (last_line g) line (λ same. omega arith)) (at_line-before (last_line g + 1) line xs gs rise.1 (omega arith))
+
+-- read off line by line, the sendings come in their order
+read_off : (R : Sending → List Frame → Type 0) (n count : ℕ) (xs : List Sending) (gs : List (List Frame)) → AllZip R xs gs → LastsRise n gs → AllByRecursion (λ g. last_line g < n + count) gs → filter_map (at_line xs gs) (range_with_len n count) ≡ xs
+unfolding at_line
+read_off R n count [] [] each rise within = filter_map-none (at_line [] []) (λ line. refl) (range_with_len n count)
+read_off R n count [] (g ∷ gs) each rise within = absurd each
+read_off R n count (x ∷ xs) [] each rise within = absurd each
+read_off R n zero (x ∷ xs) (g ∷ gs) each rise within = absurd (omega (arith, rise.0, within.0))
+read_off R n (suc count) (x ∷ xs) (g ∷ gs) each rise within = by_place (cases_eq (last_line g) n) (λ l. read_off R (n + 1) count xs gs each.1 l) (λ l. read_off R (n + 1) count (x ∷ xs) (g ∷ gs) each l)
+  where
+    shifted : (hs : List (List Frame)) → AllByRecursion (λ h. last_line h < n + suc count) hs → AllByRecursion (λ h. last_line h < (n + 1) + count) hs
+    shifted hs all = all-map _ (λ h. last_line h < (n + 1) + count) hs (λ h l. omega arith) all
+
+    by_place : (last_line g ≡ n) ⊎ (last_line g ≡ n → ⊥)
+        → (LastsRise (n + 1) gs → AllByRecursion (λ h. last_line h < (n + 1) + count) gs → filter_map (at_line xs gs) (range_with_len (n + 1) count) ≡ xs)
+        → (LastsRise (n + 1) (g ∷ gs) → AllByRecursion (λ h. last_line h < (n + 1) + count) (g ∷ gs) → filter_map (at_line (x ∷ xs) (g ∷ gs)) (range_with_len (n + 1) count) ≡ x ∷ xs)
+        → cons_option (at_line (x ∷ xs) (g ∷ gs) n) (filter_map (at_line (x ∷ xs) (g ∷ gs)) (range_with_len (n + 1) count)) ≡ x ∷ xs
+    by_place (inl here) next again =
+        let later : filter_map (at_line (x ∷ xs) (g ∷ gs)) (range_with_len (n + 1) count) ≡ filter_map (at_line xs gs) (range_with_len (n + 1) count) =
+        filter_map-range (at_line (x ∷ xs) (g ∷ gs)) (at_line xs gs) (n + 1) count (λ i low high. rw (ne_eqb (last_line g) i (λ same. omega arith)) refl) in
+        let rest : LastsRise (n + 1) gs = subst (λ l. LastsRise (l + 1) gs) here rise.1 in
+        rw (eq-eqb (last_line g) n here) (ap (λ l. x ∷ l) (later ∙ next rest (shifted gs within.1)))
+    by_place (inr other) next again =
+        let past : n + 1 ≤ last_line g = omega (arith, rise.0, other) in
+        rw (ne_eqb (last_line g) n other, at_line-before (last_line g + 1) n xs gs rise.1 (omega arith)) (again (past, rise.1) (shifted (g ∷ gs) within))
+
+-- a message under a key
+abbrev keyed : Key → Sending → Keyed
+keyed k x = record { key = k; message = x.message }
+
+-- what is of the key
+abbrev kept : Key → Option Keyed → Option Keyed
+kept k o = option_and_then (λ (m : Keyed). if same_key k m.key then Some m else None) o
+
+-- either a sending is gathered at the line, or no group of its key ends there
+abbrev AtLine : (ℕ → Option Keyed) → Key → List Sending → List (List Frame) → ℕ → Type 0
+AtLine gives k xs gs line = ((x : Sending) × (at_line xs gs line ≡ Some x) × (gives line ≡ Some (keyed k x))) ⊎ ((at_line xs gs line ≡ None) × AllByRecursion (λ g. (last_line g == line) ≡ false) gs)
+
+at_line-cases : (gives : ℕ → Option Keyed) (k : Key) (xs : List Sending) (gs : List (List Frame)) (line : ℕ) → AllZip (λ x g. gives (last_line g) ≡ Some (keyed k x)) xs gs → AtLine gives k xs gs line
+unfolding at_line
+at_line-cases gives k [] [] line each = inr (refl, tt)
+at_line-cases gives k [] (g ∷ gs) line each = absurd each
+at_line-cases gives k (x ∷ xs) [] line each = absurd each
+at_line-cases gives k (x ∷ xs) (g ∷ gs) line each = by_place (cases_eq (last_line g) line) (at_line-cases gives k xs gs line each.1)
+  where
+    by_place : (last_line g ≡ line) ⊎ (last_line g ≡ line → ⊥) → AtLine gives k xs gs line → AtLine gives k (x ∷ xs) (g ∷ gs) line
+    by_place (inl here) rest = inl (x, ap (λ b. if b then Some x else at_line xs gs line) (eq-eqb (last_line g) line here), sym (ap gives here) ∙ each.0)
+    by_place (inr other) (inl rest) = inl (rest.0, ap (λ b. if b then Some x else at_line xs gs line) (ne_eqb (last_line g) line other) ∙ rest.1, rest.2)
+    by_place (inr other) (inr rest) = inr (ap (λ b. if b then Some x else at_line xs gs line) (ne_eqb (last_line g) line other) ∙ rest.0, (ne_eqb (last_line g) line other, rest.1))
+
+-- what a frame gathers of the group that it completes
+abbrev made : Frame → Option (List Frame) → Option Keyed
+made f o = option_map (λ group. record { key = f.key; message = message_of f group }) o
+
+-- where no group of the key ends at the line, the line gathers nothing of the key
+none_of_key : (ends : Ends) (fs : List Frame) (k : Key) (gs : List (List Frame)) (line : ℕ) → cut ends (of_key k fs) ≡ gs → AllByRecursion (λ g. (last_line g == line) ≡ false) gs → kept k (gathered ends fs line) ≡ None
+unfolding gathered
+none_of_key ends fs k gs line cut_is none = by_frame (frame_at line fs) refl
+  where
+    other_key : (f : Frame) → same_key k f.key ≡ false → (o : Option (List Frame)) → kept k (made f o) ≡ None
+    other_key f other None = refl
+    other_key f other (Some g) = rw other refl
+
+    of_frame : (f : Frame) → frame_at line fs ≡ Some f → (b : Bool) → same_key k f.key ≡ b → kept k (gathered_by ends fs f) ≡ None
+    of_frame f e true same =
+        let at : line ≡ f.line = sym (eqb-true f.line line (find-passes (λ (g : Frame). g.line == line) fs f e)) in
+        let undone : AllByRecursion (λ g. is_done_at f.line g ≡ false) gs = subst (λ l. AllByRecursion (λ g. is_done_at l g ≡ false) gs) at (all-map (λ g. (last_line g == line) ≡ false) (λ g. is_done_at line g ≡ false) gs (λ g other. and_right (complete g) _ other) none) in
+        let nothing : find (is_done_at f.line) (cut ends (of_key f.key fs)) ≡ None =
+        ap (λ c. find (is_done_at f.line) (cut ends (of_key c fs))) (sym (same_key-true k f.key same)) ∙ (ap (find (is_done_at f.line)) cut_is ∙ find-none (is_done_at f.line) gs undone) in
+        ap (λ o. kept k (made f o)) nothing
+    of_frame f e false other = other_key f other (find (is_done_at f.line) (cut ends (of_key f.key fs)))
+
+    by_frame : (o : Option Frame) → frame_at line fs ≡ o → kept k (option_and_then (gathered_by ends fs) o) ≡ None
+    by_frame None e = refl
+    by_frame (Some f) e = of_frame f e (same_key k f.key) refl
+
+filter-filter_map : {X : Type 0} (k : Key) (h : X → Option Keyed) (xs : List X) → filter (λ (m : Keyed). same_key k m.key) (filter_map h xs) ≡ filter_map (λ x. kept k (h x)) xs
+filter-filter_map k h [] = refl
+filter-filter_map k h (x ∷ xs) = by_given (h x) (filter-filter_map k h xs)
+  where
+    by_test : (b : Bool) (m : Keyed) (rest : List Keyed) → cond b (m ∷ rest) rest ≡ cons_option (if b then Some m else None) rest
+    by_test true m rest = refl
+    by_test false m rest = refl
+
+    by_given : (o : Option Keyed) → filter (λ (m : Keyed). same_key k m.key) (filter_map h xs) ≡ filter_map (λ y. kept k (h y)) xs → filter (λ (m : Keyed). same_key k m.key) (cons_option o (filter_map h xs)) ≡ cons_option (kept k o) (filter_map (λ y. kept k (h y)) xs)
+    by_given None ih = ih
+    by_given (Some m) ih = by_test (same_key k m.key) m _ ∙ ap (cons_option (kept k (Some m))) ih
+
+map-filter_map : {X Y Z : Type 0} (g : Y → Z) (h : X → Option Y) (xs : List X) → map g (filter_map h xs) ≡ filter_map (λ x. option_map g (h x)) xs
+map-filter_map g h [] = refl
+map-filter_map {Y = Y} g h (x ∷ xs) = by_given (h x) (map-filter_map g h xs)
+  where
+    by_given : (o : Option Y) → map g (filter_map h xs) ≡ filter_map (λ y. option_map g (h y)) xs → map g (cons_option o (filter_map h xs)) ≡ cons_option (option_map g o) (filter_map (λ y. option_map g (h y)) xs)
+    by_given None ih = ih
+    by_given (Some y) ih = ap (λ l. g y ∷ l) ih
+
+-- the lines of groups rise, and lie within the log
+lasts_rise : (n : ℕ) (gs : List (List Frame)) → AllByRecursion IsGroup gs → RiseFrom n (joined gs) → LastsRise n gs
+lasts_rise n [] some rise = tt
+lasts_rise n (g ∷ gs) some rise =
+    let above = lasts_above n (g ∷ gs) some rise in
+    (above.0, lasts_rise (last_line g + 1) gs some.1 (rise-after n g (joined gs) some.0 rise))
+
+frames-within : (kind : ℕ → Option Kind) (n : ℕ) (es : List Entry) → AllByRecursion (λ (f : Frame). f.line < n + length es) (frames_from kind n es)
+frames-within kind n [] = tt
+frames-within kind n (e ∷ es) = by_frame (frame_in kind n e) (frame_in-line kind n e) (all-map _ (λ (f : Frame). f.line < n + suc (length es)) (frames_from kind (n + 1) es) (λ f l. omega arith) (frames-within kind (n + 1) es))
+  where
+    by_frame : (o : Option Frame) → ((f : Frame) → o ≡ Some f → f.line ≡ n) → AllByRecursion (λ (f : Frame). f.line < n + suc (length es)) (frames_from kind (n + 1) es) → AllByRecursion (λ (f : Frame). f.line < n + suc (length es)) (cons_option o (frames_from kind (n + 1) es))
+    by_frame None line rest = rest
+    by_frame (Some f) line rest = (omega (arith, line f refl), rest)
+
+comes-within : (ends : Ends) (kind : ℕ → Option Kind) (es : List Entry) (k : Key) (x : Sending) (g : List Frame) → Comes ends kind es k x g → last_line g < 1 + length es
+comes-within ends kind es k x g comes =
+    let last = last_frame (StandsAt (frames kind es) k) g (as_stretch ends x g comes.stretch comes.goes_on).nonempty comes.stands in
+    subst (λ l. l < 1 + length es) (sym last.at) (find-all (λ (f : Frame). f.line < 1 + length es) (λ (f : Frame). f.line == last.frame.line) (frames kind es) last.frame (frames-within kind 1 es) last.holds.0)
+
+-- of a key a line gathers what is sent under the key and ends there
+line_of_key : (ends : Ends) (kind : ℕ → Option Kind) (ms : List PacketParts) (es : List Entry) (k : Key) (at : Settled ends kind ms es k) (i : ℕ) → kept k (gathered ends (frames kind es) i) ≡ option_map (keyed k) (at_line (sendings_of k ms) at.groups i)
+line_of_key ends kind ms es k at i = by_line (at_line-cases (gathered ends (frames kind es)) k (sendings_of k ms) at.groups i (zip-map (Comes ends kind es k) _ (gathers ends kind es k) (sendings_of k ms) at.groups at.each))
+  where
+    own : (x : Sending) → kept k (Some (keyed k x)) ≡ Some (keyed k x)
+    own x = rw (same_key-refl k) refl
+
+    by_line : AtLine (gathered ends (frames kind es)) k (sendings_of k ms) at.groups i → kept k (gathered ends (frames kind es) i) ≡ option_map (keyed k) (at_line (sendings_of k ms) at.groups i)
+    by_line (inl here) = ap (kept k) here.2 ∙ (own here.0 ∙ sym (ap (option_map (keyed k)) here.1))
+    by_line (inr there) = none_of_key ends (frames kind es) k at.groups i at.cut_is there.1 ∙ sym (ap (option_map (keyed k)) there.0)
+
+filter_map-agree : {X Y : Type 0} (g h : X → Option Y) → ((x : X) → g x ≡ h x) → (xs : List X) → filter_map g xs ≡ filter_map h xs
+filter_map-agree g h e [] = refl
+filter_map-agree g h e (x ∷ xs) = ap (λ o. cons_option o (filter_map g xs)) (e x) ∙ ap (cons_option (h x)) (filter_map-agree g h e xs)
+
+-- what the groups of a key give, is what was sent under it, in order
+pub gathered_of_key : (ends : Ends) (kind : ℕ → Option Kind) (ms : List PacketParts) (es : List Entry) (k : Key) → Settled ends kind ms es k → filter (λ (m : Keyed). same_key k m.key) (filter_map (gathered ends (frames kind es)) (numbers es)) ≡ map (keyed k) (sendings_of k ms)
+gathered_of_key ends kind ms es k at =
+    let within : AllByRecursion (λ g. last_line g < 1 + length es) at.groups = zip-all (Comes ends kind es k) (λ g. last_line g < 1 + length es) (comes-within ends kind es k) (sendings_of k ms) at.groups at.each in
+    filter-filter_map k (gathered ends (frames kind es)) (numbers es)
+    ∙ (filter_map-agree (λ i. kept k (gathered ends (frames kind es) i)) (λ i. option_map (keyed k) (at_line (sendings_of k ms) at.groups i)) (line_of_key ends kind ms es k at) (numbers es)
+    ∙ (sym (map-filter_map (keyed k) (at_line (sendings_of k ms) at.groups) (numbers es))
+    ∙ ap (map (keyed k)) (read_off (Comes ends kind es k) 1 (length es) (sendings_of k ms) at.groups at.each (lasts_rise 1 at.groups at.nonempty at.rise) within)))
+
+messages-keyed : (k : Key) (xs : List Sending) → map (λ (m : Keyed). m.message) (map (keyed k) xs) ≡ map (λ (x : Sending). x.message) xs
+messages-keyed k [] = refl
+messages-keyed k (x ∷ xs) = ap (λ l. x.message ∷ l) (messages-keyed k xs)
+
+pub gives_in_order : (kind : ℕ → Option Kind) (ms : List PacketParts) (es : List Entry) → IsScattered kind ms es → (k : Key) → given_to k kind es ≡ sent_to k ms
+gives_in_order kind ms es scattered k = ap (map (λ (m : Keyed). m.message)) (gathered_of_key repeats kind ms es k (settles kind ms es scattered k)) ∙ messages-keyed k (sendings_of k ms)
+
+-- where no entry gives a message alone, every message is a group's
+entry-mute : (kind : ℕ → Option Kind) (es : List Entry) (i : ℕ) → AllByRecursion (λ (e : Entry). alone kind e ≡ None) es → option_and_then (alone kind) (slice_get es i) ≡ None
+entry-mute kind [] i mute = refl
+entry-mute kind (e ∷ es) zero mute = mute.0
+entry-mute kind (e ∷ es) (suc i) mute = entry-mute kind es i mute.1
+
+option_or-none : {X : Type 0} (o : Option X) → option_or o None ≡ o
+option_or-none None = refl
+option_or-none (Some x) = refl
+
+line-mute : (kind : ℕ → Option Kind) (es : List Entry) (i : ℕ) → AllByRecursion (λ (e : Entry). alone kind e ≡ None) es → message kind es i ≡ option_map (λ (m : Keyed). m.message) (gathered repeats (frames kind es) i)
+line-mute kind es zero mute = option_or-none _
+line-mute kind es (suc i) mute = ap (option_or (option_map (λ (m : Keyed). m.message) (gathered repeats (frames kind es) (suc i)))) (entry-mute kind es i mute) ∙ option_or-none _
+
+pub by_groups : (kind : ℕ → Option Kind) (es : List Entry) → IsMute kind es → messages kind es ≡ map (λ (m : Keyed). m.message) (gathered_messages kind es)
+by_groups kind es mute =
+    filter_map-agree (message kind es) (λ i. option_map (λ (m : Keyed). m.message) (gathered repeats (frames kind es) i)) (λ i. line-mute kind es i (recursion_from_All _ es mute)) (numbers es)
+    ∙ sym (map-filter_map (λ (m : Keyed). m.message) (gathered repeats (frames kind es)) (numbers es))
+
+length-map : {X Y : Type 0} (h : X → Y) (xs : List X) → length (map h xs) ≡ length xs
+length-map h [] = refl
+length-map h (x ∷ xs) = ap suc (length-map h xs)
+
+length-sendings : (earlier ms : List PacketParts) → length (sendings_after earlier ms) ≡ length ms
+length-sendings earlier [] = refl
+length-sendings earlier (m ∷ ms) = ap suc (length-sendings (earlier ++ m ∷ []) ms)
+
+-- as many as were sent
+pub gathers_all : (kind : ℕ → Option Kind) (ms : List PacketParts) (es : List Entry) → IsScattered kind ms es → length (gathered_messages kind es) ≡ length ms
+gathers_all kind ms es scattered =
+    same_length (λ (m : Keyed). m.key) key_of_sending (length (gathered_messages kind es)) (gathered_messages kind es) (sendings ms) (omega arith)
+    (λ k. ap length (gathered_of_key repeats kind ms es k (settles kind ms es scattered k)) ∙ length-map (keyed k) (sendings_of k ms))
+    ∙ length-sendings [] ms
+
+pub replays : (kind : ℕ → Option Kind) (ms : List PacketParts) (es : List Entry) → IsScattered kind ms es → IsMute kind es → Replays kind ms es
+replays kind ms es scattered mute = record {
+  as_many = ap length (by_groups kind es mute) ∙ (length-map (λ (m : Keyed). m.message) (gathered_messages kind es) ∙ gathers_all kind ms es scattered);
+  by_groups = by_groups kind es mute;
+  in_order = gives_in_order kind ms es scattered;
+}

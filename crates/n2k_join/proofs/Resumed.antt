@@ -1,0 +1,151 @@
+-- What open groups hold is read back: frames held of groups have these groups open.
+use Rattle.std.proofs.Common.{◌≡◌, ◌==◌, ◌≤◌, ◌<◌, ◌+◌, ℕ, Bool, true, false, cond, List, [], ◌∷◌, ◌++◌, length, reverse, refl, sym, ap, ◌∙◌, subst, arith, Option, Some, None, option_map, option_and_then}
+use Rattle.std.specs.Prelude.{IfSome}
+use Rattle.std.specs.Option.{option_or}
+use Rattle.std.specs.List.{AllByRecursion}
+use Rattle.std.proofs.lemmas.List.{append-nil}
+use Rattle.std.proofs.lemmas.Bool.{eqb-true, eq-eqb, ne_eqb, eqb-false, false_from_ne_true}
+use Rattle.std.proofs.lemmas.Option.{none-some, same_Some}
+use Rattle.n2k_join.specs.Frames.{Key, same_key, Frame, of_key, frame_at, most_frames}
+use Rattle.n2k_join.specs.Groups.{Ends, complete, first, incomplete, open_of}
+use Rattle.n2k_join.specs.Open.{Piece, Group, group_of, where_begun, begun_at, open_groups}
+use Rattle.n2k_join.specs.State.{held_frame, held_of, held, Rise, IsOpen, AreApart, AreOpen}
+use Rattle.n2k_join.proofs.Cuts.{IsEnding, so_far}
+use Rattle.n2k_join.proofs.Held.{AreNumbered, pieces_of-rise, pieces_of-numbers, pieces_of-some, group_of-held, so_far-held, all-held, all-reverse, all-any, first-held, length-held}
+use Rattle.n2k_join.proofs.Keys.{same_key-true, same_key-refl, same_key-sym, of_key-append, of_key-all, of_key-none}
+use Rattle.n2k_join.proofs.Opened.{key_at, IsLog, IsFine, open_at, begun_at-key, begun_at-is, open_of-so_far, so_far-fine, complete-kept, numbers_of_key, open_groups-each}
+use Rattle.n2k_join.proofs.Rising.{find-append, find-passes, find-all, find-none, look, look-all, look-range, rise-range, rise-least, all-range, all-map, all-zip, all-flat_map, filter_map-range}
+
+abbrev first_of : Group → ℕ
+first_of o = o.first
+
+-- what holds of each frame that is held of a group
+pub held_of-all : (P : Frame → Type 0) (Q : Piece → Type 0) (o : Group) → ((p : Piece) → Q p → P (held_frame o p)) → AllByRecursion Q o.pieces → AllByRecursion P (held_of o)
+held_of-all P Q o each all = all-held P Q o each (reverse o.pieces) (all-reverse Q o.pieces all)
+
+pub held_of-any : (P : Frame → Type 0) (o : Group) → ((p : Piece) → P (held_frame o p)) → AllByRecursion P (held_of o)
+held_of-any P o each = held_of-all P (λ _. Unit {0}) o (λ p _. each p) (all-any (λ _. Unit {0}) (λ _. tt) o.pieces)
+
+-- frames of one line and key
+key_at-one : (i l : ℕ) (k : Key) (fs : List Frame) → AllByRecursion (λ (f : Frame). (f.line ≡ l) × (f.key ≡ k)) fs → 0 < length fs → key_at i fs ≡ cond (l == i) (Some k) None
+key_at-one i l k [] all some = absurd (omega (arith, some))
+key_at-one i l k (f ∷ fs) all some = by (l == i) refl
+  where
+    by : (b : Bool) → (l == i) ≡ b → key_at i (f ∷ fs) ≡ cond b (Some k) None
+    by true e = ap (λ b. option_map (λ (f : Frame). f.key) (cond b (Some f) (frame_at i fs))) (ap (λ n. n == i) all.0.0 ∙ e) ∙ ap Some all.0.1
+    by false e =
+        let other : l ≡ i → ⊥ = eqb-false l i e in
+        ap (option_map (λ (f : Frame). f.key)) (find-none (λ (f : Frame). f.line == i) (f ∷ fs) (all-map (λ (f : Frame). (f.line ≡ l) × (f.key ≡ k)) (λ (f : Frame). (f.line == i) ≡ false) (f ∷ fs) (λ f h. ne_eqb f.line i (λ x. other (sym h.0 ∙ x))) all))
+
+key_at-append : (i : ℕ) (fs gs : List Frame) → key_at i (fs ++ gs) ≡ option_or (key_at i fs) (key_at i gs)
+key_at-append i fs gs =
+    ap (option_map (λ (f : Frame). f.key)) (find-append (λ (f : Frame). f.line == i) fs gs)
+    ∙ elim (frame_at i fs) as (λ o. option_map (λ (f : Frame). f.key) (option_or o (frame_at i gs)) ≡ option_or (option_map (λ (f : Frame). f.key) o) (key_at i gs)) [ None ↦ refl | Some f ↦ refl ]
+
+pub key_at-held : (i : ℕ) (gs : List Group) → AllByRecursion IsOpen gs → key_at i (held gs) ≡ option_map (λ (o : Group). o.key) (look first_of gs i)
+key_at-held i [] all = refl
+key_at-held i (g ∷ gs) all =
+    key_at-append i (held_of g) (held gs)
+    ∙ ap (λ o. option_or o (key_at i (held gs))) (key_at-one i g.first g.key (held_of g) (held_of-any (λ (f : Frame). (f.line ≡ g.first) × (f.key ≡ g.key)) g (λ p. (refl, refl))) (omega (arith, all.0.nonempty, length-held g g.pieces)))
+    ∙ ap (option_or (cond (g.first == i) (Some g.key) None)) (key_at-held i gs all.1)
+    ∙ elim (g.first == i) as (λ b. option_or (cond b (Some g.key) None) (option_map (λ (o : Group). o.key) (look first_of gs i)) ≡ option_map (λ (o : Group). o.key) (cond b (Some g) (look first_of gs i))) [ true ↦ refl | false ↦ refl ]
+
+-- what groups hold is a log
+pub held-log : (n : ℕ) (gs : List Group) → AreOpen n gs → IsLog n (held gs)
+held-log n gs are = record {
+  lines = all-flat_map _ held_of gs (all-map _ _ gs (λ g h. held_of-any (λ (f : Frame). (1 ≤ f.line) × (f.line ≤ n)) g (λ p. h)) (all-zip (λ (g : Group). 1 ≤ g.first) (λ (g : Group). g.first ≤ n) gs (rise-least first_of 1 gs are.rise) are.begun));
+  numbers = all-flat_map _ held_of gs (all-map _ _ gs (λ g h. held_of-all (λ (f : Frame). f.number < most_frames) (λ (p : Piece). p.number < most_frames) g (λ p l. l) h.numbers) are.each);
+  keys = all-flat_map _ held_of gs (all-map _ _ gs (λ g h. held_of-any (λ (f : Frame). key_at f.line (held gs) ≡ Some f.key) g (λ p. key_at-held g.first gs are.each ∙ ap (option_map (λ (o : Group). o.key)) h)) (look-all first_of 1 gs are.rise));
+}
+
+-- the frames held of groups of other keys
+pub held-other : (k : Key) (gs : List Group) → AllByRecursion (λ (g : Group). same_key k g.key ≡ false) gs → of_key k (held gs) ≡ []
+held-other k gs all = of_key-none k (held gs) (all-flat_map _ held_of gs (all-map _ _ gs (λ g h. held_of-any (λ (f : Frame). same_key k f.key ≡ false) g (λ p. h)) all))
+
+held-same : (g : Group) → of_key g.key (held_of g) ≡ held_of g
+held-same g = of_key-all g.key (held_of g) (held_of-any (λ (f : Frame). same_key g.key f.key ≡ true) g (λ p. same_key-refl g.key))
+
+-- those of a group's key are its own
+pub held-own : (gs : List Group) → AreApart gs → AllByRecursion (λ (g : Group). of_key g.key (held gs) ≡ held_of g) gs
+held-own [] apart = tt
+held-own (g ∷ gs) apart = (
+  of_key-append g.key (held_of g) (held gs) ∙ ap (λ t. t ++ of_key g.key (held gs)) (held-same g) ∙ ap (λ t. held_of g ++ t) (held-other g.key gs apart.0) ∙ append-nil (held_of g),
+  all-map _ (λ (h : Group). of_key h.key (held (g ∷ gs)) ≡ held_of h) gs
+      (λ h e. of_key-append h.key (held_of g) (held gs) ∙ ap (λ t. t ++ of_key h.key (held gs)) (of_key-none h.key (held_of g) (held_of-any (λ (f : Frame). same_key h.key f.key ≡ false) g (λ p. same_key-sym h.key g.key ∙ e.0))) ∙ e.1)
+      (all-zip (λ (h : Group). same_key g.key h.key ≡ false) (λ (h : Group). of_key h.key (held gs) ≡ held_of h) gs apart.0 (held-own gs apart.1)),
+)
+
+module _ (ends : Ends) (is_ending : IsEnding ends) where
+  -- each of the groups is the open one of its key
+  pub open_of-held : (n : ℕ) (gs : List Group) → AreOpen n gs → AllByRecursion (λ (g : Group). open_of ends g.key (held gs) ≡ Some (held_of g)) gs
+  open_of-held n gs are =
+      all-map _ (λ (g : Group). open_of ends g.key (held gs) ≡ Some (held_of g)) gs
+      (λ g h. open_of-so_far ends is_ending g.key (held gs) ∙ ap (λ t. option_and_then incomplete (so_far ends t)) h.1 ∙ ap (option_and_then incomplete) (so_far-held ends is_ending g h.0) ∙ ap (λ b. cond b None (Some (held_of g))) h.0.incomplete)
+      (all-zip IsOpen (λ (g : Group). of_key g.key (held gs) ≡ held_of g) gs are.each (held-own gs are.apart))
+
+  begun_at-held : (n i : ℕ) (gs : List Group) → AreOpen n gs → begun_at ends (held gs) i ≡ look first_of gs i
+  begun_at-held n i gs are =
+      begun_at-key ends is_ending (held gs) i ∙ ap (option_and_then (λ (k : Key). open_at ends is_ending k (held gs) i)) (key_at-held i gs are.each) ∙ by (look first_of gs i) refl
+    where
+      by : (o : Option Group) → look first_of gs i ≡ o → option_and_then (λ (k : Key). open_at ends is_ending k (held gs) i) (option_map (λ (o : Group). o.key) o) ≡ o
+      by None e = refl
+      by (Some g) e =
+          let is : g.first ≡ i = eqb-true g.first i (find-passes (λ (o : Group). o.first == i) gs g e) in
+          let good : IsOpen g = find-all IsOpen (λ (o : Group). o.first == i) gs g are.each e in
+          let opens : open_of ends g.key (held gs) ≡ Some (held_of g) = find-all (λ (g : Group). open_of ends g.key (held gs) ≡ Some (held_of g)) (λ (o : Group). o.first == i) gs g (open_of-held n gs are) e in
+          ap (option_and_then (where_begun i g.key)) opens
+          ∙ ap (λ b. cond b (Some (group_of g.key (held_of g))) None) (eq-eqb (first (held_of g)) i (first-held g g.pieces good.nonempty ∙ is))
+          ∙ ap Some (group_of-held g good)
+
+  -- what groups hold has these groups open
+  pub open_groups-held : (n : ℕ) (gs : List Group) → AreOpen n gs → open_groups ends n (held gs) ≡ gs
+  unfolding open_groups
+  open_groups-held n gs are =
+      filter_map-range (begun_at ends (held gs)) (look first_of gs) 1 n (λ i l u. begun_at-held n i gs are)
+      ∙ look-range first_of 1 n gs are.rise (all-map (λ (g : Group). g.first ≤ n) (λ (g : Group). g.first < 1 + n) gs (λ g l. omega (arith, l)) are.begun)
+
+  -- ---- the open groups of a log can be open
+
+  begun_at-open : (fs : List Frame) (i : ℕ) (o : Group) → AreNumbered fs → begun_at ends fs i ≡ Some o → IsOpen o
+  begun_at-open fs i o numbers e = by (open_of ends o.key fs) (begun_at-is ends is_ending fs i o e).1 (open_of-so_far ends is_ending o.key fs)
+    where
+      by_test : (h : List Frame) → IsFine h → (b : Bool) → complete h ≡ b → (g : List Frame) → Some g ≡ cond b None (Some h) → IsOpen (group_of o.key g)
+      by_test h fine true c g is = absurd (none-some g (sym is))
+      by_test h fine false c g is = subst (λ g. IsOpen (group_of o.key g)) (sym (same_Some g h is)) (record {
+        nonempty = pieces_of-some h fine.numbers fine.nonempty;
+        rise = pieces_of-rise h;
+        numbers = pieces_of-numbers h;
+        incomplete = complete-kept ends is_ending o.key h fine ∙ c;
+      })
+
+      by_group : (g : List Frame) (s : Option (List Frame)) → IfSome s IsFine → Some g ≡ option_and_then incomplete s → IsOpen (group_of o.key g)
+      by_group g None fine is = absurd (none-some g (sym is))
+      by_group g (Some h) fine is = by_test h fine (complete h) refl g is
+
+      by : (s : Option (List Frame)) → option_map (group_of o.key) s ≡ Some o → s ≡ option_and_then incomplete (so_far ends (of_key o.key fs)) → IsOpen o
+      by None gives is = absurd (none-some o gives)
+      by (Some g) gives is = subst IsOpen (same_Some (group_of o.key g) o gives) (by_group g (so_far ends (of_key o.key fs)) (so_far-fine ends is_ending (of_key o.key fs) (numbers_of_key ends is_ending o.key fs numbers)) is)
+
+  -- groups that are the open ones of their keys are apart, since their lines are
+  apart_from : (fs : List Frame) (least : ℕ) (gs : List Group) → Rise first_of least gs → AllByRecursion (λ (o : Group). option_map (group_of o.key) (open_of ends o.key fs) ≡ Some o) gs → AreApart gs
+  apart_from fs least [] r all = tt
+  apart_from fs least (g ∷ gs) r all = (
+    all-map _ (λ (h : Group). same_key g.key h.key ≡ false) gs (λ h e. differs h e.0 e.1) (all-zip (λ (h : Group). g.first + 1 ≤ h.first) (λ (o : Group). option_map (group_of o.key) (open_of ends o.key fs) ≡ Some o) gs (rise-least first_of (g.first + 1) gs r.1) all.1),
+    apart_from fs (g.first + 1) gs r.1 all.1,
+  )
+    where
+      differs : (h : Group) → g.first + 1 ≤ h.first → option_map (group_of h.key) (open_of ends h.key fs) ≡ Some h → same_key g.key h.key ≡ false
+      differs h l e = false_from_ne_true (same_key g.key h.key) (λ t.
+          let same : g ≡ h = same_Some g h (sym all.0 ∙ ap (λ (k : Key). option_map (group_of k) (open_of ends k fs)) (same_key-true g.key h.key t) ∙ e) in
+          omega (arith, l, ap first_of same))
+
+  pub open_groups-open : (n : ℕ) (fs : List Frame) → IsLog n fs → AreOpen n (open_groups ends n fs)
+  unfolding open_groups
+  open_groups-open n fs log =
+      let rises = rise-range first_of (begun_at ends fs) (λ i o e. (begun_at-is ends is_ending fs i o e).0) 1 1 n (omega arith) in
+      record {
+        each = all-range IsOpen (begun_at ends fs) 1 n (λ i o l u e. begun_at-open fs i o log.numbers e);
+        rise = rises;
+        begun = all-range (λ (o : Group). o.first ≤ n) (begun_at ends fs) 1 n (λ i o l u e. let at = (begun_at-is ends is_ending fs i o e).0 in omega (arith, at, u));
+        apart = apart_from fs 1 (open_groups ends n fs) rises (open_groups-each ends is_ending n fs);
+      }

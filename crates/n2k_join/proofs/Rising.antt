@@ -1,0 +1,199 @@
+-- Lists whose numbers rise strictly: looked up by number and read off a range of numbers.
+use Rattle.std.proofs.Common.{◌≡◌, ◌==◌, ◌≤◌, ◌<◌, ◌+◌, ℕ, suc, zero, Bool, true, false, cond, List, [], ◌∷◌, ◌++◌, refl, sym, ap, ◌∙◌, subst, arith, Option, Some, None, filter_map, find, option_and_then, option_to_list, flat_map}
+use Rattle.std.specs.Option.{option_or}
+use Rattle.std.specs.List.{range_with_len, cons_option, AllByRecursion}
+use Rattle.std.proofs.lemmas.List.Elements.{filter_map-append}
+use Rattle.std.proofs.lemmas.Bool.{eqb-true, eqb-false, eq-eqb, ne_eqb}
+use Rattle.std.proofs.lemmas.Option.{none-some, same_Some}
+use Rattle.n2k_join.specs.State.{Rise}
+
+range-suc : (a n : ℕ) → range_with_len a (suc n) ≡ range_with_len a n ++ (a + n) ∷ []
+range-suc a zero = let start : a ≡ a + zero = omega arith in ap (λ k. k ∷ []) start
+range-suc a (suc n) = let last : (a + 1) + n ≡ a + suc n = omega arith in ap (λ t. a ∷ t) (range-suc (a + 1) n ∙ ap (λ k. range_with_len (a + 1) n ++ k ∷ []) last)
+
+-- one number more at the end of a range
+pub range-push : (a n : ℕ) → range_with_len a (n + 1) ≡ range_with_len a n ++ (a + n) ∷ []
+range-push a n = let next : n + 1 ≡ suc n = omega arith in ap (range_with_len a) next ∙ range-suc a n
+
+pub filter_map-push : {X Y : Type 0} (h : X → Option Y) (xs : List X) (x : X) → filter_map h (xs ++ x ∷ []) ≡ filter_map h xs ++ option_to_list (h x)
+filter_map-push h xs x = filter_map-append h xs (x ∷ []) ∙ ap (λ t. filter_map h xs ++ t) (elim (h x) as (λ o. cons_option o [] ≡ option_to_list o) [ None ↦ refl | Some y ↦ refl ])
+
+-- two passes in one
+pub filter_map-fused : {X Y Z : Type 0} (t : Y → Option Z) (h : X → Option Y) (xs : List X) → filter_map (λ x. option_and_then t (h x)) xs ≡ filter_map t (filter_map h xs)
+filter_map-fused t h [] = refl
+filter_map-fused t h (x ∷ xs) =
+    ap (λ r. cons_option (option_and_then t (h x)) r) (filter_map-fused t h xs)
+    ∙ elim (h x) as (λ o. cons_option (option_and_then t o) (filter_map t (filter_map h xs)) ≡ filter_map t (cons_option o (filter_map h xs))) [ None ↦ refl | Some y ↦ refl ]
+
+-- what agrees at each number of a range gives the same of it
+pub filter_map-range : {Y : Type 0} (h k : ℕ → Option Y) (a n : ℕ) → ((i : ℕ) → a ≤ i → i < a + n → h i ≡ k i) → filter_map h (range_with_len a n) ≡ filter_map k (range_with_len a n)
+filter_map-range h k a zero e = refl
+filter_map-range h k a (suc n) e =
+    ap (λ o. cons_option o (filter_map h (range_with_len (a + 1) n))) (e a (omega arith) (omega arith))
+    ∙ ap (cons_option (k a)) (filter_map-range h k (a + 1) n (λ i l u. e i (omega arith) (omega arith)))
+
+pub find-append : {X : Type 0} (p : X → Bool) (xs ys : List X) → find p (xs ++ ys) ≡ option_or (find p xs) (find p ys)
+find-append p [] ys = refl
+find-append p (x ∷ xs) ys = elim (p x) as (λ b. cond b (Some x) (find p (xs ++ ys)) ≡ option_or (cond b (Some x) (find p xs)) (find p ys)) [ true ↦ refl | false ↦ find-append p xs ys ]
+
+-- what is found passes the test
+pub find-passes : {X : Type 0} (p : X → Bool) (xs : List X) (x : X) → find p xs ≡ Some x → p x ≡ true
+find-passes p [] x e = absurd (none-some x e)
+find-passes p (y ∷ ys) x e = by (p y) refl e (find-passes p ys x)
+  where
+    by : (b : Bool) → p y ≡ b → cond b (Some y) (find p ys) ≡ Some x → (find p ys ≡ Some x → p x ≡ true) → p x ≡ true
+    by true t e rest = ap p (sym (same_Some y x e)) ∙ t
+    by false t e rest = rest e
+
+-- what holds of all holds of what is found
+pub find-all : {X : Type 0} (P : X → Type 0) (p : X → Bool) (xs : List X) (x : X) → AllByRecursion P xs → find p xs ≡ Some x → P x
+find-all P p [] x all e = absurd (none-some x e)
+find-all P p (y ∷ ys) x all e = by (p y) e (find-all P p ys x all.1)
+  where
+    by : (b : Bool) → cond b (Some y) (find p ys) ≡ Some x → (find p ys ≡ Some x → P x) → P x
+    by true e rest = subst P (same_Some y x e) all.0
+    by false e rest = rest e
+
+-- where nothing passes, nothing is found
+pub find-none : {X : Type 0} (p : X → Bool) (xs : List X) → AllByRecursion (λ x. p x ≡ false) xs → find p xs ≡ None
+find-none p [] all = refl
+find-none p (x ∷ xs) all = ap (λ b. cond b (Some x) (find p xs)) all.0 ∙ find-none p xs all.1
+
+-- nothing is found where nothing passes
+pub passes_none : {X : Type 0} (p : X → Bool) (xs : List X) → find p xs ≡ None → AllByRecursion (λ x. p x ≡ false) xs
+passes_none p [] e = tt
+passes_none {X} p (x ∷ xs) e = by (p x) refl e (passes_none p xs)
+  where
+    by : (b : Bool) → p x ≡ b → cond b (Some x) (find p xs) ≡ None → (find p xs ≡ None → AllByRecursion (λ x. p x ≡ false) xs) → AllByRecursion (λ x. p x ≡ false) (x ∷ xs)
+    by true t e rest = absurd (none-some x (sym e))
+    by false t e rest = (t, rest e)
+
+pub all-map : {X : Type 0} (P Q : X → Type 0) (xs : List X) → ((x : X) → P x → Q x) → AllByRecursion P xs → AllByRecursion Q xs
+all-map P Q [] h all = tt
+all-map P Q (x ∷ xs) h all = (h x all.0, all-map P Q xs h all.1)
+
+pub all-zip : {X : Type 0} (P Q : X → Type 0) (xs : List X) → AllByRecursion P xs → AllByRecursion Q xs → AllByRecursion (λ x. P x × Q x) xs
+all-zip P Q [] p q = tt
+all-zip P Q (x ∷ xs) p q = ((p.0, q.0), all-zip P Q xs p.1 q.1)
+
+pub all-append : {X : Type 0} (P : X → Type 0) (xs ys : List X) → AllByRecursion P xs → AllByRecursion P ys → AllByRecursion P (xs ++ ys)
+all-append P [] ys a b = b
+all-append P (x ∷ xs) ys a b = (a.0, all-append P xs ys a.1 b)
+
+pub all-flat_map : {X Y : Type 0} (P : Y → Type 0) (f : X → List Y) (xs : List X) → AllByRecursion (λ x. AllByRecursion P (f x)) xs → AllByRecursion P (flat_map f xs)
+all-flat_map P f [] all = tt
+all-flat_map P f (x ∷ xs) all = all-append P (f x) (flat_map f xs) all.0 (all-flat_map P f xs all.1)
+
+module _ {A : Type 0} (number : A → ℕ) where
+  -- the item of a number
+  abbrev pub look : List A → ℕ → Option A
+  look xs n = find (λ x. number x == n) xs
+
+  pub rise-less : (a b : ℕ) (xs : List A) → a ≤ b → Rise number b xs → Rise number a xs
+  rise-less a b [] l r = tt
+  rise-less a b (x ∷ xs) l r = (omega (arith, r.0), r.1)
+
+  -- all are from the least on
+  pub rise-least : (least : ℕ) (xs : List A) → Rise number least xs → AllByRecursion (λ x. least ≤ number x) xs
+  rise-least least [] r = tt
+  rise-least least (x ∷ xs) r = (r.0, all-map (λ y. number x + 1 ≤ number y) (λ y. least ≤ number y) xs (λ y l. omega (arith, l, r.0)) (rise-least (number x + 1) xs r.1))
+
+  -- below the least number there is none
+  pub look-below : (least n : ℕ) (xs : List A) → Rise number least xs → n < least → look xs n ≡ None
+  look-below least n [] r l = refl
+  look-below least n (x ∷ xs) r l =
+      let above : number x ≡ n → ⊥ = λ e. omega (arith, r.0, e) in
+      let more : n < number x + 1 = omega (arith, r.0) in
+      ap (λ b. cond b (Some x) (look xs n)) (ne_eqb (number x) n above) ∙ look-below (number x + 1) n xs r.1 more
+
+  look-here : (x : A) (xs : List A) (n : ℕ) → number x ≡ n → look (x ∷ xs) n ≡ Some x
+  look-here x xs n e = ap (λ b. cond b (Some x) (look xs n)) (eq-eqb (number x) n e)
+
+  look-there : (x : A) (xs : List A) (n : ℕ) → (number x ≡ n → ⊥) → look (x ∷ xs) n ≡ look xs n
+  look-there x xs n e = ap (λ b. cond b (Some x) (look xs n)) (ne_eqb (number x) n e)
+
+  -- each item is the one of its number
+  pub look-all : (least : ℕ) (xs : List A) → Rise number least xs → AllByRecursion (λ x. look xs (number x) ≡ Some x) xs
+  look-all least [] r = tt
+  look-all least (x ∷ xs) r = (look-here x xs (number x) refl, rest xs (number x + 1) r.1 (omega arith) (look-all (number x + 1) xs r.1))
+    where
+      rest : (ys : List A) (l : ℕ) → Rise number l ys → number x < l → AllByRecursion (λ y. look xs (number y) ≡ Some y) ys → AllByRecursion (λ y. look (x ∷ xs) (number y) ≡ Some y) ys
+      rest [] l r h all = tt
+      rest (y ∷ ys) l r h all =
+          let other : number x ≡ number y → ⊥ = λ e. omega (arith, r.0, e) in
+          let next : number x < number y + 1 = omega (arith, r.0) in
+          (look-there x xs (number y) other ∙ all.0, rest ys (number y + 1) r.1 next all.1)
+
+  -- a list read back by its numbers
+  pub look-range : (a n : ℕ) (xs : List A) → Rise number a xs → AllByRecursion (λ x. number x < a + n) xs → filter_map (look xs) (range_with_len a n) ≡ xs
+  look-range a zero [] r all = refl
+  look-range a zero (x ∷ xs) r all = absurd (omega (arith, r.0, all.0))
+  look-range a (suc n) [] r all = look-range (a + 1) n [] tt tt
+  look-range a (suc n) (x ∷ xs) r all = by (number x == a) refl (look-range (a + 1) n xs) (look-range (a + 1) n (x ∷ xs))
+    where
+      shifted : (ys : List A) → AllByRecursion (λ y. number y < a + suc n) ys → AllByRecursion (λ y. number y < (a + 1) + n) ys
+      shifted ys h = all-map (λ y. number y < a + suc n) (λ y. number y < (a + 1) + n) ys (λ y l. omega arith) h
+
+      by : (b : Bool) → (number x == a) ≡ b
+          → (Rise number (a + 1) xs → AllByRecursion (λ y. number y < (a + 1) + n) xs → filter_map (look xs) (range_with_len (a + 1) n) ≡ xs)
+          → (Rise number (a + 1) (x ∷ xs) → AllByRecursion (λ y. number y < (a + 1) + n) (x ∷ xs) → filter_map (look (x ∷ xs)) (range_with_len (a + 1) n) ≡ x ∷ xs)
+          → cons_option (cond b (Some x) (look xs a)) (filter_map (look (x ∷ xs)) (range_with_len (a + 1) n)) ≡ x ∷ xs
+      by true e past here =
+          let is = eqb-true (number x) a e in
+          let r' : Rise number (a + 1) xs = subst (λ k. Rise number (k + 1) xs) is r.1 in
+          ap (λ t. x ∷ t) (filter_map-range (look (x ∷ xs)) (look xs) (a + 1) n (λ i l u. look-there x xs i (λ f. omega (arith, is, f))) ∙ past r' (shifted xs all.1))
+      by false e past here =
+          let not_here : number x ≡ a → ⊥ = eqb-false (number x) a e in
+          let above : a + 1 ≤ number x = omega (arith, r.0, not_here) in
+          ap (λ o. cons_option o (filter_map (look (x ∷ xs)) (range_with_len (a + 1) n))) (look-below (number x + 1) a xs r.1 (omega arith)) ∙ here (above, r.1) (shifted (x ∷ xs) all)
+
+  -- what each number of a range gives rises, where it has that number
+  pub rise-range : (h : ℕ → Option A) → ((i : ℕ) (x : A) → h i ≡ Some x → number x ≡ i) → (least a n : ℕ) → least ≤ a → Rise number least (filter_map h (range_with_len a n))
+  rise-range h is least a zero l = tt
+  rise-range h is least a (suc n) l = by (h a) refl (λ k u. rise-range h is k (a + 1) n u)
+    where
+      by : (o : Option A) → h a ≡ o → ((k : ℕ) → k ≤ a + 1 → Rise number k (filter_map h (range_with_len (a + 1) n))) → Rise number least (cons_option o (filter_map h (range_with_len (a + 1) n)))
+      by None e rest = rest least (omega arith)
+      by (Some x) e rest =
+          let at : number x ≡ a = is a x e in
+          (omega arith, rest (number x + 1) (omega arith))
+
+  -- and it is found by its number
+  pub look-filter_map : (h : ℕ → Option A) → ((i : ℕ) (x : A) → h i ≡ Some x → number x ≡ i) → (a n i : ℕ) → a ≤ i → i < a + n → look (filter_map h (range_with_len a n)) i ≡ h i
+  look-filter_map h is a zero i l u = absurd (omega arith)
+  look-filter_map h is a (suc n) i l u = by (h a) refl (a == i) refl (λ l' u'. look-filter_map h is (a + 1) n i l' u')
+    where
+      rest : List A
+      rest = filter_map h (range_with_len (a + 1) n)
+
+      by : (o : Option A) → h a ≡ o → (b : Bool) → (a == i) ≡ b → (a + 1 ≤ i → i < (a + 1) + n → look rest i ≡ h i) → look (cons_option o rest) i ≡ h i
+      by None e true t later =
+          let here : a ≡ i = eqb-true a i t in
+          look-below (a + 1) i rest (rise-range h is (a + 1) (a + 1) n (omega arith)) (omega arith) ∙ sym e ∙ ap h here
+      by None e false t later =
+          let past : a ≡ i → ⊥ = eqb-false a i t in
+          later (omega (arith, past)) (omega arith)
+      by (Some x) e true t later =
+          let here : a ≡ i = eqb-true a i t in
+          look-here x rest i (is a x e ∙ here) ∙ sym e ∙ ap h here
+      by (Some x) e false t later =
+          let past : a ≡ i → ⊥ = eqb-false a i t in
+          look-there x rest i (λ k. past (sym (is a x e) ∙ k)) ∙ later (omega (arith, past)) (omega arith)
+
+-- what holds of each that is given holds of all
+pub all-filter_map : {X Y : Type 0} (P : Y → Type 0) (h : X → Option Y) (xs : List X) → ((x : X) (y : Y) → h x ≡ Some y → P y) → AllByRecursion P (filter_map h xs)
+all-filter_map P h [] each = tt
+all-filter_map {Y = Y} P h (x ∷ xs) each = by (h x) refl (all-filter_map P h xs each)
+  where
+    by : (o : Option Y) → h x ≡ o → AllByRecursion P (filter_map h xs) → AllByRecursion P (cons_option o (filter_map h xs))
+    by None e rest = rest
+    by (Some y) e rest = (each x y e, rest)
+
+-- the same, where the numbers of the range matter
+pub all-range : {Y : Type 0} (P : Y → Type 0) (h : ℕ → Option Y) (a n : ℕ) → ((i : ℕ) (y : Y) → a ≤ i → i < a + n → h i ≡ Some y → P y) → AllByRecursion P (filter_map h (range_with_len a n))
+all-range P h a zero each = tt
+all-range {Y} P h a (suc n) each = by (h a) refl (all-range P h (a + 1) n (λ i y l u e. each i y (omega arith) (omega arith) e))
+  where
+    by : (o : Option Y) → h a ≡ o → AllByRecursion P (filter_map h (range_with_len (a + 1) n)) → AllByRecursion P (cons_option o (filter_map h (range_with_len (a + 1) n)))
+    by None e rest = rest
+    by (Some y) e rest = (each a y (omega arith) (omega arith) e, rest)

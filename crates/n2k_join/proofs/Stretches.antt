@@ -1,0 +1,92 @@
+-- Where frames fall into stretches, each of which ends by its last frame and not before, these are the groups.
+use Rattle.std.proofs.Common.{◌≡◌, ℕ, ◌+◌, ◌<◌, true, false, List, [], ◌∷◌, ◌++◌, length, refl, ap, subst, ◌∙◌, sym, arith, append_assoc, length-append, inl, inr}
+use Rattle.std.specs.Prelude.{◌==◌}
+use Rattle.std.specs.List.{AllByRecursion}
+use Rattle.std.proofs.lemmas.Bool.{false≢true, or_parts, or_from, eq-eqb, ne_eqb, cases_eq}
+use Rattle.std.proofs.lemmas.List.{append-nil}
+use Rattle.n2k_join.specs.Frames.{Frame}
+use Rattle.n2k_join.specs.Groups.{Ends, has_number, has_twice, complete, repeats, closes, cut_from, cut}
+use Rattle.n2k_join.specs.Pieces.{last_piece, Sending}
+use Rattle.n2k_join.specs.Scattered.{IsPieceOf, joined}
+use Rattle.n2k_join.proofs.Counting.{has_number-cons}
+use Rattle.n2k_join.proofs.WholePieces.{complete_pieces}
+
+-- frames that are complete, and don't end before the last
+pub record IsStretch (ends : Ends) (g : List Frame) : Type 0 where
+  pub nonempty : 0 < length g
+  pub whole : complete g ≡ true
+  pub goes_on : (f h : Frame) (front back : List Frame) → g ≡ (f ∷ front) ++ (h ∷ back) → closes ends (f ∷ front) h ≡ false
+
+-- a group that is complete ends, whatever follows
+cut_whole : (ends : Ends) (g rest : List Frame) → complete g ≡ true → cut_from ends g rest ≡ g ∷ cut ends rest
+unfolding cut
+cut_whole ends g [] whole = refl
+cut_whole ends g (f ∷ rest) whole = rw whole refl
+
+cut_stretch_from : (ends : Ends) (g : List Frame) → IsStretch ends g → (f : Frame) (front back rest : List Frame) → g ≡ (f ∷ front) ++ back → cut_from ends (f ∷ front) (back ++ rest) ≡ g ∷ cut ends rest
+cut_stretch_from ends g is f front [] rest e =
+    let e' : f ∷ front ≡ g = sym (e ∙ append-nil (f ∷ front)) in
+    ap (λ l. cut_from ends l rest) e' ∙ cut_whole ends g rest is.whole
+cut_stretch_from ends g is f front (h ∷ back) rest e =
+    rw (is.goes_on f h front back e) (cut_stretch_from ends g is f (front ++ h ∷ []) back rest (e ∙ sym (append_assoc (f ∷ front) (h ∷ []) back)))
+
+-- a stretch at the front is the first group
+pub cut_stretch : (ends : Ends) (g rest : List Frame) → IsStretch ends g → cut ends (g ++ rest) ≡ g ∷ cut ends rest
+unfolding cut
+cut_stretch ends [] rest is = absurd (omega (arith, is.nonempty))
+cut_stretch ends (f ∷ back) rest is = cut_stretch_from ends (f ∷ back) is f [] back rest refl
+
+-- stretches one behind the other are the groups
+pub cut_stretches : (ends : Ends) (gs : List (List Frame)) → AllByRecursion (IsStretch ends) gs → cut ends (joined gs) ≡ gs
+unfolding cut
+cut_stretches ends [] each = refl
+cut_stretches ends (g ∷ gs) each = cut_stretch ends g (joined gs) each.0 ∙ ap (λ l. g ∷ l) (cut_stretches ends gs each.1)
+
+-- what holds of a front, where no number comes twice
+has_number-push : (n : ℕ) (fs back : List Frame) (h : Frame) → has_number n (fs ++ (h ∷ back)) ≡ false → (has_number n fs ≡ false) × ((h.number == n) ≡ false)
+has_number-push n [] back h e =
+    let parts = or_parts _ _ (sym (has_number-cons h back n) ∙ e) in
+    (refl, parts.0)
+has_number-push n (f ∷ fs) back h e =
+    let parts = or_parts _ _ (sym (has_number-cons f (fs ++ (h ∷ back)) n) ∙ e) in
+    let rest = has_number-push n fs back h parts.1 in
+    (has_number-cons f fs n ∙ or_from _ _ parts.0 rest.0, rest.1)
+
+eqb_sym : (a b : ℕ) → (a == b) ≡ false → (b == a) ≡ false
+eqb_sym a b e =
+    elim (cases_eq b a) [
+      | inl same ↦ absurd (false≢true (sym e ∙ eq-eqb a b (sym same)))
+      | inr other ↦ ne_eqb b a other
+    ]
+
+pub apart-front : (fs back : List Frame) (h : Frame) → has_twice (fs ++ (h ∷ back)) ≡ false → (has_twice fs ≡ false) × (has_number h.number fs ≡ false)
+apart-front [] back h e = (refl, refl)
+apart-front (f ∷ fs) back h e =
+    let parts = or_parts _ _ e in
+    let mine = has_number-push f.number fs back h parts.0 in
+    let rest = apart-front fs back h parts.1 in
+    (or_from _ _ mine.0 rest.0, has_number-cons f fs h.number ∙ or_from _ _ (eqb_sym h.number f.number mine.1) rest.1)
+
+all-front : (P : Frame → Type 0) (fs back : List Frame) → AllByRecursion P (fs ++ back) → AllByRecursion P fs
+all-front P [] back each = tt
+all-front P (f ∷ fs) back each = (each.0, all-front P fs back each.1)
+
+-- the frames go on together: no front of them ends before the frame after it
+pub record GoesOn (ends : Ends) (g : List Frame) : Type 0 where
+  pub on : (f h : Frame) (front back : List Frame) → g ≡ (f ∷ front) ++ (h ∷ back) → ends (f ∷ front) h ≡ false
+
+pub goes_on-repeats : (g : List Frame) → has_twice g ≡ false → GoesOn repeats g
+goes_on-repeats g apart = record { on = λ f h front back e. (apart-front (f ∷ front) back h (ap has_twice (sym e) ∙ apart)).1 }
+
+-- all pieces of a message are a stretch, where they go on together
+pub stretch_pieces : (ends : Ends) (x : Sending) (g : List Frame) → AllByRecursion (IsPieceOf x) g → has_twice g ≡ false → length g ≡ last_piece x.message + 1 → GoesOn ends g → IsStretch ends g
+stretch_pieces ends x g each apart full goes = record {
+  nonempty = omega arith;
+  whole = complete_pieces x g each apart ∙ eq-eqb _ _ full;
+  goes_on = λ f h front back e.
+      let apart' : has_twice ((f ∷ front) ++ (h ∷ back)) ≡ false = ap has_twice (sym e) ∙ apart in
+      let pieces : AllByRecursion (IsPieceOf x) ((f ∷ front) ++ (h ∷ back)) = subst (AllByRecursion (IsPieceOf x)) e each in
+      let lengths : length g ≡ length (f ∷ front) + length (h ∷ back) = ap length e ∙ length-append (f ∷ front) (h ∷ back) in
+      let unfinished : complete (f ∷ front) ≡ false = complete_pieces x (f ∷ front) (all-front (IsPieceOf x) (f ∷ front) (h ∷ back) pieces) (apart-front (f ∷ front) back h apart').0 ∙ ne_eqb _ _ (λ same. omega arith) in
+      or_from _ _ unfinished (goes.on f h front back e);
+}

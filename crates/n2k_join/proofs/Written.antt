@@ -1,0 +1,228 @@
+-- The frames of messages, as they are written one behind the other, are scattered frames of these messages.
+use Rattle.std.proofs.Common.{◌≡◌, ℕ, zero, suc, ◌+◌, ◌*◌, ◌%◌, ◌<◌, ◌≤◌, Bool, true, false, cond, not, List, [], ◌∷◌, ◌++◌, map, length, refl, ap, subst, ◌∙◌, sym, arith, Option, Some, None, inl, inr}
+use Rattle.std.specs.Prelude.{flat_map, filter, slice_index, slice_index_or}
+use Rattle.std.specs.List.{AllByRecursion, All, range_with_len, cons_option}
+use Rattle.std.proofs.lemmas.Bool.{le-leb, or_left, or_right, ne_eqb, cases_eq}
+use Rattle.std.proofs.lemmas.List.{map-append}
+use Rattle.std.proofs.lemmas.List.Elements.{recursion_from_All, All-from_recursion}
+use Rattle.n2k_wire.specs.declared.entry.Entry.{Entry}
+use Rattle.n2k_wire.specs.declared.entry.Entry.TheVariants as entries
+use Rattle.n2k_wire.specs.Entry.{IsEntry}
+use Rattle.n2k_wire.specs.Packet.{PacketParts, IsPacketParts, longest_message}
+use Rattle.n2k_table.specs.declared.definition.Kind.{Kind}
+use Rattle.n2k_table.specs.declared.definition.Kind.TheVariants.{Fast}
+use Rattle.n2k_join.specs.Frames.{Key, same_key, Frame, has_total, is_fast_payload, fast_frame, frame_by, frame_in, frames_from, of_key, longest_total}
+use Rattle.n2k_join.specs.Messages.{single_by, alone}
+use Rattle.n2k_join.specs.Pieces.{sent_byte, piece_bytes, piece, last_piece, pieces_as, Sending, sendings, sendings_after, frames_of_sending, written}
+use Rattle.n2k_join.specs.Scattered.{key_of_sending, IsPieceOf, IsStretchOf, FallInto, IsScattered, as_entries, WrittenLog}
+use Rattle.n2k_join.proofs.Keys.{of_key-append, of_key-all, of_key-none}
+use Rattle.n2k_join.proofs.Rising.{all-map, all-append}
+use Rattle.n2k_join.proofs.PieceFrames.{given_frame, piece_says}
+use Rattle.n2k_join.proofs.Healing.{rising-apart, rising-length}
+
+-- a sending of a fast PGN, whose data a fast packet can hold
+pub record CanSend (kind : ℕ → Option Kind) (x : Sending) : Type 0 where
+  pub fast : kind x.message.id.pgn ≡ Some Fast
+  pub fits : length x.message.payload ≤ longest_total
+
+-- a piece is a frame's data
+fast_payload : (payload : List ℕ) (s n : ℕ) → length payload ≤ longest_total → n < 32 → is_fast_payload ((32 * s + n) ∷ piece_bytes payload n) ≡ true
+unfolding piece_bytes
+fast_payload payload s n fits small =
+    elim (cases_eq n 0) [
+      | inl none ↦
+          let zeroth : has_total (piece_bytes payload n) ≡ true = ap (λ k. has_total (piece_bytes payload k)) none ∙ le-leb (length payload) longest_total fits in
+          or_right _ _ zeroth
+      | inr some ↦ or_left _ _ (ap not (ne_eqb ((32 * s + n) % 32) 0 (λ same. some (omega arith))))
+    ]
+
+piece_frame : (x : Sending) (line n : ℕ) → length x.message.payload ≤ longest_total → n < 32 → fast_frame line (piece x.message x.sequence n) ≡ Some (given_frame x line n)
+unfolding fast_frame
+piece_frame x line n fits small = rw (fast_payload x.message.payload x.sequence n fits small) refl
+
+number_is : (x : Sending) (line n : ℕ) → n < 32 → (given_frame x line n).number ≡ n
+number_is x line n small = let e : (32 * x.sequence + n) % 32 ≡ n = omega arith in e
+
+-- the frame of a piece is that piece
+piece_is : (x : Sending) (line n : ℕ) → length x.message.payload ≤ longest_total → n ≤ last_piece x.message → IsPieceOf x (given_frame x line n)
+piece_is x line n fits within =
+    let small : n < 32 = omega arith in
+    record {
+      in_range = subst (λ k. k ≤ last_piece x.message) (sym (number_is x line n small)) within;
+      is_piece = ap (λ k. fast_frame line (piece x.message x.sequence k)) (number_is x line n small) ∙ piece_frame x line n fits small;
+    }
+
+-- the frames of pieces
+pub record ComeInOrder (x : Sending) (first count : ℕ) (fs : List Frame) : Type 0 where
+  pub each : AllByRecursion (IsPieceOf x) fs
+  pub rising : map (λ (f : Frame). f.number) fs ≡ range_with_len first count
+
+come_in_order : (kind : ℕ → Option Kind) (x : Sending) → CanSend kind x → (line first count : ℕ) → first + count ≤ last_piece x.message + 1 → ComeInOrder x first count (frames_from kind line (as_entries (map (piece x.message x.sequence) (range_with_len first count))))
+come_in_order kind x can line first zero within = record { each = tt; rising = refl }
+come_in_order kind x can line first (suc count) within =
+    let small : first < 32 = omega (arith, can.fits) in
+    let frame : frame_in kind line (entries.Frame (piece x.message x.sequence first)) ≡ Some (given_frame x line first) = ap (λ k. frame_by k line (piece x.message x.sequence first)) can.fast ∙ piece_frame x line first can.fits small in
+    let rest = come_in_order kind x can (line + 1) (first + 1) count (omega arith) in
+    let later = frames_from kind (line + 1) (as_entries (map (piece x.message x.sequence) (range_with_len (first + 1) count))) in
+    subst (λ o. ComeInOrder x first (suc count) (cons_option o later)) (sym frame) (record {
+      each = (piece_is x line first can.fits (omega arith), rest.each);
+      rising = ap (λ n. n ∷ map (λ (f : Frame). f.number) later) (number_is x line first small) ∙ ap (λ l. first ∷ l) rest.rising;
+    })
+
+-- the frames of a sending are its stretch
+frames_at : (ℕ → Option Kind) → ℕ → Sending → List Frame
+frames_at kind line x = frames_from kind line (as_entries (frames_of_sending kind x))
+
+sending_stretch : (kind : ℕ → Option Kind) (line : ℕ) (x : Sending) → CanSend kind x → ComeInOrder x 0 (last_piece x.message + 1) (frames_at kind line x)
+unfolding frames_at pieces_as
+sending_stretch kind line x can =
+    subst (λ k. ComeInOrder x 0 (last_piece x.message + 1) (frames_from kind line (as_entries (pieces_as k x.message x.sequence)))) (sym can.fast) (come_in_order kind x can line 0 (last_piece x.message + 1) (omega arith))
+
+frames_from-append : (kind : ℕ → Option Kind) (line : ℕ) (es fs : List Entry) → frames_from kind line (es ++ fs) ≡ frames_from kind line es ++ frames_from kind (line + length es) fs
+frames_from-append kind line [] fs = let e : line ≡ line + 0 = omega arith in ap (λ n. frames_from kind n fs) e
+frames_from-append kind line (e ∷ es) fs =
+    let same : (line + 1) + length es ≡ line + suc (length es) = omega arith in
+    ap (cons_option (frame_in kind line e)) (frames_from-append kind (line + 1) es fs ∙ ap (λ n. frames_from kind (line + 1) es ++ frames_from kind n fs) same)
+    ∙ cons-append (frame_in kind line e)
+  where
+    cons-append : (o : Option Frame) → cons_option o (frames_from kind (line + 1) es ++ frames_from kind (line + suc (length es)) fs) ≡ cons_option o (frames_from kind (line + 1) es) ++ frames_from kind (line + suc (length es)) fs
+    cons-append None = refl
+    cons-append (Some f) = refl
+
+-- of the frames of a sending all have its key
+own_key : (kind : ℕ → Option Kind) (line : ℕ) (x : Sending) → CanSend kind x → (k : Key) (b : Bool) → same_key k (key_of_sending x) ≡ b → AllByRecursion (λ (f : Frame). same_key k f.key ≡ b) (frames_at kind line x)
+own_key kind line x can k b e = all-map (IsPieceOf x) (λ (f : Frame). same_key k f.key ≡ b) (frames_at kind line x) (λ f is. ap (same_key k) (piece_says x f is).key ∙ e) (sending_stretch kind line x can).each
+
+-- the frames of sendings, one behind the other, fall into their stretches
+sent_frames : (ℕ → Option Kind) → ℕ → List Sending → List Frame
+sent_frames kind line xs = frames_from kind line (as_entries (flat_map (frames_of_sending kind) xs))
+
+one_more : (k : Key) (x : Sending) (xs : List Sending) (g fs : List Frame) → IsStretchOf x g → FallInto xs fs → FallInto (x ∷ xs) (g ++ fs)
+one_more k x xs g fs is falls = record {
+  stretches = g ∷ falls.stretches;
+  one_behind_the_other = ap (λ l. g ++ l) falls.one_behind_the_other;
+  each = (is, falls.each);
+}
+
+fall : (kind : ℕ → Option Kind) (k : Key) (line : ℕ) (xs : List Sending) → AllByRecursion (CanSend kind) xs → FallInto (filter (λ (x : Sending). same_key k (key_of_sending x)) xs) (of_key k (sent_frames kind line xs))
+unfolding sent_frames frames_at
+fall kind k line [] can = record { stretches = []; one_behind_the_other = refl; each = tt }
+fall kind k line (x ∷ xs) can =
+    let mine = as_entries (frames_of_sending kind x) in
+    let others = as_entries (flat_map (frames_of_sending kind) xs) in
+    let parts : of_key k (sent_frames kind line (x ∷ xs)) ≡ of_key k (frames_at kind line x) ++ of_key k (sent_frames kind (line + length mine) xs) =
+    ap (λ es. of_key k (frames_from kind line es)) (map-append (λ p. entries.Frame p) (frames_of_sending kind x) (flat_map (frames_of_sending kind) xs))
+    ∙ (ap (of_key k) (frames_from-append kind line mine others)
+    ∙ of_key-append k (frames_at kind line x) (sent_frames kind (line + length mine) xs)) in
+    subst (FallInto (filter (λ (y : Sending). same_key k (key_of_sending y)) (x ∷ xs))) (sym parts) (by_key (same_key k (key_of_sending x)) refl (fall kind k (line + length mine) xs can.1))
+  where
+    in_order : ComeInOrder x 0 (last_piece x.message + 1) (frames_at kind line x)
+    in_order = sending_stretch kind line x can.0
+
+    stretch : IsStretchOf x (frames_at kind line x)
+    stretch = record {
+      pieces = record { each = All-from_recursion (IsPieceOf x) (frames_at kind line x) in_order.each; apart = rising-apart 0 _ (frames_at kind line x) in_order.rising };
+      whole = rising-length 0 _ (frames_at kind line x) in_order.rising;
+    }
+
+    by_key : (b : Bool) → same_key k (key_of_sending x) ≡ b → FallInto (filter (λ (y : Sending). same_key k (key_of_sending y)) xs) (of_key k (sent_frames kind (line + length (as_entries (frames_of_sending kind x))) xs))
+        → FallInto (cond b (x ∷ filter (λ (y : Sending). same_key k (key_of_sending y)) xs) (filter (λ (y : Sending). same_key k (key_of_sending y)) xs)) (of_key k (frames_at kind line x) ++ of_key k (sent_frames kind (line + length (as_entries (frames_of_sending kind x))) xs))
+    by_key true e falls = rw (of_key-all k (frames_at kind line x) (own_key kind line x can.0 k true e)) (one_more k x _ (frames_at kind line x) _ stretch falls)
+    by_key false e falls = rw (of_key-none k (frames_at kind line x) (own_key kind line x can.0 k false e)) falls
+
+-- each message of a fast PGN can be sent, under any sequence
+can_send : (kind : ℕ → Option Kind) (earlier ms : List PacketParts) → AllByRecursion (λ (m : PacketParts). kind m.id.pgn ≡ Some Fast) ms → AllByRecursion IsPacketParts ms → AllByRecursion (CanSend kind) (sendings_after earlier ms)
+can_send kind earlier [] fast are = tt
+can_send kind earlier (m ∷ ms) fast are = (record { fast = fast.0; fits = are.0.packet_ok.payload_ok }, can_send kind (earlier ++ m ∷ []) ms fast.1 are.1)
+
+pub written_scattered : (kind : ℕ → Option Kind) (ms : List PacketParts) → All IsPacketParts ms → All (λ (m : PacketParts). kind m.id.pgn ≡ Some Fast) ms → IsScattered kind ms (as_entries (written kind ms))
+unfolding sent_frames
+written_scattered kind ms are fast = record {
+  fast = fast;
+  falls = λ k. fall kind k 1 (sendings ms) (can_send kind [] ms (recursion_from_All _ ms fast) (recursion_from_All _ ms are));
+}
+
+-- a sending that a packet of the program and a sequence make
+pub record IsSending (kind : ℕ → Option Kind) (x : Sending) : Type 0 where
+  pub fast : kind x.message.id.pgn ≡ Some Fast
+  pub packet : IsPacketParts x.message
+  pub sequence : x.sequence < 8
+
+-- the frame of a packet is an entry of the program, and no message alone
+pub record IsPieceEntry (kind : ℕ → Option Kind) (e : Entry) : Type 0 where
+  pub entry : IsEntry e
+  pub mute : alone kind e ≡ None
+
+-- numbers that are bytes
+abbrev AreBytes : List ℕ → Type 0
+AreBytes bytes = (i : ℕ) → slice_index bytes i < 256
+
+bytes-default : (payload : List ℕ) (j : ℕ) → AreBytes payload → slice_index_or payload j 255 < 256
+bytes-default [] j are = omega arith
+bytes-default (b ∷ payload) zero are = are 0
+bytes-default (b ∷ payload) (suc j) are = bytes-default payload j (λ i. are (suc i))
+
+sent_byte-byte : (payload : List ℕ) (j : ℕ) → length payload ≤ longest_message → AreBytes payload → sent_byte payload j < 256
+sent_byte-byte payload zero fits are = omega arith
+sent_byte-byte payload (suc j) fits are = bytes-default payload j are
+
+bytes-map : (g : ℕ → ℕ) → ((j : ℕ) → g j < 256) → (ns : List ℕ) → AreBytes (map g ns)
+bytes-map g h [] i = omega arith
+bytes-map g h (n ∷ ns) zero = h n
+bytes-map g h (n ∷ ns) (suc i) = bytes-map g h ns i
+
+bytes-cons : (b : ℕ) (bytes : List ℕ) → b < 256 → AreBytes bytes → AreBytes (b ∷ bytes)
+bytes-cons b bytes h are zero = h
+bytes-cons b bytes h are (suc i) = are i
+
+-- a piece is a packet with eight bytes
+pub piece_length : (m : PacketParts) (s n : ℕ) → length (piece m s n).payload ≡ 8
+unfolding piece_bytes
+piece_length m s n = refl
+
+pub piece_packet : (m : PacketParts) (s n : ℕ) → IsPacketParts m → s < 8 → n ≤ last_piece m → IsPacketParts (piece m s n)
+unfolding piece_bytes
+piece_packet m s n is low within =
+    let small : n < 32 = omega (arith, is.packet_ok.payload_ok) in
+    record {
+      packet_ok = record { stamp_ok = is.packet_ok.stamp_ok; prio_ok = is.packet_ok.prio_ok; pgn_ok = is.packet_ok.pgn_ok; payload_ok = omega (arith, piece_length m s n) };
+      src_ok = is.src_ok;
+      dst_ok = is.dst_ok;
+      bytes_ok = bytes-cons (32 * s + n) (piece_bytes m.payload n) (omega arith) (bytes-map (sent_byte m.payload) (λ j. sent_byte-byte m.payload j is.packet_ok.payload_ok is.bytes_ok) (range_with_len (7 * n) 7));
+    }
+
+piece_entries : (kind : ℕ → Option Kind) (x : Sending) → IsSending kind x → (first count : ℕ) → first + count ≤ last_piece x.message + 1 → AllByRecursion (IsPieceEntry kind) (as_entries (map (piece x.message x.sequence) (range_with_len first count)))
+piece_entries kind x is first zero within = tt
+piece_entries kind x is first (suc count) within = (
+  record {
+    entry = (piece_packet x.message x.sequence first is.packet is.sequence (omega arith), omega (arith, piece_length x.message x.sequence first));
+    mute = ap (λ k. single_by k (piece x.message x.sequence first)) is.fast;
+  },
+  piece_entries kind x is (first + 1) count (omega arith),
+)
+
+sending_entries : (kind : ℕ → Option Kind) (x : Sending) → IsSending kind x → AllByRecursion (IsPieceEntry kind) (as_entries (frames_of_sending kind x))
+unfolding pieces_as
+sending_entries kind x is = subst (λ k. AllByRecursion (IsPieceEntry kind) (as_entries (pieces_as k x.message x.sequence))) (sym is.fast) (piece_entries kind x is 0 (last_piece x.message + 1) (omega arith))
+
+all_entries : (kind : ℕ → Option Kind) (xs : List Sending) → AllByRecursion (IsSending kind) xs → AllByRecursion (IsPieceEntry kind) (as_entries (flat_map (frames_of_sending kind) xs))
+all_entries kind [] is = tt
+all_entries kind (x ∷ xs) is =
+    subst (AllByRecursion (IsPieceEntry kind)) (sym (map-append (λ p. entries.Frame p) (frames_of_sending kind x) (flat_map (frames_of_sending kind) xs)))
+    (all-append (IsPieceEntry kind) (as_entries (frames_of_sending kind x)) (as_entries (flat_map (frames_of_sending kind) xs)) (sending_entries kind x is.0) (all_entries kind xs is.1))
+
+are_sendings : (kind : ℕ → Option Kind) (earlier ms : List PacketParts) → AllByRecursion (λ (m : PacketParts). kind m.id.pgn ≡ Some Fast) ms → AllByRecursion IsPacketParts ms → AllByRecursion (IsSending kind) (sendings_after earlier ms)
+are_sendings kind earlier [] fast are = tt
+are_sendings kind earlier (m ∷ ms) fast are = (record { fast = fast.0; packet = are.0; sequence = omega arith }, are_sendings kind (earlier ++ m ∷ []) ms fast.1 are.1)
+
+pub written_entries : (kind : ℕ → Option Kind) (ms : List PacketParts) → All IsPacketParts ms → All (λ (m : PacketParts). kind m.id.pgn ≡ Some Fast) ms → AllByRecursion (IsPieceEntry kind) (as_entries (written kind ms))
+written_entries kind ms are fast = all_entries kind (sendings ms) (are_sendings kind [] ms (recursion_from_All _ ms fast) (recursion_from_All _ ms are))
+
+pub written_log : (kind : ℕ → Option Kind) (ms : List PacketParts) → All IsPacketParts ms → All (λ (m : PacketParts). kind m.id.pgn ≡ Some Fast) ms → WrittenLog kind ms
+written_log kind ms are fast =
+    let entries = written_entries kind ms are fast in
+    record {
+      entries = All-from_recursion IsEntry (as_entries (written kind ms)) (all-map (IsPieceEntry kind) IsEntry _ (λ e is. is.entry) entries);
+      mute = All-from_recursion (λ (e : Entry). alone kind e ≡ None) (as_entries (written kind ms)) (all-map (IsPieceEntry kind) _ _ (λ e is. is.mute) entries);
+      scattered = written_scattered kind ms are fast;
+    }

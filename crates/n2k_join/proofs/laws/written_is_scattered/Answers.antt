@@ -1,0 +1,5 @@
+use Rattle.n2k_join.proofs.Written.{written_log}
+use Rattle.n2k_join.proofs.laws.written_is_scattered.Goals as goal
+
+pub returns : goal.returns
+returns c = written_log

@@ -1,0 +1,104 @@
+-- How the frames of one key fall into groups, and what a group's message holds. A group ends where it is complete, or
+-- where the frame after it can't join it. Whether a frame can't is a test (`Ends`), which every word that cuts takes as an
+-- argument; today's says that the frame's number is in the group.
+use Rattle.std.specs.Prelude.{◌≡◌, ◌<◌, ℕ, ◌+◌, length, ◌/◌, ◌==◌, nat_le, slice_index_or, Bool, true, false, not, ◌&&◌, ◌||◌, if◌then◌else◌, List, [], ◌∷◌, ◌++◌, take, drop, flat_map, Option, Some, None, unwrap_or, option_and_then, is_some}
+use Rattle.std.specs.List.{range_with_len, list_all, last_or}
+use Rattle.n2k_join.specs.Frames.{Key, Frame, frame_bytes, of_key}
+
+-- the bytes that frames carry under a number
+abbrev pub carried : List Frame → ℕ → Option (List ℕ)
+carried [] number = None
+carried (f ∷ fs) number = if f.number == number then Some f.bytes else carried fs number
+
+-- a frame of that number is among them
+abbrev pub has_number : ℕ → List Frame → Bool
+has_number number fs = is_some (carried fs number)
+
+-- some number stands twice
+abbrev pub has_twice : List Frame → Bool
+has_twice [] = false
+has_twice (f ∷ fs) = has_number f.number fs || has_twice fs
+
+-- how many bytes the message has: the first byte that frame 0 carries
+abbrev pub total_by : Option (List ℕ) → ℕ
+total_by bytes = slice_index_or (unwrap_or bytes []) 0 0
+
+abbrev pub total : List Frame → ℕ
+total group = total_by (carried group 0)
+
+-- the number of a message's last frame
+abbrev pub last_number : ℕ → ℕ
+last_number total = total / frame_bytes
+
+-- each number from 0 to `last` is there
+abbrev pub has_all : ℕ → List Frame → Bool
+has_all last group = list_all (λ n. has_number n group) (range_with_len 0 (last + 1))
+
+-- no number is past `last`
+abbrev pub is_within : ℕ → List Frame → Bool
+is_within last group = list_all (λ (f : Frame). nat_le f.number last) group
+
+-- A group is complete: no number stands twice, 0 is among them, and they are exactly those that the total asks for.
+unfoldable pub complete : List Frame → Bool
+complete group =
+    not (has_twice group) && (has_number 0 group && (has_all (last_number (total group)) group && is_within (last_number (total group)) group))
+
+-- a test whether a group that isn't complete ends before a frame
+abbrev pub Ends : Type 0
+Ends = List Frame → Frame → Bool
+
+-- it does where the frame's number is in it
+abbrev pub repeats : Ends
+repeats group f = has_number f.number group
+
+-- a group ends before a frame
+abbrev pub closes : Ends → List Frame → Frame → Bool
+closes ends group f = complete group || ends group f
+
+-- the groups of frames of one key, the first of them beginning with these
+abbrev pub cut_from : Ends → List Frame → List Frame → List (List Frame)
+cut_from ends group [] = group ∷ []
+cut_from ends group (f ∷ fs) = if closes ends group f then group ∷ cut_from ends (f ∷ []) fs else cut_from ends (group ++ f ∷ []) fs
+
+-- the groups of frames of one key, in order
+unfoldable pub cut : Ends → List Frame → List (List Frame)
+cut ends [] = []
+cut ends (f ∷ fs) = cut_from ends (f ∷ []) fs
+
+-- A front of frames is a group that has ended: it is complete, or no frame follows, or it ends before the one that does.
+abbrev pub HasEnded : Ends → List Frame → List Frame → Type 0
+HasEnded ends group [] = Unit {0}
+HasEnded ends group (f ∷ rest) = closes ends group f ≡ true
+
+-- What the first group of frames is: the shortest front, not an empty one, that has ended.
+pub record IsFirstGroup (ends : Ends) (fs group rest : List Frame) : Type 0 where
+  pub joined : fs ≡ group ++ rest
+  pub nonempty : 0 < length group
+  pub ended : HasEnded ends group rest
+  pub shortest : (f g : Frame) (front back : List Frame) → group ≡ (f ∷ front) ++ (g ∷ back) → closes ends (f ∷ front) g ≡ false
+
+-- the line of a group's first frame, and of its last
+abbrev pub first : List Frame → ℕ
+first [] = 0
+first (f ∷ fs) = f.line
+
+abbrev pub last_line : List Frame → ℕ
+last_line [] = 0
+last_line (f ∷ []) = f.line
+last_line (f ∷ g ∷ fs) = last_line (g ∷ fs)
+
+-- a group that isn't complete
+abbrev pub incomplete : List Frame → Option (List Frame)
+incomplete group = if complete group then None else Some group
+
+-- The open group of a key: the last one, where it isn't complete.
+abbrev pub open_of : Ends → Key → List Frame → Option (List Frame)
+open_of ends key fs = option_and_then incomplete (last_or None (cut ends (of_key key fs)))
+
+-- the bytes of frame `number` of a group
+abbrev pub bytes_at : List Frame → ℕ → List ℕ
+bytes_at group number = unwrap_or (carried group number) []
+
+-- The data of a complete group: what its frames carry, by rising number, without the total, and no more bytes than it says.
+unfoldable pub data_of : List Frame → List ℕ
+data_of group = take (total group) (drop 1 (flat_map (bytes_at group) (range_with_len 0 (last_number (total group) + 1))))

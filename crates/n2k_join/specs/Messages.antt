@@ -1,0 +1,121 @@
+-- What the lines of a log give: messages, bad lines and broken groups. `kind` says how a PGN is sent, as the table has it.
+use Rattle.std.specs.Prelude.{ℕ, zero, suc, ◌==◌, Bool, false, not, ◌&&◌, if◌then◌else◌, List, [], ◌∷◌, map, find, length, sum_by, count_by, slice_get, Option, Some, None, option_map, option_and_then, option_to_list, is_some}
+use Rattle.std.specs.Option.{option_or}
+use Rattle.std.specs.List.{range_with_len, flat_map}
+use Rattle.n2k_wire.specs.declared.entry.BadCause.{BadCause}
+use Rattle.n2k_wire.specs.declared.entry.BadCause.TheVariants as causes
+use Rattle.n2k_wire.specs.declared.entry.Entry.{Entry}
+use Rattle.n2k_wire.specs.declared.entry.Entry.TheVariants as entries
+use Rattle.n2k_wire.specs.Packet.{PacketParts}
+use Rattle.n2k_table.specs.declared.definition.Kind.{Kind}
+use Rattle.n2k_table.specs.declared.definition.Kind.TheVariants.{Single, Fast}
+use Rattle.n2k_join.specs.declared.broken.Broken.{Broken}
+use Rattle.n2k_join.specs.declared.counts.Counts.{Counts}
+use Rattle.n2k_join.specs.Frames.{Key, Frame, is_fast_payload, frames, of_key, frame_at}
+use Rattle.n2k_join.specs.Groups.{Ends, repeats, complete, cut, first, last_line, data_of}
+use Rattle.n2k_join.specs.Open.{open_groups}
+
+-- a message, and the key of the group that gave it
+pub record Keyed : Type 0 where
+  pub key : Key
+  pub message : PacketParts
+
+-- the message of a group that the frame completes: with the stamp and the identifier of that frame's line
+abbrev pub message_of : Frame → List Frame → PacketParts
+message_of f group = record { stamp = f.stamp; id = f.id; payload = data_of group }
+
+-- the group is complete, and its last frame stands at the line
+abbrev pub is_done_at : ℕ → List Frame → Bool
+is_done_at line group = complete group && (last_line group == line)
+
+-- what the frame makes complete among the groups of its key
+abbrev pub gathered_by : Ends → List Frame → Frame → Option Keyed
+gathered_by ends fs f = option_map (λ group. record { key = f.key; message = message_of f group }) (find (is_done_at f.line) (cut ends (of_key f.key fs)))
+
+-- the message of the group that the frame at a line completes
+unfoldable pub gathered : Ends → List Frame → ℕ → Option Keyed
+gathered ends fs line = option_and_then (gathered_by ends fs) (frame_at line fs)
+
+-- the entry of a line
+abbrev pub entry_at : List Entry → ℕ → Option Entry
+entry_at es zero = None
+entry_at es (suc i) = slice_get es i
+
+-- the message that a frame gives alone, by its PGN's kind: it is one where the PGN is sent in single frames
+abbrev pub single_by : Option Kind → PacketParts → Option PacketParts
+single_by None packet = None
+single_by (Some Single) packet = Some packet
+single_by (Some Fast) packet = None
+
+-- the message that a whole message is: it is one where its PGN is in the table, however that is sent
+abbrev pub whole_by : Option Kind → PacketParts → Option PacketParts
+whole_by None packet = None
+whole_by (Some kind) packet = Some packet
+
+-- the message that an entry gives alone
+abbrev pub alone : (ℕ → Option Kind) → Entry → Option PacketParts
+alone kind (entries.Frame packet) = single_by (kind packet.id.pgn) packet
+alone kind (entries.Whole packet) = whole_by (kind packet.id.pgn) packet
+alone kind _ = None
+
+-- the message that a line gives: of the group that it completes, or of its entry alone
+abbrev pub message_with : Ends → (ℕ → Option Kind) → List Entry → ℕ → Option PacketParts
+message_with ends kind es line =
+    option_or (option_map (λ (m : Keyed). m.message) (gathered ends (frames kind es) line)) (option_and_then (alone kind) (entry_at es line))
+
+abbrev pub message : (ℕ → Option Kind) → List Entry → ℕ → Option PacketParts
+message = message_with repeats
+
+-- why the line of a frame is bad, by its PGN's kind: under a fast PGN its data may not be those of a fast packet's frame
+abbrev pub fast_cause : Option Kind → PacketParts → Option BadCause
+fast_cause None packet = None
+fast_cause (Some Single) packet = None
+fast_cause (Some Fast) packet = if is_fast_payload packet.payload then None else Some causes.Fast
+
+-- why the line of an entry is bad
+abbrev pub cause_in : (ℕ → Option Kind) → Entry → Option BadCause
+cause_in kind (entries.Bad cause) = Some cause
+cause_in kind (entries.Frame packet) = fast_cause (kind packet.id.pgn) packet
+cause_in kind _ = None
+
+-- what is told of a broken group
+abbrev pub broken_of : Key → List Frame → Broken
+broken_of key group = record { pgn = key.pgn; src = key.src; dst = key.dst; seq = key.sequence; first = first group }
+
+-- the groups that aren't complete and are followed by one that begins at the line
+abbrev pub broken_before : ℕ → List (List Frame) → List (List Frame)
+broken_before line [] = []
+broken_before line (group ∷ []) = []
+broken_before line (group ∷ next ∷ groups) =
+    if not (complete group) && (first next == line) then group ∷ broken_before line (next ∷ groups) else broken_before line (next ∷ groups)
+
+abbrev pub broken_by : Ends → List Frame → Frame → List Broken
+broken_by ends fs f = map (broken_of f.key) (broken_before f.line (cut ends (of_key f.key fs)))
+
+-- the groups that are broken at a line: those that end there without being complete
+unfoldable pub broken_with : Ends → List Frame → ℕ → List Broken
+broken_with ends fs line = flat_map (broken_by ends fs) (option_to_list (frame_at line fs))
+
+abbrev pub broken : (ℕ → Option Kind) → List Entry → ℕ → List Broken
+broken kind es line = broken_with repeats (frames kind es) line
+
+-- the PGN of an entry isn't in the table
+abbrev pub is_unknown : (ℕ → Option Kind) → Entry → Bool
+is_unknown kind (entries.Frame packet) = not (is_some (kind packet.id.pgn))
+is_unknown kind (entries.Whole packet) = not (is_some (kind packet.id.pgn))
+is_unknown kind _ = false
+
+-- the numbers of the lines
+abbrev pub numbers : List Entry → List ℕ
+numbers es = range_with_len 1 (length es)
+
+-- lines, skipped ones too; those that give a message; bad ones; those of an unknown PGN; groups broken, and groups open at the end
+abbrev pub counts : (ℕ → Option Kind) → List Entry → Counts
+counts kind es = record {
+  lines = length es;
+  messages = count_by (λ line. is_some (message kind es line)) (numbers es);
+  bad = count_by (λ e. is_some (cause_in kind e)) es;
+  unknown = count_by (is_unknown kind) es;
+  broken = sum_by (λ line. length (broken kind es line)) (numbers es);
+  held = length (open_groups repeats (length es) (frames kind es));
+}

@@ -1,0 +1,41 @@
+-- What stands open after a log's frames, and what is kept of it: of each open group its key, the line that opened it,
+-- and what its frames carry, by rising number. Neither their order nor their stamps matter any more.
+use Rattle.std.specs.Prelude.{ℕ, ◌==◌, if◌then◌else◌, List, filter_map, Option, Some, None, option_map, option_and_then}
+use Rattle.std.specs.List.{range_with_len}
+use Rattle.n2k_join.specs.Frames.{Key, Frame, most_frames, frame_at}
+use Rattle.n2k_join.specs.Groups.{Ends, carried, first, open_of}
+
+-- a frame's number and its seven bytes
+pub record Piece : Type 0 where
+  pub number : ℕ
+  pub bytes : List ℕ
+
+-- an open group: the line that opened it, its key, and its pieces by rising number
+pub record Group : Type 0 where
+  pub first : ℕ
+  pub key : Key
+  pub pieces : List Piece
+
+-- the piece of a number
+abbrev pub piece_at : (ℕ → Option (List ℕ)) → ℕ → Option Piece
+piece_at carries number = option_map (λ bytes. record { number = number; bytes = bytes }) (carries number)
+
+-- the pieces of frames, by rising number
+unfoldable pub pieces_of : List Frame → List Piece
+pieces_of fs = filter_map (piece_at (carried fs)) (range_with_len 0 most_frames)
+
+-- what is kept of a group of a key
+abbrev pub group_of : Key → List Frame → Group
+group_of key fs = record { first = first fs; key = key; pieces = pieces_of fs }
+
+-- the group, where it begins at that line
+abbrev pub where_begun : ℕ → Key → List Frame → Option Group
+where_begun line key group = if first group == line then Some (group_of key group) else None
+
+-- the group that the frame at a line opened, where it is still open
+unfoldable pub begun_at : Ends → List Frame → ℕ → Option Group
+begun_at ends fs line = option_and_then (λ (f : Frame). option_and_then (where_begun line f.key) (open_of ends f.key fs)) (frame_at line fs)
+
+-- the groups that are open after the frames of `lines` lines, by the lines that opened them
+unfoldable pub open_groups : Ends → ℕ → List Frame → List Group
+open_groups ends lines fs = filter_map (begun_at ends fs) (range_with_len 1 lines)

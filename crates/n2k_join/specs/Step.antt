@@ -1,0 +1,21 @@
+-- What a line answers, as the definitions see it.
+use Rattle.std.specs.Prelude.{ℕ, Bool, false, not, List, Option, Some, None, option_to_list}
+use Rattle.std.specs.List.{list_any}
+use Rattle.n2k_wire.specs.declared.entry.Entry.{Entry}
+use Rattle.n2k_table.specs.declared.definition.Kind.{Kind}
+use Rattle.n2k_join.specs.declared.step.Step.{Step}
+use Rattle.n2k_join.specs.Frames.{same_key, Frame, frame_in}
+use Rattle.n2k_join.specs.Open.{Group}
+use Rattle.n2k_join.specs.State.{State, Given, next_line}
+
+-- A line breaks at most one group.
+abbrev pub given_of : Step → Given
+given_of step = record { message = step.message; cause = step.bad; broken = option_to_list step.broken }
+
+abbrev pub opens_by : List Group → Option Frame → Bool
+opens_by groups None = false
+opens_by groups (Some f) = not (list_any (λ (g : Group). same_key f.key g.key) groups)
+
+-- the frame of the next entry opens a group of a key that has none open
+abbrev pub opens : (ℕ → Option Kind) → State → Entry → Bool
+opens kind s e = opens_by s.groups (frame_in kind (next_line s) e)

@@ -1,0 +1,53 @@
+//! Frames of fast packets.
+ghost use Rattle.std.specs.Prelude.{◌≡◌, ℕ, option_map, slice_index_or};
+ghost use Rattle.n2k_join.specs.Frames.{fast_frame, seven_bytes};
+ghost use Rattle.n2k_join.specs.Stored.{frame_of};
+
+use crate::piece::{FastFrame, FrameKey, StoredPiece};
+use n2k_wire::Packet;
+
+/// The most bytes of a message.
+pub const LONGEST_TOTAL: u8 = 223;
+
+/// What the bytes of a frame are filled with.
+const FILLER: u8 = 0xff;
+
+fn byte_or_filler(bytes: &[u8], at: usize) -> u8
+    ensures { result ≡ slice_index_or bytes.now at 255 }
+{
+    match bytes.get(at) {
+        Some(byte) => *byte,
+        None => FILLER,
+    }
+}
+
+// The bytes after the header, filled up to seven.
+fn seven_bytes(rest: &[u8]) -> [u8; 7]
+    ensures { result ≡ seven_bytes rest.now }
+{
+    let at = |i| byte_or_filler(rest, i);
+    [at(0), at(1), at(2), at(3), at(4), at(5), at(6)]
+}
+
+/// The frame that a packet of a fast PGN is. `None` where its data can't be a frame's: there is no byte, or it is a
+/// frame 0 without a total or with one over 223.
+#[tactic(auto, unfolding(crate::specs::Frames::fast_frame))]
+pub fn fast_frame(packet: &Packet) -> Option<FastFrame>
+    ensures { (line : ℕ) → option_map (λ frame. frame_of line packet.now frame) result ≡ fast_frame line packet.now }
+{
+    let (header, rest) = packet.data().split_first()?;
+    let number = *header % 32;
+    let bytes = seven_bytes(rest);
+    if number == 0 && (rest.is_empty() || bytes[0] > LONGEST_TOTAL) {
+        return None;
+    }
+    let id = packet.id();
+    let key = FrameKey {
+        src: id.src,
+        dst: id.dst,
+        pgn: id.pgn,
+        sequence: *header / 32,
+    };
+    let piece = StoredPiece { number, bytes };
+    Some(FastFrame { key, piece })
+}

@@ -1,0 +1,197 @@
+//! The join: the open groups and the counts of a log, taken on line by line.
+ghost use Rattle.std.specs.Prelude.{◌≡◌, ◌+◌, ◌<◌, ◌↔◌, ℕ, [], IfOk, OnOk, OnErr, IsErrOf, true, is_some};
+ghost use Rattle.n2k_table.specs.Table.{kind};
+ghost use Rattle.n2k_wire.specs.Entry.{IsShort, IsEntry};
+ghost use Rattle.n2k_wire.specs.Packet.{IsPacket, IsPacketParts};
+ghost use Rattle.n2k_join.specs.Counts.{most_lines};
+ghost use Rattle.n2k_join.specs.State.{state, step_given, step_after, AreCounts, one_if};
+ghost use Rattle.n2k_join.specs.Refusal.{GivesOrMemory};
+ghost use Rattle.n2k_join.specs.Resumed.{is_valid, judged, state_of_parts, valid_if};
+ghost use Rattle.n2k_join.specs.Saved.{state_text};
+ghost use Rattle.n2k_join.specs.Step.{given_of, opens};
+
+use crate::counts::{Counts, MOST_LINES};
+use crate::fault::JoinFault;
+use crate::group::StoredGroup;
+use crate::outcome::{Outcome, take_entry};
+use crate::saved::{
+    SpelledGroup, SpelledState, has_format, parsed, read_state, rules_hold, state_text,
+    stored_groups,
+};
+use crate::state_fault::StateFault;
+use crate::step::Step;
+use n2k_table::Table;
+use n2k_wire::{Entry, Id, Packet};
+use std::alloc::{AllocError, Global};
+use std::marker::Model;
+
+/// What is known after the lines of a log: what they count, and the groups of frames that are open, by the lines
+/// that opened them. It holds no line and no stamp.
+#[derive(Drop)]
+pub struct Join {
+    id: [u8; 32],
+    counts: Counts,
+    groups: Vec<StoredGroup>,
+}
+
+impl Model for Join {
+    ghost use Rattle.n2k_join.specs.State.{State, IsState};
+
+    ghost Value = { State };
+
+    ghost view = { λ j. record { id = j.id; counts = j.counts; groups = j.groups.items } };
+
+    ghost invariant = { λ j. IsState (record { id = j.id; counts = j.counts; groups = j.groups.items }) };
+}
+
+// What the types say of the parts of a packet.
+fn know_parts(stamp: &[u8], id: Id, data: &[u8])
+    requires { IsPacket stamp.now id «data».now }
+    ensures { IsPacketParts (record { stamp = stamp.now; id = id; payload = «data».now }) }
+{}
+
+// What the types say of a packet.
+fn know_packet(packet: &Packet)
+    ensures { IsPacketParts packet.now }
+{
+    know_parts(packet.stamp(), packet.id(), packet.data());
+}
+
+// What the types say of an entry.
+fn know_entry(entry: &Entry)
+    ensures { IsShort entry.now → IsEntry entry.now }
+{
+    match entry {
+        Entry::Skip | Entry::Bad(_) => {}
+        Entry::Frame(packet) | Entry::Whole(packet) => know_packet(packet),
+    }
+}
+
+// The counts after a line.
+fn counted(counts: Counts, outcome: &Outcome, held: usize) -> Counts
+    requires are { AreCounts counts }
+    requires below { counts.lines < most_lines }
+    ensures { result ≡ record {
+      lines = counts.lines + 1;
+      messages = counts.messages + one_if (is_some outcome.now.step.message);
+      bad = counts.bad + one_if (is_some outcome.now.step.bad);
+      unknown = counts.unknown + one_if outcome.now.is_unknown;
+      broken = counts.broken + one_if (is_some outcome.now.step.broken);
+      held = held;
+    } }
+{
+    let step = &outcome.step;
+    Counts {
+        lines: counts.lines + 1,
+        messages: counts.messages + u64::from(step.message.is_some()),
+        bad: counts.bad + u64::from(step.bad.is_some()),
+        unknown: counts.unknown + u64::from(outcome.is_unknown),
+        broken: counts.broken + u64::from(step.broken.is_some()),
+        held: held as u64,
+    }
+}
+
+impl Join {
+    /// Before the first line, with a table. It takes no memory.
+    pub fn new(alloc: Global, table: &Table) -> Join
+        ensures { result ≡ state table.now.id (kind table.now) [] }
+    {
+        Join {
+            id: table.id(),
+            counts: Counts::NONE,
+            groups: Vec::new(alloc),
+        }
+    }
+
+    /// What the lines so far count. It takes no memory.
+    pub fn counts(&self) -> Counts
+        ensures { result ≡ self.now.counts }
+    {
+        let Join { counts, .. } = self;
+        *counts
+    }
+
+    /// Takes the next line, as its entry, and answers what it gives: the message that it is or completes, why it is
+    /// bad, and the group that it breaks. The table says how each PGN is sent.
+    ///
+    /// At 999,999,999,999,999 lines it is refused as too many. Memory is taken only where a group is opened of a
+    /// key that has none open. After a refusal the join is as it was.
+    ///
+    /// ```text
+    /// let step = join.line(&table, read_line(line, Packing::Frames))?;
+    /// ```
+    pub fn line(&mut self, table: &Table, entry: Entry) -> Result<Step, JoinFault>
+        requires { IsShort entry }
+        ensures given { IfOk result (λ step. given_of step ≡ step_given (kind table.now) self.old entry) }
+        ensures after { OnOk result (self.new ≡ step_after (kind table.now) self.old entry) }
+        ensures unchanged { OnErr result (self.new ≡ self.old) }
+        ensures few { OnOk result (self.old.counts.lines < most_lines) }
+        ensures full { IsErrOf result JoinFault.TooManyLines ↔ (self.old.counts.lines ≡ most_lines) }
+        ensures memory { IsErrOf result JoinFault.Memory → opens (kind table.now) self.old entry ≡ true }
+    {
+        if self.counts.lines == MOST_LINES {
+            return Err(JoinFault::TooManyLines);
+        }
+        know_entry(&entry);
+        let alloc = *self.groups.allocator();
+        let line = self.counts.lines + 1;
+        let outcome = take_entry(alloc, &mut self.groups, line, table, entry)?;
+        self.counts = counted(self.counts, &outcome, self.groups.len());
+        Ok(outcome.step)
+    }
+
+    // The join of a state that was read, where it can be one under the table. The count of open groups is their number.
+    fn of_state(
+        alloc: Global,
+        table: &Table,
+        id: [u8; 32],
+        counts: Counts,
+        groups: &[SpelledGroup],
+    ) -> Result<Join, StateFault>
+        ensures { let state = state_of_parts id counts groups.now in
+            GivesOrMemory (λ join. join) result (valid_if (is_valid (kind table.now) state) state) }
+    {
+        if !rules_hold(&counts, groups) {
+            return Err(StateFault::Invalid);
+        }
+        let stored = stored_groups(alloc, table, groups)?;
+        let held = stored.len() as u64;
+        Ok(Join {
+            id,
+            counts: Counts { held, ..counts },
+            groups: stored,
+        })
+    }
+
+    /// The join that a saved state spells, under the table that it was saved with. It goes on where that one stood.
+    ///
+    /// Any JSON text is taken that spells a valid state, whether or not a log leads to it (docs/PROFILE.md has its
+    /// members and rules). Else the first fault is answered that stands, in the order of their numbers, or `Memory`
+    /// where a growth was refused.
+    ///
+    /// ```text
+    /// let join = Join::resume(alloc, &table, &state)?;
+    /// ```
+    #[tactic(auto, unfolding(crate::specs::Resumed::judged))]
+    pub fn resume(alloc: Global, table: &Table, bytes: &[u8]) -> Result<Join, StateFault>
+        ensures { GivesOrMemory (λ join. join) result (judged (kind table.now) table.now.id bytes.now) }
+    {
+        let value = parsed(alloc, bytes)?;
+        if !has_format(&value) {
+            return Err(StateFault::Format);
+        }
+        let state = read_state(alloc, &value)?;
+        if state.id != table.id() {
+            return Err(StateFault::TableDiffers);
+        }
+        let SpelledState { id, counts, groups } = state;
+        Join::of_state(alloc, table, id, counts, &groups)
+    }
+
+    /// The text of its state, from which `resume` goes on: JSON, as docs/PROFILE.md has it, without an LF.
+    pub fn save(&self, alloc: Global) -> Result<Vec<u8>, AllocError>
+        ensures { IfOk result (λ text. text.items ≡ state_text self.now) }
+    {
+        state_text(alloc, &self.id, &self.counts, &self.groups)
+    }
+}

@@ -1,0 +1,15 @@
+//! What a line gives.
+
+use crate::broken::Broken;
+use n2k_wire::{BadCause, Packet};
+
+/// What a line gives. A line that gives nothing is counted.
+#[derive(Drop)]
+pub struct Step {
+    /// The message that it is or completes.
+    pub message: Option<Packet>,
+    /// Why it is bad.
+    pub bad: Option<BadCause>,
+    /// The group that it breaks.
+    pub broken: Option<Broken>,
+}

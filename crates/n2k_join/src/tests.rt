@@ -1,0 +1,255 @@
+//! The worked examples of groups.
+use crate::{Counts, Join, JoinFault, Step};
+use n2k_table::Table;
+use n2k_wire::{BadCause, Packing, plain_text, read_line};
+use std::alloc::Global;
+use std::test::Fail;
+
+// A PGN of single frames, and one of fast packets.
+const SAMPLE: &str = "format = 1
+
+[[pgn]]
+number = 127251
+kind = \"single\"
+description = \"Rate of Turn\"
+fields = []
+
+[[pgn]]
+number = 130820
+kind = \"fast\"
+description = \"Sample: Label\"
+fields = []
+";
+
+// What a line gave, after the number of the line: the group that it breaks, its cause, its message as a plain line.
+fn push_step(alloc: Global, line: u64, step: &Step, text: &mut Vec<u8>) -> Result<(), Fail> {
+    if let Some(broken) = &step.broken {
+        let told = format!(in alloc;
+            "{line} broken {} {} {} {} {}\n",
+            broken.pgn, broken.src, broken.dst, broken.seq, broken.first
+        )?;
+        text.extend_from_slice(told.as_bytes())?;
+    }
+    if let Some(cause) = step.bad {
+        let told = format!(in alloc; "{line} bad {cause:?}\n")?;
+        text.extend_from_slice(told.as_bytes())?;
+    }
+    if let Some(message) = &step.message {
+        let told = format!(in alloc; "{line} ")?;
+        text.extend_from_slice(told.as_bytes())?;
+        plain_text(alloc, message, text)?;
+    }
+    Ok(())
+}
+
+// Takes a line. Where memory is refused the join is as it was, so the line can be taken again.
+fn take(join: &mut Join, table: &Table, line: &str) -> Result<Step, JoinFault> {
+    match join.line(table, read_line(line.as_bytes(), Packing::Frames)) {
+        Err(JoinFault::Memory) => join.line(table, read_line(line.as_bytes(), Packing::Frames)),
+        taken => taken,
+    }
+}
+
+// What the lines of a log gave, and the six counts after them.
+fn told(alloc: Global, lines: &[&str]) -> Result<Vec<u8>, Fail> {
+    let table = Table::read(alloc, SAMPLE.as_bytes())?;
+    let mut join = Join::new(alloc, &table);
+    let mut text = Vec::new(alloc);
+    for line in lines {
+        let step = take(&mut join, &table, line)?;
+        push_step(alloc, join.counts().lines, &step, &mut text)?;
+    }
+    let Counts {
+        lines,
+        messages,
+        bad,
+        unknown,
+        broken,
+        held,
+    } = join.counts();
+    let counts = format!(in alloc; "{lines} {messages} {bad} {unknown} {broken} {held}")?;
+    text.extend_from_slice(counts.as_bytes())?;
+    Ok(text)
+}
+
+const TWO_SOURCES: [&str; 4] = [
+    "(10.000001) can0 1DFF0405#000BA39901414243",
+    "(10.100000) can0 1DFF0406#200BA39902585920",
+    "(10.200000) can0 1DFF0406#212020202020FFFF",
+    "(10.300000) can0 1DFF0405#010000000000FFFF",
+];
+
+const FRAMES_IN_REVERSE: [&str; 2] = [
+    "(11.0) can0 1DFF0405#4120202020202020",
+    "(12.0) can0 1DFF0405#400DA39903444546",
+];
+
+const REPEAT_BREAKS: [&str; 5] = [
+    "(1.0) can0 1DFF0405#6014A39904474849",
+    "(2.0) can0 1DFF0405#6120202020202020",
+    "(3.0) can0 1DFF0405#6120202020202020",
+    "(4.0) can0 1DFF0405#6014A39904474849",
+    "(5.0) can0 1DFF0405#6220202020202020",
+];
+
+const EXTRA_FRAME: [&str; 4] = [
+    "(1.0) can0 1DFF0405#800DA39906414243",
+    "(2.0) can0 1DFF0405#8320202020202020",
+    "(3.0) can0 1DFF0405#8120202020202020",
+    "(4.0) can0 1DFF0405#800DA39906414243",
+];
+
+// The frame 0 of the first message was lost.
+const MIXED_MESSAGE: [&str; 2] = [
+    "(1.0) can0 1DFF0405#0141414141414141",
+    "(9.0) can0 1DFF0405#000DA39903444546",
+];
+
+// A frame without a byte, a frame 0 without a total, a PGN that isn't in the table, a message of a single frame.
+const ODD_FRAMES: [&str; 4] = [
+    "(1.0) can0 1DFF0405#",
+    "(2.0) can0 1DFF0405#00",
+    "(3.0) can0 18EAFF01#00",
+    "(4.0) can0 09F11324#7D0B",
+];
+
+// The last frame of a message, with its one byte alone.
+const SHORT_LAST_FRAME: [&str; 2] = [
+    "(1.0) can0 1DFF0405#0007010203040506",
+    "(2.0) can0 1DFF0405#0107",
+];
+
+// Totals of 0, of 6 where a group of a greater total was open, and of 14.
+const SHORT_TOTALS: [&str; 6] = [
+    "(1.0) can0 1DFF0405#0000FFFFFFFFFFFF",
+    "(2.0) can0 1DFF0405#000BA39901414243",
+    "(3.0) can0 1DFF0405#0006A39901414243",
+    "(4.0) can0 1DFF0405#200E010203040506",
+    "(5.0) can0 1DFF0405#220E",
+    "(6.0) can0 1DFF0405#210708090A0B0C0D",
+];
+
+#[test]
+fn groups_as_worked(rt: HostRuntime) -> Result<(), Fail> {
+    let cases: [(&[&str], &str); 8] = [
+        (
+            &TWO_SOURCES,
+            "3 1970-01-01T00:00:10.200Z,7,130820,6,255,11,a3,99,02,58,59,20,20,20,20,20,20
+4 1970-01-01T00:00:10.300Z,7,130820,5,255,11,a3,99,01,41,42,43,00,00,00,00,00
+4 2 0 0 0 0",
+        ),
+        (
+            &FRAMES_IN_REVERSE,
+            "2 1970-01-01T00:00:12.000Z,7,130820,5,255,13,a3,99,03,44,45,46,20,20,20,20,20,20,20
+2 1 0 0 0 0",
+        ),
+        (
+            &REPEAT_BREAKS,
+            "3 broken 130820 5 255 3 1
+5 1970-01-01T00:00:05.000Z,7,130820,5,255,20,a3,99,04,47,48,49,20,20,20,20,20,20,20,20,20,20,20,20,20,20
+5 1 0 0 1 0",
+        ),
+        (
+            &EXTRA_FRAME,
+            "4 broken 130820 5 255 4 1
+4 0 0 0 1 1",
+        ),
+        (
+            &MIXED_MESSAGE,
+            "2 1970-01-01T00:00:09.000Z,7,130820,5,255,13,a3,99,03,44,45,46,41,41,41,41,41,41,41
+2 1 0 0 0 0",
+        ),
+        (
+            &ODD_FRAMES,
+            "1 bad Fast
+2 bad Fast
+4 1970-01-01T00:00:04.000Z,2,127251,36,255,2,7d,0b
+4 1 2 1 0 0",
+        ),
+        (
+            &SHORT_TOTALS,
+            "1 1970-01-01T00:00:01.000Z,7,130820,5,255,0
+3 broken 130820 5 255 0 2
+3 1970-01-01T00:00:03.000Z,7,130820,5,255,6,a3,99,01,41,42,43
+6 1970-01-01T00:00:06.000Z,7,130820,5,255,14,01,02,03,04,05,06,07,08,09,0a,0b,0c,0d,0e
+6 3 0 0 1 0",
+        ),
+        (
+            &SHORT_LAST_FRAME,
+            "2 1970-01-01T00:00:02.000Z,7,130820,5,255,7,01,02,03,04,05,06,07
+2 1 0 0 0 0",
+        ),
+    ];
+    for (lines, expected) in cases {
+        let text = told(rt.alloc(), lines)?;
+        assert_eq!(rt; text.as_slice(), expected.as_bytes());
+    }
+    Ok(())
+}
+
+// 32 frames of 223 bytes, and a frame 0 of 224.
+#[test]
+fn longest_message(rt: HostRuntime) -> Result<(), Fail> {
+    let alloc = rt.alloc();
+    let table = Table::read(alloc, SAMPLE.as_bytes())?;
+    let mut join = Join::new(alloc, &table);
+    let first = take(&mut join, &table, "(1.0) can0 1DFF0405#00DFA399054A4B4C")?;
+    assert!(rt; first.message.is_none());
+    for number in 1..32u8 {
+        let line = format!(in alloc; "({number}.0) can0 1DFF0405#{number:02X}20202020202020")?;
+        let step = join.line(&table, read_line(line.as_bytes(), Packing::Frames))?;
+        assert_eq!(rt; step.message.is_some(), number == 31);
+        if let Some(message) = &step.message {
+            assert_eq!(rt; message.data().len(), 223);
+            assert_eq!(rt;
+                &message.data()[..7],
+                [0xa3, 0x99, 0x05, 0x4a, 0x4b, 0x4c, 0x20].as_slice()
+            );
+        }
+    }
+    let over = join.line(
+        &table,
+        read_line(b"(33.0) can0 1DFF0405#00E0A399054A4B4C", Packing::Frames),
+    )?;
+    assert_eq!(rt; over.bad, Some(BadCause::Fast));
+    Ok(())
+}
+
+// The second frames of eight messages of one stream, and then the first ones in reverse.
+const EIGHT_UNDER_WAY: [&str; 16] = [
+    "(1.0) can0 1DFF0405#010000000000FFFF",
+    "(1.0) can0 1DFF0405#210000000000FFFF",
+    "(1.0) can0 1DFF0405#410000000000FFFF",
+    "(1.0) can0 1DFF0405#610000000000FFFF",
+    "(1.0) can0 1DFF0405#810000000000FFFF",
+    "(1.0) can0 1DFF0405#A10000000000FFFF",
+    "(1.0) can0 1DFF0405#C10000000000FFFF",
+    "(1.0) can0 1DFF0405#E10000000000FFFF",
+    "(2.0) can0 1DFF0405#E00BA39908414243",
+    "(2.0) can0 1DFF0405#C00BA39907414243",
+    "(2.0) can0 1DFF0405#A00BA39906414243",
+    "(2.0) can0 1DFF0405#800BA39905414243",
+    "(2.0) can0 1DFF0405#600BA39904414243",
+    "(2.0) can0 1DFF0405#400BA39903414243",
+    "(2.0) can0 1DFF0405#200BA39902414243",
+    "(2.0) can0 1DFF0405#000BA39901414243",
+];
+
+#[test]
+fn eight_under_way(rt: HostRuntime) -> Result<(), Fail> {
+    let alloc = rt.alloc();
+    let table = Table::read(alloc, SAMPLE.as_bytes())?;
+    let mut join = Join::new(alloc, &table);
+    let mut kind = 8u8;
+    for line in &EIGHT_UNDER_WAY {
+        let step = take(&mut join, &table, line)?;
+        if let Some(message) = &step.message {
+            let data = [0xa3, 0x99, kind, 0x41, 0x42, 0x43, 0, 0, 0, 0, 0];
+            assert_eq!(rt; message.data(), data.as_slice());
+            kind = kind.saturating_sub(1);
+        }
+    }
+    let counts = join.counts();
+    assert_eq!(rt; (counts.messages, counts.broken, counts.held), (8, 0, 0));
+    Ok(())
+}

@@ -1,0 +1,56 @@
+-- A run's promise in other words: by other functions that agree, and with another answer.
+use Rattle.std.proofs.Common.{◌≡◌, ℕ, List, refl, subst, Result, Ok, Err}
+use mathlib.Core.Path.{fun_ext}
+use Rattle.n2k_wire.specs.declared.entry.Entry.{Entry}
+use Rattle.n2k_wire.specs.declared.entry.Packing.{Packing}
+use Rattle.n2k_run.specs.declared.fault.RunFault.{RunFault}
+use Rattle.n2k_run.specs.declared.fault.RunFault.TheVariants.{Read, Write, Report, Memory, TooManyLines}
+use Rattle.n2k_run.specs.Runs.{Devices, Ends, HasDevice, Output, Runs}
+use Rattle.n2k_run.proofs.Running.{known_more}
+
+-- outputs are equal that agree on all entries
+pub output_same : (packing : Packing) (counted : ℕ) (texts texts' reports reports' : List Entry → List ℕ) → ((es : List Entry) → texts es ≡ texts' es) → ((es : List Entry) → reports es ≡ reports' es)
+    → record { packing = packing; counted = counted; texts = texts; reports = reports } ≡ (let o : Output = record { packing = packing; counted = counted; texts = texts'; reports = reports' } in o)
+output_same packing counted texts texts' reports reports' same_texts same_reports =
+    let t : texts ≡ texts' = fun_ext same_texts in
+    let r : reports ≡ reports' = fun_ext same_reports in
+    rw (t, r) refl
+
+pub runs_same : {T : Type 0} (o o' : Output) (stands : List Entry → Type 0) (before after : Devices) (result : Result T RunFault) → o ≡ o' → Runs o stands before after result → Runs o' stands before after result
+runs_same o o' stands before after result same runs = subst (λ (p : Output). Runs p stands before after result) same runs
+
+module _ (o : Output) (stands stands' : List Entry → Type 0) (before after : Devices) where
+  pub ok_more : {T U : Type 0} (x : T) (y : U) → Runs {T = T} o stands before after (Ok x) → ((es : List Entry) → stands es → stands' es) → Runs {T = U} o stands' before after (Ok y)
+  ok_more x y runs follows = record {
+    ends = record { at_end = runs.ends.at_end; gained = runs.ends.gained; holds = known_more before.left _ _ (λ log. follows _) runs.ends.holds };
+    fronts = tt;
+    reports_first = runs.reports_first;
+    device = runs.device;
+  }
+
+  ends_more : (T U : Type 0) (fault : RunFault) → ((es : List Entry) → stands es → stands' es) → Ends {T = T} o stands before after (Err fault) → Ends {T = U} o stands' before after (Err fault)
+  ends_more T U Read follows e = record { came = e.came; given = e.given; gained = e.gained; holds = follows _ e.holds }
+  ends_more T U TooManyLines follows e = record { taken = e.taken; full = e.full; left = e.left; gained = e.gained; holds = follows _ e.holds }
+  ends_more T U Write follows e = tt
+  ends_more T U Report follows e = tt
+  ends_more T U Memory follows e = tt
+
+  device_same : (T U : Type 0) (fault : RunFault) → HasDevice {T = T} before after (Err fault) → HasDevice {T = U} before after (Err fault)
+  device_same T U Read d = d
+  device_same T U Write d = d
+  device_same T U Report d = d
+  device_same T U Memory d = tt
+  device_same T U TooManyLines d = tt
+
+  pub err_more : (T U : Type 0) (fault : RunFault) → Runs {T = T} o stands before after (Err fault) → ((es : List Entry) → stands es → stands' es) → Runs {T = U} o stands' before after (Err fault)
+  err_more T U fault runs follows = record {
+    ends = ends_more T U fault follows runs.ends;
+    fronts = runs.fronts;
+    reports_first = runs.reports_first;
+    device = device_same T U fault runs.device;
+  }
+
+  -- the same answer, by what follows where the run stands
+  pub runs_more : (result : Result (Unit {0}) RunFault) → Runs o stands before after result → ((es : List Entry) → stands es → stands' es) → Runs o stands' before after result
+  runs_more (Ok x) runs follows = ok_more x x runs follows
+  runs_more (Err fault) runs follows = err_more (Unit {0}) (Unit {0}) fault runs follows

@@ -1,0 +1,165 @@
+-- How the next line is found: what comes of the source, until the line is there.
+use Rattle.std.proofs.Common.{◌≡◌, ◌⊎◌, inl, inr, ℕ, ◌+◌, ◌-◌, ◌<◌, ◌≤◌, ◌^◌, Bool, true, false, cond, List, [], ◌∷◌, ◌++◌, length, refl, sym, ap, ◌∙◌, subst, append_assoc, arith, length-append, Option, Ok, Err}
+use Rattle.std.specs.Prelude.{if◌then◌else◌, ◌==◌}
+use Rattle.std.specs.Io.KnownBytes.{IsAtEnd}
+use Rattle.std.proofs.KnownBytes.{Consumes-nil, Consumes-trans}
+use Rattle.std.proofs.lemmas.Bool.Decides.{nat_tests}
+use Rattle.std.proofs.lemmas.List.{append-nil, drop_at}
+use Rattle.std.proofs.lemmas.List.Elements.{All-append, All-drop}
+use Rattle.n2k_wire.specs.Entry.{longest_line}
+use Rattle.n2k_run.specs.declared.blocks.Found.{Found}
+use Rattle.n2k_run.specs.declared.blocks.Found.TheVariants.{Line, Long, End}
+use Rattle.n2k_run.specs.declared.device.Failed.{Failed}
+use Rattle.n2k_run.specs.Blocks.{Held, FirstLine, FirstLong, HasNoFeed, Replaces, Stays, CallsAre, passed, unanswered}
+use Rattle.n2k_run.specs.Device.{one_more}
+use Rattle.n2k_run.specs.Inner.Block.{Finds, MakesRoom, Reads, AnswersFound}
+use Rattle.n2k_run.specs.Lines.{without_return}
+use Rattle.n2k_run.specs.Reading.{Gains, OutlastsReads, most_reads}
+use Rattle.n2k_run.proofs.Feeds.{is_plain, long_piece, long_after, length-passed, passed-no_feed, split_past, unanswered-no_feed}
+
+-- no line ends in all of it where none ends in what stands for it
+pub no_feed_whole : (whole bytes : List ℕ) → Stays whole bytes → HasNoFeed bytes → HasNoFeed whole
+no_feed_whole whole bytes (inl same) none = subst HasNoFeed same none
+no_feed_whole whole bytes (inr r) none =
+    let all : HasNoFeed (passed ++ r.rest) = subst HasNoFeed r.bytes_are none in
+    let rest : HasNoFeed r.rest = subst HasNoFeed (drop_at passed r.rest (longest_line + 1) length-passed) (All-drop is_plain (longest_line + 1) (passed ++ r.rest) all) in
+    subst HasNoFeed (sym r.whole_is) (All-append is_plain r.front r.rest r.no_feed rest)
+
+pub stays_more : (whole bytes more : List ℕ) → Stays whole bytes → Stays (whole ++ more) (bytes ++ more)
+stays_more whole bytes more (inl same) = inl (ap (λ b. b ++ more) same)
+stays_more whole bytes more (inr r) = inr (record {
+  front = r.front;
+  rest = r.rest ++ more;
+  whole_is = ap (λ w. w ++ more) r.whole_is ∙ append_assoc r.front r.rest more;
+  bytes_are = ap (λ b. b ++ more) r.bytes_are ∙ append_assoc passed r.rest more;
+  no_feed = r.no_feed;
+  long = r.long;
+})
+
+-- what is replaced is no shorter
+whole-long : (whole bytes : List ℕ) → Stays whole bytes → longest_line + 1 < length bytes → longest_line + 1 < length whole
+whole-long whole bytes (inl same) long = omega (arith, ap length same, long)
+whole-long whole bytes (inr r) long = omega (arith, ap length r.whole_is, length-append r.front r.rest, r.long)
+
+stays_room : (whole bytes after : List ℕ) → HasNoFeed whole → Stays whole bytes → MakesRoom bytes after → Stays whole after
+stays_room whole bytes after none stays (inl same) = subst (λ b. Stays whole b) (sym same) stays
+stays_room whole bytes after none stays (inr (long, is)) = inr (record {
+  front = whole;
+  rest = [];
+  whole_is = sym (append-nil whole);
+  bytes_are = is ∙ sym (append-nil passed);
+  no_feed = none;
+  long = whole-long whole bytes stays long;
+})
+
+calls_on : (c₀ c c' r₀ r r' : ℕ) → (c + r₀ ≡ c₀ + r) ⊎ (2 ^ 64 - 1 ≤ c) → c' ≡ one_more c → r' ≡ r + 1 → (c' + r₀ ≡ c₀ + r') ⊎ (2 ^ 64 - 1 ≤ c')
+calls_on c₀ c c' r₀ r r' (inl same) is more =
+    let P : Bool → Type 0 = λ b. c' ≡ cond b c (c + 1) → (c == (2 ^ 64 - 1)) ≡ b → (c' + r₀ ≡ c₀ + r') ⊎ (2 ^ 64 - 1 ≤ c') in
+    let split : (b : Bool) → P b = λ b. elim b as P [
+      | true ↦ λ e t. inr (grind (arith, nat_tests))
+      | false ↦ λ e t. inl (omega (arith, e, more, same))
+    ] in
+    split (c == (2 ^ 64 - 1)) is refl
+calls_on c₀ c c' r₀ r r' (inr full) is more =
+    let P : Bool → Type 0 = λ b. c' ≡ cond b c (c + 1) → (c' + r₀ ≡ c₀ + r') ⊎ (2 ^ 64 - 1 ≤ c') in
+    let split : (b : Bool) → P b = λ b. elim b as P [
+      | true ↦ λ e. inr (omega (arith, e, full))
+      | false ↦ λ e. inr (omega (arith, e, full))
+    ] in
+    split (c == (2 ^ 64 - 1)) is
+
+pub calls_more : (c₀ c c' r₀ r r' : ℕ) → CallsAre c₀ c r₀ r → c' ≡ one_more c → r' ≡ r + 1 → CallsAre c₀ c' r₀ r'
+calls_more c₀ c c' r₀ r r' (rise, so_far) is more = (omega (arith, rise, more), calls_on c₀ c c' r₀ r r' so_far is more)
+
+-- so many calls were made as are made at most
+pub calls_end : (calls₀ calls reads : ℕ) → CallsAre calls₀ calls 0 reads → reads ≡ most_reads → OutlastsReads calls₀ calls
+calls_end calls₀ calls reads (rise, inl same) all = inl (omega (arith, same, all))
+calls_end calls₀ calls reads (rise, inr full) all = inr full
+
+-- nothing came yet
+pub reads_none : (held : Held) (left : Option (List ℕ)) (calls : ℕ) → Reads held held left left calls calls
+reads_none held left calls = record { came = []; given = Consumes-nil left; stays = inl (sym (append-nil (unanswered held))); called = (omega arith, inl refl) }
+
+pub reads_room : (old mid new : Held) (left₀ left : Option (List ℕ)) (calls₀ calls : ℕ) → Reads old mid left₀ left calls₀ calls → HasNoFeed mid.kept → MakesRoom (unanswered mid) (unanswered new) → new.reads ≡ mid.reads → Reads old new left₀ left calls₀ calls
+reads_room old mid new left₀ left calls₀ calls so_far none room reads =
+    let whole : HasNoFeed (unanswered old ++ so_far.came) = no_feed_whole _ _ so_far.stays (unanswered-no_feed mid none) in
+    record {
+      came = so_far.came;
+      given = so_far.given;
+      stays = stays_room _ _ _ whole so_far.stays room;
+      called = subst (λ r. CallsAre calls₀ calls old.reads r) (sym reads) so_far.called;
+    }
+
+unanswered_gained : (mid new : Held) (gained : List ℕ) → new.is_passing ≡ mid.is_passing → new.kept ≡ mid.kept ++ gained → unanswered new ≡ unanswered mid ++ gained
+unanswered_gained mid new gained passing kept =
+    let front : List ℕ = if mid.is_passing then passed else [] in
+    rw (passing, kept) (sym (append_assoc front mid.kept gained))
+
+pub reads_more : (old mid new : Held) (left₀ left left' : Option (List ℕ)) (calls₀ calls calls' : ℕ) → Reads old mid left₀ left calls₀ calls → Gains mid.kept new.kept left left' → new.is_passing ≡ mid.is_passing → new.reads ≡ mid.reads + 1 → calls' ≡ one_more calls
+    → Reads old new left₀ left' calls₀ calls'
+reads_more old mid new left₀ left left' calls₀ calls calls' so_far gains passing reads called =
+    let whole : List ℕ = unanswered old ++ so_far.came in
+    let more : Stays (whole ++ gains.gained) (unanswered mid ++ gains.gained) = stays_more whole (unanswered mid) gains.gained so_far.stays in
+    record {
+      came = so_far.came ++ gains.gained;
+      given = Consumes-trans left₀ left left' so_far.came gains.gained so_far.given gains.given;
+      stays = rw (← append_assoc (unanswered old) so_far.came gains.gained, unanswered_gained mid new gains.gained passing gains.appended) more;
+      called = calls_more calls₀ calls calls' old.reads mid.reads new.reads so_far.called called reads;
+    }
+
+-- one round: nothing was found, room was made, and a read followed
+pub reads_round : (old loop taken made new : Held) (left₀ left left' : Option (List ℕ)) (calls₀ calls calls' : ℕ) → Reads old loop left₀ left calls₀ calls → taken ≡ loop → HasNoFeed loop.kept
+    → MakesRoom (unanswered taken) (unanswered made) → made.reads ≡ taken.reads
+    → Gains made.kept new.kept left left' → new.is_passing ≡ made.is_passing → new.reads ≡ made.reads + 1 → calls' ≡ one_more calls → Reads old new left₀ left' calls₀ calls'
+reads_round old loop taken made new left₀ left left' calls₀ calls calls' so_far same none room room_reads gains passing reads called =
+    let here : Reads old taken left₀ left calls₀ calls = subst (λ (h : Held). Reads old h left₀ left calls₀ calls) (sym same) so_far in
+    let no_feed : HasNoFeed taken.kept = subst (λ (h : Held). HasNoFeed h.kept) (sym same) none in
+    reads_more old made new left₀ left left' calls₀ calls calls' (reads_room old taken made left₀ left calls₀ calls here no_feed room room_reads) gains passing reads called
+
+-- a first line of what stands for the bytes is one of the bytes
+long_first : (whole bytes line rest : List ℕ) (ended : Bool) (left : Option (List ℕ)) (r : Replaces whole bytes) → FirstLine bytes line rest ended left → FirstLong whole rest ended left × (longest_line < length line)
+long_first whole bytes line rest ended left r f =
+    let feed : (ended ≡ false) × (bytes ≡ f.piece ++ (10 ∷ rest)) → FirstLong whole rest ended left × (longest_line < length line) = λ e.
+    let parts = split_past passed r.rest f.piece rest passed-no_feed (sym r.bytes_are ∙ e.1) in
+    let none : HasNoFeed (passed ++ parts.0) = subst HasNoFeed parts.1 f.no_feed in
+    let more : HasNoFeed parts.0 = subst HasNoFeed (drop_at passed parts.0 (longest_line + 1) length-passed) (All-drop is_plain (longest_line + 1) (passed ++ parts.0) none) in
+    let piece : List ℕ = r.front ++ parts.0 in
+    let whole_is : whole ≡ piece ++ (10 ∷ rest) = r.whole_is ∙ ap (λ x. r.front ++ x) parts.2 ∙ sym (append_assoc r.front parts.0 (10 ∷ rest)) in
+    let long : longest_line < length (without_return piece) = long_piece piece (omega (arith, length-append r.front parts.0, r.long)) in
+    let over : longest_line < length line = subst (λ p. longest_line < length p) (sym (f.line_is ∙ ap without_return parts.1)) (long_after parts.0) in
+    ((without_return piece, record { piece = piece; line_is = refl; no_feed = All-append is_plain r.front parts.0 r.no_feed more; ends = inl (e.0, whole_is) }, long), over) in
+    let end : IsAtEnd left × (ended ≡ true) × (bytes ≡ f.piece) × (0 < length f.piece) × (rest ≡ []) → FirstLong whole rest ended left × (longest_line < length line) = λ e.
+    let parts : f.piece ≡ passed ++ r.rest = sym e.2 ∙ r.bytes_are in
+    let none : HasNoFeed whole = no_feed_whole whole bytes (inr r) (subst HasNoFeed (sym e.2) f.no_feed) in
+    let size : longest_line + 1 < length whole = omega (arith, ap length r.whole_is, length-append r.front r.rest, r.long) in
+    let over : longest_line < length line = subst (λ p. longest_line < length p) (sym (f.line_is ∙ ap without_return parts)) (long_after r.rest) in
+    ((without_return whole, record { piece = whole; line_is = refl; no_feed = none; ends = inr (e.0, e.1, refl, omega (arith, size), e.4) }, long_piece whole size), over) in
+    elim f.ends [ inl e ↦ feed e | inr e ↦ end e ]
+
+finds_replaced : (whole bytes : List ℕ) (new : Held) (left : Option (List ℕ)) (found : Found) → Replaces whole bytes → Finds bytes new left found → Finds whole new left found
+finds_replaced whole bytes new left Line r f = absurd (omega (arith, f.1, (long_first whole bytes new.line (unanswered new) new.has_ended left r f.0).1))
+finds_replaced whole bytes new left Long r f = (long_first whole bytes f.0 (unanswered new) new.has_ended left r f.1).0
+finds_replaced whole bytes new left End r f = absurd (omega (arith, ap length f.2, ap length r.bytes_are, length-append passed r.rest, length-passed))
+
+finds_whole : (whole bytes : List ℕ) (new : Held) (left : Option (List ℕ)) (found : Found) → Stays whole bytes → Finds bytes new left found → Finds whole new left found
+finds_whole whole bytes new left found (inl same) f = subst (λ b. Finds b new left found) same f
+finds_whole whole bytes new left found (inr r) f = finds_replaced whole bytes new left found r f
+
+-- the line is there
+pub found_line : (old mid new : Held) (left₀ left : Option (List ℕ)) (calls₀ calls : ℕ) (found : Found) → Reads old mid left₀ left calls₀ calls → Finds (unanswered mid) new left found → new.reads ≡ mid.reads
+    → AnswersFound old new left₀ left calls₀ calls (Ok found)
+found_line old mid new left₀ left calls₀ calls found so_far finds reads = record {
+  came = so_far.came;
+  given = so_far.given;
+  answer = finds_whole _ _ new left found so_far.stays finds;
+  called = subst (λ r. CallsAre calls₀ calls old.reads r) (sym reads) so_far.called;
+}
+
+-- the source failed, or no more is read of it
+pub found_none : (old new : Held) (left₀ left : Option (List ℕ)) (calls₀ calls : ℕ) (failed : Failed) → Reads old new left₀ left calls₀ calls → HasNoFeed new.kept → AnswersFound old new left₀ left calls₀ calls (Err failed)
+found_none old new left₀ left calls₀ calls failed so_far none = record {
+  came = so_far.came;
+  given = so_far.given;
+  answer = (no_feed_whole _ _ so_far.stays (unanswered-no_feed new none), so_far.stays);
+  called = so_far.called;
+}

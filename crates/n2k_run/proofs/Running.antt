@@ -1,0 +1,425 @@
+-- The engine of the runs: what stands after each step, and what each end leaves.
+use Rattle.std.proofs.Common.{◌≡◌, inl, inr, ℕ, true, false, List, [], ◌∷◌, ◌++◌, refl, sym, ap, ◌∙◌, subst, append_assoc, arith, length-append, Option, Some, None, Result, Ok, Err}
+use Rattle.std.specs.Prelude.{IfSome}
+use Rattle.std.specs.Io.KnownBytes.{Appends, Consumes, IsAtEnd}
+use Rattle.std.proofs.KnownBytes.{Appends-nil, Appends-trans, Consumes-nil, Consumes-trans}
+use Rattle.std.proofs.lemmas.List.{append-nil}
+use Rattle.n2k_wire.specs.declared.entry.Entry.{Entry}
+use Rattle.n2k_wire.specs.declared.entry.Packing.{Packing}
+use Rattle.n2k_run.specs.declared.fault.RunFault.{RunFault}
+use Rattle.n2k_run.specs.declared.fault.RunFault.TheVariants.{Read, Write, Report, Memory, TooManyLines}
+use Rattle.n2k_run.specs.Blocks.{Held, CallsAre, unanswered}
+use Rattle.n2k_run.specs.Device.{HasFailed}
+use Rattle.n2k_run.specs.Entries.{entries}
+use Rattle.n2k_run.specs.Lines.{whole_lines}
+use Rattle.n2k_run.specs.Making.{Making, after_all, texts_from, reports_from}
+use Rattle.n2k_run.specs.Runs.{Devices, Ends, Gained, HasDevice, HasFronts, IsCut, IsFull, NoneFailed, Output, ReportsFirst, Runs, output_from}
+use Rattle.n2k_run.specs.Writing.{AppendsFront}
+use Rattle.n2k_run.specs.Inner.Engine.{FailsKept, Made, MovesOn, ReadsNext, Stands, StandsStill, TakesNext, WritesKept}
+use Rattle.n2k_run.proofs.Finding.{calls_end}
+use Rattle.n2k_run.proofs.Folds.{after-append, texts-append, reports-append}
+use Rattle.n2k_run.proofs.Fronts.{Leads, leads, takes_more, whole_front}
+
+-- all of a text that has more after it
+all_front : (old new : Option (List ℕ)) (text more whole : List ℕ) → Appends old new text → whole ≡ text ++ more → AppendsFront old new whole
+all_front old new text more whole appended is = (more, record { front = text; appended = appended; still = is })
+
+-- a front of what follows it
+more_front : (old mid new : Option (List ℕ)) (text part more whole : List ℕ) → Appends old mid text → AppendsFront mid new part → whole ≡ (text ++ part) ++ more → AppendsFront old new whole
+more_front old mid new text part more whole first second is =
+    let owes = second.1 in
+    let parts : (text ++ part) ++ more ≡ (text ++ owes.front) ++ (second.0 ++ more) =
+    ap (λ p. (text ++ p) ++ more) owes.still ∙ ap (λ p. p ++ more) (sym (append_assoc text owes.front second.0)) ∙ append_assoc (text ++ owes.front) second.0 more in
+    (second.0 ++ more, record { front = text ++ owes.front; appended = Appends-trans old mid new text owes.front first owes.appended; still = is ∙ parts })
+
+pub known_more : (known : Option (List ℕ)) (P Q : List ℕ → Type 0) → ((log : List ℕ) → P log → Q log) → IfSome known P → IfSome known Q
+known_more None P Q follows p = tt
+known_more (Some log) P Q follows p = follows log p
+
+module _ {S : Type 0} (m : Making S) (packing : Packing) (s₀ : S) (before : Devices) where
+  abbrev o : Output
+  o = output_from m packing s₀
+
+  -- what is made of a front, and what is made of the log
+  texts_lead : (es more : List Entry) (log : List ℕ) → entries packing log ≡ es ++ more → texts_from m s₀ (entries packing log) ≡ texts_from m s₀ es ++ texts_from m (after_all m s₀ es) more
+  texts_lead es more log is = ap (texts_from m s₀) is ∙ texts-append m s₀ es more
+
+  reports_lead : (es more : List Entry) (log : List ℕ) → entries packing log ≡ es ++ more → reports_from m s₀ (entries packing log) ≡ reports_from m s₀ es ++ reports_from m (after_all m s₀ es) more
+  reports_lead es more log is = ap (reports_from m s₀) is ∙ reports-append m s₀ es more
+
+  -- what is written and what is kept
+  texts_parts : (s : S) (es : List Entry) (text report : List ℕ) (now : Devices) (made : Made m s₀ s es text report before now) → texts_from m s₀ es ≡ texts_from m s₀ made.written ++ text
+  texts_parts s es text report now made =
+      ap (texts_from m s₀) made.entries_are ∙ texts-append m s₀ made.written made.kept ∙ ap (λ t. texts_from m s₀ made.written ++ t) (sym made.text_is)
+
+  reports_parts : (s : S) (es : List Entry) (text report : List ℕ) (now : Devices) (made : Made m s₀ s es text report before now) → reports_from m s₀ es ≡ reports_from m s₀ made.written ++ report
+  reports_parts s es text report now made =
+      ap (reports_from m s₀) made.entries_are ∙ reports-append m s₀ made.written made.kept ∙ ap (λ t. reports_from m s₀ made.written ++ t) (sym made.report_is)
+
+  reports_whole : (s : S) (es : List Entry) (text report : List ℕ) (now : Devices) (made : Made m s₀ s es text report before now) → reports_from m s₀ made.written ++ report ≡ reports_from m s₀ es ++ []
+  reports_whole s es text report now made = sym (reports_parts s es text report now made) ∙ sym (append-nil (reports_from m s₀ es))
+
+  -- nothing is made yet
+  pub begins : (held : Held) (text report : List ℕ) → held ≡ record { kept = []; is_passing = false; has_ended = false; reads = 0; line = []; room = 4096 } → text ≡ [] → report ≡ [] → Stands m packing s₀ s₀ held text report before before
+  begins held text report is none_text none_report =
+      let none : unanswered held ≡ [] = rw is refl in
+      record {
+        front = [];
+        came = subst (λ b. Consumes before.left before.left b) (sym none) (Consumes-nil before.left);
+        whole = λ _ some. absurd (omega (arith, some));
+        end = λ ended. let open_yet = ap (λ (h : Held). h.has_ended) is in cc;
+        made = record {
+          written = [];
+          kept = [];
+          entries_are = refl;
+          state = refl;
+          printed = Appends-nil before.written;
+          reported = Appends-nil before.reported;
+          text_is = none_text;
+          report_is = none_report;
+          counted = omega arith;
+        };
+        called = (omega arith, inl (omega (arith, ap (λ (h : Held). h.reads) is)));
+        none_failed = record { reads = refl; writes = refl; reports = refl };
+      }
+
+  -- all that is kept was written
+  made_written : (s : S) (es : List Entry) (text report : List ℕ) (now after : Devices) → Made m s₀ s es text report before now → Appends now.written after.written text → Appends now.reported after.reported report → Made m s₀ s es [] [] before after
+  made_written s es text report now after made texts reports = record {
+    written = es;
+    kept = [];
+    entries_are = sym (append-nil es);
+    state = made.state;
+    printed = subst (λ t. Appends before.written after.written t) (sym (texts_parts s es text report now made)) (Appends-trans before.written now.written after.written _ text made.printed texts);
+    reported = subst (λ t. Appends before.reported after.reported t) (sym (reports_parts s es text report now made)) (Appends-trans before.reported now.reported after.reported _ report made.reported reports);
+    text_is = refl;
+    report_is = refl;
+    counted = made.counted;
+  }
+
+  pub writes : (s : S) (held : Held) (text report : List ℕ) (now : Devices) (w' e' : Option (List ℕ)) (fw' fe' : ℕ) (text' report' : List ℕ) → Stands m packing s₀ s held text report before now
+      → Appends now.written w' text × Appends now.reported e' report → (fw' ≡ now.failed_writes) × (fe' ≡ now.failed_reports) → (text' ≡ []) × (report' ≡ [])
+      → Stands m packing s₀ s held text' report' before (record now { written = w'; failed_writes = fw'; reported = e'; failed_reports = fe' })
+  writes s held text report now w' e' fw' fe' text' report' stands out none_failed none_kept =
+      let after : Devices = record now { written = w'; failed_writes = fw'; reported = e'; failed_reports = fe' } in
+      let made : Made m s₀ s (entries packing stands.front) [] [] before after = made_written s _ text report now after stands.made out.0 out.1 in
+      record {
+        front = stands.front;
+        came = stands.came;
+        whole = stands.whole;
+        end = stands.end;
+        made = rw (none_kept.0, none_kept.1) made;
+        called = stands.called;
+        none_failed = record { reads = stands.none_failed.reads; writes = none_failed.0 ∙ stands.none_failed.writes; reports = none_failed.1 ∙ stands.none_failed.reports };
+      }
+
+  -- one entry more was made
+  made_more : (s s' : S) (es : List Entry) (x : Entry) (text text' report report' : List ℕ) (now : Devices) → Made m s₀ s es text report before now → MovesOn m s s' x text text' report report' → Made m s₀ s' (es ++ (x ∷ [])) text' report' before now
+  made_more s s' es x text text' report report' now made moves =
+      let mid : S = after_all m s₀ made.written in
+      let here : after_all m mid made.kept ≡ s = sym (after-append m s₀ made.written made.kept) ∙ ap (after_all m s₀) (sym made.entries_are) ∙ sym made.state in
+      record {
+        written = made.written;
+        kept = made.kept ++ (x ∷ []);
+        entries_are = ap (λ es. es ++ (x ∷ [])) made.entries_are ∙ append_assoc made.written made.kept (x ∷ []);
+        state = moves.state_after ∙ ap (λ s. m.after s x) made.state ∙ sym (after-append m s₀ es (x ∷ []));
+        printed = made.printed;
+        reported = made.reported;
+        text_is = moves.text_after ∙ ap (λ t. t ++ m.text s x) made.text_is ∙ ap (λ s. texts_from m mid made.kept ++ m.text s x) (sym here) ∙ ap (λ t. texts_from m mid made.kept ++ t) (sym (append-nil (m.text (after_all m mid made.kept) x))) ∙ sym (texts-append m mid made.kept (x ∷ []));
+        report_is = moves.report_after ∙ ap (λ t. t ++ m.report s x) made.report_is ∙ ap (λ s. reports_from m mid made.kept ++ m.report s x) (sym here) ∙ ap (λ t. reports_from m mid made.kept ++ t) (sym (append-nil (m.report (after_all m mid made.kept) x))) ∙ sym (reports-append m mid made.kept (x ∷ []));
+        counted = omega (arith, moves.counted, made.counted, length-append es (x ∷ []));
+      }
+
+  made_still : (s s' : S) (es : List Entry) (text text' report report' : List ℕ) (now : Devices) → Made m s₀ s es text report before now → StandsStill s s' text text' report report' → Made m s₀ s' es text' report' before now
+  made_still s s' es text text' report report' now made still = record {
+    written = made.written;
+    kept = made.kept;
+    entries_are = made.entries_are;
+    state = still.same_state ∙ made.state;
+    printed = made.printed;
+    reported = made.reported;
+    text_is = still.same_text ∙ made.text_is;
+    report_is = still.same_report ∙ made.report_is;
+    counted = ap m.lines still.same_state ∙ made.counted;
+  }
+
+  -- the source after a call, the sinks as they were
+  abbrev read_on : Devices → Option (List ℕ) → ℕ → ℕ → Devices
+  read_on now left calls failed = record now { left = left; calls = calls; failed_reads = failed }
+
+  -- what is made does not hang on the source
+  made_read : (s : S) (es : List Entry) (text report : List ℕ) (now : Devices) (left : Option (List ℕ)) (calls failed : ℕ) → Made m s₀ s es text report before now → Made m s₀ s es text report before (read_on now left calls failed)
+  made_read s es text report now left calls failed made = record {
+    written = made.written;
+    kept = made.kept;
+    entries_are = made.entries_are;
+    state = made.state;
+    printed = made.printed;
+    reported = made.reported;
+    text_is = made.text_is;
+    report_is = made.report_is;
+    counted = made.counted;
+  }
+
+  calls_trans : (c₀ c c' r₀ r r' : ℕ) → CallsAre c₀ c r₀ r → CallsAre c c' r r' → CallsAre c₀ c' r₀ r'
+  calls_trans c₀ c c' r₀ r r' (rise, inl p) (rises, inl q) = (omega (arith, rise, rises), inl (omega (arith, p, q)))
+  calls_trans c₀ c c' r₀ r r' (rise, inl p) (rises, inr q) = (omega (arith, rise, rises), inr q)
+  calls_trans c₀ c c' r₀ r r' (rise, inr p) (rises, inl q) = (omega (arith, rise, rises), inr (omega (arith, p, q, rises)))
+  calls_trans c₀ c c' r₀ r r' (rise, inr p) (rises, inr q) = (omega (arith, rise, rises), inr q)
+
+  pub takes : (s s' : S) (held held' : Held) (text text' report report' : List ℕ) (now : Devices) (left : Option (List ℕ)) (calls failed : ℕ) → Stands m packing s₀ s held text report before now → held.has_ended ≡ false
+      → TakesNext {T = Unit {0}} m packing s s' held held' now.left left text text' report report' (Ok tt) → failed ≡ now.failed_reads → CallsAre now.calls calls held.reads held'.reads
+      → Stands m packing s₀ s' held' text' report' before (read_on now left calls failed)
+  takes s s' held held' text text' report report' now left calls failed stands on next none_failed called =
+      let calls_are = calls_trans before.calls now.calls calls 0 held.reads held'.reads stands.called called in
+      let none : NoneFailed before (read_on now left calls failed) = record { reads = none_failed ∙ stands.none_failed.reads; writes = stands.none_failed.writes; reports = stands.none_failed.reports } in
+      elim next [
+        | inl one ↦
+            let more = takes_more packing held held' before.left now.left left stands.front one.0 stands.came (stands.whole on) one.1 in
+            let moved = made_read s' _ text' report' now left calls failed (made_more s s' (entries packing stands.front) one.0 text text' report report' now stands.made one.2) in
+            record {
+              front = more.longer;
+              came = more.came;
+              whole = more.whole;
+              end = more.end;
+              made = subst (λ es. Made m s₀ s' es text' report' before (read_on now left calls failed)) (sym more.entries_are) moved;
+              called = calls_are;
+              none_failed = none;
+            }
+        | inr last ↦
+            let bytes = last.0.came in
+            let all : (stands.front ++ unanswered held) ++ bytes ≡ stands.front ++ unanswered held' = append_assoc stands.front (unanswered held) bytes ∙ ap (λ b. stands.front ++ b) (last.0.none ∙ sym last.0.none_held) in
+            record {
+              front = stands.front;
+              came = subst (λ b. Consumes before.left left b) all (Consumes-trans before.left now.left left (stands.front ++ unanswered held) bytes stands.came last.0.given);
+              whole = λ _. stands.whole on;
+              end = λ _. (last.0.none_held, last.0.at_end);
+              made = made_read s' _ text' report' now left calls failed (made_still s s' (entries packing stands.front) text text' report report' now stands.made last.1);
+              called = calls_are;
+              none_failed = none;
+            }
+      ]
+
+  -- ---- what a run leaves
+
+  -- all of these entries are written, and they lead the log's
+  gained : (s : S) (es : List Entry) (now : Devices) → Made m s₀ s es [] [] before now → Gained o before now es
+  gained s es now made = record {
+    printed = subst (λ t. Appends before.written now.written t) (sym (texts_parts s es [] [] now made ∙ append-nil (texts_from m s₀ made.written))) made.printed;
+    reported = subst (λ t. Appends before.reported now.reported t) (sym (reports_parts s es [] [] now made ∙ append-nil (reports_from m s₀ made.written))) made.reported;
+  }
+
+  gained_fronts : (es : List Entry) (after : Devices) → Gained o before after es → Leads packing before.left es → IfSome before.left (λ log. HasFronts o before after log)
+  gained_fronts es after g lead = known_more before.left _ _ (λ log l. record {
+    printed = all_front before.written after.written _ _ _ g.printed (texts_lead es l.0 log l.1);
+    reported = all_front before.reported after.reported _ _ _ g.reported (reports_lead es l.0 log l.1);
+  }) lead
+
+  gained_first : (es : List Entry) (after : Devices) → Gained o before after es → Leads packing before.left es → IfSome before.left (λ log. ReportsFirst o before after log)
+  gained_first es after g lead = known_more before.left _ _ (λ log l. record {
+    taken = es;
+    left = l.0;
+    lines_taken = l.1;
+    printed = all_front before.written after.written _ [] _ g.printed (sym (append-nil (texts_from m s₀ es)));
+    reported = ([], subst (λ t. Appends before.reported after.reported t) (sym (append-nil (reports_from m s₀ es))) g.reported);
+  }) lead
+
+  -- what was written stands, and no more
+  kept_fronts : (s : S) (es : List Entry) (text report : List ℕ) (now : Devices) → Made m s₀ s es text report before now → Leads packing before.left es → IfSome before.left (λ log. HasFronts o before now log)
+  kept_fronts s es text report now made lead = known_more before.left _ _ (λ log l. record {
+    printed = all_front before.written now.written _ (text ++ texts_from m (after_all m s₀ es) l.0) _ made.printed (texts_lead es l.0 log l.1 ∙ ap (λ t. t ++ texts_from m (after_all m s₀ es) l.0) (texts_parts s es text report now made) ∙ append_assoc (texts_from m s₀ made.written) text (texts_from m (after_all m s₀ es) l.0));
+    reported = all_front before.reported now.reported _ (report ++ reports_from m (after_all m s₀ es) l.0) _ made.reported (reports_lead es l.0 log l.1 ∙ ap (λ t. t ++ reports_from m (after_all m s₀ es) l.0) (reports_parts s es text report now made) ∙ append_assoc (reports_from m s₀ made.written) report (reports_from m (after_all m s₀ es) l.0));
+  }) lead
+
+  kept_first : (s : S) (es : List Entry) (text report : List ℕ) (now : Devices) → Made m s₀ s es text report before now → Leads packing before.left es → IfSome before.left (λ log. ReportsFirst o before now log)
+  kept_first s es text report now made lead = known_more before.left _ _ (λ log l. record {
+    taken = made.written;
+    left = made.kept ++ l.0;
+    lines_taken = l.1 ∙ ap (λ es. es ++ l.0) made.entries_are ∙ append_assoc made.written made.kept l.0;
+    printed = all_front before.written now.written _ [] _ made.printed (sym (append-nil (texts_from m s₀ made.written)));
+    reported = ([], subst (λ t. Appends before.reported now.reported t) (sym (append-nil (reports_from m s₀ made.written))) made.reported);
+  }) lead
+
+  -- the sink of the reports failed: of the texts nothing more was written
+  report_fronts : (s : S) (es : List Entry) (text report : List ℕ) (now after : Devices) → Made m s₀ s es text report before now → (after.written ≡ now.written) × AppendsFront now.reported after.reported report → Leads packing before.left es → IfSome before.left (λ log. HasFronts o before after log)
+  report_fronts s es text report now after made out lead = known_more before.left _ _ (λ log l. record {
+    printed = all_front before.written after.written _ (text ++ texts_from m (after_all m s₀ es) l.0) _ (subst (λ w. Appends before.written w (texts_from m s₀ made.written)) (sym out.0) made.printed) (texts_lead es l.0 log l.1 ∙ ap (λ t. t ++ texts_from m (after_all m s₀ es) l.0) (texts_parts s es text report now made) ∙ append_assoc (texts_from m s₀ made.written) text (texts_from m (after_all m s₀ es) l.0));
+    reported = more_front before.reported now.reported after.reported _ report (reports_from m (after_all m s₀ es) l.0) _ made.reported out.1 (reports_lead es l.0 log l.1 ∙ ap (λ t. t ++ reports_from m (after_all m s₀ es) l.0) (reports_parts s es text report now made));
+  }) lead
+
+  report_first : (s : S) (es : List Entry) (text report : List ℕ) (now after : Devices) → Made m s₀ s es text report before now → (after.written ≡ now.written) × AppendsFront now.reported after.reported report → Leads packing before.left es → IfSome before.left (λ log. ReportsFirst o before after log)
+  report_first s es text report now after made out lead = known_more before.left _ _ (λ log l. record {
+    taken = made.written;
+    left = made.kept ++ l.0;
+    lines_taken = l.1 ∙ ap (λ es. es ++ l.0) made.entries_are ∙ append_assoc made.written made.kept l.0;
+    printed = all_front before.written after.written _ [] _ (subst (λ w. Appends before.written w (texts_from m s₀ made.written)) (sym out.0) made.printed) (sym (append-nil (texts_from m s₀ made.written)));
+    reported = (out.1.1.front, Appends-trans before.reported now.reported after.reported _ out.1.1.front made.reported out.1.1.appended);
+  }) lead
+
+  -- the sink of the texts failed: the reports of the same lines were written
+  write_fronts : (s : S) (es : List Entry) (text report : List ℕ) (now after : Devices) → Made m s₀ s es text report before now → AppendsFront now.written after.written text × Appends now.reported after.reported report → Leads packing before.left es → IfSome before.left (λ log. HasFronts o before after log)
+  write_fronts s es text report now after made out lead = known_more before.left _ _ (λ log l. record {
+    printed = more_front before.written now.written after.written _ text (texts_from m (after_all m s₀ es) l.0) _ made.printed out.0 (texts_lead es l.0 log l.1 ∙ ap (λ t. t ++ texts_from m (after_all m s₀ es) l.0) (texts_parts s es text report now made));
+    reported = all_front before.reported after.reported _ (reports_from m (after_all m s₀ es) l.0) _ (Appends-trans before.reported now.reported after.reported _ report made.reported out.1) (reports_lead es l.0 log l.1 ∙ ap (λ t. t ++ reports_from m (after_all m s₀ es) l.0) (reports_parts s es text report now made));
+  }) lead
+
+  write_first : (s : S) (es : List Entry) (text report : List ℕ) (now after : Devices) → Made m s₀ s es text report before now → AppendsFront now.written after.written text × Appends now.reported after.reported report → Leads packing before.left es → IfSome before.left (λ log. ReportsFirst o before after log)
+  write_first s es text report now after made out lead = known_more before.left _ _ (λ log l. record {
+    taken = es;
+    left = l.0;
+    lines_taken = l.1;
+    printed = more_front before.written now.written after.written _ text [] _ made.printed out.0 (texts_parts s es text report now made ∙ sym (append-nil (texts_from m s₀ made.written ++ text)));
+    reported = ([], subst (λ t. Appends before.reported after.reported t) (reports_whole s es text report now made) (Appends-trans before.reported now.reported after.reported _ report made.reported out.1));
+  }) lead
+
+  -- a sink failed
+  pub sink_end : (stands : List Entry → Type 0) (s : S) (es : List Entry) (text report : List ℕ) (now after : Devices) (fault : RunFault) → Made m s₀ s es text report before now → Leads packing before.left es → now.failed_writes ≡ before.failed_writes → now.failed_reports ≡ before.failed_reports
+      → WritesKept {T = Unit {0}} text report now.written after.written now.reported after.reported (Err fault) → FailsKept {T = Unit {0}} now.failed_writes after.failed_writes now.failed_reports after.failed_reports (Err fault)
+      → Runs {T = Unit {0}} o stands before after (Err fault)
+  sink_end stands s es text report now after Write made lead writes reports out fails = record {
+    ends = tt;
+    fronts = write_fronts s es text report now after made out lead;
+    reports_first = write_first s es text report now after made out lead;
+    device = subst (λ n. HasFailed n after.failed_writes) writes fails;
+  }
+  sink_end stands s es text report now after Report made lead writes reports out fails = record {
+    ends = tt;
+    fronts = report_fronts s es text report now after made out lead;
+    reports_first = report_first s es text report now after made out lead;
+    device = subst (λ n. HasFailed n after.failed_reports) reports fails;
+  }
+  sink_end stands s es text report now after Read made lead writes reports out fails = absurd out
+  sink_end stands s es text report now after Memory made lead writes reports out fails = absurd out
+  sink_end stands s es text report now after TooManyLines made lead writes reports out fails = absurd out
+
+  pub lead_of : (s : S) (held : Held) (text report : List ℕ) (now : Devices) (stands : Stands m packing s₀ s held text report before now) → Leads packing before.left (entries packing stands.front)
+  lead_of s held text report now stands = leads packing before.left now.left stands.front (unanswered held) held.has_ended stands.came stands.whole stands.end
+
+  -- memory was refused: nothing more is written
+  pub memory_end : (stands : List Entry → Type 0) (s : S) (held : Held) (text report : List ℕ) (now : Devices) (left : Option (List ℕ)) (calls failed : ℕ) → Stands m packing s₀ s held text report before now → Runs {T = Unit {0}} o stands before (read_on now left calls failed) (Err Memory)
+  memory_end stands s held text report now left calls failed stood =
+      let made = made_read s (entries packing stood.front) text report now left calls failed stood.made in
+      let lead = lead_of s held text report now stood in
+      record {
+        ends = tt;
+        fronts = kept_fronts s (entries packing stood.front) text report (read_on now left calls failed) made lead;
+        reports_first = kept_first s (entries packing stood.front) text report (read_on now left calls failed) made lead;
+        device = tt;
+      }
+
+  -- the end of the log
+  whole_log : (left₀ left : Option (List ℕ)) (front held : List ℕ) → Consumes left₀ left (front ++ held) → held ≡ [] → IsAtEnd left → IfSome left₀ (λ log. front ≡ log)
+  whole_log None left front held given none end = tt
+  whole_log (Some log) None front held given none end = absurd given
+  whole_log (Some log) (Some left) front held given none end = sym (given ∙ ap (λ l. (front ++ held) ++ l) end ∙ append-nil (front ++ held) ∙ ap (λ h. front ++ h) none ∙ append-nil front)
+
+  pub whole_end : (s : S) (held : Held) (text report : List ℕ) (now : Devices) (w' e' : Option (List ℕ)) (fw' fe' : ℕ) → Stands m packing s₀ s held text report before now → held.has_ended ≡ true
+      → Appends now.written w' text × Appends now.reported e' report → (fw' ≡ now.failed_writes) × (fe' ≡ now.failed_reports)
+      → Runs {T = Unit {0}} o (λ es. s ≡ after_all m s₀ es) before (record now { written = w'; failed_writes = fw'; reported = e'; failed_reports = fe' }) (Ok tt)
+  whole_end s held text report now w' e' fw' fe' stands ended out none_failed =
+      let after : Devices = record now { written = w'; failed_writes = fw'; reported = e'; failed_reports = fe' } in
+      let es = entries packing stands.front in
+      let made : Made m s₀ s es [] [] before after = made_written s es text report now after stands.made out.0 out.1 in
+      let all = gained s es after made in
+      let lead = lead_of s held text report now stands in
+      let end = stands.end ended in
+      let log_is = whole_log before.left now.left stands.front (unanswered held) stands.came end.0 end.1 in
+      record {
+        ends = record {
+          at_end = end.1;
+          gained = known_more before.left _ _ (λ log is. subst (λ front. Gained o before after (entries packing front)) is all) log_is;
+          holds = known_more before.left _ _ (λ log is. subst (λ front. s ≡ after_all m s₀ (entries packing front)) is stands.made.state) log_is;
+        };
+        fronts = tt;
+        reports_first = gained_first es after all lead;
+        device = record { reads = stands.none_failed.reads; writes = none_failed.0 ∙ stands.none_failed.writes; reports = none_failed.1 ∙ stands.none_failed.reports };
+      }
+
+  pub last_end : (s : S) (held : Held) (text report : List ℕ) (now : Devices) (w' e' : Option (List ℕ)) (fw' fe' : ℕ) (result : Result (Unit {0}) RunFault) → Stands m packing s₀ s held text report before now → held.has_ended ≡ true
+      → WritesKept text report now.written w' now.reported e' result → FailsKept now.failed_writes fw' now.failed_reports fe' result
+      → Runs o (λ es. s ≡ after_all m s₀ es) before (record now { written = w'; failed_writes = fw'; reported = e'; failed_reports = fe' }) result
+  last_end s held text report now w' e' fw' fe' (Ok x) stands ended out fails = whole_end s held text report now w' e' fw' fe' stands ended out fails
+  last_end s held text report now w' e' fw' fe' (Err fault) stands ended out fails =
+      let after : Devices = record now { written = w'; failed_writes = fw'; reported = e'; failed_reports = fe' } in
+      sink_end (λ es. s ≡ after_all m s₀ es) s (entries packing stands.front) text report now after fault stands.made (lead_of s held text report now stands) stands.none_failed.writes stands.none_failed.reports out fails
+
+  -- a fault of the next line, where nothing moved
+  pub still_made : (s s' : S) (held held' : Held) (text text' report report' : List ℕ) (now : Devices) (left : Option (List ℕ)) (calls failed : ℕ) (fault : RunFault) → Stands m packing s₀ s held text report before now → TakesNext {T = Unit {0}} m packing s s' held held' now.left left text text' report report' (Err fault) → (fault ≡ Memory → ⊥)
+      → (es : List Entry) → Made m s₀ s es text report before now → Made m s₀ s' es text' report' before (read_on now left calls failed)
+  still_made s s' held held' text text' report report' now left calls failed Read stands next not_memory es made = made_read s' es text' report' now left calls failed (made_still s s' es text text' report report' now made next.1)
+  still_made s s' held held' text text' report report' now left calls failed TooManyLines stands next not_memory es made = made_read s' es text' report' now left calls failed (made_still s s' es text text' report report' now made next.2)
+  still_made s s' held held' text text' report report' now left calls failed Memory stands next not_memory es made = absurd (not_memory refl)
+  still_made s s' held held' text text' report report' now left calls failed Write stands next not_memory es made = absurd next
+  still_made s s' held held' text text' report report' now left calls failed Report stands next not_memory es made = absurd next
+
+  -- the source failed, or gave no end: the lines whose end came are written
+  cut_end : (s s' : S) (held held' : Held) (text text' report report' : List ℕ) (now after : Devices) (stands : Stands m packing s₀ s held text report before now) → held.has_ended ≡ false
+      → (next : TakesNext {T = Unit {0}} m packing s s' held held' now.left after.left text text' report report' (Err Read))
+      → Made m s₀ s' (entries packing stands.front) [] [] before after
+      → IsCut o (λ es. s' ≡ after_all m s₀ es) before after
+  cut_end s s' held held' text text' report report' now after stands on next made =
+      let bytes : List ℕ = unanswered held ++ next.0.came in
+      let came : List ℕ = (stands.front ++ unanswered held) ++ next.0.came in
+      let is : stands.front ≡ whole_lines came = sym (ap whole_lines (append_assoc stands.front (unanswered held) next.0.came) ∙ whole_front stands.front bytes (stands.whole on) next.0.none) in
+      record {
+        came = came;
+        given = Consumes-trans before.left now.left after.left (stands.front ++ unanswered held) next.0.came stands.came next.0.given;
+        gained = subst (λ front. Gained o before after (entries packing front)) is (gained s' (entries packing stands.front) after made);
+        holds = subst (λ front. s' ≡ after_all m s₀ (entries packing front)) is made.state;
+      }
+
+  -- no more lines are counted, and one more came
+  full_end : (s s' : S) (held held' : Held) (text text' report report' : List ℕ) (now after : Devices) (stands : Stands m packing s₀ s held text report before now) → held.has_ended ≡ false
+      → (next : TakesNext {T = Unit {0}} m packing s s' held held' now.left after.left text text' report report' (Err TooManyLines))
+      → Made m s₀ s' (entries packing stands.front) [] [] before after
+      → IsFull o (λ es. s' ≡ after_all m s₀ es) before after
+  full_end s s' held held' text text' report report' now after stands on next made =
+      let more = takes_more packing held held' before.left now.left after.left stands.front next.0 stands.came (stands.whole on) next.1 in
+      let lead = leads packing before.left after.left more.longer (unanswered held') held'.has_ended more.came more.whole more.end in
+      record {
+        taken = entries packing stands.front;
+        full = sym stands.made.counted ∙ next.3;
+        left = known_more before.left _ _ (λ log l. (next.0, l.0, l.1 ∙ ap (λ es. es ++ l.0) more.entries_are ∙ append_assoc (entries packing stands.front) (next.0 ∷ []) l.0)) lead;
+        gained = gained s' (entries packing stands.front) after made;
+        holds = made.state;
+      }
+
+  fault_ends : (s s' : S) (held held' : Held) (text text' report report' : List ℕ) (now after : Devices) (fault : RunFault) (stands : Stands m packing s₀ s held text report before now) → held.has_ended ≡ false
+      → (next : TakesNext {T = Unit {0}} m packing s s' held held' now.left after.left text text' report report' (Err fault)) → (fault ≡ Memory → ⊥)
+      → Made m s₀ s' (entries packing stands.front) [] [] before after
+      → Ends {T = Unit {0}} o (λ es. s' ≡ after_all m s₀ es) before after (Err fault)
+  fault_ends s s' held held' text text' report report' now after Read stands on next not_memory made = cut_end s s' held held' text text' report report' now after stands on next made
+  fault_ends s s' held held' text text' report report' now after TooManyLines stands on next not_memory made = full_end s s' held held' text text' report report' now after stands on next made
+  fault_ends s s' held held' text text' report report' now after Memory stands on next not_memory made = tt
+  fault_ends s s' held held' text text' report report' now after Write stands on next not_memory made = tt
+  fault_ends s s' held held' text text' report report' now after Report stands on next not_memory made = tt
+
+  -- a read's fault is the source's, or that of the most reads
+  fault_device : (now after : Devices) (s s' : S) (held held' : Held) (text text' report report' : List ℕ) (fault : RunFault) → NoneFailed before now → CallsAre before.calls after.calls 0 held'.reads
+      → TakesNext {T = Unit {0}} m packing s s' held held' now.left after.left text text' report report' (Err fault) → ReadsNext {T = Unit {0}} held' now.failed_reads after.failed_reads (Err fault)
+      → HasDevice {T = Unit {0}} before after (Err fault)
+  fault_device now after s s' held held' text text' report report' Read none called next reads =
+      elim reads [ inl p ↦ inl (subst (λ n. HasFailed n after.failed_reads) none.reads p) | inr p ↦ inr (calls_end before.calls after.calls held'.reads called p) ]
+  fault_device now after s s' held held' text text' report report' Write none called next reads = absurd next
+  fault_device now after s s' held held' text text' report report' Report none called next reads = absurd next
+  fault_device now after s s' held held' text text' report report' Memory none called next reads = tt
+  fault_device now after s s' held held' text text' report report' TooManyLines none called next reads = tt
+
+  pub fault_end : (s s' : S) (held held' : Held) (text text' report report' : List ℕ) (now : Devices) (left : Option (List ℕ)) (calls failed : ℕ) (w' e' : Option (List ℕ)) (fw' fe' : ℕ) (fault : RunFault) → Stands m packing s₀ s held text report before now → held.has_ended ≡ false
+      → TakesNext {T = Unit {0}} m packing s s' held held' now.left left text text' report report' (Err fault) → (fault ≡ Memory → ⊥) → ReadsNext {T = Unit {0}} held' now.failed_reads failed (Err fault) → CallsAre now.calls calls held.reads held'.reads
+      → Appends now.written w' text' × Appends now.reported e' report'
+      → Runs {T = Unit {0}} o (λ es. s' ≡ after_all m s₀ es) before (record now { left = left; calls = calls; failed_reads = failed; written = w'; failed_writes = fw'; reported = e'; failed_reports = fe' }) (Err fault)
+  fault_end s s' held held' text text' report report' now left calls failed w' e' fw' fe' fault stands on next not_memory reads called out =
+      let mid : Devices = read_on now left calls failed in
+      let after : Devices = record now { left = left; calls = calls; failed_reads = failed; written = w'; failed_writes = fw'; reported = e'; failed_reports = fe' } in
+      let es = entries packing stands.front in
+      let made : Made m s₀ s' es text' report' before mid = still_made s s' held held' text text' report report' now left calls failed fault stands next not_memory es stands.made in
+      let done : Made m s₀ s' es [] [] before after = made_written s' es text' report' mid after made out.0 out.1 in
+      let all = gained s' es after done in
+      let lead = lead_of s held text report now stands in
+      record {
+        ends = fault_ends s s' held held' text text' report report' now after fault stands on next not_memory done;
+        fronts = gained_fronts es after all lead;
+        reports_first = gained_first es after all lead;
+        device = fault_device now after s s' held held' text text' report report' fault stands.none_failed (calls_trans before.calls now.calls calls 0 held.reads held'.reads stands.called called) next reads;
+      }

@@ -1,0 +1,73 @@
+use Rattle.std.proofs.Common.{sym, ◌∙◌}
+use Rattle.std.proofs.lemmas.Result.{err_from_is_err_and}
+use Rattle.n2k_run.specs.Runs.{Devices}
+use Rattle.n2k_run.specs.Inner.Engine.{Stands}
+use Rattle.n2k_run.proofs.Running.{begins, writes, takes, sink_end, memory_end, last_end, still_made, fault_end, lead_of}
+use Rattle.n2k_run.proofs.engine.run_entries.Given.{Over}
+use Rattle.n2k_run.proofs.engine.run_entries.Goals as goal
+use Rattle.n2k_run.proofs.engine.run_entries.Goals.{After-take_next, then-not-has_line+in_ok-write, else-not-has_line}
+
+abbrev devices : (g : Over) → g.row.R.Denot → g.row.W.Denot → g.row.E.Denot → Devices
+devices g reader writer reporter = record {
+  left = g.R.Source.remaining reader;
+  calls = g.R.Source.calls reader;
+  failed_reads = g.R.Source.failed_calls reader;
+  written = g.W.Sink.contents writer;
+  failed_writes = g.W.Sink.failed_calls writer;
+  reported = g.E.Sink.contents reporter;
+  failed_reports = g.E.Sink.failed_calls reporter;
+}
+
+-- where the next line is taken
+stood : (g : Over) (c : After-take_next g) → Stands (g.M.Maker.making c.args.maker.now) c.args.packing c.args.state.now c.lines.state c.lines.blocks c.if-not-has_line.kept.text.items c.if-not-has_line.kept.report.items (devices g c.args.reader.now c.args.writer.now c.args.reporter.now) (devices g c.lines.reader c.if-not-has_line.writer c.if-not-has_line.reporter)
+stood g c = elim c.if-not-has_line.branch [
+  | then-not-has_line+in_ok-write w ↦
+      let e = w.in_ok-write.ensures in
+      rw (w.writer-is, w.reporter-is, w.kept-is) (writes _ _ _ _ _ _ _ _ _ _ _ _ _ _ _ c.lines.invariant.stands e.written e.device e.none_kept)
+  | else-not-has_line w ↦ rw (w.writer-is, w.reporter-is, w.kept-is) c.lines.invariant.stands
+]
+
+pub lines-init : goal.lines-init
+lines-init g c = record { stands = begins _ _ _ _ _ _ _ c.new-blocks.ensures c.new-kept.ensures.text c.new-kept.ensures.report; ready = c.requires }
+
+pub returns-in_err-write-clause-runs : goal.returns-in_err-write-clause-runs
+returns-in_err-write-clause-runs g c =
+    let p = err_from_is_err_and c.from_residual.result c.from_residual.ensures.1 in
+    let e = c.in_err-write.ensures in
+    let stands = c.lines.invariant.stands in
+    rw (p.1, p.2) (sink_end _ _ _ _ _ _ _ _ _ _ (devices g c.lines.reader c.write.new.writer c.write.new.reporter) _ stands.made (lead_of _ _ _ _ _ _ _ _ _ stands) stands.none_failed.writes stands.none_failed.reports e.written e.device)
+
+pub lines-preserved : goal.lines-preserved
+lines-preserved g c =
+    let e = c.in-Ok.ensures in
+    let here = stood g (goal.at.lines-preserved g c).After-take_next in
+    record { stands = takes _ _ _ _ _ _ _ _ _ _ _ _ _ _ _ _ here (sym c.has_ended.ensures ∙ c.lines-test.true) e.taken e.device e.called; ready = e.ready }
+
+pub returns-in-Memory-clause-runs : goal.returns-in-Memory-clause-runs
+returns-in-Memory-clause-runs g c =
+    let here = stood g (goal.at.returns-in-Memory-clause-runs g c).After-take_next in
+    rw c.in-Memory.is (memory_end _ _ _ _ _ _ _ _ _ _ _ _ _ here)
+
+pub returns-in_err-write-in_default : goal.returns-in_err-write-in_default
+returns-in_err-write-in_default g c =
+    let p = err_from_is_err_and c.from_residual-in_err-write-in_default.result c.from_residual-in_err-write-in_default.ensures.1 in
+    let here = stood g (goal.at.returns-in_err-write-in_default g c).After-take_next in
+    let w = c.in_err-write-in_default.ensures in
+    let made = still_made _ _ _ _ _ _ _ _ _ _ _ _ _ _ (g.R.Source.calls c.take_next.new.reader) (g.R.Source.failed_calls c.take_next.new.reader) c.in-Err.fault here c.in-Err.ensures.taken c.in_default.not-Memory _ here.made in
+    record {
+      runs = rw (p.1, p.2) (sink_end _ _ _ _ _ _ _ _ _ _ (devices g c.take_next.new.reader c.write-in_default.new.writer c.write-in_default.new.reporter) _ made (lead_of _ _ _ _ _ _ _ _ _ here) here.none_failed.writes here.none_failed.reports w.written w.device);
+      ready = rw p.1 tt;
+    }
+
+pub returns-in_default : goal.returns-in_default
+returns-in_default g c =
+    let here = stood g (goal.at.returns-in_default g c).After-take_next in
+    let e = c.in-Err.ensures in
+    record {
+      runs = fault_end _ _ _ _ _ _ _ _ _ _ _ _ _ _ _ _ _ _ _ _ c.in-Err.fault here (sym c.has_ended.ensures ∙ c.lines-test.true) e.taken c.in_default.not-Memory e.device e.called c.in_ok-write-in_default.ensures.written;
+      ready = tt;
+    }
+
+pub returns-clause-runs : goal.returns-clause-runs
+returns-clause-runs g c =
+    last_end _ _ _ _ _ _ _ _ _ _ _ _ _ c.write-2.result c.lines.invariant.stands (sym c.has_ended.ensures ∙ c.lines-test.false) c.write-2.ensures.written c.write-2.ensures.device

@@ -1,0 +1,95 @@
+-- What a run reads its log through: what a block holds of the log, and what its next line is.
+use Rattle.std.specs.Prelude.{◌≡◌, ◌⊎◌, ◌<◌, ◌≤◌, ◌+◌, ◌-◌, ◌^◌, ℕ, Bool, true, false, if◌then◌else◌, List, [], ◌∷◌, ◌++◌, length, Option, Some, replicate, Result, Ok, Err, IfSome}
+use Rattle.std.specs.List.{All}
+use Rattle.std.specs.Io.KnownBytes.{Consumes, IsAtEnd}
+use Rattle.n2k_wire.specs.Entry.{longest_line}
+use Rattle.n2k_run.specs.declared.blocks.Next.{Next}
+use Rattle.n2k_run.specs.declared.blocks.Next.TheVariants.{Line, Long, End}
+use Rattle.n2k_run.specs.declared.device.Failed.{Failed}
+use Rattle.n2k_run.specs.Lines.{line_feed, is_line_feed, lines, without_return}
+
+-- what contracts see of `Blocks`
+pub record Held : Type 0 where
+  -- the bytes that came and were not answered yet
+  pub kept : List ℕ
+  -- whether they go on with a line that is over the limit, whose first bytes were let go
+  pub is_passing : Bool
+  -- whether the source was at its end at the last answer
+  pub has_ended : Bool
+  -- the calls that were made of sources
+  pub reads : ℕ
+  -- the bytes that the last answer was lent of
+  pub line : List ℕ
+  -- how many bytes more the block takes
+  pub room : ℕ
+
+-- what stands for the part of a long line that was let go: one byte more than a line may have
+unfoldable pub passed : List ℕ
+passed = replicate (longest_line + 1) 120
+
+-- the bytes that are still to be answered
+abbrev pub unanswered : Held → List ℕ
+unanswered held = (if held.is_passing then passed else []) ++ held.kept
+
+-- a line ends within the bytes
+abbrev pub HasFeed : List ℕ → Type 0
+HasFeed bytes = (piece : List ℕ) × (rest : List ℕ) × (bytes ≡ piece ++ line_feed ∷ rest)
+
+-- no line ends within the bytes
+abbrev pub HasNoFeed : List ℕ → Type 0
+HasNoFeed bytes = All (λ byte. is_line_feed byte ≡ false) bytes
+
+-- The bytes begin with this line, and the rest stands after it: it ends at a line feed, or at the end of the source,
+-- where nothing is left.
+pub record FirstLine (bytes line rest : List ℕ) (has_ended : Bool) (left : Option (List ℕ)) : Type 0 where
+  pub piece : List ℕ
+  pub line_is : line ≡ without_return piece
+  pub no_feed : HasNoFeed piece
+  pub ends : ((has_ended ≡ false) × (bytes ≡ piece ++ line_feed ∷ rest)) ⊎ (IsAtEnd left × (has_ended ≡ true) × (bytes ≡ piece) × (0 < length piece) × (rest ≡ []))
+
+-- the same, for a line over the limit
+abbrev pub FirstLong : List ℕ → List ℕ → Bool → Option (List ℕ) → Type 0
+FirstLong bytes rest has_ended left = (line : List ℕ) × FirstLine bytes line rest has_ended left × (longest_line < length line)
+
+-- Nothing was answered: the bytes are what they were, or a front of them that no line of the limit can have was
+-- replaced by what stands for it.
+pub record Replaces (whole bytes : List ℕ) : Type 0 where
+  pub front : List ℕ
+  pub rest : List ℕ
+  pub whole_is : whole ≡ front ++ rest
+  pub bytes_are : bytes ≡ passed ++ rest
+  pub no_feed : HasNoFeed front
+  pub long : longest_line + 1 < length front
+
+abbrev pub Stays : List ℕ → List ℕ → Type 0
+Stays whole bytes = (bytes ≡ whole) ⊎ Replaces whole bytes
+
+-- What an answer says of all the bytes that it was given of: those unanswered before, and those that came.
+abbrev pub Gives : List ℕ → List ℕ → Bool → Option (List ℕ) → Result Next Failed → Type 0
+Gives whole rest has_ended left (Ok (Line line)) = FirstLine whole line.now rest has_ended left × (length line.now ≤ longest_line)
+Gives whole rest has_ended left (Ok Long) = FirstLong whole rest has_ended left
+Gives whole rest has_ended left (Ok End) = IsAtEnd left × (has_ended ≡ true) × (whole ≡ []) × (rest ≡ [])
+Gives whole rest has_ended left (Err failed) = HasNoFeed whole × Stays whole rest
+
+-- the calls of a source are those that were counted, unless their number stands at its greatest
+abbrev pub CallsAre : ℕ → ℕ → ℕ → ℕ → Type 0
+CallsAre calls₀ calls reads₀ reads = (reads₀ ≤ reads) × ((calls + reads₀ ≡ calls₀ + reads) ⊎ (2 ^ 64 - 1 ≤ calls))
+
+-- an answer, what it took of the source, and what is held after it
+pub record Answers (old new : Held) (left₀ left : Option (List ℕ)) (calls₀ calls : ℕ) (result : Result Next Failed) : Type 0 where
+  -- the bytes that came of the source
+  pub came : List ℕ
+  pub given : Consumes left₀ left came
+  pub answer : Gives (unanswered old ++ came) (unanswered new) new.has_ended left result
+  pub called : CallsAre calls₀ calls old.reads new.reads
+
+-- an answer, by the lines of the bytes that are unanswered and those that the source has left
+abbrev pub AnswersLine : List ℕ → List ℕ → Result Next Failed → Type 0
+AnswersLine bytes rest (Ok (Line line)) = lines bytes ≡ line.now ∷ lines rest
+AnswersLine bytes rest (Ok Long) = (long : List ℕ) × (lines bytes ≡ long ∷ lines rest) × (longest_line < length long)
+AnswersLine bytes rest (Ok End) = (bytes ≡ []) × (rest ≡ [])
+AnswersLine bytes rest (Err failed) = Stays bytes rest
+
+-- that, where the source's bytes are known
+abbrev pub AnswersKnown : Held → Held → Option (List ℕ) → Option (List ℕ) → Result Next Failed → Type 0
+AnswersKnown old new left₀ left result = IfSome left₀ (λ bytes. (rest : List ℕ) × (left ≡ Some rest) × AnswersLine (unanswered old ++ bytes) (unanswered new ++ rest) result)

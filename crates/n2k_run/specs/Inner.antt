@@ -1,0 +1,5 @@
+-- Words that only private clauses, invariants and proofs of this crate use.
+pub mod Block
+pub mod Counting
+pub mod Engine
+pub mod Joining

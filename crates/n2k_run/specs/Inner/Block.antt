@@ -1,0 +1,76 @@
+-- How a block stands: its places in order, and what each private step of it does.
+use Rattle.std.specs.Prelude.{◌≡◌, ◌⊎◌, ◌<◌, ◌≤◌, ◌+◌, ◌-◌, ℕ, Bool, true, false, List, [], ◌∷◌, ◌++◌, length, take, drop, slice_range, Option, MatchOption, Result, Ok, Err}
+use Rattle.std.specs.Io.KnownBytes.{Consumes, IsAtEnd}
+use Rattle.n2k_wire.specs.Entry.{longest_line}
+use Rattle.n2k_run.specs.declared.blocks.Blocks.TheInside.{Inside}
+use Rattle.n2k_run.specs.declared.blocks.Found.{Found}
+use Rattle.n2k_run.specs.declared.blocks.Found.TheVariants.{Line, Long, End}
+use Rattle.n2k_run.specs.declared.device.Failed.{Failed}
+use Rattle.n2k_run.specs.Blocks.{Held, HasNoFeed, FirstLine, FirstLong, Stays, CallsAre, passed, unanswered}
+use Rattle.n2k_run.specs.Lines.{line_feed}
+use Rattle.n2k_run.specs.Reading.{most_reads}
+
+-- the bytes of a block
+abbrev pub block_bytes : ℕ
+block_bytes = 4096
+
+-- the places of a block: the line that was answered last, and the bytes that weren't yet
+pub record HasPlaces (block : Inside) : Type 0 where
+  pub line_ends : block.line_start ≤ block.line_end
+  pub line_within : block.line_end ≤ block_bytes
+  pub kept_ends : block.start ≤ block.end
+  pub kept_within : block.end ≤ block_bytes
+  pub few_reads : block.reads ≤ most_reads
+
+abbrev pub held_of : Inside → Held
+held_of block = record {
+  kept = slice_range block.block block.start block.end;
+  is_passing = block.is_passing;
+  has_ended = block.has_ended;
+  reads = block.reads;
+  line = slice_range block.block block.line_start block.line_end;
+  room = block_bytes - block.end;
+}
+
+-- the first line feed stands at that place
+pub record EndsAt (bytes : List ℕ) (end : ℕ) : Type 0 where
+  pub within : end < length bytes
+  pub no_feed : HasNoFeed (take end bytes)
+  pub split : bytes ≡ take end bytes ++ line_feed ∷ drop (end + 1) bytes
+
+abbrev pub FindsEnd : List ℕ → Option ℕ → Type 0
+FindsEnd bytes found = MatchOption found (HasNoFeed bytes) (EndsAt bytes)
+
+-- some of the unanswered bytes became the line that is answered
+abbrev pub Judges : Bool → List ℕ → List ℕ → Found → Type 0
+Judges was_passing text line Line = (was_passing ≡ false) × (line ≡ text) × (length text ≤ longest_line)
+Judges was_passing text line Long = (was_passing ≡ true) ⊎ (longest_line < length text)
+Judges was_passing text line End = ⊥
+
+-- Room was made: the unanswered bytes stayed, or they were too many for a line and were let go.
+abbrev pub MakesRoom : List ℕ → List ℕ → Type 0
+MakesRoom old new = (new ≡ old) ⊎ ((longest_line + 1 < length old) × (new ≡ passed))
+
+-- what an answer is, where the line that it lends stands beside it
+abbrev pub Finds : List ℕ → Held → Option (List ℕ) → Found → Type 0
+Finds whole new left Line = FirstLine whole new.line (unanswered new) new.has_ended left × (length new.line ≤ longest_line)
+Finds whole new left Long = FirstLong whole (unanswered new) new.has_ended left
+Finds whole new left End = IsAtEnd left × (new.has_ended ≡ true) × (whole ≡ []) × (unanswered new ≡ [])
+
+-- an answer whose line is lent later
+abbrev pub GivesFound : List ℕ → Held → Option (List ℕ) → Result Found Failed → Type 0
+GivesFound whole new left (Ok found) = Finds whole new left found
+GivesFound whole new left (Err failed) = HasNoFeed whole × Stays whole (unanswered new)
+
+pub record AnswersFound (old new : Held) (left₀ left : Option (List ℕ)) (calls₀ calls : ℕ) (result : Result Found Failed) : Type 0 where
+  pub came : List ℕ
+  pub given : Consumes left₀ left came
+  pub answer : GivesFound (unanswered old ++ came) new left result
+  pub called : CallsAre calls₀ calls old.reads new.reads
+
+-- what came while no answer was found
+pub record Reads (old new : Held) (left₀ left : Option (List ℕ)) (calls₀ calls : ℕ) : Type 0 where
+  pub came : List ℕ
+  pub given : Consumes left₀ left came
+  pub stays : Stays (unanswered old ++ came) (unanswered new)
+  pub called : CallsAre calls₀ calls old.reads new.reads

@@ -1,0 +1,123 @@
+-- How the engine of the runs stands between two lines, and what each step of it does.
+use Rattle.std.specs.Prelude.{◌≡◌, ◌⊎◌, ◌<◌, ◌+◌, ℕ, true, false, List, [], ◌++◌, length, Option, Result, Ok, Err}
+use Rattle.std.specs.Io.{IsEmptyOrEndsWith}
+use Rattle.std.specs.Io.KnownBytes.{Appends, Consumes, IsAtEnd}
+use Rattle.n2k_wire.specs.declared.entry.Entry.{Entry}
+use Rattle.n2k_wire.specs.declared.entry.Packing.{Packing}
+use Rattle.n2k_wire.specs.Entry.{entry}
+use Rattle.n2k_join.specs.Counts.{most_lines}
+use Rattle.n2k_run.specs.declared.fault.RunFault.{RunFault}
+use Rattle.n2k_run.specs.declared.fault.RunFault.TheVariants.{Read, Write, Report, Memory, TooManyLines}
+use Rattle.n2k_run.specs.Blocks.{Held, CallsAre, FirstLine, HasNoFeed, unanswered}
+use Rattle.n2k_run.specs.Device.{HasFailed}
+use Rattle.n2k_run.specs.Entries.{entries}
+use Rattle.n2k_run.specs.Lines.{line_feed}
+use Rattle.n2k_run.specs.Making.{Making, after_all, texts_from, reports_from}
+use Rattle.n2k_run.specs.Reading.{most_reads}
+use Rattle.n2k_run.specs.Runs.{Devices, NoneFailed}
+use Rattle.n2k_run.specs.Writing.{AppendsFront}
+
+-- a maker took an entry: the state, the text and the report moved on
+pub record MovesOn {S : Type 0} (m : Making S) (s s' : S) (x : Entry) (text text' report report' : List ℕ) : Type 0 where
+  pub state_after : s' ≡ m.after s x
+  pub text_after : text' ≡ text ++ m.text s x
+  pub report_after : report' ≡ report ++ m.report s x
+  pub counted : m.lines s' ≡ m.lines s + 1
+  pub few : m.lines s < most_lines
+
+-- nothing moved
+pub record StandsStill {S : Type 0} (s s' : S) (text text' report report' : List ℕ) : Type 0 where
+  pub same_state : s' ≡ s
+  pub same_text : text' ≡ text
+  pub same_report : report' ≡ report
+
+-- what a maker answers on an entry
+abbrev pub Takes : {S T : Type 0} → Making S → S → S → Entry → List ℕ → List ℕ → List ℕ → List ℕ → Result T RunFault → Type 0
+Takes m s s' x text text' report report' (Ok y) = MovesOn m s s' x text text' report report'
+Takes m s s' x text text' report report' (Err TooManyLines) = StandsStill s s' text text' report report' × (m.lines s ≡ most_lines)
+Takes m s s' x text text' report report' (Err Memory) = Unit {0}
+Takes m s s' x text text' report report' (Err Read) = ⊥
+Takes m s s' x text text' report report' (Err Write) = ⊥
+Takes m s s' x text text' report report' (Err Report) = ⊥
+
+-- the next line of the log, and its entry
+pub record NextEntry (packing : Packing) (old new : Held) (left₀ left : Option (List ℕ)) (x : Entry) : Type 0 where
+  pub came : List ℕ
+  pub given : Consumes left₀ left came
+  pub line : List ℕ
+  pub first : FirstLine (unanswered old ++ came) line (unanswered new) new.has_ended left
+  pub entry_is : x ≡ entry line packing
+
+-- there is none
+pub record NoneNext (old new : Held) (left₀ left : Option (List ℕ)) : Type 0 where
+  pub came : List ℕ
+  pub given : Consumes left₀ left came
+  pub none : unanswered old ++ came ≡ []
+  pub none_held : unanswered new ≡ []
+  pub has_ended : new.has_ended ≡ true
+  pub at_end : IsAtEnd left
+
+-- it didn't come
+pub record FailsNext (old : Held) (left₀ left : Option (List ℕ)) : Type 0 where
+  pub came : List ℕ
+  pub given : Consumes left₀ left came
+  pub none : HasNoFeed (unanswered old ++ came)
+
+-- what is done at the next line
+abbrev pub TakesNext : {S T : Type 0} → Making S → Packing → S → S → Held → Held → Option (List ℕ) → Option (List ℕ) → List ℕ → List ℕ → List ℕ → List ℕ → Result T RunFault → Type 0
+TakesNext m packing s s' old new left₀ left text text' report report' (Ok y) = ((x : Entry) × NextEntry packing old new left₀ left x × MovesOn m s s' x text text' report report') ⊎ (NoneNext old new left₀ left × StandsStill s s' text text' report report')
+TakesNext m packing s s' old new left₀ left text text' report report' (Err TooManyLines) = (x : Entry) × NextEntry packing old new left₀ left x × StandsStill s s' text text' report report' × (m.lines s ≡ most_lines)
+TakesNext m packing s s' old new left₀ left text text' report report' (Err Read) = FailsNext old left₀ left × StandsStill s s' text text' report report'
+TakesNext m packing s s' old new left₀ left text text' report report' (Err Memory) = Unit {0}
+TakesNext m packing s s' old new left₀ left text text' report report' (Err Write) = ⊥
+TakesNext m packing s s' old new left₀ left text text' report report' (Err Report) = ⊥
+
+-- the source's calls and failures at it
+abbrev pub ReadsNext : {T : Type 0} → Held → ℕ → ℕ → Result T RunFault → Type 0
+ReadsNext new failed₀ failed (Err Read) = HasFailed failed₀ failed ⊎ (new.reads ≡ most_reads)
+ReadsNext new failed₀ failed (Err Write) = Unit {0}
+ReadsNext new failed₀ failed (Err Report) = Unit {0}
+ReadsNext new failed₀ failed (Err Memory) = Unit {0}
+ReadsNext new failed₀ failed (Err TooManyLines) = Unit {0}
+ReadsNext new failed₀ failed (Ok x) = failed ≡ failed₀
+
+-- what is kept is written, the reports first
+abbrev pub WritesKept : {T : Type 0} → List ℕ → List ℕ → Option (List ℕ) → Option (List ℕ) → Option (List ℕ) → Option (List ℕ) → Result T RunFault → Type 0
+WritesKept text report w w' e e' (Ok x) = Appends w w' text × Appends e e' report
+WritesKept text report w w' e e' (Err Report) = (w' ≡ w) × AppendsFront e e' report
+WritesKept text report w w' e e' (Err Write) = AppendsFront w w' text × Appends e e' report
+WritesKept text report w w' e e' (Err Read) = ⊥
+WritesKept text report w w' e e' (Err Memory) = ⊥
+WritesKept text report w w' e e' (Err TooManyLines) = ⊥
+
+-- the sinks' failures at it
+abbrev pub FailsKept : {T : Type 0} → ℕ → ℕ → ℕ → ℕ → Result T RunFault → Type 0
+FailsKept writes₀ writes reports₀ reports (Ok x) = (writes ≡ writes₀) × (reports ≡ reports₀)
+FailsKept writes₀ writes reports₀ reports (Err Write) = HasFailed writes₀ writes
+FailsKept writes₀ writes reports₀ reports (Err Report) = HasFailed reports₀ reports
+FailsKept writes₀ writes reports₀ reports (Err Read) = ⊥
+FailsKept writes₀ writes reports₀ reports (Err Memory) = ⊥
+FailsKept writes₀ writes reports₀ reports (Err TooManyLines) = ⊥
+
+-- What was made of these entries: of the first of them the texts and reports are written, of the others they are kept.
+pub record Made {S : Type 0} (m : Making S) (s₀ s : S) (es : List Entry) (text report : List ℕ) (before now : Devices) : Type 0 where
+  pub written : List Entry
+  pub kept : List Entry
+  pub entries_are : es ≡ written ++ kept
+  pub state : s ≡ after_all m s₀ es
+  pub printed : Appends before.written now.written (texts_from m s₀ written)
+  pub reported : Appends before.reported now.reported (reports_from m s₀ written)
+  pub text_is : text ≡ texts_from m (after_all m s₀ written) kept
+  pub report_is : report ≡ reports_from m (after_all m s₀ written) kept
+  pub counted : m.lines s ≡ m.lines s₀ + length es
+
+-- The engine between two lines: what came of the log is what was taken and what the block holds.
+pub record Stands {S : Type 0} (m : Making S) (packing : Packing) (s₀ s : S) (held : Held) (text report : List ℕ) (before now : Devices) : Type 0 where
+  pub front : List ℕ
+  pub came : Consumes before.left now.left (front ++ unanswered held)
+  -- it ends with a line, unless the log has ended
+  pub whole : held.has_ended ≡ false → IsEmptyOrEndsWith front line_feed
+  pub end : held.has_ended ≡ true → (unanswered held ≡ []) × IsAtEnd now.left
+  pub made : Made m s₀ s (entries packing front) text report before now
+  pub called : CallsAre before.calls now.calls 0 held.reads
+  pub none_failed : NoneFailed before now

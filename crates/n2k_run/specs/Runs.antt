@@ -1,0 +1,130 @@
+-- What every run promises, by the texts and the reports that it makes of the entries of its log.
+use Rattle.std.specs.Prelude.{◌≡◌, ◌⊎◌, ◌+◌, ℕ, List, ◌∷◌, ◌++◌, length, Option, Result, Ok, Err, OnErr, IfSome}
+use Rattle.std.specs.Io.KnownBytes.{Appends, Consumes, IsAtEnd}
+use Rattle.n2k_wire.specs.declared.entry.Entry.{Entry}
+use Rattle.n2k_wire.specs.declared.entry.Packing.{Packing}
+use Rattle.n2k_join.specs.Counts.{most_lines}
+use Rattle.n2k_run.specs.declared.fault.RunFault.{RunFault}
+use Rattle.n2k_run.specs.declared.fault.RunFault.TheVariants.{Read, Write, Report, Memory, TooManyLines}
+use Rattle.n2k_run.specs.Device.{HasFailed}
+use Rattle.n2k_run.specs.Entries.{entries}
+use Rattle.n2k_run.specs.Lines.{whole_lines}
+use Rattle.n2k_run.specs.Making.{Making, texts_from, reports_from}
+use Rattle.n2k_run.specs.Reading.{OutlastsReads}
+use Rattle.n2k_run.specs.Writing.{AppendsFront}
+
+-- what a run makes of the entries of its log
+pub record Output : Type 0 where
+  -- how the data of its lines are packed
+  pub packing : Packing
+  -- the lines that were counted before its first
+  pub counted : ℕ
+  pub texts : List Entry → List ℕ
+  pub reports : List Entry → List ℕ
+
+-- what a run makes from a state on
+abbrev pub output_from : {S : Type 0} → Making S → Packing → S → Output
+output_from m packing s = record {
+  packing = packing;
+  counted = m.lines s;
+  texts = texts_from m s;
+  reports = reports_from m s;
+}
+
+-- the three devices of a run, as contracts see them before it or after it
+pub record Devices : Type 0 where
+  -- the bytes that the source has left, where they are known
+  pub left : Option (List ℕ)
+  -- the calls that were made of it
+  pub calls : ℕ
+  pub failed_reads : ℕ
+  -- the bytes that the sink of the texts holds, where they are known
+  pub written : Option (List ℕ)
+  pub failed_writes : ℕ
+  -- the bytes that the sink of the reports holds, where they are known
+  pub reported : Option (List ℕ)
+  pub failed_reports : ℕ
+
+-- those, in the order in which a run takes them
+abbrev pub devices : Option (List ℕ) → ℕ → ℕ → Option (List ℕ) → ℕ → Option (List ℕ) → ℕ → Devices
+devices left calls failed_reads written failed_writes reported failed_reports = record {
+  left = left;
+  calls = calls;
+  failed_reads = failed_reads;
+  written = written;
+  failed_writes = failed_writes;
+  reported = reported;
+  failed_reports = failed_reports;
+}
+
+-- the sinks gained exactly the texts and the reports of these entries
+pub record Gained (o : Output) (before after : Devices) (es : List Entry) : Type 0 where
+  pub printed : Appends before.written after.written (o.texts es)
+  pub reported : Appends before.reported after.reported (o.reports es)
+
+-- The run came to its end: all of the log was read, and of all its entries the texts and reports were written. `stands`
+-- says what else holds where a run has taken these entries.
+pub record IsWhole (o : Output) (stands : List Entry → Type 0) (before after : Devices) : Type 0 where
+  pub at_end : IsAtEnd after.left
+  pub gained : IfSome before.left (λ log. Gained o before after (entries o.packing log))
+  pub holds : IfSome before.left (λ log. stands (entries o.packing log))
+
+-- After Read the run stands after the last line whose LF came: it has taken the lines up to there, and no more.
+pub record IsCut (o : Output) (stands : List Entry → Type 0) (before after : Devices) : Type 0 where
+  pub came : List ℕ
+  pub given : Consumes before.left after.left came
+  pub gained : Gained o before after (entries o.packing (whole_lines came))
+  pub holds : stands (entries o.packing (whole_lines came))
+
+-- After TooManyLines the run stands at the last number: it has taken as many lines as are counted, and one more came.
+pub record IsFull (o : Output) (stands : List Entry → Type 0) (before after : Devices) : Type 0 where
+  pub taken : List Entry
+  pub full : o.counted + length taken ≡ most_lines
+  pub left : IfSome before.left (λ log. (next : Entry) × (more : List Entry) × (entries o.packing log ≡ taken ++ next ∷ more))
+  pub gained : Gained o before after taken
+  pub holds : stands taken
+
+-- how a run ends
+abbrev pub Ends : {T : Type 0} → Output → (List Entry → Type 0) → Devices → Devices → Result T RunFault → Type 0
+Ends o stands before after (Ok x) = IsWhole o stands before after
+Ends o stands before after (Err Read) = IsCut o stands before after
+Ends o stands before after (Err TooManyLines) = IsFull o stands before after
+Ends o stands before after (Err Write) = Unit {0}
+Ends o stands before after (Err Report) = Unit {0}
+Ends o stands before after (Err Memory) = Unit {0}
+
+-- the sinks gained a front of the texts and a front of the reports of the whole log
+pub record HasFronts (o : Output) (before after : Devices) (log : List ℕ) : Type 0 where
+  pub printed : AppendsFront before.written after.written (o.texts (entries o.packing log))
+  pub reported : AppendsFront before.reported after.reported (o.reports (entries o.packing log))
+
+-- Reports go before texts: the reports of the lines up to some line are all written, and what is written of texts is a
+-- front of those of the same lines. So no text stands where the report of its own line or of an earlier one is missing.
+pub record ReportsFirst (o : Output) (before after : Devices) (log : List ℕ) : Type 0 where
+  pub taken : List Entry
+  pub left : List Entry
+  pub lines_taken : entries o.packing log ≡ taken ++ left
+  pub printed : AppendsFront before.written after.written (o.texts taken)
+  pub reported : (more : List ℕ) × Appends before.reported after.reported (o.reports taken ++ more)
+
+-- no call of a device failed
+pub record NoneFailed (before after : Devices) : Type 0 where
+  pub reads : after.failed_reads ≡ before.failed_reads
+  pub writes : after.failed_writes ≡ before.failed_writes
+  pub reports : after.failed_reports ≡ before.failed_reports
+
+-- a fault of a device is that device's own, or for Read that no end was found by 10^12 reads
+abbrev pub HasDevice : {T : Type 0} → Devices → Devices → Result T RunFault → Type 0
+HasDevice before after (Ok x) = NoneFailed before after
+HasDevice before after (Err Read) = HasFailed before.failed_reads after.failed_reads ⊎ OutlastsReads before.calls after.calls
+HasDevice before after (Err Write) = HasFailed before.failed_writes after.failed_writes
+HasDevice before after (Err Report) = HasFailed before.failed_reports after.failed_reports
+HasDevice before after (Err Memory) = Unit {0}
+HasDevice before after (Err TooManyLines) = Unit {0}
+
+-- what every run promises
+pub record Runs {T : Type 0} (o : Output) (stands : List Entry → Type 0) (before after : Devices) (result : Result T RunFault) : Type 0 where
+  pub ends : Ends o stands before after result
+  pub fronts : OnErr result (IfSome before.left (λ log. HasFronts o before after log))
+  pub reports_first : IfSome before.left (λ log. ReportsFirst o before after log)
+  pub device : HasDevice before after result

@@ -1,0 +1,257 @@
+//! A log's bytes in blocks of a fixed size, and its lines, which are lent from them.
+ghost use Rattle.std.specs.Prelude.{◌≡◌, ◌⊎◌, ◌<◌, ◌≤◌, ◌+◌, ℕ, List, Option, [], true, false, length, take, drop, IfOk, IfSome, IfNone, OnOk, OnErr};
+ghost use Rattle.n2k_run.specs.Inner.Block.{FindsEnd};
+ghost use Rattle.n2k_run.specs.Lines.{without_return};
+
+use crate::device::{Failed, Source};
+use crate::reading::MOST_READS;
+use n2k_wire::LONGEST_LINE;
+use std::marker::Model;
+
+/// The bytes of a block.
+pub(crate) const BLOCK: usize = 4096;
+
+const LINE_FEED: u8 = b'\n';
+
+const RETURN: u8 = b'\r';
+
+/// The next line of a log.
+#[derive(Drop)]
+pub enum Next<'a> {
+    /// A line of at most 2,048 bytes, without its LF and without one CR at its end. It is lent from the block.
+    Line(&'a [u8]),
+    /// A line that is longer. It has been read past.
+    Long,
+    /// There is no more line.
+    End,
+}
+
+// What was found at the front of the unanswered bytes. A line is then lent by `line`.
+enum Found {
+    Line,
+    Long,
+    End,
+}
+
+/// The bytes of a log, of which 4,096 are held at once.
+#[derive(Drop)]
+pub struct Blocks {
+    block: [u8; BLOCK],
+    line_start: usize,
+    line_end: usize,
+    start: usize,
+    end: usize,
+    is_passing: bool,
+    has_ended: bool,
+    reads: u64,
+}
+
+impl Model for Blocks {
+    ghost use Rattle.n2k_run.specs.Blocks.{Held};
+
+    ghost Value = { Held };
+
+    ghost use Rattle.n2k_run.specs.Inner.Block.{HasPlaces, held_of};
+
+    ghost view = { held_of };
+
+    ghost invariant = { HasPlaces };
+}
+
+// The piece, without one carriage return at its end.
+fn without_return(piece: &[u8]) -> &[u8]
+    ensures { result.now ≡ without_return piece.now }
+{
+    match piece {
+        [line @ .., RETURN] => line,
+        _ => piece,
+    }
+}
+
+// Where the first LF stands.
+fn line_end(bytes: &[u8]) -> Option<usize>
+    ensures { FindsEnd bytes.now result }
+{
+    memchr::memchr(LINE_FEED, bytes)
+}
+
+impl Blocks {
+    ghost use Rattle.std.specs.Io.KnownBytes.{IsAtEnd};
+    ghost use Rattle.std.specs.Io.BufRead.{Rests};
+    ghost use Rattle.std.specs.Borrow.{sem};
+    ghost use Rattle.n2k_run.specs.contracts.blocks.Blocks.{the_row};
+    ghost use Rattle.n2k_run.specs.Blocks.{unanswered, HasFeed, HasNoFeed, Answers, AnswersKnown};
+    ghost use Rattle.n2k_run.specs.Device.{CountsFailure, HasFailed, one_more};
+    ghost use Rattle.n2k_run.specs.Inner.Block.{AnswersFound, Finds, Judges, MakesRoom};
+    ghost use Rattle.n2k_run.specs.Reading.{Gains, most_reads};
+
+    /// Before the first read.
+    pub fn new() -> Self
+        ensures { result ≡ record { kept = []; is_passing = false; has_ended = false; reads = 0; line = []; room = BLOCK } }
+    {
+        Blocks {
+            block: [0; BLOCK],
+            line_start: 0,
+            line_end: 0,
+            start: 0,
+            end: 0,
+            is_passing: false,
+            has_ended: false,
+            reads: 0,
+        }
+    }
+
+    /// Whether the last answer was given at the end of the source, so that another read can find nothing.
+    pub(crate) fn has_ended(&self) -> bool
+        ensures { result ≡ self.now.has_ended }
+    {
+        self.has_ended
+    }
+
+    /// Whether the next line can be answered without a read.
+    pub(crate) fn has_line(&self) -> bool
+        ensures line { result ≡ true → HasFeed self.now.kept }
+        ensures none { result ≡ false → HasNoFeed self.now.kept }
+    {
+        line_end(&self.block[self.start..self.end]).is_some()
+    }
+
+    /// The next line of the bytes that are unanswered, and then of those that the source has. It is read where no
+    /// line's end is held, by calls that each ask for as much as the block takes: at most 10^12 over all answers.
+    /// `Failed` where the source failed in this call, or where these reads are used up. No line is lost by it: a
+    /// later call goes on where this one stood. It takes no memory.
+    pub fn next_line<R: Source>(&mut self, reader: &mut R) -> Result<Next<'_>, Failed>
+        ensures* after { sem 𝓛 (Rests the_row self.entry (λ new.
+            Answers self.old new (R.remaining reader.old) (R.remaining reader.new) (R.calls reader.old) (R.calls reader.new) result
+            × AnswersKnown self.old new (R.remaining reader.old) (R.remaining reader.new) result
+            × OnErr result (HasFailed (R.failed_calls reader.old) (R.failed_calls reader.new) ⊎ (new.reads ≡ most_reads)))) }
+        ensures quiet { HasFeed self.old.kept → reader.new ≡ reader.old }
+        ensures none_failed { OnOk result (R.failed_calls reader.new ≡ R.failed_calls reader.old) }
+    {
+        match self.find_line(reader)? {
+            Found::Line => Ok(Next::Line(self.line())),
+            Found::Long => Ok(Next::Long),
+            Found::End => Ok(Next::End),
+        }
+    }
+
+    // The line that was found last.
+    fn line(&self) -> &[u8]
+        ensures { result.now ≡ self.now.line }
+    {
+        &self.block[self.line_start..self.line_end]
+    }
+
+    // Finds the next line, and reads until it is found.
+    fn find_line<R: Source>(&mut self, reader: &mut R) -> Result<Found, Failed>
+        ensures found { AnswersFound self.old self.new (R.remaining reader.old) (R.remaining reader.new) (R.calls reader.old) (R.calls reader.new) result }
+        ensures quiet { HasFeed self.old.kept → reader.new ≡ reader.old }
+        ensures none_failed { OnOk result (R.failed_calls reader.new ≡ R.failed_calls reader.old) }
+        ensures failed { OnErr result (HasFailed (R.failed_calls reader.old) (R.failed_calls reader.new) ⊎ (self.new.reads ≡ most_reads)) }
+    {
+        loop {
+            if let Some(found) = self.take_line() {
+                return Ok(found);
+            }
+            if self.reads == MOST_READS {
+                return Err(Failed);
+            }
+            self.make_room();
+            if self.read_some(reader)? == 0 {
+                return Ok(self.take_rest());
+            }
+        }
+    }
+
+    // Takes the first line, where its end is held.
+    fn take_line(&mut self) -> Option<Found>
+        ensures none { IfNone result ((self.new ≡ self.old) × HasNoFeed self.old.kept) }
+        ensures found { IfSome result (λ found. (left : Option (List ℕ)) → Finds (unanswered self.old) self.new left found) }
+        ensures reads { self.new.reads ≡ self.old.reads }
+    {
+        let size = line_end(&self.block[self.start..self.end])?;
+        self.has_ended = false;
+        Some(self.answer(size, 1))
+    }
+
+    // Takes all that is left at the end of the source, where no line ends in it.
+    fn take_rest(&mut self) -> Found
+        requires { HasNoFeed self.old.kept }
+        ensures found { (left : Option (List ℕ)) → IsAtEnd left → Finds (unanswered self.old) self.new left result }
+        ensures reads { self.new.reads ≡ self.old.reads }
+    {
+        self.has_ended = true;
+        let size = self.end - self.start;
+        if size == 0 && !self.is_passing {
+            return Found::End;
+        }
+        self.answer(size, 0)
+    }
+
+    // Answers the first `size` bytes that are kept, and lets go of `past` bytes after them.
+    fn answer(&mut self, size: usize, past: usize) -> Found
+        requires { size + past ≤ length self.old.kept }
+        ensures found { Judges self.old.is_passing (without_return (take size self.old.kept)) self.new.line result }
+        ensures kept { self.new.kept ≡ drop (size + past) self.old.kept }
+        ensures passing { self.new.is_passing ≡ false }
+        ensures ended { self.new.has_ended ≡ self.old.has_ended }
+        ensures reads { self.new.reads ≡ self.old.reads }
+    {
+        let line = without_return(&self.block[self.start..self.start + size]).len();
+        let is_long = self.is_passing || line > LONGEST_LINE;
+        self.line_start = self.start;
+        self.line_end = self.start + line;
+        self.start += size + past;
+        self.is_passing = false;
+        if is_long { Found::Long } else { Found::Line }
+    }
+
+    // Makes room for a read: what is kept goes to the front of the block, or is let go where a line can't be so long.
+    fn make_room(&mut self)
+        requires { HasNoFeed self.old.kept }
+        ensures stays { MakesRoom (unanswered self.old) (unanswered self.new) }
+        ensures no_feed { HasNoFeed self.new.kept }
+        ensures room { 0 < self.new.room }
+        ensures reads { self.new.reads ≡ self.old.reads }
+    {
+        if self.is_passing || self.end - self.start == BLOCK {
+            self.is_passing = true;
+            self.start = 0;
+            self.end = 0;
+        } else {
+            self.shift();
+        }
+    }
+
+    // Moves what is kept to the front of the block.
+    fn shift(&mut self)
+        ensures kept { self.new.kept ≡ self.old.kept }
+        ensures passing { self.new.is_passing ≡ self.old.is_passing }
+        ensures room { self.new.room + length self.old.kept ≡ BLOCK }
+        ensures reads { self.new.reads ≡ self.old.reads }
+    {
+        self.line_start = 0;
+        self.line_end = 0;
+        self.block.copy_within(self.start..self.end, 0);
+        self.end -= self.start;
+        self.start = 0;
+    }
+
+    // One read, behind what is kept: how many bytes came.
+    fn read_some<R: Source>(&mut self, reader: &mut R) -> Result<usize, Failed>
+        requires room { 0 < self.old.room }
+        requires few { self.old.reads < most_reads }
+        ensures gains { Gains self.old.kept self.new.kept (R.remaining reader.old) (R.remaining reader.new) }
+        ensures end { IfOk result (λ count. count ≡ 0 → (self.new.kept ≡ self.old.kept) × IsAtEnd (R.remaining reader.new)) }
+        ensures failed { OnErr result (self.new.kept ≡ self.old.kept) }
+        ensures passing { self.new.is_passing ≡ self.old.is_passing }
+        ensures reads { self.new.reads ≡ self.old.reads + 1 }
+        ensures counted { CountsFailure (R.failed_calls reader.old) (R.failed_calls reader.new) result }
+        ensures called { R.calls reader.new ≡ one_more (R.calls reader.old) }
+    {
+        self.reads += 1;
+        let count = reader.read(&mut self.block[self.end..])?;
+        self.end += count;
+        Ok(count)
+    }
+}

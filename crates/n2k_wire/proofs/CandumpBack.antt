@@ -1,0 +1,371 @@
+-- The candump line of a packet is read as the frame of that packet.
+use Rattle.std.proofs.Common.{◌≡◌, ℕ, zero, suc, ◌+◌, ◌-◌, ◌*◌, ◌/◌, ◌%◌, ◌^◌, ◌<◌, ◌≤◌, Bool, true, false, not, List, [], ◌∷◌, ◌++◌, length, drop, Option, Some, None, Result, Ok, refl, sym, ap, ◌∙◌, append_assoc, length-append, arith, ltb, leb, inl, inr}
+use Rattle.std.specs.Prelude.{codes, decimal, position, slice_index, IsTrue, ◌&&◌, ◌==◌}
+use Rattle.std.specs.Char.{is_ascii_digit, is_ascii_hexdigit}
+use Rattle.std.specs.Int.{w32, to_be_bytes}
+use Rattle.std.specs.List.{list_all, position_or_len}
+use Rattle.std.proofs.lemmas.Bool.{and_parts, cases_Bool, eq-eqb, eqb-true, le-leb, le-ltb, leb-true, lt-ltb, ltb-true}
+use Rattle.std.proofs.lemmas.Fmt.{decimal_nonempty}
+use Rattle.std.proofs.lemmas.List.{append_cancel_right, length-drop}
+use Rattle.std.proofs.lemmas.List.Folds.{list_all-append}
+use Rattle.std.proofs.lemmas.Nat.{from_be_bytes-to_be_bytes_4}
+use Rattle.std.proofs.Math.Seq.{drop-append-add, drop-length, take-append_seam, take-length}
+use Rattle.hex.specs.Hex.{IsBytes, encode_upper, encode_with, upper_digits}
+use Rattle.hex.proofs.HexLemmas.{IsDigits-upper_digits, decode_of-encode_upper, length-encode_with}
+use Rattle.n2k_wire.specs.declared.entry.Entry.{Entry}
+use Rattle.n2k_wire.specs.declared.entry.Entry.TheVariants as entries
+use Rattle.n2k_wire.specs.declared.fault.WireFault.{WireFault}
+use Rattle.n2k_wire.specs.declared.fault.WireFault.TheVariants.{NoStamp, NoId}
+use Rattle.n2k_wire.specs.declared.entry.Packing.{Packing}
+use Rattle.n2k_wire.specs.Candump.{stamped, framed, is_interface, is_interface_byte, identifier, is_other_frame, is_ending, digits_len, payload, frame_of, candump}
+use Rattle.n2k_wire.specs.Digits.{decimal_digit, decimal_after, decimal_number}
+use Rattle.n2k_wire.specs.Entry.{entry, settled}
+use Rattle.n2k_wire.specs.Identifier.{join, split}
+use Rattle.n2k_wire.specs.Packet.{PacketParts, IsPacketParts}
+use Rattle.n2k_wire.specs.Pieces.{cut_at, after_byte, skip_spaces}
+use Rattle.n2k_wire.specs.Stamp.{Moment, IsMoment, moment, three_digits, millis_digits, utc_text, utc_moment}
+use Rattle.n2k_wire.specs.Steps.{◌>>=◌, or_cause}
+use Rattle.n2k_wire.specs.Texts.{second_digits, candump_line, candump_parts, candump_text}
+use Rattle.n2k_wire.proofs.CandumpLemmas.{seconds_short}
+use Rattle.n2k_wire.proofs.HexDigits.{all_digits, hex_digit_value-none}
+use Rattle.n2k_wire.proofs.IdentifierLemmas.{join_split, join_bits}
+use Rattle.n2k_wire.proofs.ReadBack.{decimal_reads}
+use Rattle.n2k_wire.proofs.UtcBack.{utc_back}
+
+-- ---- a text cut at its first separator
+
+-- none of the bytes passes
+abbrev HasNone : (ℕ → Bool) → List ℕ → Type 0
+HasNone p xs = list_all (λ b. not (p b)) xs ≡ true
+
+head_fails : (p : ℕ → Bool) (b : ℕ) (xs : List ℕ) → HasNone p (b ∷ xs) → (p b ≡ false) × HasNone p xs
+head_fails p b xs none =
+    let parts = and_parts (not (p b)) (list_all (λ x. not (p x)) xs) none in
+    (elim (cases_Bool (p b)) [ inl passes ↦ absurd (let other = rw passes at parts.0 in cc) | inr fails ↦ fails ], parts.1)
+
+place_behind : (p : ℕ → Bool) (front rest : List ℕ) (b : ℕ) → HasNone p front → p b ≡ true → position_or_len p (front ++ (b ∷ rest)) ≡ length front
+place_behind p [] rest b none passes = rw passes refl
+place_behind p (x ∷ front) rest b none passes =
+    let parts = head_fails p x front none in
+    rw parts.0 (omega (arith, place_behind p front rest b parts.1 passes))
+
+found_behind : (p : ℕ → Bool) (front rest : List ℕ) (b : ℕ) → HasNone p front → p b ≡ true → position p (front ++ (b ∷ rest)) ≡ Some (length front)
+found_behind p front rest b none passes =
+    let place = place_behind p front rest b none passes in
+    let within : ltb (length front) (length (front ++ (b ∷ rest))) ≡ true = lt-ltb _ _ (omega (arith, length-append front (b ∷ rest))) in
+    rw (place, within) refl
+
+pub cut_behind : (separator : ℕ) (front rest : List ℕ) → HasNone (λ b. b == separator) front → cut_at separator (front ++ (separator ∷ rest)) ≡ Some (front, rest)
+unfolding cut_at
+cut_behind separator front rest none =
+    let same : (separator == separator) ≡ true = eq-eqb separator separator refl in
+    let after : drop (length front + 1) (front ++ (separator ∷ rest)) ≡ rest = drop-append-add front (separator ∷ rest) 1 in
+    rw (found_behind (λ b. b == separator) front rest separator none same, take-append_seam front (separator ∷ rest), after) refl
+
+-- a text that begins with no space
+no_space : (b : ℕ) (rest : List ℕ) → (b == 32) ≡ false → skip_spaces (b ∷ rest) ≡ Some (b ∷ rest)
+unfolding skip_spaces
+no_space b rest other =
+    let within : ltb 0 (suc (length rest)) ≡ true = lt-ltb 0 (suc (length rest)) (omega arith) in
+    rw (other, within) refl
+
+no_space_in_front : (text rest : List ℕ) → 0 < length text → HasNone (λ b. b == 32) text → skip_spaces (text ++ rest) ≡ Some (text ++ rest)
+no_space_in_front [] rest some none = absurd (omega arith)
+no_space_in_front (b ∷ text) rest some none = no_space b (text ++ rest) (head_fails (λ x. x == 32) b text none).0
+
+-- bytes of one kind are none of another
+pub none_of : (p q : ℕ → Bool) → ((b : ℕ) → p b ≡ true → q b ≡ false) → (xs : List ℕ) → list_all p xs ≡ true → HasNone q xs
+none_of p q apart [] all = refl
+none_of p q apart (b ∷ xs) all =
+    let parts = and_parts (p b) (list_all p xs) all in
+    rw (apart b parts.0) (none_of p q apart xs parts.1)
+
+-- ---- the moment
+
+-- a text that is read as a number has digits alone
+digits_alone : (before n : ℕ) (text : List ℕ) → decimal_after before text ≡ Some n → list_all is_ascii_digit text ≡ true
+unfolding decimal_after decimal_digit
+digits_alone before n [] e = refl
+digits_alone before n (b ∷ text) e =
+    elim (cases_Bool (is_ascii_digit b)) [
+      | inl digit ↦ rw digit (digits_alone (10 * before + (b - 48)) n text (rw digit at e))
+      | inr other ↦ absurd (let none = rw other at e in cc)
+    ]
+
+-- zeros in front change no number
+zero_read : (text : List ℕ) → decimal_after 0 (48 ∷ text) ≡ decimal_after 0 text
+unfolding decimal_after decimal_digit
+zero_read text = refl
+
+zeros_read : (zeros text : List ℕ) → list_all (λ b. b == 48) zeros ≡ true → decimal_after 0 (zeros ++ text) ≡ decimal_after 0 text
+zeros_read [] text all = refl
+zeros_read (b ∷ zeros) text all =
+    let parts = and_parts (b == 48) (list_all (λ x. x == 48) zeros) all in
+    let zero : b ≡ 48 = eqb-true b 48 parts.0 in
+    rw zero (zero_read (zeros ++ text) ∙ zeros_read zeros text parts.1)
+
+all_dropped : (p : ℕ → Bool) (n : ℕ) (xs : List ℕ) → list_all p xs ≡ true → list_all p (drop n xs) ≡ true
+all_dropped p zero xs all = all
+all_dropped p (suc n) [] all = refl
+all_dropped p (suc n) (x ∷ xs) all = all_dropped p n xs (and_parts (p x) (list_all p xs) all).1
+
+-- the seconds with their zeros are read as the seconds
+seconds_after : (n : ℕ) → n ≤ 253402300799 → decimal_after 0 (second_digits n) ≡ Some n
+seconds_after n few =
+    zeros_read (drop (length (decimal n)) (codes "0000000000")) (decimal n) (all_dropped (λ b. b == 48) (length (decimal n)) (codes "0000000000") refl)
+    ∙ (decimal_reads n (omega arith)).0
+
+length-seconds : (n : ℕ) → n ≤ 253402300799 → (0 < length (second_digits n)) × (length (second_digits n) ≤ 12)
+length-seconds n few =
+    let whole = length-append (drop (length (decimal n)) (codes "0000000000")) (decimal n) in
+    let zeros : length (drop (length (decimal n)) (codes "0000000000")) ≡ 10 - length (decimal n) = length-drop (length (decimal n)) (codes "0000000000") in
+    let some = decimal_nonempty n (omega arith) in
+    let most = seconds_short n few in
+    (omega arith, omega arith)
+
+number_read : (most n : ℕ) (text : List ℕ) → 0 < length text → length text ≤ most → decimal_after 0 text ≡ Some n → decimal_number most text ≡ Some n
+unfolding decimal_number
+number_read most n text some few e =
+    let a : ltb 0 (length text) ≡ true = lt-ltb 0 (length text) some in
+    let b : leb (length text) most ≡ true = le-leb (length text) most few in
+    rw (a, b) e
+
+digit_read : (d : ℕ) → d < 10 → decimal_digit (48 + d) ≡ Some d
+unfolding decimal_digit
+digit_read d small =
+    let low : leb 48 (48 + d) ≡ true = le-leb 48 (48 + d) (omega arith) in
+    let high : leb (48 + d) 57 ≡ true = le-leb (48 + d) 57 (omega arith) in
+    let value : 48 + d - 48 ≡ d = omega arith in
+    rw (low, high, value) refl
+
+one_more : (before d : ℕ) (text : List ℕ) → d < 10 → decimal_after before ((48 + d) ∷ text) ≡ decimal_after (10 * before + d) text
+unfolding decimal_after
+one_more before d text small = rw (digit_read d small) refl
+
+none_more : (before : ℕ) → decimal_after before [] ≡ Some before
+unfolding decimal_after
+none_more before = refl
+
+millis_after : (n : ℕ) (more : List ℕ) → n ≤ 999 → decimal_after 0 (millis_digits n ++ more) ≡ decimal_after n more
+millis_after n more few =
+    let value : 10 * (10 * (10 * 0 + n / 100) + n % 100 / 10) + n % 100 % 10 ≡ n = omega arith in
+    one_more 0 (n / 100) ((48 + n % 100 / 10) ∷ (48 + n % 100 % 10) ∷ more) (omega arith)
+    ∙ one_more (10 * 0 + n / 100) (n % 100 / 10) ((48 + n % 100 % 10) ∷ more) (omega arith)
+    ∙ one_more (10 * (10 * 0 + n / 100) + n % 100 / 10) (n % 100 % 10) more (omega arith)
+    ∙ ap (λ k. decimal_after k more) value
+
+fraction_after : (n : ℕ) → n ≤ 999 → decimal_after 0 (millis_digits n ++ codes "000") ≡ Some (10 * (10 * (10 * n + 0) + 0) + 0)
+fraction_after n few =
+    millis_after n (codes "000") few ∙ one_more n 0 (codes "00") (omega arith) ∙ one_more (10 * n + 0) 0 (codes "0") (omega arith) ∙ one_more (10 * (10 * n + 0) + 0) 0 [] (omega arith) ∙ none_more (10 * (10 * (10 * n + 0) + 0) + 0)
+
+no_digit : (c : ℕ) → (is_ascii_digit c ≡ false) → (b : ℕ) → is_ascii_digit b ≡ true → (b == c) ≡ false
+no_digit c other b digit = elim (cases_Bool (b == c)) [ inl same ↦ absurd (let e : b ≡ c = eqb-true b c same in let both = rw e at digit in cc) | inr differs ↦ differs ]
+
+-- what stands between the parentheses is read as the moment
+moment_read : (seen : Moment) → IsMoment seen → moment (second_digits seen.seconds ++ (46 ∷ (millis_digits seen.millis ++ codes "000"))) ≡ Some seen
+unfolding moment three_digits
+moment_read seen fits =
+    let seconds = seconds_after seen.seconds fits.seconds_fit in
+    let lengths = length-seconds seen.seconds fits.seconds_fit in
+    let none = none_of is_ascii_digit (λ b. b == 46) (no_digit 46 refl) (second_digits seen.seconds) (digits_alone 0 seen.seconds (second_digits seen.seconds) seconds) in
+    let whole = number_read 12 seen.seconds (second_digits seen.seconds) lengths.0 lengths.1 seconds in
+    let fraction = number_read 9 (10 * (10 * (10 * seen.millis + 0) + 0) + 0) (millis_digits seen.millis ++ codes "000") (omega arith) (omega arith) (fraction_after seen.millis fits.millis_fit) in
+    let millis = number_read 3 seen.millis (millis_digits seen.millis) (omega arith) (omega arith) (millis_after seen.millis [] fits.millis_fit ∙ none_more seen.millis) in
+    let last : leb seen.seconds 253402300799 ≡ true = le-leb _ _ fits.seconds_fit in
+    rw (cut_behind 46 (second_digits seen.seconds) (millis_digits seen.millis ++ codes "000") none, whole, fraction, millis, last) refl
+
+-- ---- hexadecimal digits
+
+upper_hex : (d : ℕ) → d < 16 → is_ascii_hexdigit (slice_index upper_digits d) ≡ true
+upper_hex d small =
+    elim (cases_Bool (is_ascii_hexdigit (slice_index upper_digits d))) [
+      | inl hex ↦ hex
+      | inr other ↦ absurd (let none = hex_digit_value-none (slice_index upper_digits d) other in let some = IsDigits-upper_digits d small in cc)
+    ]
+
+upper_hexes : (bytes : List ℕ) → IsBytes bytes → list_all is_ascii_hexdigit (encode_upper bytes) ≡ true
+unfolding encode_with
+upper_hexes [] ok = refl
+upper_hexes (b ∷ bytes) ok =
+    let small : b < 256 = ok 0 in
+    let high : is_ascii_hexdigit (slice_index upper_digits (b / 16)) ≡ true = upper_hex (b / 16) (omega arith) in
+    let low : is_ascii_hexdigit (slice_index upper_digits (b % 16)) ≡ true = upper_hex (b % 16) (omega arith) in
+    rw (high, low) (upper_hexes bytes (λ i. ok (suc i)))
+
+no_hex : (c : ℕ) → is_ascii_hexdigit c ≡ false → (b : ℕ) → is_ascii_hexdigit b ≡ true → (b == c) ≡ false
+no_hex c other b hex = elim (cases_Bool (b == c)) [ inl same ↦ absurd (let e : b ≡ c = eqb-true b c same in let both = rw e at hex in cc) | inr differs ↦ differs ]
+
+no_hex_in : (c : ℕ) → is_ascii_hexdigit c ≡ false → (text : List ℕ) → list_all is_ascii_hexdigit text ≡ true → HasNone (λ b. b == c) text
+no_hex_in c other text all = none_of is_ascii_hexdigit (λ b. b == c) (no_hex c other) text all
+
+-- ---- the parts behind the stamp
+
+no_space_in_name : (b : ℕ) → is_interface_byte b ≡ true → (b == 32) ≡ false
+no_space_in_name b ok = elim (cases_Bool (b == 32)) [ inl same ↦ absurd (let e : b ≡ 32 = eqb-true b 32 same in let both = rw e at ok in cc) | inr differs ↦ differs ]
+
+name_parts : (name : List ℕ) → is_interface name ≡ true → (0 < length name) × (length name ≤ 15) × (list_all is_interface_byte name ≡ true)
+unfolding is_interface
+name_parts name ok =
+    let outer = and_parts (ltb 0 (length name) && leb (length name) 15) (list_all is_interface_byte name) ok in
+    let inner = and_parts (ltb 0 (length name)) (leb (length name) 15) outer.0 in
+    (ltb-true 0 (length name) inner.0, leb-true (length name) 15 inner.1, outer.1)
+
+framed_read : (name digits behind : List ℕ) → is_interface name ≡ true → 0 < length digits → list_all is_ascii_hexdigit digits ≡ true
+    → framed (32 ∷ (name ++ (32 ∷ (digits ++ (35 ∷ behind))))) ≡ Some (digits, behind)
+unfolding framed after_byte
+framed_read name digits behind ok some hex =
+    let parts = name_parts name ok in
+    let none = none_of is_interface_byte (λ b. b == 32) no_space_in_name name parts.2 in
+    rw (no_space_in_front name (32 ∷ (digits ++ (35 ∷ behind))) parts.0 none, cut_behind 32 name (digits ++ (35 ∷ behind)) none, ok, no_space_in_front digits (35 ∷ behind) some (no_hex_in 32 refl digits hex), cut_behind 35 digits behind (no_hex_in 35 refl digits hex)) refl
+
+word_bytes : (n : ℕ) → IsBytes (to_be_bytes w32 n)
+word_bytes n zero = omega arith
+word_bytes n (suc zero) = omega arith
+word_bytes n (suc (suc zero)) = omega arith
+word_bytes n (suc (suc (suc zero))) = omega arith
+word_bytes n (suc (suc (suc (suc i)))) = omega arith
+
+identifier_read : (n : ℕ) → n < 2 ^ 29 → identifier (encode_upper (to_be_bytes w32 n)) ≡ Ok (Some n)
+unfolding identifier
+identifier_read n bits =
+    let small : ltb n 0x20000000 ≡ true = lt-ltb n 0x20000000 bits in
+    let eight : length (encode_upper (to_be_bytes w32 n)) ≡ 8 = length-encode_with upper_digits (to_be_bytes w32 n) in
+    rw (decode_of-encode_upper (to_be_bytes w32 n) (word_bytes n), upper_hexes (to_be_bytes w32 n) (word_bytes n), eight, from_be_bytes-to_be_bytes_4 n (omega arith), small) refl
+
+no_other_frame : (text : List ℕ) → list_all is_ascii_hexdigit text ≡ true → is_other_frame text ≡ false
+unfolding is_other_frame
+no_other_frame [] all = refl
+no_other_frame (b ∷ text) all =
+    let hex = (and_parts (is_ascii_hexdigit b) (list_all is_ascii_hexdigit text) all).0 in
+    rw (no_hex 35 refl b hex, no_hex 82 refl b hex, no_hex 114 refl b hex) refl
+
+no_ending : is_ending [] ≡ true
+unfolding is_ending
+no_ending = refl
+
+payload_read : (bytes : List ℕ) → IsBytes bytes → length bytes ≤ 8 → payload (encode_upper bytes) ≡ Some bytes
+unfolding payload
+payload_read bytes ok short =
+    let hex = upper_hexes bytes ok in
+    let len : digits_len (encode_upper bytes) ≡ length (encode_upper bytes) = sym (all_digits is_ascii_hexdigit (encode_upper bytes) hex) in
+    let few : leb (length (encode_upper bytes)) (2 * 8) ≡ true = le-leb _ _ (omega (arith, length-encode_with upper_digits bytes)) in
+    rw (len, few, drop-length (encode_upper bytes), no_ending, take-length (encode_upper bytes), decode_of-encode_upper bytes ok) refl
+
+frame_read : (seen : Moment) (n : ℕ) (bytes : List ℕ) → IsBytes bytes → length bytes ≤ 8
+    → frame_of seen (Some n) (encode_upper bytes) ≡ Ok (entries.Frame (record { stamp = utc_text seen; id = split n; payload = bytes }))
+unfolding frame_of
+frame_read seen n bytes ok short = rw (no_other_frame (encode_upper bytes) (upper_hexes bytes ok), payload_read bytes ok short) refl
+
+-- ---- the line
+
+stamped_read : (seen : Moment) (rest : List ℕ) → IsMoment seen
+    → stamped (40 ∷ ((second_digits seen.seconds ++ (46 ∷ (millis_digits seen.millis ++ codes "000"))) ++ (41 ∷ rest))) ≡ Some (second_digits seen.seconds ++ (46 ∷ (millis_digits seen.millis ++ codes "000")), rest)
+unfolding stamped after_byte
+stamped_read seen rest fits =
+    let seconds = digits_alone 0 seen.seconds (second_digits seen.seconds) (seconds_after seen.seconds fits.seconds_fit) in
+    let fraction = digits_alone 0 (10 * (10 * (10 * seen.millis + 0) + 0) + 0) (millis_digits seen.millis ++ codes "000") (fraction_after seen.millis fits.millis_fit) in
+    let front = none_of is_ascii_digit (λ b. b == 41) (no_digit 41 refl) (second_digits seen.seconds) seconds in
+    let behind : HasNone (λ b. b == 41) (46 ∷ (millis_digits seen.millis ++ codes "000")) = none_of is_ascii_digit (λ b. b == 41) (no_digit 41 refl) (millis_digits seen.millis ++ codes "000") fraction in
+    let none : HasNone (λ b. b == 41) (second_digits seen.seconds ++ (46 ∷ (millis_digits seen.millis ++ codes "000"))) = rw (list_all-append (λ b. not (b == 41)) (second_digits seen.seconds) (46 ∷ (millis_digits seen.millis ++ codes "000")), front) behind in
+    cut_behind 41 (second_digits seen.seconds ++ (46 ∷ (millis_digits seen.millis ++ codes "000"))) rest none
+
+grouped : (seconds millis name digits behind : List ℕ)
+    → (codes "(" ++ seconds ++ codes "." ++ millis ++ codes "000) " ++ name ++ codes " " ++ digits ++ codes "#" ++ behind)
+    ≡ 40 ∷ ((seconds ++ (46 ∷ (millis ++ codes "000"))) ++ (41 ∷ (32 ∷ (name ++ (32 ∷ (digits ++ (35 ∷ behind)))))))
+grouped seconds millis name digits behind = simp append_assoc
+
+-- a line that begins as candump's do
+candump_entry : (rest : List ℕ) (packing : Packing) → length (40 ∷ rest) ≤ 2048 → entry (40 ∷ rest) packing ≡ settled (candump (40 ∷ rest))
+unfolding entry
+candump_entry rest packing short =
+    let fits : ltb 2048 (length (40 ∷ rest)) ≡ false = le-ltb 2048 (length (40 ∷ rest)) short in
+    rw fits refl
+
+candump_by : (line outer text digits behind : List ℕ) (seen : Moment) (n : ℕ) (found : Entry) → stamped line ≡ Some (outer, text) → moment outer ≡ Some seen → framed text ≡ Some (digits, behind)
+    → identifier digits ≡ Ok (Some n) → frame_of seen (Some n) behind ≡ Ok found → candump line ≡ Ok found
+unfolding candump
+candump_by line outer text digits behind seen n found es em ef ei er = rw (es, em, ef, ei, er) refl
+
+module _ (p : PacketParts) (name : List ℕ) (packing : Packing) (seen : Moment) (n : ℕ) (ok : IsPacketParts p) (short : length p.payload ≤ 8) (named : is_interface name ≡ true) (stamp : utc_moment p.stamp ≡ Some seen) (joined : join p.id ≡ Some n) where
+  digits : List ℕ
+  digits = encode_upper (to_be_bytes w32 n)
+
+  behind : List ℕ
+  behind = encode_upper p.payload
+
+  outer : List ℕ
+  outer = second_digits seen.seconds ++ (46 ∷ (millis_digits seen.millis ++ codes "000"))
+
+  text : List ℕ
+  text = 32 ∷ (name ++ (32 ∷ (digits ++ (35 ∷ behind))))
+
+  line_is : candump_line name seen n p.payload ≡ 40 ∷ (outer ++ (41 ∷ text))
+  unfolding candump_line digits behind outer text
+  line_is = grouped (second_digits seen.seconds) (millis_digits seen.millis) name (encode_upper (to_be_bytes w32 n)) (encode_upper p.payload)
+
+  utc : (utc_text seen ≡ p.stamp) × IsMoment seen
+  utc = utc_back p.stamp seen stamp
+
+  bits : n < 2 ^ 29
+  bits = join_bits p.id n (omega (arith, ok.src_ok)) (omega (arith, ok.dst_ok)) joined
+
+  line_short : length (40 ∷ (outer ++ (41 ∷ text))) ≤ 2048
+  unfolding digits behind outer text
+  line_short =
+      let a = length-append (second_digits seen.seconds ++ (46 ∷ (millis_digits seen.millis ++ codes "000"))) (41 ∷ (32 ∷ (name ++ (32 ∷ (encode_upper (to_be_bytes w32 n) ++ (35 ∷ encode_upper p.payload)))))) in
+      let b = length-append (second_digits seen.seconds) (46 ∷ (millis_digits seen.millis ++ codes "000")) in
+      let c = length-append name (32 ∷ (encode_upper (to_be_bytes w32 n) ++ (35 ∷ encode_upper p.payload))) in
+      let d = length-append (encode_upper (to_be_bytes w32 n)) (35 ∷ encode_upper p.payload) in
+      let e = length-encode_with upper_digits (to_be_bytes w32 n) in
+      let f = length-encode_with upper_digits p.payload in
+      let g = length-seconds seen.seconds utc.1.seconds_fit in
+      let h = name_parts name named in
+      omega arith
+
+  candump_is : candump (40 ∷ (outer ++ (41 ∷ text))) ≡ Ok (entries.Frame (record { stamp = utc_text seen; id = split n; payload = p.payload }))
+  unfolding digits behind outer text
+  candump_is =
+      let some : 0 < length (encode_upper (to_be_bytes w32 n)) = omega (arith, length-encode_with upper_digits (to_be_bytes w32 n)) in
+      candump_by _ _ _ _ _ seen n _
+      (stamped_read seen (32 ∷ (name ++ (32 ∷ (encode_upper (to_be_bytes w32 n) ++ (35 ∷ encode_upper p.payload))))) utc.1)
+      (moment_read seen utc.1)
+      (framed_read name (encode_upper (to_be_bytes w32 n)) (encode_upper p.payload) named some (upper_hexes (to_be_bytes w32 n) (word_bytes n)))
+      (identifier_read n bits)
+      (frame_read seen n p.payload ok.bytes_ok short)
+
+  same : (record { stamp = utc_text seen; id = split n; payload = p.payload }) ≡ p
+  same =
+      let id = join_split p.id n (omega (arith, ok.src_ok)) (omega (arith, ok.dst_ok)) joined in
+      rw (utc.0, id) refl
+
+  pub line_back : entry (candump_line name seen n p.payload) packing ≡ entries.Frame p
+  line_back =
+      rw line_is
+      (candump_entry (outer ++ (41 ∷ text)) packing line_short
+      ∙ ap settled candump_is
+      ∙ ap (λ q. entries.Frame q) same)
+
+abbrev parts_by : Option Moment → Option ℕ → Result (Moment × ℕ) WireFault
+parts_by stamp joined = do
+  seen ← or_cause NoStamp stamp
+  n ← or_cause NoId joined
+  Ok (seen, n)
+
+abbrev text_by : List ℕ → List ℕ → Result (Moment × ℕ) WireFault → Result (List ℕ) WireFault
+text_by name bytes found = found >>= (λ parts. Ok (candump_line name parts.0 parts.1 bytes ++ codes "\n"))
+
+-- by what stands in front of the data
+by_parts : (p : PacketParts) (name line : List ℕ) (packing : Packing) (seen : Option Moment) (n : Option ℕ) → seen ≡ utc_moment p.stamp → n ≡ join p.id
+    → IsPacketParts p → length p.payload ≤ 8 → is_interface name ≡ true
+    → text_by name p.payload (parts_by seen n) ≡ Ok (line ++ codes "\n")
+    → entry line packing ≡ entries.Frame p
+by_parts p name line packing None n stamp joined ok short named e = absurd cc
+by_parts p name line packing (Some seen) None stamp joined ok short named e = absurd cc
+by_parts p name line packing (Some seen) (Some n) stamp joined ok short named e =
+    let texts : candump_line name seen n p.payload ++ codes "\n" ≡ line ++ codes "\n" = cc in
+    let same = append_cancel_right (candump_line name seen n p.payload) line (codes "\n") texts in
+    rw (← same) (line_back p name packing seen n ok short named (sym stamp) (sym joined))
+
+pub candump_reads_back : (p : PacketParts) (name line : List ℕ) (packing : Packing) → IsPacketParts p → length p.payload ≤ 8 → IsTrue (is_interface name) → candump_text name p ≡ Ok (line ++ codes "\n") → entry line packing ≡ entries.Frame p
+unfolding candump_parts
+candump_reads_back p name line packing ok short named e = by_parts p name line packing (utc_moment p.stamp) (join p.id) refl refl ok short named e

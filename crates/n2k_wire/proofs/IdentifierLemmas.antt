@@ -1,0 +1,153 @@
+-- An identifier and what it says, both ways.
+use Rattle.std.proofs.Common.{◌≡◌, ℕ, ◌+◌, ◌*◌, ◌/◌, ◌%◌, ◌^◌, ◌<◌, true, false, Some, refl, ap, sym, ◌∙◌, ltb, arith, inl, inr}
+use Rattle.std.specs.Prelude.{◌==◌, if◌then◌else◌}
+use Rattle.std.proofs.lemmas.Bool.{and_parts, cases_Bool, lt-ltb, ltb-true, eq-eqb, eqb-true}
+use Rattle.n2k_wire.specs.declared.identifier.Id.{Id}
+use Rattle.n2k_wire.specs.Identifier.{split, join, is_joinable, is_addressed, format_of, low_byte, specific_of, source, pdu_specific, pdu_format, data_page, priority, everyone}
+
+-- the parts of a sum of priority, page and format, specific byte and source
+module _ (p g s a : ℕ) (p_fits : p < 8) (g_fits : g < 1024) (s_fits : s < 256) (a_fits : a < 256) where
+  pub source_is : source (p * 2 ^ 26 + g * 2 ^ 16 + s * 2 ^ 8 + a) ≡ a
+  source_is = omega arith
+
+  pub specific_is : pdu_specific (p * 2 ^ 26 + g * 2 ^ 16 + s * 2 ^ 8 + a) ≡ s
+  specific_is = omega arith
+
+  pub format_is : pdu_format (p * 2 ^ 26 + g * 2 ^ 16 + s * 2 ^ 8 + a) ≡ g % 2 ^ 8
+  format_is = omega arith
+
+  pub page_is : data_page (p * 2 ^ 26 + g * 2 ^ 16 + s * 2 ^ 8 + a) ≡ g / 2 ^ 8
+  page_is = omega arith
+
+  pub priority_is : priority (p * 2 ^ 26 + g * 2 ^ 16 + s * 2 ^ 8 + a) ≡ p
+  priority_is = omega arith
+
+same_id : (a b : Id) → a.prio ≡ b.prio → a.pgn ≡ b.pgn → a.src ≡ b.src → a.dst ≡ b.dst → a ≡ b
+same_id a b prio pgn src dst =
+    let whole : (record { prio = a.prio; pgn = a.pgn; src = a.src; dst = a.dst }) ≡ b = rw (prio, pgn, src, dst) refl in whole
+
+-- what an identifier says, where it is for one address and where it is for all
+split_addressed : (n : ℕ) → ltb (pdu_format n) 240 ≡ true
+    → (id : Id) → priority n ≡ id.prio → data_page n * 2 ^ 16 + pdu_format n * 2 ^ 8 ≡ id.pgn → source n ≡ id.src → pdu_specific n ≡ id.dst → split n ≡ id
+unfolding split
+split_addressed n test id prio pgn src dst = rw test (same_id _ id prio pgn src dst)
+
+split_broadcast : (n : ℕ) → ltb (pdu_format n) 240 ≡ false
+    → (id : Id) → priority n ≡ id.prio → data_page n * 2 ^ 16 + pdu_format n * 2 ^ 8 + pdu_specific n ≡ id.pgn → source n ≡ id.src → everyone ≡ id.dst → split n ≡ id
+unfolding split
+split_broadcast n test id prio pgn src dst = rw test (same_id _ id prio pgn src dst)
+
+-- the number of an identifier that says this
+abbrev number_of : Id → ℕ
+number_of id = id.prio * 2 ^ 26 + id.pgn / 2 ^ 8 * 2 ^ 16 + specific_of id * 2 ^ 8 + id.src
+
+join_none : (id : Id) (n : ℕ) → is_joinable id ≡ false → join id ≡ Some n → ⊥
+unfolding join
+join_none id n fails e = let none = rw fails at e in cc
+
+join_some : (id : Id) → is_joinable id ≡ true → join id ≡ Some (number_of id)
+unfolding join
+join_some id holds = rw holds refl
+
+-- what stands where an identifier says this
+abbrev Joinable : Id → Type 0
+Joinable id = (id.prio < 8) × (id.pgn < 2 ^ 18) × ((if is_addressed id.pgn then low_byte id.pgn == 0 else id.dst == everyone) ≡ true)
+
+joinable : (id : Id) → is_joinable id ≡ true → Joinable id
+unfolding is_joinable
+joinable id holds =
+    let outer = and_parts _ _ holds in
+    let inner = and_parts _ _ outer.0 in
+    (ltb-true _ _ inner.0, ltb-true _ _ inner.1, outer.1)
+
+split_number : (id : Id) → id.src < 2 ^ 8 → id.dst < 2 ^ 8 → Joinable id → split (number_of id) ≡ id
+split_number id src dst facts =
+    elim (cases_Bool (is_addressed id.pgn)) [
+      | inl one ↦
+          let low : low_byte id.pgn ≡ 0 = eqb-true _ _ (rw one at facts.2) in
+          let specific : specific_of id ≡ id.dst = rw one refl in
+          let s : specific_of id < 256 = omega arith in
+          let g : id.pgn / 2 ^ 8 < 1024 = omega (arith, facts.1) in
+          let format = format_is id.prio (id.pgn / 2 ^ 8) (specific_of id) id.src facts.0 g s src in
+          let page = page_is id.prio (id.pgn / 2 ^ 8) (specific_of id) id.src facts.0 g s src in
+          split_addressed (number_of id) (rw format one) id
+          (priority_is id.prio (id.pgn / 2 ^ 8) (specific_of id) id.src facts.0 g s src)
+          (rw (format, page) (omega arith))
+          (source_is id.prio (id.pgn / 2 ^ 8) (specific_of id) id.src facts.0 g s src)
+          (specific_is id.prio (id.pgn / 2 ^ 8) (specific_of id) id.src facts.0 g s src ∙ specific)
+      | inr all ↦
+          let everyone_is : id.dst ≡ everyone = eqb-true _ _ (rw all at facts.2) in
+          let specific : specific_of id ≡ low_byte id.pgn = rw all refl in
+          let s : specific_of id < 256 = omega arith in
+          let g : id.pgn / 2 ^ 8 < 1024 = omega (arith, facts.1) in
+          let format = format_is id.prio (id.pgn / 2 ^ 8) (specific_of id) id.src facts.0 g s src in
+          let page = page_is id.prio (id.pgn / 2 ^ 8) (specific_of id) id.src facts.0 g s src in
+          let low = specific_is id.prio (id.pgn / 2 ^ 8) (specific_of id) id.src facts.0 g s src ∙ specific in
+          split_broadcast (number_of id) (rw format all) id
+          (priority_is id.prio (id.pgn / 2 ^ 8) (specific_of id) id.src facts.0 g s src)
+          (rw (format, page, low) (omega arith))
+          (source_is id.prio (id.pgn / 2 ^ 8) (specific_of id) id.src facts.0 g s src)
+          (sym everyone_is)
+    ]
+
+pub join_split : (id : Id) (n : ℕ) → id.src < 2 ^ 8 → id.dst < 2 ^ 8 → join id ≡ Some n → split n ≡ id
+join_split id n src dst e =
+    elim (cases_Bool (is_joinable id)) [
+      | inl holds ↦
+          let number : number_of id ≡ n = let same = sym (join_some id holds) ∙ e in cc in
+          rw (← number) (split_number id src dst (joinable id holds))
+      | inr fails ↦ absurd (join_none id n fails e)
+    ]
+
+-- an identifier has 29 bits
+pub join_bits : (id : Id) (n : ℕ) → id.src < 2 ^ 8 → id.dst < 2 ^ 8 → join id ≡ Some n → n < 2 ^ 29
+join_bits id n src dst e =
+    elim (cases_Bool (is_joinable id)) [
+      | inl holds ↦
+          let number : number_of id ≡ n = let same = sym (join_some id holds) ∙ e in cc in
+          let facts = joinable id holds in
+          let specific : specific_of id < 256 = elim (cases_Bool (is_addressed id.pgn)) [ inl one ↦ rw one dst | inr all ↦ rw all (omega arith) ] in
+          omega (arith, facts.0, facts.1)
+      | inr fails ↦ absurd (join_none id n fails e)
+    ]
+
+-- a PGN with its page, its format and its low byte
+format_is_of : (page format low : ℕ) → format < 256 → low < 256 → format_of (page * 2 ^ 16 + format * 2 ^ 8 + low) ≡ format
+format_is_of page format low f l = omega arith
+
+joins : (id : Id) (n : ℕ) → id.prio < 8 → id.pgn < 2 ^ 18 → (if is_addressed id.pgn then low_byte id.pgn == 0 else id.dst == everyone) ≡ true → number_of id ≡ n → join id ≡ Some n
+unfolding is_joinable
+joins id n prio pgn rest number =
+    let p : ltb id.prio (2 ^ 3) ≡ true = lt-ltb _ _ prio in
+    let g : ltb id.pgn (2 ^ 18) ≡ true = lt-ltb _ _ pgn in
+    join_some id (rw (p, g) rest) ∙ ap Some number
+
+module _ (n : ℕ) (bits : n < 2 ^ 29) where
+  one_address : Id
+  one_address = record { prio = priority n; pgn = data_page n * 2 ^ 16 + pdu_format n * 2 ^ 8; src = source n; dst = pdu_specific n }
+
+  for_all : Id
+  for_all = record { prio = priority n; pgn = data_page n * 2 ^ 16 + pdu_format n * 2 ^ 8 + pdu_specific n; src = source n; dst = everyone }
+
+  joins_one : ltb (pdu_format n) 240 ≡ true → join one_address ≡ Some n
+  unfolding one_address
+  joins_one test =
+      let format : format_of (data_page n * 2 ^ 16 + pdu_format n * 2 ^ 8) ≡ pdu_format n = omega arith in
+      let addressed : is_addressed (data_page n * 2 ^ 16 + pdu_format n * 2 ^ 8) ≡ true = rw format test in
+      let low : (low_byte (data_page n * 2 ^ 16 + pdu_format n * 2 ^ 8) == 0) ≡ true = eq-eqb _ _ (omega arith) in
+      joins one_address n (omega arith) (omega arith) (rw addressed low) (rw addressed (omega arith))
+
+  joins_all : ltb (pdu_format n) 240 ≡ false → join for_all ≡ Some n
+  unfolding for_all
+  joins_all test =
+      let format : format_of (data_page n * 2 ^ 16 + pdu_format n * 2 ^ 8 + pdu_specific n) ≡ pdu_format n = omega arith in
+      let broadcast : is_addressed (data_page n * 2 ^ 16 + pdu_format n * 2 ^ 8 + pdu_specific n) ≡ false = rw format test in
+      joins for_all n (omega arith) (omega arith) (rw broadcast refl) (rw broadcast (omega arith))
+
+  pub split_join : join (split n) ≡ Some n
+  unfolding split one_address for_all
+  split_join =
+      elim (cases_Bool (ltb (pdu_format n) 240)) [
+        | inl one ↦ rw one (joins_one one)
+        | inr all ↦ rw all (joins_all all)
+      ]

@@ -1,0 +1,320 @@
+-- The text `YYYY-MM-DDTHH:MM:SS.mmmZ` of the moment that such a text names is that text.
+use Rattle.std.proofs.Common.{◌≡◌, ℕ, suc, ◌+◌, ◌-◌, ◌*◌, ◌/◌, ◌%◌, ◌<◌, ◌≤◌, Bool, true, false, List, [], ◌∷◌, ◌++◌, length, take, drop, Option, Some, None, refl, sym, ap, subst, ◌∙◌, append_assoc, arith, ltb, leb, pos, inl, inr}
+use Rattle.std.specs.Prelude.{codes, option_and_then, slice_index, ◌&&◌, ◌==◌}
+use Rattle.std.specs.Char.{is_ascii_digit}
+use Rattle.std.proofs.lemmas.Bool.{and_parts, cases_Bool, eqb-true, leb-true, ltb-true}
+use Rattle.std.proofs.lemmas.List.{take-append-drop, drop-drop, drop_all, length-take-le, length-drop}
+use Rattle.std.proofs.Math.Seq.{drop-cons}
+use Rattle.jiff_core.specs.Calendar.{IsCivilDate, days_in_month}
+use Rattle.jiff_core.proofs.SignedLemmas.{signed_arith}
+use Rattle.n2k_wire.specs.Calendar.{day_number, is_date, year_of, month_of, day_of_month}
+use Rattle.n2k_wire.specs.Digits.{decimal_digit, decimal_after, decimal_number}
+use Rattle.n2k_wire.specs.Stamp.{Moment, IsMoment, two_digits, four_digits, millis_digits, date_text, time_text, utc_text, has_utc_form, number_at, day_at_start, second_behind_date, utc_moment}
+use Rattle.n2k_wire.specs.Steps.{some_if}
+use Rattle.n2k_wire.proofs.CalendarLemmas.{IsDateOf, date_of_number, to_last_day}
+
+-- ---- steps that found something
+
+pub then_some : {A B : Type 0} (o : Option A) (f : A → Option B) (y : B) → option_and_then f o ≡ Some y → (x : A) × (o ≡ Some x) × (f x ≡ Some y)
+then_some None f y e = absurd cc
+then_some (Some x) f y e = (x, refl, e)
+
+-- what follows from the first step's value follows
+pub with_some : {A B : Type 0} {P : Type 0} (o : Option A) (f : A → Option B) (y : B) → option_and_then f o ≡ Some y → ((x : A) → o ≡ Some x → f x ≡ Some y → P) → P
+with_some None f y e follows = absurd cc
+with_some (Some x) f y e follows = follows x refl e
+
+pub if_some : {A : Type 0} (test : Bool) (x y : A) → some_if test x ≡ Some y → (test ≡ true) × (x ≡ y)
+if_some true x y e = (refl, let same : x ≡ y = cc in same)
+if_some false x y e = absurd cc
+
+-- ---- digits
+
+-- a digit and its value
+digit_is : (b d : ℕ) → decimal_digit b ≡ Some d → (b ≡ 48 + d) × (d < 10)
+unfolding decimal_digit
+digit_is b d e =
+    elim (cases_Bool (is_ascii_digit b)) [
+      | inl digit ↦
+          let parts = and_parts (leb 48 b) (leb b 57) digit in
+          let low = leb-true 48 b parts.0 in
+          let high = leb-true b 57 parts.1 in
+          let value : b - 48 ≡ d = let some = rw digit at e in cc in
+          (omega arith, omega arith)
+      | inr other ↦ absurd (let none = rw other at e in cc)
+    ]
+
+-- one digit, then the others
+after_cons : (before b n : ℕ) (digits : List ℕ) → decimal_after before (b ∷ digits) ≡ Some n → (d : ℕ) × (b ≡ 48 + d) × (d < 10) × (decimal_after (10 * before + d) digits ≡ Some n)
+unfolding decimal_after
+after_cons before b n digits e =
+    let step = then_some (decimal_digit b) (λ digit. decimal_after (10 * before + digit) digits) n e in
+    let digit = digit_is b step.0 step.1 in
+    (step.0, digit.0, digit.1, step.2)
+
+after_nil : (before n : ℕ) → decimal_after before [] ≡ Some n → before ≡ n
+unfolding decimal_after
+after_nil before n e = cc
+
+-- the digits of a number that was read
+number_digits : (most n : ℕ) (text : List ℕ) → decimal_number most text ≡ Some n → decimal_after 0 text ≡ Some n
+unfolding decimal_number
+number_digits most n text e =
+    elim (cases_Bool (ltb 0 (length text) && leb (length text) most)) [
+      | inl fits ↦ rw fits at e
+      | inr other ↦ absurd (let none = rw other at e in cc)
+    ]
+
+two_back : (n : ℕ) (text : List ℕ) → length text ≡ 2 → decimal_after 0 text ≡ Some n → (two_digits n ≡ text) × (n < 100)
+two_back n [] two e = absurd (omega arith)
+two_back n (a ∷ []) two e = absurd (omega arith)
+two_back n (a ∷ b ∷ []) two e =
+    let x = after_cons 0 a n (b ∷ []) e in
+    let y = after_cons (10 * 0 + x.0) b n [] x.3 in
+    let value = after_nil (10 * (10 * 0 + x.0) + y.0) n y.3 in
+    let tens : 48 + n / 10 ≡ a = omega arith in
+    let ones : 48 + n % 10 ≡ b = omega arith in
+    (rw (tens, ones) refl, omega arith)
+two_back n (a ∷ b ∷ c ∷ more) two e = absurd (omega arith)
+
+three_back : (n : ℕ) (text : List ℕ) → length text ≡ 3 → decimal_after 0 text ≡ Some n → (millis_digits n ≡ text) × (n < 1000)
+three_back n [] three e = absurd (omega arith)
+three_back n (a ∷ []) three e = absurd (omega arith)
+three_back n (a ∷ b ∷ []) three e = absurd (omega arith)
+three_back n (a ∷ b ∷ c ∷ []) three e =
+    let x = after_cons 0 a n (b ∷ c ∷ []) e in
+    let y = after_cons (10 * 0 + x.0) b n (c ∷ []) x.3 in
+    let z = after_cons (10 * (10 * 0 + x.0) + y.0) c n [] y.3 in
+    let value = after_nil (10 * (10 * (10 * 0 + x.0) + y.0) + z.0) n z.3 in
+    let hundreds : 48 + n / 100 ≡ a = omega arith in
+    let tens : 48 + n % 100 / 10 ≡ b = omega arith in
+    let ones : 48 + n % 100 % 10 ≡ c = omega arith in
+    (rw (hundreds, tens, ones) refl, omega arith)
+three_back n (a ∷ b ∷ c ∷ d ∷ more) three e = absurd (omega arith)
+
+four_back : (n : ℕ) (text : List ℕ) → length text ≡ 4 → decimal_after 0 text ≡ Some n → (four_digits n ≡ text) × (n < 10000)
+four_back n [] four e = absurd (omega arith)
+four_back n (a ∷ []) four e = absurd (omega arith)
+four_back n (a ∷ b ∷ []) four e = absurd (omega arith)
+four_back n (a ∷ b ∷ c ∷ []) four e = absurd (omega arith)
+four_back n (a ∷ b ∷ c ∷ d ∷ []) four e =
+    let x = after_cons 0 a n (b ∷ c ∷ d ∷ []) e in
+    let y = after_cons (10 * 0 + x.0) b n (c ∷ d ∷ []) x.3 in
+    let z = after_cons (10 * (10 * 0 + x.0) + y.0) c n (d ∷ []) y.3 in
+    let w = after_cons (10 * (10 * (10 * 0 + x.0) + y.0) + z.0) d n [] z.3 in
+    let value = after_nil (10 * (10 * (10 * (10 * 0 + x.0) + y.0) + z.0) + w.0) n w.3 in
+    let thousands : 48 + n / 100 / 10 ≡ a = omega arith in
+    let hundreds : 48 + n / 100 % 10 ≡ b = omega arith in
+    let tens : 48 + n % 100 / 10 ≡ c = omega arith in
+    let ones : 48 + n % 100 % 10 ≡ d = omega arith in
+    (rw (thousands, hundreds, tens, ones) refl, omega arith)
+four_back n (a ∷ b ∷ c ∷ d ∷ other ∷ more) four e = absurd (omega arith)
+
+-- ---- a text of 24 bytes, part by part
+
+length_at : (place digits : ℕ) (text : List ℕ) → place + digits ≤ length text → length (take digits (drop place text)) ≡ digits
+length_at place digits text within = length-take-le digits (drop place text) (omega (arith, length-drop place text))
+
+part_at : (place digits next : ℕ) (text : List ℕ) → place + digits ≡ next → drop place text ≡ take digits (drop place text) ++ drop next text
+part_at place digits next text e =
+    sym (take-append-drop digits (drop place text)) ∙ ap (λ xs. take digits (drop place text) ++ xs) (drop-drop digits place text ∙ ap (λ k. drop k text) e)
+
+byte_at : (place next b : ℕ) (text : List ℕ) → place + 1 ≡ next → place < length text → slice_index text place ≡ b → drop place text ≡ b ∷ drop next text
+byte_at place next b text e within is =
+    let after : suc place ≡ next = omega arith in
+    drop-cons text place 0 within ∙ (rw (is, after) refl)
+
+-- each of eight tests that hold
+eight : (a b c d e f g h : Bool) → (a && b && c && d && e && f && g && h) ≡ true → (a ≡ true) × (b ≡ true) × (c ≡ true) × (d ≡ true) × (e ≡ true) × (f ≡ true) × (g ≡ true) × (h ≡ true)
+eight a b c d e f g h all =
+    let p7 = and_parts (a && b && c && d && e && f && g) h all in
+    let p6 = and_parts (a && b && c && d && e && f) g p7.0 in
+    let p5 = and_parts (a && b && c && d && e) f p6.0 in
+    let p4 = and_parts (a && b && c && d) e p5.0 in
+    let p3 = and_parts (a && b && c) d p4.0 in
+    let p2 = and_parts (a && b) c p3.0 in
+    let p1 = and_parts a b p2.0 in
+    (p1.0, p1.1, p2.1, p3.1, p4.1, p5.1, p6.1, p7.1)
+
+-- what stands in the form of a stamp
+module _ (text : List ℕ) (form : has_utc_form text ≡ true) where
+  tests : ((length text == 24) ≡ true) × ((slice_index text 4 == 45) ≡ true) × ((slice_index text 7 == 45) ≡ true) × ((slice_index text 10 == 84) ≡ true) × ((slice_index text 13 == 58) ≡ true) × ((slice_index text 16 == 58) ≡ true) × ((slice_index text 19 == 46) ≡ true) × ((slice_index text 23 == 90) ≡ true)
+  tests = eight _ _ _ _ _ _ _ _ form
+
+  pub long : length text ≡ 24
+  long = eqb-true (length text) 24 tests.0
+
+  at_23 : drop 23 text ≡ 90 ∷ []
+  at_23 = byte_at 23 24 90 text (omega arith) (omega (arith, long)) (eqb-true (slice_index text 23) 90 tests.7) ∙ ap (λ xs. 90 ∷ xs) (drop_all 24 text (omega (arith, long)))
+
+  at_19 : drop 19 text ≡ 46 ∷ (take 3 (drop 20 text) ++ (90 ∷ []))
+  at_19 =
+      byte_at 19 20 46 text (omega arith) (omega (arith, long)) (eqb-true (slice_index text 19) 46 tests.6)
+      ∙ ap (λ xs. 46 ∷ xs) (part_at 20 3 23 text (omega arith) ∙ ap (λ xs. take 3 (drop 20 text) ++ xs) at_23)
+
+  at_16 : drop 16 text ≡ 58 ∷ (take 2 (drop 17 text) ++ (46 ∷ (take 3 (drop 20 text) ++ (90 ∷ []))))
+  at_16 =
+      byte_at 16 17 58 text (omega arith) (omega (arith, long)) (eqb-true (slice_index text 16) 58 tests.5)
+      ∙ ap (λ xs. 58 ∷ xs) (part_at 17 2 19 text (omega arith) ∙ ap (λ xs. take 2 (drop 17 text) ++ xs) at_19)
+
+  at_13 : drop 13 text ≡ 58 ∷ (take 2 (drop 14 text) ++ (58 ∷ (take 2 (drop 17 text) ++ (46 ∷ (take 3 (drop 20 text) ++ (90 ∷ []))))))
+  at_13 =
+      byte_at 13 14 58 text (omega arith) (omega (arith, long)) (eqb-true (slice_index text 13) 58 tests.4)
+      ∙ ap (λ xs. 58 ∷ xs) (part_at 14 2 16 text (omega arith) ∙ ap (λ xs. take 2 (drop 14 text) ++ xs) at_16)
+
+  at_10 : drop 10 text ≡ 84 ∷ (take 2 (drop 11 text) ++ (58 ∷ (take 2 (drop 14 text) ++ (58 ∷ (take 2 (drop 17 text) ++ (46 ∷ (take 3 (drop 20 text) ++ (90 ∷ []))))))))
+  at_10 =
+      byte_at 10 11 84 text (omega arith) (omega (arith, long)) (eqb-true (slice_index text 10) 84 tests.3)
+      ∙ ap (λ xs. 84 ∷ xs) (part_at 11 2 13 text (omega arith) ∙ ap (λ xs. take 2 (drop 11 text) ++ xs) at_13)
+
+  at_7 : drop 7 text ≡ 45 ∷ (take 2 (drop 8 text) ++ (84 ∷ (take 2 (drop 11 text) ++ (58 ∷ (take 2 (drop 14 text) ++ (58 ∷ (take 2 (drop 17 text) ++ (46 ∷ (take 3 (drop 20 text) ++ (90 ∷ []))))))))))
+  at_7 =
+      byte_at 7 8 45 text (omega arith) (omega (arith, long)) (eqb-true (slice_index text 7) 45 tests.2)
+      ∙ ap (λ xs. 45 ∷ xs) (part_at 8 2 10 text (omega arith) ∙ ap (λ xs. take 2 (drop 8 text) ++ xs) at_10)
+
+  at_4 : drop 4 text ≡ 45 ∷ (take 2 (drop 5 text) ++ (45 ∷ (take 2 (drop 8 text) ++ (84 ∷ (take 2 (drop 11 text) ++ (58 ∷ (take 2 (drop 14 text) ++ (58 ∷ (take 2 (drop 17 text) ++ (46 ∷ (take 3 (drop 20 text) ++ (90 ∷ []))))))))))))
+  at_4 =
+      byte_at 4 5 45 text (omega arith) (omega (arith, long)) (eqb-true (slice_index text 4) 45 tests.1)
+      ∙ ap (λ xs. 45 ∷ xs) (part_at 5 2 7 text (omega arith) ∙ ap (λ xs. take 2 (drop 5 text) ++ xs) at_7)
+
+  pub whole : text ≡ take 4 (drop 0 text) ++ (45 ∷ (take 2 (drop 5 text) ++ (45 ∷ (take 2 (drop 8 text) ++ (84 ∷ (take 2 (drop 11 text) ++ (58 ∷ (take 2 (drop 14 text) ++ (58 ∷ (take 2 (drop 17 text) ++ (46 ∷ (take 3 (drop 20 text) ++ (90 ∷ [])))))))))))))
+  whole = part_at 0 4 4 text (omega arith) ∙ ap (λ xs. take 4 (drop 0 text) ++ xs) at_4
+
+  -- numbers in their places, as digits
+  pub two_at : (place n : ℕ) → place + 2 ≤ 24 → number_at place 2 text ≡ Some n → (two_digits n ≡ take 2 (drop place text)) × (n < 100)
+  two_at place n within e = two_back n (take 2 (drop place text)) (length_at place 2 text (omega (arith, long))) (number_digits 2 n _ e)
+
+  pub three_at : (place n : ℕ) → place + 3 ≤ 24 → number_at place 3 text ≡ Some n → (millis_digits n ≡ take 3 (drop place text)) × (n < 1000)
+  three_at place n within e = three_back n (take 3 (drop place text)) (length_at place 3 text (omega (arith, long))) (number_digits 3 n _ e)
+
+  pub four_at : (place n : ℕ) → place + 4 ≤ 24 → number_at place 4 text ≡ Some n → (four_digits n ≡ take 4 (drop place text)) × (n < 10000)
+  four_at place n within e = four_back n (take 4 (drop place text)) (length_at place 4 text (omega (arith, long))) (number_digits 4 n _ e)
+
+-- ---- dates and times
+
+civil_of : (y m d : ℕ) → y < 10000 → is_date y m d ≡ true → (1970 ≤ y) × IsCivilDate (pos y) m d
+civil_of y m d few date =
+    let p4 = and_parts (leb 1970 y && leb 1 m && leb m 12 && leb 1 d) (leb d (days_in_month (pos y) m)) date in
+    let p3 = and_parts (leb 1970 y && leb 1 m && leb m 12) (leb 1 d) p4.0 in
+    let p2 = and_parts (leb 1970 y && leb 1 m) (leb m 12) p3.0 in
+    let p1 = and_parts (leb 1970 y) (leb 1 m) p2.0 in (
+      leb-true 1970 y p1.0,
+      (
+        (omega (arith, signed_arith), omega (arith, signed_arith)),
+        (leb-true 1 m p1.1, leb-true m 12 p2.1),
+        (leb-true 1 d p3.1, leb-true d (days_in_month (pos y) m) p4.1),
+      ),
+    )
+
+-- texts of dates and times by their numbers
+date_by : (day y m d : ℕ) → year_of day ≡ y → month_of day ≡ m → day_of_month day ≡ d → date_text day ≡ four_digits y ++ codes "-" ++ two_digits m ++ codes "-" ++ two_digits d
+date_by day y m d ey em ed = ap (λ n. four_digits n ++ codes "-" ++ two_digits (month_of day) ++ codes "-" ++ two_digits (day_of_month day)) ey ∙ ap (λ n. four_digits y ++ codes "-" ++ two_digits n ++ codes "-" ++ two_digits (day_of_month day)) em ∙ ap (λ n. four_digits y ++ codes "-" ++ two_digits m ++ codes "-" ++ two_digits n) ed
+
+time_by : (second h m s : ℕ) → second / 3600 ≡ h → second / 60 % 60 ≡ m → second % 60 ≡ s → time_text second ≡ two_digits h ++ codes ":" ++ two_digits m ++ codes ":" ++ two_digits s
+time_by second h m s eh em es = ap (λ n. two_digits n ++ codes ":" ++ two_digits (second / 60 % 60) ++ codes ":" ++ two_digits (second % 60)) eh ∙ ap (λ n. two_digits h ++ codes ":" ++ two_digits n ++ codes ":" ++ two_digits (second % 60)) em ∙ ap (λ n. two_digits h ++ codes ":" ++ two_digits m ++ codes ":" ++ two_digits n) es
+
+three_parts : (mark : List ℕ) (a b c x y z : List ℕ) → a ≡ x → b ≡ y → c ≡ z → a ++ mark ++ b ++ mark ++ c ≡ x ++ mark ++ y ++ mark ++ z
+three_parts mark a b c x y z ea eb ec = ap (λ l. l ++ mark ++ b ++ mark ++ c) ea ∙ ap (λ l. x ++ mark ++ l ++ mark ++ c) eb ∙ ap (λ l. x ++ mark ++ y ++ mark ++ l) ec
+
+three_texts : (a b c x y z : List ℕ) → a ≡ x → b ≡ y → c ≡ z → a ++ codes "T" ++ b ++ codes "." ++ c ++ codes "Z" ≡ x ++ codes "T" ++ y ++ codes "." ++ z ++ codes "Z"
+three_texts a b c x y z ea eb ec = ap (λ l. l ++ codes "T" ++ b ++ codes "." ++ c ++ codes "Z") ea ∙ ap (λ l. x ++ codes "T" ++ l ++ codes "." ++ c ++ codes "Z") eb ∙ ap (λ l. x ++ codes "T" ++ y ++ codes "." ++ l ++ codes "Z") ec
+
+text_by : (seen : Moment) (date time fraction : List ℕ) → date ≡ date_text (seen.seconds / 86400) → time ≡ time_text (seen.seconds % 86400) → fraction ≡ millis_digits seen.millis
+    → utc_text seen ≡ date ++ codes "T" ++ time ++ codes "." ++ fraction ++ codes "Z"
+unfolding utc_text
+text_by seen date time fraction ed et ef = sym (three_texts date time fraction _ _ _ ed et ef)
+
+same_pos : (a b : ℕ) → pos a ≡ pos b → a ≡ b
+same_pos a b e = cc
+
+module _ (text : List ℕ) (form : has_utc_form text ≡ true) where
+  abbrev DateStands : ℕ → Type 0
+  DateStands day = (date_text day ≡ take 4 (drop 0 text) ++ codes "-" ++ take 2 (drop 5 text) ++ codes "-" ++ take 2 (drop 8 text)) × (day ≤ 2_932_896)
+
+  date_found : (y m d day : ℕ) → number_at 0 4 text ≡ Some y → number_at 5 2 text ≡ Some m → number_at 8 2 text ≡ Some d
+      → some_if (is_date y m d) (day_number y m d) ≡ Some day → DateStands day
+  date_found y m d day ey em ed e =
+      let found = if_some (is_date y m d) (day_number y m d) day e in
+      let years = four_at text form 0 y (omega arith) ey in
+      let months = two_at text form 5 m (omega arith) em in
+      let days = two_at text form 8 d (omega arith) ed in
+      let civil = civil_of y m d years.1 found.0 in
+      let date : IsDateOf day (pos y) m d = subst (λ n. IsDateOf n (pos y) m d) found.1 (date_of_number y m d civil.0 civil.1) in
+      let year_is : year_of day ≡ y = sym (same_pos y (year_of day) date.year_is) in
+      let month_is : month_of day ≡ m = sym date.month_is in
+      let day_is : day_of_month day ≡ d = sym date.day_is in (
+        date_by day y m d year_is month_is day_is ∙ three_parts (codes "-") _ _ _ _ _ _ years.0 months.0 days.0,
+        subst (λ n. n ≤ 2_932_896) found.1 (to_last_day y m d civil.0 civil.1),
+      )
+
+  -- the date that stands at the start
+  pub date_back : (day : ℕ) → day_at_start text ≡ Some day → DateStands day
+  unfolding day_at_start
+  date_back day e =
+      with_some (number_at 0 4 text) _ day e (λ y ey more. with_some (number_at 5 2 text) _ day more (λ m em most. with_some (number_at 8 2 text) _ day most (λ d ed last. date_found y m d day ey em ed last)))
+
+  abbrev TimeStands : ℕ → Type 0
+  TimeStands second = (time_text second ≡ take 2 (drop 11 text) ++ codes ":" ++ take 2 (drop 14 text) ++ codes ":" ++ take 2 (drop 17 text)) × (second < 86400)
+
+  time_found : (h m s second : ℕ) → number_at 11 2 text ≡ Some h → number_at 14 2 text ≡ Some m → number_at 17 2 text ≡ Some s
+      → some_if (ltb h 24 && ltb m 60 && ltb s 60) (h * 3600 + m * 60 + s) ≡ Some second → TimeStands second
+  time_found h m s second eh em es e =
+      let found = if_some (ltb h 24 && ltb m 60 && ltb s 60) (h * 3600 + m * 60 + s) second e in
+      let outer = and_parts (ltb h 24 && ltb m 60) (ltb s 60) found.0 in
+      let inner = and_parts (ltb h 24) (ltb m 60) outer.0 in
+      let h_small = ltb-true h 24 inner.0 in
+      let m_small = ltb-true m 60 inner.1 in
+      let s_small = ltb-true s 60 outer.1 in
+      let sum : h * 3600 + m * 60 + s ≡ second = found.1 in
+      let hours : second / 3600 ≡ h = omega (arith, sum, m_small, s_small) in
+      let minutes : second / 60 % 60 ≡ m = omega (arith, sum, m_small, s_small) in
+      let seconds : second % 60 ≡ s = omega (arith, sum, s_small) in
+      let a = two_at text form 11 h (omega arith) eh in
+      let b = two_at text form 14 m (omega arith) em in
+      let c = two_at text form 17 s (omega arith) es in (
+        time_by second h m s hours minutes seconds ∙ three_parts (codes ":") _ _ _ _ _ _ a.0 b.0 c.0,
+        omega (arith, sum, h_small, m_small, s_small),
+      )
+
+  -- and the time of the day
+  pub time_back : (second : ℕ) → second_behind_date text ≡ Some second → TimeStands second
+  unfolding second_behind_date
+  time_back second e =
+      with_some (number_at 11 2 text) _ second e (λ h eh more. with_some (number_at 14 2 text) _ second more (λ m em most. with_some (number_at 17 2 text) _ second most (λ s es last. time_found h m s second eh em es last)))
+
+-- the parts, grouped to the right
+grouped : (y m d h n s f : List ℕ)
+    → ((y ++ codes "-" ++ m ++ codes "-" ++ d) ++ codes "T" ++ (h ++ codes ":" ++ n ++ codes ":" ++ s) ++ codes "." ++ f ++ codes "Z")
+    ≡ y ++ (45 ∷ (m ++ (45 ∷ (d ++ (84 ∷ (h ++ (58 ∷ (n ++ (58 ∷ (s ++ (46 ∷ (f ++ (90 ∷ [])))))))))))))
+grouped y m d h n s f = simp append_assoc
+
+-- the parts of a moment that stands in a text
+found_parts : (text : List ℕ) (seen : Moment) (day second millis : ℕ) → has_utc_form text ≡ true → day_at_start text ≡ Some day → second_behind_date text ≡ Some second
+    → number_at 20 3 text ≡ Some millis → day * 86400 + second ≡ seen.seconds → millis ≡ seen.millis → (utc_text seen ≡ text) × IsMoment seen
+unfolding utc_text
+found_parts text seen day second millis form ed es em seconds fraction =
+    let date = date_back text form day ed in
+    let time = time_back text form second es in
+    let digits = three_at text form 20 millis (omega arith) em in
+    let day_is : day ≡ seen.seconds / 86400 = omega (arith, seconds, time.1) in
+    let second_is : second ≡ seen.seconds % 86400 = omega (arith, seconds, time.1) in (
+      text_by seen (date_text day) (time_text second) (millis_digits millis) (ap date_text day_is) (ap time_text second_is) (ap millis_digits fraction)
+          ∙ three_texts _ _ _ _ _ _ date.0 time.0 digits.0
+          ∙ grouped (take 4 (drop 0 text)) (take 2 (drop 5 text)) (take 2 (drop 8 text)) (take 2 (drop 11 text)) (take 2 (drop 14 text)) (take 2 (drop 17 text)) (take 3 (drop 20 text))
+          ∙ sym (whole text form),
+      record { seconds_fit = omega (arith, seconds, time.1, date.1); millis_fit = omega (arith, fraction, digits.1) },
+    )
+
+moment_is : (seen : Moment) (seconds millis : ℕ) → Some (record { seconds = seconds; millis = millis }) ≡ Some seen → (seconds ≡ seen.seconds) × (millis ≡ seen.millis)
+moment_is seen seconds millis e = let same : (record { seconds = seconds; millis = millis }) ≡ seen = cc in (ap (λ (m : Moment). m.seconds) same, ap (λ (m : Moment). m.millis) same)
+
+-- the text of the moment that a text names
+pub utc_back : (text : List ℕ) (seen : Moment) → utc_moment text ≡ Some seen → (utc_text seen ≡ text) × IsMoment seen
+unfolding utc_moment
+utc_back text seen e =
+    with_some (some_if (has_utc_form text) text) _ seen e (λ f ef e1.
+    with_some (day_at_start text) _ seen e1 (λ day ed e2.
+    with_some (second_behind_date text) _ seen e2 (λ second es e3.
+    with_some (number_at 20 3 text) _ seen e3 (λ millis em e4.
+    let is = moment_is seen (day * 86400 + second) millis e4 in
+    found_parts text seen day second millis (if_some (has_utc_form text) text f ef).0 ed es em is.0 is.1))))

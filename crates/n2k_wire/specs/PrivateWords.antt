@@ -1,0 +1,45 @@
+-- Words for the contracts of private functions: what the code holds, as the definitions have it. Nothing that a
+-- caller sees needs them.
+use Rattle.std.specs.Prelude.{◌≡◌, ℕ, ◌+◌, ◌*◌, ◌/◌, ◌%◌, List, [], Option, Some, None, Result, Ok, Err}
+use Rattle.std.specs.Borrow.{Bor}
+use Rattle.n2k_wire.specs.declared.candump.CandumpFrame.{CandumpFrame}
+use Rattle.n2k_wire.specs.declared.entry.Entry.{Entry}
+use Rattle.n2k_wire.specs.declared.entry.Entry.TheVariants as entries
+use Rattle.n2k_wire.specs.declared.plain.Header as pieces_of_code
+use Rattle.n2k_wire.specs.declared.stamp.Moment as moments_of_code
+use Rattle.n2k_wire.specs.Plain.{Header, pieces}
+use Rattle.n2k_wire.specs.Stamp.{Moment}
+
+-- The value of a hexadecimal digit, by arithmetic alone: `0` to `9` are 48 to 57, `A` to `F` 65 to 70, `a` to `f` 97
+-- to 102, so the letters, at 64 and above, count from 10.
+abbrev pub hex_value : ℕ → ℕ
+hex_value digit = digit % 16 + digit / 64 * 9
+
+-- a moment of the code
+abbrev pub plain_moment : moments_of_code.Moment → Moment
+plain_moment m = record { seconds = m.seconds; millis = m.millis }
+
+-- the frame of a candump line as its entry, where none is a line to skip
+abbrev pub candump_entry : Option CandumpFrame → Entry
+candump_entry None = entries.Skip
+candump_entry (Some frame) = entries.Frame (record { stamp = frame.stamp; id = frame.id; payload = frame.«data».items })
+
+-- the pieces of the text that is left of a plain line, if there is any
+abbrev pub pieces_left : Option (Bor (List ℕ)) → List (List ℕ)
+pieces_left None = []
+pieces_left (Some text) = pieces text.now
+
+-- the pieces behind a stamp, of which the code holds the last as one text
+abbrev pub plain_header : pieces_of_code.Header → Header
+plain_header h =
+    record { prio = h.prio.now; pgn = h.pgn.now; src = h.src.now; dst = h.dst.now; len = h.len.now; more = pieces_left h.more }
+
+-- What a function answered, seen by view, is what the definition says.
+abbrev pub Gives : {X Y E : Type 0} → (X → Y) → Result X E → Result Y E → Type 0
+Gives view (Ok x) said = said ≡ Ok (view x)
+Gives view (Err cause) said = said ≡ Err cause
+
+-- The same of a function that answers a value or nothing.
+abbrev pub Finds : {X Y : Type 0} → (X → Y) → Option X → Option Y → Type 0
+Finds view (Some x) said = said ≡ Some (view x)
+Finds view None said = said ≡ None
