@@ -1,16 +1,17 @@
 //! The commands over their devices: what they print, and the status that they end with.
-ghost use Rattle.std.specs.Prelude.{◌≡◌, ◌⊎◌, [], IfErr, IfOk, IsErrOf, OnErr, OnOk};
+ghost use Rattle.std.specs.Prelude.{◌≡◌, ◌⊎◌, [], IfErr, IfOk, IsErrOf, MatchResult, OnErr, OnOk};
 ghost use Rattle.std.specs.Io.KnownBytes.{Appends};
 ghost use Rattle.n2k_run.specs.Device.{HasFailed};
 ghost use Rattle.n2k_run.specs.Reports.{summary_text};
+ghost use Rattle.n2k_run.specs.Runs.{Devices};
 ghost use Rattle.n2k_run.specs.Writing.{AppendsFront};
 ghost use Rattle.n2k_table.specs.Table.{faults, table as table_of};
 ghost use Rattle.n2k_table.specs.declared.fault.TableFault.{TableFault};
-ghost use Rattle.n2kdec.specs.Commands.{IsDone, IsRefusedOrStopped, IsStopped, decode_texts, devices, plain_texts};
+ghost use Rattle.n2kdec.specs.Commands.{IsDone, IsRefusedOrStopped, IsStopped, decode_command, plain_command};
 ghost use Rattle.n2kdec.specs.Fault.{exit_status};
 
 use crate::fault::{Fault, exit_status};
-use n2k_run::{Counts, Sink, Source, run_plain, run_single, summary_text, write_all};
+use n2k_run::{Counts, Options, Sink, Source, run_plain, run_single, summary_text, write_all};
 use n2k_table::Table;
 use std::alloc::Global;
 
@@ -39,45 +40,65 @@ pub fn plain<R: Source, W: Sink, E: Sink>(
     output: &mut W,
     errors: &mut E,
 ) -> Result<u8, Fault>
-    ensures done { IfOk result (IsDone plain_texts
-        (devices (R.remaining log.old) (R.failed_calls log.old) (W.contents output.old) (W.failed_calls output.old)
-        (E.contents errors.old) (E.failed_calls errors.old))
-        (devices (R.remaining log.new) (R.failed_calls log.new) (W.contents output.new) (W.failed_calls output.new)
-        (E.contents errors.new) (E.failed_calls errors.new))) }
-    ensures stopped { IfErr result (IsStopped plain_texts
-        (devices (R.remaining log.old) (R.failed_calls log.old) (W.contents output.old) (W.failed_calls output.old)
-        (E.contents errors.old) (E.failed_calls errors.old))
-        (devices (R.remaining log.new) (R.failed_calls log.new) (W.contents output.new) (W.failed_calls output.new)
-        (E.contents errors.new) (E.failed_calls errors.new))) }
+    ensures { let before : Devices = record {
+      left = R.remaining log.old;
+      calls = R.calls log.old;
+      failed_reads = R.failed_calls log.old;
+      written = W.contents output.old;
+      failed_writes = W.failed_calls output.old;
+      reported = E.contents errors.old;
+      failed_reports = E.failed_calls errors.old;
+    } in
+        let after : Devices = record {
+          left = R.remaining log.new;
+          calls = R.calls log.new;
+          failed_reads = R.failed_calls log.new;
+          written = W.contents output.new;
+          failed_writes = W.failed_calls output.new;
+          reported = E.contents errors.new;
+          failed_reports = E.failed_calls errors.new;
+        } in
+        MatchResult result (IsDone plain_command before after) (IsStopped plain_command before after) }
 {
     let counts = run_plain(alloc, log, output, errors)?;
     sum_up(alloc, &counts, errors)
 }
 
-/// Reads a table, and then prints the messages of a log by it, as `plain` prints its frames. A table with a fault
+/// Reads a table, and then prints the messages of a log by it, with these options, as `plain` prints its frames. A table with a fault
 /// is refused before the log is read, and leaves each device as it was.
 pub fn decode<R: Source, W: Sink, E: Sink>(
     alloc: Global,
     table: &[u8],
+    options: Options,
     log: &mut R,
     output: &mut W,
     errors: &mut E,
 ) -> Result<u8, Fault>
-    ensures done { IfOk result (IsDone (decode_texts (table_of table.now))
-        (devices (R.remaining log.old) (R.failed_calls log.old) (W.contents output.old) (W.failed_calls output.old)
-        (E.contents errors.old) (E.failed_calls errors.old))
-        (devices (R.remaining log.new) (R.failed_calls log.new) (W.contents output.new) (W.failed_calls output.new)
-        (E.contents errors.new) (E.failed_calls errors.new))) }
-    ensures stopped { IfErr result (IsRefusedOrStopped (faults table.now) (decode_texts (table_of table.now))
-        (devices (R.remaining log.old) (R.failed_calls log.old) (W.contents output.old) (W.failed_calls output.old)
-        (E.contents errors.old) (E.failed_calls errors.old))
-        (devices (R.remaining log.new) (R.failed_calls log.new) (W.contents output.new) (W.failed_calls output.new)
-        (E.contents errors.new) (E.failed_calls errors.new))) }
-    ensures read { OnOk result (faults table.now ≡ []) }
+    ensures ends { let before : Devices = record {
+      left = R.remaining log.old;
+      calls = R.calls log.old;
+      failed_reads = R.failed_calls log.old;
+      written = W.contents output.old;
+      failed_writes = W.failed_calls output.old;
+      reported = E.contents errors.old;
+      failed_reports = E.failed_calls errors.old;
+    } in
+        let after : Devices = record {
+          left = R.remaining log.new;
+          calls = R.calls log.new;
+          failed_reads = R.failed_calls log.new;
+          written = W.contents output.new;
+          failed_writes = W.failed_calls output.new;
+          reported = E.contents errors.new;
+          failed_reports = E.failed_calls errors.new;
+        } in
+        let command = decode_command (table_of table.now) options in
+        MatchResult result (λ status. (faults table.now ≡ []) × IsDone command before after status)
+        (IsRefusedOrStopped (faults table.now) command before after) }
     ensures untouched { (fault : TableFault) → IsErrOf result (Fault.Table fault)
         → (log.new ≡ log.old) × (output.new ≡ output.old) × (errors.new ≡ errors.old) }
 {
     let table = Table::read(alloc, table)?;
-    let counts = run_single(alloc, &table, log, output, errors)?;
+    let counts = run_single(alloc, &table, options, log, output, errors)?;
     sum_up(alloc, &counts, errors)
 }

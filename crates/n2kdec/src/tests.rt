@@ -1,8 +1,9 @@
 use crate::commands::{decode, plain};
 use crate::fault::{Fault, exit_status, fault_text, status};
 use crate::words::words;
-use n2k_run::{Counts, MemorySink, MemorySource};
+use n2k_run::{Counts, MemorySink, MemorySource, Options};
 use n2k_table::TableFault;
+use n2k_wire::Packing;
 use std::alloc::{AllocError, Global};
 use std::test::Fail;
 
@@ -77,7 +78,7 @@ fn one_bad_line_gives_status_one(rt: HostRuntime) {
 
 #[test]
 fn words_name_a_command_and_its_files(rt: HostRuntime) -> Result<(), Fail> {
-    let asked: [(&[&str], &str); 6] = [
+    let asked: [(&[&str], &str); 8] = [
         (&["n2kdec", "plain"], "Plain { log: None }"),
         (
             &["n2kdec", "plain", "trip.log"],
@@ -89,15 +90,25 @@ fn words_name_a_command_and_its_files(rt: HostRuntime) -> Result<(), Fail> {
         ),
         (
             &["n2kdec", "decode", "--table", "boat.toml"],
-            "Decode { table: Word { text: \"boat.toml\" }, log: None }",
+            "Decode { table: Word { text: \"boat.toml\" }, empty: false, whole: false, log: None }",
         ),
         (
             &["n2kdec", "decode", "--table=boat.toml", "trip.log"],
-            "Decode { table: Word { text: \"boat.toml\" }, log: Some(Word { text: \"trip.log\" }) }",
+            "Decode { table: Word { text: \"boat.toml\" }, empty: false, whole: false, log: Some(Word { text: \"trip.log\" }) }",
         ),
         (
             &["n2kdec", "decode", "trip.log", "--table", "boat.toml"],
-            "Decode { table: Word { text: \"boat.toml\" }, log: Some(Word { text: \"trip.log\" }) }",
+            "Decode { table: Word { text: \"boat.toml\" }, empty: false, whole: false, log: Some(Word { text: \"trip.log\" }) }",
+        ),
+        (
+            &[
+                "n2kdec", "decode", "--whole", "--table", "t", "--empty", "l",
+            ],
+            "Decode { table: Word { text: \"t\" }, empty: true, whole: true, log: Some(Word { text: \"l\" }) }",
+        ),
+        (
+            &["n2kdec", "decode", "--table", "t", "--whole"],
+            "Decode { table: Word { text: \"t\" }, empty: false, whole: true, log: None }",
         ),
     ];
     for (given, command) in asked {
@@ -109,7 +120,7 @@ fn words_name_a_command_and_its_files(rt: HostRuntime) -> Result<(), Fail> {
 
 #[test]
 fn other_words_are_refused(rt: HostRuntime) {
-    let refused: [&[&str]; 13] = [
+    let refused: [&[&str]; 15] = [
         &[],
         &["n2kdec"],
         &["n2kdec", "print"],
@@ -123,6 +134,8 @@ fn other_words_are_refused(rt: HostRuntime) {
         &["n2kdec", "decode", "trip.log"],
         &["n2kdec", "decode", "--table"],
         &["n2kdec", "decode", "--table", "a", "--table", "b"],
+        &["n2kdec", "decode", "--table", "a", "--empty", "--empty"],
+        &["n2kdec", "decode", "--table", "a", "--empty=true"],
     ];
     for given in refused {
         let answer = words(rt.alloc(), given);
@@ -149,6 +162,11 @@ fn help_is_no_fault(rt: HostRuntime) -> Result<(), Fail> {
 }
 
 const COG_AND_SOG: &[u8] = b"(1502979132.106111) can0 09F8027F#00FCFFFF0000FFFF\n";
+
+const FRAMES: Options = Options {
+    packing: Packing::Frames,
+    empty: false,
+};
 
 const SAMPLE: &[u8] = b"format = 1
 
@@ -243,7 +261,7 @@ fn decode_prints_messages_and_then_the_summary(rt: HostRuntime) -> Result<(), Fa
         MemorySink::new(alloc, 100, 0),
         MemorySink::new(alloc, 100, 0),
     );
-    let status = decode(alloc, SAMPLE, &mut log, &mut output, &mut errors);
+    let status = decode(alloc, SAMPLE, FRAMES, &mut log, &mut output, &mut errors);
     assert_eq!(rt; status, Ok(0));
     let line = "{\"timestamp\":\"2017-08-17T14:12:12.106Z\",\"prio\":2,\"src\":127,\"dst\":255,\
         \"pgn\":129026,\"description\":\"COG & SOG, Rapid Update\",\"fields\":{\"SID\":0,\"SOG\":0.00}}\n";
@@ -263,7 +281,14 @@ fn a_refused_table_reads_no_log(rt: HostRuntime) -> Result<(), Fail> {
         MemorySink::new(alloc, 100, 0),
         MemorySink::new(alloc, 100, 0),
     );
-    let status = decode(alloc, b"format = 2", &mut log, &mut output, &mut errors);
+    let status = decode(
+        alloc,
+        b"format = 2",
+        FRAMES,
+        &mut log,
+        &mut output,
+        &mut errors,
+    );
     assert_eq!(rt; status, Err(Fault::Table(TableFault::Format)));
     assert_eq!(rt; output.bytes(), b"".as_slice());
     assert_eq!(rt; errors.bytes(), b"".as_slice());
@@ -279,7 +304,7 @@ fn devices_that_fail(rt: HostRuntime) -> Result<(), Fail> {
         MemorySink::new(alloc, 100, 0),
     );
     assert_eq!(rt;
-        decode(alloc, SAMPLE, &mut log, &mut output, &mut errors),
+        decode(alloc, SAMPLE, FRAMES, &mut log, &mut output, &mut errors),
         Err(Fault::Read)
     );
     assert_eq!(rt; errors.bytes(), b"".as_slice());
@@ -287,7 +312,7 @@ fn devices_that_fail(rt: HostRuntime) -> Result<(), Fail> {
     let mut log = MemorySource::new(COG_AND_SOG, 100, 0);
     let mut output = MemorySink::new(alloc, 100, 1);
     assert_eq!(rt;
-        decode(alloc, SAMPLE, &mut log, &mut output, &mut errors),
+        decode(alloc, SAMPLE, FRAMES, &mut log, &mut output, &mut errors),
         Err(Fault::Write)
     );
     assert_eq!(rt; errors.bytes(), b"".as_slice());
@@ -299,7 +324,7 @@ fn devices_that_fail(rt: HostRuntime) -> Result<(), Fail> {
         MemorySink::new(alloc, 100, 1),
     );
     assert_eq!(rt;
-        decode(alloc, SAMPLE, &mut log, &mut output, &mut errors),
+        decode(alloc, SAMPLE, FRAMES, &mut log, &mut output, &mut errors),
         Err(Fault::Report)
     );
     assert_eq!(rt; errors.bytes(), b"".as_slice());

@@ -1,15 +1,13 @@
-use Rattle.n2kdec.proofs.CommandLemmas.{stopped_by_run, stopped_by_summary}
+use Rattle.n2kdec.specs.Commands.{plain_command}
+use Rattle.n2kdec.proofs.CommandLemmas.{ended_by_run, ended_by_summary}
 use Rattle.n2kdec.proofs.commands.plain.Goals as goal
 
-pub returns-in_err-counts-clause-stopped : goal.returns-in_err-counts-clause-stopped
-returns-in_err-counts-clause-stopped g c =
-    let run = c.in_err-counts.ensures in
-    stopped_by_run _ _ _ c.in_err-counts.field-0.0 c.from_residual.result c.from_residual.ensures.1
-    run.read run.write run.report run.too_many run.printed_front run.reported_front
-    (λ is. let read = run.read_lines is in record { came = read.0; consumed = read.1; text = read.2; report = read.3 })
+pub returns-in_err-counts : goal.returns-in_err-counts
+returns-in_err-counts g c =
+    ended_by_run plain_command _ _ _ c.in_err-counts.field-0.0 c.from_residual.result c.from_residual.ensures.1 c.in_err-counts.ensures
 
-pub returns-clause-stopped : goal.returns-clause-stopped
-returns-clause-stopped g c =
-    let run = c.in_ok-counts.ensures in
-    stopped_by_summary _ _ _ c.in_ok-counts.counts _ _ c.sum_up.result run.none_failed.2 run.printed run.reported run.counts
-    c.sum_up.ensures.front c.sum_up.ensures.fault c.sum_up.ensures.report
+pub returns : goal.returns
+returns g c =
+    let said = c.sum_up.ensures in
+    ended_by_summary plain_command _ _ _ c.in_ok-counts.counts _ _ c.in_ok-counts.counts c.sum_up.result c.in_ok-counts.ensures c.in_ok-counts.ensures.ends.holds
+    said.written said.front said.none_failed said.status said.fault said.report
