@@ -1,6 +1,7 @@
 pub mod Keys
 pub mod Digits
 pub mod Each
+pub mod Listed
 pub mod FieldFaults
 pub mod DefinitionFaults
 pub mod Documents
@@ -8,5 +9,9 @@ pub mod Decimals
 pub mod OneKind
 pub mod Members
 pub mod RawBits
-pub mod Stamps
+pub mod Escapes
 pub mod Scaled
+pub mod Names
+pub mod LookupFaults
+pub mod Trims
+pub mod Tops

@@ -12,8 +12,9 @@ use Rattle.n2k_table.specs.declared.fault.TableFault.TheVariants.{Format, Key, M
 use Rattle.n2k_table.specs.declared.tree.Place.TheVariants.{Document}
 use Rattle.n2k_table.specs.Fault.{unless, value_or, faults_in, judged, GivesOrMemory}
 use Rattle.n2k_table.specs.Tree.{has_only_keys}
+use Rattle.n2k_table.specs.Lookup.{LookupParts, lookups_faults}
 use Rattle.n2k_table.specs.Definition.{DefinitionParts, definition_faults, definition, pgn_kind, counted_kind}
-use Rattle.n2k_table.specs.Table.{TableParts, is_format_1, is_same_kind, are_mixed, has_mixed, definitions_faults, definitions_of, top_faults, document, document_faults, faults, top_definitions, table, is_of, kind}
+use Rattle.n2k_table.specs.Table.{TableParts, is_format_1, is_same_kind, are_mixed, has_mixed, definitions_faults, lookups_of, lookup_names, definitions_of, top_faults, top_lookups, document, document_faults, faults, top_definitions, table, is_of, kind}
 use Rattle.n2k_table.proofs.Each.{nil_parts, judged_ok}
 use Rattle.n2k_table.proofs.DefinitionFaults.{counted_kinds}
 
@@ -66,23 +67,26 @@ kept true fault none = refl
 kept false fault none = absurd cc
 
 -- a table whose definitions have no fault
-definitions_pure : (r : Result (List Data) TableFault) → faults_in r definitions_faults ≡ [] → has_mixed (map pgn_kind (map definition (value_or [] r))) ≡ false
-definitions_pure (Err fault) none = absurd cc
-definitions_pure (Ok ds) none =
+definitions_pure : (names : List (List ℕ)) (lookups : List LookupParts) (r : Result (List Data) TableFault) → faults_in r (definitions_faults names) ≡ []
+    → has_mixed (map pgn_kind (map (definition lookups) (value_or [] r))) ≡ false
+definitions_pure names lookups (Err fault) none = absurd cc
+definitions_pure names lookups (Ok ds) none =
     let a0 = unless (leb (length ds) 4096) TooMany in
-    let a1 = a0 ++ flat_map definition_faults ds in
+    let a1 = a0 ++ flat_map (definition_faults names) ds in
     let p1 = nil_parts a1 (unless (not (has_mixed (filter_map counted_kind ds))) Mixed) none in
-    let p0 = nil_parts a0 (flat_map definition_faults ds) p1.0 in
+    let p0 = nil_parts a0 (flat_map (definition_faults names) ds) p1.0 in
     let pure : not (has_mixed (filter_map counted_kind ds)) ≡ true = kept _ Mixed p1.1 in
-    let counted = counted_kinds ds p0.1 in
+    let counted = counted_kinds names lookups ds p0.1 in
     ap has_mixed (sym counted) ∙ not_true (has_mixed (filter_map counted_kind ds)) pure
 
 top_pure : (top : Members) → top_faults top ≡ [] → has_mixed (map pgn_kind (top_definitions top)) ≡ false
 top_pure top none =
     elim (cases_Bool (is_format_1 top)) [
       | inl known ↦
-          let parts : unless (has_only_keys Document top) Key ++ faults_in (definitions_of top) definitions_faults ≡ [] = rw known at none in
-          definitions_pure (definitions_of top) (nil_parts (unless (has_only_keys Document top) Key) (faults_in (definitions_of top) definitions_faults) parts).1
+          let a0 = unless (has_only_keys Document top) Key in
+          let a1 = a0 ++ faults_in (lookups_of top) lookups_faults in
+          let parts : a1 ++ faults_in (definitions_of top) (definitions_faults (lookup_names top)) ≡ [] = rw known at none in
+          definitions_pure (lookup_names top) (top_lookups top) (definitions_of top) (nil_parts a1 (faults_in (definitions_of top) (definitions_faults (lookup_names top))) parts).1
       | inr other ↦
           let parts : Format ∷ [] ≡ [] = rw other at none in
           absurd cc

@@ -1,6 +1,6 @@
 -- What a table says of one message, and the faults that a definition may have.
-use Rattle.std.specs.Prelude.{ℕ, Bool, false, not, ◌||◌, nat_le, codes, List, [], ◌∷◌, ◌++◌, length, map, flat_map, Option, Result, Ok, Err, if◌then◌else◌}
-use Rattle.std.specs.List.{list_any, filter_map}
+use Rattle.std.specs.Prelude.{ℕ, not, nat_le, codes, List, [], ◌++◌, length, map, flat_map, Option, Result, Ok, Err, if◌then◌else◌}
+use Rattle.std.specs.List.{filter_map}
 use Rattle.std.specs.Result.{result_ok}
 use Rattle.std.specs.Str.{bytes_eq}
 use Rattle.toml.specs.Data.{Data, Members}
@@ -11,7 +11,9 @@ use Rattle.n2k_table.specs.declared.fault.TableFault.TheVariants.{Key, Text, Twi
 use Rattle.n2k_table.specs.declared.tree.Place.TheVariants.{Definition}
 use Rattle.n2k_table.specs.Fault.{◌>>=◌, fault_of, faults_in, value_or, unless}
 use Rattle.n2k_table.specs.Tree.{has_only_keys, as_members, whole_at, any_text_at, text_at, elements_at}
+use Rattle.n2k_table.specs.Lookup.{LookupParts}
 use Rattle.n2k_table.specs.Field.{FieldParts, members_or_none, field_faults, field, counted_name}
+use Rattle.n2k_table.specs.Twice.{has_twice}
 
 -- the greatest PGN, 24 bits
 abbrev pub greatest_number : ℕ
@@ -48,41 +50,36 @@ description_of = text_at (codes "description")
 abbrev pub fields_of : Members → Result (List Data) TableFault
 fields_of = elements_at (codes "fields")
 
--- a name stands twice
-abbrev pub has_twice : List (List ℕ) → Bool
-has_twice [] = false
-has_twice (name ∷ names) = list_any (λ other. bytes_eq other name) names || has_twice names
-
--- the faults of the fields of a definition
-abbrev pub fields_faults : List Data → List TableFault
-fields_faults ds =
+-- the faults of the fields of a definition, by the names of the lookups that are there
+abbrev pub fields_faults : List (List ℕ) → List Data → List TableFault
+fields_faults names ds =
     unless (nat_le (length ds) most_fields) TooMany
-    ++ flat_map field_faults ds
-    ++ unless (not (has_twice (filter_map counted_name ds))) Twice
+    ++ flat_map (field_faults names) ds
+    ++ unless (not (has_twice bytes_eq (filter_map counted_name ds))) Twice
 
--- the faults of a definition
-abbrev pub members_faults : Members → List TableFault
-members_faults m =
+-- the faults of a definition, by the names of the lookups that are there
+abbrev pub members_faults : List (List ℕ) → Members → List TableFault
+members_faults names m =
     unless (has_only_keys Definition m) Key
     ++ fault_of (number_of m)
     ++ fault_of (kind_of m)
     ++ fault_of (description_of m)
-    ++ faults_in (fields_of m) fields_faults
+    ++ faults_in (fields_of m) (fields_faults names)
 
-abbrev pub definition_faults : Data → List TableFault
-definition_faults d = faults_in (as_members d) members_faults
+abbrev pub definition_faults : List (List ℕ) → Data → List TableFault
+definition_faults names d = faults_in (as_members d) (members_faults names)
 
--- The definition that the values spell. Where one has a fault the table is refused.
-abbrev pub members_definition : Members → DefinitionParts
-members_definition m = record {
+-- The definition that the values spell, in a table of these lookups. Where one has a fault the table is refused.
+abbrev pub members_definition : List LookupParts → Members → DefinitionParts
+members_definition lookups m = record {
   number = value_or 0 (number_of m);
   kind = value_or Single (kind_of m);
   description = value_or [] (description_of m);
-  fields = map field (value_or [] (fields_of m));
+  fields = map (field lookups) (value_or [] (fields_of m));
 }
 
-abbrev pub definition : Data → DefinitionParts
-definition d = members_definition (members_or_none d)
+abbrev pub definition : List LookupParts → Data → DefinitionParts
+definition lookups d = members_definition lookups (members_or_none d)
 
 -- the PGN of a definition, and how it says that the PGN is sent
 abbrev pub pgn_kind : DefinitionParts → ℕ × Kind

@@ -1,13 +1,13 @@
 -- The JSON line of a message.
-use Rattle.std.specs.Prelude.{ℕ, Bool, codes, decimal, List, [], ◌∷◌, ◌++◌, Option, Some, None, if◌then◌else◌}
+use Rattle.std.specs.Prelude.{ℕ, Bool, false, codes, decimal, List, [], ◌∷◌, ◌++◌, flat_map, Option, Some, None, if◌then◌else◌}
 use Rattle.std.specs.List.{filter_map, join_with_byte}
 use Rattle.n2k_wire.specs.Packet.{PacketParts}
 use Rattle.n2k_wire.specs.declared.identifier.Id.{Id}
 use Rattle.n2k_table.specs.Decimal.{dec}
 use Rattle.n2k_table.specs.Definition.{DefinitionParts}
-use Rattle.n2k_table.specs.Shown.{ShownParts, absent, number, all_shown}
+use Rattle.n2k_table.specs.Shown.{ShownParts, absent, number, name, text, bytes, all_shown}
 use Rattle.n2k_table.specs.Table.{TableParts, choice}
-use Rattle.n2k_table.specs.Text.{text_json}
+use Rattle.n2k_table.specs.Text.{text_json, character, pairs}
 
 -- `,` and `:`
 abbrev pub comma : ℕ
@@ -20,11 +20,14 @@ colon = 58
 abbrev pub value_json : Bool → ShownParts → Option (List ℕ)
 value_json empty absent = if empty then Some (codes "null") else None
 value_json empty (number value decimals) = Some (dec value decimals)
+value_json empty (name n) = Some (text_json n)
+value_json empty (text numbers) = Some (text_json (flat_map character numbers))
+value_json empty (bytes payload) = Some (text_json (pairs payload))
 
 -- a name and its value
 abbrev pub pair_json : List ℕ → Option (List ℕ) → Option (List ℕ)
-pair_json name None = None
-pair_json name (Some value) = Some (text_json name ++ colon ∷ value)
+pair_json key None = None
+pair_json key (Some value) = Some (text_json key ++ colon ∷ value)
 
 abbrev pub member_json : Bool → List ℕ × ShownParts → Option (List ℕ)
 member_json empty f = pair_json f.0 (value_json empty f.1)
@@ -41,23 +44,26 @@ id_json id =
     ++ codes ",\"dst\":" ++ decimal id.dst
     ++ codes ",\"pgn\":" ++ decimal id.pgn
 
--- what stands before the fields
-unfoldable pub head_json : DefinitionParts → PacketParts → List ℕ
-head_json d m =
+-- what stands before the fields, of a description as JSON
+unfoldable pub head_json : List ℕ → PacketParts → List ℕ
+head_json description_json m =
     codes "{\"timestamp\":" ++ text_json m.stamp
     ++ id_json m.id
-    ++ codes ",\"description\":" ++ text_json d.description
+    ++ codes ",\"description\":" ++ description_json
     ++ codes ",\"fields\":"
 
--- the line of a message under a definition, with its LF
-abbrev pub line_json : DefinitionParts → PacketParts → Bool → List ℕ
-line_json d m empty = head_json d m ++ fields_json empty (all_shown d.fields m.payload) ++ codes "}\n"
+-- the line of a message, with its LF
+abbrev pub line_json : List ℕ → List (List ℕ × ShownParts) → PacketParts → Bool → List ℕ
+line_json description fields m empty = head_json (text_json description) m ++ fields_json empty fields ++ codes "}\n"
 
--- The line of a message under the definition that is chosen for it. Where there is none, which `json_line` rules
--- out, it is empty.
+-- the line of a message that no definition matches: its data as they are (never absent, whatever `empty` says)
+abbrev pub unmatched_json : PacketParts → List ℕ
+unmatched_json m = line_json (codes "Unmatched") ((codes "Data", bytes m.payload) ∷ []) m false
+
+-- The line of a message under the definition that is chosen for it. Where there is none it is unmatched.
 abbrev pub chosen_json : Option DefinitionParts → PacketParts → Bool → List ℕ
-chosen_json None m empty = []
-chosen_json (Some d) m empty = line_json d m empty
+chosen_json (Some d) m empty = line_json d.description (all_shown d.fields m.payload) m empty
+chosen_json None m empty = unmatched_json m
 
 unfoldable pub json : TableParts → PacketParts → Bool → List ℕ
 json t m empty = chosen_json (choice t m.id.pgn m.payload) m empty

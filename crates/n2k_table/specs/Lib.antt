@@ -1,8 +1,13 @@
 pub mod Fault
 pub mod Text
+pub mod Tail
 pub mod Tree
 pub mod Resolution
+pub mod Twice
+pub mod Lookup
+pub mod Entries
 pub mod Field
+pub mod Kept
 pub mod Definition
 pub mod Table
 pub mod Bits

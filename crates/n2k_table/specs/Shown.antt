@@ -1,23 +1,31 @@
 -- What a field shows of a message.
-use Rattle.std.specs.Prelude.{ℕ, ℤ, pos, ◌*ℤ◌, ◌+◌, ◌*◌, ◌-◌, Bool, ◌&&◌, ◌||◌, nat_le, List, length, map, if◌then◌else◌}
+use Rattle.std.specs.Prelude.{ℕ, ℤ, pos, ◌*ℤ◌, ◌+◌, ◌*◌, ◌-◌, ◌/◌, ◌==◌, Bool, false, ◌&&◌, ◌||◌, nat_le, List, [], ◌∷◌, length, map, slice_range, Option, Some, None, if◌then◌else◌}
+use Rattle.std.specs.List.{list_all}
 use Rattle.std.specs.Ordering.{int_eq}
-use Rattle.n2k_table.specs.declared.field.Meaning.{Meaning}
-use Rattle.n2k_table.specs.declared.field.Meaning.TheVariants.{Number}
 use Rattle.n2k_table.specs.declared.resolution.Resolution.{Resolution}
 use Rattle.n2k_table.specs.declared.shown.Shown.{Shown}
 use Rattle.n2k_table.specs.declared.shown.Shown.TheVariants as code
 use Rattle.n2k_table.specs.Bits.{raw, signed_value, greatest}
-use Rattle.n2k_table.specs.Field.{FieldParts}
+use Rattle.n2k_table.specs.Field.{FieldParts, Meaning}
+use Rattle.n2k_table.specs.Field as means
+use Rattle.n2k_table.specs.Lookup.{name_of_value}
 
--- nothing, or a number: a whole number with its last digits after the dot
+-- nothing; a number, a whole number with its last digits after the dot; the name of a value; a text, each byte
+-- the character of its number; or bytes
 pub data ShownParts : Type 0 where
   absent : ShownParts
   number : ℤ → ℕ → ShownParts
+  name : List ℕ → ShownParts
+  text : List ℕ → ShownParts
+  bytes : List ℕ → ShownParts
 
 -- what the code answers, as such parts
 abbrev pub shown_parts : Shown → ShownParts
 shown_parts code.Absent = absent
 shown_parts (code.Number value decimals) = number value decimals
+shown_parts (code.Name n) = name n.now
+shown_parts (code.Text t) = text t.now
+shown_parts (code.Bytes b) = bytes b.now
 
 -- the field lies wholly inside the data
 abbrev pub lies_inside : FieldParts → List ℕ → Bool
@@ -34,13 +42,43 @@ shown_number signed resolution n r =
     if says_none signed n (signed_value signed n r) then absent
     else number (signed_value signed n r *ℤ pos resolution.mantissa) resolution.decimals
 
--- what bits of that raw value show, by what they mean
-abbrev pub shown_raw : Meaning → ℕ → ℕ → ShownParts
-shown_raw (Number signed resolution) n r = shown_number signed resolution n r
+-- a value of n bits that has no name: from two bits on the greatest says that none is there
+abbrev pub shown_unnamed : ℕ → ℕ → ShownParts
+shown_unnamed n r = if nat_le 2 n && r == greatest false n then absent else number (pos r) 0
+
+-- a value of n bits by its name, if it has one: the names are asked first, for the greatest value too
+abbrev pub shown_name : Option (List ℕ) → ℕ → ℕ → ShownParts
+shown_name (Some found) n r = name found
+shown_name None n r = shown_unnamed n r
+
+-- a byte that fills a text up: 00, FF, `@` or a space
+abbrev pub is_filling : ℕ → Bool
+is_filling b = b == 0 || b == 255 || b == 64 || b == 32
+
+-- a text up to its last byte that is no filling
+abbrev pub trimmed : List ℕ → List ℕ
+trimmed [] = []
+trimmed (b ∷ bs) = if list_all is_filling (b ∷ bs) then [] else b ∷ trimmed bs
+
+-- a text that is not all filling
+abbrev pub shown_text : List ℕ → ShownParts
+shown_text [] = absent
+shown_text (b ∷ bs) = text (b ∷ bs)
+
+-- the bytes of a field that begins and ends with a byte
+abbrev pub field_bytes : FieldParts → List ℕ → List ℕ
+field_bytes f payload = slice_range payload (f.at / 8) ((f.at + f.bits) / 8)
+
+-- what a field that lies inside the data shows, by what it means
+abbrev pub shown_inside : Meaning → FieldParts → List ℕ → ShownParts
+shown_inside (means.number signed resolution) f payload = shown_number signed resolution f.bits (raw payload f.at f.bits)
+shown_inside (means.named entries) f payload = shown_name (name_of_value entries (raw payload f.at f.bits)) f.bits (raw payload f.at f.bits)
+shown_inside means.text f payload = shown_text (trimmed (field_bytes f payload))
+shown_inside means.bytes f payload = bytes (field_bytes f payload)
 
 -- what a field shows of the data
 abbrev pub shown : FieldParts → List ℕ → ShownParts
-shown f payload = if lies_inside f payload then shown_raw f.meaning f.bits (raw payload f.at f.bits) else absent
+shown f payload = if lies_inside f payload then shown_inside f.meaning f payload else absent
 
 -- the name of each field and what it shows, in order
 abbrev pub all_shown : List FieldParts → List ℕ → List (List ℕ × ShownParts)

@@ -1,6 +1,6 @@
 -- The faults that stand in the bytes of a table, the table that they spell, and what is looked up in it.
 use Rattle.std.specs.Prelude.{ℕ, Bool, true, false, not, ◌&&◌, ◌||◌, ◌==◌, nat_le, codes, List, [], ◌∷◌, ◌++◌, length, map, flat_map, Option, Some, None, option_map, unwrap_or, Result, if◌then◌else◌}
-use Rattle.std.specs.List.{list_any, filter_map, find}
+use Rattle.std.specs.List.{list_all, list_any, filter_map, find}
 use Rattle.std.specs.Result.{is_ok}
 use Rattle.std.specs.Str.{is_utf8}
 use Rattle.sha2.specs.Sha256.{sha256}
@@ -13,6 +13,10 @@ use Rattle.n2k_table.specs.declared.fault.TableFault.TheVariants.{NotToml, Forma
 use Rattle.n2k_table.specs.declared.tree.Place.TheVariants.{Document}
 use Rattle.n2k_table.specs.Fault.{faults_in, value_or, unless}
 use Rattle.n2k_table.specs.Tree.{has_only_keys, whole_at, elements_or_none}
+use Rattle.n2k_table.specs.Bits.{raw}
+use Rattle.n2k_table.specs.Lookup.{LookupParts, lookup, lookups_faults, counted_lookup}
+use Rattle.n2k_table.specs.Field.{FieldParts}
+use Rattle.n2k_table.specs.Shown.{lies_inside}
 use Rattle.n2k_table.specs.Definition.{DefinitionParts, definition_faults, definition, counted_kind}
 
 -- the most definitions of a table
@@ -46,12 +50,20 @@ abbrev pub has_mixed : List (ℕ × Kind) → Bool
 has_mixed [] = false
 has_mixed (d ∷ ds) = list_any (are_mixed d) ds || has_mixed ds
 
--- the faults of the definitions of a table
-abbrev pub definitions_faults : List Data → List TableFault
-definitions_faults ds =
+-- the faults of the definitions of a table, by the names of the lookups that are there
+abbrev pub definitions_faults : List (List ℕ) → List Data → List TableFault
+definitions_faults names ds =
     unless (nat_le (length ds) most_definitions) TooMany
-    ++ flat_map definition_faults ds
+    ++ flat_map (definition_faults names) ds
     ++ unless (not (has_mixed (filter_map counted_kind ds))) Mixed
+
+-- the lookups of the top level, none where it has no key `lookup`
+abbrev pub lookups_of : Members → Result (List Data) TableFault
+lookups_of top = elements_or_none (get_member (codes "lookup") top)
+
+-- the names of lookups that are there, whatever else is wrong with a lookup
+abbrev pub lookup_names : Members → List (List ℕ)
+lookup_names top = filter_map counted_lookup (value_or [] (lookups_of top))
 
 -- the definitions of the top level, none where it has no key `pgn`
 abbrev pub definitions_of : Members → Result (List Data) TableFault
@@ -61,7 +73,9 @@ definitions_of top = elements_or_none (get_member (codes "pgn") top)
 abbrev pub top_faults : Members → List TableFault
 top_faults top =
     if is_format_1 top
-    then unless (has_only_keys Document top) Key ++ faults_in (definitions_of top) definitions_faults
+    then unless (has_only_keys Document top) Key
+    ++ faults_in (lookups_of top) lookups_faults
+    ++ faults_in (definitions_of top) (definitions_faults (lookup_names top))
     else Format ∷ []
 
 abbrev pub document_faults : Option Members → List TableFault
@@ -72,9 +86,17 @@ document_faults (Some top) = top_faults top
 abbrev pub faults : List ℕ → List TableFault
 faults bytes = document_faults (document bytes)
 
--- the definitions that a document spells
+-- the lookups that a document spells
+abbrev pub top_lookups : Members → List LookupParts
+top_lookups top = map lookup (value_or [] (lookups_of top))
+
+-- the definitions that a document spells in a table of these lookups
+abbrev pub definitions_in : List LookupParts → Members → List DefinitionParts
+definitions_in lookups top = map (definition lookups) (value_or [] (definitions_of top))
+
+-- the definitions that a document spells, each lookup field with the entries of its lookup
 abbrev pub top_definitions : Members → List DefinitionParts
-top_definitions top = map definition (value_or [] (definitions_of top))
+top_definitions top = definitions_in (top_lookups top) top
 
 -- The table that the bytes spell. Where a fault stands they are refused.
 abbrev pub table : List ℕ → TableParts
@@ -91,6 +113,18 @@ is_of pgn d = d.number == pgn
 abbrev pub kind : TableParts → ℕ → Option Kind
 kind t pgn = option_map (λ d. d.kind) (find (is_of pgn) t.definitions)
 
--- the definition that describes a message: the first of its PGN in file order
+-- a field has the raw value that it asks for, or asks for none
+abbrev pub has_wanted : Option ℕ → FieldParts → List ℕ → Bool
+has_wanted None f payload = true
+has_wanted (Some value) f payload = lies_inside f payload && raw payload f.at f.bits == value
+
+abbrev pub field_matches : List ℕ → FieldParts → Bool
+field_matches payload f = has_wanted f.wanted f payload
+
+-- the data have what the fields of a definition ask for
+abbrev pub matches : List ℕ → DefinitionParts → Bool
+matches payload d = list_all (field_matches payload) d.fields
+
+-- the definition that describes a message: the first of its PGN in file order that its data match
 abbrev pub choice : TableParts → ℕ → List ℕ → Option DefinitionParts
-choice t pgn payload = find (is_of pgn) t.definitions
+choice t pgn payload = find (λ d. is_of pgn d && matches payload d) t.definitions

@@ -1,8 +1,35 @@
 -- Texts in JSON.
-use Rattle.std.specs.Prelude.{ℕ, List}
+use Rattle.std.specs.Prelude.{ℕ, ◌/◌, ◌%◌, ◌==◌, Bool, not, ◌&&◌, nat_le, codes, List, [], ◌∷◌, slice_index, map}
+use Rattle.std.specs.List.{join_with_byte}
+use Rattle.std.specs.Char.{encode_utf8}
 use Rattle.serde_json.specs.Data.{string}
 use Rattle.serde_json.specs.Written.{compact_text}
 
 -- a text, as `serde_json` writes a string
 unfoldable pub text_json : List ℕ → List ℕ
 text_json text = compact_text (string text)
+
+-- the character of a number, in UTF-8
+abbrev pub character : ℕ → List ℕ
+character = encode_utf8
+
+-- the hexadecimal digits, in upper case
+abbrev pub hex_digits : List ℕ
+hex_digits = codes "0123456789ABCDEF"
+
+-- a byte as two hexadecimal digits
+abbrev pub pair : ℕ → List ℕ
+pair b = slice_index hex_digits (b / 16) ∷ slice_index hex_digits (b % 16) ∷ []
+
+-- the space
+abbrev pub space : ℕ
+space = 32
+
+-- bytes as pairs of digits, with a space between
+abbrev pub pairs : List ℕ → List ℕ
+pairs bytes = join_with_byte space (map pair bytes)
+
+-- for private clauses: a byte that stands for itself in a JSON text, neither below the space nor a quote nor a
+-- backslash
+abbrev pub is_plain : ℕ → Bool
+is_plain b = nat_le 32 b && not (b == 34) && not (b == 92)

@@ -12,7 +12,7 @@ use Rattle.toml.specs.declared.value.Value.{Value}
 use Rattle.n2k_table.specs.declared.fault.TableFault.{TableFault}
 use Rattle.n2k_table.specs.declared.fault.TableFault.TheVariants.{Key, Range, Text}
 use Rattle.n2k_table.specs.declared.tree.Place.{Place}
-use Rattle.n2k_table.specs.declared.tree.Place.TheVariants.{Document, Definition, NumberField}
+use Rattle.n2k_table.specs.declared.tree.Place.TheVariants.{Document, Lookup, Definition, NumberField, LookupField, ByteField}
 use Rattle.n2k_table.specs.Fault.{◌>>=◌}
 
 -- the most bytes of a name or a description
@@ -21,9 +21,12 @@ longest_text = 255
 
 -- the keys that a table of the document may have, by its place
 abbrev pub keys : Place → List (List ℕ)
-keys Document = codes "format" ∷ codes "pgn" ∷ []
+keys Document = codes "format" ∷ codes "lookup" ∷ codes "pgn" ∷ []
+keys Lookup = codes "name" ∷ codes "entries" ∷ []
 keys Definition = codes "number" ∷ codes "kind" ∷ codes "description" ∷ codes "fields" ∷ []
-keys NumberField = codes "name" ∷ codes "kind" ∷ codes "at" ∷ codes "bits" ∷ codes "signed" ∷ codes "resolution" ∷ []
+keys NumberField = codes "name" ∷ codes "kind" ∷ codes "at" ∷ codes "bits" ∷ codes "signed" ∷ codes "resolution" ∷ codes "match" ∷ []
+keys LookupField = codes "name" ∷ codes "kind" ∷ codes "at" ∷ codes "bits" ∷ codes "match" ∷ codes "lookup" ∷ []
+keys ByteField = codes "name" ∷ codes "kind" ∷ codes "at" ∷ codes "bits" ∷ []
 
 abbrev pub is_key : Place → List ℕ → Bool
 is_key place key = list_any (λ k. bytes_eq key k) (keys place)

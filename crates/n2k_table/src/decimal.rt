@@ -1,59 +1,75 @@
 //! The decimal text of a whole number over a power of ten.
-ghost use Rattle.std.specs.Prelude.{◌≡◌, ◌++◌, ◌≤◌, ℕ, List, length, OnOk, OnErr};
+ghost use Rattle.std.specs.Prelude.{◌≡◌, ◌++◌, ◌≤◌, ℕ, List, length, decimal, OnOk, OnErr};
 ghost use Rattle.n2k_table.specs.Decimal.{IsDecimal, dec, dotted, filled, sign_of};
 
+use crate::tail::Tail;
 use itoa::Buffer;
 use std::alloc::{AllocError, Global};
+use std::mem;
 
 // Appends digits with the dot before the last `decimals` of them.
-fn push_dotted(digits: &[u8], decimals: usize, out: &mut Vec<u8>) -> Result<(), AllocError>
+fn push_dotted(digits: &[u8], decimals: usize, line: &mut Tail) -> Result<(), AllocError>
     requires { decimals ≤ length digits.now }
-    ensures { OnOk result (out.new.items ≡ out.old.items ++ dotted decimals digits.now) }
+    ensures appends { OnOk result (line.new.items ≡ line.old.items ++ dotted decimals digits.now) }
+    ensures before { line.new.before ≡ line.old.before }
 {
     let (whole, fraction) = digits.split_at(digits.len() - decimals);
-    out.extend_from_slice(whole)?;
+    line.extend_from_slice(whole)?;
     if !fraction.is_empty() {
-        out.push(b'.')?;
-        out.extend_from_slice(fraction)?;
+        line.push(b'.')?;
+        line.extend_from_slice(fraction)?;
     }
     Ok(())
 }
 
 // Appends digits that all stand after the dot, behind a zero before it and zeros to fill the decimals.
-fn push_filled(digits: &[u8], decimals: usize, out: &mut Vec<u8>) -> Result<(), AllocError>
+fn push_filled(digits: &[u8], decimals: usize, line: &mut Tail) -> Result<(), AllocError>
     requires { length digits.now ≤ decimals }
-    ensures { OnOk result (out.new.items ≡ out.old.items ++ filled decimals digits.now) }
+    ensures appends { OnOk result (line.new.items ≡ line.old.items ++ filled decimals digits.now) }
+    ensures before { line.new.before ≡ line.old.before }
 {
-    out.extend_from_slice(b"0.")?;
+    line.extend_from_slice(b"0.")?;
     for _ in 0..decimals - digits.len() {
-        out.push(b'0')?;
+        line.push(b'0')?;
     }
-    out.extend_from_slice(digits)?;
+    line.extend_from_slice(digits)?;
     Ok(())
 }
 
 // Appends a minus sign where the value is below zero.
-fn push_sign(value: i128, out: &mut Vec<u8>) -> Result<(), AllocError>
-    ensures { OnOk result (out.new.items ≡ out.old.items ++ sign_of value) }
+fn push_sign(value: i128, line: &mut Tail) -> Result<(), AllocError>
+    ensures appends { OnOk result (line.new.items ≡ line.old.items ++ sign_of value) }
+    ensures before { line.new.before ≡ line.old.before }
 {
     if value < 0 {
-        out.push(b'-')?;
+        line.push(b'-')?;
     }
     Ok(())
 }
 
-/// Appends the decimal text of `value / 10^decimals`. Where memory runs out a part of it may stand.
-pub fn push_decimal(value: i128, decimals: u8, out: &mut Vec<u8>) -> Result<(), AllocError>
-    ensures { OnOk result (out.new.items ≡ out.old.items ++ dec value decimals) }
+// The digits of a number. Most have 64 bits, which cost less than 128.
+fn digits_of(size: u128, buffer: &mut Buffer) -> &str
+    ensures { result.now ≡ decimal size }
+{
+    match u64::try_from(size) {
+        Ok(short) => buffer.format(short),
+        Err(_) => buffer.format(size),
+    }
+}
+
+/// Appends the decimal text of `value / 10^decimals`.
+pub fn push_decimal(value: i128, decimals: u8, line: &mut Tail) -> Result<(), AllocError>
+    ensures appends { OnOk result (line.new.items ≡ line.old.items ++ dec value decimals) }
+    ensures before { line.new.before ≡ line.old.before }
 {
     let mut buffer = Buffer::new();
-    let digits = buffer.format(value.unsigned_abs()).as_bytes();
+    let digits = digits_of(value.unsigned_abs(), &mut buffer).as_bytes();
     let decimals = usize::from(decimals);
-    push_sign(value, out)?;
+    push_sign(value, line)?;
     if decimals < digits.len() {
-        push_dotted(digits, decimals, out)?;
+        push_dotted(digits, decimals, line)?;
     } else {
-        push_filled(digits, decimals, out)?;
+        push_filled(digits, decimals, line)?;
     }
     Ok(())
 }
@@ -77,7 +93,8 @@ pub fn decimal_text(
     ensures decimal { IsDecimal value decimals (dec value decimals) }
     ensures only { (text : List ℕ) → IsDecimal value decimals text → text ≡ dec value decimals }
 {
-    let mut text = Vec::new(alloc);
-    push_decimal(value, decimals, &mut text)?;
-    out.extend_from_slice(text.as_slice())
+    let mut line = Tail::after(mem::replace(out, Vec::new(alloc)));
+    let written = push_decimal(value, decimals, &mut line);
+    *out = line.end(written.is_ok());
+    written
 }

@@ -5,12 +5,15 @@ ghost use Rattle.std.specs.Str.{bytes_eq};
 ghost use Rattle.toml.specs.View.{view, table_view, array_view};
 ghost use Rattle.n2k_table.specs.Fault.{Gives, GivesOrMemory, judged};
 ghost use Rattle.n2k_table.specs.Tree.{elements};
+ghost use Rattle.n2k_table.specs.Lookup.{LookupParts};
+ghost use Rattle.n2k_table.specs.Twice.{has_twice};
 ghost use Rattle.n2k_table.specs.Field.{field, field_faults};
 ghost use Rattle.n2k_table.specs.Table.{are_mixed, has_mixed};
-ghost use Rattle.n2k_table.specs.Definition.{named_kind, pgn_kind, has_twice, fields_faults, members_faults, members_definition, definition_faults, definition};
+ghost use Rattle.n2k_table.specs.Definition.{named_kind, pgn_kind, fields_faults, members_faults, members_definition, definition_faults, definition};
 
 use crate::fault::TableFault;
 use crate::field::{Field, read_field};
+use crate::lookup::Lookups;
 use crate::shown::Fields;
 use crate::text::text_json;
 use crate::tree::{Place, any_text_at, as_members, elements_at, has_only_keys, text_at, whole_at};
@@ -64,6 +67,7 @@ impl Model for StoredDefinition {
 
 impl StoredDefinition {
     ghost use Rattle.n2k_table.specs.Text.{text_json};
+    ghost use Rattle.n2k_table.specs.Table.{matches};
 
     /// The PGN that it describes.
     pub fn number(&self) -> u32
@@ -97,6 +101,13 @@ impl StoredDefinition {
         ensures { result.now ≡ self.now.fields }
     {
         self.fields.as_slice()
+    }
+
+    /// Whether the data have what the fields ask for.
+    pub fn matches(&self, data: &[u8]) -> bool
+        ensures { result ≡ matches «data».now self.now }
+    {
+        self.fields.iter().all(|field| field.matches(data))
     }
 
     // Whether both describe one PGN, and name different kinds.
@@ -178,7 +189,7 @@ fn named_kind(text: &str) -> Result<Kind, TableFault>
 
 // Whether two fields have one name.
 fn has_twice(fields: &[Field]) -> bool
-    ensures { result ≡ has_twice (map (λ field. field.name) fields.now) }
+    ensures { result ≡ has_twice bytes_eq (map (λ field. field.name) fields.now) }
 {
     let mut rest = fields;
     while let Some((field, others)) = rest.split_first() {
@@ -193,10 +204,10 @@ fn has_twice(fields: &[Field]) -> bool
 // Whether a field has the name.
 fn is_named(fields: &[Field], name: &str) -> bool
     ensures { let names = map (λ field. field.name) fields.now in
-        result ≡ list_any (λ other. bytes_eq other name.now) names }
+        result ≡ list_any (bytes_eq name.now) names }
 {
     for field in fields {
-        if field.name() == name {
+        if name == field.name() {
             return true;
         }
     }
@@ -204,34 +215,42 @@ fn is_named(fields: &[Field], name: &str) -> bool
 }
 
 // The fields, up to a first fault among theirs.
-fn each_field(alloc: Global, values: &Array) -> Result<Vec<Field>, TableFault>
-    ensures { let ds = elements (array_view values.now) in
-        GivesOrMemory (λ fields. fields.items) result (judged (flat_map field_faults ds) (map field ds)) }
+fn each_field(alloc: Global, lookups: &Lookups, values: &Array) -> Result<Vec<Field>, TableFault>
+    ensures { let names = map (λ (lookup : LookupParts). lookup.name) lookups.now in
+        let ds = elements (array_view values.now) in
+        GivesOrMemory (λ fields. fields.items) result
+        (judged (flat_map (field_faults names) ds) (map (field lookups.now) ds)) }
 {
     let mut fields = Vec::new(alloc);
     for value in values {
-        fields.push(read_field(alloc, value)?)?;
+        fields.push(read_field(alloc, lookups, value)?)?;
     }
     Ok(fields)
 }
 
-fn read_fields(alloc: Global, values: &Array) -> Result<Vec<Field>, TableFault>
-    ensures { let ds = elements (array_view values.now) in
-        GivesOrMemory (λ fields. fields.items) result (judged (fields_faults ds) (map field ds)) }
+fn read_fields(alloc: Global, lookups: &Lookups, values: &Array) -> Result<Vec<Field>, TableFault>
+    ensures { let names = map (λ (lookup : LookupParts). lookup.name) lookups.now in
+        let ds = elements (array_view values.now) in
+        GivesOrMemory (λ fields. fields.items) result (judged (fields_faults names ds) (map (field lookups.now) ds)) }
 {
     if values.len() > MOST_FIELDS {
         return Err(TableFault::TooMany);
     }
-    let fields = each_field(alloc, values)?;
+    let fields = each_field(alloc, lookups, values)?;
     if has_twice(&fields) {
         return Err(TableFault::Twice);
     }
     Ok(fields)
 }
 
-fn read_members(alloc: Global, table: &Table) -> Result<StoredDefinition, TableFault>
-    ensures { let m = table_view table.now in
-        GivesOrMemory (λ stored. stored) result (judged (members_faults m) (members_definition m)) }
+fn read_members(
+    alloc: Global,
+    lookups: &Lookups,
+    table: &Table,
+) -> Result<StoredDefinition, TableFault>
+    ensures { let names = map (λ (lookup : LookupParts). lookup.name) lookups.now in
+        let m = table_view table.now in
+        GivesOrMemory (λ stored. stored) result (judged (members_faults names m) (members_definition lookups.now m)) }
 {
     if !has_only_keys(table, Place::Definition) {
         return Err(TableFault::Key);
@@ -239,7 +258,7 @@ fn read_members(alloc: Global, table: &Table) -> Result<StoredDefinition, TableF
     let number = whole_at(table, "number", 0, GREATEST_NUMBER)?;
     let kind = named_kind(any_text_at(table, "kind")?)?;
     let description = text_at(table, "description")?;
-    let fields = read_fields(alloc, elements_at(table, "fields")?)?;
+    let fields = read_fields(alloc, lookups, elements_at(table, "fields")?)?;
     Ok(StoredDefinition {
         number,
         kind,
@@ -274,10 +293,15 @@ fn is_mixed_among(definitions: &[StoredDefinition], definition: &StoredDefinitio
     false
 }
 
-/// Reads a definition.
-pub fn read_definition(alloc: Global, value: &Value) -> Result<StoredDefinition, TableFault>
-    ensures { let d = view value.now in
-        GivesOrMemory (λ stored. stored) result (judged (definition_faults d) (definition d)) }
+/// Reads a definition, in a table of these lookups.
+pub fn read_definition(
+    alloc: Global,
+    lookups: &Lookups,
+    value: &Value,
+) -> Result<StoredDefinition, TableFault>
+    ensures { let names = map (λ (lookup : LookupParts). lookup.name) lookups.now in
+        let d = view value.now in
+        GivesOrMemory (λ stored. stored) result (judged (definition_faults names d) (definition lookups.now d)) }
 {
-    read_members(alloc, as_members(value)?)
+    read_members(alloc, lookups, as_members(value)?)
 }

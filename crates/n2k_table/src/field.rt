@@ -1,17 +1,23 @@
 //! What a table says of one field.
-ghost use Rattle.std.specs.Prelude.{◌≡◌, ◌≤◌};
+ghost use Rattle.std.specs.Prelude.{◌≡◌, ◌≤◌, ◌+◌, ◌*◌, length, map, option_map, IfOk};
 ghost use Rattle.toml.specs.View.{view, table_view};
-ghost use Rattle.n2k_table.specs.Fault.{GivesOrMemory, judged};
-ghost use Rattle.n2k_table.specs.Field.{number_faults, number_field, field_faults, field};
+ghost use Rattle.n2k_table.specs.Fault.{Gives, GivesOrMemory, judged};
+ghost use Rattle.n2k_table.specs.Lookup.{LookupParts};
+ghost use Rattle.n2k_table.specs.Kept.{meaning as seen_meaning, IsByteMeaning};
+ghost use Rattle.n2k_table.specs.Field.{in_bytes, byte_at_of, byte_bits_of, wanted_of, is_of_bits, named_field_kind, number_faults, number_field, lookup_field_faults, lookup_field, byte_field_faults, byte_field, field_faults, field};
 
-use crate::bits::raw;
+use crate::bits::{greatest, raw};
 use crate::fault::TableFault;
+use crate::lookup::{Lookup, Lookups};
 use crate::resolution::{Resolution, resolution_at};
-use crate::shown::{Shown, shown_number};
+use crate::shown::{Shown, shown_name, shown_number, shown_text};
 use crate::text::text_json;
-use crate::tree::{Place, any_text_at, as_members, has_only_keys, text_at, truth_at, whole_at};
+use crate::tree::{
+    FieldKind, Place, any_text_at, as_members, found, has_only_keys, text_at, truth_at, whole_at,
+};
 use std::alloc::Global;
 use std::marker::Model;
+use std::rc::Rc;
 use toml::{Table, Value};
 
 /// The last bit at which a field may begin.
@@ -23,8 +29,11 @@ pub const MESSAGE_BITS: u32 = 1784;
 /// The most bits of a number.
 pub const MOST_NUMBER_BITS: u32 = 64;
 
+/// The most bits of a lookup field.
+pub const MOST_LOOKUP_BITS: u32 = 32;
+
 /// What the bits of a field mean.
-#[derive(Clone, Copy)]
+#[derive(Drop)]
 pub enum Meaning {
     /// A number, in two's complement where it is signed, times its resolution.
     Number {
@@ -33,9 +42,16 @@ pub enum Meaning {
         /// What the raw value is multiplied with.
         resolution: Resolution,
     },
+    /// A value that a lookup gives names for. The fields of a table share its lookups.
+    Named(Rc<Lookup>),
+    /// A text, each byte the character of its number.
+    Text,
+    /// Bytes as they are.
+    Bytes,
 }
 
-/// A field: its name, its first bit, how many bits it has, and what they mean.
+/// A field: its name, its first bit, how many bits it has, what they mean, and the raw value that it asks
+/// for, if it asks for one.
 #[derive(Drop)]
 pub struct Field {
     name: String,
@@ -44,11 +60,13 @@ pub struct Field {
     at: u32,
     bits: u32,
     meaning: Meaning,
+    wanted: Option<u64>,
 }
 
 impl Model for Field {
     ghost use Rattle.std.specs.Prelude.{string_bytes};
-    ghost use Rattle.n2k_table.specs.Field.{FieldParts, IsKept};
+    ghost use Rattle.n2k_table.specs.Field.{FieldParts};
+    ghost use Rattle.n2k_table.specs.Kept.{meaning as seen_meaning, IsKept};
 
     ghost Value = { FieldParts };
 
@@ -56,10 +74,65 @@ impl Model for Field {
       name = string_bytes f.name;
       at = f.at;
       bits = f.bits;
-      meaning = f.meaning;
+      meaning = seen_meaning f.meaning;
+      wanted = f.wanted;
     } };
 
-    ghost invariant = { λ f. IsKept (string_bytes f.name) f.name_json.items f.at f.bits };
+    ghost invariant = { λ f. IsKept (string_bytes f.name) f.name_json.items f.at f.bits (seen_meaning f.meaning) f.wanted };
+}
+
+// The raw value that a field asks for, if it asks for one.
+fn wanted_at(table: &Table) -> Result<Option<u64>, TableFault>
+    ensures { Gives (λ wanted. wanted) result (wanted_of (table_view table.now)) }
+{
+    let Some(value) = found(table, "match") else {
+        return Ok(None);
+    };
+    let integer = value.as_integer().ok_or(TableFault::Key)?;
+    match u64::try_from(integer) {
+        Ok(wanted) => Ok(Some(wanted)),
+        Err(_) => Err(TableFault::Range),
+    }
+}
+
+// Whether a raw value that is asked for is one of so many bits.
+fn is_of_bits(wanted: Option<u64>, bits: u32) -> bool
+    requires some { 1 ≤ bits }
+    requires room { bits ≤ 64 }
+    ensures { result ≡ is_of_bits wanted bits }
+{
+    match wanted {
+        None => true,
+        Some(value) => value <= greatest(false, bits),
+    }
+}
+
+// Bits that make whole bytes.
+fn in_bytes(bits: u32) -> Result<u32, TableFault>
+    ensures value { Gives (λ bits. bits) result (in_bytes bits) }
+    ensures same { IfOk result (λ same. same ≡ bits) }
+{
+    if bits % 8 == 0 {
+        Ok(bits)
+    } else {
+        Err(TableFault::Range)
+    }
+}
+
+// The first bit of a field of whole bytes.
+fn byte_at(table: &Table) -> Result<u32, TableFault>
+    ensures value { Gives (λ at. at) result (byte_at_of (table_view table.now)) }
+    ensures range { IfOk result (λ at. at ≤ 1783) }
+{
+    in_bytes(whole_at(table, "at", 0, LAST_BIT)?)
+}
+
+// The bits of a field of whole bytes.
+fn byte_bits(table: &Table) -> Result<u32, TableFault>
+    ensures value { Gives (λ bits. bits) result (byte_bits_of (table_view table.now)) }
+    ensures range { IfOk result (λ bits. (1 ≤ bits) × (bits ≤ 1784)) }
+{
+    in_bytes(whole_at(table, "bits", 1, MESSAGE_BITS)?)
 }
 
 fn number_field(alloc: Global, table: &Table) -> Result<Field, TableFault>
@@ -74,7 +147,8 @@ fn number_field(alloc: Global, table: &Table) -> Result<Field, TableFault>
     let bits = whole_at(table, "bits", 1, MOST_NUMBER_BITS)?;
     let signed = truth_at(table, "signed")?;
     let resolution = resolution_at(table)?;
-    if at + bits > MESSAGE_BITS || (signed && bits < 2) {
+    let wanted = wanted_at(table)?;
+    if at + bits > MESSAGE_BITS || (signed && bits < 2) || !is_of_bits(wanted, bits) {
         return Err(TableFault::Range);
     }
     Ok(Field {
@@ -83,24 +157,94 @@ fn number_field(alloc: Global, table: &Table) -> Result<Field, TableFault>
         at,
         bits,
         meaning: Meaning::Number { signed, resolution },
+        wanted,
     })
 }
 
-/// Reads a field, by its kind.
-pub fn read_field(alloc: Global, value: &Value) -> Result<Field, TableFault>
-    ensures { let d = view value.now in
-        GivesOrMemory (λ field. field) result (judged (field_faults d) (field d)) }
+fn lookup_field(alloc: Global, lookups: &Lookups, table: &Table) -> Result<Field, TableFault>
+    ensures { let names = map (λ (lookup : LookupParts). lookup.name) lookups.now in
+        let f = table_view table.now in
+        GivesOrMemory (λ field. field) result (judged (lookup_field_faults names f) (lookup_field lookups.now f)) }
+{
+    if !has_only_keys(table, Place::LookupField) {
+        return Err(TableFault::Key);
+    }
+    let name = text_at(table, "name")?;
+    let at = whole_at(table, "at", 0, LAST_BIT)?;
+    let bits = whole_at(table, "bits", 1, MOST_LOOKUP_BITS)?;
+    let wanted = wanted_at(table)?;
+    let lookup_name = text_at(table, "lookup")?;
+    if at + bits > MESSAGE_BITS || !is_of_bits(wanted, bits) {
+        return Err(TableFault::Range);
+    }
+    let Some(lookup) = lookups.find(lookup_name) else {
+        return Err(TableFault::Lookup);
+    };
+    Ok(Field {
+        name: String::from_str(alloc, name)?,
+        name_json: text_json(alloc, name)?,
+        at,
+        bits,
+        meaning: Meaning::Named(lookup.clone()?),
+        wanted,
+    })
+}
+
+fn byte_field(alloc: Global, meaning: Meaning, table: &Table) -> Result<Field, TableFault>
+    requires { IsByteMeaning (seen_meaning meaning) }
+    ensures { let f = table_view table.now in
+        GivesOrMemory (λ field. field) result (judged (byte_field_faults f) (byte_field (seen_meaning meaning) f)) }
+{
+    if !has_only_keys(table, Place::ByteField) {
+        return Err(TableFault::Key);
+    }
+    let name = text_at(table, "name")?;
+    let at = byte_at(table)?;
+    let bits = byte_bits(table)?;
+    if at + bits > MESSAGE_BITS {
+        return Err(TableFault::Range);
+    }
+    Ok(Field {
+        name: String::from_str(alloc, name)?,
+        name_json: text_json(alloc, name)?,
+        at,
+        bits,
+        meaning,
+        wanted: None,
+    })
+}
+
+fn named_kind(name: &str) -> Result<FieldKind, TableFault>
+    ensures { Gives (λ kind. kind) result (named_field_kind name.now) }
+{
+    match name {
+        "number" => Ok(FieldKind::Number),
+        "lookup" => Ok(FieldKind::Lookup),
+        "text" => Ok(FieldKind::Text),
+        "bytes" => Ok(FieldKind::Bytes),
+        _ => Err(TableFault::Text),
+    }
+}
+
+/// Reads a field, by its kind, in a table of these lookups.
+pub fn read_field(alloc: Global, lookups: &Lookups, value: &Value) -> Result<Field, TableFault>
+    ensures { let names = map (λ (lookup : LookupParts). lookup.name) lookups.now in
+        let d = view value.now in
+        GivesOrMemory (λ field. field) result (judged (field_faults names d) (field lookups.now d)) }
 {
     let table = as_members(value)?;
-    match any_text_at(table, "kind")? {
-        "number" => number_field(alloc, table),
-        _ => Err(TableFault::Text),
+    match named_kind(any_text_at(table, "kind")?)? {
+        FieldKind::Number => number_field(alloc, table),
+        FieldKind::Lookup => lookup_field(alloc, lookups, table),
+        FieldKind::Text => byte_field(alloc, Meaning::Text, table),
+        FieldKind::Bytes => byte_field(alloc, Meaning::Bytes, table),
     }
 }
 
 impl Field {
     ghost use Rattle.n2k_table.specs.Text.{text_json};
-    ghost use Rattle.n2k_table.specs.Shown.{shown_parts, shown};
+    ghost use Rattle.n2k_table.specs.Shown.{shown_parts, lies_inside, field_bytes, shown};
+    ghost use Rattle.n2k_table.specs.Table.{field_matches};
 
     /// The name.
     pub fn name(&self) -> &str
@@ -116,18 +260,50 @@ impl Field {
         self.name_json.as_slice()
     }
 
+    fn lies_inside(&self, data: &[u8]) -> bool
+        ensures { result ≡ lies_inside self.now «data».now }
+    {
+        (self.at + self.bits) as usize <= data.len().saturating_mul(8)
+    }
+
+    /// Whether the data have the raw value that the field asks for, or it asks for none.
+    pub fn matches(&self, data: &[u8]) -> bool
+        ensures { result ≡ field_matches «data».now self.now }
+    {
+        match self.wanted {
+            None => true,
+            Some(wanted) => self.lies_inside(data) && raw(data, self.at, self.bits) == wanted,
+        }
+    }
+
+    // The bytes of a field that begins and ends with a byte.
+    fn bytes<'a>(&self, data: &'a [u8]) -> &'a [u8]
+        requires { self.now.at + self.now.bits ≤ 8 * length «data».now }
+        ensures { result.now ≡ field_bytes self.now «data».now }
+    {
+        let from = self.at as usize / 8;
+        let to = (self.at + self.bits) as usize / 8;
+        &data[from..to]
+    }
+
     /// What the field shows of the data of a message: nothing where it does not lie wholly inside.
-    pub fn shown(&self, data: &[u8]) -> Shown
+    pub fn shown<'a>(&'a self, data: &'a [u8]) -> Shown<'a>
         ensures { shown_parts result ≡ shown self.now «data».now }
     {
-        if (self.at + self.bits) as usize > data.len().saturating_mul(8) {
+        if !self.lies_inside(data) {
             return Shown::Absent;
         }
-        let raw = raw(data, self.at, self.bits);
-        match self.meaning {
+        match &self.meaning {
             Meaning::Number { signed, resolution } => {
-                shown_number(signed, resolution, self.bits, raw)
+                let raw = raw(data, self.at, self.bits);
+                shown_number(*signed, *resolution, self.bits, raw)
             }
+            Meaning::Named(lookup) => {
+                let raw = raw(data, self.at, self.bits);
+                shown_name(lookup.name_of(raw), self.bits, raw)
+            }
+            Meaning::Text => shown_text(self.bytes(data)),
+            Meaning::Bytes => Shown::Bytes(self.bytes(data)),
         }
     }
 }

@@ -18,9 +18,11 @@ mod definition;
 mod fault;
 mod field;
 mod line;
+mod lookup;
 mod resolution;
 mod shown;
 mod table;
+mod tail;
 mod text;
 mod tree;
 

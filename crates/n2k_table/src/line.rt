@@ -1,25 +1,25 @@
 //! The JSON line of a message.
-ghost use Rattle.std.specs.Prelude.{◌≡◌, ◌++◌, ◌||◌, true, is_some, decimal, IfOk, IfSome, OnOk, OnErr, IsSome};
+ghost use Rattle.std.specs.Prelude.{◌≡◌, ◌++◌, ◌||◌, [], ◌∷◌, Bool, true, is_some, decimal, codes, option_map, IfOk, IfSome, OnOk, OnErr, Some};
 ghost use Rattle.n2k_table.specs.Shown.{shown, shown_parts, all_shown};
-ghost use Rattle.n2k_table.specs.Table.{kind};
 ghost use Rattle.n2k_table.specs.Text.{text_json};
-ghost use Rattle.n2k_table.specs.Json.{value_json, member_json, member_text, fields_json, id_json, head_json, json};
+ghost use Rattle.n2k_table.specs.Json.{value_json, member_json, member_text, fields_json, id_json, head_json, unmatched_json, chosen_json, json};
 
 use crate::decimal::push_decimal;
 use crate::definition::Definition;
 use crate::field::Field;
 use crate::shown::Shown;
 use crate::table::Table;
+use crate::tail::Tail;
+use crate::text::{push_characters, push_pairs, push_text};
 use itoa::Buffer;
 use n2k_wire::{Id, Packet};
 use std::alloc::{AllocError, Global};
-
-/// Room for most lines.
-const USUAL_LINE: usize = 512;
+use std::mem;
 
 // Appends a label, and a number behind it.
-fn push_number(label: &[u8], number: u32, line: &mut Vec<u8>) -> Result<(), AllocError>
-    ensures { OnOk result (line.new.items ≡ line.old.items ++ label.now ++ decimal number) }
+fn push_number(label: &[u8], number: u32, line: &mut Tail) -> Result<(), AllocError>
+    ensures appends { OnOk result (line.new.items ≡ line.old.items ++ label.now ++ decimal number) }
+    ensures before { line.new.before ≡ line.old.before }
 {
     let mut buffer = Buffer::new();
     line.extend_from_slice(label)?;
@@ -28,8 +28,9 @@ fn push_number(label: &[u8], number: u32, line: &mut Vec<u8>) -> Result<(), Allo
 
 // Appends who sent what to whom.
 #[tactic(auto, using(std::proofs::Common::append_assoc), unfolding(crate::specs::Json::id_json))]
-fn push_id(id: Id, line: &mut Vec<u8>) -> Result<(), AllocError>
-    ensures { OnOk result (line.new.items ≡ line.old.items ++ id_json id) }
+fn push_id(id: Id, line: &mut Tail) -> Result<(), AllocError>
+    ensures appends { OnOk result (line.new.items ≡ line.old.items ++ id_json id) }
+    ensures before { line.new.before ≡ line.old.before }
 {
     push_number(b",\"prio\":", u32::from(id.prio), line)?;
     push_number(b",\"src\":", u32::from(id.src), line)?;
@@ -37,47 +38,32 @@ fn push_id(id: Id, line: &mut Vec<u8>) -> Result<(), AllocError>
     push_number(b",\"pgn\":", id.pgn, line)
 }
 
-// Appends what stands before the fields.
-#[tactic(auto, using(std::proofs::Common::append_assoc), unfolding(crate::specs::Json::head_json))]
-fn push_head(
-    definition: &Definition<'_>,
-    packet: &Packet,
-    line: &mut Vec<u8>,
-) -> Result<(), AllocError>
-    ensures { OnOk result (line.new.items ≡ line.old.items ++ head_json definition.now packet.now) }
+// Appends what stands before the fields, of a description as JSON.
+fn push_head(description_json: &[u8], packet: &Packet, line: &mut Tail) -> Result<(), AllocError>
+    ensures appends { OnOk result (line.new.items ≡ line.old.items ++ head_json description_json.now packet.now) }
+    ensures before { line.new.before ≡ line.old.before }
 {
     line.extend_from_slice(b"{\"timestamp\":")?;
-    push_stamp(packet, line)?;
+    push_text(packet.stamp(), line)?;
     push_id(packet.id(), line)?;
     line.extend_from_slice(b",\"description\":")?;
-    line.extend_from_slice(definition.description_json())?;
+    line.extend_from_slice(description_json)?;
     line.extend_from_slice(b",\"fields\":")?;
     Ok(())
 }
 
-// Appends the stamp as a text. Its bytes are printable, so a quote and a backslash alone are escaped.
-fn push_stamp(packet: &Packet, line: &mut Vec<u8>) -> Result<(), AllocError>
-    ensures { OnOk result (line.new.items ≡ line.old.items ++ text_json packet.now.stamp) }
-{
-    line.push(b'"')?;
-    for byte in packet.stamp() {
-        if *byte == b'"' || *byte == b'\\' {
-            line.push(b'\\')?;
-        }
-        line.push(*byte)?;
-    }
-    line.push(b'"')?;
-    Ok(())
-}
-
 // Appends what a field shows as a value.
-fn push_value(shown: Shown, line: &mut Vec<u8>) -> Result<(), AllocError>
-    ensures { OnOk result (IfSome (value_json true (shown_parts shown))
+fn push_value(shown: Shown<'_>, line: &mut Tail) -> Result<(), AllocError>
+    ensures appends { OnOk result (IfSome (value_json true (shown_parts shown.entry))
         (λ value. line.new.items ≡ line.old.items ++ value)) }
+    ensures before { line.new.before ≡ line.old.before }
 {
     match shown {
         Shown::Absent => line.extend_from_slice(b"null"),
         Shown::Number { value, decimals } => push_decimal(value, decimals, line),
+        Shown::Name(name) => push_text(name.as_bytes(), line),
+        Shown::Text(numbers) => push_characters(numbers, line),
+        Shown::Bytes(bytes) => push_pairs(bytes, line),
     }
 }
 
@@ -88,11 +74,12 @@ fn push_member(
     data: &[u8],
     empty: bool,
     later: bool,
-    line: &mut Vec<u8>,
+    line: &mut Tail,
 ) -> Result<bool, AllocError>
-    ensures { let member = member_json empty (field.now.name, shown field.now «data».now) in
+    ensures appends { let member = member_json empty (field.now.name, shown field.now «data».now) in
         IfOk result (λ more. (line.new.items ≡ line.old.items ++ member_text later member)
         × (more ≡ (later || is_some member))) }
+    ensures before { line.new.before ≡ line.old.before }
 {
     let shown = field.shown(data);
     if matches!(shown, Shown::Absent) && !empty {
@@ -112,10 +99,11 @@ fn push_fields(
     fields: &[Field],
     data: &[u8],
     empty: bool,
-    line: &mut Vec<u8>,
+    line: &mut Tail,
 ) -> Result<(), AllocError>
-    ensures { OnOk result
+    ensures appends { OnOk result
         (line.new.items ≡ line.old.items ++ fields_json empty (all_shown fields.now «data».now)) }
+    ensures before { line.new.before ≡ line.old.before }
 {
     line.push(b'{')?;
     let mut later = false;
@@ -126,14 +114,60 @@ fn push_fields(
     Ok(())
 }
 
-/// Appends the JSON line of a packet whose PGN the table has, with its LF: when it was seen, its priority,
-/// source, destination and PGN, and the fields of its definition in their order, without spaces. A field
-/// that shows nothing is left out, and with `empty` it is `null`. A refused growth leaves `out` as it was.
+// Appends the line of a message under a definition.
+#[tactic(auto, using(std::proofs::Common::append_assoc))]
+fn push_matched(
+    definition: &Definition<'_>,
+    packet: &Packet,
+    empty: bool,
+    line: &mut Tail,
+) -> Result<(), AllocError>
+    ensures appends { OnOk result (line.new.items ≡ line.old.items ++ chosen_json (Some definition.now) packet.now empty) }
+    ensures before { line.new.before ≡ line.old.before }
+{
+    push_head(definition.description_json(), packet, line)?;
+    push_fields(definition.stored_fields(), packet.data(), empty, line)?;
+    line.extend_from_slice(b"}\n")?;
+    Ok(())
+}
+
+// Appends the line of a message that no definition matches: its data as they are.
+fn push_unmatched(packet: &Packet, line: &mut Tail) -> Result<(), AllocError>
+    ensures appends { OnOk result (line.new.items ≡ line.old.items ++ unmatched_json packet.now) }
+    ensures before { line.new.before ≡ line.old.before }
+{
+    push_head(b"\"Unmatched\"", packet, line)?;
+    line.extend_from_slice(b"{\"Data\":")?;
+    push_pairs(packet.data(), line)?;
+    line.extend_from_slice(b"}}\n")?;
+    Ok(())
+}
+
+fn push_line(
+    definition: Option<Definition<'_>>,
+    packet: &Packet,
+    empty: bool,
+    line: &mut Tail,
+) -> Result<(), AllocError>
+    ensures appends { OnOk result (line.new.items ≡ line.old.items ++ chosen_json definition.entry packet.now empty) }
+    ensures before { line.new.before ≡ line.old.before }
+{
+    match definition {
+        Some(definition) => push_matched(&definition, packet, empty, line),
+        None => push_unmatched(packet, line),
+    }
+}
+
+/// Appends the JSON line of a packet, with its LF: when it was seen, its priority, source, destination and
+/// PGN, and the fields of its definition in their order, without spaces. A field that shows nothing is left
+/// out, and with `empty` it is `null`. A packet of an unknown PGN, and one that no definition of its PGN
+/// matches, is `Unmatched` and has its data as they are. A refused growth leaves `out` as it was.
 ///
 /// ```text
 /// {"timestamp":"2011-11-24-22:42:04.388","prio":2,"src":36,"dst":255,"pgn":127251,"description":"Rate of Turn","fields":{"SID":125,"Rate":0.00509634375}}
+/// {"timestamp":"2020-01-01T00:00:00.000Z","prio":7,"src":5,"dst":255,"pgn":130820,"description":"Unmatched","fields":{"Data":"07 98 01 41"}}
 /// ```
-#[tactic(auto, using(std::proofs::Common::append_assoc), unfolding(crate::specs::Json::json))]
+#[tactic(auto, unfolding(crate::specs::Json::json))]
 pub fn json_line(
     alloc: Global,
     table: &Table,
@@ -141,19 +175,12 @@ pub fn json_line(
     empty: bool,
     out: &mut Vec<u8>,
 ) -> Result<(), AllocError>
-    requires known { IsSome (kind table.now packet.now.id.pgn) }
     ensures appends { OnOk result (out.new.items ≡ out.old.items ++ json table.now packet.now empty) }
     ensures unchanged { OnErr result (out.new.items ≡ out.old.items) }
 {
-    let id = packet.id();
-    let data = packet.data();
-    let Some(definition) = table.choose(id.pgn, data) else {
-        unreachable!();
-    };
-    let mut line = Vec::with_capacity(alloc, USUAL_LINE)?;
-    push_head(&definition, packet, &mut line)?;
-    push_fields(definition.stored_fields(), data, empty, &mut line)?;
-    line.extend_from_slice(b"}\n")?;
-    out.extend_from_slice(&line)?;
-    Ok(())
+    let definition = table.choose(packet.id().pgn, packet.data());
+    let mut line = Tail::after(mem::replace(out, Vec::new(alloc)));
+    let written = push_line(definition, packet, empty, &mut line);
+    *out = line.end(written.is_ok());
+    written
 }

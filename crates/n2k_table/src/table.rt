@@ -2,13 +2,15 @@
 ghost use Rattle.std.specs.Prelude.{◌≡◌, ◌≢◌, [], All, Contains, Some, IfOk, IfErr, map, flat_map};
 ghost use Rattle.toml.specs.View.{view, table_view, array_view};
 ghost use Rattle.n2k_table.specs.declared.fault.TableFault.TheVariants.{Memory};
-ghost use Rattle.n2k_table.specs.Fault.{GivesOrMemory, judged};
+ghost use Rattle.n2k_table.specs.Fault.{GivesOrMemory, judged, faults_in};
+ghost use Rattle.n2k_table.specs.Lookup.{LookupParts, lookups_faults};
 ghost use Rattle.n2k_table.specs.Tree.{elements};
 ghost use Rattle.n2k_table.specs.Definition.{definition_faults, definition};
-ghost use Rattle.n2k_table.specs.Table.{definitions_faults, top_faults, top_definitions};
+ghost use Rattle.n2k_table.specs.Table.{definitions_faults, lookups_of, definitions_of, definitions_in, top_faults, top_lookups, top_definitions};
 
 use crate::definition::{Definition, Kind, StoredDefinition, has_mixed, read_definition};
 use crate::fault::TableFault;
+use crate::lookup::{Lookups, read_lookups};
 use crate::tree::{Place, elements_if_there, has_only_keys, whole_at};
 use sha2::{Digest, Sha256};
 use std::alloc::Global;
@@ -34,29 +36,68 @@ impl Model for Table {
 }
 
 // The definitions, up to a first fault among theirs.
-fn each_definition(alloc: Global, values: &Array) -> Result<Vec<StoredDefinition>, TableFault>
-    ensures { let ds = elements (array_view values.now) in
-        GivesOrMemory (λ v. v.items) result (judged (flat_map definition_faults ds) (map definition ds)) }
+fn each_definition(
+    alloc: Global,
+    lookups: &Lookups,
+    values: &Array,
+) -> Result<Vec<StoredDefinition>, TableFault>
+    ensures { let names = map (λ (lookup : LookupParts). lookup.name) lookups.now in
+        let ds = elements (array_view values.now) in
+        GivesOrMemory (λ v. v.items) result
+        (judged (flat_map (definition_faults names) ds) (map (definition lookups.now) ds)) }
 {
     let mut definitions = Vec::new(alloc);
     for value in values {
-        definitions.push(read_definition(alloc, value)?)?;
+        definitions.push(read_definition(alloc, lookups, value)?)?;
     }
     Ok(definitions)
 }
 
-fn read_definitions(alloc: Global, values: &Array) -> Result<Vec<StoredDefinition>, TableFault>
-    ensures { let ds = elements (array_view values.now) in
-        GivesOrMemory (λ v. v.items) result (judged (definitions_faults ds) (map definition ds)) }
+fn read_definitions(
+    alloc: Global,
+    lookups: &Lookups,
+    values: &Array,
+) -> Result<Vec<StoredDefinition>, TableFault>
+    ensures { let names = map (λ (lookup : LookupParts). lookup.name) lookups.now in
+        let ds = elements (array_view values.now) in
+        GivesOrMemory (λ v. v.items) result (judged (definitions_faults names ds) (map (definition lookups.now) ds)) }
 {
     if values.len() > MOST_DEFINITIONS {
         return Err(TableFault::TooMany);
     }
-    let definitions = each_definition(alloc, values)?;
+    let definitions = each_definition(alloc, lookups, values)?;
     if has_mixed(&definitions) {
         return Err(TableFault::Mixed);
     }
     Ok(definitions)
+}
+
+// The lookups of the top level.
+fn top_lookups(alloc: Global, top: &toml::Table) -> Result<Lookups, TableFault>
+    ensures { let m = table_view top.now in
+        GivesOrMemory (λ l. l) result (judged (faults_in (lookups_of m) lookups_faults) (top_lookups m)) }
+{
+    match elements_if_there(top, "lookup")? {
+        None => Ok(Lookups::none(alloc)),
+        Some(values) => read_lookups(alloc, values),
+    }
+}
+
+// The definitions of the top level, in a table of these lookups.
+fn top_definitions(
+    alloc: Global,
+    lookups: &Lookups,
+    top: &toml::Table,
+) -> Result<Vec<StoredDefinition>, TableFault>
+    ensures { let names = map (λ (lookup : LookupParts). lookup.name) lookups.now in
+        let m = table_view top.now in
+        GivesOrMemory (λ v. v.items) result
+        (judged (faults_in (definitions_of m) (definitions_faults names)) (definitions_in lookups.now m)) }
+{
+    match elements_if_there(top, "pgn")? {
+        None => Ok(Vec::new(alloc)),
+        Some(values) => read_definitions(alloc, lookups, values),
+    }
 }
 
 fn read_top(alloc: Global, top: &toml::Table) -> Result<Vec<StoredDefinition>, TableFault>
@@ -69,10 +110,8 @@ fn read_top(alloc: Global, top: &toml::Table) -> Result<Vec<StoredDefinition>, T
     if !has_only_keys(top, Place::Document) {
         return Err(TableFault::Key);
     }
-    match elements_if_there(top, "pgn")? {
-        None => Ok(Vec::new(alloc)),
-        Some(values) => read_definitions(alloc, values),
-    }
+    let lookups = top_lookups(alloc, top)?;
+    top_definitions(alloc, &lookups, top)
 }
 
 impl Table {
@@ -135,6 +174,17 @@ impl Table {
         None
     }
 
+    fn chosen(&self, pgn: u32, data: &[u8]) -> Option<&StoredDefinition>
+        ensures { option_map (λ d. d.now) result ≡ choice self.now pgn «data».now }
+    {
+        for definition in &self.definitions {
+            if definition.number() == pgn && definition.matches(data) {
+                return Some(definition);
+            }
+        }
+        None
+    }
+
     /// How the messages of a PGN are sent, as its definitions say; `None` where the table has none. It takes
     /// no memory.
     pub fn kind(&self, pgn: u32) -> Option<Kind>
@@ -144,10 +194,11 @@ impl Table {
     }
 
     /// The definition that describes a message of a PGN with these data (in the order of the bus): the first
-    /// of the PGN in file order, `None` where the table has none. It takes no memory.
+    /// of the PGN in file order all of whose match fields lie in the data and have their value. `None` where
+    /// there is none. It takes no memory.
     pub fn choose(&self, pgn: u32, data: &[u8]) -> Option<Definition<'_>>
         ensures { result ≡ choice self.now pgn «data».now }
     {
-        Some(Definition::of(self.first(pgn)?))
+        Some(Definition::of(self.chosen(pgn, data)?))
     }
 }

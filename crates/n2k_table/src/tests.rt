@@ -1,54 +1,186 @@
 //! The worked examples of the table, of field values and of JSON lines.
 use crate::{Kind, Shown, Table, TableFault, decimal_text, json_line};
 use n2k_wire::{Id, Packet};
-use std::alloc::Global;
+use std::alloc::{AllocError, Global};
 use std::test::Fail;
 
-// Two messages of single frames, with numbers alone.
+// The sample table, in another spelling of the same document.
 const SAMPLE: &str = "format = 1
+
+[[lookup]]
+name = 'Reference'
+entries = [[0, 'True'], [1, 'Magnetic'], [2, 'Error']]
 
 [[pgn]]
 number = 129026
-kind = \"single\"
-description = \"COG & SOG, Rapid Update\"
+kind = 'single'
+description = 'COG & SOG, Rapid Update'
 fields = [
-  { name = \"SID\", kind = \"number\", at = 0, bits = 8 },
-  { name = \"COG\", kind = \"number\", at = 16, bits = 16, resolution = \"0.0001\" },
-  { name = \"SOG\", kind = \"number\", at = 32, bits = 16, resolution = \"0.01\" },
+  { name = 'SID', kind = 'number', at = 0, bits = 8 },
+  { name = 'COG Reference', kind = 'lookup', at = 8, bits = 2, lookup = 'Reference' },
+  { name = 'COG', kind = 'number', at = 16, bits = 16, resolution = '0.0001' },
+  { name = 'SOG', kind = 'number', at = 32, bits = 16, resolution = '0.01' },
 ]
 
 [[pgn]]
 number = 127251
-kind = \"single\"
-description = \"Rate of Turn\"
+kind = 'single'
+description = 'Rate of Turn'
 fields = [
-  { name = \"SID\", kind = \"number\", at = 0, bits = 8 },
-  { name = \"Rate\", kind = \"number\", at = 8, bits = 32, signed = true, resolution = \"0.00000003125\" },
+  { name = 'SID', kind = 'number', at = 0, bits = 8 },
+  { name = 'Rate', kind = 'number', at = 8, bits = 32, signed = true, resolution = '0.00000003125' },
 ]
+
+[[pgn]]
+number = 130820
+kind = 'fast'
+description = 'Sample: Label'
+fields = [
+  { name = 'Maker', kind = 'number', at = 0, bits = 11, match = 419 },
+  { name = 'Kind', kind = 'number', at = 16, bits = 8 },
+  { name = 'Label', kind = 'text', at = 24, bits = 64 } ]
 ";
 
-// What a table is refused for, and `None` where it reads.
-fn fault_of(alloc: Global, text: &str) -> Option<TableFault> {
-    Table::read(alloc, text.as_bytes()).err()
+// What is answered where a part of the sample, where it stands first, is replaced: answer, part, replacement.
+const CHANGES: &str = "reads | format = 1 | format = 1
+1 NotToml | bits = 64 } ] | bits = 64 }
+2 Format | format = 1 | 
+2 Format | format = 1 | format = 2
+2 Format | format = 1 | format = 3
+2 Format | format = 1 | format = '1'
+3 Key | [[lookup]] | [[lookups]]
+3 Key | '0.01' } | '0.01', unit = 'm' }
+3 Key | '0.0001' } | '0.0001', lookup = 'Reference' }
+4 Range | bits = 8 | bits = 0
+4 Range | match = 419 | match = 2048
+4 Range | at = 24 | at = 20
+4 Range | '0.01' | '0.00'
+5 Text | 'single' | 'slow'
+5 Text | '0.01' | '.01'
+6 Twice | 'COG', | 'SID',
+6 Twice | entries = [[0, 'True'], [1, | entries = [[0, 'True'], [0,
+7 Lookup | lookup = 'Reference' | lookup = 'Ref'
+8 Mixed | number = 130820 | number = 129026
+reads | [1, 'Magnetic'], [2, 'Error'] | [3, 'None']
+3 Key | name = 'Reference' | 
+3 Key | entries = | items =
+3 Key | number = 129026 | 
+3 Key | kind = 'single' | 
+3 Key | description = 'Rate of Turn' | 
+3 Key | fields = | list =
+3 Key | name = 'SID', | 
+3 Key | kind = 'number', | 
+3 Key | at = 16, | 
+3 Key | bits = 11, | 
+3 Key | , lookup = 'Reference' | 
+3 Key | name = 'Reference' | name = 1
+3 Key | [[0, 'True'], [1, 'Magnetic'], [2, 'Error']] | 'True'
+3 Key | [0, 'True'] | 0
+3 Key | [0, 'True'] | [0]
+3 Key | [0, 'True'] | [0, 'True', 0]
+3 Key | [0, 'True'] | ['0', 'True']
+3 Key | [0, 'True'] | [0, 1]
+3 Key | number = 129026 | number = '129026'
+3 Key | kind = 'single' | kind = 1
+3 Key | 'Rate of Turn' | 1
+3 Key | name = 'SID' | name = 1
+3 Key | kind = 'number' | kind = 1
+3 Key | at = 16 | at = '16'
+3 Key | bits = 11 | bits = 11.0
+3 Key | signed = true | signed = 1
+3 Key | '0.01' | 0.01
+3 Key | match = 419 | match = '419'
+3 Key | lookup = 'Reference' | lookup = 1
+3 Key | [[lookup]] | [lookup]
+reads | number = 127251 | number = 0
+reads | number = 127251 | number = 16777215
+4 Range | number = 127251 | number = -1
+4 Range | number = 127251 | number = 16777216
+reads | [1, 'M | [4294967295, 'M
+4 Range | [1, 'M | [4294967296, 'M
+4 Range | [1, 'M | [-1, 'M
+5 Text | 'Magnetic' | ''
+5 Text | 'Reference' | ''
+5 Text | 'Rate of Turn' | ''
+5 Text | lookup = 'Reference' | lookup = ''
+8 Mixed | number = 127251 | number = 130820
+reads | [[0, 'True'], [1, 'Magnetic'], [2, 'Error']] | []";
+
+// What is answered for a field: answer, field.
+const FIELDS: &str = "reads | kind = 'number', at = 0, bits = 1
+reads | kind = 'number', at = 1783, bits = 1
+reads | kind = 'number', at = 1720, bits = 64, signed = true
+4 Range | kind = 'number', at = 1784, bits = 1
+4 Range | kind = 'number', at = -1, bits = 8
+4 Range | kind = 'number', at = 0, bits = 0
+4 Range | kind = 'number', at = 0, bits = 65
+4 Range | kind = 'number', at = 1721, bits = 64
+4 Range | kind = 'number', at = 0, bits = 1, signed = true
+reads | kind = 'number', at = 0, bits = 1, signed = false
+reads | kind = 'number', at = 0, bits = 2, signed = true
+reads | kind = 'number', at = 0, bits = 8, match = 0
+reads | kind = 'number', at = 0, bits = 8, match = 255
+4 Range | kind = 'number', at = 0, bits = 8, match = 256
+4 Range | kind = 'number', at = 0, bits = 8, match = -1
+reads | kind = 'number', at = 0, bits = 64, match = 9223372036854775807
+4 Range | kind = 'number', at = 0, bits = 62, match = 9223372036854775807
+1 NotToml | kind = 'number', at = 0, bits = 64, match = 9223372036854775808
+reads | kind = 'number', at = 0, bits = 8, resolution = '0.000000000000000001'
+5 Text | kind = 'number', at = 0, bits = 8, resolution = '0.0000000000000000001'
+reads | kind = 'number', at = 0, bits = 8, resolution = '4294967295'
+4 Range | kind = 'number', at = 0, bits = 8, resolution = '4294967296'
+4 Range | kind = 'number', at = 0, bits = 8, resolution = '0'
+5 Text | kind = 'number', at = 0, bits = 8, resolution = '00000000001'
+5 Text | kind = 'number', at = 0, bits = 8, resolution = '1.'
+5 Text | kind = 'number', at = 0, bits = 8, resolution = ''
+5 Text | kind = 'number', at = 0, bits = 8, resolution = '-1'
+5 Text | kind = 'float', at = 0, bits = 8
+reads | kind = 'lookup', at = 0, bits = 1, lookup = 'L'
+reads | kind = 'lookup', at = 1752, bits = 32, lookup = 'L', match = 4294967295
+4 Range | kind = 'lookup', at = 0, bits = 33, lookup = 'L'
+4 Range | kind = 'lookup', at = 1753, bits = 32, lookup = 'L'
+4 Range | kind = 'lookup', at = 0, bits = 0, lookup = 'L'
+4 Range | kind = 'lookup', at = 0, bits = 2, lookup = 'L', match = 4
+3 Key | kind = 'lookup', at = 0, bits = 2, lookup = 'L', signed = false
+3 Key | kind = 'lookup', at = 0, bits = 2, lookup = 'L', resolution = '1'
+7 Lookup | kind = 'lookup', at = 0, bits = 2, lookup = 'l'
+reads | kind = 'text', at = 0, bits = 8
+reads | kind = 'text', at = 0, bits = 1784
+reads | kind = 'bytes', at = 1776, bits = 8
+4 Range | kind = 'bytes', at = 0, bits = 1792
+4 Range | kind = 'bytes', at = 8, bits = 1784
+4 Range | kind = 'bytes', at = 4, bits = 8
+4 Range | kind = 'bytes', at = 0, bits = 12
+4 Range | kind = 'text', at = 0, bits = 0
+3 Key | kind = 'text', at = 0, bits = 8, match = 0
+3 Key | kind = 'bytes', at = 0, bits = 8, resolution = '1'";
+
+// What reading a table answers: `reads`, or the fault with its number.
+fn answer(alloc: Global, text: &str) -> Result<String, AllocError> {
+    match Table::read(alloc, text.as_bytes()) {
+        Ok(_) => String::from_str(alloc, "reads"),
+        Err(fault) => format!(in alloc; "{fault}"),
+    }
 }
 
-// A table of one definition, whose fields are given.
-fn with_fields(alloc: Global, fields: &str) -> Result<Table, Fail> {
-    let text = format!(in alloc;
-        "format = 1\npgn = [{{ number = 65280, kind = \"fast\", description = \"D\", fields = [{fields}] }}]\n"
-    )?;
-    Ok(Table::read(alloc, text.as_bytes())?)
+// A table of a lookup and of one definition, with these fields.
+fn with_fields(alloc: Global, fields: &str) -> Result<String, AllocError> {
+    format!(in alloc;
+        "format = 1\npgn = [{{ number = 65280, kind = 'fast', description = 'D', fields = [{fields}] }}]\nlookup = [{{ name = 'L', entries = [[3, 'Three'], [0, 'z\u{e9}ro \"0\"']] }}]\n"
+    )
 }
 
 #[test]
 fn sample_reads(rt: HostRuntime) -> Result<(), Fail> {
     let table = Table::read(rt.alloc(), SAMPLE.as_bytes())?;
     assert_eq!(rt; table.kind(129026), Some(Kind::Single));
-    assert_eq!(rt; table.kind(127251), Some(Kind::Single));
-    assert_eq!(rt; table.kind(130820), None);
+    assert_eq!(rt; table.kind(130820), Some(Kind::Fast));
+    assert_eq!(rt; table.kind(130821), None);
     let definition = table.choose(127251, &[]).ok_or("a definition")?;
     assert_eq!(rt; definition.description(), "Rate of Turn");
-    assert!(rt; table.choose(130820, &[]).is_none());
+    assert!(rt; table.choose(130821, &[]).is_none());
+    assert!(rt; table.choose(130820, &[0xa3]).is_none());
+    assert!(rt; table.choose(130820, &[0xa3, 0x99]).is_some());
     Ok(())
 }
 
@@ -68,53 +200,13 @@ fn format_alone_reads(rt: HostRuntime) -> Result<(), Fail> {
 
 #[test]
 fn one_change_each(rt: HostRuntime) -> Result<(), Fail> {
-    let cases = [
-        // missing-bracket-not-toml, format-missing, format-3
-        (
-            "0.00000003125\" },\n]",
-            "0.00000003125\" },\n",
-            TableFault::NotToml,
-        ),
-        ("format = 1\n", "", TableFault::Format),
-        ("format = 1", "format = 3", TableFault::Format),
-        // unit-key, lookup-in-a-number, and what no table has yet
-        ("\"0.01\" }", "\"0.01\", unit = \"m\" }", TableFault::Key),
-        (
-            "\"0.0001\" }",
-            "\"0.0001\", lookup = \"Reference\" }",
-            TableFault::Key,
-        ),
-        ("\"0.0001\" }", "\"0.0001\", match = 1 }", TableFault::Key),
-        ("format = 1", "format = 1\nlookup = []", TableFault::Key),
-        ("bits = 8", "bits = \"8\"", TableFault::Key),
-        // bits-zero, a field past the longest message, a sign without a bit beside it, a mantissa of 0
-        ("bits = 8", "bits = 0", TableFault::Range),
-        ("bits = 8", "bits = 65", TableFault::Range),
-        (
-            "at = 16, bits = 16",
-            "at = 1769, bits = 16",
-            TableFault::Range,
-        ),
-        ("bits = 8", "bits = 1, signed = true", TableFault::Range),
-        ("\"0.01\"", "\"0.00\"", TableFault::Range),
-        ("\"0.01\"", "\"42949672.96\"", TableFault::Range),
-        // kind-slow, resolution-without-a-digit, a kind that no field has yet, an empty name
-        ("\"single\"", "\"slow\"", TableFault::Text),
-        ("\"0.01\"", "\".01\"", TableFault::Text),
-        ("\"number\"", "\"text\"", TableFault::Text),
-        ("\"COG\"", "\"\"", TableFault::Text),
-        // name-twice, mixed-kinds
-        ("\"COG\"", "\"SID\"", TableFault::Twice),
-        (
-            "127251\nkind = \"single\"",
-            "129026\nkind = \"fast\"",
-            TableFault::Mixed,
-        ),
-    ];
-    for (old, new, fault) in cases {
+    for case in CHANGES.lines() {
+        let (wanted, change) = case.split_once(" | ").ok_or("an answer")?;
+        let (old, new) = change.split_once(" | ").ok_or("a replacement")?;
         let (front, back) = SAMPLE.split_once(old).ok_or("a part of the sample")?;
         let text = format!(in rt.alloc(); "{front}{new}{back}")?;
-        assert_eq!(rt; fault_of(rt.alloc(), &text), Some(fault), "{new}");
+        let text = answer(rt.alloc(), &text)?;
+        assert_eq!(rt; text.as_str(), wanted, "{case}");
     }
     // the byte FF before the document
     let bytes = b"\xffformat = 1\n";
@@ -126,20 +218,111 @@ fn one_change_each(rt: HostRuntime) -> Result<(), Fail> {
 }
 
 #[test]
-fn many_fields(rt: HostRuntime) -> Result<(), Fail> {
-    for (count, fault) in [(256, None), (257, Some(TableFault::TooMany))] {
-        let mut text = String::from_str(
-            rt.alloc(),
-            "format = 1\npgn = [{ number = 1, kind = \"fast\", description = \"D\", fields = [",
-        )?;
-        for i in 0..count {
-            let field = format!(in rt.alloc();
-                "{{ name = \"f{i}\", kind = \"number\", at = 0, bits = 8 }}, "
-            )?;
-            text.push_str(&field)?;
+fn one_field_each(rt: HostRuntime) -> Result<(), Fail> {
+    for case in FIELDS.lines() {
+        let (wanted, field) = case.split_once(" | ").ok_or("an answer")?;
+        let field = format!(in rt.alloc(); "{{ name = 'F', {field} }}")?;
+        let text = with_fields(rt.alloc(), &field)?;
+        let text = answer(rt.alloc(), &text)?;
+        assert_eq!(rt; text.as_str(), wanted, "{case}");
+    }
+    Ok(())
+}
+
+// A text of so many parts, where `{}` in a part stands for its number.
+fn many(alloc: Global, count: usize, part: &str) -> Result<String, AllocError> {
+    let mut text = String::new(alloc);
+    for i in 0..count {
+        match part.split_once("{}") {
+            None => text.push_str(part)?,
+            Some((front, back)) => {
+                let one = format!(in alloc; "{front}{i}{back}")?;
+                text.push_str(&one)?;
+            }
         }
-        text.push_str("] }]\n")?;
-        assert_eq!(rt; fault_of(rt.alloc(), &text), fault, "{count}");
+    }
+    Ok(text)
+}
+
+#[test]
+fn limits(rt: HostRuntime) -> Result<(), Fail> {
+    let field = "{ name = '{}', kind = 'number', at = 0, bits = 8 }, ";
+    let definition = "{ number = {}, kind = 'fast', description = 'D', fields = [] }, ";
+    let one = "pgn = [{ number = 1, kind = 'fast', description = 'D', fields = [";
+    let cases = [
+        ("pgn = [", 4096, definition, "]", "reads"),
+        ("pgn = [", 4097, definition, "]", "9 TooMany"),
+        (one, 256, field, "] }]", "reads"),
+        (one, 257, field, "] }]", "9 TooMany"),
+        (
+            "lookup = [",
+            1024,
+            "{ name = '{}', entries = [] }, ",
+            "]",
+            "reads",
+        ),
+        (
+            "lookup = [",
+            1025,
+            "{ name = '{}', entries = [] }, ",
+            "]",
+            "9 TooMany",
+        ),
+        (
+            "lookup = [{ name = 'L', entries = [",
+            4096,
+            "[{}, 'N'], ",
+            "] }]",
+            "reads",
+        ),
+        (
+            "lookup = [{ name = 'L', entries = [",
+            4097,
+            "[{}, 'N'], ",
+            "] }]",
+            "9 TooMany",
+        ),
+        (
+            "lookup = [{ entries = [], name = '",
+            255,
+            "N",
+            "' }]",
+            "reads",
+        ),
+        (
+            "lookup = [{ entries = [], name = '",
+            256,
+            "N",
+            "' }]",
+            "5 Text",
+        ),
+        (
+            "lookup = [{ entries = [], name = '",
+            128,
+            "\u{e9}",
+            "' }]",
+            "5 Text",
+        ),
+        (
+            "pgn = [",
+            1,
+            "{ number = 1, kind = 'fast', description = 'D', fields = [], repeat = 1 }",
+            "]",
+            "3 Key",
+        ),
+        (
+            "lookup = [",
+            2,
+            "{ name = 'L', entries = [] }, ",
+            "]",
+            "6 Twice",
+        ),
+    ];
+    for (front, count, part, back, wanted) in cases {
+        let middle = many(rt.alloc(), count, part)?;
+        let text = format!(in rt.alloc(); "format = 1\n{front}{middle}{back}\n")?;
+        let text = answer(rt.alloc(), &text)?;
+        assert_eq!(rt; text.as_str(), wanted, "{count} of {part}");
     }
     Ok(())
 }
@@ -155,7 +338,7 @@ fn decimals(rt: HostRuntime) -> Result<(), Fail> {
         (i128::MIN, 0, "-170141183460469231731687303715884105728"),
         (i128::MIN, 18, "-170141183460469231731.687303715884105728"),
         (i128::MAX, 0, "170141183460469231731687303715884105727"),
-        (i128::MAX, 18, "170141183460469231731.687303715884105727"),
+        (18446744073709551616, 1, "1844674407370955161.6"),
     ];
     for (value, decimals, text) in cases {
         let mut out = Vec::from_slice(rt.alloc(), b"x=")?;
@@ -166,60 +349,159 @@ fn decimals(rt: HostRuntime) -> Result<(), Fail> {
     Ok(())
 }
 
-// A field of the given place shows this of these data.
+// The object of the fields that a table prints of these data.
+fn printed(
+    alloc: Global,
+    table: &Table,
+    pgn: u32,
+    data: &[u8],
+    empty: bool,
+) -> Result<String, Fail> {
+    let id = Id {
+        prio: 2,
+        pgn,
+        src: 36,
+        dst: 255,
+    };
+    let packet = Packet::new(b"a \"b\\c", id, data).ok_or("a packet")?;
+    let mut out = Vec::from_slice(alloc, b"before\n")?;
+    json_line(alloc, table, &packet, empty, &mut out)?;
+    let head = format!(in alloc;
+        "before\n{{\"timestamp\":\"a \\\"b\\\\c\",\"prio\":2,\"src\":36,\"dst\":255,\"pgn\":{pgn},\"description\":"
+    )?;
+    let text = String::from_utf8(out).map_err(|_| "no UTF-8")?;
+    let rest = text.strip_prefix(head.as_str()).ok_or("another head")?;
+    let rest = rest.strip_suffix("}\n").ok_or("another end")?;
+    Ok(String::from_str(alloc, rest)?)
+}
+
 #[test]
 fn single_fields(rt: HostRuntime) -> Result<(), Fail> {
-    let cases: [(&str, &[u8], Option<(i128, u8)>); 18] = [
+    let cases: [(&str, &[u8], &str); 36] = [
         // bits that cross bytes, the low ones first
-        ("at = 4, bits = 8", &[0xa5, 0x5b], Some((0xba, 0))),
-        ("at = 3, bits = 11", &[0xf8, 0x07], Some((255, 0))),
-        ("at = 0, bits = 16", &[0x02, 0x01], Some((0x0102, 0))),
+        ("kind = 'number', at = 4, bits = 8", &[0xa5, 0x5b], "186"),
+        ("kind = 'number', at = 3, bits = 11", &[0xf8, 0x07], "255"),
+        ("kind = 'number', at = 0, bits = 16", &[0x02, 0x01], "258"),
         // 64 bits at an odd bit: -2, and the least
         (
-            "at = 1, bits = 64, signed = true",
+            "kind = 'number', at = 1, bits = 64, signed = true",
             &[0xfc, 0xff, 0xff, 0xff, 0xff, 0xff, 0xff, 0xff, 0x01],
-            Some((-2, 0)),
+            "-2",
         ),
         (
-            "at = 1, bits = 64, signed = true",
+            "kind = 'number', at = 1, bits = 64, signed = true",
             &[0, 0, 0, 0, 0, 0, 0, 0, 1],
-            Some((-9223372036854775808, 0)),
+            "-9223372036854775808",
         ),
         // the greatest product
         (
-            "at = 0, bits = 64, resolution = \"42949672.95\"",
+            "kind = 'number', at = 0, bits = 64, resolution = '42949672.95'",
             &[0xfd, 0xff, 0xff, 0xff, 0xff, 0xff, 0xff, 0xff],
-            Some((79228162495817593506949496835, 2)),
+            "792281624958175935069494968.35",
         ),
         // data that end before the field does
-        ("at = 8, bits = 16", &[1, 2], None),
-        ("at = 8, bits = 9", &[1, 2], None),
+        ("kind = 'number', at = 8, bits = 16", &[1, 2], "null"),
+        ("kind = 'number', at = 8, bits = 9", &[1, 2], "null"),
         // the greatest value from two bits on, the greatest but one from four bits on
-        ("at = 0, bits = 1", &[1], Some((1, 0))),
-        ("at = 0, bits = 2", &[3], None),
-        ("at = 0, bits = 2", &[2], Some((2, 0))),
-        ("at = 0, bits = 3", &[6], Some((6, 0))),
-        ("at = 0, bits = 4", &[15], None),
-        ("at = 0, bits = 4", &[14], None),
-        ("at = 0, bits = 4", &[13], Some((13, 0))),
-        ("at = 0, bits = 4, signed = true", &[7], None),
-        ("at = 0, bits = 4, signed = true", &[6], None),
-        ("at = 0, bits = 4, signed = true", &[15], Some((-1, 0))),
+        ("kind = 'number', at = 0, bits = 1", &[1], "1"),
+        ("kind = 'number', at = 0, bits = 2", &[3], "null"),
+        ("kind = 'number', at = 0, bits = 2", &[2], "2"),
+        ("kind = 'number', at = 0, bits = 3", &[6], "6"),
+        ("kind = 'number', at = 0, bits = 4", &[15], "null"),
+        ("kind = 'number', at = 0, bits = 4", &[14], "null"),
+        ("kind = 'number', at = 0, bits = 4", &[13], "13"),
+        (
+            "kind = 'number', at = 0, bits = 4, signed = true",
+            &[7],
+            "null",
+        ),
+        (
+            "kind = 'number', at = 0, bits = 4, signed = true",
+            &[6],
+            "null",
+        ),
+        (
+            "kind = 'number', at = 0, bits = 4, signed = true",
+            &[15],
+            "-1",
+        ),
+        // a match is the raw value, also of a signed field, and is printed like any other
+        (
+            "kind = 'number', at = 0, bits = 8, match = 255, signed = true",
+            &[255],
+            "-1",
+        ),
+        (
+            "kind = 'number', at = 0, bits = 8, match = 255",
+            &[255],
+            "null",
+        ),
+        // names, asked before a greatest value is absent
+        (
+            "kind = 'lookup', at = 0, bits = 2, lookup = 'L'",
+            &[3],
+            "\"Three\"",
+        ),
+        (
+            "kind = 'lookup', at = 0, bits = 2, lookup = 'L'",
+            &[0],
+            "\"z\u{e9}ro \\\"0\\\"\"",
+        ),
+        ("kind = 'lookup', at = 0, bits = 2, lookup = 'L'", &[2], "2"),
+        ("kind = 'lookup', at = 0, bits = 1, lookup = 'L'", &[1], "1"),
+        (
+            "kind = 'lookup', at = 0, bits = 4, lookup = 'L'",
+            &[14],
+            "14",
+        ),
+        (
+            "kind = 'lookup', at = 0, bits = 4, lookup = 'L'",
+            &[15],
+            "null",
+        ),
+        (
+            "kind = 'lookup', at = 8, bits = 4, lookup = 'L'",
+            &[0],
+            "null",
+        ),
+        // texts: what fills them up is cut, each byte is the character of its number
+        (
+            "kind = 'text', at = 8, bits = 32",
+            &[1, 65, 64, 32, 0],
+            "\"A\"",
+        ),
+        (
+            "kind = 'text', at = 0, bits = 32",
+            &[64, 65, 255, 66],
+            "\"@A\u{ff}B\"",
+        ),
+        ("kind = 'text', at = 0, bits = 16", &[0, 255], "null"),
+        (
+            "kind = 'text', at = 0, bits = 40",
+            &[10, 34, 92, 1, 127],
+            "\"\\n\\\"\\\\\\u0001\u{7f}\"",
+        ),
+        (
+            "kind = 'text', at = 0, bits = 16",
+            &[0xe9, 0x9f],
+            "\"\u{e9}\u{9f}\"",
+        ),
+        ("kind = 'text', at = 0, bits = 24", &[65, 66], "null"),
+        // bytes as they are
+        (
+            "kind = 'bytes', at = 8, bits = 24",
+            &[1, 0xff, 0x0a, 0],
+            "\"FF 0A 00\"",
+        ),
+        ("kind = 'bytes', at = 0, bits = 8", &[0xff, 1], "\"FF\""),
+        ("kind = 'bytes', at = 0, bits = 16", &[1], "null"),
     ];
-    for (place, data, number) in cases {
-        let field = format!(in rt.alloc(); "{{ name = \"F\", kind = \"number\", {place} }}")?;
-        let table = with_fields(rt.alloc(), &field)?;
-        let definition = table.choose(65280, data).ok_or("a definition")?;
-        let mut fields = definition.fields(data);
-        let (name, shown) = fields.next().ok_or("a field")?;
-        assert_eq!(rt; name, "F");
-        let wanted = match number {
-            None => Shown::Absent,
-            Some((value, decimals)) => Shown::Number { value, decimals },
-        };
-        assert_eq!(rt; shown, wanted, "{place}");
-        assert!(rt; fields.next().is_none());
-        assert!(rt; fields.next().is_none());
+    for (field, data, value) in cases {
+        let fields = format!(in rt.alloc(); "{{ name = 'F \"', {field} }}")?;
+        let table = Table::read(rt.alloc(), with_fields(rt.alloc(), &fields)?.as_bytes())?;
+        let line = printed(rt.alloc(), &table, 65280, data, true)?;
+        let wanted = format!(in rt.alloc(); "\"D\",\"fields\":{{\"F \\\"\":{value}}}")?;
+        assert_eq!(rt; line.as_str(), wanted.as_str(), "{field}");
     }
     Ok(())
 }
@@ -227,77 +509,174 @@ fn single_fields(rt: HostRuntime) -> Result<(), Fail> {
 #[test]
 fn lines(rt: HostRuntime) -> Result<(), Fail> {
     let table = Table::read(rt.alloc(), SAMPLE.as_bytes())?;
-    let rate = "127251,\"description\":\"Rate of Turn\"";
-    let cog = "129026,\"description\":\"COG & SOG, Rapid Update\"";
-    let cases: [(u32, &[u8], bool, &str, &str); 8] = [
+    let cases: [(u32, &[u8], bool, &str); 18] = [
+        // cog-and-sog, lookup-and-short-data
+        (
+            129026,
+            &[0x00, 0xfc, 0xff, 0xff, 0, 0, 0xff, 0xff],
+            false,
+            "\"SID\":0,\"COG Reference\":\"True\",\"SOG\":0.00",
+        ),
+        (
+            129026,
+            &[0x00, 0xfc, 0xff, 0xff, 0, 0, 0xff, 0xff],
+            true,
+            "\"SID\":0,\"COG Reference\":\"True\",\"COG\":null,\"SOG\":0.00",
+        ),
+        (
+            129026,
+            &[0x00, 0xff, 0, 0, 0xfe, 0xff, 0xff, 0xff],
+            false,
+            "\"SID\":0,\"COG\":0.0000",
+        ),
+        (
+            129026,
+            &[0x05, 0x00],
+            false,
+            "\"SID\":5,\"COG Reference\":\"True\"",
+        ),
         // rate-of-turn, negative-and-absent
         (
             127251,
-            &[0x7d, 0x0b, 0x7d, 0x02, 0x00, 0xff, 0xff, 0xff],
+            &[0x7d, 0x0b, 0x7d, 0x02, 0, 0xff, 0xff, 0xff],
             false,
-            rate,
             "\"SID\":125,\"Rate\":0.00509634375",
         ),
         (
             127251,
             &[0x7d, 0xff, 0xff, 0xff, 0xff, 0xff, 0xff, 0xff],
             false,
-            rate,
             "\"SID\":125,\"Rate\":-0.00000003125",
         ),
         (
             127251,
             &[0x7d, 0xff, 0xff, 0xff, 0x7f, 0xff, 0xff, 0xff],
             false,
-            rate,
             "\"SID\":125",
         ),
         (
             127251,
             &[0x7d, 0xfe, 0xff, 0xff, 0x7f, 0xff, 0xff, 0xff],
             false,
-            rate,
             "\"SID\":125",
         ),
         (
             127251,
             &[0x7d, 0xfe, 0xff, 0xff, 0x7f, 0xff, 0xff, 0xff],
             true,
-            rate,
             "\"SID\":125,\"Rate\":null",
         ),
-        // cog-and-sog, lookup-and-short-data
+        (127251, &[], true, "\"SID\":null,\"Rate\":null"),
+        (127251, &[], false, ""),
+        // whole-among-frames, two-sources, short-totals
         (
-            129026,
-            &[0x00, 0xfc, 0xff, 0xff, 0x00, 0x00, 0xff, 0xff],
+            130820,
+            &[0xa3, 0x99, 1, 0x41, 0x42, 0x43, 0, 0, 0, 0, 0],
             false,
-            cog,
-            "\"SID\":0,\"SOG\":0.00",
+            "\"Maker\":419,\"Kind\":1,\"Label\":\"ABC\"",
         ),
         (
-            129026,
-            &[0x00, 0xfc, 0xff, 0xff, 0x00, 0x00, 0xff, 0xff],
-            true,
-            cog,
-            "\"SID\":0,\"COG\":null,\"SOG\":0.00",
+            130820,
+            &[
+                0xa3, 0x99, 2, 0x58, 0x59, 0x20, 0x20, 0x20, 0x20, 0x20, 0xff,
+            ],
+            false,
+            "\"Maker\":419,\"Kind\":2,\"Label\":\"XY\"",
         ),
-        (129026, &[0x05, 0x00], false, cog, "\"SID\":5"),
+        (
+            130820,
+            &[0xa3, 0x99, 1, 0x41, 0x42, 0x43],
+            false,
+            "\"Maker\":419,\"Kind\":1",
+        ),
+        (
+            130820,
+            &[7, 0x98, 1, 0x41, 0x42, 0x43, 0x44, 0x45, 0x46],
+            true,
+            "\"Data\":\"07 98 01 41 42 43 44 45 46\"",
+        ),
+        (130820, &[0xa3], false, "\"Data\":\"A3\""),
+        (130820, &[], false, "\"Data\":\"\""),
+        (59904, &[0x14, 0xf0, 0x01], false, "\"Data\":\"14 F0 01\""),
     ];
-    for (pgn, data, empty, pgn_text, fields) in cases {
-        let id = Id {
-            prio: 2,
-            pgn,
-            src: 36,
-            dst: 255,
+    for (pgn, data, empty, fields) in cases {
+        let line = printed(rt.alloc(), &table, pgn, data, empty)?;
+        let description = match pgn {
+            129026 => "COG & SOG, Rapid Update",
+            127251 => "Rate of Turn",
+            _ if data.len() > 1 && data[0] == 0xa3 => "Sample: Label",
+            _ => "Unmatched",
         };
-        let packet = Packet::new(b"a \"b\\c", id, data).ok_or("a packet")?;
-        assert!(rt; table.kind(packet.id().pgn).is_some());
-        let mut out = Vec::from_slice(rt.alloc(), b"before\n")?;
-        json_line(rt.alloc(), &table, &packet, empty, &mut out)?;
-        let wanted = format!(in rt.alloc();
-            "before\n{{\"timestamp\":\"a \\\"b\\\\c\",\"prio\":2,\"src\":36,\"dst\":255,\"pgn\":{pgn_text},\"fields\":{{{fields}}}}}\n"
-        )?;
-        assert_eq!(rt; out.as_slice(), wanted.as_bytes(), "{fields}");
+        let wanted = format!(in rt.alloc(); "\"{description}\",\"fields\":{{{fields}}}")?;
+        assert_eq!(rt; line.as_str(), wanted.as_str(), "{fields}");
     }
+    // lookup-and-short-data with the entries 0 and 3: a name before an absent value
+    let (front, back) = SAMPLE
+        .split_once("[1, 'Magnetic'], [2, 'Error']")
+        .ok_or("entries")?;
+    let text = format!(in rt.alloc(); "{front}[3, 'None']{back}")?;
+    let table = Table::read(rt.alloc(), text.as_bytes())?;
+    let data = [0x00, 0xff, 0, 0, 0xfe, 0xff, 0xff, 0xff];
+    let line = printed(rt.alloc(), &table, 129026, &data, false)?;
+    assert!(rt; line.ends_with("{\"SID\":0,\"COG Reference\":\"None\",\"COG\":0.0000}"));
+    Ok(())
+}
+
+// Of two definitions of a PGN the first in the file is chosen that the data match, whichever asks for more.
+#[test]
+fn first_match_in_file_order(rt: HostRuntime) -> Result<(), Fail> {
+    let wide = "{ number = 1, kind = 'fast', description = 'Wide', fields = [] }";
+    let first = "{ name = 'A', kind = 'number', at = 0, bits = 8, match = 7 }";
+    let second = "{ name = 'B', kind = 'lookup', at = 4, bits = 8, lookup = 'L', match = 16 }";
+    let cases: [(bool, &[u8], &str); 6] = [
+        (false, &[7, 1], "Narrow"),
+        (true, &[7, 1], "Wide"),
+        (false, &[7, 2], "Wide"),
+        (false, &[8, 1], "Wide"),
+        (false, &[7], "Wide"),
+        (false, &[], "Wide"),
+    ];
+    for (wide_first, data, wanted) in cases {
+        let narrow = format!(in rt.alloc();
+            "{{ number = 1, kind = 'fast', description = 'Narrow', fields = [{first}, {second}] }}"
+        )?;
+        let both = if wide_first {
+            format!(in rt.alloc(); "{wide}, {narrow}")?
+        } else {
+            format!(in rt.alloc(); "{narrow}, {wide}")?
+        };
+        let text = format!(in rt.alloc();
+            "format = 1\npgn = [{{ number = 2, kind = 'single', description = 'O', fields = [] }}, {both}]\nlookup = [{{ name = 'L', entries = [] }}]\n"
+        )?;
+        let table = Table::read(rt.alloc(), text.as_bytes())?;
+        let definition = table.choose(1, data).ok_or("a definition")?;
+        assert_eq!(rt; definition.description(), wanted);
+    }
+    Ok(())
+}
+
+#[test]
+fn each_field_is_shown(rt: HostRuntime) -> Result<(), Fail> {
+    let table = Table::read(rt.alloc(), SAMPLE.as_bytes())?;
+    let data = [
+        0xa3, 0x99, 0xff, 0x41, 0x20, 0x20, 0x20, 0x20, 0x20, 0x20, 0x20,
+    ];
+    let definition = table.choose(130820, &data).ok_or("a definition")?;
+    let mut fields = definition.fields(&data);
+    let maker = Shown::Number {
+        value: 419,
+        decimals: 0,
+    };
+    for (name, shown) in [
+        ("Maker", maker),
+        ("Kind", Shown::Absent),
+        ("Label", Shown::Text(b"A")),
+    ] {
+        let field = fields.next().ok_or("a field")?;
+        assert_eq!(rt; field.0, name);
+        assert_eq!(rt; field.1, shown, "{name}");
+    }
+    assert!(rt; fields.next().is_none());
+    assert!(rt; fields.next().is_none());
     Ok(())
 }

@@ -1,9 +1,17 @@
 //! Texts in JSON.
-ghost use Rattle.std.specs.Prelude.{◌≡◌, IfOk};
-ghost use Rattle.n2k_table.specs.Text.{text_json};
+ghost use Rattle.std.specs.Char.{digit_char};
+ghost use Rattle.std.specs.Prelude.{◌≡◌, ◌++◌, ◌<◌, ◌%◌, IfOk, OnOk, map, unwrap_or};
+ghost use Rattle.std.specs.List.{list_all, flat_map};
+ghost use Rattle.std.specs.Option.{IfSome};
+ghost use Rattle.json.specs.Print.{escape_letter, escape_byte};
+ghost use Rattle.n2k_table.specs.Text.{text_json, pair, pairs, is_plain, character};
 
+use crate::tail::Tail;
 use serde_json::Value;
 use std::alloc::{AllocError, Global};
+
+/// The hexadecimal digits, in upper case.
+const DIGITS: [u8; 16] = *b"0123456789ABCDEF";
 
 /// A text as JSON, as `serde_json` writes it.
 #[tactic(auto, unfolding(crate::specs::Text::text_json))]
@@ -11,4 +19,164 @@ pub fn text_json(alloc: Global, text: &str) -> Result<Vec<u8>, AllocError>
     ensures { IfOk result (λ bytes. bytes.items ≡ text_json text.now) }
 {
     Value::String(String::from_str(alloc, text)?).to_vec(alloc)
+}
+
+// A byte that stands for itself in a text.
+fn is_plain(byte: u8) -> bool
+    ensures { result ≡ is_plain byte }
+{
+    byte >= b' ' && byte != b'"' && byte != b'\\'
+}
+
+fn are_plain(text: &[u8]) -> bool
+    ensures { result ≡ list_all is_plain text.now }
+{
+    text.iter().all(|byte| is_plain(*byte))
+}
+
+// The letter that stands for a byte behind a backslash, if one does.
+fn escape_letter(byte: u8) -> Option<u8>
+    ensures value { unwrap_or result 0 ≡ escape_letter byte }
+    ensures some { IfSome result (λ letter. 0 < letter) }
+{
+    match byte {
+        b'"' | b'\\' => Some(byte),
+        0x08 => Some(b'b'),
+        0x0c => Some(b'f'),
+        b'\n' => Some(b'n'),
+        b'\r' => Some(b'r'),
+        b'\t' => Some(b't'),
+        _ => None,
+    }
+}
+
+// The last digit of an escape, for a byte below the space.
+fn escape_digit(byte: u8) -> u8
+    requires { byte < 32 }
+    ensures { result ≡ digit_char (byte % 16) }
+{
+    let digit = byte % 16;
+    if digit < 10 {
+        b'0' + digit
+    } else {
+        b'a' + digit - 10
+    }
+}
+
+// Appends what stands in a text for a byte.
+#[tactic(auto, unfolding(json::specs::Print::escape_byte))]
+fn push_escaped(byte: u8, line: &mut Tail) -> Result<(), AllocError>
+    ensures appends { OnOk result (line.new.items ≡ line.old.items ++ escape_byte byte) }
+    ensures before { line.new.before ≡ line.old.before }
+{
+    match escape_letter(byte) {
+        Some(letter) => line.extend_from_slice(&[b'\\', letter]),
+        None if byte < b' ' => {
+            let high = b'0' + byte / 16;
+            line.extend_from_slice(&[b'\\', b'u', b'0', b'0', high, escape_digit(byte)])
+        }
+        None => line.push(byte),
+    }
+}
+
+fn push_each(text: &[u8], line: &mut Tail) -> Result<(), AllocError>
+    ensures appends { OnOk result (line.new.items ≡ line.old.items ++ flat_map escape_byte text.now) }
+    ensures before { line.new.before ≡ line.old.before }
+{
+    for byte in text {
+        push_escaped(*byte, line)?;
+    }
+    Ok(())
+}
+
+// Appends what stands between the quotes of a text.
+fn push_inner(text: &[u8], line: &mut Tail) -> Result<(), AllocError>
+    ensures appends { OnOk result (line.new.items ≡ line.old.items ++ flat_map escape_byte text.now) }
+    ensures before { line.new.before ≡ line.old.before }
+{
+    if are_plain(text) {
+        line.extend_from_slice(text)
+    } else {
+        push_each(text, line)
+    }
+}
+
+/// Appends a text.
+#[tactic(auto, using(std::proofs::Common::append_assoc), unfolding(crate::specs::Text::text_json))]
+pub fn push_text(text: &[u8], line: &mut Tail) -> Result<(), AllocError>
+    ensures appends { OnOk result (line.new.items ≡ line.old.items ++ text_json text.now) }
+    ensures before { line.new.before ≡ line.old.before }
+{
+    line.push(b'"')?;
+    push_inner(text, line)?;
+    line.push(b'"')
+}
+
+// Appends what stands in a text for the character of a number.
+fn push_character(byte: u8, line: &mut Tail) -> Result<(), AllocError>
+    ensures appends { OnOk result (line.new.items ≡ line.old.items ++ flat_map escape_byte (character byte)) }
+    ensures before { line.new.before ≡ line.old.before }
+{
+    if byte < 0x80 {
+        push_escaped(byte, line)
+    } else {
+        line.extend_from_slice(&[0xc0 + byte / 64, 0x80 + byte % 64])
+    }
+}
+
+fn push_inner_characters(numbers: &[u8], line: &mut Tail) -> Result<(), AllocError>
+    ensures appends { OnOk result (line.new.items ≡ line.old.items ++ flat_map escape_byte (flat_map character numbers.now)) }
+    ensures before { line.new.before ≡ line.old.before }
+{
+    for number in numbers {
+        push_character(*number, line)?;
+    }
+    Ok(())
+}
+
+/// Appends the text of the characters that have these numbers.
+#[tactic(auto, using(std::proofs::Common::append_assoc), unfolding(crate::specs::Text::text_json))]
+pub fn push_characters(numbers: &[u8], line: &mut Tail) -> Result<(), AllocError>
+    ensures appends { OnOk result (line.new.items ≡ line.old.items ++ text_json (flat_map character numbers.now)) }
+    ensures before { line.new.before ≡ line.old.before }
+{
+    line.push(b'"')?;
+    push_inner_characters(numbers, line)?;
+    line.push(b'"')
+}
+
+// Appends a byte as two digits.
+fn push_pair(byte: u8, line: &mut Tail) -> Result<(), AllocError>
+    ensures appends { OnOk result (line.new.items ≡ line.old.items ++ pair byte) }
+    ensures before { line.new.before ≡ line.old.before }
+{
+    let high = DIGITS[usize::from(byte / 16)];
+    let low = DIGITS[usize::from(byte % 16)];
+    line.extend_from_slice(&[high, low])
+}
+
+fn push_inner_pairs(bytes: &[u8], line: &mut Tail) -> Result<(), AllocError>
+    ensures appends { OnOk result (line.new.items ≡ line.old.items ++ pairs bytes.now) }
+    ensures before { line.new.before ≡ line.old.before }
+{
+    let Some((first, rest)) = bytes.split_first() else {
+        return Ok(());
+    };
+    push_pair(*first, line)?;
+    for byte in rest {
+        line.push(b' ')?;
+        push_pair(*byte, line)?;
+    }
+    Ok(())
+}
+
+/// Appends the text of bytes: two digits each, and a space between.
+#[tactic(auto, using(std::proofs::Common::append_assoc))]
+pub fn push_pairs(bytes: &[u8], line: &mut Tail) -> Result<(), AllocError>
+    ensures appends { OnOk result (line.new.items ≡ line.old.items ++ text_json (pairs bytes.now)) }
+    ensures before { line.new.before ≡ line.old.before }
+{
+    line.push(b'"')?;
+    push_inner_pairs(bytes, line)?;
+    line.push(b'"')
 }

@@ -3,7 +3,8 @@ ghost use Rattle.std.specs.Prelude.{◌≡◌, ◌≤◌, option_map, IfOk};
 ghost use Rattle.toml.specs.Data.{get_member};
 ghost use Rattle.toml.specs.View.{view, table_view, array_view};
 ghost use Rattle.n2k_table.specs.Fault.{Gives};
-ghost use Rattle.n2k_table.specs.Tree.{has_only_keys, required, as_members, whole_at, any_text_at, text_at, truth_at, elements, as_elements, elements_at, elements_or_none, elements_of};
+ghost use Rattle.n2k_table.specs.declared.tree.Place.TheVariants.{ByteField};
+ghost use Rattle.n2k_table.specs.Tree.{is_key, has_only_keys, required, as_members, whole_at, any_text_at, sized, text_at, truth_at, elements, as_elements, elements_at, elements_or_none, elements_of};
 
 use crate::fault::TableFault;
 use toml::value::Array;
@@ -17,10 +18,36 @@ pub const LONGEST_TEXT: usize = 255;
 pub enum Place {
     /// The top level.
     Document,
+    /// A lookup.
+    Lookup,
     /// A definition.
     Definition,
     /// A number field.
     NumberField,
+    /// A lookup field.
+    LookupField,
+    /// A field of text or bytes.
+    ByteField,
+}
+
+/// What a field says that its bits are.
+#[derive(Clone, Copy)]
+pub enum FieldKind {
+    /// A number.
+    Number,
+    /// A value that a lookup gives names for.
+    Lookup,
+    /// A text.
+    Text,
+    /// Bytes as they are.
+    Bytes,
+}
+
+// Whether a key is one that each field has.
+fn is_field_key(key: &str) -> bool
+    ensures { result ≡ is_key ByteField key.now }
+{
+    key == "name" || key == "kind" || key == "at" || key == "bits"
 }
 
 impl Place {
@@ -30,18 +57,16 @@ impl Place {
         ensures { result ≡ is_key self key.now }
     {
         match self {
-            Place::Document => key == "format" || key == "pgn",
+            Place::Document => key == "format" || key == "lookup" || key == "pgn",
+            Place::Lookup => key == "name" || key == "entries",
             Place::Definition => {
                 key == "number" || key == "kind" || key == "description" || key == "fields"
             }
             Place::NumberField => {
-                key == "name"
-                    || key == "kind"
-                    || key == "at"
-                    || key == "bits"
-                    || key == "signed"
-                    || key == "resolution"
+                is_field_key(key) || key == "signed" || key == "resolution" || key == "match"
             }
+            Place::LookupField => is_field_key(key) || key == "match" || key == "lookup",
+            Place::ByteField => is_field_key(key),
         }
     }
 }
@@ -98,15 +123,21 @@ pub fn any_text_at<'a>(table: &'a Table, key: &str) -> Result<&'a str, TableFaul
     required(table, key)?.as_str().ok_or(TableFault::Key)
 }
 
-/// A text of 1 to 255 bytes, at a key that has to be there.
-pub fn text_at<'a>(table: &'a Table, key: &str) -> Result<&'a str, TableFault>
-    ensures { Gives (λ text. text.now) result (text_at key.now (table_view table.now)) }
+/// A text that has 1 to 255 bytes.
+pub fn sized(text: &str) -> Result<&str, TableFault>
+    ensures { Gives (λ text. text.now) result (sized text.now) }
 {
-    let text = any_text_at(table, key)?;
     if text.is_empty() || text.len() > LONGEST_TEXT {
         return Err(TableFault::Text);
     }
     Ok(text)
+}
+
+/// A text of 1 to 255 bytes, at a key that has to be there.
+pub fn text_at<'a>(table: &'a Table, key: &str) -> Result<&'a str, TableFault>
+    ensures { Gives (λ text. text.now) result (text_at key.now (table_view table.now)) }
+{
+    sized(any_text_at(table, key)?)
 }
 
 /// A truth value, false where the key is missing.
@@ -119,7 +150,8 @@ pub fn truth_at(table: &Table, key: &str) -> Result<bool, TableFault>
     }
 }
 
-fn as_elements(value: &Value) -> Result<&Array, TableFault>
+/// A value that has to be an array.
+pub fn as_elements(value: &Value) -> Result<&Array, TableFault>
     ensures { Gives (λ array. elements (array_view array.now)) result (as_elements (view value.now)) }
 {
     value.as_array().ok_or(TableFault::Key)

@@ -7,5 +7,5 @@ use Rattle.n2k_table.proofs.definition.is_named.Given as goal
 
 abbrev pub invariant-loop-field : goal.invariant-loop-field
 invariant-loop-field l =
-    list_any (λ other. bytes_eq other l.name) (map (λ (f : FieldParts). f.name) (drop l.field-index l.fields))
-    ≡ list_any (λ other. bytes_eq other l.name) (map (λ (f : FieldParts). f.name) l.fields)
+    list_any (bytes_eq l.name) (map (λ (f : FieldParts). f.name) (drop l.field-index l.fields))
+    ≡ list_any (bytes_eq l.name) (map (λ (f : FieldParts). f.name) l.fields)

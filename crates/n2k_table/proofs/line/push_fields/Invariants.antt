@@ -8,5 +8,6 @@ use Rattle.n2k_table.proofs.line.push_fields.Given as goal
 
 abbrev pub invariant-loop-field : goal.invariant-loop-field
 invariant-loop-field l =
-    l.line.items ++ members_from l.later (filter_map (member_json l.empty) (all_shown (drop l.field-index l.fields) l.«data»))
-    ≡ l.fn.line.items ++ (123 ∷ members_from false (filter_map (member_json l.empty) (all_shown l.fields l.«data»)))
+    (l.line.items ++ members_from l.later (filter_map (member_json l.empty) (all_shown (drop l.field-index l.fields) l.«data»))
+    ≡ l.fn.line.items ++ (123 ∷ members_from false (filter_map (member_json l.empty) (all_shown l.fields l.«data»))))
+    × (l.line.before ≡ l.fn.line.before)

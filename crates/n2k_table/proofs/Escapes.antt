@@ -1,0 +1,95 @@
+-- What stands in a JSON text for a byte.
+use Rattle.std.proofs.Common.{◌≡◌, ℕ, suc, ◌+◌, ◌/◌, ◌%◌, ◌<◌, ◌≤◌, true, false, ◌&&◌, not, leb, ltb, eqb, List, [], ◌∷◌, ◌++◌, get_or, refl, sym, ap, ◌∙◌, inl, inr, arith}
+use lib.Utf8.{encode}
+use Rattle.std.specs.List.{list_all, flat_map}
+use Rattle.std.proofs.lemmas.Bool.{and_parts, cases_Bool, false≢true}
+use Rattle.std.proofs.lemmas.Bool.Decides.{nat_tests}
+use Rattle.std.proofs.lemmas.List.Folds.{list_all_at}
+use Rattle.json.specs.Print.{escape_letter, escape_byte}
+use Rattle.n2k_table.specs.Text.{text_json, character, hex_digits, pair, pairs, is_plain}
+
+is_not : (b : ℕ) → is_plain b ≡ true → (32 ≤ b) × (eqb b 34 ≡ false) × (eqb b 92 ≡ false)
+is_not b h =
+    let p = and_parts (leb 32 b && not (eqb b 34)) (not (eqb b 92)) h in
+    let q = and_parts (leb 32 b) (not (eqb b 34)) p.0 in
+    let low : leb 32 b ≡ true = q.0 in
+    let quote : not (eqb b 34) ≡ true = q.1 in
+    let slash : not (eqb b 92) ≡ true = p.1 in
+    (grind (arith, nat_tests), grind (arith, nat_tests), grind (arith, nat_tests))
+
+no_letter : (b : ℕ) → 32 ≤ b → eqb b 34 ≡ false → eqb b 92 ≡ false → escape_letter b ≡ 0
+no_letter b low quote slash =
+    let e8 : eqb b 8 ≡ false = grind (arith, nat_tests) in
+    let e12 : eqb b 12 ≡ false = grind (arith, nat_tests) in
+    let e10 : eqb b 10 ≡ false = grind (arith, nat_tests) in
+    let e13 : eqb b 13 ≡ false = grind (arith, nat_tests) in
+    let e9 : eqb b 9 ≡ false = grind (arith, nat_tests) in
+    rw (quote, slash, e8, e12, e10, e13, e9) refl
+
+-- a plain byte stands for itself
+pub escape_byte-plain : (b : ℕ) → is_plain b ≡ true → escape_byte b ≡ b ∷ []
+unfolding escape_byte
+escape_byte-plain b h =
+    let p = is_not b h in
+    let low : 32 ≤ b = p.0 in
+    let above : ltb b 32 ≡ false = grind (arith, nat_tests) in
+    rw (no_letter b p.0 p.1 p.2, above) refl
+
+-- and so does a text of such bytes
+pub escape-plain : (text : List ℕ) → list_all is_plain text ≡ true → flat_map escape_byte text ≡ text
+escape-plain [] h = refl
+escape-plain (b ∷ bs) h =
+    let p = and_parts (is_plain b) (list_all is_plain bs) h in
+    rw (escape_byte-plain b p.0) (ap (λ (t : List ℕ). b ∷ t) (escape-plain bs p.1))
+
+-- a character above ASCII and below 256 has two bytes
+pub escape-character : (b : ℕ) → 128 ≤ b → b < 256 → flat_map escape_byte (character b) ≡ (192 + b / 64) ∷ (128 + b % 64) ∷ []
+unfolding encode
+escape-character b low high =
+    let small : ltb b 128 ≡ false = grind (arith, nat_tests) in
+    let below : ltb b 2048 ≡ true = grind (arith, nat_tests) in
+    let first : is_plain (192 + b / 64) ≡ true = plain_from (192 + b / 64) (omega arith) in
+    let second : is_plain (128 + b % 64) ≡ true = plain_from (128 + b % 64) (omega arith) in
+    rw (small, below, escape_byte-plain (192 + b / 64) first, escape_byte-plain (128 + b % 64) second) refl
+  where
+    plain_from : (b : ℕ) → 93 ≤ b → is_plain b ≡ true
+    plain_from b large =
+        let low : leb 32 b ≡ true = grind (arith, nat_tests) in
+        let quote : eqb b 34 ≡ false = grind (arith, nat_tests) in
+        let slash : eqb b 92 ≡ false = grind (arith, nat_tests) in
+        rw (low, quote, slash) refl
+
+-- the pairs after the first, each behind a space
+abbrev pub later_pairs : List ℕ → List ℕ
+later_pairs bytes = flat_map (λ b. 32 ∷ pair b) bytes
+
+pub pairs-first : (b : ℕ) (bs : List ℕ) → pairs (b ∷ bs) ≡ pair b ++ later_pairs bs
+pairs-first b [] = refl
+pairs-first b (c ∷ cs) = ap (λ (t : List ℕ). pair b ++ (32 ∷ t)) (pairs-first c cs)
+
+-- digits are plain
+digit_plain : (d : ℕ) → d < 16 → is_plain (get_or hex_digits d 0) ≡ true
+digit_plain d small =
+    elim (cases_Bool (is_plain (get_or hex_digits d 0))) [
+      | inl plain ↦ plain
+      | inr other ↦ absurd (false≢true (sym (list_all_at is_plain hex_digits d 0 small other)))
+    ]
+
+pair_plain : (b : ℕ) (rest : List ℕ) → b < 256 → list_all is_plain (pair b ++ rest) ≡ list_all is_plain rest
+pair_plain b rest small = rw (digit_plain (b / 16) (omega arith), digit_plain (b % 16) (omega arith)) refl
+
+later_plain : (bs : List ℕ) → ((i : ℕ) → get_or bs i 0 < 256) → list_all is_plain (later_pairs bs) ≡ true
+later_plain [] small = refl
+later_plain (b ∷ bs) small = pair_plain b (later_pairs bs) (small 0) ∙ later_plain bs (λ i. small (suc i))
+
+pairs_plain : (bs : List ℕ) → ((i : ℕ) → get_or bs i 0 < 256) → list_all is_plain (pairs bs) ≡ true
+pairs_plain [] small = refl
+pairs_plain (b ∷ bs) small =
+    ap (list_all is_plain) (pairs-first b bs) ∙ pair_plain b (later_pairs bs) (small 0) ∙ later_plain bs (λ i. small (suc i))
+
+pub text_json-plain : (text : List ℕ) → list_all is_plain text ≡ true → text_json text ≡ 34 ∷ (text ++ 34 ∷ [])
+unfolding text_json
+text_json-plain text plain = ap (λ (t : List ℕ). 34 ∷ (t ++ 34 ∷ [])) (escape-plain text plain)
+
+pub text_json-pairs : (bs : List ℕ) → ((i : ℕ) → get_or bs i 0 < 256) → text_json (pairs bs) ≡ 34 ∷ (pairs bs ++ 34 ∷ [])
+text_json-pairs bs small = text_json-plain (pairs bs) (pairs_plain bs small)

@@ -1,0 +1,141 @@
+-- The names of values: as the code's map finds them, and as entries of a document.
+use Rattle.std.proofs.Common.{◌≡◌, ℕ, ◌+◌, ◌<◌, get_or, drop, Bool, true, false, ◌||◌, nat_eq, List, [], ◌∷◌, ◌++◌, length, map, Option, Some, None, is_some, option_map, Ok, Err, String, Global, string_bytes, refl, sym, ap, ◌∙◌, append_assoc, inl, inr, arith}
+use Rattle.std.specs.Str.{bytes_eq}
+use Rattle.std.specs.Map.{lookup as value_at}
+use Rattle.std.specs.List.{list_any, find}
+use Rattle.std.proofs.lemmas.Bool.{cases_Bool, or_parts, false≢true}
+use Rattle.std.proofs.lemmas.Bool.Decides.{nat_tests}
+use Rattle.std.proofs.lemmas.List.{drop_more, map-append}
+use Rattle.indexmap.specs.IndexMap.{IndexMap, insert_entry}
+use Rattle.indexmap.proofs.CallerLemmas.{insert_entry-new}
+use Rattle.toml.specs.Data.{Data}
+use Rattle.toml.specs.View.{items_view}
+use Rattle.toml.specs.declared.value.Value.{Value}
+use Rattle.n2k_table.specs.declared.fault.TableFault.TheVariants.{Key, Twice}
+use Rattle.n2k_table.specs.Tree.{elements, as_elements}
+use Rattle.n2k_table.specs.Twice.{has_twice}
+use Rattle.n2k_table.specs.Entries.{seen, once}
+use Rattle.n2k_table.specs.Lookup.{LookupParts, name_of_value, pair_in, pair_of}
+use Rattle.n2k_table.proofs.Each.{length-elements}
+
+pub name_of_value-seen : (value : ℕ) (es : List (ℕ × String Global)) → name_of_value (map seen es) value ≡ option_map string_bytes (value_at (nat_eq value) es)
+name_of_value-seen value [] = refl
+name_of_value-seen value (e ∷ es) =
+    elim (cases_Bool (nat_eq value e.0)) [
+      | inl same ↦ rw same refl
+      | inr other ↦ rw other (name_of_value-seen value es)
+    ]
+
+-- an array that is not of two is no entry
+pair_in_other : (ds : List Data) → (length ds ≡ 2 → ⊥) → pair_in ds ≡ Err Key
+pair_in_other [] other = refl
+pair_in_other (a ∷ []) other = refl
+pair_in_other (a ∷ b ∷ []) other = absurd (other (omega arith))
+pair_in_other (a ∷ b ∷ c ∷ ds) other = refl
+
+pub pair_of_other : (d : Data) (vs : List Value) → as_elements d ≡ Ok (elements (items_view vs)) → (length vs ≡ 2 → ⊥) → pair_of d ≡ Err Key
+pair_of_other d vs is other =
+    rw is (pair_in_other (elements (items_view vs)) (λ two. other (omega (arith, length-elements vs))))
+
+-- the values of entries
+abbrev pub values : List (ℕ × List ℕ) → List ℕ
+values entries = map (λ e. e.0) entries
+
+-- a value has a name where it is among the values
+pub is_some-among : (value : ℕ) (es : List (ℕ × String Global)) → is_some (value_at (nat_eq value) es) ≡ list_any (nat_eq value) (values (map seen es))
+is_some-among value [] = refl
+is_some-among value (e ∷ es) =
+    elim (cases_Bool (nat_eq value e.0)) [
+      | inl same ↦ rw same refl
+      | inr other ↦ rw other (is_some-among value es)
+    ]
+
+same_turned : (a b : ℕ) → nat_eq a b ≡ nat_eq b a
+same_turned a b = grind (arith, nat_tests)
+
+-- a value among those before it stands twice
+pub twice_here : (v : ℕ) (ks rest : List ℕ) → list_any (nat_eq v) ks ≡ true → has_twice nat_eq (ks ++ v ∷ rest) ≡ true
+twice_here v [] rest among = absurd (false≢true among)
+twice_here v (k ∷ ks) rest among =
+    elim (cases_Bool (nat_eq v k)) [
+      | inl same ↦ rw (any_later k v ks rest (same_turned k v ∙ same)) refl
+      | inr other ↦
+          let later : list_any (nat_eq v) ks ≡ true = rw other at among in
+          rw (twice_here v ks rest later) (or_true (list_any (nat_eq k) (ks ++ v ∷ rest)))
+    ]
+  where
+    or_true : (b : Bool) → (b || true) ≡ true
+    or_true true = refl
+    or_true false = refl
+
+    any_later : (k v : ℕ) (ks rest : List ℕ) → nat_eq k v ≡ true → list_any (nat_eq k) (ks ++ v ∷ rest) ≡ true
+    any_later k v [] rest same = rw same refl
+    any_later k v (x ∷ xs) rest same = rw (any_later k v xs rest same) (or_true (nat_eq k x))
+
+none_later : (k v : ℕ) (ks : List ℕ) → nat_eq k v ≡ false → list_any (nat_eq k) ks ≡ false → list_any (nat_eq k) (ks ++ v ∷ []) ≡ false
+none_later k v [] other none = rw other refl
+none_later k v (x ∷ xs) other none =
+    let p = or_parts (nat_eq k x) (list_any (nat_eq k) xs) none in
+    rw (p.0, none_later k v xs other p.1) refl
+
+-- a value that is not among them makes none stand twice
+pub once_more : (v : ℕ) (ks : List ℕ) → has_twice nat_eq ks ≡ false → list_any (nat_eq v) ks ≡ false → has_twice nat_eq (ks ++ v ∷ []) ≡ false
+once_more v [] single none = refl
+once_more v (k ∷ ks) single none =
+    let p = or_parts (list_any (nat_eq k) ks) (has_twice nat_eq ks) single in
+    let q = or_parts (nat_eq v k) (list_any (nat_eq v) ks) none in
+    rw (none_later k v ks (same_turned k v ∙ q.0) p.0, once_more v ks p.1 q.1) refl
+
+-- the first that passes among those from a place on, as some view sees them
+pub find_here : {R X : Type 0} (view : R → X) (p : X → Bool) (rs : List R) (i : ℕ) (r : R) → i < length rs → r ≡ get_or rs i r → p (view r) ≡ true
+    → find p (map view (drop i rs)) ≡ Some (view r)
+find_here view p rs i r lt at passes =
+    let here : drop i rs ≡ r ∷ drop (i + 1) rs = drop_more rs i r lt ∙ ap (λ q. q ∷ drop (i + 1) rs) (sym at) in
+    rw (here, passes) refl
+
+pub find_next : {R X : Type 0} (view : R → X) (p : X → Bool) (rs : List R) (i : ℕ) (r : R) → i < length rs → r ≡ get_or rs i r → p (view r) ≡ false
+    → find p (map view (drop i rs)) ≡ find p (map view (drop (i + 1) rs))
+find_next view p rs i r lt at fails =
+    let here : drop i rs ≡ r ∷ drop (i + 1) rs = drop_more rs i r lt ∙ ap (λ q. q ∷ drop (i + 1) rs) (sym at) in
+    rw (here, fails) refl
+
+-- an entry whose value has a name already
+pub twice_entry : (es : List (ℕ × String Global)) (e : ℕ × List ℕ) (rest left all : List (ℕ × List ℕ)) → left ≡ e ∷ rest → map seen es ++ left ≡ all
+    → is_some (value_at (nat_eq e.0) es) ≡ true → once all ≡ Err Twice
+twice_entry es e rest left all is so_far found =
+    let among : list_any (nat_eq e.0) (values (map seen es)) ≡ true = sym (is_some-among e.0 es) ∙ found in
+    let whole : all ≡ map seen es ++ e ∷ rest = sym so_far ∙ ap (λ (l : List (ℕ × List ℕ)). map seen es ++ l) is in
+    let parts : values all ≡ values (map seen es) ++ e.0 ∷ values rest = ap values whole ∙ map-append (λ (p : ℕ × List ℕ). p.0) (map seen es) (e ∷ rest) in
+    rw (ap (has_twice nat_eq) parts ∙ twice_here e.0 (values (map seen es)) (values rest) among) refl
+
+module _ {S : Type 0} (m : IndexMap ℕ (String Global) S) (v : ℕ) (s : String Global) (none : value_at (nat_eq v) m.entries ≡ None) where
+  grown : map seen (insert_entry nat_eq m.entries v s) ≡ map seen m.entries ++ (v, string_bytes s) ∷ []
+  grown = ap (map seen) (insert_entry-new nat_eq m v s none) ∙ map-append seen m.entries ((v, s) ∷ [])
+
+  -- an entry whose value has none so far
+  pub one_more_entry : (es : List (ℕ × String Global)) (rest left all : List (ℕ × List ℕ)) → es ≡ insert_entry nat_eq m.entries v s → left ≡ (v, string_bytes s) ∷ rest
+      → map seen m.entries ++ left ≡ all → map seen es ++ rest ≡ all
+  one_more_entry es rest left all is at so_far =
+      ap (λ (l : List (ℕ × List ℕ)). l ++ rest) (ap (map seen) is ∙ grown) ∙ append_assoc (map seen m.entries) ((v, string_bytes s) ∷ []) rest
+      ∙ ap (λ (l : List (ℕ × List ℕ)). map seen m.entries ++ l) (sym at) ∙ so_far
+
+  pub still_once : (es : List (ℕ × String Global)) → es ≡ insert_entry nat_eq m.entries v s → has_twice nat_eq (values (map seen m.entries)) ≡ false
+      → has_twice nat_eq (values (map seen es)) ≡ false
+  still_once es is single =
+      let among : list_any (nat_eq v) (values (map seen m.entries)) ≡ false = sym (is_some-among v m.entries) ∙ ap is_some none in
+      let parts : values (map seen es) ≡ values (map seen m.entries) ++ v ∷ [] =
+      ap values (ap (map seen) is ∙ grown) ∙ map-append (λ (p : ℕ × List ℕ). p.0) (map seen m.entries) ((v, string_bytes s) ∷ []) in
+      ap (has_twice nat_eq) parts ∙ once_more v (values (map seen m.entries)) single among
+
+pub is_none : {X : Type 0} (o : Option X) → is_some o ≡ false → o ≡ None
+is_none None none = refl
+is_none (Some x) none = absurd (false≢true (sym none))
+
+-- the first of a name is there where the name is among the names
+pub among_names : (name : List ℕ) (ls : List LookupParts) → list_any (bytes_eq name) (map (λ (l : LookupParts). l.name) ls) ≡ is_some (find (λ (l : LookupParts). bytes_eq name l.name) ls)
+among_names name [] = refl
+among_names name (l ∷ ls) =
+    elim (cases_Bool (bytes_eq name l.name)) [
+      | inl same ↦ rw same refl
+      | inr other ↦ rw other (among_names name ls)
+    ]

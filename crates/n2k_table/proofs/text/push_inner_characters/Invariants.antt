@@ -1,0 +1,11 @@
+-- The characters so far are written, and the others are left.
+use Rattle.std.proofs.Common.{◌≡◌, ◌++◌, drop}
+use Rattle.std.specs.List.{flat_map}
+use Rattle.json.specs.Print.{escape_byte}
+use Rattle.n2k_table.specs.Text.{character}
+use Rattle.n2k_table.proofs.text.push_inner_characters.Given as goal
+
+abbrev pub invariant-loop-number : goal.invariant-loop-number
+invariant-loop-number l =
+    (l.line.items ++ flat_map escape_byte (flat_map character (drop l.number-index l.numbers)) ≡ l.fn.line.items ++ flat_map escape_byte (flat_map character l.numbers))
+    × (l.line.before ≡ l.fn.line.before)
