@@ -42,6 +42,11 @@ pub record StepsAgree (id : List ℕ) (kind : ℕ → Option Kind) (es : List En
     broken = broken kind (es ++ e ∷ []) (length es + 1);
   }
 
+-- With an entry more each earlier line gives what it gave.
+pub record LinesStay (kind : ℕ → Option Kind) (es : List Entry) (e : Entry) : Type 0 where
+  pub messages : (line : ℕ) → 1 ≤ line → line ≤ length es → message kind (es ++ e ∷ []) line ≡ message kind es line
+  pub broken_groups : (line : ℕ) → line ≤ length es → broken kind (es ++ e ∷ []) line ≡ broken kind es line
+
 -- Where an entry is bad, one that stands for nothing could stand in its place: only the count of bad lines changes.
 pub record BadAlone (kind : ℕ → Option Kind) (front : List Entry) (e : Entry) (back : List Entry) : Type 0 where
   pub messages : (line : ℕ) → message kind (front ++ e ∷ back) line ≡ message kind (front ++ entries.Skip ∷ back) line

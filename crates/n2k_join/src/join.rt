@@ -116,6 +116,7 @@ impl Join {
         ensures given { IfOk result (λ step. given_of step ≡ step_given (kind table.now) self.old entry) }
         ensures after { OnOk result (self.new ≡ step_after (kind table.now) self.old entry) }
         ensures unchanged { OnErr result (self.new ≡ self.old) }
+        ensures few { OnOk result (self.old.counts.lines < most_lines) }
         ensures full { IsErrOf result JoinFault.TooManyLines ↔ (self.old.counts.lines ≡ most_lines) }
         ensures memory { IsErrOf result JoinFault.Memory → opens (kind table.now) self.old entry ≡ true }
     {

@@ -9,7 +9,7 @@ ghost use Rattle.n2k_join.specs.Frames.{Frame};
 ghost use Rattle.n2k_join.specs.Scattered.{IsScattered, IsMute, WrittenLog};
 ghost use Rattle.n2k_join.specs.Replay.{Replays};
 ghost use Rattle.n2k_join.specs.Messages.{cause_in};
-ghost use Rattle.n2k_join.specs.Laws.{CutJoins, CutFirst, CutGrows, StepsAgree, BadAlone};
+ghost use Rattle.n2k_join.specs.Laws.{CutJoins, CutFirst, CutGrows, StepsAgree, LinesStay, BadAlone};
 ghost use Rattle.n2k_join.specs.Arrival.{PiecesJoin, ArriveWhole, ComesNext, Heals};
 
 /// The groups that frames are cut into are the frames in their order; none is empty, and none has a number twice.
@@ -32,6 +32,11 @@ pub fn cut_grows()
 /// log with the entry, and gives the message, the cause and the broken groups of that one's last line.
 pub fn steps_agree()
     ensures { (id : List ℕ) (kind : ℕ → Option Kind) (es : List Entry) (e : Entry) → StepsAgree id kind es e }
+{}
+
+/// One entry more leaves each earlier line what it gave.
+pub fn lines_stay()
+    ensures { (kind : ℕ → Option Kind) (es : List Entry) (e : Entry) → LinesStay kind es e }
 {}
 
 /// A bad line is bad alone: with an empty line in its place every message, every broken group and every open group stays,

@@ -25,11 +25,11 @@ lines_rest (byte ∷ bytes) none some = ap (λ pieces. map without_return (witho
 first_line : (whole line rest left : List ℕ) (ended : Bool) → FirstLine whole line rest ended (Some left) → lines (whole ++ left) ≡ line ∷ lines (rest ++ left)
 first_line whole line rest left ended f =
     let feed : (ended ≡ false) × (whole ≡ f.piece ++ (10 ∷ rest)) → lines (whole ++ left) ≡ line ∷ lines (rest ++ left) = λ e.
-      ap (λ w. lines (w ++ left)) e.1 ∙ ap lines (append_assoc f.piece (10 ∷ rest) left) ∙ lines_piece f.piece (rest ++ left) f.no_feed ∙ ap (λ l. l ∷ lines (rest ++ left)) (sym f.line_is) in
+    ap (λ w. lines (w ++ left)) e.1 ∙ ap lines (append_assoc f.piece (10 ∷ rest) left) ∙ lines_piece f.piece (rest ++ left) f.no_feed ∙ ap (λ l. l ∷ lines (rest ++ left)) (sym f.line_is) in
     let end : (left ≡ []) × (ended ≡ true) × (whole ≡ f.piece) × (0 < length f.piece) × (rest ≡ []) → lines (whole ++ left) ≡ line ∷ lines (rest ++ left) = λ e.
-      let all : whole ++ left ≡ f.piece = ap (λ l. whole ++ l) e.0 ∙ append-nil whole ∙ e.2 in
-      let none : rest ++ left ≡ [] = ap (λ r. r ++ left) e.4 ∙ e.0 in
-      ap lines all ∙ lines_rest f.piece f.no_feed e.3 ∙ ap (λ l. l ∷ []) (sym f.line_is) ∙ ap (λ r. line ∷ lines r) (sym none) in
+    let all : whole ++ left ≡ f.piece = ap (λ l. whole ++ l) e.0 ∙ append-nil whole ∙ e.2 in
+    let none : rest ++ left ≡ [] = ap (λ r. r ++ left) e.4 ∙ e.0 in
+    ap lines all ∙ lines_rest f.piece f.no_feed e.3 ∙ ap (λ l. l ∷ []) (sym f.line_is) ∙ ap (λ r. line ∷ lines r) (sym none) in
     elim f.ends [ inl e ↦ feed e | inr e ↦ end e ]
 
 gives_line : (whole rest left : List ℕ) (ended : Bool) (result : Result Next Failed) → Gives whole rest ended (Some left) result → AnswersLine (whole ++ left) (rest ++ left) result

@@ -86,15 +86,19 @@ finds_line false kept new size Line left at judged is on = (
   record { piece = take size kept; line_is = judged.1; no_feed = at.no_feed; ends = inl (on, at.split ∙ ap (λ r. take size kept ++ (10 ∷ r)) (sym is)) },
   rw judged.1 judged.2,
 )
-finds_line false kept new size Long left at judged is on =
-    (without_return (take size kept), record { piece = take size kept; line_is = refl; no_feed = at.no_feed; ends = inl (on, at.split ∙ ap (λ r. take size kept ++ (10 ∷ r)) (sym is)) },
-    elim judged [ inl p ↦ cc | inr p ↦ p ])
+finds_line false kept new size Long left at judged is on = (
+  without_return (take size kept),
+  record { piece = take size kept; line_is = refl; no_feed = at.no_feed; ends = inl (on, at.split ∙ ap (λ r. take size kept ++ (10 ∷ r)) (sym is)) },
+  elim judged [ inl p ↦ cc | inr p ↦ p ],
+)
 finds_line false kept new size End left at judged is on = absurd judged
 finds_line true kept new size Line left at judged is on = cc
 finds_line true kept new size Long left at judged is on =
-    let piece : List ℕ = passed ++ take size kept in
-    (without_return piece, record { piece = piece; line_is = refl; no_feed = All-append is_plain passed (take size kept) passed-no_feed at.no_feed; ends = inl (on, ap (λ k. passed ++ k) (at.split ∙ ap (λ r. take size kept ++ (10 ∷ r)) (sym is)) ∙ sym (append_assoc passed (take size kept) (10 ∷ unanswered new))) },
-    long_after (take size kept))
+    let piece : List ℕ = passed ++ take size kept in (
+      without_return piece,
+      record { piece = piece; line_is = refl; no_feed = All-append is_plain passed (take size kept) passed-no_feed at.no_feed; ends = inl (on, ap (λ k. passed ++ k) (at.split ∙ ap (λ r. take size kept ++ (10 ∷ r)) (sym is)) ∙ sym (append_assoc passed (take size kept) (10 ∷ unanswered new))) },
+      long_after (take size kept),
+    )
 finds_line true kept new size End left at judged is on = absurd judged
 
 -- the same at the end of the source
@@ -104,15 +108,19 @@ finds_rest false kept text new Line left none some judged is nothing ended end =
   record { piece = kept; line_is = judged.1 ∙ ap without_return is; no_feed = none; ends = inr (end, ended, refl, elim some [ inl p ↦ cc | inr p ↦ p ], nothing) },
   rw judged.1 judged.2,
 )
-finds_rest false kept text new Long left none some judged is nothing ended end =
-    (without_return kept, record { piece = kept; line_is = refl; no_feed = none; ends = inr (end, ended, refl, elim some [ inl p ↦ cc | inr p ↦ p ], nothing) },
-    elim judged [ inl p ↦ cc | inr p ↦ subst (λ t. longest_line < length (without_return t)) is p ])
+finds_rest false kept text new Long left none some judged is nothing ended end = (
+  without_return kept,
+  record { piece = kept; line_is = refl; no_feed = none; ends = inr (end, ended, refl, elim some [ inl p ↦ cc | inr p ↦ p ], nothing) },
+  elim judged [ inl p ↦ cc | inr p ↦ subst (λ t. longest_line < length (without_return t)) is p ],
+)
 finds_rest false kept text new End left none some judged is nothing ended end = absurd judged
 finds_rest true kept text new Line left none some judged is nothing ended end = cc
 finds_rest true kept text new Long left none some judged is nothing ended end =
-    let piece : List ℕ = passed ++ kept in
-    (without_return piece, record { piece = piece; line_is = refl; no_feed = All-append is_plain passed kept passed-no_feed none; ends = inr (end, ended, refl, omega (arith, length-append passed kept, length-passed), nothing) },
-    long_after kept)
+    let piece : List ℕ = passed ++ kept in (
+      without_return piece,
+      record { piece = piece; line_is = refl; no_feed = All-append is_plain passed kept passed-no_feed none; ends = inr (end, ended, refl, omega (arith, length-append passed kept, length-passed), nothing) },
+      long_after kept,
+    )
 finds_rest true kept text new End left none some judged is nothing ended end = absurd judged
 
 -- no line ends in what is unanswered where none ends in what is kept

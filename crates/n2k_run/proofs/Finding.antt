@@ -120,20 +120,20 @@ reads_round old loop taken made new left₀ left left' calls₀ calls calls' so_
 long_first : (whole bytes line rest : List ℕ) (ended : Bool) (left : Option (List ℕ)) (r : Replaces whole bytes) → FirstLine bytes line rest ended left → FirstLong whole rest ended left × (longest_line < length line)
 long_first whole bytes line rest ended left r f =
     let feed : (ended ≡ false) × (bytes ≡ f.piece ++ (10 ∷ rest)) → FirstLong whole rest ended left × (longest_line < length line) = λ e.
-      let parts = split_past passed r.rest f.piece rest passed-no_feed (sym r.bytes_are ∙ e.1) in
-      let none : HasNoFeed (passed ++ parts.0) = subst HasNoFeed parts.1 f.no_feed in
-      let more : HasNoFeed parts.0 = subst HasNoFeed (drop_at passed parts.0 (longest_line + 1) length-passed) (All-drop is_plain (longest_line + 1) (passed ++ parts.0) none) in
-      let piece : List ℕ = r.front ++ parts.0 in
-      let whole_is : whole ≡ piece ++ (10 ∷ rest) = r.whole_is ∙ ap (λ x. r.front ++ x) parts.2 ∙ sym (append_assoc r.front parts.0 (10 ∷ rest)) in
-      let long : longest_line < length (without_return piece) = long_piece piece (omega (arith, length-append r.front parts.0, r.long)) in
-      let over : longest_line < length line = subst (λ p. longest_line < length p) (sym (f.line_is ∙ ap without_return parts.1)) (long_after parts.0) in
-      ((without_return piece, record { piece = piece; line_is = refl; no_feed = All-append is_plain r.front parts.0 r.no_feed more; ends = inl (e.0, whole_is) }, long), over) in
+    let parts = split_past passed r.rest f.piece rest passed-no_feed (sym r.bytes_are ∙ e.1) in
+    let none : HasNoFeed (passed ++ parts.0) = subst HasNoFeed parts.1 f.no_feed in
+    let more : HasNoFeed parts.0 = subst HasNoFeed (drop_at passed parts.0 (longest_line + 1) length-passed) (All-drop is_plain (longest_line + 1) (passed ++ parts.0) none) in
+    let piece : List ℕ = r.front ++ parts.0 in
+    let whole_is : whole ≡ piece ++ (10 ∷ rest) = r.whole_is ∙ ap (λ x. r.front ++ x) parts.2 ∙ sym (append_assoc r.front parts.0 (10 ∷ rest)) in
+    let long : longest_line < length (without_return piece) = long_piece piece (omega (arith, length-append r.front parts.0, r.long)) in
+    let over : longest_line < length line = subst (λ p. longest_line < length p) (sym (f.line_is ∙ ap without_return parts.1)) (long_after parts.0) in
+    ((without_return piece, record { piece = piece; line_is = refl; no_feed = All-append is_plain r.front parts.0 r.no_feed more; ends = inl (e.0, whole_is) }, long), over) in
     let end : IsAtEnd left × (ended ≡ true) × (bytes ≡ f.piece) × (0 < length f.piece) × (rest ≡ []) → FirstLong whole rest ended left × (longest_line < length line) = λ e.
-      let parts : f.piece ≡ passed ++ r.rest = sym e.2 ∙ r.bytes_are in
-      let none : HasNoFeed whole = no_feed_whole whole bytes (inr r) (subst HasNoFeed (sym e.2) f.no_feed) in
-      let size : longest_line + 1 < length whole = omega (arith, ap length r.whole_is, length-append r.front r.rest, r.long) in
-      let over : longest_line < length line = subst (λ p. longest_line < length p) (sym (f.line_is ∙ ap without_return parts)) (long_after r.rest) in
-      ((without_return whole, record { piece = whole; line_is = refl; no_feed = none; ends = inr (e.0, e.1, refl, omega (arith, size), e.4) }, long_piece whole size), over) in
+    let parts : f.piece ≡ passed ++ r.rest = sym e.2 ∙ r.bytes_are in
+    let none : HasNoFeed whole = no_feed_whole whole bytes (inr r) (subst HasNoFeed (sym e.2) f.no_feed) in
+    let size : longest_line + 1 < length whole = omega (arith, ap length r.whole_is, length-append r.front r.rest, r.long) in
+    let over : longest_line < length line = subst (λ p. longest_line < length p) (sym (f.line_is ∙ ap without_return parts)) (long_after r.rest) in
+    ((without_return whole, record { piece = whole; line_is = refl; no_feed = none; ends = inr (e.0, e.1, refl, omega (arith, size), e.4) }, long_piece whole size), over) in
     elim f.ends [ inl e ↦ feed e | inr e ↦ end e ]
 
 finds_replaced : (whole bytes : List ℕ) (new : Held) (left : Option (List ℕ)) (found : Found) → Replaces whole bytes → Finds bytes new left found → Finds whole new left found

@@ -26,7 +26,7 @@ pub whole_front : (front after : List ℕ) → IsEmptyOrEndsWith front line_feed
 whole_front front after ends none =
     let all = length-append front after in
     let past : (k : ℕ) → length front ≤ k → k < length (front ++ after) → is_line_feed (get_or (front ++ after) k 0) ≡ false = λ k from below.
-      subst (λ b. is_line_feed b ≡ false) (sym (get_or-append_right front after (length front) k 0 refl from)) (none (k - length front) 0 (omega (arith, all, from, below))) in
+    subst (λ b. is_line_feed b ≡ false) (sym (get_or-append_right front after (length front) k 0 refl from)) (none (k - length front) 0 (omega (arith, all, from, below))) in
     let last : 0 < length front → get_or (front ++ after) (length front - 1) 0 ≡ 10 = λ some. get_or_append_left front after 0 (length front - 1) (omega (arith, some)) ∙ ends some in
     sym (sym (take_at front after (length front) refl) ∙ whole_lines-is (front ++ after) (length front) (omega (arith, all)) past last)
 
@@ -65,25 +65,25 @@ takes_more packing old new left₀ mid left front x so_far ends next =
     let rest : List ℕ = unanswered new in
     let given : Consumes left₀ left (front ++ bytes) = subst (λ b. Consumes left₀ left b) (append_assoc front (unanswered old) next.came) (Consumes-trans left₀ mid left (front ++ unanswered old) next.came so_far next.given) in
     let one : (more : List ℕ) → lines more ≡ without_return piece ∷ [] → entries packing (front ++ more) ≡ entries packing front ++ (x ∷ []) = λ more is.
-      entries-append packing front more ends ∙ ap (λ ls. entries packing front ++ map (λ line. entry line packing) ls) is
-      ∙ ap (λ l. entries packing front ++ (entry l packing ∷ [])) (sym next.first.line_is) ∙ ap (λ e. entries packing front ++ (e ∷ [])) (sym next.entry_is) in
+    entries-append packing front more ends ∙ ap (λ ls. entries packing front ++ map (λ line. entry line packing) ls) is
+    ∙ ap (λ l. entries packing front ++ (entry l packing ∷ [])) (sym next.first.line_is) ∙ ap (λ e. entries packing front ++ (e ∷ [])) (sym next.entry_is) in
     let feed : (new.has_ended ≡ false) × (bytes ≡ piece ++ (10 ∷ rest)) → Longer packing left₀ left new front x = λ e.
-      let line : List ℕ = piece ++ (10 ∷ []) in
-      let parts : front ++ bytes ≡ (front ++ line) ++ rest = ap (λ b. front ++ b) (e.1 ∙ sym (append_assoc piece (10 ∷ []) rest)) ∙ sym (append_assoc front line rest) in
-      record {
-        longer = front ++ line;
-        came = subst (λ b. Consumes left₀ left b) parts given;
-        whole = λ _. subst (λ b. IsEmptyOrEndsWith b line_feed) (append_assoc front piece (10 ∷ [])) (ends_feed (front ++ piece));
-        end = λ ended. cc;
-        entries_are = one line (lines_piece piece [] next.first.no_feed);
-      } in
+    let line : List ℕ = piece ++ (10 ∷ []) in
+    let parts : front ++ bytes ≡ (front ++ line) ++ rest = ap (λ b. front ++ b) (e.1 ∙ sym (append_assoc piece (10 ∷ []) rest)) ∙ sym (append_assoc front line rest) in
+    record {
+      longer = front ++ line;
+      came = subst (λ b. Consumes left₀ left b) parts given;
+      whole = λ _. subst (λ b. IsEmptyOrEndsWith b line_feed) (append_assoc front piece (10 ∷ [])) (ends_feed (front ++ piece));
+      end = λ ended. cc;
+      entries_are = one line (lines_piece piece [] next.first.no_feed);
+    } in
     let end : IsAtEnd left × (new.has_ended ≡ true) × (bytes ≡ piece) × (0 < length piece) × (rest ≡ []) → Longer packing left₀ left new front x = λ e.
-      let parts : front ++ bytes ≡ (front ++ piece) ++ rest = ap (λ b. front ++ b) e.2 ∙ sym (append-nil (front ++ piece)) ∙ ap (λ r. (front ++ piece) ++ r) (sym e.4) in
-      record {
-        longer = front ++ piece;
-        came = subst (λ b. Consumes left₀ left b) parts given;
-        whole = λ on. cc;
-        end = λ _. (e.4, e.0);
-        entries_are = one piece (lines_rest piece next.first.no_feed e.3);
-      } in
+    let parts : front ++ bytes ≡ (front ++ piece) ++ rest = ap (λ b. front ++ b) e.2 ∙ sym (append-nil (front ++ piece)) ∙ ap (λ r. (front ++ piece) ++ r) (sym e.4) in
+    record {
+      longer = front ++ piece;
+      came = subst (λ b. Consumes left₀ left b) parts given;
+      whole = λ on. cc;
+      end = λ _. (e.4, e.0);
+      entries_are = one piece (lines_rest piece next.first.no_feed e.3);
+    } in
     elim next.first.ends [ inl e ↦ feed e | inr e ↦ end e ]

@@ -7,6 +7,7 @@ pub mod FirstByte
 pub mod Folds
 pub mod Fronts
 pub mod Gained
+pub mod LogSteps
 pub mod Owed
 pub mod Ranges
 pub mod Running

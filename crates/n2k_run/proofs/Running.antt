@@ -178,29 +178,29 @@ module _ {S : Type 0} (m : Making S) (packing : Packing) (s₀ : S) (before : De
       let none : NoneFailed before (read_on now left calls failed) = record { reads = none_failed ∙ stands.none_failed.reads; writes = stands.none_failed.writes; reports = stands.none_failed.reports } in
       elim next [
         | inl one ↦
-          let more = takes_more packing held held' before.left now.left left stands.front one.0 stands.came (stands.whole on) one.1 in
-          let moved = made_read s' _ text' report' now left calls failed (made_more s s' (entries packing stands.front) one.0 text text' report report' now stands.made one.2) in
-          record {
-            front = more.longer;
-            came = more.came;
-            whole = more.whole;
-            end = more.end;
-            made = subst (λ es. Made m s₀ s' es text' report' before (read_on now left calls failed)) (sym more.entries_are) moved;
-            called = calls_are;
-            none_failed = none;
-          }
+            let more = takes_more packing held held' before.left now.left left stands.front one.0 stands.came (stands.whole on) one.1 in
+            let moved = made_read s' _ text' report' now left calls failed (made_more s s' (entries packing stands.front) one.0 text text' report report' now stands.made one.2) in
+            record {
+              front = more.longer;
+              came = more.came;
+              whole = more.whole;
+              end = more.end;
+              made = subst (λ es. Made m s₀ s' es text' report' before (read_on now left calls failed)) (sym more.entries_are) moved;
+              called = calls_are;
+              none_failed = none;
+            }
         | inr last ↦
-          let bytes = last.0.came in
-          let all : (stands.front ++ unanswered held) ++ bytes ≡ stands.front ++ unanswered held' = append_assoc stands.front (unanswered held) bytes ∙ ap (λ b. stands.front ++ b) (last.0.none ∙ sym last.0.none_held) in
-          record {
-            front = stands.front;
-            came = subst (λ b. Consumes before.left left b) all (Consumes-trans before.left now.left left (stands.front ++ unanswered held) bytes stands.came last.0.given);
-            whole = λ _. stands.whole on;
-            end = λ _. (last.0.none_held, last.0.at_end);
-            made = made_read s' _ text' report' now left calls failed (made_still s s' (entries packing stands.front) text text' report report' now stands.made last.1);
-            called = calls_are;
-            none_failed = none;
-          }
+            let bytes = last.0.came in
+            let all : (stands.front ++ unanswered held) ++ bytes ≡ stands.front ++ unanswered held' = append_assoc stands.front (unanswered held) bytes ∙ ap (λ b. stands.front ++ b) (last.0.none ∙ sym last.0.none_held) in
+            record {
+              front = stands.front;
+              came = subst (λ b. Consumes before.left left b) all (Consumes-trans before.left now.left left (stands.front ++ unanswered held) bytes stands.came last.0.given);
+              whole = λ _. stands.whole on;
+              end = λ _. (last.0.none_held, last.0.at_end);
+              made = made_read s' _ text' report' now left calls failed (made_still s s' (entries packing stands.front) text text' report report' now stands.made last.1);
+              called = calls_are;
+              none_failed = none;
+            }
       ]
 
   -- ---- what a run leaves

@@ -2,3 +2,4 @@
 pub mod Block
 pub mod Counting
 pub mod Engine
+pub mod Joining

@@ -1,4 +1,5 @@
 pub mod Blocks
+pub mod Decoded
 pub mod Device
 pub mod Entries
 pub mod Inner
@@ -9,5 +10,4 @@ pub mod Plain
 pub mod Reading
 pub mod Reports
 pub mod Runs
-pub mod Single
 pub mod Writing

@@ -1,12 +1,11 @@
 -- The texts of reports and of the summary.
-use Rattle.std.specs.Prelude.{ℕ, List, [], ◌++◌, codes, decimal}
+use Rattle.std.specs.Prelude.{ℕ, List, [], ◌++◌, Option, Some, None, codes, decimal}
 use Rattle.std.specs.List.{flat_map, enumerate_from}
 use Rattle.n2k_wire.specs.declared.entry.BadCause.{BadCause}
 use Rattle.n2k_wire.specs.declared.entry.BadCause.TheVariants as causes
 use Rattle.n2k_wire.specs.declared.entry.Entry.{Entry}
 use Rattle.n2k_wire.specs.declared.entry.Entry.TheVariants.{Skip, Bad, Frame, Whole}
-use Rattle.n2k_wire.specs.declared.entry.Packing.TheVariants.{Frames}
-use Rattle.n2k_run.specs.Entries.{entries}
+use Rattle.n2k_join.specs.declared.broken.Broken.{Broken}
 use Rattle.n2k_join.specs.declared.counts.Counts.{Counts}
 
 -- a cause's number and word
@@ -27,6 +26,19 @@ cause_text causes.Address = codes "B12 address"
 -- `line 3 bad B6 data`, of the number of a line and its cause
 unfoldable pub bad_text : ℕ → BadCause → List ℕ
 bad_text number cause = codes "line " ++ decimal number ++ codes " bad " ++ cause_text cause ++ codes "\n"
+
+-- `line 3 broken pgn 130820 src 5 dst 255 seq 3 first 1`, of the number of a line and the group that it breaks
+unfoldable pub broken_text : ℕ → Broken → List ℕ
+broken_text number group =
+    codes "line " ++ decimal number ++ codes " broken pgn " ++ decimal group.pgn ++ codes " src " ++ decimal group.src ++ codes " dst " ++ decimal group.dst ++ codes " seq " ++ decimal group.seq ++ codes " first " ++ decimal group.first ++ codes "\n"
+
+-- what is reported of a line: first the groups that it breaks, then its cause
+abbrev pub cause_report : ℕ → Option BadCause → List ℕ
+cause_report number None = []
+cause_report number (Some cause) = bad_text number cause
+
+abbrev pub line_report : ℕ → List Broken → Option BadCause → List ℕ
+line_report number groups cause = flat_map (broken_text number) groups ++ cause_report number cause
 
 -- `lines 3 messages 1 bad 0 unknown 0 broken 0 open 0`
 unfoldable pub summary_text : Counts → List ℕ

@@ -45,6 +45,18 @@ pub record Devices : Type 0 where
   pub reported : Option (List ℕ)
   pub failed_reports : ℕ
 
+-- those, in the order in which a run takes them
+abbrev pub devices : Option (List ℕ) → ℕ → ℕ → Option (List ℕ) → ℕ → Option (List ℕ) → ℕ → Devices
+devices left calls failed_reads written failed_writes reported failed_reports = record {
+  left = left;
+  calls = calls;
+  failed_reads = failed_reads;
+  written = written;
+  failed_writes = failed_writes;
+  reported = reported;
+  failed_reports = failed_reports;
+}
+
 -- the sinks gained exactly the texts and the reports of these entries
 pub record Gained (o : Output) (before after : Devices) (es : List Entry) : Type 0 where
   pub printed : Appends before.written after.written (o.texts es)

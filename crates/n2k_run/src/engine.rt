@@ -2,7 +2,7 @@
 ghost use Rattle.std.specs.Prelude.{◌≡◌, ◌⊎◌, [], OnOk};
 ghost use Rattle.n2k_run.specs.Blocks.{CallsAre, HasFeed};
 ghost use Rattle.n2k_run.specs.Making.{after_all};
-ghost use Rattle.n2k_run.specs.Runs.{Devices, Runs, output_from};
+ghost use Rattle.n2k_run.specs.Runs.{Runs, devices, output_from};
 ghost use Rattle.n2k_run.specs.Inner.Engine.{TakesNext, ReadsNext};
 
 use crate::blocks::{Blocks, Next};
@@ -57,13 +57,10 @@ pub(crate) fn run_entries<M: Maker, R: Source, W: Sink, E: Sink>(
     reporter: &mut E,
 ) -> Result<(), RunFault>
     requires { M.is_ready maker.now state.old }
-    ensures runs {
-        let before : Devices = record { left = R.remaining reader.old; calls = R.calls reader.old; failed_reads = R.failed_calls reader.old;
-            written = W.contents writer.old; failed_writes = W.failed_calls writer.old;
-            reported = E.contents reporter.old; failed_reports = E.failed_calls reporter.old } in
-        let after : Devices = record { left = R.remaining reader.new; calls = R.calls reader.new; failed_reads = R.failed_calls reader.new;
-            written = W.contents writer.new; failed_writes = W.failed_calls writer.new;
-            reported = E.contents reporter.new; failed_reports = E.failed_calls reporter.new } in
+    ensures runs { let before = devices (R.remaining reader.old) (R.calls reader.old) (R.failed_calls reader.old)
+        (W.contents writer.old) (W.failed_calls writer.old) (E.contents reporter.old) (E.failed_calls reporter.old) in
+        let after = devices (R.remaining reader.new) (R.calls reader.new) (R.failed_calls reader.new)
+        (W.contents writer.new) (W.failed_calls writer.new) (E.contents reporter.new) (E.failed_calls reporter.new) in
         Runs (output_from (M.making maker.now) packing state.old) (λ es. state.new ≡ after_all (M.making maker.now) state.old es) before after result }
     ensures ready { OnOk result (M.is_ready maker.now state.new) }
 {

@@ -1,5 +1,6 @@
 //! Why a run, or the reading of a file, ends without its answer.
 
+use n2k_join::JoinFault;
 use std::alloc::AllocError;
 use thiserror::Error;
 
@@ -31,6 +32,20 @@ impl From<AllocError> for RunFault {
 
     fn from(_: AllocError) -> Self {
         RunFault::Memory
+    }
+}
+
+impl From<JoinFault> for RunFault {
+    ghost use Rattle.std.specs.Prelude.{◌≡◌};
+    ghost use Rattle.n2k_run.specs.Inner.Joining.{fault_of_join};
+
+    ghost from_gives = { λ refused fault. fault ≡ fault_of_join refused };
+
+    fn from(fault: JoinFault) -> Self {
+        match fault {
+            JoinFault::Memory => RunFault::Memory,
+            JoinFault::TooManyLines => RunFault::TooManyLines,
+        }
     }
 }
 

@@ -13,6 +13,7 @@
 #![tactic(auto)]
 
 mod blocks;
+mod decoding;
 mod device;
 mod engine;
 mod fault;
@@ -22,22 +23,21 @@ mod memory;
 mod options;
 mod plain;
 mod reading;
-mod single;
 mod standard;
 mod texts;
 mod writing;
 
 pub use blocks::{Blocks, Next};
+pub use decoding::run;
 pub use device::{Failed, Sink, Source};
 pub use fault::{BytesFault, RunFault};
 pub use memory::{MemorySink, MemorySource};
+pub use n2k_join::{Counts, MOST_LINES};
 pub use options::Options;
 pub use plain::run_plain;
 pub use reading::{MOST_READS, read_bytes};
-pub use single::run_single;
-pub use n2k_join::{Counts, MOST_LINES};
 pub use standard::{StdSink, StdSource};
-pub use texts::{bad_text, summary_text};
+pub use texts::{bad_text, broken_text, summary_text};
 pub use writing::write_all;
 
 #[cfg(test)]

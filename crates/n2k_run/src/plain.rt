@@ -1,7 +1,7 @@
 //! The run of `plain`: each frame and each whole message of a log as a plain line.
 ghost use Rattle.std.specs.Prelude.{◌≡◌, IfOk};
 ghost use Rattle.n2k_run.specs.Plain.{plain_output, plain_counts_of};
-ghost use Rattle.n2k_run.specs.Runs.{Devices, Runs};
+ghost use Rattle.n2k_run.specs.Runs.{Runs, devices};
 
 use crate::device::{Sink, Source};
 use crate::engine::run_entries;
@@ -65,17 +65,22 @@ pub fn run_plain<R: Source, W: Sink, E: Sink>(
     writer: &mut W,
     reporter: &mut E,
 ) -> Result<Counts, RunFault>
-    ensures {
-        let before : Devices = record { left = R.remaining reader.old; calls = R.calls reader.old; failed_reads = R.failed_calls reader.old;
-            written = W.contents writer.old; failed_writes = W.failed_calls writer.old;
-            reported = E.contents reporter.old; failed_reports = E.failed_calls reporter.old } in
-        let after : Devices = record { left = R.remaining reader.new; calls = R.calls reader.new; failed_reads = R.failed_calls reader.new;
-            written = W.contents writer.new; failed_writes = W.failed_calls writer.new;
-            reported = E.contents reporter.new; failed_reports = E.failed_calls reporter.new } in
+    ensures { let before = devices (R.remaining reader.old) (R.calls reader.old) (R.failed_calls reader.old)
+        (W.contents writer.old) (W.failed_calls writer.old) (E.contents reporter.old) (E.failed_calls reporter.old) in
+        let after = devices (R.remaining reader.new) (R.calls reader.new) (R.failed_calls reader.new)
+        (W.contents writer.new) (W.failed_calls writer.new) (E.contents reporter.new) (E.failed_calls reporter.new) in
         Runs plain_output (λ es. IfOk result (λ counts. counts ≡ plain_counts_of es)) before after result }
 {
     let mut counts = Counts::NONE;
-    match run_entries(alloc, &PlainLines, Packing::Frames, &mut counts, reader, writer, reporter) {
+    match run_entries(
+        alloc,
+        &PlainLines,
+        Packing::Frames,
+        &mut counts,
+        reader,
+        writer,
+        reporter,
+    ) {
         Ok(()) => Ok(counts),
         Err(fault) => Err(fault),
     }

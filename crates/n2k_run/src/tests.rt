@@ -1,8 +1,6 @@
 ghost use Rattle.std.specs.Prelude.{◌<◌};
 
 use super::*;
-use crate::lines::{split_line, whole_lines};
-use crate::reading::{ReadFault, read_all};
 use crate::writing::write_all;
 use std::io;
 use std::io::{ErrorKind, Read, Write};
@@ -59,14 +57,7 @@ fn a_limit_of_bytes(rt: HostRuntime) -> Result<(), Fail> {
 }
 
 #[test]
-fn a_read_fails_and_the_next_goes_on(rt: HostRuntime) -> Result<(), Fail> {
-    let mut source = MemorySource::new(TEXT, 5, 3);
-    let mut input = Vec::new(rt.alloc());
-    assert_eq!(rt; read_all(&mut source, &mut input), Err(ReadFault::Read));
-    assert_eq!(rt; input.as_slice(), b"0123456789".as_slice());
-    assert_eq!(rt; read_all(&mut source, &mut input), Ok(()));
-    assert_eq!(rt; input.as_slice(), TEXT);
-
+fn a_failed_read_is_a_fault(rt: HostRuntime) -> Result<(), Fail> {
     let mut source = MemorySource::new(TEXT, 5, 3);
     let refused = read_bytes(rt.alloc(), &mut source, 100);
     assert!(rt; matches!(refused, Err(BytesFault::Read)));
@@ -139,23 +130,28 @@ fn readers_and_writers_of_the_standard_library(rt: HostRuntime) -> Result<(), Fa
     Ok(())
 }
 
-#[test]
-fn lines_end_at_lf_without_one_cr(rt: HostRuntime) {
-    assert_eq!(rt; split_line(b""), None);
-    for (bytes, line, rest) in [
-        (b"ab\ncd".as_slice(), b"ab".as_slice(), b"cd".as_slice()),
-        (b"ab\r\n".as_slice(), b"ab".as_slice(), b"".as_slice()),
-        (
-            b"a\rb\r\r\n\n".as_slice(),
-            b"a\rb\r".as_slice(),
-            b"\n".as_slice(),
-        ),
-        (b"\n\n".as_slice(), b"".as_slice(), b"\n".as_slice()),
-        (b"ab".as_slice(), b"ab".as_slice(), b"".as_slice()),
-        (b"\r".as_slice(), b"".as_slice(), b"".as_slice()),
-    ] {
-        assert_eq!(rt; split_line(bytes), Some((line, rest)));
+// What the next line of a log is: its length, or 10,000 where it is long, 20,000 at the end and 30,000 where the read
+// failed.
+fn next_length(blocks: &mut Blocks, source: &mut MemorySource) -> usize {
+    match blocks.next_line(source) {
+        Ok(Next::Line(line)) => line.len(),
+        Ok(Next::Long) => 10_000,
+        Ok(Next::End) => 20_000,
+        Err(Failed) => 30_000,
     }
-    assert_eq!(rt; whole_lines(b"ab\r\n\ncd"), b"ab\r\n\n".as_slice());
-    assert_eq!(rt; whole_lines(b"ab"), b"".as_slice());
+}
+
+#[test]
+fn a_failed_read_loses_no_line(rt: HostRuntime) -> Result<(), Fail> {
+    let mut log = Vec::new(rt.alloc());
+    log.extend_from_slice(b"ab\r\r\n\n")?;
+    log.extend_from_slice(&vec![in rt.alloc(); b'x'; 9000]?)?;
+    log.extend_from_slice(b"\nabc\n\r")?;
+    // The first read that fails is the third, and it is so within the long line.
+    let mut source = MemorySource::new(&log, 3000, 3);
+    let mut blocks = Blocks::new();
+    for wanted in [3, 0, 30_000, 10_000, 3, 0, 20_000, 20_000] {
+        assert_eq!(rt; next_length(&mut blocks, &mut source), wanted);
+    }
+    Ok(())
 }

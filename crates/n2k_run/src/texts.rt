@@ -1,8 +1,8 @@
 //! The texts of reports and of the summary.
 ghost use Rattle.std.specs.Prelude.{◌≡◌, ◌++◌, ◌+◌, ◌≤◌, OnOk, OnErr, decimal};
-ghost use Rattle.n2k_run.specs.Reports.{bad_text, cause_text, summary_text};
+ghost use Rattle.n2k_run.specs.Reports.{bad_text, broken_text, cause_text, summary_text};
 
-use n2k_join::Counts;
+use n2k_join::{Broken, Counts};
 use n2k_wire::BadCause;
 use std::alloc::{AllocError, Global};
 
@@ -50,6 +50,30 @@ pub fn bad_text(
     push_decimal(&mut text, number)?;
     text.extend_from_slice(b" bad ")?;
     text.extend_from_slice(cause_text(cause))?;
+    text.push(b'\n')?;
+    out.extend_from_slice(&text)
+}
+
+/// Appends the report of a broken group, `line 3 broken pgn 130820 src 5 dst 255 seq 3 first 1` with an LF: the number
+/// of the line that breaks it, what its frames have in common, and the line that opened it. `out` is as it was where
+/// memory is refused.
+#[tactic(auto, using(std::proofs::Common::append_assoc), unfolding(crate::specs::Reports::broken_text))]
+pub fn broken_text(
+    alloc: Global,
+    number: u64,
+    group: &Broken,
+    out: &mut Vec<u8>,
+) -> Result<(), AllocError>
+    ensures ok { OnOk result (out.new.items ≡ out.old.items ++ broken_text number group.now) }
+    ensures err { OnErr result (out.new.items ≡ out.old.items) }
+{
+    let mut text = Vec::new(alloc);
+    push_count(&mut text, b"line ", number)?;
+    push_count(&mut text, b" broken pgn ", group.pgn.into())?;
+    push_count(&mut text, b" src ", group.src.into())?;
+    push_count(&mut text, b" dst ", group.dst.into())?;
+    push_count(&mut text, b" seq ", group.seq.into())?;
+    push_count(&mut text, b" first ", group.first)?;
     text.push(b'\n')?;
     out.extend_from_slice(&text)
 }

@@ -1,7 +1,8 @@
 ghost use Rattle.std.specs.Prelude.{◌<◌};
 
 use super::run_plain;
-use crate::{Counts, MemorySink, MemorySource, RunFault, summary_text};
+use crate::{MemorySink, MemorySource, RunFault, read_bytes, summary_text};
+use n2k_join::Counts;
 use std::process::Abort;
 use std::test::Fail;
 
@@ -108,6 +109,50 @@ fn worked_examples_in_pieces_of_1_of_7_and_all_bytes(rt: HostRuntime) -> Result<
     Ok(())
 }
 
+// A log whose reports and counts are these, whatever the pieces in which it comes.
+fn reports_in_pieces<R: Abort + AllocGlobal>(
+    rt: &R,
+    log: &[u8],
+    reports: &[u8],
+    wanted: Counts,
+) -> Result<(), Fail> {
+    for piece in [1, 7, 4095, 4096, 100_000] {
+        if piece > 0 {
+            let mut reader = MemorySource::new(log, piece, 0);
+            let mut writer = MemorySink::new(rt.alloc(), 100, 0);
+            let mut reporter = MemorySink::new(rt.alloc(), 100, 0);
+            let counts = run_plain(rt.alloc(), &mut reader, &mut writer, &mut reporter)?;
+            assert_eq!(rt; reporter.bytes(), reports);
+            assert_eq!(rt; counts, wanted);
+        }
+    }
+    Ok(())
+}
+
+#[test]
+fn long_lines(rt: HostRuntime) -> Result<(), Fail> {
+    let mut log = Vec::new(rt.alloc());
+    let longest = vec![in rt.alloc(); b'x'; 2048]?;
+    log.extend_from_slice(&longest)?;
+    log.extend_from_slice(b"\r\n")?;
+    log.extend_from_slice(&longest)?;
+    log.extend_from_slice(b"x\n")?;
+    log.extend_from_slice(&longest)?;
+    log.extend_from_slice(b"\r\r\n#")?;
+    log.extend_from_slice(&vec![in rt.alloc(); b'x'; 2047]?)?;
+    log.extend_from_slice(b"\n#")?;
+    log.extend_from_slice(&longest)?;
+    log.extend_from_slice(b"\n\r")?;
+    let reports =
+        b"line 1 bad B2 stamp\nline 2 bad B1 long\nline 3 bad B1 long\nline 5 bad B1 long\n";
+    let counts = Counts {
+        lines: 6,
+        bad: 4,
+        ..Counts::NONE
+    };
+    reports_in_pieces(&rt, &log, reports, counts)
+}
+
 #[test]
 fn ten_lines_of_which_seven_are_bad(rt: HostRuntime) -> Result<(), Fail> {
     let mut log = Vec::new(rt.alloc());
@@ -126,16 +171,7 @@ x,8,127251,36,255,0
 hello
 ",
     )?;
-    let mut reader = MemorySource::new(&log, 100, 0);
-    let mut writer = MemorySink::new(rt.alloc(), 100, 0);
-    let mut reports = MemorySink::new(rt.alloc(), 100, 0);
-    let counts = run_plain(rt.alloc(), &mut reader, &mut writer, &mut reports)?;
-    let text = b"1970-01-01T00:00:10.000Z,7,130820,5,255,8,00,0b,a3,99,01,41,42,43
-1970-01-01T00:00:10.300Z,7,130820,5,255,0
-1970-01-01T00:00:10.400Z,7,130820,5,255,8,01,00,00,00,00,00,ff,ff
-";
-    assert_eq!(rt; writer.bytes(), text.as_slice());
-    let wanted = b"line 2 bad B1 long
+    let reports = b"line 2 bad B1 long
 line 3 bad B6 data
 line 4 bad B4 identifier
 line 5 bad B6 data
@@ -143,14 +179,26 @@ line 8 bad B2 stamp
 line 9 bad B5 number
 line 10 bad B3 form
 ";
-    assert_eq!(rt; reports.bytes(), wanted.as_slice());
-    let wanted = Counts {
+    let counts = Counts {
         lines: 10,
         messages: 3,
         bad: 7,
         ..Counts::NONE
     };
-    assert_eq!(rt; counts, wanted);
+    reports_in_pieces(&rt, &log, reports, counts)
+}
+
+// What the lines of a block give is written before the next block is read: where the first write fails, the source
+// has given its first block alone.
+#[test]
+fn a_block_is_written_before_the_next_is_read(rt: HostRuntime) -> Result<(), Fail> {
+    let mut reader = MemorySource::new(TWO_SOURCES, 60, 0);
+    let mut writer = MemorySink::new(rt.alloc(), 100, 1);
+    let mut reports = MemorySink::new(rt.alloc(), 100, 0);
+    let answer = run_plain(rt.alloc(), &mut reader, &mut writer, &mut reports);
+    assert_eq!(rt; answer, Err(RunFault::Write));
+    let left = read_bytes(rt.alloc(), &mut reader, 1000)?;
+    assert_eq!(rt; left.as_slice(), &TWO_SOURCES[60..]);
     Ok(())
 }
 

@@ -22,8 +22,8 @@ devices g reader writer reporter = record {
 stood : (g : Over) (c : After-take_next g) → Stands (g.M.Maker.making c.args.maker.now) c.args.packing c.args.state.now c.lines.state c.lines.blocks c.if-not-has_line.kept.text.items c.if-not-has_line.kept.report.items (devices g c.args.reader.now c.args.writer.now c.args.reporter.now) (devices g c.lines.reader c.if-not-has_line.writer c.if-not-has_line.reporter)
 stood g c = elim c.if-not-has_line.branch [
   | then-not-has_line+in_ok-write w ↦
-    let e = w.in_ok-write.ensures in
-    rw (w.writer-is, w.reporter-is, w.kept-is) (writes _ _ _ _ _ _ _ _ _ _ _ _ _ _ _ c.lines.invariant.stands e.written e.device e.none_kept)
+      let e = w.in_ok-write.ensures in
+      rw (w.writer-is, w.reporter-is, w.kept-is) (writes _ _ _ _ _ _ _ _ _ _ _ _ _ _ _ c.lines.invariant.stands e.written e.device e.none_kept)
   | else-not-has_line w ↦ rw (w.writer-is, w.reporter-is, w.kept-is) c.lines.invariant.stands
 ]
 

@@ -1,0 +1,70 @@
+-- What `decode` writes and reports of a log: the JSON lines of its messages, its broken groups and its bad lines, each at
+-- the line that gives it.
+use Rattle.std.specs.Prelude.{ℕ, ◌+◌, Bool, List, [], ◌++◌, length, Option, Some, None, option_and_then}
+use Rattle.std.specs.List.{flat_map, range_with_len}
+use Rattle.n2k_table.specs.Json.{json}
+use Rattle.n2k_table.specs.Table.{TableParts, kind}
+use Rattle.n2k_wire.specs.declared.entry.Entry.{Entry}
+use Rattle.n2k_wire.specs.declared.entry.BadCause.{BadCause}
+use Rattle.n2k_wire.specs.Packet.{PacketParts}
+use Rattle.n2k_join.specs.Messages.{message, broken, cause_in, entry_at, numbers}
+use Rattle.n2k_join.specs.State.{State, next_line, step_given, step_after}
+use Rattle.n2k_run.specs.declared.options.Options.{Options}
+use Rattle.n2k_run.specs.Entries.{entries}
+use Rattle.n2k_run.specs.Making.{Making}
+use Rattle.n2k_run.specs.Reports.{line_report}
+use Rattle.n2k_run.specs.Runs.{Output}
+
+-- the JSON line of a message, where there is one
+abbrev pub message_line : TableParts → Bool → Option PacketParts → List ℕ
+message_line t empty None = []
+message_line t empty (Some packet) = json t packet empty
+
+-- what is written of a line of the log
+abbrev pub text_at : TableParts → Bool → List Entry → ℕ → List ℕ
+text_at t empty es i = message_line t empty (message (kind t) es i)
+
+-- why a line of the log is bad
+abbrev pub cause_at : TableParts → List Entry → ℕ → Option BadCause
+cause_at t es i = option_and_then (cause_in (kind t)) (entry_at es i)
+
+-- what is reported of it: the groups that it breaks, then its cause
+abbrev pub report_at : TableParts → List Entry → ℕ → List ℕ
+report_at t es i = line_report i (broken (kind t) es i) (cause_at t es i)
+
+-- the JSON lines of the messages of a log, in the order of the lines that give them
+abbrev pub out_of : TableParts → Bool → List Entry → List ℕ
+out_of t empty es = flat_map (text_at t empty es) (numbers es)
+
+-- the reports of a log, in the order of its lines
+abbrev pub reports_of : TableParts → List Entry → List ℕ
+reports_of t es = flat_map (report_at t es) (numbers es)
+
+-- the same of a log's bytes
+unfoldable pub out : TableParts → Options → List ℕ → List ℕ
+out t o log = out_of t o.empty (entries o.packing log)
+
+unfoldable pub reports : TableParts → Options → List ℕ → List ℕ
+reports t o log = reports_of t (entries o.packing log)
+
+-- the numbers of the lines that come after these
+abbrev pub numbers_after : List Entry → List Entry → List ℕ
+numbers_after front es = range_with_len (length front + 1) (length es)
+
+-- What a run makes of the entries of its log, where these came before: of each line of both, what the whole log says.
+abbrev pub output_after : TableParts → Options → List Entry → Output
+output_after t o front = record {
+  packing = o.packing;
+  counted = length front;
+  texts = λ es. flat_map (text_at t o.empty (front ++ es)) (numbers_after front es);
+  reports = λ es. flat_map (report_at t (front ++ es)) (numbers_after front es);
+}
+
+-- what a run makes of an entry at a time, on a join of any state
+abbrev pub join_making : TableParts → Bool → Making State
+join_making t empty = record {
+  text = λ s e. message_line t empty (step_given (kind t) s e).message;
+  report = λ s e. line_report (next_line s) (step_given (kind t) s e).broken (step_given (kind t) s e).cause;
+  after = step_after (kind t);
+  lines = λ s. s.counts.lines;
+}

@@ -1,0 +1,151 @@
+//! The run of `decode`: the JSON line of each message of a log.
+ghost use Rattle.std.specs.Prelude.{◌≡◌, ◌++◌, List, OnOk, option_to_list};
+ghost use Rattle.std.specs.List.{flat_map};
+ghost use Rattle.n2k_wire.specs.declared.entry.Entry.{Entry};
+ghost use Rattle.n2k_table.specs.Table.{kind};
+ghost use Rattle.n2k_join.specs.State.{state};
+ghost use Rattle.n2k_run.specs.Decoded.{join_making, message_line, output_after};
+ghost use Rattle.n2k_run.specs.Making.{after_all};
+ghost use Rattle.n2k_run.specs.Reports.{broken_text, cause_report};
+ghost use Rattle.n2k_run.specs.Runs.{Runs, devices, output_from};
+
+use crate::device::{Sink, Source};
+use crate::engine::run_entries;
+use crate::fault::RunFault;
+use crate::maker::Maker;
+use crate::options::Options;
+use crate::texts::{bad_text, broken_text};
+use n2k_join::{Broken, Join, laws};
+use n2k_table::{Table, json_line};
+use n2k_wire::{BadCause, Entry, Packet};
+use std::alloc::{AllocError, Global};
+
+// The report of the group that a line breaks.
+fn push_broken(
+    alloc: Global,
+    line: u64,
+    broken: &Option<Broken>,
+    report: &mut Vec<u8>,
+) -> Result<(), AllocError>
+    ensures { OnOk result (report.new.items ≡ report.old.items ++ flat_map (broken_text line) (option_to_list broken.now)) }
+{
+    match broken {
+        None => Ok(()),
+        Some(group) => broken_text(alloc, line, group, report),
+    }
+}
+
+// The report of why a line is bad.
+fn push_cause(
+    alloc: Global,
+    line: u64,
+    cause: Option<BadCause>,
+    report: &mut Vec<u8>,
+) -> Result<(), AllocError>
+    ensures { OnOk result (report.new.items ≡ report.old.items ++ cause_report line cause) }
+{
+    match cause {
+        None => Ok(()),
+        Some(cause) => bad_text(alloc, line, cause, report),
+    }
+}
+
+// The JSON line of the message that a line gives.
+fn push_message(
+    alloc: Global,
+    table: &Table,
+    message: &Option<Packet>,
+    empty: bool,
+    text: &mut Vec<u8>,
+) -> Result<(), AllocError>
+    ensures { OnOk result (text.new.items ≡ text.old.items ++ message_line table.now empty message.now) }
+{
+    match message {
+        None => Ok(()),
+        Some(packet) => json_line(alloc, table, packet, empty, text),
+    }
+}
+
+// Makes the JSON lines of the messages that a join gives.
+#[derive(Drop)]
+struct JsonLines<'a> {
+    table: &'a Table,
+    empty: bool,
+}
+
+impl<'a> Maker for JsonLines<'a> {
+    ghost use Rattle.std.specs.Prelude.{⊤};
+    ghost use Rattle.n2k_run.specs.Decoded.{join_making};
+
+    type State = Join;
+
+    ghost making = { λ s. join_making s.table.now s.empty };
+
+    ghost is_ready = { λ _ _. ⊤ };
+
+    fn take(
+        &self,
+        alloc: Global,
+        join: &mut Join,
+        entry: Entry,
+        text: &mut Vec<u8>,
+        report: &mut Vec<u8>,
+    ) -> Result<(), RunFault> {
+        let step = join.line(self.table, entry)?;
+        let line = join.counts().lines;
+        push_broken(alloc, line, &step.broken, report)?;
+        push_cause(alloc, line, step.bad, report)?;
+        push_message(alloc, self.table, &step.message, self.empty, text)?;
+        Ok(())
+    }
+}
+
+/// Prints the JSON line of each message of a log to `writer`, in the order of the lines that give them, and to
+/// `reporter` for each line the group that it breaks and why it is bad. The join goes on from where it stands, and
+/// stands after the log at the end. Whole, or until a fault, as `run_plain`: after `Read` the join stands after the
+/// last line whose LF was read, and after `TooManyLines` at the last number; after `Write`, `Report` and `Memory` it is
+/// spent.
+pub fn run<R: Source, W: Sink, E: Sink>(
+    alloc: Global,
+    table: &Table,
+    join: &mut Join,
+    options: Options,
+    reader: &mut R,
+    writer: &mut W,
+    reporter: &mut E,
+) -> Result<(), RunFault>
+    // From any join: the texts and reports of the steps of the log's entries, one after the other.
+    ensures steps { let before = devices (R.remaining reader.old) (R.calls reader.old) (R.failed_calls reader.old)
+        (W.contents writer.old) (W.failed_calls writer.old) (E.contents reporter.old) (E.failed_calls reporter.old) in
+        let after = devices (R.remaining reader.new) (R.calls reader.new) (R.failed_calls reader.new)
+        (W.contents writer.new) (W.failed_calls writer.new) (E.contents reporter.new) (E.failed_calls reporter.new) in
+        let making = join_making table.now options.empty in
+        Runs (output_from making options.packing join.old) (λ es. join.new ≡ after_all making join.old es) before after result }
+
+    // From a join that stands after these entries, with this table: what the whole log says of the lines after them.
+    ensures log { (front : List Entry) → join.old ≡ state table.now.id (kind table.now) front →
+        let before = devices (R.remaining reader.old) (R.calls reader.old) (R.failed_calls reader.old)
+        (W.contents writer.old) (W.failed_calls writer.old) (E.contents reporter.old) (E.failed_calls reporter.old) in
+        let after = devices (R.remaining reader.new) (R.calls reader.new) (R.failed_calls reader.new)
+        (W.contents writer.new) (W.failed_calls writer.new) (E.contents reporter.new) (E.failed_calls reporter.new) in
+        Runs (output_after table.now options front) (λ es. join.new ≡ state table.now.id (kind table.now) (front ++ es)) before after result }
+{
+    laws::steps_agree();
+    laws::lines_stay();
+    let maker = JsonLines {
+        table,
+        empty: options.empty,
+    };
+    run_entries(
+        alloc,
+        &maker,
+        options.packing,
+        join,
+        reader,
+        writer,
+        reporter,
+    )
+}
+
+#[cfg(test)]
+mod tests;

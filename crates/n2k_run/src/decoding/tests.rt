@@ -1,0 +1,202 @@
+ghost use Rattle.std.specs.Prelude.{◌<◌};
+
+use super::run;
+use crate::{MemorySink, MemorySource, Options, RunFault, summary_text};
+use n2k_join::Join;
+use n2k_table::Table;
+use n2k_wire::Packing;
+use serde_json::Value;
+use std::process::Abort;
+use std::test::Fail;
+
+// The sample's fast packet, and a PGN of single frames.
+const TABLE: &[u8] = b"
+format = 1
+
+[[pgn]]
+number = 129026
+kind = \"single\"
+description = \"COG & SOG, Rapid Update\"
+fields = [
+  { name = \"SID\", kind = \"number\", at = 0, bits = 8 },
+  { name = \"COG\", kind = \"number\", at = 16, bits = 16, resolution = \"0.0001\" },
+  { name = \"SOG\", kind = \"number\", at = 32, bits = 16, resolution = \"0.01\" },
+]
+
+[[pgn]]
+number = 130820
+kind = \"fast\"
+description = \"Sample: Label\"
+fields = [
+  { name = \"Maker\", kind = \"number\", at = 0, bits = 11, match = 419 },
+  { name = \"Kind\", kind = \"number\", at = 16, bits = 8 },
+  { name = \"Label\", kind = \"text\", at = 24, bits = 24 },
+]
+";
+
+const FRAMES: Options = Options {
+    packing: Packing::Frames,
+    empty: false,
+};
+
+struct Example {
+    log: &'static [u8],
+    text: &'static [u8],
+    reports: &'static [u8],
+    summary: &'static [u8],
+}
+
+const EXAMPLES: [Example; 4] = [
+    // empty-log
+    Example {
+        log: b"",
+        text: b"",
+        reports: b"",
+        summary: b"lines 0 messages 0 bad 0 unknown 0 broken 0 open 0\n",
+    },
+    // two-sources
+    Example {
+        log: b"(10.000001) can0 1DFF0405#000BA39901414243
+(10.100000) can0 1DFF0406#200BA39902585920
+(10.200000) can0 1DFF0406#212020202020FFFF
+(10.300000) can0 1DFF0405#010000000000FFFF
+",
+        text: b"{\"timestamp\":\"1970-01-01T00:00:10.200Z\",\"prio\":7,\"src\":6,\"dst\":255,\"pgn\":130820,\"description\":\"Sample: Label\",\"fields\":{\"Maker\":419,\"Kind\":2,\"Label\":\"XY\"}}
+{\"timestamp\":\"1970-01-01T00:00:10.300Z\",\"prio\":7,\"src\":5,\"dst\":255,\"pgn\":130820,\"description\":\"Sample: Label\",\"fields\":{\"Maker\":419,\"Kind\":1,\"Label\":\"ABC\"}}
+",
+        reports: b"",
+        summary: b"lines 4 messages 2 bad 0 unknown 0 broken 0 open 0\n",
+    },
+    // repeat-breaks
+    Example {
+        log: b"(1.0) can0 1DFF0405#6014A39904474849
+(2.0) can0 1DFF0405#6120202020202020
+(3.0) can0 1DFF0405#6120202020202020
+(4.0) can0 1DFF0405#6014A39904474849
+(5.0) can0 1DFF0405#6220202020202020
+",
+        text: b"{\"timestamp\":\"1970-01-01T00:00:05.000Z\",\"prio\":7,\"src\":5,\"dst\":255,\"pgn\":130820,\"description\":\"Sample: Label\",\"fields\":{\"Maker\":419,\"Kind\":4,\"Label\":\"GHI\"}}\n",
+        reports: b"line 3 broken pgn 130820 src 5 dst 255 seq 3 first 1\n",
+        summary: b"lines 5 messages 1 bad 0 unknown 0 broken 1 open 0\n",
+    },
+    // an unknown PGN, and a frame of a fast packet without a byte
+    Example {
+        log: b"(1.0) can0 18EAFF01#14F001\n(10.3) can0 1DFF0405#\n",
+        text: b"",
+        reports: b"line 2 bad B7 fast\n",
+        summary: b"lines 2 messages 0 bad 1 unknown 1 broken 0 open 0\n",
+    },
+];
+
+fn decodes<R: Abort + AllocGlobal>(
+    rt: &R,
+    table: &Table,
+    example: &Example,
+    piece: usize,
+) -> Result<(), Fail>
+    requires { 0 < piece }
+{
+    let mut join = Join::new(rt.alloc(), table);
+    let mut reader = MemorySource::new(example.log, piece, 0);
+    let mut writer = MemorySink::new(rt.alloc(), piece, 0);
+    let mut reporter = MemorySink::new(rt.alloc(), piece, 0);
+    run(
+        rt.alloc(),
+        table,
+        &mut join,
+        FRAMES,
+        &mut reader,
+        &mut writer,
+        &mut reporter,
+    )?;
+    assert_eq!(rt; writer.bytes(), example.text);
+    assert_eq!(rt; reporter.bytes(), example.reports);
+    let mut summary = Vec::new(rt.alloc());
+    summary_text(rt.alloc(), &join.counts(), &mut summary)?;
+    assert_eq!(rt; summary.as_slice(), example.summary);
+    Ok(())
+}
+
+#[test]
+fn worked_examples_in_pieces_of_1_of_7_and_all_bytes(rt: HostRuntime) -> Result<(), Fail> {
+    let table = Table::read(rt.alloc(), TABLE)?;
+    for example in &EXAMPLES {
+        decodes(&rt, &table, example, 1)?;
+        decodes(&rt, &table, example, 7)?;
+        decodes(&rt, &table, example, 100_000)?;
+    }
+    Ok(())
+}
+
+// Each printed line is one JSON text. That its members stand in their order the texts above show.
+#[test]
+fn each_line_is_read_by_serde_json(rt: HostRuntime) -> Result<(), Fail> {
+    let table = Table::read(rt.alloc(), TABLE)?;
+    let mut join = Join::new(rt.alloc(), &table);
+    // A stamp may hold what JSON escapes.
+    let log = b"\"\\,2,129026,36,255,8,7d,0b,7d,02,00,ff,ff,ff
+(1502979132.106111) can0 09F8027F#00FCFFFF0000FFFF
+";
+    let mut reader = MemorySource::new(log, 1000, 0);
+    let mut writer = MemorySink::new(rt.alloc(), 1000, 0);
+    let mut reporter = MemorySink::new(rt.alloc(), 1000, 0);
+    run(
+        rt.alloc(),
+        &table,
+        &mut join,
+        FRAMES,
+        &mut reader,
+        &mut writer,
+        &mut reporter,
+    )?;
+    let text = std::str::from_utf8(writer.bytes())?;
+    let mut stamps = Vec::new(rt.alloc());
+    for line in text.lines() {
+        let value = Value::from_str(rt.alloc(), line)?;
+        let stamp = value
+            .get("timestamp")
+            .and_then(|stamp| stamp.as_str())
+            .ok_or("no stamp")?;
+        stamps.push(stamp.to_string(rt.alloc())?)?;
+    }
+    assert_eq!(rt; stamps.len(), 2);
+    assert_eq!(rt; stamps[0].as_str(), "\"\\");
+    assert_eq!(rt; stamps[1].as_str(), "2017-08-17T14:12:12.106Z");
+    Ok(())
+}
+
+// After a failed read the join stands after the lines that came, and a later run goes on from there.
+#[test]
+fn a_failed_read_leaves_the_join_at_a_line(rt: HostRuntime) -> Result<(), Fail> {
+    let table = Table::read(rt.alloc(), TABLE)?;
+    let mut join = Join::new(rt.alloc(), &table);
+    let log = EXAMPLES[1].log;
+    let mut reader = MemorySource::new(log, 60, 3);
+    let mut writer = MemorySink::new(rt.alloc(), 7, 0);
+    let mut reporter = MemorySink::new(rt.alloc(), 7, 0);
+    let answer = run(
+        rt.alloc(),
+        &table,
+        &mut join,
+        FRAMES,
+        &mut reader,
+        &mut writer,
+        &mut reporter,
+    );
+    assert_eq!(rt; answer, Err(RunFault::Read));
+    assert_eq!(rt; writer.bytes(), b"".as_slice());
+    assert_eq!(rt; join.counts().lines, 2);
+
+    let mut rest = MemorySource::new(&log[86..], 60, 0);
+    run(
+        rt.alloc(),
+        &table,
+        &mut join,
+        FRAMES,
+        &mut rest,
+        &mut writer,
+        &mut reporter,
+    )?;
+    assert_eq!(rt; writer.bytes(), EXAMPLES[1].text);
+    Ok(())
+}
