@@ -90,6 +90,7 @@ gathers ends kind es k x g comes =
 -- and bring it
 pub brings : (kind : ℕ → Option Kind) (es : List Entry) (k : Key) (x : Sending) (g : List Frame) → Comes repeats kind es k x g → Brings kind es x g
 brings kind es k x g comes = record {
+  stretch = comes.stretch;
   whole = (as_stretch repeats x g comes.stretch comes.goes_on).whole;
   carries = data_pieces x g (pieces_in x g comes.stretch) comes.stretch.pieces.apart comes.stretch.whole;
   given = ap (λ (o : Option Keyed). option_or (option_map (λ (m : Keyed). m.message) o) (option_and_then (alone kind) (entry_at es (last_line g)))) (gathers repeats kind es k x g comes);

@@ -1,20 +1,29 @@
 -- The laws of what frames are cut into.
 use Rattle.std.proofs.Common.{◌≡◌, ◌≤◌, ◌<◌, ◌+◌, ℕ, suc, zero, Bool, true, false, cond, List, [], ◌∷◌, ◌++◌, length, refl, sym, ap, ◌∙◌, subst, arith, append_assoc, Some, slice_get}
+use Rattle.std.specs.Prelude.{option_map}
+use Rattle.std.specs.List.{AllByRecursion}
 use mathlib.Core.Logic.{◌⊎◌, inl, inr}
 use Rattle.std.proofs.lemmas.List.{append-nil, length-append, same_from_push}
 use Rattle.std.proofs.lemmas.List.Elements.{All-from_recursion}
 use Rattle.std.proofs.lemmas.Bool.{or_parts, or_left}
 use Rattle.std.proofs.lemmas.Option.{none-some, same_Some}
 use Rattle.n2k_join.specs.Frames.{Frame}
-use Rattle.n2k_join.specs.Groups.{Ends, closes, complete, repeats, has_twice, cut_from, cut, HasEnded, IsFirstGroup}
+use Rattle.n2k_join.specs.Groups.{Ends, closes, complete, repeats, has_twice, cut_from, cut, HasEnded, IsFirstGroup, first}
 use Rattle.n2k_join.specs.Laws.{CutJoins, HasFirstGroup, CutFirst, CutGrows}
 use Rattle.n2k_join.proofs.Carried.{has_twice-push}
 use Rattle.n2k_join.proofs.Cuts.{grown, cut-push, cut-joined, cut-keeps}
 
+-- no group is empty
+abbrev AreGroups : List (List Frame) → Type 0
+AreGroups gs = AllByRecursion (λ (g : List Frame). 0 < length g) gs
+
+cut-nonempty : (fs : List Frame) → AreGroups (cut repeats fs)
+cut-nonempty fs = cut-keeps repeats (λ g. 0 < length g) (λ x. omega arith) (λ g x c h. omega (arith, length-append g (x ∷ []))) fs
+
 pub cut_joins : (fs : List Frame) → CutJoins fs
 cut_joins fs = record {
   joined = cut-joined repeats fs;
-  nonempty = All-from_recursion (λ (g : List Frame). 0 < length g) (cut repeats fs) (cut-keeps repeats (λ g. 0 < length g) (λ x. omega arith) (λ g x c h. omega (arith, length-append g (x ∷ []))) fs);
+  nonempty = All-from_recursion (λ (g : List Frame). 0 < length g) (cut repeats fs) (cut-nonempty fs);
   once = All-from_recursion (λ (g : List Frame). has_twice g ≡ false) (cut repeats fs) (cut-keeps repeats (λ g. has_twice g ≡ false) (λ x. refl) more fs);
 }
   where
@@ -85,7 +94,8 @@ first_from f front (x ∷ rest) none = by (closes repeats (f ∷ front) x) refl 
     by false e later = subst HasFirstGroup (append_assoc (f ∷ front) (x ∷ []) rest) (later (none_more repeats f front x none e))
 
 pub cut_first : (fs : List Frame) → CutFirst fs
-cut_first fs = record { begins = begins fs; follows = first_follows repeats fs }
+unfolding cut
+cut_first fs = record { none = refl; begins = begins fs; follows = first_follows repeats fs }
   where
     begins : (fs : List Frame) → 0 < length fs → HasFirstGroup fs
     begins [] some = absurd (omega (arith, some))
@@ -117,8 +127,21 @@ grown-length (g ∷ []) x = by (closes repeats g x)
     by false = omega arith
 grown-length (g ∷ h ∷ gs) x = omega (arith, grown-length (h ∷ gs) x)
 
+grown-begins : (gs : List (List Frame)) (x : Frame) (i : ℕ) (g : List Frame) → AreGroups gs → slice_get gs i ≡ Some g → option_map first (slice_get (grown repeats gs x) i) ≡ Some (first g)
+grown-begins [] x i g some e = absurd (none-some g e)
+grown-begins ([] ∷ gs) x i g some e = absurd (omega (arith, some.0))
+grown-begins ((f ∷ h) ∷ []) x zero g some e = by (closes repeats (f ∷ h) x)
+  where
+    by : (b : Bool) → option_map first (slice_get (cond b ((f ∷ h) ∷ (x ∷ []) ∷ []) (((f ∷ h) ++ x ∷ []) ∷ [])) 0) ≡ Some (first g)
+    by true = ap (option_map first) e
+    by false = ap (option_map first) e
+grown-begins ((f ∷ h) ∷ []) x (suc i) g some e = absurd (none-some g e)
+grown-begins ((f ∷ h) ∷ k ∷ gs) x zero g some e = ap (option_map first) e
+grown-begins ((f ∷ h) ∷ k ∷ gs) x (suc i) g some e = grown-begins (k ∷ gs) x i g some.1 e
+
 pub cut_grows : (fs : List Frame) (x : Frame) → CutGrows fs x
 cut_grows fs x = record {
   stays = λ place group at settled. ap (λ gs. slice_get gs place) (cut-push repeats fs x) ∙ grown-stays (cut repeats fs) x place group at settled;
+  begins = λ place group at. ap (λ gs. option_map first (slice_get gs place)) (cut-push repeats fs x) ∙ grown-begins (cut repeats fs) x place group (cut-nonempty fs) at;
   no_fewer = omega (arith, grown-length (cut repeats fs) x, ap length (cut-push repeats fs x));
 }

@@ -1,5 +1,6 @@
 -- The definitions computed on worked examples, each entry being that of its line.
-use Rattle.std.proofs.Common.{◌≡◌, ◌==◌, ◌++◌, if◌then◌else◌, ℕ, List, [], ◌∷◌, Option, Some, None, refl}
+use Rattle.std.proofs.Common.{◌≡◌, ◌==◌, ◌++◌, ◌∙◌, if◌then◌else◌, ℕ, Bool, true, false, List, [], ◌∷◌, Option, Some, None, refl, sym, ap, arith}
+use Rattle.std.proofs.lemmas.List.Elements.{All-from_recursion}
 use Rattle.n2k_wire.specs.declared.entry.BadCause.TheVariants as causes
 use Rattle.n2k_wire.specs.declared.entry.Entry.{Entry}
 use Rattle.n2k_wire.specs.declared.entry.Entry.TheVariants as entries
@@ -7,11 +8,15 @@ use Rattle.n2k_wire.specs.Packet.{PacketParts}
 use Rattle.n2k_table.specs.declared.definition.Kind.{Kind}
 use Rattle.n2k_table.specs.declared.definition.Kind.TheVariants.{Single, Fast}
 use Rattle.n2k_join.specs.declared.counts.Counts.{Counts}
-use Rattle.n2k_join.specs.Frames.{same_key, fast_frame}
+use Rattle.n2k_join.specs.Frames.{Key, Frame, same_key, fast_frame, frame_with}
 use Rattle.n2k_join.specs.Groups.{complete, cut, data_of}
 use Rattle.n2k_join.specs.Open.{Group, pieces_of, begun_at, open_groups}
 use Rattle.n2k_join.specs.Messages.{gathered, broken_with, message, broken, counts}
-use Rattle.n2k_join.specs.State.{State, state, step_given}
+use Rattle.n2k_join.specs.Pieces.{piece_bytes, same_stream, Sending}
+use Rattle.n2k_join.specs.Scattered.{IsPieceOf, IsStretchOf, FallInto, IsScattered}
+use Rattle.n2k_join.specs.Arrival.{ComesNext}
+use Rattle.n2k_join.specs.State.{State, state, step_given, step_after}
+use Rattle.n2k_join.proofs.Keys.{same_key-true}
 
 -- 130820 is sent in fast packets, 129026 in single frames, and nothing is known of other PGNs
 kind : ℕ → Option Kind
@@ -150,19 +155,150 @@ other_lines-whole : message kind other_lines 9 ≡ Some (packet 130820 5 9 (7 �
 unfolding kind fast_frame same_key complete cut data_of gathered
 other_lines-whole = refl
 
--- A state that no log leads to: frame 3, and frame 0 of a total of 6, opened at one line. Frame 1 doesn't complete it, and
--- frame 3 breaks it.
+-- A state that no log leads to, since a group that began at its last line has two frames: frame 3, and frame 0 of a total
+-- of 6. Frame 1 joins them and doesn't complete the group, and frame 3 breaks it. So does another frame 0 of that total,
+-- which is a message alone. Were what is held taken up by rising number, the held frame 0 would be complete alone, and
+-- frames 1 and 0 would join frame 3.
 abbrev resumed : State
 resumed = record {
   id = [];
-  counts = lines_only 4 0 0 0 0 1;
+  counts = lines_only 2 0 0 0 0 1;
   groups = record { first = 2; key = record { src = 5; dst = 255; pgn = 130820; sequence = 0 }; pieces = record { number = 0; bytes = 6 ∷ 1 ∷ 2 ∷ 3 ∷ 4 ∷ 5 ∷ 6 ∷ [] } ∷ record { number = 3; bytes = spaces } ∷ [] } ∷ [];
 }
 
-resumed-waits : step_given kind resumed (frame 5 5 (0x01 ∷ spaces)) ≡ record { message = None; cause = None; broken = [] }
+resumed-waits : step_given kind resumed (frame 5 3 (0x01 ∷ spaces)) ≡ record { message = None; cause = None; broken = [] }
 unfolding kind fast_frame same_key complete cut data_of gathered broken_with step_given
 resumed-waits = refl
 
-resumed-broken : step_given kind resumed (frame 5 5 (0x03 ∷ spaces)) ≡ record { message = None; cause = None; broken = record { pgn = 130820; src = 5; dst = 255; seq = 0; first = 2 } ∷ [] }
+resumed-joined : step_after kind resumed (frame 5 3 (0x01 ∷ spaces)) ≡ record {
+  id = [];
+  counts = lines_only 3 0 0 0 0 1;
+  groups = record { first = 2; key = record { src = 5; dst = 255; pgn = 130820; sequence = 0 }; pieces = record { number = 0; bytes = 6 ∷ 1 ∷ 2 ∷ 3 ∷ 4 ∷ 5 ∷ 6 ∷ [] } ∷ record { number = 1; bytes = spaces } ∷ record { number = 3; bytes = spaces } ∷ [] } ∷ [];
+}
+unfolding kind fast_frame same_key complete cut data_of gathered broken_with pieces_of begun_at open_groups step_given step_after
+resumed-joined = refl
+
+resumed-broken : step_given kind resumed (frame 5 3 (0x03 ∷ spaces)) ≡ record { message = None; cause = None; broken = record { pgn = 130820; src = 5; dst = 255; seq = 0; first = 2 } ∷ [] }
 unfolding kind fast_frame same_key complete cut data_of gathered broken_with step_given
 resumed-broken = refl
+
+resumed-again : step_given kind resumed (frame 5 3 (0x00 ∷ 6 ∷ 11 ∷ 12 ∷ 13 ∷ 14 ∷ 15 ∷ 16 ∷ [])) ≡ record { message = Some (packet 130820 5 3 (11 ∷ 12 ∷ 13 ∷ 14 ∷ 15 ∷ 16 ∷ [])); cause = None; broken = record { pgn = 130820; src = 5; dst = 255; seq = 0; first = 2 } ∷ [] }
+unfolding kind fast_frame same_key complete cut data_of gathered broken_with step_given
+resumed-again = refl
+
+-- ---- what the laws of arrival ask for
+
+-- a message of eleven bytes, and the frame at a line that has this header and these bytes
+abbrev eleven : ℕ → List ℕ → PacketParts
+eleven which end = packet 130820 5 which ((0xA3 ∷ 0x99 ∷ which ∷ 0x41 ∷ 0x42 ∷ 0x43 ∷ []) ++ end)
+
+abbrev frame_on : ℕ → ℕ → ℕ → List ℕ → Frame
+frame_on line stamp header rest = frame_with line (packet 130820 5 stamp (header ∷ rest)) header rest
+
+abbrev zeros : List ℕ
+zeros = 0 ∷ 0 ∷ 0 ∷ 0 ∷ 0 ∷ []
+
+abbrev blanks : List ℕ
+blanks = 32 ∷ 32 ∷ 32 ∷ 32 ∷ 32 ∷ []
+
+abbrev filled_end : List ℕ → List ℕ
+filled_end five = five ++ (255 ∷ 255 ∷ [])
+
+-- A lost message has left its frame 0 open; then a message comes whole under the same key.
+abbrev lost : List Entry
+lost = frame 5 1 (start 0x00 13 1) ∷ []
+
+abbrev then_whole : List Entry
+then_whole = frame 5 2 (start 0x00 11 2) ∷ entries.Skip ∷ frame 5 2 (0x01 ∷ filled_end zeros) ∷ []
+
+abbrev sent_second : Sending
+sent_second = record { sequence = 0; message = eleven 2 zeros }
+
+abbrev whole_frames : List Frame
+whole_frames = frame_on 2 2 0x00 (11 ∷ 0xA3 ∷ 0x99 ∷ 2 ∷ 0x41 ∷ 0x42 ∷ 0x43 ∷ []) ∷ frame_on 4 2 0x01 (filled_end zeros) ∷ []
+
+comes_next : ComesNext kind lost then_whole sent_second whole_frames []
+unfolding kind fast_frame same_key complete cut piece_bytes
+comes_next = record {
+  next = refl;
+  each = All-from_recursion (IsPieceOf sent_second) whole_frames (record { in_range = omega arith; is_piece = refl }, (record { in_range = omega arith; is_piece = refl }, tt));
+  rising = refl;
+  left_open = refl;
+}
+
+-- Two messages of one stream, under way at once, the frames of each by falling number, and other lines between.
+abbrev two_messages : List PacketParts
+two_messages = eleven 1 zeros ∷ eleven 2 blanks ∷ []
+
+abbrev interleaved : List Entry
+interleaved =
+    frame 5 2 (0x21 ∷ filled_end blanks)
+    ∷ frame 5 1 (0x01 ∷ filled_end zeros)
+    ∷ entries.Bad causes.Data
+    ∷ frame 5 1 (start 0x00 11 1)
+    ∷ entries.Frame (packet 129026 1 8 (0x15 ∷ []))
+    ∷ frame 5 2 (start 0x20 11 2)
+    ∷ []
+
+abbrev key_0 : Key
+key_0 = record { src = 5; dst = 255; pgn = 130820; sequence = 0 }
+
+abbrev key_1 : Key
+key_1 = record { src = 5; dst = 255; pgn = 130820; sequence = 1 }
+
+abbrev sent_0 : Sending
+sent_0 = record { sequence = 0; message = eleven 1 zeros }
+
+abbrev sent_1 : Sending
+sent_1 = record { sequence = 1; message = eleven 2 blanks }
+
+-- the frames of each, as they come
+abbrev first_0 : Frame
+first_0 = frame_on 4 1 0x00 (11 ∷ 0xA3 ∷ 0x99 ∷ 1 ∷ 0x41 ∷ 0x42 ∷ 0x43 ∷ [])
+
+abbrev second_0 : Frame
+second_0 = frame_on 2 1 0x01 (filled_end zeros)
+
+abbrev first_1 : Frame
+first_1 = frame_on 6 2 0x20 (11 ∷ 0xA3 ∷ 0x99 ∷ 2 ∷ 0x41 ∷ 0x42 ∷ 0x43 ∷ [])
+
+abbrev second_1 : Frame
+second_1 = frame_on 1 2 0x21 (filled_end blanks)
+
+abbrev frames_0 : List Frame
+frames_0 = second_0 ∷ first_0 ∷ []
+
+abbrev frames_1 : List Frame
+frames_1 = second_1 ∷ first_1 ∷ []
+
+stretch_0 : IsStretchOf sent_0 frames_0
+unfolding fast_frame piece_bytes
+stretch_0 = record {
+  pieces = record { each = All-from_recursion (IsPieceOf sent_0) frames_0 (record { in_range = omega arith; is_piece = refl }, (record { in_range = omega arith; is_piece = refl }, tt)); apart = refl };
+  whole = refl;
+}
+
+stretch_1 : IsStretchOf sent_1 frames_1
+unfolding fast_frame piece_bytes
+stretch_1 = record {
+  pieces = record { each = All-from_recursion (IsPieceOf sent_1) frames_1 (record { in_range = omega arith; is_piece = refl }, (record { in_range = omega arith; is_piece = refl }, tt)); apart = refl };
+  whole = refl;
+}
+
+-- a value, where it is kept
+abbrev kept : {A : Type 0} → Bool → A → List A → List A
+kept b x xs = if b then x ∷ xs else xs
+
+interleaved-scattered : IsScattered kind two_messages interleaved
+unfolding kind fast_frame same_stream
+interleaved-scattered = record {
+  fast = All-from_recursion (λ (m : PacketParts). kind m.id.pgn ≡ Some Fast) two_messages (refl, (refl, tt));
+  falls = λ key. by key (same_key key key_0) (same_key key key_1) refl refl;
+}
+  where
+    by : (key : Key) (b c : Bool) → same_key key key_0 ≡ b → same_key key key_1 ≡ c
+        → FallInto (kept b sent_0 (kept c sent_1 [])) (kept c second_1 (kept b second_0 (kept b first_0 (kept c first_1 []))))
+    by key true true e f = absurd (let same : key_0 ≡ key_1 = sym (same_key-true key key_0 e) ∙ same_key-true key key_1 f in let one : 0 ≡ 1 = ap (λ (k : Key). k.sequence) same in omega (arith, one))
+    by key true false e f = record { stretches = frames_0 ∷ []; one_behind_the_other = refl; each = (stretch_0, tt) }
+    by key false true e f = record { stretches = frames_1 ∷ []; one_behind_the_other = refl; each = (stretch_1, tt) }
+    by key false false e f = record { stretches = []; one_behind_the_other = refl; each = tt }

@@ -18,9 +18,10 @@ pub record PiecesJoin (x : Sending) : Type 0 where
   pub carry_data : (fs : List Frame) → IsStretchOf x fs → data_of fs ≡ x.message.payload
   pub no_part : (fs : List Frame) → ArePieces x fs → length fs < last_piece x.message + 1 → complete fs ≡ false
 
--- The group brings the message: it is complete and has the message's data, and the line of its last frame gives the
--- message, stamp, identifier and data.
+-- The group brings the message: its frames are the message's pieces, all of them; it is complete and has the message's
+-- data; and the line of its last frame gives the message, stamp, identifier and data.
 pub record Brings (kind : ℕ → Option Kind) (es : List Entry) (x : Sending) (group : List Frame) : Type 0 where
+  pub stretch : IsStretchOf x group
   pub whole : complete group ≡ true
   pub carries : data_of group ≡ x.message.payload
   pub given : message kind es (last_line group) ≡ Some x.message
@@ -32,15 +33,16 @@ pub record ArriveWhole (kind : ℕ → Option Kind) (ms : List PacketParts) (es 
   pub none_broken : (line : ℕ) → broken kind es line ≡ []
   pub none_open : open_groups repeats (length es) (frames kind es) ≡ []
 
--- After the entries `front` of a log the next frames of a sending's key are its pieces, by rising number: `group`. What the
--- front leaves open under that key, if anything, has frame 0.
+-- After the entries `front` of a log, in the rest of it, `back`, the next frames of a sending's key are its pieces, by
+-- rising number: `group`. The key's frames that come later are `after`. What the front leaves open under that key, if
+-- anything, has frame 0.
 pub record ComesNext (kind : ℕ → Option Kind) (front back : List Entry) (x : Sending) (group after : List Frame) : Type 0 where
   pub next : of_key (key_of_sending x) (frames kind (front ++ back)) ≡ of_key (key_of_sending x) (frames kind front) ++ (group ++ after)
   pub each : All (IsPieceOf x) group
   pub rising : map (λ (f : Frame). f.number) group ≡ range_with_len 0 (last_piece x.message + 1)
   pub left_open : IfSome (open_of repeats (key_of_sending x) (frames kind front)) (λ open_group. has_number 0 open_group ≡ true)
 
--- The stream heals: the message is given at the line of its last piece, and what was left open, if anything, is broken at
+-- The key heals: the message is given at the line of its last piece, and what was left open, if anything, is broken at
 -- the line of its first.
 pub record Heals (kind : ℕ → Option Kind) (front back : List Entry) (x : Sending) (group : List Frame) : Type 0 where
   pub given : message kind (front ++ back) (last_line group) ≡ Some x.message

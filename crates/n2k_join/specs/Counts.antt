@@ -1,4 +1,4 @@
--- What a log counts.
+-- How long a log may be.
 use Rattle.std.specs.Prelude.{ℕ}
 
 -- the most lines of a log

@@ -14,6 +14,10 @@ use Rattle.n2k_table.specs.declared.definition.Kind.TheVariants.{Single, Fast}
 abbrev pub most_frames : ℕ
 most_frames = 32
 
+-- the sequences that three bits have, so the most messages of one sender, destination and PGN that are under way at once
+abbrev pub most_sequences : ℕ
+most_sequences = 8
+
 -- the data bytes of a frame after its header
 abbrev pub frame_bytes : ℕ
 frame_bytes = 7
@@ -55,7 +59,7 @@ abbrev pub has_total : List ℕ → Bool
 has_total [] = false
 has_total (total ∷ rest) = nat_le total longest_total
 
--- Data can be those of a frame of a fast packet: there is a header, and where its number is 0, a total.
+-- Data can be those of a frame of a fast packet: there is a header, and where its number is 0, a total that isn't too large.
 abbrev pub is_fast_payload : List ℕ → Bool
 is_fast_payload [] = false
 is_fast_payload (header ∷ rest) = not (header % most_frames == 0) || has_total rest

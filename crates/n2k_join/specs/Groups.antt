@@ -1,5 +1,6 @@
 -- How the frames of one key fall into groups, and what a group's message holds. A group ends where it is complete, or
--- where the frame after it can't join it; which frame that is, is an argument of what is cut.
+-- where the frame after it can't join it. Whether a frame can't is a test (`Ends`), which every word that cuts takes as an
+-- argument; today's says that the frame's number is in the group.
 use Rattle.std.specs.Prelude.{◌≡◌, ◌<◌, ℕ, ◌+◌, length, ◌/◌, ◌==◌, nat_le, slice_index_or, Bool, true, false, not, ◌&&◌, ◌||◌, if◌then◌else◌, List, [], ◌∷◌, ◌++◌, take, drop, flat_map, Option, Some, None, unwrap_or, option_and_then, is_some}
 use Rattle.std.specs.List.{range_with_len, list_all, last_or}
 use Rattle.n2k_join.specs.Frames.{Key, Frame, frame_bytes, of_key}

@@ -1,10 +1,10 @@
 -- What holds of the groups of frames, of the step, and of bad lines, for all lists of them.
-use Rattle.std.specs.Prelude.{◌≡◌, ◌<◌, ◌≤◌, ◌⊎◌, ℕ, ◌+◌, false, true, List, [], ◌∷◌, ◌++◌, length, flat_map, slice_get, All, Option, Some}
+use Rattle.std.specs.Prelude.{◌≡◌, ◌<◌, ◌≤◌, ◌⊎◌, ℕ, ◌+◌, false, true, List, [], ◌∷◌, ◌++◌, length, flat_map, slice_get, All, Option, Some, option_map}
 use Rattle.n2k_wire.specs.declared.entry.Entry.{Entry}
 use Rattle.n2k_wire.specs.declared.entry.Entry.TheVariants as entries
 use Rattle.n2k_table.specs.declared.definition.Kind.{Kind}
 use Rattle.n2k_join.specs.Frames.{Frame, frames}
-use Rattle.n2k_join.specs.Groups.{has_twice, complete, repeats, cut, IsFirstGroup}
+use Rattle.n2k_join.specs.Groups.{has_twice, complete, repeats, cut, IsFirstGroup, first}
 use Rattle.n2k_join.specs.Messages.{message, cause_in, broken, counts}
 use Rattle.n2k_join.specs.Open.{open_groups}
 use Rattle.n2k_join.specs.State.{state, step_given, step_after}
@@ -21,16 +21,18 @@ pub record HasFirstGroup (fs : List Frame) : Type 0 where
   pub rest : List Frame
   pub is : IsFirstGroup repeats fs group rest
 
--- The first group is the shortest front that has ended, and the rest is cut likewise. So what is said of a first group and
--- of the rest says what the groups are.
+-- No frames have no groups; the first group of others is the shortest front that has ended, and the rest is cut likewise.
+-- So this says what the groups are.
 pub record CutFirst (fs : List Frame) : Type 0 where
+  pub none : cut repeats [] ≡ []
   pub begins : 0 < length fs → HasFirstGroup fs
   pub follows : (group rest : List Frame) → IsFirstGroup repeats fs group rest → cut repeats fs ≡ group ∷ cut repeats rest
 
--- With a frame more each group that is complete, and each that is broken since another follows, stays in its place, and
--- none follows that goes.
+-- One frame more leaves each complete group, and each group that another follows, in its place, and each group begins
+-- where it began, so that what was broken is broken at the same line. The number of groups never falls.
 pub record CutGrows (fs : List Frame) (x : Frame) : Type 0 where
   pub stays : (place : ℕ) (group : List Frame) → slice_get (cut repeats fs) place ≡ Some group → (complete group ≡ true) ⊎ (place + 1 < length (cut repeats fs)) → slice_get (cut repeats (fs ++ x ∷ [])) place ≡ Some group
+  pub begins : (place : ℕ) (group : List Frame) → slice_get (cut repeats fs) place ≡ Some group → option_map first (slice_get (cut repeats (fs ++ x ∷ [])) place) ≡ Some (first group)
   pub no_fewer : length (cut repeats fs) ≤ length (cut repeats (fs ++ x ∷ []))
 
 -- The step from the state of a log is the state of the log with the entry, and gives what that one's last line gives.
@@ -47,7 +49,7 @@ pub record LinesStay (kind : ℕ → Option Kind) (es : List Entry) (e : Entry) 
   pub messages : (line : ℕ) → 1 ≤ line → line ≤ length es → message kind (es ++ e ∷ []) line ≡ message kind es line
   pub broken_groups : (line : ℕ) → line ≤ length es → broken kind (es ++ e ∷ []) line ≡ broken kind es line
 
--- Where an entry is bad, one that stands for nothing could stand in its place: only the count of bad lines changes.
+-- Where an entry is bad: with a skipped line in its place only the count of bad lines changes.
 pub record BadAlone (kind : ℕ → Option Kind) (front : List Entry) (e : Entry) (back : List Entry) : Type 0 where
   pub messages : (line : ℕ) → message kind (front ++ e ∷ back) line ≡ message kind (front ++ entries.Skip ∷ back) line
   pub broken_groups : (line : ℕ) → broken kind (front ++ e ∷ back) line ≡ broken kind (front ++ entries.Skip ∷ back) line

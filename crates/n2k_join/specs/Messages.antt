@@ -66,7 +66,7 @@ message_with ends kind es line =
 abbrev pub message : (ℕ → Option Kind) → List Entry → ℕ → Option PacketParts
 message = message_with repeats
 
--- the cause of a packet's line, by its PGN's kind: one of a fast PGN may be none that a frame can be
+-- why the line of a frame is bad, by its PGN's kind: under a fast PGN its data may not be those of a fast packet's frame
 abbrev pub fast_cause : Option Kind → PacketParts → Option BadCause
 fast_cause None packet = None
 fast_cause (Some Single) packet = None

@@ -1,28 +1,31 @@
 -- The frames in which messages are sent: a fast packet's pieces, and the sequences that number a stream's messages.
-use Rattle.std.specs.Prelude.{ℕ, ◌+◌, ◌*◌, ◌/◌, ◌%◌, Bool, true, false, ◌&&◌, ◌==◌, if◌then◌else◌, List, [], ◌∷◌, ◌++◌, length, map, flat_map, count_by, slice_index_or, Option, Some, None}
+use Rattle.std.specs.Prelude.{ℕ, ◌+◌, ◌*◌, ◌%◌, Bool, true, false, ◌&&◌, ◌==◌, if◌then◌else◌, List, [], ◌∷◌, ◌++◌, length, map, flat_map, count_by, slice_index_or, Option, Some, None}
 use Rattle.std.specs.List.{range_with_len}
+use Rattle.n2k_join.specs.Frames.{most_frames, frame_bytes, filler, most_sequences}
+use Rattle.n2k_join.specs.Groups.{last_number}
 use Rattle.n2k_wire.specs.declared.identifier.Id.{Id}
 use Rattle.n2k_wire.specs.Packet.{PacketParts}
 use Rattle.n2k_table.specs.declared.definition.Kind.{Kind}
 use Rattle.n2k_table.specs.declared.definition.Kind.TheVariants.{Single, Fast}
+pub use Rattle.n2k_join.specs.declared.stream.Stream.{Stream}
 
 -- What the frames of a fast packet carry, one behind the other: the length of the data, the data, and FF without end.
 -- This is the byte at a place of that.
 abbrev pub sent_byte : List ℕ → ℕ → ℕ
-sent_byte payload place = slice_index_or (length payload ∷ payload) place 255
+sent_byte payload place = slice_index_or (length payload ∷ payload) place filler
 
 -- the seven bytes that frame n carries
 unfoldable pub piece_bytes : List ℕ → ℕ → List ℕ
-piece_bytes payload n = map (sent_byte payload) (range_with_len (7 * n) 7)
+piece_bytes payload n = map (sent_byte payload) (range_with_len (frame_bytes * n) frame_bytes)
 
 -- Frame n of a message: its first byte holds the sequence in its upper three bits and the number in its lower five,
 -- and the stamp and the identifier are the message's.
 abbrev pub piece : PacketParts → ℕ → ℕ → PacketParts
-piece m sequence n = record { stamp = m.stamp; id = m.id; payload = (32 * sequence + n) ∷ piece_bytes m.payload n }
+piece m sequence n = record { stamp = m.stamp; id = m.id; payload = (most_frames * sequence + n) ∷ piece_bytes m.payload n }
 
 -- the number of a message's last frame
 abbrev pub last_piece : PacketParts → ℕ
-last_piece m = length m.payload / 7
+last_piece m = last_number (length m.payload)
 
 -- the frames of a message whose PGN is of this kind: none where the PGN is unknown
 unfoldable pub pieces_as : Option Kind → PacketParts → ℕ → List PacketParts
@@ -33,12 +36,7 @@ pieces_as (Some Fast) m sequence = map (piece m sequence) (range_with_len 0 (las
 abbrev pub pieces_by : (ℕ → Option Kind) → PacketParts → ℕ → List PacketParts
 pieces_by kind m sequence = pieces_as (kind m.id.pgn) m sequence
 
--- A stream: who sends what to whom. Its messages are numbered in turn.
-pub record Stream : Type 0 where
-  pub src : ℕ
-  pub pgn : ℕ
-  pub dst : ℕ
-
+-- the stream of an identifier: who sends what to whom
 abbrev pub stream_of : Id → Stream
 stream_of id = record { src = id.src; pgn = id.pgn; dst = id.dst }
 
@@ -50,9 +48,9 @@ pub record Sending : Type 0 where
   pub sequence : ℕ
   pub message : PacketParts
 
--- the sequence of a message that comes after others: as many as there are of its stream, modulo 8
+-- the sequence of a message that comes after others: as many as there are of its stream, modulo the number of sequences
 abbrev pub sequence_after : List PacketParts → PacketParts → ℕ
-sequence_after earlier m = count_by (λ (e : PacketParts). same_stream (stream_of e.id) (stream_of m.id)) earlier % 8
+sequence_after earlier m = count_by (λ (e : PacketParts). same_stream (stream_of e.id) (stream_of m.id)) earlier % most_sequences
 
 abbrev pub sendings_after : List PacketParts → List PacketParts → List Sending
 sendings_after earlier [] = []
@@ -85,7 +83,7 @@ is_fast None = false
 
 -- after a message of the stream: the next sequence, where the PGN is sent as fast packets
 unfoldable pub raised : (ℕ → Option Kind) → Sequences → Stream → Sequences
-raised kind held stream other = if is_fast (kind stream.pgn) && same_stream stream other then (held other + 1) % 8 else held other
+raised kind held stream other = if is_fast (kind stream.pgn) && same_stream stream other then (held other + 1) % most_sequences else held other
 
 -- what a splitter that holds these sequences makes of messages
 unfoldable pub split_from : (ℕ → Option Kind) → Sequences → List PacketParts → List PacketParts

@@ -145,7 +145,8 @@ pub record AreOpen (lines : ℕ) (groups : List Group) : Type 0 where
   pub begun : AllByRecursion (λ (g : Group). g.first ≤ lines) groups
   pub apart : AreApart groups
 
--- a state that a join can have, whether or not a log leads to it
+-- A state that a join can have, whether or not a log leads to it. That its id is 32 bytes, the join's type says. That its
+-- groups are of fast PGNs is not asked: the next line may be read with another table.
 pub record IsState (s : State) : Type 0 where
   pub counted : AreCounts s.counts
   pub held : s.counts.held ≡ length s.groups

@@ -7,6 +7,11 @@ ghost use Rattle.n2k_join.specs.Groups.{carried, has_number, has_all, complete, 
 ghost use Rattle.n2k_join.specs.Messages.{broken_of};
 ghost use Rattle.n2k_join.specs.Open.{pieces_of, group_of};
 ghost use Rattle.n2k_join.specs.State.{held_frame, held_of, IsOpen};
+ghost use Rattle.n2k_join.specs.Frames.{most_frames};
+ghost use Rattle.n2k_join.specs.Resumed.{pieces_rise};
+ghost use Rattle.n2k_join.specs.State.{IsKey, IsPiece, HasParts};
+ghost use Rattle.std.specs.List.{AllByRecursion};
+ghost use Rattle.std.specs.Prelude.{map, vec_capacity};
 ghost use Rattle.n2k_join.specs.Stored.{key_of, piece_of, frame_of, with_frame, message_if};
 
 use crate::broken::Broken;
@@ -69,6 +74,36 @@ impl StoredGroup {
         })
     }
 
+    /// The group of frames by rising number, which lie in room for all that it can get.
+    pub fn of_pieces(first: u64, key: FrameKey, rising: Vec<StoredPiece>) -> StoredGroup
+        requires rise { pieces_rise 0 (map piece_of rising.items) ≡ true }
+        requires room { most_frames ≤ vec_capacity rising }
+        requires key { IsKey (key_of key) }
+        requires parts { AllByRecursion IsPiece (map piece_of rising.items) }
+        ensures value { result ≡ record { first = first; key = key_of key; pieces = map piece_of rising.items } }
+        ensures parts { HasParts result }
+    {
+        let mut pieces = rising;
+        // By falling number, as a state holds them.
+        pieces.reverse();
+        StoredGroup { first, key, pieces }
+    }
+
+    /// The line that opened it.
+    pub fn first(&self) -> u64
+        ensures value { result ≡ self.now.first }
+        ensures kept { pieces_of (held_of self.now) ≡ self.now.pieces }
+    {
+        self.first
+    }
+
+    /// What its frames have in common.
+    pub fn key(&self) -> FrameKey
+        ensures { key_of result ≡ self.now.key }
+    {
+        self.key
+    }
+
     /// Ends it, and begins another with a frame at a line, in the same room.
     pub fn restart(&mut self, first: u64, frame: &FastFrame)
         ensures { (packet : PacketParts) → self.new ≡ group_of (key_of frame.now.key) (frame_of first packet frame.now ∷ []) }
@@ -86,8 +121,8 @@ impl StoredGroup {
         key.is(&self.key)
     }
 
-    // What its frame of a number carries.
-    fn carried(&self, number: u8) -> Option<&[u8; 7]>
+    /// What its frame of a number carries.
+    pub fn carried(&self, number: u8) -> Option<&[u8; 7]>
         ensures bytes { option_map (λ bytes. bytes.now) result ≡ carried (held_of self.now) number }
         ensures seven { IfSome result (λ bytes. length bytes.now ≡ 7) }
     {

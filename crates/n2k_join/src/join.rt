@@ -5,16 +5,23 @@ ghost use Rattle.n2k_wire.specs.Entry.{IsShort, IsEntry};
 ghost use Rattle.n2k_wire.specs.Packet.{IsPacket, IsPacketParts};
 ghost use Rattle.n2k_join.specs.Counts.{most_lines};
 ghost use Rattle.n2k_join.specs.State.{state, step_given, step_after, AreCounts, one_if};
+ghost use Rattle.n2k_join.specs.Refusal.{GivesOrMemory};
+ghost use Rattle.n2k_join.specs.Resumed.{is_valid, judged, state_of_parts, valid_if};
+ghost use Rattle.n2k_join.specs.Saved.{state_text};
 ghost use Rattle.n2k_join.specs.Step.{given_of, opens};
 
 use crate::counts::{Counts, MOST_LINES};
 use crate::fault::JoinFault;
 use crate::group::StoredGroup;
+use crate::saved::{
+    SpelledGroup, SpelledState, has_format, parsed, read_state, rules_hold, state_text, stored_groups,
+};
+use crate::state_fault::StateFault;
 use crate::outcome::{Outcome, take_entry};
 use crate::step::Step;
 use n2k_table::Table;
 use n2k_wire::{Entry, Id, Packet};
-use std::alloc::Global;
+use std::alloc::{AllocError, Global};
 use std::marker::Model;
 
 /// What is known after the lines of a log: what they count, and the groups of frames that are open, by the lines
@@ -99,7 +106,8 @@ impl Join {
     pub fn counts(&self) -> Counts
         ensures { result ≡ self.now.counts }
     {
-        self.counts
+        let Join { counts, .. } = self;
+        *counts
     }
 
     /// Takes the next line, as its entry, and answers what it gives: the message that it is or completes, why it is
@@ -129,5 +137,60 @@ impl Join {
         let outcome = take_entry(alloc, &mut self.groups, line, table, entry)?;
         self.counts = counted(self.counts, &outcome, self.groups.len());
         Ok(outcome.step)
+    }
+
+    // The join of a state that was read, where it can be one under the table. The count of open groups is their number.
+    fn of_state(
+        alloc: Global,
+        table: &Table,
+        id: [u8; 32],
+        counts: Counts,
+        groups: &[SpelledGroup],
+    ) -> Result<Join, StateFault>
+        ensures { let state = state_of_parts id counts groups.now in
+            GivesOrMemory (λ join. join) result (valid_if (is_valid (kind table.now) state) state) }
+    {
+        if !rules_hold(&counts, groups) {
+            return Err(StateFault::Invalid);
+        }
+        let stored = stored_groups(alloc, table, groups)?;
+        let held = stored.len() as u64;
+        Ok(Join {
+            id,
+            counts: Counts { held, ..counts },
+            groups: stored,
+        })
+    }
+
+    /// The join that a saved state spells, under the table that it was saved with. It goes on where that one stood.
+    ///
+    /// Any JSON text is taken that spells a valid state, whether or not a log leads to it (docs/PROFILE.md has its
+    /// members and rules). Else the first fault is answered that stands, in the order of their numbers, or `Memory`
+    /// where a growth was refused.
+    ///
+    /// ```text
+    /// let join = Join::resume(alloc, &table, &state)?;
+    /// ```
+    #[tactic(auto, unfolding(crate::specs::Resumed::judged))]
+    pub fn resume(alloc: Global, table: &Table, bytes: &[u8]) -> Result<Join, StateFault>
+        ensures { GivesOrMemory (λ join. join) result (judged (kind table.now) table.now.id bytes.now) }
+    {
+        let value = parsed(alloc, bytes)?;
+        if !has_format(&value) {
+            return Err(StateFault::Format);
+        }
+        let state = read_state(alloc, &value)?;
+        if state.id != table.id() {
+            return Err(StateFault::TableDiffers);
+        }
+        let SpelledState { id, counts, groups } = state;
+        Join::of_state(alloc, table, id, counts, &groups)
+    }
+
+    /// The text of its state, from which `resume` goes on: JSON, as docs/PROFILE.md has it, without an LF.
+    pub fn save(&self, alloc: Global) -> Result<Vec<u8>, AllocError>
+        ensures { IfOk result (λ text. text.items ≡ state_text self.now) }
+    {
+        state_text(alloc, &self.id, &self.counts, &self.groups)
     }
 }

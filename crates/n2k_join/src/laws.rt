@@ -1,5 +1,5 @@
 //! Laws that hold of the definitions: each is the contract of a function that does nothing.
-ghost use Rattle.std.specs.Prelude.{◌≡◌, ℕ, All, true, List, Option, Some, is_some};
+ghost use Rattle.std.specs.Prelude.{◌≡◌, ℕ, All, true, List, Ok, Option, Some, is_some};
 ghost use Rattle.n2k_wire.specs.declared.entry.Entry.{Entry};
 ghost use Rattle.n2k_wire.specs.Packet.{PacketParts, IsPacketParts};
 ghost use Rattle.n2k_table.specs.declared.definition.Kind.{Kind};
@@ -10,6 +10,9 @@ ghost use Rattle.n2k_join.specs.Scattered.{IsScattered, IsMute, WrittenLog};
 ghost use Rattle.n2k_join.specs.Replay.{Replays};
 ghost use Rattle.n2k_join.specs.Messages.{cause_in};
 ghost use Rattle.n2k_join.specs.Laws.{CutJoins, CutFirst, CutGrows, StepsAgree, LinesStay, BadAlone};
+ghost use Rattle.n2k_join.specs.Resumed.{judged};
+ghost use Rattle.n2k_join.specs.Saved.{IsId, state_text};
+ghost use Rattle.n2k_join.specs.State.{State, IsState, AreFast};
 ghost use Rattle.n2k_join.specs.Arrival.{PiecesJoin, ArriveWhole, ComesNext, Heals};
 
 /// The groups that frames are cut into are the frames in their order; none is empty, and none has a number twice.
@@ -17,13 +20,14 @@ pub fn cut_joins()
     ensures { (fs : List Frame) → CutJoins fs }
 {}
 
-/// What the groups are, in other words: the first is the shortest front of the frames that has ended, because it is
-/// complete, or no frame follows, or the next one's number is in it; and the rest is cut likewise.
+/// What the groups are, in other words: no frames have none; of others the first is the shortest front that has ended,
+/// because it is complete, or no frame follows, or the next one's number is in it; and the rest is cut likewise.
 pub fn cut_first()
     ensures { (fs : List Frame) → CutFirst fs }
 {}
 
-/// One frame more at the end leaves each group that is complete, and each that is broken, as it was.
+/// One frame more at the end leaves each group that is complete, and each that is broken, as it was, and broken at the
+/// same line.
 pub fn cut_grows()
     ensures { (fs : List Frame) (x : Frame) → CutGrows fs x }
 {}
@@ -61,7 +65,7 @@ pub fn pieces_join()
 /// stays open. Where no entry gives a message alone, the log gives these messages and no other.
 pub fn arrives_whole()
     ensures whole { (kind : ℕ → Option Kind) (ms : List PacketParts) (es : List Entry) → IsScattered kind ms es → ArriveWhole kind ms es }
-    ensures replayed { (kind : ℕ → Option Kind) (ms : List PacketParts) (es : List Entry) → IsScattered kind ms es → IsMute kind es → Replays kind ms es }
+    ensures given_back { (kind : ℕ → Option Kind) (ms : List PacketParts) (es : List Entry) → IsScattered kind ms es → IsMute kind es → Replays kind ms es }
 {}
 
 /// The frames of fast packets that are written, a line each and in their order, make a log over which the messages are
@@ -70,9 +74,15 @@ pub fn written_is_scattered()
     ensures { (kind : ℕ → Option Kind) (ms : List PacketParts) → All IsPacketParts ms → All (λ (m : PacketParts). kind m.id.pgn ≡ Some Fast) ms → WrittenLog kind ms }
 {}
 
-/// A stream heals: where the next frames of a key are the pieces of one message by rising number, and what the key has
+/// A key heals: where the next frames of a key are the pieces of one message by rising number, and what the key has
 /// open, if anything, has frame 0, the message is given at the line of its last piece, and what was open is broken at the
 /// line of its first. So with a sender in rising order a lost frame other than frame 0 costs its own message alone.
 pub fn heals()
     ensures { (kind : ℕ → Option Kind) (front back : List Entry) (x : Sending) (group after : List Frame) → ComesNext kind front back x group after → Heals kind front back x group }
+{}
+
+/// The text of a state, read under its own table, gives that state: for every state that a join can have, whose open groups
+/// are of fast PGNs of the table.
+pub fn state_reads_back()
+    ensures { (kind : ℕ → Option Kind) (s : State) → IsState s → AreFast kind s.groups → IsId s.id → judged kind s.id (state_text s) ≡ Ok s }
 {}

@@ -4,6 +4,8 @@
 //!   the message that the line is or completes, why it is bad, and the group that it breaks (`Step`, `Broken`).
 //!   A line that can't be taken (`JoinFault`) leaves the join as it was.
 //! - `Join::counts` are the lines, messages, bad lines, unknown PGNs, broken and open groups so far (`Counts`).
+//! - `Splitter::message` makes the frames of a message, under the sequence that its stream stands at, or refuses it
+//!   (`SplitFault`).
 //! - `laws` has what holds of the definitions.
 //!
 //! What the messages of a log are is said over the whole log (specs/Messages): the frames of each key are cut into
@@ -20,14 +22,23 @@ mod join;
 pub mod laws;
 mod outcome;
 mod piece;
+mod split_fault;
+mod splitter;
+mod saved;
+mod state_fault;
 mod step;
+mod stream;
 mod taking;
 
 pub use broken::Broken;
 pub use counts::{Counts, MOST_LINES};
 pub use fault::JoinFault;
 pub use join::Join;
+pub use split_fault::SplitFault;
+pub use splitter::Splitter;
+pub use state_fault::StateFault;
 pub use step::Step;
+pub use stream::Stream;
 
 #[cfg(test)]
 mod tests;

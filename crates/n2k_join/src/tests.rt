@@ -1,5 +1,5 @@
 //! The worked examples of groups.
-use crate::{Counts, Join, Step};
+use crate::{Counts, Join, JoinFault, Step};
 use n2k_table::Table;
 use n2k_wire::{BadCause, Packing, plain_text, read_line};
 use std::alloc::Global;
@@ -42,13 +42,21 @@ fn push_step(alloc: Global, line: u64, step: &Step, text: &mut Vec<u8>) -> Resul
     Ok(())
 }
 
+// Takes a line. Where memory is refused the join is as it was, so the line can be taken again.
+fn take(join: &mut Join, table: &Table, line: &str) -> Result<Step, JoinFault> {
+    match join.line(table, read_line(line.as_bytes(), Packing::Frames)) {
+        Err(JoinFault::Memory) => join.line(table, read_line(line.as_bytes(), Packing::Frames)),
+        taken => taken,
+    }
+}
+
 // What the lines of a log gave, and the six counts after them.
 fn told(alloc: Global, lines: &[&str]) -> Result<Vec<u8>, Fail> {
     let table = Table::read(alloc, SAMPLE.as_bytes())?;
     let mut join = Join::new(alloc, &table);
     let mut text = Vec::new(alloc);
     for line in lines {
-        let step = join.line(&table, read_line(line.as_bytes(), Packing::Frames))?;
+        let step = take(&mut join, &table, line)?;
         push_step(alloc, join.counts().lines, &step, &mut text)?;
     }
     let Counts {
@@ -185,10 +193,7 @@ fn longest_message(rt: HostRuntime) -> Result<(), Fail> {
     let alloc = rt.alloc();
     let table = Table::read(alloc, SAMPLE.as_bytes())?;
     let mut join = Join::new(alloc, &table);
-    let first = join.line(
-        &table,
-        read_line(b"(1.0) can0 1DFF0405#00DFA399054A4B4C", Packing::Frames),
-    )?;
+    let first = take(&mut join, &table, "(1.0) can0 1DFF0405#00DFA399054A4B4C")?;
     assert!(rt; first.message.is_none());
     for number in 1..32u8 {
         let line = format!(in alloc; "({number}.0) can0 1DFF0405#{number:02X}20202020202020")?;
@@ -211,29 +216,37 @@ fn longest_message(rt: HostRuntime) -> Result<(), Fail> {
 }
 
 // The second frames of eight messages of one stream, and then the first ones in reverse.
+const EIGHT_UNDER_WAY: [&str; 16] = [
+    "(1.0) can0 1DFF0405#010000000000FFFF",
+    "(1.0) can0 1DFF0405#210000000000FFFF",
+    "(1.0) can0 1DFF0405#410000000000FFFF",
+    "(1.0) can0 1DFF0405#610000000000FFFF",
+    "(1.0) can0 1DFF0405#810000000000FFFF",
+    "(1.0) can0 1DFF0405#A10000000000FFFF",
+    "(1.0) can0 1DFF0405#C10000000000FFFF",
+    "(1.0) can0 1DFF0405#E10000000000FFFF",
+    "(2.0) can0 1DFF0405#E00BA39908414243",
+    "(2.0) can0 1DFF0405#C00BA39907414243",
+    "(2.0) can0 1DFF0405#A00BA39906414243",
+    "(2.0) can0 1DFF0405#800BA39905414243",
+    "(2.0) can0 1DFF0405#600BA39904414243",
+    "(2.0) can0 1DFF0405#400BA39903414243",
+    "(2.0) can0 1DFF0405#200BA39902414243",
+    "(2.0) can0 1DFF0405#000BA39901414243",
+];
+
 #[test]
 fn eight_under_way(rt: HostRuntime) -> Result<(), Fail> {
     let alloc = rt.alloc();
     let table = Table::read(alloc, SAMPLE.as_bytes())?;
     let mut join = Join::new(alloc, &table);
-    for sequence in 0..8u8 {
-        let line = format!(in alloc;
-            "(1.0) can0 1DFF0405#{:02X}0000000000FFFF",
-            32 * sequence + 1
-        )?;
-        join.line(&table, read_line(line.as_bytes(), Packing::Frames))?;
-        assert_eq!(rt; join.counts().held, u64::from(sequence) + 1);
-    }
-    for left in 0..8u8 {
-        let line = format!(in alloc;
-            "(2.0) can0 1DFF0405#{:02X}0BA399{:02X}414243",
-            32 * (7 - left),
-            8 - left
-        )?;
-        let step = join.line(&table, read_line(line.as_bytes(), Packing::Frames))?;
-        let message = step.message.ok_or("a message")?;
-        let data = [0xa3, 0x99, 8 - left, 0x41, 0x42, 0x43, 0, 0, 0, 0, 0];
-        assert_eq!(rt; message.data(), data.as_slice());
+    for (at, line) in EIGHT_UNDER_WAY.iter().enumerate() {
+        let step = take(&mut join, &table, line)?;
+        assert_eq!(rt; join.counts().lines, at as u64 + 1);
+        if let Some(message) = &step.message {
+            let data = [0xa3, 0x99, 16 - at as u8, 0x41, 0x42, 0x43, 0, 0, 0, 0, 0];
+            assert_eq!(rt; message.data(), data.as_slice());
+        }
     }
     let counts = join.counts();
     assert_eq!(rt; (counts.messages, counts.broken, counts.held), (8, 0, 0));

@@ -3,10 +3,8 @@ pub mod Counting
 pub mod Ending
 pub mod Feeds
 pub mod Finding
-pub mod FirstByte
 pub mod Folds
 pub mod Fronts
-pub mod Gained
 pub mod LogSteps
 pub mod Owed
 pub mod Ranges

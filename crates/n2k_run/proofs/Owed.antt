@@ -5,10 +5,6 @@ use Rattle.std.proofs.KnownBytes.{Appends-nil, Appends-trans}
 use Rattle.std.proofs.lemmas.List.{take-append-drop, take_rest, append-nil}
 use Rattle.n2k_run.specs.Writing.{Owes, AppendsFront}
 
--- nothing is written yet
-pub Owes-all : (old : Option (List ℕ)) (text : List ℕ) → Owes old old text text
-Owes-all old text = record { front = []; appended = Appends-nil old; still = refl }
-
 -- the first part of what is still to come is written
 pub Owes-part : (old mid new : Option (List ℕ)) (text part rest : List ℕ) → Owes old mid text (part ++ rest) → Appends mid new part → Owes old new text rest
 Owes-part old mid new text part rest owed more = record {
@@ -23,27 +19,3 @@ Owes-taken old mid new text rest n owed more =
     let whole : Owes old mid text (take n rest ++ drop n rest) = subst (λ r. Owes old mid text r) (sym (take-append-drop n rest)) owed in
     let left : Owes old new text (drop n rest) = Owes-part old mid new text (take n rest) (drop n rest) whole more in
     subst (λ r. Owes old new text r) (sym (take_rest rest n)) left
-
--- a front of the next part is written
-pub Owes-front : (old mid new : Option (List ℕ)) (text part rest : List ℕ) → Owes old mid text (part ++ rest) → AppendsFront mid new part → AppendsFront old new text
-Owes-front old mid new text part rest owed more =
-    let split : text ≡ owed.front ++ ((more.1.front ++ more.0) ++ rest) = owed.still ∙ ap (λ p. owed.front ++ (p ++ rest)) more.1.still in (
-      more.0 ++ rest,
-      record {
-        front = owed.front ++ more.1.front;
-        appended = Appends-trans old mid new owed.front more.1.front owed.appended more.1.appended;
-        still = split ∙ ap (λ p. owed.front ++ p) (append_assoc more.1.front more.0 rest) ∙ sym (append_assoc owed.front more.1.front (more.0 ++ rest));
-      },
-    )
-
--- nothing is still to come
-pub Owes-done : (old new : Option (List ℕ)) (text : List ℕ) → Owes old new text [] → Appends old new text
-Owes-done old new text owed = subst (λ t. Appends old new t) (sym (owed.still ∙ append-nil owed.front)) owed.appended
-
--- more is owed at the end
-pub Owes-on : (old new : Option (List ℕ)) (text rest more : List ℕ) → Owes old new text rest → Owes old new (text ++ more) (rest ++ more)
-Owes-on old new text rest more owed = record {
-  front = owed.front;
-  appended = owed.appended;
-  still = ap (λ t. t ++ more) owed.still ∙ append_assoc owed.front rest more;
-}

@@ -16,14 +16,6 @@ range_drop b s e n few =
 pub length-range : (b : List ℕ) (s e : ℕ) → s ≤ e → e ≤ length b → length (slice_range b s e) ≡ e - s
 length-range b s e in_order within = length-take-le (e - s) (drop s b) (omega (arith, length-drop s b, in_order, within))
 
--- moved to the front
-pub range_moved : (b : List ℕ) (s e : ℕ) → s ≤ e → e ≤ length b → slice_range (copy_within b s e 0) 0 (e - s) ≡ slice_range b s e
-range_moved b s e in_order within =
-    let part : List ℕ = take (e - s) (drop s b) in
-    let size : length part ≡ e - s = length-range b s e in_order within in
-    let none : (e - s) - 0 ≡ e - s = omega arith in
-    ap (λ n. take n (part ++ drop (0 + (e - s)) b)) none ∙ take_at part (drop (0 + (e - s)) b) (e - s) size
-
 take-append-add : (xs ys : List ℕ) (n : ℕ) → take (length xs + n) (xs ++ ys) ≡ xs ++ take n ys
 take-append-add [] ys n = rw (zero-add n) refl
 take-append-add (x ∷ xs) ys n =

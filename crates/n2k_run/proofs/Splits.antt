@@ -33,36 +33,6 @@ without_last_empty-append (piece ∷ []) next more = without_last_empty-keeps pi
 without_last_empty-append (piece ∷ (second ∷ pieces)) next more =
     without_last_empty-keeps piece second (pieces ++ (next ∷ more)) ∙ ap (λ xs. piece ∷ xs) (without_last_empty-append (second ∷ pieces) next more)
 
--- the first line ends at the first line feed
-lines_before : (bytes : List ℕ) → position_or_len is_line_feed bytes < length bytes → lines bytes ≡ without_return (before_first is_line_feed bytes) ∷ lines (after_first is_line_feed bytes)
-lines_before bytes found =
-    let rest = after_first is_line_feed bytes in
-    let more = first_piece rest in
-    let pieces : slice_split is_line_feed bytes ≡ before_first is_line_feed bytes ∷ slice_split is_line_feed rest = slice_split_first is_line_feed bytes 0 found in
-    let kept : without_last_empty (slice_split is_line_feed bytes) ≡ before_first is_line_feed bytes ∷ without_last_empty (slice_split is_line_feed rest) =
-    ap without_last_empty (pieces ∙ ap (λ xs. before_first is_line_feed bytes ∷ xs) more.1.1)
-    ∙ without_last_empty-keeps (before_first is_line_feed bytes) more.0 more.1.0
-    ∙ ap (λ xs. before_first is_line_feed bytes ∷ without_last_empty xs) (sym more.1.1) in
-    ap (map without_return) kept
-
-pub lines_first : (bytes : List ℕ) (end : ℕ) → position is_line_feed bytes ≡ Some end → lines bytes ≡ without_return (take end bytes) ∷ lines (take (length bytes - (end + 1)) (drop (end + 1) bytes))
-lines_first bytes end is =
-    let found = position-Some is_line_feed bytes end 0 is in
-    let at : position_or_len is_line_feed bytes ≡ end = position_or_len_is is_line_feed bytes end 0 (omega (arith, found.0)) found.2 (λ _. found.1) in
-    let here = lines_before bytes (omega (arith, at, found.0)) in
-    subst (λ n. lines bytes ≡ without_return (take n bytes) ∷ lines (drop (n + 1) bytes)) at here
-    ∙ ap (λ rest. without_return (take end bytes) ∷ lines rest) (sym (take_rest bytes (end + 1)))
-
-no_position : (at all : ℕ) → cond (ltb at all) (Some at) None ≡ None → all ≤ at
-no_position at all none = grind (arith, nat_tests)
-
--- without a line feed the bytes are the one line
-pub lines_last : (bytes : List ℕ) → (length bytes == 0) ≡ false → position is_line_feed bytes ≡ None → lines bytes ≡ without_return bytes ∷ []
-lines_last [] some none = cc
-lines_last (byte ∷ bytes) some none =
-    let all : length (byte ∷ bytes) ≤ position_or_len is_line_feed (byte ∷ bytes) = no_position _ _ none in
-    ap (λ pieces. map without_return (without_last_empty pieces)) (slice_split_none is_line_feed (byte ∷ bytes) (λ k d h. fails_before_first is_line_feed (byte ∷ bytes) k d (omega (arith, all, h))))
-
 onto_first-append : (byte : ℕ) (pieces others : List (List ℕ)) (first : List ℕ) (more : List (List ℕ)) → pieces ≡ first ∷ more → onto_first byte (pieces ++ others) ≡ onto_first byte pieces ++ others
 onto_first-append byte pieces others first more is =
     let P : List (List ℕ) → Type 0 = λ ps. onto_first byte (ps ++ others) ≡ onto_first byte ps ++ others in

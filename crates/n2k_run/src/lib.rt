@@ -1,15 +1,17 @@
 //! Runs over devices: a log is read, its lines are taken one by one, and texts and reports are written.
 //!
-//! - `run_plain` prints each frame of a log as a plain line, `run_single` the JSON line of each message that fits
-//!   into one frame. Both report each bad line by its number, and answer the `Counts` of the log.
+//! - `run` prints the JSON line of each message that a log gives on a join, `run_plain` each frame and each whole
+//!   message as its plain line. Both report each bad line by its number, and `run` each broken group.
+//! - `Blocks` lends the lines of a log from a block of 4,096 bytes. A run holds no more of its log, and writes what
+//!   its lines gave before it reads on: so a live pipe shows each message when its line came.
 //! - `Source` and `Sink` are devices: `StdSource` and `StdSink` over the standard library's, `MemorySource` and
 //!   `MemorySink` for tests, whose calls can be short and can fail.
-//! - `read_bytes` reads a source whole, up to a limit. `bad_text` is the report of a bad line, `summary_text` the
-//!   summary of a run.
+//! - `read_bytes` reads a source whole, up to a limit. `bad_text` and `broken_text` are the reports of a line,
+//!   `summary_text` the summary of a run.
 //!
-//! A run that answers Ok has written exactly the texts and reports of the log's lines, in their order, and its
-//! counts are the log's. A run that answers a fault has written a front of them: the fault is that of a device
-//! whose call failed, of memory, of 10^12 reads without an end, or of too many lines.
+//! A run that answers Ok has written exactly the texts and reports of the log's lines, in their order. One that answers
+//! a fault has written a front of them, the reports first: the fault is that of a device whose call failed, of memory,
+//! of 10^12 reads without an end, or of too many lines. What every run promises stands once, in specs/Runs.
 #![tactic(auto)]
 
 mod blocks;

@@ -4,15 +4,13 @@ ghost use Rattle.std.specs.Io.KnownBytes.{Consumes, IsAtEnd, Keeps};
 ghost use Rattle.n2k_run.specs.Device.{HasFailed, one_more};
 ghost use Rattle.n2k_run.specs.Reading.{Gains, OutlastsReads, most_reads};
 
+use crate::blocks::BLOCK;
 use crate::device::Source;
 use crate::fault::BytesFault;
 use std::alloc::Global;
 
 /// The most reads of one call. A source that has not ended by then counts as one that can't be read.
 pub const MOST_READS: u64 = 1_000_000_000_000;
-
-// How many bytes a read asks for at most.
-const BLOCK: usize = 4096;
 
 // One read into the block, whose bytes go to the end of the input: how many there are. Room is made
 // first, so that a refused allocation loses no byte.

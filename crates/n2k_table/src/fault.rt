@@ -14,16 +14,18 @@ pub enum TableFault {
     /// The top level has no `format`, or it isn't the integer 1.
     #[error("2 Format")]
     Format,
-    /// A key is missing or unknown, or a value is of another TOML kind than its key asks.
+    /// A key is missing or unknown, a value is of another TOML kind than its key asks, or an entry of a lookup
+    /// isn't an array of an integer and a text.
     #[error("3 Key")]
     Key,
-    /// An integer or a mantissa is out of its range, or a field ends past the longest message.
+    /// An integer or a mantissa is out of its range, a field of text or bytes doesn't begin and end with a byte,
+    /// or a field ends past the longest message.
     #[error("4 Range")]
     Range,
     /// A text is empty or too long, or isn't one of those that its key asks.
     #[error("5 Text")]
     Text,
-    /// Two things that have to differ have one name.
+    /// Two lookups, or two fields of a definition, have one name, or a lookup has a value twice.
     #[error("6 Twice")]
     Twice,
     /// A field names a lookup that isn't there.
@@ -32,7 +34,7 @@ pub enum TableFault {
     /// Two definitions of one PGN have different kinds.
     #[error("8 Mixed")]
     Mixed,
-    /// There are too many definitions, or fields in one.
+    /// There are too many definitions, fields in one, lookups, or entries in one.
     #[error("9 TooMany")]
     TooMany,
     /// A growth was refused.

@@ -2,14 +2,16 @@
 //!
 //! - `Table::read` reads a table, or says which fault stands in it (`TableFault`). `Table::id` is the
 //!   SHA-256 of what was read.
-//! - `Table::kind` says how a PGN is sent, and `Table::choose` gives the `Definition` of a message.
-//! - `Definition::fields` gives each field's name and what it shows of the data (`Shown`).
+//! - `Table::kind` says how a PGN is sent, and `Table::choose` gives the `Definition` of a message: the first
+//!   of its PGN in the file that its data match.
+//! - `Definition::fields` gives each field's name and what it shows of the data (`Shown`): a number, the name
+//!   of a value, a text, bytes, or nothing.
 //! - `decimal_text` appends a number with its decimals, and `json_line` the line of a message.
 //!
-//! A table that reads has no fault, and an answered fault stands in it. What a field shows is its raw value,
-//! the sum of its bits times powers of two, taken as two's complement where it is signed, times a resolution
-//! that is kept as whole numbers. So each decimal that is printed is exact: nothing is rounded, and there is
-//! no floating-point number.
+//! A table that reads has no fault, and an answered fault stands in it. What a number field shows is its raw
+//! value, the sum of its bits times powers of two, taken as two's complement where it is signed, times a
+//! resolution that is kept as whole numbers. So each decimal that is printed is exact: nothing is rounded, and
+//! there is no floating-point number. A message that no definition matches is printed with its data as they are.
 #![tactic(auto)]
 
 mod bits;
@@ -17,6 +19,8 @@ mod decimal;
 mod definition;
 mod fault;
 mod field;
+mod index;
+pub mod laws;
 mod line;
 mod lookup;
 mod resolution;

@@ -10,6 +10,7 @@ ghost use Rattle.n2k_table.specs.Table.{definitions_faults, lookups_of, definiti
 
 use crate::definition::{Definition, Kind, StoredDefinition, has_mixed, read_definition};
 use crate::fault::TableFault;
+use crate::index::{Index, index_of, places_at};
 use crate::lookup::{Lookups, read_lookups};
 use crate::tree::{Place, elements_if_there, has_only_keys, whole_at};
 use sha2::{Digest, Sha256};
@@ -25,14 +26,19 @@ pub const MOST_DEFINITIONS: usize = 4096;
 pub struct Table {
     id: [u8; 32],
     definitions: Vec<StoredDefinition>,
+    // Where the definitions of each PGN stand.
+    index: Index,
 }
 
 impl Model for Table {
     ghost use Rattle.n2k_table.specs.Table.{TableParts};
+    ghost use Rattle.n2k_table.specs.Index.{IsIndex, numbers};
 
     ghost Value = { TableParts };
 
     ghost view = { λ t. record { id = t.id; definitions = t.definitions.items } };
+
+    ghost invariant = { λ t. IsIndex t.index.entries (numbers t.definitions.items) };
 }
 
 // The definitions, up to a first fault among theirs.
@@ -116,7 +122,9 @@ fn read_top(alloc: Global, top: &toml::Table) -> Result<Vec<StoredDefinition>, T
 
 impl Table {
     ghost use Rattle.std.specs.Prelude.{option_map, find};
+    ghost use Rattle.std.specs.Prelude.{◌<◌, length, slice_index, EachIndex};
     ghost use Rattle.n2k_table.specs.Table.{faults, table, kind, choice, is_of};
+    ghost use Rattle.n2k_table.specs.Index.{places, numbers};
 
     fn judge(alloc: Global, bytes: &[u8]) -> Result<Table, TableFault>
         ensures { GivesOrMemory (λ t. t) result (judged (faults bytes.now) (table bytes.now)) }
@@ -127,9 +135,11 @@ impl Table {
             Err(_) => return Err(TableFault::NotToml),
         };
         let definitions = read_top(alloc, &top)?;
+        let index = index_of(alloc, &definitions)?;
         Ok(Table {
             id: Sha256::digest(bytes),
             definitions,
+            index,
         })
     }
 
@@ -163,22 +173,20 @@ impl Table {
         self.id
     }
 
-    fn first(&self, pgn: u32) -> Option<&StoredDefinition>
-        ensures { option_map (λ d. d.now) result ≡ find (is_of pgn) self.now.definitions }
+    /// The places of the definitions of a PGN, in file order.
+    pub(crate) fn places(&self, pgn: u32) -> &[usize]
+        ensures value { result.now ≡ places pgn (numbers self.now.definitions) }
+        ensures within { EachIndex result.now (λ k. slice_index result.now k < length self.now.definitions) }
     {
-        for definition in &self.definitions {
-            if definition.number() == pgn {
-                return Some(definition);
-            }
-        }
-        None
+        places_at(&self.index, pgn)
     }
 
     fn chosen(&self, pgn: u32, data: &[u8]) -> Option<&StoredDefinition>
         ensures { option_map (λ d. d.now) result ≡ choice self.now pgn «data».now }
     {
-        for definition in &self.definitions {
-            if definition.number() == pgn && definition.matches(data) {
+        for place in self.places(pgn) {
+            let definition = &self.definitions[*place];
+            if definition.matches(data) {
                 return Some(definition);
             }
         }
@@ -190,7 +198,8 @@ impl Table {
     pub fn kind(&self, pgn: u32) -> Option<Kind>
         ensures { result ≡ kind self.now pgn }
     {
-        Some(self.first(pgn)?.kind())
+        let first = *self.places(pgn).first()?;
+        Some(self.definitions[first].kind())
     }
 
     /// The definition that describes a message of a PGN with these data (in the order of the bus): the first

@@ -176,6 +176,8 @@ fn sample_reads(rt: HostRuntime) -> Result<(), Fail> {
     assert_eq!(rt; table.kind(129026), Some(Kind::Single));
     assert_eq!(rt; table.kind(130820), Some(Kind::Fast));
     assert_eq!(rt; table.kind(130821), None);
+    assert_eq!(rt; table.places(130820), [2].as_slice());
+    assert!(rt; table.places(130821).is_empty());
     let definition = table.choose(127251, &[]).ok_or("a definition")?;
     assert_eq!(rt; definition.description(), "Rate of Turn");
     assert!(rt; table.choose(130821, &[]).is_none());

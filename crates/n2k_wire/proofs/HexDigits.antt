@@ -1,9 +1,10 @@
 -- Pairs of hexadecimal digits, by the values of the digits.
-use Rattle.std.proofs.Common.{◌≡◌, ℕ, zero, suc, ◌+◌, ◌*◌, ◌%◌, ◌<◌, ◌≤◌, Bool, true, false, not, ◌&&◌, List, [], ◌∷◌, ◌++◌, length, get_or, take, drop, Some, None, Ok, refl, sym, ap, ◌∙◌, append_assoc, arith, ◌-◌, inl, inr}
+use Rattle.std.proofs.Common.{◌≡◌, ℕ, zero, suc, ◌+◌, ◌*◌, ◌%◌, ◌<◌, ◌≤◌, Bool, true, false, not, ◌&&◌, List, [], ◌∷◌, ◌++◌, length, get_or, take, drop, Some, None, Ok, refl, sym, ap, ◌∙◌, append_assoc, arith, ◌-◌, eqb, inl, inr}
 use Rattle.std.specs.Char.{is_ascii_hexdigit}
 use Rattle.std.specs.List.{list_all, position_or_len}
 use Rattle.std.specs.Result.{result_ok}
-use Rattle.std.proofs.lemmas.Bool.{cases_Bool}
+use Rattle.std.proofs.lemmas.Bool.{cases_Bool, cases_eq, eqb-true}
+use Rattle.n2k_wire.specs.declared.digits.TheConstants.{HEX_VALUES}
 use Rattle.std.proofs.lemmas.Bool.Decides.{nat_tests}
 use Rattle.std.proofs.Math.Bool.{and-true, and_assoc}
 use Rattle.std.proofs.Math.Numerals.{one-add}
@@ -14,6 +15,30 @@ use Rattle.hex.specs.Hex.{hex_digit_value, decode_pairs, decode_of}
 use Rattle.n2k_wire.specs.PrivateWords.{hex_value}
 use Rattle.n2k_wire.specs.Plain.{pair}
 
+both : (a b : Bool) → (a && b) ≡ true → (a ≡ true) × (b ≡ true)
+both true b e = (refl, e)
+both false b e = absurd cc
+
+-- the table of values holds each digit's
+abbrev are_values : ℕ → Bool
+are_values zero = true
+are_values (suc p) = eqb (get_or HEX_VALUES p 0) (hex_value p) && are_values p
+
+value_below : (n p : ℕ) → are_values n ≡ true → p < n → get_or HEX_VALUES p 0 ≡ hex_value p
+value_below zero p all within = absurd (omega arith)
+value_below (suc n) p all within =
+    let parts = both (eqb (get_or HEX_VALUES n 0) (hex_value n)) (are_values n) all in
+    elim (cases_eq p n) [
+      | inl same ↦ rw same (eqb-true (get_or HEX_VALUES n 0) (hex_value n) parts.0)
+      | inr other ↦ value_below n p parts.1 (omega arith)
+    ]
+
+hex_below : (digit : ℕ) → is_ascii_hexdigit digit ≡ true → digit < 103
+hex_below digit hex = grind (arith, nat_tests)
+
+pub value_at : (digit : ℕ) → is_ascii_hexdigit digit ≡ true → (digit < 103) × (get_or HEX_VALUES digit 0 ≡ hex_value digit) × (hex_value digit < 16)
+value_at digit hex = (hex_below digit hex, value_below 103 digit refl (hex_below digit hex), grind (arith, nat_tests))
+
 -- the value that `hex` gives a digit
 pub hex_digit_value-is : (digit : ℕ) → is_ascii_hexdigit digit ≡ true → hex_digit_value digit ≡ Some (hex_value digit)
 hex_digit_value-is digit e = grind (arith, nat_tests)
@@ -23,10 +48,6 @@ pub spelled : List ℕ → List ℕ
 spelled [] = []
 spelled (digit ∷ []) = []
 spelled (high ∷ low ∷ rest) = (hex_value high * 16 + hex_value low) ∷ spelled rest
-
-both : (a b : Bool) → (a && b) ≡ true → (a ≡ true) × (b ≡ true)
-both true b e = (refl, e)
-both false b e = absurd cc
 
 pub decode_pairs-spelled : (i n : ℕ) (digits : List ℕ) → list_all is_ascii_hexdigit digits ≡ true → length digits ≡ 2 * n → decode_pairs i digits ≡ Ok (spelled digits)
 unfolding decode_pairs spelled

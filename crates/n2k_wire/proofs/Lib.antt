@@ -1,11 +1,11 @@
 pub mod CalendarLemmas
+pub mod CandumpBack
+pub mod CandumpLemmas
 pub mod DigitLemmas
 pub mod HexDigits
+pub mod IdentifierLemmas
 pub mod PieceLemmas
 pub mod PlainLemmas
 pub mod ReadBack
 pub mod TextLemmas
-pub mod IdentifierLemmas
-pub mod CandumpLemmas
 pub mod UtcBack
-pub mod CandumpBack

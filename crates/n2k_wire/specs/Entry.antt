@@ -43,8 +43,8 @@ IsShort (entries.Bad cause) = Unit {0}
 IsShort (entries.Frame packet) = length packet.payload ≤ frame_payload
 IsShort (entries.Whole packet) = Unit {0}
 
--- An entry of the program: its packet is one, and a frame has at most 8 data bytes. A law over all entries takes
--- this as its premise.
+-- An entry that a line can be: its packet's parts make one, and a frame has at most 8 data bytes. Reading a line
+-- promises it, and a join's state stays valid under such entries.
 abbrev pub IsEntry : Entry → Type 0
 IsEntry entries.Skip = Unit {0}
 IsEntry (entries.Bad cause) = Unit {0}

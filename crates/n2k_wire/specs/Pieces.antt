@@ -1,4 +1,4 @@
--- PacketParts of a line, by the bytes that stand between them.
+-- The parts of a line, by the bytes that stand between them.
 use Rattle.std.specs.Prelude.{ℕ, ◌+◌, not, ◌==◌, if◌then◌else◌, List, [], ◌∷◌, take, drop, Option, Some, None, option_map, position}
 
 -- what stands before the first such byte, and what stands after it

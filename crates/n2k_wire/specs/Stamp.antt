@@ -71,10 +71,14 @@ unfoldable pub utc_text : Moment → List ℕ
 utc_text m =
     date_text (m.seconds / seconds_of_day) ++ codes "T" ++ time_text (m.seconds % seconds_of_day) ++ codes "." ++ millis_digits m.millis ++ codes "Z"
 
--- The bytes of `YYYY-MM-DDTHH:MM:SS.mmmZ` that are no digits, in their places among 24.
+-- the bytes of such a text
+abbrev pub utc_len : ℕ
+utc_len = 24
+
+-- whether the bytes that are no digits stand in their places
 abbrev pub has_utc_form : List ℕ → Bool
 has_utc_form text =
-    (length text == 24) && (slice_index text 4 == 45) && (slice_index text 7 == 45) && (slice_index text 10 == 84) && (slice_index text 13 == 58) && (slice_index text 16 == 58) && (slice_index text 19 == 46) && (slice_index text 23 == 90)
+    (length text == utc_len) && (slice_index text 4 == 45) && (slice_index text 7 == 45) && (slice_index text 10 == 84) && (slice_index text 13 == 58) && (slice_index text 16 == 58) && (slice_index text 19 == 46) && (slice_index text 23 == 90)
 
 -- the number of so many decimal digits from a place on
 abbrev pub number_at : ℕ → ℕ → List ℕ → Option ℕ

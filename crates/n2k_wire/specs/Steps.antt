@@ -1,5 +1,5 @@
 -- Steps that may fail, one after another: the cause is that of the first step that fails.
-use Rattle.std.specs.Prelude.{◌≡◌, Bool, true, false, Option, Some, None, Result, Ok, Err}
+use Rattle.std.specs.Prelude.{Bool, true, false, Option, Some, None, Result, Ok, Err}
 
 infixl 10 ◌>>=◌
 abbrev pub ◌>>=◌ : {A B E : Type 0} → Result A E → (A → Result B E) → Result B E
@@ -20,13 +20,3 @@ holds_or cause false = Err cause
 abbrev pub some_if : {A : Type 0} → Bool → A → Option A
 some_if true x = Some x
 some_if false x = None
-
--- What a function answered, seen by view, is what the definition says.
-abbrev pub Gives : {X Y E : Type 0} → (X → Y) → Result X E → Result Y E → Type 0
-Gives view (Ok x) said = said ≡ Ok (view x)
-Gives view (Err cause) said = said ≡ Err cause
-
--- The same of a function that answers a value or nothing.
-abbrev pub Finds : {X Y : Type 0} → (X → Y) → Option X → Option Y → Type 0
-Finds view (Some x) said = said ≡ Some (view x)
-Finds view None said = said ≡ None

@@ -2,29 +2,28 @@
 ghost use Rattle.std.specs.Prelude.{◌≡◌, ◌≤◌, ◌<◌, ◌^◌, IfSome, IfOk, length, not, position, option_map, Some, true};
 ghost use Rattle.std.specs.Char.{is_ascii_hexdigit};
 ghost use Rattle.std.specs.List.{list_all};
-ghost use Rattle.n2k_wire.specs.Candump.{candump, is_interface_byte, is_interface, stamped, framed, of_number, identifier, is_end, is_ending, digits_len, payload, is_other_frame, frame_of};
+ghost use Rattle.n2k_wire.specs.Candump.{candump, frame_payload, is_interface_byte, is_interface, stamped, framed, of_number, identifier, is_end, is_ending, digits_len, payload, is_other_frame, frame_of};
 ghost use Rattle.std.specs.Int.{w32, from_be_bytes};
 ghost use Rattle.std.specs.Result.{result_ok};
 ghost use Rattle.hex.specs.Hex.{decode_of};
-ghost use Rattle.n2k_wire.specs.PrivateWords.{candump_entry, plain_moment};
+ghost use Rattle.n2k_wire.specs.PrivateWords.{Finds, Gives, candump_entry, plain_moment};
 ghost use Rattle.n2k_wire.specs.Stamp.{IsMoment};
 ghost use Rattle.n2k_wire.specs.Entry.{IsEntry, settled};
 ghost use Rattle.n2k_wire.specs.Packet.{IsPacket};
-ghost use Rattle.n2k_wire.specs.Steps.{Finds, Gives};
 
 use crate::digits::{are_hex_digits, decode_digits, is_hex_digit};
 use crate::entry::{BadCause, Entry};
 use crate::identifier::{Id, split_id};
 use crate::packet::Packet;
 use crate::pieces::{after_byte, cut_at, skip_spaces};
-use crate::stamp::{Moment, read_moment, utc_text};
+use crate::stamp::{Moment, UTC_LEN, read_moment, utc_text};
 use arrayvec::ArrayVec;
 
 /// The most bytes of an interface's name.
 const LONGEST_INTERFACE: usize = 15;
 
 /// The most data bytes of a frame.
-pub const FRAME_PAYLOAD: usize = 8;
+pub(crate) const FRAME_PAYLOAD: usize = 8;
 
 /// The first number that isn't a CAN identifier of 29 bits.
 const FIRST_ERROR_FRAME: u32 = 0x2000_0000;
@@ -35,8 +34,8 @@ const FIRST_OTHER: u32 = 0x4000_0000;
 
 /// The frame of a candump line.
 #[derive(Drop)]
-pub struct CandumpFrame {
-    stamp: [u8; 24],
+struct CandumpFrame {
+    stamp: [u8; UTC_LEN],
     id: Id,
     data: ArrayVec<u8, FRAME_PAYLOAD>,
 }
@@ -189,7 +188,7 @@ fn is_other_frame(text: &[u8]) -> bool
 #[tactic(auto, unfolding(crate::specs::Candump::payload))]
 fn read_payload(text: &[u8]) -> Option<ArrayVec<u8, FRAME_PAYLOAD>>
     ensures value { Finds (λ payload. payload.items) result (payload text.now) }
-    ensures short { IfSome result (λ payload. length payload.items ≤ 8) }
+    ensures short { IfSome result (λ payload. length payload.items ≤ frame_payload) }
 {
     let (digits, rest) = text.split_at(digits_len(text));
     if digits.len() > 2 * FRAME_PAYLOAD || !is_ending(rest) {
@@ -206,7 +205,7 @@ fn frame_of(seen: Moment, known: Option<u32>, text: &[u8]) -> Result<Option<Cand
     requires bits { IfSome known (λ n. n < 2 ^ 29) }
     ensures entry { Gives candump_entry result (frame_of (plain_moment seen) known text.now) }
     ensures valid { IfOk result (λ frame. IfSome frame (λ f. IsPacket f.stamp f.id f.«data».items)) }
-    ensures short { IfOk result (λ frame. IfSome frame (λ f. length f.«data».items ≤ 8)) }
+    ensures short { IfOk result (λ frame. IfSome frame (λ f. length f.«data».items ≤ frame_payload)) }
 {
     let Some(identifier) = known else {
         return Ok(None);
@@ -227,7 +226,7 @@ fn frame_of(seen: Moment, known: Option<u32>, text: &[u8]) -> Result<Option<Cand
 fn read_frame(line: &[u8]) -> Result<Option<CandumpFrame>, BadCause>
     ensures entry { Gives candump_entry result (candump line.now) }
     ensures valid { IfOk result (λ frame. IfSome frame (λ f. IsPacket f.stamp f.id f.«data».items)) }
-    ensures short { IfOk result (λ frame. IfSome frame (λ f. length f.«data».items ≤ 8)) }
+    ensures short { IfOk result (λ frame. IfSome frame (λ f. length f.«data».items ≤ frame_payload)) }
 {
     let (stamp, text) = read_stamped(line).ok_or(BadCause::Stamp)?;
     let seen = read_moment(stamp).ok_or(BadCause::Stamp)?;
@@ -238,7 +237,7 @@ fn read_frame(line: &[u8]) -> Result<Option<CandumpFrame>, BadCause>
 
 /// The entry of a candump line.
 #[inline]
-pub fn read_candump(line: &[u8]) -> Entry
+pub(crate) fn read_candump(line: &[u8]) -> Entry
     ensures entry { result ≡ settled (candump line.now) }
     ensures valid { IsEntry result }
 {

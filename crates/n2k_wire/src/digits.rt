@@ -4,15 +4,14 @@ ghost use Rattle.std.specs.Char.{is_ascii_hexdigit};
 ghost use Rattle.std.specs.List.{list_all};
 ghost use Rattle.std.specs.Result.{result_ok};
 ghost use Rattle.hex.specs.Hex.{hex_digit_value, decode_of};
-ghost use Rattle.n2k_wire.specs.PrivateWords.{hex_value};
-ghost use Rattle.n2k_wire.specs.Steps.{Finds};
+ghost use Rattle.n2k_wire.specs.PrivateWords.{Finds, hex_value};
 ghost use Rattle.n2k_wire.specs.Digits.{decimal_after, decimal_digit, decimal_number};
 
 use arrayvec::ArrayVec;
 
 /// The number that 1 to `most` decimal digits make.
 #[tactic(auto, unfolding(crate::specs::Digits::decimal_number))]
-pub fn decimal_number(most: usize, digits: &[u8]) -> Option<u64>
+pub(crate) fn decimal_number(most: usize, digits: &[u8]) -> Option<u64>
     requires { most ≤ 18 }
     ensures value { result ≡ decimal_number most digits.now }
     ensures bound { IfSome result (λ n. n < 10 ^ length digits.now) }
@@ -51,7 +50,7 @@ fn decimal_digit(byte: u8) -> Option<u64>
 }
 
 /// Whether a byte is a hexadecimal digit, of either case.
-pub fn is_hex_digit(byte: u8) -> bool
+pub(crate) fn is_hex_digit(byte: u8) -> bool
     ensures { result ≡ is_ascii_hexdigit byte }
 {
     (byte.wrapping_sub(b'0') < 10) | (byte.wrapping_sub(b'A') < 6) | (byte.wrapping_sub(b'a') < 6)
@@ -59,7 +58,7 @@ pub fn is_hex_digit(byte: u8) -> bool
 
 /// Whether each byte is a hexadecimal digit. It looks at each, without a branch that goes by the kind of the
 /// digit: that would be mispredicted all the time, since the bytes of a bus are as good as random.
-pub fn are_hex_digits(digits: &[u8]) -> bool
+pub(crate) fn are_hex_digits(digits: &[u8]) -> bool
     ensures { result ≡ list_all is_ascii_hexdigit digits.now }
 {
     let mut all = true;
@@ -69,17 +68,34 @@ pub fn are_hex_digits(digits: &[u8]) -> bool
     all
 }
 
-/// The byte that two hexadecimal digits spell, by the same steps for digits and letters.
-pub fn spelled_byte(high: u8, low: u8) -> u8
+/// The values of the hexadecimal digits `0` to `9`, `A` to `F` and `a` to `f`, by their codes. What stands for other
+/// codes is not asked.
+const HEX_VALUES: [u8; 103] = [
+    0, 1, 2, 3, 4, 5, 6, 7, 8, 9, 10, 11, 12, 13, 14, 15, 0, 1, 2, 3, 4, 5, 6, 7, 8, 9, 10, 11, 12,
+    13, 14, 15, 0, 1, 2, 3, 4, 5, 6, 7, 8, 9, 10, 11, 12, 13, 14, 15, 0, 1, 2, 3, 4, 5, 6, 7, 8, 9,
+    10, 11, 12, 13, 14, 15, 9, 10, 11, 12, 13, 14, 15, 16, 17, 18, 19, 20, 21, 22, 23, 24, 9, 10,
+    11, 12, 13, 14, 15, 16, 17, 18, 19, 20, 21, 22, 23, 24, 9, 10, 11, 12, 13, 14, 15,
+];
+
+fn hex_value(digit: u8) -> u8
+    requires { is_ascii_hexdigit digit ≡ true }
+    ensures value { result ≡ hex_value digit }
+    ensures bound { result < 16 }
+{
+    HEX_VALUES[usize::from(digit)]
+}
+
+/// The byte that two hexadecimal digits spell.
+pub(crate) fn spelled_byte(high: u8, low: u8) -> u8
     requires high { is_ascii_hexdigit high ≡ true }
     requires low { is_ascii_hexdigit low ≡ true }
     ensures { result ≡ hex_value high * 16 + hex_value low }
 {
-    (high % 16 + high / 64 * 9) * 16 + low % 16 + low / 64 * 9
+    hex_value(high) * 16 + hex_value(low)
 }
 
 /// The bytes that up to eight pairs of hexadecimal digits spell, as `hex` decodes them.
-pub fn decode_digits(digits: &[u8]) -> Option<ArrayVec<u8, 8>>
+pub(crate) fn decode_digits(digits: &[u8]) -> Option<ArrayVec<u8, 8>>
     requires short { length digits.now ≤ 16 }
     requires hexadecimal { list_all is_ascii_hexdigit digits.now ≡ true }
     ensures value { Finds (λ bytes. bytes.items) result (result_ok (decode_of digits.now)) }

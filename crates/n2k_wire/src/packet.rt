@@ -9,16 +9,16 @@ use arrayvec::ArrayVec;
 use std::marker::Model;
 
 /// The most bytes of a stamp.
-pub const LONGEST_STAMP: usize = 32;
+pub(crate) const LONGEST_STAMP: usize = 32;
 
 /// The most bytes of a message.
-pub const LONGEST_MESSAGE: usize = 223;
+pub(crate) const LONGEST_MESSAGE: usize = 223;
 
 /// The greatest PGN of a plain line.
-pub const GREATEST_PGN: u32 = 16_777_215;
+pub(crate) const GREATEST_PGN: u32 = 16_777_215;
 
 /// The greatest priority.
-pub const GREATEST_PRIORITY: u8 = 7;
+pub(crate) const GREATEST_PRIORITY: u8 = 7;
 
 /// A frame or a whole message: when it was seen, its identifier, and its data of at most 223 bytes.
 #[derive(Drop)]
@@ -59,7 +59,7 @@ fn is_stamp_start(byte: u8) -> bool
 }
 
 /// Whether a text is a stamp: 1 to 32 printable ASCII bytes, none of them a comma, the first neither `(` nor `#`.
-pub fn is_stamp(text: &[u8]) -> bool
+pub(crate) fn is_stamp(text: &[u8]) -> bool
     ensures { result ≡ is_stamp text.now }
 {
     match text {

@@ -1,6 +1,6 @@
-//! PacketParts of a line.
+//! The parts of a line.
 ghost use Rattle.std.specs.Prelude.{◌≡◌, ◌==◌, not, position};
-ghost use Rattle.n2k_wire.specs.Steps.{Finds};
+ghost use Rattle.n2k_wire.specs.PrivateWords.{Finds};
 ghost use Rattle.n2k_wire.specs.Pieces.{cut_at, after_byte, skip_spaces};
 
 fn place_of(byte: u8, bytes: &[u8]) -> Option<usize>
@@ -17,7 +17,7 @@ fn place_of_other(byte: u8, bytes: &[u8]) -> Option<usize>
 
 /// What stands before the first such byte, and what stands after it.
 #[tactic(auto, unfolding(crate::specs::Pieces::cut_at))]
-pub fn cut_at(separator: u8, bytes: &[u8]) -> Option<(&[u8], &[u8])>
+pub(crate) fn cut_at(separator: u8, bytes: &[u8]) -> Option<(&[u8], &[u8])>
     ensures { Finds (λ x. (x.0.now, x.1.now)) result (cut_at separator bytes.now) }
 {
     match place_of(separator, bytes) {
@@ -28,7 +28,7 @@ pub fn cut_at(separator: u8, bytes: &[u8]) -> Option<(&[u8], &[u8])>
 
 /// What follows this byte, where the bytes begin with it.
 #[tactic(auto, unfolding(crate::specs::Pieces::after_byte))]
-pub fn after_byte(first: u8, bytes: &[u8]) -> Option<&[u8]>
+pub(crate) fn after_byte(first: u8, bytes: &[u8]) -> Option<&[u8]>
     ensures { Finds (λ x. x.now) result (after_byte first bytes.now) }
 {
     match bytes {
@@ -39,7 +39,7 @@ pub fn after_byte(first: u8, bytes: &[u8]) -> Option<&[u8]>
 
 /// The bytes from the first on that isn't a space.
 #[tactic(auto, unfolding(crate::specs::Pieces::skip_spaces))]
-pub fn skip_spaces(bytes: &[u8]) -> Option<&[u8]>
+pub(crate) fn skip_spaces(bytes: &[u8]) -> Option<&[u8]>
     ensures { Finds (λ x. x.now) result (skip_spaces bytes.now) }
 {
     match place_of_other(b' ', bytes) {

@@ -1,10 +1,9 @@
 //! Plain lines: `stamp,prio,pgn,src,dst,len,b0,b1,..`, the format that canboat's programs read and write.
 ghost use Rattle.std.specs.Prelude.{◌≡◌, ◌≤◌, [], ◌∷◌, length, IfSome, IfOk};
 ghost use Rattle.n2k_wire.specs.Plain.{plain, plain_packet, pieces, number_to, pair, header, id_of, bytes_of, is_frame};
-ghost use Rattle.n2k_wire.specs.PrivateWords.{pieces_left, plain_header};
+ghost use Rattle.n2k_wire.specs.PrivateWords.{Finds, Gives, pieces_left, plain_header};
 ghost use Rattle.n2k_wire.specs.Entry.{IsEntry, settled};
-ghost use Rattle.n2k_wire.specs.Packet.{IsPacket};
-ghost use Rattle.n2k_wire.specs.Steps.{Finds, Gives};
+ghost use Rattle.n2k_wire.specs.Packet.{IsPacket, greatest_pgn, greatest_priority, longest_message};
 
 use crate::candump::FRAME_PAYLOAD;
 use crate::digits::{decimal_number, is_hex_digit, spelled_byte};
@@ -74,8 +73,8 @@ fn read_header(text: Option<&[u8]>) -> Option<Header<'_>>
 #[tactic(auto, unfolding(crate::specs::Plain::id_of))]
 fn read_id(header: &Header<'_>) -> Result<Id, BadCause>
     ensures value { Gives (λ id. id) result (id_of (plain_header header.now)) }
-    ensures prio { IfOk result (λ id. id.prio ≤ 7) }
-    ensures pgn { IfOk result (λ id. id.pgn ≤ 16_777_215) }
+    ensures prio { IfOk result (λ id. id.prio ≤ greatest_priority) }
+    ensures pgn { IfOk result (λ id. id.pgn ≤ greatest_pgn) }
 {
     let prio = number_to(u64::from(GREATEST_PRIORITY), header.prio).ok_or(BadCause::Number)? as u8;
     let pgn = number_to(u64::from(GREATEST_PGN), header.pgn).ok_or(BadCause::Number)? as u32;
@@ -108,7 +107,7 @@ fn read_bytes(
     more: Option<&[u8]>,
     bytes: &mut ArrayVec<u8, LONGEST_MESSAGE>,
 ) -> Option<()>
-    requires few { len ≤ 223 }
+    requires few { len ≤ longest_message }
     requires empty { bytes.old.items ≡ [] }
     ensures value { Finds (λ done. bytes.new.items) result (bytes_of len (pieces_left more.entry)) }
     ensures len { IfSome result (λ done. length bytes.new.items ≡ len) }
@@ -164,7 +163,7 @@ fn read_packet<'a>(
 
 /// The entry of a plain line.
 #[inline]
-pub fn read_plain(line: &[u8], packing: Packing) -> Entry
+pub(crate) fn read_plain(line: &[u8], packing: Packing) -> Entry
     ensures entry { result ≡ settled (plain packing line.now) }
     ensures valid { IsEntry result }
 {

@@ -1,12 +1,12 @@
 //! Stamps of candump lines, and the UTC text that packets keep of them.
 ghost use Rattle.std.specs.Prelude.{◌≡◌, ◌+◌, ◌^◌, ◌≤◌, ◌<◌, ◌↔◌, IfSome, IsSome, IsTrue, true, length, pos};
 ghost use Rattle.jiff_core.specs.Calendar.{IsCivilDate};
-ghost use Rattle.n2k_wire.specs.Steps.{Finds, some_if};
+ghost use Rattle.n2k_wire.specs.Steps.{some_if};
 ghost use Rattle.std.specs.List.{list_all};
 ghost use Rattle.n2k_wire.specs.Packet.{is_stamp, is_stamp_byte};
-ghost use Rattle.n2k_wire.specs.PrivateWords.{plain_moment};
-ghost use Rattle.n2k_wire.specs.Stamp.{IsMoment, moment, three_digits, two_digits, date_text, time_text, utc_text, has_utc_form, number_at, day_at_start, second_behind_date, utc_moment};
-ghost use Rattle.n2k_wire.specs.Calendar.{day_number, is_date, year_of, month_of, day_of_month};
+ghost use Rattle.n2k_wire.specs.PrivateWords.{Finds, plain_moment};
+ghost use Rattle.n2k_wire.specs.Stamp.{IsMoment, seconds_of_day, utc_len, moment, three_digits, two_digits, date_text, time_text, utc_text, has_utc_form, number_at, day_at_start, second_behind_date, utc_moment};
+ghost use Rattle.n2k_wire.specs.Calendar.{last_day, day_number, is_date, year_of, month_of, day_of_month};
 
 use crate::digits::decimal_number;
 use crate::pieces::cut_at;
@@ -14,16 +14,19 @@ use jiff_core::civil::Date;
 
 /// A moment of a candump stamp.
 #[derive(Clone, Copy)]
-pub struct Moment {
+pub(crate) struct Moment {
     /// Whole seconds since 1970 in UTC.
-    pub seconds: u64,
+    pub(crate) seconds: u64,
     /// The milliseconds after them.
-    pub millis: u32,
+    pub(crate) millis: u32,
 }
 
 const LAST_SECOND: u64 = 253_402_300_799;
 
 const SECONDS_OF_DAY: u64 = 86_400;
+
+/// The bytes of `YYYY-MM-DDTHH:MM:SS.mmmZ`.
+pub(crate) const UTC_LEN: usize = 24;
 
 #[tactic(auto, unfolding(crate::specs::Stamp::three_digits))]
 fn three_digits(fraction: &[u8]) -> [u8; 3]
@@ -39,7 +42,7 @@ fn three_digits(fraction: &[u8]) -> [u8; 3]
 
 /// The moment of a text `seconds.fraction`.
 #[tactic(auto, unfolding(crate::specs::Stamp::moment))]
-pub fn read_moment(text: &[u8]) -> Option<Moment>
+pub(crate) fn read_moment(text: &[u8]) -> Option<Moment>
     ensures value { Finds plain_moment result (moment text.now) }
     ensures range { IfSome result (λ m. IsMoment (plain_moment m)) }
 {
@@ -58,7 +61,7 @@ const DAYS_BEFORE_1970: u32 = 4_371_587;
 
 /// The year, the month and the day of the month of a day number, 0 being 1970-01-01.
 fn civil_date(day: u32) -> (u16, u8, u8)
-    requires { day ≤ 2_932_896 }
+    requires { day ≤ last_day }
     ensures year { result.0 ≡ year_of day }
     ensures month { result.1 ≡ month_of day }
     ensures day { result.2 ≡ day_of_month day }
@@ -79,7 +82,7 @@ fn two_digits(n: u32) -> [u8; 2]
 
 /// `YYYY-MM-DD` of a day number.
 fn date_text(day: u32) -> [u8; 10]
-    requires { day ≤ 2_932_896 }
+    requires { day ≤ last_day }
     ensures value { result ≡ date_text day }
     ensures stamp { list_all is_stamp_byte result ≡ true }
 {
@@ -93,7 +96,7 @@ fn date_text(day: u32) -> [u8; 10]
 
 /// `HH:MM:SS` of a second of the day.
 fn time_text(second: u32) -> [u8; 8]
-    requires { second < 86_400 }
+    requires { second < seconds_of_day }
     ensures value { result ≡ time_text second }
     ensures stamp { list_all is_stamp_byte result ≡ true }
 {
@@ -105,7 +108,7 @@ fn time_text(second: u32) -> [u8; 8]
 
 /// `YYYY-MM-DDTHH:MM:SS.mmmZ`, the stamp that a packet keeps of a candump line.
 #[tactic(auto, unfolding(crate::specs::Stamp::utc_text))]
-pub fn utc_text(moment: Moment) -> [u8; 24]
+pub(crate) fn utc_text(moment: Moment) -> [u8; UTC_LEN]
     requires { IsMoment (plain_moment moment) }
     ensures value { result ≡ utc_text (plain_moment moment) }
     ensures stamp { IsTrue (is_stamp result) }
@@ -138,7 +141,7 @@ fn day_of_date(year: u32, month: u32, day: u32) -> Option<u32>
     requires month { month ≤ 99 }
     requires day { day ≤ 99 }
     ensures value { result ≡ some_if (is_date year month day) (day_number year month day) }
-    ensures bound { IfSome result (λ n. n ≤ 2_932_896) }
+    ensures bound { IfSome result (λ n. n ≤ last_day) }
 {
     if year < 1970 {
         return None;
@@ -161,7 +164,7 @@ fn number_at(place: usize, digits: usize, text: &[u8]) -> Option<u32>
 fn has_utc_form(text: &[u8]) -> bool
     ensures { result ≡ has_utc_form text.now }
 {
-    text.len() == 24
+    text.len() == UTC_LEN
         && text[4] == b'-'
         && text[7] == b'-'
         && text[10] == b'T'
@@ -174,9 +177,9 @@ fn has_utc_form(text: &[u8]) -> bool
 /// The day number of `YYYY-MM-DD` at the start of a text.
 #[tactic(auto, unfolding(crate::specs::Stamp::day_at_start))]
 fn day_at_start(text: &[u8]) -> Option<u32>
-    requires { length text.now ≡ 24 }
+    requires { length text.now ≡ utc_len }
     ensures value { result ≡ day_at_start text.now }
-    ensures bound { IfSome result (λ n. n ≤ 2_932_896) }
+    ensures bound { IfSome result (λ n. n ≤ last_day) }
 {
     let year = number_at(0, 4, text)?;
     let month = number_at(5, 2, text)?;
@@ -187,9 +190,9 @@ fn day_at_start(text: &[u8]) -> Option<u32>
 /// The second of the day of `HH:MM:SS` behind `YYYY-MM-DDT`.
 #[tactic(auto, unfolding(crate::specs::Stamp::second_behind_date))]
 fn second_behind_date(text: &[u8]) -> Option<u32>
-    requires { length text.now ≡ 24 }
+    requires { length text.now ≡ utc_len }
     ensures value { result ≡ second_behind_date text.now }
-    ensures bound { IfSome result (λ n. n < 86_400) }
+    ensures bound { IfSome result (λ n. n < seconds_of_day) }
 {
     let hour = number_at(11, 2, text)?;
     let minute = number_at(14, 2, text)?;
@@ -203,7 +206,7 @@ fn second_behind_date(text: &[u8]) -> Option<u32>
 
 /// The moment of a text `YYYY-MM-DDTHH:MM:SS.mmmZ` of a day that the calendar has from 1970 on.
 #[tactic(auto, unfolding(crate::specs::Stamp::utc_moment))]
-pub fn read_utc(text: &[u8]) -> Option<Moment>
+pub(crate) fn read_utc(text: &[u8]) -> Option<Moment>
     ensures value { Finds plain_moment result (utc_moment text.now) }
     ensures range { IfSome result (λ m. IsMoment (plain_moment m)) }
 {

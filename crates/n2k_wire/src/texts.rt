@@ -3,10 +3,9 @@ ghost use Rattle.std.specs.Prelude.{◌≡◌, ◌+◌, ◌-◌, ◌*◌, ◌≤
 ghost use Rattle.std.specs.List.{flat_map};
 ghost use Rattle.arrayvec.specs.ArrayVec.{array_vec_len};
 ghost use Rattle.hex.specs.Hex.{encode_upper};
-ghost use Rattle.n2k_wire.specs.Candump.{frame_payload, is_interface};
-ghost use Rattle.n2k_wire.specs.PrivateWords.{plain_moment};
+ghost use Rattle.n2k_wire.specs.Candump.{frame_payload, is_interface, longest_interface};
+ghost use Rattle.n2k_wire.specs.PrivateWords.{Gives, plain_moment};
 ghost use Rattle.n2k_wire.specs.Stamp.{IsMoment, last_second, millis_digits};
-ghost use Rattle.n2k_wire.specs.Steps.{Gives};
 ghost use Rattle.n2k_wire.specs.Texts.{Appends, byte_piece, number_piece, plain_text, second_digits, candump_line, candump_parts, candump_text};
 
 use crate::candump::FRAME_PAYLOAD;
@@ -194,8 +193,8 @@ fn push_upper(line: &mut CandumpLine, bytes: &[u8])
 #[tactic(auto, unfolding(crate::specs::Texts::candump_line))]
 fn candump_line(seen: Moment, identifier: u32, payload: &[u8], interface: &[u8]) -> CandumpLine
     requires moment { IsMoment (plain_moment seen) }
-    requires short { length payload.now ≤ 8 }
-    requires interface { length interface.now ≤ 15 }
+    requires short { length payload.now ≤ frame_payload }
+    requires interface { length interface.now ≤ longest_interface }
     ensures { result.items ≡ candump_line interface.now (plain_moment seen) identifier payload.now ++ codes "\n" }
 {
     let mut line = ArrayVec::new();

@@ -3,4 +3,4 @@ use Rattle.n2k_join.proofs.Replaying.{replays}
 use Rattle.n2k_join.proofs.laws.arrives_whole.Goals as goal
 
 pub returns : goal.returns
-returns c = record { whole = arrive; replayed = replays }
+returns c = record { whole = arrive; given_back = replays }

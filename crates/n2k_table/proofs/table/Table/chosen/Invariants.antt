@@ -1,11 +1,9 @@
--- The first that describes the message among the definitions that are left is the first among all.
-use Rattle.std.proofs.Common.{◌≡◌, ◌&&◌, drop}
-use Rattle.std.specs.List.{find}
-use Rattle.n2k_table.specs.Definition.{DefinitionParts}
-use Rattle.n2k_table.specs.Table.{is_of, matches}
+-- The first that describes the message among the definitions at the places that are left is the first among all.
+use Rattle.std.proofs.Common.{◌≡◌, drop}
+use Rattle.n2k_table.specs.Table.{matches, choice}
+use Rattle.n2k_table.proofs.Places.{first_at}
 use Rattle.n2k_table.proofs.table.Table.chosen.Given as goal
 
-abbrev pub invariant-loop-definition : goal.invariant-loop-definition
-invariant-loop-definition l =
-    find (λ (d : DefinitionParts). is_of l.pgn d && matches l.«data» d) (drop l.definition-index l.definition-items)
-    ≡ find (λ (d : DefinitionParts). is_of l.pgn d && matches l.«data» d) l.self.definitions
+abbrev pub invariant-loop-place : goal.invariant-loop-place
+invariant-loop-place l =
+    first_at (matches l.«data») l.self.definitions (drop l.place-index l.place-items) ≡ choice l.self l.pgn l.«data»

@@ -1,0 +1,212 @@
+-- What the rules of a valid state say, and a text that is JSON or not.
+use Rattle.std.proofs.Common.{◌≡◌, ◌≤◌, ◌<◌, ◌+◌, ◌&&◌, ◌||◌, not, nat_le, ℕ, zero, suc, Bool, true, false, if◌then◌else◌, List, [], ◌∷◌, length, map, Option, Some, None, Result, Ok, Err, refl, sym, ap, ◌∙◌, subst, arith, IsUtf8, IsTrue, slice_index_or}
+use Rattle.std.specs.List.{AllByRecursion, list_any}
+use Rattle.std.specs.Str.{is_utf8}
+use Rattle.std.proofs.lemmas.Str.{IsUtf8-from_is_utf8, is_utf8-from_IsUtf8}
+use Rattle.serde_json.specs.Data.{Data}
+use Rattle.serde_json.specs.Read.{read}
+use Rattle.n2k_table.specs.declared.definition.Kind.{Kind}
+use Rattle.n2k_table.specs.declared.definition.Kind.TheVariants.{Single, Fast}
+use Rattle.n2k_join.specs.declared.counts.Counts.{Counts}
+use Rattle.n2k_join.specs.declared.state_fault.StateFault.{StateFault}
+use Rattle.n2k_join.specs.declared.state_fault.StateFault.TheVariants.{NotJson, Invalid}
+use Rattle.n2k_wire.specs.Packet.{greatest_pgn}
+use Rattle.n2k_join.specs.Frames.{Key, same_key, most_frames, longest_total}
+use Rattle.n2k_join.specs.Groups.{complete}
+use Rattle.n2k_join.specs.Open.{Piece, Group}
+use Rattle.n2k_join.specs.Refusal.{or_fault}
+use Rattle.n2k_join.specs.Resumed.{parsed, counts_hold, firsts_rise, group_holds, groups_hold, is_valid, is_some_list, pieces_rise, state_of_parts, valid_if, total_holds, key_holds, is_fast}
+use Rattle.n2k_join.specs.State.{State, IsState, AreCounts, AreOpen, AreApart, AreFast, IsOpen, IsKey, IsPiece, HasParts, Rise, held_of}
+use Rattle.std.proofs.lemmas.Bool.{le-leb, and_from, ne_eqb}
+use Rattle.n2k_join.proofs.StateTests.{both, at_most}
+use Rattle.n2k_join.proofs.SavedGroups.{rise_from, small_from}
+
+parsed_by : (bs : List ℕ) (b : Bool) → is_utf8 bs ≡ b → parsed bs ≡ (if b then read bs else None)
+parsed_by bs b e = ap (λ b. if b then read bs else None) e
+
+pub parsed_some : (bs : List ℕ) (d : Data) → IsUtf8 bs → read bs ≡ Some d → or_fault NotJson (parsed bs) ≡ Ok d
+parsed_some bs d text is = ap (or_fault NotJson) (parsed_by bs true (is_utf8-from_IsUtf8 bs text) ∙ is)
+
+pub parsed_none : (bs : List ℕ) → (IsUtf8 bs → read bs ≡ None) → or_fault NotJson (parsed bs) ≡ Err NotJson
+parsed_none bs none = ap (or_fault NotJson) (by (is_utf8 bs) refl)
+  where
+    by : (b : Bool) → is_utf8 bs ≡ b → parsed bs ≡ None
+    by true e = parsed_by bs true e ∙ none (IsUtf8-from_is_utf8 bs e)
+    by false e = parsed_by bs false e
+
+pub untrue : (b : Bool) → b ≡ false → IsTrue b → ⊥
+untrue true e h = cc
+untrue false e h = cc
+
+counts_from : (s : State) → counts_hold s.counts ≡ true → AreCounts s.counts
+unfolding counts_hold
+counts_from s h =
+    let hs = both _ _ h in
+    let more = both _ _ hs.1 in
+    record { lines = at_most _ _ hs.0; given = at_most _ _ more.1; broken = at_most _ _ more.0 }
+
+firsts_from : (least lines : ℕ) (gs : List Group) → firsts_rise least lines gs ≡ true → Rise (λ (g : Group). g.first) least gs × AllByRecursion (λ (g : Group). g.first ≤ lines) gs
+unfolding firsts_rise
+firsts_from least lines [] h = (tt, tt)
+firsts_from least lines (g ∷ gs) h =
+    let hs = both _ _ h in
+    let more = both _ _ hs.1 in
+    let rest = firsts_from (g.first + 1) lines gs more.1 in
+    ((at_most _ _ hs.0, rest.0), (at_most _ _ more.0, rest.1))
+
+not_true : (b : Bool) → not b ≡ true → b ≡ false
+not_true true h = cc
+not_true false h = refl
+
+some_list : (ps : List Piece) → is_some_list ps ≡ true → 0 < length ps
+some_list [] h = cc
+some_list (p ∷ ps) h = omega arith
+
+open_from : (kind : ℕ → Option Kind) (g : Group) → group_holds kind g ≡ true → IsOpen g
+unfolding group_holds
+open_from kind g h =
+    let hs = both _ _ (both _ _ h).1 in
+    let more = both _ _ hs.1 in
+    record { nonempty = some_list g.pieces hs.0; rise = rise_from 0 g.pieces more.0; numbers = small_from 0 g.pieces more.0; incomplete = not_true (complete (held_of g)) more.1 }
+
+either_false : (a b : Bool) → (a || b) ≡ false → (a ≡ false) × (b ≡ false)
+either_false true b h = cc
+either_false false b h = (refl, h)
+
+none_any : (k : Group) (gs : List Group) → list_any (λ (other : Group). same_key k.key other.key) gs ≡ false → AllByRecursion (λ (h : Group). same_key k.key h.key ≡ false) gs
+none_any k [] h = tt
+none_any k (g ∷ gs) h = let parts = either_false _ _ h in (parts.0, none_any k gs parts.1)
+
+groups_from : (kind : ℕ → Option Kind) (gs : List Group) → groups_hold kind gs ≡ true → AllByRecursion IsOpen gs × AreApart gs
+unfolding groups_hold
+groups_from kind [] h = (tt, tt)
+groups_from kind (g ∷ gs) h =
+    let hs = both _ _ h in
+    let more = both _ _ hs.1 in
+    let rest = groups_from kind gs more.1 in
+    ((open_from kind g hs.0, rest.0), (none_any g gs (not_true _ more.0), rest.1))
+
+valid_state : (kind : ℕ → Option Kind) (s : State) → counts_hold s.counts ≡ true → firsts_rise 1 s.counts.lines s.groups ≡ true → groups_hold kind s.groups ≡ true
+    → s.counts.held ≡ length s.groups → AllByRecursion HasParts s.groups → IsState s
+valid_state kind s counts firsts groups held parts =
+    let rises = firsts_from 1 s.counts.lines s.groups firsts in
+    let opened = groups_from kind s.groups groups in
+    record { counted = counts_from s counts; held = held; groups = record { each = opened.0; rise = rises.0; begun = rises.1; apart = opened.1 }; parts = parts }
+
+-- ---- the rules judged in turn
+
+hold_counts : (id : List ℕ) (c : Counts) (gs : List Group) → counts_hold (state_of_parts id c gs).counts ≡ counts_hold c
+unfolding counts_hold
+hold_counts id c gs = refl
+
+valid_by : (kind : ℕ → Option Kind) (id : List ℕ) (c : Counts) (gs : List Group) → is_valid kind (state_of_parts id c gs) ≡ ((counts_hold c && firsts_rise 1 c.lines gs) && groups_hold kind gs)
+unfolding is_valid
+valid_by kind id c gs = ap (λ b. b && (firsts_rise 1 c.lines gs && groups_hold kind gs)) (hold_counts id c gs) ∙ assoc (counts_hold c) (firsts_rise 1 c.lines gs) (groups_hold kind gs)
+  where
+    assoc : (a b c : Bool) → (a && (b && c)) ≡ ((a && b) && c)
+    assoc true b c = refl
+    assoc false b c = refl
+
+pub rules_broken : (kind : ℕ → Option Kind) (id : List ℕ) (c : Counts) (gs : List Group) (r : Bool) → r ≡ (counts_hold c && firsts_rise 1 c.lines gs) → r ≡ false
+    → valid_if (is_valid kind (state_of_parts id c gs)) (state_of_parts id c gs) ≡ Err Invalid
+rules_broken kind id c gs r is is_false =
+    ap (λ b. valid_if b (state_of_parts id c gs)) (valid_by kind id c gs ∙ ap (λ b. b && groups_hold kind gs) (sym is ∙ is_false))
+
+pub groups_broken : (kind : ℕ → Option Kind) (id : List ℕ) (c : Counts) (gs : List Group) (r : Bool) (fault : StateFault) → r ≡ (counts_hold c && firsts_rise 1 c.lines gs) → r ≡ true
+    → valid_if (groups_hold kind gs) gs ≡ Err fault → valid_if (is_valid kind (state_of_parts id c gs)) (state_of_parts id c gs) ≡ Err fault
+groups_broken kind id c gs r fault is is_true broken =
+    ap (λ b. valid_if b (state_of_parts id c gs)) (valid_by kind id c gs ∙ ap (λ b. b && groups_hold kind gs) (sym is ∙ is_true)) ∙ by (groups_hold kind gs) broken
+  where
+    by : (b : Bool) → valid_if b gs ≡ Err fault → valid_if b (state_of_parts id c gs) ≡ Err fault
+    by true h = cc
+    by false h = ap (map_fault) h
+      where
+        map_fault : Result (List Group) StateFault → Result State StateFault
+        map_fault (Ok x) = Err Invalid
+        map_fault (Err f) = Err f
+
+holds_from : (b : Bool) (gs stored : List Group) → valid_if b gs ≡ Ok stored → (b ≡ true) × (stored ≡ gs)
+holds_from true gs stored h = (refl, cc)
+holds_from false gs stored h = cc
+
+pub all_hold : (kind : ℕ → Option Kind) (id : List ℕ) (c : Counts) (gs stored : List Group) (held : ℕ) (r : Bool) → r ≡ (counts_hold c && firsts_rise 1 c.lines gs) → r ≡ true
+    → valid_if (groups_hold kind gs) gs ≡ Ok stored → held ≡ length stored
+    → valid_if (is_valid kind (state_of_parts id c gs)) (state_of_parts id c gs) ≡ Ok (record { id = id; counts = record c { held = held }; groups = stored })
+all_hold kind id c gs stored held r is is_true holds len =
+    let got = holds_from (groups_hold kind gs) gs stored holds in
+    ap (λ b. valid_if b (state_of_parts id c gs)) (valid_by kind id c gs ∙ ap (λ b. b && groups_hold kind gs) (sym is ∙ is_true) ∙ got.0)
+    ∙ ap (λ gs. Ok (state_of_parts id c gs)) (sym got.1)
+    ∙ ap (λ n. Ok (record { id = id; counts = record c { held = n }; groups = stored })) (sym len)
+
+with_held : (c : Counts) (held : ℕ) → counts_hold (record c { held = held }) ≡ counts_hold c
+unfolding counts_hold
+with_held c held = refl
+
+pub is_state : (kind : ℕ → Option Kind) (id : List ℕ) (c : Counts) (gs stored : List Group) (held : ℕ) (r : Bool) → r ≡ (counts_hold c && firsts_rise 1 c.lines gs) → r ≡ true
+    → valid_if (groups_hold kind gs) gs ≡ Ok stored → held ≡ length stored → AllByRecursion HasParts stored
+    → IsState (record { id = id; counts = record c { held = held }; groups = stored })
+is_state kind id c gs stored held r is is_true holds len parts =
+    let got = holds_from (groups_hold kind gs) gs stored holds in
+    let rules = both (counts_hold c) (firsts_rise 1 c.lines gs) (sym is ∙ is_true) in
+    let s : State = record { id = id; counts = record c { held = held }; groups = stored } in
+    valid_state kind s (with_held c held ∙ rules.0) (ap (firsts_rise 1 c.lines) got.1 ∙ rules.1) (ap (groups_hold kind) got.1 ∙ got.0) len parts
+
+-- ---- a valid state meets the rules
+
+at_most-true : (a b : ℕ) → a ≤ b → nat_le a b ≡ true
+at_most-true a b h = le-leb a b h
+
+counts_to : (c : Counts) → AreCounts c → counts_hold c ≡ true
+unfolding counts_hold
+counts_to c is = and_from _ _ (at_most-true _ _ is.lines) (and_from _ _ (at_most-true _ _ is.broken) (at_most-true _ _ is.given))
+
+firsts_to : (least lines : ℕ) (gs : List Group) → Rise (λ (g : Group). g.first) least gs → AllByRecursion (λ (g : Group). g.first ≤ lines) gs → firsts_rise least lines gs ≡ true
+unfolding firsts_rise
+firsts_to least lines [] rise begun = refl
+firsts_to least lines (g ∷ gs) rise begun = and_from _ _ (at_most-true _ _ rise.0) (and_from _ _ (at_most-true _ _ begun.0) (firsts_to (g.first + 1) lines gs rise.1 begun.1))
+
+total_to : (n : ℕ) (bs : List ℕ) → (n ≡ 0 → slice_index_or bs 0 0 ≤ longest_total) → total_holds n bs ≡ true
+total_to zero bs h = at_most-true _ _ (h refl)
+total_to (suc n) bs h = ap (λ b. not b || nat_le (slice_index_or bs 0 0) longest_total) (ne_eqb (suc n) 0 (λ e. omega (arith, e)))
+
+pieces_to : (least : ℕ) (ps : List Piece) → Rise (λ (p : Piece). p.number) least ps → AllByRecursion (λ (p : Piece). p.number < most_frames) ps → AllByRecursion IsPiece ps → pieces_rise least ps ≡ true
+unfolding pieces_rise
+pieces_to least [] rise small parts = refl
+pieces_to least (p ∷ ps) rise small parts =
+    let few : p.number < most_frames = small.0 in
+    let within : p.number ≤ 31 = omega (arith, few) in
+    and_from _ _ (and_from _ _ (at_most-true _ _ rise.0) (and_from _ _ (at_most-true _ _ within) (total_to p.number p.bytes parts.0.total)))
+      (pieces_to (p.number + 1) ps rise.1 small.1 parts.1)
+
+key_to : (kind : ℕ → Option Kind) (k : Key) → IsKey k → kind k.pgn ≡ Some Fast → key_holds kind k ≡ true
+unfolding key_holds
+key_to kind k is fast =
+    let pgn : k.pgn ≤ greatest_pgn = omega (arith, is.pgn) in
+    let src : k.src ≤ 255 = omega (arith, is.src) in
+    let dst : k.dst ≤ 255 = omega (arith, is.dst) in
+    let sequence : k.sequence ≤ 7 = omega (arith, is.sequence) in
+    and_from _ _ (at_most-true _ _ pgn) (and_from _ _ (ap is_fast fast) (and_from _ _ (at_most-true _ _ src) (and_from _ _ (at_most-true _ _ dst) (at_most-true _ _ sequence))))
+
+list_to : (ps : List Piece) → 0 < length ps → is_some_list ps ≡ true
+list_to [] h = absurd (omega (arith, h))
+list_to (p ∷ ps) h = refl
+
+group_to : (kind : ℕ → Option Kind) (g : Group) → HasParts g → IsOpen g → kind g.key.pgn ≡ Some Fast → group_holds kind g ≡ true
+unfolding group_holds
+group_to kind g parts is fast =
+    and_from _ _ (key_to kind g.key parts.key fast) (and_from _ _ (list_to g.pieces is.nonempty) (and_from _ _ (pieces_to 0 g.pieces is.rise is.numbers parts.pieces) (ap not is.incomplete)))
+
+apart_to : (k : Group) (gs : List Group) → AllByRecursion (λ (h : Group). same_key k.key h.key ≡ false) gs → list_any (λ (other : Group). same_key k.key other.key) gs ≡ false
+apart_to k [] h = refl
+apart_to k (g ∷ gs) h = rw h.0 (apart_to k gs h.1)
+
+groups_to : (kind : ℕ → Option Kind) (gs : List Group) → AllByRecursion HasParts gs → AllByRecursion IsOpen gs → AreFast kind gs → AreApart gs → groups_hold kind gs ≡ true
+unfolding groups_hold
+groups_to kind [] parts each fast apart = refl
+groups_to kind (g ∷ gs) parts each fast apart =
+    and_from _ _ (group_to kind g parts.0 each.0 fast.0) (and_from _ _ (ap not (apart_to g gs apart.0)) (groups_to kind gs parts.1 each.1 fast.1 apart.1))
+
+pub state_valid : (kind : ℕ → Option Kind) (s : State) → IsState s → AreFast kind s.groups → is_valid kind s ≡ true
+unfolding is_valid
+state_valid kind s is fast =
+    and_from _ _ (counts_to s.counts is.counted) (and_from _ _ (firsts_to 1 s.counts.lines s.groups is.groups.rise is.groups.begun) (groups_to kind s.groups is.parts is.groups.each fast is.groups.apart))

@@ -1,0 +1,220 @@
+-- What a text says as a saved state: which state it spells, or the first reason why it is refused. Any JSON text is taken
+-- that `serde_json` reads as such an object: spaces, another order of members, digits of either case.
+use Rattle.std.specs.Prelude.{ℕ, ◌+◌, ◌==◌, nat_le, Bool, true, false, not, ◌&&◌, ◌||◌, slice_index_or, codes, List, [], ◌∷◌, length, reverse, map, if◌then◌else◌, Option, Some, None, option_and_then, option_map, Result, Ok, Err}
+use Rattle.std.specs.List.{list_any}
+use Rattle.std.specs.Result.{result_ok}
+use Rattle.std.specs.Str.{bytes_eq, is_utf8}
+use Rattle.hex.specs.Hex.{decode_sized}
+use Rattle.serde_json.specs.Data.{Data, Items, no_items, item, Members, no_members, member}
+use Rattle.serde_json.specs.Find.{get, as_number, as_u64, as_str, as_array, as_object}
+use Rattle.serde_json.specs.Read.{read}
+use Rattle.n2k_wire.specs.Packet.{greatest_pgn}
+use Rattle.n2k_table.specs.declared.definition.Kind.{Kind}
+use Rattle.n2k_table.specs.declared.definition.Kind.TheVariants.{Single, Fast}
+use Rattle.n2k_join.specs.declared.counts.Counts.{Counts}
+use Rattle.n2k_join.specs.declared.state_fault.StateFault.{StateFault}
+use Rattle.n2k_join.specs.declared.state_fault.StateFault.TheVariants.{NotJson, Format, Shape, TableDiffers, Invalid}
+use Rattle.n2k_join.specs.declared.saved.place.Place.{Place}
+use Rattle.n2k_join.specs.declared.saved.place.Place.TheVariants as places
+use Rattle.n2k_join.specs.Counts.{most_lines}
+use Rattle.n2k_join.specs.Frames.{Key, same_key, longest_total, most_frames, frame_bytes}
+use Rattle.n2k_join.specs.Groups.{complete, carried, total}
+use Rattle.n2k_join.specs.Open.{Piece, Group}
+use Rattle.n2k_join.specs.State.{State, held_of}
+use Rattle.n2k_join.specs.Saved.{saved_format}
+use Rattle.n2k_join.specs.Refusal.{◌>>=◌, or_fault, holds_or}
+
+-- the members that an object has, by its place
+abbrev pub names : Place → List (List ℕ)
+names places.State = codes "bad" ∷ codes "broken" ∷ codes "format" ∷ codes "groups" ∷ codes "lines" ∷ codes "messages" ∷ codes "table" ∷ codes "unknown" ∷ []
+names places.Group = codes "dst" ∷ codes "first" ∷ codes "frames" ∷ codes "pgn" ∷ codes "seq" ∷ codes "src" ∷ []
+
+abbrev pub is_name : Place → List ℕ → Bool
+is_name place name = list_any (λ n. bytes_eq name n) (names place)
+
+abbrev pub has_only : Place → Members → Bool
+has_only place no_members = true
+has_only place (member name d ms) = is_name place name && has_only place ms
+
+-- An object without any member but those of its place. That each of those is there, the readers of the members say.
+abbrev pub members_at : Place → Data → Result (Unit {0}) StateFault
+members_at place d = do
+  ms ← or_fault Shape (as_object d)
+  holds_or Shape (has_only place ms)
+
+-- the value of a member that has to be there
+abbrev pub required : List ℕ → Data → Result Data StateFault
+required name d = or_fault Shape (get name d)
+
+-- a whole number from 0 to 2^64 - 1
+abbrev pub as_whole : Data → Option ℕ
+as_whole d = option_and_then as_u64 (as_number d)
+
+abbrev pub whole_at : List ℕ → Data → Result ℕ StateFault
+whole_at name d = do
+  e ← required name d
+  or_fault Shape (as_whole e)
+
+-- so many bytes as hexadecimal digits of either case
+abbrev pub digits_of : ℕ → Data → Result (List ℕ) StateFault
+digits_of count d = do
+  text ← or_fault Shape (as_str d)
+  or_fault Shape (result_ok (decode_sized text count))
+
+-- the elements of an array, as a list
+abbrev pub elements : Items → List Data
+elements no_items = []
+elements (item d ds) = d ∷ elements ds
+
+abbrev pub elements_of : Data → Result (List Data) StateFault
+elements_of d = do
+  ds ← or_fault Shape (as_array d)
+  Ok (elements ds)
+
+-- each of a list read in turn
+abbrev pub each : {A : Type 0} → (Data → Result A StateFault) → List Data → Result (List A) StateFault
+each f [] = Ok []
+each f (d ∷ ds) = do
+  x ← f d
+  xs ← each f ds
+  Ok (x ∷ xs)
+
+-- a frame is an array of two: its number, and its seven bytes
+abbrev pub piece_in : List Data → Result Piece StateFault
+piece_in (first ∷ second ∷ []) = do
+  number ← or_fault Shape (as_whole first)
+  bytes ← digits_of frame_bytes second
+  Ok (record { number = number; bytes = bytes })
+piece_in _ = Err Shape
+
+unfoldable pub piece_of : Data → Result Piece StateFault
+piece_of d = do
+  ds ← elements_of d
+  piece_in ds
+
+unfoldable pub key_of : Data → Result Key StateFault
+key_of d = do
+  dst ← whole_at (codes "dst") d
+  pgn ← whole_at (codes "pgn") d
+  sequence ← whole_at (codes "seq") d
+  src ← whole_at (codes "src") d
+  Ok (record { src = src; dst = dst; pgn = pgn; sequence = sequence })
+
+unfoldable pub pieces_at : Data → Result (List Piece) StateFault
+pieces_at d = do
+  e ← required (codes "frames") d
+  ds ← elements_of e
+  each piece_of ds
+
+unfoldable pub group_of : Data → Result Group StateFault
+group_of d = do
+  known ← members_at places.Group d
+  key ← key_of d
+  first ← whole_at (codes "first") d
+  pieces ← pieces_at d
+  Ok (record { first = first; key = key; pieces = pieces })
+
+unfoldable pub groups_at : Data → Result (List Group) StateFault
+groups_at d = do
+  e ← required (codes "groups") d
+  ds ← elements_of e
+  each group_of ds
+
+-- The counts that are written. That of the open groups is not: it is their number.
+unfoldable pub counts_of : Data → Result Counts StateFault
+counts_of d = do
+  bad ← whole_at (codes "bad") d
+  broken ← whole_at (codes "broken") d
+  lines ← whole_at (codes "lines") d
+  messages ← whole_at (codes "messages") d
+  unknown ← whole_at (codes "unknown") d
+  Ok (record { lines = lines; messages = messages; bad = bad; unknown = unknown; broken = broken; held = 0 })
+
+unfoldable pub id_at : Data → Result (List ℕ) StateFault
+id_at d = do
+  e ← required (codes "table") d
+  digits_of 32 e
+
+-- a state whose count of open groups is their number
+abbrev pub state_of_parts : List ℕ → Counts → List Group → State
+state_of_parts id counts groups = record { id = id; counts = record counts { held = length groups }; groups = groups }
+
+-- the state that a value spells, whatever its numbers
+unfoldable pub state_of : Data → Result State StateFault
+state_of d = do
+  known ← members_at places.State d
+  counts ← counts_of d
+  id ← id_at d
+  groups ← groups_at d
+  Ok (state_of_parts id counts groups)
+
+-- it is of this format
+abbrev pub is_whole : ℕ → Option ℕ → Bool
+is_whole n None = false
+is_whole n (Some m) = m == n
+
+abbrev pub has_format : Data → Bool
+has_format d = is_whole saved_format (option_and_then as_whole (get (codes "format") d))
+
+-- The rules of a valid state.
+-- Each line counts once at most as a message, as bad or as unknown, and breaks one group at most.
+unfoldable pub counts_hold : Counts → Bool
+counts_hold c = nat_le c.lines most_lines && (nat_le c.broken c.lines && nat_le (c.messages + c.bad + c.unknown) c.lines)
+
+-- each group was opened at a line, and no two at the same
+unfoldable pub firsts_rise : ℕ → ℕ → List Group → Bool
+firsts_rise least lines [] = true
+firsts_rise least lines (g ∷ gs) = nat_le least g.first && (nat_le g.first lines && firsts_rise (g.first + 1) lines gs)
+
+abbrev pub is_fast : Option Kind → Bool
+is_fast None = false
+is_fast (Some Single) = false
+is_fast (Some Fast) = true
+
+-- a key is one that frames of the table's fast PGNs can have
+unfoldable pub key_holds : (ℕ → Option Kind) → Key → Bool
+key_holds kind k = nat_le k.pgn greatest_pgn && (is_fast (kind k.pgn) && (nat_le k.src 255 && (nat_le k.dst 255 && nat_le k.sequence 7)))
+
+-- numbers rise and are below 32, and a frame 0 has a total that isn't too large
+abbrev pub total_holds : ℕ → List ℕ → Bool
+total_holds number bytes = not (number == 0) || nat_le (slice_index_or bytes 0 0) longest_total
+
+abbrev pub piece_holds : ℕ → Piece → Bool
+piece_holds least p = nat_le least p.number && (nat_le p.number 31 && total_holds p.number p.bytes)
+
+unfoldable pub pieces_rise : ℕ → List Piece → Bool
+pieces_rise least [] = true
+pieces_rise least (p ∷ ps) = piece_holds least p && pieces_rise (p.number + 1) ps
+
+abbrev pub is_some_list : {A : Type 0} → List A → Bool
+is_some_list [] = false
+is_some_list (x ∷ xs) = true
+
+unfoldable pub group_holds : (ℕ → Option Kind) → Group → Bool
+group_holds kind g = key_holds kind g.key && (is_some_list g.pieces && (pieces_rise 0 g.pieces && not (complete (held_of g))))
+
+-- each group holds, and no two have one key
+unfoldable pub groups_hold : (ℕ → Option Kind) → List Group → Bool
+groups_hold kind [] = true
+groups_hold kind (g ∷ gs) = group_holds kind g && (not (list_any (λ (other : Group). same_key g.key other.key) gs) && groups_hold kind gs)
+
+unfoldable pub is_valid : (ℕ → Option Kind) → State → Bool
+is_valid kind s = counts_hold s.counts && (firsts_rise 1 s.counts.lines s.groups && groups_hold kind s.groups)
+
+-- a value where the test holds, and else Invalid
+abbrev pub valid_if : {A : Type 0} → Bool → A → Result A StateFault
+valid_if true x = Ok x
+valid_if false x = Err Invalid
+
+-- the JSON value of a text in UTF-8
+abbrev pub parsed : List ℕ → Option Data
+parsed bytes = if is_utf8 bytes then read bytes else None
+
+-- The state that the bytes spell under a table, or the first fault that stands in them.
+unfoldable pub judged : (ℕ → Option Kind) → List ℕ → List ℕ → Result State StateFault
+judged kind id bytes = do
+  d ← or_fault NotJson (parsed bytes)
+  known ← holds_or Format (has_format d)
+  s ← state_of d
+  same ← holds_or TableDiffers (bytes_eq s.id id)
+  valid_if (is_valid kind s) s

@@ -1,0 +1,56 @@
+-- The text of a saved state: one JSON object, as `serde_json` writes it. It is compact, and the members of each object stand
+-- in the order of their names.
+use Rattle.std.specs.Prelude.{◌≡◌, ℕ, List, length, map, codes}
+use Rattle.serde_json.specs.Data.{Data, number, unsigned, string, array, object, Items, no_items, item, Members, no_members, member}
+use Rattle.serde_json.specs.View.{items_of}
+use Rattle.serde_json.specs.Written.{compact_text}
+use Rattle.hex.specs.Hex.{encode_lower, IsBytes}
+use Rattle.n2k_join.specs.Open.{Piece, Group}
+use Rattle.n2k_join.specs.State.{State}
+
+-- the format of the state
+abbrev pub saved_format : ℕ
+saved_format = 1
+
+-- a whole number
+abbrev pub whole : ℕ → Data
+whole n = number (unsigned n)
+
+-- a list of values
+abbrev pub list : List Data → Data
+list ds = array (items_of ds)
+
+-- a frame: its number, and its seven bytes as hexadecimal digits in lower case
+unfoldable pub piece_tree : Piece → Data
+piece_tree piece = array (item (whole piece.number) (item (string (encode_lower piece.bytes)) no_items))
+
+-- an open group
+unfoldable pub group_tree : Group → Data
+group_tree g = object (
+    member (codes "dst") (whole g.key.dst) (
+    member (codes "first") (whole g.first) (
+    member (codes "frames") (list (map piece_tree g.pieces)) (
+    member (codes "pgn") (whole g.key.pgn) (
+    member (codes "seq") (whole g.key.sequence) (
+    member (codes "src") (whole g.key.src) no_members))))))
+
+-- the state
+unfoldable pub state_tree : State → Data
+state_tree s = object (
+    member (codes "bad") (whole s.counts.bad) (
+    member (codes "broken") (whole s.counts.broken) (
+    member (codes "format") (whole saved_format) (
+    member (codes "groups") (list (map group_tree s.groups)) (
+    member (codes "lines") (whole s.counts.lines) (
+    member (codes "messages") (whole s.counts.messages) (
+    member (codes "table") (string (encode_lower s.id)) (
+    member (codes "unknown") (whole s.counts.unknown) no_members))))))))
+
+-- its text
+unfoldable pub state_text : State → List ℕ
+state_text s = compact_text (state_tree s)
+
+-- the id of a table: 32 bytes
+pub record IsId (id : List ℕ) : Type 0 where
+  pub long : length id ≡ 32
+  pub are_bytes : IsBytes id

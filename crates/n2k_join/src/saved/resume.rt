@@ -1,0 +1,148 @@
+//! A join from a saved state.
+ghost use Rattle.std.specs.Prelude.{◌≡◌, ◌≤◌, map, not, IfOk, vec_capacity};
+ghost use Rattle.serde_json.specs.View.{view};
+ghost use Rattle.n2k_join.specs.Frames.{same_key};
+ghost use Rattle.n2k_table.specs.Table.{kind};
+ghost use Rattle.n2k_wire.specs.Packet.{greatest_pgn};
+ghost use Rattle.n2k_join.specs.Refusal.{GivesOrMemory, or_fault};
+ghost use Rattle.n2k_join.specs.Resumed.{pieces_rise, group_holds, groups_hold, valid_if, parsed, has_format};
+ghost use Rattle.n2k_join.specs.State.{IsKey, IsPiece, HasParts};
+ghost use Rattle.std.specs.List.{AllByRecursion, list_any};
+ghost use Rattle.n2k_join.specs.Stored.{key_of, piece_of};
+
+use crate::group::StoredGroup;
+use crate::piece::{FrameKey, StoredPiece};
+use crate::saved::rules::{key_holds, stored_piece};
+use crate::saved::spelled::{SpelledGroup, SpelledKey, SpelledPiece};
+use crate::state_fault::StateFault;
+use n2k_table::Table;
+use serde_json::Value;
+use std::alloc::Global;
+
+/// The most frames of a group.
+const MOST_FRAMES: usize = 32;
+
+/// The format of the states that are read.
+const SAVED_FORMAT: u64 = 1;
+
+// The frames of a group, by rising number, where they can be a group's.
+#[tactic(auto, unfolding(crate::specs::Resumed::pieces_rise))]
+fn stored_pieces(alloc: Global, pieces: &[SpelledPiece]) -> Result<Vec<StoredPiece>, StateFault>
+    ensures value { GivesOrMemory (λ stored. map piece_of stored.items) result (valid_if (pieces_rise 0 pieces.now) pieces.now) }
+    ensures room { IfOk result (λ stored. MOST_FRAMES ≤ vec_capacity stored) }
+    ensures parts { IfOk result (λ stored. AllByRecursion IsPiece (map piece_of stored.items)) }
+{
+    let mut stored = Vec::with_capacity(alloc, MOST_FRAMES)?;
+    let mut least = 0;
+    for piece in pieces {
+        match stored_piece(least, piece) {
+            None => return Err(StateFault::Invalid),
+            Some(kept) => {
+                least = kept.number + 1;
+                stored.push(kept)?;
+            }
+        }
+    }
+    Ok(stored)
+}
+
+// A key whose parts are small enough.
+fn stored_key(key: &SpelledKey) -> FrameKey
+    requires src { key.now.src ≤ 255 }
+    requires dst { key.now.dst ≤ 255 }
+    requires pgn { key.now.pgn ≤ greatest_pgn }
+    requires sequence { key.now.sequence ≤ 7 }
+    ensures value { key_of result ≡ key.now }
+    ensures parts { IsKey (key_of result) }
+{
+    FrameKey {
+        src: key.src as u8,
+        dst: key.dst as u8,
+        pgn: key.pgn as u32,
+        sequence: key.sequence as u8,
+    }
+}
+
+// An open group, where it can be one under the table.
+#[tactic(auto, unfolding(crate::specs::Resumed::group_holds, crate::specs::Resumed::key_holds))]
+fn stored_group(
+    alloc: Global,
+    table: &Table,
+    group: &SpelledGroup,
+) -> Result<StoredGroup, StateFault>
+    ensures value { GivesOrMemory (λ g. g) result (valid_if (group_holds (kind table.now) group.now) group.now) }
+    ensures parts { IfOk result HasParts }
+{
+    if !key_holds(table, &group.key) || group.pieces.is_empty() {
+        return Err(StateFault::Invalid);
+    }
+    let pieces = stored_pieces(alloc, &group.pieces)?;
+    let stored = StoredGroup::of_pieces(group.first, stored_key(&group.key), pieces);
+    if stored.is_complete() {
+        return Err(StateFault::Invalid);
+    }
+    Ok(stored)
+}
+
+#[tactic(auto, unfolding(crate::specs::Frames::same_key))]
+fn is_same(a: &SpelledKey, b: &SpelledKey) -> bool
+    ensures { result ≡ same_key a.now b.now }
+{
+    a.src == b.src && (a.dst == b.dst && (a.pgn == b.pgn && a.sequence == b.sequence))
+}
+
+// Whether none of the groups has the key.
+fn is_apart(key: &SpelledKey, others: &[SpelledGroup]) -> bool
+    ensures { result ≡ not (list_any (λ other. same_key key.now other.key) others.now) }
+{
+    for other in others {
+        if is_same(key, &other.key) {
+            return false;
+        }
+    }
+    true
+}
+
+/// The open groups, where they can be those of a state under the table.
+#[tactic(auto, unfolding(crate::specs::Resumed::groups_hold))]
+pub fn stored_groups(
+    alloc: Global,
+    table: &Table,
+    groups: &[SpelledGroup],
+) -> Result<Vec<StoredGroup>, StateFault>
+    ensures value { GivesOrMemory (λ stored. stored.items) result (valid_if (groups_hold (kind table.now) groups.now) groups.now) }
+    ensures parts { IfOk result (λ stored. AllByRecursion HasParts stored.items) }
+{
+    let mut stored = Vec::new(alloc);
+    let mut rest = groups;
+    while let Some((group, others)) = rest.split_first() {
+        let kept = stored_group(alloc, table, group)?;
+        if !is_apart(&group.key, others) {
+            return Err(StateFault::Invalid);
+        }
+        stored.push(kept)?;
+        rest = others;
+    }
+    Ok(stored)
+}
+
+/// The JSON value of a text.
+pub fn parsed(alloc: Global, bytes: &[u8]) -> Result<Value, StateFault>
+    ensures { GivesOrMemory (λ value. view value) result (or_fault StateFault.NotJson (parsed bytes.now)) }
+{
+    match Value::from_slice(alloc, bytes) {
+        Ok(value) => Ok(value),
+        Err(error) if error.is_memory() => Err(StateFault::Memory),
+        Err(_) => Err(StateFault::NotJson),
+    }
+}
+
+/// Whether it is of the format that is read.
+pub fn has_format(value: &Value) -> bool
+    ensures { result ≡ has_format (view value.now) }
+{
+    match value.get("format") {
+        Some(format) => format.as_u64() == Some(SAVED_FORMAT),
+        None => false,
+    }
+}

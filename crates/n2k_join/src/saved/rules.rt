@@ -1,0 +1,125 @@
+//! The rules of a valid state.
+ghost use Rattle.std.specs.Prelude.{◌≡◌, ◌≤◌, ◌<◌, ◌&&◌, true, IfSome};
+ghost use Rattle.std.specs.List.{AllByRecursion};
+ghost use Rattle.n2k_table.specs.Table.{kind};
+ghost use Rattle.n2k_join.specs.Counts.{most_lines};
+ghost use Rattle.n2k_join.specs.Refusal.{SomeUnder};
+ghost use Rattle.n2k_join.specs.State.{IsPiece};
+ghost use Rattle.n2k_join.specs.Stored.{piece_of};
+ghost use Rattle.n2k_join.specs.Resumed.{counts_hold, firsts_rise, is_fast, key_holds, total_holds, piece_holds};
+
+use crate::counts::{Counts, MOST_LINES};
+use crate::piece::StoredPiece;
+use crate::saved::spelled::{SpelledGroup, SpelledKey, SpelledPiece};
+use n2k_table::{Kind, Table};
+
+/// The greatest PGN, 24 bits.
+const GREATEST_PGN: u64 = 16_777_215;
+
+/// The greatest address.
+const GREATEST_ADDRESS: u64 = 255;
+
+/// The greatest sequence of a fast packet.
+const GREATEST_SEQUENCE: u64 = 7;
+
+/// The greatest number of a frame.
+const GREATEST_NUMBER: u64 = 31;
+
+/// The most bytes of a message.
+const LONGEST_TOTAL: u8 = 223;
+
+/// Whether these can be the counts of lines. No sum of them wraps.
+#[tactic(auto, unfolding(crate::specs::Resumed::counts_hold))]
+fn counts_hold(counts: &Counts) -> bool
+    ensures value { result ≡ counts_hold counts.now }
+    ensures few { result ≡ true → counts.now.lines ≤ most_lines }
+{
+    let messages = u128::from(counts.messages);
+    let given = messages + u128::from(counts.bad) + u128::from(counts.unknown);
+    counts.lines <= MOST_LINES
+        && (counts.broken <= counts.lines && given <= u128::from(counts.lines))
+}
+
+/// Whether the first lines rise strictly from 1, and none is past the last line.
+#[tactic(auto, unfolding(crate::specs::Resumed::firsts_rise))]
+fn firsts_rise(lines: u64, groups: &[SpelledGroup]) -> bool
+    requires { lines ≤ most_lines }
+    ensures { result ≡ firsts_rise 1 lines groups.now }
+{
+    let mut least = 1;
+    for group in groups {
+        if group.first < least || group.first > lines {
+            return false;
+        }
+        least = group.first + 1;
+    }
+    true
+}
+
+/// Whether the counts and the lines that opened the groups can be those of one state.
+pub fn rules_hold(counts: &Counts, groups: &[SpelledGroup]) -> bool
+    ensures { result ≡ (counts_hold counts.now && firsts_rise 1 counts.now.lines groups.now) }
+{
+    counts_hold(counts) && firsts_rise(counts.lines, groups)
+}
+
+fn is_fast(table: &Table, pgn: u64) -> bool
+    requires { pgn ≤ 16_777_215 }
+    ensures { result ≡ is_fast (kind table.now pgn) }
+{
+    match table.kind(pgn as u32) {
+        Some(Kind::Fast) => true,
+        _ => false,
+    }
+}
+
+/// Whether frames of a fast PGN of the table can have the key.
+#[tactic(auto, unfolding(crate::specs::Resumed::key_holds))]
+pub fn key_holds(table: &Table, key: &SpelledKey) -> bool
+    ensures { result ≡ key_holds (kind table.now) key.now }
+{
+    key.pgn <= GREATEST_PGN
+        && (is_fast(table, key.pgn)
+            && (key.src <= GREATEST_ADDRESS
+                && (key.dst <= GREATEST_ADDRESS && key.sequence <= GREATEST_SEQUENCE)))
+}
+
+// Whether a frame has a total that isn't too large, where it has the number 0.
+fn total_holds(number: u64, bytes: &[u8; 7]) -> bool
+    ensures { result ≡ total_holds number bytes.now }
+{
+    number != 0 || bytes[0] <= LONGEST_TOTAL
+}
+
+// What the type says of bytes.
+fn know_bytes(bytes: &[u8])
+    ensures { AllByRecursion (λ byte. byte < 256) bytes.now }
+{}
+
+// The piece of a number and its bytes.
+fn piece_of_parts(number: u8, bytes: &[u8; 7]) -> StoredPiece
+    requires small { number ≤ 31 }
+    requires total { total_holds number bytes.now ≡ true }
+    ensures value { piece_of result ≡ record { number = number; bytes = bytes.now } }
+    ensures parts { IsPiece (piece_of result) }
+{
+    know_bytes(bytes);
+    StoredPiece {
+        number,
+        bytes: *bytes,
+    }
+}
+
+/// A frame as a group keeps it, where its number is from `least` to the greatest and its total isn't too large.
+pub fn stored_piece(least: u8, piece: &SpelledPiece) -> Option<StoredPiece>
+    ensures value { SomeUnder piece_of result (piece_holds least piece.now) piece.now }
+    ensures parts { IfSome result (λ stored. IsPiece (piece_of stored)) }
+{
+    if piece.number < u64::from(least) || piece.number > GREATEST_NUMBER {
+        return None;
+    }
+    if !total_holds(piece.number, &piece.bytes) {
+        return None;
+    }
+    Some(piece_of_parts(piece.number as u8, &piece.bytes))
+}

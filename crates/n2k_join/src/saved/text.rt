@@ -1,0 +1,212 @@
+//! The text of a saved state.
+ghost use Rattle.std.specs.Prelude.{◌≡◌, [], ◌∷◌, IfOk};
+ghost use Rattle.hex.specs.Hex.{encode_lower};
+ghost use Rattle.json.specs.Token.{Token};
+ghost use Rattle.n2k_join.specs.Groups.{carried};
+ghost use Rattle.n2k_join.specs.Open.{piece_at, pieces_of};
+ghost use Rattle.n2k_join.specs.Saved.{piece_tree, group_tree, state_tree, state_text};
+ghost use Rattle.n2k_join.specs.SavedTokens.{Appends, tokens_of, count_tokens, piece_tokens, pieces_tokens, frames_tokens, key_tokens, groups_tokens, open_tokens, front_tokens, lines_tokens, table_tokens, back_tokens};
+ghost use Rattle.n2k_join.specs.State.{held_of};
+ghost use Rattle.n2k_join.specs.Stored.{key_of};
+ghost use Rattle.std.specs.Str.{IsUtf8};
+
+use crate::counts::Counts;
+use crate::group::StoredGroup;
+use crate::piece::FrameKey;
+use json::Writer;
+use std::alloc::{AllocError, Global};
+use std::str;
+
+/// The most frames of a group.
+const MOST_FRAMES: u8 = 32;
+
+/// The format of the states that are written.
+const SAVED_FORMAT: u64 = 1;
+
+/// Writes a member that is a whole number.
+fn push_count(name: &str, number: u64, out: &mut Writer) -> Result<(), AllocError>
+    ensures { Appends result out.old out.new (count_tokens name.now number) }
+{
+    out.key(name)?;
+    out.u64(number)
+}
+
+// Digits as text.
+fn text_of(digits: &[u8]) -> &str
+    requires { IsUtf8 digits.now }
+    ensures { result.now ≡ digits.now }
+{
+    str::from_utf8(digits).unwrap()
+}
+
+// Writes the seven bytes of a frame as hexadecimal digits.
+#[tactic(auto, using(crate::proofs::SavedDigits::digits))]
+fn push_seven(bytes: &[u8; 7], out: &mut Writer) -> Result<(), AllocError>
+    ensures { Appends result out.old out.new (Token.string (encode_lower bytes.now) ∷ []) }
+{
+    let mut digits = [0; 14];
+    let _ = hex::encode_to_slice(bytes, &mut digits);
+    out.string(text_of(&digits))
+}
+
+// Writes the id of a table as hexadecimal digits.
+#[tactic(auto, using(crate::proofs::SavedDigits::digits))]
+fn push_id(bytes: &[u8; 32], out: &mut Writer) -> Result<(), AllocError>
+    ensures { Appends result out.old out.new (Token.string (encode_lower bytes.now) ∷ []) }
+{
+    let mut digits = [0; 64];
+    let _ = hex::encode_to_slice(bytes, &mut digits);
+    out.string(text_of(&digits))
+}
+
+/// Writes a frame of a group: its number and its bytes.
+#[tactic(auto, unfolding(crate::specs::Saved::piece_tree))]
+fn push_piece(number: u8, bytes: &[u8; 7], out: &mut Writer) -> Result<(), AllocError>
+    ensures { Appends result out.old out.new (tokens_of (piece_tree (record { number = number; bytes = bytes.now }))) }
+{
+    out.begin_array()?;
+    out.u64(u64::from(number))?;
+    push_seven(bytes, out)?;
+    out.end_array()
+}
+
+// Writes the frame of a number, where the group has it.
+fn push_numbered(group: &StoredGroup, number: u8, out: &mut Writer) -> Result<(), AllocError>
+    ensures { Appends result out.old out.new (piece_tokens (piece_at (carried (held_of group.now)) number)) }
+{
+    match group.carried(number) {
+        Some(bytes) => push_piece(number, bytes, out),
+        None => Ok(()),
+    }
+}
+
+// Writes the frames of a group, by rising number.
+fn push_pieces(group: &StoredGroup, out: &mut Writer) -> Result<(), AllocError>
+    ensures { Appends result out.old out.new (pieces_tokens (pieces_of (held_of group.now))) }
+{
+    for number in 0..MOST_FRAMES {
+        push_numbered(group, number, out)?;
+    }
+    Ok(())
+}
+
+// Writes the frames of a group as a member.
+fn push_frames(group: &StoredGroup, out: &mut Writer) -> Result<(), AllocError>
+    ensures { Appends result out.old out.new (frames_tokens (pieces_of (held_of group.now))) }
+{
+    out.key("frames")?;
+    out.begin_array()?;
+    push_pieces(group, out)?;
+    out.end_array()?;
+    Ok(())
+}
+
+// Writes what the frames of a group have in common, but for the destination.
+fn push_key(key: &FrameKey, out: &mut Writer) -> Result<(), AllocError>
+    ensures { Appends result out.old out.new (key_tokens (key_of key.now)) }
+{
+    push_count("pgn", u64::from(key.pgn), out)?;
+    push_count("seq", u64::from(key.sequence), out)?;
+    push_count("src", u64::from(key.src), out)
+}
+
+// Writes an open group.
+fn push_group(group: &StoredGroup, out: &mut Writer) -> Result<(), AllocError>
+    ensures { Appends result out.old out.new (tokens_of (group_tree group.now)) }
+{
+    let key = group.key();
+    out.begin_object()?;
+    push_count("dst", u64::from(key.dst), out)?;
+    push_count("first", group.first(), out)?;
+    push_frames(group, out)?;
+    push_key(&key, out)?;
+    out.end_object()?;
+    Ok(())
+}
+
+// Writes the open groups as a member.
+fn push_groups(groups: &[StoredGroup], out: &mut Writer) -> Result<(), AllocError>
+    ensures { Appends result out.old out.new (groups_tokens groups.now) }
+{
+    for group in groups {
+        push_group(group, out)?;
+    }
+    Ok(())
+}
+
+// Writes the member `groups`.
+fn push_open(groups: &[StoredGroup], out: &mut Writer) -> Result<(), AllocError>
+    ensures { Appends result out.old out.new (open_tokens groups.now) }
+{
+    out.key("groups")?;
+    out.begin_array()?;
+    push_groups(groups, out)?;
+    out.end_array()?;
+    Ok(())
+}
+
+// Writes the members before `groups`.
+fn push_front(counts: &Counts, out: &mut Writer) -> Result<(), AllocError>
+    ensures { Appends result out.old out.new (front_tokens counts.now) }
+{
+    push_count("bad", counts.bad, out)?;
+    push_count("broken", counts.broken, out)?;
+    push_count("format", SAVED_FORMAT, out)
+}
+
+// Writes the member `table`.
+fn push_table(id: &[u8; 32], out: &mut Writer) -> Result<(), AllocError>
+    ensures { Appends result out.old out.new (table_tokens id.now) }
+{
+    out.key("table")?;
+    push_id(id, out)
+}
+
+// Writes the counts of lines and messages.
+fn push_lines(counts: &Counts, out: &mut Writer) -> Result<(), AllocError>
+    ensures { Appends result out.old out.new (lines_tokens counts.now) }
+{
+    push_count("lines", counts.lines, out)?;
+    push_count("messages", counts.messages, out)
+}
+
+// Writes the members behind `groups`.
+fn push_back(id: &[u8; 32], counts: &Counts, out: &mut Writer) -> Result<(), AllocError>
+    ensures { Appends result out.old out.new (back_tokens id.now counts.now) }
+{
+    push_lines(counts, out)?;
+    push_table(id, out)?;
+    push_count("unknown", counts.unknown, out)?;
+    Ok(())
+}
+
+// Writes a state.
+fn push_state(
+    id: &[u8; 32],
+    counts: &Counts,
+    groups: &[StoredGroup],
+    out: &mut Writer,
+) -> Result<(), AllocError>
+    ensures { Appends result out.old out.new (tokens_of (state_tree (record { id = id.now; counts = counts.now; groups = groups.now }))) }
+{
+    out.begin_object()?;
+    push_front(counts, out)?;
+    push_open(groups, out)?;
+    push_back(id, counts, out)?;
+    out.end_object()?;
+    Ok(())
+}
+
+/// The text of a state.
+pub fn state_text(
+    alloc: Global,
+    id: &[u8; 32],
+    counts: &Counts,
+    groups: &[StoredGroup],
+) -> Result<Vec<u8>, AllocError>
+    ensures { IfOk result (λ text. text.items ≡ state_text (record { id = id.now; counts = counts.now; groups = groups.now })) }
+{
+    let mut out = Writer::new(Vec::new(alloc));
+    push_state(id, counts, groups, &mut out)?;
+    Ok(out.into_inner())
+}

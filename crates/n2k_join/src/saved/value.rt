@@ -1,0 +1,72 @@
+//! One value of a saved state: whether it is there, and of which kind it is.
+ghost use Rattle.std.specs.Prelude.{◌≡◌, map};
+ghost use Rattle.serde_json.specs.View.{view, members_view};
+ghost use Rattle.n2k_join.specs.Refusal.{Gives, or_fault};
+ghost use Rattle.n2k_join.specs.Resumed.{has_only, members_at, required, as_whole, whole_at, digits_of, elements_of};
+
+use crate::saved::place::Place;
+use crate::state_fault::StateFault;
+use serde_json::{Map, Value};
+
+// Whether each member is one of the place.
+fn has_only(members: &Map<String, Value>, place: Place) -> bool
+    ensures { result ≡ has_only place (members_view members.now.entries) }
+{
+    for name in members.keys() {
+        if !place.has(name.as_str()) {
+            return false;
+        }
+    }
+    true
+}
+
+/// An object that has no member but those of the place.
+pub fn members_at(place: Place, value: &Value) -> Result<(), StateFault>
+    ensures { Gives (λ done. done) result (members_at place (view value.now)) }
+{
+    let members = value.as_object().ok_or(StateFault::Shape)?;
+    if !has_only(members, place) {
+        return Err(StateFault::Shape);
+    }
+    Ok(())
+}
+
+/// The member of that name, which has to be there.
+pub fn required<'a>(name: &str, value: &'a Value) -> Result<&'a Value, StateFault>
+    ensures { Gives (λ found. view found.now) result (required name.now (view value.now)) }
+{
+    value.get(name).ok_or(StateFault::Shape)
+}
+
+/// The whole number that a value is.
+pub fn as_whole(value: &Value) -> Result<u64, StateFault>
+    ensures { Gives (λ number. number) result (or_fault StateFault.Shape (as_whole (view value.now))) }
+{
+    value.as_u64().ok_or(StateFault::Shape)
+}
+
+/// The whole number at a name.
+pub fn whole_at(name: &str, value: &Value) -> Result<u64, StateFault>
+    ensures { Gives (λ number. number) result (whole_at name.now (view value.now)) }
+{
+    as_whole(required(name, value)?)
+}
+
+/// The bytes that hexadecimal digits spell.
+pub fn digits_of<const COUNT: usize>(value: &Value) -> Result<[u8; COUNT], StateFault>
+    ensures { Gives (λ bytes. bytes) result (digits_of COUNT (view value.now)) }
+{
+    let text = value.as_str().ok_or(StateFault::Shape)?;
+    let mut bytes = [0; COUNT];
+    match hex::decode_to_slice(text, &mut bytes) {
+        Ok(()) => Ok(bytes),
+        Err(_) => Err(StateFault::Shape),
+    }
+}
+
+/// The elements of an array.
+pub fn elements_of(value: &Value) -> Result<&Vec<Value>, StateFault>
+    ensures { Gives (λ values. map view values.now.items) result (elements_of (view value.now)) }
+{
+    value.as_array().ok_or(StateFault::Shape)
+}

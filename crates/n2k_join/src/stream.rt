@@ -1,0 +1,29 @@
+//! Streams of messages.
+ghost use Rattle.std.specs.Prelude.{◌≡◌};
+ghost use Rattle.n2k_join.specs.Pieces.{stream_of};
+
+use n2k_wire::Id;
+
+/// A stream: who sends what to whom. Its messages are numbered in turn.
+#[derive(Clone, Copy, Debug, PartialEq, Eq, Hash)]
+pub struct Stream {
+    /// Who sends.
+    pub src: u8,
+    /// What is sent.
+    pub pgn: u32,
+    /// To whom, 255 for all.
+    pub dst: u8,
+}
+
+impl Stream {
+    /// The stream of the messages with this identifier, whatever their priority.
+    pub fn of(id: Id) -> Stream
+        ensures { result ≡ stream_of id }
+    {
+        Stream {
+            src: id.src,
+            pgn: id.pgn,
+            dst: id.dst,
+        }
+    }
+}

@@ -1,0 +1,187 @@
+-- A JSON line is one line: no byte below the space stands before the line feed at its end.
+use Rattle.std.proofs.Common.{◌≡◌, ℕ, zero, suc, ◌+◌, ◌-◌, ◌/◌, ◌%◌, ◌<◌, ◌≤◌, Bool, true, false, cond, ◌||◌, List, [], ◌∷◌, ◌++◌, length, take, drop, replicate, refl, sym, arith, append_assoc, Option, Some, None, inl, inr}
+use Rattle.std.specs.Prelude.{option_to_list, ◌==◌, nat_le, nat_lt, codes, decimal, filter_map, if◌then◌else◌, ℤ, pos, negsuc}
+use Rattle.std.specs.List.{AllByRecursion, list_all, cons_option, join_with_byte}
+use Rattle.std.specs.Fmt.{digit_glyph, digits_onto, digits}
+use Rattle.std.specs.Char.{digit_char}
+use Rattle.std.proofs.lemmas.Bool.{ltb-true, ltb-false, leb-true, eqb-true, and_parts, or_cases}
+use Rattle.std.proofs.lemmas.List.Elements.{All-from_recursion}
+use Rattle.json.specs.Print.{escape_letter, escape_byte, escape}
+use Rattle.n2k_wire.specs.Packet.{PacketParts}
+use Rattle.n2k_wire.specs.declared.identifier.Id.{Id}
+use Rattle.n2k_table.specs.Text.{text_json}
+use Rattle.n2k_table.specs.Decimal.{sign_of, after_dot, padded_digits, dotted, dec}
+use Rattle.n2k_table.specs.Definition.{DefinitionParts}
+use Rattle.n2k_table.specs.Shown.{ShownParts, absent, number, name, text, bytes, all_shown}
+use Rattle.n2k_table.specs.Table.{TableParts, choice}
+use Rattle.n2k_table.specs.Json.{value_json, pair_json, member_json, fields_json, id_json, head_json, line_json, chosen_json, json}
+use Rattle.n2k_table.specs.OneLine.{IsOneLine}
+
+-- no byte is below the space
+pub record IsClean (bytes : List ℕ) : Type 0 where
+  pub each : AllByRecursion (λ b. 32 ≤ b) bytes
+
+all-append : (P : ℕ → Type 0) (xs ys : List ℕ) → AllByRecursion P xs → AllByRecursion P ys → AllByRecursion P (xs ++ ys)
+all-append P [] ys a b = b
+all-append P (x ∷ xs) ys a b = (a.0, all-append P xs ys a.1 b)
+
+clean-append : (xs ys : List ℕ) → IsClean xs → IsClean ys → IsClean (xs ++ ys)
+clean-append xs ys a b = record { each = all-append _ xs ys a.each b.each }
+
+-- from the left
+onward : {xs : List ℕ} → IsClean xs → (ys : List ℕ) → IsClean ys → IsClean (xs ++ ys)
+onward {xs} a ys b = clean-append xs ys a b
+
+clean-cons : (b : ℕ) (bs : List ℕ) → 32 ≤ b → IsClean bs → IsClean (b ∷ bs)
+clean-cons b bs h rest = record { each = (h, rest.each) }
+
+clean-nil : IsClean []
+clean-nil = record { each = tt }
+
+-- of a text that is written out
+clean-literal : (bs : List ℕ) → list_all (nat_le 32) bs ≡ true → IsClean bs
+clean-literal [] e = clean-nil
+clean-literal (b ∷ bs) e = let parts = and_parts _ _ e in clean-cons b bs (leb-true 32 b parts.0) (clean-literal bs parts.1)
+
+-- decimals
+glyph : (d : ℕ) → 32 ≤ digit_glyph false d
+glyph d = by_test (nat_lt d 10)
+  where
+    by_test : (b : Bool) → 32 ≤ (if b then 48 + d else (if false then 55 + d else 87 + d))
+    by_test true = omega arith
+    by_test false = omega arith
+
+clean-digits : (k base n : ℕ) (acc : List ℕ) → IsClean acc → IsClean (digits_onto k base false n acc)
+clean-digits zero base n acc is = is
+clean-digits (suc k) base n acc is = by_test (n / base == 0) (clean-digits k base (n / base) _ (clean-cons _ acc (glyph (n % base)) is))
+  where
+    by_test : (b : Bool) → IsClean (digits_onto k base false (n / base) (digit_glyph false (n % base) ∷ acc)) → IsClean (if b then digit_glyph false (n % base) ∷ acc else digits_onto k base false (n / base) (digit_glyph false (n % base) ∷ acc))
+    by_test true more = clean-cons _ acc (glyph (n % base)) is
+    by_test false more = more
+
+clean-decimal : (n : ℕ) → IsClean (decimal n)
+unfolding digits
+clean-decimal n = clean-digits 64 10 n [] clean-nil
+
+clean-take : (n : ℕ) (xs : List ℕ) → IsClean xs → IsClean (take n xs)
+clean-take zero xs is = clean-nil
+clean-take (suc n) [] is = clean-nil
+clean-take (suc n) (x ∷ xs) is = clean-cons x (take n xs) is.each.0 (clean-take n xs (record { each = is.each.1 }))
+
+clean-drop : (n : ℕ) (xs : List ℕ) → IsClean xs → IsClean (drop n xs)
+clean-drop zero xs is = is
+clean-drop (suc n) [] is = clean-nil
+clean-drop (suc n) (x ∷ xs) is = clean-drop n xs (record { each = is.each.1 })
+
+clean-replicate : (n b : ℕ) → 32 ≤ b → IsClean (replicate n b)
+clean-replicate zero b h = clean-nil
+clean-replicate (suc n) b h = clean-cons b (replicate n b) h (clean-replicate n b h)
+
+clean-sign : (x : ℤ) → IsClean (sign_of x)
+clean-sign (pos n) = clean-nil
+clean-sign (negsuc n) = clean-cons 45 [] (omega arith) clean-nil
+
+clean-after_dot : (ds : List ℕ) → IsClean ds → IsClean (after_dot ds)
+clean-after_dot [] is = clean-nil
+clean-after_dot (d ∷ ds) is = clean-cons 46 (d ∷ ds) (omega arith) is
+
+clean-dotted : (e : ℕ) (ds : List ℕ) → IsClean ds → IsClean (dotted e ds)
+clean-dotted e ds is = clean-append _ _ (clean-take (length ds - e) ds is) (clean-after_dot _ (clean-drop (length ds - e) ds is))
+
+clean-padded : (n e : ℕ) → IsClean (padded_digits n e)
+clean-padded n e = clean-append _ _ (clean-replicate (e + 1 - length (decimal n)) 48 (omega arith)) (clean-decimal n)
+
+clean-dec : (x : ℤ) (e : ℕ) → IsClean (dec x e)
+unfolding dec
+clean-dec x e = clean-append (sign_of x) _ (clean-sign x) (clean-dotted e _ (clean-padded _ e))
+
+-- texts
+letter-step : (b : Bool) (c rest : ℕ) → (b ≡ true → 32 ≤ c) → (0 < rest → 32 ≤ rest) → 0 < cond b c rest → 32 ≤ cond b c rest
+letter-step true c rest h more some = h refl
+letter-step false c rest h more some = more some
+
+letter-clean : (x : ℕ) → 0 < escape_letter x → 32 ≤ escape_letter x
+letter-clean x =
+    letter-step ((x == 34) || (x == 92)) x _ (λ e. elim (or_cases (x == 34) (x == 92) e) [ inl quote ↦ omega (arith, eqb-true x 34 quote) | inr backslash ↦ omega (arith, eqb-true x 92 backslash) ])
+    (letter-step (x == 8) 98 _ (λ e. omega arith) (letter-step (x == 12) 102 _ (λ e. omega arith) (letter-step (x == 10) 110 _ (λ e. omega arith) (letter-step (x == 13) 114 _ (λ e. omega arith) (letter-step (x == 9) 116 0 (λ e. omega arith) (λ some. omega arith))))))
+
+char-clean : (d : ℕ) → 32 ≤ digit_char d
+char-clean d = by_test (nat_lt d 10)
+  where
+    by_test : (b : Bool) → 32 ≤ cond b (48 + d) (87 + d)
+    by_test true = omega arith
+    by_test false = omega arith
+
+clean-escape_byte : (x : ℕ) → IsClean (escape_byte x)
+unfolding escape_byte
+clean-escape_byte x = by_letter (nat_lt 0 (escape_letter x)) refl
+  where
+    by_size : (b : Bool) → nat_lt x 32 ≡ b → IsClean (cond b (92 ∷ 117 ∷ 48 ∷ 48 ∷ digit_char (x / 16) ∷ digit_char (x % 16) ∷ []) (x ∷ []))
+    by_size true e = record { each = (omega arith, (omega arith, (omega arith, (omega arith, (char-clean (x / 16), (char-clean (x % 16), tt)))))) }
+    by_size false e = record { each = (ltb-false x 32 e, tt) }
+
+    by_letter : (b : Bool) → nat_lt 0 (escape_letter x) ≡ b → IsClean (cond b (92 ∷ escape_letter x ∷ []) (cond (nat_lt x 32) (92 ∷ 117 ∷ 48 ∷ 48 ∷ digit_char (x / 16) ∷ digit_char (x % 16) ∷ []) (x ∷ [])))
+    by_letter true e = record { each = (omega arith, (letter-clean x (ltb-true 0 (escape_letter x) e), tt)) }
+    by_letter false e = by_size (nat_lt x 32) refl
+
+clean-escape : (xs : List ℕ) → IsClean (escape xs)
+clean-escape [] = clean-nil
+clean-escape (x ∷ xs) = clean-append (escape_byte x) (escape xs) (clean-escape_byte x) (clean-escape xs)
+
+clean-text : (xs : List ℕ) → IsClean (text_json xs)
+unfolding text_json
+clean-text xs = clean-cons 34 _ (omega arith) (clean-append (escape xs) _ (clean-escape xs) (clean-cons 34 [] (omega arith) clean-nil))
+
+-- the line
+clean-value : (empty : Bool) (shown : ShownParts) → AllByRecursion IsClean (option_to_list (value_json empty shown))
+clean-value true absent = (clean-literal (codes "null") refl, tt)
+clean-value false absent = tt
+clean-value empty (number value decimals) = (clean-dec value decimals, tt)
+clean-value empty (name n) = (clean-text n, tt)
+clean-value empty (text numbers) = (clean-text _, tt)
+clean-value empty (bytes payload) = (clean-text _, tt)
+
+clean-pair : (key : List ℕ) (value : Option (List ℕ)) → AllByRecursion IsClean (option_to_list value) → AllByRecursion IsClean (option_to_list (pair_json key value))
+clean-pair key None is = tt
+clean-pair key (Some value) is = (clean-append (text_json key) _ (clean-text key) (clean-cons 58 value (omega arith) is.0), tt)
+
+clean-members : (empty : Bool) (fields : List (List ℕ × ShownParts)) → AllByRecursion IsClean (filter_map (member_json empty) fields)
+clean-members empty [] = tt
+clean-members empty (f ∷ fields) = by_member (member_json empty f) (clean-pair f.0 (value_json empty f.1) (clean-value empty f.1)) (clean-members empty fields)
+  where
+    by_member : (o : Option (List ℕ)) → AllByRecursion IsClean (option_to_list o) → AllByRecursion IsClean (filter_map (member_json empty) fields) → AllByRecursion IsClean (cons_option o (filter_map (member_json empty) fields))
+    by_member None is rest = rest
+    by_member (Some member) is rest = (is.0, rest)
+
+clean-joined : (texts : List (List ℕ)) → AllByRecursion IsClean texts → IsClean (join_with_byte 44 texts)
+clean-joined [] is = clean-nil
+clean-joined (t ∷ []) is = is.0
+clean-joined (t ∷ u ∷ texts) is = clean-append t _ is.0 (clean-cons 44 _ (omega arith) (clean-joined (u ∷ texts) is.1))
+
+clean-fields : (empty : Bool) (fields : List (List ℕ × ShownParts)) → IsClean (fields_json empty fields)
+clean-fields empty fields = clean-append (codes "{") _ (clean-literal (codes "{") refl) (clean-append (join_with_byte 44 (filter_map (member_json empty) fields)) (codes "}") (clean-joined _ (clean-members empty fields)) (clean-literal (codes "}") refl))
+
+clean-id : (id : Id) → IsClean (id_json id)
+unfolding id_json
+clean-id id =
+    onward (onward (onward (onward (onward (onward (onward (clean-literal (codes ",\"prio\":") refl) (decimal id.prio) (clean-decimal id.prio)) (codes ",\"src\":") (clean-literal (codes ",\"src\":") refl)) (decimal id.src) (clean-decimal id.src)) (codes ",\"dst\":") (clean-literal (codes ",\"dst\":") refl)) (decimal id.dst) (clean-decimal id.dst)) (codes ",\"pgn\":") (clean-literal (codes ",\"pgn\":") refl)) (decimal id.pgn) (clean-decimal id.pgn)
+
+clean-head : (description : List ℕ) (m : PacketParts) → IsClean description → IsClean (head_json description m)
+unfolding head_json
+clean-head description m is =
+    onward (onward (onward (onward (onward (clean-literal (codes "{\"timestamp\":") refl) (text_json m.stamp) (clean-text m.stamp)) (id_json m.id) (clean-id m.id)) (codes ",\"description\":") (clean-literal (codes ",\"description\":") refl)) description is) (codes ",\"fields\":") (clean-literal (codes ",\"fields\":") refl)
+
+line-one : (description : List ℕ) (fields : List (List ℕ × ShownParts)) (m : PacketParts) (empty : Bool) → IsOneLine (line_json description fields m empty)
+line-one description fields m empty = record {
+  front = (head_json (text_json description) m ++ fields_json empty fields) ++ 125 ∷ [];
+  spelled = sym (append_assoc (head_json (text_json description) m ++ fields_json empty fields) (125 ∷ []) (10 ∷ []));
+  clean = All-from_recursion (λ b. 32 ≤ b) _ (onward (onward (clean-head (text_json description) m (clean-text description)) (fields_json empty fields) (clean-fields empty fields)) (125 ∷ []) (clean-cons 125 [] (omega arith) clean-nil)).each;
+}
+
+pub json-one : (t : TableParts) (m : PacketParts) (empty : Bool) → IsOneLine (json t m empty)
+unfolding json
+json-one t m empty = by_choice (choice t m.id.pgn m.payload)
+  where
+    by_choice : (d : Option DefinitionParts) → IsOneLine (chosen_json d m empty)
+    by_choice None = line-one (codes "Unmatched") ((codes "Data", bytes m.payload) ∷ []) m false
+    by_choice (Some d) = line-one d.description (all_shown d.fields m.payload) m empty

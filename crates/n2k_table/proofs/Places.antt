@@ -1,0 +1,208 @@
+-- Where the definitions of a PGN stand.
+use Rattle.std.proofs.Common.{◌≡◌, ℕ, zero, suc, ◌+◌, ◌<◌, ◌≤◌, Bool, true, false, ◌&&◌, nat_eq, cond, List, [], ◌∷◌, ◌++◌, length, get_or, drop, slice_get, Option, Some, None, is_some, option_map, unwrap_or, Vec, Global, IfSome, below_more, refl, sym, ap, ◌∙◌, append_assoc, inl, inr, arith}
+use Rattle.std.specs.List.{find}
+use Rattle.std.specs.Option.{option_map_or}
+use Rattle.std.proofs.lemmas.Option.{slice_get-get_or}
+use Rattle.std.specs.Map.{lookup as value_at}
+use Rattle.std.proofs.lemmas.Bool.{cases_Bool, false≢true}
+use Rattle.std.proofs.lemmas.Bool.Decides.{nat_tests}
+use Rattle.std.proofs.lemmas.List.{append-nil, drop_more, at_drop_all, length-append, get_or-map}
+use Rattle.indexmap.specs.IndexMap.{IndexMap, get}
+use Rattle.n2k_table.specs.Definition.{DefinitionParts}
+use Rattle.n2k_table.specs.Table.{is_of}
+use Rattle.n2k_table.specs.Index.{numbers, places_from, places, IsIndex}
+
+-- one more definition, which is of the number or not
+pub places_more : (number : ℕ) (ds : List DefinitionParts) (i : ℕ) (d : DefinitionParts) → i < length ds → d ≡ get_or ds i d
+    → places_from i number (numbers (drop i ds)) ≡ cond (nat_eq d.number number) (i ∷ places_from (i + 1) number (numbers (drop (i + 1) ds))) (places_from (i + 1) number (numbers (drop (i + 1) ds)))
+places_more number ds i d lt at =
+    let here : drop i ds ≡ d ∷ drop (i + 1) ds = drop_more ds i d lt ∙ ap (λ e. e ∷ drop (i + 1) ds) (sym at) in
+    let next : suc i ≡ i + 1 = omega arith in
+    rw (here, next) refl
+
+-- the places so far, with the next definition
+pub place_kept : (number : ℕ) (ds : List DefinitionParts) (i : ℕ) (d : DefinitionParts) (so_far total : List ℕ) → i < length ds → d ≡ get_or ds i d → d.number ≡ number
+    → so_far ++ places_from i number (numbers (drop i ds)) ≡ total → (so_far ++ i ∷ []) ++ places_from (i + 1) number (numbers (drop (i + 1) ds)) ≡ total
+place_kept number ds i d so_far total lt at same is =
+    let test : nat_eq d.number number ≡ true = grind (arith, nat_tests) in
+    let rest = places_from (i + 1) number (numbers (drop (i + 1) ds)) in
+    let here : places_from i number (numbers (drop i ds)) ≡ i ∷ rest = places_more number ds i d lt at ∙ ap (λ b. cond b (i ∷ rest) rest) test in
+    append_assoc so_far (i ∷ []) rest ∙ ap (λ (r : List ℕ). so_far ++ r) (sym here) ∙ is
+
+pub place_passed : (number : ℕ) (ds : List DefinitionParts) (i : ℕ) (d : DefinitionParts) (so_far total : List ℕ) → i < length ds → d ≡ get_or ds i d → (d.number ≡ number → ⊥)
+    → so_far ++ places_from i number (numbers (drop i ds)) ≡ total → so_far ++ places_from (i + 1) number (numbers (drop (i + 1) ds)) ≡ total
+place_passed number ds i d so_far total lt at other is =
+    let test : nat_eq d.number number ≡ false = grind (arith, nat_tests) in
+    let rest = places_from (i + 1) number (numbers (drop (i + 1) ds)) in
+    let here : places_from i number (numbers (drop i ds)) ≡ rest = places_more number ds i d lt at ∙ ap (λ b. cond b (i ∷ rest) rest) test in
+    ap (λ (r : List ℕ). so_far ++ r) (sym here) ∙ is
+
+pub places_done : (number : ℕ) (ds : List DefinitionParts) (i : ℕ) (so_far total : List ℕ) → length ds ≤ i
+    → so_far ++ places_from i number (numbers (drop i ds)) ≡ total → so_far ≡ total
+places_done number ds i so_far total le is =
+    let nothing = at_drop_all (λ es. so_far ++ places_from i number (numbers es)) ds i le in
+    sym (append-nil so_far) ∙ sym nothing ∙ is
+
+-- a number that is not there has no place
+no_places : (number : ℕ) (ns : List ℕ) (i : ℕ) → ((k : ℕ) → k < length ns → nat_eq (get_or ns k 0) number ≡ false) → places_from i number ns ≡ []
+no_places number [] i none = refl
+no_places number (n ∷ ns) i none =
+    let here : nat_eq n number ≡ false = none 0 (omega arith) in
+    rw here (no_places number ns (suc i) (λ k lt. none (suc k) (omega arith)))
+
+-- each number that the map has a value for has the right one
+abbrev pub AreRight : List (ℕ × Vec ℕ Global) → List ℕ → Type 0
+AreRight entries ns = (number : ℕ) → IfSome (value_at (nat_eq number) entries) (λ v. v.items ≡ places number ns)
+
+-- the map has a value for each of the first i numbers
+abbrev pub HasFirst : List (ℕ × Vec ℕ Global) → List ℕ → ℕ → Type 0
+HasFirst entries ns i = (k : ℕ) → k < i → is_some (value_at (nat_eq (get_or ns k 0)) entries) ≡ true
+
+found_right : (o : Option (Vec ℕ Global)) (right : List ℕ) → IfSome o (λ v. v.items ≡ right) → (o ≡ None → right ≡ []) → unwrap_or (option_map (λ v. v.items) o) [] ≡ right
+found_right None right some none = sym (none refl)
+found_right (Some v) right some none = some
+
+pub index_done : (entries : List (ℕ × Vec ℕ Global)) (ns : List ℕ) → AreRight entries ns → HasFirst entries ns (length ns) → IsIndex entries ns
+index_done entries ns right all = record {
+  finds = λ number. found_right (value_at (nat_eq number) entries) (places number ns) (right number) (λ none.
+      no_places number ns 0 (λ k lt.
+      elim (cases_Bool (nat_eq (get_or ns k 0) number)) [
+        | inl same ↦
+            let is : get_or ns k 0 ≡ number = grind (arith, nat_tests) in
+            absurd (false≢true (sym (ap is_some none) ∙ ap (λ n. is_some (value_at (nat_eq n) entries)) (sym is) ∙ all k lt))
+        | inr other ↦ other
+      ]));
+}
+
+pub length-numbers : (ds : List DefinitionParts) → length (numbers ds) ≡ length ds
+length-numbers [] = refl
+length-numbers (d ∷ ds) = ap suc (length-numbers ds)
+
+number_here : (ds : List DefinitionParts) (i : ℕ) (d : DefinitionParts) → i < length ds → d ≡ get_or ds i d → get_or (numbers ds) i 0 ≡ d.number
+number_here ds i d lt at = get_or-map (λ (e : DefinitionParts). e.number) ds i d 0 lt ∙ ap (λ (e : DefinitionParts). e.number) (sym at)
+
+-- one more number, which the map has
+pub index_kept : (entries : List (ℕ × Vec ℕ Global)) (ds : List DefinitionParts) (i : ℕ) (d : DefinitionParts) → i < length ds → d ≡ get_or ds i d
+    → HasFirst entries (numbers ds) i → is_some (value_at (nat_eq d.number) entries) ≡ true → HasFirst entries (numbers ds) (i + 1)
+index_kept entries ds i d lt at first here =
+    below_more (λ k. is_some (value_at (nat_eq (get_or (numbers ds) k 0)) entries) ≡ true) i first
+    (ap (λ n. is_some (value_at (nat_eq n) entries)) (number_here ds i d lt at) ∙ here)
+
+module _ {S : Type 0} (m n : IndexMap ℕ (Vec ℕ Global) S) (key : ℕ) (v : Vec ℕ Global) (updates : (q : ℕ) → get nat_eq n q ≡ cond (nat_eq key q) (Some v) (get nat_eq m q)) where
+  -- or which it gains
+  pub index_right : (ns : List ℕ) → v.items ≡ places key ns → AreRight m.entries ns → AreRight n.entries ns
+  index_right ns is right number =
+      elim (cases_Bool (nat_eq key number)) [
+        | inl same ↦
+            let number_is : key ≡ number = grind (arith, nat_tests) in
+            let found : get nat_eq n number ≡ Some v = updates number ∙ ap (λ b. cond b (Some v) (get nat_eq m number)) same in
+            rw found (is ∙ ap (λ k. places k ns) number_is)
+        | inr other ↦
+            let found : get nat_eq n number ≡ get nat_eq m number = updates number ∙ ap (λ b. cond b (Some v) (get nat_eq m number)) other in
+            rw found (right number)
+      ]
+
+  still_there : (number : ℕ) → is_some (get nat_eq m number) ≡ true → is_some (get nat_eq n number) ≡ true
+  still_there number there =
+      elim (cases_Bool (nat_eq key number)) [
+        | inl same ↦ ap is_some (updates number ∙ ap (λ b. cond b (Some v) (get nat_eq m number)) same)
+        | inr other ↦ ap is_some (updates number ∙ ap (λ b. cond b (Some v) (get nat_eq m number)) other) ∙ there
+      ]
+
+  pub index_gained : (ds : List DefinitionParts) (i : ℕ) (d : DefinitionParts) → i < length ds → d ≡ get_or ds i d → d.number ≡ key
+      → HasFirst m.entries (numbers ds) i → HasFirst n.entries (numbers ds) (i + 1)
+  index_gained ds i d lt at is first =
+      let itself : nat_eq key key ≡ true = grind (arith, nat_tests) in
+      let here : is_some (get nat_eq n key) ≡ true = ap is_some (updates key ∙ ap (λ b. cond b (Some v) (get nat_eq m key)) itself) in
+      below_more (λ k. is_some (value_at (nat_eq (get_or (numbers ds) k 0)) n.entries) ≡ true) i (λ k below. still_there (get_or (numbers ds) k 0) (first k below))
+      (ap (λ q. is_some (value_at (nat_eq q) n.entries)) (number_here ds i d lt at ∙ is) ∙ here)
+
+-- the first that passes among the definitions at these places
+abbrev pub first_at : (DefinitionParts → Bool) → List DefinitionParts → List ℕ → Option DefinitionParts
+first_at q ds [] = None
+first_at q ds (i ∷ is) = option_map_or (λ d. cond (q d) (Some d) (first_at q ds is)) (slice_get ds i) (first_at q ds is)
+
+there : (front : List DefinitionParts) (d : DefinitionParts) (ds : List DefinitionParts) → slice_get (front ++ d ∷ ds) (length front) ≡ Some d
+there [] d ds = refl
+there (e ∷ es) d ds = there es d ds
+
+-- the first of a PGN that passes is found at the places of the PGN
+find_from : (p q : DefinitionParts → Bool) (pgn : ℕ) → ((d : DefinitionParts) → p d ≡ (is_of pgn d && q d)) → (front ds : List DefinitionParts)
+    → find p ds ≡ first_at q (front ++ ds) (places_from (length front) pgn (numbers ds))
+find_from p q pgn h front [] = refl
+find_from p q pgn h front (d ∷ ds) =
+    let len : length (front ++ d ∷ []) ≡ suc (length front) = omega (arith, length-append front (d ∷ [])) in
+    let moved : front ++ d ∷ ds ≡ (front ++ d ∷ []) ++ ds = sym (append_assoc front (d ∷ []) ds) in
+    let rest : find p ds ≡ first_at q (front ++ d ∷ ds) (places_from (suc (length front)) pgn (numbers ds)) =
+    find_from p q pgn h (front ++ d ∷ []) ds ∙ ap (λ (es : List DefinitionParts). first_at q es (places_from (length (front ++ d ∷ [])) pgn (numbers ds))) (sym moved)
+    ∙ ap (λ (n : ℕ). first_at q (front ++ d ∷ ds) (places_from n pgn (numbers ds))) len in
+    elim (cases_Bool (nat_eq d.number pgn)) [
+      | inl same ↦
+          let passes : p d ≡ q d = h d ∙ ap (λ b. b && q d) same in
+          rw (same, there front d ds, passes) (ap (λ (o : Option DefinitionParts). cond (q d) (Some d) o) rest)
+      | inr other ↦
+          let passes : p d ≡ false = h d ∙ ap (λ b. b && q d) other in
+          rw (other, passes) rest
+    ]
+
+pub find_places : (p q : DefinitionParts → Bool) (pgn : ℕ) → ((d : DefinitionParts) → p d ≡ (is_of pgn d && q d)) → (ds : List DefinitionParts)
+    → find p ds ≡ first_at q ds (places pgn (numbers ds))
+find_places p q pgn h ds = find_from p q pgn h [] ds
+
+one_within : (i n : ℕ) (is : List ℕ) → ((j : ℕ) → j < length is → get_or is j 0 < suc i + n) → (k : ℕ) → k < length (i ∷ is) → get_or (i ∷ is) k 0 < i + suc n
+one_within i n is rest zero lt = omega arith
+one_within i n is rest (suc j) lt = omega (arith, rest j (omega arith))
+
+-- each place is one of a definition
+pub place_within : (number : ℕ) (ns : List ℕ) (i k : ℕ) → k < length (places_from i number ns) → get_or (places_from i number ns) k 0 < i + length ns
+place_within number [] i k lt = absurd (omega arith)
+place_within number (n ∷ ns) i k lt =
+    elim (cases_Bool (nat_eq n number)) [
+      | inl same ↦
+          let here : k < length (i ∷ places_from (suc i) number ns) = rw same at lt in
+          rw same (one_within i (length ns) (places_from (suc i) number ns) (λ j below. place_within number ns (suc i) j below) k here)
+      | inr other ↦
+          let here : k < length (places_from (suc i) number ns) = rw other at lt in
+          rw other (omega (arith, place_within number ns (suc i) k here))
+    ]
+
+-- the definition at a place
+pub first_here : (q : DefinitionParts → Bool) (ds : List DefinitionParts) (is : List ℕ) (k : ℕ) (d : DefinitionParts) → k < length is → get_or is k 0 < length ds → d ≡ get_or ds (get_or is k 0) d
+    → first_at q ds (drop k is) ≡ cond (q d) (Some d) (first_at q ds (drop (k + 1) is))
+first_here q ds is k d lt within at =
+    let here : drop k is ≡ get_or is k 0 ∷ drop (k + 1) is = drop_more is k 0 lt in
+    let found : slice_get ds (get_or is k 0) ≡ Some d = slice_get-get_or ds (get_or is k 0) d within ∙ ap (λ e. Some e) (sym at) in
+    rw (here, found) refl
+
+pub places_within : (is : List ℕ) (pgn : ℕ) (ds : List DefinitionParts) → is ≡ places pgn (numbers ds) → (k : ℕ) → k < length is → get_or is k 0 < length ds
+places_within is pgn ds same k lt =
+    let below : k < length (places pgn (numbers ds)) = rw same at lt in
+    let within : get_or (places pgn (numbers ds)) k 0 < 0 + length (numbers ds) = place_within pgn (numbers ds) 0 k below in
+    rw same (omega (arith, within, length-numbers ds))
+
+both_true : (b : Bool) → b ≡ (b && true)
+both_true true = refl
+both_true false = refl
+
+-- the first definition of a PGN
+first_any : (ds : List DefinitionParts) (is : List ℕ) (r : Option ℕ) → slice_get is 0 ≡ r
+    → first_at (λ d. true) ds is ≡ option_map_or (λ i. option_map_or (λ d. Some d) (slice_get ds i) (first_at (λ d. true) ds (drop 1 is))) r None
+first_any ds [] r at = rw (← at) refl
+first_any ds (i ∷ is) r at = rw (← at) refl
+
+pub no_kind : (pgn : ℕ) (ds : List DefinitionParts) (is : List ℕ) → is ≡ places pgn (numbers ds) → slice_get is 0 ≡ None → find (is_of pgn) ds ≡ None
+no_kind pgn ds is same none =
+    find_places (is_of pgn) (λ d. true) pgn (λ d. both_true (is_of pgn d)) ds ∙ ap (first_at (λ d. true) ds) (sym same) ∙ first_any ds is None none
+
+pub one_kind : (pgn : ℕ) (ds : List DefinitionParts) (is : List ℕ) (i : ℕ) (d : DefinitionParts) → is ≡ places pgn (numbers ds) → slice_get is 0 ≡ Some i
+    → i < length ds → d ≡ get_or ds i d → find (is_of pgn) ds ≡ Some d
+one_kind pgn ds is i d same first within at =
+    let found : slice_get ds i ≡ Some d = slice_get-get_or ds i d within ∙ ap (λ e. Some e) (sym at) in
+    find_places (is_of pgn) (λ d. true) pgn (λ d. both_true (is_of pgn d)) ds ∙ ap (first_at (λ d. true) ds) (sym same) ∙ first_any ds is (Some i) first ∙ (rw found refl)
+
+pub first_within : (is : List ℕ) (i n : ℕ) → slice_get is 0 ≡ Some i → ((k : ℕ) → k < length is → get_or is k 0 < n) → i < n
+first_within [] i n first within = absurd cc
+first_within (j ∷ is) i n first within =
+    let same : j ≡ i = cc in
+    let here : j < n = within 0 (omega arith) in
+    omega arith

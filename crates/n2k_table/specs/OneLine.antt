@@ -1,0 +1,8 @@
+-- What it is to be one line.
+use Rattle.std.specs.Prelude.{◌≡◌, ◌≤◌, ℕ, All, List, [], ◌∷◌, ◌++◌}
+
+-- The text is one line: it ends in a line feed, and before that stands no byte below the space.
+pub record IsOneLine (text : List ℕ) : Type 0 where
+  pub front : List ℕ
+  pub spelled : text ≡ front ++ 10 ∷ []
+  pub clean : All (λ b. 32 ≤ b) front
