@@ -78,7 +78,8 @@ pub stored_back : (first : ℕ) (key : Key) (sp : List StoredPiece) → pieces_r
 stored_back first key sp rise =
     let o : Group = bare first key in
     λ i. record {
-      first = first; key = key;
+      first = first;
+      key = key;
       pieces = (ap pieces_of (reversed_frames first key sp) ∙ pieces_back o (map piece_of sp) (rise_from 0 (map piece_of sp) rise) (small_from 0 (map piece_of sp) rise)) i;
     }
 

@@ -37,9 +37,9 @@ pub pieces_below-more : (carries : ℕ → Option (List ℕ)) (n : ℕ) (before 
 unfolding pieces_tokens pieces_below
 pieces_below-more carries n before =
     append_assoc before _ _ ∙ ap (λ ts. before ++ ts) (
-        ap (λ ts. pieces_tokens (pieces_below carries n) ++ ts) (one (piece_at carries n))
-        ∙ sym (flat_map-append (λ p. tokens_of (piece_tree p)) (pieces_below carries n) (option_to_list (piece_at carries n)))
-        ∙ ap pieces_tokens (sym (filter_map-push (piece_at carries) (range_with_len 0 n) n) ∙ ap (filter_map (piece_at carries)) (sym (rw zero-add at (range-push 0 n)))))
+    ap (λ ts. pieces_tokens (pieces_below carries n) ++ ts) (one (piece_at carries n))
+    ∙ sym (flat_map-append (λ p. tokens_of (piece_tree p)) (pieces_below carries n) (option_to_list (piece_at carries n)))
+    ∙ ap pieces_tokens (sym (filter_map-push (piece_at carries) (range_with_len 0 n) n) ∙ ap (filter_map (piece_at carries)) (sym (rw zero-add at (range-push 0 n)))))
   where
     one : (o : Option Piece) → piece_tokens o ≡ flat_map (λ p. tokens_of (piece_tree p)) (option_to_list o)
     one None = refl
@@ -126,7 +126,7 @@ pub group_more_written : (gs : List Group) (i : ℕ) (g : Group) (before written
     → now ≡ before ++ groups_tokens (take (i + 1) gs)
 unfolding groups_tokens
 group_more_written gs i g before written now lt at is so_far = is ∙ ap (λ ts. ts ++ tokens_of (group_tree g)) so_far ∙ append_assoc before _ _ ∙ ap (λ ts. before ++ ts) (
-        ap (λ ts. groups_tokens (take i gs) ++ ts) (sym (append-nil _)) ∙ sym (flat_map-append (λ g. tokens_of (group_tree g)) (take i gs) (g ∷ [])) ∙ ap groups_tokens (sym (take_more_at gs i g lt at)))
+    ap (λ ts. groups_tokens (take i gs) ++ ts) (sym (append-nil _)) ∙ sym (flat_map-append (λ g. tokens_of (group_tree g)) (take i gs) (g ∷ [])) ∙ ap groups_tokens (sym (take_more_at gs i g lt at)))
 
 -- the members behind the open groups, as they are written
 pub back_written : (o o1 o2 o3 : List Token) (id : List ℕ) (c : Counts)

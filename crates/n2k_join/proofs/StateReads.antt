@@ -98,8 +98,19 @@ unfolding group_tree
 group-tree g is =
     let frames = lists 1 piece_tree g.pieces (all-map IsHeld (λ p. IsTree 1 (piece_tree p)) g.pieces piece-tree is.pieces) in
     record {
-      plain = (name (codes "dst") refl, omega (arith, is.key.dst), (name (codes "first") refl, omega (arith, is.first), (name (codes "frames") refl, frames.plain,
-        (name (codes "pgn") refl, omega (arith, is.key.pgn), (name (codes "seq") refl, omega (arith, is.key.sequence), (name (codes "src") refl, omega (arith, is.key.src), tt))))));
+      plain = (
+        name (codes "dst") refl,
+        omega (arith, is.key.dst),
+        (
+          name (codes "first") refl,
+          omega (arith, is.first),
+          (
+            name (codes "frames") refl,
+            frames.plain,
+            (name (codes "pgn") refl, omega (arith, is.key.pgn), (name (codes "seq") refl, omega (arith, is.key.sequence), (name (codes "src") refl, omega (arith, is.key.src), tt))),
+          ),
+        ),
+      );
       shallow = let more = frames.shallow in omega arith;
       back = rw (number_of-decimal g.key.dst (omega (arith, is.key.dst)), number_of-decimal g.first (omega (arith, is.first)), frames.back, number_of-decimal g.key.pgn (omega (arith, is.key.pgn)), number_of-decimal g.key.sequence (omega (arith, is.key.sequence)), number_of-decimal g.key.src (omega (arith, is.key.src))) refl;
     }
@@ -116,10 +127,10 @@ kept_groups s is =
       key = h.0.key;
       first = let few = is.counted.lines in let at = h.1.1 in omega arith;
       pieces = all-map (λ (p : Piece). (p.number < most_frames) × IsPiece p) IsHeld g.pieces (λ p k. record { small = k.0; piece = k.1 })
-        (all-zip (λ (p : Piece). p.number < most_frames) IsPiece g.pieces h.1.0.numbers h.0.pieces);
+          (all-zip (λ (p : Piece). p.number < most_frames) IsPiece g.pieces h.1.0.numbers h.0.pieces);
     })
     (all-zip HasParts (λ (g : Group). IsOpen g × (g.first ≤ s.counts.lines)) s.groups is.parts
-      (all-zip IsOpen (λ (g : Group). g.first ≤ s.counts.lines) s.groups is.groups.each is.groups.begun))
+    (all-zip IsOpen (λ (g : Group). g.first ≤ s.counts.lines) s.groups is.groups.each is.groups.begun))
 
 pub state-tree : (s : State) → IsState s → IsTree 5 (state_tree s)
 unfolding state_tree
@@ -127,19 +138,54 @@ state-tree s is =
     let groups = lists 3 group_tree s.groups (all-map IsKept (λ (g : Group). IsTree 3 (group_tree g)) s.groups group-tree (kept_groups s is)) in
     let c = is.counted in
     record {
-      plain = (name (codes "bad") refl, omega (arith, c.lines, c.given), (name (codes "broken") refl, omega (arith, c.lines, c.broken), (name (codes "format") refl, omega arith, (name (codes "groups") refl, groups.plain,
-        (name (codes "lines") refl, omega (arith, c.lines), (name (codes "messages") refl, omega (arith, c.lines, c.given), (name (codes "table") refl, IsUtf8-encode_lower s.id,
-        (name (codes "unknown") refl, omega (arith, c.lines, c.given), tt))))))));
+      plain = (
+        name (codes "bad") refl,
+        omega (arith, c.lines, c.given),
+        (
+          name (codes "broken") refl,
+          omega (arith, c.lines, c.broken),
+          (
+            name (codes "format") refl,
+            omega arith,
+            (
+              name (codes "groups") refl,
+              groups.plain,
+              (
+                name (codes "lines") refl,
+                omega (arith, c.lines),
+                (
+                  name (codes "messages") refl,
+                  omega (arith, c.lines, c.given),
+                  (
+                    name (codes "table") refl,
+                    IsUtf8-encode_lower s.id,
+                    (name (codes "unknown") refl, omega (arith, c.lines, c.given), tt),
+                  ),
+                ),
+              ),
+            ),
+          ),
+        ),
+      );
       shallow = let more = groups.shallow in omega arith;
-      back = rw (number_of-decimal s.counts.bad (omega (arith, c.lines, c.given)), number_of-decimal s.counts.broken (omega (arith, c.lines, c.broken)), number_of-decimal saved_format (omega arith), groups.back,
-        number_of-decimal s.counts.lines (omega (arith, c.lines)), number_of-decimal s.counts.messages (omega (arith, c.lines, c.given)), number_of-decimal s.counts.unknown (omega (arith, c.lines, c.given))) refl;
+      back = rw (
+        number_of-decimal s.counts.bad (omega (arith, c.lines, c.given)),
+        number_of-decimal s.counts.broken (omega (arith, c.lines, c.broken)),
+        number_of-decimal saved_format (omega arith),
+        groups.back,
+        number_of-decimal s.counts.lines (omega (arith, c.lines)),
+        number_of-decimal s.counts.messages (omega (arith, c.lines, c.given)),
+        number_of-decimal s.counts.unknown (omega (arith, c.lines, c.given)),
+      ) refl;
     }
 
 pub state-reads : (s : State) → IsState s → IsId s.id → state_of (state_tree s) ≡ Ok s
 unfolding state_of counts_of id_at groups_at state_tree
 state-reads s is id =
-    rw (decode_sized-encode_lower s.id 32 id.long id.are_bytes,
-      each-reads group_tree group_of s.groups (all-map IsKept (λ (g : Group). group_of (group_tree g) ≡ Ok g) s.groups group-reads (kept_groups s is)))
+    rw (
+      decode_sized-encode_lower s.id 32 id.long id.are_bytes,
+      each-reads group_tree group_of s.groups (all-map IsKept (λ (g : Group). group_of (group_tree g) ≡ Ok g) s.groups group-reads (kept_groups s is)),
+    )
     (ap (λ n. Ok (record { id = s.id; counts = record s.counts { held = n }; groups = s.groups })) (sym is.held))
 
 bytes_eq-same : (bs : List ℕ) → bytes_eq bs bs ≡ true

@@ -176,7 +176,7 @@ pieces_to least (p ∷ ps) rise small parts =
     let few : p.number < most_frames = small.0 in
     let within : p.number ≤ 31 = omega (arith, few) in
     and_from _ _ (and_from _ _ (at_most-true _ _ rise.0) (and_from _ _ (at_most-true _ _ within) (total_to p.number p.bytes parts.0.total)))
-      (pieces_to (p.number + 1) ps rise.1 small.1 parts.1)
+    (pieces_to (p.number + 1) ps rise.1 small.1 parts.1)
 
 key_to : (kind : ℕ → Option Kind) (k : Key) → IsKey k → kind k.pgn ≡ Some Fast → key_holds kind k ≡ true
 unfolding key_holds

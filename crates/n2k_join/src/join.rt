@@ -13,11 +13,12 @@ ghost use Rattle.n2k_join.specs.Step.{given_of, opens};
 use crate::counts::{Counts, MOST_LINES};
 use crate::fault::JoinFault;
 use crate::group::StoredGroup;
+use crate::outcome::{Outcome, take_entry};
 use crate::saved::{
-    SpelledGroup, SpelledState, has_format, parsed, read_state, rules_hold, state_text, stored_groups,
+    SpelledGroup, SpelledState, has_format, parsed, read_state, rules_hold, state_text,
+    stored_groups,
 };
 use crate::state_fault::StateFault;
-use crate::outcome::{Outcome, take_entry};
 use crate::step::Step;
 use n2k_table::Table;
 use n2k_wire::{Entry, Id, Packet};

@@ -13,3 +13,6 @@ pub use resume::{has_format, parsed, stored_groups};
 pub use rules::rules_hold;
 pub use spelled::{SpelledGroup, SpelledState};
 pub use text::state_text;
+
+#[cfg(test)]
+mod tests;

@@ -240,12 +240,13 @@ fn eight_under_way(rt: HostRuntime) -> Result<(), Fail> {
     let alloc = rt.alloc();
     let table = Table::read(alloc, SAMPLE.as_bytes())?;
     let mut join = Join::new(alloc, &table);
-    for (at, line) in EIGHT_UNDER_WAY.iter().enumerate() {
+    let mut kind = 8u8;
+    for line in &EIGHT_UNDER_WAY {
         let step = take(&mut join, &table, line)?;
-        assert_eq!(rt; join.counts().lines, at as u64 + 1);
         if let Some(message) = &step.message {
-            let data = [0xa3, 0x99, 16 - at as u8, 0x41, 0x42, 0x43, 0, 0, 0, 0, 0];
+            let data = [0xa3, 0x99, kind, 0x41, 0x42, 0x43, 0, 0, 0, 0, 0];
             assert_eq!(rt; message.data(), data.as_slice());
+            kind = kind.saturating_sub(1);
         }
     }
     let counts = join.counts();

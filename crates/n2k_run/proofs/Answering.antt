@@ -1,16 +1,13 @@
 -- What an answer says of the lines of all the bytes.
-use Rattle.std.proofs.Common.{◌≡◌, ◌⊎◌, inl, inr, ℕ, ◌+◌, ◌<◌, ◌≤◌, Bool, true, false, List, [], ◌∷◌, ◌++◌, length, map, refl, sym, ap, ◌∙◌, subst, append_assoc, arith, Option, Some, None, Result, Ok, Err, Bor}
-use Rattle.std.specs.Prelude.{IfSome, OnErr}
-use Rattle.std.specs.List.{slice_split}
-use Rattle.std.specs.Io.KnownBytes.{Consumes, IsAtEnd}
+use Rattle.std.proofs.Common.{◌≡◌, inl, inr, ℕ, ◌<◌, ◌≤◌, Bool, true, false, List, [], ◌∷◌, ◌++◌, length, map, refl, sym, ap, ◌∙◌, subst, append_assoc, arith, Option, Some, None, Result, Ok, Err, Bor}
 use Rattle.std.proofs.lemmas.List.{append-nil}
 use Rattle.std.proofs.lemmas.List.Splits.{slice_split_none}
 use Rattle.n2k_run.specs.declared.blocks.Found.TheVariants as found
 use Rattle.n2k_run.specs.declared.blocks.Next.{Next}
 use Rattle.n2k_run.specs.declared.blocks.Next.TheVariants.{Line, Long, End}
 use Rattle.n2k_run.specs.declared.device.Failed.{Failed}
-use Rattle.n2k_run.specs.Blocks.{Held, Answers, AnswersKnown, AnswersLine, FirstLine, FirstLong, Gives, HasNoFeed, unanswered}
-use Rattle.n2k_run.specs.Inner.Block.{AnswersFound, GivesFound}
+use Rattle.n2k_run.specs.Blocks.{Held, Answers, AnswersKnown, AnswersLine, FirstLine, Gives, HasNoFeed, unanswered}
+use Rattle.n2k_run.specs.Inner.Block.{AnswersFound}
 use Rattle.n2k_run.specs.Lines.{is_line_feed, lines, without_last_empty, without_return}
 use Rattle.n2k_run.proofs.Finding.{stays_more}
 use Rattle.n2k_run.proofs.Splits.{lines_feed}

@@ -1,16 +1,15 @@
 -- The first line of bytes, where a front of them stands for a part of a long line.
-use Rattle.std.proofs.Common.{◌≡◌, ◌⊎◌, inl, inr, ℕ, ◌+◌, ◌-◌, ◌<◌, ◌≤◌, Bool, true, false, cond, suc, zero, List, [], ◌∷◌, ◌++◌, length, take, drop, get_or, replicate, refl, sym, ap, ◌∙◌, subst, append_assoc, arith, length-append, length-take, Option, Some, None, Result, Ok, Err}
-use Rattle.std.specs.Prelude.{if◌then◌else◌, slice_index, ◌==◌, IfSome}
-use Rattle.std.specs.List.{All}
-use Rattle.std.specs.Io.KnownBytes.{Consumes, IsAtEnd}
+use Rattle.std.proofs.Common.{◌≡◌, ◌⊎◌, inl, inr, ℕ, ◌+◌, ◌-◌, ◌<◌, ◌≤◌, Bool, true, false, cond, List, [], ◌∷◌, ◌++◌, length, take, drop, get_or, refl, sym, ap, ◌∙◌, subst, append_assoc, arith, length-append, length-take, Option}
+use Rattle.std.specs.Prelude.{if◌then◌else◌, slice_index, ◌==◌}
+use Rattle.std.specs.Io.KnownBytes.{IsAtEnd}
 use Rattle.std.proofs.lemmas.List.{append-nil, length-replicate, get_or-replicate, get_or_at}
-use Rattle.std.proofs.lemmas.List.Elements.{All-head, All-tail, All-append, All-replicate, All-take, All-nil}
+use Rattle.std.proofs.lemmas.List.Elements.{All-head, All-tail, All-append, All-replicate}
 use Rattle.n2k_wire.specs.Entry.{longest_line}
 use Rattle.n2k_run.specs.declared.blocks.Found.{Found}
 use Rattle.n2k_run.specs.declared.blocks.Found.TheVariants.{Line, Long, End}
-use Rattle.n2k_run.specs.Blocks.{Held, FirstLine, FirstLong, HasFeed, HasNoFeed, Replaces, Stays, passed, unanswered}
+use Rattle.n2k_run.specs.Blocks.{Held, HasFeed, HasNoFeed, passed, unanswered}
 use Rattle.n2k_run.specs.Inner.Block.{EndsAt, Finds, Judges, MakesRoom}
-use Rattle.n2k_run.specs.Lines.{line_feed, is_line_feed, without_return}
+use Rattle.n2k_run.specs.Lines.{is_line_feed, without_return}
 
 -- a byte that ends no line
 abbrev pub is_plain : ℕ → Type 0

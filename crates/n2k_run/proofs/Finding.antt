@@ -1,7 +1,7 @@
 -- How the next line is found: what comes of the source, until the line is there.
-use Rattle.std.proofs.Common.{◌≡◌, ◌⊎◌, inl, inr, ℕ, ◌+◌, ◌-◌, ◌<◌, ◌≤◌, ◌^◌, Bool, true, false, cond, suc, zero, List, [], ◌∷◌, ◌++◌, length, take, drop, refl, sym, ap, ◌∙◌, subst, append_assoc, arith, length-append, Option, Some, None, Result, Ok, Err}
-use Rattle.std.specs.Prelude.{IfSome, if◌then◌else◌, ◌==◌}
-use Rattle.std.specs.Io.KnownBytes.{Consumes, IsAtEnd}
+use Rattle.std.proofs.Common.{◌≡◌, ◌⊎◌, inl, inr, ℕ, ◌+◌, ◌-◌, ◌<◌, ◌≤◌, ◌^◌, Bool, true, false, cond, List, [], ◌∷◌, ◌++◌, length, refl, sym, ap, ◌∙◌, subst, append_assoc, arith, length-append, Option, Ok, Err}
+use Rattle.std.specs.Prelude.{if◌then◌else◌, ◌==◌}
+use Rattle.std.specs.Io.KnownBytes.{IsAtEnd}
 use Rattle.std.proofs.KnownBytes.{Consumes-nil, Consumes-trans}
 use Rattle.std.proofs.lemmas.Bool.Decides.{nat_tests}
 use Rattle.std.proofs.lemmas.List.{append-nil, drop_at}
@@ -13,7 +13,7 @@ use Rattle.n2k_run.specs.declared.device.Failed.{Failed}
 use Rattle.n2k_run.specs.Blocks.{Held, FirstLine, FirstLong, HasNoFeed, Replaces, Stays, CallsAre, passed, unanswered}
 use Rattle.n2k_run.specs.Device.{one_more}
 use Rattle.n2k_run.specs.Inner.Block.{Finds, MakesRoom, Reads, AnswersFound}
-use Rattle.n2k_run.specs.Lines.{line_feed, is_line_feed, without_return}
+use Rattle.n2k_run.specs.Lines.{without_return}
 use Rattle.n2k_run.specs.Reading.{Gains, OutlastsReads, most_reads}
 use Rattle.n2k_run.proofs.Feeds.{is_plain, long_piece, long_after, length-passed, passed-no_feed, split_past, unanswered-no_feed}
 

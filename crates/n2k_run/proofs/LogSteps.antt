@@ -1,12 +1,10 @@
 -- What the steps of a join give of a log's lines is what the whole log says of them.
-use Rattle.std.proofs.Common.{◌≡◌, ℕ, suc, ◌+◌, ◌<◌, ◌≤◌, Bool, List, [], ◌∷◌, ◌++◌, length, Option, Some, None, refl, sym, ap, ◌∙◌, append_assoc, append-nil, length-append, arith}
+use Rattle.std.proofs.Common.{◌≡◌, ℕ, suc, ◌+◌, ◌<◌, ◌≤◌, Bool, List, [], ◌∷◌, ◌++◌, length, Option, Some, refl, sym, ap, ◌∙◌, append_assoc, append-nil, length-append, arith}
 use Rattle.std.specs.Prelude.{option_and_then, option_to_list, slice_get}
 use Rattle.std.specs.List.{flat_map, range_with_len}
 use Rattle.n2k_wire.specs.declared.entry.Entry.{Entry}
-use Rattle.n2k_wire.specs.Packet.{PacketParts}
 use Rattle.n2k_table.specs.declared.definition.Kind.{Kind}
 use Rattle.n2k_table.specs.Table.{TableParts, kind}
-use Rattle.n2k_join.specs.declared.broken.Broken.{Broken}
 use Rattle.n2k_join.specs.declared.step.Step.{Step}
 use Rattle.n2k_join.specs.Counts.{most_lines}
 use Rattle.n2k_join.specs.Step.{given_of}
@@ -18,7 +16,7 @@ use Rattle.n2k_run.specs.Decoded.{cause_at, join_making, message_line, numbers_a
 use Rattle.n2k_run.specs.Making.{after_all, texts_from, reports_from}
 use Rattle.n2k_run.specs.Reports.{broken_text, cause_report, line_report}
 use Rattle.n2k_run.specs.Inner.Engine.{MovesOn}
-use Rattle.n2k_run.specs.Runs.{Output, output_from}
+use Rattle.n2k_run.specs.Runs.{output_from}
 use Rattle.n2k_run.proofs.Ending.{output_same}
 
 -- a line more is counted

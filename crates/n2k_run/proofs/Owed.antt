@@ -1,9 +1,9 @@
 -- How what is owed of a text shrinks as it is written.
-use Rattle.std.proofs.Common.{◌≡◌, ℕ, List, [], ◌++◌, length, take, drop, refl, sym, ap, ◌∙◌, subst, append_assoc, ◌-◌, Option}
+use Rattle.std.proofs.Common.{ℕ, List, ◌++◌, length, take, drop, sym, ◌∙◌, subst, append_assoc, ◌-◌, Option}
 use Rattle.std.specs.Io.KnownBytes.{Appends}
-use Rattle.std.proofs.KnownBytes.{Appends-nil, Appends-trans}
-use Rattle.std.proofs.lemmas.List.{take-append-drop, take_rest, append-nil}
-use Rattle.n2k_run.specs.Writing.{Owes, AppendsFront}
+use Rattle.std.proofs.KnownBytes.{Appends-trans}
+use Rattle.std.proofs.lemmas.List.{take-append-drop, take_rest}
+use Rattle.n2k_run.specs.Writing.{Owes}
 
 -- the first part of what is still to come is written
 pub Owes-part : (old mid new : Option (List ℕ)) (text part rest : List ℕ) → Owes old mid text (part ++ rest) → Appends mid new part → Owes old new text rest

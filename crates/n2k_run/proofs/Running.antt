@@ -1,22 +1,19 @@
 -- The engine of the runs: what stands after each step, and what each end leaves.
-use Rattle.std.proofs.Common.{◌≡◌, ◌⊎◌, inl, inr, ℕ, ◌+◌, ◌<◌, Bool, true, false, List, [], ◌∷◌, ◌++◌, length, refl, sym, ap, ◌∙◌, subst, append_assoc, arith, length-append, Option, Some, None, Result, Ok, Err}
-use Rattle.std.specs.Prelude.{IfSome, OnErr}
-use Rattle.std.specs.Io.{IsEmptyOrEndsWith}
+use Rattle.std.proofs.Common.{◌≡◌, inl, inr, ℕ, true, false, List, [], ◌∷◌, ◌++◌, refl, sym, ap, ◌∙◌, subst, append_assoc, arith, length-append, Option, Some, None, Result, Ok, Err}
+use Rattle.std.specs.Prelude.{IfSome}
 use Rattle.std.specs.Io.KnownBytes.{Appends, Consumes, IsAtEnd}
 use Rattle.std.proofs.KnownBytes.{Appends-nil, Appends-trans, Consumes-nil, Consumes-trans}
 use Rattle.std.proofs.lemmas.List.{append-nil}
 use Rattle.n2k_wire.specs.declared.entry.Entry.{Entry}
 use Rattle.n2k_wire.specs.declared.entry.Packing.{Packing}
-use Rattle.n2k_join.specs.Counts.{most_lines}
 use Rattle.n2k_run.specs.declared.fault.RunFault.{RunFault}
 use Rattle.n2k_run.specs.declared.fault.RunFault.TheVariants.{Read, Write, Report, Memory, TooManyLines}
 use Rattle.n2k_run.specs.Blocks.{Held, CallsAre, unanswered}
 use Rattle.n2k_run.specs.Device.{HasFailed}
 use Rattle.n2k_run.specs.Entries.{entries}
-use Rattle.n2k_run.specs.Lines.{line_feed, lines, whole_lines}
+use Rattle.n2k_run.specs.Lines.{whole_lines}
 use Rattle.n2k_run.specs.Making.{Making, after_all, texts_from, reports_from}
-use Rattle.n2k_run.specs.Reading.{OutlastsReads, most_reads}
-use Rattle.n2k_run.specs.Runs.{Devices, Ends, Gained, HasDevice, HasFronts, IsCut, IsFull, IsWhole, NoneFailed, Output, ReportsFirst, Runs, output_from}
+use Rattle.n2k_run.specs.Runs.{Devices, Ends, Gained, HasDevice, HasFronts, IsCut, IsFull, NoneFailed, Output, ReportsFirst, Runs, output_from}
 use Rattle.n2k_run.specs.Writing.{AppendsFront}
 use Rattle.n2k_run.specs.Inner.Engine.{FailsKept, Made, MovesOn, ReadsNext, Stands, StandsStill, TakesNext, WritesKept}
 use Rattle.n2k_run.proofs.Finding.{calls_end}

@@ -1,14 +1,11 @@
 -- The lines of bytes, from the first line on and from a front that ends in a line feed on.
-use Rattle.std.proofs.Common.{◌≡◌, ◌==◌, ◌<◌, ◌≤◌, ◌-◌, ℕ, Bool, true, false, cond, ltb, suc, Some, None, not, ◌+◌, List, [], ◌∷◌, ◌++◌, length, get_or, take, drop, map, refl, sym, ap, ◌∙◌, subst, append_assoc, arith}
-use Rattle.std.specs.List.{slice_split, onto_first, suffix_len, position, position_or_len, before_first, after_first}
+use Rattle.std.proofs.Common.{◌≡◌, ◌<◌, ◌≤◌, ◌-◌, ℕ, Bool, true, false, cond, suc, not, List, [], ◌∷◌, ◌++◌, length, get_or, take, drop, map, refl, sym, ap, ◌∙◌, subst, append_assoc, arith}
+use Rattle.std.specs.List.{slice_split, onto_first, suffix_len}
 use Rattle.std.specs.Io.{IsEmptyOrEndsWith}
-use Rattle.std.proofs.lemmas.List.{append-nil, map-append, take_rest, take-append-drop}
+use Rattle.std.proofs.lemmas.List.{append-nil, map-append, take-append-drop}
 use Rattle.std.proofs.Math.Seq.{drop-cons}
 use Rattle.std.proofs.Math.ListN.{drop_of_length-le}
-use Rattle.std.proofs.lemmas.List.Quantifiers.{position-Some}
-use Rattle.std.proofs.lemmas.List.Splits.{slice_split_first, slice_split_none}
-use Rattle.std.proofs.lemmas.List.Sums.{fails_before_first, position_or_len_is, suffix_len_is}
-use Rattle.std.proofs.lemmas.Bool.Decides.{nat_tests}
+use Rattle.std.proofs.lemmas.List.Sums.{suffix_len_is}
 use Rattle.n2k_run.specs.Lines.{line_feed, is_line_feed, without_last_empty, without_return, lines, whole_lines}
 
 -- there is a first piece

@@ -1,5 +1,5 @@
 -- The entry of the next line, as the maker takes it.
-use Rattle.std.proofs.Common.{◌≡◌, ◌⊎◌, inl, inr, ℕ, ◌<◌, true, List, length, refl, Option, Result, Ok, Err, Bor}
+use Rattle.std.proofs.Common.{◌≡◌, inl, ℕ, ◌<◌, true, List, length, refl, Option, Result, Ok, Err, Bor}
 use Rattle.std.specs.Prelude.{nat_lt}
 use Rattle.std.proofs.lemmas.Bool.{lt-ltb}
 use Rattle.n2k_wire.specs.declared.entry.BadCause.TheVariants as causes

@@ -1,5 +1,5 @@
 -- How a block stands: its places in order, and what each private step of it does.
-use Rattle.std.specs.Prelude.{◌≡◌, ◌⊎◌, ◌<◌, ◌≤◌, ◌+◌, ◌-◌, ℕ, Bool, true, false, List, [], ◌∷◌, ◌++◌, length, take, drop, slice_range, Option, Some, None, MatchOption, Result, Ok, Err}
+use Rattle.std.specs.Prelude.{◌≡◌, ◌⊎◌, ◌<◌, ◌≤◌, ◌+◌, ◌-◌, ℕ, Bool, true, false, List, [], ◌∷◌, ◌++◌, length, take, drop, slice_range, Option, MatchOption, Result, Ok, Err}
 use Rattle.std.specs.Io.KnownBytes.{Consumes, IsAtEnd}
 use Rattle.n2k_wire.specs.Entry.{longest_line}
 use Rattle.n2k_run.specs.declared.blocks.Blocks.TheInside.{Inside}
@@ -7,7 +7,7 @@ use Rattle.n2k_run.specs.declared.blocks.Found.{Found}
 use Rattle.n2k_run.specs.declared.blocks.Found.TheVariants.{Line, Long, End}
 use Rattle.n2k_run.specs.declared.device.Failed.{Failed}
 use Rattle.n2k_run.specs.Blocks.{Held, HasNoFeed, FirstLine, FirstLong, Stays, CallsAre, passed, unanswered}
-use Rattle.n2k_run.specs.Lines.{line_feed, is_line_feed}
+use Rattle.n2k_run.specs.Lines.{line_feed}
 use Rattle.n2k_run.specs.Reading.{most_reads}
 
 -- the bytes of a block

@@ -1,6 +1,5 @@
-use Rattle.std.proofs.Common.{◌≡◌, ◌∙◌, ap}
-use Rattle.n2k_table.specs.Table.{kind}
-use Rattle.n2k_join.specs.State.{State, state}
+use Rattle.std.proofs.Common.{◌∙◌, ap}
+use Rattle.n2k_join.specs.State.{State}
 use Rattle.n2k_run.specs.Decoded.{join_making, output_after}
 use Rattle.n2k_run.specs.Making.{after_all}
 use Rattle.n2k_run.specs.Runs.{output_from}

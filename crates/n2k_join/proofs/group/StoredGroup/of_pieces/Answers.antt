@@ -15,4 +15,4 @@ returns-clause-value c = turned_back c.args.first (key_of c.args.key) c.args.ris
 pub returns-clause-parts : goal.returns-clause-parts
 returns-clause-parts c =
     turned_parts c.args.first (key_of c.args.key) c.args.rising.items _ (turned_back c.args.first (key_of c.args.key) c.args.rising.items c.reverse.new.self.items c.reverse.ensures.items c.requires.rise)
-      c.requires.key c.requires.parts
+    c.requires.key c.requires.parts

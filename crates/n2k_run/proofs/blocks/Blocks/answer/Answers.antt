@@ -1,4 +1,4 @@
-use Rattle.std.proofs.Common.{◌≡◌, ap, sym, ◌∙◌, ◌≤◌, length, drop, ◌+◌}
+use Rattle.std.proofs.Common.{ap, ◌∙◌, drop, ◌+◌}
 use Rattle.n2k_run.specs.Blocks.{Held}
 use Rattle.n2k_run.proofs.Ranges.{range_drop}
 use Rattle.n2k_run.proofs.blocks.Blocks.answer.Goals as goal

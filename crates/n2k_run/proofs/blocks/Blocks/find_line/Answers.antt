@@ -1,7 +1,6 @@
-use Rattle.std.proofs.Common.{◌≡◌, refl, sym, ap, ◌∙◌, subst}
+use Rattle.std.proofs.Common.{refl, sym, ◌∙◌, subst}
 use Rattle.std.proofs.lemmas.Result.{err_from_is_err_and}
 use Rattle.n2k_run.specs.Blocks.{Held, HasNoFeed}
-use Rattle.n2k_run.specs.Inner.Block.{Reads}
 use Rattle.n2k_run.proofs.Feeds.{feed_or_none}
 use Rattle.n2k_run.proofs.Finding.{reads_none, reads_round, found_line, found_none}
 use Rattle.n2k_run.proofs.blocks.Blocks.find_line.Goals as goal

@@ -1,4 +1,4 @@
-use Rattle.std.proofs.Common.{refl, sym, ap, ◌∙◌}
+use Rattle.std.proofs.Common.{refl}
 use Rattle.std.proofs.lemmas.Result.{err_from_is_err_and}
 use Rattle.n2k_run.proofs.Answering.{answers_known, answers_line, answers_long, answers_failed}
 use Rattle.n2k_run.proofs.blocks.Blocks.next_line.Goals as goal

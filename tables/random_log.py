@@ -1,0 +1,67 @@
+#!/usr/bin/env python3
+"""Prints a log of frames over a whole table, for trials: each definition in turn, random fields, eight senders mixed.
+
+    tables/random_log.py TABLE SEED LINES
+
+All messages are whole. The same words print the same log (Python 3.11 or newer).
+"""
+import collections
+import random
+import sys
+import tomllib
+
+
+def data_of(definition, rng):
+    """The bytes that its fields take, a single frame eight: random, but for the match fields."""
+    bits = max((f["at"] + f["bits"] for f in definition["fields"]), default=8)
+    size = 8 if definition["kind"] == "single" else (bits + 7) // 8
+    data = rng.getrandbits(8 * size)
+    for f in definition["fields"]:
+        if "match" in f:
+            data &= ~(((1 << f["bits"]) - 1) << f["at"])
+            data |= f["match"] << f["at"]
+    return data.to_bytes(size, "little")
+
+
+def frames_of(definition, data, sequence):
+    if definition["kind"] == "single":
+        return [data]
+    data = bytes([len(data)]) + data
+    starts = range(0, len(data), 7)
+    return [(bytes([sequence << 5 | i]) + data[at:at + 7]).ljust(8, b"\xff") for i, at in enumerate(starts)]
+
+
+def main(table, seed, lines):
+    rng = random.Random(int(seed))
+    with open(table, "rb") as file:
+        definitions = tomllib.load(file)["pgn"]
+    waiting = [collections.deque() for _ in range(8)]  # the frames that each sender has yet to send
+    sequences = collections.Counter()
+    turn, left = [], int(lines)
+    while left > 0:
+        sender = rng.randrange(8)
+        if not waiting[sender]:
+            turn = turn or rng.sample(definitions, len(definitions))
+            definition = turn.pop()
+            # A PGN that goes to one address has format (its second byte) below 240 and the address in its low byte.
+            address = rng.randrange(256) if definition["number"] >> 8 & 255 < 240 else 0
+            identifier = rng.randrange(8) << 26 | definition["number"] << 8 | address << 8 | sender
+            frames = frames_of(definition, data_of(definition, rng), sequences[identifier & 0x3FFFFFF] % 8)
+            if len(frames) > left - sum(map(len, waiting)):  # no line for it: the others first, then shorter ones
+                if any(waiting):
+                    sender = rng.choice([s for s in range(8) if waiting[s]])
+                else:
+                    continue
+            else:
+                sequences[identifier & 0x3FFFFFF] += 1
+                waiting[sender].extend((identifier, frame) for frame in frames)
+        identifier, frame = waiting[sender].popleft()
+        at = int(lines) - left
+        print(f"({1751608800 + at // 1000}.{at % 1000 * 1000:06}) can0 {identifier:08X}#{frame.hex().upper()}")
+        left -= 1
+
+
+if __name__ == "__main__":
+    if len(sys.argv) != 4:
+        sys.exit(__doc__)
+    main(*sys.argv[1:])
