@@ -1,5 +1,6 @@
 -- From what `clap` says of a parse to what the words ask for.
 use Rattle.std.proofs.Common.{◌≡◌, ◌∙◌, ◌⊎◌, List, [], Bool, cond, true, false, Option, Some, None, Result, Ok, Err, IfOk, IsErrOf, ap, sym, subst, refl, inl, inr, codes, true≢false}
+use Rattle.std.specs.Option.{option_map}
 use Rattle.std.specs.Str.{bytes_eq}
 use Rattle.clap.specs.Kinds.{HasKind}
 use Rattle.clap.specs.Words.{App, HasMatchesOf, IsAmong, Row, Text, fault_of, first_of, is_simple, is_simple_and_free, subcommand_of, subcommand_rows_of}
@@ -11,7 +12,7 @@ use Rattle.clap.proofs.OnLiterals.{clap_on_literals}
 use Rattle.n2kdec.specs.declared.fault.Fault.{Fault}
 use Rattle.n2kdec.specs.declared.fault.Fault.TheVariants as fault
 use Rattle.n2kdec.specs.declared.word.Words.{Words}
-use Rattle.n2kdec.specs.declared.word.Words.TheVariants.{Plain, Decode, Help}
+use Rattle.n2kdec.specs.declared.word.Words.TheVariants.{Help}
 use Rattle.n2kdec.specs.Usage.{program_app}
 use Rattle.n2kdec.specs.Words.{AnswersKind, IsAskedBy, IsRefused, Names, decode_words, named, plain_words, words_of}
 
@@ -34,14 +35,13 @@ pub fails_as_defined : (app : App) (words : List Text) (e : Error) → app ≡ p
 fails_as_defined app words e is fails = subst (λ (a : App). HasKind (fault_of a words) e) is (fails (ap is_simple_and_free is ∙ program_is_free))
 
 abbrev is_help : Option Words → Bool
-is_help None = false
-is_help (Some (Plain log)) = false
-is_help (Some (Decode table log)) = false
 is_help (Some (Help text)) = true
+is_help _ = false
 
-decode_is_no_help : (log table : Option Text) → is_help (Rattle.std.specs.Option.option_map (λ t. Decode t log) table) ≡ false
-decode_is_no_help log None = refl
-decode_is_no_help log (Some t) = refl
+-- a subcommand's words are no help, whatever its table is
+mapped_is_no_help : (f : Text → Words) → ((t : Text) → is_help (Some (f t)) ≡ false) → (table : Option Text) → is_help (option_map f table) ≡ false
+mapped_is_no_help f none None = refl
+mapped_is_no_help f none (Some t) = none t
 
 -- no subcommand is help
 named_is_no_help : (rows : Option (Text × List Row)) → is_help (named rows) ≡ false
@@ -50,15 +50,14 @@ named_is_no_help (Some p) = go (bytes_eq p.0 (codes "plain")) (bytes_eq p.0 (cod
   where
     go : (is_plain is_decode : Bool) → is_help (cond is_plain (plain_words p.1) (cond is_decode (decode_words p.1) None)) ≡ false
     go true is_decode = refl
-    go false true = decode_is_no_help (first_of (codes "log") p.1) (first_of (codes "table") p.1)
+    go false true = mapped_is_no_help _ (λ t. refl) (first_of (codes "table") p.1)
     go false false = refl
 
 -- the matches are those of the definition, so what is named in them is what the words name
 pub asked_by_matches : (words : List Text) (rows : Option (Text × List Row)) (r : Result Words Fault) → rows ≡ subcommand_of program_app words → fault_of program_app words ≡ [] → Names (named rows) r → IfOk r (IsAskedBy words)
 unfolding words_of
-asked_by_matches words rows (Ok (Plain log)) same none names = (none, sym (ap named same) ∙ names)
-asked_by_matches words rows (Ok (Decode table log)) same none names = (none, sym (ap named same) ∙ names)
 asked_by_matches words rows (Ok (Help text)) same none names = absurd (true≢false (sym (ap is_help names) ∙ named_is_no_help rows))
+asked_by_matches words rows (Ok command) same none names = (none, sym (ap named same) ∙ names)
 asked_by_matches words rows (Err e) same none names = tt
 
 pub refused_by_matches : (words : List Text) (rows : Option (Text × List Row)) (r : Result Words Fault) → rows ≡ subcommand_of program_app words → Names (named rows) r → IsErrOf r fault.Words → IsRefused words
@@ -71,10 +70,9 @@ named_by_matches words rows r same names = subst (λ x. Names (named x) r) same 
 
 -- the parse failed, by a kind among those of the definition, or for want of memory
 pub asked_by_kind : (words : List Text) (kind : ErrorKind) (r : Result Words Fault) → (kind ≡ OutOfMemory) ⊎ IsAmong kind (fault_of program_app words) → AnswersKind kind r → IfOk r (IsAskedBy words)
-asked_by_kind words kind (Ok (Plain log)) fails answers = absurd answers
-asked_by_kind words kind (Ok (Decode table log)) fails answers = absurd answers
 asked_by_kind words kind (Ok (Help text)) (inl memory) answers = let bad : DisplayHelp ≡ OutOfMemory = sym answers ∙ memory in cc
 asked_by_kind words kind (Ok (Help text)) (inr among) answers = subst (λ k. IsAmong k (fault_of program_app words)) answers among
+asked_by_kind words kind (Ok command) fails answers = absurd answers
 asked_by_kind words kind (Err e) fails answers = tt
 
 refusal_kind : (words : List Text) (kind : ErrorKind) → (kind ≡ OutOfMemory) ⊎ IsAmong kind (fault_of program_app words) → AnswersKind kind (Err fault.Words) → IsRefused words

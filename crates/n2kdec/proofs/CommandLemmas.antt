@@ -1,26 +1,24 @@
--- From what a run and the summary leave to what a command leaves that a fault stopped.
-use Rattle.std.proofs.Common.{◌≡◌, ◌⊎◌, ◌<◌, ◌≤◌, ◌==◌, ◌∷◌, ◌++◌, ◌∙◌, ℕ, true, false, cond, List, [], length, length-append, arith, IfOk, OnOk, Option, Some, None, Ok, Err, Result, IfSome, IfErr, IsErrAnd, IsErrOf, OnErr, ap, sym, subst, refl, inl, inr, append_assoc}
-use Rattle.std.proofs.lemmas.List.{append-nil, length-map}
-use Rattle.std.proofs.KnownBytes.{Appends-trans}
+-- From what a run and the summary leave to what a command leaves.
+use Rattle.std.proofs.Common.{◌≡◌, ◌⊎◌, ◌≤◌, ◌==◌, ◌++◌, Bool, true, false, cond, arith, MatchResult, ◌∙◌, ℕ, List, [], Option, Some, None, Ok, Err, Result, IfOk, IfSome, IfErr, IsErrAnd, IsErrOf, OnErr, OnOk, ap, sym, subst, refl, inl, inr, append_assoc, append-nil}
+use Rattle.std.proofs.KnownBytes.{Appends-nil, Appends-trans}
 use Rattle.std.specs.Io.KnownBytes.{Appends}
-use Rattle.n2k_join.specs.Counts.{most_lines}
-use Rattle.n2k_join.specs.declared.counts.Counts.{Counts}
-use Rattle.n2k_run.specs.Device.{HasFailed}
-use Rattle.n2k_run.specs.Decoded.{out, output_after, reports}
-use Rattle.n2k_run.specs.Entries.{entries}
-use Rattle.n2k_run.specs.Lines.{lines, whole_lines}
-use Rattle.n2k_run.specs.Plain.{plain_output}
-use Rattle.n2k_run.specs.Runs.{Devices, IsFull, IsWhole, NoneFailed, Output, Runs}
 use Rattle.n2k_wire.specs.declared.entry.Entry.{Entry}
-use Rattle.n2k_wire.specs.Entry.{entry}
+use Rattle.n2k_join.specs.declared.counts.Counts.{Counts}
+use Rattle.n2k_join.specs.State.{State, state}
+use Rattle.n2k_run.specs.Device.{HasFailed}
+use Rattle.n2k_run.specs.Entries.{entries}
 use Rattle.n2k_run.specs.Reports.{summary_text}
 use Rattle.n2k_run.specs.Writing.{AppendsFront}
+use Rattle.n2k_run.specs.Plain.{plain_output}
+use Rattle.n2k_run.specs.Runs.{Devices, Gained, ReportsFirst, Runs}
+use Rattle.n2k_run.specs.Runs.{HasFronts as RunFronts}
 use Rattle.n2k_run.specs.declared.fault.RunFault.{RunFault}
 use Rattle.n2k_run.specs.declared.fault.RunFault.TheVariants as run
-use Rattle.n2k_table.specs.Table.{TableParts}
+use Rattle.n2k_run.specs.declared.options.Options.{Options}
+use Rattle.n2k_table.specs.Table.{TableParts, kind}
 use Rattle.n2k_table.specs.declared.fault.TableFault.{TableFault}
-use Rattle.n2kdec.specs.Commands.{HasCause, HasRead, IsDone, IsRefusedOrStopped, IsStopped, Texts, decode_texts, default_options, plain_texts}
-use Rattle.n2kdec.specs.Fault.{exit_status, fault_of_run}
+use Rattle.n2kdec.specs.Commands.{Command, HasFronts, HasTaken, IsDone, IsRefusedOrStopped, IsStopped, SumsUp, Tells, decode_command, entries_for, plain_command}
+use Rattle.n2kdec.specs.Fault.{exit_status, fault_of_run, stands_after}
 use Rattle.n2kdec.specs.declared.fault.Fault.{Fault}
 use Rattle.n2kdec.specs.declared.fault.Fault.TheVariants.{Table, Read, Write, Report, Memory, Lines}
 
@@ -35,7 +33,10 @@ front_on old new text more front = (
   },
 )
 
-front_whole : (old new : Option (List ℕ)) (text : List ℕ) → Appends old new text → AppendsFront old new text
+pub front_none : (old : Option (List ℕ)) (text : List ℕ) → AppendsFront old old text
+front_none old text = (text, record { front = []; appended = Appends-nil old; still = refl })
+
+pub front_whole : (old new : Option (List ℕ)) (text : List ℕ) → Appends old new text → AppendsFront old new text
 front_whole old new text all = ([], record { front = text; appended = all; still = sym (append-nil text) })
 
 -- a text, and then a front of another
@@ -57,112 +58,156 @@ if_both : {A : Type 0} (P Q S : A → Type 0) (o : Option A) → ((a : A) → P 
 if_both P Q S None both p q = tt
 if_both P Q S (Some a) both p q = both a p q
 
--- a status is 0 or 1
-small : (c : Counts) → exit_status c ≤ 1
-small c = elim (c.bad == 0) as (λ b. cond b 0 1 ≤ 1) [ true ↦ omega arith | false ↦ omega arith ]
+-- a text follows what was written first
+more_after : (old mid new : Option (List ℕ)) (text more : List ℕ) → (rest : List ℕ) × Appends old mid (text ++ rest) → Appends mid new more → (rest : List ℕ) × Appends old new (text ++ rest)
+more_after old mid new text more first then = (
+  first.0 ++ more,
+  subst (λ t. Appends old new t) (append_assoc text first.0 more) (Appends-trans old mid new (text ++ first.0) more first.1 then),
+)
 
--- an output that a run makes is what a command prints and reports, from the first line on
-pub record Says (o : Output) (texts : Texts) : Type 0 where
-  pub printed : (log : List ℕ) → o.texts (entries o.packing log) ≡ texts.printed log
-  pub reported : (log : List ℕ) → o.reports (entries o.packing log) ≡ texts.reported log
-  pub first : o.counted ≡ 0
+few : (counts : Counts) → exit_status counts ≤ 1
+few counts = go (counts.bad == 0)
+  where
+    go : (b : Bool) → cond b 0 1 ≤ 1
+    go true = omega arith
+    go false = omega arith
 
-module _ (o : Output) (texts : Texts) (says : Says o texts) (stands : List Entry → Type 0) (before after : Devices) where
-  too_many : IsFull o stands before after → IfSome before.left (λ log. most_lines < length (lines log))
-  too_many full = if_some _ _ before.left (λ log more. omega (arith, says.first, full.full, ap length more.2, length-append full.taken (more.0 ∷ more.1), length-map (lines log) (λ line. entry line o.packing))) full.left
+-- a run ended, by which the devices stood so but for the errors, and then a summary of counts was written, or a front of it
+module _ (c : Command) (stands : List Entry → Type 0) (before after : Devices) (errors : Option (List ℕ)) (failed : ℕ) where
+  abbrev mid : Devices
+  mid = record after { reported = errors; failed_reports = failed }
 
-  -- the cause of a run's fault
-  run_cause : {T : Type 0} (f : RunFault) → Runs {T = T} o stands before after (Err f) → HasCause before after (fault_of_run f)
-  run_cause run.Read runs = runs.device
-  run_cause run.Write runs = runs.device
-  run_cause run.Report runs = runs.device
-  run_cause run.Memory runs = tt
-  run_cause run.TooManyLines runs = too_many runs.ends
+  -- what follows the fault of a run: the summary of the lines that it has taken, or nothing
+  abbrev pub Follows : RunFault → Type 0
+  Follows run.Read = (es : List Entry) → stands es → SumsUp c.sums_up_a_part errors after.reported (summary_text (c.counts es))
+  Follows run.TooManyLines = (es : List Entry) → stands es → SumsUp c.sums_up_a_part errors after.reported (summary_text (c.counts es))
+  Follows run.Write = (errors ≡ after.reported) × (failed ≡ after.failed_reports)
+  Follows run.Report = (errors ≡ after.reported) × (failed ≡ after.failed_reports)
+  Follows run.Memory = (errors ≡ after.reported) × (failed ≡ after.failed_reports)
 
-  run_read : {T : Type 0} (f : RunFault) → Runs {T = T} o stands before after (Err f) → fault_of_run f ≡ Read → HasRead texts before after
-  run_read run.Read runs is = record {
-    came = runs.ends.came;
-    consumed = runs.ends.given;
-    text = subst (λ t. Appends before.written after.written t) (says.printed (whole_lines runs.ends.came)) runs.ends.gained.printed;
-    report = subst (λ t. Appends before.reported after.reported t) (says.reported (whole_lines runs.ends.came)) runs.ends.gained.reported;
-  }
-  run_read run.Write runs is = let bad : Write ≡ Read = is in cc
-  run_read run.Report runs is = let bad : Report ≡ Read = is in cc
-  run_read run.Memory runs is = let bad : Memory ≡ Read = is in cc
-  run_read run.TooManyLines runs is = let bad : Lines ≡ Read = is in cc
+  taken : (es : List Entry) → Gained c.output before mid es → SumsUp c.sums_up_a_part errors after.reported (summary_text (c.counts es)) → HasTaken c before after es
+  taken es gained summary = record { errors = errors; text = gained.printed; report = gained.reported; summary = summary }
 
-  if_err : (P : Fault → Type 0) (r : Result ℕ Fault) (fault : Fault) → IsErrAnd r (λ e. e ≡ fault) → P fault → IfErr r P
-  if_err P (Ok status) fault is p = tt
-  if_err P (Err e) fault is p = subst P (sym is) p
+  fronts : errors ≡ after.reported → IfSome before.left (RunFronts c.output before mid) → IfSome before.left (HasFronts c before after)
+  fronts same ran = if_some _ _ before.left (λ log front. record {
+    text = front.printed;
+    report = front_on before.reported after.reported (c.output.reports (entries_for c log)) (summary_text (c.counts (entries_for c log)))
+        (subst (λ e. AppendsFront before.reported e (c.output.reports (entries_for c log))) same front.reported);
+  }) ran
 
-  -- a run's fault stops a command
-  pub stopped_by_run : {T : Type 0} (f : RunFault) (r : Result ℕ Fault) → IsErrAnd r (λ fault. fault ≡ fault_of_run f) → Runs {T = T} o stands before after (Err f) → IfErr r (IsStopped texts before after)
-  stopped_by_run f r is runs = if_err _ r (fault_of_run f) is (record {
-    cause = run_cause f runs;
-    text = if_some _ _ before.left (λ log fronts. subst (λ t. AppendsFront before.written after.written t) (says.printed log) fronts.printed) runs.fronts;
-    report = if_some _ _ before.left (λ log fronts. front_on before.reported after.reported (texts.reported log) (summary_text (texts.counted log)) (subst (λ t. AppendsFront before.reported after.reported t) (says.reported log) fronts.reported)) runs.fronts;
-    read = run_read f runs;
+  tells : {T : Type 0} (f : RunFault) → Runs {T = T} c.output stands before mid (Err f) → Follows f → Tells c before after (fault_of_run f)
+  tells run.Read ran follows = (ran.device, record { came = ran.ends.came; given = ran.ends.given; taken = taken _ ran.ends.gained (follows _ ran.ends.holds) })
+  tells run.TooManyLines ran follows = record { lines = ran.ends.taken; full = ran.ends.full; more = ran.ends.left; taken = taken _ ran.ends.gained (follows _ ran.ends.holds) }
+  tells run.Write ran follows = (ran.device, fronts follows.0 ran.fronts)
+  tells run.Report ran follows = (subst (λ n. HasFailed before.failed_reports n) follows.1 ran.device, fronts follows.0 ran.fronts)
+  tells run.Memory ran follows = fronts follows.0 ran.fronts
+
+  still_first : (more : List ℕ) → Appends errors after.reported more → IfSome before.left (ReportsFirst c.output before mid) → IfSome before.left (ReportsFirst c.output before after)
+  still_first more written = if_some _ _ before.left (λ log first. record {
+    taken = first.taken;
+    left = first.left;
+    lines_taken = first.lines_taken;
+    printed = first.printed;
+    reported = more_after before.reported errors after.reported (c.output.reports first.taken) more first.reported written;
   })
 
-module _ (o : Output) (texts : Texts) (says : Says o texts) (stands : List Entry → Type 0) (before mid : Devices) (counts : Counts) (whole : IsWhole o stands before mid) (none : NoneFailed before mid) (counted : (log : List ℕ) → stands (entries o.packing log) → counts ≡ texts.counted log) (errors : Option (List ℕ)) (failed : ℕ) where
-  abbrev after : Devices
-  after = record mid { reported = errors; failed_reports = failed }
+  -- a run's fault stops a command
+  pub stopped_by_run : {T : Type 0} (f : RunFault) → Runs {T = T} c.output stands before mid (Err f) → Follows f → (more : List ℕ) → Appends errors after.reported more
+      → IsStopped c before after (fault_of_run f)
+  stopped_by_run f ran follows more written = record { tells = tells f ran follows; reports_first = still_first more written ran.reports_first }
 
-  printed : IfSome before.left (λ log. Appends before.written after.written (texts.printed log))
-  printed = if_some _ _ before.left (λ log g. subst (λ t. Appends before.written mid.written t) (says.printed log) g.printed) whole.gained
+  module _ (counts : Counts) where
+    done : {T : Type 0} (x : T) → Runs {T = T} c.output stands before mid (Ok x)
+        → IfSome before.left (λ log. counts ≡ c.counts (entries_for c log))
+        → Appends errors after.reported (summary_text counts) → after.failed_reports ≡ failed → (status : ℕ) → status ≡ exit_status counts → IsDone c before after status
+    done x ran counted written same status is = record {
+      text = if_some _ _ before.left (λ log gained. gained.printed) ran.ends.gained;
+      report = if_both _ _ _ before.left (λ log gained now. Appends-trans before.reported errors after.reported (c.output.reports (entries_for c log)) (summary_text (c.counts (entries_for c log)))
+          gained.reported (subst (λ n. Appends errors after.reported (summary_text n)) now written)) ran.ends.gained counted;
+      status = if_some _ _ before.left (λ log now. is ∙ ap exit_status now) counted;
+      end = subst (λ n. n ≤ 1) (sym is) (few counts);
+      none_failed = record { reads = ran.device.reads; writes = ran.device.writes; reports = same ∙ ran.device.reports };
+    }
 
-  reported : IfSome before.left (λ log. Appends before.reported mid.reported (texts.reported log))
-  reported = if_some _ _ before.left (λ log g. subst (λ t. Appends before.reported mid.reported t) (says.reported log) g.reported) whole.gained
+    unsummed : {T : Type 0} (x : T) → Runs {T = T} c.output stands before mid (Ok x)
+        → IfSome before.left (λ log. counts ≡ c.counts (entries_for c log))
+        → AppendsFront errors after.reported (summary_text counts) → (fault : Fault) → (fault ≡ Report) ⊎ (fault ≡ Memory)
+        → (IsErrOf {T = ℕ} (Err fault) Report → HasFailed failed after.failed_reports) → IsStopped c before after fault
+    unsummed x ran counted front fault which report = record { tells = told which; reports_first = still_first front.1.front front.1.appended ran.reports_first }
+      where
+        written : IfSome before.left (HasFronts c before after)
+        written = if_both _ _ _ before.left (λ log gained now. record {
+          text = front_whole before.written after.written (c.output.texts (entries_for c log)) gained.printed;
+          report = front_after before.reported errors after.reported (c.output.reports (entries_for c log)) (summary_text (c.counts (entries_for c log)))
+              gained.reported (subst (λ n. AppendsFront errors after.reported (summary_text n)) now front);
+        }) ran.ends.gained counted
 
-  counts_are : IfSome before.left (λ log. counts ≡ texts.counted log)
-  counts_are = if_some _ _ before.left counted whole.holds
+        told : (fault ≡ Report) ⊎ (fault ≡ Memory) → Tells c before after fault
+        told (inl is) = subst (Tells c before after) (sym is) (subst (λ n. HasFailed n after.failed_reports) ran.device.reports (report (ap Err is)), written)
+        told (inr is) = subst (Tells c before after) (sym is) written
 
-  -- a command whose run and summary came to their end
-  pub done_by_summary : (r : Result ℕ Fault) → OnOk r (Appends mid.reported errors (summary_text counts)) → OnOk r (failed ≡ mid.failed_reports) → IfOk r (λ status. status ≡ exit_status counts) → IfOk r (IsDone texts before after)
-  done_by_summary (Err fault) written none_failed status = tt
-  done_by_summary (Ok answer) written none_failed status = record {
-    text = printed;
-    report = if_both _ _ _ before.left (λ log all is. subst (λ c. Appends before.reported errors (texts.reported log ++ summary_text c)) is (Appends-trans before.reported mid.reported errors (texts.reported log) (summary_text counts) all written)) reported counts_are;
-    status = if_some _ _ before.left (λ log is. status ∙ ap exit_status is) counts_are;
-    end = subst (λ n. n ≤ 1) (sym status) (small counts);
-    none_failed = (none.reads, none.writes, none_failed ∙ none.reports);
-  }
+    pub ended_by_summary : {T : Type 0} (x : T) (r : Result ℕ Fault) → Runs {T = T} c.output stands before mid (Ok x)
+        → IfSome before.left (λ log. counts ≡ c.counts (entries_for c log))
+        → OnOk r (Appends errors after.reported (summary_text counts))
+        → AppendsFront errors after.reported (summary_text counts)
+        → OnOk r (after.failed_reports ≡ failed)
+        → IfOk r (λ status. status ≡ exit_status counts)
+        → IfErr r (λ fault. (fault ≡ Report) ⊎ (fault ≡ Memory))
+        → (IsErrOf r Report → HasFailed failed after.failed_reports)
+        → MatchResult r (IsDone c before after) (IsStopped c before after)
+    ended_by_summary x (Ok status) ran counted written front same is which report = done x ran counted written same status is
+    ended_by_summary x (Err fault) ran counted written front same is which report = unsummed x ran counted front fault which report
 
-  -- a summary that isn't written stops a command whose run came to its end
-  pub stopped_by_summary : (r : Result ℕ Fault) → OnErr r (AppendsFront mid.reported errors (summary_text counts)) → IfErr r (λ fault. (fault ≡ Report) ⊎ (fault ≡ Memory)) → (IsErrOf r Report → HasFailed mid.failed_reports failed) → IfErr r (IsStopped texts before after)
-  stopped_by_summary (Ok status) front which report = tt
-  stopped_by_summary (Err fault) front which report = record {
-    cause = cause fault which report;
-    text = if_some _ _ before.left (λ log. front_whole before.written mid.written (texts.printed log)) printed;
-    report = if_both _ _ _ before.left (λ log all is. front_after before.reported mid.reported errors (texts.reported log) (summary_text (texts.counted log)) all
-        (subst (λ c. AppendsFront mid.reported errors (summary_text c)) is front)) reported counts_are;
-    read = λ is. no_read fault which is;
-  }
-    where
-      cause : (f : Fault) → (f ≡ Report) ⊎ (f ≡ Memory) → (IsErrOf {T = ℕ} (Err f) Report → HasFailed mid.failed_reports failed) → HasCause before after f
-      cause f (inl is) failing = subst (λ g. HasCause before after g) (sym is) (subst (λ n. HasFailed n failed) none.reports (failing (ap Err is)))
-      cause f (inr is) failing = subst (λ g. HasCause before after g) (sym is) tt
-
-      no_read : (f : Fault) → (f ≡ Report) ⊎ (f ≡ Memory) → f ≡ Read → HasRead texts before after
-      no_read f (inl is) read = let bad : Report ≡ Read = sym is ∙ read in cc
-      no_read f (inr is) read = let bad : Memory ≡ Read = sym is ∙ read in cc
-
--- a command whose table is read, and is the one that its bytes spell, is stopped past it
-pub stopped_past_table : (found : List TableFault) (t read : TableParts) (before after : Devices) (r : Result ℕ Fault) → (found ≡ []) × (read ≡ t)
-    → IfErr r (IsStopped (decode_texts read default_options) before after) → IfErr r (IsRefusedOrStopped found (decode_texts t default_options) before after)
-stopped_past_table found t read before after (Ok status) sound stopped = tt
-stopped_past_table found t read before after (Err fault) sound stopped = go fault (subst (λ u. IsStopped (decode_texts u default_options) before after fault) sound.1 stopped)
+-- nothing follows a run of `plain` that a fault ended
+pub ended_by_run : (before after : Devices) (stands : List Entry → Type 0) {T : Type 0} (f : RunFault) (r : Result ℕ Fault) → IsErrAnd r (λ fault. fault ≡ fault_of_run f)
+    → Runs {T = T} plain_output stands before after (Err f) → MatchResult r (IsDone plain_command before after) (IsStopped plain_command before after)
+ended_by_run before after stands f (Ok status) is ran = absurd is
+ended_by_run before after stands f (Err fault) is ran = subst (IsStopped plain_command before after) (sym is)
+    (stopped_by_run plain_command stands before after after.reported after.failed_reports f ran (nothing f) [] (Appends-nil after.reported))
   where
-    go : (f : Fault) → IsStopped (decode_texts t default_options) before after f → IsRefusedOrStopped found (decode_texts t default_options) before after f
-    go (Table refused) s = absurd s.cause
+    nothing : (f : RunFault) → Follows plain_command stands before after after.reported after.failed_reports f
+    nothing run.Read = λ es is. refl
+    nothing run.TooManyLines = λ es is. refl
+    nothing run.Write = (refl, refl)
+    nothing run.Report = (refl, refl)
+    nothing run.Memory = (refl, refl)
+
+-- the summary of what a join has counted follows a run of `decode` that stands after whole lines
+pub stopped_and_summed : (t : TableParts) (options : Options) (stands : List Entry → Type 0) (before after : Devices) (errors : Option (List ℕ)) (failed : ℕ) (counted : Counts) {T : Type 0} (f : RunFault)
+    → Runs {T = T} (decode_command t options).output stands before (record after { reported = errors; failed_reports = failed }) (Err f)
+    → ((es : List Entry) → stands es → counted ≡ (decode_command t options).counts es)
+    → AppendsFront errors after.reported (summary_text counted)
+    → (stands_after f ≡ false → (errors ≡ after.reported) × (failed ≡ after.failed_reports))
+    → IsStopped (decode_command t options) before after (fault_of_run f)
+stopped_and_summed t options stands before after errors failed counted f ran counts front kept =
+    stopped_by_run (decode_command t options) stands before after errors failed f ran (go f kept) front.1.front front.1.appended
+  where
+    summed : (es : List Entry) → stands es → AppendsFront errors after.reported (summary_text ((decode_command t options).counts es))
+    summed es is = subst (λ n. AppendsFront errors after.reported (summary_text n)) (counts es is) front
+
+    go : (f : RunFault) → (stands_after f ≡ false → (errors ≡ after.reported) × (failed ≡ after.failed_reports)) → Follows (decode_command t options) stands before after errors failed f
+    go run.Read kept = summed
+    go run.TooManyLines kept = summed
+    go run.Write kept = kept refl
+    go run.Report kept = kept refl
+    go run.Memory kept = kept refl
+
+-- a join that stands after a log's entries has counted them
+pub counted_by_join : (t : TableParts) (options : Options) (left : Option (List ℕ)) (join : State) (counted : Counts) → counted ≡ join.counts
+    → IfSome left (λ log. join ≡ state t.id (kind t) ([] ++ entries options.packing log)) → IfSome left (λ log. counted ≡ (decode_command t options).counts (entries options.packing log))
+counted_by_join t options left join counted is at = if_some _ _ left (λ log same. is ∙ ap (λ (s : State). s.counts) same) at
+
+-- a command whose table is read, and is the one that its bytes spell, ends past it
+pub stopped_past_table : (found : List TableFault) (t read : TableParts) (options : Options) (before after : Devices) (fault : Fault) → (found ≡ []) × (read ≡ t)
+    → IsStopped (decode_command read options) before after fault → IsRefusedOrStopped found (decode_command t options) before after fault
+stopped_past_table found t read options before after fault sound stopped = go fault (subst (λ u. IsStopped (decode_command u options) before after fault) sound.1 stopped)
+  where
+    go : (f : Fault) → IsStopped (decode_command t options) before after f → IsRefusedOrStopped found (decode_command t options) before after f
+    go (Table refused) s = absurd s.tells
     go f s = (sound.0, s)
 
-pub done_past_table : (t read : TableParts) (before after : Devices) (r : Result ℕ Fault) → read ≡ t → IfOk r (IsDone (decode_texts read default_options) before after) → IfOk r (IsDone (decode_texts t default_options) before after)
-done_past_table t read before after r is done = subst (λ u. IfOk r (IsDone (decode_texts u default_options) before after)) is done
-
-pub plain_says : Says plain_output plain_texts
-plain_says = record { printed = λ log. refl; reported = λ log. refl; first = refl }
-
-pub decode_says : (t : TableParts) → Says (output_after t default_options []) (decode_texts t default_options)
-unfolding out reports
-decode_says t = record { printed = λ log. refl; reported = λ log. refl; first = refl }
+pub ended_past_table : (found : List TableFault) (t read : TableParts) (options : Options) (before after : Devices) (r : Result ℕ Fault) → (found ≡ []) × (read ≡ t)
+    → MatchResult r (IsDone (decode_command read options) before after) (IsStopped (decode_command read options) before after)
+    → MatchResult r (λ status. (found ≡ []) × IsDone (decode_command t options) before after status) (IsRefusedOrStopped found (decode_command t options) before after)
+ended_past_table found t read options before after (Ok status) sound done = (sound.0, subst (λ u. IsDone (decode_command u options) before after status) sound.1 done)
+ended_past_table found t read options before after (Err fault) sound stopped = stopped_past_table found t read options before after fault sound stopped

@@ -1,12 +1,17 @@
 -- The command line of the program, as `clap`'s contracts see a command:
 --     n2kdec plain [LOG]
---     n2kdec decode --table F [LOG]
-use Rattle.std.specs.Prelude.{true, Some, codes}
+--     n2kdec decode --table F [--empty] [--whole] [LOG]
+use Rattle.std.specs.Prelude.{List, ℕ, true, Some, codes}
 use Rattle.clap.specs.Words.{App, Rule, new_app, new_rule, with_rule, with_subcommand}
+use Rattle.clap.specs.declared.builder.action.ArgAction.TheVariants.{SetTrue}
 
 -- a positional that may be missing
 abbrev pub log_rule : Rule
 log_rule = record (new_rule (codes "log")) { value_names = 1 }
+
+-- an option without a value
+abbrev pub flag_rule : List ℕ → Rule
+flag_rule name = record (new_rule name) { long = Some name; action = Some SetTrue }
 
 abbrev pub table_rule : Rule
 table_rule = record (new_rule (codes "table")) {
@@ -15,11 +20,17 @@ table_rule = record (new_rule (codes "table")) {
   required = true;
 }
 
+abbrev pub empty_rule : Rule
+empty_rule = flag_rule (codes "empty")
+
+abbrev pub whole_rule : Rule
+whole_rule = flag_rule (codes "whole")
+
 abbrev pub plain_app : App
 plain_app = with_rule (new_app (codes "plain")) log_rule
 
 abbrev pub decode_app : App
-decode_app = with_rule (with_rule (new_app (codes "decode")) table_rule) log_rule
+decode_app = with_rule (with_rule (with_rule (with_rule (new_app (codes "decode")) table_rule) empty_rule) whole_rule) log_rule
 
 -- a command without its subcommands: one of them is required, and `help` is none
 abbrev pub program_top : App

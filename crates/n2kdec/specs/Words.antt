@@ -1,21 +1,30 @@
 -- What the words of a command line ask for, by the command's definition and `clap`'s reading of it.
-use Rattle.std.specs.Prelude.{◌≡◌, ◌≢◌, ◌⊎◌, List, [], Option, Some, None, Result, Ok, Err, if◌then◌else◌, codes, option_map}
+use Rattle.std.specs.Prelude.{◌≡◌, ◌≢◌, ◌⊎◌, List, [], Bool, false, Option, Some, None, Result, Ok, Err, if◌then◌else◌, codes, option_map}
+use Rattle.std.specs.Option.{option_map_or}
 use Rattle.std.specs.Str.{bytes_eq}
 use Rattle.clap.specs.Words.{IsAmong, Row, Text, fault_of, first_of, subcommand_of}
 use Rattle.clap.specs.declared.error.kind.ErrorKind.{ErrorKind}
 use Rattle.clap.specs.declared.error.kind.ErrorKind.TheVariants.{DisplayHelp, OutOfMemory}
+use Rattle.n2k_run.specs.declared.options.Options.{Options}
+use Rattle.n2k_wire.specs.declared.entry.Packing.TheVariants.{Frames, Whole}
 use Rattle.n2kdec.specs.declared.fault.Fault.{Fault}
 use Rattle.n2kdec.specs.declared.fault.Fault.TheVariants as fault
 use Rattle.n2kdec.specs.declared.word.Words.{Words}
 use Rattle.n2kdec.specs.declared.word.Words.TheVariants.{Plain, Decode, Help}
 use Rattle.n2kdec.specs.Usage.{program_app}
 
+-- whether a flag is among the words: `clap` gives it the value `true` then
+abbrev pub flag_of : Text → List Row → Bool
+flag_of id rows = option_map_or (λ value. bytes_eq value (codes "true")) (first_of id rows) false
+
 -- the values of a subcommand's words; `decode` has a table
 abbrev pub plain_words : List Row → Option Words
 plain_words rows = Some (Plain (first_of (codes "log") rows))
 
 abbrev pub decode_words : List Row → Option Words
-decode_words rows = option_map (λ table. Decode table (first_of (codes "log") rows)) (first_of (codes "table") rows)
+decode_words rows = option_map
+    (λ table. Decode table (flag_of (codes "empty") rows) (flag_of (codes "whole") rows) (first_of (codes "log") rows))
+    (first_of (codes "table") rows)
 
 -- the command of that name, with the values of its words
 abbrev pub named : Option (Text × List Row) → Option Words
@@ -42,9 +51,8 @@ IsNamedBy words command = (fault_of program_app words ≡ []) × (words_of words
 
 -- a command that is named without a fault, or the help that is asked for
 abbrev pub IsAskedBy : List Text → Words → Type 0
-IsAskedBy words (Plain log) = IsNamedBy words (Plain log)
-IsAskedBy words (Decode table log) = IsNamedBy words (Decode table log)
 IsAskedBy words (Help text) = IsAmong DisplayHelp (fault_of program_app words)
+IsAskedBy words command = IsNamedBy words command
 
 -- an answer on the command that was named, or on none
 abbrev pub Names : Option Words → Result Words Fault → Type 0
@@ -56,8 +64,11 @@ Names command (Err _) = ⊥
 -- an answer on a parse that failed
 abbrev pub AnswersKind : ErrorKind → Result Words Fault → Type 0
 AnswersKind kind (Ok (Help text)) = kind ≡ DisplayHelp
-AnswersKind kind (Ok (Plain log)) = ⊥
-AnswersKind kind (Ok (Decode table log)) = ⊥
+AnswersKind kind (Ok _) = ⊥
 AnswersKind kind (Err fault.Words) = (kind ≢ DisplayHelp) × (kind ≢ OutOfMemory)
 AnswersKind kind (Err fault.Memory) = Unit {0}
 AnswersKind kind (Err _) = ⊥
+
+-- the options that the words `--empty` and `--whole` stand for
+abbrev pub options_of : Bool → Bool → Options
+options_of empty whole = record { packing = if whole then Whole else Frames; empty = empty }

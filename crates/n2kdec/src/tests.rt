@@ -1,8 +1,9 @@
 use crate::commands::{decode, plain};
 use crate::fault::{Fault, exit_status, fault_text, status};
 use crate::words::words;
-use n2k_run::{Counts, MemorySink, MemorySource};
+use n2k_run::{Counts, MemorySink, MemorySource, Options};
 use n2k_table::TableFault;
+use n2k_wire::Packing;
 use std::alloc::{AllocError, Global};
 use std::test::Fail;
 
@@ -77,7 +78,7 @@ fn one_bad_line_gives_status_one(rt: HostRuntime) {
 
 #[test]
 fn words_name_a_command_and_its_files(rt: HostRuntime) -> Result<(), Fail> {
-    let asked: [(&[&str], &str); 6] = [
+    let asked: [(&[&str], &str); 8] = [
         (&["n2kdec", "plain"], "Plain { log: None }"),
         (
             &["n2kdec", "plain", "trip.log"],
@@ -89,15 +90,25 @@ fn words_name_a_command_and_its_files(rt: HostRuntime) -> Result<(), Fail> {
         ),
         (
             &["n2kdec", "decode", "--table", "boat.toml"],
-            "Decode { table: Word { text: \"boat.toml\" }, log: None }",
+            "Decode { table: Word { text: \"boat.toml\" }, empty: false, whole: false, log: None }",
         ),
         (
             &["n2kdec", "decode", "--table=boat.toml", "trip.log"],
-            "Decode { table: Word { text: \"boat.toml\" }, log: Some(Word { text: \"trip.log\" }) }",
+            "Decode { table: Word { text: \"boat.toml\" }, empty: false, whole: false, log: Some(Word { text: \"trip.log\" }) }",
         ),
         (
             &["n2kdec", "decode", "trip.log", "--table", "boat.toml"],
-            "Decode { table: Word { text: \"boat.toml\" }, log: Some(Word { text: \"trip.log\" }) }",
+            "Decode { table: Word { text: \"boat.toml\" }, empty: false, whole: false, log: Some(Word { text: \"trip.log\" }) }",
+        ),
+        (
+            &[
+                "n2kdec", "decode", "--whole", "--table", "t", "--empty", "l",
+            ],
+            "Decode { table: Word { text: \"t\" }, empty: true, whole: true, log: Some(Word { text: \"l\" }) }",
+        ),
+        (
+            &["n2kdec", "decode", "--table", "t", "--whole"],
+            "Decode { table: Word { text: \"t\" }, empty: false, whole: true, log: None }",
         ),
     ];
     for (given, command) in asked {
@@ -109,7 +120,7 @@ fn words_name_a_command_and_its_files(rt: HostRuntime) -> Result<(), Fail> {
 
 #[test]
 fn other_words_are_refused(rt: HostRuntime) {
-    let refused: [&[&str]; 13] = [
+    let refused: [&[&str]; 15] = [
         &[],
         &["n2kdec"],
         &["n2kdec", "print"],
@@ -123,6 +134,8 @@ fn other_words_are_refused(rt: HostRuntime) {
         &["n2kdec", "decode", "trip.log"],
         &["n2kdec", "decode", "--table"],
         &["n2kdec", "decode", "--table", "a", "--table", "b"],
+        &["n2kdec", "decode", "--table", "a", "--empty", "--empty"],
+        &["n2kdec", "decode", "--table", "a", "--empty=true"],
     ];
     for given in refused {
         let answer = words(rt.alloc(), given);
@@ -150,7 +163,16 @@ fn help_is_no_fault(rt: HostRuntime) -> Result<(), Fail> {
 
 const COG_AND_SOG: &[u8] = b"(1502979132.106111) can0 09F8027F#00FCFFFF0000FFFF\n";
 
+const FRAMES: Options = Options {
+    packing: Packing::Frames,
+    empty: false,
+};
+
 const SAMPLE: &[u8] = b"format = 1
+
+[[lookup]]
+name = \"Reference\"
+entries = [[0, \"True\"], [1, \"Magnetic\"], [2, \"Error\"]]
 
 [[pgn]]
 number = 129026
@@ -158,8 +180,28 @@ kind = \"single\"
 description = \"COG & SOG, Rapid Update\"
 fields = [
   { name = \"SID\", kind = \"number\", at = 0, bits = 8 },
+  { name = \"COG Reference\", kind = \"lookup\", at = 8, bits = 2, lookup = \"Reference\" },
   { name = \"COG\", kind = \"number\", at = 16, bits = 16, resolution = \"0.0001\" },
   { name = \"SOG\", kind = \"number\", at = 32, bits = 16, resolution = \"0.01\" },
+]
+
+[[pgn]]
+number = 127251
+kind = \"single\"
+description = \"Rate of Turn\"
+fields = [
+  { name = \"SID\", kind = \"number\", at = 0, bits = 8 },
+  { name = \"Rate\", kind = \"number\", at = 8, bits = 32, signed = true, resolution = \"0.00000003125\" },
+]
+
+[[pgn]]
+number = 130820
+kind = \"fast\"
+description = \"Sample: Label\"
+fields = [
+  { name = \"Maker\", kind = \"number\", at = 0, bits = 11, match = 419 },
+  { name = \"Kind\", kind = \"number\", at = 16, bits = 8 },
+  { name = \"Label\", kind = \"text\", at = 24, bits = 64 },
 ]
 ";
 
@@ -236,6 +278,37 @@ lines 10 messages 3 bad 7 unknown 0 broken 0 open 0
 }
 
 #[test]
+fn a_fast_packet_among_bad_lines(rt: HostRuntime) -> Result<(), Fail> {
+    let alloc = rt.alloc();
+    let bytes = ten_lines(alloc)?;
+    let mut log = MemorySource::new(&bytes, 100, 0);
+    let (mut output, mut errors) = (
+        MemorySink::new(alloc, 100, 0),
+        MemorySink::new(alloc, 100, 0),
+    );
+    let status = decode(alloc, SAMPLE, FRAMES, &mut log, &mut output, &mut errors);
+    assert_eq!(rt; status, Ok(1));
+    let line = "{\"timestamp\":\"1970-01-01T00:00:10.400Z\",\"prio\":7,\"src\":5,\"dst\":255,\
+        \"pgn\":130820,\"description\":\"Sample: Label\",\"fields\":{\"Maker\":419,\"Kind\":1,\"Label\":\"ABC\"}}\n";
+    assert_eq!(rt; output.bytes(), line.as_bytes());
+    assert_eq!(rt;
+        errors.bytes(),
+        b"line 2 bad B1 long
+line 3 bad B6 data
+line 4 bad B4 identifier
+line 5 bad B6 data
+line 6 bad B7 fast
+line 8 bad B2 stamp
+line 9 bad B5 number
+line 10 bad B3 form
+lines 10 messages 1 bad 8 unknown 0 broken 0 open 0
+"
+            .as_slice()
+    );
+    Ok(())
+}
+
+#[test]
 fn decode_prints_messages_and_then_the_summary(rt: HostRuntime) -> Result<(), Fail> {
     let alloc = rt.alloc();
     let mut log = MemorySource::new(COG_AND_SOG, 100, 0);
@@ -243,10 +316,10 @@ fn decode_prints_messages_and_then_the_summary(rt: HostRuntime) -> Result<(), Fa
         MemorySink::new(alloc, 100, 0),
         MemorySink::new(alloc, 100, 0),
     );
-    let status = decode(alloc, SAMPLE, &mut log, &mut output, &mut errors);
+    let status = decode(alloc, SAMPLE, FRAMES, &mut log, &mut output, &mut errors);
     assert_eq!(rt; status, Ok(0));
     let line = "{\"timestamp\":\"2017-08-17T14:12:12.106Z\",\"prio\":2,\"src\":127,\"dst\":255,\
-        \"pgn\":129026,\"description\":\"COG & SOG, Rapid Update\",\"fields\":{\"SID\":0,\"SOG\":0.00}}\n";
+        \"pgn\":129026,\"description\":\"COG & SOG, Rapid Update\",\"fields\":{\"SID\":0,\"COG Reference\":\"True\",\"SOG\":0.00}}\n";
     assert_eq!(rt; output.bytes(), line.as_bytes());
     assert_eq!(rt;
         errors.bytes(),
@@ -263,7 +336,14 @@ fn a_refused_table_reads_no_log(rt: HostRuntime) -> Result<(), Fail> {
         MemorySink::new(alloc, 100, 0),
         MemorySink::new(alloc, 100, 0),
     );
-    let status = decode(alloc, b"format = 2", &mut log, &mut output, &mut errors);
+    let status = decode(
+        alloc,
+        b"format = 2",
+        FRAMES,
+        &mut log,
+        &mut output,
+        &mut errors,
+    );
     assert_eq!(rt; status, Err(Fault::Table(TableFault::Format)));
     assert_eq!(rt; output.bytes(), b"".as_slice());
     assert_eq!(rt; errors.bytes(), b"".as_slice());
@@ -279,15 +359,22 @@ fn devices_that_fail(rt: HostRuntime) -> Result<(), Fail> {
         MemorySink::new(alloc, 100, 0),
     );
     assert_eq!(rt;
-        decode(alloc, SAMPLE, &mut log, &mut output, &mut errors),
+        decode(alloc, SAMPLE, FRAMES, &mut log, &mut output, &mut errors),
         Err(Fault::Read)
     );
-    assert_eq!(rt; errors.bytes(), b"".as_slice());
+    // What was read is summed up.
+    assert_eq!(rt;
+        errors.bytes(),
+        b"lines 0 messages 0 bad 0 unknown 0 broken 0 open 0\n".as_slice()
+    );
 
     let mut log = MemorySource::new(COG_AND_SOG, 100, 0);
-    let mut output = MemorySink::new(alloc, 100, 1);
+    let (mut output, mut errors) = (
+        MemorySink::new(alloc, 100, 1),
+        MemorySink::new(alloc, 100, 0),
+    );
     assert_eq!(rt;
-        decode(alloc, SAMPLE, &mut log, &mut output, &mut errors),
+        decode(alloc, SAMPLE, FRAMES, &mut log, &mut output, &mut errors),
         Err(Fault::Write)
     );
     assert_eq!(rt; errors.bytes(), b"".as_slice());
@@ -299,7 +386,7 @@ fn devices_that_fail(rt: HostRuntime) -> Result<(), Fail> {
         MemorySink::new(alloc, 100, 1),
     );
     assert_eq!(rt;
-        decode(alloc, SAMPLE, &mut log, &mut output, &mut errors),
+        decode(alloc, SAMPLE, FRAMES, &mut log, &mut output, &mut errors),
         Err(Fault::Report)
     );
     assert_eq!(rt; errors.bytes(), b"".as_slice());

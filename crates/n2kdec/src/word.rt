@@ -45,10 +45,14 @@ pub enum Words {
         /// The file of the log; none is standard input.
         log: Option<Word>,
     },
-    /// `decode --table F [LOG]`
+    /// `decode --table F [--empty] [--whole] [LOG]`
     Decode {
         /// The file of the table.
         table: Word,
+        /// Absent fields are printed as `null`.
+        empty: bool,
+        /// Every plain line is a whole message.
+        whole: bool,
         /// The file of the log; none is standard input.
         log: Option<Word>,
     },

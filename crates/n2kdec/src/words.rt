@@ -3,7 +3,7 @@ ghost use Rattle.std.specs.Prelude.{◌≡◌, ◌⊎◌, true, IfOk, IfErr, IsE
 ghost use Rattle.clap.specs.Walk.{texts};
 ghost use Rattle.clap.specs.Words.{first_of, found_of, kind_of, rows_of, subcommand_rows_of, takes};
 ghost use Rattle.n2kdec.specs.Usage.{program_app};
-ghost use Rattle.n2kdec.specs.Words.{AnswersKind, IsAskedBy, IsRefused, Names, decode_words, named, plain_words, words_of};
+ghost use Rattle.n2kdec.specs.Words.{AnswersKind, IsAskedBy, IsRefused, Names, decode_words, flag_of, named, plain_words, words_of};
 
 use crate::fault::Fault;
 use crate::usage::program;
@@ -23,6 +23,17 @@ fn value_of(alloc: Global, matches: &ArgMatches<'_>, id: &str) -> Result<Option<
     }
 }
 
+// Whether a flag was given: `clap` gives it the value `true` then, and else `false`.
+#[tactic(auto, using(crate::proofs::Rows::value_of_rows))]
+fn flag_of(matches: &ArgMatches<'_>, id: &str) -> bool
+    ensures { result ≡ flag_of id.now (rows_of (found_of matches.now)) }
+{
+    match matches.get_str(id) {
+        Some(text) => text == "true",
+        None => false,
+    }
+}
+
 // The values of `plain`.
 fn plain_of(alloc: Global, matches: &ArgMatches<'_>) -> Result<Words, Fault>
     ensures { Names (plain_words (rows_of (found_of matches.now))) result }
@@ -35,11 +46,15 @@ fn plain_of(alloc: Global, matches: &ArgMatches<'_>) -> Result<Words, Fault>
 fn decode_of(alloc: Global, matches: &ArgMatches<'_>) -> Result<Words, Fault>
     ensures { Names (decode_words (rows_of (found_of matches.now))) result }
 {
-    let log = value_of(alloc, matches, "log")?;
-    match value_of(alloc, matches, "table")? {
-        Some(table) => Ok(Words::Decode { table, log }),
-        None => Err(Fault::Words),
-    }
+    let Some(table) = value_of(alloc, matches, "table")? else {
+        return Err(Fault::Words);
+    };
+    Ok(Words::Decode {
+        table,
+        empty: flag_of(matches, "empty"),
+        whole: flag_of(matches, "whole"),
+        log: value_of(alloc, matches, "log")?,
+    })
 }
 
 // The command that was named, with its values.
