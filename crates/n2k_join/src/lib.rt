@@ -4,6 +4,8 @@
 //!   the message that the line is or completes, why it is bad, and the group that it breaks (`Step`, `Broken`).
 //!   A line that can't be taken (`JoinFault`) leaves the join as it was.
 //! - `Join::counts` are the lines, messages, bad lines, unknown PGNs, broken and open groups so far (`Counts`).
+//! - `Join::save` writes the state of a join as text, and `Join::resume` goes on from one, or says why it is refused
+//!   (`StateFault`).
 //! - `Splitter::message` makes the frames of a message, under the sequence that its stream stands at, or refuses it
 //!   (`SplitFault`).
 //! - `laws` has what holds of the definitions.
