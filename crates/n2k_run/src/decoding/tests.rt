@@ -30,7 +30,7 @@ description = \"Sample: Label\"
 fields = [
   { name = \"Maker\", kind = \"number\", at = 0, bits = 11, match = 419 },
   { name = \"Kind\", kind = \"number\", at = 16, bits = 8 },
-  { name = \"Label\", kind = \"text\", at = 24, bits = 24 },
+  { name = \"Label\", kind = \"text\", at = 24, bits = 64 },
 ]
 ";
 
@@ -39,6 +39,7 @@ const FRAMES: Options = Options {
     empty: false,
 };
 
+#[derive(Drop)]
 struct Example {
     log: &'static [u8],
     text: &'static [u8],
@@ -46,7 +47,7 @@ struct Example {
     summary: &'static [u8],
 }
 
-const EXAMPLES: [Example; 4] = [
+const EXAMPLES: [Example; 10] = [
     // empty-log
     Example {
         log: b"",
@@ -79,6 +80,103 @@ const EXAMPLES: [Example; 4] = [
         reports: b"line 3 broken pgn 130820 src 5 dst 255 seq 3 first 1\n",
         summary: b"lines 5 messages 1 bad 0 unknown 0 broken 1 open 0\n",
     },
+    // frames-in-reverse
+    Example {
+        log: b"(11.0) can0 1DFF0405#4120202020202020
+(12.0) can0 1DFF0405#400DA39903444546
+",
+        text: b"{\"timestamp\":\"1970-01-01T00:00:12.000Z\",\"prio\":7,\"src\":5,\"dst\":255,\"pgn\":130820,\"description\":\"Sample: Label\",\"fields\":{\"Maker\":419,\"Kind\":3,\"Label\":\"DEF\"}}
+",
+        reports: b"",
+        summary: b"lines 2 messages 1 bad 0 unknown 0 broken 0 open 0\n",
+    },
+    // longest-message
+    Example {
+        log: b"(1.0) can0 1DFF0405#00DFA399054A4B4C
+(2.0) can0 1DFF0405#0120202020202020
+(3.0) can0 1DFF0405#0220202020202020
+(4.0) can0 1DFF0405#0320202020202020
+(5.0) can0 1DFF0405#0420202020202020
+(6.0) can0 1DFF0405#0520202020202020
+(7.0) can0 1DFF0405#0620202020202020
+(8.0) can0 1DFF0405#0720202020202020
+(9.0) can0 1DFF0405#0820202020202020
+(10.0) can0 1DFF0405#0920202020202020
+(11.0) can0 1DFF0405#0A20202020202020
+(12.0) can0 1DFF0405#0B20202020202020
+(13.0) can0 1DFF0405#0C20202020202020
+(14.0) can0 1DFF0405#0D20202020202020
+(15.0) can0 1DFF0405#0E20202020202020
+(16.0) can0 1DFF0405#0F20202020202020
+(17.0) can0 1DFF0405#1020202020202020
+(18.0) can0 1DFF0405#1120202020202020
+(19.0) can0 1DFF0405#1220202020202020
+(20.0) can0 1DFF0405#1320202020202020
+(21.0) can0 1DFF0405#1420202020202020
+(22.0) can0 1DFF0405#1520202020202020
+(23.0) can0 1DFF0405#1620202020202020
+(24.0) can0 1DFF0405#1720202020202020
+(25.0) can0 1DFF0405#1820202020202020
+(26.0) can0 1DFF0405#1920202020202020
+(27.0) can0 1DFF0405#1A20202020202020
+(28.0) can0 1DFF0405#1B20202020202020
+(29.0) can0 1DFF0405#1C20202020202020
+(30.0) can0 1DFF0405#1D20202020202020
+(31.0) can0 1DFF0405#1E20202020202020
+(32.0) can0 1DFF0405#1F20202020202020
+(33.0) can0 1DFF0405#00E0A399054A4B4C
+",
+        text: b"{\"timestamp\":\"1970-01-01T00:00:32.000Z\",\"prio\":7,\"src\":5,\"dst\":255,\"pgn\":130820,\"description\":\"Sample: Label\",\"fields\":{\"Maker\":419,\"Kind\":5,\"Label\":\"JKL\"}}
+",
+        reports: b"line 33 bad B7 fast
+",
+        summary: b"lines 33 messages 1 bad 1 unknown 0 broken 0 open 0\n",
+    },
+    // short-totals
+    Example {
+        log: b"(1.0) can0 1DFF0405#000BA39901414243
+(2.0) can0 1DFF0405#0006A39901414243
+",
+        text: b"{\"timestamp\":\"1970-01-01T00:00:02.000Z\",\"prio\":7,\"src\":5,\"dst\":255,\"pgn\":130820,\"description\":\"Sample: Label\",\"fields\":{\"Maker\":419,\"Kind\":1}}
+",
+        reports: b"line 2 broken pgn 130820 src 5 dst 255 seq 0 first 1
+",
+        summary: b"lines 2 messages 1 bad 0 unknown 0 broken 1 open 0\n",
+    },
+    // extra-frame
+    Example {
+        log: b"(1.0) can0 1DFF0405#800DA39906414243
+(2.0) can0 1DFF0405#8320202020202020
+(3.0) can0 1DFF0405#8120202020202020
+(4.0) can0 1DFF0405#800DA39906414243
+",
+        text: b"",
+        reports: b"line 4 broken pgn 130820 src 5 dst 255 seq 4 first 1
+",
+        summary: b"lines 4 messages 0 bad 0 unknown 0 broken 1 open 1\n",
+    },
+    // whole-among-frames
+    Example {
+        log: b"(10.000001) can0 1DFF0405#000BA39901414243
+2020-01-01T00:00:00.000Z,7,130820,5,255,9,07,98,01,41,42,43,44,45,46
+(10.300000) can0 1DFF0405#010000000000FFFF
+",
+        text: b"{\"timestamp\":\"2020-01-01T00:00:00.000Z\",\"prio\":7,\"src\":5,\"dst\":255,\"pgn\":130820,\"description\":\"Unmatched\",\"fields\":{\"Data\":\"07 98 01 41 42 43 44 45 46\"}}
+{\"timestamp\":\"1970-01-01T00:00:10.300Z\",\"prio\":7,\"src\":5,\"dst\":255,\"pgn\":130820,\"description\":\"Sample: Label\",\"fields\":{\"Maker\":419,\"Kind\":1,\"Label\":\"ABC\"}}
+",
+        reports: b"",
+        summary: b"lines 3 messages 2 bad 0 unknown 0 broken 0 open 0\n",
+    },
+    // mixed-message
+    Example {
+        log: b"(1.0) can0 1DFF0405#0141414141414141
+(9.0) can0 1DFF0405#000DA39903444546
+",
+        text: b"{\"timestamp\":\"1970-01-01T00:00:09.000Z\",\"prio\":7,\"src\":5,\"dst\":255,\"pgn\":130820,\"description\":\"Sample: Label\",\"fields\":{\"Maker\":419,\"Kind\":3,\"Label\":\"DEFAAAAA\"}}
+",
+        reports: b"",
+        summary: b"lines 2 messages 1 bad 0 unknown 0 broken 0 open 0\n",
+    },
     // an unknown PGN, and a frame of a fast packet without a byte
     Example {
         log: b"(1.0) can0 18EAFF01#14F001\n(10.3) can0 1DFF0405#\n",
@@ -91,13 +189,14 @@ const EXAMPLES: [Example; 4] = [
 fn decodes<R: Abort + AllocGlobal>(
     rt: &R,
     table: &Table,
+    log: &[u8],
     example: &Example,
     piece: usize,
 ) -> Result<(), Fail>
     requires { 0 < piece }
 {
     let mut join = Join::new(rt.alloc(), table);
-    let mut reader = MemorySource::new(example.log, piece, 0);
+    let mut reader = MemorySource::new(log, piece, 0);
     let mut writer = MemorySink::new(rt.alloc(), piece, 0);
     let mut reporter = MemorySink::new(rt.alloc(), piece, 0);
     run(
@@ -121,11 +220,52 @@ fn decodes<R: Abort + AllocGlobal>(
 fn worked_examples_in_pieces_of_1_of_7_and_all_bytes(rt: HostRuntime) -> Result<(), Fail> {
     let table = Table::read(rt.alloc(), TABLE)?;
     for example in &EXAMPLES {
-        decodes(&rt, &table, example, 1)?;
-        decodes(&rt, &table, example, 7)?;
-        decodes(&rt, &table, example, 100_000)?;
+        decodes(&rt, &table, example.log, example, 1)?;
+        decodes(&rt, &table, example.log, example, 7)?;
+        decodes(&rt, &table, example.log, example, 100_000)?;
     }
     Ok(())
+}
+
+// Ten lines, of which one gives a message; the second has 2,049 bytes.
+const TEN_LINES: Example = Example {
+    log: b"
+(10.1) can0 1DFF0405#010
+(10.2) can0 40000000#00
+2011-11-24-22:42:04.388,2,127251,36,255,3,7d,0b
+(10.3) can0 1DFF0405#
+(10.4) can0 1DFF0405#010000000000FFFF
+(10) can0 1DFF0405#00
+x,8,127251,36,255,0
+hello
+",
+    text: b"{\"timestamp\":\"1970-01-01T00:00:10.400Z\",\"prio\":7,\"src\":5,\"dst\":255,\"pgn\":130820,\"description\":\"Sample: Label\",\"fields\":{\"Maker\":419,\"Kind\":1,\"Label\":\"ABC\"}}
+",
+    reports: b"line 2 bad B1 long
+line 3 bad B6 data
+line 4 bad B4 identifier
+line 5 bad B6 data
+line 6 bad B7 fast
+line 8 bad B2 stamp
+line 9 bad B5 number
+line 10 bad B3 form
+",
+    summary: b"lines 10 messages 1 bad 8 unknown 0 broken 0 open 0\n",
+};
+
+#[test]
+fn ten_lines_eight_bad(rt: HostRuntime) -> Result<(), Fail> {
+    let table = Table::read(rt.alloc(), TABLE)?;
+    let mut log = Vec::new(rt.alloc());
+    log.extend_from_slice(b"(10.0) can0 1DFF0405#000BA39901414243\n")?;
+    let long = vec![in rt.alloc(); b'x'; 2049]?;
+    log.extend_from_slice(&long)?;
+    log.extend_from_slice(TEN_LINES.log)?;
+    decodes(&rt, &table, &log, &TEN_LINES, 1)?;
+    decodes(&rt, &table, &log, &TEN_LINES, 7)?;
+    decodes(&rt, &table, &log, &TEN_LINES, 4095)?;
+    decodes(&rt, &table, &log, &TEN_LINES, 4096)?;
+    decodes(&rt, &table, &log, &TEN_LINES, 100_000)
 }
 
 // Each printed line is one JSON text. That its members stand in their order the texts above show.
