@@ -30,6 +30,7 @@ pub mod SavedGroups
 pub mod SavedLists
 pub mod SavedPieces
 pub mod Splitting
+pub mod StateBound
 pub mod StateReads
 pub mod StateTests
 pub mod Steps

@@ -50,6 +50,13 @@ state_tree s = object (
 unfoldable pub state_text : State → List ℕ
 state_text s = compact_text (state_tree s)
 
+-- the most bytes that the text of a state has beside its open groups, and the most that each of them adds
+abbrev pub bare_bytes : ℕ
+bare_bytes = 300
+
+abbrev pub group_bytes : ℕ
+group_bytes = 800
+
 -- the id of a table: 32 bytes
 pub record IsId (id : List ℕ) : Type 0 where
   pub long : length id ≡ 32

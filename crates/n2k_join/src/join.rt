@@ -1,5 +1,5 @@
 //! The join: the open groups and the counts of a log, taken on line by line.
-ghost use Rattle.std.specs.Prelude.{◌≡◌, ◌+◌, ◌<◌, ◌↔◌, ℕ, [], IfOk, OnOk, OnErr, IsErrOf, true, is_some};
+ghost use Rattle.std.specs.Prelude.{◌≡◌, ◌+◌, ◌*◌, ◌≤◌, ◌<◌, ◌↔◌, ℕ, [], length, IfOk, OnOk, OnErr, IsErrOf, true, is_some};
 ghost use Rattle.n2k_table.specs.Table.{kind};
 ghost use Rattle.n2k_wire.specs.Entry.{IsShort, IsEntry};
 ghost use Rattle.n2k_wire.specs.Packet.{IsPacket, IsPacketParts};
@@ -7,7 +7,7 @@ ghost use Rattle.n2k_join.specs.Counts.{most_lines};
 ghost use Rattle.n2k_join.specs.State.{state, step_given, step_after, AreCounts, one_if};
 ghost use Rattle.n2k_join.specs.Refusal.{GivesOrMemory};
 ghost use Rattle.n2k_join.specs.Resumed.{is_valid, judged, state_of_parts, valid_if};
-ghost use Rattle.n2k_join.specs.Saved.{state_text};
+ghost use Rattle.n2k_join.specs.Saved.{state_text, bare_bytes, group_bytes};
 ghost use Rattle.n2k_join.specs.Step.{given_of, opens};
 
 use crate::counts::{Counts, MOST_LINES};
@@ -190,7 +190,8 @@ impl Join {
 
     /// The text of its state, from which `resume` goes on: JSON, as docs/PROFILE.md has it, without an LF.
     pub fn save(&self, alloc: Global) -> Result<Vec<u8>, AllocError>
-        ensures { IfOk result (λ text. text.items ≡ state_text self.now) }
+        ensures text { IfOk result (λ text. text.items ≡ state_text self.now) }
+        ensures bounded { IfOk result (λ text. length text.items ≤ bare_bytes + group_bytes * length self.now.groups) }
     {
         state_text(alloc, &self.id, &self.counts, &self.groups)
     }

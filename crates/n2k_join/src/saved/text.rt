@@ -4,7 +4,7 @@ ghost use Rattle.hex.specs.Hex.{encode_lower};
 ghost use Rattle.json.specs.Token.{Token};
 ghost use Rattle.n2k_join.specs.Groups.{carried};
 ghost use Rattle.n2k_join.specs.Open.{piece_at, pieces_of};
-ghost use Rattle.n2k_join.specs.Saved.{piece_tree, group_tree, state_tree, state_text};
+ghost use Rattle.n2k_join.specs.Saved.{piece_tree, group_tree, state_tree, state_text, IsId};
 ghost use Rattle.n2k_join.specs.SavedTokens.{Appends, tokens_of, count_tokens, piece_tokens, pieces_tokens, frames_tokens, key_tokens, groups_tokens, open_tokens, front_tokens, lines_tokens, table_tokens, back_tokens};
 ghost use Rattle.n2k_join.specs.State.{held_of};
 ghost use Rattle.n2k_join.specs.Stored.{key_of};
@@ -204,7 +204,8 @@ pub fn state_text(
     counts: &Counts,
     groups: &[StoredGroup],
 ) -> Result<Vec<u8>, AllocError>
-    ensures { IfOk result (λ text. text.items ≡ state_text (record { id = id.now; counts = counts.now; groups = groups.now })) }
+    ensures id { IsId id.now }
+    ensures text { IfOk result (λ text. text.items ≡ state_text (record { id = id.now; counts = counts.now; groups = groups.now })) }
 {
     let mut out = Writer::new(Vec::new(alloc));
     push_state(id, counts, groups, &mut out)?;
