@@ -1,5 +1,5 @@
 -- Hexadecimal digits are text.
-use Rattle.std.proofs.Common.{◌≡◌, ◌<◌, ℕ, Bool, true, ◌&&◌, nat_lt, List, [], ◌∷◌, refl, lit<}
+use Rattle.std.proofs.Common.{◌<◌, ℕ, List, [], ◌∷◌, lit<}
 use Rattle.std.proofs.lemmas.Str.{IsUtf8-from_ascii}
 use Rattle.std.proofs.lemmas.Str.Ascii.{IsAscii-nil, IsAscii-cons}
 use Rattle.std.specs.Str.{IsUtf8, IsAscii}

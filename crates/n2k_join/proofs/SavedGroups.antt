@@ -1,15 +1,15 @@
 -- Groups made of frames by rising number, as a saved state has them.
-use Rattle.std.proofs.Common.{◌≡◌, ◌≤◌, ◌<◌, ◌+◌, ◌==◌, ◌&&◌, not, ◌||◌, nat_le, ℕ, zero, suc, Bool, true, false, List, [], ◌∷◌, ◌++◌, length, map, reverse, get_or, Option, Some, None, option_map, refl, sym, ap, ◌∙◌, subst, arith, slice_index_or}
+use Rattle.std.proofs.Common.{◌≡◌, ◌≤◌, ◌<◌, ◌+◌, ◌==◌, ℕ, zero, suc, true, false, List, [], ◌∷◌, ◌++◌, map, reverse, get_or, Option, Some, None, option_map, refl, sym, ap, ◌∙◌, subst, arith, slice_index_or}
 use Rattle.std.specs.List.{AllByRecursion}
-use Rattle.std.proofs.lemmas.Bool.{leb-true, eqb-true}
+use Rattle.std.proofs.lemmas.Bool.{eqb-true}
 use Rattle.n2k_join.specs.declared.piece.StoredPiece.{StoredPiece}
-use Rattle.n2k_join.specs.Frames.{Key, Frame, most_frames, longest_total}
+use Rattle.n2k_join.specs.Frames.{Key, most_frames, longest_total}
 use Rattle.n2k_join.specs.Groups.{carried, has_twice}
 use Rattle.n2k_join.specs.Open.{Piece, Group, piece_at, pieces_of}
-use Rattle.n2k_join.specs.Resumed.{piece_holds, pieces_rise, total_holds}
+use Rattle.n2k_join.specs.Resumed.{pieces_rise, total_holds}
 use Rattle.n2k_join.specs.State.{Rise, IsKey, IsPiece, HasParts, held_frame}
 use Rattle.n2k_join.specs.Stored.{piece_of, stored_frame, stored_frames, stored_group}
-use Rattle.n2k_join.proofs.Held.{carried-held, has_twice-held, held_frames, piece_in, bytes_in}
+use Rattle.n2k_join.proofs.Held.{carried-held, has_twice-held, held_frames, piece_in}
 use Rattle.n2k_join.proofs.Rising.{filter_map-range, find-passes, look-range}
 use mathlib.Core.List.{reverse-cons}
 use Rattle.std.proofs.lemmas.List.{map-append}

@@ -1,5 +1,5 @@
 -- The pieces of a stored group are what its frames carry, by rising number.
-use Rattle.std.proofs.Common.{◌≡◌, ℕ, ◌+◌, List, [], ◌∷◌, ◌++◌, Option, Some, None, option_map, option_to_list, filter_map, flat_map, refl, sym, ap, ◌∙◌, subst, append_assoc, append-nil, zero-add, codes, take, length, get_or, ◌<◌}
+use Rattle.std.proofs.Common.{◌≡◌, ℕ, ◌+◌, List, [], ◌∷◌, ◌++◌, Option, Some, None, option_map, option_to_list, filter_map, flat_map, refl, sym, ap, ◌∙◌, append_assoc, append-nil, zero-add, codes, take, length, get_or, ◌<◌}
 use Rattle.std.proofs.lemmas.Grind.{flat_map-append}
 use Rattle.std.proofs.lemmas.List.{take_more}
 use Rattle.std.specs.List.{range_with_len}

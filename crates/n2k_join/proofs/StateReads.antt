@@ -1,18 +1,18 @@
 -- The text of a valid state is read as that state.
-use Rattle.std.proofs.Common.{◌≡◌, ◌≤◌, ◌<◌, ◌^◌, ◌+◌, ℕ, zero, suc, Bool, true, false, List, [], ◌∷◌, length, map, Option, Some, None, option_map, option_and_then, Result, Ok, Err, decimal, codes, refl, sym, ap, ◌∙◌, subst, arith, IsUtf8}
+use Rattle.std.proofs.Common.{◌≡◌, ◌≤◌, ◌<◌, ◌+◌, ℕ, zero, suc, true, List, [], ◌∷◌, map, Option, Some, option_map, Result, Ok, codes, refl, sym, ap, arith, IsUtf8}
 use Rattle.std.specs.List.{AllByRecursion}
-use Rattle.hex.specs.Hex.{encode_lower, decode_sized, IsBytes}
+use Rattle.hex.specs.Hex.{IsBytes}
 use Rattle.hex.proofs.HexLemmas.{decode_sized-encode_lower}
 use Rattle.json.specs.Tree.{depth, items_depth}
 use Rattle.json.proofs.Printed.Utf8.{are_ascii, IsUtf8-are_ascii}
-use Rattle.serde_json.specs.Data.{Data, number, unsigned, string, array, object, Items, no_items, item, Members, no_members, member}
-use Rattle.serde_json.specs.Read.{of_json, of_items, number_of}
+use Rattle.serde_json.specs.Data.{Data, array}
+use Rattle.serde_json.specs.Read.{of_json, of_items}
 use Rattle.serde_json.specs.View.{items_of}
 use Rattle.serde_json.specs.Written.{outline, items_outline}
 use Rattle.serde_json.proofs.Numbers.{number_of-decimal}
 use Rattle.n2k_join.specs.Open.{Piece, Group}
 use Rattle.n2k_join.specs.Resumed.{each, elements, piece_of, group_of, key_of, pieces_at, groups_at, counts_of, id_at, state_of, judged}
-use Rattle.n2k_join.specs.Saved.{IsId, saved_format, whole, list, piece_tree, group_tree, state_tree, state_text}
+use Rattle.n2k_join.specs.Saved.{IsId, saved_format, list, piece_tree, group_tree, state_tree, state_text}
 use Rattle.n2k_join.specs.State.{State, IsState, AreFast, IsKey, IsPiece, IsOpen, HasParts}
 use Rattle.n2k_join.specs.declared.state_fault.StateFault.{StateFault}
 use Rattle.n2k_table.specs.declared.definition.Kind.{Kind}
@@ -21,7 +21,6 @@ use Rattle.n2k_join.specs.Counts.{most_lines}
 use Rattle.n2k_join.specs.Frames.{most_frames}
 use Rattle.n2k_join.proofs.Rising.{all-map, all-zip}
 use Rattle.n2k_join.proofs.SavedDigits.{IsUtf8-encode_lower}
-use Rattle.n2k_join.proofs.SavedLists.{elements-items_of}
 use Rattle.std.specs.Str.{bytes_eq}
 use Rattle.std.proofs.lemmas.Slice.Eq.{bytes_eq-Decides}
 use Rattle.serde_json.specs.Written.{compact_text}

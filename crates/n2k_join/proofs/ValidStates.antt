@@ -1,12 +1,12 @@
 -- What the rules of a valid state say, and a text that is JSON or not.
-use Rattle.std.proofs.Common.{◌≡◌, ◌≤◌, ◌<◌, ◌+◌, ◌&&◌, ◌||◌, not, nat_le, ℕ, zero, suc, Bool, true, false, if◌then◌else◌, List, [], ◌∷◌, length, map, Option, Some, None, Result, Ok, Err, refl, sym, ap, ◌∙◌, subst, arith, IsUtf8, IsTrue, slice_index_or}
+use Rattle.std.proofs.Common.{◌≡◌, ◌≤◌, ◌<◌, ◌+◌, ◌&&◌, ◌||◌, not, nat_le, ℕ, zero, suc, Bool, true, false, if◌then◌else◌, List, [], ◌∷◌, length, Option, Some, None, Result, Ok, Err, refl, sym, ap, ◌∙◌, arith, IsUtf8, IsTrue, slice_index_or}
 use Rattle.std.specs.List.{AllByRecursion, list_any}
 use Rattle.std.specs.Str.{is_utf8}
 use Rattle.std.proofs.lemmas.Str.{IsUtf8-from_is_utf8, is_utf8-from_IsUtf8}
 use Rattle.serde_json.specs.Data.{Data}
 use Rattle.serde_json.specs.Read.{read}
 use Rattle.n2k_table.specs.declared.definition.Kind.{Kind}
-use Rattle.n2k_table.specs.declared.definition.Kind.TheVariants.{Single, Fast}
+use Rattle.n2k_table.specs.declared.definition.Kind.TheVariants.{Fast}
 use Rattle.n2k_join.specs.declared.counts.Counts.{Counts}
 use Rattle.n2k_join.specs.declared.state_fault.StateFault.{StateFault}
 use Rattle.n2k_join.specs.declared.state_fault.StateFault.TheVariants.{NotJson, Invalid}
@@ -16,7 +16,7 @@ use Rattle.n2k_join.specs.Groups.{complete}
 use Rattle.n2k_join.specs.Open.{Piece, Group}
 use Rattle.n2k_join.specs.Refusal.{or_fault}
 use Rattle.n2k_join.specs.Resumed.{parsed, counts_hold, firsts_rise, group_holds, groups_hold, is_valid, is_some_list, pieces_rise, state_of_parts, valid_if, total_holds, key_holds, is_fast}
-use Rattle.n2k_join.specs.State.{State, IsState, AreCounts, AreOpen, AreApart, AreFast, IsOpen, IsKey, IsPiece, HasParts, Rise, held_of}
+use Rattle.n2k_join.specs.State.{State, IsState, AreCounts, AreApart, AreFast, IsOpen, IsKey, IsPiece, HasParts, Rise, held_of}
 use Rattle.std.proofs.lemmas.Bool.{le-leb, and_from, ne_eqb}
 use Rattle.n2k_join.proofs.StateTests.{both, at_most}
 use Rattle.n2k_join.proofs.SavedGroups.{rise_from, small_from}

@@ -1,6 +1,6 @@
 -- What a text says as a saved state: which state it spells, or the first reason why it is refused. Any JSON text is taken
 -- that `serde_json` reads as such an object: spaces, another order of members, digits of either case.
-use Rattle.std.specs.Prelude.{ℕ, ◌+◌, ◌==◌, nat_le, Bool, true, false, not, ◌&&◌, ◌||◌, slice_index_or, codes, List, [], ◌∷◌, length, reverse, map, if◌then◌else◌, Option, Some, None, option_and_then, option_map, Result, Ok, Err}
+use Rattle.std.specs.Prelude.{ℕ, ◌+◌, ◌==◌, nat_le, Bool, true, false, not, ◌&&◌, ◌||◌, slice_index_or, codes, List, [], ◌∷◌, length, if◌then◌else◌, Option, Some, None, option_and_then, Result, Ok, Err}
 use Rattle.std.specs.List.{list_any}
 use Rattle.std.specs.Result.{result_ok}
 use Rattle.std.specs.Str.{bytes_eq, is_utf8}
@@ -17,8 +17,8 @@ use Rattle.n2k_join.specs.declared.state_fault.StateFault.TheVariants.{NotJson, 
 use Rattle.n2k_join.specs.declared.saved.place.Place.{Place}
 use Rattle.n2k_join.specs.declared.saved.place.Place.TheVariants as places
 use Rattle.n2k_join.specs.Counts.{most_lines}
-use Rattle.n2k_join.specs.Frames.{Key, same_key, longest_total, most_frames, frame_bytes}
-use Rattle.n2k_join.specs.Groups.{complete, carried, total}
+use Rattle.n2k_join.specs.Frames.{Key, same_key, longest_total, frame_bytes}
+use Rattle.n2k_join.specs.Groups.{complete}
 use Rattle.n2k_join.specs.Open.{Piece, Group}
 use Rattle.n2k_join.specs.State.{State, held_of}
 use Rattle.n2k_join.specs.Saved.{saved_format}

@@ -1,7 +1,7 @@
 -- The text of a saved state: one JSON object, as `serde_json` writes it. It is compact, and the members of each object stand
 -- in the order of their names.
 use Rattle.std.specs.Prelude.{◌≡◌, ℕ, List, length, map, codes}
-use Rattle.serde_json.specs.Data.{Data, number, unsigned, string, array, object, Items, no_items, item, Members, no_members, member}
+use Rattle.serde_json.specs.Data.{Data, number, unsigned, string, array, object, no_items, item, no_members, member}
 use Rattle.serde_json.specs.View.{items_of}
 use Rattle.serde_json.specs.Written.{compact_text}
 use Rattle.hex.specs.Hex.{encode_lower, IsBytes}

@@ -1,4 +1,4 @@
-use Rattle.std.proofs.Common.{sym, ◌∙◌}
+use Rattle.std.proofs.Common.{◌∙◌}
 use Rattle.std.proofs.lemmas.Result.{err_from_is_err_and}
 use Rattle.n2k_table.specs.Table.{kind}
 use Rattle.n2k_join.proofs.ValidStates.{rules_broken, groups_broken, all_hold, is_state}

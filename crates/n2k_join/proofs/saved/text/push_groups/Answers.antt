@@ -1,5 +1,4 @@
-use Rattle.std.proofs.Common.{rules, ◌∙◌, refl, sym, append-nil, arith}
-use Rattle.std.proofs.lemmas.Grind.{common_steps}
+use Rattle.std.proofs.Common.{◌∙◌, refl, arith}
 use Rattle.n2k_join.proofs.SavedPieces.{no_group_written, group_more_written}
 use Rattle.n2k_join.proofs.saved.text.push_groups.Goals as goal
 
