@@ -4,9 +4,10 @@ ghost use Rattle.std.specs.List.{concat};
 ghost use Rattle.n2k_wire.specs.declared.entry.Entry.{Entry};
 ghost use Rattle.n2k_table.specs.Table.{kind};
 ghost use Rattle.n2k_join.specs.Refusal.{GivesOrMemory};
-ghost use Rattle.n2k_join.specs.Saved.{state_text};
+ghost use Rattle.n2k_join.specs.Saved.{IsId};
 ghost use Rattle.n2k_join.specs.State.{State, state};
 ghost use Rattle.n2k_run.specs.Decoded.{join_making, output_after};
+ghost use Rattle.n2k_run.specs.Inner.Parts.{Finishes, HasSaved, Saves};
 ghost use Rattle.n2k_run.specs.Making.{after_all};
 ghost use Rattle.n2k_run.specs.Parts.{AreCutAtLines, BeginsBy, Continues, EndsParts, HasPart, IsFront, IsOfKind, OnRefusal, PrintsLog, RefusedByMemory, as_run, begun};
 ghost use Rattle.n2k_run.specs.Runs.{Runs, devices, output_from};
@@ -16,7 +17,7 @@ use crate::device::{Sink, Source};
 use crate::fault::RunFault;
 use crate::memory::MemorySource;
 use crate::options::Options;
-use n2k_join::{Counts, Join, StateFault};
+use n2k_join::{Counts, Join, StateFault, laws};
 use n2k_table::Table;
 use std::alloc::{AllocError, Global};
 use thiserror::Error;
@@ -69,8 +70,17 @@ fn begin(alloc: Global, table: &Table, state: Option<&[u8]>) -> Result<Join, Sta
     }
 }
 
+// What the type says of a table's id.
+fn know_id(table: &Table)
+    ensures { IsId table.now.id }
+{
+    let _id = table.id();
+}
+
 // The state and the counts of a join.
-fn part_of(alloc: Global, join: &Join) -> Result<Part, AllocError> {
+fn part_of(alloc: Global, join: &Join) -> Result<Part, AllocError>
+    ensures { IfOk result (Saves join.now) }
+{
     Ok(Part {
         state: join.save(alloc)?,
         counts: join.counts(),
@@ -78,7 +88,11 @@ fn part_of(alloc: Global, join: &Join) -> Result<Part, AllocError> {
 }
 
 // What is answered after a run that left the join so.
-fn finish(alloc: Global, join: &Join, ran: Result<(), RunFault>) -> Result<Part, PartFault> {
+fn finish(alloc: Global, join: &Join, ran: Result<(), RunFault>) -> Result<Part, PartFault>
+    ensures part { HasSaved result join.now }
+    ensures ran { Finishes result ran }
+    ensures kinds { IsOfKind result }
+{
     match ran {
         Ok(()) => Ok(part_of(alloc, join)?),
         Err(RunFault::Read) => Err(PartFault::Stopped(RunFault::Read, part_of(alloc, join)?)),
@@ -145,6 +159,10 @@ pub fn run_part<R: Source, W: Sink, E: Sink>(
         (W.contents writer.new) (W.failed_calls writer.new) (E.contents reporter.new) (E.failed_calls reporter.new) in
         Continues table.now options front before after result }
 {
+    laws::steps_agree();
+    laws::lines_stay();
+    laws::groups_stay_fast();
+    know_id(table);
     let mut join = begin(alloc, table, state).map_err(PartFault::State)?;
     let ran = run(alloc, table, &mut join, options, reader, writer, reporter);
     finish(alloc, &join, ran)
