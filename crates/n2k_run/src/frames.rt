@@ -2,12 +2,11 @@
 ghost use Rattle.std.specs.Prelude.{◌≡◌, ◌++◌, ◌≤◌, length, All, IfOk, IsTrue, OnOk, Some};
 ghost use Rattle.n2k_wire.specs.Candump.{frame_payload, is_interface};
 ghost use Rattle.n2k_wire.specs.Packet.{PacketParts};
-ghost use Rattle.n2k_wire.specs.Texts.{Appends};
 ghost use Rattle.n2k_table.specs.Table.{kind};
 ghost use Rattle.n2k_join.specs.Splitter.{sequences};
 ghost use Rattle.n2k_run.specs.FramesOut.{IsInterface, interface_of, frame_texts, frames_output, frame_counts_of};
 ghost use Rattle.n2k_run.specs.Runs.{Runs, devices};
-ghost use Rattle.n2k_run.specs.Inner.Sending.{SentLine, SentMessage, WritesFrames, candump_texts};
+ghost use Rattle.n2k_run.specs.Inner.Sending.{AppendsLines, SentLine, SentMessage, WritesFrames, candump_texts};
 
 use crate::device::{Sink, Source};
 use crate::engine::run_entries;
@@ -17,7 +16,7 @@ use crate::texts::bad_text;
 use n2k_join::{Counts, MOST_LINES, SplitFault, Splitter, laws};
 use n2k_table::Table;
 use n2k_wire::{BadCause, Entry, Packet, Packing, WireFault, candump_text, plain_text};
-use std::alloc::Global;
+use std::alloc::{AllocError, Global};
 
 // What becomes of a line.
 #[derive(Clone, Copy)]
@@ -31,8 +30,8 @@ enum Outcome {
 }
 
 // Appends the plain lines of frames.
-fn append_plain(alloc: Global, frames: &[Packet], text: &mut Vec<u8>) -> Result<(), RunFault>
-    ensures { IfOk result (λ _. text.new.items ≡ text.old.items ++ frame_texts None frames.now) }
+fn append_plain(alloc: Global, frames: &[Packet], text: &mut Vec<u8>) -> Result<(), AllocError>
+    ensures { OnOk result (text.new.items ≡ text.old.items ++ frame_texts None frames.now) }
 {
     for frame in frames {
         plain_text(alloc, frame, text)?;
@@ -49,7 +48,7 @@ fn append_candump(
 ) -> Result<(), WireFault>
     requires short { All (λ (frame : PacketParts). length frame.payload ≤ frame_payload) frames.now }
     requires interface { IsTrue (is_interface interface.now) }
-    ensures { Appends (candump_texts interface.now frames.now) result text.old.items text.new.items }
+    ensures { AppendsLines (candump_texts interface.now frames.now) result text.old.items text.new.items }
 {
     let mut lines = Vec::new(alloc);
     for frame in frames {
@@ -80,7 +79,7 @@ impl<'a> FrameLines<'a> {
         alloc: Global,
         frames: &[Packet],
         text: &mut Vec<u8>,
-    ) -> Result<Outcome, RunFault>
+    ) -> Result<Outcome, AllocError>
         requires short { All (λ (frame : PacketParts). length frame.payload ≤ frame_payload) frames.now }
         requires interface { IsInterface (interface_of self.now.interface) }
         ensures { WritesFrames (interface_of self.now.interface) frames.now text.old.items text.new.items result }
@@ -93,7 +92,7 @@ impl<'a> FrameLines<'a> {
             Ok(()) => Ok(Outcome::Written),
             Err(WireFault::NoStamp) => Ok(Outcome::Bad(BadCause::Time)),
             Err(WireFault::NoId) => Ok(Outcome::Bad(BadCause::Address)),
-            Err(WireFault::Memory) => Err(RunFault::Memory),
+            Err(WireFault::Memory) => Err(AllocError),
         }
     }
 
@@ -104,7 +103,7 @@ impl<'a> FrameLines<'a> {
         splitter: &mut Splitter,
         message: &Packet,
         text: &mut Vec<u8>,
-    ) -> Result<Outcome, RunFault>
+    ) -> Result<Outcome, AllocError>
         requires { IsInterface (interface_of self.now.interface) }
         ensures { IfOk result (SentMessage (kind self.now.table.now) (interface_of self.now.interface) message.now (sequences splitter.old) (sequences splitter.new) text.old.items text.new.items) }
     {
@@ -113,7 +112,7 @@ impl<'a> FrameLines<'a> {
             Ok(_) => self.write(alloc, &frames, text),
             Err(SplitFault::Unknown) => Ok(Outcome::Bad(BadCause::Unknown)),
             Err(SplitFault::TooLong) => Ok(Outcome::Bad(BadCause::Size)),
-            Err(SplitFault::Memory) => Err(RunFault::Memory),
+            Err(SplitFault::Memory) => Err(AllocError),
         }
     }
 
@@ -124,7 +123,7 @@ impl<'a> FrameLines<'a> {
         splitter: &mut Splitter,
         entry: Entry,
         text: &mut Vec<u8>,
-    ) -> Result<Outcome, RunFault>
+    ) -> Result<Outcome, AllocError>
         requires { IsInterface (interface_of self.now.interface) }
         ensures { IfOk result (SentLine (kind self.now.table.now) (interface_of self.now.interface) entry (sequences splitter.old) (sequences splitter.new) text.old.items text.new.items) }
     {
@@ -203,7 +202,7 @@ pub fn run_frames<R: Source, W: Sink, E: Sink>(
         (W.contents writer.old) (W.failed_calls writer.old) (E.contents reporter.old) (E.failed_calls reporter.old) in
         let after = devices (R.remaining reader.new) (R.calls reader.new) (R.failed_calls reader.new)
         (W.contents writer.new) (W.failed_calls writer.new) (E.contents reporter.new) (E.failed_calls reporter.new) in
-        Runs (frames_output table.now (interface_of interface)) (λ es. IfOk result (λ counts. counts ≡ frame_counts_of (kind table.now) (interface_of interface) es)) before after result }
+        Runs (frames_output table.now (interface_of interface.entry)) (λ es. IfOk result (λ counts. counts ≡ frame_counts_of (kind table.now) (interface_of interface.entry) es)) before after result }
 {
     laws::splits_written();
     let maker = FrameLines { table, interface };
