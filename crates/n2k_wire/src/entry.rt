@@ -72,8 +72,8 @@ pub fn read_line(line: &[u8], packing: Packing) -> Entry
         return Entry::Bad(BadCause::Long);
     }
     match line {
-        [] | [b'#', ..] => Entry::Skip,
-        [b'(', ..] => read_candump(line),
-        _ => read_plain(line, packing),
+        [] | [b'#', ..] => return Entry::Skip,
+        [b'(', ..] => return read_candump(line),
+        _ => return read_plain(line, packing),
     }
 }
