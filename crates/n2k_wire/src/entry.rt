@@ -71,6 +71,7 @@ pub fn read_line(line: &[u8], packing: Packing) -> Entry
     if line.len() > LONGEST_LINE {
         return Entry::Bad(BadCause::Long);
     }
+    // As in `read_candump`, each answer is returned at once.
     match line {
         [] | [b'#', ..] => return Entry::Skip,
         [b'(', ..] => return read_candump(line),
