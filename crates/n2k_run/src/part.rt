@@ -178,7 +178,8 @@ fn empty_part(alloc: Global, table: &Table) -> Result<Part, AllocError>
 {
     laws::groups_stay_fast();
     know_id(table);
-    part_of(alloc, &Join::new(alloc, table))
+    let join = Join::new(alloc, table);
+    part_of(alloc, &join)
 }
 
 // Runs the next part, which lies in memory.

@@ -10,4 +10,4 @@ returns c =
       same_table = c.groups_stay_fast.ensures.same_table;
       step = c.groups_stay_fast.ensures.step;
     } in
-    empty-of laws c.args.table.now c.new.result c.part_of.result c.know_id.ensures c.new.ensures c.part_of.ensures
+    empty-of laws c.args.table.now c.new-join.result c.part_of.result c.know_id.ensures c.new-join.ensures c.part_of.ensures
