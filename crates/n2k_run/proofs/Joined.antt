@@ -26,7 +26,7 @@ use Rattle.n2k_run.specs.Decoded.{out, out_of, output_after, reports, reports_of
 use Rattle.n2k_run.specs.Entries.{entries}
 use Rattle.n2k_run.specs.Inner.Parts.{Saves}
 use Rattle.n2k_run.specs.Lines.{line_feed}
-use Rattle.n2k_run.specs.Parts.{AreCutAtLines, BeginsBy, IsPartOf, PrintsLog, RefusedByMemory, RunsPart, Takes, TakesAll, as_run, begun, entries_of, save, with_source, HasPart}
+use Rattle.n2k_run.specs.Parts.{AreCutAtLines, BeginsBy, IsPartOf, OnRefusal, PrintsLog, RefusedByMemory, RunsPart, Takes, TakesAll, as_run, begun, entries_of, save, with_source, HasPart}
 use Rattle.n2k_run.specs.Runs.{Devices, Runs}
 use Rattle.n2k_run.proofs.Fronts.{entries-append}
 use Rattle.n2k_run.proofs.GoingOn.{out_of-append, reports_of-append}
@@ -75,14 +75,23 @@ module _ (agree : (id : List ℕ) (kind : ℕ → Option Kind) (es : List Entry)
         leads_to = subst (λ es. IsPartOf t (state t.id (kind t) es) next) all run.runs.ends.holds;
       }
 
+-- where the state is refused, both sinks are as they were
+pub both_untouched : {W E : Type 0} (result : Result Part PartFault) (w w' : W) (e e' : E) (seen : W → E → Devices) → OnRefusal result (w' ≡ w) → OnRefusal result (e' ≡ e) → OnRefusal result (seen w' e' ≡ seen w e)
+both_untouched (Ok part) w w' e e' seen p q = tt
+both_untouched (Err (Stopped fault part)) w w' e e' seen p q = tt
+both_untouched (Err (Run fault)) w w' e e' seen p q = tt
+both_untouched (Err Memory) w w' e e' seen p q = tt
+both_untouched (Err (Refused fault)) w w' e e' seen p q = rw (p, q) refl
+
 -- the run of a part reads from its source in memory
 pub runs_part : (t : TableParts) (o : Options) (front : List Entry) (met : List ℕ) (reader : Supply) (at : ℕ) (before after : Devices) (left : Option (List ℕ)) (calls failed_reads : ℕ) (result : Result Part PartFault) → reader ≡ record { left = met; at_once = at; fails_at = 0; calls = 0; failed_calls = 0 }
-    → Runs (output_after t o front) (λ es. HasPart t result (state t.id (kind t) (front ++ es))) (with_source before (Some reader.left) reader.calls reader.failed_calls) (with_source after left calls failed_reads) (as_run result) → RunsPart t o front met before after result
-runs_part t o front met reader at before after left calls failed_reads result is runs = record {
+    → Runs (output_after t o front) (λ es. HasPart t result (state t.id (kind t) (front ++ es))) (with_source before (Some reader.left) reader.calls reader.failed_calls) (with_source after left calls failed_reads) (as_run result) → OnRefusal result (after ≡ before) → RunsPart t o front met before after result
+runs_part t o front met reader at before after left calls failed_reads result is runs untouched = record {
   left = left;
   calls = calls;
   failed_reads = failed_reads;
   runs = subst (λ (s : Supply). Runs (output_after t o front) (λ es. HasPart t result (state t.id (kind t) (front ++ es))) (with_source before (Some s.left) s.calls s.failed_calls) (with_source after left calls failed_reads) (as_run result)) is runs;
+  untouched = untouched;
 }
 
 -- the parts before one, that one, and those after it
