@@ -1,6 +1,7 @@
 use crate::commands::{decode, plain};
 use crate::fault::{Fault, exit_status, fault_text, status};
 use crate::words::words;
+use n2k_join::StateFault;
 use n2k_run::{Counts, MemorySink, MemorySource, Options};
 use n2k_table::TableFault;
 use n2k_wire::Packing;
@@ -11,7 +12,9 @@ use std::test::Fail;
 fn each_fault_has_its_line_and_status(rt: HostRuntime) -> Result<(), Fail> {
     let faults = [
         (Fault::Words, "n2kdec: words\n", 2),
+        (Fault::Interface, "n2kdec: interface\n", 2),
         (Fault::TableSize, "n2kdec: table size\n", 2),
+        (Fault::StateSize, "n2kdec: state size\n", 2),
         (
             Fault::Table(TableFault::NotToml),
             "n2kdec: table 1 NotToml\n",
@@ -50,12 +53,40 @@ fn each_fault_has_its_line_and_status(rt: HostRuntime) -> Result<(), Fail> {
             2,
         ),
         (Fault::Table(TableFault::Memory), "n2kdec: memory\n", 3),
+        (
+            Fault::State(StateFault::NotJson),
+            "n2kdec: state 1 NotJson\n",
+            2,
+        ),
+        (
+            Fault::State(StateFault::Format),
+            "n2kdec: state 2 Format\n",
+            2,
+        ),
+        (
+            Fault::State(StateFault::Shape),
+            "n2kdec: state 3 Shape\n",
+            2,
+        ),
+        (
+            Fault::State(StateFault::TableDiffers),
+            "n2kdec: state 4 TableDiffers\n",
+            2,
+        ),
+        (
+            Fault::State(StateFault::Invalid),
+            "n2kdec: state 5 Invalid\n",
+            2,
+        ),
+        (Fault::State(StateFault::Memory), "n2kdec: memory\n", 3),
         (Fault::TableFile, "n2kdec: table file\n", 3),
+        (Fault::StateFile, "n2kdec: state file\n", 3),
         (Fault::Read, "n2kdec: read\n", 3),
         (Fault::Write, "n2kdec: write\n", 3),
         (Fault::Report, "n2kdec: report\n", 3),
         (Fault::Memory, "n2kdec: memory\n", 3),
         (Fault::Lines, "n2kdec: lines\n", 3),
+        (Fault::Save, "n2kdec: save\n", 3),
     ];
     for (fault, line, code) in faults {
         let mut text = b"# ".to_vec(rt.alloc())?;
@@ -78,7 +109,7 @@ fn one_bad_line_gives_status_one(rt: HostRuntime) {
 
 #[test]
 fn words_name_a_command_and_its_files(rt: HostRuntime) -> Result<(), Fail> {
-    let asked: [(&[&str], &str); 8] = [
+    let asked: [(&[&str], &str); 11] = [
         (&["n2kdec", "plain"], "Plain { log: None }"),
         (
             &["n2kdec", "plain", "trip.log"],
@@ -90,25 +121,39 @@ fn words_name_a_command_and_its_files(rt: HostRuntime) -> Result<(), Fail> {
         ),
         (
             &["n2kdec", "decode", "--table", "boat.toml"],
-            "Decode { table: Word { text: \"boat.toml\" }, empty: false, whole: false, log: None }",
+            "Decode { table: Word { text: \"boat.toml\" }, resume: None, save: None, empty: false, whole: false, log: None }",
         ),
         (
             &["n2kdec", "decode", "--table=boat.toml", "trip.log"],
-            "Decode { table: Word { text: \"boat.toml\" }, empty: false, whole: false, log: Some(Word { text: \"trip.log\" }) }",
+            "Decode { table: Word { text: \"boat.toml\" }, resume: None, save: None, empty: false, whole: false, log: Some(Word { text: \"trip.log\" }) }",
         ),
         (
             &["n2kdec", "decode", "trip.log", "--table", "boat.toml"],
-            "Decode { table: Word { text: \"boat.toml\" }, empty: false, whole: false, log: Some(Word { text: \"trip.log\" }) }",
+            "Decode { table: Word { text: \"boat.toml\" }, resume: None, save: None, empty: false, whole: false, log: Some(Word { text: \"trip.log\" }) }",
         ),
         (
             &[
                 "n2kdec", "decode", "--whole", "--table", "t", "--empty", "l",
             ],
-            "Decode { table: Word { text: \"t\" }, empty: true, whole: true, log: Some(Word { text: \"l\" }) }",
+            "Decode { table: Word { text: \"t\" }, resume: None, save: None, empty: true, whole: true, log: Some(Word { text: \"l\" }) }",
         ),
         (
             &["n2kdec", "decode", "--table", "t", "--whole"],
-            "Decode { table: Word { text: \"t\" }, empty: false, whole: true, log: None }",
+            "Decode { table: Word { text: \"t\" }, resume: None, save: None, empty: false, whole: true, log: None }",
+        ),
+        (
+            &[
+                "n2kdec", "decode", "--save", "b", "--table", "t", "--resume", "a", "l",
+            ],
+            "Decode { table: Word { text: \"t\" }, resume: Some(Word { text: \"a\" }), save: Some(Word { text: \"b\" }), empty: false, whole: false, log: Some(Word { text: \"l\" }) }",
+        ),
+        (
+            &["n2kdec", "frames", "--table", "t"],
+            "Frames { table: Word { text: \"t\" }, candump: None, log: None }",
+        ),
+        (
+            &["n2kdec", "frames", "l", "--candump", "can0", "--table", "t"],
+            "Frames { table: Word { text: \"t\" }, candump: Some(Word { text: \"can0\" }), log: Some(Word { text: \"l\" }) }",
         ),
     ];
     for (given, command) in asked {
@@ -120,7 +165,7 @@ fn words_name_a_command_and_its_files(rt: HostRuntime) -> Result<(), Fail> {
 
 #[test]
 fn other_words_are_refused(rt: HostRuntime) {
-    let refused: [&[&str]; 15] = [
+    let refused: [&[&str]; 21] = [
         &[],
         &["n2kdec"],
         &["n2kdec", "print"],
@@ -136,6 +181,12 @@ fn other_words_are_refused(rt: HostRuntime) {
         &["n2kdec", "decode", "--table", "a", "--table", "b"],
         &["n2kdec", "decode", "--table", "a", "--empty", "--empty"],
         &["n2kdec", "decode", "--table", "a", "--empty=true"],
+        &["n2kdec", "decode", "--table", "a", "--resume"],
+        &["n2kdec", "decode", "--resume", "a", "--save", "b"],
+        &["n2kdec", "decode", "--table", "a", "--candump", "can0"],
+        &["n2kdec", "frames"],
+        &["n2kdec", "frames", "--table", "a", "--candump"],
+        &["n2kdec", "frames", "--table", "a", "--save", "b"],
     ];
     for given in refused {
         let answer = words(rt.alloc(), given);

@@ -3,7 +3,7 @@ ghost use Rattle.std.specs.Prelude.{◌≡◌, ◌⊎◌, true, IfOk, IfErr, IsE
 ghost use Rattle.clap.specs.Walk.{texts};
 ghost use Rattle.clap.specs.Words.{first_of, found_of, kind_of, rows_of, subcommand_rows_of, takes};
 ghost use Rattle.n2kdec.specs.Usage.{program_app};
-ghost use Rattle.n2kdec.specs.Words.{AnswersKind, IsAskedBy, IsRefused, Names, decode_words, flag_of, named, plain_words, words_of};
+ghost use Rattle.n2kdec.specs.Words.{AnswersKind, IsAskedBy, IsRefused, Names, decode_words, flag_of, frames_words, named, plain_words, words_of};
 
 use crate::fault::Fault;
 use crate::usage::program;
@@ -51,10 +51,26 @@ fn decode_of(alloc: Global, matches: &ArgMatches<'_>) -> Result<Words, Fault>
     };
     Ok(Words::Decode {
         table,
+        resume: value_of(alloc, matches, "resume")?,
+        save: value_of(alloc, matches, "save")?,
         empty: flag_of(matches, "empty"),
         whole: flag_of(matches, "whole"),
         log: value_of(alloc, matches, "log")?,
     })
+}
+
+// The values of `frames`.
+fn frames_of(alloc: Global, matches: &ArgMatches<'_>) -> Result<Words, Fault>
+    ensures { Names (frames_words (rows_of (found_of matches.now))) result }
+{
+    match value_of(alloc, matches, "table")? {
+        None => Err(Fault::Words),
+        Some(table) => Ok(Words::Frames {
+            table,
+            candump: value_of(alloc, matches, "candump")?,
+            log: value_of(alloc, matches, "log")?,
+        }),
+    }
 }
 
 // The command that was named, with its values.
@@ -68,6 +84,8 @@ fn command_of(alloc: Global, matches: &ArgMatches<'_>) -> Result<Words, Fault>
         plain_of(alloc, values)
     } else if name == "decode" {
         decode_of(alloc, values)
+    } else if name == "frames" {
+        frames_of(alloc, values)
     } else {
         Err(Fault::Words)
     }
