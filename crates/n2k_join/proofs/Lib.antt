@@ -7,6 +7,7 @@ pub mod CompleteLemmas
 pub mod Counting
 pub mod CutLaws
 pub mod Cuts
+pub mod FastGroups
 pub mod Given
 pub mod GroupLines
 pub mod Healing

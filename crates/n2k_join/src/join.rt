@@ -1,18 +1,20 @@
 //! The join: the open groups and the counts of a log, taken on line by line.
-ghost use Rattle.std.specs.Prelude.{◌≡◌, ◌+◌, ◌<◌, ◌↔◌, ℕ, [], IfOk, OnOk, OnErr, IsErrOf, true, is_some};
+ghost use Rattle.std.specs.Prelude.{◌≡◌, ◌+◌, ◌<◌, ◌↔◌, ℕ, [], IfOk, OnOk, OnErr, IsErrOf, Ok, Option, true, is_some};
+ghost use Rattle.n2k_table.specs.declared.definition.Kind.{Kind};
 ghost use Rattle.n2k_table.specs.Table.{kind};
 ghost use Rattle.n2k_wire.specs.Entry.{IsShort, IsEntry};
 ghost use Rattle.n2k_wire.specs.Packet.{IsPacket, IsPacketParts};
 ghost use Rattle.n2k_join.specs.Counts.{most_lines};
-ghost use Rattle.n2k_join.specs.State.{state, step_given, step_after, AreCounts, one_if};
+ghost use Rattle.n2k_join.specs.State.{state, step_given, step_after, AreCounts, AreFast, one_if};
 ghost use Rattle.n2k_join.specs.Refusal.{GivesOrMemory};
 ghost use Rattle.n2k_join.specs.Resumed.{is_valid, judged, state_of_parts, valid_if};
-ghost use Rattle.n2k_join.specs.Saved.{state_text};
+ghost use Rattle.n2k_join.specs.Saved.{IsId, state_text};
 ghost use Rattle.n2k_join.specs.Step.{given_of, opens};
 
 use crate::counts::{Counts, MOST_LINES};
 use crate::fault::JoinFault;
 use crate::group::StoredGroup;
+use crate::laws;
 use crate::outcome::{Outcome, take_entry};
 use crate::saved::{
     SpelledGroup, SpelledState, has_format, parsed, read_state, rules_hold, state_text,
@@ -189,9 +191,14 @@ impl Join {
     }
 
     /// The text of its state, from which `resume` goes on: JSON, as docs/PROFILE.md has it, without an LF.
+    ///
+    /// It reads back under a table of the join's id in which the PGNs of its groups are fast ones: so under the table that
+    /// the join was made with, where its lines were taken with that one too.
     pub fn save(&self, alloc: Global) -> Result<Vec<u8>, AllocError>
-        ensures { IfOk result (λ text. text.items ≡ state_text self.now) }
+        ensures text { IfOk result (λ text. text.items ≡ state_text self.now) }
+        ensures reads_back { (kind : ℕ → Option Kind) → AreFast kind self.now.groups → IsId self.now.id → judged kind self.now.id (state_text self.now) ≡ Ok self.now }
     {
+        laws::state_reads_back();
         state_text(alloc, &self.id, &self.counts, &self.groups)
     }
 }

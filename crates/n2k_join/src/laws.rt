@@ -1,9 +1,11 @@
 //! Laws that hold of the definitions: each is the contract of a function that does nothing.
-ghost use Rattle.std.specs.Prelude.{◌≡◌, ℕ, All, true, List, Ok, Option, Some, is_some};
+ghost use Rattle.std.specs.Prelude.{◌≡◌, ◌≤◌, ℕ, All, true, List, [], length, Ok, Option, Some, is_some};
 ghost use Rattle.n2k_wire.specs.declared.entry.Entry.{Entry};
+ghost use Rattle.n2k_wire.specs.Entry.{IsEntry};
 ghost use Rattle.n2k_wire.specs.Packet.{PacketParts, IsPacketParts};
 ghost use Rattle.n2k_table.specs.declared.definition.Kind.{Kind};
 ghost use Rattle.n2k_table.specs.declared.definition.Kind.TheVariants.{Fast};
+ghost use Rattle.n2k_join.specs.Counts.{most_lines};
 ghost use Rattle.n2k_join.specs.Pieces.{Sending, split, written};
 ghost use Rattle.n2k_join.specs.Frames.{Frame};
 ghost use Rattle.n2k_join.specs.Scattered.{IsScattered, IsMute, WrittenLog};
@@ -12,7 +14,7 @@ ghost use Rattle.n2k_join.specs.Messages.{cause_in};
 ghost use Rattle.n2k_join.specs.Laws.{CutJoins, CutFirst, CutGrows, StepsAgree, LinesStay, BadAlone};
 ghost use Rattle.n2k_join.specs.Resumed.{judged};
 ghost use Rattle.n2k_join.specs.Saved.{IsId, state_text};
-ghost use Rattle.n2k_join.specs.State.{State, IsState, AreFast};
+ghost use Rattle.n2k_join.specs.State.{State, IsState, AreFast, state, step_after};
 ghost use Rattle.n2k_join.specs.Arrival.{PiecesJoin, ArriveWhole, ComesNext, Heals};
 
 /// The groups that frames are cut into are the frames in their order; none is empty, and none has a number twice.
@@ -85,4 +87,18 @@ pub fn heals()
 /// are of fast PGNs of the table.
 pub fn state_reads_back()
     ensures { (kind : ℕ → Option Kind) (s : State) → IsState s → AreFast kind s.groups → IsId s.id → judged kind s.id (state_text s) ≡ Ok s }
+{}
+
+/// So a join that goes on under one table is read back: before the first line no group is open; those of a state that was
+/// read are of fast PGNs of the table that it was read with, whose id it has; and each further line leaves them such.
+pub fn groups_stay_fast()
+    ensures new { (kind : ℕ → Option Kind) (id : List ℕ) → AreFast kind (state id kind []).groups }
+    ensures read { (kind : ℕ → Option Kind) (id bytes : List ℕ) (s : State) → judged kind id bytes ≡ Ok s → AreFast kind s.groups }
+    ensures same_table { (kind : ℕ → Option Kind) (id bytes : List ℕ) (s : State) → judged kind id bytes ≡ Ok s → s.id ≡ id }
+    ensures step { (kind : ℕ → Option Kind) (s : State) (e : Entry) → AreFast kind s.groups → AreFast kind (step_after kind s e).groups }
+{}
+
+/// What is saved after a log reads back: for every log of entries that lines can be, with no more lines than are counted.
+pub fn saved_log_reads_back()
+    ensures { (kind : ℕ → Option Kind) (id : List ℕ) (es : List Entry) → IsId id → All IsEntry es → length es ≤ most_lines → judged kind id (state_text (state id kind es)) ≡ Ok (state id kind es) }
 {}

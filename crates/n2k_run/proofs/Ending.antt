@@ -51,6 +51,6 @@ module _ (o : Output) (stands stands' : List Entry → Type 0) (before after : D
   }
 
   -- the same answer, by what follows where the run stands
-  pub runs_more : (result : Result (Unit {0}) RunFault) → Runs o stands before after result → ((es : List Entry) → stands es → stands' es) → Runs o stands' before after result
+  pub runs_more : {T : Type 0} (result : Result T RunFault) → Runs o stands before after result → ((es : List Entry) → stands es → stands' es) → Runs o stands' before after result
   runs_more (Ok x) runs follows = ok_more x x runs follows
-  runs_more (Err fault) runs follows = err_more (Unit {0}) (Unit {0}) fault runs follows
+  runs_more {T} (Err fault) runs follows = err_more T T fault runs follows

@@ -8,6 +8,7 @@ pub mod Fronts
 pub mod LogSteps
 pub mod OutputLines
 pub mod Owed
+pub mod Parting
 pub mod PrintedBack
 pub mod Ranges
 pub mod Running

@@ -3,3 +3,4 @@ pub mod Block
 pub mod Counting
 pub mod Engine
 pub mod Joining
+pub mod Parts

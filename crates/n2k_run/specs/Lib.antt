@@ -6,6 +6,7 @@ pub mod Inner
 pub mod Lines
 pub mod Making
 pub mod Memory
+pub mod Parts
 pub mod Plain
 pub mod Reading
 pub mod Replayed

@@ -1,0 +1,127 @@
+-- A part of a log: what its run promises is what its answer says.
+use Rattle.std.proofs.Common.{◌≡◌, ℕ, Bool, List, [], ◌∷◌, ◌++◌, length, Option, Some, None, Result, Ok, Err, refl, sym, ap, ◌∙◌, subst, append-nil}
+use Rattle.std.specs.Prelude.{IfSome, OnErr}
+use Rattle.std.specs.Io.KnownBytes.{Appends}
+use Rattle.std.proofs.KnownBytes.{Appends-nil}
+use Rattle.n2k_wire.specs.declared.entry.Entry.{Entry}
+use Rattle.n2k_table.specs.declared.definition.Kind.{Kind}
+use Rattle.n2k_table.specs.Table.{TableParts, kind}
+use Rattle.n2k_join.specs.declared.state_fault.StateFault.{StateFault}
+use Rattle.n2k_join.specs.Resumed.{judged}
+use Rattle.n2k_join.specs.Saved.{IsId, state_text}
+use Rattle.n2k_join.specs.State.{State, state, AreFast, step_after}
+use Rattle.n2k_run.specs.declared.fault.RunFault.{RunFault}
+use Rattle.n2k_run.specs.declared.fault.RunFault.TheVariants as run_faults
+use Rattle.n2k_run.specs.declared.part.Part.{Part}
+use Rattle.n2k_run.specs.declared.part.PartFault.{PartFault}
+use Rattle.n2k_run.specs.declared.part.PartFault.TheVariants.{State as Refused, Stopped, Run, Memory}
+use Rattle.n2k_run.specs.Decoded.{join_making}
+use Rattle.n2k_run.specs.Entries.{entries}
+use Rattle.n2k_run.specs.Inner.Parts.{Finishes, HasSaved, Saves}
+use Rattle.n2k_run.specs.Making.{after_all}
+use Rattle.n2k_run.specs.Parts.{HasPart, IsPartOf, as_run, begun}
+use Rattle.n2k_run.specs.Runs.{Devices, Gained, HasFronts, Output, Runs}
+use Rattle.n2k_run.specs.Writing.{AppendsFront}
+use Rattle.n2k_run.proofs.Ending.{ok_more, err_more}
+use Rattle.n2k_run.proofs.Running.{known_more}
+
+known_any : (known : Option (List ℕ)) (P : List ℕ → Type 0) → ((log : List ℕ) → P log) → IfSome known P
+known_any None P all = tt
+known_any (Some log) P all = all log
+
+none_gained : (held : Option (List ℕ)) (text : List ℕ) → AppendsFront held held text
+none_gained held text = (text, record { front = []; appended = Appends-nil held; still = refl })
+
+all_gained : (old new : Option (List ℕ)) (text : List ℕ) → Appends old new text → AppendsFront old new text
+all_gained old new text appended = ([], record { front = text; appended = appended; still = sym (append-nil text) })
+
+-- a run that never began: nothing was read or written
+pub unbegun : {T : Type 0} (o : Output) (stands : List Entry → Type 0) (before : Devices) → o.reports [] ≡ [] → Runs {T = T} o stands before before (Err run_faults.Memory)
+unbegun o stands before none = record {
+  ends = tt;
+  fronts = known_any before.left _ (λ log. record {
+    printed = none_gained before.written (o.texts (entries o.packing log));
+    reported = none_gained before.reported (o.reports (entries o.packing log));
+  });
+  reports_first = known_any before.left _ (λ log. record {
+    taken = [];
+    left = entries o.packing log;
+    lines_taken = refl;
+    printed = none_gained before.written (o.texts []);
+    reported = ([], subst (Appends before.reported before.reported) (sym (append-nil (o.reports []) ∙ none)) (Appends-nil before.reported));
+  });
+  device = tt;
+}
+
+-- a run after which memory was refused
+module _ (o : Output) (stands stands' : List Entry → Type 0) (before after : Devices) where
+  pub then_memory : {T U : Type 0} (ran : Result T RunFault) → Runs o stands before after ran → Runs {T = U} o stands' before after (Err run_faults.Memory)
+  then_memory (Ok x) runs = record {
+    ends = tt;
+    fronts = known_more before.left _ _ (λ log gained. record {
+      printed = all_gained before.written after.written (o.texts (entries o.packing log)) gained.printed;
+      reported = all_gained before.reported after.reported (o.reports (entries o.packing log)) gained.reported;
+    }) runs.ends.gained;
+    reports_first = runs.reports_first;
+    device = tt;
+  }
+  then_memory (Err fault) runs = record { ends = tt; fronts = runs.fronts; reports_first = runs.reports_first; device = tt }
+
+  -- what a run promises, its part promises
+  pub part_runs : (ran : Result (Unit {0}) RunFault) (result : Result Part PartFault) → Finishes result ran → Runs o stands before after ran → ((es : List Entry) → stands es → stands' es) → Runs o stands' before after (as_run result)
+  part_runs ran (Ok part) is runs follows = ok_more o stands stands' before after tt part (subst (λ r. Runs o stands before after r) is runs) follows
+  part_runs ran (Err (Stopped fault part)) is runs follows = err_more o stands stands' before after (Unit {0}) Part fault (subst (λ r. Runs o stands before after r) is runs) follows
+  part_runs ran (Err (Run fault)) is runs follows = err_more o stands stands' before after (Unit {0}) Part fault (subst (λ r. Runs o stands before after r) is runs) follows
+  part_runs ran (Err Memory) is runs follows = then_memory ran runs
+  part_runs ran (Err (Refused fault)) is runs follows = absurd is
+
+-- ---- the states that a part goes through
+
+-- a state under a table: what is saved of it reads back
+pub record IsUnder (t : TableParts) (s : State) : Type 0 where
+  pub fast : AreFast (kind t) s.groups
+  pub same_table : s.id ≡ t.id
+
+-- what the join's laws say of states under a table
+pub record KeepsFast : Type 0 where
+  pub new : (kind : ℕ → Option Kind) (id : List ℕ) → AreFast kind (state id kind []).groups
+  pub read : (kind : ℕ → Option Kind) (id bytes : List ℕ) (s : State) → judged kind id bytes ≡ Ok s → AreFast kind s.groups
+  pub same_table : (kind : ℕ → Option Kind) (id bytes : List ℕ) (s : State) → judged kind id bytes ≡ Ok s → s.id ≡ id
+  pub step : (kind : ℕ → Option Kind) (s : State) (e : Entry) → AreFast kind s.groups → AreFast kind (step_after kind s e).groups
+
+same_state : (s s' : State) → (let r : Result State StateFault = Ok s in r) ≡ Ok s' → s ≡ s'
+same_state s s' is = cc
+
+module _ (laws : KeepsFast) (t : TableParts) where
+  pub begun-under : (handed : Option (List ℕ)) (s : State) → begun t handed ≡ Ok s → IsUnder t s
+  begun-under None s is =
+      let same : state t.id (kind t) [] ≡ s = same_state _ _ is in
+      subst (IsUnder t) same (record { fast = laws.new (kind t) t.id; same_table = refl })
+  begun-under (Some bytes) s is = record { fast = laws.read (kind t) t.id bytes s is; same_table = laws.same_table (kind t) t.id bytes s is }
+
+  step-id : (s : State) (e : Entry) → (step_after (kind t) s e).id ≡ s.id
+  unfolding step_after
+  step-id s e = refl
+
+  pub after-under : (empty : Bool) (s : State) (es : List Entry) → IsUnder t s → IsUnder t (after_all (join_making t empty) s es)
+  after-under empty s [] under = under
+  after-under empty s (e ∷ es) under = after-under empty (step_after (kind t) s e) es (record {
+    fast = laws.step (kind t) s e under.fast;
+    same_table = step-id s e ∙ under.same_table;
+  })
+
+  part-of : (s : State) (part : Part) → IsId t.id → IsUnder t s → Saves s part → IsPartOf t s part
+  part-of s part id under saves = record {
+    saved = saves.saved;
+    counted = saves.counted;
+    reads_back =
+        let is_id : IsId s.id = subst IsId (sym under.same_table) id in
+        ap (λ text. judged (kind t) t.id text) saves.saved ∙ ap (λ i. judged (kind t) i (state_text s)) (sym under.same_table) ∙ saves.reads_back (kind t) under.fast is_id;
+  }
+
+  pub has_part : (s : State) (result : Result Part PartFault) → IsId t.id → IsUnder t s → HasSaved result s → HasPart t result s
+  has_part s (Ok part) id under saves = part-of s part id under saves
+  has_part s (Err (Stopped fault part)) id under saves = part-of s part id under saves
+  has_part s (Err (Refused fault)) id under saves = tt
+  has_part s (Err (Run fault)) id under saves = tt
+  has_part s (Err Memory) id under saves = tt

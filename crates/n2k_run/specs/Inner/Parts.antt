@@ -1,0 +1,31 @@
+-- What the steps of a run of a part answer.
+use Rattle.std.specs.Prelude.{◌≡◌, ℕ, Option, Result, Ok, Err}
+use Rattle.n2k_table.specs.declared.definition.Kind.{Kind}
+use Rattle.n2k_join.specs.Resumed.{judged}
+use Rattle.n2k_join.specs.Saved.{IsId, state_text}
+use Rattle.n2k_join.specs.State.{State, AreFast}
+use Rattle.n2k_run.specs.declared.fault.RunFault.{RunFault}
+use Rattle.n2k_run.specs.declared.part.Part.{Part}
+use Rattle.n2k_run.specs.declared.part.PartFault.{PartFault}
+use Rattle.n2k_run.specs.declared.part.PartFault.TheVariants.{State as Refused, Stopped, Run, Memory}
+
+-- the text and the counts of a state, and the text reads back under each table that it can be of
+pub record Saves (s : State) (part : Part) : Type 0 where
+  pub saved : part.state.items ≡ state_text s
+  pub counted : part.counts ≡ s.counts
+  pub reads_back : (kind : ℕ → Option Kind) → AreFast kind s.groups → IsId s.id → judged kind s.id (state_text s) ≡ Ok s
+
+abbrev pub HasSaved : Result Part PartFault → State → Type 0
+HasSaved (Ok part) s = Saves s part
+HasSaved (Err (Stopped fault part)) s = Saves s part
+HasSaved (Err (Refused fault)) s = Unit {0}
+HasSaved (Err (Run fault)) s = Unit {0}
+HasSaved (Err Memory) s = Unit {0}
+
+-- what is answered after a run
+abbrev pub Finishes : Result Part PartFault → Result (Unit {0}) RunFault → Type 0
+Finishes (Ok part) ran = ran ≡ Ok tt
+Finishes (Err (Stopped fault part)) ran = ran ≡ Err fault
+Finishes (Err (Run fault)) ran = ran ≡ Err fault
+Finishes (Err Memory) ran = Unit {0}
+Finishes (Err (Refused fault)) ran = ⊥

@@ -1,0 +1,191 @@
+-- A log in parts: each part goes on from the state that was saved after the one before it, and together they print what
+-- one run over the whole log prints.
+use Rattle.std.specs.Prelude.{◌≡◌, ◌⊎◌, ℕ, List, [], ◌∷◌, ◌++◌, Option, Some, None, Result, Ok, Err, IfSome, IsOk, IsSome}
+use Rattle.std.specs.List.{flat_map}
+use Rattle.std.specs.Io.{IsEmptyOrEndsWith}
+use Rattle.std.specs.Io.KnownBytes.{Appends, Consumes, IsAtEnd}
+use Rattle.n2k_wire.specs.declared.entry.Entry.{Entry}
+use Rattle.n2k_table.specs.Table.{TableParts, kind}
+use Rattle.n2k_join.specs.declared.state_fault.StateFault.{StateFault}
+use Rattle.n2k_join.specs.declared.state_fault.StateFault.TheVariants as state_faults
+use Rattle.n2k_join.specs.Messages.{counts}
+use Rattle.n2k_join.specs.Resumed.{judged}
+use Rattle.n2k_join.specs.Saved.{state_text}
+use Rattle.n2k_join.specs.State.{State, state}
+use Rattle.n2k_run.specs.declared.fault.RunFault.{RunFault}
+use Rattle.n2k_run.specs.declared.fault.RunFault.TheVariants as run_faults
+use Rattle.n2k_run.specs.declared.options.Options.{Options}
+use Rattle.n2k_run.specs.declared.part.Part.{Part}
+use Rattle.n2k_run.specs.declared.part.PartFault.{PartFault}
+use Rattle.n2k_run.specs.declared.part.PartFault.TheVariants.{State as Refused, Stopped, Run, Memory}
+use Rattle.n2k_run.specs.Decoded.{out, out_of, output_after, reports, reports_of}
+use Rattle.n2k_run.specs.Entries.{entries}
+use Rattle.n2k_run.specs.Lines.{line_feed, whole_lines}
+use Rattle.n2k_run.specs.Runs.{Devices, Runs}
+use Rattle.n2k_run.specs.Writing.{AppendsFront}
+
+-- ---- where a part begins
+
+-- The state that a part begins with: without one handed in that before the first line, else the one that the bytes spell
+-- under the table, or the reason why they are refused.
+abbrev pub begun : TableParts → Option (List ℕ) → Result State StateFault
+begun t None = Ok (state t.id (kind t) [])
+begun t (Some bytes) = judged (kind t) t.id bytes
+
+-- the state that a log leads to
+abbrev pub state_after : TableParts → Options → List ℕ → State
+state_after t o log = state t.id (kind t) (entries o.packing log)
+
+-- what is saved after a log
+unfoldable pub save : TableParts → Options → List ℕ → List ℕ
+save t o log = state_text (state_after t o log)
+
+-- ---- what a part answers
+
+-- The part that leads to this state: its text is saved, its counts are told, and the next part can go on from it.
+pub record IsPartOf (t : TableParts) (s : State) (part : Part) : Type 0 where
+  pub saved : part.state.items ≡ state_text s
+  pub counted : part.counts ≡ s.counts
+  pub reads_back : begun t (Some part.state.items) ≡ Ok s
+
+-- the Part of an answer, where it has one, leads to this state
+abbrev pub HasPart : TableParts → Result Part PartFault → State → Type 0
+HasPart t (Ok part) s = IsPartOf t s part
+HasPart t (Err (Stopped fault part)) s = IsPartOf t s part
+HasPart t (Err (Refused fault)) s = Unit {0}
+HasPart t (Err (Run fault)) s = Unit {0}
+HasPart t (Err Memory) s = Unit {0}
+
+-- What an answer says of the run. Where the part never began, or its state could not be saved, memory was refused.
+abbrev pub as_run : Result Part PartFault → Result Part RunFault
+as_run (Ok part) = Ok part
+as_run (Err (Stopped fault part)) = Err fault
+as_run (Err (Run fault)) = Err fault
+as_run (Err (Refused fault)) = Err run_faults.Memory
+as_run (Err Memory) = Err run_faults.Memory
+
+-- Each kind of refusal has its faults: a Part is answered where the run stands at a line, and none where it is spent.
+abbrev pub IsOfKind : Result Part PartFault → Type 0
+IsOfKind (Ok part) = Unit {0}
+IsOfKind (Err (Refused fault)) = Unit {0}
+IsOfKind (Err (Stopped fault part)) = (fault ≡ run_faults.Read) ⊎ (fault ≡ run_faults.TooManyLines)
+IsOfKind (Err (Run fault)) = (fault ≡ run_faults.Write) ⊎ ((fault ≡ run_faults.Report) ⊎ (fault ≡ run_faults.Memory))
+IsOfKind (Err Memory) = Unit {0}
+
+-- A state that was handed in is refused, by the first fault that stands in it or for want of memory; else it is the one that
+-- the part begins with.
+abbrev pub BeginsBy : TableParts → Option (List ℕ) → Result Part PartFault → Type 0
+BeginsBy t handed (Err (Refused fault)) = IsSome handed × ((fault ≡ state_faults.Memory) ⊎ (begun t handed ≡ Err fault))
+BeginsBy t handed (Err (Stopped fault part)) = IsOk (begun t handed)
+BeginsBy t handed (Err (Run fault)) = IsOk (begun t handed)
+BeginsBy t handed (Err Memory) = IsOk (begun t handed)
+BeginsBy t handed (Ok part) = IsOk (begun t handed)
+
+-- a refused state is no reason but memory
+abbrev pub RefusedByMemory : Result Part PartFault → Type 0
+RefusedByMemory (Err (Refused fault)) = fault ≡ state_faults.Memory
+RefusedByMemory (Err (Stopped fault part)) = Unit {0}
+RefusedByMemory (Err (Run fault)) = Unit {0}
+RefusedByMemory (Err Memory) = Unit {0}
+RefusedByMemory (Ok part) = Unit {0}
+
+-- this holds where the state was refused
+abbrev pub OnRefusal : Result Part PartFault → Type 0 → Type 0
+OnRefusal (Err (Refused fault)) P = P
+OnRefusal (Err (Stopped fault part)) P = Unit {0}
+OnRefusal (Err (Run fault)) P = Unit {0}
+OnRefusal (Err Memory) P = Unit {0}
+OnRefusal (Ok part) P = Unit {0}
+
+-- ---- the headline
+
+-- A log was cut after this front: it is empty or ends with a line, and the state handed in is what it leads to.
+pub record IsFront (t : TableParts) (o : Options) (front : List ℕ) (handed : Option (List ℕ)) : Type 0 where
+  pub whole_lines : IsEmptyOrEndsWith front line_feed
+  pub leads_to : begun t handed ≡ Ok (state_after t o front)
+
+-- After the front and `more` the whole stands: the sinks gained exactly what the output and the reports of both have after
+-- those of the front, and the Part is what is saved, and what is counted, after both.
+pub record GoesOn (t : TableParts) (o : Options) (front more : List ℕ) (before after : Devices) (part : Part) : Type 0 where
+  pub text : List ℕ
+  pub printed : Appends before.written after.written text
+  pub output : out t o (front ++ more) ≡ out t o front ++ text
+  pub report : List ℕ
+  pub reported : Appends before.reported after.reported report
+  pub told : reports t o (front ++ more) ≡ reports t o front ++ report
+  pub saved : part.state.items ≡ save t o (front ++ more)
+  pub counted : part.counts ≡ counts (kind t) (entries o.packing (front ++ more))
+  -- and the log can be cut here too
+  pub reads_back : begun t (Some part.state.items) ≡ Ok (state_after t o (front ++ more))
+
+-- the sinks gained fronts of what the output and the reports of both have after those of the front
+pub record GoesOnPartly (t : TableParts) (o : Options) (front more : List ℕ) (before after : Devices) : Type 0 where
+  pub text : List ℕ
+  pub printed : AppendsFront before.written after.written text
+  pub output : out t o (front ++ more) ≡ out t o front ++ text
+  pub report : List ℕ
+  pub reported : AppendsFront before.reported after.reported report
+  pub told : reports t o (front ++ more) ≡ reports t o front ++ report
+
+-- What a part answers after this front of a log. With Ok the whole stands; after Read what stands is whole up to the last
+-- line that came, and after TooManyLines up to the last number.
+abbrev pub Continues : TableParts → Options → List ℕ → Devices → Devices → Result Part PartFault → Type 0
+Continues t o front before after (Ok part) = IsAtEnd after.left × IfSome before.left (λ log. GoesOn t o front log before after part)
+Continues t o front before after (Err (Stopped run_faults.Read part)) = (came : List ℕ) × Consumes before.left after.left came × GoesOn t o front (whole_lines came) before after part
+Continues t o front before after (Err (Stopped run_faults.TooManyLines part)) = IfSome before.left (λ log. (taken : List ℕ) × (rest : List ℕ) × (log ≡ taken ++ rest) × IsEmptyOrEndsWith taken line_feed × GoesOn t o front taken before after part)
+Continues t o front before after (Err (Stopped run_faults.Write part)) = ⊥
+Continues t o front before after (Err (Stopped run_faults.Report part)) = ⊥
+Continues t o front before after (Err (Stopped run_faults.Memory part)) = ⊥
+Continues t o front before after (Err (Refused fault)) = fault ≡ state_faults.Memory
+Continues t o front before after (Err (Run fault)) = IfSome before.left (λ log. GoesOnPartly t o front log before after)
+Continues t o front before after (Err Memory) = IfSome before.left (λ log. GoesOnPartly t o front log before after)
+
+-- ---- parts that lie in memory
+
+-- the entries of the lines of parts, in their order
+abbrev pub entries_of : Options → List (List ℕ) → List Entry
+entries_of o parts = flat_map (entries o.packing) parts
+
+-- a log was cut into these parts after lines: each but the last is empty or ends with a line
+abbrev pub AreCutAtLines : List (List ℕ) → Type 0
+AreCutAtLines [] = Unit {0}
+AreCutAtLines (part ∷ []) = Unit {0}
+AreCutAtLines (part ∷ next ∷ parts) = IsEmptyOrEndsWith part line_feed × AreCutAtLines (next ∷ parts)
+
+-- the devices with a source that has these bytes left, was called so often, and failed so often
+abbrev pub with_source : Devices → Option (List ℕ) → ℕ → ℕ → Devices
+with_source devices left calls failed_reads = record devices { left = left; calls = calls; failed_reads = failed_reads }
+
+-- all parts were taken whole: the sinks gained what their entries make, and the Part is where these lead to
+pub record TakesAll (t : TableParts) (o : Options) (parts : List (List ℕ)) (before after : Devices) (part : Part) : Type 0 where
+  pub printed : Appends before.written after.written (out_of t o.empty (entries_of o parts))
+  pub reported : Appends before.reported after.reported (reports_of t (entries_of o parts))
+  pub leads_to : IsPartOf t (state t.id (kind t) (entries_of o parts)) part
+
+-- The parts before one of them were taken whole, and at this one the run ended so, as that of a part does.
+pub record EndsAtPart (t : TableParts) (o : Options) (parts : List (List ℕ)) (before after : Devices) (result : Result Part PartFault) : Type 0 where
+  pub done : List (List ℕ)
+  pub met : List ℕ
+  pub later : List (List ℕ)
+  pub parts_are : parts ≡ done ++ met ∷ later
+  pub between : Devices
+  pub printed : Appends before.written between.written (out_of t o.empty (entries_of o done))
+  pub reported : Appends before.reported between.reported (reports_of t (entries_of o done))
+  pub writes : between.failed_writes ≡ before.failed_writes
+  pub report_writes : between.failed_reports ≡ before.failed_reports
+  pub left : Option (List ℕ)
+  pub calls : ℕ
+  pub failed_reads : ℕ
+  pub runs : Runs (output_after t o (entries_of o done)) (λ es. HasPart t result (state t.id (kind t) (entries_of o done ++ es))) (with_source between (Some met) 0 0) (with_source after left calls failed_reads) (as_run result)
+
+-- how a run over parts ends; before the first part memory may be refused
+abbrev pub EndsParts : TableParts → Options → List (List ℕ) → Devices → Devices → Result Part PartFault → Type 0
+EndsParts t o parts before after (Ok part) = TakesAll t o parts before after part
+EndsParts t o parts before after (Err fault) = ((fault ≡ Memory) × (after ≡ before)) ⊎ EndsAtPart t o parts before after (Err fault)
+
+-- the whole log was printed: the sinks gained its output and its reports, and the Part is what is saved and counted after it
+pub record PrintsLog (t : TableParts) (o : Options) (log : List ℕ) (before after : Devices) (part : Part) : Type 0 where
+  pub printed : Appends before.written after.written (out t o log)
+  pub reported : Appends before.reported after.reported (reports t o log)
+  pub saved : part.state.items ≡ save t o log
+  pub counted : part.counts ≡ counts (kind t) (entries o.packing log)

@@ -1,0 +1,219 @@
+//! Runs of a log in parts, each from the state that was saved after the one before.
+ghost use Rattle.std.specs.Prelude.{◌≡◌, ℕ, List, map, ◌++◌, IfOk, None, Ok, option_map};
+ghost use Rattle.std.specs.List.{concat};
+ghost use Rattle.n2k_wire.specs.declared.entry.Entry.{Entry};
+ghost use Rattle.n2k_table.specs.Table.{kind};
+ghost use Rattle.n2k_join.specs.Refusal.{GivesOrMemory};
+ghost use Rattle.n2k_join.specs.Saved.{IsId};
+ghost use Rattle.n2k_join.specs.State.{State, state};
+ghost use Rattle.n2k_run.specs.Decoded.{join_making, output_after};
+ghost use Rattle.n2k_run.specs.Inner.Parts.{Finishes, HasSaved, Saves};
+ghost use Rattle.n2k_run.specs.Making.{after_all};
+ghost use Rattle.n2k_run.specs.Parts.{AreCutAtLines, BeginsBy, Continues, EndsParts, HasPart, IsFront, IsOfKind, OnRefusal, PrintsLog, RefusedByMemory, as_run, begun};
+ghost use Rattle.n2k_run.specs.Runs.{Runs, devices, output_from};
+
+use crate::decoding::run;
+use crate::device::{Sink, Source};
+use crate::fault::RunFault;
+use crate::memory::MemorySource;
+use crate::options::Options;
+use n2k_join::{Counts, Join, StateFault, laws};
+use n2k_table::Table;
+use std::alloc::{AllocError, Global};
+use thiserror::Error;
+
+/// What stands after a log, or after a part of it: the text from which the next part goes on, and what all lines so
+/// far count.
+#[derive(Debug, Drop)]
+pub struct Part {
+    /// The saved state: one JSON text, without an LF (docs/PROFILE.md has its members).
+    pub state: Vec<u8>,
+    /// The counts of all lines so far, those of earlier parts too.
+    pub counts: Counts,
+}
+
+/// Why a part of a log was not run to its end.
+#[derive(Debug, Drop, Error)]
+pub enum PartFault {
+    /// The state handed in is refused. Nothing was read or written.
+    #[error("the state is refused: {0}")]
+    State(StateFault),
+    /// The run stopped after a line, for `RunFault::Read` or `RunFault::TooManyLines`; the log can go on from its Part.
+    #[error("{0}")]
+    Stopped(RunFault, Part),
+    /// The run ended for `RunFault::Write`, `RunFault::Report` or `RunFault::Memory`, and there is no state to go on from.
+    #[error("{0}")]
+    Run(RunFault),
+    /// An allocation was refused while the state was saved.
+    #[error("out of memory")]
+    Memory,
+}
+
+impl From<AllocError> for PartFault {
+    ghost use Rattle.std.specs.Prelude.{◌≡◌};
+    ghost use Rattle.n2k_run.specs.declared.part.PartFault.TheVariants.{Memory};
+
+    ghost from_gives = { λ _ fault. fault ≡ Memory };
+
+    fn from(_: AllocError) -> Self {
+        PartFault::Memory
+    }
+}
+
+// The join that a part begins with.
+fn begin(alloc: Global, table: &Table, state: Option<&[u8]>) -> Result<Join, StateFault>
+    ensures { GivesOrMemory (λ join. join) result (begun table.now (option_map (λ bytes. bytes.now) state.entry)) }
+{
+    match state {
+        None => Ok(Join::new(alloc, table)),
+        Some(bytes) => Join::resume(alloc, table, bytes),
+    }
+}
+
+// What the type says of a table's id.
+fn know_id(table: &Table)
+    ensures { IsId table.now.id }
+{
+    let _id = table.id();
+}
+
+// The state and the counts of a join.
+fn part_of(alloc: Global, join: &Join) -> Result<Part, AllocError>
+    ensures { IfOk result (Saves join.now) }
+{
+    Ok(Part {
+        state: join.save(alloc)?,
+        counts: join.counts(),
+    })
+}
+
+// What is answered after a run that left the join so.
+fn finish(alloc: Global, join: &Join, ran: Result<(), RunFault>) -> Result<Part, PartFault>
+    ensures part { HasSaved result join.now }
+    ensures ran { Finishes result ran }
+    ensures kinds { IsOfKind result }
+{
+    match ran {
+        Ok(()) => Ok(part_of(alloc, join)?),
+        Err(RunFault::Read) => Err(PartFault::Stopped(RunFault::Read, part_of(alloc, join)?)),
+        Err(RunFault::TooManyLines) => Err(PartFault::Stopped(
+            RunFault::TooManyLines,
+            part_of(alloc, join)?,
+        )),
+        Err(fault) => Err(PartFault::Run(fault)),
+    }
+}
+
+/// Runs a part of a log as `run` does, from the state that was saved after the part before it (`None`: from the first
+/// line), and answers the state and the counts after it. A log that is cut after any of its lines into parts so joined
+/// gives exactly the messages, the reports, the counts and the state of one run over the whole.
+///
+/// The state has to be of the same table, and the options have to be those of the parts before. A state that can't be
+/// taken is refused before anything is read or written. After `Stopped` the log can go on from the Part, which stands
+/// after the last line that was taken; after `Run` and `Memory` there is none, and a front of the part's texts and
+/// reports has been written.
+///
+/// ```text
+/// let first = run_part(alloc, &table, None, options, &mut monday, &mut out, &mut err)?;
+/// let both = run_part(alloc, &table, Some(&first.state), options, &mut tuesday, &mut out, &mut err)?;
+/// ```
+pub fn run_part<R: Source, W: Sink, E: Sink>(
+    alloc: Global,
+    table: &Table,
+    state: Option<&[u8]>,
+    options: Options,
+    reader: &mut R,
+    writer: &mut W,
+    reporter: &mut E,
+) -> Result<Part, PartFault>
+    // Each kind of refusal has its faults. A state is refused for what stands in it, or for want of memory.
+    ensures kinds { IsOfKind result }
+    ensures begins { BeginsBy table.now (option_map (λ bytes. bytes.now) state.entry) result }
+    ensures unread { OnRefusal result (reader.new ≡ reader.old) }
+    ensures unwritten { OnRefusal result (writer.new ≡ writer.old) }
+    ensures unreported { OnRefusal result (reporter.new ≡ reporter.old) }
+
+    // From any state that reads, whether or not a log leads to it: the texts and reports of the steps of the part's entries.
+    ensures steps { (s : State) → begun table.now (option_map (λ bytes. bytes.now) state.entry) ≡ Ok s →
+        let before = devices (R.remaining reader.old) (R.calls reader.old) (R.failed_calls reader.old)
+        (W.contents writer.old) (W.failed_calls writer.old) (E.contents reporter.old) (E.failed_calls reporter.old) in
+        let after = devices (R.remaining reader.new) (R.calls reader.new) (R.failed_calls reader.new)
+        (W.contents writer.new) (W.failed_calls writer.new) (E.contents reporter.new) (E.failed_calls reporter.new) in
+        let making = join_making table.now options.empty in
+        Runs (output_from making options.packing s) (λ es. HasPart table.now result (after_all making s es)) before after (as_run result) }
+
+    // From the state that these entries lead to: what the whole log says of the lines after them.
+    ensures log { (front : List Entry) → begun table.now (option_map (λ bytes. bytes.now) state.entry) ≡ Ok (state table.now.id (kind table.now) front) →
+        let before = devices (R.remaining reader.old) (R.calls reader.old) (R.failed_calls reader.old)
+        (W.contents writer.old) (W.failed_calls writer.old) (E.contents reporter.old) (E.failed_calls reporter.old) in
+        let after = devices (R.remaining reader.new) (R.calls reader.new) (R.failed_calls reader.new)
+        (W.contents writer.new) (W.failed_calls writer.new) (E.contents reporter.new) (E.failed_calls reporter.new) in
+        Runs (output_after table.now options front) (λ es. HasPart table.now result (state table.now.id (kind table.now) (front ++ es))) before after (as_run result) }
+
+    // The headline: after this front of a log, whose saved state was handed in, exactly the rest of the whole log's output
+    // is printed, and its state is saved.
+    ensures headline { (front : List ℕ) → IsFront table.now options front (option_map (λ bytes. bytes.now) state.entry) →
+        let before = devices (R.remaining reader.old) (R.calls reader.old) (R.failed_calls reader.old)
+        (W.contents writer.old) (W.failed_calls writer.old) (E.contents reporter.old) (E.failed_calls reporter.old) in
+        let after = devices (R.remaining reader.new) (R.calls reader.new) (R.failed_calls reader.new)
+        (W.contents writer.new) (W.failed_calls writer.new) (E.contents reporter.new) (E.failed_calls reporter.new) in
+        Continues table.now options front before after result }
+{
+    laws::steps_agree();
+    laws::lines_stay();
+    laws::groups_stay_fast();
+    know_id(table);
+    let mut join = begin(alloc, table, state).map_err(PartFault::State)?;
+    let ran = run(alloc, table, &mut join, options, reader, writer, reporter);
+    finish(alloc, &join, ran)
+}
+
+/// Runs the parts of a log that lie in memory, one after the other, each from the bytes that were saved after the one
+/// before it: as one run over the log that they make, where each part but the last is empty or ends with a line. No
+/// part gives the state of the empty log.
+///
+/// After a refusal the parts before the one that met it have been printed whole, and of that one what `run_part` says.
+///
+/// ```text
+/// let part = run_parts(alloc, &table, options, &[monday, tuesday], &mut out, &mut err)?;
+/// ```
+pub fn run_parts<W: Sink, E: Sink>(
+    alloc: Global,
+    table: &Table,
+    options: Options,
+    parts: &[&[u8]],
+    writer: &mut W,
+    reporter: &mut E,
+) -> Result<Part, PartFault>
+    ensures kinds { IsOfKind result }
+    ensures memory_only { RefusedByMemory result }
+
+    // What the entries of all parts make, one part after the other; or a part was met at which the run ended.
+    ensures log { let before = devices None 0 0 (W.contents writer.old) (W.failed_calls writer.old) (E.contents reporter.old) (E.failed_calls reporter.old) in
+        let after = devices None 0 0 (W.contents writer.new) (W.failed_calls writer.new) (E.contents reporter.new) (E.failed_calls reporter.new) in
+        EndsParts table.now options (map (λ part. part.now) parts.now) before after result }
+
+    // The headline: a log that was cut after lines is printed as by one run.
+    ensures headline { AreCutAtLines (map (λ part. part.now) parts.now) →
+        let before = devices None 0 0 (W.contents writer.old) (W.failed_calls writer.old) (E.contents reporter.old) (E.failed_calls reporter.old) in
+        let after = devices None 0 0 (W.contents writer.new) (W.failed_calls writer.new) (E.contents reporter.new) (E.failed_calls reporter.new) in
+        IfOk result (PrintsLog table.now options (concat (map (λ part. part.now) parts.now)) before after) }
+{
+    let mut last = part_of(alloc, &Join::new(alloc, table))?;
+    for part in parts {
+        let mut reader = MemorySource::new(part, usize::MAX, 0);
+        last = run_part(
+            alloc,
+            table,
+            Some(&last.state),
+            options,
+            &mut reader,
+            writer,
+            reporter,
+        )?;
+    }
+    Ok(last)
+}
+
+#[cfg(test)]
+mod tests;
