@@ -12,6 +12,8 @@ pub mod Parting
 pub mod PrintedBack
 pub mod Ranges
 pub mod Running
+pub mod SentFrames
+pub mod SentLines
 pub mod Splits
 pub mod Taking
 pub mod WrittenTexts
