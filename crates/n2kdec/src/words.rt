@@ -2,6 +2,7 @@
 ghost use Rattle.std.specs.Prelude.{◌≡◌, ◌⊎◌, true, IfOk, IfErr, IsErrOf};
 ghost use Rattle.clap.specs.Walk.{texts};
 ghost use Rattle.clap.specs.Words.{first_of, found_of, kind_of, rows_of, subcommand_rows_of, takes};
+ghost use Rattle.n2k_run.specs.FramesOut.{IsInterface, interface_of};
 ghost use Rattle.n2kdec.specs.Usage.{program_app};
 ghost use Rattle.n2kdec.specs.Words.{AnswersKind, IsAskedBy, IsRefused, Names, decode_words, flag_of, frames_words, named, plain_words, words_of};
 
@@ -10,6 +11,7 @@ use crate::usage::program;
 use crate::word::{Word, Words};
 use clap::error::ErrorKind;
 use clap::{ArgMatches, Error};
+use n2k_wire::is_interface;
 use std::alloc::{AllocError, Global};
 
 // The value of an argument, where it has one.
@@ -118,5 +120,23 @@ pub fn words(alloc: Global, words: &[&str]) -> Result<Words, Fault>
     match program(alloc)?.try_get_matches_from(words) {
         Ok(matches) => command_of(alloc, &matches),
         Err(error) => help_of(alloc, &error),
+    }
+}
+
+/// The interface that frames are written for, where one is given. One that isn't the name of an interface is refused.
+pub fn interface(given: &Option<Word>) -> Result<Option<&str>, Fault>
+    ensures taken { IfOk result (λ interface. interface_of interface ≡ given.now) }
+    ensures ok { IfOk result (λ interface. IsInterface (interface_of interface)) }
+    ensures refused { IfErr result (λ fault. (fault ≡ Fault.Interface) × (IsInterface given.now → ⊥)) }
+{
+    match given {
+        None => Ok(None),
+        Some(name) => {
+            if is_interface(name.as_str().as_bytes()) {
+                Ok(Some(name.as_str()))
+            } else {
+                Err(Fault::Interface)
+            }
+        }
     }
 }
