@@ -5,6 +5,7 @@ pub mod Feeds
 pub mod Finding
 pub mod Folds
 pub mod Fronts
+pub mod GoingOn
 pub mod LogSteps
 pub mod OutputLines
 pub mod Owed
