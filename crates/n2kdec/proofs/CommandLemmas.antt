@@ -14,7 +14,7 @@ use Rattle.n2k_run.specs.declared.fault.RunFault.TheVariants as run
 use Rattle.n2k_table.specs.Table.{TableParts}
 use Rattle.n2k_table.specs.declared.fault.TableFault.{TableFault}
 use Rattle.n2kdec.specs.Closing.{Closes, SumsUp}
-use Rattle.n2kdec.specs.Commands.{Command, Ends, HasFronts, HasTaken, IsDone, IsRefusedAPlace, IsRefusedOrStopped, IsSaved, IsStopped, IsUntouched, Keeps, Place, SavesFirst, SumsUpPart, Tells, entries_for, no_saving, place}
+use Rattle.n2kdec.specs.Commands.{Command, Ends, HasFronts, HasPrinted, HasTaken, IsDone, IsRefusedAPlace, IsRefusedOrStopped, IsSaved, IsStopped, IsUntouched, Keeps, Place, SavesFirst, SumsUpPart, Tells, entries_for, no_saving, place}
 use Rattle.n2kdec.specs.Fault.{exit_status, fault_of_run}
 use Rattle.n2kdec.specs.declared.fault.Fault.{Fault}
 use Rattle.n2kdec.specs.declared.fault.Fault.TheVariants.{Words, Interface, TableSize, StateSize, Table, State, TableFile, StateFile, Read, Write, Report, Memory, Lines, Save}
@@ -256,6 +256,11 @@ module _ (c : Command) (stands : List Entry → Type 0) (before after : Devices)
     ended_by_closing (Err Read) said = absurd said.1
     ended_by_closing (Err Write) said = absurd said.1
     ended_by_closing (Err Lines) said = absurd said.1
+
+-- what is counted, where there is no state
+pub counts_alone : (left : Option (List ℕ)) (counts : Counts) (text : List ℕ) (of : List ℕ → Counts) → IfSome left (λ log. counts ≡ of log) → IfSome left (λ log. (counts ≡ of log) × (text ≡ text))
+counts_alone None counts text of is = tt
+counts_alone (Some log) counts text of is = (is, refl)
 
 -- nothing follows a run that a fault ended, where the command sums up whole logs alone and saves nothing
 pub ended_by_run : (c : Command) → c.sums_up_a_part ≡ false → c.saving ≡ no_saving → (before after : Devices) (stands : List Entry → Type 0) {T : Type 0} (f : RunFault) (r : Result ℕ Fault)

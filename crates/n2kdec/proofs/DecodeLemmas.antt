@@ -1,13 +1,17 @@
 -- From what the run of a part and its closing leave to what `decode` leaves.
 use Rattle.std.proofs.Common.{◌≡◌, ◌⊎◌, ◌≢◌, ◌∙◌, ℕ, List, [], Option, Some, None, Ok, Err, Result, IfErr, IfOk, IfSome, IsOk, ◌≤◌, ◌++◌, MatchResult, Contains, ap, sym, subst, refl, inl, inr}
+use Rattle.std.proofs.KnownBytes.{Appends-trans}
+use Rattle.std.specs.Io.KnownBytes.{Appends}
 use Rattle.n2k_wire.specs.declared.entry.Entry.{Entry}
+use Rattle.n2k_join.specs.Messages.{counts}
 use Rattle.n2k_join.specs.State.{State as StateOf, state}
 use Rattle.n2k_join.specs.declared.state_fault.StateFault.{StateFault}
 use Rattle.n2k_join.specs.declared.state_fault.StateFault.TheVariants as state_faults
 use Rattle.n2k_run.specs.Decoded.{join_making, output_after}
 use Rattle.n2k_run.specs.Device.{HasFailed}
+use Rattle.n2k_run.specs.Entries.{entries}
 use Rattle.n2k_run.specs.Making.{after_all}
-use Rattle.n2k_run.specs.Parts.{BeginsBy, HasPart, IsOfKind, IsPartOf, OnRefusal, RefusedByMemory, as_run, begun}
+use Rattle.n2k_run.specs.Parts.{BeginsBy, Continues, HasPart, IsFront, IsOfKind, IsPartOf, OnRefusal, RefusedByMemory, as_run, begun, state_after}
 use Rattle.n2k_run.specs.Reports.{summary_text}
 use Rattle.n2k_run.specs.Runs.{Devices, Output, Runs, output_from}
 use Rattle.n2k_run.specs.Writing.{AppendsFront}
@@ -20,8 +24,8 @@ use Rattle.n2k_run.specs.declared.options.Options.{Options}
 use Rattle.n2k_table.specs.Table.{TableParts, kind as kind_of}
 use Rattle.n2k_table.specs.declared.fault.TableFault.{TableFault}
 use Rattle.n2kdec.specs.Closing.{ClosesPart}
-use Rattle.n2kdec.specs.Commands.{Command, Ends, EndsUnlessRefused, IsJudged, IsRefusal, IsRefusedAPlace, IsSaved, IsStopped, Keeps, Place, decode_command, decode_from, decode_to, place}
-use Rattle.n2kdec.specs.Fault.{fault_of_run}
+use Rattle.n2kdec.specs.Commands.{Command, Ends, EndsUnlessRefused, IsJudged, IsRefusal, IsRefusedAPlace, IsSaved, IsStopped, Keeps, Place, PrintsRest, decode_command, decode_from, decode_to, place}
+use Rattle.n2kdec.specs.Fault.{exit_status, fault_of_run}
 use Rattle.n2kdec.specs.declared.fault.Fault.{Fault}
 use Rattle.n2kdec.specs.declared.fault.Fault.TheVariants.{Table, State, Memory}
 use Rattle.n2kdec.proofs.CommandLemmas.{ended_by_closing, few, if_some, left_by_run, stopped_by_run}
@@ -37,14 +41,14 @@ unless c before after (Err fault) stopped = go fault stopped
     go f s = s
 
 module _ (o : Output) (stands_at : List Entry → StateOf) (t : TableParts) (before after : Devices) (errors keeper kept : Place) where
-  c : Command
+  abbrev c : Command
   c = decode_to o stands_at keeper kept
 
-  mid : Devices
+  abbrev mid : Devices
   mid = record after { reported = errors.text; failed_reports = errors.failed }
 
-  abbrev summed : Place
-  summed = place after.reported after.failed_reports
+  abbrev said : Place
+  said = place after.reported after.failed_reports
 
   summary_of : (part : Part) (es : List Entry) → IsPartOf t (stands_at es) part → AppendsFront errors.text after.reported (summary_text part.counts)
       → AppendsFront errors.text after.reported (summary_text (c.counts es))
@@ -57,7 +61,7 @@ module _ (o : Output) (stands_at : List Entry → StateOf) (t : TableParts) (bef
 
   -- what the run of a part and its closing come to
   closed : (ended : Result Part PartFault) (r : Result ℕ Fault) → IsOfKind ended → RefusedByMemory ended
-      → Runs o (λ es. HasPart t ended (stands_at es)) before mid (as_run ended) → ClosesPart keeper kept errors summed ended r → EndsUnlessRefused c before after r
+      → Runs o (λ es. HasPart t ended (stands_at es)) before mid (as_run ended) → ClosesPart keeper kept errors said ended r → EndsUnlessRefused c before after r
   closed (Ok part) r kind memory ran closes = unless c before after r
       (ended_by_closing c _ before after errors part part.state.items part.counts ran
       (if_some _ _ before.left (λ log is. (is.counted, is.saved)) ran.ends.holds) r closes)
@@ -154,8 +158,8 @@ module _ (found : List TableFault) (none : found ≡ []) (t : TableParts) (hande
   judged_by_part keeper kept errors summed (Err (part_faults.State fault)) begins closes = subst judged (sym closes.0) (none, begins.0, go begins.1)
     where
       go : (fault ≡ state_faults.Memory) ⊎ (begun t handed ≡ Err fault) → fault ≢ state_faults.Memory → begun t handed ≡ Err fault
-      go (inl memory) no = absurd (no memory)
-      go (inr refused) no = refused
+      go (inl memory) differs = absurd (differs memory)
+      go (inr refused) differs = refused
 
 -- what holds where the state was refused holds where a refusal is answered
 pub on_refusal : (P : Type 0) (keeper kept errors summed : Place) (ended : Result Part PartFault) (r : Result ℕ Fault) → ClosesPart keeper kept errors summed ended r → OnRefusal ended P
@@ -199,3 +203,42 @@ few_by_part keeper kept errors summed (Err (part_faults.Stopped run.TooManyLines
 few_by_part keeper kept errors summed (Err (part_faults.Run fault)) r closes = subst (λ r. IfOk r (λ status. status ≤ 1)) (sym closes.0) tt
 few_by_part keeper kept errors summed (Err (part_faults.State fault)) r closes = subst (λ r. IfOk r (λ status. status ≤ 1)) (sym closes.0) tt
 few_by_part keeper kept errors summed (Err part_faults.Memory) r closes = subst (λ r. IfOk r (λ status. status ≤ 1)) (sym closes.0) tt
+
+-- a part that was not run to its end gives a fault
+fault_by_part : (keeper kept errors summary : Place) (fault : PartFault) (r : Result ℕ Fault) → ClosesPart keeper kept errors summary (Err fault) r → (f : Fault) × (r ≡ Err f)
+fault_by_part keeper kept errors summary (part_faults.Stopped run.Read part) r closes = (_, closes.0)
+fault_by_part keeper kept errors summary (part_faults.Stopped run.Write part) r closes = (_, closes.0)
+fault_by_part keeper kept errors summary (part_faults.Stopped run.Report part) r closes = (_, closes.0)
+fault_by_part keeper kept errors summary (part_faults.Stopped run.Memory part) r closes = (_, closes.0)
+fault_by_part keeper kept errors summary (part_faults.Stopped run.TooManyLines part) r closes = (_, closes.0)
+fault_by_part keeper kept errors summary (part_faults.Run fault) r closes = (_, closes.0)
+fault_by_part keeper kept errors summary (part_faults.State fault) r closes = (_, closes.0)
+fault_by_part keeper kept errors summary part_faults.Memory r closes = (_, closes.0)
+
+-- the rest of a log was printed, where its front is what the state handed in leads to
+module _ (o : Options) (front : List ℕ) (before after : Devices) (errors keeper kept : Place) where
+  abbrev Rest : TableParts → Result ℕ Fault → Type 0
+  Rest t r = IfOk r (λ status. IfSome before.left (λ log. PrintsRest t o front log before after keeper kept status))
+
+  rest_of : (t : TableParts) (ended : Result Part PartFault) (r : Result ℕ Fault) → Continues t o front before (record after { reported = errors.text; failed_reports = errors.failed }) ended
+      → ClosesPart keeper kept errors (place after.reported after.failed_reports) ended r → Rest t r
+  rest_of t (Ok part) (Err fault) goes closes = tt
+  rest_of t (Ok part) (Ok status) goes closes = if_some _ _ before.left (λ log on. record {
+    text = on.text;
+    printed = on.printed;
+    output = on.output;
+    report = on.report;
+    reported = Appends-trans before.reported errors.text after.reported on.report (summary_text (counts (kind_of t) (entries o.packing (front ++ log))))
+        on.reported (subst (λ n. Appends errors.text after.reported (summary_text n)) on.counted closes.1.0);
+    told = on.told;
+    answered = closes.1.2 ∙ ap exit_status on.counted;
+    saved = subst (Keeps keeper kept) on.saved closes.0;
+    reads_back = subst (λ s. begun t (Some s) ≡ Ok (state_after t o (front ++ log))) on.saved on.reads_back;
+  }) goes.1
+  rest_of t (Err fault) r goes closes = subst (Rest t) (sym (fault_by_part keeper kept errors (place after.reported after.failed_reports) fault r closes).1) tt
+
+  pub decoded_rest : (t read : TableParts) (handed : Option (List ℕ)) (ended : Result Part PartFault) (r : Result ℕ Fault) → read ≡ t → IsFront t o front handed
+      → (IsFront read o front handed → Continues read o front before (record after { reported = errors.text; failed_reports = errors.failed }) ended)
+      → ClosesPart keeper kept errors (place after.reported after.failed_reports) ended r → Rest t r
+  decoded_rest t read handed ended r same is goes closes = subst (λ u. Rest u r) same
+      (rest_of read ended r (goes (subst (λ u. IsFront u o front handed) (sym same) is)) closes)

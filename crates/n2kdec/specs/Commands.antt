@@ -1,5 +1,5 @@
 -- What a command leaves on its devices where it comes to its end, and where a fault stops it.
-use Rattle.std.specs.Prelude.{◌≡◌, ◌≢◌, ◌⊎◌, ◌≤◌, ◌+◌, ◌++◌, ℕ, Bool, true, false, List, [], ◌∷◌, length, Option, None, IfSome, IsSome, Result, Ok, Err, IsOk, MatchResult, Contains}
+use Rattle.std.specs.Prelude.{◌≡◌, ◌≢◌, ◌⊎◌, ◌≤◌, ◌+◌, ◌++◌, ℕ, Bool, true, false, List, [], ◌∷◌, length, Option, Some, None, IfSome, IsSome, Result, Ok, Err, IsOk, MatchResult, Contains}
 use Rattle.std.specs.Io.KnownBytes.{Appends, Consumes}
 use Rattle.n2k_wire.specs.declared.entry.Entry.{Entry}
 use Rattle.n2k_table.specs.Table.{TableParts, kind}
@@ -9,14 +9,16 @@ use Rattle.n2k_join.specs.declared.counts.Counts.{Counts}
 use Rattle.n2k_join.specs.declared.state_fault.StateFault.{StateFault}
 use Rattle.n2k_join.specs.declared.state_fault.StateFault.TheVariants as state_faults
 use Rattle.n2k_join.specs.Counts.{most_lines}
+use Rattle.n2k_join.specs.Messages.{counts}
 use Rattle.n2k_join.specs.Saved.{state_text}
 use Rattle.n2k_join.specs.State.{State as StateOf, state}
-use Rattle.n2k_run.specs.Decoded.{join_making, output_after}
+use Rattle.n2k_run.specs.Decoded.{join_making, out, output_after, reports}
 use Rattle.n2k_run.specs.Device.{HasFailed}
 use Rattle.n2k_run.specs.Entries.{entries}
 use Rattle.n2k_run.specs.FramesOut.{frame_counts_of, frames_output}
 use Rattle.n2k_run.specs.Lines.{whole_lines}
 use Rattle.n2k_run.specs.Making.{after_all}
+use Rattle.n2k_run.specs.Parts.{begun, save, state_after}
 use Rattle.n2k_run.specs.Plain.{plain_counts_of, plain_output}
 use Rattle.n2k_run.specs.Reading.{OutlastsReads}
 use Rattle.n2k_run.specs.Reports.{summary_text}
@@ -218,3 +220,19 @@ EndsUnlessRefused c before after (Err (Table fault)) = Unit {0}
 EndsUnlessRefused c before after (Err (State fault)) = fault ≡ state_faults.Memory
 EndsUnlessRefused c before after (Err fault) = IsStopped c before after fault
 EndsUnlessRefused c before after (Ok status) = IsDone c before after status
+
+-- ---- the headline of a log in parts
+
+-- After this front of a log and `more`, the whole stands: what is printed is exactly what the output and the reports of both
+-- have after those of the front, then the summary of both; the status is that of both, and their state is saved, from which
+-- the log can go on.
+pub record PrintsRest (t : TableParts) (o : Options) (front more : List ℕ) (before after : Devices) (keeper kept : Place) (status : ℕ) : Type 0 where
+  pub text : List ℕ
+  pub printed : Appends before.written after.written text
+  pub output : out t o (front ++ more) ≡ out t o front ++ text
+  pub report : List ℕ
+  pub reported : Appends before.reported after.reported (report ++ summary_text (counts (kind t) (entries o.packing (front ++ more))))
+  pub told : reports t o (front ++ more) ≡ reports t o front ++ report
+  pub answered : status ≡ exit_status (counts (kind t) (entries o.packing (front ++ more)))
+  pub saved : Keeps keeper kept (save t o (front ++ more))
+  pub reads_back : begun t (Some (save t o (front ++ more))) ≡ Ok (state_after t o (front ++ more))

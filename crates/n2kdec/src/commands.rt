@@ -1,18 +1,18 @@
 //! The commands over their devices: what they print, what they save, and the status that they end with.
-ghost use Rattle.std.specs.Prelude.{◌≡◌, ◌≤◌, ◌⊎◌, [], IfErr, IfOk, IfSome, IsErrOf, IsOk, List, MatchResult, Ok, OnErr, OnOk, false, option_map};
+ghost use Rattle.std.specs.Prelude.{◌≡◌, ◌≤◌, ◌⊎◌, [], IfErr, IfOk, IfSome, IsErrOf, IsOk, List, MatchResult, Ok, OnErr, OnOk, ℕ, false, option_map};
 ghost use Rattle.std.specs.Io.KnownBytes.{Appends};
 ghost use Rattle.n2k_wire.specs.declared.entry.Entry.{Entry};
 ghost use Rattle.n2k_join.specs.State.{State, state as state_of};
 ghost use Rattle.n2k_run.specs.Device.{HasFailed};
 ghost use Rattle.n2k_run.specs.FramesOut.{IsInterface, interface_of};
-ghost use Rattle.n2k_run.specs.Parts.{OnRefusal, begun};
+ghost use Rattle.n2k_run.specs.Parts.{IsFront, OnRefusal, begun};
 ghost use Rattle.n2k_run.specs.Reports.{summary_text};
 ghost use Rattle.n2k_run.specs.Runs.{devices};
 ghost use Rattle.n2k_run.specs.Writing.{AppendsFront};
 ghost use Rattle.n2k_table.specs.Table.{faults, kind, table as table_of};
 ghost use Rattle.n2k_table.specs.declared.fault.TableFault.{TableFault};
 ghost use Rattle.n2kdec.specs.Closing.{ClosesPart, SumsUp};
-ghost use Rattle.n2kdec.specs.Commands.{Ends, EndsUnlessRefused, IsDone, IsJudged, IsRefusal, IsRefusedOrStopped, decode_command, decode_from, frames_command, place, plain_command};
+ghost use Rattle.n2kdec.specs.Commands.{Ends, EndsUnlessRefused, IsDone, IsJudged, IsRefusal, IsRefusedOrStopped, PrintsRest, decode_command, decode_from, frames_command, place, plain_command};
 ghost use Rattle.n2kdec.specs.Fault.{exit_status};
 
 use crate::fault::{Fault, exit_status};
@@ -170,6 +170,17 @@ pub fn decode<K: Keeper, R: Source, W: Sink, E: Sink>(
         (W.contents output.new) (W.failed_calls output.new) (E.contents errors.new) (E.failed_calls errors.new) in
         EndsUnlessRefused (decode_command (table_of table.now) options front (place (K.kept keeper.old) (K.failed_calls keeper.old))
         (place (K.kept keeper.new) (K.failed_calls keeper.new))) before after result }
+
+    // The headline: after this front of a log, whose state was handed in, exactly the rest of what the whole log gives is
+    // printed, and the state of the whole is saved.
+    ensures headline { (front : List ℕ) → IsFront (table_of table.now) options front (option_map (λ bytes. bytes.now) state.entry) →
+        let before = devices (R.remaining log.old) (R.calls log.old) (R.failed_calls log.old)
+        (W.contents output.old) (W.failed_calls output.old) (E.contents errors.old) (E.failed_calls errors.old) in
+        let after = devices (R.remaining log.new) (R.calls log.new) (R.failed_calls log.new)
+        (W.contents output.new) (W.failed_calls output.new) (E.contents errors.new) (E.failed_calls errors.new) in
+        IfOk result (λ status. IfSome (R.remaining log.old) (λ bytes.
+        PrintsRest (table_of table.now) options front bytes before after (place (K.kept keeper.old) (K.failed_calls keeper.old))
+        (place (K.kept keeper.new) (K.failed_calls keeper.new)) status)) }
 {
     let table = Table::read(alloc, table)?;
     let ended = run_part(alloc, &table, state, options, log, output, errors);
@@ -193,7 +204,7 @@ pub fn frames<R: Source, W: Sink, E: Sink>(
         (W.contents output.old) (W.failed_calls output.old) (E.contents errors.old) (E.failed_calls errors.old) in
         let after = devices (R.remaining log.new) (R.calls log.new) (R.failed_calls log.new)
         (W.contents output.new) (W.failed_calls output.new) (E.contents errors.new) (E.failed_calls errors.new) in
-        let command = frames_command (table_of table.now) (interface_of interface) in
+        let command = frames_command (table_of table.now) (interface_of interface.entry) in
         MatchResult result (λ status. (faults table.now ≡ []) × IsDone command before after status)
         (IsRefusedOrStopped (faults table.now) command before after) }
     ensures untouched { (fault : TableFault) → IsErrOf result (Fault.Table fault)
