@@ -14,7 +14,7 @@ use Rattle.n2kdec.specs.declared.fault.Fault.TheVariants as fault
 use Rattle.n2kdec.specs.declared.word.Words.{Words}
 use Rattle.n2kdec.specs.declared.word.Words.TheVariants.{Help}
 use Rattle.n2kdec.specs.Usage.{program_app}
-use Rattle.n2kdec.specs.Words.{AnswersKind, IsAskedBy, IsRefused, Names, decode_words, named, plain_words, words_of}
+use Rattle.n2kdec.specs.Words.{AnswersKind, IsAskedBy, IsRefused, Names, decode_words, frames_words, named, plain_words, words_of}
 
 -- the command is one of those whose matches and faults are known
 program_is_simple : is_simple program_app ≡ true
@@ -46,12 +46,13 @@ mapped_is_no_help f none (Some t) = none t
 -- no subcommand is help
 named_is_no_help : (rows : Option (Text × List Row)) → is_help (named rows) ≡ false
 named_is_no_help None = refl
-named_is_no_help (Some p) = go (bytes_eq p.0 (codes "plain")) (bytes_eq p.0 (codes "decode"))
+named_is_no_help (Some p) = go (bytes_eq p.0 (codes "plain")) (bytes_eq p.0 (codes "decode")) (bytes_eq p.0 (codes "frames"))
   where
-    go : (is_plain is_decode : Bool) → is_help (cond is_plain (plain_words p.1) (cond is_decode (decode_words p.1) None)) ≡ false
-    go true is_decode = refl
-    go false true = mapped_is_no_help _ (λ t. refl) (first_of (codes "table") p.1)
-    go false false = refl
+    go : (is_plain is_decode is_frames : Bool) → is_help (cond is_plain (plain_words p.1) (cond is_decode (decode_words p.1) (cond is_frames (frames_words p.1) None))) ≡ false
+    go true is_decode is_frames = refl
+    go false true is_frames = mapped_is_no_help _ (λ t. refl) (first_of (codes "table") p.1)
+    go false false true = mapped_is_no_help _ (λ t. refl) (first_of (codes "table") p.1)
+    go false false false = refl
 
 -- the matches are those of the definition, so what is named in them is what the words name
 pub asked_by_matches : (words : List Text) (rows : Option (Text × List Row)) (r : Result Words Fault) → rows ≡ subcommand_of program_app words → fault_of program_app words ≡ [] → Names (named rows) r → IfOk r (IsAskedBy words)

@@ -1,26 +1,23 @@
--- From what a run and the summary leave to what a command leaves.
+-- From what a run, the place of a state and the summary leave to what a command leaves.
 use Rattle.std.proofs.Common.{◌≡◌, ◌⊎◌, ◌≤◌, ◌==◌, ◌++◌, Bool, true, false, cond, arith, MatchResult, ◌∙◌, ℕ, List, [], Option, Some, None, Ok, Err, Result, IfOk, IfSome, IfErr, IsErrAnd, IsErrOf, OnErr, OnOk, ap, sym, subst, refl, inl, inr, append_assoc, append-nil}
 use Rattle.std.proofs.KnownBytes.{Appends-nil, Appends-trans}
 use Rattle.std.specs.Io.KnownBytes.{Appends}
 use Rattle.n2k_wire.specs.declared.entry.Entry.{Entry}
 use Rattle.n2k_join.specs.declared.counts.Counts.{Counts}
-use Rattle.n2k_join.specs.State.{State, state}
 use Rattle.n2k_run.specs.Device.{HasFailed}
-use Rattle.n2k_run.specs.Entries.{entries}
 use Rattle.n2k_run.specs.Reports.{summary_text}
 use Rattle.n2k_run.specs.Writing.{AppendsFront}
-use Rattle.n2k_run.specs.Plain.{plain_output}
-use Rattle.n2k_run.specs.Runs.{Devices, Gained, ReportsFirst, Runs}
+use Rattle.n2k_run.specs.Runs.{Devices, Gained, Output, ReportsFirst, Runs}
 use Rattle.n2k_run.specs.Runs.{HasFronts as RunFronts}
 use Rattle.n2k_run.specs.declared.fault.RunFault.{RunFault}
 use Rattle.n2k_run.specs.declared.fault.RunFault.TheVariants as run
-use Rattle.n2k_run.specs.declared.options.Options.{Options}
-use Rattle.n2k_table.specs.Table.{TableParts, kind}
+use Rattle.n2k_table.specs.Table.{TableParts}
 use Rattle.n2k_table.specs.declared.fault.TableFault.{TableFault}
-use Rattle.n2kdec.specs.Commands.{Command, HasFronts, HasTaken, IsDone, IsRefusedOrStopped, IsStopped, SumsUp, Tells, decode_command, entries_for, plain_command}
-use Rattle.n2kdec.specs.Fault.{exit_status, fault_of_run, stands_after}
+use Rattle.n2kdec.specs.Closing.{Closes, SumsUp}
+use Rattle.n2kdec.specs.Commands.{Command, Ends, HasFronts, HasPrinted, HasTaken, IsDone, IsRefusedAPlace, IsRefusedOrStopped, IsSaved, IsStopped, IsUntouched, Keeps, Place, SavesFirst, SumsUpPart, Tells, entries_for, no_saving, place}
+use Rattle.n2kdec.specs.Fault.{exit_status, fault_of_run}
 use Rattle.n2kdec.specs.declared.fault.Fault.{Fault}
-use Rattle.n2kdec.specs.declared.fault.Fault.TheVariants.{Table, Read, Write, Report, Memory, Lines}
+use Rattle.n2kdec.specs.declared.fault.Fault.TheVariants.{Words, Interface, TableSize, StateSize, Table, State, TableFile, StateFile, Read, Write, Report, Memory, Lines, Save}
 
 -- a front of a text is a front of what is longer
 front_on : (old new : Option (List ℕ)) (text more : List ℕ) → AppendsFront old new text → AppendsFront old new (text ++ more)
@@ -50,7 +47,7 @@ front_after old mid new text more all front = (
   },
 )
 
-if_some : {A : Type 0} (P Q : A → Type 0) (o : Option A) → ((a : A) → P a → Q a) → IfSome o P → IfSome o Q
+pub if_some : {A : Type 0} (P Q : A → Type 0) (o : Option A) → ((a : A) → P a → Q a) → IfSome o P → IfSome o Q
 if_some P Q None weaker p = tt
 if_some P Q (Some a) weaker p = weaker a p
 
@@ -65,149 +62,238 @@ more_after old mid new text more first then = (
   subst (λ t. Appends old new t) (append_assoc text first.0 more) (Appends-trans old mid new (text ++ first.0) more first.1 then),
 )
 
-few : (counts : Counts) → exit_status counts ≤ 1
+pub few : (counts : Counts) → exit_status counts ≤ 1
 few counts = go (counts.bad == 0)
   where
     go : (b : Bool) → cond b 0 1 ≤ 1
     go true = omega arith
     go false = omega arith
 
--- a run ended, by which the devices stood so but for the errors, and then a summary of counts was written, or a front of it
-module _ (c : Command) (stands : List Entry → Type 0) (before after : Devices) (errors : Option (List ℕ)) (failed : ℕ) where
+-- what the summary's function says, case by case
+pub summed_up : (before after : Place) (counts : Counts) (r : Result ℕ Fault)
+    → OnOk r (Appends before.text after.text (summary_text counts))
+    → AppendsFront before.text after.text (summary_text counts)
+    → OnOk r (after.failed ≡ before.failed)
+    → IfOk r (λ status. status ≡ exit_status counts)
+    → IfErr r (λ fault. (fault ≡ Report) ⊎ (fault ≡ Memory))
+    → (IsErrOf r Report → HasFailed before.failed after.failed)
+    → SumsUp before after counts r
+summed_up before after counts (Ok status) written front same is which report = (written, same, is)
+summed_up before after counts (Err fault) written front same is (inl which) report =
+    subst (λ f. SumsUp before after counts (Err f)) (sym which) (report (ap Err which), front)
+summed_up before after counts (Err fault) written front same is (inr which) report =
+    subst (λ f. SumsUp before after counts (Err f)) (sym which) front
+
+-- the state is kept, and then the summary is written
+pub closes_saved : (keeper kept errors summed : Place) (text : List ℕ) (counts : Counts) (r : Result ℕ Fault) → Keeps keeper kept text → SumsUp errors summed counts r
+    → Closes keeper kept errors summed text counts r
+closes_saved keeper kept errors summed text counts (Ok status) keeps said = (keeps, said)
+closes_saved keeper kept errors summed text counts (Err Report) keeps said = (keeps, said)
+closes_saved keeper kept errors summed text counts (Err Memory) keeps said = (keeps, said)
+closes_saved keeper kept errors summed text counts (Err Words) keeps said = absurd said
+closes_saved keeper kept errors summed text counts (Err Interface) keeps said = absurd said
+closes_saved keeper kept errors summed text counts (Err TableSize) keeps said = absurd said
+closes_saved keeper kept errors summed text counts (Err StateSize) keeps said = absurd said
+closes_saved keeper kept errors summed text counts (Err (Table f)) keeps said = absurd said
+closes_saved keeper kept errors summed text counts (Err (State f)) keeps said = absurd said
+closes_saved keeper kept errors summed text counts (Err TableFile) keeps said = absurd said
+closes_saved keeper kept errors summed text counts (Err StateFile) keeps said = absurd said
+closes_saved keeper kept errors summed text counts (Err Read) keeps said = absurd said
+closes_saved keeper kept errors summed text counts (Err Write) keeps said = absurd said
+closes_saved keeper kept errors summed text counts (Err Lines) keeps said = absurd said
+closes_saved keeper kept errors summed text counts (Err Save) keeps said = absurd said
+
+-- by a command that has no state
+pub closes_unsaved : (errors summed : Place) (counts : Counts) (r : Result ℕ Fault) → SumsUp errors summed counts r
+    → Closes no_saving.before no_saving.after errors summed [] counts r
+closes_unsaved errors summed counts r said = closes_saved no_saving.before no_saving.after errors summed [] counts r (record { kept = tt; none_failed = refl }) said
+
+-- a front of the summary is written in any case
+pub front_summed : (errors summed : Place) (counts : Counts) (r : Result ℕ Fault) → SumsUp errors summed counts r → AppendsFront errors.text summed.text (summary_text counts)
+front_summed errors summed counts (Ok status) said = front_whole errors.text summed.text (summary_text counts) said.0
+front_summed errors summed counts (Err Report) said = said.1
+front_summed errors summed counts (Err Memory) said = said
+front_summed errors summed counts (Err Words) said = absurd said
+front_summed errors summed counts (Err Interface) said = absurd said
+front_summed errors summed counts (Err TableSize) said = absurd said
+front_summed errors summed counts (Err StateSize) said = absurd said
+front_summed errors summed counts (Err (Table f)) said = absurd said
+front_summed errors summed counts (Err (State f)) said = absurd said
+front_summed errors summed counts (Err TableFile) said = absurd said
+front_summed errors summed counts (Err StateFile) said = absurd said
+front_summed errors summed counts (Err Read) said = absurd said
+front_summed errors summed counts (Err Write) said = absurd said
+front_summed errors summed counts (Err Lines) said = absurd said
+front_summed errors summed counts (Err Save) said = absurd said
+
+-- a place has kept a text, or has failed
+pub kept_or_failed : {T E : Type 0} (keeper kept : Place) (text : List ℕ) (r : Result T E) → OnOk r (IfSome kept.text (λ now. now ≡ text)) → OnOk r (kept.failed ≡ keeper.failed) → OnErr r (HasFailed keeper.failed kept.failed)
+    → Keeps keeper kept text ⊎ HasFailed keeper.failed kept.failed
+kept_or_failed keeper kept text (Ok x) is same failed = inl (record { kept = is; none_failed = same })
+kept_or_failed keeper kept text (Err e) is same failed = inr failed
+
+-- a run ended, by which the devices stood so but for the errors, which then took a summary or a front of it
+module _ (c : Command) (stands : List Entry → Type 0) (before after : Devices) (errors : Place) where
   abbrev mid : Devices
-  mid = record after { reported = errors; failed_reports = failed }
+  mid = record after { reported = errors.text; failed_reports = errors.failed }
+
+  abbrev pub summed : Place
+  summed = place after.reported after.failed_reports
+
+  -- nothing is written, and nothing is saved
+  abbrev pub IsLeft : Type 0
+  IsLeft = (summed ≡ errors) × IsUntouched c.saving
 
   -- what follows the fault of a run: the summary of the lines that it has taken, or nothing
   abbrev pub Follows : RunFault → Type 0
-  Follows run.Read = (es : List Entry) → stands es → SumsUp c.sums_up_a_part errors after.reported (summary_text (c.counts es))
-  Follows run.TooManyLines = (es : List Entry) → stands es → SumsUp c.sums_up_a_part errors after.reported (summary_text (c.counts es))
-  Follows run.Write = (errors ≡ after.reported) × (failed ≡ after.failed_reports)
-  Follows run.Report = (errors ≡ after.reported) × (failed ≡ after.failed_reports)
-  Follows run.Memory = (errors ≡ after.reported) × (failed ≡ after.failed_reports)
+  Follows run.Read = (es : List Entry) → stands es → SumsUpPart c.sums_up_a_part errors.text after.reported (summary_text (c.counts es))
+      × (IsSaved c.saving es ⊎ IsRefusedAPlace c.saving)
+  Follows run.TooManyLines = (es : List Entry) → stands es → SumsUpPart c.sums_up_a_part errors.text after.reported (summary_text (c.counts es))
+      × IsUntouched c.saving
+  Follows run.Write = IsLeft
+  Follows run.Report = IsLeft
+  Follows run.Memory = IsLeft
 
-  taken : (es : List Entry) → Gained c.output before mid es → SumsUp c.sums_up_a_part errors after.reported (summary_text (c.counts es)) → HasTaken c before after es
-  taken es gained summary = record { errors = errors; text = gained.printed; report = gained.reported; summary = summary }
+  taken : (es : List Entry) → Gained c.output before mid es → SumsUpPart c.sums_up_a_part errors.text after.reported (summary_text (c.counts es)) → HasTaken c before after es
+  taken es gained summary = record { errors = errors.text; text = gained.printed; report = gained.reported; summary = summary }
 
-  fronts : errors ≡ after.reported → IfSome before.left (RunFronts c.output before mid) → IfSome before.left (HasFronts c before after)
+  same_text : summed ≡ errors → errors.text ≡ after.reported
+  same_text same = ap (λ (p : Place). p.text) (sym same)
+
+  fronts : errors.text ≡ after.reported → IfSome before.left (RunFronts c.output before mid) → IfSome before.left (HasFronts c before after)
   fronts same ran = if_some _ _ before.left (λ log front. record {
     text = front.printed;
     report = front_on before.reported after.reported (c.output.reports (entries_for c log)) (summary_text (c.counts (entries_for c log)))
         (subst (λ e. AppendsFront before.reported e (c.output.reports (entries_for c log))) same front.reported);
   }) ran
 
-  tells : {T : Type 0} (f : RunFault) → Runs {T = T} c.output stands before mid (Err f) → Follows f → Tells c before after (fault_of_run f)
-  tells run.Read ran follows = (ran.device, record { came = ran.ends.came; given = ran.ends.given; taken = taken _ ran.ends.gained (follows _ ran.ends.holds) })
-  tells run.TooManyLines ran follows = record { lines = ran.ends.taken; full = ran.ends.full; more = ran.ends.left; taken = taken _ ran.ends.gained (follows _ ran.ends.holds) }
-  tells run.Write ran follows = (ran.device, fronts follows.0 ran.fronts)
-  tells run.Report ran follows = (subst (λ n. HasFailed before.failed_reports n) follows.1 ran.device, fronts follows.0 ran.fronts)
-  tells run.Memory ran follows = fronts follows.0 ran.fronts
+  unsaved : IsLeft → IfSome before.left (RunFronts c.output before mid) → IfSome before.left (SavesFirst c before after)
+  unsaved left ran = if_some _ _ before.left (λ log front.
+      inl (left.1, subst (λ e. AppendsFront before.reported e (c.output.reports (entries_for c log))) (same_text left.0) front.reported)) ran
 
-  still_first : (more : List ℕ) → Appends errors after.reported more → IfSome before.left (ReportsFirst c.output before mid) → IfSome before.left (ReportsFirst c.output before after)
+  tells : {T : Type 0} (f : RunFault) → Runs {T = T} c.output stands before mid (Err f) → Follows f → Tells c before after (fault_of_run f)
+  tells run.Read ran follows =
+      let said = follows _ ran.ends.holds in
+      (ran.device, record { came = ran.ends.came; given = ran.ends.given; taken = taken _ ran.ends.gained said.0; saved = said.1 })
+  tells run.TooManyLines ran follows =
+      let said = follows _ ran.ends.holds in
+      record { lines = ran.ends.taken; full = ran.ends.full; more = ran.ends.left; taken = taken _ ran.ends.gained said.0; unsaved = said.1 }
+  tells run.Write ran follows = (ran.device, fronts (same_text follows.0) ran.fronts, follows.1)
+  tells run.Report ran follows =
+      (subst (λ n. HasFailed before.failed_reports n) (ap (λ (p : Place). p.failed) (sym follows.0)) ran.device, fronts (same_text follows.0) ran.fronts, unsaved follows ran.fronts)
+  tells run.Memory ran follows = (fronts (same_text follows.0) ran.fronts, unsaved follows ran.fronts)
+
+  still_first : (more : List ℕ) → Appends errors.text after.reported more → IfSome before.left (ReportsFirst c.output before mid) → IfSome before.left (ReportsFirst c.output before after)
   still_first more written = if_some _ _ before.left (λ log first. record {
     taken = first.taken;
     left = first.left;
     lines_taken = first.lines_taken;
     printed = first.printed;
-    reported = more_after before.reported errors after.reported (c.output.reports first.taken) more first.reported written;
+    reported = more_after before.reported errors.text after.reported (c.output.reports first.taken) more first.reported written;
   })
 
   -- a run's fault stops a command
-  pub stopped_by_run : {T : Type 0} (f : RunFault) → Runs {T = T} c.output stands before mid (Err f) → Follows f → (more : List ℕ) → Appends errors after.reported more
+  pub stopped_by_run : {T : Type 0} (f : RunFault) → Runs {T = T} c.output stands before mid (Err f) → Follows f → (more : List ℕ) → Appends errors.text after.reported more
       → IsStopped c before after (fault_of_run f)
   stopped_by_run f ran follows more written = record { tells = tells f ran follows; reports_first = still_first more written ran.reports_first }
 
-  module _ (counts : Counts) where
-    done : {T : Type 0} (x : T) → Runs {T = T} c.output stands before mid (Ok x)
-        → IfSome before.left (λ log. counts ≡ c.counts (entries_for c log))
-        → Appends errors after.reported (summary_text counts) → after.failed_reports ≡ failed → (status : ℕ) → status ≡ exit_status counts → IsDone c before after status
-    done x ran counted written same status is = record {
+  -- one after which nothing is written and nothing is saved
+  pub left_by_run : {T : Type 0} (f : RunFault) → Runs {T = T} c.output stands before mid (Err f) → Follows f → summed ≡ errors → IsStopped c before after (fault_of_run f)
+  left_by_run f ran follows same = stopped_by_run f ran follows [] (subst (λ e. Appends errors.text e []) (same_text same) (Appends-nil errors.text))
+
+  -- a run came to its end, and what is saved and summed up is what the command saves and counts
+  module _ {T : Type 0} (x : T) (text : List ℕ) (counts : Counts) (ran : Runs {T = T} c.output stands before mid (Ok x))
+      (counted : IfSome before.left (λ log. (counts ≡ c.counts (entries_for c log)) × (text ≡ c.saving.state (entries_for c log)))) where
+    done : (status : ℕ) → Keeps c.saving.before c.saving.after text → SumsUp errors summed counts (Ok status) → IsDone c before after status
+    done status keeps said = record {
       text = if_some _ _ before.left (λ log gained. gained.printed) ran.ends.gained;
-      report = if_both _ _ _ before.left (λ log gained now. Appends-trans before.reported errors after.reported (c.output.reports (entries_for c log)) (summary_text (c.counts (entries_for c log)))
-          gained.reported (subst (λ n. Appends errors after.reported (summary_text n)) now written)) ran.ends.gained counted;
-      status = if_some _ _ before.left (λ log now. is ∙ ap exit_status now) counted;
-      end = subst (λ n. n ≤ 1) (sym is) (few counts);
-      none_failed = record { reads = ran.device.reads; writes = ran.device.writes; reports = same ∙ ran.device.reports };
+      report = if_both _ _ _ before.left (λ log gained now. Appends-trans before.reported errors.text after.reported (c.output.reports (entries_for c log)) (summary_text (c.counts (entries_for c log)))
+          gained.reported (subst (λ n. Appends errors.text after.reported (summary_text n)) now.0 said.0)) ran.ends.gained counted;
+      status = if_some _ _ before.left (λ log now. said.2 ∙ ap exit_status now.0) counted;
+      end = subst (λ n. n ≤ 1) (sym said.2) (few counts);
+      none_failed = record { reads = ran.device.reads; writes = ran.device.writes; reports = said.1 ∙ ran.device.reports };
+      saved = if_some _ _ before.left (λ log now. subst (Keeps c.saving.before c.saving.after) now.1 keeps) counted;
     }
 
-    unsummed : {T : Type 0} (x : T) → Runs {T = T} c.output stands before mid (Ok x)
-        → IfSome before.left (λ log. counts ≡ c.counts (entries_for c log))
-        → AppendsFront errors after.reported (summary_text counts) → (fault : Fault) → (fault ≡ Report) ⊎ (fault ≡ Memory)
-        → (IsErrOf {T = ℕ} (Err fault) Report → HasFailed failed after.failed_reports) → IsStopped c before after fault
-    unsummed x ran counted front fault which report = record { tells = told which; reports_first = still_first front.1.front front.1.appended ran.reports_first }
-      where
-        written : IfSome before.left (HasFronts c before after)
-        written = if_both _ _ _ before.left (λ log gained now. record {
-          text = front_whole before.written after.written (c.output.texts (entries_for c log)) gained.printed;
-          report = front_after before.reported errors after.reported (c.output.reports (entries_for c log)) (summary_text (c.counts (entries_for c log)))
-              gained.reported (subst (λ n. AppendsFront errors after.reported (summary_text n)) now front);
-        }) ran.ends.gained counted
+    -- what is written where the summary stops in the middle
+    written : AppendsFront errors.text after.reported (summary_text counts) → IfSome before.left (HasFronts c before after)
+    written front = if_both _ _ _ before.left (λ log gained now. record {
+      text = front_whole before.written after.written (c.output.texts (entries_for c log)) gained.printed;
+      report = front_after before.reported errors.text after.reported (c.output.reports (entries_for c log)) (summary_text (c.counts (entries_for c log)))
+          gained.reported (subst (λ n. AppendsFront errors.text after.reported (summary_text n)) now.0 front);
+    }) ran.ends.gained counted
 
-        told : (fault ≡ Report) ⊎ (fault ≡ Memory) → Tells c before after fault
-        told (inl is) = subst (Tells c before after) (sym is) (subst (λ n. HasFailed n after.failed_reports) ran.device.reports (report (ap Err is)), written)
-        told (inr is) = subst (Tells c before after) (sym is) written
+    saved_first : Keeps c.saving.before c.saving.after text → IfSome before.left (SavesFirst c before after)
+    saved_first keeps = if_some _ _ before.left (λ log now. inr (subst (Keeps c.saving.before c.saving.after) now.1 keeps)) counted
 
-    pub ended_by_summary : {T : Type 0} (x : T) (r : Result ℕ Fault) → Runs {T = T} c.output stands before mid (Ok x)
-        → IfSome before.left (λ log. counts ≡ c.counts (entries_for c log))
-        → OnOk r (Appends errors after.reported (summary_text counts))
-        → AppendsFront errors after.reported (summary_text counts)
-        → OnOk r (after.failed_reports ≡ failed)
-        → IfOk r (λ status. status ≡ exit_status counts)
-        → IfErr r (λ fault. (fault ≡ Report) ⊎ (fault ≡ Memory))
-        → (IsErrOf r Report → HasFailed failed after.failed_reports)
-        → MatchResult r (IsDone c before after) (IsStopped c before after)
-    ended_by_summary x (Ok status) ran counted written front same is which report = done x ran counted written same status is
-    ended_by_summary x (Err fault) ran counted written front same is which report = unsummed x ran counted front fault which report
+    first : AppendsFront errors.text after.reported (summary_text counts) → IfSome before.left (ReportsFirst c.output before after)
+    first front = still_first front.1.front front.1.appended ran.reports_first
 
--- nothing follows a run of `plain` that a fault ended
-pub ended_by_run : (before after : Devices) (stands : List Entry → Type 0) {T : Type 0} (f : RunFault) (r : Result ℕ Fault) → IsErrAnd r (λ fault. fault ≡ fault_of_run f)
-    → Runs {T = T} plain_output stands before after (Err f) → MatchResult r (IsDone plain_command before after) (IsStopped plain_command before after)
-ended_by_run before after stands f (Ok status) is ran = absurd is
-ended_by_run before after stands f (Err fault) is ran = subst (IsStopped plain_command before after) (sym is)
-    (stopped_by_run plain_command stands before after after.reported after.failed_reports f ran (nothing f) [] (Appends-nil after.reported))
+    printed : AppendsFront errors.text after.reported (summary_text counts) → IfSome before.left (HasPrinted c before after)
+    printed front = if_both _ _ _ before.left (λ log gained now. record {
+      errors = errors.text;
+      text = gained.printed;
+      report = gained.reported;
+      summary = subst (λ n. AppendsFront errors.text after.reported (summary_text n)) now.0 front;
+    }) ran.ends.gained counted
+
+    pub ended_by_closing : (r : Result ℕ Fault) → Closes c.saving.before c.saving.after errors summed text counts r → Ends c before after r
+    ended_by_closing (Ok status) said = done status said.0 said.1
+    ended_by_closing (Err Save) said = record { tells = (said.0, printed said.1); reports_first = first said.1 }
+    ended_by_closing (Err Report) said = record {
+      tells = (subst (λ n. HasFailed n after.failed_reports) ran.device.reports said.1.0, written said.1.1, saved_first said.0);
+      reports_first = first said.1.1;
+    }
+    ended_by_closing (Err Memory) said = record { tells = (written said.1, saved_first said.0); reports_first = first said.1 }
+    ended_by_closing (Err Words) said = absurd said.1
+    ended_by_closing (Err Interface) said = absurd said.1
+    ended_by_closing (Err TableSize) said = absurd said.1
+    ended_by_closing (Err StateSize) said = absurd said.1
+    ended_by_closing (Err (Table f)) said = absurd said.1
+    ended_by_closing (Err (State f)) said = absurd said.1
+    ended_by_closing (Err TableFile) said = absurd said.1
+    ended_by_closing (Err StateFile) said = absurd said.1
+    ended_by_closing (Err Read) said = absurd said.1
+    ended_by_closing (Err Write) said = absurd said.1
+    ended_by_closing (Err Lines) said = absurd said.1
+
+-- what is counted, where there is no state
+pub counts_alone : (left : Option (List ℕ)) (counts : Counts) (text : List ℕ) (of : List ℕ → Counts) → IfSome left (λ log. counts ≡ of log) → IfSome left (λ log. (counts ≡ of log) × (text ≡ text))
+counts_alone None counts text of is = tt
+counts_alone (Some log) counts text of is = (is, refl)
+
+-- nothing follows a run that a fault ended, where the command sums up whole logs alone and saves nothing
+pub ended_by_run : (c : Command) → c.sums_up_a_part ≡ false → c.saving ≡ no_saving → (before after : Devices) (stands : List Entry → Type 0) {T : Type 0} (f : RunFault) (r : Result ℕ Fault)
+    → IsErrAnd r (λ fault. fault ≡ fault_of_run f) → Runs {T = T} c.output stands before after (Err f) → Ends c before after r
+ended_by_run c no_part no_state before after stands f (Ok status) is ran = absurd is
+ended_by_run c no_part no_state before after stands f (Err fault) is ran = subst (IsStopped c before after) (sym is)
+    (left_by_run c stands before after (place after.reported after.failed_reports) f ran (nothing f) refl)
   where
-    nothing : (f : RunFault) → Follows plain_command stands before after after.reported after.failed_reports f
-    nothing run.Read = λ es is. refl
-    nothing run.TooManyLines = λ es is. refl
-    nothing run.Write = (refl, refl)
-    nothing run.Report = (refl, refl)
-    nothing run.Memory = (refl, refl)
+    untouched : IsUntouched c.saving
+    untouched = subst (λ s. IsUntouched s) (sym no_state) refl
 
--- the summary of what a join has counted follows a run of `decode` that stands after whole lines
-pub stopped_and_summed : (t : TableParts) (options : Options) (stands : List Entry → Type 0) (before after : Devices) (errors : Option (List ℕ)) (failed : ℕ) (counted : Counts) {T : Type 0} (f : RunFault)
-    → Runs {T = T} (decode_command t options).output stands before (record after { reported = errors; failed_reports = failed }) (Err f)
-    → ((es : List Entry) → stands es → counted ≡ (decode_command t options).counts es)
-    → AppendsFront errors after.reported (summary_text counted)
-    → (stands_after f ≡ false → (errors ≡ after.reported) × (failed ≡ after.failed_reports))
-    → IsStopped (decode_command t options) before after (fault_of_run f)
-stopped_and_summed t options stands before after errors failed counted f ran counts front kept =
-    stopped_by_run (decode_command t options) stands before after errors failed f ran (go f kept) front.1.front front.1.appended
-  where
-    summed : (es : List Entry) → stands es → AppendsFront errors after.reported (summary_text ((decode_command t options).counts es))
-    summed es is = subst (λ n. AppendsFront errors after.reported (summary_text n)) (counts es is) front
+    saved : (es : List Entry) → IsSaved c.saving es
+    saved es = subst (λ s. IsSaved s es) (sym no_state) (record { kept = tt; none_failed = refl })
 
-    go : (f : RunFault) → (stands_after f ≡ false → (errors ≡ after.reported) × (failed ≡ after.failed_reports)) → Follows (decode_command t options) stands before after errors failed f
-    go run.Read kept = summed
-    go run.TooManyLines kept = summed
-    go run.Write kept = kept refl
-    go run.Report kept = kept refl
-    go run.Memory kept = kept refl
+    unsummed : (text : List ℕ) → SumsUpPart c.sums_up_a_part after.reported after.reported text
+    unsummed text = subst (λ b. SumsUpPart b after.reported after.reported text) (sym no_part) refl
 
--- a join that stands after a log's entries has counted them
-pub counted_by_join : (t : TableParts) (options : Options) (left : Option (List ℕ)) (join : State) (counted : Counts) → counted ≡ join.counts
-    → IfSome left (λ log. join ≡ state t.id (kind t) ([] ++ entries options.packing log)) → IfSome left (λ log. counted ≡ (decode_command t options).counts (entries options.packing log))
-counted_by_join t options left join counted is at = if_some _ _ left (λ log same. is ∙ ap (λ (s : State). s.counts) same) at
+    nothing : (f : RunFault) → Follows c stands before after (place after.reported after.failed_reports) f
+    nothing run.Read = λ es is. (unsummed _, inl (saved es))
+    nothing run.TooManyLines = λ es is. (unsummed _, untouched)
+    nothing run.Write = (refl, untouched)
+    nothing run.Report = (refl, untouched)
+    nothing run.Memory = (refl, untouched)
 
 -- a command whose table is read, and is the one that its bytes spell, ends past it
-pub stopped_past_table : (found : List TableFault) (t read : TableParts) (options : Options) (before after : Devices) (fault : Fault) → (found ≡ []) × (read ≡ t)
-    → IsStopped (decode_command read options) before after fault → IsRefusedOrStopped found (decode_command t options) before after fault
-stopped_past_table found t read options before after fault sound stopped = go fault (subst (λ u. IsStopped (decode_command u options) before after fault) sound.1 stopped)
+pub ended_past_table : (found : List TableFault) (command : TableParts → Command) (t read : TableParts) (before after : Devices) (r : Result ℕ Fault) → (found ≡ []) × (read ≡ t)
+    → Ends (command read) before after r → MatchResult r (λ status. (found ≡ []) × IsDone (command t) before after status) (IsRefusedOrStopped found (command t) before after)
+ended_past_table found command t read before after r sound ends = past r (subst (λ u. Ends (command u) before after r) sound.1 ends)
   where
-    go : (f : Fault) → IsStopped (decode_command t options) before after f → IsRefusedOrStopped found (decode_command t options) before after f
-    go (Table refused) s = absurd s.tells
-    go f s = (sound.0, s)
+    refused : (f : Fault) → IsStopped (command t) before after f → IsRefusedOrStopped found (command t) before after f
+    refused (Table fault) s = absurd s.tells
+    refused f s = (sound.0, s)
 
-pub ended_past_table : (found : List TableFault) (t read : TableParts) (options : Options) (before after : Devices) (r : Result ℕ Fault) → (found ≡ []) × (read ≡ t)
-    → MatchResult r (IsDone (decode_command read options) before after) (IsStopped (decode_command read options) before after)
-    → MatchResult r (λ status. (found ≡ []) × IsDone (decode_command t options) before after status) (IsRefusedOrStopped found (decode_command t options) before after)
-ended_past_table found t read options before after (Ok status) sound done = (sound.0, subst (λ u. IsDone (decode_command u options) before after status) sound.1 done)
-ended_past_table found t read options before after (Err fault) sound stopped = stopped_past_table found t read options before after fault sound stopped
+    past : (r : Result ℕ Fault) → Ends (command t) before after r → MatchResult r (λ status. (found ≡ []) × IsDone (command t) before after status) (IsRefusedOrStopped found (command t) before after)
+    past (Ok status) done = (sound.0, done)
+    past (Err fault) stopped = refused fault stopped

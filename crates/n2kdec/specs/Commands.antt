@@ -1,40 +1,109 @@
 -- What a command leaves on its devices where it comes to its end, and where a fault stops it.
-use Rattle.std.specs.Prelude.{◌≡◌, ◌≢◌, ◌⊎◌, ◌≤◌, ◌+◌, ◌++◌, ℕ, Bool, true, false, List, [], ◌∷◌, length, Option, IfSome, Contains}
+use Rattle.std.specs.Prelude.{◌≡◌, ◌≢◌, ◌⊎◌, ◌≤◌, ◌+◌, ◌++◌, ℕ, Bool, true, false, List, [], ◌∷◌, length, Option, Some, None, IfSome, IsSome, Result, Ok, Err, IsOk, MatchResult, Contains}
 use Rattle.std.specs.Io.KnownBytes.{Appends, Consumes}
 use Rattle.n2k_wire.specs.declared.entry.Entry.{Entry}
 use Rattle.n2k_table.specs.Table.{TableParts, kind}
 use Rattle.n2k_table.specs.declared.fault.TableFault.{TableFault}
 use Rattle.n2k_table.specs.declared.fault.TableFault.TheVariants as table
+use Rattle.n2k_join.specs.declared.counts.Counts.{Counts}
+use Rattle.n2k_join.specs.declared.state_fault.StateFault.{StateFault}
+use Rattle.n2k_join.specs.declared.state_fault.StateFault.TheVariants as state_faults
 use Rattle.n2k_join.specs.Counts.{most_lines}
 use Rattle.n2k_join.specs.Messages.{counts}
-use Rattle.n2k_join.specs.declared.counts.Counts.{Counts}
-use Rattle.n2k_run.specs.Decoded.{output_after}
+use Rattle.n2k_join.specs.Saved.{state_text}
+use Rattle.n2k_join.specs.State.{State as StateOf, state}
+use Rattle.n2k_run.specs.Decoded.{join_making, out, output_after, reports}
 use Rattle.n2k_run.specs.Device.{HasFailed}
 use Rattle.n2k_run.specs.Entries.{entries}
+use Rattle.n2k_run.specs.FramesOut.{frame_counts_of, frames_output}
 use Rattle.n2k_run.specs.Lines.{whole_lines}
+use Rattle.n2k_run.specs.Making.{after_all}
+use Rattle.n2k_run.specs.Parts.{begun, save, state_after}
 use Rattle.n2k_run.specs.Plain.{plain_counts_of, plain_output}
 use Rattle.n2k_run.specs.Reading.{OutlastsReads}
 use Rattle.n2k_run.specs.Reports.{summary_text}
-use Rattle.n2k_run.specs.Runs.{Devices, NoneFailed, Output, ReportsFirst}
+use Rattle.n2k_run.specs.Runs.{Devices, NoneFailed, Output, ReportsFirst, output_from}
 use Rattle.n2k_run.specs.Writing.{AppendsFront}
 use Rattle.n2k_run.specs.declared.options.Options.{Options}
 use Rattle.n2kdec.specs.Fault.{exit_status}
 use Rattle.n2kdec.specs.declared.fault.Fault.{Fault}
-use Rattle.n2kdec.specs.declared.fault.Fault.TheVariants.{Table, Read, Write, Report, Memory, Lines}
+use Rattle.n2kdec.specs.declared.fault.Fault.TheVariants.{Table, State, Read, Write, Report, Memory, Lines, Save}
 
--- what a command prints and reports of the entries of its log, what it counts, and whether it sums up what it has read
--- where a failed read or the limit of lines ends it
+-- ---- what a command does
+
+-- A place that texts go to, as contracts see it: what it has, where that is known, and how many of its calls have failed.
+pub record Place : Type 0 where
+  pub text : Option (List ℕ)
+  pub failed : ℕ
+
+abbrev pub place : Option (List ℕ) → ℕ → Place
+place text failed = record { text = text; failed = failed }
+
+-- the state that is saved after entries, and the place where it is kept, before the command and after it
+pub record Saving : Type 0 where
+  pub state : List Entry → List ℕ
+  pub before : Place
+  pub after : Place
+
+-- of a command that has no state
+abbrev pub no_saving : Saving
+no_saving = record { state = λ es. []; before = place None 0; after = place None 0 }
+
+-- the place has this text in the stead of what it had
+pub record Keeps (before after : Place) (text : List ℕ) : Type 0 where
+  pub kept : IfSome after.text (λ now. now ≡ text)
+  pub none_failed : after.failed ≡ before.failed
+
+-- the state after these entries is kept
+abbrev pub IsSaved : Saving → List Entry → Type 0
+IsSaved s es = Keeps s.before s.after (s.state es)
+
+-- it can't be kept
+abbrev pub IsRefusedAPlace : Saving → Type 0
+IsRefusedAPlace s = HasFailed s.before.failed s.after.failed
+
+-- the place is as it was
+abbrev pub IsUntouched : Saving → Type 0
+IsUntouched s = s.after ≡ s.before
+
+-- what a command prints and reports of the entries of its log, what it counts, what it saves, and whether it sums up what
+-- it has read where a failed read or the limit of lines ends it
 pub record Command : Type 0 where
   pub output : Output
   pub counts : List Entry → Counts
+  pub saving : Saving
   pub sums_up_a_part : Bool
 
 abbrev pub plain_command : Command
-plain_command = record { output = plain_output; counts = plain_counts_of; sums_up_a_part = false }
+plain_command = record { output = plain_output; counts = plain_counts_of; saving = no_saving; sums_up_a_part = false }
 
--- from a log's beginning
-abbrev pub decode_command : TableParts → Options → Command
-decode_command t options = record { output = output_after t options []; counts = counts (kind t); sums_up_a_part = true }
+abbrev pub frames_command : TableParts → Option (List ℕ) → Command
+frames_command t interface = record {
+  output = frames_output t interface;
+  counts = frame_counts_of (kind t) interface;
+  saving = no_saving;
+  sums_up_a_part = false;
+}
+
+-- one that comes to this state with entries, and saves it from the one place to the other
+abbrev pub decode_to : Output → (List Entry → StateOf) → Place → Place → Command
+decode_to output stands_at before after = record {
+  output = output;
+  counts = λ es. (stands_at es).counts;
+  saving = record { state = λ es. state_text (stands_at es); before = before; after = after };
+  sums_up_a_part = true;
+}
+
+-- after the entries of a log's front, of which the state was handed in: from a log's beginning there are none
+abbrev pub decode_command : TableParts → Options → List Entry → Place → Place → Command
+decode_command t options front before after =
+    decode_to (output_after t options front) (λ es. state t.id (kind t) (front ++ es)) before after
+
+-- from a state on, whether or not a log leads to it
+abbrev pub decode_from : TableParts → Options → StateOf → Place → Place → Command
+decode_from t options s before after =
+    let making = join_making t options.empty in
+    decode_to (output_from making options.packing s) (after_all making s) before after
 
 -- the entries of a log, as a command reads it
 abbrev pub entries_for : Command → List ℕ → List Entry
@@ -45,18 +114,19 @@ abbrev pub summed_up : Command → List Entry → List ℕ
 summed_up c es = c.output.reports es ++ summary_text (c.counts es)
 
 -- The command came to its end: the output has gained what is printed of the log, the errors its reports and then its
--- summary, the status tells whether a line was bad, and no device failed.
+-- summary, the status tells whether a line was bad, no device failed, and the state after the log is saved.
 pub record IsDone (c : Command) (before after : Devices) (answer : ℕ) : Type 0 where
   pub text : IfSome before.left (λ log. Appends before.written after.written (c.output.texts (entries_for c log)))
   pub report : IfSome before.left (λ log. Appends before.reported after.reported (summed_up c (entries_for c log)))
   pub status : IfSome before.left (λ log. answer ≡ exit_status (c.counts (entries_for c log)))
   pub end : answer ≤ 1
   pub none_failed : NoneFailed before after
+  pub saved : IfSome before.left (λ log. IsSaved c.saving (entries_for c log))
 
 -- what is written of a part's summary: a front, which is all where neither the errors nor memory fail; or nothing
-abbrev pub SumsUp : Bool → Option (List ℕ) → Option (List ℕ) → List ℕ → Type 0
-SumsUp true old new summary = AppendsFront old new summary
-SumsUp false old new summary = new ≡ old
+abbrev pub SumsUpPart : Bool → Option (List ℕ) → Option (List ℕ) → List ℕ → Type 0
+SumsUpPart true old new summary = AppendsFront old new summary
+SumsUpPart false old new summary = new ≡ old
 
 -- a command has printed and reported these entries, and has summed them up if it does so
 pub record HasTaken (c : Command) (before after : Devices) (es : List Entry) : Type 0 where
@@ -64,35 +134,54 @@ pub record HasTaken (c : Command) (before after : Devices) (es : List Entry) : T
   pub errors : Option (List ℕ)
   pub text : Appends before.written after.written (c.output.texts es)
   pub report : Appends before.reported errors (c.output.reports es)
-  pub summary : SumsUp c.sums_up_a_part errors after.reported (summary_text (c.counts es))
+  pub summary : SumsUpPart c.sums_up_a_part errors after.reported (summary_text (c.counts es))
 
--- bytes came of the log, and the lines among them whose line feed came are taken
+-- Bytes came of the log, and the lines among them whose line feed came are taken. The state after them is saved, where
+-- that can be.
 pub record HasRead (c : Command) (before after : Devices) : Type 0 where
   pub came : List ℕ
   pub given : Consumes before.left after.left came
   pub taken : HasTaken c before after (entries_for c (whole_lines came))
+  pub saved : IsSaved c.saving (entries_for c (whole_lines came)) ⊎ IsRefusedAPlace c.saving
 
--- as many lines are taken as are counted, and the log has more
+-- As many lines are taken as are counted, and the log has more. Nothing is saved.
 pub record IsFull (c : Command) (before after : Devices) : Type 0 where
   pub lines : List Entry
   pub full : c.output.counted + length lines ≡ most_lines
   pub more : IfSome before.left (λ log. (next : Entry) × (rest : List Entry) × (entries_for c log ≡ lines ++ next ∷ rest))
   pub taken : HasTaken c before after lines
+  pub unsaved : IsUntouched c.saving
 
 -- the output and the errors have each gained a front of what a command that came to its end would have written
 pub record HasFronts (c : Command) (before after : Devices) (log : List ℕ) : Type 0 where
   pub text : AppendsFront before.written after.written (c.output.texts (entries_for c log))
   pub report : AppendsFront before.reported after.reported (summed_up c (entries_for c log))
 
+-- the output has gained what is printed of the log, and the errors its reports and then a front of its summary
+pub record HasPrinted (c : Command) (before after : Devices) (log : List ℕ) : Type 0 where
+  -- what the errors held before the summary
+  pub errors : Option (List ℕ)
+  pub text : Appends before.written after.written (c.output.texts (entries_for c log))
+  pub report : Appends before.reported errors (c.output.reports (entries_for c log))
+  pub summary : AppendsFront errors after.reported (summary_text (c.counts (entries_for c log)))
+
+-- nothing is saved, and nothing of the summary is written; or the state after the log is saved
+abbrev pub SavesFirst : Command → Devices → Devices → List ℕ → Type 0
+SavesFirst c before after log =
+    (IsUntouched c.saving × AppendsFront before.reported after.reported (c.output.reports (entries_for c log)))
+    ⊎ IsSaved c.saving (entries_for c log)
+
 -- What each fault of a command tells. Read: the log's device failed, or 10^12 reads found no end, and the lines that came
--- are taken. Lines: as many as are counted are. Write, Report: that device failed. Memory may be refused at any time.
--- After these three fronts are written. No other fault stops a run.
+-- are taken. Lines: as many as are counted are. Save: the log is printed, and its state can't be kept. Write, Report: that
+-- device failed. Memory may be refused at any time. After these three fronts are written: nothing is saved after Write,
+-- and after the others the state of the whole log, or nothing. No other fault stops a run.
 abbrev pub Tells : Command → Devices → Devices → Fault → Type 0
 Tells c before after Read = (HasFailed before.failed_reads after.failed_reads ⊎ OutlastsReads before.calls after.calls) × HasRead c before after
 Tells c before after Lines = IsFull c before after
-Tells c before after Write = HasFailed before.failed_writes after.failed_writes × IfSome before.left (HasFronts c before after)
-Tells c before after Report = HasFailed before.failed_reports after.failed_reports × IfSome before.left (HasFronts c before after)
-Tells c before after Memory = IfSome before.left (HasFronts c before after)
+Tells c before after Save = IsRefusedAPlace c.saving × IfSome before.left (HasPrinted c before after)
+Tells c before after Write = HasFailed before.failed_writes after.failed_writes × IfSome before.left (HasFronts c before after) × IsUntouched c.saving
+Tells c before after Report = HasFailed before.failed_reports after.failed_reports × IfSome before.left (HasFronts c before after) × IfSome before.left (SavesFirst c before after)
+Tells c before after Memory = IfSome before.left (HasFronts c before after) × IfSome before.left (SavesFirst c before after)
 Tells c before after _ = ⊥
 
 -- A fault stopped the command. No text stands before the report of its own line or of an earlier one.
@@ -100,8 +189,50 @@ pub record IsStopped (c : Command) (before after : Devices) (fault : Fault) : Ty
   pub tells : Tells c before after fault
   pub reports_first : IfSome before.left (ReportsFirst c.output before after)
 
+-- how a command ends whose table and state are taken
+abbrev pub Ends : Command → Devices → Devices → Result ℕ Fault → Type 0
+Ends c before after result = MatchResult result (IsDone c before after) (IsStopped c before after)
+
+-- ---- what is refused before a command begins
+
+-- the table or the state is refused
+abbrev pub IsRefusal : Fault → Type 0
+IsRefusal (Table fault) = Unit {0}
+IsRefusal (State fault) = Unit {0}
+IsRefusal _ = ⊥
+
+-- A refused table has the fault, or memory was wanted; a refused state is handed in with a table that has none, and its
+-- first fault is told, or memory was wanted. Where another fault is told, both are taken.
+abbrev pub IsJudged : List TableFault → Option (List ℕ) → Result StateOf StateFault → Fault → Type 0
+IsJudged found handed begun (Table fault) = fault ≢ table.Memory → Contains found fault
+IsJudged found handed begun (State fault) = (found ≡ []) × IsSome handed × (fault ≢ state_faults.Memory → begun ≡ Err fault)
+IsJudged found handed begun fault = (found ≡ []) × IsOk begun
+
 -- The table is refused, by a fault that stands in it or for want of memory, and no device is touched; or it has no
 -- fault, and the command is stopped by another.
 abbrev pub IsRefusedOrStopped : List TableFault → Command → Devices → Devices → Fault → Type 0
 IsRefusedOrStopped found c before after (Table fault) = (fault ≢ table.Memory → Contains found fault) × (after ≡ before)
 IsRefusedOrStopped found c before after fault = (found ≡ []) × IsStopped c before after fault
+
+-- how a command ends whose state is taken, if its table is
+abbrev pub EndsUnlessRefused : Command → Devices → Devices → Result ℕ Fault → Type 0
+EndsUnlessRefused c before after (Err (Table fault)) = Unit {0}
+EndsUnlessRefused c before after (Err (State fault)) = fault ≡ state_faults.Memory
+EndsUnlessRefused c before after (Err fault) = IsStopped c before after fault
+EndsUnlessRefused c before after (Ok status) = IsDone c before after status
+
+-- ---- the headline of a log in parts
+
+-- After this front of a log and `more`, the whole stands: what is printed is exactly what the output and the reports of both
+-- have after those of the front, then the summary of both; the status is that of both, and their state is saved, from which
+-- the log can go on.
+pub record PrintsRest (t : TableParts) (o : Options) (front more : List ℕ) (before after : Devices) (keeper kept : Place) (status : ℕ) : Type 0 where
+  pub text : List ℕ
+  pub printed : Appends before.written after.written text
+  pub output : out t o (front ++ more) ≡ out t o front ++ text
+  pub report : List ℕ
+  pub reported : Appends before.reported after.reported (report ++ summary_text (counts (kind t) (entries o.packing (front ++ more))))
+  pub told : reports t o (front ++ more) ≡ reports t o front ++ report
+  pub answered : status ≡ exit_status (counts (kind t) (entries o.packing (front ++ more)))
+  pub saved : Keeps keeper kept (save t o (front ++ more))
+  pub reads_back : begun t (Some (save t o (front ++ more))) ≡ Ok (state_after t o (front ++ more))

@@ -1,16 +1,18 @@
 -- The line that a fault prints, and the status that the program ends with.
 use Rattle.std.specs.Prelude.{ℕ, Bool, true, false, List, codes, ◌==◌, if◌then◌else◌}
 use Rattle.n2k_join.specs.declared.counts.Counts.{Counts}
+use Rattle.n2k_join.specs.declared.state_fault.StateFault.{StateFault}
+use Rattle.n2k_join.specs.declared.state_fault.StateFault.TheVariants as state
 use Rattle.n2k_run.specs.declared.fault.RunFault.{RunFault}
 use Rattle.n2k_run.specs.declared.fault.RunFault.TheVariants as run
 use Rattle.n2k_table.specs.declared.fault.TableFault.{TableFault}
 use Rattle.n2k_table.specs.declared.fault.TableFault.TheVariants as table
 use Rattle.n2kdec.specs.declared.fault.Fault.{Fault}
-use Rattle.n2kdec.specs.declared.fault.Fault.TheVariants.{Words, TableSize, Table, TableFile, Read, Write, Report, Memory, Lines}
+use Rattle.n2kdec.specs.declared.fault.Fault.TheVariants.{Words, Interface, TableSize, StateSize, Table, State, TableFile, StateFile, Read, Write, Report, Memory, Lines, Save}
 
--- the most bytes of a table's file
-abbrev pub longest_table : ℕ
-longest_table = 16_777_216
+-- the most bytes of the file of a table, and of that of a state
+abbrev pub longest_file : ℕ
+longest_file = 16_777_216
 
 -- the number and the name of a refused table's fault; want of memory is told as everywhere else
 abbrev pub table_line : TableFault → List ℕ
@@ -25,17 +27,31 @@ table_line table.Mixed = codes "n2kdec: table 8 Mixed\n"
 table_line table.TooMany = codes "n2kdec: table 9 TooMany\n"
 table_line table.Memory = codes "n2kdec: memory\n"
 
+-- the same of a refused state
+abbrev pub state_line : StateFault → List ℕ
+state_line state.NotJson = codes "n2kdec: state 1 NotJson\n"
+state_line state.Format = codes "n2kdec: state 2 Format\n"
+state_line state.Shape = codes "n2kdec: state 3 Shape\n"
+state_line state.TableDiffers = codes "n2kdec: state 4 TableDiffers\n"
+state_line state.Invalid = codes "n2kdec: state 5 Invalid\n"
+state_line state.Memory = codes "n2kdec: memory\n"
+
 -- the line, with its LF
 abbrev pub fault_line : Fault → List ℕ
 fault_line Words = codes "n2kdec: words\n"
+fault_line Interface = codes "n2kdec: interface\n"
 fault_line TableSize = codes "n2kdec: table size\n"
+fault_line StateSize = codes "n2kdec: state size\n"
 fault_line (Table fault) = table_line fault
+fault_line (State fault) = state_line fault
 fault_line TableFile = codes "n2kdec: table file\n"
+fault_line StateFile = codes "n2kdec: state file\n"
 fault_line Read = codes "n2kdec: read\n"
 fault_line Write = codes "n2kdec: write\n"
 fault_line Report = codes "n2kdec: report\n"
 fault_line Memory = codes "n2kdec: memory\n"
 fault_line Lines = codes "n2kdec: lines\n"
+fault_line Save = codes "n2kdec: save\n"
 
 abbrev pub table_status : TableFault → ℕ
 table_status table.NotToml = 2
@@ -49,17 +65,30 @@ table_status table.Mixed = 2
 table_status table.TooMany = 2
 table_status table.Memory = 3
 
--- 2 where the words or the table are refused, 3 where a file, a device, memory or the limit of lines ended the run
+abbrev pub state_status : StateFault → ℕ
+state_status state.NotJson = 2
+state_status state.Format = 2
+state_status state.Shape = 2
+state_status state.TableDiffers = 2
+state_status state.Invalid = 2
+state_status state.Memory = 3
+
+-- 2 where the words, the table or the state are refused, 3 where a file, a device, memory or the limit of lines ended it
 abbrev pub status_of : Fault → ℕ
 status_of Words = 2
+status_of Interface = 2
 status_of TableSize = 2
+status_of StateSize = 2
 status_of (Table fault) = table_status fault
+status_of (State fault) = state_status fault
 status_of TableFile = 3
+status_of StateFile = 3
 status_of Read = 3
 status_of Write = 3
 status_of Report = 3
 status_of Memory = 3
 status_of Lines = 3
+status_of Save = 3
 
 -- what the program says of a run's fault
 abbrev pub fault_of_run : RunFault → Fault

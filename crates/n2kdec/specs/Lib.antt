@@ -1,3 +1,4 @@
+pub mod Closing
 pub mod Commands
 pub mod Fault
 pub mod Usage

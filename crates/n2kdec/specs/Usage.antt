@@ -1,6 +1,7 @@
 -- The command line of the program, as `clap`'s contracts see a command:
 --     n2kdec plain [LOG]
---     n2kdec decode --table F [--empty] [--whole] [LOG]
+--     n2kdec decode --table F [--resume F] [--save F] [--empty] [--whole] [LOG]
+--     n2kdec frames --table F [--candump IFACE] [LOG]
 use Rattle.std.specs.Prelude.{List, ℕ, true, Some, codes}
 use Rattle.clap.specs.Words.{App, Rule, new_app, new_rule, with_rule, with_subcommand}
 use Rattle.clap.specs.declared.builder.action.ArgAction.TheVariants.{SetTrue}
@@ -13,12 +14,21 @@ log_rule = record (new_rule (codes "log")) { value_names = 1 }
 abbrev pub flag_rule : List ℕ → Rule
 flag_rule name = record (new_rule name) { long = Some name; action = Some SetTrue }
 
+-- an option with a value, which may be missing
+abbrev pub option_rule : List ℕ → Rule
+option_rule name = record (new_rule name) { long = Some name; value_names = 1 }
+
 abbrev pub table_rule : Rule
-table_rule = record (new_rule (codes "table")) {
-  long = Some (codes "table");
-  value_names = 1;
-  required = true;
-}
+table_rule = record (option_rule (codes "table")) { required = true }
+
+abbrev pub resume_rule : Rule
+resume_rule = option_rule (codes "resume")
+
+abbrev pub save_rule : Rule
+save_rule = option_rule (codes "save")
+
+abbrev pub candump_rule : Rule
+candump_rule = option_rule (codes "candump")
 
 abbrev pub empty_rule : Rule
 empty_rule = flag_rule (codes "empty")
@@ -30,7 +40,12 @@ abbrev pub plain_app : App
 plain_app = with_rule (new_app (codes "plain")) log_rule
 
 abbrev pub decode_app : App
-decode_app = with_rule (with_rule (with_rule (with_rule (new_app (codes "decode")) table_rule) empty_rule) whole_rule) log_rule
+decode_app =
+    let files = with_rule (with_rule (with_rule (new_app (codes "decode")) table_rule) resume_rule) save_rule in
+    with_rule (with_rule (with_rule files empty_rule) whole_rule) log_rule
+
+abbrev pub frames_app : App
+frames_app = with_rule (with_rule (with_rule (new_app (codes "frames")) table_rule) candump_rule) log_rule
 
 -- a command without its subcommands: one of them is required, and `help` is none
 abbrev pub program_top : App
@@ -39,4 +54,4 @@ program_top = let app = new_app (codes "n2kdec") in record app {
 }
 
 unfoldable pub program_app : App
-program_app = with_subcommand (with_subcommand program_top plain_app.top) decode_app.top
+program_app = with_subcommand (with_subcommand (with_subcommand program_top plain_app.top) decode_app.top) frames_app.top

@@ -6,24 +6,30 @@ use Rattle.clap.specs.Words.{IsAmong, Row, Text, fault_of, first_of, subcommand_
 use Rattle.clap.specs.declared.error.kind.ErrorKind.{ErrorKind}
 use Rattle.clap.specs.declared.error.kind.ErrorKind.TheVariants.{DisplayHelp, OutOfMemory}
 use Rattle.n2k_run.specs.declared.options.Options.{Options}
-use Rattle.n2k_wire.specs.declared.entry.Packing.TheVariants.{Frames, Whole}
+use Rattle.n2k_wire.specs.declared.entry.Packing.TheVariants as packed
 use Rattle.n2kdec.specs.declared.fault.Fault.{Fault}
 use Rattle.n2kdec.specs.declared.fault.Fault.TheVariants as fault
 use Rattle.n2kdec.specs.declared.word.Words.{Words}
-use Rattle.n2kdec.specs.declared.word.Words.TheVariants.{Plain, Decode, Help}
+use Rattle.n2kdec.specs.declared.word.Words.TheVariants.{Plain, Decode, Frames, Help}
 use Rattle.n2kdec.specs.Usage.{program_app}
 
 -- whether a flag is among the words: `clap` gives it the value `true` then
 abbrev pub flag_of : Text → List Row → Bool
 flag_of id rows = option_map_or (λ value. bytes_eq value (codes "true")) (first_of id rows) false
 
--- the values of a subcommand's words; `decode` has a table
+-- the values of a subcommand's words; `decode` and `frames` have a table
 abbrev pub plain_words : List Row → Option Words
 plain_words rows = Some (Plain (first_of (codes "log") rows))
 
 abbrev pub decode_words : List Row → Option Words
 decode_words rows = option_map
-    (λ table. Decode table (flag_of (codes "empty") rows) (flag_of (codes "whole") rows) (first_of (codes "log") rows))
+    (λ table. Decode table (first_of (codes "resume") rows) (first_of (codes "save") rows)
+    (flag_of (codes "empty") rows) (flag_of (codes "whole") rows) (first_of (codes "log") rows))
+    (first_of (codes "table") rows)
+
+abbrev pub frames_words : List Row → Option Words
+frames_words rows = option_map
+    (λ table. Frames table (first_of (codes "candump") rows) (first_of (codes "log") rows))
     (first_of (codes "table") rows)
 
 -- the command of that name, with the values of its words
@@ -31,7 +37,8 @@ abbrev pub named : Option (Text × List Row) → Option Words
 named None = None
 named (Some p) =
     if bytes_eq p.0 (codes "plain") then plain_words p.1
-    else (if bytes_eq p.0 (codes "decode") then decode_words p.1 else None)
+    else (if bytes_eq p.0 (codes "decode") then decode_words p.1
+    else (if bytes_eq p.0 (codes "frames") then frames_words p.1 else None))
 
 -- the command that the words name, the program's name first; none where they name none
 unfoldable pub words_of : List Text → Option Words
@@ -71,4 +78,4 @@ AnswersKind kind (Err _) = ⊥
 
 -- the options that the words `--empty` and `--whole` stand for
 abbrev pub options_of : Bool → Bool → Options
-options_of empty whole = record { packing = if whole then Whole else Frames; empty = empty }
+options_of empty whole = record { packing = if whole then packed.Whole else packed.Frames; empty = empty }

@@ -1,7 +1,8 @@
 //! Why the program ends without its answer: the line that it prints, and its status.
 ghost use Rattle.std.specs.Prelude.{◌≡◌, ◌++◌, OnOk, OnErr};
-ghost use Rattle.n2kdec.specs.Fault.{exit_status, fault_line, fault_of_run, status_of, table_line};
+ghost use Rattle.n2kdec.specs.Fault.{exit_status, fault_line, fault_of_run, state_line, status_of, table_line};
 
+use n2k_join::StateFault;
 use n2k_run::{Counts, RunFault};
 use n2k_table::TableFault;
 use std::alloc::{AllocError, Global};
@@ -13,15 +14,27 @@ pub enum Fault {
     /// The words of the command line are not those of a command.
     #[error("the words are refused")]
     Words,
+    /// The interface of the frames that were asked for isn't one.
+    #[error("the interface is refused")]
+    Interface,
     /// The file of the table has more bytes than a table may have.
     #[error("the table is too large")]
     TableSize,
+    /// The file of the state has more bytes than a state may have.
+    #[error("the state is too large")]
+    StateSize,
     /// The table is refused.
     #[error("the table is refused: {0}")]
     Table(TableFault),
+    /// The state is refused.
+    #[error("the state is refused: {0}")]
+    State(StateFault),
     /// The file of the table can't be read.
     #[error("the table's file can't be read")]
     TableFile,
+    /// The file of the state can't be read.
+    #[error("the state's file can't be read")]
+    StateFile,
     /// The log can't be opened or read.
     #[error("the log can't be read")]
     Read,
@@ -37,6 +50,9 @@ pub enum Fault {
     /// The log has more lines than are counted.
     #[error("too many lines")]
     Lines,
+    /// The state can't be written.
+    #[error("the state can't be saved")]
+    Save,
 }
 
 impl From<AllocError> for Fault {
@@ -96,19 +112,37 @@ fn table_line(fault: TableFault) -> &'static [u8]
     }
 }
 
+fn state_line(fault: StateFault) -> &'static [u8]
+    ensures { result.now ≡ state_line fault }
+{
+    match fault {
+        StateFault::NotJson => b"n2kdec: state 1 NotJson\n",
+        StateFault::Format => b"n2kdec: state 2 Format\n",
+        StateFault::Shape => b"n2kdec: state 3 Shape\n",
+        StateFault::TableDiffers => b"n2kdec: state 4 TableDiffers\n",
+        StateFault::Invalid => b"n2kdec: state 5 Invalid\n",
+        StateFault::Memory => b"n2kdec: memory\n",
+    }
+}
+
 fn line_of(fault: Fault) -> &'static [u8]
     ensures { result.now ≡ fault_line fault }
 {
     match fault {
         Fault::Words => b"n2kdec: words\n",
+        Fault::Interface => b"n2kdec: interface\n",
         Fault::TableSize => b"n2kdec: table size\n",
+        Fault::StateSize => b"n2kdec: state size\n",
         Fault::Table(fault) => table_line(fault),
+        Fault::State(fault) => state_line(fault),
         Fault::TableFile => b"n2kdec: table file\n",
+        Fault::StateFile => b"n2kdec: state file\n",
         Fault::Read => b"n2kdec: read\n",
         Fault::Write => b"n2kdec: write\n",
         Fault::Report => b"n2kdec: report\n",
         Fault::Memory => b"n2kdec: memory\n",
         Fault::Lines => b"n2kdec: lines\n",
+        Fault::Save => b"n2kdec: save\n",
     }
 }
 
@@ -120,20 +154,27 @@ pub fn fault_text(_alloc: Global, fault: &Fault, out: &mut Vec<u8>) -> Result<()
     out.extend_from_slice(line_of(*fault))
 }
 
-/// The status that the program ends with after a fault: 2 where the words or the table are refused, 3 where a
+/// The status that the program ends with after a fault: 2 where the words, the table or the state are refused, 3 where a
 /// file, a device, memory or the limit of lines ended it. It takes no memory.
 pub fn status(fault: &Fault) -> u8
     ensures { result ≡ status_of fault.now }
 {
     match fault {
-        Fault::Table(TableFault::Memory) => 3,
-        Fault::Words | Fault::TableSize | Fault::Table(_) => 2,
+        Fault::Table(TableFault::Memory) | Fault::State(StateFault::Memory) => 3,
+        Fault::Words
+        | Fault::Interface
+        | Fault::TableSize
+        | Fault::StateSize
+        | Fault::Table(_)
+        | Fault::State(_) => 2,
         Fault::TableFile
+        | Fault::StateFile
         | Fault::Read
         | Fault::Write
         | Fault::Report
         | Fault::Memory
-        | Fault::Lines => 3,
+        | Fault::Lines
+        | Fault::Save => 3,
     }
 }
 

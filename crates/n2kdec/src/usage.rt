@@ -1,8 +1,8 @@
 //! The command line of the program, as `clap` is told it.
 ghost use Rattle.std.specs.Prelude.{◌≡◌, IfOk, false};
-ghost use Rattle.clap.specs.Words.{app_of, rule_of};
+ghost use Rattle.clap.specs.Words.{app_of, rule_of, with_rule};
 ghost use Rattle.clap.specs.declared.builder.command.Command.TheViews.{out-Command as fields_of};
-ghost use Rattle.n2kdec.specs.Usage.{decode_app, empty_rule, log_rule, plain_app, program_app, table_rule, whole_rule};
+ghost use Rattle.n2kdec.specs.Usage.{candump_rule, decode_app, empty_rule, frames_app, log_rule, plain_app, program_app, resume_rule, save_rule, table_rule, whole_rule};
 
 use clap::{Arg, ArgAction, Command};
 use std::alloc::{AllocError, Global};
@@ -17,7 +17,7 @@ fn log_argument<'a>(alloc: Global) -> Arg<'a>
         .help("The log; without it standard input is read")
 }
 
-// The table of a command that decodes.
+// The table of a command that needs one.
 fn table_argument<'a>(alloc: Global) -> Arg<'a>
     ensures rule { rule_of result ≡ table_rule }
     ensures own { result.global ≡ false }
@@ -27,6 +27,35 @@ fn table_argument<'a>(alloc: Global) -> Arg<'a>
         .value_name("F")
         .required(true)
         .help("The table of PGNs and fields, a TOML file")
+}
+
+fn resume_argument<'a>(alloc: Global) -> Arg<'a>
+    ensures rule { rule_of result ≡ resume_rule }
+    ensures own { result.global ≡ false }
+{
+    Arg::new(alloc, "resume")
+        .long("resume")
+        .value_name("F")
+        .help("Goes on from the state in this file")
+}
+
+fn save_argument<'a>(alloc: Global) -> Arg<'a>
+    ensures rule { rule_of result ≡ save_rule }
+    ensures own { result.global ≡ false }
+{
+    Arg::new(alloc, "save").long("save").value_name("F").help(
+        "Writes the state after the log to this file, over what it has; it may be the file of --resume",
+    )
+}
+
+fn candump_argument<'a>(alloc: Global) -> Arg<'a>
+    ensures rule { rule_of result ≡ candump_rule }
+    ensures own { result.global ≡ false }
+{
+    Arg::new(alloc, "candump")
+        .long("candump")
+        .value_name("IFACE")
+        .help("Writes candump lines of this interface in place of plain lines")
 }
 
 fn empty_argument<'a>(alloc: Global) -> Arg<'a>
@@ -58,15 +87,47 @@ fn plain_command<'a>(alloc: Global) -> Result<Command<'a>, AllocError>
         .arg(log_argument(alloc))
 }
 
+// A command with its table, and the files of the states before its log and after it.
+fn with_files<'a>(alloc: Global, command: Command<'a>) -> Result<Command<'a>, AllocError>
+    requires { (fields_of command).has_globals ≡ false }
+    ensures app { IfOk result (λ added. app_of added ≡ with_rule (with_rule (with_rule (app_of command.entry) table_rule) resume_rule) save_rule) }
+    ensures own { IfOk result (λ added. (fields_of added).has_globals ≡ false) }
+{
+    command
+        .arg(table_argument(alloc))?
+        .arg(resume_argument(alloc))?
+        .arg(save_argument(alloc))
+}
+
+// A command with the flags that say how lines are read and printed.
+fn with_flags<'a>(alloc: Global, command: Command<'a>) -> Result<Command<'a>, AllocError>
+    requires { (fields_of command).has_globals ≡ false }
+    ensures app { IfOk result (λ added. app_of added ≡ with_rule (with_rule (app_of command.entry) empty_rule) whole_rule) }
+    ensures own { IfOk result (λ added. (fields_of added).has_globals ≡ false) }
+{
+    command
+        .arg(empty_argument(alloc))?
+        .arg(whole_argument(alloc))
+}
+
 fn decode_command<'a>(alloc: Global) -> Result<Command<'a>, AllocError>
     ensures app { IfOk result (λ command. app_of command ≡ decode_app) }
     ensures own { IfOk result (λ command. (fields_of command).has_globals ≡ false) }
 {
-    Command::new(alloc, "decode")
-        .about("Prints each message of a log as a line of JSON")
+    let command = Command::new(alloc, "decode").about(
+        "Prints each message of a log as a line of JSON",
+    );
+    with_flags(alloc, with_files(alloc, command)?)?.arg(log_argument(alloc))
+}
+
+fn frames_command<'a>(alloc: Global) -> Result<Command<'a>, AllocError>
+    ensures app { IfOk result (λ command. app_of command ≡ frames_app) }
+    ensures own { IfOk result (λ command. (fields_of command).has_globals ≡ false) }
+{
+    Command::new(alloc, "frames")
+        .about("Writes the whole messages of a log as the frames of the bus")
         .arg(table_argument(alloc))?
-        .arg(empty_argument(alloc))?
-        .arg(whole_argument(alloc))?
+        .arg(candump_argument(alloc))?
         .arg(log_argument(alloc))
 }
 
@@ -79,5 +140,6 @@ pub fn program<'a>(alloc: Global) -> Result<Command<'a>, AllocError>
         .subcommand_required(true)
         .disable_help_subcommand(true)
         .subcommand(plain_command(alloc)?)?
-        .subcommand(decode_command(alloc)?)
+        .subcommand(decode_command(alloc)?)?
+        .subcommand(frames_command(alloc)?)
 }

@@ -45,14 +45,27 @@ pub enum Words {
         /// The file of the log; none is standard input.
         log: Option<Word>,
     },
-    /// `decode --table F [--empty] [--whole] [LOG]`
+    /// `decode --table F [--resume F] [--save F] [--empty] [--whole] [LOG]`
     Decode {
         /// The file of the table.
         table: Word,
+        /// The file of the state to go on from; none is a log's beginning.
+        resume: Option<Word>,
+        /// The file that gets the state after the log.
+        save: Option<Word>,
         /// Absent fields are printed as `null`.
         empty: bool,
         /// Every plain line is a whole message.
         whole: bool,
+        /// The file of the log; none is standard input.
+        log: Option<Word>,
+    },
+    /// `frames --table F [--candump IFACE] [LOG]`
+    Frames {
+        /// The file of the table.
+        table: Word,
+        /// The interface of candump lines; without it plain lines are written.
+        candump: Option<Word>,
         /// The file of the log; none is standard input.
         log: Option<Word>,
     },

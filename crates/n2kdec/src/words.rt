@@ -2,14 +2,16 @@
 ghost use Rattle.std.specs.Prelude.{◌≡◌, ◌⊎◌, true, IfOk, IfErr, IsErrOf};
 ghost use Rattle.clap.specs.Walk.{texts};
 ghost use Rattle.clap.specs.Words.{first_of, found_of, kind_of, rows_of, subcommand_rows_of, takes};
+ghost use Rattle.n2k_run.specs.FramesOut.{IsInterface, interface_of};
 ghost use Rattle.n2kdec.specs.Usage.{program_app};
-ghost use Rattle.n2kdec.specs.Words.{AnswersKind, IsAskedBy, IsRefused, Names, decode_words, flag_of, named, plain_words, words_of};
+ghost use Rattle.n2kdec.specs.Words.{AnswersKind, IsAskedBy, IsRefused, Names, decode_words, flag_of, frames_words, named, plain_words, words_of};
 
 use crate::fault::Fault;
 use crate::usage::program;
 use crate::word::{Word, Words};
 use clap::error::ErrorKind;
 use clap::{ArgMatches, Error};
+use n2k_wire::is_interface;
 use std::alloc::{AllocError, Global};
 
 // The value of an argument, where it has one.
@@ -51,10 +53,26 @@ fn decode_of(alloc: Global, matches: &ArgMatches<'_>) -> Result<Words, Fault>
     };
     Ok(Words::Decode {
         table,
+        resume: value_of(alloc, matches, "resume")?,
+        save: value_of(alloc, matches, "save")?,
         empty: flag_of(matches, "empty"),
         whole: flag_of(matches, "whole"),
         log: value_of(alloc, matches, "log")?,
     })
+}
+
+// The values of `frames`.
+fn frames_of(alloc: Global, matches: &ArgMatches<'_>) -> Result<Words, Fault>
+    ensures { Names (frames_words (rows_of (found_of matches.now))) result }
+{
+    match value_of(alloc, matches, "table")? {
+        None => Err(Fault::Words),
+        Some(table) => Ok(Words::Frames {
+            table,
+            candump: value_of(alloc, matches, "candump")?,
+            log: value_of(alloc, matches, "log")?,
+        }),
+    }
 }
 
 // The command that was named, with its values.
@@ -68,6 +86,8 @@ fn command_of(alloc: Global, matches: &ArgMatches<'_>) -> Result<Words, Fault>
         plain_of(alloc, values)
     } else if name == "decode" {
         decode_of(alloc, values)
+    } else if name == "frames" {
+        frames_of(alloc, values)
     } else {
         Err(Fault::Words)
     }
@@ -100,5 +120,23 @@ pub fn words(alloc: Global, words: &[&str]) -> Result<Words, Fault>
     match program(alloc)?.try_get_matches_from(words) {
         Ok(matches) => command_of(alloc, &matches),
         Err(error) => help_of(alloc, &error),
+    }
+}
+
+/// The interface that frames are written for, where one is given. One that isn't the name of an interface is refused.
+pub fn interface(given: &Option<Word>) -> Result<Option<&str>, Fault>
+    ensures taken { IfOk result (λ interface. interface_of interface ≡ given.now) }
+    ensures ok { IfOk result (λ interface. IsInterface (interface_of interface)) }
+    ensures refused { IfErr result (λ fault. (fault ≡ Fault.Interface) × (IsInterface given.now → ⊥)) }
+{
+    match given {
+        None => Ok(None),
+        Some(name) => {
+            if is_interface(name.as_str().as_bytes()) {
+                Ok(Some(name.as_str()))
+            } else {
+                Err(Fault::Interface)
+            }
+        }
     }
 }

@@ -1,7 +1,7 @@
 use Rattle.std.proofs.Common.{rules, ◌≡◌, ◌∙◌, ap, ap₂}
 use Rattle.std.proofs.lemmas.Result.{IfOk-weaker}
 use Rattle.clap.specs.Words.{App, app_of, with_subcommand}
-use Rattle.n2kdec.specs.Usage.{plain_app, program_app, program_top}
+use Rattle.n2kdec.specs.Usage.{decode_app, plain_app, program_app, program_top}
 use Rattle.n2kdec.proofs.usage.program.Goals as goal
 
 pub returns : goal.returns
@@ -11,5 +11,8 @@ returns c =
     let first_is : app_of c.in_ok-subcommand.field-0 ≡ with_subcommand program_top plain_app.top =
     c.in_ok-subcommand.ensures.shape c.in_ok-plain_command.ensures.own
     ∙ ap₂ with_subcommand top_is (ap (λ (a : App). a.top) c.in_ok-plain_command.ensures.app) in
-    IfOk-weaker c.subcommand-2.result _ _ (λ command added. added.shape c.in_ok-decode_command.ensures.own
-    ∙ ap₂ with_subcommand first_is (ap (λ (a : App). a.top) c.in_ok-decode_command.ensures.app)) c.subcommand-2.ensures
+    let second_is : app_of c.in_ok-subcommand-2.field-0 ≡ with_subcommand (with_subcommand program_top plain_app.top) decode_app.top =
+    c.in_ok-subcommand-2.ensures.shape c.in_ok-decode_command.ensures.own
+    ∙ ap₂ with_subcommand first_is (ap (λ (a : App). a.top) c.in_ok-decode_command.ensures.app) in
+    IfOk-weaker c.subcommand-3.result _ _ (λ command added. added.shape c.in_ok-frames_command.ensures.own
+    ∙ ap₂ with_subcommand second_is (ap (λ (a : App). a.top) c.in_ok-frames_command.ensures.app)) c.subcommand-3.ensures

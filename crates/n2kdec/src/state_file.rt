@@ -1,0 +1,59 @@
+//! The file that keeps the state after a run.
+
+use crate::keeper::Keeper;
+use crate::word::Word;
+use n2k_run::{Failed, StdSink, write_all};
+use std::fs;
+
+// Writes a file whole, over what it had.
+fn write_file(rt: &HostRuntime, name: &Word, bytes: &[u8]) -> Result<(), Failed> {
+    match fs::create(rt, name.as_str()) {
+        Ok(file) => write_all(&mut StdSink::new(file), bytes),
+        Err(_) => Err(Failed),
+    }
+}
+
+/// The file of `--save`. It is opened, and what it had is gone, only when there is a state to write: it may be the file
+/// of `--resume`. Without the word nothing is kept.
+#[derive(Drop)]
+pub struct StateFile<'a> {
+    rt: &'a HostRuntime,
+    name: Option<Word>,
+    failed_calls: u64,
+}
+
+impl<'a> StateFile<'a> {
+    /// The file of this name, or none.
+    pub fn new(rt: &'a HostRuntime, name: Option<Word>) -> Self {
+        StateFile {
+            rt,
+            name,
+            failed_calls: 0,
+        }
+    }
+
+    // Writes the state, where there is a file.
+    fn write(&self, state: &[u8]) -> Result<(), Failed> {
+        match &self.name {
+            Some(name) => write_file(self.rt, name, state),
+            None => Ok(()),
+        }
+    }
+}
+
+impl<'a> Keeper for StateFile<'a> {
+    ghost use Rattle.std.specs.Prelude.{None};
+
+    ghost failed_calls = { λ s. s.failed_calls };
+
+    // What a file has, nothing says.
+    ghost kept = { λ _. None };
+
+    fn keep(&mut self, state: &[u8]) -> Result<(), Failed> {
+        let answer = self.write(state);
+        if answer.is_err() {
+            self.failed_calls = self.failed_calls.saturating_add(1);
+        }
+        answer
+    }
+}
