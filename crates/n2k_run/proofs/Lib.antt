@@ -5,6 +5,7 @@ pub mod Feeds
 pub mod Finding
 pub mod Folds
 pub mod Fronts
+pub mod GoingOn
 pub mod LogSteps
 pub mod OutputLines
 pub mod Owed
@@ -12,6 +13,8 @@ pub mod Parting
 pub mod PrintedBack
 pub mod Ranges
 pub mod Running
+pub mod SentFrames
+pub mod SentLines
 pub mod Splits
 pub mod Taking
 pub mod WrittenTexts

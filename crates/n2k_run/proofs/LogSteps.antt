@@ -58,14 +58,14 @@ entry_next front e es =
     ap (entry_at (front ++ e ∷ es)) at ∙ at_place front e es
 
 module _ (agree : (id : List ℕ) (kind : ℕ → Option Kind) (es : List Entry) (e : Entry) → StepsAgree id kind es e) (stay : (kind : ℕ → Option Kind) (es : List Entry) (e : Entry) → LinesStay kind es e) (t : TableParts) (empty : Bool) (id : List ℕ) where
-  messages_stay : (es fs : List Entry) (i : ℕ) → 1 ≤ i → i ≤ length es → message (kind t) (es ++ fs) i ≡ message (kind t) es i
+  pub messages_stay : (es fs : List Entry) (i : ℕ) → 1 ≤ i → i ≤ length es → message (kind t) (es ++ fs) i ≡ message (kind t) es i
   messages_stay es [] i low high = ap (λ xs. message (kind t) xs i) (append-nil es)
   messages_stay es (f ∷ fs) i low high =
       ap (λ xs. message (kind t) xs i) (sym (append_assoc es (f ∷ []) fs))
       ∙ messages_stay (es ++ f ∷ []) fs i low (omega (arith, high, length-append es (f ∷ [])))
       ∙ (stay (kind t) es f).messages i low high
 
-  broken_stay : (es fs : List Entry) (i : ℕ) → i ≤ length es → broken (kind t) (es ++ fs) i ≡ broken (kind t) es i
+  pub broken_stay : (es fs : List Entry) (i : ℕ) → i ≤ length es → broken (kind t) (es ++ fs) i ≡ broken (kind t) es i
   broken_stay es [] i high = ap (λ xs. broken (kind t) xs i) (append-nil es)
   broken_stay es (f ∷ fs) i high =
       ap (λ xs. broken (kind t) xs i) (sym (append_assoc es (f ∷ []) fs))

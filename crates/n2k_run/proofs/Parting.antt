@@ -1,12 +1,16 @@
 -- A part of a log: what its run promises is what its answer says.
 use Rattle.std.proofs.Common.{◌≡◌, ℕ, Bool, List, [], ◌∷◌, ◌++◌, length, Option, Some, None, Result, Ok, Err, refl, sym, ap, ◌∙◌, subst, append-nil}
-use Rattle.std.specs.Prelude.{IfSome, OnErr}
+use Rattle.std.specs.Prelude.{◌⊎◌, IfSome, OnErr}
+use mathlib.Core.Logic.{inl, inr}
 use Rattle.std.specs.Io.KnownBytes.{Appends}
 use Rattle.std.proofs.KnownBytes.{Appends-nil}
 use Rattle.n2k_wire.specs.declared.entry.Entry.{Entry}
+use Rattle.n2k_wire.specs.declared.entry.Packing.{Packing}
 use Rattle.n2k_table.specs.declared.definition.Kind.{Kind}
 use Rattle.n2k_table.specs.Table.{TableParts, kind}
 use Rattle.n2k_join.specs.declared.state_fault.StateFault.{StateFault}
+use Rattle.n2k_join.specs.declared.state_fault.StateFault.TheVariants as state_faults
+use Rattle.n2k_join.specs.Laws.{StepsAgree, LinesStay}
 use Rattle.n2k_join.specs.Resumed.{judged}
 use Rattle.n2k_join.specs.Saved.{IsId, state_text}
 use Rattle.n2k_join.specs.State.{State, state, AreFast, step_after}
@@ -15,14 +19,16 @@ use Rattle.n2k_run.specs.declared.fault.RunFault.TheVariants as run_faults
 use Rattle.n2k_run.specs.declared.part.Part.{Part}
 use Rattle.n2k_run.specs.declared.part.PartFault.{PartFault}
 use Rattle.n2k_run.specs.declared.part.PartFault.TheVariants.{State as Refused, Stopped, Run, Memory}
-use Rattle.n2k_run.specs.Decoded.{join_making}
+use Rattle.n2k_run.specs.declared.options.Options.{Options}
+use Rattle.n2k_run.specs.Decoded.{join_making, output_after}
 use Rattle.n2k_run.specs.Entries.{entries}
 use Rattle.n2k_run.specs.Inner.Parts.{Finishes, HasSaved, Saves}
 use Rattle.n2k_run.specs.Making.{after_all}
 use Rattle.n2k_run.specs.Parts.{HasPart, IsPartOf, as_run, begun}
-use Rattle.n2k_run.specs.Runs.{Devices, Gained, HasFronts, Output, Runs}
+use Rattle.n2k_run.specs.Runs.{Devices, Output, Runs, output_from}
 use Rattle.n2k_run.specs.Writing.{AppendsFront}
-use Rattle.n2k_run.proofs.Ending.{ok_more, err_more}
+use Rattle.n2k_run.proofs.Ending.{ok_more, err_more, runs_more, runs_same}
+use Rattle.n2k_run.proofs.LogSteps.{output_after-is, state_after}
 use Rattle.n2k_run.proofs.Running.{known_more}
 
 known_any : (known : Option (List ℕ)) (P : List ℕ → Type 0) → ((log : List ℕ) → P log) → IfSome known P
@@ -125,3 +131,38 @@ module _ (laws : KeepsFast) (t : TableParts) where
   has_part s (Err (Refused fault)) id under saves = tt
   has_part s (Err (Run fault)) id under saves = tt
   has_part s (Err Memory) id under saves = tt
+
+  -- the steps from the state that the part began with
+  pub steps_of : (packing : Packing) (empty : Bool) (handed : Option (List ℕ)) (join join' : State) (before after : Devices) (ran : Result (Unit {0}) RunFault) (result : Result Part PartFault) → IsId t.id → begun t handed ≡ Ok join
+      → Runs (output_from (join_making t empty) packing join) (λ es. join' ≡ after_all (join_making t empty) join es) before after ran → HasSaved result join' → Finishes result ran
+      → (s : State) → begun t handed ≡ Ok s → Runs (output_from (join_making t empty) packing s) (λ es. HasPart t result (after_all (join_making t empty) s es)) before after (as_run result)
+  steps_of packing empty handed join join' before after ran result id began runs saved finishes s is =
+      let same : join ≡ s = same_state _ _ (sym began ∙ is) in
+      let under : IsUnder t join = begun-under handed join began in
+      subst (λ (s : State). Runs (output_from (join_making t empty) packing s) (λ es. HasPart t result (after_all (join_making t empty) s es)) before after (as_run result)) same
+      (part_runs (output_from (join_making t empty) packing join) (λ es. join' ≡ after_all (join_making t empty) join es) (λ es. HasPart t result (after_all (join_making t empty) join es)) before after ran result finishes runs
+      (λ es at. subst (HasPart t result) at (has_part join' result id (subst (IsUnder t) (sym at) (after-under empty join es under)) saved)))
+
+-- from the state of a log: what the whole log says
+pub log_of : ((id : List ℕ) (kind : ℕ → Option Kind) (es : List Entry) (e : Entry) → StepsAgree id kind es e) → ((kind : ℕ → Option Kind) (es : List Entry) (e : Entry) → LinesStay kind es e) → (t : TableParts) (o : Options) (before after : Devices) (result : Result Part PartFault) (front : List Entry)
+    → Runs (output_from (join_making t o.empty) o.packing (state t.id (kind t) front)) (λ es. HasPart t result (after_all (join_making t o.empty) (state t.id (kind t) front) es)) before after (as_run result)
+    → Runs (output_after t o front) (λ es. HasPart t result (state t.id (kind t) (front ++ es))) before after (as_run result)
+log_of agree stay t o before after result front steps =
+    let same = output_after-is agree stay t o t.id front in
+    let runs = runs_same _ (output_after t o front) _ before after (as_run result) same steps in
+    runs_more (output_after t o front) (λ es. HasPart t result (after_all (join_making t o.empty) (state t.id (kind t) front) es)) (λ es. HasPart t result (state t.id (kind t) (front ++ es))) before after (as_run result) runs
+    (λ es has. subst (HasPart t result) (state_after agree stay t o.empty t.id front es) has)
+
+-- ---- a refused state
+
+pub refused_by : (fault : StateFault) (said : Result State StateFault) → ((fault ≡ state_faults.Memory → ⊥) → said ≡ Err fault) → (fault ≡ state_faults.Memory) ⊎ (said ≡ Err fault)
+refused_by state_faults.NotJson said h = inr (h (λ e. cc))
+refused_by state_faults.Format said h = inr (h (λ e. cc))
+refused_by state_faults.Shape said h = inr (h (λ e. cc))
+refused_by state_faults.TableDiffers said h = inr (h (λ e. cc))
+refused_by state_faults.Invalid said h = inr (h (λ e. cc))
+refused_by state_faults.Memory said h = inl refl
+
+pub memory_alone : (fault : StateFault) (said : Result State StateFault) (s : State) → said ≡ Ok s → (fault ≡ state_faults.Memory) ⊎ (said ≡ Err fault) → fault ≡ state_faults.Memory
+memory_alone fault said s is (inl memory) = memory
+memory_alone fault said s is (inr refused) = cc

@@ -4,3 +4,4 @@ pub mod Counting
 pub mod Engine
 pub mod Joining
 pub mod Parts
+pub mod Sending

@@ -128,11 +128,11 @@ pub record GoesOnPartly (t : TableParts) (o : Options) (front more : List ℕ) (
   pub told : reports t o (front ++ more) ≡ reports t o front ++ report
 
 -- What a part answers after this front of a log. With Ok the whole stands; after Read what stands is whole up to the last
--- line that came, and after TooManyLines up to the last number.
+-- line that came. After TooManyLines the clause on entries says what was taken.
 abbrev pub Continues : TableParts → Options → List ℕ → Devices → Devices → Result Part PartFault → Type 0
 Continues t o front before after (Ok part) = IsAtEnd after.left × IfSome before.left (λ log. GoesOn t o front log before after part)
 Continues t o front before after (Err (Stopped run_faults.Read part)) = (came : List ℕ) × Consumes before.left after.left came × GoesOn t o front (whole_lines came) before after part
-Continues t o front before after (Err (Stopped run_faults.TooManyLines part)) = IfSome before.left (λ log. (taken : List ℕ) × (rest : List ℕ) × (log ≡ taken ++ rest) × IsEmptyOrEndsWith taken line_feed × GoesOn t o front taken before after part)
+Continues t o front before after (Err (Stopped run_faults.TooManyLines part)) = Unit {0}
 Continues t o front before after (Err (Stopped run_faults.Write part)) = ⊥
 Continues t o front before after (Err (Stopped run_faults.Report part)) = ⊥
 Continues t o front before after (Err (Stopped run_faults.Memory part)) = ⊥

@@ -75,9 +75,14 @@ struct JsonLines<'a> {
 
 impl<'a> Maker for JsonLines<'a> {
     ghost use Rattle.std.specs.Prelude.{⊤};
+    ghost use Rattle.n2k_join.specs.State.{State};
     ghost use Rattle.n2k_run.specs.Decoded.{join_making};
 
     type State = Join;
+
+    ghost Known = { State };
+
+    ghost known = { λ join. join };
 
     ghost making = { λ s. join_making s.table.now s.empty };
 

@@ -26,7 +26,7 @@ fn take_next<M: Maker, R: Source>(
 ) -> Result<(), RunFault>
     requires ready { M.is_ready maker.now state.old }
     requires written { HasFeed blocks.old.kept ⊎ ((kept.old.text.items ≡ []) × (kept.old.report.items ≡ [])) }
-    ensures taken { TakesNext (M.making maker.now) packing state.old state.new blocks.old blocks.new (R.remaining reader.old) (R.remaining reader.new)
+    ensures taken { TakesNext (M.making maker.now) packing (M.known state.old) (M.known state.new) blocks.old blocks.new (R.remaining reader.old) (R.remaining reader.new)
         kept.old.text.items kept.new.text.items kept.old.report.items kept.new.report.items result }
     ensures ready { OnOk result (M.is_ready maker.now state.new) }
     ensures device { ReadsNext blocks.new (R.failed_calls reader.old) (R.failed_calls reader.new) result }
@@ -61,7 +61,7 @@ pub(crate) fn run_entries<M: Maker, R: Source, W: Sink, E: Sink>(
         (W.contents writer.old) (W.failed_calls writer.old) (E.contents reporter.old) (E.failed_calls reporter.old) in
         let after = devices (R.remaining reader.new) (R.calls reader.new) (R.failed_calls reader.new)
         (W.contents writer.new) (W.failed_calls writer.new) (E.contents reporter.new) (E.failed_calls reporter.new) in
-        Runs (output_from (M.making maker.now) packing state.old) (λ es. state.new ≡ after_all (M.making maker.now) state.old es) before after result }
+        Runs (output_from (M.making maker.now) packing (M.known state.old)) (λ es. M.known state.new ≡ after_all (M.making maker.now) (M.known state.old) es) before after result }
     ensures ready { OnOk result (M.is_ready maker.now state.new) }
 {
     let mut blocks = Blocks::new();

@@ -13,8 +13,14 @@ pub(crate) trait Maker {
     /// What it knows of the entries that it took.
     type State;
 
+    /// What its runs say of that.
+    ghost Known: { Type 0 };
+
+    /// What a state is known as.
+    ghost known: { Self.State → Known };
+
     /// What it makes of an entry in a state.
-    ghost making: { Self → Making Self.State };
+    ghost making: { Self → Making Known };
 
     /// A state in which it can take an entry.
     ghost is_ready: { Self → Self.State → Type 0 };
@@ -31,6 +37,6 @@ pub(crate) trait Maker {
     ) -> Result<(), RunFault>
         requires short { IsShort entry }
         requires ready { is_ready self.now state.old }
-        ensures taken { Takes (making self.now) state.old state.new entry text.old.items text.new.items report.old.items report.new.items result }
+        ensures taken { Takes (making self.now) (known state.old) (known state.new) entry text.old.items text.new.items report.old.items report.new.items result }
         ensures ready { OnOk result (is_ready self.now state.new) };
 }

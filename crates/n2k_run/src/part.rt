@@ -1,5 +1,5 @@
 //! Runs of a log in parts, each from the state that was saved after the one before.
-ghost use Rattle.std.specs.Prelude.{◌≡◌, ℕ, List, map, ◌++◌, IfOk, None, Ok, option_map};
+ghost use Rattle.std.specs.Prelude.{◌≡◌, ℕ, List, map, ◌++◌, IfOk, IsErr, IsSome, None, Ok, option_map};
 ghost use Rattle.std.specs.List.{concat};
 ghost use Rattle.n2k_wire.specs.declared.entry.Entry.{Entry};
 ghost use Rattle.n2k_table.specs.Table.{kind};
@@ -61,10 +61,11 @@ impl From<AllocError> for PartFault {
 }
 
 // The join that a part begins with.
-fn begin(alloc: Global, table: &Table, state: Option<&[u8]>) -> Result<Join, StateFault>
-    ensures { GivesOrMemory (λ join. join) result (begun table.now (option_map (λ bytes. bytes.now) state.entry)) }
+fn begin(alloc: Global, table: &Table, saved: Option<&[u8]>) -> Result<Join, StateFault>
+    ensures state { GivesOrMemory (λ join. join) result (begun table.now (option_map (λ bytes. bytes.now) saved.entry)) }
+    ensures handed { IsErr result → IsSome (option_map (λ bytes. bytes.now) saved.entry) }
 {
-    match state {
+    match saved {
         None => Ok(Join::new(alloc, table)),
         Some(bytes) => Join::resume(alloc, table, bytes),
     }
@@ -120,7 +121,7 @@ fn finish(alloc: Global, join: &Join, ran: Result<(), RunFault>) -> Result<Part,
 pub fn run_part<R: Source, W: Sink, E: Sink>(
     alloc: Global,
     table: &Table,
-    state: Option<&[u8]>,
+    saved: Option<&[u8]>,
     options: Options,
     reader: &mut R,
     writer: &mut W,
@@ -128,13 +129,13 @@ pub fn run_part<R: Source, W: Sink, E: Sink>(
 ) -> Result<Part, PartFault>
     // Each kind of refusal has its faults. A state is refused for what stands in it, or for want of memory.
     ensures kinds { IsOfKind result }
-    ensures begins { BeginsBy table.now (option_map (λ bytes. bytes.now) state.entry) result }
+    ensures begins { BeginsBy table.now (option_map (λ bytes. bytes.now) saved.entry) result }
     ensures unread { OnRefusal result (reader.new ≡ reader.old) }
     ensures unwritten { OnRefusal result (writer.new ≡ writer.old) }
     ensures unreported { OnRefusal result (reporter.new ≡ reporter.old) }
 
     // From any state that reads, whether or not a log leads to it: the texts and reports of the steps of the part's entries.
-    ensures steps { (s : State) → begun table.now (option_map (λ bytes. bytes.now) state.entry) ≡ Ok s →
+    ensures steps { (s : State) → begun table.now (option_map (λ bytes. bytes.now) saved.entry) ≡ Ok s →
         let before = devices (R.remaining reader.old) (R.calls reader.old) (R.failed_calls reader.old)
         (W.contents writer.old) (W.failed_calls writer.old) (E.contents reporter.old) (E.failed_calls reporter.old) in
         let after = devices (R.remaining reader.new) (R.calls reader.new) (R.failed_calls reader.new)
@@ -143,7 +144,7 @@ pub fn run_part<R: Source, W: Sink, E: Sink>(
         Runs (output_from making options.packing s) (λ es. HasPart table.now result (after_all making s es)) before after (as_run result) }
 
     // From the state that these entries lead to: what the whole log says of the lines after them.
-    ensures log { (front : List Entry) → begun table.now (option_map (λ bytes. bytes.now) state.entry) ≡ Ok (state table.now.id (kind table.now) front) →
+    ensures log { (front : List Entry) → begun table.now (option_map (λ bytes. bytes.now) saved.entry) ≡ Ok (state table.now.id (kind table.now) front) →
         let before = devices (R.remaining reader.old) (R.calls reader.old) (R.failed_calls reader.old)
         (W.contents writer.old) (W.failed_calls writer.old) (E.contents reporter.old) (E.failed_calls reporter.old) in
         let after = devices (R.remaining reader.new) (R.calls reader.new) (R.failed_calls reader.new)
@@ -152,7 +153,7 @@ pub fn run_part<R: Source, W: Sink, E: Sink>(
 
     // The headline: after this front of a log, whose saved state was handed in, exactly the rest of the whole log's output
     // is printed, and its state is saved.
-    ensures headline { (front : List ℕ) → IsFront table.now options front (option_map (λ bytes. bytes.now) state.entry) →
+    ensures headline { (front : List ℕ) → IsFront table.now options front (option_map (λ bytes. bytes.now) saved.entry) →
         let before = devices (R.remaining reader.old) (R.calls reader.old) (R.failed_calls reader.old)
         (W.contents writer.old) (W.failed_calls writer.old) (E.contents reporter.old) (E.failed_calls reporter.old) in
         let after = devices (R.remaining reader.new) (R.calls reader.new) (R.failed_calls reader.new)
@@ -163,7 +164,10 @@ pub fn run_part<R: Source, W: Sink, E: Sink>(
     laws::lines_stay();
     laws::groups_stay_fast();
     know_id(table);
-    let mut join = begin(alloc, table, state).map_err(PartFault::State)?;
+    let mut join = match begin(alloc, table, saved) {
+        Ok(join) => join,
+        Err(fault) => return Err(PartFault::State(fault)),
+    };
     let ran = run(alloc, table, &mut join, options, reader, writer, reporter);
     finish(alloc, &join, ran)
 }

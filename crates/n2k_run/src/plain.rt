@@ -17,11 +17,16 @@ struct PlainLines;
 
 impl Maker for PlainLines {
     ghost use Rattle.std.specs.Prelude.{false};
+    ghost use Rattle.n2k_join.specs.declared.counts.Counts.{Counts};
     ghost use Rattle.n2k_run.specs.Entries.{is_packet};
     ghost use Rattle.n2k_run.specs.Inner.Counting.{AreCounts, counting};
     ghost use Rattle.n2k_run.specs.Plain.{plain_line};
 
     type State = Counts;
+
+    ghost Known = { Counts };
+
+    ghost known = { λ counts. counts };
 
     ghost making = { λ _. counting plain_line is_packet (λ _. false) };
 

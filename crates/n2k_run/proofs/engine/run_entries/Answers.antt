@@ -19,7 +19,7 @@ devices g reader writer reporter = record {
 }
 
 -- where the next line is taken
-stood : (g : Over) (c : After-take_next g) → Stands (g.M.Maker.making c.args.maker.now) c.args.packing c.args.state.now c.lines.state c.lines.blocks c.if-not-has_line.kept.text.items c.if-not-has_line.kept.report.items (devices g c.args.reader.now c.args.writer.now c.args.reporter.now) (devices g c.lines.reader c.if-not-has_line.writer c.if-not-has_line.reporter)
+stood : (g : Over) (c : After-take_next g) → Stands (g.M.Maker.making c.args.maker.now) c.args.packing (g.M.Maker.known c.args.state.now) (g.M.Maker.known c.lines.state) c.lines.blocks c.if-not-has_line.kept.text.items c.if-not-has_line.kept.report.items (devices g c.args.reader.now c.args.writer.now c.args.reporter.now) (devices g c.lines.reader c.if-not-has_line.writer c.if-not-has_line.reporter)
 stood g c = elim c.if-not-has_line.branch [
   | then-not-has_line+in_ok-write w ↦
       let e = w.in_ok-write.ensures in

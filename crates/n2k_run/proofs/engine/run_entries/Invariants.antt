@@ -25,9 +25,9 @@ invariant-lines g l =
       failed_reports = g.E.Sink.failed_calls l.reporter;
     } in
     record {
-      stands : Stands (g.M.Maker.making l.maker) l.packing l.fn.state l.state l.blocks l.kept.text.items l.kept.report.items before now;
+      stands : Stands (g.M.Maker.making l.maker) l.packing (g.M.Maker.known l.fn.state) (g.M.Maker.known l.state) l.blocks l.kept.text.items l.kept.report.items before now;
       ready : g.M.Maker.is_ready l.maker l.state;
     }
 
 abbrev pub decreases-lines : goal.decreases-lines
-decreases-lines g l = (most_lines - (g.M.Maker.making l.maker).lines l.state) + cond l.blocks.has_ended 0 1
+decreases-lines g l = (most_lines - (g.M.Maker.making l.maker).lines (g.M.Maker.known l.state)) + cond l.blocks.has_ended 0 1

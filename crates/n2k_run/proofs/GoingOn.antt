@@ -1,0 +1,143 @@
+-- The output and the reports of a log that goes on, after those of its front.
+use Rattle.std.proofs.Common.{◌≡◌, ℕ, zero, suc, ◌+◌, ◌<◌, ◌≤◌, Bool, true, List, [], ◌∷◌, ◌++◌, length, Option, Some, None, Result, Ok, Err, refl, sym, ap, ◌∙◌, subst, length-append, arith}
+use Rattle.std.specs.Prelude.{◌⊎◌, IfSome, option_and_then, slice_get}
+use mathlib.Core.Logic.{inl, inr}
+use Rattle.std.specs.List.{flat_map, range_with_len}
+use Rattle.std.specs.Io.{IsEmptyOrEndsWith}
+use Rattle.std.proofs.lemmas.Grind.{flat_map-append}
+use Rattle.n2k_wire.specs.declared.entry.Entry.{Entry}
+use Rattle.n2k_table.specs.declared.definition.Kind.{Kind}
+use Rattle.n2k_table.specs.Table.{TableParts, kind}
+use Rattle.n2k_join.specs.declared.state_fault.StateFault.{StateFault}
+use Rattle.n2k_join.specs.declared.state_fault.StateFault.TheVariants as state_faults
+use Rattle.n2k_join.specs.Laws.{StepsAgree, LinesStay}
+use Rattle.n2k_join.specs.Messages.{broken, cause_in, entry_at, numbers}
+use Rattle.n2k_join.specs.State.{State, state}
+use Rattle.n2k_run.specs.declared.fault.RunFault.{RunFault}
+use Rattle.n2k_run.specs.declared.fault.RunFault.TheVariants as run_faults
+use Rattle.n2k_run.specs.declared.options.Options.{Options}
+use Rattle.n2k_run.specs.declared.part.Part.{Part}
+use Rattle.n2k_run.specs.declared.part.PartFault.{PartFault}
+use Rattle.n2k_run.specs.declared.part.PartFault.TheVariants.{State as Refused, Stopped, Run, Memory}
+use Rattle.n2k_run.specs.Decoded.{cause_at, message_line, numbers_after, out, out_of, output_after, report_at, reports, reports_of, text_at}
+use Rattle.n2k_run.specs.Entries.{entries}
+use Rattle.n2k_run.specs.Lines.{line_feed, whole_lines}
+use Rattle.n2k_run.specs.Parts.{Continues, GoesOn, GoesOnPartly, HasPart, IsOfKind, IsPartOf, as_run, begun, save, state_after}
+use Rattle.n2k_run.specs.Reports.{line_report}
+use Rattle.n2k_run.specs.Runs.{Devices, Gained, HasFronts, Runs}
+use Rattle.n2k_run.proofs.Fronts.{entries-append}
+use Rattle.n2k_run.proofs.LogSteps.{broken_stay, messages_stay}
+use Rattle.n2k_run.proofs.Running.{known_more}
+
+range_append : (a n m : ℕ) → range_with_len a (n + m) ≡ range_with_len a n ++ range_with_len (a + n) m
+range_append a zero m =
+    let count : zero + m ≡ m = omega arith in
+    let from : a + zero ≡ a = omega arith in
+    ap (range_with_len a) count ∙ ap (λ b. range_with_len b m) (sym from)
+range_append a (suc n) m =
+    let count : suc n + m ≡ suc (n + m) = omega arith in
+    let from : (a + 1) + n ≡ a + suc n = omega arith in
+    ap (range_with_len a) count ∙ ap (λ ns. a ∷ ns) (range_append (a + 1) n m ∙ ap (λ b. range_with_len (a + 1) n ++ range_with_len b m) from)
+
+same_on : (f g : ℕ → List ℕ) (a n : ℕ) → ((i : ℕ) → a ≤ i → i < a + n → f i ≡ g i) → flat_map f (range_with_len a n) ≡ flat_map g (range_with_len a n)
+same_on f g a zero same = refl
+same_on f g a (suc n) same =
+    let rest = same_on f g (a + 1) n (λ i low high. same i (omega (arith, low)) (omega (arith, high))) in
+    ap (λ x. x ++ flat_map f (range_with_len (a + 1) n)) (same a (omega arith) (omega arith)) ∙ ap (λ r. g a ++ r) rest
+
+numbers-append : (front es : List Entry) → numbers (front ++ es) ≡ numbers front ++ numbers_after front es
+numbers-append front es =
+    let from : 1 + length front ≡ length front + 1 = omega arith in
+    ap (range_with_len 1) (length-append front es) ∙ range_append 1 (length front) (length es) ∙ ap (λ b. numbers front ++ range_with_len b (length es)) from
+
+-- what a function gives of the lines of both, where the lines of the front stay
+parts_of : (f g : ℕ → List ℕ) (front es : List Entry) → ((i : ℕ) → 1 ≤ i → i ≤ length front → f i ≡ g i) → flat_map f (numbers (front ++ es)) ≡ flat_map g (numbers front) ++ flat_map f (numbers_after front es)
+parts_of f g front es same =
+    ap (flat_map f) (numbers-append front es) ∙ flat_map-append f (numbers front) (numbers_after front es)
+    ∙ ap (λ l. l ++ flat_map f (numbers_after front es)) (same_on f g 1 (length front) (λ i low high. same i low (omega (arith, high))))
+
+get_stays : (front es : List Entry) (k : ℕ) → k < length front → slice_get (front ++ es) k ≡ slice_get front k
+get_stays [] es k below = absurd (omega (arith, below))
+get_stays (e ∷ front) es zero below = refl
+get_stays (e ∷ front) es (suc k) below = get_stays front es k (omega (arith, below))
+
+entry_stays : (front es : List Entry) (i : ℕ) → i ≤ length front → entry_at (front ++ es) i ≡ entry_at front i
+entry_stays front es zero within = refl
+entry_stays front es (suc k) within = get_stays front es k (omega (arith, within))
+
+module _ (agree : (id : List ℕ) (kind : ℕ → Option Kind) (es : List Entry) (e : Entry) → StepsAgree id kind es e) (stay : (kind : ℕ → Option Kind) (es : List Entry) (e : Entry) → LinesStay kind es e) (t : TableParts) where
+  pub out_of-append : (empty : Bool) (front es : List Entry) → out_of t empty (front ++ es) ≡ out_of t empty front ++ flat_map (text_at t empty (front ++ es)) (numbers_after front es)
+  out_of-append empty front es =
+      parts_of (text_at t empty (front ++ es)) (text_at t empty front) front es
+      (λ i low high. ap (message_line t empty) (messages_stay agree stay t empty t.id front es i low high))
+
+  report_stays : (front es : List Entry) (i : ℕ) → i ≤ length front → report_at t (front ++ es) i ≡ report_at t front i
+  report_stays front es i high =
+      ap (λ gs. line_report i gs (cause_at t (front ++ es) i)) (broken_stay agree stay t true t.id front es i high)
+      ∙ ap (λ e. line_report i (broken (kind t) front i) (option_and_then (cause_in (kind t)) e)) (entry_stays front es i high)
+
+  pub reports_of-append : (front es : List Entry) → reports_of t (front ++ es) ≡ reports_of t front ++ flat_map (report_at t (front ++ es)) (numbers_after front es)
+  reports_of-append front es = parts_of (report_at t (front ++ es)) (report_at t front) front es (λ i low high. report_stays front es i high)
+
+  module _ (o : Options) (front : List ℕ) (whole : IsEmptyOrEndsWith front line_feed) where
+    both : (more : List ℕ) → entries o.packing (front ++ more) ≡ entries o.packing front ++ entries o.packing more
+    both more = entries-append o.packing front more whole
+
+    output-on : (more : List ℕ) → out t o (front ++ more) ≡ out t o front ++ (output_after t o (entries o.packing front)).texts (entries o.packing more)
+    unfolding out
+    output-on more = ap (out_of t o.empty) (both more) ∙ out_of-append o.empty (entries o.packing front) (entries o.packing more)
+
+    reports-on : (more : List ℕ) → reports t o (front ++ more) ≡ reports t o front ++ (output_after t o (entries o.packing front)).reports (entries o.packing more)
+    unfolding reports
+    reports-on more = ap (reports_of t) (both more) ∙ reports_of-append (entries o.packing front) (entries o.packing more)
+
+    save-on : (more : List ℕ) (part : Part) → IsPartOf t (state_after t o (front ++ more)) part → part.state.items ≡ save t o (front ++ more)
+    unfolding save
+    save-on more part is = is.saved
+
+    goes_on : (more : List ℕ) (before after : Devices) (part : Part) → Gained (output_after t o (entries o.packing front)) before after (entries o.packing more) → IsPartOf t (state t.id (kind t) (entries o.packing front ++ entries o.packing more)) part → GoesOn t o front more before after part
+    goes_on more before after part gained is =
+        let stands : IsPartOf t (state_after t o (front ++ more)) part = subst (λ es. IsPartOf t (state t.id (kind t) es) part) (sym (both more)) is in
+        record {
+          text = (output_after t o (entries o.packing front)).texts (entries o.packing more);
+          printed = gained.printed;
+          output = output-on more;
+          report = (output_after t o (entries o.packing front)).reports (entries o.packing more);
+          reported = gained.reported;
+          told = reports-on more;
+          saved = save-on more part stands;
+          counted = stands.counted;
+          reads_back = stands.reads_back;
+        }
+
+    goes_partly : (more : List ℕ) (before after : Devices) → HasFronts (output_after t o (entries o.packing front)) before after more → GoesOnPartly t o front more before after
+    goes_partly more before after fronts = record {
+      text = (output_after t o (entries o.packing front)).texts (entries o.packing more);
+      printed = fronts.printed;
+      output = output-on more;
+      report = (output_after t o (entries o.packing front)).reports (entries o.packing more);
+      reported = fronts.reported;
+      told = reports-on more;
+    }
+
+    known_both : (known : Option (List ℕ)) (P Q R : List ℕ → Type 0) → ((log : List ℕ) → P log → Q log → R log) → IfSome known P → IfSome known Q → IfSome known R
+    known_both None P Q R follows p q = tt
+    known_both (Some log) P Q R follows p q = follows log p q
+
+    -- the headline
+    pub continues_of : (before after : Devices) (result : Result Part PartFault) → Runs (output_after t o (entries o.packing front)) (λ es. HasPart t result (state t.id (kind t) (entries o.packing front ++ es))) before after (as_run result)
+        → IsOfKind result → ((fault : StateFault) → result ≡ Err (Refused fault) → fault ≡ state_faults.Memory) → Continues t o front before after result
+    continues_of before after (Ok part) runs kinds refused =
+        (runs.ends.at_end, known_both before.left _ _ _ (λ log gained holds. goes_on log before after part gained holds) runs.ends.gained runs.ends.holds)
+    continues_of before after (Err (Stopped run_faults.Read part)) runs kinds refused =
+        (runs.ends.came, runs.ends.given, goes_on (whole_lines runs.ends.came) before after part runs.ends.gained runs.ends.holds)
+    continues_of before after (Err (Stopped run_faults.TooManyLines part)) runs kinds refused = tt
+    continues_of before after (Err (Stopped run_faults.Write part)) runs (inl e) refused = cc
+    continues_of before after (Err (Stopped run_faults.Write part)) runs (inr e) refused = cc
+    continues_of before after (Err (Stopped run_faults.Report part)) runs (inl e) refused = cc
+    continues_of before after (Err (Stopped run_faults.Report part)) runs (inr e) refused = cc
+    continues_of before after (Err (Stopped run_faults.Memory part)) runs (inl e) refused = cc
+    continues_of before after (Err (Stopped run_faults.Memory part)) runs (inr e) refused = cc
+    continues_of before after (Err (Refused fault)) runs kinds refused = refused fault refl
+    continues_of before after (Err (Run fault)) runs kinds refused = known_more before.left _ _ (λ log fronts. goes_partly log before after fronts) runs.fronts
+    continues_of before after (Err Memory) runs kinds refused = known_more before.left _ _ (λ log fronts. goes_partly log before after fronts) runs.fronts

@@ -1,0 +1,118 @@
+-- Messages that are sent one after the other, by what is known of those before.
+use Rattle.std.specs.Prelude.{◌≡◌, ◌⊎◌, ◌≤◌, ◌+◌, ℕ, if◌then◌else◌, List, [], ◌∷◌, ◌++◌, Option, Some, None, Result, Ok, Err, IfOk}
+use Rattle.std.specs.Option.{is_none}
+use Rattle.n2k_wire.specs.declared.entry.BadCause.{BadCause}
+use Rattle.n2k_wire.specs.declared.entry.Entry.{Entry}
+use Rattle.n2k_wire.specs.declared.entry.Entry.TheVariants as lines
+use Rattle.n2k_wire.specs.declared.fault.WireFault.{WireFault}
+use Rattle.n2k_wire.specs.declared.fault.WireFault.TheVariants.{Memory}
+use Rattle.n2k_wire.specs.Packet.{PacketParts}
+use Rattle.n2k_wire.specs.Steps.{◌>>=◌}
+use Rattle.n2k_wire.specs.Texts.{candump_text}
+use Rattle.n2k_table.specs.declared.definition.Kind.{Kind}
+use Rattle.n2k_join.specs.declared.counts.Counts.{Counts}
+use Rattle.n2k_join.specs.Counts.{most_lines}
+use Rattle.n2k_join.specs.Pieces.{Sequences, pieces_by, raised, stream_of}
+use Rattle.n2k_join.specs.Splitter.{refusal}
+use Rattle.n2k_run.specs.declared.frames.Outcome.{Outcome}
+use Rattle.n2k_run.specs.declared.frames.Outcome.TheVariants.{Skipped, Written, Bad}
+use Rattle.n2k_run.specs.FramesOut.{fault_cause, frame_texts, is_refused, is_sent, line_cause, message_cause}
+use Rattle.n2k_run.specs.Making.{Making}
+use Rattle.n2k_run.specs.Reports.{cause_report}
+
+-- what is known of the lines before: the sequence of each stream's next message, and what was counted
+pub record Sent : Type 0 where
+  pub held : Sequences
+  pub counts : Counts
+
+-- each count that rises is at most that of the lines
+pub record AreFrameCounts (c : Counts) : Type 0 where
+  pub few : c.lines ≤ most_lines
+  pub messages : c.messages ≤ c.lines
+  pub bad : c.bad ≤ c.lines
+
+-- the lines that candump writes of frames, or the fault of the first that has none
+abbrev pub candump_texts : List ℕ → List PacketParts → Result (List ℕ) WireFault
+candump_texts interface [] = Ok []
+candump_texts interface (frame ∷ frames) =
+    candump_text interface frame >>= (λ text. candump_texts interface frames >>= (λ more. Ok (text ++ more)))
+
+-- Those lines were appended, or none: memory may be refused before the frame is reached that has no line.
+abbrev pub AppendsLines : Result (List ℕ) WireFault → Result (Unit {0}) WireFault → List ℕ → List ℕ → Type 0
+AppendsLines lines (Ok x) old new = (text : List ℕ) × ((lines ≡ Ok text) × (new ≡ old ++ text))
+AppendsLines lines (Err fault) old new = (new ≡ old) × ((lines ≡ Err fault) ⊎ (fault ≡ Memory))
+
+-- the lines of frames, plain ones or those that candump writes
+abbrev pub lines_of : Option (List ℕ) → List PacketParts → Result (List ℕ) WireFault
+lines_of None frames = Ok (frame_texts None frames)
+lines_of (Some interface) frames = candump_texts interface frames
+
+-- what becomes of a message, by why it isn't written
+abbrev pub outcome_by : Option BadCause → Outcome
+outcome_by None = Written
+outcome_by (Some cause) = Bad cause
+
+abbrev pub outcome : (ℕ → Option Kind) → Option (List ℕ) → Entry → Outcome
+outcome kind interface lines.Skip = Skipped
+outcome kind interface (lines.Bad cause) = Bad cause
+outcome kind interface (lines.Frame packet) = outcome_by (line_cause kind interface (lines.Frame packet))
+outcome kind interface (lines.Whole packet) = outcome_by (message_cause kind interface packet)
+
+-- What became of frames that have these lines: all of them are written, or none.
+abbrev pub MadeOf : Result (List ℕ) WireFault → List ℕ → List ℕ → Outcome → Type 0
+MadeOf (Ok lines) text text' made = (text' ≡ text ++ lines) × (made ≡ Written)
+MadeOf (Err fault) text text' made = (text' ≡ text) × (made ≡ outcome_by (fault_cause fault))
+
+abbrev pub WritesFrames : {E : Type 0} → Option (List ℕ) → List PacketParts → List ℕ → List ℕ → Result Outcome E → Type 0
+WritesFrames interface frames text text' result = IfOk result (MadeOf (lines_of interface frames) text text')
+
+-- what is written of a message
+abbrev pub message_text : (ℕ → Option Kind) → Option (List ℕ) → Sequences → PacketParts → List ℕ
+message_text kind interface held m =
+    if is_none (message_cause kind interface m) then frame_texts interface (pieces_by kind m (held (stream_of m.id))) else []
+
+-- the sequences after it: it takes one where it is split
+abbrev pub held_after_message : (ℕ → Option Kind) → Sequences → PacketParts → Sequences
+held_after_message kind held m = if is_none (refusal (kind m.id.pgn) m) then raised kind held (stream_of m.id) else held
+
+-- the same of a line
+abbrev pub line_text : (ℕ → Option Kind) → Option (List ℕ) → Sequences → Entry → List ℕ
+line_text kind interface held lines.Skip = []
+line_text kind interface held (lines.Bad cause) = []
+line_text kind interface held (lines.Frame packet) = []
+line_text kind interface held (lines.Whole packet) = message_text kind interface held packet
+
+abbrev pub held_after : (ℕ → Option Kind) → Sequences → Entry → Sequences
+held_after kind held lines.Skip = held
+held_after kind held (lines.Bad cause) = held
+held_after kind held (lines.Frame packet) = held
+held_after kind held (lines.Whole packet) = held_after_message kind held packet
+
+-- a message was sent
+pub record SentMessage (kind : ℕ → Option Kind) (interface : Option (List ℕ)) (m : PacketParts) (held held' : Sequences) (text text' : List ℕ) (made : Outcome) : Type 0 where
+  pub made_is : made ≡ outcome_by (message_cause kind interface m)
+  pub held_is : held' ≡ held_after_message kind held m
+  pub text_is : text' ≡ text ++ message_text kind interface held m
+
+-- a line was taken
+pub record SentLine (kind : ℕ → Option Kind) (interface : Option (List ℕ)) (e : Entry) (held held' : Sequences) (text text' : List ℕ) (made : Outcome) : Type 0 where
+  pub made_is : made ≡ outcome kind interface e
+  pub held_is : held' ≡ held_after kind held e
+  pub text_is : text' ≡ text ++ line_text kind interface held e
+
+-- the counts with one more line
+abbrev pub counted : (ℕ → Option Kind) → Option (List ℕ) → Counts → Entry → Counts
+counted kind interface c e = record c {
+  lines = c.lines + 1;
+  messages = c.messages + (if is_sent kind interface e then 1 else 0);
+  bad = c.bad + (if is_refused kind interface e then 1 else 0);
+}
+
+-- each line gives the lines of its message's frames, and a report where it is bad
+abbrev pub sending : (ℕ → Option Kind) → Option (List ℕ) → Making Sent
+sending kind interface = record {
+  text = λ s e. line_text kind interface s.held e;
+  report = λ s e. cause_report (s.counts.lines + 1) (line_cause kind interface e);
+  after = λ s e. record { held = held_after kind s.held e; counts = counted kind interface s.counts e };
+  lines = λ s. s.counts.lines;
+}

@@ -1,0 +1,228 @@
+//! The run of `frames`: each whole message of a log as the lines of its frames.
+ghost use Rattle.std.specs.Prelude.{◌≡◌, ◌++◌, ◌≤◌, length, All, IfOk, IsTrue, OnOk, Some};
+ghost use Rattle.n2k_wire.specs.Candump.{frame_payload, is_interface};
+ghost use Rattle.n2k_wire.specs.Packet.{PacketParts};
+ghost use Rattle.n2k_table.specs.Table.{kind};
+ghost use Rattle.n2k_join.specs.Splitter.{sequences};
+ghost use Rattle.n2k_run.specs.FramesOut.{IsInterface, interface_of, frame_texts, frames_output, frame_counts_of};
+ghost use Rattle.n2k_run.specs.Runs.{Runs, devices};
+ghost use Rattle.n2k_run.specs.Inner.Sending.{AppendsLines, SentLine, SentMessage, WritesFrames, candump_texts};
+
+use crate::device::{Sink, Source};
+use crate::engine::run_entries;
+use crate::fault::RunFault;
+use crate::maker::Maker;
+use crate::texts::bad_text;
+use n2k_join::{Counts, MOST_LINES, SplitFault, Splitter, laws};
+use n2k_table::Table;
+use n2k_wire::{BadCause, Entry, Packet, Packing, WireFault, candump_text, plain_text};
+use std::alloc::{AllocError, Global};
+
+// What becomes of a line.
+#[derive(Clone, Copy)]
+enum Outcome {
+    // It stands for nothing.
+    Skipped,
+    // It is a message, and its frames are written.
+    Written,
+    // It is bad, for this cause.
+    Bad(BadCause),
+}
+
+// Appends the plain lines of frames.
+fn append_plain(alloc: Global, frames: &[Packet], text: &mut Vec<u8>) -> Result<(), AllocError>
+    ensures { OnOk result (text.new.items ≡ text.old.items ++ frame_texts None frames.now) }
+{
+    for frame in frames {
+        plain_text(alloc, frame, text)?;
+    }
+    Ok(())
+}
+
+// Appends the lines that candump writes of frames: of all, or of none.
+fn append_candump(
+    alloc: Global,
+    frames: &[Packet],
+    interface: &str,
+    text: &mut Vec<u8>,
+) -> Result<(), WireFault>
+    requires short { All (λ (frame : PacketParts). length frame.payload ≤ frame_payload) frames.now }
+    requires interface { IsTrue (is_interface interface.now) }
+    ensures { AppendsLines (candump_texts interface.now frames.now) result text.old.items text.new.items }
+{
+    let mut lines = Vec::new(alloc);
+    for frame in frames {
+        candump_text(alloc, frame, interface, &mut lines)?;
+    }
+    text.extend_from_slice(&lines)
+        .map_err(|_| WireFault::Memory)
+}
+
+// What a run has sent so far.
+#[derive(Drop)]
+struct Sending {
+    splitter: Splitter,
+    counts: Counts,
+}
+
+// Makes the lines of the frames of messages, plain ones or those that candump writes at an interface.
+#[derive(Drop)]
+struct FrameLines<'a> {
+    table: &'a Table,
+    interface: Option<&'a str>,
+}
+
+impl<'a> FrameLines<'a> {
+    // Writes frames of one message.
+    fn write(
+        &self,
+        alloc: Global,
+        frames: &[Packet],
+        text: &mut Vec<u8>,
+    ) -> Result<Outcome, AllocError>
+        requires short { All (λ (frame : PacketParts). length frame.payload ≤ frame_payload) frames.now }
+        requires interface { IsInterface (interface_of self.now.interface) }
+        ensures { WritesFrames (interface_of self.now.interface) frames.now text.old.items text.new.items result }
+    {
+        let Some(interface) = self.interface else {
+            append_plain(alloc, frames, text)?;
+            return Ok(Outcome::Written);
+        };
+        match append_candump(alloc, frames, interface, text) {
+            Ok(()) => Ok(Outcome::Written),
+            Err(WireFault::NoStamp) => Ok(Outcome::Bad(BadCause::Time)),
+            Err(WireFault::NoId) => Ok(Outcome::Bad(BadCause::Address)),
+            Err(WireFault::Memory) => Err(AllocError),
+        }
+    }
+
+    // Sends a message: it is split, and its frames are written.
+    fn send(
+        &self,
+        alloc: Global,
+        splitter: &mut Splitter,
+        message: &Packet,
+        text: &mut Vec<u8>,
+    ) -> Result<Outcome, AllocError>
+        requires { IsInterface (interface_of self.now.interface) }
+        ensures { IfOk result (SentMessage (kind self.now.table.now) (interface_of self.now.interface) message.now (sequences splitter.old) (sequences splitter.new) text.old.items text.new.items) }
+    {
+        let mut frames = Vec::new(alloc);
+        match splitter.message(self.table, message, &mut frames) {
+            Ok(_) => self.write(alloc, &frames, text),
+            Err(SplitFault::Unknown) => Ok(Outcome::Bad(BadCause::Unknown)),
+            Err(SplitFault::TooLong) => Ok(Outcome::Bad(BadCause::Size)),
+            Err(SplitFault::Memory) => Err(AllocError),
+        }
+    }
+
+    // What becomes of the entry of a line.
+    fn outcome(
+        &self,
+        alloc: Global,
+        splitter: &mut Splitter,
+        entry: Entry,
+        text: &mut Vec<u8>,
+    ) -> Result<Outcome, AllocError>
+        requires { IsInterface (interface_of self.now.interface) }
+        ensures { IfOk result (SentLine (kind self.now.table.now) (interface_of self.now.interface) entry (sequences splitter.old) (sequences splitter.new) text.old.items text.new.items) }
+    {
+        match entry {
+            Entry::Skip => Ok(Outcome::Skipped),
+            Entry::Bad(cause) => Ok(Outcome::Bad(cause)),
+            Entry::Frame(_) => Ok(Outcome::Bad(BadCause::Frame)),
+            Entry::Whole(message) => self.send(alloc, splitter, &message, text),
+        }
+    }
+}
+
+impl<'a> Maker for FrameLines<'a> {
+    ghost use Rattle.n2k_table.specs.Table.{kind};
+    ghost use Rattle.n2k_join.specs.Splitter.{sequences};
+    ghost use Rattle.n2k_run.specs.FramesOut.{IsInterface, interface_of};
+    ghost use Rattle.n2k_run.specs.Inner.Sending.{AreFrameCounts, Sent, sending};
+
+    type State = Sending;
+
+    ghost Known = { Sent };
+
+    ghost known = { λ s. record { held = sequences s.splitter; counts = s.counts } };
+
+    ghost making = { λ m. sending (kind m.table.now) (interface_of m.interface) };
+
+    ghost is_ready = { λ m s. IsInterface (interface_of m.interface) × AreFrameCounts s.counts };
+
+    fn take(
+        &self,
+        alloc: Global,
+        state: &mut Sending,
+        entry: Entry,
+        text: &mut Vec<u8>,
+        report: &mut Vec<u8>,
+    ) -> Result<(), RunFault> {
+        if state.counts.lines == MOST_LINES {
+            return Err(RunFault::TooManyLines);
+        }
+        state.counts.lines += 1;
+        match self.outcome(alloc, &mut state.splitter, entry, text)? {
+            Outcome::Skipped => {}
+            Outcome::Written => state.counts.messages += 1,
+            Outcome::Bad(cause) => {
+                bad_text(alloc, state.counts.lines, cause, report)?;
+                state.counts.bad += 1;
+            }
+        }
+        Ok(())
+    }
+}
+
+/// Writes each whole message of a log, a plain line of 0 to 223 bytes, as the lines of the frames in which it is sent:
+/// plain lines, or with an interface those that `candump -L` writes at it. The messages of each stream, a sender's
+/// messages of one PGN to one receiver, are numbered in turn from 0 to 7. `reporter` gets the report of each bad line:
+/// besides those that can't be read these are, in this order,
+///
+/// - `B10 frame`: a candump line, which is a frame and no message;
+/// - `B8 unknown`: a message of a PGN that the table doesn't have;
+/// - `B9 size`: one of over 8 bytes whose PGN is sent in single frames;
+/// - `B11 time` and `B12 address`, with an interface alone: its stamp isn't `YYYY-MM-DDTHH:MM:SS.mmmZ` of a day of the
+///   calendar from 1970 on, or the bus has no identifier for it. Such a message has used its number.
+///
+/// A bad line is written in no part. The counts are those of lines, of messages written, and of bad lines. Faults as for
+/// `run_plain`.
+pub fn run_frames<R: Source, W: Sink, E: Sink>(
+    alloc: Global,
+    table: &Table,
+    interface: Option<&str>,
+    reader: &mut R,
+    writer: &mut W,
+    reporter: &mut E,
+) -> Result<Counts, RunFault>
+    requires { IsInterface (interface_of interface) }
+    ensures { let before = devices (R.remaining reader.old) (R.calls reader.old) (R.failed_calls reader.old)
+        (W.contents writer.old) (W.failed_calls writer.old) (E.contents reporter.old) (E.failed_calls reporter.old) in
+        let after = devices (R.remaining reader.new) (R.calls reader.new) (R.failed_calls reader.new)
+        (W.contents writer.new) (W.failed_calls writer.new) (E.contents reporter.new) (E.failed_calls reporter.new) in
+        Runs (frames_output table.now (interface_of interface.entry)) (λ es. IfOk result (λ counts. counts ≡ frame_counts_of (kind table.now) (interface_of interface.entry) es)) before after result }
+{
+    laws::splits_written();
+    let maker = FrameLines { table, interface };
+    let mut state = Sending {
+        splitter: Splitter::new(alloc),
+        counts: Counts::NONE,
+    };
+    match run_entries(
+        alloc,
+        &maker,
+        Packing::Whole,
+        &mut state,
+        reader,
+        writer,
+        reporter,
+    ) {
+        Ok(()) => Ok(state.counts),
+        Err(fault) => Err(fault),
+    }
+}
+
+#[cfg(test)]
+mod tests;
