@@ -29,25 +29,26 @@ impl Outcome {
         ensures given { given_of result.step ≡ record { message = message; cause = None; broken = [] } }
         ensures unknown { result.is_unknown ≡ is_unknown }
     {
-        let step = Step {
-            message,
-            bad: None,
-            broken: None,
-        };
-        Outcome { step, is_unknown }
+        Outcome {
+            step: Step {
+                message,
+                bad: None,
+                broken: None,
+            },
+            is_unknown,
+        }
     }
 
     fn of_bad(cause: BadCause) -> Outcome
         ensures given { given_of result.step ≡ record { message = None; cause = Some cause; broken = [] } }
         ensures unknown { result.is_unknown ≡ false }
     {
-        let step = Step {
-            message: None,
-            bad: Some(cause),
-            broken: None,
-        };
         Outcome {
-            step,
+            step: Step {
+                message: None,
+                bad: Some(cause),
+                broken: None,
+            },
             is_unknown: false,
         }
     }
@@ -73,13 +74,12 @@ fn take_fast(
         return Ok(Outcome::of_bad(BadCause::Fast));
     };
     let taken = take_frame(alloc, groups, line, &frame, packet)?;
-    let step = Step {
-        message: taken.message,
-        bad: None,
-        broken: taken.broken,
-    };
     Ok(Outcome {
-        step,
+        step: Step {
+            message: taken.message,
+            bad: None,
+            broken: taken.broken,
+        },
         is_unknown: false,
     })
 }
@@ -100,10 +100,11 @@ fn take_packet(
     ensures unchanged { OnErr result (groups.new.items ≡ groups.old.items) }
     ensures memory { OnErr result (opens_by groups.old.items (frame_by kind line packet) ≡ true) }
 {
+    // A packet is large, and each answer that holds one is returned at once, so that none is kept in between.
     match kind {
-        None => Ok(Outcome::of_message(None, true)),
-        Some(Kind::Single) => Ok(Outcome::of_message(Some(packet), false)),
-        Some(Kind::Fast) => take_fast(alloc, groups, line, &packet),
+        None => return Ok(Outcome::of_message(None, true)),
+        Some(Kind::Single) => return Ok(Outcome::of_message(Some(packet), false)),
+        Some(Kind::Fast) => return take_fast(alloc, groups, line, &packet),
     }
 }
 
@@ -123,15 +124,17 @@ pub fn take_entry(
     ensures unchanged { OnErr result (groups.new.items ≡ groups.old.items) }
     ensures memory { OnErr result (opens_by groups.old.items (frame_in (kind table.now) line entry) ≡ true) }
 {
+    // As in `take_packet`, each answer is returned at once.
     match entry {
-        Entry::Skip => Ok(Outcome::of_message(None, false)),
-        Entry::Bad(cause) => Ok(Outcome::of_bad(cause)),
+        Entry::Skip => return Ok(Outcome::of_message(None, false)),
+        Entry::Bad(cause) => return Ok(Outcome::of_bad(cause)),
         Entry::Frame(packet) => {
-            take_packet(alloc, groups, line, table.kind(packet.id().pgn), packet)
+            let kind = table.kind(packet.id().pgn);
+            return take_packet(alloc, groups, line, kind, packet);
         }
         Entry::Whole(packet) => match table.kind(packet.id().pgn) {
-            None => Ok(Outcome::of_message(None, true)),
-            Some(_) => Ok(Outcome::of_message(Some(packet), false)),
+            None => return Ok(Outcome::of_message(None, true)),
+            Some(_) => return Ok(Outcome::of_message(Some(packet), false)),
         },
     }
 }

@@ -6,6 +6,7 @@ pub mod Finding
 pub mod Folds
 pub mod Fronts
 pub mod GoingOn
+pub mod Joined
 pub mod LogSteps
 pub mod OutputLines
 pub mod Owed

@@ -116,7 +116,7 @@ module _ (laws : KeepsFast) (t : TableParts) where
     same_table = step-id s e ∙ under.same_table;
   })
 
-  part-of : (s : State) (part : Part) → IsId t.id → IsUnder t s → Saves s part → IsPartOf t s part
+  pub part-of : (s : State) (part : Part) → IsId t.id → IsUnder t s → Saves s part → IsPartOf t s part
   part-of s part id under saves = record {
     saved = saves.saved;
     counted = saves.counted;

@@ -56,7 +56,7 @@ HasPart t (Err (Refused fault)) s = Unit {0}
 HasPart t (Err (Run fault)) s = Unit {0}
 HasPart t (Err Memory) s = Unit {0}
 
--- What an answer says of the run. Where the part never began, or its state could not be saved, memory was refused.
+-- What an answer says of the run. Where the part never began, or its state could not be saved, this is as after want of memory.
 abbrev pub as_run : Result Part PartFault → Result Part RunFault
 as_run (Ok part) = Ok part
 as_run (Err (Stopped fault part)) = Err fault
@@ -115,7 +115,7 @@ pub record GoesOn (t : TableParts) (o : Options) (front more : List ℕ) (before
   pub told : reports t o (front ++ more) ≡ reports t o front ++ report
   pub saved : part.state.items ≡ save t o (front ++ more)
   pub counted : part.counts ≡ counts (kind t) (entries o.packing (front ++ more))
-  -- and the log can be cut here too
+  -- and where both are empty or end with a line, the log can be cut here too
   pub reads_back : begun t (Some part.state.items) ≡ Ok (state_after t o (front ++ more))
 
 -- the sinks gained fronts of what the output and the reports of both have after those of the front
@@ -156,11 +156,26 @@ AreCutAtLines (part ∷ next ∷ parts) = IsEmptyOrEndsWith part line_feed × Ar
 abbrev pub with_source : Devices → Option (List ℕ) → ℕ → ℕ → Devices
 with_source devices left calls failed_reads = record devices { left = left; calls = calls; failed_reads = failed_reads }
 
--- all parts were taken whole: the sinks gained what their entries make, and the Part is where these lead to
-pub record TakesAll (t : TableParts) (o : Options) (parts : List (List ℕ)) (before after : Devices) (part : Part) : Type 0 where
+-- these parts were taken whole: the sinks gained what their entries make, and no call of them failed
+pub record Takes (t : TableParts) (o : Options) (parts : List (List ℕ)) (before after : Devices) : Type 0 where
   pub printed : Appends before.written after.written (out_of t o.empty (entries_of o parts))
   pub reported : Appends before.reported after.reported (reports_of t (entries_of o parts))
+  pub writes : after.failed_writes ≡ before.failed_writes
+  pub report_writes : after.failed_reports ≡ before.failed_reports
+
+-- and the Part is where these lead to
+pub record TakesAll (t : TableParts) (o : Options) (parts : List (List ℕ)) (before after : Devices) (part : Part) : Type 0 where
+  pub taken : Takes t o parts before after
   pub leads_to : IsPartOf t (state t.id (kind t) (entries_of o parts)) part
+
+-- The run of a part that lies in memory, after these entries. Where the state can't be read for want of memory, nothing of
+-- the part was written.
+pub record RunsPart (t : TableParts) (o : Options) (front : List Entry) (met : List ℕ) (before after : Devices) (result : Result Part PartFault) : Type 0 where
+  pub left : Option (List ℕ)
+  pub calls : ℕ
+  pub failed_reads : ℕ
+  pub runs : Runs (output_after t o front) (λ es. HasPart t result (state t.id (kind t) (front ++ es))) (with_source before (Some met) 0 0) (with_source after left calls failed_reads) (as_run result)
+  pub untouched : OnRefusal result (after ≡ before)
 
 -- The parts before one of them were taken whole, and at this one the run ended so, as that of a part does.
 pub record EndsAtPart (t : TableParts) (o : Options) (parts : List (List ℕ)) (before after : Devices) (result : Result Part PartFault) : Type 0 where
@@ -169,14 +184,8 @@ pub record EndsAtPart (t : TableParts) (o : Options) (parts : List (List ℕ)) (
   pub later : List (List ℕ)
   pub parts_are : parts ≡ done ++ met ∷ later
   pub between : Devices
-  pub printed : Appends before.written between.written (out_of t o.empty (entries_of o done))
-  pub reported : Appends before.reported between.reported (reports_of t (entries_of o done))
-  pub writes : between.failed_writes ≡ before.failed_writes
-  pub report_writes : between.failed_reports ≡ before.failed_reports
-  pub left : Option (List ℕ)
-  pub calls : ℕ
-  pub failed_reads : ℕ
-  pub runs : Runs (output_after t o (entries_of o done)) (λ es. HasPart t result (state t.id (kind t) (entries_of o done ++ es))) (with_source between (Some met) 0 0) (with_source after left calls failed_reads) (as_run result)
+  pub taken : Takes t o done before between
+  pub runs : RunsPart t o (entries_of o done) met between after result
 
 -- how a run over parts ends; before the first part memory may be refused
 abbrev pub EndsParts : TableParts → Options → List (List ℕ) → Devices → Devices → Result Part PartFault → Type 0

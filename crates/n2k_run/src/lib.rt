@@ -1,7 +1,8 @@
 //! Runs over devices: a log is read, its lines are taken one by one, and texts and reports are written.
 //!
 //! - `run` prints the JSON line of each message that a log gives on a join, `run_plain` each frame and each whole
-//!   message as its plain line. Both report each bad line by its number, and `run` each broken group.
+//!   message as its plain line, `run_frames` each whole message as the lines of the frames in which it is sent. All
+//!   report each bad line by its number, and `run` each broken group.
 //! - `Blocks` lends the lines of a log from a block of 4,096 bytes. A run holds no more of its log, and writes what
 //!   its lines gave before it reads on: so a live pipe shows each message when its line came.
 //! - `Source` and `Sink` are devices: `StdSource` and `StdSink` over the standard library's, `MemorySource` and

@@ -1,5 +1,5 @@
 //! Runs of a log in parts, each from the state that was saved after the one before.
-ghost use Rattle.std.specs.Prelude.{◌≡◌, ℕ, List, map, ◌++◌, IfOk, IsErr, IsSome, None, Ok, option_map};
+ghost use Rattle.std.specs.Prelude.{◌≡◌, ℕ, List, [], map, ◌++◌, IfOk, IsErr, IsSome, None, Ok, option_map};
 ghost use Rattle.std.specs.List.{concat};
 ghost use Rattle.n2k_wire.specs.declared.entry.Entry.{Entry};
 ghost use Rattle.n2k_table.specs.Table.{kind};
@@ -9,7 +9,7 @@ ghost use Rattle.n2k_join.specs.State.{State, state};
 ghost use Rattle.n2k_run.specs.Decoded.{join_making, output_after};
 ghost use Rattle.n2k_run.specs.Inner.Parts.{Finishes, HasSaved, Saves};
 ghost use Rattle.n2k_run.specs.Making.{after_all};
-ghost use Rattle.n2k_run.specs.Parts.{AreCutAtLines, BeginsBy, Continues, EndsParts, HasPart, IsFront, IsOfKind, OnRefusal, PrintsLog, RefusedByMemory, as_run, begun};
+ghost use Rattle.n2k_run.specs.Parts.{AreCutAtLines, BeginsBy, Continues, EndsParts, HasPart, IsFront, IsOfKind, IsPartOf, OnRefusal, PrintsLog, RefusedByMemory, RunsPart, as_run, begun};
 ghost use Rattle.n2k_run.specs.Runs.{Runs, devices, output_from};
 
 use crate::decoding::run;
@@ -172,6 +172,38 @@ pub fn run_part<R: Source, W: Sink, E: Sink>(
     finish(alloc, &join, ran)
 }
 
+// The Part of the empty log.
+fn empty_part(alloc: Global, table: &Table) -> Result<Part, AllocError>
+    ensures { IfOk result (IsPartOf table.now (state table.now.id (kind table.now) [])) }
+{
+    laws::groups_stay_fast();
+    know_id(table);
+    let join = Join::new(alloc, table);
+    part_of(alloc, &join)
+}
+
+// Runs the next part, which lies in memory.
+fn next_part<W: Sink, E: Sink>(
+    alloc: Global,
+    table: &Table,
+    last: &Part,
+    options: Options,
+    part: &[u8],
+    writer: &mut W,
+    reporter: &mut E,
+) -> Result<Part, PartFault>
+    ensures kinds { IsOfKind result }
+    ensures memory_only { (s : State) → IsPartOf table.now s last.now → RefusedByMemory result }
+    ensures log { (front : List Entry) → IsPartOf table.now (state table.now.id (kind table.now) front) last.now →
+        let before = devices None 0 0 (W.contents writer.old) (W.failed_calls writer.old) (E.contents reporter.old) (E.failed_calls reporter.old) in
+        let after = devices None 0 0 (W.contents writer.new) (W.failed_calls writer.new) (E.contents reporter.new) (E.failed_calls reporter.new) in
+        RunsPart table.now options front part.now before after result }
+{
+    let mut reader = MemorySource::new(part, usize::MAX, 0);
+    let state = Some(last.state.as_slice());
+    run_part(alloc, table, state, options, &mut reader, writer, reporter)
+}
+
 /// Runs the parts of a log that lie in memory, one after the other, each from the bytes that were saved after the one
 /// before it: as one run over the log that they make, where each part but the last is empty or ends with a line. No
 /// part gives the state of the empty log.
@@ -203,18 +235,14 @@ pub fn run_parts<W: Sink, E: Sink>(
         let after = devices None 0 0 (W.contents writer.new) (W.failed_calls writer.new) (E.contents reporter.new) (E.failed_calls reporter.new) in
         IfOk result (PrintsLog table.now options (concat (map (λ part. part.now) parts.now)) before after) }
 {
-    let mut last = part_of(alloc, &Join::new(alloc, table))?;
+    laws::steps_agree();
+    laws::lines_stay();
+    let mut last = empty_part(alloc, table)?;
     for part in parts {
-        let mut reader = MemorySource::new(part, usize::MAX, 0);
-        last = run_part(
-            alloc,
-            table,
-            Some(&last.state),
-            options,
-            &mut reader,
-            writer,
-            reporter,
-        )?;
+        match next_part(alloc, table, &last, options, part, writer, reporter) {
+            Ok(next) => last = next,
+            Err(fault) => return Err(fault),
+        }
     }
     Ok(last)
 }

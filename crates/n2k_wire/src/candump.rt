@@ -241,13 +241,11 @@ pub(crate) fn read_candump(line: &[u8]) -> Entry
     ensures entry { result ≡ settled (candump line.now) }
     ensures valid { IsEntry result }
 {
-    match read_frame(line) {
-        Ok(Some(frame)) => Entry::Frame(Packet::of_parts(
-            &frame.stamp,
-            frame.id,
-            frame.data.as_slice(),
-        )),
-        Ok(None) => Entry::Skip,
-        Err(cause) => Entry::Bad(cause),
-    }
+    // The packet is large: each answer is returned at once, so that none is kept in between.
+    let frame = match read_frame(line) {
+        Ok(Some(frame)) => frame,
+        Ok(None) => return Entry::Skip,
+        Err(cause) => return Entry::Bad(cause),
+    };
+    Entry::Frame(Packet::of_parts(&frame.stamp, frame.id, frame.data.as_slice()))
 }

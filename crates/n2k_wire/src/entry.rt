@@ -71,9 +71,10 @@ pub fn read_line(line: &[u8], packing: Packing) -> Entry
     if line.len() > LONGEST_LINE {
         return Entry::Bad(BadCause::Long);
     }
+    // As in `read_candump`, each answer is returned at once.
     match line {
-        [] | [b'#', ..] => Entry::Skip,
-        [b'(', ..] => read_candump(line),
-        _ => read_plain(line, packing),
+        [] | [b'#', ..] => return Entry::Skip,
+        [b'(', ..] => return read_candump(line),
+        _ => return read_plain(line, packing),
     }
 }

@@ -1,0 +1,121 @@
+-- Parts that lie in memory, taken one after the other.
+use Rattle.std.proofs.Common.{◌≡◌, ℕ, List, [], ◌∷◌, ◌++◌, length, map, Option, Some, None, Result, Ok, Err, refl, sym, ap, ◌∙◌, subst, append_assoc, append-nil}
+use Rattle.std.specs.Prelude.{◌⊎◌, IfOk, IfSome}
+use mathlib.Core.Logic.{inl, inr}
+use Rattle.std.specs.List.{flat_map, concat}
+use Rattle.std.specs.Prelude.{◌<◌, get_or, take, drop, suc}
+use Rattle.std.specs.Borrow.{Bor}
+use Rattle.std.proofs.lemmas.List.{map-append, take-append-drop}
+use Rattle.std.proofs.Math.Seq.{drop-cons}
+use Rattle.n2k_run.specs.Memory.{Supply}
+use Rattle.std.specs.Io.{IsEmptyOrEndsWith}
+use Rattle.std.specs.Io.KnownBytes.{Appends}
+use Rattle.std.proofs.KnownBytes.{Appends-nil, Appends-trans}
+use Rattle.std.proofs.lemmas.Grind.{flat_map-append}
+use Rattle.n2k_wire.specs.declared.entry.Entry.{Entry}
+use Rattle.n2k_table.specs.declared.definition.Kind.{Kind}
+use Rattle.n2k_table.specs.Table.{TableParts, kind}
+use Rattle.n2k_join.specs.Laws.{StepsAgree, LinesStay}
+use Rattle.n2k_join.specs.Saved.{IsId}
+use Rattle.n2k_join.specs.State.{State, state}
+use Rattle.n2k_run.specs.declared.options.Options.{Options}
+use Rattle.n2k_run.specs.declared.part.Part.{Part}
+use Rattle.n2k_run.specs.declared.part.PartFault.{PartFault}
+use Rattle.n2k_run.specs.declared.part.PartFault.TheVariants.{State as Refused, Stopped, Run, Memory}
+use Rattle.n2k_run.specs.Decoded.{out, out_of, output_after, reports, reports_of}
+use Rattle.n2k_run.specs.Entries.{entries}
+use Rattle.n2k_run.specs.Inner.Parts.{Saves}
+use Rattle.n2k_run.specs.Lines.{line_feed}
+use Rattle.n2k_run.specs.Parts.{AreCutAtLines, BeginsBy, IsPartOf, OnRefusal, PrintsLog, RefusedByMemory, RunsPart, Takes, TakesAll, as_run, begun, entries_of, save, with_source, HasPart}
+use Rattle.n2k_run.specs.Runs.{Devices, Runs}
+use Rattle.n2k_run.proofs.Fronts.{entries-append}
+use Rattle.n2k_run.proofs.GoingOn.{out_of-append, reports_of-append}
+use Rattle.n2k_run.proofs.Parting.{KeepsFast, begun-under, memory_alone, part-of}
+
+-- before the first part
+pub empty-of : (laws : KeepsFast) (t : TableParts) (join : State) {E : Type 0} (result : Result Part E) → IsId t.id → join ≡ state t.id (kind t) [] → IfOk result (Saves join) → IfOk result (IsPartOf t (state t.id (kind t) []))
+empty-of laws t join (Ok part) id is saves = part-of laws t (state t.id (kind t) []) part id (begun-under laws t None (state t.id (kind t) []) refl) (subst (λ s. Saves s part) is saves)
+empty-of laws t join (Err e) id is saves = tt
+
+pub refused_memory : (t : TableParts) (handed : Option (List ℕ)) (s : State) (result : Result Part PartFault) → begun t handed ≡ Ok s → BeginsBy t handed result → RefusedByMemory result
+refused_memory t handed s (Ok part) is begins = tt
+refused_memory t handed s (Err (Stopped fault part)) is begins = tt
+refused_memory t handed s (Err (Run fault)) is begins = tt
+refused_memory t handed s (Err Memory) is begins = tt
+refused_memory t handed s (Err (Refused fault)) is begins = memory_alone fault (begun t handed) s is begins.1
+
+pub none_taken : (t : TableParts) (o : Options) (before : Devices) (part : Part) → IsPartOf t (state t.id (kind t) []) part → TakesAll t o [] before before part
+none_taken t o before part is = record {
+  taken = record { printed = Appends-nil before.written; reported = Appends-nil before.reported; writes = refl; report_writes = refl };
+  leads_to = is;
+}
+
+entries_next : (o : Options) (done : List (List ℕ)) (met : List ℕ) → entries_of o (done ++ met ∷ []) ≡ entries_of o done ++ entries o.packing met
+entries_next o done met = flat_map-append (entries o.packing) done (met ∷ []) ∙ ap (λ es. entries_of o done ++ es) (append-nil (entries o.packing met))
+
+module _ (agree : (id : List ℕ) (kind : ℕ → Option Kind) (es : List Entry) (e : Entry) → StepsAgree id kind es e) (stay : (kind : ℕ → Option Kind) (es : List Entry) (e : Entry) → LinesStay kind es e) (t : TableParts) (o : Options) where
+  -- one part more was taken whole
+  pub next_taken : (done : List (List ℕ)) (met : List ℕ) (before between after : Devices) (last next : Part) → TakesAll t o done before between last → RunsPart t o (entries_of o done) met between after (Ok next) → TakesAll t o (done ++ met ∷ []) before after next
+  next_taken done met before between after last next so_far run =
+      let front = entries_of o done in
+      let es = entries o.packing met in
+      let all : front ++ es ≡ entries_of o (done ++ met ∷ []) = sym (entries_next o done met) in
+      let gained = run.runs.ends.gained in
+      let text : Appends before.written after.written (out_of t o.empty (front ++ es)) =
+      subst (Appends before.written after.written) (sym (out_of-append agree stay t o.empty front es)) (Appends-trans before.written between.written after.written _ _ so_far.taken.printed gained.printed) in
+      let report : Appends before.reported after.reported (reports_of t (front ++ es)) =
+      subst (Appends before.reported after.reported) (sym (reports_of-append agree stay t front es)) (Appends-trans before.reported between.reported after.reported _ _ so_far.taken.reported gained.reported) in
+      record {
+        taken = record {
+          printed = subst (λ es. Appends before.written after.written (out_of t o.empty es)) all text;
+          reported = subst (λ es. Appends before.reported after.reported (reports_of t es)) all report;
+          writes = run.runs.device.writes ∙ so_far.taken.writes;
+          report_writes = run.runs.device.reports ∙ so_far.taken.report_writes;
+        };
+        leads_to = subst (λ es. IsPartOf t (state t.id (kind t) es) next) all run.runs.ends.holds;
+      }
+
+-- where the state is refused, both sinks are as they were
+pub both_untouched : {W E : Type 0} (result : Result Part PartFault) (w w' : W) (e e' : E) (seen : W → E → Devices) → OnRefusal result (w' ≡ w) → OnRefusal result (e' ≡ e) → OnRefusal result (seen w' e' ≡ seen w e)
+both_untouched (Ok part) w w' e e' seen p q = tt
+both_untouched (Err (Stopped fault part)) w w' e e' seen p q = tt
+both_untouched (Err (Run fault)) w w' e e' seen p q = tt
+both_untouched (Err Memory) w w' e e' seen p q = tt
+both_untouched (Err (Refused fault)) w w' e e' seen p q = rw (p, q) refl
+
+-- the run of a part reads from its source in memory
+pub runs_part : (t : TableParts) (o : Options) (front : List Entry) (met : List ℕ) (reader : Supply) (at : ℕ) (before after : Devices) (left : Option (List ℕ)) (calls failed_reads : ℕ) (result : Result Part PartFault) → reader ≡ record { left = met; at_once = at; fails_at = 0; calls = 0; failed_calls = 0 }
+    → Runs (output_after t o front) (λ es. HasPart t result (state t.id (kind t) (front ++ es))) (with_source before (Some reader.left) reader.calls reader.failed_calls) (with_source after left calls failed_reads) (as_run result) → OnRefusal result (after ≡ before) → RunsPart t o front met before after result
+runs_part t o front met reader at before after left calls failed_reads result is runs untouched = record {
+  left = left;
+  calls = calls;
+  failed_reads = failed_reads;
+  runs = subst (λ (s : Supply). Runs (output_after t o front) (λ es. HasPart t result (state t.id (kind t) (front ++ es))) (with_source before (Some s.left) s.calls s.failed_calls) (with_source after left calls failed_reads) (as_run result)) is runs;
+  untouched = untouched;
+}
+
+-- the parts before one, that one, and those after it
+pub split_parts : (parts : List (Bor (List ℕ))) (i : ℕ) (d : Bor (List ℕ)) → i < length parts → map (λ (p : Bor (List ℕ)). p.now) parts ≡ map (λ (p : Bor (List ℕ)). p.now) (take i parts) ++ (get_or parts i d).now ∷ map (λ (p : Bor (List ℕ)). p.now) (drop (suc i) parts)
+split_parts parts i d within =
+    ap (map (λ (p : Bor (List ℕ)). p.now)) (sym (take-append-drop i parts) ∙ ap (λ ps. take i parts ++ ps) (drop-cons parts i d within))
+    ∙ map-append (λ (p : Bor (List ℕ)). p.now) (take i parts) (get_or parts i d ∷ drop (suc i) parts)
+
+-- ---- a log that was cut after lines
+
+cut_entries : (o : Options) (parts : List (List ℕ)) → AreCutAtLines parts → entries_of o parts ≡ entries o.packing (concat parts)
+cut_entries o [] cut = refl
+cut_entries o (part ∷ []) cut = append-nil (entries o.packing part) ∙ ap (entries o.packing) (sym (append-nil part))
+cut_entries o (part ∷ next ∷ parts) cut =
+    ap (λ es. entries o.packing part ++ es) (cut_entries o (next ∷ parts) cut.1) ∙ sym (entries-append o.packing part (concat (next ∷ parts)) cut.0)
+
+pub prints_log : (t : TableParts) (o : Options) (parts : List (List ℕ)) (before after : Devices) (part : Part) → AreCutAtLines parts → TakesAll t o parts before after part → PrintsLog t o (concat parts) before after part
+unfolding out reports save
+prints_log t o parts before after part cut all =
+    let same = cut_entries o parts cut in
+    let is : IsPartOf t (state t.id (kind t) (entries o.packing (concat parts))) part = subst (λ es. IsPartOf t (state t.id (kind t) es) part) same all.leads_to in
+    record {
+      printed = subst (λ es. Appends before.written after.written (out_of t o.empty es)) same all.taken.printed;
+      reported = subst (λ es. Appends before.reported after.reported (reports_of t es)) same all.taken.reported;
+      saved = is.saved;
+      counted = is.counted;
+    }

@@ -1,0 +1,51 @@
+use Rattle.std.proofs.Common.{◌≡◌, ℕ, List, [], None, map, take, drop, suc, get_or, Bor, sym, subst, arith}
+use mathlib.Core.Logic.{inr}
+use Rattle.std.proofs.lemmas.List.{map_more, take_all}
+use Rattle.n2k_run.specs.Parts.{TakesAll, entries_of}
+use Rattle.n2k_run.specs.Runs.{devices}
+use Rattle.n2k_run.proofs.Joined.{next_taken, prints_log, split_parts}
+use Rattle.n2k_run.proofs.part.run_parts.Goals as goal
+
+pub returns-in-Err-clause-log : goal.returns-in-Err-clause-log
+returns-in-Err-clause-log g c =
+    let none : Bor (List ℕ) = record { ref_ptr = (0, 0); now = [] } in
+    let now : Bor (List ℕ) → List ℕ = λ part. part.now in
+    let parts = c.args.parts.now in
+    let i = c.loop-part.part-index in
+    inr (record {
+      done = map now (take i parts);
+      met = (get_or parts i none).now;
+      later = map now (drop (suc i) parts);
+      parts_are = split_parts parts i none c.loop-part-test.true;
+      between = devices None 0 0 (g.W.Sink.contents c.loop-part.writer) (g.W.Sink.failed_calls c.loop-part.writer) (g.E.Sink.contents c.loop-part.reporter) (g.E.Sink.failed_calls c.loop-part.reporter);
+      taken = c.loop-part.invariant.taken;
+      runs = c.in-Err.ensures.log (entries_of c.args.options (map now (take i parts))) c.loop-part.invariant.leads_to;
+    })
+
+pub loop-part-preserved : goal.loop-part-preserved
+loop-part-preserved g c =
+    let none : Bor (List ℕ) = record { ref_ptr = (0, 0); now = [] } in
+    let now : Bor (List ℕ) → List ℕ = λ part. part.now in
+    let parts = c.args.parts.now in
+    let i = c.loop-part.part-index in
+    let before = devices None 0 0 (g.W.Sink.contents c.args.writer.now) (g.W.Sink.failed_calls c.args.writer.now) (g.E.Sink.contents c.args.reporter.now) (g.E.Sink.failed_calls c.args.reporter.now) in
+    let between = devices None 0 0 (g.W.Sink.contents c.loop-part.writer) (g.W.Sink.failed_calls c.loop-part.writer) (g.E.Sink.contents c.loop-part.reporter) (g.E.Sink.failed_calls c.loop-part.reporter) in
+    let after = devices None 0 0 (g.W.Sink.contents c.next_part.new.writer) (g.W.Sink.failed_calls c.next_part.new.writer) (g.E.Sink.contents c.next_part.new.reporter) (g.E.Sink.failed_calls c.next_part.new.reporter) in
+    let run = c.in-Ok.ensures.log (entries_of c.args.options (map now (take i parts))) c.loop-part.invariant.leads_to in
+    subst (λ ps. TakesAll c.args.table.now c.args.options ps before after c.in-Ok.next) (sym (map_more now parts i none c.loop-part-test.true))
+    (next_taken c.steps_agree.ensures c.lines_stay.ensures c.args.table.now c.args.options (map now (take i parts)) (get_or parts i none).now before between after c.loop-part.last c.in-Ok.next c.loop-part.invariant run)
+
+pub returns-clause-log : goal.returns-clause-log
+returns-clause-log g c =
+    let now : Bor (List ℕ) → List ℕ = λ part. part.now in
+    let parts = c.args.parts.now in
+    let before = devices None 0 0 (g.W.Sink.contents c.args.writer.now) (g.W.Sink.failed_calls c.args.writer.now) (g.E.Sink.contents c.args.reporter.now) (g.E.Sink.failed_calls c.args.reporter.now) in
+    let after = devices None 0 0 (g.W.Sink.contents c.loop-part.writer) (g.W.Sink.failed_calls c.loop-part.writer) (g.E.Sink.contents c.loop-part.reporter) (g.E.Sink.failed_calls c.loop-part.reporter) in
+    subst (λ ps. TakesAll c.args.table.now c.args.options (map now ps) before after c.loop-part.last) (take_all c.loop-part.part-index parts (omega (arith, c.loop-part-test.false))) c.loop-part.invariant
+
+pub returns-clause-headline : goal.returns-clause-headline
+returns-clause-headline g c = λ cut.
+    let now : Bor (List ℕ) → List ℕ = λ part. part.now in
+    let before = devices None 0 0 (g.W.Sink.contents c.args.writer.now) (g.W.Sink.failed_calls c.args.writer.now) (g.E.Sink.contents c.args.reporter.now) (g.E.Sink.failed_calls c.args.reporter.now) in
+    let after = devices None 0 0 (g.W.Sink.contents c.loop-part.writer) (g.W.Sink.failed_calls c.loop-part.writer) (g.E.Sink.contents c.loop-part.reporter) (g.E.Sink.failed_calls c.loop-part.reporter) in
+    prints_log c.args.table.now c.args.options (map now c.args.parts.now) before after c.loop-part.last cut (returns-clause-log g c)
