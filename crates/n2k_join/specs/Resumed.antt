@@ -175,13 +175,14 @@ is_fast (Some Fast) = true
 unfoldable pub key_holds : (ℕ → Option Kind) → Key → Bool
 key_holds kind k = nat_le k.pgn greatest_pgn && (is_fast (kind k.pgn) && (nat_le k.src 255 && (nat_le k.dst 255 && nat_le k.sequence 7)))
 
--- numbers rise and are below 32, and a frame 0 has a total that isn't too large
+-- a frame 0 has a total that isn't too large
 abbrev pub total_holds : ℕ → List ℕ → Bool
 total_holds number bytes = not (number == 0) || nat_le (slice_index_or bytes 0 0) longest_total
 
 abbrev pub piece_holds : ℕ → Piece → Bool
 piece_holds least p = nat_le least p.number && (nat_le p.number 31 && total_holds p.number p.bytes)
 
+-- numbers rise and are below 32
 unfoldable pub pieces_rise : ℕ → List Piece → Bool
 pieces_rise least [] = true
 pieces_rise least (p ∷ ps) = piece_holds least p && pieces_rise (p.number + 1) ps

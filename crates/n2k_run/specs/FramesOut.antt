@@ -67,7 +67,7 @@ line_cause kind interface (lines.Bad cause) = Some cause
 line_cause kind interface (lines.Frame packet) = Some causes.Frame
 line_cause kind interface (lines.Whole packet) = message_cause kind interface packet
 
--- the message of a line, where it is split and so takes a sequence
+-- the message of a line, where it is split: one of a fast PGN takes a sequence then
 abbrev pub split_message : (ℕ → Option Kind) → Entry → Option PacketParts
 split_message kind lines.Skip = None
 split_message kind (lines.Bad cause) = None

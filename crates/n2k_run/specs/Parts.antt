@@ -81,7 +81,7 @@ BeginsBy t handed (Err (Run fault)) = IsOk (begun t handed)
 BeginsBy t handed (Err Memory) = IsOk (begun t handed)
 BeginsBy t handed (Ok part) = IsOk (begun t handed)
 
--- a refused state is no reason but memory
+-- where a state is refused, it is for want of memory alone
 abbrev pub RefusedByMemory : Result Part PartFault → Type 0
 RefusedByMemory (Err (Refused fault)) = fault ≡ state_faults.Memory
 RefusedByMemory (Err (Stopped fault part)) = Unit {0}

@@ -178,14 +178,14 @@ impl<'a> Maker for FrameLines<'a> {
 
 /// Writes each whole message of a log, a plain line of 0 to 223 bytes, as the lines of the frames in which it is sent:
 /// plain lines, or with an interface those that `candump -L` writes at it. The messages of each stream, a sender's
-/// messages of one PGN to one receiver, are numbered in turn from 0 to 7. `reporter` gets the report of each bad line:
+/// messages of one fast PGN to one receiver, are numbered in turn from 0 to 7. `reporter` gets the report of each bad line:
 /// besides those that can't be read these are, in this order,
 ///
 /// - `B10 frame`: a candump line, which is a frame and no message;
 /// - `B8 unknown`: a message of a PGN that the table doesn't have;
 /// - `B9 size`: one of over 8 bytes whose PGN is sent in single frames;
 /// - `B11 time` and `B12 address`, with an interface alone: its stamp isn't `YYYY-MM-DDTHH:MM:SS.mmmZ` of a day of the
-///   calendar from 1970 on, or the bus has no identifier for it. Such a message has used its number.
+///   calendar from 1970 on, or the bus has no identifier for it. Such a message of a fast PGN has used its number.
 ///
 /// A bad line is written in no part. The counts are those of lines, of messages written, and of bad lines. Faults as for
 /// `run_plain`.

@@ -111,7 +111,8 @@ fn finish(alloc: Global, join: &Join, ran: Result<(), RunFault>) -> Result<Part,
 ///
 /// The state has to be of the same table, and the options have to be those of the parts before. A state that can't be
 /// taken is refused before anything is read or written. After `Stopped` the log can go on from the Part, which stands
-/// after the last line that was taken; after `Run` and `Memory` there is none, and a front of the part's texts and
+/// after the last line that was taken: after `Read` the next part begins behind the last LF that was read, and a line that
+/// came in part is handed in again. After `Run` and `Memory` there is none, and a front of the part's texts and
 /// reports has been written.
 ///
 /// ```text

@@ -14,7 +14,7 @@ use Rattle.n2k_run.specs.declared.fault.RunFault.TheVariants as run
 use Rattle.n2k_table.specs.Table.{TableParts}
 use Rattle.n2k_table.specs.declared.fault.TableFault.{TableFault}
 use Rattle.n2kdec.specs.Closing.{Closes, SumsUp}
-use Rattle.n2kdec.specs.Commands.{Command, Ends, HasFronts, HasPrinted, HasTaken, IsDone, IsRefusedAPlace, IsRefusedOrStopped, IsSaved, IsStopped, IsUntouched, Keeps, Place, SavesFirst, SumsUpPart, Tells, entries_for, no_saving, place}
+use Rattle.n2kdec.specs.Commands.{Command, Ends, HasFronts, HasPrinted, HasTaken, IsDone, CannotBeSaved, IsRefusedOrStopped, IsSaved, IsStopped, IsUntouched, Keeps, Place, SavesFirst, SumsUpPart, Tells, entries_for, no_saving, place}
 use Rattle.n2kdec.specs.Fault.{exit_status, fault_of_run}
 use Rattle.n2kdec.specs.declared.fault.Fault.{Fault}
 use Rattle.n2kdec.specs.declared.fault.Fault.TheVariants.{Words, Interface, TableSize, StateSize, Table, State, TableFile, StateFile, Read, Write, Report, Memory, Lines, Save}
@@ -147,7 +147,7 @@ module _ (c : Command) (stands : List Entry → Type 0) (before after : Devices)
   -- what follows the fault of a run: the summary of the lines that it has taken, or nothing
   abbrev pub Follows : RunFault → Type 0
   Follows run.Read = (es : List Entry) → stands es → SumsUpPart c.sums_up_a_part errors.text after.reported (summary_text (c.counts es))
-      × (IsSaved c.saving es ⊎ IsRefusedAPlace c.saving)
+      × (IsSaved c.saving es ⊎ CannotBeSaved c.saving)
   Follows run.TooManyLines = (es : List Entry) → stands es → SumsUpPart c.sums_up_a_part errors.text after.reported (summary_text (c.counts es))
       × IsUntouched c.saving
   Follows run.Write = IsLeft

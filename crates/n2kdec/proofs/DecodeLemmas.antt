@@ -24,7 +24,7 @@ use Rattle.n2k_run.specs.declared.options.Options.{Options}
 use Rattle.n2k_table.specs.Table.{TableParts, kind as kind_of}
 use Rattle.n2k_table.specs.declared.fault.TableFault.{TableFault}
 use Rattle.n2kdec.specs.Closing.{ClosesPart}
-use Rattle.n2kdec.specs.Commands.{Command, Ends, EndsUnlessRefused, IsJudged, IsRefusal, IsRefusedAPlace, IsSaved, IsStopped, Keeps, Place, PrintsRest, decode_command, decode_from, decode_to, place}
+use Rattle.n2kdec.specs.Commands.{Command, Ends, EndsUnlessRefused, IsJudged, IsRefusal, CannotBeSaved, IsSaved, IsStopped, Keeps, Place, PrintsRest, decode_command, decode_from, decode_to, place}
 use Rattle.n2kdec.specs.Fault.{exit_status, fault_of_run}
 use Rattle.n2kdec.specs.declared.fault.Fault.{Fault}
 use Rattle.n2kdec.specs.declared.fault.Fault.TheVariants.{Table, State, Memory}
@@ -55,7 +55,7 @@ module _ (o : Output) (stands_at : List Entry → StateOf) (t : TableParts) (bef
   summary_of part es is front = subst (λ n. AppendsFront errors.text after.reported (summary_text n)) is.counted front
 
   saved_or_not : (part : Part) (es : List Entry) → IsPartOf t (stands_at es) part → Keeps keeper kept part.state.items ⊎ HasFailed keeper.failed kept.failed
-      → IsSaved c.saving es ⊎ IsRefusedAPlace c.saving
+      → IsSaved c.saving es ⊎ CannotBeSaved c.saving
   saved_or_not part es is (inl keeps) = inl (subst (Keeps keeper kept) is.saved keeps)
   saved_or_not part es is (inr failed) = inr failed
 

@@ -59,8 +59,8 @@ abbrev pub IsSaved : Saving → List Entry → Type 0
 IsSaved s es = Keeps s.before s.after (s.state es)
 
 -- it can't be kept
-abbrev pub IsRefusedAPlace : Saving → Type 0
-IsRefusedAPlace s = HasFailed s.before.failed s.after.failed
+abbrev pub CannotBeSaved : Saving → Type 0
+CannotBeSaved s = HasFailed s.before.failed s.after.failed
 
 -- the place is as it was
 abbrev pub IsUntouched : Saving → Type 0
@@ -142,7 +142,7 @@ pub record HasRead (c : Command) (before after : Devices) : Type 0 where
   pub came : List ℕ
   pub given : Consumes before.left after.left came
   pub taken : HasTaken c before after (entries_for c (whole_lines came))
-  pub saved : IsSaved c.saving (entries_for c (whole_lines came)) ⊎ IsRefusedAPlace c.saving
+  pub saved : IsSaved c.saving (entries_for c (whole_lines came)) ⊎ CannotBeSaved c.saving
 
 -- As many lines are taken as are counted, and the log has more. Nothing is saved.
 pub record IsFull (c : Command) (before after : Devices) : Type 0 where
@@ -178,7 +178,7 @@ SavesFirst c before after log =
 abbrev pub Tells : Command → Devices → Devices → Fault → Type 0
 Tells c before after Read = (HasFailed before.failed_reads after.failed_reads ⊎ OutlastsReads before.calls after.calls) × HasRead c before after
 Tells c before after Lines = IsFull c before after
-Tells c before after Save = IsRefusedAPlace c.saving × IfSome before.left (HasPrinted c before after)
+Tells c before after Save = CannotBeSaved c.saving × IfSome before.left (HasPrinted c before after)
 Tells c before after Write = HasFailed before.failed_writes after.failed_writes × IfSome before.left (HasFronts c before after) × IsUntouched c.saving
 Tells c before after Report = HasFailed before.failed_reports after.failed_reports × IfSome before.left (HasFronts c before after) × IfSome before.left (SavesFirst c before after)
 Tells c before after Memory = IfSome before.left (HasFronts c before after) × IfSome before.left (SavesFirst c before after)

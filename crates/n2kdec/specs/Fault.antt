@@ -1,5 +1,5 @@
 -- The line that a fault prints, and the status that the program ends with.
-use Rattle.std.specs.Prelude.{ℕ, Bool, true, false, List, codes, ◌==◌, if◌then◌else◌}
+use Rattle.std.specs.Prelude.{ℕ, List, codes, ◌==◌, if◌then◌else◌}
 use Rattle.n2k_join.specs.declared.counts.Counts.{Counts}
 use Rattle.n2k_join.specs.declared.state_fault.StateFault.{StateFault}
 use Rattle.n2k_join.specs.declared.state_fault.StateFault.TheVariants as state
@@ -97,14 +97,6 @@ fault_of_run run.Write = Write
 fault_of_run run.Report = Report
 fault_of_run run.Memory = Memory
 fault_of_run run.TooManyLines = Lines
-
--- after these faults a run stands after whole lines
-abbrev pub stands_after : RunFault → Bool
-stands_after run.Read = true
-stands_after run.TooManyLines = true
-stands_after run.Write = false
-stands_after run.Report = false
-stands_after run.Memory = false
 
 -- 0 where no line was bad
 abbrev pub exit_status : Counts → ℕ
