@@ -1,34 +1,36 @@
 -- From what the run of a part and its closing leave to what `decode` leaves.
-use Rattle.std.proofs.Common.{◌≡◌, ◌⊎◌, ◌≢◌, ◌∙◌, ℕ, List, [], Option, Some, None, Ok, Err, Result, IfErr, IfOk, IfSome, IsOk, ◌≤◌, ◌++◌, MatchResult, Contains, ap, sym, subst, refl, inl, inr}
+use Rattle.std.proofs.Common.{◌≡◌, ◌⊎◌, ◌∙◌, ℕ, List, Option, Some, None, Ok, Err, Result, IfOk, IfSome, ◌++◌, ap, sym, subst, inl, inr}
 use Rattle.std.proofs.KnownBytes.{Appends-trans}
 use Rattle.std.specs.Io.KnownBytes.{Appends}
 use Rattle.n2k_wire.specs.declared.entry.Entry.{Entry}
 use Rattle.n2k_join.specs.Messages.{counts}
 use Rattle.n2k_join.specs.State.{State as StateOf, state}
-use Rattle.n2k_join.specs.declared.state_fault.StateFault.{StateFault}
 use Rattle.n2k_join.specs.declared.state_fault.StateFault.TheVariants as state_faults
 use Rattle.n2k_run.specs.Decoded.{join_making, output_after}
 use Rattle.n2k_run.specs.Device.{HasFailed}
 use Rattle.n2k_run.specs.Entries.{entries}
 use Rattle.n2k_run.specs.Making.{after_all}
-use Rattle.n2k_run.specs.Parts.{BeginsBy, Continues, HasPart, IsFront, IsOfKind, IsPartOf, OnRefusal, RefusedByMemory, as_run, begun, state_after}
+use Rattle.n2k_run.specs.Parts.{BeginsBy, Continues, HasPart, IsFront, IsOfKind, IsPartOf, RefusedByMemory, as_run, begun, state_after}
 use Rattle.n2k_run.specs.Reports.{summary_text}
 use Rattle.n2k_run.specs.Runs.{Devices, Output, Runs, output_from}
 use Rattle.n2k_run.specs.Writing.{AppendsFront}
-use Rattle.n2k_run.specs.declared.fault.RunFault.{RunFault}
 use Rattle.n2k_run.specs.declared.fault.RunFault.TheVariants as run
 use Rattle.n2k_run.specs.declared.part.Part.{Part}
 use Rattle.n2k_run.specs.declared.part.PartFault.{PartFault}
 use Rattle.n2k_run.specs.declared.part.PartFault.TheVariants as part_faults
 use Rattle.n2k_run.specs.declared.options.Options.{Options}
 use Rattle.n2k_table.specs.Table.{TableParts, kind as kind_of}
-use Rattle.n2k_table.specs.declared.fault.TableFault.{TableFault}
 use Rattle.n2kdec.specs.Closing.{ClosesPart}
+<<<<<<< HEAD
 use Rattle.n2kdec.specs.Commands.{Command, Ends, EndsUnlessRefused, IsJudged, IsRefusal, CannotBeSaved, IsSaved, IsStopped, Keeps, Place, PrintsRest, decode_command, decode_from, decode_to, place}
 use Rattle.n2kdec.specs.Fault.{exit_status, fault_of_run}
+=======
+use Rattle.n2kdec.specs.Commands.{Command, Ends, EndsUnlessRefused, IsRefusedAPlace, IsSaved, IsStopped, Keeps, Place, PrintsRest, decode_command, decode_from, decode_to, place}
+use Rattle.n2kdec.specs.Fault.{exit_status}
+>>>>>>> prog
 use Rattle.n2kdec.specs.declared.fault.Fault.{Fault}
-use Rattle.n2kdec.specs.declared.fault.Fault.TheVariants.{Table, State, Memory}
-use Rattle.n2kdec.proofs.CommandLemmas.{ended_by_closing, few, if_some, left_by_run, stopped_by_run}
+use Rattle.n2kdec.specs.declared.fault.Fault.TheVariants.{Table, State}
+use Rattle.n2kdec.proofs.CommandLemmas.{ended_by_closing, if_some, left_by_run, stopped_by_run}
 
 -- no command that has begun ends by a refusal
 unless : (c : Command) (before after : Devices) (r : Result ℕ Fault) → Ends c before after r → EndsUnlessRefused c before after r
@@ -127,82 +129,6 @@ decoded_after t read options handed front before after errors keeper kept ended 
     subst (λ u. EndsUnlessRefused (decode_command u options front keeper kept) before after r) same
     (closed (output_after read options front) (λ es. state read.id (kind_of read) (front ++ es)) read before after errors keeper kept ended r
     kind (memory_only read handed _ ended by begins_read) (ran begins_read) closes)
-
--- an answer past the table's refusal: the state was taken, or it is what is refused
-module _ (found : List TableFault) (none : found ≡ []) (t : TableParts) (handed : Option (List ℕ)) (r : Result ℕ Fault) where
-  abbrev judged : Result ℕ Fault → Type 0
-  judged r = MatchResult r (λ _. (found ≡ []) × IsOk (begun t handed)) (IsJudged found handed (begun t handed))
-
-  judged_past : IsOk (begun t handed) → (f : RunFault) → r ≡ Err (fault_of_run f) → judged r
-  judged_past ok run.Read is = subst judged (sym is) (none, ok)
-  judged_past ok run.Write is = subst judged (sym is) (none, ok)
-  judged_past ok run.Report is = subst judged (sym is) (none, ok)
-  judged_past ok run.Memory is = subst judged (sym is) (none, ok)
-  judged_past ok run.TooManyLines is = subst judged (sym is) (none, ok)
-
-  pub judged_by_part : (keeper kept errors summed : Place) (ended : Result Part PartFault) → BeginsBy t handed ended → ClosesPart keeper kept errors summed ended r → judged r
-  judged_by_part keeper kept errors summed (Ok part) begins closes = go r closes
-    where
-      go : (r : Result ℕ Fault) → ClosesPart keeper kept errors summed (Ok part) r → judged r
-      go (Ok status) closes = (none, begins)
-      go (Err (Table f)) closes = absurd closes.1
-      go (Err (State f)) closes = absurd closes.1
-      go (Err f) closes = (none, begins)
-  judged_by_part keeper kept errors summed (Err (part_faults.Stopped run.Read part)) begins closes = judged_past begins run.Read closes.0
-  judged_by_part keeper kept errors summed (Err (part_faults.Stopped run.Write part)) begins closes = judged_past begins run.Write closes.0
-  judged_by_part keeper kept errors summed (Err (part_faults.Stopped run.Report part)) begins closes = judged_past begins run.Report closes.0
-  judged_by_part keeper kept errors summed (Err (part_faults.Stopped run.Memory part)) begins closes = judged_past begins run.Memory closes.0
-  judged_by_part keeper kept errors summed (Err (part_faults.Stopped run.TooManyLines part)) begins closes = judged_past begins run.TooManyLines closes.0
-  judged_by_part keeper kept errors summed (Err (part_faults.Run f)) begins closes = judged_past begins f closes.0
-  judged_by_part keeper kept errors summed (Err part_faults.Memory) begins closes = judged_past begins run.Memory closes.0
-  judged_by_part keeper kept errors summed (Err (part_faults.State fault)) begins closes = subst judged (sym closes.0) (none, begins.0, go begins.1)
-    where
-      go : (fault ≡ state_faults.Memory) ⊎ (begun t handed ≡ Err fault) → fault ≢ state_faults.Memory → begun t handed ≡ Err fault
-      go (inl memory) differs = absurd (differs memory)
-      go (inr refused) differs = refused
-
--- what holds where the state was refused holds where a refusal is answered
-pub on_refusal : (P : Type 0) (keeper kept errors summed : Place) (ended : Result Part PartFault) (r : Result ℕ Fault) → ClosesPart keeper kept errors summed ended r → OnRefusal ended P
-    → IfErr r (λ fault. IsRefusal fault → P)
-on_refusal P keeper kept errors summed (Ok part) r closes holds = go r closes
-  where
-    go : (r : Result ℕ Fault) → ClosesPart keeper kept errors summed (Ok part) r → IfErr r (λ fault. IsRefusal fault → P)
-    go (Ok status) closes = tt
-    go (Err (Table f)) closes = absurd closes.1
-    go (Err (State f)) closes = absurd closes.1
-    go (Err f) closes = λ no. absurd no
-on_refusal P keeper kept errors summed (Err (part_faults.Stopped run.Read part)) r closes holds = subst (λ r. IfErr r (λ fault. IsRefusal fault → P)) (sym closes.0) (λ no. absurd no)
-on_refusal P keeper kept errors summed (Err (part_faults.Stopped run.Write part)) r closes holds = subst (λ r. IfErr r (λ fault. IsRefusal fault → P)) (sym closes.0) (λ no. absurd no)
-on_refusal P keeper kept errors summed (Err (part_faults.Stopped run.Report part)) r closes holds = subst (λ r. IfErr r (λ fault. IsRefusal fault → P)) (sym closes.0) (λ no. absurd no)
-on_refusal P keeper kept errors summed (Err (part_faults.Stopped run.Memory part)) r closes holds = subst (λ r. IfErr r (λ fault. IsRefusal fault → P)) (sym closes.0) (λ no. absurd no)
-on_refusal P keeper kept errors summed (Err (part_faults.Stopped run.TooManyLines part)) r closes holds = subst (λ r. IfErr r (λ fault. IsRefusal fault → P)) (sym closes.0) (λ no. absurd no)
-on_refusal P keeper kept errors summed (Err (part_faults.Run run.Read)) r closes holds = subst (λ r. IfErr r (λ fault. IsRefusal fault → P)) (sym closes.0) (λ no. absurd no)
-on_refusal P keeper kept errors summed (Err (part_faults.Run run.Write)) r closes holds = subst (λ r. IfErr r (λ fault. IsRefusal fault → P)) (sym closes.0) (λ no. absurd no)
-on_refusal P keeper kept errors summed (Err (part_faults.Run run.Report)) r closes holds = subst (λ r. IfErr r (λ fault. IsRefusal fault → P)) (sym closes.0) (λ no. absurd no)
-on_refusal P keeper kept errors summed (Err (part_faults.Run run.Memory)) r closes holds = subst (λ r. IfErr r (λ fault. IsRefusal fault → P)) (sym closes.0) (λ no. absurd no)
-on_refusal P keeper kept errors summed (Err (part_faults.Run run.TooManyLines)) r closes holds = subst (λ r. IfErr r (λ fault. IsRefusal fault → P)) (sym closes.0) (λ no. absurd no)
-on_refusal P keeper kept errors summed (Err part_faults.Memory) r closes holds = subst (λ r. IfErr r (λ fault. IsRefusal fault → P)) (sym closes.0) (λ no. absurd no)
-on_refusal P keeper kept errors summed (Err (part_faults.State fault)) r closes holds = subst (λ r. IfErr r (λ fault. IsRefusal fault → P)) (sym closes.0) (λ yes. holds)
-
-pub both_on_refusal : (P Q S : Type 0) (ended : Result Part PartFault) → (P → Q → S) → OnRefusal ended P → OnRefusal ended Q → OnRefusal ended S
-both_on_refusal P Q S (Ok part) both p q = tt
-both_on_refusal P Q S (Err (part_faults.Stopped f part)) both p q = tt
-both_on_refusal P Q S (Err (part_faults.Run f)) both p q = tt
-both_on_refusal P Q S (Err part_faults.Memory) both p q = tt
-both_on_refusal P Q S (Err (part_faults.State fault)) both p q = both p q
-
--- a status is 0 or 1
-pub few_by_part : (keeper kept errors summed : Place) (ended : Result Part PartFault) (r : Result ℕ Fault) → ClosesPart keeper kept errors summed ended r → IfOk r (λ status. status ≤ 1)
-few_by_part keeper kept errors summed (Ok part) (Ok status) closes = subst (λ n. n ≤ 1) (sym closes.1.2) (few part.counts)
-few_by_part keeper kept errors summed (Ok part) (Err fault) closes = tt
-few_by_part keeper kept errors summed (Err (part_faults.Stopped run.Read part)) r closes = subst (λ r. IfOk r (λ status. status ≤ 1)) (sym closes.0) tt
-few_by_part keeper kept errors summed (Err (part_faults.Stopped run.Write part)) r closes = subst (λ r. IfOk r (λ status. status ≤ 1)) (sym closes.0) tt
-few_by_part keeper kept errors summed (Err (part_faults.Stopped run.Report part)) r closes = subst (λ r. IfOk r (λ status. status ≤ 1)) (sym closes.0) tt
-few_by_part keeper kept errors summed (Err (part_faults.Stopped run.Memory part)) r closes = subst (λ r. IfOk r (λ status. status ≤ 1)) (sym closes.0) tt
-few_by_part keeper kept errors summed (Err (part_faults.Stopped run.TooManyLines part)) r closes = subst (λ r. IfOk r (λ status. status ≤ 1)) (sym closes.0) tt
-few_by_part keeper kept errors summed (Err (part_faults.Run fault)) r closes = subst (λ r. IfOk r (λ status. status ≤ 1)) (sym closes.0) tt
-few_by_part keeper kept errors summed (Err (part_faults.State fault)) r closes = subst (λ r. IfOk r (λ status. status ≤ 1)) (sym closes.0) tt
-few_by_part keeper kept errors summed (Err part_faults.Memory) r closes = subst (λ r. IfOk r (λ status. status ≤ 1)) (sym closes.0) tt
 
 -- a part that was not run to its end gives a fault
 fault_by_part : (keeper kept errors summary : Place) (fault : PartFault) (r : Result ℕ Fault) → ClosesPart keeper kept errors summary (Err fault) r → (f : Fault) × (r ≡ Err f)
