@@ -21,13 +21,8 @@ use Rattle.n2k_run.specs.declared.part.PartFault.TheVariants as part_faults
 use Rattle.n2k_run.specs.declared.options.Options.{Options}
 use Rattle.n2k_table.specs.Table.{TableParts, kind as kind_of}
 use Rattle.n2kdec.specs.Closing.{ClosesPart}
-<<<<<<< HEAD
-use Rattle.n2kdec.specs.Commands.{Command, Ends, EndsUnlessRefused, IsJudged, IsRefusal, CannotBeSaved, IsSaved, IsStopped, Keeps, Place, PrintsRest, decode_command, decode_from, decode_to, place}
-use Rattle.n2kdec.specs.Fault.{exit_status, fault_of_run}
-=======
-use Rattle.n2kdec.specs.Commands.{Command, Ends, EndsUnlessRefused, IsRefusedAPlace, IsSaved, IsStopped, Keeps, Place, PrintsRest, decode_command, decode_from, decode_to, place}
+use Rattle.n2kdec.specs.Commands.{Command, Ends, EndsUnlessRefused, CannotBeSaved, IsSaved, IsStopped, Keeps, Place, PrintsRest, decode_command, decode_from, decode_to, place}
 use Rattle.n2kdec.specs.Fault.{exit_status}
->>>>>>> prog
 use Rattle.n2kdec.specs.declared.fault.Fault.{Fault}
 use Rattle.n2kdec.specs.declared.fault.Fault.TheVariants.{Table, State}
 use Rattle.n2kdec.proofs.CommandLemmas.{ended_by_closing, if_some, left_by_run, stopped_by_run}
