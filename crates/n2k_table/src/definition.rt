@@ -1,12 +1,11 @@
 //! What a table says of one message.
-ghost use Rattle.std.specs.Prelude.{◌≡◌, IfOk, map, flat_map};
+ghost use Rattle.std.specs.Prelude.{◌≡◌, map, flat_map};
 ghost use Rattle.std.specs.List.{list_any};
 ghost use Rattle.std.specs.Str.{bytes_eq};
 ghost use Rattle.toml.specs.View.{view, table_view, array_view};
 ghost use Rattle.n2k_table.specs.Fault.{Gives, GivesOrMemory, judged};
 ghost use Rattle.n2k_table.specs.Tree.{elements};
 ghost use Rattle.n2k_table.specs.Lookup.{LookupParts};
-ghost use Rattle.n2k_table.specs.Json.{label_json};
 ghost use Rattle.n2k_table.specs.Twice.{has_twice};
 ghost use Rattle.n2k_table.specs.Field.{field, field_faults};
 ghost use Rattle.n2k_table.specs.Table.{are_mixed, has_mixed};
@@ -18,8 +17,7 @@ use crate::lookup::Lookups;
 use crate::shown::Fields;
 use crate::text::text_json;
 use crate::tree::{Place, any_text_at, as_members, elements_at, has_only_keys, text_at, whole_at};
-use itoa::Buffer;
-use std::alloc::{AllocError, Global};
+use std::alloc::Global;
 use std::marker::Model;
 use toml::value::Array;
 use toml::{Table, Value};
@@ -45,14 +43,14 @@ pub struct StoredDefinition {
     number: u32,
     kind: Kind,
     description: String,
-    // What stands in a line between who sent the message and the members, kept since each line needs it.
-    label: Vec<u8>,
+    // The description as JSON, kept since each line needs it.
+    description_json: Vec<u8>,
     fields: Vec<Field>,
 }
 
 impl Model for StoredDefinition {
     ghost use Rattle.std.specs.Prelude.{◌≡◌, string_bytes};
-    ghost use Rattle.n2k_table.specs.Json.{label_json};
+    ghost use Rattle.n2k_table.specs.Text.{text_json};
     ghost use Rattle.n2k_table.specs.Definition.{DefinitionParts};
 
     ghost Value = { DefinitionParts };
@@ -64,11 +62,11 @@ impl Model for StoredDefinition {
       fields = d.fields.items;
     } };
 
-    ghost invariant = { λ d. d.label.items ≡ label_json d.number (string_bytes d.description) };
+    ghost invariant = { λ d. d.description_json.items ≡ text_json (string_bytes d.description) };
 }
 
 impl StoredDefinition {
-    ghost use Rattle.n2k_table.specs.Json.{label_json};
+    ghost use Rattle.n2k_table.specs.Text.{text_json};
     ghost use Rattle.n2k_table.specs.Table.{matches};
 
     /// The PGN that it describes.
@@ -92,10 +90,10 @@ impl StoredDefinition {
         self.description.as_str()
     }
 
-    fn label(&self) -> &[u8]
-        ensures { result.now ≡ label_json self.now.number self.now.description }
+    fn description_json(&self) -> &[u8]
+        ensures { result.now ≡ text_json self.now.description }
     {
-        self.label.as_slice()
+        self.description_json.as_slice()
     }
 
     /// The fields in printing order.
@@ -135,7 +133,7 @@ impl<'a> Model for Definition<'a> {
 }
 
 impl<'a> Definition<'a> {
-    ghost use Rattle.n2k_table.specs.Json.{label_json};
+    ghost use Rattle.n2k_table.specs.Text.{text_json};
     ghost use Rattle.n2k_table.specs.Shown.{all_shown};
 
     /// The view of a definition that the table keeps.
@@ -152,11 +150,11 @@ impl<'a> Definition<'a> {
         self.stored.description()
     }
 
-    /// What stands in a line between who sent the message and the members.
-    pub(crate) fn label(&self) -> &[u8]
-        ensures { result.now ≡ label_json self.now.number self.now.description }
+    /// The description as JSON.
+    pub(crate) fn description_json(&self) -> &[u8]
+        ensures { result.now ≡ text_json self.now.description }
     {
-        self.stored.label()
+        self.stored.description_json()
     }
 
     /// The fields, as the table keeps them.
@@ -245,22 +243,6 @@ fn read_fields(alloc: Global, lookups: &Lookups, values: &Array) -> Result<Vec<F
     Ok(fields)
 }
 
-// What the definition of a PGN puts into a line before the members.
-#[tactic(auto, using(std::proofs::Common::append_assoc), unfolding(crate::specs::Json::label_json))]
-fn label_of(alloc: Global, number: u32, description: &str) -> Result<Vec<u8>, AllocError>
-    ensures { IfOk result (λ label. label.items ≡ label_json number description.now) }
-{
-    let mut buffer = Buffer::new();
-    let description = text_json(alloc, description)?;
-    let mut label = Vec::new(alloc);
-    label.extend_from_slice(b",\"pgn\":")?;
-    label.extend_from_slice(buffer.format(number).as_bytes())?;
-    label.extend_from_slice(b",\"description\":")?;
-    label.extend_from_slice(&description)?;
-    label.extend_from_slice(b",\"fields\":{")?;
-    Ok(label)
-}
-
 fn read_members(
     alloc: Global,
     lookups: &Lookups,
@@ -281,7 +263,7 @@ fn read_members(
         number,
         kind,
         description: String::from_str(alloc, description)?,
-        label: label_of(alloc, number, description)?,
+        description_json: text_json(alloc, description)?,
         fields,
     })
 }

@@ -19,7 +19,6 @@ mod decimal;
 mod definition;
 mod fault;
 mod field;
-mod head;
 mod index;
 pub mod laws;
 mod line;

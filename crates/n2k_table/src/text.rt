@@ -25,18 +25,13 @@ pub fn text_json(alloc: Global, text: &str) -> Result<Vec<u8>, AllocError>
 fn is_plain(byte: u8) -> bool
     ensures { result ≡ is_plain byte }
 {
-    (byte >= b' ') & (byte != b'"') & (byte != b'\\')
+    byte >= b' ' && byte != b'"' && byte != b'\\'
 }
 
-/// Whether each byte stands for itself. It looks at each, so that several are compared at once.
-pub fn are_plain(text: &[u8]) -> bool
+fn are_plain(text: &[u8]) -> bool
     ensures { result ≡ list_all is_plain text.now }
 {
-    let mut all = true;
-    for byte in text {
-        all &= is_plain(*byte);
-    }
-    all
+    text.iter().all(|byte| is_plain(*byte))
 }
 
 // The letter that stands for a byte behind a backslash, if one does.
