@@ -247,6 +247,3 @@ pub fn run_parts<W: Sink, E: Sink>(
     }
     Ok(last)
 }
-
-#[cfg(test)]
-mod tests;

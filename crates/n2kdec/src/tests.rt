@@ -648,10 +648,9 @@ fn frames_writes_messages_as_frames(rt: HostRuntime) -> Result<(), Fail> {
     let alloc = rt.alloc();
     let message =
         b"1970-01-01T00:00:10.300Z,7,130820,5,255,11,a3,99,01,41,42,43,00,00,00,00,00\n".as_slice();
-    let rows: [(&[u8], Option<&str>, u8, &str, &str); 3] = [
+    let rows: [(&[u8], u8, &str, &str); 2] = [
         (
             message,
-            None,
             0,
             "1970-01-01T00:00:10.300Z,7,130820,5,255,8,00,0b,a3,99,01,41,42,43
 1970-01-01T00:00:10.300Z,7,130820,5,255,8,01,00,00,00,00,00,ff,ff
@@ -659,27 +658,17 @@ fn frames_writes_messages_as_frames(rt: HostRuntime) -> Result<(), Fail> {
             "lines 1 messages 1 bad 0 unknown 0 broken 0 open 0\n",
         ),
         (
-            message,
-            Some("can0"),
-            0,
-            "(0000000010.300000) can0 1DFF0405#000BA39901414243
-(0000000010.300000) can0 1DFF0405#010000000000FFFF
-",
-            "lines 1 messages 1 bad 0 unknown 0 broken 0 open 0\n",
-        ),
-        (
             COG_AND_SOG,
-            None,
             1,
             "",
             "line 1 bad B10 frame\nlines 1 messages 0 bad 1 unknown 0 broken 0 open 0\n",
         ),
     ];
-    for (bytes, interface, status, written, reported) in rows {
+    for (bytes, status, written, reported) in rows {
         let mut log = MemorySource::new(bytes, 100, 0);
         let mut output = MemorySink::new(alloc, 100, 0);
         let mut errors = MemorySink::new(alloc, 100, 0);
-        let answer = frames(alloc, SAMPLE, interface, &mut log, &mut output, &mut errors);
+        let answer = frames(alloc, SAMPLE, None, &mut log, &mut output, &mut errors);
         assert_eq!(rt; answer, Ok(status));
         assert_eq!(rt; output.bytes(), written.as_bytes());
         assert_eq!(rt; errors.bytes(), reported.as_bytes());
