@@ -242,15 +242,18 @@ fn has_summary<R: Abort + AllocGlobal>(rt: &R, part: &Part, summary: &[u8]) -> R
     Ok(())
 }
 
-fn goes_on<R: Abort + AllocGlobal>(
-    rt: &R,
-    table: &Table,
-    resumed: &Resumed,
-) -> Result<(), Fail> {
+fn goes_on<R: Abort + AllocGlobal>(rt: &R, table: &Table, resumed: &Resumed) -> Result<(), Fail> {
     let mut writer = MemorySink::new(rt.alloc(), 7, 0);
     let mut reporter = MemorySink::new(rt.alloc(), 7, 0);
     let state = Some(resumed.state);
-    let part = part_of_log(rt.alloc(), table, state, resumed.log, &mut writer, &mut reporter)?;
+    let part = part_of_log(
+        rt.alloc(),
+        table,
+        state,
+        resumed.log,
+        &mut writer,
+        &mut reporter,
+    )?;
     assert_eq!(rt; writer.bytes(), resumed.text);
     assert_eq!(rt; reporter.bytes(), resumed.reports);
     has_summary(rt, &part, resumed.summary)
@@ -337,7 +340,14 @@ fn no_line_past_the_last(rt: HostRuntime) -> Result<(), Fail> {
     let table = Table::read(rt.alloc(), TABLE)?;
     let mut writer = MemorySink::new(rt.alloc(), 7, 0);
     let mut reporter = MemorySink::new(rt.alloc(), 7, 0);
-    let answer = part_of_log(rt.alloc(), &table, Some(FULL), b"\n", &mut writer, &mut reporter);
+    let answer = part_of_log(
+        rt.alloc(),
+        &table,
+        Some(FULL),
+        b"\n",
+        &mut writer,
+        &mut reporter,
+    );
     let Err(PartFault::Stopped(RunFault::TooManyLines, part)) = answer else {
         return Err("one line more was taken".into());
     };
