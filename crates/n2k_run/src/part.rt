@@ -247,3 +247,6 @@ pub fn run_parts<W: Sink, E: Sink>(
     }
     Ok(last)
 }
+
+#[cfg(test)]
+mod tests;

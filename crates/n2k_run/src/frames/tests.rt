@@ -1,12 +1,16 @@
-//! A worked example of messages that are written as frames, and read again.
+//! Worked examples of messages that are written as frames, and read again.
+ghost use Rattle.std.specs.Prelude.{◌<◌};
+
 use super::run_frames;
-use crate::{MemorySink, MemorySource, Options, run};
+use crate::{MemorySink, MemorySource, Options, RunFault, run, summary_text};
 use n2k_join::{Counts, Join};
 use n2k_table::Table;
-use n2k_wire::Packing;
+use n2k_wire::{Id, Packet, Packing, is_interface, plain_text};
+use std::alloc::Global;
 use std::process::Abort;
 use std::test::Fail;
 
+// Two PGNs of single frames, and one of fast packets.
 const TABLE: &[u8] = b"
 format = 1
 
@@ -32,6 +36,166 @@ fields = [
   { name = \"Label\", kind = \"text\", at = 24, bits = 64 },
 ]
 ";
+
+// A log, the interface at which its frames are seen, or none for plain lines, and what is made of it.
+#[derive(Drop)]
+struct Example {
+    log: &'static [u8],
+    interface: bool,
+    text: &'static [u8],
+    reports: &'static [u8],
+    summary: &'static [u8],
+}
+
+const EXAMPLES: [Example; 6] = [
+    // empty-log
+    Example {
+        log: b"",
+        interface: false,
+        text: b"",
+        reports: b"",
+        summary: b"lines 0 messages 0 bad 0 unknown 0 broken 0 open 0\n",
+    },
+    // split-and-back, as plain lines
+    Example {
+        log: b"1970-01-01T00:00:10.300Z,7,130820,5,255,11,a3,99,01,41,42,43,00,00,00,00,00\n",
+        interface: false,
+        text: b"1970-01-01T00:00:10.300Z,7,130820,5,255,8,00,0b,a3,99,01,41,42,43
+1970-01-01T00:00:10.300Z,7,130820,5,255,8,01,00,00,00,00,00,ff,ff
+",
+        reports: b"",
+        summary: b"lines 1 messages 1 bad 0 unknown 0 broken 0 open 0\n",
+    },
+    // split-and-back, as candump writes it
+    Example {
+        log: b"1970-01-01T00:00:10.300Z,7,130820,5,255,11,a3,99,01,41,42,43,00,00,00,00,00\n",
+        interface: true,
+        text: b"(0000000010.300000) can0 1DFF0405#000BA39901414243
+(0000000010.300000) can0 1DFF0405#010000000000FFFF
+",
+        reports: b"",
+        summary: b"lines 1 messages 1 bad 0 unknown 0 broken 0 open 0\n",
+    },
+    // refused-message-uses-its-number
+    Example {
+        log: b"1970-01-01T00:00:10.300Z,7,130820,5,255,11,a3,99,01,41,42,43,00,00,00,00,00
+x,7,130820,5,255,11,a3,99,01,41,42,43,00,00,00,00,00
+1970-01-01T00:00:10.300Z,7,130820,5,255,11,a3,99,01,41,42,43,00,00,00,00,00
+",
+        interface: true,
+        text: b"(0000000010.300000) can0 1DFF0405#000BA39901414243
+(0000000010.300000) can0 1DFF0405#010000000000FFFF
+(0000000010.300000) can0 1DFF0405#400BA39901414243
+(0000000010.300000) can0 1DFF0405#410000000000FFFF
+",
+        reports: b"line 2 bad B11 time\n",
+        summary: b"lines 3 messages 2 bad 1 unknown 0 broken 0 open 0\n",
+    },
+    // Bad lines, and a message of a single PGN, which is its own frame and needs no stamp of a form.
+    Example {
+        log: b"1970-01-01T00:00:10.300Z,2,129026,36,255,9,00,01,02,03,04,05,06,07,08
+# skipped
+1970-01-01T00:00:10.300Z,6,59904,1,255,3,14,f0,01
+(1502979132.106111) can0 09F8027F#00FCFFFF0000FFFF
+2011-11-24-22:42:04.388,2,127251,36,255,8,7d,0b,7d,02,00,ff,ff,ff
+(1.0) can0 18EAFF01#14F001
+hello
+",
+        interface: false,
+        text: b"2011-11-24-22:42:04.388,2,127251,36,255,8,7d,0b,7d,02,00,ff,ff,ff\n",
+        reports: b"line 1 bad B9 size
+line 3 bad B8 unknown
+line 4 bad B10 frame
+line 6 bad B10 frame
+line 7 bad B3 form
+",
+        summary: b"lines 7 messages 1 bad 5 unknown 0 broken 0 open 0\n",
+    },
+    // Bad lines at an interface; what can't be split is judged first.
+    Example {
+        log: b"2011-11-24-22:42:04.388,2,127251,36,255,8,7d,0b,7d,02,00,ff,ff,ff
+1970-01-01T00:00:10.300Z,7,130820,5,9,0
+x,7,130820,5,9,0
+x,6,59904,1,9,0
+x,2,129026,36,9,9,00,01,02,03,04,05,06,07,08
+",
+        interface: true,
+        text: b"",
+        reports: b"line 1 bad B11 time
+line 2 bad B12 address
+line 3 bad B11 time
+line 4 bad B8 unknown
+line 5 bad B9 size
+",
+        summary: b"lines 5 messages 0 bad 5 unknown 0 broken 0 open 0\n",
+    },
+];
+
+fn frames_at(
+    alloc: Global,
+    table: &Table,
+    interface: &str,
+    reader: &mut MemorySource,
+    writer: &mut MemorySink,
+    reporter: &mut MemorySink,
+) -> Result<Counts, Fail> {
+    if !is_interface(interface.as_bytes()) {
+        return Err("no interface".into());
+    }
+    let counts = run_frames(alloc, table, Some(interface), reader, writer, reporter)?;
+    Ok(counts)
+}
+
+fn makes<R: Abort + AllocGlobal>(
+    rt: &R,
+    table: &Table,
+    example: &Example,
+    piece: usize,
+) -> Result<(), Fail>
+    requires { 0 < piece }
+{
+    let mut reader = MemorySource::new(example.log, piece, 0);
+    let mut writer = MemorySink::new(rt.alloc(), piece, 0);
+    let mut reporter = MemorySink::new(rt.alloc(), piece, 0);
+    let counts = if example.interface {
+        frames_at(
+            rt.alloc(),
+            table,
+            "can0",
+            &mut reader,
+            &mut writer,
+            &mut reporter,
+        )?
+    } else {
+        run_frames(
+            rt.alloc(),
+            table,
+            None,
+            &mut reader,
+            &mut writer,
+            &mut reporter,
+        )?
+    };
+    assert_eq!(rt; writer.bytes(), example.text);
+    assert_eq!(rt; reporter.bytes(), example.reports);
+    let mut summary = Vec::new(rt.alloc());
+    summary_text(rt.alloc(), &counts, &mut summary)?;
+    assert_eq!(rt; summary.as_slice(), example.summary);
+    Ok(())
+}
+
+#[test]
+fn worked_examples_in_pieces(rt: HostRuntime) -> Result<(), Fail> {
+    let table = Table::read(rt.alloc(), TABLE)?;
+    for example in &EXAMPLES {
+        makes(&rt, &table, example, 1)?;
+        makes(&rt, &table, example, 7)?;
+        makes(&rt, &table, example, 4095)?;
+        makes(&rt, &table, example, 4096)?;
+        makes(&rt, &table, example, 100_000)?;
+    }
+    Ok(())
+}
 
 // The plain lines of the frames of a log's messages.
 fn frames_of<R: Abort + AllocGlobal>(
@@ -89,15 +253,85 @@ fn decodes<R: Abort + AllocGlobal>(
     Ok(writer)
 }
 
+const NINE: &[u8] = b"1970-01-01T00:00:10.300Z,7,130820,5,255,11,a3,99,01,41,42,43,00,00,00,00,00
+1970-01-01T00:00:10.300Z,7,130820,5,255,11,a3,99,01,41,42,43,00,00,00,00,00
+1970-01-01T00:00:10.300Z,7,130820,5,255,11,a3,99,01,41,42,43,00,00,00,00,00
+1970-01-01T00:00:10.300Z,7,130820,5,255,11,a3,99,01,41,42,43,00,00,00,00,00
+1970-01-01T00:00:10.300Z,7,130820,5,255,11,a3,99,01,41,42,43,00,00,00,00,00
+1970-01-01T00:00:10.300Z,7,130820,5,255,11,a3,99,01,41,42,43,00,00,00,00,00
+1970-01-01T00:00:10.300Z,7,130820,5,255,11,a3,99,01,41,42,43,00,00,00,00,00
+1970-01-01T00:00:10.300Z,7,130820,5,255,11,a3,99,01,41,42,43,00,00,00,00,00
+1970-01-01T00:00:10.300Z,7,130820,5,255,11,a3,99,01,41,42,43,00,00,00,00,00
+";
+
+// The JSON line of such a message, about its Kind.
 const BEFORE_KIND: &[u8] =
     b"{\"timestamp\":\"1970-01-01T00:00:10.300Z\",\"prio\":7,\"src\":5,\"dst\":255,\"pgn\":130820,\"description\":\"Sample: Label\",\"fields\":{\"Maker\":419,\"Kind\":";
 
 const AFTER_KIND: &[u8] = b",\"Label\":\"ABC\"}}\n";
 
+const XY: &[u8] =
+    b"{\"timestamp\":\"1970-01-01T00:00:10.200Z\",\"prio\":7,\"src\":6,\"dst\":255,\"pgn\":130820,\"description\":\"Sample: Label\",\"fields\":{\"Maker\":419,\"Kind\":2,\"Label\":\"XY\"}}\n";
+
 fn push_label(lines: &mut Vec<u8>, kind: &[u8]) -> Result<(), Fail> {
     lines.extend_from_slice(BEFORE_KIND)?;
     lines.extend_from_slice(kind)?;
     lines.extend_from_slice(AFTER_KIND)?;
+    Ok(())
+}
+
+// The two frames of such a message, by the first digit of their numbers.
+fn push_frames(lines: &mut Vec<u8>, digit: &[u8]) -> Result<(), Fail> {
+    lines.extend_from_slice(b"1970-01-01T00:00:10.300Z,7,130820,5,255,8,")?;
+    lines.extend_from_slice(digit)?;
+    lines.extend_from_slice(b"0,0b,a3,99,01,41,42,43\n1970-01-01T00:00:10.300Z,7,130820,5,255,8,")?;
+    lines.extend_from_slice(digit)?;
+    lines.extend_from_slice(b"1,00,00,00,00,00,ff,ff\n")?;
+    Ok(())
+}
+
+// Nine messages of one stream are numbered 0 to 7 and then 0 again.
+#[test]
+fn nine_messages(rt: HostRuntime) -> Result<(), Fail> {
+    let table = Table::read(rt.alloc(), TABLE)?;
+    let frames = frames_of(&rt, &table, NINE)?;
+    let mut wanted = Vec::new(rt.alloc());
+    for digit in [b"0", b"2", b"4", b"6", b"8", b"a", b"c", b"e", b"0"] {
+        push_frames(&mut wanted, digit)?;
+    }
+    assert_eq!(rt; frames.bytes(), wanted.as_slice());
+    Ok(())
+}
+
+// Frames with those of another source between them: the third line and the eleventh are followed by one of them.
+fn with_another_source(alloc: Global, frames: &[u8]) -> Result<Vec<u8>, Fail> {
+    let mut log = Vec::new(alloc);
+    for (number, line) in frames.split_inclusive(|byte| *byte == b'\n').enumerate() {
+        log.extend_from_slice(line)?;
+        match number {
+            2 => log.extend_from_slice(b"(10.100000) can0 1DFF0406#200BA39902585920\n")?,
+            10 => log.extend_from_slice(b"(10.200000) can0 1DFF0406#212020202020FFFF\n")?,
+            _ => {}
+        }
+    }
+    Ok(log)
+}
+
+// The frames of nine messages give them back, also with the two frames of another source between them.
+#[test]
+fn nine_messages_and_another_source(rt: HostRuntime) -> Result<(), Fail> {
+    let table = Table::read(rt.alloc(), TABLE)?;
+    let frames = frames_of(&rt, &table, NINE)?;
+    let log = with_another_source(rt.alloc(), frames.bytes())?;
+    let mut wanted = Vec::new(rt.alloc());
+    for number in 0..9 {
+        if number == 5 {
+            wanted.extend_from_slice(XY)?;
+        }
+        push_label(&mut wanted, b"1")?;
+    }
+    let decoded = decodes(&rt, &table, Packing::Frames, &log, 10)?;
+    assert_eq!(rt; decoded.bytes(), wanted.as_slice());
     Ok(())
 }
 
@@ -126,5 +360,67 @@ fn eight_under_way(rt: HostRuntime) -> Result<(), Fail> {
     }
     let decoded = decodes(&rt, &table, Packing::Frames, &log, 8)?;
     assert_eq!(rt; decoded.bytes(), wanted.as_slice());
+    Ok(())
+}
+
+// 300 messages of four senders, of 0 to 223 bytes, come back as they were.
+#[test]
+fn messages_of_four_senders_come_back(rt: HostRuntime) -> Result<(), Fail> {
+    let table = Table::read(rt.alloc(), TABLE)?;
+    let mut data = [0x41; 223];
+    data[0] = 0xa3;
+    data[1] = 0x99;
+    let mut log = Vec::new(rt.alloc());
+    for number in 0..300usize {
+        let len = match number / 4 % 6 {
+            0 => 0,
+            1 => 6,
+            2 => 7,
+            3 => 13,
+            4 => 14,
+            _ => 223,
+        };
+        let id = Id {
+            prio: 7,
+            pgn: 130820,
+            src: (number % 4) as u8,
+            dst: 255,
+        };
+        let message = Packet::new(b"1970-01-01T00:00:10.300Z", id, &data[..len]).ok_or(
+            "no message",
+        )?;
+        plain_text(rt.alloc(), &message, &mut log)?;
+    }
+    let frames = frames_of(&rt, &table, &log)?;
+    let decoded = decodes(&rt, &table, Packing::Frames, frames.bytes(), 300)?;
+    let wanted = decodes(&rt, &table, Packing::Whole, &log, 300)?;
+    assert_eq!(rt; decoded.bytes(), wanted.bytes());
+    Ok(())
+}
+
+// After a fault of a device a front is written.
+#[test]
+fn a_failed_device_leaves_a_front(rt: HostRuntime) -> Result<(), Fail> {
+    let table = Table::read(rt.alloc(), TABLE)?;
+    let frames = frames_of(&rt, &table, NINE)?;
+    for (read_fails, write_fails, fault, written) in [
+        (0, 3, RunFault::Write, 20),
+        // Two lines of 76 bytes came, and the third in part.
+        (4, 0, RunFault::Read, 264),
+    ] {
+        let mut reader = MemorySource::new(NINE, 60, read_fails);
+        let mut writer = MemorySink::new(rt.alloc(), 10, write_fails);
+        let mut reporter = MemorySink::new(rt.alloc(), 10, 0);
+        let answer = run_frames(
+            rt.alloc(),
+            &table,
+            None,
+            &mut reader,
+            &mut writer,
+            &mut reporter,
+        );
+        assert_eq!(rt; answer, Err(fault));
+        assert_eq!(rt; Some(writer.bytes()), frames.bytes().get(..written));
+    }
     Ok(())
 }

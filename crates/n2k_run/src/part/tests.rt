@@ -1,0 +1,398 @@
+//! Worked examples of logs in parts.
+ghost use Rattle.std.specs.Prelude.{◌<◌};
+
+use super::{Part, PartFault, run_part, run_parts};
+use crate::{MemorySink, MemorySource, Options, RunFault, read_bytes, summary_text};
+use n2k_join::StateFault;
+use n2k_table::Table;
+use n2k_wire::Packing;
+use std::alloc::Global;
+use std::process::Abort;
+use std::test::Fail;
+
+const TABLE: &[u8] = b"format = 1
+
+[[lookup]]
+name = \"Reference\"
+entries = [[0, \"True\"], [1, \"Magnetic\"], [2, \"Error\"]]
+
+[[pgn]]
+number = 129026
+kind = \"single\"
+description = \"COG & SOG, Rapid Update\"
+fields = [
+  { name = \"SID\", kind = \"number\", at = 0, bits = 8 },
+  { name = \"COG Reference\", kind = \"lookup\", at = 8, bits = 2, lookup = \"Reference\" },
+  { name = \"COG\", kind = \"number\", at = 16, bits = 16, resolution = \"0.0001\" },
+  { name = \"SOG\", kind = \"number\", at = 32, bits = 16, resolution = \"0.01\" },
+]
+
+[[pgn]]
+number = 127251
+kind = \"single\"
+description = \"Rate of Turn\"
+fields = [
+  { name = \"SID\", kind = \"number\", at = 0, bits = 8 },
+  { name = \"Rate\", kind = \"number\", at = 8, bits = 32, signed = true, resolution = \"0.00000003125\" },
+]
+
+[[pgn]]
+number = 130820
+kind = \"fast\"
+description = \"Sample: Label\"
+fields = [
+  { name = \"Maker\", kind = \"number\", at = 0, bits = 11, match = 419 },
+  { name = \"Kind\", kind = \"number\", at = 16, bits = 8 },
+  { name = \"Label\", kind = \"text\", at = 24, bits = 64 },
+]
+";
+
+const FRAMES: Options = Options {
+    packing: Packing::Frames,
+    empty: false,
+};
+
+// A log, what is printed and reported of it, and the state after it, which holds the id of the table above.
+#[derive(Drop)]
+struct Example {
+    log: &'static [u8],
+    text: &'static [u8],
+    reports: &'static [u8],
+    state: &'static [u8],
+}
+
+const EXAMPLES: [Example; 3] = [
+    // empty-log
+    Example {
+        log: b"",
+        text: b"",
+        reports: b"",
+        state: b"{\"bad\":0,\"broken\":0,\"format\":1,\"groups\":[],\"lines\":0,\"messages\":0,\"table\":\"6b85e2b24165c1cf1b657bbddd71b3850cd65dafaf42319db5372fef7b615284\",\"unknown\":0}",
+    },
+    // two-sources
+    Example {
+        log: b"(10.000001) can0 1DFF0405#000BA39901414243
+(10.100000) can0 1DFF0406#200BA39902585920
+(10.200000) can0 1DFF0406#212020202020FFFF
+(10.300000) can0 1DFF0405#010000000000FFFF
+",
+        text: b"{\"timestamp\":\"1970-01-01T00:00:10.200Z\",\"prio\":7,\"src\":6,\"dst\":255,\"pgn\":130820,\"description\":\"Sample: Label\",\"fields\":{\"Maker\":419,\"Kind\":2,\"Label\":\"XY\"}}
+{\"timestamp\":\"1970-01-01T00:00:10.300Z\",\"prio\":7,\"src\":5,\"dst\":255,\"pgn\":130820,\"description\":\"Sample: Label\",\"fields\":{\"Maker\":419,\"Kind\":1,\"Label\":\"ABC\"}}
+",
+        reports: b"",
+        state: b"{\"bad\":0,\"broken\":0,\"format\":1,\"groups\":[],\"lines\":4,\"messages\":2,\"table\":\"6b85e2b24165c1cf1b657bbddd71b3850cd65dafaf42319db5372fef7b615284\",\"unknown\":0}",
+    },
+    // Every kind of line: skipped, bad, single, whole, of an unknown PGN, fast packets of three senders, a broken group,
+    // and one that stays open.
+    Example {
+        log: b"# a comment
+(1.0) can0 1DFF0405#000BA39901414243
+(2.0) can0 1DFF0406#200BA39902585920
+hello
+(3.0) can0 1DFF0407#4120202020202020
+(4.0) can0 09F8027F#00FCFFFF0000FFFF
+(5.0) can0 1DFF0405#000BA39904444546
+2020-01-01T00:00:00.000Z,7,130820,5,255,9,07,98,01,41,42,43,44,45,46
+(6.0) can0 18EAFF01#14F001
+(7.0) can0 1DFF0406#212020202020FFFF
+(8.0) can0 1DFF0405#
+(9.0) can0 1DFF0407#400DA39903444546
+(10.0) can0 1DFF0405#010000000000FFFF
+(11.0) can0 1DFF0407#6120202020202020
+",
+        text: b"{\"timestamp\":\"1970-01-01T00:00:04.000Z\",\"prio\":2,\"src\":127,\"dst\":255,\"pgn\":129026,\"description\":\"COG & SOG, Rapid Update\",\"fields\":{\"SID\":0,\"COG Reference\":\"True\",\"SOG\":0.00}}
+{\"timestamp\":\"2020-01-01T00:00:00.000Z\",\"prio\":7,\"src\":5,\"dst\":255,\"pgn\":130820,\"description\":\"Unmatched\",\"fields\":{\"Data\":\"07 98 01 41 42 43 44 45 46\"}}
+{\"timestamp\":\"1970-01-01T00:00:07.000Z\",\"prio\":7,\"src\":6,\"dst\":255,\"pgn\":130820,\"description\":\"Sample: Label\",\"fields\":{\"Maker\":419,\"Kind\":2,\"Label\":\"XY\"}}
+{\"timestamp\":\"1970-01-01T00:00:09.000Z\",\"prio\":7,\"src\":7,\"dst\":255,\"pgn\":130820,\"description\":\"Sample: Label\",\"fields\":{\"Maker\":419,\"Kind\":3,\"Label\":\"DEF\"}}
+{\"timestamp\":\"1970-01-01T00:00:10.000Z\",\"prio\":7,\"src\":5,\"dst\":255,\"pgn\":130820,\"description\":\"Sample: Label\",\"fields\":{\"Maker\":419,\"Kind\":4,\"Label\":\"DEF\"}}
+",
+        reports: b"line 4 bad B3 form
+line 7 broken pgn 130820 src 5 dst 255 seq 0 first 2
+line 11 bad B7 fast
+",
+        state: b"{\"bad\":2,\"broken\":1,\"format\":1,\"groups\":[{\"dst\":255,\"first\":14,\"frames\":[[1,\"20202020202020\"]],\"pgn\":130820,\"seq\":3,\"src\":7}],\"lines\":14,\"messages\":5,\"table\":\"6b85e2b24165c1cf1b657bbddd71b3850cd65dafaf42319db5372fef7b615284\",\"unknown\":1}",
+    },
+];
+
+// The parts of a log, run in turn, give what the log gives.
+fn gives<R: Abort + AllocGlobal>(
+    rt: &R,
+    table: &Table,
+    parts: &[&[u8]],
+    example: &Example,
+) -> Result<(), Fail> {
+    let mut writer = MemorySink::new(rt.alloc(), 4096, 0);
+    let mut reporter = MemorySink::new(rt.alloc(), 4096, 0);
+    let last = run_parts(rt.alloc(), table, FRAMES, parts, &mut writer, &mut reporter)?;
+    assert_eq!(rt; writer.bytes(), example.text);
+    assert_eq!(rt; reporter.bytes(), example.reports);
+    assert_eq!(rt; last.state.as_slice(), example.state);
+    Ok(())
+}
+
+// A log gives the same whole, and cut in two after each of its lines.
+fn gives_in_two<R: Abort + AllocGlobal>(
+    rt: &R,
+    table: &Table,
+    example: &Example,
+) -> Result<(), Fail> {
+    gives(rt, table, &[example.log], example)?;
+    for (at, byte) in example.log.iter().enumerate() {
+        if *byte == b'\n' {
+            let front = example.log.get(..=at).ok_or("no front")?;
+            let back = example.log.get(front.len()..).ok_or("no back")?;
+            gives(rt, table, &[front, back], example)?;
+        }
+    }
+    Ok(())
+}
+
+// A log gives the same where each of its lines is a part, after an empty part.
+fn gives_by_lines<R: Abort + AllocGlobal>(
+    rt: &R,
+    table: &Table,
+    example: &Example,
+) -> Result<(), Fail> {
+    let mut lines = Vec::new(rt.alloc());
+    lines.push(b"".as_slice())?;
+    for line in example.log.split_inclusive(|byte| *byte == b'\n') {
+        lines.push(line)?;
+    }
+    gives(rt, table, &lines, example)
+}
+
+#[test]
+fn cut_after_each_line(rt: HostRuntime) -> Result<(), Fail> {
+    let table = Table::read(rt.alloc(), TABLE)?;
+    for example in &EXAMPLES {
+        gives_in_two(&rt, &table, example)?;
+        gives_by_lines(&rt, &table, example)?;
+    }
+    gives(&rt, &table, &[], &EXAMPLES[0])
+}
+
+// A state that is handed in, the lines after it, and what is made of them.
+#[derive(Drop)]
+struct Resumed {
+    state: &'static [u8],
+    log: &'static [u8],
+    text: &'static [u8],
+    reports: &'static [u8],
+    summary: &'static [u8],
+}
+
+const RESUMED: [Resumed; 4] = [
+    // two-sources-cut, after the second line
+    Resumed {
+        state: b"{\"bad\":0,\"broken\":0,\"format\":1,\"groups\":[{\"dst\":255,\"first\":1,\"frames\":[[0,\"0ba39901414243\"]],\"pgn\":130820,\"seq\":0,\"src\":5},{\"dst\":255,\"first\":2,\"frames\":[[0,\"0ba39902585920\"]],\"pgn\":130820,\"seq\":1,\"src\":6}],\"lines\":2,\"messages\":0,\"table\":\"6b85e2b24165c1cf1b657bbddd71b3850cd65dafaf42319db5372fef7b615284\",\"unknown\":0}",
+        log: b"(10.200000) can0 1DFF0406#212020202020FFFF
+(10.300000) can0 1DFF0405#010000000000FFFF
+",
+        text: b"{\"timestamp\":\"1970-01-01T00:00:10.200Z\",\"prio\":7,\"src\":6,\"dst\":255,\"pgn\":130820,\"description\":\"Sample: Label\",\"fields\":{\"Maker\":419,\"Kind\":2,\"Label\":\"XY\"}}
+{\"timestamp\":\"1970-01-01T00:00:10.300Z\",\"prio\":7,\"src\":5,\"dst\":255,\"pgn\":130820,\"description\":\"Sample: Label\",\"fields\":{\"Maker\":419,\"Kind\":1,\"Label\":\"ABC\"}}
+",
+        reports: b"",
+        summary: b"lines 4 messages 2 bad 0 unknown 0 broken 0 open 0\n",
+    },
+    // two-sources-cut, after the third line
+    Resumed {
+        state: b"{\"bad\":0,\"broken\":0,\"format\":1,\"groups\":[{\"dst\":255,\"first\":1,\"frames\":[[0,\"0ba39901414243\"]],\"pgn\":130820,\"seq\":0,\"src\":5}],\"lines\":3,\"messages\":1,\"table\":\"6b85e2b24165c1cf1b657bbddd71b3850cd65dafaf42319db5372fef7b615284\",\"unknown\":0}",
+        log: b"(10.300000) can0 1DFF0405#010000000000FFFF
+",
+        text: b"{\"timestamp\":\"1970-01-01T00:00:10.300Z\",\"prio\":7,\"src\":5,\"dst\":255,\"pgn\":130820,\"description\":\"Sample: Label\",\"fields\":{\"Maker\":419,\"Kind\":1,\"Label\":\"ABC\"}}
+",
+        reports: b"",
+        summary: b"lines 4 messages 2 bad 0 unknown 0 broken 0 open 0\n",
+    },
+    // The group of source 5 waits for its other frames: its frame 3 is broken by another frame 3.
+    Resumed {
+        state: b"{\"bad\":0,\"broken\":0,\"format\":1,\"groups\":[{\"dst\":255,\"first\":1,\"frames\":[[3,\"0ba39901414243\"]],\"pgn\":130820,\"seq\":0,\"src\":5},{\"dst\":255,\"first\":2,\"frames\":[[0,\"0ba39902585920\"]],\"pgn\":130820,\"seq\":1,\"src\":6}],\"lines\":2,\"messages\":0,\"table\":\"6b85e2b24165c1cf1b657bbddd71b3850cd65dafaf42319db5372fef7b615284\",\"unknown\":0}",
+        log: b"(10.3) can0 1DFF0405#030000000000FFFF\n",
+        text: b"",
+        reports: b"line 3 broken pgn 130820 src 5 dst 255 seq 0 first 1\n",
+        summary: b"lines 3 messages 0 bad 0 unknown 0 broken 1 open 2\n",
+    },
+    // The group of source 5 has a frame past its total of 6, so that no frame makes it whole.
+    Resumed {
+        state: b"{\"bad\":0,\"broken\":0,\"format\":1,\"groups\":[{\"dst\":255,\"first\":1,\"frames\":[[0,\"06a39901414243\"],[3,\"20202020202020\"]],\"pgn\":130820,\"seq\":0,\"src\":5},{\"dst\":255,\"first\":2,\"frames\":[[0,\"0ba39902585920\"]],\"pgn\":130820,\"seq\":1,\"src\":6}],\"lines\":2,\"messages\":0,\"table\":\"6b85e2b24165c1cf1b657bbddd71b3850cd65dafaf42319db5372fef7b615284\",\"unknown\":0}",
+        log: b"(10.3) can0 1DFF0405#0100000000FFFFFF\n",
+        text: b"",
+        reports: b"",
+        summary: b"lines 3 messages 0 bad 0 unknown 0 broken 0 open 2\n",
+    },
+];
+
+// A part that is read and written without a failure.
+fn part_of_log(
+    alloc: Global,
+    table: &Table,
+    state: Option<&[u8]>,
+    log: &[u8],
+    writer: &mut MemorySink,
+    reporter: &mut MemorySink,
+) -> Result<Part, PartFault> {
+    let mut reader = MemorySource::new(log, 4096, 0);
+    run_part(alloc, table, state, FRAMES, &mut reader, writer, reporter)
+}
+
+fn has_summary<R: Abort + AllocGlobal>(rt: &R, part: &Part, summary: &[u8]) -> Result<(), Fail> {
+    let mut text = Vec::new(rt.alloc());
+    summary_text(rt.alloc(), &part.counts, &mut text)?;
+    assert_eq!(rt; text.as_slice(), summary);
+    Ok(())
+}
+
+fn goes_on<R: Abort + AllocGlobal>(rt: &R, table: &Table, resumed: &Resumed) -> Result<(), Fail> {
+    let mut writer = MemorySink::new(rt.alloc(), 7, 0);
+    let mut reporter = MemorySink::new(rt.alloc(), 7, 0);
+    let state = Some(resumed.state);
+    let part = part_of_log(
+        rt.alloc(),
+        table,
+        state,
+        resumed.log,
+        &mut writer,
+        &mut reporter,
+    )?;
+    assert_eq!(rt; writer.bytes(), resumed.text);
+    assert_eq!(rt; reporter.bytes(), resumed.reports);
+    has_summary(rt, &part, resumed.summary)
+}
+
+#[test]
+fn goes_on_from_states(rt: HostRuntime) -> Result<(), Fail> {
+    let table = Table::read(rt.alloc(), TABLE)?;
+    for resumed in &RESUMED {
+        goes_on(&rt, &table, resumed)?;
+    }
+    Ok(())
+}
+
+// Cuts stand after line feeds: here each half of a line is a line.
+#[test]
+fn cut_inside_a_line(rt: HostRuntime) -> Result<(), Fail> {
+    let table = Table::read(rt.alloc(), TABLE)?;
+    let halves = Example {
+        log: b"",
+        text: b"{\"timestamp\":\"2017-08-17T14:12:12.106Z\",\"prio\":2,\"src\":127,\"dst\":255,\"pgn\":129026,\"description\":\"COG & SOG, Rapid Update\",\"fields\":{\"SID\":0,\"COG Reference\":\"True\"}}\n",
+        reports: b"line 2 bad B3 form\n",
+        state: b"{\"bad\":1,\"broken\":0,\"format\":1,\"groups\":[],\"lines\":2,\"messages\":1,\"table\":\"6b85e2b24165c1cf1b657bbddd71b3850cd65dafaf42319db5372fef7b615284\",\"unknown\":0}",
+    };
+    gives(
+        &rt,
+        &table,
+        &[b"(1502979132.106111) can0 09F8027F#00FC", b"FFFF0000FFFF\n"],
+        &halves,
+    )
+}
+
+// The log of two sources in pieces of this size, where this read fails: what is printed, and the state that is left.
+fn stops_with_read<R: Abort + AllocGlobal>(
+    rt: &R,
+    table: &Table,
+    log: &[u8],
+    piece: usize,
+    failing_read: u64,
+    text: &[u8],
+    left: &[u8],
+) -> Result<(), Fail>
+    requires { 0 < piece }
+{
+    let mut reader = MemorySource::new(log, piece, failing_read);
+    let mut writer = MemorySink::new(rt.alloc(), 7, 0);
+    let mut reporter = MemorySink::new(rt.alloc(), 7, 0);
+    let answer = run_part(
+        rt.alloc(),
+        table,
+        None,
+        FRAMES,
+        &mut reader,
+        &mut writer,
+        &mut reporter,
+    );
+    let Err(PartFault::Stopped(RunFault::Read, part)) = answer else {
+        return Err("the read was taken".into());
+    };
+    assert_eq!(rt; writer.bytes(), text);
+    assert_eq!(rt; part.state.as_slice(), left);
+    Ok(())
+}
+
+const XY: &[u8] =
+    b"{\"timestamp\":\"1970-01-01T00:00:10.200Z\",\"prio\":7,\"src\":6,\"dst\":255,\"pgn\":130820,\"description\":\"Sample: Label\",\"fields\":{\"Maker\":419,\"Kind\":2,\"Label\":\"XY\"}}
+";
+
+// read-fails: two lines came, and the third in part; and where each piece is a line, three came.
+#[test]
+fn a_failed_read_leaves_a_state(rt: HostRuntime) -> Result<(), Fail> {
+    let table = Table::read(rt.alloc(), TABLE)?;
+    let log = EXAMPLES[1].log;
+    stops_with_read(&rt, &table, log, 60, 3, b"", RESUMED[0].state)?;
+    stops_with_read(&rt, &table, log, 43, 4, XY, RESUMED[1].state)
+}
+
+// A state of as many lines as are counted.
+const FULL: &[u8] =
+    b"{\"bad\":0,\"broken\":0,\"format\":1,\"groups\":[],\"lines\":999999999999999,\"messages\":0,\"table\":\"6b85e2b24165c1cf1b657bbddd71b3850cd65dafaf42319db5372fef7b615284\",\"unknown\":0}";
+
+#[test]
+fn no_line_past_the_last(rt: HostRuntime) -> Result<(), Fail> {
+    let table = Table::read(rt.alloc(), TABLE)?;
+    let mut writer = MemorySink::new(rt.alloc(), 7, 0);
+    let mut reporter = MemorySink::new(rt.alloc(), 7, 0);
+    let answer = part_of_log(
+        rt.alloc(),
+        &table,
+        Some(FULL),
+        b"\n",
+        &mut writer,
+        &mut reporter,
+    );
+    let Err(PartFault::Stopped(RunFault::TooManyLines, part)) = answer else {
+        return Err("one line more was taken".into());
+    };
+    assert_eq!(rt; part.state.as_slice(), FULL);
+    Ok(())
+}
+
+// A refused state leaves the log unread.
+#[test]
+fn a_refused_state_reads_nothing(rt: HostRuntime) -> Result<(), Fail> {
+    let table = Table::read(rt.alloc(), TABLE)?;
+    let mut reader = MemorySource::new(b"hello", 4096, 0);
+    let mut writer = MemorySink::new(rt.alloc(), 4096, 0);
+    let mut reporter = MemorySink::new(rt.alloc(), 4096, 0);
+    let answer = run_part(
+        rt.alloc(),
+        &table,
+        Some(b"{}"),
+        FRAMES,
+        &mut reader,
+        &mut writer,
+        &mut reporter,
+    );
+    assert!(rt; matches!(answer, Err(PartFault::State(StateFault::Format))));
+    let left = read_bytes(rt.alloc(), &mut reader, 1000)?;
+    assert_eq!(rt; left.as_slice(), b"hello".as_slice());
+    Ok(())
+}
+
+// write-fails, and a report that can't be written, that of repeat-breaks: a front is written.
+#[test]
+fn a_failed_write_leaves_a_front(rt: HostRuntime) -> Result<(), Fail> {
+    let table = Table::read(rt.alloc(), TABLE)?;
+    let mut writer = MemorySink::new(rt.alloc(), 10, 3);
+    let mut reporter = MemorySink::new(rt.alloc(), 10, 3);
+    let log = EXAMPLES[1].log;
+    let answer = part_of_log(rt.alloc(), &table, None, log, &mut writer, &mut reporter);
+    assert!(rt; matches!(answer, Err(PartFault::Run(RunFault::Write))));
+    assert_eq!(rt; writer.bytes(), b"{\"timestamp\":\"1970-0".as_slice());
+    let log = b"(1.0) can0 1DFF0405#6014A39904474849
+(2.0) can0 1DFF0405#6120202020202020
+(3.0) can0 1DFF0405#6120202020202020
+";
+    let answer = part_of_log(rt.alloc(), &table, None, log, &mut writer, &mut reporter);
+    assert!(rt; matches!(answer, Err(PartFault::Run(RunFault::Report))));
+    assert_eq!(rt; reporter.bytes(), b"line 3 broken pgn 13".as_slice());
+    Ok(())
+}
