@@ -184,6 +184,7 @@ module _ (c : Command) (stands : List Entry → Type 0) (before after : Devices)
       status = if_some _ _ before.left (λ log now. said.2 ∙ ap exit_status now.0) counted;
       end = subst (λ n. n ≤ 1) (sym said.2) (few counts);
       none_failed = record { reads = ran.device.reads; writes = ran.device.writes; reports = said.1 ∙ ran.device.reports };
+      place = keeps.none_failed;
       saved = if_some _ _ before.left (λ log now. subst (Keeps c.saving.before c.saving.after) now.1 keeps) counted;
     }
 

@@ -114,13 +114,15 @@ abbrev pub summed_up : Command → List Entry → List ℕ
 summed_up c es = c.output.reports es ++ summary_text (c.counts es)
 
 -- The command came to its end: the output has gained what is printed of the log, the errors its reports and then its
--- summary, the status tells whether a line was bad, no device failed, and the state after the log is saved.
+-- summary, the status tells whether a line was bad, no device failed, nor the place of the state, and the state after the
+-- log is saved.
 pub record IsDone (c : Command) (before after : Devices) (answer : ℕ) : Type 0 where
   pub text : IfSome before.left (λ log. Appends before.written after.written (c.output.texts (entries_for c log)))
   pub report : IfSome before.left (λ log. Appends before.reported after.reported (summed_up c (entries_for c log)))
   pub status : IfSome before.left (λ log. answer ≡ exit_status (c.counts (entries_for c log)))
   pub end : answer ≤ 1
   pub none_failed : NoneFailed before after
+  pub place : c.saving.after.failed ≡ c.saving.before.failed
   pub saved : IfSome before.left (λ log. IsSaved c.saving (entries_for c log))
 
 -- what is written of a part's summary: a front, which is all where neither the errors nor memory fail; or nothing
