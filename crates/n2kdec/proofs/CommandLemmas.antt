@@ -7,45 +7,19 @@ use Rattle.n2k_join.specs.declared.counts.Counts.{Counts}
 use Rattle.n2k_run.specs.Device.{HasFailed}
 use Rattle.n2k_run.specs.Reports.{summary_text}
 use Rattle.n2k_run.specs.Writing.{AppendsFront}
-use Rattle.n2k_run.specs.Runs.{Devices, Gained, Output, ReportsFirst, Runs}
-use Rattle.n2k_run.specs.Runs.{HasFronts as RunFronts}
+use Rattle.n2k_run.specs.Runs.{Devices, Gained, HasFronts, Output, ReportsFirst, Runs}
 use Rattle.n2k_run.specs.declared.fault.RunFault.{RunFault}
 use Rattle.n2k_run.specs.declared.fault.RunFault.TheVariants as run
 use Rattle.n2k_table.specs.Table.{TableParts}
 use Rattle.n2k_table.specs.declared.fault.TableFault.{TableFault}
 use Rattle.n2kdec.specs.Closing.{Closes, SumsUp}
-use Rattle.n2kdec.specs.Commands.{Command, Ends, HasFronts, HasPrinted, HasTaken, IsDone, CannotBeSaved, IsRefusedOrStopped, IsSaved, IsStopped, IsUntouched, Keeps, Place, SavesFirst, SumsUpPart, Tells, entries_for, no_saving, place}
+use Rattle.n2kdec.specs.Commands.{Command, Ends, HasPrinted, HasTaken, IsDone, CannotBeSaved, IsRefusedOrStopped, IsSaved, IsStopped, IsUntouched, Keeps, Place, SavesFirst, SumsUpPart, Tells, entries_for, no_saving, place}
 use Rattle.n2kdec.specs.Fault.{exit_status, fault_of_run}
 use Rattle.n2kdec.specs.declared.fault.Fault.{Fault}
 use Rattle.n2kdec.specs.declared.fault.Fault.TheVariants.{Words, Interface, TableSize, StateSize, Table, State, TableFile, StateFile, Read, Write, Report, Memory, Lines, Save}
 
--- a front of a text is a front of what is longer
-front_on : (old new : Option (List ℕ)) (text more : List ℕ) → AppendsFront old new text → AppendsFront old new (text ++ more)
-front_on old new text more front = (
-  front.0 ++ more,
-  record {
-    front = front.1.front;
-    appended = front.1.appended;
-    still = ap (λ t. t ++ more) front.1.still ∙ append_assoc front.1.front front.0 more;
-  },
-)
-
-pub front_none : (old : Option (List ℕ)) (text : List ℕ) → AppendsFront old old text
-front_none old text = (text, record { front = []; appended = Appends-nil old; still = refl })
-
 pub front_whole : (old new : Option (List ℕ)) (text : List ℕ) → Appends old new text → AppendsFront old new text
 front_whole old new text all = ([], record { front = text; appended = all; still = sym (append-nil text) })
-
--- a text, and then a front of another
-front_after : (old mid new : Option (List ℕ)) (text more : List ℕ) → Appends old mid text → AppendsFront mid new more → AppendsFront old new (text ++ more)
-front_after old mid new text more all front = (
-  front.0,
-  record {
-    front = text ++ front.1.front;
-    appended = Appends-trans old mid new text front.1.front all front.1.appended;
-    still = ap (λ t. text ++ t) front.1.still ∙ sym (append_assoc text front.1.front front.0);
-  },
-)
 
 pub if_some : {A : Type 0} (P Q : A → Type 0) (o : Option A) → ((a : A) → P a → Q a) → IfSome o P → IfSome o Q
 if_some P Q None weaker p = tt
@@ -160,16 +134,14 @@ module _ (c : Command) (stands : List Entry → Type 0) (before after : Devices)
   same_text : summed ≡ errors → errors.text ≡ after.reported
   same_text same = ap (λ (p : Place). p.text) (sym same)
 
-  fronts : errors.text ≡ after.reported → IfSome before.left (RunFronts c.output before mid) → IfSome before.left (HasFronts c before after)
+  fronts : errors.text ≡ after.reported → IfSome before.left (HasFronts c.output before mid) → IfSome before.left (HasFronts c.output before after)
   fronts same ran = if_some _ _ before.left (λ log front. record {
-    text = front.printed;
-    report = front_on before.reported after.reported (c.output.reports (entries_for c log)) (summary_text (c.counts (entries_for c log)))
-        (subst (λ e. AppendsFront before.reported e (c.output.reports (entries_for c log))) same front.reported);
+    printed = front.printed;
+    reported = subst (λ e. AppendsFront before.reported e (c.output.reports (entries_for c log))) same front.reported;
   }) ran
 
-  unsaved : IsLeft → IfSome before.left (RunFronts c.output before mid) → IfSome before.left (SavesFirst c before after)
-  unsaved left ran = if_some _ _ before.left (λ log front.
-      inl (left.1, subst (λ e. AppendsFront before.reported e (c.output.reports (entries_for c log))) (same_text left.0) front.reported)) ran
+  unsaved : IsLeft → IfSome before.left (HasFronts c.output before mid) → IfSome before.left (SavesFirst c before after)
+  unsaved left ran = if_some _ _ before.left (λ log front. inl (left.1, front)) (fronts (same_text left.0) ran)
 
   tells : {T : Type 0} (f : RunFault) → Runs {T = T} c.output stands before mid (Err f) → Follows f → Tells c before after (fault_of_run f)
   tells run.Read ran follows =
@@ -178,10 +150,10 @@ module _ (c : Command) (stands : List Entry → Type 0) (before after : Devices)
   tells run.TooManyLines ran follows =
       let said = follows _ ran.ends.holds in
       record { lines = ran.ends.taken; full = ran.ends.full; more = ran.ends.left; taken = taken _ ran.ends.gained said.0; unsaved = said.1 }
-  tells run.Write ran follows = (ran.device, fronts (same_text follows.0) ran.fronts, follows.1)
+  tells run.Write ran follows = (ran.device, follows.1, fronts (same_text follows.0) ran.fronts)
   tells run.Report ran follows =
-      (subst (λ n. HasFailed before.failed_reports n) (ap (λ (p : Place). p.failed) (sym follows.0)) ran.device, fronts (same_text follows.0) ran.fronts, unsaved follows ran.fronts)
-  tells run.Memory ran follows = (fronts (same_text follows.0) ran.fronts, unsaved follows ran.fronts)
+      (subst (λ n. HasFailed before.failed_reports n) (ap (λ (p : Place). p.failed) (sym follows.0)) ran.device, unsaved follows ran.fronts)
+  tells run.Memory ran follows = unsaved follows ran.fronts
 
   still_first : (more : List ℕ) → Appends errors.text after.reported more → IfSome before.left (ReportsFirst c.output before mid) → IfSome before.left (ReportsFirst c.output before after)
   still_first more written = if_some _ _ before.left (λ log first. record {
@@ -212,19 +184,9 @@ module _ (c : Command) (stands : List Entry → Type 0) (before after : Devices)
       status = if_some _ _ before.left (λ log now. said.2 ∙ ap exit_status now.0) counted;
       end = subst (λ n. n ≤ 1) (sym said.2) (few counts);
       none_failed = record { reads = ran.device.reads; writes = ran.device.writes; reports = said.1 ∙ ran.device.reports };
+      place = keeps.none_failed;
       saved = if_some _ _ before.left (λ log now. subst (Keeps c.saving.before c.saving.after) now.1 keeps) counted;
     }
-
-    -- what is written where the summary stops in the middle
-    written : AppendsFront errors.text after.reported (summary_text counts) → IfSome before.left (HasFronts c before after)
-    written front = if_both _ _ _ before.left (λ log gained now. record {
-      text = front_whole before.written after.written (c.output.texts (entries_for c log)) gained.printed;
-      report = front_after before.reported errors.text after.reported (c.output.reports (entries_for c log)) (summary_text (c.counts (entries_for c log)))
-          gained.reported (subst (λ n. AppendsFront errors.text after.reported (summary_text n)) now.0 front);
-    }) ran.ends.gained counted
-
-    saved_first : Keeps c.saving.before c.saving.after text → IfSome before.left (SavesFirst c before after)
-    saved_first keeps = if_some _ _ before.left (λ log now. inr (subst (Keeps c.saving.before c.saving.after) now.1 keeps)) counted
 
     first : AppendsFront errors.text after.reported (summary_text counts) → IfSome before.left (ReportsFirst c.output before after)
     first front = still_first front.1.front front.1.appended ran.reports_first
@@ -237,14 +199,17 @@ module _ (c : Command) (stands : List Entry → Type 0) (before after : Devices)
       summary = subst (λ n. AppendsFront errors.text after.reported (summary_text n)) now.0 front;
     }) ran.ends.gained counted
 
+    saved_first : Keeps c.saving.before c.saving.after text → AppendsFront errors.text after.reported (summary_text counts) → IfSome before.left (SavesFirst c before after)
+    saved_first keeps front = if_both _ _ _ before.left (λ log now said. inr (subst (Keeps c.saving.before c.saving.after) now.1 keeps, said)) counted (printed front)
+
     pub ended_by_closing : (r : Result ℕ Fault) → Closes c.saving.before c.saving.after errors summed text counts r → Ends c before after r
     ended_by_closing (Ok status) said = done status said.0 said.1
     ended_by_closing (Err Save) said = record { tells = (said.0, printed said.1); reports_first = first said.1 }
     ended_by_closing (Err Report) said = record {
-      tells = (subst (λ n. HasFailed n after.failed_reports) ran.device.reports said.1.0, written said.1.1, saved_first said.0);
+      tells = (subst (λ n. HasFailed n after.failed_reports) ran.device.reports said.1.0, saved_first said.0 said.1.1);
       reports_first = first said.1.1;
     }
-    ended_by_closing (Err Memory) said = record { tells = (written said.1, saved_first said.0); reports_first = first said.1 }
+    ended_by_closing (Err Memory) said = record { tells = saved_first said.0 said.1; reports_first = first said.1 }
     ended_by_closing (Err Words) said = absurd said.1
     ended_by_closing (Err Interface) said = absurd said.1
     ended_by_closing (Err TableSize) said = absurd said.1

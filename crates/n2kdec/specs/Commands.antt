@@ -22,7 +22,7 @@ use Rattle.n2k_run.specs.Parts.{begun, save, state_after}
 use Rattle.n2k_run.specs.Plain.{plain_counts_of, plain_output}
 use Rattle.n2k_run.specs.Reading.{OutlastsReads}
 use Rattle.n2k_run.specs.Reports.{summary_text}
-use Rattle.n2k_run.specs.Runs.{Devices, NoneFailed, Output, ReportsFirst, output_from}
+use Rattle.n2k_run.specs.Runs.{Devices, HasFronts, NoneFailed, Output, ReportsFirst, output_from}
 use Rattle.n2k_run.specs.Writing.{AppendsFront}
 use Rattle.n2k_run.specs.declared.options.Options.{Options}
 use Rattle.n2kdec.specs.Fault.{exit_status}
@@ -114,13 +114,15 @@ abbrev pub summed_up : Command → List Entry → List ℕ
 summed_up c es = c.output.reports es ++ summary_text (c.counts es)
 
 -- The command came to its end: the output has gained what is printed of the log, the errors its reports and then its
--- summary, the status tells whether a line was bad, no device failed, and the state after the log is saved.
+-- summary, the status tells whether a line was bad, no device failed, nor the place of the state, and the state after the
+-- log is saved.
 pub record IsDone (c : Command) (before after : Devices) (answer : ℕ) : Type 0 where
   pub text : IfSome before.left (λ log. Appends before.written after.written (c.output.texts (entries_for c log)))
   pub report : IfSome before.left (λ log. Appends before.reported after.reported (summed_up c (entries_for c log)))
   pub status : IfSome before.left (λ log. answer ≡ exit_status (c.counts (entries_for c log)))
   pub end : answer ≤ 1
   pub none_failed : NoneFailed before after
+  pub place : c.saving.after.failed ≡ c.saving.before.failed
   pub saved : IfSome before.left (λ log. IsSaved c.saving (entries_for c log))
 
 -- what is written of a part's summary: a front, which is all where neither the errors nor memory fail; or nothing
@@ -152,11 +154,6 @@ pub record IsFull (c : Command) (before after : Devices) : Type 0 where
   pub taken : HasTaken c before after lines
   pub unsaved : IsUntouched c.saving
 
--- the output and the errors have each gained a front of what a command that came to its end would have written
-pub record HasFronts (c : Command) (before after : Devices) (log : List ℕ) : Type 0 where
-  pub text : AppendsFront before.written after.written (c.output.texts (entries_for c log))
-  pub report : AppendsFront before.reported after.reported (summed_up c (entries_for c log))
-
 -- the output has gained what is printed of the log, and the errors its reports and then a front of its summary
 pub record HasPrinted (c : Command) (before after : Devices) (log : List ℕ) : Type 0 where
   -- what the errors held before the summary
@@ -165,23 +162,24 @@ pub record HasPrinted (c : Command) (before after : Devices) (log : List ℕ) : 
   pub report : Appends before.reported errors (c.output.reports (entries_for c log))
   pub summary : AppendsFront errors after.reported (summary_text (c.counts (entries_for c log)))
 
--- nothing is saved, and nothing of the summary is written; or the state after the log is saved
+-- Nothing is saved and nothing is summed up, and fronts are written of what is printed and reported; or the log is printed
+-- and reported whole, the state after it is saved, and a front of the summary is written.
 abbrev pub SavesFirst : Command → Devices → Devices → List ℕ → Type 0
 SavesFirst c before after log =
-    (IsUntouched c.saving × AppendsFront before.reported after.reported (c.output.reports (entries_for c log)))
-    ⊎ IsSaved c.saving (entries_for c log)
+    (IsUntouched c.saving × HasFronts c.output before after log)
+    ⊎ (IsSaved c.saving (entries_for c log) × HasPrinted c before after log)
 
 -- What each fault of a command tells. Read: the log's device failed, or 10^12 reads found no end, and the lines that came
 -- are taken. Lines: as many as are counted are. Save: the log is printed, and its state can't be kept. Write, Report: that
--- device failed. Memory may be refused at any time. After these three fronts are written: nothing is saved after Write,
--- and after the others the state of the whole log, or nothing. No other fault stops a run.
+-- device failed. Memory may be refused at any time. After Write fronts are written, nothing is saved and nothing is summed
+-- up; after Report and Memory the same holds, or only the summary is cut. No other fault stops a run.
 abbrev pub Tells : Command → Devices → Devices → Fault → Type 0
 Tells c before after Read = (HasFailed before.failed_reads after.failed_reads ⊎ OutlastsReads before.calls after.calls) × HasRead c before after
 Tells c before after Lines = IsFull c before after
 Tells c before after Save = CannotBeSaved c.saving × IfSome before.left (HasPrinted c before after)
-Tells c before after Write = HasFailed before.failed_writes after.failed_writes × IfSome before.left (HasFronts c before after) × IsUntouched c.saving
-Tells c before after Report = HasFailed before.failed_reports after.failed_reports × IfSome before.left (HasFronts c before after) × IfSome before.left (SavesFirst c before after)
-Tells c before after Memory = IfSome before.left (HasFronts c before after) × IfSome before.left (SavesFirst c before after)
+Tells c before after Write = HasFailed before.failed_writes after.failed_writes × IsUntouched c.saving × IfSome before.left (HasFronts c.output before after)
+Tells c before after Report = HasFailed before.failed_reports after.failed_reports × IfSome before.left (SavesFirst c before after)
+Tells c before after Memory = IfSome before.left (SavesFirst c before after)
 Tells c before after _ = ⊥
 
 -- A fault stopped the command. No text stands before the report of its own line or of an earlier one.

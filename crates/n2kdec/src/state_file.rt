@@ -23,8 +23,12 @@ pub struct StateFile<'a> {
 }
 
 impl<'a> StateFile<'a> {
-    /// The file of this name, or none.
-    pub fn new(rt: &'a HostRuntime, name: Option<Word>) -> Self {
+    ghost use Rattle.std.specs.Prelude.{◌≡◌};
+
+    /// The file of this name, or none. No call of it has failed.
+    pub fn new(rt: &'a HostRuntime, name: Option<Word>) -> Self
+        ensures { ⟦<StateFile<'a> as Keeper>⟧.failed_calls result ≡ 0 }
+    {
         StateFile {
             rt,
             name,

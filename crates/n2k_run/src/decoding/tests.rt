@@ -217,11 +217,13 @@ fn decodes<R: Abort + AllocGlobal>(
 }
 
 #[test]
-fn worked_examples_in_pieces_of_1_of_7_and_all_bytes(rt: HostRuntime) -> Result<(), Fail> {
+fn worked_examples_in_pieces(rt: HostRuntime) -> Result<(), Fail> {
     let table = Table::read(rt.alloc(), TABLE)?;
     for example in &EXAMPLES {
         decodes(&rt, &table, example.log, example, 1)?;
         decodes(&rt, &table, example.log, example, 7)?;
+        decodes(&rt, &table, example.log, example, 4095)?;
+        decodes(&rt, &table, example.log, example, 4096)?;
         decodes(&rt, &table, example.log, example, 100_000)?;
     }
     Ok(())
