@@ -4,6 +4,7 @@ pub mod CandumpLemmas
 pub mod DigitLemmas
 pub mod HexDigits
 pub mod IdentifierLemmas
+pub mod FirstPlaces
 pub mod PieceLemmas
 pub mod PlainLemmas
 pub mod ReadBack
