@@ -11,7 +11,7 @@ use crate::bits::{greatest, raw};
 use crate::fault::TableFault;
 use crate::lookup::{Lookup, Lookups};
 use crate::resolution::{Resolution, resolution_at};
-use crate::shown::{Shown, shown_name, shown_number, shown_text};
+use crate::shown::{Seen, Shown, shown_name, shown_number, shown_text};
 use crate::text::text_json;
 use crate::tree::{
     FieldKind, Place, any_text_at, as_members, found, has_only_keys, text_at, truth_at, whole_at,
@@ -256,6 +256,7 @@ pub fn read_field(alloc: Global, lookups: &Lookups, value: &Value) -> Result<Fie
 
 impl Field {
     ghost use Rattle.n2k_table.specs.Json.{key_json};
+    ghost use Rattle.n2k_table.specs.Seen.{seen_parts};
     ghost use Rattle.n2k_table.specs.Shown.{shown_parts, lies_inside, field_bytes, shown};
     ghost use Rattle.n2k_table.specs.Table.{field_matches};
 
@@ -301,23 +302,33 @@ impl Field {
     }
 
     /// What the field shows of the data of a message: nothing where it does not lie wholly inside.
-    pub fn shown<'a>(&'a self, data: &'a [u8]) -> Shown<'a>
-        ensures { shown_parts result ≡ shown self.now «data».now }
+    pub fn seen<'a>(&'a self, data: &'a [u8]) -> Seen<'a>
+        ensures { seen_parts result ≡ shown self.now «data».now }
     {
         if !self.lies_inside(data) {
-            return Shown::Absent;
+            return Seen::Other(Shown::Absent);
         }
         match &self.meaning {
             Meaning::Number { signed, resolution } => {
                 let raw = raw(data, self.at, self.bits);
-                shown_number(*signed, *resolution, self.bits, raw)
+                Seen::Other(shown_number(*signed, *resolution, self.bits, raw))
             }
             Meaning::Named(lookup) => {
                 let raw = raw(data, self.at, self.bits);
                 shown_name(lookup.name_of(raw), self.bits, raw)
             }
-            Meaning::Text => shown_text(self.bytes(data)),
-            Meaning::Bytes => Shown::Bytes(self.bytes(data)),
+            Meaning::Text => Seen::Other(shown_text(self.bytes(data))),
+            Meaning::Bytes => Seen::Other(Shown::Bytes(self.bytes(data))),
+        }
+    }
+
+    /// The same, with the text of a name.
+    pub fn shown<'a>(&'a self, data: &'a [u8]) -> Shown<'a>
+        ensures { shown_parts result ≡ shown self.now «data».now }
+    {
+        match self.seen(data) {
+            Seen::Name(name) => Shown::Name(name.text()),
+            Seen::Other(shown) => shown,
         }
     }
 }

@@ -1,6 +1,7 @@
 //! The JSON line of a message.
 ghost use Rattle.std.specs.Prelude.{◌≡◌, ◌++◌, ◌||◌, [], ◌∷◌, Bool, true, is_some, decimal, codes, option_map, IfOk, IfSome, OnOk, OnErr, Some};
-ghost use Rattle.n2k_table.specs.Shown.{shown, shown_parts, all_shown};
+ghost use Rattle.n2k_table.specs.Seen.{seen_parts};
+ghost use Rattle.n2k_table.specs.Shown.{shown, all_shown};
 ghost use Rattle.n2k_table.specs.Text.{text_json};
 ghost use Rattle.n2k_table.specs.Json.{value_json, member_json, member_text, members_json, unmatched_json, chosen_json, json};
 
@@ -8,7 +9,7 @@ use crate::decimal::push_decimal;
 use crate::definition::Definition;
 use crate::field::Field;
 use crate::head::push_seen;
-use crate::shown::Shown;
+use crate::shown::{Seen, Shown};
 use crate::table::Table;
 use crate::tail::Tail;
 use crate::text::{push_characters, push_pairs, push_text};
@@ -28,17 +29,20 @@ fn push_number(label: &[u8], number: u32, line: &mut Tail) -> Result<(), AllocEr
 }
 
 // Appends what a field shows as a value.
-fn push_value(shown: Shown<'_>, line: &mut Tail) -> Result<(), AllocError>
-    ensures appends { OnOk result (IfSome (value_json true (shown_parts shown.entry))
+fn push_value(seen: Seen<'_>, line: &mut Tail) -> Result<(), AllocError>
+    ensures appends { OnOk result (IfSome (value_json true (seen_parts seen.entry))
         (λ value. line.new.items ≡ line.old.items ++ value)) }
     ensures before { line.new.before ≡ line.old.before }
 {
-    match shown {
-        Shown::Absent => line.extend_from_slice(b"null"),
-        Shown::Number { value, decimals } => push_decimal(value, decimals, line),
-        Shown::Name(name) => push_text(name.as_bytes(), line),
-        Shown::Text(numbers) => push_characters(numbers, line),
-        Shown::Bytes(bytes) => push_pairs(bytes, line),
+    match seen {
+        Seen::Name(name) => line.extend_from_slice(name.json()),
+        Seen::Other(shown) => match shown {
+            Shown::Absent => line.extend_from_slice(b"null"),
+            Shown::Number { value, decimals } => push_decimal(value, decimals, line),
+            Shown::Name(name) => push_text(name.as_bytes(), line),
+            Shown::Text(numbers) => push_characters(numbers, line),
+            Shown::Bytes(bytes) => push_pairs(bytes, line),
+        },
     }
 }
 
@@ -56,12 +60,12 @@ fn push_member(
         × (more ≡ (later || is_some member))) }
     ensures before { line.new.before ≡ line.old.before }
 {
-    let shown = field.shown(data);
-    if matches!(shown, Shown::Absent) && !empty {
+    let seen = field.seen(data);
+    if matches!(seen, Seen::Other(Shown::Absent)) && !empty {
         return Ok(later);
     }
     line.extend_from_slice(field.key(later))?;
-    push_value(shown, line)?;
+    push_value(seen, line)?;
     Ok(true)
 }
 
