@@ -92,12 +92,12 @@ impl<'a> Maker for JsonLines<'a> {
         &self,
         alloc: Global,
         join: &mut Join,
-        entry: Entry,
+        entry: &Entry,
         text: &mut Vec<u8>,
         report: &mut Vec<u8>,
     ) -> Result<(), RunFault> {
         let mut joined = None;
-        let step = join.lend(self.table, &entry, &mut joined)?;
+        let step = join.lend(self.table, entry, &mut joined)?;
         let line = join.counts().lines;
         push_broken(alloc, line, &step.broken, report)?;
         push_cause(alloc, line, step.bad, report)?;

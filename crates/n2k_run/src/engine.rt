@@ -27,7 +27,7 @@ fn take_long<M: Maker>(
     ensures ready { OnOk result (M.is_ready maker.now state.new) }
 {
     let entry = Entry::Bad(BadCause::Long);
-    maker.take(alloc, state, entry, &mut kept.text, &mut kept.report)
+    maker.take(alloc, state, &entry, &mut kept.text, &mut kept.report)
 }
 
 // Takes the next line of the log. Where the block holds no line's end it is read, and that may have to wait: so
@@ -52,7 +52,7 @@ fn take_next<M: Maker, R: Source>(
     match blocks.next_line(reader) {
         Ok(Next::Line(line)) => {
             let entry = read_line(line, packing);
-            maker.take(alloc, state, entry, &mut kept.text, &mut kept.report)
+            maker.take(alloc, state, &entry, &mut kept.text, &mut kept.report)
         }
         Ok(Next::Long) => take_long(alloc, maker, state, kept),
         Ok(Next::End) => Ok(()),
