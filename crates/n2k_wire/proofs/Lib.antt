@@ -9,5 +9,6 @@ pub mod PieceLemmas
 pub mod PlainLemmas
 pub mod ReadBack
 pub mod TextLemmas
+pub mod UsualStamps
 pub mod UtcBack
 pub mod CleanTexts
