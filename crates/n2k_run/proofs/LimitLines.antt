@@ -64,7 +64,7 @@ taken_bytes packing (e ∷ es) log next more is = go (by_feed log) (λ rest late
     feed : FirstFeed log → ((rest : List ℕ) → entries packing rest ≡ es ++ (next ∷ more) → TakenBytes packing rest es) → TakenBytes packing log (e ∷ es)
     feed f fewer =
         let of_piece : (rest : List ℕ) → entries packing (f.piece ++ (10 ∷ rest)) ≡ entry (without_return f.piece) packing ∷ entries packing rest
-            = λ rest. ap (map (λ line. entry line packing)) (lines_piece f.piece rest f.none) in
+        = λ rest. ap (map (λ line. entry line packing)) (lines_piece f.piece rest f.none) in
         let both : entry (without_return f.piece) packing ∷ entries packing f.rest ≡ e ∷ (es ++ (next ∷ more)) = sym (of_piece f.rest) ∙ ap (entries packing) (sym f.bytes_are) ∙ is in
         let first : entry (without_return f.piece) packing ≡ e = cc in
         let later : entries packing f.rest ≡ es ++ (next ∷ more) = cc in

@@ -398,9 +398,10 @@ module _ {S : Type 0} (m : Making S) (packing : Packing) (s₀ : S) (before : De
   fault_device : (now after : Devices) (s s' : S) (held held' : Held) (text text' report report' : List ℕ) (fault : RunFault) → NoneFailed before now → (after.failed_writes ≡ now.failed_writes) × (after.failed_reports ≡ now.failed_reports) → CallsAre before.calls after.calls 0 held'.reads
       → TakesNext {T = Unit {0}} m packing s s' held held' now.left after.left text text' report report' (Err fault) → ReadsNext {T = Unit {0}} held' now.failed_reads after.failed_reads (Err fault)
       → HasDevice {T = Unit {0}} before after (Err fault)
-  fault_device now after s s' held held' text text' report report' Read none hold called next reads =
-      (elim reads [ inl p ↦ inl (subst (λ n. HasFailed n after.failed_reads) none.reads p) | inr p ↦ inr (calls_end before.calls after.calls held'.reads called p) ],
-      record { writes = hold.0 ∙ none.writes; reports = hold.1 ∙ none.reports })
+  fault_device now after s s' held held' text text' report report' Read none hold called next reads = (
+    elim reads [ inl p ↦ inl (subst (λ n. HasFailed n after.failed_reads) none.reads p) | inr p ↦ inr (calls_end before.calls after.calls held'.reads called p) ],
+    record { writes = hold.0 ∙ none.writes; reports = hold.1 ∙ none.reports },
+  )
   fault_device now after s s' held held' text text' report report' Write none hold called next reads = absurd next
   fault_device now after s s' held held' text text' report report' Report none hold called next reads = absurd next
   fault_device now after s s' held held' text text' report report' Memory none hold called next reads = record { writes = hold.0 ∙ none.writes; reports = hold.1 ∙ none.reports }

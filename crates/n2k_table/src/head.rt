@@ -14,6 +14,9 @@ use std::alloc::AllocError;
 /// Room for the labels, a stamp of 32 bytes that stand for themselves, and three numbers of three digits.
 const HEAD_ROOM: usize = 80;
 
+/// The bytes of `YYYY-MM-DDTHH:MM:SS.mmmZ`.
+const USUAL_STAMP: usize = 24;
+
 type Head = ArrayVec<u8, HEAD_ROOM>;
 
 fn push_bytes(head: &mut Head, bytes: &[u8])
@@ -82,12 +85,24 @@ fn push_other_seen(packet: &Packet, line: &mut Tail) -> Result<(), AllocError>
     Ok(())
 }
 
+// Whether each byte of a stamp stands for itself. Most stamps have the length of a candump line's, and then a
+// comparison takes many bytes.
+fn is_plain_stamp(stamp: &[u8]) -> bool
+    ensures { result ≡ list_all is_plain stamp.now }
+{
+    if stamp.len() == USUAL_STAMP {
+        are_plain(&stamp[..USUAL_STAMP])
+    } else {
+        are_plain(stamp)
+    }
+}
+
 /// Appends what stands before the PGN.
 pub fn push_seen(packet: &Packet, line: &mut Tail) -> Result<(), AllocError>
     ensures appends { OnOk result (line.new.items ≡ line.old.items ++ seen_json packet.now) }
     ensures before { line.new.before ≡ line.old.before }
 {
-    if are_plain(packet.stamp()) {
+    if is_plain_stamp(packet.stamp()) {
         push_plain_seen(packet, line)
     } else {
         push_other_seen(packet, line)

@@ -164,13 +164,24 @@ fn place_of_other(text: &[u8]) -> Option<usize>
     text.iter().position(|byte| !is_hex_digit(*byte))
 }
 
+/// Whether each byte is a hexadecimal digit. Most frames have eight bytes, and then one comparison takes all digits.
+fn is_hexadecimal(text: &[u8]) -> bool
+    ensures { result ≡ list_all is_ascii_hexdigit text.now }
+{
+    if text.len() == 2 * FRAME_PAYLOAD {
+        are_hex_digits(&text[..2 * FRAME_PAYLOAD])
+    } else {
+        are_hex_digits(text)
+    }
+}
+
 /// How many hexadecimal digits a text begins with.
 fn digits_len(text: &[u8]) -> usize
     ensures value { result ≡ digits_len text.now }
     ensures within { result ≤ length text.now }
 {
     // Mostly the data end the line, and then one pass without branches tells it.
-    if are_hex_digits(text) {
+    if is_hexadecimal(text) {
         return text.len();
     }
     match place_of_other(text) {
