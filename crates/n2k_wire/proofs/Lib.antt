@@ -10,3 +10,5 @@ pub mod ReadBack
 pub mod TextLemmas
 pub mod UtcBack
 pub mod CleanTexts
+pub mod UtcStamps
+pub mod LineEntries
