@@ -15,6 +15,7 @@ pub mod Parting
 pub mod PrintedBack
 pub mod Ranges
 pub mod Running
+pub mod SavedFronts
 pub mod SentFrames
 pub mod SentLines
 pub mod Splits

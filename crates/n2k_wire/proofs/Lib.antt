@@ -12,3 +12,5 @@ pub mod TextLemmas
 pub mod UsualStamps
 pub mod UtcBack
 pub mod CleanTexts
+pub mod UtcStamps
+pub mod LineEntries
