@@ -7,6 +7,7 @@ pub mod Folds
 pub mod Fronts
 pub mod GoingOn
 pub mod Joined
+pub mod LimitLines
 pub mod LogSteps
 pub mod OutputLines
 pub mod Owed
