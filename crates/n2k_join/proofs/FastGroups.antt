@@ -1,5 +1,5 @@
 -- What a saved text spells under a table: its groups are of fast PGNs of that table, whose id it has.
-use Rattle.std.proofs.Common.{◌≡◌, ℕ, Bool, true, false, List, [], ◌∷◌, ◌++◌, length, Option, Some, None, Result, Ok, Err, refl, sym, ap, ◌∙◌, subst}
+use Rattle.std.proofs.Common.{◌≡◌, ℕ, Bool, true, false, List, [], ◌∷◌, length, Option, Some, None, Result, Ok, Err, refl, sym, ap, ◌∙◌, subst}
 use Rattle.std.specs.Prelude.{All, ◌≤◌, not}
 use Rattle.std.specs.List.{list_any}
 use Rattle.std.specs.Str.{bytes_eq}
@@ -12,14 +12,14 @@ use Rattle.n2k_wire.specs.Entry.{IsEntry}
 use Rattle.n2k_table.specs.declared.definition.Kind.{Kind}
 use Rattle.n2k_table.specs.declared.definition.Kind.TheVariants.{Single, Fast}
 use Rattle.n2k_join.specs.declared.state_fault.StateFault.{StateFault}
-use Rattle.n2k_join.specs.declared.state_fault.StateFault.TheVariants.{NotJson, Format, TableDiffers, Invalid}
+use Rattle.n2k_join.specs.declared.state_fault.StateFault.TheVariants.{NotJson, Format, TableDiffers}
 use Rattle.n2k_join.specs.Counts.{most_lines}
 use Rattle.n2k_join.specs.Frames.{same_key}
 use Rattle.n2k_join.specs.Open.{Group}
 use Rattle.n2k_join.specs.Refusal.{◌>>=◌, or_fault, holds_or}
-use Rattle.n2k_join.specs.Resumed.{counts_hold, firsts_rise, group_holds, groups_hold, has_format, is_fast, is_some_list, is_valid, judged, key_holds, parsed, pieces_rise, state_of, valid_if}
+use Rattle.n2k_join.specs.Resumed.{counts_hold, firsts_rise, group_holds, groups_hold, has_format, is_fast, is_valid, judged, key_holds, parsed, state_of, valid_if}
 use Rattle.n2k_join.specs.Saved.{IsId, state_text}
-use Rattle.n2k_join.specs.State.{State, state, IsState, AreFast}
+use Rattle.n2k_join.specs.State.{State, state, AreFast}
 use Rattle.n2k_join.proofs.Keeping.{state-valid}
 use Rattle.n2k_join.proofs.StateReads.{state_back}
 use Rattle.n2k_join.proofs.StateTests.{both}

@@ -1,5 +1,6 @@
 pub mod Advanced
 pub mod Agreeing
+pub mod Apart
 pub mod Arriving
 pub mod BadLines
 pub mod Carried

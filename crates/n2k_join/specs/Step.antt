@@ -1,8 +1,9 @@
 -- What a line answers, as the definitions see it.
-use Rattle.std.specs.Prelude.{ℕ, Bool, false, not, List, Option, Some, None, option_to_list}
+use Rattle.std.specs.Prelude.{ℕ, Bool, false, not, List, Option, Some, None, option_map, option_to_list}
 use Rattle.std.specs.List.{list_any}
 use Rattle.n2k_wire.specs.declared.entry.Entry.{Entry}
 use Rattle.n2k_table.specs.declared.definition.Kind.{Kind}
+use Rattle.n2k_join.specs.declared.step.LentStep.{LentStep}
 use Rattle.n2k_join.specs.declared.step.Step.{Step}
 use Rattle.n2k_join.specs.Frames.{same_key, Frame, frame_in}
 use Rattle.n2k_join.specs.Open.{Group}
@@ -11,6 +12,10 @@ use Rattle.n2k_join.specs.State.{State, Given, next_line}
 -- A line breaks at most one group.
 abbrev pub given_of : Step → Given
 given_of step = record { message = step.message; cause = step.bad; broken = option_to_list step.broken }
+
+-- The same where the message stays where it is.
+abbrev pub lent_given_of : LentStep → Given
+lent_given_of step = record { message = option_map (λ p. p.now) step.message; cause = step.bad; broken = option_to_list step.broken }
 
 abbrev pub opens_by : List Group → Option Frame → Bool
 opens_by groups None = false

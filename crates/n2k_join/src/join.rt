@@ -1,5 +1,5 @@
 //! The join: the open groups and the counts of a log, taken on line by line.
-ghost use Rattle.std.specs.Prelude.{◌≡◌, ◌+◌, ◌*◌, ◌≤◌, ◌<◌, ◌↔◌, ℕ, [], length, IfOk, OnOk, OnErr, IsErrOf, Ok, Option, true, is_some};
+ghost use Rattle.std.specs.Prelude.{◌≡◌, ◌+◌, ◌*◌, ◌≤◌, ◌<◌, ◌↔◌, ℕ, [], length, IfOk, OnOk, OnErr, IsErrOf, Ok, Option, None, true, is_some};
 ghost use Rattle.n2k_table.specs.declared.definition.Kind.{Kind};
 ghost use Rattle.n2k_table.specs.Table.{kind};
 ghost use Rattle.n2k_wire.specs.Entry.{IsShort, IsEntry};
@@ -9,19 +9,20 @@ ghost use Rattle.n2k_join.specs.State.{state, step_given, step_after, AreCounts,
 ghost use Rattle.n2k_join.specs.Refusal.{GivesOrMemory};
 ghost use Rattle.n2k_join.specs.Resumed.{is_valid, judged, state_of_parts, valid_if};
 ghost use Rattle.n2k_join.specs.Saved.{IsId, state_text, bare_bytes, group_bytes};
-ghost use Rattle.n2k_join.specs.Step.{given_of, opens};
+ghost use Rattle.n2k_join.specs.Step.{given_of, lent_given_of, opens};
+ghost use Rattle.n2k_join.specs.Told.{packet_in, told};
 
 use crate::counts::{Counts, MOST_LINES};
 use crate::fault::JoinFault;
 use crate::group::StoredGroup;
 use crate::laws;
-use crate::outcome::{Outcome, take_entry};
+use crate::outcome::{Outcome, packet_of, take_entry};
 use crate::saved::{
     SpelledGroup, SpelledState, has_format, parsed, read_state, rules_hold, state_text,
     stored_groups,
 };
 use crate::state_fault::StateFault;
-use crate::step::Step;
+use crate::step::{LentStep, Step};
 use n2k_table::Table;
 use n2k_wire::{Entry, Id, Packet};
 use std::alloc::{AllocError, Global};
@@ -69,26 +70,25 @@ fn know_entry(entry: &Entry)
     }
 }
 
-// The counts after a line.
-fn counted(counts: Counts, outcome: &Outcome, held: usize) -> Counts
+// The counts after a line, which gives a message or none.
+fn counted(counts: Counts, outcome: &Outcome, is_message: bool, held: usize) -> Counts
     requires are { AreCounts counts }
     requires below { counts.lines < most_lines }
     ensures { result ≡ record {
       lines = counts.lines + 1;
-      messages = counts.messages + one_if (is_some outcome.now.step.message);
-      bad = counts.bad + one_if (is_some outcome.now.step.bad);
+      messages = counts.messages + one_if is_message;
+      bad = counts.bad + one_if (is_some outcome.now.bad);
       unknown = counts.unknown + one_if outcome.now.is_unknown;
-      broken = counts.broken + one_if (is_some outcome.now.step.broken);
+      broken = counts.broken + one_if (is_some outcome.now.broken);
       held = held;
     } }
 {
-    let step = &outcome.step;
     Counts {
         lines: counts.lines + 1,
-        messages: counts.messages + u64::from(step.message.is_some()),
-        bad: counts.bad + u64::from(step.bad.is_some()),
+        messages: counts.messages + u64::from(is_message),
+        bad: counts.bad + u64::from(outcome.bad.is_some()),
         unknown: counts.unknown + u64::from(outcome.is_unknown),
-        broken: counts.broken + u64::from(step.broken.is_some()),
+        broken: counts.broken + u64::from(outcome.broken.is_some()),
         held: held as u64,
     }
 }
@@ -113,6 +113,34 @@ impl Join {
         *counts
     }
 
+    // Takes the next line, as its entry. The message of a group that it completes goes to `joined`.
+    fn take(
+        &mut self,
+        table: &Table,
+        entry: &Entry,
+        joined: &mut Option<Packet>,
+    ) -> Result<Outcome, JoinFault>
+        requires short { IsShort entry.now }
+        requires none { joined.old ≡ None }
+        ensures given { IfOk result (λ o. told o (packet_in entry.now) joined.new ≡ step_given (kind table.now) self.old entry.now) }
+        ensures after { OnOk result (self.new ≡ step_after (kind table.now) self.old entry.now) }
+        ensures unchanged { OnErr result (self.new ≡ self.old) }
+        ensures few { OnOk result (self.old.counts.lines < most_lines) }
+        ensures full { IsErrOf result JoinFault.TooManyLines ↔ (self.old.counts.lines ≡ most_lines) }
+        ensures memory { IsErrOf result JoinFault.Memory → opens (kind table.now) self.old entry.now ≡ true }
+    {
+        if self.counts.lines == MOST_LINES {
+            return Err(JoinFault::TooManyLines);
+        }
+        know_entry(entry);
+        let alloc = *self.groups.allocator();
+        let line = self.counts.lines + 1;
+        let outcome = take_entry(alloc, &mut self.groups, line, table, entry, joined)?;
+        let is_message = outcome.is_message(entry, joined);
+        self.counts = counted(self.counts, &outcome, is_message, self.groups.len());
+        Ok(outcome)
+    }
+
     /// Takes the next line, as its entry, and answers what it gives: the message that it is or completes, why it is
     /// bad, and the group that it breaks. The table says how each PGN is sent.
     ///
@@ -131,15 +159,50 @@ impl Join {
         ensures full { IsErrOf result JoinFault.TooManyLines ↔ (self.old.counts.lines ≡ most_lines) }
         ensures memory { IsErrOf result JoinFault.Memory → opens (kind table.now) self.old entry ≡ true }
     {
-        if self.counts.lines == MOST_LINES {
-            return Err(JoinFault::TooManyLines);
-        }
-        know_entry(&entry);
-        let alloc = *self.groups.allocator();
-        let line = self.counts.lines + 1;
-        let outcome = take_entry(alloc, &mut self.groups, line, table, entry)?;
-        self.counts = counted(self.counts, &outcome, self.groups.len());
-        Ok(outcome.step)
+        let mut joined = None;
+        let outcome = self.take(table, &entry, &mut joined)?;
+        let Outcome {
+            is_own,
+            bad,
+            broken,
+            ..
+        } = outcome;
+        let message = if is_own { packet_of(entry) } else { joined };
+        Ok(Step {
+            message,
+            bad,
+            broken,
+        })
+    }
+
+    /// The same of an entry that stays where it is: the message is lent from it, or from `joined`, to which the message
+    /// of a group is written.
+    ///
+    /// ```text
+    /// let mut joined = None;
+    /// let step = join.lend(&table, &entry, &mut joined)?;
+    /// ```
+    pub fn lend<'a>(
+        &mut self,
+        table: &Table,
+        entry: &'a Entry,
+        joined: &'a mut Option<Packet>,
+    ) -> Result<LentStep<'a>, JoinFault>
+        requires short { IsShort entry.now }
+        requires none { joined.old ≡ None }
+        ensures given { IfOk result (λ step. lent_given_of step ≡ step_given (kind table.now) self.old entry.now) }
+        ensures after { OnOk result (self.new ≡ step_after (kind table.now) self.old entry.now) }
+        ensures unchanged { OnErr result (self.new ≡ self.old) }
+        ensures few { OnOk result (self.old.counts.lines < most_lines) }
+        ensures full { IsErrOf result JoinFault.TooManyLines ↔ (self.old.counts.lines ≡ most_lines) }
+        ensures memory { IsErrOf result JoinFault.Memory → opens (kind table.now) self.old entry.now ≡ true }
+    {
+        let outcome = self.take(table, entry, joined)?;
+        Ok(LentStep {
+            message: outcome.message(entry, joined),
+            bad: outcome.bad,
+            broken: outcome.broken,
+        })
     }
 
     // The join of a state that was read, where it can be one under the table. The count of open groups is their number.

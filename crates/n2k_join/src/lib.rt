@@ -2,7 +2,8 @@
 //!
 //! - `Join::new` is the join before the first line, and `Join::line` takes the next line, as its entry: it answers
 //!   the message that the line is or completes, why it is bad, and the group that it breaks (`Step`, `Broken`).
-//!   A line that can't be taken (`JoinFault`) leaves the join as it was.
+//!   A line that can't be taken (`JoinFault`) leaves the join as it was. `Join::lend` does the same, and lends the
+//!   message (`LentStep`).
 //! - `Join::counts` are the lines, messages, bad lines, unknown PGNs, broken and open groups so far (`Counts`).
 //! - `Join::save` writes the state of a join as text, and `Join::resume` goes on from one, or says why it is refused
 //!   (`StateFault`).
@@ -39,7 +40,7 @@ pub use join::Join;
 pub use split_fault::SplitFault;
 pub use splitter::Splitter;
 pub use state_fault::StateFault;
-pub use step::Step;
+pub use step::{LentStep, Step};
 pub use stream::Stream;
 
 #[cfg(test)]

@@ -1,56 +1,107 @@
 //! What an entry gives, and the open groups that it leaves.
-ghost use Rattle.std.specs.Prelude.{◌≡◌, ℕ, [], Some, None, true, false, not, IfOk, OnOk, OnErr, is_some};
+ghost use Rattle.std.specs.Prelude.{◌≡◌, ℕ, [], Some, None, true, false, not, IfOk, OnOk, OnErr, is_some, option_map};
 ghost use Rattle.std.specs.List.{AllByRecursion};
 ghost use Rattle.n2k_table.specs.declared.definition.Kind.TheVariants.{Fast};
 ghost use Rattle.n2k_table.specs.Table.{kind};
 ghost use Rattle.n2k_join.specs.Frames.{frame_in, frame_by, fast_frame};
 ghost use Rattle.n2k_join.specs.Messages.{is_unknown, alone, cause_in, single_by, fast_cause};
 ghost use Rattle.n2k_join.specs.State.{IsOpen, AreApart};
-ghost use Rattle.n2k_join.specs.Step.{given_of, opens_by};
+ghost use Rattle.n2k_join.specs.Step.{opens_by};
 ghost use Rattle.n2k_join.specs.Stored.{gives_by, leaves_by};
+ghost use Rattle.n2k_join.specs.Told.{packet_in, told, told_message};
 
+use crate::broken::Broken;
 use crate::frame::fast_frame;
 use crate::group::StoredGroup;
-use crate::step::Step;
 use crate::taking::take_frame;
 use n2k_table::{Kind, Table};
 use n2k_wire::{BadCause, Entry, Packet};
 use std::alloc::{AllocError, Global};
 
-/// What a line gives, and whether its PGN is unknown.
+/// What a line gives. A packet is large, so that the line's own stays in its entry, and one of a group is written to
+/// where the caller wants it.
 #[derive(Drop)]
 pub struct Outcome {
-    pub step: Step,
+    /// Whether the line's own packet is its message.
+    pub is_own: bool,
+    /// Why it is bad.
+    pub bad: Option<BadCause>,
+    /// The group that it breaks.
+    pub broken: Option<Broken>,
+    /// Whether its PGN is unknown.
     pub is_unknown: bool,
 }
 
 impl Outcome {
-    fn of_message(message: Option<Packet>, is_unknown: bool) -> Outcome
-        ensures given { given_of result.step ≡ record { message = message; cause = None; broken = [] } }
-        ensures unknown { result.is_unknown ≡ is_unknown }
+    fn of_nothing(is_unknown: bool) -> Outcome
+        ensures { result ≡ record { is_own = false; bad = None; broken = None; is_unknown = is_unknown } }
     {
         Outcome {
-            step: Step {
-                message,
-                bad: None,
-                broken: None,
-            },
+            is_own: false,
+            bad: None,
+            broken: None,
             is_unknown,
         }
     }
 
-    fn of_bad(cause: BadCause) -> Outcome
-        ensures given { given_of result.step ≡ record { message = None; cause = Some cause; broken = [] } }
-        ensures unknown { result.is_unknown ≡ false }
+    fn of_own() -> Outcome
+        ensures { result ≡ record { is_own = true; bad = None; broken = None; is_unknown = false } }
     {
         Outcome {
-            step: Step {
-                message: None,
-                bad: Some(cause),
-                broken: None,
-            },
+            is_own: true,
+            bad: None,
+            broken: None,
             is_unknown: false,
         }
+    }
+
+    fn of_bad(cause: BadCause) -> Outcome
+        ensures { result ≡ record { is_own = false; bad = Some cause; broken = None; is_unknown = false } }
+    {
+        Outcome {
+            is_own: false,
+            bad: Some(cause),
+            broken: None,
+            is_unknown: false,
+        }
+    }
+
+    /// The message, of the line's entry and a group that it completes.
+    pub fn message<'a>(&self, entry: &'a Entry, joined: &'a Option<Packet>) -> Option<&'a Packet>
+        ensures { option_map (λ p. p.now) result ≡ told_message self.now (packet_in entry.now) joined.now }
+    {
+        if self.is_own {
+            packet_in(entry)
+        } else {
+            joined.as_ref()
+        }
+    }
+
+    /// Whether there is one.
+    pub fn is_message(&self, entry: &Entry, joined: &Option<Packet>) -> bool
+        ensures { result ≡ is_some (told_message self.now (packet_in entry.now) joined.now) }
+    {
+        self.message(entry, joined).is_some()
+    }
+}
+
+// The packet of an entry, if it has one.
+fn packet_in(entry: &Entry) -> Option<&Packet>
+    ensures { option_map (λ p. p.now) result ≡ packet_in entry.now }
+{
+    match entry {
+        Entry::Skip | Entry::Bad(_) => None,
+        Entry::Frame(packet) | Entry::Whole(packet) => Some(packet),
+    }
+}
+
+/// The same where the entry is let go.
+pub fn packet_of(entry: Entry) -> Option<Packet>
+    ensures { result ≡ packet_in entry }
+{
+    match entry {
+        Entry::Skip | Entry::Bad(_) => None,
+        Entry::Frame(packet) | Entry::Whole(packet) => Some(packet),
     }
 }
 
@@ -61,10 +112,12 @@ fn take_fast(
     groups: &mut Vec<StoredGroup>,
     line: u64,
     packet: &Packet,
+    joined: &mut Option<Packet>,
 ) -> Result<Outcome, AllocError>
     requires open { AllByRecursion IsOpen groups.old.items }
     requires apart { AreApart groups.old.items }
-    ensures given { IfOk result (λ o. given_of o.step ≡ gives_by None (fast_cause (Some Fast) packet.now) groups.old.items (fast_frame line packet.now)) }
+    requires none { joined.old ≡ None }
+    ensures given { IfOk result (λ o. told o (Some packet.now) joined.new ≡ gives_by None (fast_cause (Some Fast) packet.now) groups.old.items (fast_frame line packet.now)) }
     ensures unknown { IfOk result (λ o. o.is_unknown ≡ false) }
     ensures groups { OnOk result (groups.new.items ≡ leaves_by groups.old.items (fast_frame line packet.now)) }
     ensures unchanged { OnErr result (groups.new.items ≡ groups.old.items) }
@@ -74,12 +127,11 @@ fn take_fast(
         return Ok(Outcome::of_bad(BadCause::Fast));
     };
     let taken = take_frame(alloc, groups, line, &frame, packet)?;
+    *joined = taken.message;
     Ok(Outcome {
-        step: Step {
-            message: taken.message,
-            bad: None,
-            broken: taken.broken,
-        },
+        is_own: false,
+        bad: None,
+        broken: taken.broken,
         is_unknown: false,
     })
 }
@@ -90,51 +142,53 @@ fn take_packet(
     groups: &mut Vec<StoredGroup>,
     line: u64,
     kind: Option<Kind>,
-    packet: Packet,
+    packet: &Packet,
+    joined: &mut Option<Packet>,
 ) -> Result<Outcome, AllocError>
     requires open { AllByRecursion IsOpen groups.old.items }
     requires apart { AreApart groups.old.items }
-    ensures given { IfOk result (λ o. given_of o.step ≡ gives_by (single_by kind packet) (fast_cause kind packet) groups.old.items (frame_by kind line packet)) }
+    requires none { joined.old ≡ None }
+    ensures given { IfOk result (λ o. told o (Some packet.now) joined.new ≡ gives_by (single_by kind packet.now) (fast_cause kind packet.now) groups.old.items (frame_by kind line packet.now)) }
     ensures unknown { IfOk result (λ o. o.is_unknown ≡ not (is_some kind)) }
-    ensures groups { OnOk result (groups.new.items ≡ leaves_by groups.old.items (frame_by kind line packet)) }
+    ensures groups { OnOk result (groups.new.items ≡ leaves_by groups.old.items (frame_by kind line packet.now)) }
     ensures unchanged { OnErr result (groups.new.items ≡ groups.old.items) }
-    ensures memory { OnErr result (opens_by groups.old.items (frame_by kind line packet) ≡ true) }
+    ensures memory { OnErr result (opens_by groups.old.items (frame_by kind line packet.now) ≡ true) }
 {
-    // A packet is large, and each answer that holds one is returned at once, so that none is kept in between.
     match kind {
-        None => return Ok(Outcome::of_message(None, true)),
-        Some(Kind::Single) => return Ok(Outcome::of_message(Some(packet), false)),
-        Some(Kind::Fast) => return take_fast(alloc, groups, line, &packet),
+        None => Ok(Outcome::of_nothing(true)),
+        Some(Kind::Single) => Ok(Outcome::of_own()),
+        Some(Kind::Fast) => take_fast(alloc, groups, line, packet, joined),
     }
 }
 
-/// Takes the entry of a line into the open groups.
+/// Takes the entry of a line into the open groups. The message of a group that it completes goes to `joined`.
 pub fn take_entry(
     alloc: Global,
     groups: &mut Vec<StoredGroup>,
     line: u64,
     table: &Table,
-    entry: Entry,
+    entry: &Entry,
+    joined: &mut Option<Packet>,
 ) -> Result<Outcome, AllocError>
     requires open { AllByRecursion IsOpen groups.old.items }
     requires apart { AreApart groups.old.items }
-    ensures given { let k = kind table.now in IfOk result (λ o. given_of o.step ≡ gives_by (alone k entry) (cause_in k entry) groups.old.items (frame_in k line entry)) }
-    ensures unknown { IfOk result (λ o. o.is_unknown ≡ is_unknown (kind table.now) entry) }
-    ensures groups { OnOk result (groups.new.items ≡ leaves_by groups.old.items (frame_in (kind table.now) line entry)) }
+    requires none { joined.old ≡ None }
+    ensures given { let k = kind table.now in IfOk result (λ o. told o (packet_in entry.now) joined.new ≡ gives_by (alone k entry.now) (cause_in k entry.now) groups.old.items (frame_in k line entry.now)) }
+    ensures unknown { IfOk result (λ o. o.is_unknown ≡ is_unknown (kind table.now) entry.now) }
+    ensures groups { OnOk result (groups.new.items ≡ leaves_by groups.old.items (frame_in (kind table.now) line entry.now)) }
     ensures unchanged { OnErr result (groups.new.items ≡ groups.old.items) }
-    ensures memory { OnErr result (opens_by groups.old.items (frame_in (kind table.now) line entry) ≡ true) }
+    ensures memory { OnErr result (opens_by groups.old.items (frame_in (kind table.now) line entry.now) ≡ true) }
 {
-    // As in `take_packet`, each answer is returned at once.
     match entry {
-        Entry::Skip => return Ok(Outcome::of_message(None, false)),
-        Entry::Bad(cause) => return Ok(Outcome::of_bad(cause)),
+        Entry::Skip => Ok(Outcome::of_nothing(false)),
+        Entry::Bad(cause) => Ok(Outcome::of_bad(*cause)),
         Entry::Frame(packet) => {
             let kind = table.kind(packet.id().pgn);
-            return take_packet(alloc, groups, line, kind, packet);
+            take_packet(alloc, groups, line, kind, packet, joined)
         }
         Entry::Whole(packet) => match table.kind(packet.id().pgn) {
-            None => return Ok(Outcome::of_message(None, true)),
-            Some(_) => return Ok(Outcome::of_message(Some(packet), false)),
+            None => Ok(Outcome::of_nothing(true)),
+            Some(_) => Ok(Outcome::of_own()),
         },
     }
 }

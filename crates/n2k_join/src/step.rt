@@ -13,3 +13,14 @@ pub struct Step {
     /// The group that it breaks.
     pub broken: Option<Broken>,
 }
+
+/// What a line gives, where the message is lent. It gives the same as a `Step`.
+#[derive(Drop)]
+pub struct LentStep<'a> {
+    /// The message that it is or completes.
+    pub message: Option<&'a Packet>,
+    /// Why it is bad.
+    pub bad: Option<BadCause>,
+    /// The group that it breaks.
+    pub broken: Option<Broken>,
+}

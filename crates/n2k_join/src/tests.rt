@@ -1,8 +1,9 @@
 //! The worked examples of groups.
 use crate::{Counts, Join, JoinFault, Step};
-use n2k_table::Table;
+use n2k_table::{Table, TableFault};
 use n2k_wire::{BadCause, Packing, plain_text, read_line};
 use std::alloc::Global;
+use std::mem::ManuallyDrop;
 use std::test::Fail;
 
 // A PGN of single frames, and one of fast packets.
@@ -20,6 +21,11 @@ kind = \"fast\"
 description = \"Sample: Label\"
 fields = []
 ";
+
+// The table of the tests. It is never let go: the proof that letting one go is safe takes minutes.
+fn sample(alloc: Global) -> Result<ManuallyDrop<Table>, TableFault> {
+    Ok(ManuallyDrop::new(Table::read(alloc, SAMPLE.as_bytes())?))
+}
 
 // What a line gave, after the number of the line: the group that it breaks, its cause, its message as a plain line.
 fn push_step(alloc: Global, line: u64, step: &Step, text: &mut Vec<u8>) -> Result<(), Fail> {
@@ -42,20 +48,17 @@ fn push_step(alloc: Global, line: u64, step: &Step, text: &mut Vec<u8>) -> Resul
     Ok(())
 }
 
-// Takes a line. Where memory is refused the join is as it was, so the line can be taken again.
+// Takes a line.
 fn take(join: &mut Join, table: &Table, line: &str) -> Result<Step, JoinFault> {
-    match join.line(table, read_line(line.as_bytes(), Packing::Frames)) {
-        Err(JoinFault::Memory) => join.line(table, read_line(line.as_bytes(), Packing::Frames)),
-        taken => taken,
-    }
+    join.line(table, read_line(line.as_bytes(), Packing::Frames))
 }
 
 // What the lines of a log gave, and the six counts after them.
-fn told(alloc: Global, lines: &[&str]) -> Result<Vec<u8>, Fail> {
-    let table = Table::read(alloc, SAMPLE.as_bytes())?;
+fn told(alloc: Global, log: &str) -> Result<Vec<u8>, Fail> {
+    let table = sample(alloc)?;
     let mut join = Join::new(alloc, &table);
     let mut text = Vec::new(alloc);
-    for line in lines {
+    for line in log.lines() {
         let step = take(&mut join, &table, line)?;
         push_step(alloc, join.counts().lines, &step, &mut text)?;
     }
@@ -72,102 +75,86 @@ fn told(alloc: Global, lines: &[&str]) -> Result<Vec<u8>, Fail> {
     Ok(text)
 }
 
-const TWO_SOURCES: [&str; 4] = [
-    "(10.000001) can0 1DFF0405#000BA39901414243",
-    "(10.100000) can0 1DFF0406#200BA39902585920",
-    "(10.200000) can0 1DFF0406#212020202020FFFF",
-    "(10.300000) can0 1DFF0405#010000000000FFFF",
-];
+const TWO_SOURCES: &str = "(10.000001) can0 1DFF0405#000BA39901414243
+(10.100000) can0 1DFF0406#200BA39902585920
+(10.200000) can0 1DFF0406#212020202020FFFF
+(10.300000) can0 1DFF0405#010000000000FFFF";
 
-const FRAMES_IN_REVERSE: [&str; 2] = [
-    "(11.0) can0 1DFF0405#4120202020202020",
-    "(12.0) can0 1DFF0405#400DA39903444546",
-];
+const FRAMES_IN_REVERSE: &str = "(11.0) can0 1DFF0405#4120202020202020
+(12.0) can0 1DFF0405#400DA39903444546";
 
-const REPEAT_BREAKS: [&str; 5] = [
-    "(1.0) can0 1DFF0405#6014A39904474849",
-    "(2.0) can0 1DFF0405#6120202020202020",
-    "(3.0) can0 1DFF0405#6120202020202020",
-    "(4.0) can0 1DFF0405#6014A39904474849",
-    "(5.0) can0 1DFF0405#6220202020202020",
-];
+const REPEAT_BREAKS: &str = "(1.0) can0 1DFF0405#6014A39904474849
+(2.0) can0 1DFF0405#6120202020202020
+(3.0) can0 1DFF0405#6120202020202020
+(4.0) can0 1DFF0405#6014A39904474849
+(5.0) can0 1DFF0405#6220202020202020";
 
-const EXTRA_FRAME: [&str; 4] = [
-    "(1.0) can0 1DFF0405#800DA39906414243",
-    "(2.0) can0 1DFF0405#8320202020202020",
-    "(3.0) can0 1DFF0405#8120202020202020",
-    "(4.0) can0 1DFF0405#800DA39906414243",
-];
+const EXTRA_FRAME: &str = "(1.0) can0 1DFF0405#800DA39906414243
+(2.0) can0 1DFF0405#8320202020202020
+(3.0) can0 1DFF0405#8120202020202020
+(4.0) can0 1DFF0405#800DA39906414243";
 
 // The frame 0 of the first message was lost.
-const MIXED_MESSAGE: [&str; 2] = [
-    "(1.0) can0 1DFF0405#0141414141414141",
-    "(9.0) can0 1DFF0405#000DA39903444546",
-];
+const MIXED_MESSAGE: &str = "(1.0) can0 1DFF0405#0141414141414141
+(9.0) can0 1DFF0405#000DA39903444546";
 
 // A frame without a byte, a frame 0 without a total, a PGN that isn't in the table, a message of a single frame.
-const ODD_FRAMES: [&str; 4] = [
-    "(1.0) can0 1DFF0405#",
-    "(2.0) can0 1DFF0405#00",
-    "(3.0) can0 18EAFF01#00",
-    "(4.0) can0 09F11324#7D0B",
-];
+const ODD_FRAMES: &str = "(1.0) can0 1DFF0405#
+(2.0) can0 1DFF0405#00
+(3.0) can0 18EAFF01#00
+(4.0) can0 09F11324#7D0B";
 
 // The last frame of a message, with its one byte alone.
-const SHORT_LAST_FRAME: [&str; 2] = [
-    "(1.0) can0 1DFF0405#0007010203040506",
-    "(2.0) can0 1DFF0405#0107",
-];
+const SHORT_LAST_FRAME: &str = "(1.0) can0 1DFF0405#0007010203040506
+(2.0) can0 1DFF0405#0107";
 
 // Totals of 0, of 6 where a group of a greater total was open, and of 14.
-const SHORT_TOTALS: [&str; 6] = [
-    "(1.0) can0 1DFF0405#0000FFFFFFFFFFFF",
-    "(2.0) can0 1DFF0405#000BA39901414243",
-    "(3.0) can0 1DFF0405#0006A39901414243",
-    "(4.0) can0 1DFF0405#200E010203040506",
-    "(5.0) can0 1DFF0405#220E",
-    "(6.0) can0 1DFF0405#210708090A0B0C0D",
-];
+const SHORT_TOTALS: &str = "(1.0) can0 1DFF0405#0000FFFFFFFFFFFF
+(2.0) can0 1DFF0405#000BA39901414243
+(3.0) can0 1DFF0405#0006A39901414243
+(4.0) can0 1DFF0405#200E010203040506
+(5.0) can0 1DFF0405#220E
+(6.0) can0 1DFF0405#210708090A0B0C0D";
 
 #[test]
 fn groups_as_worked(rt: HostRuntime) -> Result<(), Fail> {
-    let cases: [(&[&str], &str); 8] = [
+    let cases: [(&str, &str); 8] = [
         (
-            &TWO_SOURCES,
+            TWO_SOURCES,
             "3 1970-01-01T00:00:10.200Z,7,130820,6,255,11,a3,99,02,58,59,20,20,20,20,20,20
 4 1970-01-01T00:00:10.300Z,7,130820,5,255,11,a3,99,01,41,42,43,00,00,00,00,00
 4 2 0 0 0 0",
         ),
         (
-            &FRAMES_IN_REVERSE,
+            FRAMES_IN_REVERSE,
             "2 1970-01-01T00:00:12.000Z,7,130820,5,255,13,a3,99,03,44,45,46,20,20,20,20,20,20,20
 2 1 0 0 0 0",
         ),
         (
-            &REPEAT_BREAKS,
+            REPEAT_BREAKS,
             "3 broken 130820 5 255 3 1
 5 1970-01-01T00:00:05.000Z,7,130820,5,255,20,a3,99,04,47,48,49,20,20,20,20,20,20,20,20,20,20,20,20,20,20
 5 1 0 0 1 0",
         ),
         (
-            &EXTRA_FRAME,
+            EXTRA_FRAME,
             "4 broken 130820 5 255 4 1
 4 0 0 0 1 1",
         ),
         (
-            &MIXED_MESSAGE,
+            MIXED_MESSAGE,
             "2 1970-01-01T00:00:09.000Z,7,130820,5,255,13,a3,99,03,44,45,46,41,41,41,41,41,41,41
 2 1 0 0 0 0",
         ),
         (
-            &ODD_FRAMES,
+            ODD_FRAMES,
             "1 bad Fast
 2 bad Fast
 4 1970-01-01T00:00:04.000Z,2,127251,36,255,2,7d,0b
 4 1 2 1 0 0",
         ),
         (
-            &SHORT_TOTALS,
+            SHORT_TOTALS,
             "1 1970-01-01T00:00:01.000Z,7,130820,5,255,0
 3 broken 130820 5 255 0 2
 3 1970-01-01T00:00:03.000Z,7,130820,5,255,6,a3,99,01,41,42,43
@@ -175,13 +162,13 @@ fn groups_as_worked(rt: HostRuntime) -> Result<(), Fail> {
 6 3 0 0 1 0",
         ),
         (
-            &SHORT_LAST_FRAME,
+            SHORT_LAST_FRAME,
             "2 1970-01-01T00:00:02.000Z,7,130820,5,255,7,01,02,03,04,05,06,07
 2 1 0 0 0 0",
         ),
     ];
-    for (lines, expected) in cases {
-        let text = told(rt.alloc(), lines)?;
+    for (log, expected) in cases {
+        let text = told(rt.alloc(), log)?;
         assert_eq!(rt; text.as_slice(), expected.as_bytes());
     }
     Ok(())
@@ -191,7 +178,7 @@ fn groups_as_worked(rt: HostRuntime) -> Result<(), Fail> {
 #[test]
 fn longest_message(rt: HostRuntime) -> Result<(), Fail> {
     let alloc = rt.alloc();
-    let table = Table::read(alloc, SAMPLE.as_bytes())?;
+    let table = sample(alloc)?;
     let mut join = Join::new(alloc, &table);
     let first = take(&mut join, &table, "(1.0) can0 1DFF0405#00DFA399054A4B4C")?;
     assert!(rt; first.message.is_none());
@@ -216,32 +203,30 @@ fn longest_message(rt: HostRuntime) -> Result<(), Fail> {
 }
 
 // The second frames of eight messages of one stream, and then the first ones in reverse.
-const EIGHT_UNDER_WAY: [&str; 16] = [
-    "(1.0) can0 1DFF0405#010000000000FFFF",
-    "(1.0) can0 1DFF0405#210000000000FFFF",
-    "(1.0) can0 1DFF0405#410000000000FFFF",
-    "(1.0) can0 1DFF0405#610000000000FFFF",
-    "(1.0) can0 1DFF0405#810000000000FFFF",
-    "(1.0) can0 1DFF0405#A10000000000FFFF",
-    "(1.0) can0 1DFF0405#C10000000000FFFF",
-    "(1.0) can0 1DFF0405#E10000000000FFFF",
-    "(2.0) can0 1DFF0405#E00BA39908414243",
-    "(2.0) can0 1DFF0405#C00BA39907414243",
-    "(2.0) can0 1DFF0405#A00BA39906414243",
-    "(2.0) can0 1DFF0405#800BA39905414243",
-    "(2.0) can0 1DFF0405#600BA39904414243",
-    "(2.0) can0 1DFF0405#400BA39903414243",
-    "(2.0) can0 1DFF0405#200BA39902414243",
-    "(2.0) can0 1DFF0405#000BA39901414243",
-];
+const EIGHT_UNDER_WAY: &str = "(1.0) can0 1DFF0405#010000000000FFFF
+(1.0) can0 1DFF0405#210000000000FFFF
+(1.0) can0 1DFF0405#410000000000FFFF
+(1.0) can0 1DFF0405#610000000000FFFF
+(1.0) can0 1DFF0405#810000000000FFFF
+(1.0) can0 1DFF0405#A10000000000FFFF
+(1.0) can0 1DFF0405#C10000000000FFFF
+(1.0) can0 1DFF0405#E10000000000FFFF
+(2.0) can0 1DFF0405#E00BA39908414243
+(2.0) can0 1DFF0405#C00BA39907414243
+(2.0) can0 1DFF0405#A00BA39906414243
+(2.0) can0 1DFF0405#800BA39905414243
+(2.0) can0 1DFF0405#600BA39904414243
+(2.0) can0 1DFF0405#400BA39903414243
+(2.0) can0 1DFF0405#200BA39902414243
+(2.0) can0 1DFF0405#000BA39901414243";
 
 #[test]
 fn eight_under_way(rt: HostRuntime) -> Result<(), Fail> {
     let alloc = rt.alloc();
-    let table = Table::read(alloc, SAMPLE.as_bytes())?;
+    let table = sample(alloc)?;
     let mut join = Join::new(alloc, &table);
     let mut kind = 8u8;
-    for line in &EIGHT_UNDER_WAY {
+    for line in EIGHT_UNDER_WAY.lines() {
         let step = take(&mut join, &table, line)?;
         if let Some(message) = &step.message {
             let data = [0xa3, 0x99, kind, 0x41, 0x42, 0x43, 0, 0, 0, 0, 0];
@@ -251,5 +236,73 @@ fn eight_under_way(rt: HostRuntime) -> Result<(), Fail> {
     }
     let counts = join.counts();
     assert_eq!(rt; (counts.messages, counts.broken, counts.held), (8, 0, 0));
+    Ok(())
+}
+
+// The text of the join's state. Only one growth is refused, so a second try has memory.
+fn saved(alloc: Global, join: &Join) -> Result<Vec<u8>, Fail> {
+    match join.save(alloc) {
+        Ok(text) => Ok(text),
+        Err(_) => Ok(join.save(alloc)?),
+    }
+}
+
+// Takes a line. Where a growth is refused the join stands as it stood, and the same line goes on.
+fn take_though_refused(
+    alloc: Global,
+    table: &Table,
+    join: &mut Join,
+    line: &str,
+) -> Result<(), Fail> {
+    let counts = join.counts();
+    let state = saved(alloc, join)?;
+    match take(join, table, line) {
+        Err(JoinFault::Memory) => {
+            if join.counts() != counts || saved(alloc, join)?.as_slice() != state.as_slice() {
+                return Err("a refused line changed the join".into());
+            }
+            take(join, table, line)?;
+        }
+        taken => {
+            taken?;
+        }
+    }
+    Ok(())
+}
+
+// The state after a log, and the counts.
+fn after(alloc: Global, table: &Table, log: &str) -> Result<(Vec<u8>, Counts), Fail> {
+    let mut join = Join::new(alloc, table);
+    for line in log.lines() {
+        take_though_refused(alloc, table, &mut join, line)?;
+    }
+    Ok((saved(alloc, &join)?, join.counts()))
+}
+
+// Under `rt try --test --fail-alloc N` each growth fails in turn. Only one does, so the second reading of a log is one of
+// ample memory.
+#[test]
+fn refused_growth_changes_nothing(rt: HostRuntime) -> Result<(), Fail> {
+    let alloc = rt.alloc();
+    let Ok(table) = sample(alloc) else {
+        return Ok(());
+    };
+    let logs = [
+        TWO_SOURCES,
+        FRAMES_IN_REVERSE,
+        REPEAT_BREAKS,
+        EXTRA_FRAME,
+        MIXED_MESSAGE,
+        ODD_FRAMES,
+        SHORT_TOTALS,
+        SHORT_LAST_FRAME,
+        EIGHT_UNDER_WAY,
+    ];
+    for log in logs {
+        let (state, counts) = after(alloc, &table, log)?;
+        let (ample, ample_counts) = after(alloc, &table, log)?;
+        assert_eq!(rt; counts, ample_counts);
+        assert_eq!(rt; state.as_slice(), ample.as_slice());
+    }
     Ok(())
 }

@@ -39,8 +39,8 @@ module _ (o : Output) (stands stands' : List Entry → Type 0) (before after : D
   device_same T U Read d = d
   device_same T U Write d = d
   device_same T U Report d = d
-  device_same T U Memory d = tt
-  device_same T U TooManyLines d = tt
+  device_same T U Memory d = d
+  device_same T U TooManyLines d = d
 
   pub err_more : (T U : Type 0) (fault : RunFault) → Runs {T = T} o stands before after (Err fault) → ((es : List Entry) → stands es → stands' es) → Runs {T = U} o stands' before after (Err fault)
   err_more T U fault runs follows = record {

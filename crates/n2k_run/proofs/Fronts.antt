@@ -16,7 +16,7 @@ use Rattle.n2k_run.proofs.Answering.{lines_piece, lines_rest}
 use Rattle.n2k_run.proofs.Splits.{lines-append, whole_lines-is}
 
 -- bytes that end in a line feed
-ends_feed : (bytes : List ℕ) → IsEmptyOrEndsWith (bytes ++ (10 ∷ [])) line_feed
+pub ends_feed : (bytes : List ℕ) → IsEmptyOrEndsWith (bytes ++ (10 ∷ [])) line_feed
 ends_feed bytes = λ some.
     let at : length bytes ≡ length (bytes ++ (10 ∷ [])) - 1 = omega (arith, length-append bytes (10 ∷ [])) in
     get_or_at bytes 10 [] 0 _ at

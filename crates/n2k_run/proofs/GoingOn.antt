@@ -10,6 +10,7 @@ use Rattle.n2k_table.specs.declared.definition.Kind.{Kind}
 use Rattle.n2k_table.specs.Table.{TableParts, kind}
 use Rattle.n2k_join.specs.declared.state_fault.StateFault.{StateFault}
 use Rattle.n2k_join.specs.declared.state_fault.StateFault.TheVariants as state_faults
+use Rattle.n2k_join.specs.Counts.{most_lines}
 use Rattle.n2k_join.specs.Laws.{StepsAgree, LinesStay}
 use Rattle.n2k_join.specs.Messages.{broken, cause_in, entry_at, numbers}
 use Rattle.n2k_join.specs.State.{State, state}
@@ -22,10 +23,11 @@ use Rattle.n2k_run.specs.declared.part.PartFault.TheVariants.{State as Refused, 
 use Rattle.n2k_run.specs.Decoded.{cause_at, message_line, numbers_after, out, out_of, output_after, report_at, reports, reports_of, text_at}
 use Rattle.n2k_run.specs.Entries.{entries}
 use Rattle.n2k_run.specs.Lines.{line_feed, whole_lines}
-use Rattle.n2k_run.specs.Parts.{Continues, GoesOn, GoesOnPartly, HasPart, IsOfKind, IsPartOf, as_run, begun, save, state_after}
+use Rattle.n2k_run.specs.Parts.{Continues, GoesOn, GoesOnPartly, GoesOnToLimit, HasPart, IsOfKind, IsPartOf, as_run, begun, save, state_after}
 use Rattle.n2k_run.specs.Reports.{line_report}
 use Rattle.n2k_run.specs.Runs.{Devices, Gained, HasFronts, Runs}
 use Rattle.n2k_run.proofs.Fronts.{entries-append}
+use Rattle.n2k_run.proofs.LimitLines.{taken_bytes}
 use Rattle.n2k_run.proofs.LogSteps.{broken_stay, messages_stay}
 use Rattle.n2k_run.proofs.Running.{known_more}
 
@@ -120,6 +122,23 @@ module _ (agree : (id : List ℕ) (kind : ℕ → Option Kind) (es : List Entry)
       told = reports-on more;
     }
 
+    -- where the log has more lines than are counted
+    to_limit : (log : List ℕ) (before after : Devices) (part : Part) (es : List Entry) (next : Entry) (more : List Entry) → entries o.packing log ≡ es ++ (next ∷ more)
+        → length (entries o.packing front) + length es ≡ most_lines → Gained (output_after t o (entries o.packing front)) before after es
+        → IsPartOf t (state t.id (kind t) (entries o.packing front ++ es)) part → GoesOnToLimit t o front log before after part
+    to_limit log before after part es next more is full gained stands =
+        let cut = taken_bytes o.packing es log next more is in
+        record {
+          taken = cut.bytes;
+          rest = cut.rest;
+          log_is = cut.log_is;
+          whole_lines = cut.whole;
+          full = ap length (both cut.bytes ∙ ap (λ x. entries o.packing front ++ x) cut.entries_are) ∙ length-append (entries o.packing front) es ∙ full;
+          stands = goes_on cut.bytes before after part
+              (subst (λ x. Gained (output_after t o (entries o.packing front)) before after x) (sym cut.entries_are) gained)
+              (subst (λ x. IsPartOf t (state t.id (kind t) (entries o.packing front ++ x)) part) (sym cut.entries_are) stands);
+        }
+
     known_both : (known : Option (List ℕ)) (P Q R : List ℕ → Type 0) → ((log : List ℕ) → P log → Q log → R log) → IfSome known P → IfSome known Q → IfSome known R
     known_both None P Q R follows p q = tt
     known_both (Some log) P Q R follows p q = follows log p q
@@ -131,7 +150,8 @@ module _ (agree : (id : List ℕ) (kind : ℕ → Option Kind) (es : List Entry)
         (runs.ends.at_end, known_both before.left _ _ _ (λ log gained holds. goes_on log before after part gained holds) runs.ends.gained runs.ends.holds)
     continues_of before after (Err (Stopped run_faults.Read part)) runs kinds refused =
         (runs.ends.came, runs.ends.given, goes_on (whole_lines runs.ends.came) before after part runs.ends.gained runs.ends.holds)
-    continues_of before after (Err (Stopped run_faults.TooManyLines part)) runs kinds refused = tt
+    continues_of before after (Err (Stopped run_faults.TooManyLines part)) runs kinds refused =
+        known_more before.left _ _ (λ log left. to_limit log before after part runs.ends.taken left.0 left.1 left.2 runs.ends.full runs.ends.gained runs.ends.holds) runs.ends.left
     continues_of before after (Err (Stopped run_faults.Write part)) runs (inl e) refused = cc
     continues_of before after (Err (Stopped run_faults.Write part)) runs (inr e) refused = cc
     continues_of before after (Err (Stopped run_faults.Report part)) runs (inl e) refused = cc

@@ -7,6 +7,7 @@ pub mod Folds
 pub mod Fronts
 pub mod GoingOn
 pub mod Joined
+pub mod LimitLines
 pub mod LogSteps
 pub mod OutputLines
 pub mod Owed
@@ -14,6 +15,7 @@ pub mod Parting
 pub mod PrintedBack
 pub mod Ranges
 pub mod Running
+pub mod SavedFronts
 pub mod SentFrames
 pub mod SentLines
 pub mod Splits

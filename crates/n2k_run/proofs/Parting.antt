@@ -22,7 +22,7 @@ use Rattle.n2k_run.specs.declared.part.PartFault.TheVariants.{State as Refused, 
 use Rattle.n2k_run.specs.declared.options.Options.{Options}
 use Rattle.n2k_run.specs.Decoded.{join_making, output_after}
 use Rattle.n2k_run.specs.Entries.{entries}
-use Rattle.n2k_run.specs.Inner.Parts.{Finishes, HasSaved, Saves}
+use Rattle.n2k_run.specs.Inner.Parts.{Finishes, HasSaved, Saves, StandsAtLine}
 use Rattle.n2k_run.specs.Making.{after_all}
 use Rattle.n2k_run.specs.Parts.{HasPart, IsPartOf, as_run, begun}
 use Rattle.n2k_run.specs.Runs.{Devices, Output, Runs, output_from}
@@ -56,29 +56,33 @@ unbegun o stands before none = record {
     printed = none_gained before.written (o.texts []);
     reported = ([], subst (Appends before.reported before.reported) (sym (append-nil (o.reports []) ∙ none)) (Appends-nil before.reported));
   });
-  device = tt;
+  device = record { writes = refl; reports = refl };
 }
 
 -- a run after which memory was refused
 module _ (o : Output) (stands stands' : List Entry → Type 0) (before after : Devices) where
-  pub then_memory : {T U : Type 0} (ran : Result T RunFault) → Runs o stands before after ran → Runs {T = U} o stands' before after (Err run_faults.Memory)
-  then_memory (Ok x) runs = record {
+  pub then_memory : {U : Type 0} (ran : Result (Unit {0}) RunFault) → StandsAtLine ran → Runs o stands before after ran → Runs {T = U} o stands' before after (Err run_faults.Memory)
+  then_memory (Ok x) line runs = record {
     ends = tt;
     fronts = known_more before.left _ _ (λ log gained. record {
       printed = all_gained before.written after.written (o.texts (entries o.packing log)) gained.printed;
       reported = all_gained before.reported after.reported (o.reports (entries o.packing log)) gained.reported;
     }) runs.ends.gained;
     reports_first = runs.reports_first;
-    device = tt;
+    device = record { writes = runs.device.writes; reports = runs.device.reports };
   }
-  then_memory (Err fault) runs = record { ends = tt; fronts = runs.fronts; reports_first = runs.reports_first; device = tt }
+  then_memory (Err run_faults.Read) line runs = record { ends = tt; fronts = runs.fronts; reports_first = runs.reports_first; device = runs.device.1 }
+  then_memory (Err run_faults.TooManyLines) line runs = record { ends = tt; fronts = runs.fronts; reports_first = runs.reports_first; device = runs.device }
+  then_memory (Err run_faults.Write) line runs = absurd line
+  then_memory (Err run_faults.Report) line runs = absurd line
+  then_memory (Err run_faults.Memory) line runs = absurd line
 
   -- what a run promises, its part promises
   pub part_runs : (ran : Result (Unit {0}) RunFault) (result : Result Part PartFault) → Finishes result ran → Runs o stands before after ran → ((es : List Entry) → stands es → stands' es) → Runs o stands' before after (as_run result)
   part_runs ran (Ok part) is runs follows = ok_more o stands stands' before after tt part (subst (λ r. Runs o stands before after r) is runs) follows
   part_runs ran (Err (Stopped fault part)) is runs follows = err_more o stands stands' before after (Unit {0}) Part fault (subst (λ r. Runs o stands before after r) is runs) follows
   part_runs ran (Err (Run fault)) is runs follows = err_more o stands stands' before after (Unit {0}) Part fault (subst (λ r. Runs o stands before after r) is runs) follows
-  part_runs ran (Err Memory) is runs follows = then_memory ran runs
+  part_runs ran (Err Memory) is runs follows = then_memory ran is runs
   part_runs ran (Err (Refused fault)) is runs follows = absurd is
 
 -- ---- the states that a part goes through

@@ -304,7 +304,7 @@ module _ {S : Type 0} (m : Making S) (packing : Packing) (s₀ : S) (before : De
         ends = tt;
         fronts = kept_fronts s (entries packing stood.front) text report (read_on now left calls failed) made lead;
         reports_first = kept_first s (entries packing stood.front) text report (read_on now left calls failed) made lead;
-        device = tt;
+        device = record { writes = stood.none_failed.writes; reports = stood.none_failed.reports };
       }
 
   -- the end of the log
@@ -395,21 +395,23 @@ module _ {S : Type 0} (m : Making S) (packing : Packing) (s₀ : S) (before : De
   fault_ends s s' held held' text text' report report' now after Report stands on next not_memory made = tt
 
   -- a read's fault is the source's, or that of the most reads
-  fault_device : (now after : Devices) (s s' : S) (held held' : Held) (text text' report report' : List ℕ) (fault : RunFault) → NoneFailed before now → CallsAre before.calls after.calls 0 held'.reads
+  fault_device : (now after : Devices) (s s' : S) (held held' : Held) (text text' report report' : List ℕ) (fault : RunFault) → NoneFailed before now → (after.failed_writes ≡ now.failed_writes) × (after.failed_reports ≡ now.failed_reports) → CallsAre before.calls after.calls 0 held'.reads
       → TakesNext {T = Unit {0}} m packing s s' held held' now.left after.left text text' report report' (Err fault) → ReadsNext {T = Unit {0}} held' now.failed_reads after.failed_reads (Err fault)
       → HasDevice {T = Unit {0}} before after (Err fault)
-  fault_device now after s s' held held' text text' report report' Read none called next reads =
-      elim reads [ inl p ↦ inl (subst (λ n. HasFailed n after.failed_reads) none.reads p) | inr p ↦ inr (calls_end before.calls after.calls held'.reads called p) ]
-  fault_device now after s s' held held' text text' report report' Write none called next reads = absurd next
-  fault_device now after s s' held held' text text' report report' Report none called next reads = absurd next
-  fault_device now after s s' held held' text text' report report' Memory none called next reads = tt
-  fault_device now after s s' held held' text text' report report' TooManyLines none called next reads = tt
+  fault_device now after s s' held held' text text' report report' Read none hold called next reads = (
+    elim reads [ inl p ↦ inl (subst (λ n. HasFailed n after.failed_reads) none.reads p) | inr p ↦ inr (calls_end before.calls after.calls held'.reads called p) ],
+    record { writes = hold.0 ∙ none.writes; reports = hold.1 ∙ none.reports },
+  )
+  fault_device now after s s' held held' text text' report report' Write none hold called next reads = absurd next
+  fault_device now after s s' held held' text text' report report' Report none hold called next reads = absurd next
+  fault_device now after s s' held held' text text' report report' Memory none hold called next reads = record { writes = hold.0 ∙ none.writes; reports = hold.1 ∙ none.reports }
+  fault_device now after s s' held held' text text' report report' TooManyLines none hold called next reads = record { writes = hold.0 ∙ none.writes; reports = hold.1 ∙ none.reports }
 
   pub fault_end : (s s' : S) (held held' : Held) (text text' report report' : List ℕ) (now : Devices) (left : Option (List ℕ)) (calls failed : ℕ) (w' e' : Option (List ℕ)) (fw' fe' : ℕ) (fault : RunFault) → Stands m packing s₀ s held text report before now → held.has_ended ≡ false
       → TakesNext {T = Unit {0}} m packing s s' held held' now.left left text text' report report' (Err fault) → (fault ≡ Memory → ⊥) → ReadsNext {T = Unit {0}} held' now.failed_reads failed (Err fault) → CallsAre now.calls calls held.reads held'.reads
-      → Appends now.written w' text' × Appends now.reported e' report'
+      → Appends now.written w' text' × Appends now.reported e' report' → (fw' ≡ now.failed_writes) × (fe' ≡ now.failed_reports)
       → Runs {T = Unit {0}} o (λ es. s' ≡ after_all m s₀ es) before (record now { left = left; calls = calls; failed_reads = failed; written = w'; failed_writes = fw'; reported = e'; failed_reports = fe' }) (Err fault)
-  fault_end s s' held held' text text' report report' now left calls failed w' e' fw' fe' fault stands on next not_memory reads called out =
+  fault_end s s' held held' text text' report report' now left calls failed w' e' fw' fe' fault stands on next not_memory reads called out hold =
       let mid : Devices = read_on now left calls failed in
       let after : Devices = record now { left = left; calls = calls; failed_reads = failed; written = w'; failed_writes = fw'; reported = e'; failed_reports = fe' } in
       let es = entries packing stands.front in
@@ -421,5 +423,5 @@ module _ {S : Type 0} (m : Making S) (packing : Packing) (s₀ : S) (before : De
         ends = fault_ends s s' held held' text text' report report' now after fault stands on next not_memory done;
         fronts = gained_fronts es after all lead;
         reports_first = gained_first es after all lead;
-        device = fault_device now after s s' held held' text text' report report' fault stands.none_failed (calls_trans before.calls now.calls calls 0 held.reads held'.reads stands.called called) next reads;
+        device = fault_device now after s s' held held' text text' report report' fault stands.none_failed hold (calls_trans before.calls now.calls calls 0 held.reads held'.reads stands.called called) next reads;
       }

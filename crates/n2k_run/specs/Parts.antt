@@ -1,6 +1,6 @@
 -- A log in parts: each part goes on from the state that was saved after the one before it, and together they print what
 -- one run over the whole log prints.
-use Rattle.std.specs.Prelude.{◌≡◌, ◌⊎◌, ℕ, List, [], ◌∷◌, ◌++◌, Option, Some, None, Result, Ok, Err, IfSome, IsOk, IsSome}
+use Rattle.std.specs.Prelude.{◌≡◌, ◌⊎◌, ℕ, List, [], ◌∷◌, ◌++◌, length, Option, Some, None, Result, Ok, Err, IfSome, IsOk, IsSome}
 use Rattle.std.specs.List.{flat_map}
 use Rattle.std.specs.Io.{IsEmptyOrEndsWith}
 use Rattle.std.specs.Io.KnownBytes.{Appends, Consumes, IsAtEnd}
@@ -8,6 +8,7 @@ use Rattle.n2k_wire.specs.declared.entry.Entry.{Entry}
 use Rattle.n2k_table.specs.Table.{TableParts, kind}
 use Rattle.n2k_join.specs.declared.state_fault.StateFault.{StateFault}
 use Rattle.n2k_join.specs.declared.state_fault.StateFault.TheVariants as state_faults
+use Rattle.n2k_join.specs.Counts.{most_lines}
 use Rattle.n2k_join.specs.Messages.{counts}
 use Rattle.n2k_join.specs.Resumed.{judged}
 use Rattle.n2k_join.specs.Saved.{state_text}
@@ -127,12 +128,22 @@ pub record GoesOnPartly (t : TableParts) (o : Options) (front more : List ℕ) (
   pub reported : AppendsFront before.reported after.reported report
   pub told : reports t o (front ++ more) ≡ reports t o front ++ report
 
+-- After TooManyLines: the front and the lines that were taken of the log are as many as are counted, the log has more, and
+-- what stands is whole up to the last of them.
+pub record GoesOnToLimit (t : TableParts) (o : Options) (front log : List ℕ) (before after : Devices) (part : Part) : Type 0 where
+  pub taken : List ℕ
+  pub rest : List ℕ
+  pub log_is : log ≡ taken ++ rest
+  pub whole_lines : IsEmptyOrEndsWith taken line_feed
+  pub full : length (entries o.packing (front ++ taken)) ≡ most_lines
+  pub stands : GoesOn t o front taken before after part
+
 -- What a part answers after this front of a log. With Ok the whole stands; after Read what stands is whole up to the last
--- line that came. After TooManyLines the clause on entries says what was taken.
+-- line that came, and after TooManyLines up to the last that is counted.
 abbrev pub Continues : TableParts → Options → List ℕ → Devices → Devices → Result Part PartFault → Type 0
 Continues t o front before after (Ok part) = IsAtEnd after.left × IfSome before.left (λ log. GoesOn t o front log before after part)
 Continues t o front before after (Err (Stopped run_faults.Read part)) = (came : List ℕ) × Consumes before.left after.left came × GoesOn t o front (whole_lines came) before after part
-Continues t o front before after (Err (Stopped run_faults.TooManyLines part)) = Unit {0}
+Continues t o front before after (Err (Stopped run_faults.TooManyLines part)) = IfSome before.left (λ log. GoesOnToLimit t o front log before after part)
 Continues t o front before after (Err (Stopped run_faults.Write part)) = ⊥
 Continues t o front before after (Err (Stopped run_faults.Report part)) = ⊥
 Continues t o front before after (Err (Stopped run_faults.Memory part)) = ⊥

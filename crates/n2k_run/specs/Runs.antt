@@ -113,14 +113,20 @@ pub record NoneFailed (before after : Devices) : Type 0 where
   pub writes : after.failed_writes ≡ before.failed_writes
   pub reports : after.failed_reports ≡ before.failed_reports
 
--- a fault of a device is that device's own, or for Read that no end was found by 10^12 reads
+-- no call of a sink failed
+pub record SinksHold (before after : Devices) : Type 0 where
+  pub writes : after.failed_writes ≡ before.failed_writes
+  pub reports : after.failed_reports ≡ before.failed_reports
+
+-- A fault of a device is that device's own, or for Read that no end was found by 10^12 reads. No fault of a sink is told as
+-- another.
 abbrev pub HasDevice : {T : Type 0} → Devices → Devices → Result T RunFault → Type 0
 HasDevice before after (Ok x) = NoneFailed before after
-HasDevice before after (Err Read) = HasFailed before.failed_reads after.failed_reads ⊎ OutlastsReads before.calls after.calls
+HasDevice before after (Err Read) = (HasFailed before.failed_reads after.failed_reads ⊎ OutlastsReads before.calls after.calls) × SinksHold before after
 HasDevice before after (Err Write) = HasFailed before.failed_writes after.failed_writes
 HasDevice before after (Err Report) = HasFailed before.failed_reports after.failed_reports
-HasDevice before after (Err Memory) = Unit {0}
-HasDevice before after (Err TooManyLines) = Unit {0}
+HasDevice before after (Err Memory) = SinksHold before after
+HasDevice before after (Err TooManyLines) = SinksHold before after
 
 -- what every run promises
 pub record Runs {T : Type 0} (o : Output) (stands : List Entry → Type 0) (before after : Devices) (result : Result T RunFault) : Type 0 where

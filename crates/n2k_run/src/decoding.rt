@@ -1,5 +1,5 @@
 //! The run of `decode`: the JSON line of each message of a log.
-ghost use Rattle.std.specs.Prelude.{◌≡◌, ◌++◌, List, OnOk, option_to_list};
+ghost use Rattle.std.specs.Prelude.{◌≡◌, ◌++◌, List, OnOk, option_map, option_to_list};
 ghost use Rattle.std.specs.List.{flat_map};
 ghost use Rattle.n2k_wire.specs.declared.entry.Entry.{Entry};
 ghost use Rattle.n2k_table.specs.Table.{kind};
@@ -54,11 +54,11 @@ fn push_cause(
 fn push_message(
     alloc: Global,
     table: &Table,
-    message: &Option<Packet>,
+    message: Option<&Packet>,
     empty: bool,
     text: &mut Vec<u8>,
 ) -> Result<(), AllocError>
-    ensures { OnOk result (text.new.items ≡ text.old.items ++ message_line table.now empty message.now) }
+    ensures { OnOk result (text.new.items ≡ text.old.items ++ message_line table.now empty (option_map (λ p. p.now) message.entry)) }
 {
     match message {
         None => Ok(()),
@@ -92,15 +92,16 @@ impl<'a> Maker for JsonLines<'a> {
         &self,
         alloc: Global,
         join: &mut Join,
-        entry: Entry,
+        entry: &Entry,
         text: &mut Vec<u8>,
         report: &mut Vec<u8>,
     ) -> Result<(), RunFault> {
-        let step = join.line(self.table, entry)?;
+        let mut joined = None;
+        let step = join.lend(self.table, entry, &mut joined)?;
         let line = join.counts().lines;
         push_broken(alloc, line, &step.broken, report)?;
         push_cause(alloc, line, step.bad, report)?;
-        push_message(alloc, self.table, &step.message, self.empty, text)?;
+        push_message(alloc, self.table, step.message, self.empty, text)?;
         Ok(())
     }
 }

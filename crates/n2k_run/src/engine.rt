@@ -3,7 +3,9 @@ ghost use Rattle.std.specs.Prelude.{◌≡◌, ◌⊎◌, [], OnOk};
 ghost use Rattle.n2k_run.specs.Blocks.{CallsAre, HasFeed};
 ghost use Rattle.n2k_run.specs.Making.{after_all};
 ghost use Rattle.n2k_run.specs.Runs.{Runs, devices, output_from};
-ghost use Rattle.n2k_run.specs.Inner.Engine.{TakesNext, ReadsNext};
+ghost use Rattle.n2k_wire.specs.declared.entry.BadCause.TheVariants.{Long};
+ghost use Rattle.n2k_wire.specs.declared.entry.Entry.TheVariants.{Bad};
+ghost use Rattle.n2k_run.specs.Inner.Engine.{Takes, TakesNext, ReadsNext};
 
 use crate::blocks::{Blocks, Next};
 use crate::device::{Failed, Sink, Source};
@@ -12,6 +14,21 @@ use crate::kept::Kept;
 use crate::maker::Maker;
 use n2k_wire::{BadCause, Entry, Packing, read_line};
 use std::alloc::Global;
+
+// Takes a line that is too long. An entry is large, so that the few of these have a place of their own.
+fn take_long<M: Maker>(
+    alloc: Global,
+    maker: &M,
+    state: &mut M::State,
+    kept: &mut Kept,
+) -> Result<(), RunFault>
+    requires { M.is_ready maker.now state.old }
+    ensures taken { Takes (M.making maker.now) (M.known state.old) (M.known state.new) (Bad Long) kept.old.text.items kept.new.text.items kept.old.report.items kept.new.report.items result }
+    ensures ready { OnOk result (M.is_ready maker.now state.new) }
+{
+    let entry = Entry::Bad(BadCause::Long);
+    maker.take(alloc, state, &entry, &mut kept.text, &mut kept.report)
+}
 
 // Takes the next line of the log. Where the block holds no line's end it is read, and that may have to wait: so
 // nothing may be kept then.
@@ -35,12 +52,9 @@ fn take_next<M: Maker, R: Source>(
     match blocks.next_line(reader) {
         Ok(Next::Line(line)) => {
             let entry = read_line(line, packing);
-            maker.take(alloc, state, entry, &mut kept.text, &mut kept.report)
+            maker.take(alloc, state, &entry, &mut kept.text, &mut kept.report)
         }
-        Ok(Next::Long) => {
-            let entry = Entry::Bad(BadCause::Long);
-            maker.take(alloc, state, entry, &mut kept.text, &mut kept.report)
-        }
+        Ok(Next::Long) => take_long(alloc, maker, state, kept),
         Ok(Next::End) => Ok(()),
         Err(Failed) => Err(RunFault::Read),
     }

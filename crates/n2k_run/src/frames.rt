@@ -121,17 +121,17 @@ impl<'a> FrameLines<'a> {
         &self,
         alloc: Global,
         splitter: &mut Splitter,
-        entry: Entry,
+        entry: &Entry,
         text: &mut Vec<u8>,
     ) -> Result<Outcome, AllocError>
         requires { IsInterface (interface_of self.now.interface) }
-        ensures { IfOk result (SentLine (kind self.now.table.now) (interface_of self.now.interface) entry (sequences splitter.old) (sequences splitter.new) text.old.items text.new.items) }
+        ensures { IfOk result (SentLine (kind self.now.table.now) (interface_of self.now.interface) entry.now (sequences splitter.old) (sequences splitter.new) text.old.items text.new.items) }
     {
         match entry {
             Entry::Skip => Ok(Outcome::Skipped),
-            Entry::Bad(cause) => Ok(Outcome::Bad(cause)),
+            Entry::Bad(cause) => Ok(Outcome::Bad(*cause)),
             Entry::Frame(_) => Ok(Outcome::Bad(BadCause::Frame)),
-            Entry::Whole(message) => self.send(alloc, splitter, &message, text),
+            Entry::Whole(message) => self.send(alloc, splitter, message, text),
         }
     }
 }
@@ -156,7 +156,7 @@ impl<'a> Maker for FrameLines<'a> {
         &self,
         alloc: Global,
         state: &mut Sending,
-        entry: Entry,
+        entry: &Entry,
         text: &mut Vec<u8>,
         report: &mut Vec<u8>,
     ) -> Result<(), RunFault> {

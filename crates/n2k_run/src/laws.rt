@@ -1,13 +1,16 @@
 //! Laws that hold of the definitions: each is the contract of a function that does nothing.
-ghost use Rattle.std.specs.Prelude.{◌≡◌, ℕ, All, List, Some, flat_map};
+ghost use Rattle.std.specs.Prelude.{◌≡◌, ◌≤◌, ℕ, All, List, Ok, Some, flat_map, length};
 ghost use Rattle.n2k_wire.specs.Packet.{PacketParts, IsPacketParts};
 ghost use Rattle.n2k_wire.specs.Texts.{plain_text};
 ghost use Rattle.n2k_table.specs.Table.{TableParts, kind};
 ghost use Rattle.n2k_table.specs.declared.definition.Kind.TheVariants.{Fast};
+ghost use Rattle.n2k_join.specs.Counts.{most_lines};
 ghost use Rattle.n2k_join.specs.Pieces.{written};
+ghost use Rattle.n2k_join.specs.Saved.{IsId};
 ghost use Rattle.n2k_join.specs.Scattered.{IsScattered, IsMute};
 ghost use Rattle.n2k_run.specs.declared.options.Options.{Options};
 ghost use Rattle.n2k_run.specs.Entries.{entries};
+ghost use Rattle.n2k_run.specs.Parts.{begun, save, state_after};
 ghost use Rattle.n2k_run.specs.Replayed.{PrintsBack};
 
 use n2k_wire::Packing;
@@ -31,4 +34,13 @@ pub fn written_then_read()
     n2k_table::laws::json_is_one_line();
     n2k_join::laws::written_is_scattered();
     n2k_join::laws::arrives_whole();
+}
+
+/// What is saved after the front of a log reads back, under the same table: a part begins with the state that the front leads
+/// to, for every front with no more lines than are counted.
+pub fn saved_front_reads_back()
+    ensures { (t : TableParts) (o : Options) (front : List ℕ) → IsId t.id → length (entries o.packing front) ≤ most_lines → begun t (Some (save t o front)) ≡ Ok (state_after t o front) }
+{
+    n2k_wire::laws::entries_are_entries();
+    n2k_join::laws::saved_log_reads_back();
 }

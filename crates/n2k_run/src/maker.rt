@@ -31,12 +31,12 @@ pub(crate) trait Maker {
         &self,
         alloc: Global,
         state: &mut Self::State,
-        entry: Entry,
+        entry: &Entry,
         text: &mut Vec<u8>,
         report: &mut Vec<u8>,
     ) -> Result<(), RunFault>
-        requires short { IsShort entry }
+        requires short { IsShort entry.now }
         requires ready { is_ready self.now state.old }
-        ensures taken { Takes (making self.now) (known state.old) (known state.new) entry text.old.items text.new.items report.old.items report.new.items result }
+        ensures taken { Takes (making self.now) (known state.old) (known state.new) entry.now text.old.items text.new.items report.old.items report.new.items result }
         ensures ready { OnOk result (is_ready self.now state.new) };
 }

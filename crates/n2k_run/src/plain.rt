@@ -36,7 +36,7 @@ impl Maker for PlainLines {
         &self,
         alloc: Global,
         counts: &mut Counts,
-        entry: Entry,
+        entry: &Entry,
         text: &mut Vec<u8>,
         report: &mut Vec<u8>,
     ) -> Result<(), RunFault> {
@@ -47,11 +47,11 @@ impl Maker for PlainLines {
         match entry {
             Entry::Skip => {}
             Entry::Bad(cause) => {
-                bad_text(alloc, counts.lines, cause, report)?;
+                bad_text(alloc, counts.lines, *cause, report)?;
                 counts.bad += 1;
             }
             Entry::Frame(packet) | Entry::Whole(packet) => {
-                plain_text(alloc, &packet, text)?;
+                plain_text(alloc, packet, text)?;
                 counts.messages += 1;
             }
         }

@@ -1,10 +1,13 @@
 -- What stands in a JSON text for a byte.
-use Rattle.std.proofs.Common.{◌≡◌, ℕ, suc, ◌+◌, ◌/◌, ◌%◌, ◌<◌, ◌≤◌, true, false, ◌&&◌, not, leb, ltb, eqb, List, [], ◌∷◌, ◌++◌, get_or, refl, sym, ap, ◌∙◌, inl, inr, arith}
+use Rattle.std.proofs.Common.{◌≡◌, ℕ, suc, ◌+◌, ◌/◌, ◌%◌, ◌<◌, ◌≤◌, Bool, true, false, ◌&&◌, not, leb, ltb, eqb, List, [], ◌∷◌, ◌++◌, length, get_or, drop, refl, sym, ap, ◌∙◌, inl, inr, arith}
 use lib.Utf8.{encode}
 use Rattle.std.specs.List.{list_all, flat_map}
 use Rattle.std.proofs.lemmas.Bool.{and_parts, cases_Bool, false≢true}
 use Rattle.std.proofs.lemmas.Bool.Decides.{nat_tests}
+use Rattle.std.proofs.lemmas.List.{drop_more}
 use Rattle.std.proofs.lemmas.List.Folds.{list_all_at}
+use Rattle.std.proofs.Math.Bool.{and-true, and_assoc}
+use Rattle.std.proofs.Math.ListN.{drop_of_length-le}
 use Rattle.json.specs.Print.{escape_letter, escape_byte}
 use Rattle.n2k_table.specs.Text.{text_json, character, hex_digits, pair, pairs, is_plain}
 
@@ -93,3 +96,13 @@ text_json-plain text plain = ap (λ (t : List ℕ). 34 ∷ (t ++ 34 ∷ [])) (es
 
 pub text_json-pairs : (bs : List ℕ) → ((i : ℕ) → get_or bs i 0 < 256) → text_json (pairs bs) ≡ 34 ∷ (pairs bs ++ 34 ∷ [])
 text_json-pairs bs small = text_json-plain (pairs bs) (pairs_plain bs small)
+
+-- whether all of some bytes pass, with those so far
+pub all_more : (p : ℕ → Bool) (bytes : List ℕ) (i : ℕ) (so_far : Bool) → i < length bytes → (so_far && list_all p (drop i bytes)) ≡ list_all p bytes
+    → ((so_far && p (get_or bytes i 0)) && list_all p (drop (i + 1) bytes)) ≡ list_all p bytes
+all_more p bytes i so_far within before =
+    let cut : drop i bytes ≡ get_or bytes i 0 ∷ drop (i + 1) bytes = drop_more bytes i 0 within in
+    and_assoc so_far (p (get_or bytes i 0)) (list_all p (drop (i + 1) bytes)) ∙ (rw cut at before)
+
+pub all_done : (p : ℕ → Bool) (bytes : List ℕ) (i : ℕ) (so_far : Bool) → length bytes ≤ i → (so_far && list_all p (drop i bytes)) ≡ list_all p bytes → so_far ≡ list_all p bytes
+all_done p bytes i so_far past before = sym (and-true so_far) ∙ (rw (drop_of_length-le bytes {i = i} past) at before)

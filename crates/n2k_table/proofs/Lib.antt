@@ -9,6 +9,7 @@ pub mod Keys
 pub mod Listed
 pub mod LookupFaults
 pub mod Members
+pub mod Heads
 pub mod Names
 pub mod OneKind
 pub mod OneLine

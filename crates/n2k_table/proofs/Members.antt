@@ -1,13 +1,10 @@
 -- The members of an object, one after the other.
-use Rattle.std.proofs.Common.{◌≡◌, ℕ, ◌+◌, ◌<◌, ◌≤◌, Bool, true, false, ◌||◌, List, [], ◌∷◌, ◌++◌, length, get_or, drop, Option, Some, None, is_some, refl, sym, ap, ◌∙◌, codes, append_assoc}
+use Rattle.std.proofs.Common.{◌≡◌, ℕ, ◌+◌, ◌<◌, ◌≤◌, Bool, true, false, ◌||◌, List, [], ◌∷◌, ◌++◌, length, get_or, drop, Option, Some, None, is_some, refl, sym, ap, ◌∙◌, append_assoc}
 use Rattle.std.specs.List.{filter_map, cons_option, join_with_byte}
 use Rattle.std.proofs.lemmas.List.{append-nil, drop_more, at_drop_all}
 use Rattle.n2k_table.specs.Field.{FieldParts}
 use Rattle.n2k_table.specs.Shown.{all_shown, shown}
-use Rattle.n2k_wire.specs.Packet.{PacketParts}
-use Rattle.n2k_table.specs.Text.{text_json, pairs}
-use Rattle.n2k_table.specs.Json.{member_json, member_text, head_json, unmatched_json}
-use Rattle.n2k_table.proofs.Escapes.{text_json-plain}
+use Rattle.n2k_table.specs.Json.{member_json, member_text}
 
 -- members with a comma before each, but for the first where none stands before
 abbrev pub members_from : Bool → List (List ℕ) → List ℕ
@@ -52,16 +49,3 @@ six_parts line a b c d e f l1 l2 l3 l4 l5 l6 p1 p2 p3 p4 p5 p6 = rw (p6, p5, p4,
 -- a line to which four parts are appended in turn
 pub four_parts : (line a b c d l1 l2 l3 l4 : List ℕ) → l1 ≡ line ++ a → l2 ≡ l1 ++ b → l3 ≡ l2 ++ c → l4 ≡ l3 ++ d → l4 ≡ line ++ (((a ++ b) ++ c) ++ d)
 four_parts line a b c d l1 l2 l3 l4 p1 p2 p3 p4 = rw (p4, p3, p2, p1) (simp append_assoc)
-
-unmatched_lists : (head rest : List ℕ)
-    → ((head ++ (123 ∷ 34 ∷ 68 ∷ 97 ∷ 116 ∷ 97 ∷ 34 ∷ 58 ∷ [])) ++ rest) ++ (125 ∷ 125 ∷ 10 ∷ [])
-    ≡ (head ++ (123 ∷ ((34 ∷ 68 ∷ 97 ∷ 116 ∷ 97 ∷ 34 ∷ 58 ∷ rest) ++ 125 ∷ []))) ++ (125 ∷ 10 ∷ [])
-unmatched_lists head rest = simp append_assoc
-
--- the line of a message that no definition matches, as the code appends it
-pub unmatched_parts : (m : PacketParts)
-    → ((head_json (codes "\"Unmatched\"") m ++ codes "{\"Data\":") ++ text_json (pairs m.payload)) ++ codes "}}\n" ≡ unmatched_json m
-unmatched_parts m =
-    let name : text_json (codes "Unmatched") ≡ codes "\"Unmatched\"" = text_json-plain (codes "Unmatched") refl in
-    let key : text_json (codes "Data") ≡ codes "\"Data\"" = text_json-plain (codes "Data") refl in
-    rw (name, key) (unmatched_lists (head_json (codes "\"Unmatched\"") m) (text_json (pairs m.payload)))

@@ -1,5 +1,5 @@
 -- The names of values: as the code's map finds them, and as entries of a document.
-use Rattle.std.proofs.Common.{◌≡◌, ℕ, ◌+◌, ◌<◌, get_or, drop, Bool, true, false, ◌||◌, nat_eq, List, [], ◌∷◌, ◌++◌, length, map, Option, Some, None, is_some, option_map, Ok, Err, String, Global, string_bytes, refl, sym, ap, ◌∙◌, append_assoc, inl, inr, arith}
+use Rattle.std.proofs.Common.{◌≡◌, ℕ, ◌+◌, ◌<◌, get_or, drop, Bool, true, false, ◌||◌, nat_eq, List, [], ◌∷◌, ◌++◌, length, map, Option, Some, None, is_some, Ok, Err, refl, sym, ap, ◌∙◌, append_assoc, inl, inr, arith}
 use Rattle.std.specs.Str.{bytes_eq}
 use Rattle.std.specs.Map.{lookup as value_at}
 use Rattle.std.specs.List.{list_any, find}
@@ -18,7 +18,7 @@ use Rattle.n2k_table.specs.Entries.{seen, once}
 use Rattle.n2k_table.specs.Lookup.{LookupParts, name_of_value, pair_in, pair_of}
 use Rattle.n2k_table.proofs.Each.{length-elements}
 
-pub name_of_value-seen : (value : ℕ) (es : List (ℕ × String Global)) → name_of_value (map seen es) value ≡ option_map string_bytes (value_at (nat_eq value) es)
+pub name_of_value-seen : (value : ℕ) (es : List (ℕ × List ℕ)) → name_of_value (map seen es) value ≡ value_at (nat_eq value) es
 name_of_value-seen value [] = refl
 name_of_value-seen value (e ∷ es) =
     elim (cases_Bool (nat_eq value e.0)) [
@@ -42,7 +42,7 @@ abbrev pub values : List (ℕ × List ℕ) → List ℕ
 values entries = map (λ e. e.0) entries
 
 -- a value has a name where it is among the values
-pub is_some-among : (value : ℕ) (es : List (ℕ × String Global)) → is_some (value_at (nat_eq value) es) ≡ list_any (nat_eq value) (values (map seen es))
+pub is_some-among : (value : ℕ) (es : List (ℕ × List ℕ)) → is_some (value_at (nat_eq value) es) ≡ list_any (nat_eq value) (values (map seen es))
 is_some-among value [] = refl
 is_some-among value (e ∷ es) =
     elim (cases_Bool (nat_eq value e.0)) [
@@ -100,7 +100,7 @@ find_next view p rs i r lt at fails =
     rw (here, fails) refl
 
 -- an entry whose value has a name already
-pub twice_entry : (es : List (ℕ × String Global)) (e : ℕ × List ℕ) (rest left all : List (ℕ × List ℕ)) → left ≡ e ∷ rest → map seen es ++ left ≡ all
+pub twice_entry : (es : List (ℕ × List ℕ)) (e : ℕ × List ℕ) (rest left all : List (ℕ × List ℕ)) → left ≡ e ∷ rest → map seen es ++ left ≡ all
     → is_some (value_at (nat_eq e.0) es) ≡ true → once all ≡ Err Twice
 twice_entry es e rest left all is so_far found =
     let among : list_any (nat_eq e.0) (values (map seen es)) ≡ true = sym (is_some-among e.0 es) ∙ found in
@@ -108,23 +108,23 @@ twice_entry es e rest left all is so_far found =
     let parts : values all ≡ values (map seen es) ++ e.0 ∷ values rest = ap values whole ∙ map-append (λ (p : ℕ × List ℕ). p.0) (map seen es) (e ∷ rest) in
     rw (ap (has_twice nat_eq) parts ∙ twice_here e.0 (values (map seen es)) (values rest) among) refl
 
-module _ {S : Type 0} (m : IndexMap ℕ (String Global) S) (v : ℕ) (s : String Global) (none : value_at (nat_eq v) m.entries ≡ None) where
-  grown : map seen (insert_entry nat_eq m.entries v s) ≡ map seen m.entries ++ (v, string_bytes s) ∷ []
+module _ {S : Type 0} (m : IndexMap ℕ (List ℕ) S) (v : ℕ) (s : List ℕ) (none : value_at (nat_eq v) m.entries ≡ None) where
+  grown : map seen (insert_entry nat_eq m.entries v s) ≡ map seen m.entries ++ (v, s) ∷ []
   grown = ap (map seen) (insert_entry-new nat_eq m v s none) ∙ map-append seen m.entries ((v, s) ∷ [])
 
   -- an entry whose value has none so far
-  pub one_more_entry : (es : List (ℕ × String Global)) (rest left all : List (ℕ × List ℕ)) → es ≡ insert_entry nat_eq m.entries v s → left ≡ (v, string_bytes s) ∷ rest
+  pub one_more_entry : (es : List (ℕ × List ℕ)) (rest left all : List (ℕ × List ℕ)) → es ≡ insert_entry nat_eq m.entries v s → left ≡ (v, s) ∷ rest
       → map seen m.entries ++ left ≡ all → map seen es ++ rest ≡ all
   one_more_entry es rest left all is at so_far =
-      ap (λ (l : List (ℕ × List ℕ)). l ++ rest) (ap (map seen) is ∙ grown) ∙ append_assoc (map seen m.entries) ((v, string_bytes s) ∷ []) rest
+      ap (λ (l : List (ℕ × List ℕ)). l ++ rest) (ap (map seen) is ∙ grown) ∙ append_assoc (map seen m.entries) ((v, s) ∷ []) rest
       ∙ ap (λ (l : List (ℕ × List ℕ)). map seen m.entries ++ l) (sym at) ∙ so_far
 
-  pub still_once : (es : List (ℕ × String Global)) → es ≡ insert_entry nat_eq m.entries v s → has_twice nat_eq (values (map seen m.entries)) ≡ false
+  pub still_once : (es : List (ℕ × List ℕ)) → es ≡ insert_entry nat_eq m.entries v s → has_twice nat_eq (values (map seen m.entries)) ≡ false
       → has_twice nat_eq (values (map seen es)) ≡ false
   still_once es is single =
       let among : list_any (nat_eq v) (values (map seen m.entries)) ≡ false = sym (is_some-among v m.entries) ∙ ap is_some none in
       let parts : values (map seen es) ≡ values (map seen m.entries) ++ v ∷ [] =
-      ap values (ap (map seen) is ∙ grown) ∙ map-append (λ (p : ℕ × List ℕ). p.0) (map seen m.entries) ((v, string_bytes s) ∷ []) in
+      ap values (ap (map seen) is ∙ grown) ∙ map-append (λ (p : ℕ × List ℕ). p.0) (map seen m.entries) ((v, s) ∷ []) in
       ap (has_twice nat_eq) parts ∙ once_more v (values (map seen m.entries)) single among
 
 pub is_none : {X : Type 0} (o : Option X) → is_some o ≡ false → o ≡ None

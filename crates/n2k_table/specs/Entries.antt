@@ -1,16 +1,15 @@
 -- For private clauses: the entries of a lookup as the code's map has them.
-use Rattle.std.specs.Prelude.{ℕ, nat_eq, List, map, string_bytes, String, Result, Ok, Err, if◌then◌else◌}
-use Rattle.std.specs.declared.alloc.Global.{Global}
+use Rattle.std.specs.Prelude.{ℕ, nat_eq, List, map, Result, Ok, Err, if◌then◌else◌}
 use Rattle.indexmap.specs.IndexMap.{IndexMap}
 use Rattle.n2k_table.specs.declared.fault.TableFault.{TableFault}
 use Rattle.n2k_table.specs.declared.fault.TableFault.TheVariants.{Twice}
 use Rattle.n2k_table.specs.Twice.{has_twice}
 
-abbrev pub seen : ℕ × String Global → ℕ × List ℕ
-seen e = (e.0, string_bytes e.1)
+abbrev pub seen : ℕ × List ℕ → ℕ × List ℕ
+seen e = (e.0, e.1)
 
 -- the entries of the map, in its order
-abbrev pub seen_entries : {S : Type 0} → IndexMap ℕ (String Global) S → List (ℕ × List ℕ)
+abbrev pub seen_entries : {S : Type 0} → IndexMap ℕ (List ℕ) S → List (ℕ × List ℕ)
 seen_entries names = map seen names.entries
 
 -- the entries, where no value stands twice

@@ -1,9 +1,9 @@
 -- For private clauses: what the code keeps of a field, and that it is a field that can be shown.
-use Rattle.std.specs.Prelude.{◌≡◌, ◌≤◌, ℕ, ◌+◌, List, Option, IfSome}
+use Rattle.std.specs.Prelude.{◌≡◌, ◌≤◌, ℕ, ◌+◌, true, List, Option, IfSome}
 use Rattle.n2k_table.specs.declared.field.Meaning.{Meaning as CodeMeaning}
 use Rattle.n2k_table.specs.declared.field.Meaning.TheVariants as code
 use Rattle.n2k_table.specs.Field.{Meaning, number, named, text, bytes, message_bits, most_number_bits}
-use Rattle.n2k_table.specs.Text.{text_json}
+use Rattle.n2k_table.specs.Json.{key_json}
 
 -- what the bits mean, as contracts see it
 abbrev pub meaning : CodeMeaning → Meaning
@@ -26,9 +26,9 @@ HasRoom (named entries) bits = bits ≤ most_number_bits
 HasRoom text bits = Unit {0}
 HasRoom bytes bits = Unit {0}
 
--- What the code keeps of each field: its name as JSON too, and a place that a message can have.
-pub record IsKept (name name_json : List ℕ) (at bits : ℕ) (meaning : Meaning) (wanted : Option ℕ) : Type 0 where
-  pub json : name_json ≡ text_json name
+-- What the code keeps of each field: what stands before its value too, and a place that a message can have.
+pub record IsKept (name before_value : List ℕ) (at bits : ℕ) (meaning : Meaning) (wanted : Option ℕ) : Type 0 where
+  pub key : before_value ≡ key_json true name
   pub inside : at + bits ≤ message_bits
   pub some : 1 ≤ bits
   pub room : HasRoom meaning bits

@@ -10,6 +10,7 @@ pub mod Kept
 pub mod Lookup
 pub mod OneLine
 pub mod Resolution
+pub mod Seen
 pub mod Shown
 pub mod Table
 pub mod Tail

@@ -1,11 +1,12 @@
 //! What a table says of one message.
-ghost use Rattle.std.specs.Prelude.{◌≡◌, map, flat_map};
+ghost use Rattle.std.specs.Prelude.{◌≡◌, IfOk, map, flat_map};
 ghost use Rattle.std.specs.List.{list_any};
 ghost use Rattle.std.specs.Str.{bytes_eq};
 ghost use Rattle.toml.specs.View.{view, table_view, array_view};
 ghost use Rattle.n2k_table.specs.Fault.{Gives, GivesOrMemory, judged};
 ghost use Rattle.n2k_table.specs.Tree.{elements};
 ghost use Rattle.n2k_table.specs.Lookup.{LookupParts};
+ghost use Rattle.n2k_table.specs.Json.{label_json};
 ghost use Rattle.n2k_table.specs.Twice.{has_twice};
 ghost use Rattle.n2k_table.specs.Field.{field, field_faults};
 ghost use Rattle.n2k_table.specs.Table.{are_mixed, has_mixed};
@@ -17,7 +18,8 @@ use crate::lookup::Lookups;
 use crate::shown::Fields;
 use crate::text::text_json;
 use crate::tree::{Place, any_text_at, as_members, elements_at, has_only_keys, text_at, whole_at};
-use std::alloc::Global;
+use itoa::Buffer;
+use std::alloc::{AllocError, Global};
 use std::marker::Model;
 use toml::value::Array;
 use toml::{Table, Value};
@@ -43,14 +45,14 @@ pub struct StoredDefinition {
     number: u32,
     kind: Kind,
     description: String,
-    // The description as JSON, kept since each line needs it.
-    description_json: Vec<u8>,
+    // What stands in a line between who sent the message and the members, kept since each line needs it.
+    label: Vec<u8>,
     fields: Vec<Field>,
 }
 
 impl Model for StoredDefinition {
     ghost use Rattle.std.specs.Prelude.{◌≡◌, string_bytes};
-    ghost use Rattle.n2k_table.specs.Text.{text_json};
+    ghost use Rattle.n2k_table.specs.Json.{label_json};
     ghost use Rattle.n2k_table.specs.Definition.{DefinitionParts};
 
     ghost Value = { DefinitionParts };
@@ -62,11 +64,11 @@ impl Model for StoredDefinition {
       fields = d.fields.items;
     } };
 
-    ghost invariant = { λ d. d.description_json.items ≡ text_json (string_bytes d.description) };
+    ghost invariant = { λ d. d.label.items ≡ label_json d.number (string_bytes d.description) };
 }
 
 impl StoredDefinition {
-    ghost use Rattle.n2k_table.specs.Text.{text_json};
+    ghost use Rattle.n2k_table.specs.Json.{label_json};
     ghost use Rattle.n2k_table.specs.Table.{matches};
 
     /// The PGN that it describes.
@@ -90,10 +92,10 @@ impl StoredDefinition {
         self.description.as_str()
     }
 
-    fn description_json(&self) -> &[u8]
-        ensures { result.now ≡ text_json self.now.description }
+    fn label(&self) -> &[u8]
+        ensures { result.now ≡ label_json self.now.number self.now.description }
     {
-        self.description_json.as_slice()
+        self.label.as_slice()
     }
 
     /// The fields in printing order.
@@ -133,7 +135,7 @@ impl<'a> Model for Definition<'a> {
 }
 
 impl<'a> Definition<'a> {
-    ghost use Rattle.n2k_table.specs.Text.{text_json};
+    ghost use Rattle.n2k_table.specs.Json.{label_json};
     ghost use Rattle.n2k_table.specs.Shown.{all_shown};
 
     /// The view of a definition that the table keeps.
@@ -150,11 +152,11 @@ impl<'a> Definition<'a> {
         self.stored.description()
     }
 
-    /// The description as JSON.
-    pub(crate) fn description_json(&self) -> &[u8]
-        ensures { result.now ≡ text_json self.now.description }
+    /// What stands in a line between who sent the message and the members.
+    pub(crate) fn label(&self) -> &[u8]
+        ensures { result.now ≡ label_json self.now.number self.now.description }
     {
-        self.stored.description_json()
+        self.stored.label()
     }
 
     /// The fields, as the table keeps them.
@@ -243,6 +245,22 @@ fn read_fields(alloc: Global, lookups: &Lookups, values: &Array) -> Result<Vec<F
     Ok(fields)
 }
 
+// What the definition of a PGN puts into a line before the members.
+#[tactic(auto, using(std::proofs::Common::append_assoc), unfolding(crate::specs::Json::label_json))]
+fn label_of(alloc: Global, number: u32, description: &str) -> Result<Vec<u8>, AllocError>
+    ensures { IfOk result (λ label. label.items ≡ label_json number description.now) }
+{
+    let mut buffer = Buffer::new();
+    let description = text_json(alloc, description)?;
+    let mut label = Vec::new(alloc);
+    label.extend_from_slice(b",\"pgn\":")?;
+    label.extend_from_slice(buffer.format(number).as_bytes())?;
+    label.extend_from_slice(b",\"description\":")?;
+    label.extend_from_slice(&description)?;
+    label.extend_from_slice(b",\"fields\":{")?;
+    Ok(label)
+}
+
 fn read_members(
     alloc: Global,
     lookups: &Lookups,
@@ -263,7 +281,7 @@ fn read_members(
         number,
         kind,
         description: String::from_str(alloc, description)?,
-        description_json: text_json(alloc, description)?,
+        label: label_of(alloc, number, description)?,
         fields,
     })
 }

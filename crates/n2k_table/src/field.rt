@@ -1,5 +1,6 @@
 //! What a table says of one field.
-ghost use Rattle.std.specs.Prelude.{◌≡◌, ◌≤◌, ◌+◌, ◌*◌, length, map, option_map, IfOk};
+ghost use Rattle.std.specs.Prelude.{◌≡◌, ◌≤◌, ◌+◌, ◌*◌, true, length, map, option_map, IfOk};
+ghost use Rattle.n2k_table.specs.Json.{key_json};
 ghost use Rattle.toml.specs.View.{view, table_view};
 ghost use Rattle.n2k_table.specs.Fault.{Gives, GivesOrMemory, judged};
 ghost use Rattle.n2k_table.specs.Lookup.{LookupParts};
@@ -10,12 +11,12 @@ use crate::bits::{greatest, raw};
 use crate::fault::TableFault;
 use crate::lookup::{Lookup, Lookups};
 use crate::resolution::{Resolution, resolution_at};
-use crate::shown::{Shown, shown_name, shown_number, shown_text};
+use crate::shown::{Seen, Shown, shown_name, shown_number, shown_text};
 use crate::text::text_json;
 use crate::tree::{
     FieldKind, Place, any_text_at, as_members, found, has_only_keys, text_at, truth_at, whole_at,
 };
-use std::alloc::Global;
+use std::alloc::{AllocError, Global};
 use std::marker::Model;
 use std::rc::Rc;
 use toml::{Table, Value};
@@ -55,8 +56,8 @@ pub enum Meaning {
 #[derive(Drop)]
 pub struct Field {
     name: String,
-    // The name as JSON, kept since each line needs it.
-    name_json: Vec<u8>,
+    // What stands before the value in a line, with a comma, kept since each line needs it.
+    key: Vec<u8>,
     at: u32,
     bits: u32,
     meaning: Meaning,
@@ -78,7 +79,7 @@ impl Model for Field {
       wanted = f.wanted;
     } };
 
-    ghost invariant = { λ f. IsKept (string_bytes f.name) f.name_json.items f.at f.bits (seen_meaning f.meaning) f.wanted };
+    ghost invariant = { λ f. IsKept (string_bytes f.name) f.key.items f.at f.bits (seen_meaning f.meaning) f.wanted };
 }
 
 // The raw value that a field asks for, if it asks for one.
@@ -135,6 +136,18 @@ fn byte_bits(table: &Table) -> Result<u32, TableFault>
     in_bytes(whole_at(table, "bits", 1, MESSAGE_BITS)?)
 }
 
+// What stands before the value of a field in a line, behind a comma.
+fn key_of(alloc: Global, name: &str) -> Result<Vec<u8>, AllocError>
+    ensures { IfOk result (λ key. key.items ≡ key_json true name.now) }
+{
+    let name = text_json(alloc, name)?;
+    let mut key = Vec::new(alloc);
+    key.push(b',')?;
+    key.extend_from_slice(&name)?;
+    key.push(b':')?;
+    Ok(key)
+}
+
 fn number_field(alloc: Global, table: &Table) -> Result<Field, TableFault>
     ensures { let f = table_view table.now in
         GivesOrMemory (λ field. field) result (judged (number_faults f) (number_field f)) }
@@ -153,7 +166,7 @@ fn number_field(alloc: Global, table: &Table) -> Result<Field, TableFault>
     }
     Ok(Field {
         name: String::from_str(alloc, name)?,
-        name_json: text_json(alloc, name)?,
+        key: key_of(alloc, name)?,
         at,
         bits,
         meaning: Meaning::Number { signed, resolution },
@@ -182,7 +195,7 @@ fn lookup_field(alloc: Global, lookups: &Lookups, table: &Table) -> Result<Field
     };
     Ok(Field {
         name: String::from_str(alloc, name)?,
-        name_json: text_json(alloc, name)?,
+        key: key_of(alloc, name)?,
         at,
         bits,
         meaning: Meaning::Named(lookup.clone()?),
@@ -206,7 +219,7 @@ fn byte_field(alloc: Global, meaning: Meaning, table: &Table) -> Result<Field, T
     }
     Ok(Field {
         name: String::from_str(alloc, name)?,
-        name_json: text_json(alloc, name)?,
+        key: key_of(alloc, name)?,
         at,
         bits,
         meaning,
@@ -242,7 +255,8 @@ pub fn read_field(alloc: Global, lookups: &Lookups, value: &Value) -> Result<Fie
 }
 
 impl Field {
-    ghost use Rattle.n2k_table.specs.Text.{text_json};
+    ghost use Rattle.n2k_table.specs.Json.{key_json};
+    ghost use Rattle.n2k_table.specs.Seen.{seen_parts};
     ghost use Rattle.n2k_table.specs.Shown.{shown_parts, lies_inside, field_bytes, shown};
     ghost use Rattle.n2k_table.specs.Table.{field_matches};
 
@@ -253,11 +267,12 @@ impl Field {
         self.name.as_str()
     }
 
-    /// The name as JSON.
-    pub fn name_json(&self) -> &[u8]
-        ensures { result.now ≡ text_json self.now.name }
+    /// What stands before the value in a line, with a comma where a member stands before.
+    pub fn key(&self, later: bool) -> &[u8]
+        ensures { result.now ≡ key_json later self.now.name }
     {
-        self.name_json.as_slice()
+        let from = if later { 0 } else { 1 };
+        &self.key[from..]
     }
 
     fn lies_inside(&self, data: &[u8]) -> bool
@@ -287,23 +302,33 @@ impl Field {
     }
 
     /// What the field shows of the data of a message: nothing where it does not lie wholly inside.
-    pub fn shown<'a>(&'a self, data: &'a [u8]) -> Shown<'a>
-        ensures { shown_parts result ≡ shown self.now «data».now }
+    pub fn seen<'a>(&'a self, data: &'a [u8]) -> Seen<'a>
+        ensures { seen_parts result ≡ shown self.now «data».now }
     {
         if !self.lies_inside(data) {
-            return Shown::Absent;
+            return Seen::Other(Shown::Absent);
         }
         match &self.meaning {
             Meaning::Number { signed, resolution } => {
                 let raw = raw(data, self.at, self.bits);
-                shown_number(*signed, *resolution, self.bits, raw)
+                Seen::Other(shown_number(*signed, *resolution, self.bits, raw))
             }
             Meaning::Named(lookup) => {
                 let raw = raw(data, self.at, self.bits);
                 shown_name(lookup.name_of(raw), self.bits, raw)
             }
-            Meaning::Text => shown_text(self.bytes(data)),
-            Meaning::Bytes => Shown::Bytes(self.bytes(data)),
+            Meaning::Text => Seen::Other(shown_text(self.bytes(data))),
+            Meaning::Bytes => Seen::Other(Shown::Bytes(self.bytes(data))),
+        }
+    }
+
+    /// The same, with the text of a name.
+    pub fn shown<'a>(&'a self, data: &'a [u8]) -> Shown<'a>
+        ensures { shown_parts result ≡ shown self.now «data».now }
+    {
+        match self.seen(data) {
+            Seen::Name(name) => Shown::Name(name.text()),
+            Seen::Other(shown) => shown,
         }
     }
 }

@@ -19,6 +19,7 @@ mod decimal;
 mod definition;
 mod fault;
 mod field;
+mod head;
 mod index;
 pub mod laws;
 mod line;

@@ -1,18 +1,20 @@
 //! The JSON line of a message.
 ghost use Rattle.std.specs.Prelude.{◌≡◌, ◌++◌, ◌||◌, [], ◌∷◌, Bool, true, is_some, decimal, codes, option_map, IfOk, IfSome, OnOk, OnErr, Some};
-ghost use Rattle.n2k_table.specs.Shown.{shown, shown_parts, all_shown};
+ghost use Rattle.n2k_table.specs.Seen.{seen_parts};
+ghost use Rattle.n2k_table.specs.Shown.{shown, all_shown};
 ghost use Rattle.n2k_table.specs.Text.{text_json};
-ghost use Rattle.n2k_table.specs.Json.{value_json, member_json, member_text, fields_json, id_json, head_json, unmatched_json, chosen_json, json};
+ghost use Rattle.n2k_table.specs.Json.{value_json, member_json, member_text, members_json, unmatched_json, chosen_json, json};
 
 use crate::decimal::push_decimal;
 use crate::definition::Definition;
 use crate::field::Field;
-use crate::shown::Shown;
+use crate::head::push_seen;
+use crate::shown::{Seen, Shown};
 use crate::table::Table;
 use crate::tail::Tail;
 use crate::text::{push_characters, push_pairs, push_text};
 use itoa::Buffer;
-use n2k_wire::{Id, Packet};
+use n2k_wire::Packet;
 use std::alloc::{AllocError, Global};
 use std::mem;
 
@@ -26,44 +28,21 @@ fn push_number(label: &[u8], number: u32, line: &mut Tail) -> Result<(), AllocEr
     line.extend_from_slice(buffer.format(number).as_bytes())
 }
 
-// Appends who sent what to whom.
-#[tactic(auto, using(std::proofs::Common::append_assoc), unfolding(crate::specs::Json::id_json))]
-fn push_id(id: Id, line: &mut Tail) -> Result<(), AllocError>
-    ensures appends { OnOk result (line.new.items ≡ line.old.items ++ id_json id) }
-    ensures before { line.new.before ≡ line.old.before }
-{
-    push_number(b",\"prio\":", u32::from(id.prio), line)?;
-    push_number(b",\"src\":", u32::from(id.src), line)?;
-    push_number(b",\"dst\":", u32::from(id.dst), line)?;
-    push_number(b",\"pgn\":", id.pgn, line)
-}
-
-// Appends what stands before the fields, of a description as JSON.
-fn push_head(description_json: &[u8], packet: &Packet, line: &mut Tail) -> Result<(), AllocError>
-    ensures appends { OnOk result (line.new.items ≡ line.old.items ++ head_json description_json.now packet.now) }
-    ensures before { line.new.before ≡ line.old.before }
-{
-    line.extend_from_slice(b"{\"timestamp\":")?;
-    push_text(packet.stamp(), line)?;
-    push_id(packet.id(), line)?;
-    line.extend_from_slice(b",\"description\":")?;
-    line.extend_from_slice(description_json)?;
-    line.extend_from_slice(b",\"fields\":")?;
-    Ok(())
-}
-
 // Appends what a field shows as a value.
-fn push_value(shown: Shown<'_>, line: &mut Tail) -> Result<(), AllocError>
-    ensures appends { OnOk result (IfSome (value_json true (shown_parts shown.entry))
+fn push_value(seen: Seen<'_>, line: &mut Tail) -> Result<(), AllocError>
+    ensures appends { OnOk result (IfSome (value_json true (seen_parts seen.entry))
         (λ value. line.new.items ≡ line.old.items ++ value)) }
     ensures before { line.new.before ≡ line.old.before }
 {
-    match shown {
-        Shown::Absent => line.extend_from_slice(b"null"),
-        Shown::Number { value, decimals } => push_decimal(value, decimals, line),
-        Shown::Name(name) => push_text(name.as_bytes(), line),
-        Shown::Text(numbers) => push_characters(numbers, line),
-        Shown::Bytes(bytes) => push_pairs(bytes, line),
+    match seen {
+        Seen::Name(name) => line.extend_from_slice(name.json()),
+        Seen::Other(shown) => match shown {
+            Shown::Absent => line.extend_from_slice(b"null"),
+            Shown::Number { value, decimals } => push_decimal(value, decimals, line),
+            Shown::Name(name) => push_text(name.as_bytes(), line),
+            Shown::Text(numbers) => push_characters(numbers, line),
+            Shown::Bytes(bytes) => push_pairs(bytes, line),
+        },
     }
 }
 
@@ -81,53 +60,48 @@ fn push_member(
         × (more ≡ (later || is_some member))) }
     ensures before { line.new.before ≡ line.old.before }
 {
-    let shown = field.shown(data);
-    if matches!(shown, Shown::Absent) && !empty {
+    let seen = field.seen(data);
+    if matches!(seen, Seen::Other(Shown::Absent)) && !empty {
         return Ok(later);
     }
-    if later {
-        line.push(b',')?;
-    }
-    line.extend_from_slice(field.name_json())?;
-    line.push(b':')?;
-    push_value(shown, line)?;
+    line.extend_from_slice(field.key(later))?;
+    push_value(seen, line)?;
     Ok(true)
 }
 
-// Appends the object of the fields.
-fn push_fields(
+// Appends the fields as the members of an object.
+fn push_members(
     fields: &[Field],
     data: &[u8],
     empty: bool,
     line: &mut Tail,
 ) -> Result<(), AllocError>
     ensures appends { OnOk result
-        (line.new.items ≡ line.old.items ++ fields_json empty (all_shown fields.now «data».now)) }
+        (line.new.items ≡ line.old.items ++ members_json empty (all_shown fields.now «data».now)) }
     ensures before { line.new.before ≡ line.old.before }
 {
-    line.push(b'{')?;
     let mut later = false;
     for field in fields {
         later = push_member(field, data, empty, later, line)?;
     }
-    line.push(b'}')?;
     Ok(())
 }
 
-// Appends the line of a message under a definition.
-#[tactic(auto, using(std::proofs::Common::append_assoc))]
+// Appends the line of a message under a definition of its PGN.
 fn push_matched(
     definition: &Definition<'_>,
     packet: &Packet,
     empty: bool,
     line: &mut Tail,
 ) -> Result<(), AllocError>
+    requires { definition.now.number ≡ packet.now.id.pgn }
     ensures appends { OnOk result (line.new.items ≡ line.old.items ++ chosen_json (Some definition.now) packet.now empty) }
     ensures before { line.new.before ≡ line.old.before }
 {
-    push_head(definition.description_json(), packet, line)?;
-    push_fields(definition.stored_fields(), packet.data(), empty, line)?;
-    line.extend_from_slice(b"}\n")?;
+    push_seen(packet, line)?;
+    line.extend_from_slice(definition.label())?;
+    push_members(definition.stored_fields(), packet.data(), empty, line)?;
+    line.extend_from_slice(b"}}\n")?;
     Ok(())
 }
 
@@ -136,8 +110,9 @@ fn push_unmatched(packet: &Packet, line: &mut Tail) -> Result<(), AllocError>
     ensures appends { OnOk result (line.new.items ≡ line.old.items ++ unmatched_json packet.now) }
     ensures before { line.new.before ≡ line.old.before }
 {
-    push_head(b"\"Unmatched\"", packet, line)?;
-    line.extend_from_slice(b"{\"Data\":")?;
+    push_seen(packet, line)?;
+    push_number(b",\"pgn\":", packet.id().pgn, line)?;
+    line.extend_from_slice(b",\"description\":\"Unmatched\",\"fields\":{\"Data\":")?;
     push_pairs(packet.data(), line)?;
     line.extend_from_slice(b"}}\n")?;
     Ok(())
@@ -149,6 +124,7 @@ fn push_line(
     empty: bool,
     line: &mut Tail,
 ) -> Result<(), AllocError>
+    requires { IfSome definition (λ d. d.number ≡ packet.now.id.pgn) }
     ensures appends { OnOk result (line.new.items ≡ line.old.items ++ chosen_json definition.entry packet.now empty) }
     ensures before { line.new.before ≡ line.old.before }
 {

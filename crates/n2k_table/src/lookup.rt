@@ -10,6 +10,7 @@ ghost use Rattle.n2k_table.specs.Entries.{seen_entries, once};
 ghost use Rattle.n2k_table.specs.Lookup.{pair_of, entry_faults, entry, entries_faults, lookup_members_faults, members_lookup, lookup_faults, lookup, lookups_faults};
 
 use crate::fault::TableFault;
+use crate::text::text_json;
 use crate::tree::{Place, as_elements, as_members, elements_at, has_only_keys, sized, text_at};
 use indexmap::IndexMap;
 use std::alloc::{AllocError, Global};
@@ -27,19 +28,65 @@ pub const MOST_ENTRIES: usize = 4096;
 /// The greatest value that an entry names.
 pub const GREATEST_VALUE: u32 = 4_294_967_295;
 
+/// The name of a value.
+#[derive(Drop)]
+pub struct Name {
+    text: String,
+    // As JSON, kept since each line that shows it needs it.
+    json: Vec<u8>,
+}
+
+impl Model for Name {
+    ghost use Rattle.std.specs.Prelude.{◌≡◌, ℕ, List, string_bytes};
+    ghost use Rattle.n2k_table.specs.Text.{text_json};
+
+    ghost Value = { List ℕ };
+
+    ghost view = { λ n. string_bytes n.text };
+
+    ghost invariant = { λ n. n.json.items ≡ text_json (string_bytes n.text) };
+}
+
+impl Name {
+    ghost use Rattle.n2k_table.specs.Text.{text_json};
+
+    fn of(alloc: Global, text: &str) -> Result<Name, AllocError>
+        ensures { IfOk result (λ name. name ≡ text.now) }
+    {
+        Ok(Name {
+            text: String::from_str(alloc, text)?,
+            json: text_json(alloc, text)?,
+        })
+    }
+
+    /// The text.
+    pub fn text(&self) -> &str
+        ensures { result.now ≡ self.now }
+    {
+        self.text.as_str()
+    }
+
+    /// The text as JSON.
+    pub fn json(&self) -> &[u8]
+        ensures { result.now ≡ text_json self.now }
+    {
+        self.json.as_slice()
+    }
+}
+
 /// A value with its name.
 #[derive(Drop)]
 pub struct Entry {
     value: u64,
-    name: String,
+    name: Name,
 }
 
 impl Model for Entry {
-    ghost use Rattle.std.specs.Prelude.{ℕ, List, string_bytes};
+    ghost use Rattle.std.specs.Prelude.{ℕ, List};
 
     ghost Value = { ℕ × List ℕ };
 
-    ghost view = { λ e. (e.value, string_bytes e.name) };
+    ghost view = { λ e. (e.value, e.name) };
 }
 
 impl Entry {
@@ -55,7 +102,7 @@ impl Entry {
 pub struct Lookup {
     name: String,
     // In file order.
-    names: IndexMap<u64, String>,
+    names: IndexMap<u64, Name>,
 }
 
 impl Model for Lookup {
@@ -66,7 +113,7 @@ impl Model for Lookup {
 
     ghost view = { λ l. record {
       name = string_bytes l.name;
-      entries = map (λ e. (e.0, string_bytes e.1)) l.names.entries;
+      entries = map (λ e. (e.0, e.1)) l.names.entries;
     } };
 }
 
@@ -95,10 +142,10 @@ impl Lookup {
     }
 
     /// The name of a value, if it has one.
-    pub fn name_of(&self, value: u64) -> Option<&str>
+    pub fn name_of(&self, value: u64) -> Option<&Name>
         ensures { option_map (λ name. name.now) result ≡ name_of_value self.now.entries value }
     {
-        Some(self.names.get(&value)?.as_str())
+        self.names.get(&value)
     }
 }
 
@@ -129,7 +176,7 @@ fn read_entry(alloc: Global, value: &Value) -> Result<Entry, TableFault>
     let name = sized(text)?;
     Ok(Entry {
         value: u64::from(value),
-        name: String::from_str(alloc, name)?,
+        name: Name::of(alloc, name)?,
     })
 }
 
@@ -146,7 +193,7 @@ fn each_entry(alloc: Global, values: &Array) -> Result<Vec<Entry>, TableFault>
 }
 
 // The entries as a map, where no value stands twice.
-fn by_value(alloc: Global, entries: Vec<Entry>) -> Result<IndexMap<u64, String>, TableFault>
+fn by_value(alloc: Global, entries: Vec<Entry>) -> Result<IndexMap<u64, Name>, TableFault>
     ensures { GivesOrMemory seen_entries result (once entries.items) }
 {
     let mut names = IndexMap::new(alloc);
@@ -159,7 +206,7 @@ fn by_value(alloc: Global, entries: Vec<Entry>) -> Result<IndexMap<u64, String>,
     Ok(names)
 }
 
-fn read_entries(alloc: Global, values: &Array) -> Result<IndexMap<u64, String>, TableFault>
+fn read_entries(alloc: Global, values: &Array) -> Result<IndexMap<u64, Name>, TableFault>
     ensures { let ds = elements (array_view values.now) in
         GivesOrMemory seen_entries result (judged (entries_faults ds) (map entry ds)) }
 {

@@ -1,9 +1,11 @@
 //! What a field shows of a message.
 ghost use Rattle.std.specs.Prelude.{◌≡◌, ◌≤◌, ◌^◌, ◌<◌, option_map};
+ghost use Rattle.n2k_table.specs.Seen.{seen_parts};
 ghost use Rattle.n2k_table.specs.Shown.{shown_parts, shown_number, shown_unnamed, shown_name, shown_text, says_none, is_filling, trimmed};
 
 use crate::bits::{greatest, raw, signed_value};
 use crate::field::Field;
+use crate::lookup::Name;
 use crate::resolution::Resolution;
 use std::marker::Model;
 
@@ -69,15 +71,24 @@ fn shown_unnamed<'a>(bits: u32, raw: u64) -> Shown<'a>
     }
 }
 
+/// What a field shows, where a name comes with its JSON.
+#[derive(Clone, Copy)]
+pub enum Seen<'a> {
+    /// The name of a value.
+    Name(&'a Name),
+    /// Anything else.
+    Other(Shown<'a>),
+}
+
 /// What bits of that raw value show by the name of the value, if it has one.
-pub fn shown_name<'a>(name: Option<&'a str>, bits: u32, raw: u64) -> Shown<'a>
+pub fn shown_name<'a>(name: Option<&'a Name>, bits: u32, raw: u64) -> Seen<'a>
     requires some { 1 ≤ bits }
     requires room { bits ≤ 64 }
-    ensures { shown_parts result ≡ shown_name (option_map (λ n. n.now) name.entry) bits raw }
+    ensures { seen_parts result ≡ shown_name (option_map (λ n. n.now) name.entry) bits raw }
 {
     match name {
-        Some(name) => Shown::Name(name),
-        None => shown_unnamed(bits, raw),
+        Some(name) => Seen::Name(name),
+        None => Seen::Other(shown_unnamed(bits, raw)),
     }
 }
 

@@ -25,13 +25,18 @@ pub fn text_json(alloc: Global, text: &str) -> Result<Vec<u8>, AllocError>
 fn is_plain(byte: u8) -> bool
     ensures { result ≡ is_plain byte }
 {
-    byte >= b' ' && byte != b'"' && byte != b'\\'
+    (byte >= b' ') & (byte != b'"') & (byte != b'\\')
 }
 
-fn are_plain(text: &[u8]) -> bool
+/// Whether each byte stands for itself. It looks at each, so that several are compared at once.
+pub fn are_plain(text: &[u8]) -> bool
     ensures { result ≡ list_all is_plain text.now }
 {
-    text.iter().all(|byte| is_plain(*byte))
+    let mut all = true;
+    for byte in text {
+        all &= is_plain(*byte);
+    }
+    all
 }
 
 // The letter that stands for a byte behind a backslash, if one does.

@@ -83,7 +83,7 @@ none_of p q apart (b ∷ xs) all =
 -- ---- the moment
 
 -- a text that is read as a number has digits alone
-digits_alone : (before n : ℕ) (text : List ℕ) → decimal_after before text ≡ Some n → list_all is_ascii_digit text ≡ true
+pub digits_alone : (before n : ℕ) (text : List ℕ) → decimal_after before text ≡ Some n → list_all is_ascii_digit text ≡ true
 unfolding decimal_after decimal_digit
 digits_alone before n [] e = refl
 digits_alone before n (b ∷ text) e =
@@ -158,7 +158,7 @@ fraction_after : (n : ℕ) → n ≤ 999 → decimal_after 0 (millis_digits n ++
 fraction_after n few =
     millis_after n (codes "000") few ∙ one_more n 0 (codes "00") (omega arith) ∙ one_more (10 * n + 0) 0 (codes "0") (omega arith) ∙ one_more (10 * (10 * n + 0) + 0) 0 [] (omega arith) ∙ none_more (10 * (10 * (10 * n + 0) + 0) + 0)
 
-no_digit : (c : ℕ) → (is_ascii_digit c ≡ false) → (b : ℕ) → is_ascii_digit b ≡ true → (b == c) ≡ false
+pub no_digit : (c : ℕ) → (is_ascii_digit c ≡ false) → (b : ℕ) → is_ascii_digit b ≡ true → (b == c) ≡ false
 no_digit c other b digit = elim (cases_Bool (b == c)) [ inl same ↦ absurd (let e : b ≡ c = eqb-true b c same in let both = rw e at digit in cc) | inr differs ↦ differs ]
 
 -- what stands between the parentheses is read as the moment

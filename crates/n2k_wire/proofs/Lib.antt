@@ -4,9 +4,13 @@ pub mod CandumpLemmas
 pub mod DigitLemmas
 pub mod HexDigits
 pub mod IdentifierLemmas
+pub mod FirstPlaces
 pub mod PieceLemmas
 pub mod PlainLemmas
 pub mod ReadBack
 pub mod TextLemmas
+pub mod UsualStamps
 pub mod UtcBack
 pub mod CleanTexts
+pub mod UtcStamps
+pub mod LineEntries

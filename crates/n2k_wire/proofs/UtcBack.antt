@@ -45,14 +45,14 @@ digit_is b d e =
     ]
 
 -- one digit, then the others
-after_cons : (before b n : ℕ) (digits : List ℕ) → decimal_after before (b ∷ digits) ≡ Some n → (d : ℕ) × (b ≡ 48 + d) × (d < 10) × (decimal_after (10 * before + d) digits ≡ Some n)
+pub after_cons : (before b n : ℕ) (digits : List ℕ) → decimal_after before (b ∷ digits) ≡ Some n → (d : ℕ) × (b ≡ 48 + d) × (d < 10) × (decimal_after (10 * before + d) digits ≡ Some n)
 unfolding decimal_after
 after_cons before b n digits e =
     let step = then_some (decimal_digit b) (λ digit. decimal_after (10 * before + digit) digits) n e in
     let digit = digit_is b step.0 step.1 in
     (step.0, digit.0, digit.1, step.2)
 
-after_nil : (before n : ℕ) → decimal_after before [] ≡ Some n → before ≡ n
+pub after_nil : (before n : ℕ) → decimal_after before [] ≡ Some n → before ≡ n
 unfolding decimal_after
 after_nil before n e = cc
 

@@ -1,6 +1,6 @@
 -- Words for the contracts of private functions: what the code holds, as the definitions have it. Nothing that a
 -- caller sees needs them.
-use Rattle.std.specs.Prelude.{◌≡◌, ℕ, ◌+◌, ◌*◌, ◌/◌, ◌%◌, List, [], Option, Some, None, Result, Ok, Err}
+use Rattle.std.specs.Prelude.{◌≡◌, ℕ, ◌+◌, ◌*◌, ◌/◌, ◌%◌, List, [], Option, Some, None, option_map, option_and_then, Result, Ok, Err}
 use Rattle.std.specs.Borrow.{Bor}
 use Rattle.n2k_wire.specs.declared.candump.CandumpFrame.{CandumpFrame}
 use Rattle.n2k_wire.specs.declared.entry.Entry.{Entry}
@@ -8,7 +8,11 @@ use Rattle.n2k_wire.specs.declared.entry.Entry.TheVariants as entries
 use Rattle.n2k_wire.specs.declared.plain.Header as pieces_of_code
 use Rattle.n2k_wire.specs.declared.stamp.Moment as moments_of_code
 use Rattle.n2k_wire.specs.Plain.{Header, pieces}
-use Rattle.n2k_wire.specs.Stamp.{Moment}
+use Rattle.n2k_wire.specs.declared.entry.BadCause.{BadCause}
+use Rattle.n2k_wire.specs.declared.entry.BadCause.TheVariants as causes
+use Rattle.n2k_wire.specs.Candump.{stamped, framed, identifier, frame_of}
+use Rattle.n2k_wire.specs.Stamp.{Moment, moment}
+use Rattle.n2k_wire.specs.Steps.{◌>>=◌, or_cause}
 
 -- The value of a hexadecimal digit, by arithmetic alone: `0` to `9` are 48 to 57, `A` to `F` 65 to 70, `a` to `f` 97
 -- to 102, so the letters, at 64 and above, count from 10.
@@ -23,6 +27,18 @@ plain_moment m = record { seconds = m.seconds; millis = m.millis }
 abbrev pub candump_entry : Option CandumpFrame → Entry
 candump_entry None = entries.Skip
 candump_entry (Some frame) = entries.Frame (record { stamp = frame.stamp; id = frame.id; payload = frame.«data».items })
+
+-- the moment of a candump line's stamp, and what follows it
+unfoldable pub seen_behind : List ℕ → Option (Moment × List ℕ)
+seen_behind line = option_and_then (λ outer. option_map (λ seen. (seen, outer.1)) (moment outer.0)) (stamped line)
+
+-- the entry of a candump line, by that
+unfoldable pub candump_by : List ℕ → Result Entry BadCause
+candump_by line = do
+  seen ← or_cause causes.Stamp (seen_behind line)
+  inner ← or_cause causes.Form (framed seen.1)
+  known ← identifier inner.0
+  frame_of seen.0 known inner.1
 
 -- the pieces of the text that is left of a plain line, if there is any
 abbrev pub pieces_left : Option (Bor (List ℕ)) → List (List ℕ)

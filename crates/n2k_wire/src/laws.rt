@@ -1,6 +1,6 @@
 //! Laws that hold of the definitions: each is the contract of a function that does nothing.
 ghost use Rattle.std.specs.Prelude.{◌≡◌, ℕ, All, List, ◌<◌, ◌≤◌, ◌^◌, ◌++◌, Some, Ok, IsTrue, codes, length};
-ghost use Rattle.n2k_wire.specs.Entry.{entry};
+ghost use Rattle.n2k_wire.specs.Entry.{entry, IsEntry, IsShort};
 ghost use Rattle.n2k_wire.specs.Identifier.{join, split};
 ghost use Rattle.n2k_wire.specs.Packet.{PacketParts, IsPacketParts};
 ghost use Rattle.n2k_wire.specs.Plain.{packed};
@@ -30,4 +30,10 @@ pub fn candump_line_reads_back()
 /// A plain line is one line: no byte of it is below the space.
 pub fn plain_line_is_one_line()
     ensures { (p : PacketParts) → IsPacketParts p → All (λ b. 32 ≤ b) (plain_line p) }
+{}
+
+/// The entry of each text is one that a line can be: the parts of its packet make one, and a frame has at most 8 bytes.
+pub fn entries_are_entries()
+    ensures valid { (line : List ℕ) (packing : Packing) → IsEntry (entry line packing) }
+    ensures short { (line : List ℕ) (packing : Packing) → IsShort (entry line packing) }
 {}

@@ -6,7 +6,7 @@ ghost use Rattle.n2k_wire.specs.Pieces.{cut_at, after_byte, skip_spaces};
 fn place_of(byte: u8, bytes: &[u8]) -> Option<usize>
     ensures { result ≡ position (λ b. b == byte) bytes.now }
 {
-    bytes.iter().position(|b| *b == byte)
+    memchr::memchr(byte, bytes)
 }
 
 fn place_of_other(byte: u8, bytes: &[u8]) -> Option<usize>

@@ -28,8 +28,9 @@ const SECONDS_OF_DAY: u64 = 86_400;
 /// The bytes of `YYYY-MM-DDTHH:MM:SS.mmmZ`.
 pub(crate) const UTC_LEN: usize = 24;
 
+/// The digits of a fraction, filled with zeros and cut to three.
 #[tactic(auto, unfolding(crate::specs::Stamp::three_digits))]
-fn three_digits(fraction: &[u8]) -> [u8; 3]
+pub(crate) fn three_digits(fraction: &[u8]) -> [u8; 3]
     ensures { result ≡ three_digits fraction.now }
 {
     match fraction {

@@ -146,7 +146,7 @@ module _ (c : Command) (stands : List Entry → Type 0) (before after : Devices)
   tells : {T : Type 0} (f : RunFault) → Runs {T = T} c.output stands before mid (Err f) → Follows f → Tells c before after (fault_of_run f)
   tells run.Read ran follows =
       let said = follows _ ran.ends.holds in
-      (ran.device, record { came = ran.ends.came; given = ran.ends.given; taken = taken _ ran.ends.gained said.0; saved = said.1 })
+      (ran.device.0, record { came = ran.ends.came; given = ran.ends.given; taken = taken _ ran.ends.gained said.0; saved = said.1 })
   tells run.TooManyLines ran follows =
       let said = follows _ ran.ends.holds in
       record { lines = ran.ends.taken; full = ran.ends.full; more = ran.ends.left; taken = taken _ ran.ends.gained said.0; unsaved = said.1 }

@@ -1,13 +1,13 @@
 //! A join from a saved state.
-ghost use Rattle.std.specs.Prelude.{◌≡◌, ◌≤◌, map, not, IfOk, vec_capacity};
+ghost use Rattle.std.specs.Prelude.{◌≡◌, ◌≤◌, [], map, IfOk, vec_capacity};
+ghost use Rattle.n2k_join.specs.Apart.{each_holds, are_new};
 ghost use Rattle.serde_json.specs.View.{view};
-ghost use Rattle.n2k_join.specs.Frames.{same_key};
 ghost use Rattle.n2k_table.specs.Table.{kind};
 ghost use Rattle.n2k_wire.specs.Packet.{greatest_pgn};
 ghost use Rattle.n2k_join.specs.Refusal.{GivesOrMemory, or_fault};
 ghost use Rattle.n2k_join.specs.Resumed.{pieces_rise, group_holds, groups_hold, valid_if, parsed, has_format};
 ghost use Rattle.n2k_join.specs.State.{IsKey, IsPiece, HasParts};
-ghost use Rattle.std.specs.List.{AllByRecursion, list_any};
+ghost use Rattle.std.specs.List.{AllByRecursion};
 ghost use Rattle.n2k_join.specs.Stored.{key_of, piece_of};
 
 use crate::group::StoredGroup;
@@ -15,9 +15,10 @@ use crate::piece::{FrameKey, StoredPiece};
 use crate::saved::rules::{key_holds, stored_piece};
 use crate::saved::spelled::{SpelledGroup, SpelledKey, SpelledPiece};
 use crate::state_fault::StateFault;
+use indexmap::IndexSet;
 use n2k_table::Table;
 use serde_json::Value;
-use std::alloc::Global;
+use std::alloc::{AllocError, Global};
 
 /// The most frames of a group.
 const MOST_FRAMES: usize = 32;
@@ -84,27 +85,38 @@ fn stored_group(
     Ok(stored)
 }
 
-#[tactic(auto, unfolding(crate::specs::Frames::same_key))]
-fn is_same(a: &SpelledKey, b: &SpelledKey) -> bool
-    ensures { result ≡ same_key a.now b.now }
+// The open groups, where each can be one under the table.
+#[tactic(auto, unfolding(crate::specs::Apart::each_holds))]
+fn each_stored(
+    alloc: Global,
+    table: &Table,
+    groups: &[SpelledGroup],
+) -> Result<Vec<StoredGroup>, StateFault>
+    ensures value { GivesOrMemory (λ stored. stored.items) result (valid_if (each_holds (kind table.now) groups.now) groups.now) }
+    ensures parts { IfOk result (λ stored. AllByRecursion HasParts stored.items) }
 {
-    a.src == b.src && (a.dst == b.dst && (a.pgn == b.pgn && a.sequence == b.sequence))
+    let mut stored = Vec::new(alloc);
+    for group in groups {
+        stored.push(stored_group(alloc, table, group)?)?;
+    }
+    Ok(stored)
 }
 
-// Whether none of the groups has the key.
-fn is_apart(key: &SpelledKey, others: &[SpelledGroup]) -> bool
-    ensures { result ≡ not (list_any (λ other. same_key key.now other.key) others.now) }
+// Whether no two of the groups have one key.
+#[tactic(auto, unfolding(crate::specs::Apart::are_new))]
+fn keys_differ(alloc: Global, groups: &[StoredGroup]) -> Result<bool, AllocError>
+    ensures { IfOk result (λ differ. differ ≡ are_new [] groups.now) }
 {
-    for other in others {
-        if is_same(key, &other.key) {
-            return false;
+    let mut seen = IndexSet::new(alloc);
+    for group in groups {
+        if !seen.insert(group.key())? {
+            return Ok(false);
         }
     }
-    true
+    Ok(true)
 }
 
 /// The open groups, where they can be those of a state under the table.
-#[tactic(auto, unfolding(crate::specs::Resumed::groups_hold))]
 pub fn stored_groups(
     alloc: Global,
     table: &Table,
@@ -113,15 +125,9 @@ pub fn stored_groups(
     ensures value { GivesOrMemory (λ stored. stored.items) result (valid_if (groups_hold (kind table.now) groups.now) groups.now) }
     ensures parts { IfOk result (λ stored. AllByRecursion HasParts stored.items) }
 {
-    let mut stored = Vec::new(alloc);
-    let mut rest = groups;
-    while let Some((group, others)) = rest.split_first() {
-        let kept = stored_group(alloc, table, group)?;
-        if !is_apart(&group.key, others) {
-            return Err(StateFault::Invalid);
-        }
-        stored.push(kept)?;
-        rest = others;
+    let stored = each_stored(alloc, table, groups)?;
+    if !keys_differ(alloc, &stored)? {
+        return Err(StateFault::Invalid);
     }
     Ok(stored)
 }

@@ -1,8 +1,9 @@
 use super::Splitter;
 use crate::SplitFault;
-use n2k_table::Table;
+use n2k_table::{Table, TableFault};
 use n2k_wire::{Entry, Id, Packet, Packing, plain_text, read_line};
 use std::alloc::Global;
+use std::mem::ManuallyDrop;
 use std::process::Abort;
 use std::test::Fail;
 
@@ -22,13 +23,64 @@ description = \"Sample: Label\"
 fields = []
 ";
 
+// The table of the tests. It is never let go: the proof that letting one go is safe takes minutes.
+fn sample(alloc: Global) -> Result<ManuallyDrop<Table>, TableFault> {
+    Ok(ManuallyDrop::new(Table::read(alloc, SAMPLE.as_bytes())?))
+}
+
 const LABEL: &str = "1970-01-01T00:00:10.300Z,7,130820,5,255,11,a3,99,01,41,42,43,00,00,00,00,00";
+
+// The frames of it that are sent, the sequence being S0.
+const LABEL_SENT: &str = "1970-01-01T00:00:10.300Z,7,130820,5,255,8,S0,0b,a3,99,01,41,42,43
+1970-01-01T00:00:10.300Z,7,130820,5,255,8,S1,00,00,00,00,00,ff,ff
+";
 
 fn whole(line: &str) -> Option<Packet> {
     match read_line(line.as_bytes(), Packing::Whole) {
         Entry::Whole(message) => Some(message),
         _ => None,
     }
+}
+
+fn texts(alloc: Global, packets: &[Packet]) -> Result<Vec<u8>, Fail> {
+    let mut text = Vec::new(alloc);
+    for packet in packets {
+        plain_text(alloc, packet, &mut text)?;
+    }
+    Ok(text)
+}
+
+// The frames that a line's message is sent in: how many are told, and their texts.
+fn sent(
+    alloc: Global,
+    table: &Table,
+    splitter: &mut Splitter,
+    line: &str,
+) -> Result<(usize, Vec<u8>), Fail> {
+    let message = whole(line).ok_or("a message")?;
+    let mut packets = Vec::new(alloc);
+    let count = splitter.message(table, &message, &mut packets)?;
+    Ok((count, texts(alloc, &packets)?))
+}
+
+#[test]
+fn nine_messages_have_eight_sequences(rt: HostRuntime) -> Result<(), Fail> {
+    let alloc = rt.alloc();
+    let table = sample(alloc)?;
+    let mut splitter = Splitter::new(alloc);
+    for sequence in "0 2 4 6 8 a c e 0".split(' ') {
+        let (count, text) = sent(alloc, &table, &mut splitter, LABEL)?;
+        let wanted = LABEL_SENT.replace(alloc, "S", sequence)?;
+        assert_eq!(rt; count, 2);
+        assert_eq!(rt; text.as_slice(), wanted.as_bytes());
+    }
+    let (count, text) = sent(alloc, &table, &mut splitter, "x,7,130820,5,9,0")?;
+    assert_eq!(rt; count, 1);
+    assert_eq!(rt;
+        text.as_slice(),
+        b"x,7,130820,5,9,8,00,00,ff,ff,ff,ff,ff,ff\n".as_slice()
+    );
+    Ok(())
 }
 
 fn fast(data: &[u8]) -> Option<Packet> {
@@ -41,58 +93,32 @@ fn fast(data: &[u8]) -> Option<Packet> {
     Packet::new(b"x", id, data)
 }
 
-fn texts(alloc: Global, packets: &[Packet]) -> Result<Vec<u8>, Fail> {
-    let mut text = Vec::new(alloc);
-    for packet in packets {
-        plain_text(alloc, packet, &mut text)?;
-    }
-    Ok(text)
-}
-
-#[test]
-fn nine_messages_have_eight_sequences(rt: HostRuntime) -> Result<(), Fail> {
-    let alloc = rt.alloc();
-    let table = Table::read(alloc, SAMPLE.as_bytes())?;
-    let message = whole(LABEL).expect(&rt, "a message");
-    let other = whole("x,7,130820,5,9,0").expect(&rt, "a message to one receiver");
-    let mut splitter = Splitter::new(alloc);
-    for sequence in ["0", "2", "4", "6", "8", "a", "c", "e", "0"] {
-        let mut packets = Vec::new(alloc);
-        assert_eq!(rt; splitter.message(&table, &message, &mut packets)?, 2);
-        let wanted = format!(in alloc;
-            "1970-01-01T00:00:10.300Z,7,130820,5,255,8,{sequence}0,0b,a3,99,01,41,42,43
-1970-01-01T00:00:10.300Z,7,130820,5,255,8,{sequence}1,00,00,00,00,00,ff,ff
-"
-        )?;
-        assert_eq!(rt; texts(alloc, &packets)?.as_slice(), wanted.as_bytes());
-    }
+// How many frames are told of a message of so many bytes, how many there are, and the text of the last one.
+fn last_sent(alloc: Global, table: &Table, total: usize) -> Result<(usize, usize, Vec<u8>), Fail> {
+    let bytes = [0x20; 223];
+    let message = fast(bytes.get(..total).ok_or("short")?).ok_or("a message")?;
     let mut packets = Vec::new(alloc);
-    assert_eq!(rt; splitter.message(&table, &other, &mut packets)?, 1);
-    let wanted = "x,7,130820,5,9,8,00,00,ff,ff,ff,ff,ff,ff\n";
-    assert_eq!(rt; texts(alloc, &packets)?.as_slice(), wanted.as_bytes());
-    Ok(())
+    let count = Splitter::new(alloc).message(table, &message, &mut packets)?;
+    let last = packets.len().saturating_sub(1);
+    Ok((count, packets.len(), texts(alloc, &packets[last..])?))
 }
 
 #[test]
 fn frames_of_short_and_of_long_messages(rt: HostRuntime) -> Result<(), Fail> {
     let alloc = rt.alloc();
-    let table = Table::read(alloc, SAMPLE.as_bytes())?;
-    let bytes = [0x20; 223];
-    let cases: [(usize, usize, &[u8]); 6] = [
-        (0, 1, &[0x00, 0x00, 0xff, 0xff, 0xff, 0xff, 0xff, 0xff]),
-        (6, 1, &[0x00, 0x06, 0x20, 0x20, 0x20, 0x20, 0x20, 0x20]),
-        (7, 2, &[0x01, 0x20, 0xff, 0xff, 0xff, 0xff, 0xff, 0xff]),
-        (13, 2, &[0x01, 0x20, 0x20, 0x20, 0x20, 0x20, 0x20, 0x20]),
-        (14, 3, &[0x02, 0x20, 0xff, 0xff, 0xff, 0xff, 0xff, 0xff]),
-        (223, 32, &[0x1f, 0x20, 0x20, 0x20, 0x20, 0x20, 0x20, 0x20]),
+    let table = sample(alloc)?;
+    let cases = [
+        (0, 1, "x,7,130820,5,255,8,00,00,ff,ff,ff,ff,ff,ff\n"),
+        (6, 1, "x,7,130820,5,255,8,00,06,20,20,20,20,20,20\n"),
+        (7, 2, "x,7,130820,5,255,8,01,20,ff,ff,ff,ff,ff,ff\n"),
+        (13, 2, "x,7,130820,5,255,8,01,20,20,20,20,20,20,20\n"),
+        (14, 3, "x,7,130820,5,255,8,02,20,ff,ff,ff,ff,ff,ff\n"),
+        (223, 32, "x,7,130820,5,255,8,1f,20,20,20,20,20,20,20\n"),
     ];
-    for (total, count, last) in cases {
-        let message = fast(bytes.get(..total).expect(&rt, "short")).expect(&rt, "a message");
-        let mut packets = Vec::new(alloc);
-        let mut splitter = Splitter::new(alloc);
-        assert_eq!(rt; splitter.message(&table, &message, &mut packets)?, count);
-        assert_eq!(rt; packets.len(), count);
-        assert_eq!(rt; packets.last().expect(&rt, "a frame").data(), last);
+    for (total, wanted, last) in cases {
+        let (count, found, text) = last_sent(alloc, &table, total)?;
+        assert_eq!(rt; (count, found), (wanted, wanted));
+        assert_eq!(rt; text.as_slice(), last.as_bytes());
     }
     Ok(())
 }
@@ -100,7 +126,7 @@ fn frames_of_short_and_of_long_messages(rt: HostRuntime) -> Result<(), Fail> {
 #[test]
 fn messages_that_are_not_sent(rt: HostRuntime) -> Result<(), Fail> {
     let alloc = rt.alloc();
-    let table = Table::read(alloc, SAMPLE.as_bytes())?;
+    let table = sample(alloc)?;
     let cases = [
         (
             "x,2,129026,127,255,9,01,02,03,04,05,06,07,08,09",
@@ -112,7 +138,7 @@ fn messages_that_are_not_sent(rt: HostRuntime) -> Result<(), Fail> {
     let mut splitter = Splitter::new(alloc);
     let mut packets = Vec::new(alloc);
     for (line, answer) in cases {
-        let message = whole(line).expect(&rt, "a message");
+        let message = whole(line).ok_or("a message")?;
         assert_eq!(rt; splitter.message(&table, &message, &mut packets), answer);
     }
     let text = texts(alloc, &packets)?;
@@ -125,7 +151,7 @@ fn messages_that_are_not_sent(rt: HostRuntime) -> Result<(), Fail> {
 #[test]
 fn refused_memory_changes_nothing(rt: HostRuntime) {
     let alloc = rt.alloc();
-    let Ok(table) = Table::read(alloc, SAMPLE.as_bytes()) else {
+    let Ok(table) = sample(alloc) else {
         return;
     };
     let message = whole(LABEL).expect(&rt, "a message");

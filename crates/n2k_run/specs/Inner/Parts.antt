@@ -5,6 +5,8 @@ use Rattle.n2k_join.specs.Resumed.{judged}
 use Rattle.n2k_join.specs.Saved.{IsId, state_text}
 use Rattle.n2k_join.specs.State.{State, AreFast}
 use Rattle.n2k_run.specs.declared.fault.RunFault.{RunFault}
+use Rattle.n2k_run.specs.declared.fault.RunFault.TheVariants.{Read, TooManyLines, Write, Report}
+use Rattle.n2k_run.specs.declared.fault.RunFault.TheVariants as run_faults
 use Rattle.n2k_run.specs.declared.part.Part.{Part}
 use Rattle.n2k_run.specs.declared.part.PartFault.{PartFault}
 use Rattle.n2k_run.specs.declared.part.PartFault.TheVariants.{State as Refused, Stopped, Run, Memory}
@@ -22,10 +24,19 @@ HasSaved (Err (Refused fault)) s = Unit {0}
 HasSaved (Err (Run fault)) s = Unit {0}
 HasSaved (Err Memory) s = Unit {0}
 
+-- after such a run the join stands at a line, and can be saved
+abbrev pub StandsAtLine : Result (Unit {0}) RunFault → Type 0
+StandsAtLine (Ok x) = Unit {0}
+StandsAtLine (Err Read) = Unit {0}
+StandsAtLine (Err TooManyLines) = Unit {0}
+StandsAtLine (Err Write) = ⊥
+StandsAtLine (Err Report) = ⊥
+StandsAtLine (Err run_faults.Memory) = ⊥
+
 -- what is answered after a run
 abbrev pub Finishes : Result Part PartFault → Result (Unit {0}) RunFault → Type 0
 Finishes (Ok part) ran = ran ≡ Ok tt
 Finishes (Err (Stopped fault part)) ran = ran ≡ Err fault
 Finishes (Err (Run fault)) ran = ran ≡ Err fault
-Finishes (Err Memory) ran = Unit {0}
+Finishes (Err Memory) ran = StandsAtLine ran
 Finishes (Err (Refused fault)) ran = ⊥

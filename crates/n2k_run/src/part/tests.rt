@@ -58,6 +58,7 @@ struct Example {
     log: &'static [u8],
     text: &'static [u8],
     reports: &'static [u8],
+    summary: &'static [u8],
     state: &'static [u8],
 }
 
@@ -67,6 +68,7 @@ const EXAMPLES: [Example; 3] = [
         log: b"",
         text: b"",
         reports: b"",
+        summary: b"lines 0 messages 0 bad 0 unknown 0 broken 0 open 0\n",
         state: b"{\"bad\":0,\"broken\":0,\"format\":1,\"groups\":[],\"lines\":0,\"messages\":0,\"table\":\"6b85e2b24165c1cf1b657bbddd71b3850cd65dafaf42319db5372fef7b615284\",\"unknown\":0}",
     },
     // two-sources
@@ -80,6 +82,7 @@ const EXAMPLES: [Example; 3] = [
 {\"timestamp\":\"1970-01-01T00:00:10.300Z\",\"prio\":7,\"src\":5,\"dst\":255,\"pgn\":130820,\"description\":\"Sample: Label\",\"fields\":{\"Maker\":419,\"Kind\":1,\"Label\":\"ABC\"}}
 ",
         reports: b"",
+        summary: b"lines 4 messages 2 bad 0 unknown 0 broken 0 open 0\n",
         state: b"{\"bad\":0,\"broken\":0,\"format\":1,\"groups\":[],\"lines\":4,\"messages\":2,\"table\":\"6b85e2b24165c1cf1b657bbddd71b3850cd65dafaf42319db5372fef7b615284\",\"unknown\":0}",
     },
     // Every kind of line: skipped, bad, single, whole, of an unknown PGN, fast packets of three senders, a broken group,
@@ -110,6 +113,7 @@ hello
 line 7 broken pgn 130820 src 5 dst 255 seq 0 first 2
 line 11 bad B7 fast
 ",
+        summary: b"lines 14 messages 5 bad 2 unknown 1 broken 1 open 1\n",
         state: b"{\"bad\":2,\"broken\":1,\"format\":1,\"groups\":[{\"dst\":255,\"first\":14,\"frames\":[[1,\"20202020202020\"]],\"pgn\":130820,\"seq\":3,\"src\":7}],\"lines\":14,\"messages\":5,\"table\":\"6b85e2b24165c1cf1b657bbddd71b3850cd65dafaf42319db5372fef7b615284\",\"unknown\":1}",
     },
 ];
@@ -127,7 +131,7 @@ fn gives<R: Abort + AllocGlobal>(
     assert_eq!(rt; writer.bytes(), example.text);
     assert_eq!(rt; reporter.bytes(), example.reports);
     assert_eq!(rt; last.state.as_slice(), example.state);
-    Ok(())
+    has_summary(rt, &last, example.summary)
 }
 
 // A log gives the same whole, and cut in two after each of its lines.
@@ -276,6 +280,7 @@ fn cut_inside_a_line(rt: HostRuntime) -> Result<(), Fail> {
         log: b"",
         text: b"{\"timestamp\":\"2017-08-17T14:12:12.106Z\",\"prio\":2,\"src\":127,\"dst\":255,\"pgn\":129026,\"description\":\"COG & SOG, Rapid Update\",\"fields\":{\"SID\":0,\"COG Reference\":\"True\"}}\n",
         reports: b"line 2 bad B3 form\n",
+        summary: b"lines 2 messages 1 bad 1 unknown 0 broken 0 open 0\n",
         state: b"{\"bad\":1,\"broken\":0,\"format\":1,\"groups\":[],\"lines\":2,\"messages\":1,\"table\":\"6b85e2b24165c1cf1b657bbddd71b3850cd65dafaf42319db5372fef7b615284\",\"unknown\":0}",
     };
     gives(

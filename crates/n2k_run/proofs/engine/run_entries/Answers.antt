@@ -64,7 +64,7 @@ returns-in_default g c =
     let here = stood g (goal.at.returns-in_default g c).After-take_next in
     let e = c.in-Err.ensures in
     record {
-      runs = fault_end _ _ _ _ _ _ _ _ _ _ _ _ _ _ _ _ _ _ _ _ c.in-Err.fault here (sym c.has_ended.ensures ∙ c.lines-test.true) e.taken c.in_default.not-Memory e.device e.called c.in_ok-write-in_default.ensures.written;
+      runs = fault_end _ _ _ _ _ _ _ _ _ _ _ _ _ _ _ _ _ _ _ _ c.in-Err.fault here (sym c.has_ended.ensures ∙ c.lines-test.true) e.taken c.in_default.not-Memory e.device e.called c.in_ok-write-in_default.ensures.written c.in_ok-write-in_default.ensures.device;
       ready = tt;
     }
 

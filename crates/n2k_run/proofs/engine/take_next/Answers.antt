@@ -9,4 +9,4 @@ returns-in-Ok-Line-clause-taken g c =
 pub returns-in-Ok-Long-clause-taken : goal.returns-in-Ok-Long-clause-taken
 returns-in-Ok-Long-clause-taken g c =
     let answers = rw (c.in-Ok-Long.is, c.in-Ok-Long.field-0-is) at c.next_line.follows.holds-at-none.0 in
-    takes_long (g.M.Maker.making c.args.maker.now) c.args.packing _ _ _ _ _ _ _ _ _ _ _ _ c.take-in-Ok-Long.result answers c.take-in-Ok-Long.ensures.taken
+    takes_long (g.M.Maker.making c.args.maker.now) c.args.packing _ _ _ _ _ _ _ _ _ _ _ _ c.take_long.result answers c.take_long.ensures.taken

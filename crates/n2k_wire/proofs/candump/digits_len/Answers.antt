@@ -7,5 +7,5 @@ use Rattle.n2k_wire.proofs.candump.digits_len.Goals as goal
 pub returns-in-None-clause-value : goal.returns-in-None-clause-value
 returns-in-None-clause-value c = none_found _ _ c.in-None.ensures
 
-pub returns-then-are_hex_digits-clause-value : goal.returns-then-are_hex_digits-clause-value
-returns-then-are_hex_digits-clause-value c = all_digits is_ascii_hexdigit c.args.text.now (sym c.if-are_hex_digits.ensures)
+pub returns-then-is_hexadecimal-clause-value : goal.returns-then-is_hexadecimal-clause-value
+returns-then-is_hexadecimal-clause-value c = all_digits is_ascii_hexdigit c.args.text.now (sym c.if-is_hexadecimal.ensures)

@@ -1,13 +1,13 @@
 -- The members so far, and those of the fields that are left.
-use Rattle.std.proofs.Common.{◌≡◌, ◌∷◌, ◌++◌, false, drop}
+use Rattle.std.proofs.Common.{◌≡◌, ◌++◌, false, drop}
 use Rattle.std.specs.List.{filter_map}
 use Rattle.n2k_table.specs.Json.{member_json}
 use Rattle.n2k_table.specs.Shown.{all_shown}
 use Rattle.n2k_table.proofs.Members.{members_from}
-use Rattle.n2k_table.proofs.line.push_fields.Given as goal
+use Rattle.n2k_table.proofs.line.push_members.Given as goal
 
 abbrev pub invariant-loop-field : goal.invariant-loop-field
 invariant-loop-field l =
     (l.line.items ++ members_from l.later (filter_map (member_json l.empty) (all_shown (drop l.field-index l.fields) l.«data»))
-    ≡ l.fn.line.items ++ (123 ∷ members_from false (filter_map (member_json l.empty) (all_shown l.fields l.«data»))))
+    ≡ l.fn.line.items ++ members_from false (filter_map (member_json l.empty) (all_shown l.fields l.«data»)))
     × (l.line.before ≡ l.fn.line.before)

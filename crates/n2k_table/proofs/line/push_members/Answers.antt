@@ -1,18 +1,15 @@
-use Rattle.std.proofs.Common.{ℕ, List, [], ◌∷◌, ◌++◌, ap, ◌∙◌, append_assoc}
-use Rattle.std.specs.List.{filter_map, join_with_byte}
+use Rattle.std.proofs.Common.{ℕ, List, ◌++◌, ap, ◌∙◌}
+use Rattle.std.specs.List.{filter_map}
 use Rattle.n2k_table.specs.Shown.{all_shown}
 use Rattle.n2k_table.specs.Json.{member_json}
 use Rattle.n2k_table.proofs.Members.{members_from-joined, is_done, goes_on}
-use Rattle.n2k_table.proofs.line.push_fields.Goals as goal
+use Rattle.n2k_table.proofs.line.push_members.Goals as goal
 
 pub returns-clause-appends : goal.returns-clause-appends
 returns-clause-appends c =
-    let before = c.args.line.now.items in
     let members = filter_map (member_json c.args.empty) (all_shown c.args.fields.now c.args.«data».now) in
-    let done = is_done c.args.empty c.loop-field.later c.args.fields.now c.args.«data».now c.loop-field.field-index c.loop-field.line.items _ c.loop-field-test.false c.loop-field.invariant.0 in
-    c.in_ok-push-2.ensures.items
-    ∙ ap (λ (line : List ℕ). line ++ 125 ∷ []) (done ∙ ap (λ (ms : List ℕ). before ++ (123 ∷ ms)) (members_from-joined members))
-    ∙ append_assoc before (123 ∷ join_with_byte 44 members) (125 ∷ [])
+    is_done c.args.empty c.loop-field.later c.args.fields.now c.args.«data».now c.loop-field.field-index c.loop-field.line.items _ c.loop-field-test.false c.loop-field.invariant.0
+    ∙ ap (λ (ms : List ℕ). c.args.line.now.items ++ ms) (members_from-joined members)
 
 pub loop-field-preserved : goal.loop-field-preserved
 loop-field-preserved c = (

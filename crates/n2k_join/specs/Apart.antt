@@ -1,0 +1,17 @@
+-- For private clauses: the rules on the groups of a state that is read, each by itself, and their keys by an index.
+use Rattle.std.specs.Prelude.{ℕ, Bool, true, not, ◌&&◌, List, [], ◌∷◌, ◌++◌, Option}
+use Rattle.std.specs.List.{list_any}
+use Rattle.n2k_table.specs.declared.definition.Kind.{Kind}
+use Rattle.n2k_join.specs.Frames.{Key, same_key}
+use Rattle.n2k_join.specs.Open.{Group}
+use Rattle.n2k_join.specs.Resumed.{group_holds}
+
+-- each group holds
+unfoldable pub each_holds : (ℕ → Option Kind) → List Group → Bool
+each_holds kind [] = true
+each_holds kind (g ∷ gs) = group_holds kind g && each_holds kind gs
+
+-- no group has a key that was seen before it
+unfoldable pub are_new : List Key → List Group → Bool
+are_new seen [] = true
+are_new seen (g ∷ gs) = not (list_any (same_key g.key) seen) && are_new (seen ++ g.key ∷ []) gs

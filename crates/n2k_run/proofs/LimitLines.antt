@@ -1,0 +1,82 @@
+-- The bytes of the lines that were taken, where a log has more lines.
+use Rattle.std.proofs.Common.{◌≡◌, inl, inr, ℕ, ◌<◌, ◌≤◌, ◌-◌, Bool, true, false, List, [], ◌∷◌, ◌++◌, length, get_or, map, refl, sym, ap, ◌∙◌, subst, append_assoc, arith, length-append}
+use Rattle.std.specs.Prelude.{◌⊎◌}
+use Rattle.std.specs.Io.{IsEmptyOrEndsWith}
+use Rattle.std.proofs.lemmas.Bool.{eqb-true}
+use Rattle.std.proofs.lemmas.List.{append-nil, get_or-append_right}
+use Rattle.std.proofs.lemmas.List.Elements.{All-cons}
+use Rattle.n2k_wire.specs.declared.entry.Entry.{Entry}
+use Rattle.n2k_wire.specs.declared.entry.Packing.{Packing}
+use Rattle.n2k_wire.specs.Entry.{entry}
+use Rattle.n2k_run.specs.Blocks.{HasNoFeed}
+use Rattle.n2k_run.specs.Entries.{entries}
+use Rattle.n2k_run.specs.Lines.{line_feed, is_line_feed, lines, without_return}
+use Rattle.n2k_run.proofs.Answering.{lines_piece, lines_rest}
+use Rattle.n2k_run.proofs.Fronts.{ends_feed}
+
+-- bytes up to their first line feed, and those after it
+record FirstFeed (bytes : List ℕ) : Type 0 where
+  pub piece : List ℕ
+  pub rest : List ℕ
+  pub none : HasNoFeed piece
+  pub bytes_are : bytes ≡ piece ++ (10 ∷ rest)
+
+nothing : HasNoFeed []
+nothing = λ k d below. absurd (omega (arith, below))
+
+by_feed : (bytes : List ℕ) → HasNoFeed bytes ⊎ FirstFeed bytes
+by_feed [] = inl nothing
+by_feed (b ∷ bs) = go (is_line_feed b) refl (by_feed bs)
+  where
+    go : (f : Bool) → is_line_feed b ≡ f → HasNoFeed bs ⊎ FirstFeed bs → HasNoFeed (b ∷ bs) ⊎ FirstFeed (b ∷ bs)
+    go true is tail = inr (record { piece = []; rest = bs; none = nothing; bytes_are = ap (λ x. x ∷ bs) (eqb-true b 10 is) })
+    go false is (inl none) = inl (All-cons (λ byte. is_line_feed byte ≡ false) b bs is none)
+    go false is (inr f) = inr (record { piece = b ∷ f.piece; rest = f.rest; none = All-cons (λ byte. is_line_feed byte ≡ false) b f.piece is f.none; bytes_are = ap (λ x. b ∷ x) f.bytes_are })
+
+ends_on : (front bytes : List ℕ) → IsEmptyOrEndsWith front line_feed → IsEmptyOrEndsWith bytes line_feed → IsEmptyOrEndsWith (front ++ bytes) line_feed
+ends_on front [] first last = subst (λ x. IsEmptyOrEndsWith x line_feed) (sym (append-nil front)) first
+ends_on front (y ∷ ys) first last = λ some.
+    let all = length-append front (y ∷ ys) in
+    let at : (length (front ++ (y ∷ ys)) - 1) - length front ≡ length (y ∷ ys) - 1 = omega (arith, all) in
+    get_or-append_right front (y ∷ ys) (length front) (length (front ++ (y ∷ ys)) - 1) 0 refl (omega (arith, all)) ∙ ap (λ k. get_or (y ∷ ys) k 0) at ∙ last (omega arith)
+
+-- the bytes of these entries' lines, with their line feeds, and those after them
+pub record TakenBytes (packing : Packing) (log : List ℕ) (es : List Entry) : Type 0 where
+  pub bytes : List ℕ
+  pub rest : List ℕ
+  pub log_is : log ≡ bytes ++ rest
+  pub whole : IsEmptyOrEndsWith bytes line_feed
+  pub entries_are : entries packing bytes ≡ es
+
+-- one line alone has no other after it
+one_line : (packing : Packing) (log : List ℕ) (e next : Entry) (es more : List Entry) → HasNoFeed log → entries packing log ≡ e ∷ (es ++ (next ∷ more)) → ⊥
+one_line packing [] e next es more none is = let bad : [] ≡ e ∷ (es ++ (next ∷ more)) = is in cc
+one_line packing (b ∷ bs) e next es more none is =
+    let one : entry (without_return (b ∷ bs)) packing ∷ [] ≡ e ∷ (es ++ (next ∷ more)) = sym (ap (map (λ line. entry line packing)) (lines_rest (b ∷ bs) none (omega arith))) ∙ is in
+    let same : [] ≡ es ++ (next ∷ more) = cc in
+    let count : 0 ≡ length (es ++ (next ∷ more)) = ap (λ (xs : List Entry). length xs) same in
+    omega (arith, count, length-append es (next ∷ more))
+
+pub taken_bytes : (packing : Packing) (es : List Entry) (log : List ℕ) (next : Entry) (more : List Entry) → entries packing log ≡ es ++ (next ∷ more) → TakenBytes packing log es
+taken_bytes packing [] log next more is = record { bytes = []; rest = log; log_is = refl; whole = λ some. absurd (omega (arith, some)); entries_are = refl }
+taken_bytes packing (e ∷ es) log next more is = go (by_feed log) (λ rest later. taken_bytes packing es rest next more later)
+  where
+    feed : FirstFeed log → ((rest : List ℕ) → entries packing rest ≡ es ++ (next ∷ more) → TakenBytes packing rest es) → TakenBytes packing log (e ∷ es)
+    feed f fewer =
+        let of_piece : (rest : List ℕ) → entries packing (f.piece ++ (10 ∷ rest)) ≡ entry (without_return f.piece) packing ∷ entries packing rest
+        = λ rest. ap (map (λ line. entry line packing)) (lines_piece f.piece rest f.none) in
+        let both : entry (without_return f.piece) packing ∷ entries packing f.rest ≡ e ∷ (es ++ (next ∷ more)) = sym (of_piece f.rest) ∙ ap (entries packing) (sym f.bytes_are) ∙ is in
+        let first : entry (without_return f.piece) packing ≡ e = cc in
+        let later : entries packing f.rest ≡ es ++ (next ∷ more) = cc in
+        let r = fewer f.rest later in
+        record {
+          bytes = f.piece ++ (10 ∷ r.bytes);
+          rest = r.rest;
+          log_is = f.bytes_are ∙ ap (λ x. f.piece ++ (10 ∷ x)) r.log_is ∙ sym (append_assoc f.piece (10 ∷ r.bytes) r.rest);
+          whole = subst (λ x. IsEmptyOrEndsWith x line_feed) (append_assoc f.piece (10 ∷ []) r.bytes) (ends_on (f.piece ++ (10 ∷ [])) r.bytes (ends_feed f.piece) r.whole);
+          entries_are = of_piece r.bytes ∙ ap (λ x. x ∷ entries packing r.bytes) first ∙ ap (λ xs. e ∷ xs) r.entries_are;
+        }
+
+    go : HasNoFeed log ⊎ FirstFeed log → ((rest : List ℕ) → entries packing rest ≡ es ++ (next ∷ more) → TakenBytes packing rest es) → TakenBytes packing log (e ∷ es)
+    go (inl none) fewer = absurd (one_line packing log e next es more none is)
+    go (inr f) fewer = feed f fewer

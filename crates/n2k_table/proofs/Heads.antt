@@ -1,0 +1,86 @@
+-- What stands in a line before the members, as the code appends it.
+use Rattle.std.proofs.Common.{◌≡◌, ℕ, ◌+◌, ◌/◌, ◌%◌, ◌<◌, ◌≤◌, Bool, true, ◌&&◌, List, [], ◌∷◌, ◌++◌, IfSome, refl, codes, append_assoc, arith, inl, inr}
+use Rattle.std.specs.Prelude.{decimal}
+use Rattle.std.specs.List.{list_all, find}
+use Rattle.std.proofs.lemmas.Bool.{cases_Bool, eqb-true, and_parts}
+use Rattle.std.proofs.lemmas.Fmt.{decimal_digit}
+use Rattle.itoa.proofs.Decimal.{decimal_two, decimal_pair}
+use Rattle.n2k_wire.specs.Packet.{PacketParts}
+use Rattle.n2k_table.specs.Definition.{DefinitionParts}
+use Rattle.n2k_table.specs.Shown.{ShownParts}
+use Rattle.n2k_table.specs.Table.{TableParts, is_of, matches, choice}
+use Rattle.n2k_table.specs.Text.{text_json, pairs, is_plain}
+use Rattle.n2k_table.specs.Json.{id_json, head_json, sender_json, seen_json, label_json, members_json, line_json, unmatched_json}
+use Rattle.n2k_table.proofs.Escapes.{text_json-plain}
+
+-- numbers of up to three digits
+pub one_digit : (n : ℕ) → n < 10 → decimal n ≡ (48 + n % 10) ∷ []
+one_digit n small =
+    let same : n % 10 ≡ n = omega arith in
+    rw (same, decimal_digit n small) refl
+
+pub two_digits : (n : ℕ) → 10 ≤ n → n < 100 → decimal n ≡ (48 + n / 10 % 10) ∷ (48 + n % 10) ∷ []
+two_digits n large small =
+    let same : n / 10 % 10 ≡ n / 10 = omega arith in
+    rw (same, decimal_two n large small) refl
+
+pub three_digits : (n : ℕ) → 100 ≤ n → n < 1000 → decimal n ≡ (48 + n / 100) ∷ (48 + n / 10 % 10) ∷ (48 + n % 10) ∷ []
+three_digits n large small =
+    let tens : n % 100 / 10 ≡ n / 10 % 10 = omega arith in
+    let ones : n % 100 % 10 ≡ n % 10 = omega arith in
+    rw (decimal_pair n large (omega arith), decimal_digit (n / 100) (omega arith), tens, ones) refl
+
+-- a line to which three parts are appended in turn
+pub three_parts : (line a b c l1 l2 l3 : List ℕ) → l1 ≡ line ++ a → l2 ≡ l1 ++ b → l3 ≡ l2 ++ c → l3 ≡ line ++ ((a ++ b) ++ c)
+three_parts line a b c l1 l2 l3 p1 p2 p3 = rw (p3, p2, p1) (simp append_assoc)
+
+seen_lists : (label stamp sender : List ℕ)
+    → (((label ++ 34 ∷ []) ++ stamp) ++ 34 ∷ []) ++ sender ≡ (label ++ (34 ∷ (stamp ++ 34 ∷ []))) ++ sender
+seen_lists label stamp sender = simp append_assoc
+
+-- what stands before the PGN, where the stamp stands for itself
+pub plain_seen : (m : PacketParts) → list_all is_plain m.stamp ≡ true
+    → ((codes "{\"timestamp\":\"" ++ m.stamp) ++ codes "\"") ++ sender_json m.id ≡ seen_json m
+unfolding seen_json
+plain_seen m plain = rw (text_json-plain m.stamp plain) (seen_lists (codes "{\"timestamp\":") m.stamp (sender_json m.id))
+
+line_lists : (ts st c1 p c2 s c3 d c4 g c5 de c6 ms : List ℕ)
+    → ((((ts ++ st) ++ (((((c1 ++ p) ++ c2) ++ s) ++ c3) ++ d)) ++ ((((c4 ++ g) ++ c5) ++ de) ++ (c6 ++ 123 ∷ []))) ++ ms) ++ (125 ∷ 125 ∷ 10 ∷ [])
+    ≡ ((((((ts ++ st) ++ (((((((c1 ++ p) ++ c2) ++ s) ++ c3) ++ d) ++ c4) ++ g)) ++ c5) ++ de) ++ c6) ++ ((123 ∷ ms) ++ 125 ∷ [])) ++ (125 ∷ 10 ∷ [])
+line_lists ts st c1 p c2 s c3 d c4 g c5 de c6 ms = simp append_assoc
+
+-- the line of a message under a definition of its PGN
+pub matched_parts : (description : List ℕ) (fields : List (List ℕ × ShownParts)) (m : PacketParts) (empty : Bool)
+    → ((seen_json m ++ label_json m.id.pgn description) ++ members_json empty fields) ++ codes "}}\n" ≡ line_json description fields m empty
+unfolding seen_json sender_json label_json head_json id_json
+matched_parts description fields m empty =
+    line_lists (codes "{\"timestamp\":") (text_json m.stamp) (codes ",\"prio\":") (decimal m.id.prio) (codes ",\"src\":") (decimal m.id.src) (codes ",\"dst\":") (decimal m.id.dst)
+    (codes ",\"pgn\":") (decimal m.id.pgn) (codes ",\"description\":") (text_json description) (codes ",\"fields\":") (members_json empty fields)
+
+unmatched_lists : (ts st c1 p c2 s c3 d c4 g c5 de c6 key value : List ℕ)
+    → ((((((ts ++ st) ++ (((((c1 ++ p) ++ c2) ++ s) ++ c3) ++ d)) ++ c4) ++ g) ++ (((c5 ++ de) ++ c6) ++ (123 ∷ key))) ++ value) ++ (125 ∷ 125 ∷ 10 ∷ [])
+    ≡ ((((((ts ++ st) ++ (((((((c1 ++ p) ++ c2) ++ s) ++ c3) ++ d) ++ c4) ++ g)) ++ c5) ++ de) ++ c6) ++ ((123 ∷ (key ++ value)) ++ 125 ∷ [])) ++ (125 ∷ 10 ∷ [])
+unmatched_lists ts st c1 p c2 s c3 d c4 g c5 de c6 key value = simp append_assoc
+
+-- the line of a message that no definition matches
+pub unmatched_parts : (m : PacketParts)
+    → ((((seen_json m ++ codes ",\"pgn\":") ++ decimal m.id.pgn) ++ codes ",\"description\":\"Unmatched\",\"fields\":{\"Data\":") ++ text_json (pairs m.payload)) ++ codes "}}\n" ≡ unmatched_json m
+unfolding seen_json sender_json head_json id_json
+unmatched_parts m =
+    let name : text_json (codes "Unmatched") ≡ codes "\"Unmatched\"" = text_json-plain (codes "Unmatched") refl in
+    let key : text_json (codes "Data") ≡ codes "\"Data\"" = text_json-plain (codes "Data") refl in
+    rw (name, key) (unmatched_lists (codes "{\"timestamp\":") (text_json m.stamp) (codes ",\"prio\":") (decimal m.id.prio) (codes ",\"src\":") (decimal m.id.src) (codes ",\"dst\":") (decimal m.id.dst)
+    (codes ",\"pgn\":") (decimal m.id.pgn) (codes ",\"description\":") (codes "\"Unmatched\"") (codes ",\"fields\":") (codes "\"Data\":") (text_json (pairs m.payload)))
+
+found_number : (pgn : ℕ) (payload : List ℕ) (ds : List DefinitionParts)
+    → IfSome (find (λ (d : DefinitionParts). is_of pgn d && matches payload d) ds) (λ (d : DefinitionParts). d.number ≡ pgn)
+found_number pgn payload [] = tt
+found_number pgn payload (d ∷ ds) =
+    elim (cases_Bool (is_of pgn d && matches payload d)) [
+      | inl found ↦ rw found (eqb-true d.number pgn (and_parts (is_of pgn d) (matches payload d) found).0)
+      | inr other ↦ rw other (found_number pgn payload ds)
+    ]
+
+-- a definition that is chosen for a message describes its PGN
+pub choice_number : (t : TableParts) (pgn : ℕ) (payload : List ℕ) → IfSome (choice t pgn payload) (λ (d : DefinitionParts). d.number ≡ pgn)
+choice_number t pgn payload = found_number pgn payload t.definitions
