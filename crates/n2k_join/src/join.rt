@@ -176,7 +176,7 @@ impl Join {
     }
 
     /// The same of an entry that stays where it is: the message is lent from it, or from `joined`, to which the message
-    /// of a group is written.
+    /// of a group is written. What `joined` held is let go.
     ///
     /// ```text
     /// let mut joined = None;
@@ -189,7 +189,6 @@ impl Join {
         joined: &'a mut Option<Packet>,
     ) -> Result<LentStep<'a>, JoinFault>
         requires short { IsShort entry.now }
-        requires none { joined.old ≡ None }
         ensures given { IfOk result (λ step. lent_given_of step ≡ step_given (kind table.now) self.old entry.now) }
         ensures after { OnOk result (self.new ≡ step_after (kind table.now) self.old entry.now) }
         ensures unchanged { OnErr result (self.new ≡ self.old) }
@@ -197,6 +196,7 @@ impl Join {
         ensures full { IsErrOf result JoinFault.TooManyLines ↔ (self.old.counts.lines ≡ most_lines) }
         ensures memory { IsErrOf result JoinFault.Memory → opens (kind table.now) self.old entry.now ≡ true }
     {
+        *joined = None;
         let outcome = self.take(table, entry, joined)?;
         Ok(LentStep {
             message: outcome.message(entry, joined),

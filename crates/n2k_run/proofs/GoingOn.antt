@@ -132,6 +132,7 @@ module _ (agree : (id : List ℕ) (kind : ℕ → Option Kind) (es : List Entry)
           taken = cut.bytes;
           rest = cut.rest;
           log_is = cut.log_is;
+          more = cut.more;
           whole_lines = cut.whole;
           full = ap length (both cut.bytes ∙ ap (λ x. entries o.packing front ++ x) cut.entries_are) ∙ length-append (entries o.packing front) es ∙ full;
           stands = goes_on cut.bytes before after part

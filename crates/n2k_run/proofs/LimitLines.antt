@@ -45,6 +45,7 @@ pub record TakenBytes (packing : Packing) (log : List ℕ) (es : List Entry) : T
   pub bytes : List ℕ
   pub rest : List ℕ
   pub log_is : log ≡ bytes ++ rest
+  pub more : 0 < length rest
   pub whole : IsEmptyOrEndsWith bytes line_feed
   pub entries_are : entries packing bytes ≡ es
 
@@ -57,8 +58,13 @@ one_line packing (b ∷ bs) e next es more none is =
     let count : 0 ≡ length (es ++ (next ∷ more)) = ap (λ (xs : List Entry). length xs) same in
     omega (arith, count, length-append es (next ∷ more))
 
+-- a log with a line has a byte
+some_byte : (packing : Packing) (log : List ℕ) (next : Entry) (more : List Entry) → entries packing log ≡ next ∷ more → 0 < length log
+some_byte packing [] next more is = let bad : [] ≡ next ∷ more = is in cc
+some_byte packing (b ∷ bs) next more is = omega arith
+
 pub taken_bytes : (packing : Packing) (es : List Entry) (log : List ℕ) (next : Entry) (more : List Entry) → entries packing log ≡ es ++ (next ∷ more) → TakenBytes packing log es
-taken_bytes packing [] log next more is = record { bytes = []; rest = log; log_is = refl; whole = λ some. absurd (omega (arith, some)); entries_are = refl }
+taken_bytes packing [] log next more is = record { bytes = []; rest = log; log_is = refl; more = some_byte packing log next more is; whole = λ some. absurd (omega (arith, some)); entries_are = refl }
 taken_bytes packing (e ∷ es) log next more is = go (by_feed log) (λ rest later. taken_bytes packing es rest next more later)
   where
     feed : FirstFeed log → ((rest : List ℕ) → entries packing rest ≡ es ++ (next ∷ more) → TakenBytes packing rest es) → TakenBytes packing log (e ∷ es)
@@ -73,6 +79,7 @@ taken_bytes packing (e ∷ es) log next more is = go (by_feed log) (λ rest late
           bytes = f.piece ++ (10 ∷ r.bytes);
           rest = r.rest;
           log_is = f.bytes_are ∙ ap (λ x. f.piece ++ (10 ∷ x)) r.log_is ∙ sym (append_assoc f.piece (10 ∷ r.bytes) r.rest);
+          more = r.more;
           whole = subst (λ x. IsEmptyOrEndsWith x line_feed) (append_assoc f.piece (10 ∷ []) r.bytes) (ends_on (f.piece ++ (10 ∷ [])) r.bytes (ends_feed f.piece) r.whole);
           entries_are = of_piece r.bytes ∙ ap (λ x. x ∷ entries packing r.bytes) first ∙ ap (λ xs. e ∷ xs) r.entries_are;
         }

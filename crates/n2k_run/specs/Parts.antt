@@ -1,6 +1,6 @@
 -- A log in parts: each part goes on from the state that was saved after the one before it, and together they print what
 -- one run over the whole log prints.
-use Rattle.std.specs.Prelude.{◌≡◌, ◌⊎◌, ℕ, List, [], ◌∷◌, ◌++◌, length, Option, Some, None, Result, Ok, Err, IfSome, IsOk, IsSome}
+use Rattle.std.specs.Prelude.{◌≡◌, ◌⊎◌, ◌<◌, ℕ, List, [], ◌∷◌, ◌++◌, length, Option, Some, None, Result, Ok, Err, IfSome, IsOk, IsSome}
 use Rattle.std.specs.List.{flat_map}
 use Rattle.std.specs.Io.{IsEmptyOrEndsWith}
 use Rattle.std.specs.Io.KnownBytes.{Appends, Consumes, IsAtEnd}
@@ -134,6 +134,7 @@ pub record GoesOnToLimit (t : TableParts) (o : Options) (front log : List ℕ) (
   pub taken : List ℕ
   pub rest : List ℕ
   pub log_is : log ≡ taken ++ rest
+  pub more : 0 < length rest
   pub whole_lines : IsEmptyOrEndsWith taken line_feed
   pub full : length (entries o.packing (front ++ taken)) ≡ most_lines
   pub stands : GoesOn t o front taken before after part
