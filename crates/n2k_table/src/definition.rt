@@ -3,7 +3,8 @@ ghost use Rattle.std.specs.Prelude.{◌≡◌, IfOk, map, flat_map};
 ghost use Rattle.std.specs.List.{list_any};
 ghost use Rattle.std.specs.Str.{bytes_eq};
 ghost use Rattle.toml.specs.View.{view, table_view, array_view};
-ghost use Rattle.n2k_table.specs.Fault.{Gives, GivesOrMemory, judged};
+ghost use Rattle.n2k_wire.specs.Views.{Gives};
+ghost use Rattle.n2k_table.specs.Fault.{GivesOrMemory, judged};
 ghost use Rattle.n2k_table.specs.Tree.{elements};
 ghost use Rattle.n2k_table.specs.Lookup.{LookupParts};
 ghost use Rattle.n2k_table.specs.Json.{label_json};
@@ -19,13 +20,11 @@ use crate::shown::Fields;
 use crate::text::text_json;
 use crate::tree::{Place, any_text_at, as_members, elements_at, has_only_keys, text_at, whole_at};
 use itoa::Buffer;
+use n2k_wire::GREATEST_PGN;
 use std::alloc::{AllocError, Global};
 use std::marker::Model;
 use toml::value::Array;
 use toml::{Table, Value};
-
-/// The greatest PGN, 24 bits.
-pub const GREATEST_NUMBER: u32 = 16_777_215;
 
 /// The most fields of a definition.
 pub const MOST_FIELDS: usize = 256;
@@ -273,7 +272,7 @@ fn read_members(
     if !has_only_keys(table, Place::Definition) {
         return Err(TableFault::Key);
     }
-    let number = whole_at(table, "number", 0, GREATEST_NUMBER)?;
+    let number = whole_at(table, "number", 0, GREATEST_PGN)?;
     let kind = named_kind(any_text_at(table, "kind")?)?;
     let description = text_at(table, "description")?;
     let fields = read_fields(alloc, lookups, elements_at(table, "fields")?)?;

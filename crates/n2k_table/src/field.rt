@@ -2,7 +2,8 @@
 ghost use Rattle.std.specs.Prelude.{◌≡◌, ◌≤◌, ◌+◌, ◌*◌, true, length, map, option_map, IfOk};
 ghost use Rattle.n2k_table.specs.Json.{key_json};
 ghost use Rattle.toml.specs.View.{view, table_view};
-ghost use Rattle.n2k_table.specs.Fault.{Gives, GivesOrMemory, judged};
+ghost use Rattle.n2k_wire.specs.Views.{Gives};
+ghost use Rattle.n2k_table.specs.Fault.{GivesOrMemory, judged};
 ghost use Rattle.n2k_table.specs.Lookup.{LookupParts};
 ghost use Rattle.n2k_table.specs.Kept.{meaning as seen_meaning, IsByteMeaning};
 ghost use Rattle.n2k_table.specs.Field.{in_bytes, byte_at_of, byte_bits_of, wanted_of, is_of_bits, named_field_kind, number_faults, number_field, lookup_field_faults, lookup_field, byte_field_faults, byte_field, field_faults, field};

@@ -5,7 +5,7 @@ ghost use Rattle.std.specs.List.{list_all};
 ghost use Rattle.std.specs.Option.{SomeIff};
 ghost use Rattle.std.specs.Str.Parse.{digits_value_after};
 ghost use Rattle.toml.specs.View.{table_view};
-ghost use Rattle.n2k_table.specs.Fault.{Gives};
+ghost use Rattle.n2k_wire.specs.Views.{Gives};
 ghost use Rattle.n2k_table.specs.Resolution.{is_digits, parts, of_parts, resolution, resolution_at, ArePartsOfDigits};
 
 use crate::fault::TableFault;
