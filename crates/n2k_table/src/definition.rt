@@ -27,7 +27,7 @@ use toml::value::Array;
 use toml::{Table, Value};
 
 /// The most fields of a definition.
-pub const MOST_FIELDS: usize = 256;
+pub(crate) const MOST_FIELDS: usize = 256;
 
 /// How the messages of a PGN are sent.
 #[derive(Clone, Copy, PartialEq, Eq, Debug)]
@@ -40,7 +40,7 @@ pub enum Kind {
 
 /// A definition, as the table keeps it.
 #[derive(Drop)]
-pub struct StoredDefinition {
+pub(crate) struct StoredDefinition {
     number: u32,
     kind: Kind,
     description: String,
@@ -71,21 +71,21 @@ impl StoredDefinition {
     ghost use Rattle.n2k_table.specs.Table.{matches};
 
     /// The PGN that it describes.
-    pub fn number(&self) -> u32
+    pub(crate) fn number(&self) -> u32
         ensures { result ≡ self.now.number }
     {
         self.number
     }
 
     /// How its messages are sent.
-    pub fn kind(&self) -> Kind
+    pub(crate) fn kind(&self) -> Kind
         ensures { result ≡ self.now.kind }
     {
         self.kind
     }
 
     /// The text that names the message.
-    pub fn description(&self) -> &str
+    pub(crate) fn description(&self) -> &str
         ensures { result.now ≡ self.now.description }
     {
         self.description.as_str()
@@ -98,14 +98,14 @@ impl StoredDefinition {
     }
 
     /// The fields in printing order.
-    pub fn fields(&self) -> &[Field]
+    pub(crate) fn fields(&self) -> &[Field]
         ensures { result.now ≡ self.now.fields }
     {
         self.fields.as_slice()
     }
 
     /// Whether the data have what the fields ask for.
-    pub fn matches(&self, data: &[u8]) -> bool
+    pub(crate) fn matches(&self, data: &[u8]) -> bool
         ensures { result ≡ matches «data».now self.now }
     {
         self.fields.iter().all(|field| field.matches(data))
@@ -286,7 +286,7 @@ fn read_members(
 }
 
 /// Whether two definitions of one PGN have different kinds.
-pub fn has_mixed(definitions: &[StoredDefinition]) -> bool
+pub(crate) fn has_mixed(definitions: &[StoredDefinition]) -> bool
     ensures { result ≡ has_mixed (map pgn_kind definitions.now) }
 {
     let mut rest = definitions;
@@ -311,7 +311,7 @@ fn is_mixed_among(definitions: &[StoredDefinition], definition: &StoredDefinitio
 }
 
 /// Reads a definition, in a table of these lookups.
-pub fn read_definition(
+pub(crate) fn read_definition(
     alloc: Global,
     lookups: &Lookups,
     value: &Value,
