@@ -1,7 +1,8 @@
 //! The state that a value spells: a reader for each part.
 ghost use Rattle.std.specs.Prelude.{◌≡◌, map};
 ghost use Rattle.serde_json.specs.View.{view};
-ghost use Rattle.n2k_join.specs.Refusal.{Gives, GivesOrMemory};
+ghost use Rattle.n2k_wire.specs.Views.{Gives};
+ghost use Rattle.n2k_join.specs.Refusal.{GivesOrMemory};
 ghost use Rattle.n2k_join.specs.Resumed.{each, piece_of, key_of, pieces_at, group_of, groups_at, counts_of, id_at, state_of};
 
 use crate::counts::Counts;

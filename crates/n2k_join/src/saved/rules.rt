@@ -1,6 +1,7 @@
 //! The rules of a valid state.
 ghost use Rattle.std.specs.Prelude.{◌≡◌, ◌≤◌, ◌<◌, ◌&&◌, true, IfSome};
 ghost use Rattle.std.specs.List.{AllByRecursion};
+ghost use Rattle.n2k_wire.specs.Packet.{greatest_pgn};
 ghost use Rattle.n2k_table.specs.Table.{kind};
 ghost use Rattle.n2k_join.specs.Counts.{most_lines};
 ghost use Rattle.n2k_join.specs.Refusal.{SomeUnder};
@@ -12,9 +13,7 @@ use crate::counts::{Counts, MOST_LINES};
 use crate::piece::StoredPiece;
 use crate::saved::spelled::{SpelledGroup, SpelledKey, SpelledPiece};
 use n2k_table::{Kind, Table};
-
-/// The greatest PGN, 24 bits.
-const GREATEST_PGN: u64 = 16_777_215;
+use n2k_wire::GREATEST_PGN;
 
 /// The greatest address.
 const GREATEST_ADDRESS: u64 = 255;
@@ -64,7 +63,7 @@ pub fn rules_hold(counts: &Counts, groups: &[SpelledGroup]) -> bool
 }
 
 fn is_fast(table: &Table, pgn: u64) -> bool
-    requires { pgn ≤ 16_777_215 }
+    requires { pgn ≤ greatest_pgn }
     ensures { result ≡ is_fast (kind table.now pgn) }
 {
     match table.kind(pgn as u32) {
@@ -78,7 +77,7 @@ fn is_fast(table: &Table, pgn: u64) -> bool
 pub fn key_holds(table: &Table, key: &SpelledKey) -> bool
     ensures { result ≡ key_holds (kind table.now) key.now }
 {
-    key.pgn <= GREATEST_PGN
+    key.pgn <= u64::from(GREATEST_PGN)
         && (is_fast(table, key.pgn)
             && (key.src <= GREATEST_ADDRESS
                 && (key.dst <= GREATEST_ADDRESS && key.sequence <= GREATEST_SEQUENCE)))

@@ -1,7 +1,8 @@
 //! One value of a saved state: whether it is there, and of which kind it is.
 ghost use Rattle.std.specs.Prelude.{◌≡◌, map};
 ghost use Rattle.serde_json.specs.View.{view, members_view};
-ghost use Rattle.n2k_join.specs.Refusal.{Gives, or_fault};
+ghost use Rattle.n2k_wire.specs.Views.{Gives};
+ghost use Rattle.n2k_join.specs.Refusal.{or_fault};
 ghost use Rattle.n2k_join.specs.Resumed.{has_only, members_at, required, as_whole, whole_at, digits_of, elements_of};
 
 use crate::saved::place::Place;
