@@ -117,7 +117,7 @@ fn read_id(value: &Value) -> Result<[u8; 32], StateFault>
 
 /// The state that a value spells, whatever its numbers.
 #[tactic(auto, unfolding(crate::specs::Resumed::state_of))]
-pub fn read_state(alloc: Global, value: &Value) -> Result<SpelledState, StateFault>
+pub(crate) fn read_state(alloc: Global, value: &Value) -> Result<SpelledState, StateFault>
     ensures { GivesOrMemory (λ state. state) result (state_of (view value.now)) }
 {
     members_at(Place::State, value)?;

@@ -6,7 +6,7 @@ ghost use Rattle.n2k_table.specs.Table.{kind};
 ghost use Rattle.n2k_join.specs.Counts.{most_lines};
 ghost use Rattle.n2k_join.specs.Refusal.{SomeUnder};
 ghost use Rattle.n2k_join.specs.State.{IsPiece};
-ghost use Rattle.n2k_join.specs.Stored.{piece_of};
+ghost use Rattle.n2k_join.specs.Inner.Stored.{piece_of};
 ghost use Rattle.n2k_join.specs.Resumed.{counts_hold, firsts_rise, is_fast, key_holds, total_holds, piece_holds};
 
 use crate::counts::{Counts, MOST_LINES};
@@ -56,7 +56,7 @@ fn firsts_rise(lines: u64, groups: &[SpelledGroup]) -> bool
 }
 
 /// Whether the counts and the lines that opened the groups can be those of one state.
-pub fn rules_hold(counts: &Counts, groups: &[SpelledGroup]) -> bool
+pub(crate) fn rules_hold(counts: &Counts, groups: &[SpelledGroup]) -> bool
     ensures { result ≡ (counts_hold counts.now && firsts_rise 1 counts.now.lines groups.now) }
 {
     counts_hold(counts) && firsts_rise(counts.lines, groups)
@@ -74,7 +74,7 @@ fn is_fast(table: &Table, pgn: u64) -> bool
 
 /// Whether frames of a fast PGN of the table can have the key.
 #[tactic(auto, unfolding(crate::specs::Resumed::key_holds))]
-pub fn key_holds(table: &Table, key: &SpelledKey) -> bool
+pub(crate) fn key_holds(table: &Table, key: &SpelledKey) -> bool
     ensures { result ≡ key_holds (kind table.now) key.now }
 {
     key.pgn <= u64::from(GREATEST_PGN)
@@ -110,7 +110,7 @@ fn piece_of_parts(number: u8, bytes: &[u8; 7]) -> StoredPiece
 }
 
 /// A frame as a group keeps it, where its number is from `least` to the greatest and its total isn't too large.
-pub fn stored_piece(least: u8, piece: &SpelledPiece) -> Option<StoredPiece>
+pub(crate) fn stored_piece(least: u8, piece: &SpelledPiece) -> Option<StoredPiece>
     ensures value { SomeUnder piece_of result (piece_holds least piece.now) piece.now }
     ensures parts { IfSome result (λ stored. IsPiece (piece_of stored)) }
 {

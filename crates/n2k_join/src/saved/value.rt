@@ -22,7 +22,7 @@ fn has_only(members: &Map<String, Value>, place: Place) -> bool
 }
 
 /// An object that has no member but those of the place.
-pub fn members_at(place: Place, value: &Value) -> Result<(), StateFault>
+pub(crate) fn members_at(place: Place, value: &Value) -> Result<(), StateFault>
     ensures { Gives (λ done. done) result (members_at place (view value.now)) }
 {
     let members = value.as_object().ok_or(StateFault::Shape)?;
@@ -33,28 +33,28 @@ pub fn members_at(place: Place, value: &Value) -> Result<(), StateFault>
 }
 
 /// The member of that name, which has to be there.
-pub fn required<'a>(name: &str, value: &'a Value) -> Result<&'a Value, StateFault>
+pub(crate) fn required<'a>(name: &str, value: &'a Value) -> Result<&'a Value, StateFault>
     ensures { Gives (λ found. view found.now) result (required name.now (view value.now)) }
 {
     value.get(name).ok_or(StateFault::Shape)
 }
 
 /// The whole number that a value is.
-pub fn as_whole(value: &Value) -> Result<u64, StateFault>
+pub(crate) fn as_whole(value: &Value) -> Result<u64, StateFault>
     ensures { Gives (λ number. number) result (or_fault StateFault.Shape (as_whole (view value.now))) }
 {
     value.as_u64().ok_or(StateFault::Shape)
 }
 
 /// The whole number at a name.
-pub fn whole_at(name: &str, value: &Value) -> Result<u64, StateFault>
+pub(crate) fn whole_at(name: &str, value: &Value) -> Result<u64, StateFault>
     ensures { Gives (λ number. number) result (whole_at name.now (view value.now)) }
 {
     as_whole(required(name, value)?)
 }
 
 /// The bytes that hexadecimal digits spell.
-pub fn digits_of<const COUNT: usize>(value: &Value) -> Result<[u8; COUNT], StateFault>
+pub(crate) fn digits_of<const COUNT: usize>(value: &Value) -> Result<[u8; COUNT], StateFault>
     ensures { Gives (λ bytes. bytes) result (digits_of COUNT (view value.now)) }
 {
     let text = value.as_str().ok_or(StateFault::Shape)?;
@@ -66,7 +66,7 @@ pub fn digits_of<const COUNT: usize>(value: &Value) -> Result<[u8; COUNT], State
 }
 
 /// The elements of an array.
-pub fn elements_of(value: &Value) -> Result<&Vec<Value>, StateFault>
+pub(crate) fn elements_of(value: &Value) -> Result<&Vec<Value>, StateFault>
     ensures { Gives (λ values. map view values.now.items) result (elements_of (view value.now)) }
 {
     value.as_array().ok_or(StateFault::Shape)
