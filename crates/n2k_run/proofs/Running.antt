@@ -1,5 +1,5 @@
 -- The engine of the runs: what stands after each step, and what each end leaves.
-use Rattle.std.proofs.Common.{◌≡◌, inl, inr, ℕ, true, false, List, [], ◌∷◌, ◌++◌, refl, sym, ap, ◌∙◌, subst, append_assoc, arith, length-append, Option, Some, None, Result, Ok, Err}
+use Rattle.std.proofs.Common.{◌≡◌, inl, inr, ℕ, true, false, List, [], ◌∷◌, ◌++◌, length, refl, sym, ap, ◌∙◌, subst, append_assoc, arith, length-append, Option, Some, None, Result, Ok, Err}
 use Rattle.std.specs.Prelude.{IfSome}
 use Rattle.std.specs.Io.KnownBytes.{Appends, Consumes, IsAtEnd}
 use Rattle.std.proofs.KnownBytes.{Appends-nil, Appends-trans, Consumes-nil, Consumes-trans}
@@ -35,6 +35,20 @@ more_front old mid new text part more whole first second is =
 pub known_more : (known : Option (List ℕ)) (P Q : List ℕ → Type 0) → ((log : List ℕ) → P log → Q log) → IfSome known P → IfSome known Q
 known_more None P Q follows p = tt
 known_more (Some log) P Q follows p = follows log p
+
+-- A sink failed once the next line had its fault: then something was kept, so that the fault is none of the source.
+pub none_read : {S : Type 0} (m : Making S) (packing : Packing) (s s' : S) (held held' : Held) (text text' report report' : List ℕ) (left₀ left : Option (List ℕ)) (failed₀ failed : ℕ) (w w' e e' : Option (List ℕ)) (fault sink : RunFault)
+    → TakesNext {T = Unit {0}} m packing s s' held held' left₀ left text text' report report' (Err fault) → (fault ≡ Memory → ⊥) → ReadsNext {T = Unit {0}} held' failed₀ failed (Err fault)
+    → WritesKept {T = Unit {0}} text' report' w w' e e' (Err sink) → failed ≡ failed₀
+none_read m packing s s' held held' text text' report report' left₀ left failed₀ failed w w' e e' Read Write next not_memory reads out = absurd (omega (arith, ap length next.2, out.2))
+none_read m packing s s' held held' text text' report report' left₀ left failed₀ failed w w' e e' Read Report next not_memory reads out = absurd (omega (arith, ap length next.3, out.2))
+none_read m packing s s' held held' text text' report report' left₀ left failed₀ failed w w' e e' Read Read next not_memory reads out = absurd out
+none_read m packing s s' held held' text text' report report' left₀ left failed₀ failed w w' e e' Read Memory next not_memory reads out = absurd out
+none_read m packing s s' held held' text text' report report' left₀ left failed₀ failed w w' e e' Read TooManyLines next not_memory reads out = absurd out
+none_read m packing s s' held held' text text' report report' left₀ left failed₀ failed w w' e e' TooManyLines sink next not_memory reads out = reads
+none_read m packing s s' held held' text text' report report' left₀ left failed₀ failed w w' e e' Memory sink next not_memory reads out = reads
+none_read m packing s s' held held' text text' report report' left₀ left failed₀ failed w w' e e' Write sink next not_memory reads out = absurd next
+none_read m packing s s' held held' text text' report report' left₀ left failed₀ failed w w' e e' Report sink next not_memory reads out = absurd next
 
 module _ {S : Type 0} (m : Making S) (packing : Packing) (s₀ : S) (before : Devices) where
   abbrev o : Output
@@ -273,38 +287,38 @@ module _ {S : Type 0} (m : Making S) (packing : Packing) (s₀ : S) (before : De
   }) lead
 
   -- a sink failed
-  pub sink_end : (stands : List Entry → Type 0) (s : S) (es : List Entry) (text report : List ℕ) (now after : Devices) (fault : RunFault) → Made m s₀ s es text report before now → Leads packing before.left es → now.failed_writes ≡ before.failed_writes → now.failed_reports ≡ before.failed_reports
+  pub sink_end : (stands : List Entry → Type 0) (s : S) (es : List Entry) (text report : List ℕ) (now after : Devices) (fault : RunFault) → Made m s₀ s es text report before now → Leads packing before.left es → after.failed_reads ≡ before.failed_reads → now.failed_writes ≡ before.failed_writes → now.failed_reports ≡ before.failed_reports
       → WritesKept {T = Unit {0}} text report now.written after.written now.reported after.reported (Err fault) → FailsKept {T = Unit {0}} now.failed_writes after.failed_writes now.failed_reports after.failed_reports (Err fault)
       → Runs {T = Unit {0}} o stands before after (Err fault)
-  sink_end stands s es text report now after Write made lead writes reports out fails = record {
+  sink_end stands s es text report now after Write made lead reads writes reports out fails = record {
     ends = tt;
-    fronts = write_fronts s es text report now after made out lead;
-    reports_first = write_first s es text report now after made out lead;
-    device = subst (λ n. HasFailed n after.failed_writes) writes fails;
+    fronts = write_fronts s es text report now after made (out.0, out.1) lead;
+    reports_first = write_first s es text report now after made (out.0, out.1) lead;
+    device = record { reads = reads; writes = subst (λ n. HasFailed n after.failed_writes) writes fails.0; reports = fails.1 ∙ reports };
   }
-  sink_end stands s es text report now after Report made lead writes reports out fails = record {
+  sink_end stands s es text report now after Report made lead reads writes reports out fails = record {
     ends = tt;
-    fronts = report_fronts s es text report now after made out lead;
-    reports_first = report_first s es text report now after made out lead;
-    device = subst (λ n. HasFailed n after.failed_reports) reports fails;
+    fronts = report_fronts s es text report now after made (out.0, out.1) lead;
+    reports_first = report_first s es text report now after made (out.0, out.1) lead;
+    device = record { reads = reads; writes = fails.1 ∙ writes; reports = subst (λ n. HasFailed n after.failed_reports) reports fails.0 };
   }
-  sink_end stands s es text report now after Read made lead writes reports out fails = absurd out
-  sink_end stands s es text report now after Memory made lead writes reports out fails = absurd out
-  sink_end stands s es text report now after TooManyLines made lead writes reports out fails = absurd out
+  sink_end stands s es text report now after Read made lead reads writes reports out fails = absurd out
+  sink_end stands s es text report now after Memory made lead reads writes reports out fails = absurd out
+  sink_end stands s es text report now after TooManyLines made lead reads writes reports out fails = absurd out
 
   pub lead_of : (s : S) (held : Held) (text report : List ℕ) (now : Devices) (stands : Stands m packing s₀ s held text report before now) → Leads packing before.left (entries packing stands.front)
   lead_of s held text report now stands = leads packing before.left now.left stands.front (unanswered held) held.has_ended stands.came stands.whole stands.end
 
   -- memory was refused: nothing more is written
-  pub memory_end : (stands : List Entry → Type 0) (s : S) (held : Held) (text report : List ℕ) (now : Devices) (left : Option (List ℕ)) (calls failed : ℕ) → Stands m packing s₀ s held text report before now → Runs {T = Unit {0}} o stands before (read_on now left calls failed) (Err Memory)
-  memory_end stands s held text report now left calls failed stood =
+  pub memory_end : (stands : List Entry → Type 0) (s : S) (held : Held) (text report : List ℕ) (now : Devices) (left : Option (List ℕ)) (calls failed : ℕ) → Stands m packing s₀ s held text report before now → failed ≡ now.failed_reads → Runs {T = Unit {0}} o stands before (read_on now left calls failed) (Err Memory)
+  memory_end stands s held text report now left calls failed stood none_failed =
       let made = made_read s (entries packing stood.front) text report now left calls failed stood.made in
       let lead = lead_of s held text report now stood in
       record {
         ends = tt;
         fronts = kept_fronts s (entries packing stood.front) text report (read_on now left calls failed) made lead;
         reports_first = kept_first s (entries packing stood.front) text report (read_on now left calls failed) made lead;
-        device = record { writes = stood.none_failed.writes; reports = stood.none_failed.reports };
+        device = record { reads = none_failed ∙ stood.none_failed.reads; writes = stood.none_failed.writes; reports = stood.none_failed.reports };
       }
 
   -- the end of the log
@@ -341,7 +355,7 @@ module _ {S : Type 0} (m : Making S) (packing : Packing) (s₀ : S) (before : De
   last_end s held text report now w' e' fw' fe' (Ok x) stands ended out fails = whole_end s held text report now w' e' fw' fe' stands ended out fails
   last_end s held text report now w' e' fw' fe' (Err fault) stands ended out fails =
       let after : Devices = record now { written = w'; failed_writes = fw'; reported = e'; failed_reports = fe' } in
-      sink_end (λ es. s ≡ after_all m s₀ es) s (entries packing stands.front) text report now after fault stands.made (lead_of s held text report now stands) stands.none_failed.writes stands.none_failed.reports out fails
+      sink_end (λ es. s ≡ after_all m s₀ es) s (entries packing stands.front) text report now after fault stands.made (lead_of s held text report now stands) stands.none_failed.reads stands.none_failed.writes stands.none_failed.reports out fails
 
   -- a fault of the next line, where nothing moved
   pub still_made : (s s' : S) (held held' : Held) (text text' report report' : List ℕ) (now : Devices) (left : Option (List ℕ)) (calls failed : ℕ) (fault : RunFault) → Stands m packing s₀ s held text report before now → TakesNext {T = Unit {0}} m packing s s' held held' now.left left text text' report report' (Err fault) → (fault ≡ Memory → ⊥)
@@ -398,14 +412,15 @@ module _ {S : Type 0} (m : Making S) (packing : Packing) (s₀ : S) (before : De
   fault_device : (now after : Devices) (s s' : S) (held held' : Held) (text text' report report' : List ℕ) (fault : RunFault) → NoneFailed before now → (after.failed_writes ≡ now.failed_writes) × (after.failed_reports ≡ now.failed_reports) → CallsAre before.calls after.calls 0 held'.reads
       → TakesNext {T = Unit {0}} m packing s s' held held' now.left after.left text text' report report' (Err fault) → ReadsNext {T = Unit {0}} held' now.failed_reads after.failed_reads (Err fault)
       → HasDevice {T = Unit {0}} before after (Err fault)
-  fault_device now after s s' held held' text text' report report' Read none hold called next reads = (
-    elim reads [ inl p ↦ inl (subst (λ n. HasFailed n after.failed_reads) none.reads p) | inr p ↦ inr (calls_end before.calls after.calls held'.reads called p) ],
-    record { writes = hold.0 ∙ none.writes; reports = hold.1 ∙ none.reports },
-  )
+  fault_device now after s s' held held' text text' report report' Read none hold called next reads = record {
+    reads = elim reads [ inl p ↦ inl (subst (λ n. HasFailed n after.failed_reads) none.reads p) | inr p ↦ inr (calls_end before.calls after.calls held'.reads called p.0, p.1 ∙ none.reads) ];
+    writes = hold.0 ∙ none.writes;
+    reports = hold.1 ∙ none.reports;
+  }
   fault_device now after s s' held held' text text' report report' Write none hold called next reads = absurd next
   fault_device now after s s' held held' text text' report report' Report none hold called next reads = absurd next
-  fault_device now after s s' held held' text text' report report' Memory none hold called next reads = record { writes = hold.0 ∙ none.writes; reports = hold.1 ∙ none.reports }
-  fault_device now after s s' held held' text text' report report' TooManyLines none hold called next reads = record { writes = hold.0 ∙ none.writes; reports = hold.1 ∙ none.reports }
+  fault_device now after s s' held held' text text' report report' Memory none hold called next reads = record { reads = reads ∙ none.reads; writes = hold.0 ∙ none.writes; reports = hold.1 ∙ none.reports }
+  fault_device now after s s' held held' text text' report report' TooManyLines none hold called next reads = record { reads = reads ∙ none.reads; writes = hold.0 ∙ none.writes; reports = hold.1 ∙ none.reports }
 
   pub fault_end : (s s' : S) (held held' : Held) (text text' report report' : List ℕ) (now : Devices) (left : Option (List ℕ)) (calls failed : ℕ) (w' e' : Option (List ℕ)) (fw' fe' : ℕ) (fault : RunFault) → Stands m packing s₀ s held text report before now → held.has_ended ≡ false
       → TakesNext {T = Unit {0}} m packing s s' held held' now.left left text text' report report' (Err fault) → (fault ≡ Memory → ⊥) → ReadsNext {T = Unit {0}} held' now.failed_reads failed (Err fault) → CallsAre now.calls calls held.reads held'.reads
