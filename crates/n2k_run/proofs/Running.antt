@@ -13,7 +13,7 @@ use Rattle.n2k_run.specs.Device.{HasFailed}
 use Rattle.n2k_run.specs.Entries.{entries}
 use Rattle.n2k_run.specs.Lines.{whole_lines}
 use Rattle.n2k_run.specs.Making.{Making, after_all, texts_from, reports_from}
-use Rattle.n2k_run.specs.Runs.{Devices, Ends, Gained, HasDevice, HasFronts, IsCut, IsFull, NoneFailed, Output, ReportsFirst, Runs, output_from}
+use Rattle.n2k_run.specs.Runs.{AreNumbered, Devices, Ends, Gained, HasDevice, HasFronts, IsCut, IsFull, NoneFailed, Output, ReportsFirst, Runs, output_from}
 use Rattle.n2k_run.specs.Writing.{AppendsFront}
 use Rattle.n2k_run.specs.Inner.Engine.{FailsKept, Made, MovesOn, ReadsNext, Stands, StandsStill, TakesNext, WritesKept}
 use Rattle.n2k_run.proofs.Finding.{calls_end}
@@ -92,6 +92,7 @@ module _ {S : Type 0} (m : Making S) (packing : Packing) (s₀ : S) (before : De
           text_is = none_text;
           report_is = none_report;
           counted = omega arith;
+          numbered = λ some. absurd (omega (arith, some));
         };
         called = (omega arith, inl (omega (arith, ap (λ (h : Held). h.reads) is)));
         none_failed = record { reads = refl; writes = refl; reports = refl };
@@ -109,6 +110,7 @@ module _ {S : Type 0} (m : Making S) (packing : Packing) (s₀ : S) (before : De
     text_is = refl;
     report_is = refl;
     counted = made.counted;
+    numbered = made.numbered;
   }
 
   pub writes : (s : S) (held : Held) (text report : List ℕ) (now : Devices) (w' e' : Option (List ℕ)) (fw' fe' : ℕ) (text' report' : List ℕ) → Stands m packing s₀ s held text report before now
@@ -142,6 +144,7 @@ module _ {S : Type 0} (m : Making S) (packing : Packing) (s₀ : S) (before : De
         text_is = moves.text_after ∙ ap (λ t. t ++ m.text s x) made.text_is ∙ ap (λ s. texts_from m mid made.kept ++ m.text s x) (sym here) ∙ ap (λ t. texts_from m mid made.kept ++ t) (sym (append-nil (m.text (after_all m mid made.kept) x))) ∙ sym (texts-append m mid made.kept (x ∷ []));
         report_is = moves.report_after ∙ ap (λ t. t ++ m.report s x) made.report_is ∙ ap (λ s. reports_from m mid made.kept ++ m.report s x) (sym here) ∙ ap (λ t. reports_from m mid made.kept ++ t) (sym (append-nil (m.report (after_all m mid made.kept) x))) ∙ sym (reports-append m mid made.kept (x ∷ []));
         counted = omega (arith, moves.counted, made.counted, length-append es (x ∷ []));
+        numbered = λ some. omega (arith, moves.few, made.counted, length-append es (x ∷ []));
       }
 
   made_still : (s s' : S) (es : List Entry) (text text' report report' : List ℕ) (now : Devices) → Made m s₀ s es text report before now → StandsStill s s' text text' report report' → Made m s₀ s' es text' report' before now
@@ -155,6 +158,7 @@ module _ {S : Type 0} (m : Making S) (packing : Packing) (s₀ : S) (before : De
     text_is = still.same_text ∙ made.text_is;
     report_is = still.same_report ∙ made.report_is;
     counted = ap m.lines still.same_state ∙ made.counted;
+    numbered = made.numbered;
   }
 
   -- the source after a call, the sinks as they were
@@ -173,6 +177,7 @@ module _ {S : Type 0} (m : Making S) (packing : Packing) (s₀ : S) (before : De
     text_is = made.text_is;
     report_is = made.report_is;
     counted = made.counted;
+    numbered = made.numbered;
   }
 
   calls_trans : (c₀ c c' r₀ r r' : ℕ) → CallsAre c₀ c r₀ r → CallsAre c c' r r' → CallsAre c₀ c' r₀ r'
@@ -341,6 +346,7 @@ module _ {S : Type 0} (m : Making S) (packing : Packing) (s₀ : S) (before : De
       record {
         ends = record {
           at_end = end.1;
+          numbered = known_more before.left _ _ (λ log is. subst (λ front. AreNumbered (m.lines s₀) (entries packing front)) is stands.made.numbered) log_is;
           gained = known_more before.left _ _ (λ log is. subst (λ front. Gained o before after (entries packing front)) is all) log_is;
           holds = known_more before.left _ _ (λ log is. subst (λ front. s ≡ after_all m s₀ (entries packing front)) is stands.made.state) log_is;
         };
@@ -378,6 +384,7 @@ module _ {S : Type 0} (m : Making S) (packing : Packing) (s₀ : S) (before : De
       record {
         came = came;
         given = Consumes-trans before.left now.left after.left (stands.front ++ unanswered held) next.0.came stands.came next.0.given;
+        numbered = subst (λ front. AreNumbered (m.lines s₀) (entries packing front)) is made.numbered;
         gained = subst (λ front. Gained o before after (entries packing front)) is (gained s' (entries packing stands.front) after made);
         holds = subst (λ front. s' ≡ after_all m s₀ (entries packing front)) is made.state;
       }

@@ -1,5 +1,5 @@
 -- What every run promises, by the texts and the reports that it makes of the entries of its log.
-use Rattle.std.specs.Prelude.{◌≡◌, ◌⊎◌, ◌+◌, ℕ, List, ◌∷◌, ◌++◌, length, Option, Result, Ok, Err, OnErr, IfSome}
+use Rattle.std.specs.Prelude.{◌≡◌, ◌⊎◌, ◌<◌, ◌≤◌, ◌+◌, ℕ, List, ◌∷◌, ◌++◌, length, Option, Result, Ok, Err, OnErr, IfSome}
 use Rattle.std.specs.Io.KnownBytes.{Appends, Consumes, IsAtEnd}
 use Rattle.n2k_wire.specs.declared.entry.Entry.{Entry}
 use Rattle.n2k_wire.specs.declared.entry.Packing.{Packing}
@@ -62,10 +62,15 @@ pub record Gained (o : Output) (before after : Devices) (es : List Entry) : Type
   pub printed : Appends before.written after.written (o.texts es)
   pub reported : Appends before.reported after.reported (o.reports es)
 
+-- each of these entries, the first of which is that of line `counted + 1`, has a number that is counted
+abbrev pub AreNumbered : ℕ → List Entry → Type 0
+AreNumbered counted es = 0 < length es → counted + length es ≤ most_lines
+
 -- The run came to its end: all of the log was read, and of all its entries the texts and reports were written. `stands`
 -- says what else holds where a run has taken these entries.
 pub record IsWhole (o : Output) (stands : List Entry → Type 0) (before after : Devices) : Type 0 where
   pub at_end : IsAtEnd after.left
+  pub numbered : IfSome before.left (λ log. AreNumbered o.counted (entries o.packing log))
   pub gained : IfSome before.left (λ log. Gained o before after (entries o.packing log))
   pub holds : IfSome before.left (λ log. stands (entries o.packing log))
 
@@ -73,6 +78,7 @@ pub record IsWhole (o : Output) (stands : List Entry → Type 0) (before after :
 pub record IsCut (o : Output) (stands : List Entry → Type 0) (before after : Devices) : Type 0 where
   pub came : List ℕ
   pub given : Consumes before.left after.left came
+  pub numbered : AreNumbered o.counted (entries o.packing (whole_lines came))
   pub gained : Gained o before after (entries o.packing (whole_lines came))
   pub holds : stands (entries o.packing (whole_lines came))
 

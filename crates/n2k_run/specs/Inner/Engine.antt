@@ -14,7 +14,7 @@ use Rattle.n2k_run.specs.Entries.{entries}
 use Rattle.n2k_run.specs.Lines.{line_feed}
 use Rattle.n2k_run.specs.Making.{Making, after_all, texts_from, reports_from}
 use Rattle.n2k_run.specs.Reading.{most_reads}
-use Rattle.n2k_run.specs.Runs.{Devices, NoneFailed}
+use Rattle.n2k_run.specs.Runs.{AreNumbered, Devices, NoneFailed}
 use Rattle.n2k_run.specs.Writing.{AppendsFront}
 
 -- a maker took an entry: the state, the text and the report moved on
@@ -110,6 +110,7 @@ pub record Made {S : Type 0} (m : Making S) (s₀ s : S) (es : List Entry) (text
   pub text_is : text ≡ texts_from m (after_all m s₀ written) kept
   pub report_is : report ≡ reports_from m (after_all m s₀ written) kept
   pub counted : m.lines s ≡ m.lines s₀ + length es
+  pub numbered : AreNumbered (m.lines s₀) es
 
 -- The engine between two lines: what came of the log is what was taken and what the block holds.
 pub record Stands {S : Type 0} (m : Making S) (packing : Packing) (s₀ s : S) (held : Held) (text report : List ℕ) (before now : Devices) : Type 0 where
