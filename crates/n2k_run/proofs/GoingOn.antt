@@ -1,6 +1,6 @@
 -- The output and the reports of a log that goes on, after those of its front.
 use Rattle.std.proofs.Common.{◌≡◌, ℕ, zero, suc, ◌+◌, ◌<◌, ◌≤◌, Bool, true, List, [], ◌∷◌, ◌++◌, length, Option, Some, None, Result, Ok, Err, refl, sym, ap, ◌∙◌, subst, length-append, arith}
-use Rattle.std.specs.Prelude.{◌⊎◌, IfSome, option_and_then, slice_get}
+use Rattle.std.specs.Prelude.{IfSome, option_and_then, slice_get}
 use mathlib.Core.Logic.{inl, inr}
 use Rattle.std.specs.List.{flat_map, range_with_len}
 use Rattle.std.specs.Io.{IsEmptyOrEndsWith}
@@ -13,8 +13,7 @@ use Rattle.n2k_join.specs.declared.state_fault.StateFault.TheVariants as state_f
 use Rattle.n2k_join.specs.Counts.{most_lines}
 use Rattle.n2k_join.specs.Laws.{StepsAgree, LinesStay}
 use Rattle.n2k_join.specs.Messages.{broken, cause_in, entry_at, numbers}
-use Rattle.n2k_join.specs.State.{State, state}
-use Rattle.n2k_run.specs.declared.fault.RunFault.{RunFault}
+use Rattle.n2k_join.specs.State.{state}
 use Rattle.n2k_run.specs.declared.fault.RunFault.TheVariants as run_faults
 use Rattle.n2k_run.specs.declared.options.Options.{Options}
 use Rattle.n2k_run.specs.declared.part.Part.{Part}
@@ -23,7 +22,7 @@ use Rattle.n2k_run.specs.declared.part.PartFault.TheVariants.{State as Refused, 
 use Rattle.n2k_run.specs.Decoded.{cause_at, message_line, numbers_after, out, out_of, output_after, report_at, reports, reports_of, text_at}
 use Rattle.n2k_run.specs.Entries.{entries}
 use Rattle.n2k_run.specs.Lines.{line_feed, whole_lines}
-use Rattle.n2k_run.specs.Parts.{Continues, GoesOn, GoesOnPartly, GoesOnToLimit, HasPart, IsOfKind, IsPartOf, TellsRun, begun, save, state_after}
+use Rattle.n2k_run.specs.Parts.{Continues, GoesOn, GoesOnPartly, GoesOnToLimit, HasPart, IsOfKind, IsPartOf, TellsRun, save, state_after}
 use Rattle.n2k_run.specs.Reports.{line_report}
 use Rattle.n2k_run.specs.Runs.{Devices, Gained, HasFronts}
 use Rattle.n2k_run.proofs.Fronts.{entries-append}

@@ -1,14 +1,12 @@
 -- Parts that lie in memory, taken one after the other.
-use Rattle.std.proofs.Common.{◌≡◌, ℕ, List, [], ◌∷◌, ◌++◌, length, map, Option, Some, None, Result, Ok, Err, refl, sym, ap, ◌∙◌, subst, append_assoc, append-nil}
-use Rattle.std.specs.Prelude.{◌⊎◌, IfOk, IfSome}
-use mathlib.Core.Logic.{inl, inr}
-use Rattle.std.specs.List.{flat_map, concat}
+use Rattle.std.proofs.Common.{◌≡◌, ℕ, List, [], ◌∷◌, ◌++◌, length, map, Option, Some, None, Result, Ok, Err, refl, sym, ap, ◌∙◌, subst, append-nil}
+use Rattle.std.specs.Prelude.{IfOk}
+use Rattle.std.specs.List.{concat}
 use Rattle.std.specs.Prelude.{◌<◌, get_or, take, drop, suc}
 use Rattle.std.specs.Borrow.{Bor}
 use Rattle.std.proofs.lemmas.List.{map-append, take-append-drop}
 use Rattle.std.proofs.Math.Seq.{drop-cons}
 use Rattle.n2k_run.specs.Memory.{Supply}
-use Rattle.std.specs.Io.{IsEmptyOrEndsWith}
 use Rattle.std.specs.Io.KnownBytes.{Appends}
 use Rattle.std.proofs.KnownBytes.{Appends-nil, Appends-trans}
 use Rattle.std.proofs.lemmas.Grind.{flat_map-append}
@@ -25,8 +23,7 @@ use Rattle.n2k_run.specs.declared.part.PartFault.TheVariants.{State as Refused, 
 use Rattle.n2k_run.specs.Decoded.{out, out_of, output_after, reports, reports_of}
 use Rattle.n2k_run.specs.Entries.{entries}
 use Rattle.n2k_run.specs.Inner.Parts.{Saves}
-use Rattle.n2k_run.specs.Lines.{line_feed}
-use Rattle.n2k_run.specs.Parts.{AreCutAtLines, BeginsBy, IsPartOf, OnRefusal, PrintsLog, RefusedByMemory, RunsPart, Takes, TakesAll, TellsRun, begun, entries_of, save, with_source, HasPart}
+use Rattle.n2k_run.specs.Parts.{AreCutAtLines, BeginsBy, IsPartOf, OnRefusal, PrintsLog, RefusedByMemory, RunsPart, TakesAll, TellsRun, begun, entries_of, save, with_source, HasPart}
 use Rattle.n2k_run.specs.Runs.{Devices}
 use Rattle.n2k_run.proofs.Fronts.{entries-append}
 use Rattle.n2k_run.proofs.GoingOn.{out_of-append, reports_of-append}
