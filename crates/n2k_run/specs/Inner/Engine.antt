@@ -72,7 +72,7 @@ TakesNext m packing s s' old new left₀ left text text' report report' (Err Mem
 TakesNext m packing s s' old new left₀ left text text' report report' (Err Write) = ⊥
 TakesNext m packing s s' old new left₀ left text text' report report' (Err Report) = ⊥
 
--- the source's calls and failures at it: none of them fails where it is answered, or is refused by the maker
+-- the source's failures at it: none where a line or the end was found, also where the maker refuses the line
 abbrev pub ReadsNext : {T : Type 0} → Held → ℕ → ℕ → Result T RunFault → Type 0
 ReadsNext new failed₀ failed (Err Read) = HasFailed failed₀ failed ⊎ ((new.reads ≡ most_reads) × (failed ≡ failed₀))
 ReadsNext new failed₀ failed (Err Write) = Unit {0}
