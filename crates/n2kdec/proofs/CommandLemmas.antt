@@ -146,13 +146,13 @@ module _ (c : Command) (stands : List Entry → Type 0) (before after : Devices)
   tells : {T : Type 0} (f : RunFault) → Runs {T = T} c.output stands before mid (Err f) → Follows f → Tells c before after (fault_of_run f)
   tells run.Read ran follows =
       let said = follows _ ran.ends.holds in
-      (ran.device.0, record { came = ran.ends.came; given = ran.ends.given; taken = taken _ ran.ends.gained said.0; saved = said.1 })
+      (elim ran.device.reads [ inl failed ↦ inl failed | inr outlasted ↦ inr outlasted.0 ], record { came = ran.ends.came; given = ran.ends.given; taken = taken _ ran.ends.gained said.0; saved = said.1 })
   tells run.TooManyLines ran follows =
       let said = follows _ ran.ends.holds in
       record { lines = ran.ends.taken; full = ran.ends.full; more = ran.ends.left; taken = taken _ ran.ends.gained said.0; unsaved = said.1 }
-  tells run.Write ran follows = (ran.device, follows.1, fronts (same_text follows.0) ran.fronts)
+  tells run.Write ran follows = (ran.device.writes, follows.1, fronts (same_text follows.0) ran.fronts)
   tells run.Report ran follows =
-      (subst (λ n. HasFailed before.failed_reports n) (ap (λ (p : Place). p.failed) (sym follows.0)) ran.device, unsaved follows ran.fronts)
+      (subst (λ n. HasFailed before.failed_reports n) (ap (λ (p : Place). p.failed) (sym follows.0)) ran.device.reports, unsaved follows ran.fronts)
   tells run.Memory ran follows = unsaved follows ran.fronts
 
   still_first : (more : List ℕ) → Appends errors.text after.reported more → IfSome before.left (ReportsFirst c.output before mid) → IfSome before.left (ReportsFirst c.output before after)
@@ -172,6 +172,13 @@ module _ (c : Command) (stands : List Entry → Type 0) (before after : Devices)
   -- one after which nothing is written and nothing is saved
   pub left_by_run : {T : Type 0} (f : RunFault) → Runs {T = T} c.output stands before mid (Err f) → Follows f → summed ≡ errors → IsStopped c before after (fault_of_run f)
   left_by_run f ran follows same = stopped_by_run f ran follows [] (subst (λ e. Appends errors.text e []) (same_text same) (Appends-nil errors.text))
+
+  -- a run stands at a line, but memory for its state was refused
+  pub left_at_line : IfSome before.left (HasFronts c.output before mid) → IfSome before.left (ReportsFirst c.output before mid) → IsLeft → IsStopped c before after Memory
+  left_at_line ran first left = record {
+    tells = unsaved left ran;
+    reports_first = still_first [] (subst (λ e. Appends errors.text e []) (same_text left.0) (Appends-nil errors.text)) first;
+  }
 
   -- a run came to its end, and what is saved and summed up is what the command saves and counts
   module _ {T : Type 0} (x : T) (text : List ℕ) (counts : Counts) (ran : Runs {T = T} c.output stands before mid (Ok x))
