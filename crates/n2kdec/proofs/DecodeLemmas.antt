@@ -1,5 +1,5 @@
 -- From what the run of a part and its closing leave to what `decode` leaves.
-use Rattle.std.proofs.Common.{◌≡◌, ◌⊎◌, ◌∙◌, ℕ, List, Option, Some, None, Ok, Err, Result, IfOk, IfSome, ◌++◌, ap, sym, subst, inl, inr}
+use Rattle.std.proofs.Common.{◌≡◌, ◌⊎◌, ◌∙◌, ℕ, List, Option, Some, Ok, Err, Result, IfOk, IfSome, ◌++◌, ap, sym, subst, inl, inr}
 use Rattle.std.proofs.KnownBytes.{Appends-trans}
 use Rattle.std.specs.Io.KnownBytes.{Appends}
 use Rattle.n2k_wire.specs.declared.entry.Entry.{Entry}
@@ -13,7 +13,6 @@ use Rattle.n2k_run.specs.Making.{after_all}
 use Rattle.n2k_run.specs.Parts.{BeginsBy, Continues, HasPart, IsFront, IsOfKind, IsPartOf, RefusedByMemory, as_run, begun, state_after}
 use Rattle.n2k_run.specs.Reports.{summary_text}
 use Rattle.n2k_run.specs.Runs.{Devices, Output, Runs, output_from}
-use Rattle.n2k_run.specs.Writing.{AppendsFront}
 use Rattle.n2k_run.specs.declared.fault.RunFault.TheVariants as run
 use Rattle.n2k_run.specs.declared.part.Part.{Part}
 use Rattle.n2k_run.specs.declared.part.PartFault.{PartFault}
@@ -21,11 +20,11 @@ use Rattle.n2k_run.specs.declared.part.PartFault.TheVariants as part_faults
 use Rattle.n2k_run.specs.declared.options.Options.{Options}
 use Rattle.n2k_table.specs.Table.{TableParts, kind as kind_of}
 use Rattle.n2kdec.specs.Closing.{ClosesPart}
-use Rattle.n2kdec.specs.Commands.{Command, Ends, EndsUnlessRefused, CannotBeSaved, IsSaved, IsStopped, Keeps, Place, PrintsRest, decode_command, decode_from, decode_to, place}
+use Rattle.n2kdec.specs.Commands.{CannotBeSaved, Command, Ends, EndsUnlessRefused, IsWrittenUnlessFailed, IsSaved, IsStopped, Keeps, Place, PrintsRest, decode_command, decode_from, decode_to, place}
 use Rattle.n2kdec.specs.Fault.{exit_status}
 use Rattle.n2kdec.specs.declared.fault.Fault.{Fault}
-use Rattle.n2kdec.specs.declared.fault.Fault.TheVariants.{Table, State}
-use Rattle.n2kdec.proofs.CommandLemmas.{ended_by_closing, if_some, left_by_run, stopped_by_run}
+use Rattle.n2kdec.specs.declared.fault.Fault.TheVariants.{Save, State, Table}
+use Rattle.n2kdec.proofs.CommandLemmas.{ended_by_closing, if_some, left_by_run, some_written, stopped_by_run}
 
 -- no command that has begun ends by a refusal
 unless : (c : Command) (before after : Devices) (r : Result ℕ Fault) → Ends c before after r → EndsUnlessRefused c before after r
@@ -47,9 +46,9 @@ module _ (o : Output) (stands_at : List Entry → StateOf) (t : TableParts) (bef
   abbrev said : Place
   said = place after.reported after.failed_reports
 
-  summary_of : (part : Part) (es : List Entry) → IsPartOf t (stands_at es) part → AppendsFront errors.text after.reported (summary_text part.counts)
-      → AppendsFront errors.text after.reported (summary_text (c.counts es))
-  summary_of part es is front = subst (λ n. AppendsFront errors.text after.reported (summary_text n)) is.counted front
+  summary_of : (part : Part) (es : List Entry) → IsPartOf t (stands_at es) part → IsWrittenUnlessFailed errors said (summary_text part.counts)
+      → IsWrittenUnlessFailed errors said (summary_text (c.counts es))
+  summary_of part es is written = subst (λ n. IsWrittenUnlessFailed errors said (summary_text n)) is.counted written
 
   saved_or_not : (part : Part) (es : List Entry) → IsPartOf t (stands_at es) part → Keeps keeper kept part.state.items ⊎ HasFailed keeper.failed kept.failed
       → IsSaved c.saving es ⊎ CannotBeSaved c.saving
@@ -63,9 +62,9 @@ module _ (o : Output) (stands_at : List Entry → StateOf) (t : TableParts) (bef
       (ended_by_closing c _ before after errors part part.state.items part.counts ran
       (if_some _ _ before.left (λ log is. (is.counted, is.saved)) ran.ends.holds) r closes)
   closed (Err (part_faults.Stopped run.Read part)) r kind memory ran closes = subst (EndsUnlessRefused c before after) (sym closes.0)
-      (stopped_by_run c _ before after errors run.Read ran (λ es is. (summary_of part es is closes.2, saved_or_not part es is closes.1)) closes.2.1.front closes.2.1.appended)
+      (stopped_by_run c _ before after errors run.Read ran (λ es is. (summary_of part es is closes.2, saved_or_not part es is closes.1)) (some_written errors said (summary_text part.counts) closes.2))
   closed (Err (part_faults.Stopped run.TooManyLines part)) r kind memory ran closes = subst (EndsUnlessRefused c before after) (sym closes.0)
-      (stopped_by_run c _ before after errors run.TooManyLines ran (λ es is. (summary_of part es is closes.2, closes.1)) closes.2.1.front closes.2.1.appended)
+      (stopped_by_run c _ before after errors run.TooManyLines ran (λ es is. (summary_of part es is closes.2, closes.1)) (some_written errors said (summary_text part.counts) closes.2))
   closed (Err (part_faults.Stopped run.Write part)) r (inl kind) memory ran closes = let bad : run.Write ≡ run.Read = kind in cc
   closed (Err (part_faults.Stopped run.Write part)) r (inr kind) memory ran closes = let bad : run.Write ≡ run.TooManyLines = kind in cc
   closed (Err (part_faults.Stopped run.Report part)) r (inl kind) memory ran closes = let bad : run.Report ≡ run.Read = kind in cc
@@ -144,15 +143,16 @@ module _ (o : Options) (front : List ℕ) (before after : Devices) (errors keepe
   rest_of : (t : TableParts) (ended : Result Part PartFault) (r : Result ℕ Fault) → Continues t o front before (record after { reported = errors.text; failed_reports = errors.failed }) ended
       → ClosesPart keeper kept errors (place after.reported after.failed_reports) ended r → Rest t r
   rest_of t (Ok part) (Err fault) goes closes = tt
-  rest_of t (Ok part) (Ok status) goes closes = if_some _ _ before.left (λ log on. record {
+  rest_of t (Ok part) (Ok status) goes (inr unsaved) = let bad : Ok status ≡ Err Save = unsaved.0 in cc
+  rest_of t (Ok part) (Ok status) goes (inl closes) = if_some _ _ before.left (λ log on. record {
     text = on.text;
     printed = on.printed;
     output = on.output;
     report = on.report;
     reported = Appends-trans before.reported errors.text after.reported on.report (summary_text (counts (kind_of t) (entries o.packing (front ++ log))))
-        on.reported (subst (λ n. Appends errors.text after.reported (summary_text n)) on.counted closes.1.0);
+        on.reported (subst (λ n. Appends errors.text after.reported (summary_text n)) on.counted closes.1.0.written);
     told = on.told;
-    answered = closes.1.2 ∙ ap exit_status on.counted;
+    answered = closes.1.1 ∙ ap exit_status on.counted;
     saved = subst (Keeps keeper kept) on.saved closes.0;
     reads_back = subst (λ s. begun t (Some s) ≡ Ok (state_after t o (front ++ log))) on.saved on.reads_back;
   }) goes.1
