@@ -22,14 +22,14 @@ runs_same o o' stands before after result same runs = subst (λ (p : Output). Ru
 module _ (o : Output) (stands stands' : List Entry → Type 0) (before after : Devices) where
   pub ok_more : {T U : Type 0} (x : T) (y : U) → Runs {T = T} o stands before after (Ok x) → ((es : List Entry) → stands es → stands' es) → Runs {T = U} o stands' before after (Ok y)
   ok_more x y runs follows = record {
-    ends = record { at_end = runs.ends.at_end; gained = runs.ends.gained; holds = known_more before.left _ _ (λ log. follows _) runs.ends.holds };
+    ends = record { at_end = runs.ends.at_end; numbered = runs.ends.numbered; gained = runs.ends.gained; holds = known_more before.left _ _ (λ log. follows _) runs.ends.holds };
     fronts = tt;
     reports_first = runs.reports_first;
     device = runs.device;
   }
 
   ends_more : (T U : Type 0) (fault : RunFault) → ((es : List Entry) → stands es → stands' es) → Ends {T = T} o stands before after (Err fault) → Ends {T = U} o stands' before after (Err fault)
-  ends_more T U Read follows e = record { came = e.came; given = e.given; gained = e.gained; holds = follows _ e.holds }
+  ends_more T U Read follows e = record { came = e.came; given = e.given; numbered = e.numbered; gained = e.gained; holds = follows _ e.holds }
   ends_more T U TooManyLines follows e = record { taken = e.taken; full = e.full; left = e.left; gained = e.gained; holds = follows _ e.holds }
   ends_more T U Write follows e = tt
   ends_more T U Report follows e = tt

@@ -11,8 +11,8 @@
 //!   `summary_text` the summary of a run, and `write_summary` writes it without memory.
 //!
 //! A run that answers Ok has written exactly the texts and reports of the log's lines, in their order. One that answers
-//! a fault has written a front of them, the reports first: the fault is that of a device whose call failed, of memory,
-//! of 10^12 reads without an end, or of too many lines. What every run promises stands once, in specs/Runs.
+//! a fault has written a front of them, the reports first: the fault is that of the one device whose call failed, of
+//! memory, of 10^12 reads without an end, or of too many lines. What every run promises stands once, in specs/Runs.
 #![tactic(auto)]
 
 mod blocks;

@@ -16,7 +16,7 @@ use Rattle.n2kdec.specs.Closing.{Closes, SumsUp}
 use Rattle.n2kdec.specs.Commands.{BreaksOff, CannotBeSaved, Command, Ends, IsWritten, IsWrittenUnlessFailed, HasTaken, IsCutOff, IsDone, IsRefusedOrStopped, IsSaved, IsStopped, IsUntouched, Keeps, Place, SumsUpPart, Tells, entries_for, no_saving, place}
 use Rattle.n2kdec.specs.Fault.{exit_status, fault_of_run}
 use Rattle.n2kdec.specs.declared.fault.Fault.{Fault}
-use Rattle.n2kdec.specs.declared.fault.Fault.TheVariants.{Table, Report}
+use Rattle.n2kdec.specs.declared.fault.Fault.TheVariants.{Memory, Report, Table}
 
 pub if_some : {A : Type 0} (P Q : A → Type 0) (o : Option A) → ((a : A) → P a → Q a) → IfSome o P → IfSome o Q
 if_some P Q None weaker p = tt
@@ -98,15 +98,13 @@ module _ (c : Command) (stands : List Entry → Type 0) (before after : Devices)
   tells : {T : Type 0} (f : RunFault) → Runs {T = T} c.output stands before mid (Err f) → Follows f → Tells c before after (fault_of_run f)
   tells run.Read ran follows =
       let said = follows _ ran.ends.holds in
-      let hold = ran.device.1 in
-      (ran.device.0, record { came = ran.ends.came; given = ran.ends.given; taken = taken _ (SumsUpPart c.sums_up_a_part) ran.ends.gained hold.writes hold.reports said.0; saved = said.1 })
+      (elim ran.device.reads [ inl failed ↦ inl failed | inr outlasted ↦ inr outlasted.0 ], record { came = ran.ends.came; given = ran.ends.given; taken = taken _ (SumsUpPart c.sums_up_a_part) ran.ends.gained ran.device.writes ran.device.reports said.0; saved = said.1 })
   tells run.TooManyLines ran follows =
       let said = follows _ ran.ends.holds in
-      let hold = ran.device in
-      record { lines = ran.ends.taken; full = ran.ends.full; more = ran.ends.left; taken = taken _ (SumsUpPart c.sums_up_a_part) ran.ends.gained hold.writes hold.reports said.0; unsaved = said.1 }
-  tells run.Write ran follows = (ran.device, breaks_off follows ran.fronts)
+      record { lines = ran.ends.taken; full = ran.ends.full; more = ran.ends.left; taken = taken _ (SumsUpPart c.sums_up_a_part) ran.ends.gained ran.device.writes ran.device.reports said.0; unsaved = said.1 }
+  tells run.Write ran follows = (ran.device.writes, breaks_off follows ran.fronts)
   tells run.Report ran follows =
-      (subst (λ n. HasFailed before.failed_reports n) (ap (λ (p : Place). p.failed) (sym follows.0)) ran.device, inl (breaks_off follows ran.fronts))
+      (subst (λ n. HasFailed before.failed_reports n) (ap (λ (p : Place). p.failed) (sym follows.0)) ran.device.reports, inl (breaks_off follows ran.fronts))
   tells run.Memory ran follows = breaks_off follows ran.fronts
 
   still_first : (more : List ℕ) × Appends errors.text after.reported more → IfSome before.left (ReportsFirst c.output before mid) → IfSome before.left (ReportsFirst c.output before after)
@@ -126,6 +124,13 @@ module _ (c : Command) (stands : List Entry → Type 0) (before after : Devices)
   -- one after which nothing is written and nothing is saved
   pub left_by_run : {T : Type 0} (f : RunFault) → Runs {T = T} c.output stands before mid (Err f) → Follows f → summed ≡ errors → IsStopped c before after (fault_of_run f)
   left_by_run f ran follows same = stopped_by_run f ran follows ([], subst (λ e. Appends errors.text e []) (same_text same) (Appends-nil errors.text))
+
+  -- a run stands at a line, but memory for its state was refused
+  pub left_at_line : IfSome before.left (HasFronts c.output before mid) → IfSome before.left (ReportsFirst c.output before mid) → IsLeft → IsStopped c before after Memory
+  left_at_line ran first left = record {
+    tells = breaks_off left ran;
+    reports_first = still_first ([], subst (λ e. Appends errors.text e []) (same_text left.0) (Appends-nil errors.text)) first;
+  }
 
   -- a run came to its end, and what is saved and summed up is what the command saves and counts
   module _ {T : Type 0} (x : T) (text : List ℕ) (counts : Counts) (ran : Runs {T = T} c.output stands before mid (Ok x))
