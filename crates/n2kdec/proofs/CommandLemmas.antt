@@ -1,5 +1,5 @@
 -- From what a run, the place of a state and the summary leave to what a command leaves.
-use Rattle.std.proofs.Common.{◌≡◌, ◌⊎◌, ◌≤◌, ◌==◌, ◌++◌, Bool, true, false, cond, arith, MatchResult, ◌∙◌, ℕ, List, [], Option, Some, None, Ok, Err, Result, IfSome, IsErrAnd, ap, sym, subst, refl, inl, inr, append_assoc}
+use Rattle.std.proofs.Common.{◌≡◌, ◌⊎◌, ◌≤◌, ◌+◌, length, ◌==◌, ◌++◌, Bool, true, false, cond, arith, MatchResult, ◌∙◌, ℕ, List, [], Option, Some, None, Ok, Err, Result, IfSome, IsErrAnd, ap, sym, subst, refl, inl, inr, append_assoc}
 use Rattle.std.proofs.KnownBytes.{Appends-nil, Appends-trans}
 use Rattle.std.specs.Io.KnownBytes.{Appends}
 use Rattle.n2k_wire.specs.declared.entry.Entry.{Entry}
@@ -7,13 +7,16 @@ use Rattle.n2k_join.specs.declared.counts.Counts.{Counts}
 use Rattle.n2k_run.specs.Device.{HasFailed}
 use Rattle.n2k_run.specs.Reports.{summary_text}
 use Rattle.n2k_run.specs.Writing.{AppendsFront}
-use Rattle.n2k_run.specs.Runs.{Devices, Gained, HasFronts, ReportsFirst, Runs}
+use Rattle.n2k_run.specs.Runs.{AreNumbered, Devices, Gained, HasFronts, NoneFailed, ReportsFirst, Runs}
+use Rattle.n2k_run.specs.Parts.{StandsAtLine}
+use Rattle.n2k_run.proofs.Parting.{line_fronts}
+use Rattle.n2k_join.specs.Counts.{most_lines}
 use Rattle.n2k_run.specs.declared.fault.RunFault.{RunFault}
 use Rattle.n2k_run.specs.declared.fault.RunFault.TheVariants as run
 use Rattle.n2k_table.specs.Table.{TableParts}
 use Rattle.n2k_table.specs.declared.fault.TableFault.{TableFault}
 use Rattle.n2kdec.specs.Closing.{Closes, SumsUp}
-use Rattle.n2kdec.specs.Commands.{BreaksOff, CannotBeSaved, Command, Ends, IsWritten, IsWrittenUnlessFailed, HasTaken, IsCutOff, IsDone, IsRefusedOrStopped, IsSaved, IsStopped, IsUntouched, Keeps, Place, SumsUpPart, Tells, entries_for, no_saving, place}
+use Rattle.n2kdec.specs.Commands.{BreaksOff, CannotBeSaved, Command, Ends, HasDevice, HasTaken, IsCutOff, IsDone, IsRefusedOrStopped, IsSaved, IsStopped, IsUntouched, IsWritten, IsWrittenUnlessFailed, Keeps, Leaves, Place, SumsUpPart, entries_for, no_saving, place}
 use Rattle.n2kdec.specs.Fault.{exit_status, fault_of_run}
 use Rattle.n2kdec.specs.declared.fault.Fault.{Fault}
 use Rattle.n2kdec.specs.declared.fault.Fault.TheVariants.{Memory, Report, Table}
@@ -72,16 +75,19 @@ module _ (c : Command) (stands : List Entry → Type 0) (before after : Devices)
   Follows run.Report = IsLeft
   Follows run.Memory = IsLeft
 
-  -- no call of a sink failed in the run
-  taken : (es : List Entry) (said : Place → Place → List ℕ → Type 0) → Gained c.output before mid es → mid.failed_writes ≡ before.failed_writes → mid.failed_reports ≡ before.failed_reports
+  -- no call of the errors failed in the run
+  taken : (es : List Entry) (said : Place → Place → List ℕ → Type 0) → AreNumbered c.output.counted es → Gained c.output before mid es → errors.failed ≡ before.failed_reports
       → said errors summed (summary_text (c.counts es)) → HasTaken c before after es said
-  taken es said gained writes reports summary = record {
+  taken es said numbered gained held summary = record {
     errors = errors.text;
+    numbered = numbered;
     text = gained.printed;
-    writes = writes;
     report = gained.reported;
-    summary = subst (λ n. said (place errors.text n) summed (summary_text (c.counts es))) reports summary;
+    summary = subst (λ n. said (place errors.text n) summed (summary_text (c.counts es))) held summary;
   }
+
+  all_numbered : (es : List Entry) → c.output.counted + length es ≡ most_lines → AreNumbered c.output.counted es
+  all_numbered es full = λ some. omega (arith, full)
 
   same_text : summed ≡ errors → errors.text ≡ after.reported
   same_text same = ap (λ (p : Place). p.text) (sym same)
@@ -95,17 +101,34 @@ module _ (c : Command) (stands : List Entry → Type 0) (before after : Devices)
   breaks_off : IsLeft → IfSome before.left (HasFronts c.output before mid) → BreaksOff c before after
   breaks_off left ran = (left.1, fronts (same_text left.0) ran)
 
-  tells : {T : Type 0} (f : RunFault) → Runs {T = T} c.output stands before mid (Err f) → Follows f → Tells c before after (fault_of_run f)
-  tells run.Read ran follows =
+  leaves : {T : Type 0} (f : RunFault) → Runs {T = T} c.output stands before mid (Err f) → Follows f → Leaves c before after (fault_of_run f)
+  leaves run.Read ran follows =
       let said = follows _ ran.ends.holds in
-      (elim ran.device.reads [ inl failed ↦ inl failed | inr outlasted ↦ inr outlasted.0 ], record { came = ran.ends.came; given = ran.ends.given; taken = taken _ (SumsUpPart c.sums_up_a_part) ran.ends.gained ran.device.writes ran.device.reports said.0; saved = said.1 })
-  tells run.TooManyLines ran follows =
+      record { came = ran.ends.came; given = ran.ends.given; taken = taken _ (SumsUpPart c.sums_up_a_part) ran.ends.numbered ran.ends.gained ran.device.reports said.0; saved = said.1 }
+  leaves run.TooManyLines ran follows =
       let said = follows _ ran.ends.holds in
-      record { lines = ran.ends.taken; full = ran.ends.full; more = ran.ends.left; taken = taken _ (SumsUpPart c.sums_up_a_part) ran.ends.gained ran.device.writes ran.device.reports said.0; unsaved = said.1 }
-  tells run.Write ran follows = (ran.device.writes, breaks_off follows ran.fronts)
-  tells run.Report ran follows =
-      (subst (λ n. HasFailed before.failed_reports n) (ap (λ (p : Place). p.failed) (sym follows.0)) ran.device.reports, inl (breaks_off follows ran.fronts))
-  tells run.Memory ran follows = breaks_off follows ran.fronts
+      let numbered = all_numbered ran.ends.taken ran.ends.full in
+      record { lines = ran.ends.taken; full = ran.ends.full; more = ran.ends.left; taken = taken _ (SumsUpPart c.sums_up_a_part) numbered ran.ends.gained ran.device.reports said.0; unsaved = said.1 }
+  leaves run.Write ran follows = breaks_off follows ran.fronts
+  leaves run.Report ran follows = inl (breaks_off follows ran.fronts)
+  leaves run.Memory ran follows = breaks_off follows ran.fronts
+
+  same_failed : summed ≡ errors → after.failed_reports ≡ errors.failed
+  same_failed same = ap (λ (p : Place). p.failed) same
+
+  none_failed : summed ≡ errors → NoneFailed before mid → NoneFailed before after
+  none_failed same none = record { reads = none.reads; writes = none.writes; reports = same_failed same ∙ none.reports }
+
+  device : {T : Type 0} (f : RunFault) → Runs {T = T} c.output stands before mid (Err f) → Follows f → HasDevice c before after (fault_of_run f)
+  device run.Read ran follows = (ran.device.reads, ran.device.writes)
+  device run.TooManyLines ran follows = record { reads = ran.device.reads; writes = ran.device.writes }
+  device run.Write ran follows = record { reads = ran.device.reads; writes = ran.device.writes; reports = same_failed follows.0 ∙ ran.device.reports }
+  device run.Report ran follows = record {
+    reads = ran.device.reads;
+    writes = ran.device.writes;
+    reports = subst (λ n. HasFailed before.failed_reports n) (sym (same_failed follows.0)) ran.device.reports;
+  }
+  device run.Memory ran follows = inl (none_failed follows.0 ran.device)
 
   still_first : (more : List ℕ) × Appends errors.text after.reported more → IfSome before.left (ReportsFirst c.output before mid) → IfSome before.left (ReportsFirst c.output before after)
   still_first then = if_some _ _ before.left (λ log first. record {
@@ -119,17 +142,26 @@ module _ (c : Command) (stands : List Entry → Type 0) (before after : Devices)
   -- a run's fault stops a command
   pub stopped_by_run : {T : Type 0} (f : RunFault) → Runs {T = T} c.output stands before mid (Err f) → Follows f → (more : List ℕ) × Appends errors.text after.reported more
       → IsStopped c before after (fault_of_run f)
-  stopped_by_run f ran follows then = record { tells = tells f ran follows; reports_first = still_first then ran.reports_first }
+  stopped_by_run f ran follows then = record { leaves = leaves f ran follows; device = device f ran follows; reports_first = still_first then ran.reports_first }
 
   -- one after which nothing is written and nothing is saved
   pub left_by_run : {T : Type 0} (f : RunFault) → Runs {T = T} c.output stands before mid (Err f) → Follows f → summed ≡ errors → IsStopped c before after (fault_of_run f)
   left_by_run f ran follows same = stopped_by_run f ran follows ([], subst (λ e. Appends errors.text e []) (same_text same) (Appends-nil errors.text))
 
   -- a run stands at a line, but memory for its state was refused
-  pub left_at_line : IfSome before.left (HasFronts c.output before mid) → IfSome before.left (ReportsFirst c.output before mid) → IsLeft → IsStopped c before after Memory
-  left_at_line ran first left = record {
-    tells = breaks_off left ran;
-    reports_first = still_first ([], subst (λ e. Appends errors.text e []) (same_text left.0) (Appends-nil errors.text)) first;
+  line_device : (ran : Result (Unit {0}) RunFault) → StandsAtLine ran → c.sums_up_a_part ≡ true → summed ≡ errors → Runs c.output stands before mid ran → HasDevice c before after Memory
+  line_device (Ok x) line part same runs = inl (none_failed same runs.device)
+  line_device (Err run.Read) line part same runs = inr (part, record { reads = runs.device.reads; writes = runs.device.writes; reports = same_failed same ∙ runs.device.reports })
+  line_device (Err run.TooManyLines) line part same runs = inl (none_failed same runs.device)
+  line_device (Err run.Write) line part same runs = absurd line
+  line_device (Err run.Report) line part same runs = absurd line
+  line_device (Err run.Memory) line part same runs = absurd line
+
+  pub left_at_line : (ran : Result (Unit {0}) RunFault) → StandsAtLine ran → c.sums_up_a_part ≡ true → Runs c.output stands before mid ran → IsLeft → IsStopped c before after Memory
+  left_at_line ran line part runs left = record {
+    leaves = breaks_off left (line_fronts c.output before mid stands ran line runs);
+    device = line_device ran line part left.0 runs;
+    reports_first = still_first ([], subst (λ e. Appends errors.text e []) (same_text left.0) (Appends-nil errors.text)) runs.reports_first;
   }
 
   -- a run came to its end, and what is saved and summed up is what the command saves and counts
@@ -137,6 +169,7 @@ module _ (c : Command) (stands : List Entry → Type 0) (before after : Devices)
       (counted : IfSome before.left (λ log. (counts ≡ c.counts (entries_for c log)) × (text ≡ c.saving.state (entries_for c log)))) where
     done : (status : ℕ) → Keeps c.saving.before c.saving.after text → IsWritten errors summed (summary_text counts) → status ≡ exit_status counts → IsDone c before after status
     done status keeps whole is = record {
+      numbered = ran.ends.numbered;
       text = if_some _ _ before.left (λ log gained. gained.printed) ran.ends.gained;
       report = if_both _ _ _ before.left (λ log gained now. Appends-trans before.reported errors.text after.reported (c.output.reports (entries_for c log)) (summary_text (c.counts (entries_for c log)))
           gained.reported (subst (λ n. Appends errors.text after.reported (summary_text n)) now.0 whole.written)) ran.ends.gained counted;
@@ -151,15 +184,17 @@ module _ (c : Command) (stands : List Entry → Type 0) (before after : Devices)
     first said = still_first (some_written errors summed (summary_text counts) said) ran.reports_first
 
     log_taken : (said : Place → Place → List ℕ → Type 0) → said errors summed (summary_text counts) → IfSome before.left (λ log. HasTaken c before after (entries_for c log) said)
-    log_taken said summary = if_both _ _ _ before.left (λ log gained now. taken (entries_for c log) said gained ran.device.writes ran.device.reports
-        (subst (λ n. said errors summed (summary_text n)) now.0 summary)) ran.ends.gained counted
+    log_taken said summary = if_both _ _ _ before.left (λ log gained now. taken (entries_for c log) said now.0 gained ran.device.reports
+        (subst (λ n. said errors summed (summary_text n)) now.1 summary)) ran.ends.gained (if_both _ _ _ before.left (λ log numbered now. (numbered, now.0)) ran.ends.numbered counted)
 
     unsummed : Keeps c.saving.before c.saving.after text → IsCutOff errors summed (summary_text counts) → IsStopped c before after Report
     unsummed keeps cut = record {
-      tells = (
-        subst (λ n. HasFailed n after.failed_reports) ran.device.reports cut.failed,
-        inr (if_both _ _ _ before.left (λ log now said. (subst (Keeps c.saving.before c.saving.after) now.1 keeps, said)) counted (log_taken IsCutOff cut)),
-      );
+      leaves = inr (if_both _ _ _ before.left (λ log now said. (subst (Keeps c.saving.before c.saving.after) now.1 keeps, said)) counted (log_taken IsCutOff cut));
+      device = record {
+        reads = ran.device.reads;
+        writes = ran.device.writes;
+        reports = subst (λ n. HasFailed n after.failed_reports) ran.device.reports cut.failed;
+      };
       reports_first = first (inr cut);
     }
 
@@ -170,7 +205,8 @@ module _ (c : Command) (stands : List Entry → Type 0) (before after : Devices)
     pub ended_by_closing : (r : Result ℕ Fault) → Closes c.saving.before c.saving.after errors summed text counts r → Ends c before after r
     ended_by_closing r (inl saved) = summed_up r saved.0 saved.1
     ended_by_closing r (inr unsaved) = subst (Ends c before after) (sym unsaved.0) (record {
-      tells = (unsaved.1, log_taken IsWrittenUnlessFailed unsaved.2);
+      leaves = log_taken IsWrittenUnlessFailed unsaved.2;
+      device = (unsaved.1, record { reads = ran.device.reads; writes = ran.device.writes });
       reports_first = first unsaved.2;
     })
 
@@ -208,7 +244,7 @@ pub ended_past_table : (found : List TableFault) (command : TableParts → Comma
 ended_past_table found command t read before after r sound ends = past r (subst (λ u. Ends (command u) before after r) sound.1 ends)
   where
     refused : (f : Fault) → IsStopped (command t) before after f → IsRefusedOrStopped found (command t) before after f
-    refused (Table fault) s = absurd s.tells
+    refused (Table fault) s = absurd s.leaves
     refused f s = (sound.0, s)
 
     past : (r : Result ℕ Fault) → Ends (command t) before after r → MatchResult r (λ status. (found ≡ []) × IsDone (command t) before after status) (IsRefusedOrStopped found (command t) before after)

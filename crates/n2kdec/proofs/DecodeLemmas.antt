@@ -1,5 +1,5 @@
 -- From what the run of a part and its closing leave to what `decode` leaves.
-use Rattle.std.proofs.Common.{◌≡◌, ◌⊎◌, ◌∙◌, ℕ, List, Option, Some, Ok, Err, Result, IfOk, IfSome, ◌++◌, ap, sym, subst, inl, inr}
+use Rattle.std.proofs.Common.{◌≡◌, ◌⊎◌, ◌∙◌, ℕ, List, Option, Some, Ok, Err, Result, IfOk, IfSome, ◌++◌, ap, sym, subst, refl, inl, inr}
 use Rattle.std.proofs.KnownBytes.{Appends-trans}
 use Rattle.std.specs.Io.KnownBytes.{Appends}
 use Rattle.n2k_wire.specs.declared.entry.Entry.{Entry}
@@ -19,9 +19,9 @@ use Rattle.n2k_run.specs.declared.part.PartFault.{PartFault}
 use Rattle.n2k_run.specs.declared.part.PartFault.TheVariants as part_faults
 use Rattle.n2k_run.specs.declared.options.Options.{Options}
 use Rattle.n2k_table.specs.Table.{TableParts, kind as kind_of}
-use Rattle.n2k_run.proofs.Parting.{line_fronts, told_ok, told_run, told_stopped}
+use Rattle.n2k_run.proofs.Parting.{told_ok, told_run, told_stopped}
 use Rattle.n2kdec.specs.Closing.{ClosesPart}
-use Rattle.n2kdec.specs.Commands.{CannotBeSaved, Command, Ends, EndsUnlessRefused, IsWrittenUnlessFailed, IsSaved, IsStopped, Keeps, Place, PrintsRest, decode_command, decode_from, decode_to, place}
+use Rattle.n2kdec.specs.Commands.{CannotBeSaved, Command, Ends, EndsUnlessRefused, IsSaved, IsStopped, IsWrittenUnlessFailed, Keeps, Place, PrintsRest, decode_command, decode_from, decode_to, place}
 use Rattle.n2kdec.specs.Fault.{exit_status}
 use Rattle.n2kdec.specs.declared.fault.Fault.{Fault}
 use Rattle.n2kdec.specs.declared.fault.Fault.TheVariants.{Save, State, Table}
@@ -34,7 +34,7 @@ unless c before after (Err fault) stopped = go fault stopped
   where
     go : (f : Fault) → IsStopped c before after f → EndsUnlessRefused c before after (Err f)
     go (Table refused) s = tt
-    go (State refused) s = absurd s.tells
+    go (State refused) s = absurd s.leaves
     go f s = s
 
 module _ (o : Output) (stands_at : List Entry → StateOf) (t : TableParts) (before after : Devices) (errors keeper kept : Place) where
@@ -88,7 +88,7 @@ module _ (o : Output) (stands_at : List Entry → StateOf) (t : TableParts) (bef
   closed (Err (part_faults.Run run.TooManyLines)) r (inr (inr kind)) memory ran closes = let bad : run.TooManyLines ≡ run.Memory = kind in cc
   closed (Err (part_faults.State fault)) r kind memory ran closes = subst (EndsUnlessRefused c before after) (sym closes.0) memory
   closed (Err part_faults.Memory) r kind memory told closes = subst (EndsUnlessRefused c before after) (sym closes.0)
-      (left_at_line c (λ es. HasPart t (Err part_faults.Memory) (stands_at es)) before after errors (line_fronts o before mid _ told.ran told.ended told.runs) told.runs.reports_first (closes.2, closes.1))
+      (left_at_line c _ before after errors told.ran told.ended refl told.runs (closes.2, closes.1))
 
 -- a state that spells this one is refused for want of memory alone
 memory_only : (t : TableParts) (handed : Option (List ℕ)) (s : StateOf) (ended : Result Part PartFault) → BeginsBy t handed ended → begun t handed ≡ Ok s → RefusedByMemory ended

@@ -22,7 +22,7 @@ use Rattle.n2k_run.specs.Parts.{begun, save, state_after}
 use Rattle.n2k_run.specs.Plain.{plain_counts_of, plain_output}
 use Rattle.n2k_run.specs.Reading.{OutlastsReads}
 use Rattle.n2k_run.specs.Reports.{summary_text}
-use Rattle.n2k_run.specs.Runs.{Devices, HasFronts, NoneFailed, Output, ReportsFirst, output_from}
+use Rattle.n2k_run.specs.Runs.{AreNumbered, Devices, HasFronts, NoneFailed, Output, ReadFails, ReportFails, ReportsFirst, WriteFails, output_from}
 use Rattle.n2k_run.specs.Writing.{AppendsFront}
 use Rattle.n2k_run.specs.declared.options.Options.{Options}
 use Rattle.n2kdec.specs.Fault.{exit_status}
@@ -127,10 +127,11 @@ entries_for c log = entries c.output.packing log
 abbrev pub summed_up : Command → List Entry → List ℕ
 summed_up c es = c.output.reports es ++ summary_text (c.counts es)
 
--- The command came to its end: the output has gained what is printed of the log, the errors its reports and then its
--- summary, the status tells whether a line was bad, no device failed, nor the place of the state, and the state after the
--- log is saved.
+-- The command came to its end: the lines of the log have numbers that are counted, the output has gained what is printed of
+-- it, the errors its reports and then its summary, the status tells whether a line was bad, no device failed, nor the place
+-- of the state, and the state after the log is saved.
 pub record IsDone (c : Command) (before after : Devices) (answer : ℕ) : Type 0 where
+  pub numbered : IfSome before.left (λ log. AreNumbered c.output.counted (entries_for c log))
   pub text : IfSome before.left (λ log. Appends before.written after.written (c.output.texts (entries_for c log)))
   pub report : IfSome before.left (λ log. Appends before.reported after.reported (summed_up c (entries_for c log)))
   pub status : IfSome before.left (λ log. answer ≡ exit_status (c.counts (entries_for c log)))
@@ -139,13 +140,13 @@ pub record IsDone (c : Command) (before after : Devices) (answer : ℕ) : Type 0
   pub place : c.saving.after.failed ≡ c.saving.before.failed
   pub saved : IfSome before.left (λ log. IsSaved c.saving (entries_for c log))
 
--- A command has printed and reported these entries, by calls of which none failed; and then the errors have of their summary
--- what `summed` says.
+-- A command has printed and reported these entries, which have numbers that are counted. No call of the errors failed until
+-- then, and then they have of the summary what `summed` says.
 pub record HasTaken (c : Command) (before after : Devices) (es : List Entry) (summed : Place → Place → List ℕ → Type 0) : Type 0 where
   -- what the errors held before the summary
   pub errors : Option (List ℕ)
+  pub numbered : AreNumbered c.output.counted es
   pub text : Appends before.written after.written (c.output.texts es)
-  pub writes : after.failed_writes ≡ before.failed_writes
   pub report : Appends before.reported errors (c.output.reports es)
   pub summary : summed (place errors before.failed_reports) (place after.reported after.failed_reports) (summary_text (c.counts es))
 
@@ -178,23 +179,42 @@ BreaksOff c before after = IsUntouched c.saving × IfSome before.left (HasFronts
 abbrev pub LacksSummary : Command → Devices → Devices → List ℕ → Type 0
 LacksSummary c before after log = IsSaved c.saving (entries_for c log) × HasTaken c before after (entries_for c log) IsCutOff
 
--- What each fault of a command tells. Read: the log's device failed, or 10^12 reads found no end, and the lines that came
--- are taken. Lines: as many as are counted are. Save: the log is taken, and its state can't be kept. In these three the
--- summary is cut off only where the errors failed. Write, Report: that device failed. Memory may be refused until the log is
--- taken, and not after. After Write and Memory the run breaks off; after Report too, or all but the summary is done. No other
--- fault stops a run.
-abbrev pub Tells : Command → Devices → Devices → Fault → Type 0
-Tells c before after Read = (HasFailed before.failed_reads after.failed_reads ⊎ OutlastsReads before.calls after.calls) × HasRead c before after
-Tells c before after Lines = IsFull c before after
-Tells c before after Save = CannotBeSaved c.saving × IfSome before.left (λ log. HasTaken c before after (entries_for c log) IsWrittenUnlessFailed)
-Tells c before after Write = HasFailed before.failed_writes after.failed_writes × BreaksOff c before after
-Tells c before after Report = HasFailed before.failed_reports after.failed_reports × (BreaksOff c before after ⊎ IfSome before.left (LacksSummary c before after))
-Tells c before after Memory = BreaksOff c before after
-Tells c before after _ = ⊥
+-- What each fault leaves. Read: the lines that came are taken. Lines: as many as are counted are. Save: the log is taken. In
+-- these three the summary is cut off only where the errors failed. After Write and Memory the run breaks off; after Report
+-- too, or all but the summary is done. So memory is not refused once something is saved or summed up. No other fault stops a
+-- run.
+abbrev pub Leaves : Command → Devices → Devices → Fault → Type 0
+Leaves c before after Read = HasRead c before after
+Leaves c before after Lines = IsFull c before after
+Leaves c before after Save = IfSome before.left (λ log. HasTaken c before after (entries_for c log) IsWrittenUnlessFailed)
+Leaves c before after Write = BreaksOff c before after
+Leaves c before after Report = BreaksOff c before after ⊎ IfSome before.left (LacksSummary c before after)
+Leaves c before after Memory = BreaksOff c before after
+Leaves c before after _ = ⊥
+
+-- no call of the log's device failed, and none of the output
+pub record LogAndOutputHold (before after : Devices) : Type 0 where
+  pub reads : after.failed_reads ≡ before.failed_reads
+  pub writes : after.failed_writes ≡ before.failed_writes
+
+-- Which device failed. Read: the log's, or none and 10^12 reads found no end. Write, Report: that one alone. Save: the place
+-- of the state. Lines: none. Memory: none; or, where parts are summed up, the log's, and memory for the state of what was read
+-- was refused. After Read, Lines and Save the errors may have failed too, in the summary.
+abbrev pub HasDevice : Command → Devices → Devices → Fault → Type 0
+HasDevice c before after Read =
+    (HasFailed before.failed_reads after.failed_reads ⊎ (OutlastsReads before.calls after.calls × (after.failed_reads ≡ before.failed_reads)))
+    × (after.failed_writes ≡ before.failed_writes)
+HasDevice c before after Lines = LogAndOutputHold before after
+HasDevice c before after Save = CannotBeSaved c.saving × LogAndOutputHold before after
+HasDevice c before after Write = WriteFails before after
+HasDevice c before after Report = ReportFails before after
+HasDevice c before after Memory = NoneFailed before after ⊎ ((c.sums_up_a_part ≡ true) × ReadFails before after)
+HasDevice c before after _ = ⊥
 
 -- A fault stopped the command. No text stands before the report of its own line or of an earlier one.
 pub record IsStopped (c : Command) (before after : Devices) (fault : Fault) : Type 0 where
-  pub tells : Tells c before after fault
+  pub leaves : Leaves c before after fault
+  pub device : HasDevice c before after fault
   pub reports_first : IfSome before.left (ReportsFirst c.output before after)
 
 -- how a command ends whose table and state are taken
