@@ -29,6 +29,10 @@ if_both : {A : Type 0} (P Q S : A → Type 0) (o : Option A) → ((a : A) → P 
 if_both P Q S None both p q = tt
 if_both P Q S (Some a) both p q = both a p q
 
+if_three : {A : Type 0} (P Q R S : A → Type 0) (o : Option A) → ((a : A) → P a → Q a → R a → S a) → IfSome o P → IfSome o Q → IfSome o R → IfSome o S
+if_three P Q R S None all p q r = tt
+if_three P Q R S (Some a) all p q r = all a p q r
+
 -- a text follows what was written first
 more_after : (old mid new : Option (List ℕ)) (text more : List ℕ) → (rest : List ℕ) × Appends old mid (text ++ rest) → Appends mid new more → (rest : List ℕ) × Appends old new (text ++ rest)
 more_after old mid new text more first then = (
@@ -123,11 +127,14 @@ module _ (c : Command) (stands : List Entry → Type 0) (before after : Devices)
   device run.Read ran follows = (ran.device.reads, ran.device.writes)
   device run.TooManyLines ran follows = record { reads = ran.device.reads; writes = ran.device.writes }
   device run.Write ran follows = record { reads = ran.device.reads; writes = ran.device.writes; reports = same_failed follows.0 ∙ ran.device.reports }
-  device run.Report ran follows = record {
-    reads = ran.device.reads;
-    writes = ran.device.writes;
-    reports = subst (λ n. HasFailed before.failed_reports n) (sym (same_failed follows.0)) ran.device.reports;
-  }
+  device run.Report ran follows = (
+    record {
+      reads = ran.device.reads;
+      writes = ran.device.writes;
+      reports = subst (λ n. HasFailed before.failed_reports n) (sym (same_failed follows.0)) ran.device.reports;
+    },
+    ap (λ (p : Place). p.failed) follows.1,
+  )
   device run.Memory ran follows = inl (none_failed follows.0 ran.device)
 
   still_first : (more : List ℕ) × Appends errors.text after.reported more → IfSome before.left (ReportsFirst c.output before mid) → IfSome before.left (ReportsFirst c.output before after)
@@ -184,17 +191,20 @@ module _ (c : Command) (stands : List Entry → Type 0) (before after : Devices)
     first said = still_first (some_written errors summed (summary_text counts) said) ran.reports_first
 
     log_taken : (said : Place → Place → List ℕ → Type 0) → said errors summed (summary_text counts) → IfSome before.left (λ log. HasTaken c before after (entries_for c log) said)
-    log_taken said summary = if_both _ _ _ before.left (λ log gained now. taken (entries_for c log) said now.0 gained ran.device.reports
-        (subst (λ n. said errors summed (summary_text n)) now.1 summary)) ran.ends.gained (if_both _ _ _ before.left (λ log numbered now. (numbered, now.0)) ran.ends.numbered counted)
+    log_taken said summary = if_three _ _ _ _ before.left (λ log numbered gained now. taken (entries_for c log) said numbered gained ran.device.reports
+        (subst (λ n. said errors summed (summary_text n)) now.0 summary)) ran.ends.numbered ran.ends.gained counted
 
     unsummed : Keeps c.saving.before c.saving.after text → IsCutOff errors summed (summary_text counts) → IsStopped c before after Report
     unsummed keeps cut = record {
       leaves = inr (if_both _ _ _ before.left (λ log now said. (subst (Keeps c.saving.before c.saving.after) now.1 keeps, said)) counted (log_taken IsCutOff cut));
-      device = record {
-        reads = ran.device.reads;
-        writes = ran.device.writes;
-        reports = subst (λ n. HasFailed n after.failed_reports) ran.device.reports cut.failed;
-      };
+      device = (
+        record {
+          reads = ran.device.reads;
+          writes = ran.device.writes;
+          reports = subst (λ n. HasFailed n after.failed_reports) ran.device.reports cut.failed;
+        },
+        keeps.none_failed,
+      );
       reports_first = first (inr cut);
     }
 

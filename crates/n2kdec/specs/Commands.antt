@@ -197,9 +197,9 @@ pub record LogAndOutputHold (before after : Devices) : Type 0 where
   pub reads : after.failed_reads ≡ before.failed_reads
   pub writes : after.failed_writes ≡ before.failed_writes
 
--- Which device failed. Read: the log's, or none and 10^12 reads found no end. Write, Report: that one alone. Save: the place
--- of the state. Lines: none. Memory: none; or, where parts are summed up, the log's, and memory for the state of what was read
--- was refused. After Read, Lines and Save the errors may have failed too, in the summary.
+-- Which device failed. Read: the log's, or none and 10^12 reads found no end. Write, Report: that one alone, and not the place
+-- of the state. Save: that place. Lines: none. Memory: none; or, where parts are summed up, the log's, and memory was refused
+-- for the state of what had been read. After Read, Lines and Save the errors may have failed too, in the summary.
 abbrev pub HasDevice : Command → Devices → Devices → Fault → Type 0
 HasDevice c before after Read =
     (HasFailed before.failed_reads after.failed_reads ⊎ (OutlastsReads before.calls after.calls × (after.failed_reads ≡ before.failed_reads)))
@@ -207,7 +207,7 @@ HasDevice c before after Read =
 HasDevice c before after Lines = LogAndOutputHold before after
 HasDevice c before after Save = CannotBeSaved c.saving × LogAndOutputHold before after
 HasDevice c before after Write = WriteFails before after
-HasDevice c before after Report = ReportFails before after
+HasDevice c before after Report = ReportFails before after × (c.saving.after.failed ≡ c.saving.before.failed)
 HasDevice c before after Memory = NoneFailed before after ⊎ ((c.sums_up_a_part ≡ true) × ReadFails before after)
 HasDevice c before after _ = ⊥
 
