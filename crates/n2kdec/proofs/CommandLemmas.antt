@@ -9,6 +9,7 @@ use Rattle.n2k_run.specs.Reports.{summary_text}
 use Rattle.n2k_run.specs.Writing.{AppendsFront}
 use Rattle.n2k_run.specs.Runs.{AreNumbered, Devices, Gained, HasFronts, NoneFailed, ReportsFirst, Runs}
 use Rattle.n2k_run.specs.Parts.{StandsAtLine}
+use Rattle.n2k_run.proofs.Ending.{of_log}
 use Rattle.n2k_run.proofs.Parting.{line_fronts}
 use Rattle.n2k_join.specs.Counts.{most_lines}
 use Rattle.n2k_run.specs.declared.fault.RunFault.{RunFault}
@@ -174,12 +175,18 @@ module _ (c : Command) (stands : List Entry → Type 0) (before after : Devices)
   -- a run came to its end, and what is saved and summed up is what the command saves and counts
   module _ {T : Type 0} (x : T) (text : List ℕ) (counts : Counts) (ran : Runs {T = T} c.output stands before mid (Ok x))
       (counted : IfSome before.left (λ log. (counts ≡ c.counts (entries_for c log)) × (text ≡ c.saving.state (entries_for c log)))) where
+    log_numbered : IfSome before.left (λ log. AreNumbered c.output.counted (entries_for c log))
+    log_numbered = of_log c.output stands before mid (λ log. AreNumbered c.output.counted (entries_for c log)) ran.ends ran.ends.numbered
+
+    log_gained : IfSome before.left (λ log. Gained c.output before mid (entries_for c log))
+    log_gained = of_log c.output stands before mid (λ log. Gained c.output before mid (entries_for c log)) ran.ends ran.ends.gained
+
     done : (status : ℕ) → Keeps c.saving.before c.saving.after text → IsWritten errors summed (summary_text counts) → status ≡ exit_status counts → IsDone c before after status
     done status keeps whole is = record {
-      numbered = ran.ends.numbered;
-      text = if_some _ _ before.left (λ log gained. gained.printed) ran.ends.gained;
+      numbered = log_numbered;
+      text = if_some _ _ before.left (λ log gained. gained.printed) log_gained;
       report = if_both _ _ _ before.left (λ log gained now. Appends-trans before.reported errors.text after.reported (c.output.reports (entries_for c log)) (summary_text (c.counts (entries_for c log)))
-          gained.reported (subst (λ n. Appends errors.text after.reported (summary_text n)) now.0 whole.written)) ran.ends.gained counted;
+          gained.reported (subst (λ n. Appends errors.text after.reported (summary_text n)) now.0 whole.written)) log_gained counted;
       status = if_some _ _ before.left (λ log now. is ∙ ap exit_status now.0) counted;
       end = subst (λ n. n ≤ 1) (sym is) (few counts);
       none_failed = record { reads = ran.device.reads; writes = ran.device.writes; reports = whole.none_failed ∙ ran.device.reports };
@@ -192,7 +199,7 @@ module _ (c : Command) (stands : List Entry → Type 0) (before after : Devices)
 
     log_taken : (said : Place → Place → List ℕ → Type 0) → said errors summed (summary_text counts) → IfSome before.left (λ log. HasTaken c before after (entries_for c log) said)
     log_taken said summary = if_three _ _ _ _ before.left (λ log numbered gained now. taken (entries_for c log) said numbered gained ran.device.reports
-        (subst (λ n. said errors summed (summary_text n)) now.0 summary)) ran.ends.numbered ran.ends.gained counted
+        (subst (λ n. said errors summed (summary_text n)) now.0 summary)) log_numbered log_gained counted
 
     unsummed : Keeps c.saving.before c.saving.after text → IsCutOff errors summed (summary_text counts) → IsStopped c before after Report
     unsummed keeps cut = record {
@@ -219,11 +226,6 @@ module _ (c : Command) (stands : List Entry → Type 0) (before after : Devices)
       device = (unsaved.1, record { reads = ran.device.reads; writes = ran.device.writes });
       reports_first = first unsaved.2;
     })
-
--- what is counted, where there is no state
-pub counts_alone : (left : Option (List ℕ)) (counts : Counts) (text : List ℕ) (of : List ℕ → Counts) → IfSome left (λ log. counts ≡ of log) → IfSome left (λ log. (counts ≡ of log) × (text ≡ text))
-counts_alone None counts text of is = tt
-counts_alone (Some log) counts text of is = (is, refl)
 
 -- nothing follows a run that a fault ended, where the command sums up whole logs alone and saves nothing
 pub ended_by_run : (c : Command) → c.sums_up_a_part ≡ false → c.saving ≡ no_saving → (before after : Devices) (stands : List Entry → Type 0) {T : Type 0} (f : RunFault) (r : Result ℕ Fault)

@@ -19,9 +19,10 @@ use Rattle.n2k_run.specs.declared.part.PartFault.{PartFault}
 use Rattle.n2k_run.specs.declared.part.PartFault.TheVariants as part_faults
 use Rattle.n2k_run.specs.declared.options.Options.{Options}
 use Rattle.n2k_table.specs.Table.{TableParts, kind as kind_of}
+use Rattle.n2k_run.proofs.Ending.{of_log}
 use Rattle.n2k_run.proofs.Parting.{told_ok, told_run, told_stopped}
 use Rattle.n2kdec.specs.Closing.{ClosesPart}
-use Rattle.n2kdec.specs.Commands.{CannotBeSaved, Command, Ends, EndsUnlessRefused, IsSaved, IsStopped, IsWrittenUnlessFailed, Keeps, Place, PrintsRest, decode_command, decode_from, decode_to, place}
+use Rattle.n2kdec.specs.Commands.{CannotBeSaved, Command, Ends, EndsUnlessRefused, IsSaved, IsStopped, IsWrittenUnlessFailed, Keeps, Place, PrintsRest, decode_command, decode_from, decode_to, entries_for, place}
 use Rattle.n2kdec.specs.Fault.{exit_status}
 use Rattle.n2kdec.specs.declared.fault.Fault.{Fault}
 use Rattle.n2kdec.specs.declared.fault.Fault.TheVariants.{Save, State, Table}
@@ -63,7 +64,7 @@ module _ (o : Output) (stands_at : List Entry → StateOf) (t : TableParts) (bef
       let ran = told_ok o before mid _ part told in
       unless c before after r
       (ended_by_closing c _ before after errors tt part.state.items part.counts ran
-      (if_some _ _ before.left (λ log is. (is.counted, is.saved)) ran.ends.holds) r closes)
+      (of_log o _ before mid (λ log. (part.counts ≡ c.counts (entries_for c log)) × (part.state.items ≡ c.saving.state (entries_for c log))) ran.ends (ran.ends.holds.counted, ran.ends.holds.saved)) r closes)
   closed (Err (part_faults.Stopped run.Read part)) r kind memory told closes = subst (EndsUnlessRefused c before after) (sym closes.0)
       (stopped_by_run c _ before after errors run.Read (told_stopped o before mid _ run.Read part told) (λ es is. (summary_of part es is closes.2, saved_or_not part es is closes.1)) (some_written errors said (summary_text part.counts) closes.2))
   closed (Err (part_faults.Stopped run.TooManyLines part)) r kind memory told closes = subst (EndsUnlessRefused c before after) (sym closes.0)
