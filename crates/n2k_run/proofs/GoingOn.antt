@@ -29,6 +29,7 @@ use Rattle.n2k_run.proofs.Fronts.{entries-append}
 use Rattle.n2k_run.proofs.LimitLines.{taken_bytes}
 use Rattle.n2k_run.proofs.LogSteps.{broken_stay, messages_stay}
 use Rattle.n2k_run.proofs.Parting.{line_fronts, told_ok, told_run, told_stopped}
+use Rattle.n2k_run.proofs.Ending.{of_log}
 use Rattle.n2k_run.proofs.Running.{known_more}
 
 range_append : (a n m : ℕ) → range_with_len a (n + m) ≡ range_with_len a n ++ range_with_len (a + n) m
@@ -140,16 +141,12 @@ module _ (agree : (id : List ℕ) (kind : ℕ → Option Kind) (es : List Entry)
               (subst (λ x. IsPartOf t (state t.id (kind t) (entries o.packing front ++ x)) part) (sym cut.entries_are) stands);
         }
 
-    known_both : (known : Option (List ℕ)) (P Q R : List ℕ → Type 0) → ((log : List ℕ) → P log → Q log → R log) → IfSome known P → IfSome known Q → IfSome known R
-    known_both None P Q R follows p q = tt
-    known_both (Some log) P Q R follows p q = follows log p q
-
     -- the headline
     pub continues_of : (before after : Devices) (result : Result Part PartFault) → TellsRun (output_after t o (entries o.packing front)) (λ es. HasPart t result (state t.id (kind t) (entries o.packing front ++ es))) before after result
         → IsOfKind result → ((fault : StateFault) → result ≡ Err (Refused fault) → fault ≡ state_faults.Memory) → Continues t o front before after result
     continues_of before after (Ok part) told kinds refused =
         let runs = told_ok _ before after _ part told in
-        (runs.ends.at_end, known_both before.left _ _ _ (λ log gained holds. goes_on log before after part gained holds) runs.ends.gained runs.ends.holds)
+        (runs.ends.at_end, of_log _ _ before after _ runs.ends (goes_on runs.ends.came before after part runs.ends.gained runs.ends.holds))
     continues_of before after (Err (Stopped run_faults.Read part)) told kinds refused =
         let runs = told_stopped _ before after _ run_faults.Read part told in
         (runs.ends.came, runs.ends.given, goes_on (whole_lines runs.ends.came) before after part runs.ends.gained runs.ends.holds)

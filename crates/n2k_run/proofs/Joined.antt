@@ -24,7 +24,8 @@ use Rattle.n2k_run.specs.Decoded.{out, out_of, output_after, reports, reports_of
 use Rattle.n2k_run.specs.Entries.{entries}
 use Rattle.n2k_run.specs.Inner.Parts.{Saves}
 use Rattle.n2k_run.specs.Parts.{AreCutAtLines, BeginsBy, IsPartOf, OnRefusal, PrintsLog, RefusedByMemory, RunsPart, TakesAll, TellsRun, begun, entries_of, save, with_source, HasPart}
-use Rattle.n2k_run.specs.Runs.{Devices}
+use Rattle.n2k_run.specs.Runs.{Devices, Gained}
+use Rattle.n2k_run.proofs.Ending.{of_log}
 use Rattle.n2k_run.proofs.Fronts.{entries-append}
 use Rattle.n2k_run.proofs.GoingOn.{out_of-append, reports_of-append}
 use Rattle.n2k_run.proofs.Parting.{KeepsFast, begun-under, memory_alone, part-of, told_ok}
@@ -58,7 +59,7 @@ module _ (agree : (id : List ℕ) (kind : ℕ → Option Kind) (es : List Entry)
       let es = entries o.packing met in
       let all : front ++ es ≡ entries_of o (done ++ met ∷ []) = sym (entries_next o done met) in
       let ran = told_ok _ _ _ _ next run.told in
-      let gained = ran.ends.gained in
+      let gained = of_log _ _ _ _ (λ log. Gained (output_after t o front) (with_source between (Some met) 0 0) (with_source after run.left run.calls run.failed_reads) (entries o.packing log)) ran.ends ran.ends.gained in
       let text : Appends before.written after.written (out_of t o.empty (front ++ es)) =
       subst (Appends before.written after.written) (sym (out_of-append agree stay t o.empty front es)) (Appends-trans before.written between.written after.written _ _ so_far.taken.printed gained.printed) in
       let report : Appends before.reported after.reported (reports_of t (front ++ es)) =
@@ -70,7 +71,7 @@ module _ (agree : (id : List ℕ) (kind : ℕ → Option Kind) (es : List Entry)
           writes = ran.device.writes ∙ so_far.taken.writes;
           report_writes = ran.device.reports ∙ so_far.taken.report_writes;
         };
-        leads_to = subst (λ es. IsPartOf t (state t.id (kind t) es) next) all ran.ends.holds;
+        leads_to = subst (λ es. IsPartOf t (state t.id (kind t) es) next) all (of_log _ _ _ _ (λ log. IsPartOf t (state t.id (kind t) (front ++ entries o.packing log)) next) ran.ends ran.ends.holds);
       }
 
 -- where the state is refused, both sinks are as they were

@@ -27,7 +27,7 @@ use Rattle.n2k_run.specs.Making.{after_all}
 use Rattle.n2k_run.specs.Parts.{HasPart, IsPartOf, Ran, StandsAtLine, TellsRun, begun}
 use Rattle.n2k_run.specs.Runs.{Devices, HasFronts, Output, Runs, output_from}
 use Rattle.n2k_run.specs.Writing.{AppendsFront}
-use Rattle.n2k_run.proofs.Ending.{runs_more, runs_same}
+use Rattle.n2k_run.proofs.Ending.{of_log, runs_more, runs_same}
 use Rattle.n2k_run.proofs.LogSteps.{output_after-is, state_after}
 use Rattle.n2k_run.proofs.Running.{known_more}
 
@@ -66,10 +66,10 @@ unbegun o stands before fault none = record {
 module _ (o : Output) (before after : Devices) where
   -- where a run stands at a line, the sinks gained fronts of what is made of the log
   pub line_fronts : (stands : List Entry → Type 0) (ran : Result (Unit {0}) RunFault) → StandsAtLine ran → Runs o stands before after ran → IfSome before.left (HasFronts o before after)
-  line_fronts stands (Ok x) line runs = known_more before.left _ _ (λ log gained. record {
-    printed = all_gained before.written after.written (o.texts (entries o.packing log)) gained.printed;
-    reported = all_gained before.reported after.reported (o.reports (entries o.packing log)) gained.reported;
-  }) runs.ends.gained
+  line_fronts stands (Ok x) line runs = of_log o stands before after _ runs.ends (record {
+    printed = all_gained before.written after.written (o.texts (entries o.packing runs.ends.came)) runs.ends.gained.printed;
+    reported = all_gained before.reported after.reported (o.reports (entries o.packing runs.ends.came)) runs.ends.gained.reported;
+  })
   line_fronts stands (Err run_faults.Read) line runs = runs.fronts
   line_fronts stands (Err run_faults.TooManyLines) line runs = runs.fronts
   line_fronts stands (Err run_faults.Write) line runs = absurd line

@@ -327,11 +327,6 @@ module _ {S : Type 0} (m : Making S) (packing : Packing) (s₀ : S) (before : De
       }
 
   -- the end of the log
-  whole_log : (left₀ left : Option (List ℕ)) (front held : List ℕ) → Consumes left₀ left (front ++ held) → held ≡ [] → IsAtEnd left → IfSome left₀ (λ log. front ≡ log)
-  whole_log None left front held given none end = tt
-  whole_log (Some log) None front held given none end = absurd given
-  whole_log (Some log) (Some left) front held given none end = sym (given ∙ ap (λ l. (front ++ held) ++ l) end ∙ append-nil (front ++ held) ∙ ap (λ h. front ++ h) none ∙ append-nil front)
-
   pub whole_end : (s : S) (held : Held) (text report : List ℕ) (now : Devices) (w' e' : Option (List ℕ)) (fw' fe' : ℕ) → Stands m packing s₀ s held text report before now → held.has_ended ≡ true
       → Appends now.written w' text × Appends now.reported e' report → (fw' ≡ now.failed_writes) × (fe' ≡ now.failed_reports)
       → Runs {T = Unit {0}} o (λ es. s ≡ after_all m s₀ es) before (record now { written = w'; failed_writes = fw'; reported = e'; failed_reports = fe' }) (Ok tt)
@@ -342,13 +337,14 @@ module _ {S : Type 0} (m : Making S) (packing : Packing) (s₀ : S) (before : De
       let all = gained s es after made in
       let lead = lead_of s held text report now stands in
       let end = stands.end ended in
-      let log_is = whole_log before.left now.left stands.front (unanswered held) stands.came end.0 end.1 in
       record {
         ends = record {
+          came = stands.front;
+          given = subst (Consumes before.left now.left) (ap (λ h. stands.front ++ h) end.0 ∙ append-nil stands.front) stands.came;
           at_end = end.1;
-          numbered = known_more before.left _ _ (λ log is. subst (λ front. AreNumbered (m.lines s₀) (entries packing front)) is stands.made.numbered) log_is;
-          gained = known_more before.left _ _ (λ log is. subst (λ front. Gained o before after (entries packing front)) is all) log_is;
-          holds = known_more before.left _ _ (λ log is. subst (λ front. s ≡ after_all m s₀ (entries packing front)) is stands.made.state) log_is;
+          numbered = stands.made.numbered;
+          gained = all;
+          holds = stands.made.state;
         };
         fronts = tt;
         reports_first = gained_first es after all lead;

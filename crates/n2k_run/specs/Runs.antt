@@ -66,13 +66,16 @@ pub record Gained (o : Output) (before after : Devices) (es : List Entry) : Type
 abbrev pub AreNumbered : ℕ → List Entry → Type 0
 AreNumbered counted es = 0 < length es → counted + length es ≤ most_lines
 
--- The run came to its end: all of the log was read, and of all its entries the texts and reports were written. `stands`
--- says what else holds where a run has taken these entries.
+-- The run came to its end: bytes came until the source had no more, and of all their entries the texts and reports were
+-- written. Where the source's bytes are known, these are all that it had. `stands` says what else holds where a run has
+-- taken these entries.
 pub record IsWhole (o : Output) (stands : List Entry → Type 0) (before after : Devices) : Type 0 where
+  pub came : List ℕ
+  pub given : Consumes before.left after.left came
   pub at_end : IsAtEnd after.left
-  pub numbered : IfSome before.left (λ log. AreNumbered o.counted (entries o.packing log))
-  pub gained : IfSome before.left (λ log. Gained o before after (entries o.packing log))
-  pub holds : IfSome before.left (λ log. stands (entries o.packing log))
+  pub numbered : AreNumbered o.counted (entries o.packing came)
+  pub gained : Gained o before after (entries o.packing came)
+  pub holds : stands (entries o.packing came)
 
 -- After Read the run stands after the last line whose LF came: it has taken the lines up to there, and no more.
 pub record IsCut (o : Output) (stands : List Entry → Type 0) (before after : Devices) : Type 0 where

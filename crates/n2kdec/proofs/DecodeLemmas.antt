@@ -1,5 +1,5 @@
 -- From what the run of a part and its closing leave to what `decode` leaves.
-use Rattle.std.proofs.Common.{◌≡◌, ◌⊎◌, ◌∙◌, ℕ, List, Option, Some, None, Ok, Err, Result, IfOk, IfSome, ◌++◌, ap, sym, subst, inl, inr}
+use Rattle.std.proofs.Common.{◌≡◌, ◌⊎◌, ◌∙◌, ℕ, List, Option, Some, Ok, Err, Result, IfOk, IfSome, ◌++◌, ap, sym, subst, refl, inl, inr}
 use Rattle.std.proofs.KnownBytes.{Appends-trans}
 use Rattle.std.specs.Io.KnownBytes.{Appends}
 use Rattle.n2k_wire.specs.declared.entry.Entry.{Entry}
@@ -13,20 +13,20 @@ use Rattle.n2k_run.specs.Making.{after_all}
 use Rattle.n2k_run.specs.Parts.{BeginsBy, Continues, HasPart, IsFront, IsOfKind, IsPartOf, RefusedByMemory, TellsRun, begun, state_after}
 use Rattle.n2k_run.specs.Reports.{summary_text}
 use Rattle.n2k_run.specs.Runs.{Devices, Output, output_from}
-use Rattle.n2k_run.specs.Writing.{AppendsFront}
 use Rattle.n2k_run.specs.declared.fault.RunFault.TheVariants as run
 use Rattle.n2k_run.specs.declared.part.Part.{Part}
 use Rattle.n2k_run.specs.declared.part.PartFault.{PartFault}
 use Rattle.n2k_run.specs.declared.part.PartFault.TheVariants as part_faults
 use Rattle.n2k_run.specs.declared.options.Options.{Options}
 use Rattle.n2k_table.specs.Table.{TableParts, kind as kind_of}
-use Rattle.n2k_run.proofs.Parting.{line_fronts, told_ok, told_run, told_stopped}
+use Rattle.n2k_run.proofs.Ending.{of_log}
+use Rattle.n2k_run.proofs.Parting.{told_ok, told_run, told_stopped}
 use Rattle.n2kdec.specs.Closing.{ClosesPart}
-use Rattle.n2kdec.specs.Commands.{Command, Ends, EndsUnlessRefused, CannotBeSaved, IsSaved, IsStopped, Keeps, Place, PrintsRest, decode_command, decode_from, decode_to, place}
+use Rattle.n2kdec.specs.Commands.{CannotBeSaved, Command, Ends, EndsUnlessRefused, IsSaved, IsStopped, IsWrittenUnlessFailed, Keeps, Place, PrintsRest, decode_command, decode_from, decode_to, entries_for, place}
 use Rattle.n2kdec.specs.Fault.{exit_status}
 use Rattle.n2kdec.specs.declared.fault.Fault.{Fault}
-use Rattle.n2kdec.specs.declared.fault.Fault.TheVariants.{Table, State}
-use Rattle.n2kdec.proofs.CommandLemmas.{ended_by_closing, if_some, left_at_line, left_by_run, stopped_by_run}
+use Rattle.n2kdec.specs.declared.fault.Fault.TheVariants.{Save, State, Table}
+use Rattle.n2kdec.proofs.CommandLemmas.{ended_by_closing, if_some, left_at_line, left_by_run, some_written, stopped_by_run}
 
 -- no command that has begun ends by a refusal
 unless : (c : Command) (before after : Devices) (r : Result ℕ Fault) → Ends c before after r → EndsUnlessRefused c before after r
@@ -35,7 +35,7 @@ unless c before after (Err fault) stopped = go fault stopped
   where
     go : (f : Fault) → IsStopped c before after f → EndsUnlessRefused c before after (Err f)
     go (Table refused) s = tt
-    go (State refused) s = absurd s.tells
+    go (State refused) s = absurd s.leaves
     go f s = s
 
 module _ (o : Output) (stands_at : List Entry → StateOf) (t : TableParts) (before after : Devices) (errors keeper kept : Place) where
@@ -48,9 +48,9 @@ module _ (o : Output) (stands_at : List Entry → StateOf) (t : TableParts) (bef
   abbrev said : Place
   said = place after.reported after.failed_reports
 
-  summary_of : (part : Part) (es : List Entry) → IsPartOf t (stands_at es) part → AppendsFront errors.text after.reported (summary_text part.counts)
-      → AppendsFront errors.text after.reported (summary_text (c.counts es))
-  summary_of part es is front = subst (λ n. AppendsFront errors.text after.reported (summary_text n)) is.counted front
+  summary_of : (part : Part) (es : List Entry) → IsPartOf t (stands_at es) part → IsWrittenUnlessFailed errors said (summary_text part.counts)
+      → IsWrittenUnlessFailed errors said (summary_text (c.counts es))
+  summary_of part es is written = subst (λ n. IsWrittenUnlessFailed errors said (summary_text n)) is.counted written
 
   saved_or_not : (part : Part) (es : List Entry) → IsPartOf t (stands_at es) part → Keeps keeper kept part.state.items ⊎ HasFailed keeper.failed kept.failed
       → IsSaved c.saving es ⊎ CannotBeSaved c.saving
@@ -64,11 +64,11 @@ module _ (o : Output) (stands_at : List Entry → StateOf) (t : TableParts) (bef
       let ran = told_ok o before mid _ part told in
       unless c before after r
       (ended_by_closing c _ before after errors tt part.state.items part.counts ran
-      (if_some _ _ before.left (λ log is. (is.counted, is.saved)) ran.ends.holds) r closes)
+      (of_log o _ before mid (λ log. (part.counts ≡ c.counts (entries_for c log)) × (part.state.items ≡ c.saving.state (entries_for c log))) ran.ends (ran.ends.holds.counted, ran.ends.holds.saved)) r closes)
   closed (Err (part_faults.Stopped run.Read part)) r kind memory told closes = subst (EndsUnlessRefused c before after) (sym closes.0)
-      (stopped_by_run c _ before after errors run.Read (told_stopped o before mid _ run.Read part told) (λ es is. (summary_of part es is closes.2, saved_or_not part es is closes.1)) closes.2.1.front closes.2.1.appended)
+      (stopped_by_run c _ before after errors run.Read (told_stopped o before mid _ run.Read part told) (λ es is. (summary_of part es is closes.2, saved_or_not part es is closes.1)) (some_written errors said (summary_text part.counts) closes.2))
   closed (Err (part_faults.Stopped run.TooManyLines part)) r kind memory told closes = subst (EndsUnlessRefused c before after) (sym closes.0)
-      (stopped_by_run c _ before after errors run.TooManyLines (told_stopped o before mid _ run.TooManyLines part told) (λ es is. (summary_of part es is closes.2, closes.1)) closes.2.1.front closes.2.1.appended)
+      (stopped_by_run c _ before after errors run.TooManyLines (told_stopped o before mid _ run.TooManyLines part told) (λ es is. (summary_of part es is closes.2, closes.1)) (some_written errors said (summary_text part.counts) closes.2))
   closed (Err (part_faults.Stopped run.Write part)) r (inl kind) memory ran closes = let bad : run.Write ≡ run.Read = kind in cc
   closed (Err (part_faults.Stopped run.Write part)) r (inr kind) memory ran closes = let bad : run.Write ≡ run.TooManyLines = kind in cc
   closed (Err (part_faults.Stopped run.Report part)) r (inl kind) memory ran closes = let bad : run.Report ≡ run.Read = kind in cc
@@ -89,7 +89,7 @@ module _ (o : Output) (stands_at : List Entry → StateOf) (t : TableParts) (bef
   closed (Err (part_faults.Run run.TooManyLines)) r (inr (inr kind)) memory ran closes = let bad : run.TooManyLines ≡ run.Memory = kind in cc
   closed (Err (part_faults.State fault)) r kind memory ran closes = subst (EndsUnlessRefused c before after) (sym closes.0) memory
   closed (Err part_faults.Memory) r kind memory told closes = subst (EndsUnlessRefused c before after) (sym closes.0)
-      (left_at_line c (λ es. HasPart t (Err part_faults.Memory) (stands_at es)) before after errors (line_fronts o before mid _ told.ran told.ended told.runs) told.runs.reports_first (closes.2, closes.1))
+      (left_at_line c _ before after errors told.ran told.ended refl told.runs (closes.2, closes.1))
 
 -- a state that spells this one is refused for want of memory alone
 memory_only : (t : TableParts) (handed : Option (List ℕ)) (s : StateOf) (ended : Result Part PartFault) → BeginsBy t handed ended → begun t handed ≡ Ok s → RefusedByMemory ended
@@ -147,15 +147,16 @@ module _ (o : Options) (front : List ℕ) (before after : Devices) (errors keepe
   rest_of : (t : TableParts) (ended : Result Part PartFault) (r : Result ℕ Fault) → Continues t o front before (record after { reported = errors.text; failed_reports = errors.failed }) ended
       → ClosesPart keeper kept errors (place after.reported after.failed_reports) ended r → Rest t r
   rest_of t (Ok part) (Err fault) goes closes = tt
-  rest_of t (Ok part) (Ok status) goes closes = if_some _ _ before.left (λ log on. record {
+  rest_of t (Ok part) (Ok status) goes (inr unsaved) = let bad : Ok status ≡ Err Save = unsaved.0 in cc
+  rest_of t (Ok part) (Ok status) goes (inl closes) = if_some _ _ before.left (λ log on. record {
     text = on.text;
     printed = on.printed;
     output = on.output;
     report = on.report;
     reported = Appends-trans before.reported errors.text after.reported on.report (summary_text (counts (kind_of t) (entries o.packing (front ++ log))))
-        on.reported (subst (λ n. Appends errors.text after.reported (summary_text n)) on.counted closes.1.0);
+        on.reported (subst (λ n. Appends errors.text after.reported (summary_text n)) on.counted closes.1.0.written);
     told = on.told;
-    answered = closes.1.2 ∙ ap exit_status on.counted;
+    answered = closes.1.1 ∙ ap exit_status on.counted;
     saved = subst (Keeps keeper kept) on.saved closes.0;
     reads_back = subst (λ s. begun t (Some s) ≡ Ok (state_after t o (front ++ log))) on.saved on.reads_back;
   }) goes.1
