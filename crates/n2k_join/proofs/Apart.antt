@@ -8,8 +8,8 @@ use Rattle.n2k_join.specs.declared.state_fault.StateFault.{StateFault}
 use Rattle.n2k_join.specs.Frames.{Key, same_key}
 use Rattle.n2k_join.specs.Open.{Group}
 use Rattle.n2k_join.specs.Resumed.{group_holds, groups_hold, valid_if}
-use Rattle.n2k_join.specs.Apart.{each_holds, are_new}
-use Rattle.n2k_join.specs.Stored.{key_of}
+use Rattle.n2k_join.specs.Inner.Apart.{each_holds, are_new}
+use Rattle.n2k_join.specs.Inner.Stored.{key_of}
 use Rattle.n2k_join.proofs.Keys.{same_key-sym}
 
 abbrev has : Key → List Group → Bool

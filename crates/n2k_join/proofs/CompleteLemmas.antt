@@ -18,7 +18,7 @@ use Rattle.n2k_join.specs.Frames.{Key, Frame}
 use Rattle.n2k_join.specs.Groups.{carried, has_number, has_twice, complete, total, total_by, last_number, has_all, is_within, bytes_at, data_of}
 use Rattle.n2k_join.specs.Open.{Group}
 use Rattle.n2k_join.specs.State.{held_of}
-use Rattle.n2k_join.specs.Stored.{stored_frame, stored_frames, stored_group}
+use Rattle.n2k_join.specs.Inner.Stored.{stored_frame, stored_frames, stored_group}
 use Rattle.n2k_join.proofs.Carried.{complete-same, complete-without_zero}
 use Rattle.n2k_join.proofs.StoredLemmas.{numbers_of, apart_from, distinct_numbers, carried-held, once-held}
 

@@ -12,7 +12,7 @@ use Rattle.n2k_join.specs.Groups.{repeats, complete}
 use Rattle.n2k_join.specs.Messages.{message_of, broken_of, alone, cause_in, is_unknown}
 use Rattle.n2k_join.specs.Open.{Group}
 use Rattle.n2k_join.specs.State.{State, Given, held_of, next_line, one_if, counted, step_after, IsOpen, AreOpen}
-use Rattle.n2k_join.specs.Stored.{of_the_key, groups_after, message_if, gained, lost, gives_by, leaves_by}
+use Rattle.n2k_join.specs.Inner.Stored.{of_the_key, groups_after, message_if, gained, lost, gives_by, leaves_by}
 use Rattle.n2k_join.proofs.Advanced.{advanced}
 use Rattle.n2k_join.proofs.Rising.{find-all}
 use Rattle.n2k_join.proofs.Steps.{StepsTo, frame_gives, step-none, step-frame}

@@ -8,7 +8,7 @@ use Rattle.n2k_join.specs.Groups.{carried, has_twice}
 use Rattle.n2k_join.specs.Open.{Piece, Group, piece_at, pieces_of}
 use Rattle.n2k_join.specs.Resumed.{pieces_rise, total_holds}
 use Rattle.n2k_join.specs.State.{Rise, IsKey, IsPiece, HasParts, held_frame}
-use Rattle.n2k_join.specs.Stored.{piece_of, stored_frame, stored_frames, stored_group}
+use Rattle.n2k_join.specs.Inner.Stored.{piece_of, stored_frame, stored_frames, stored_group}
 use Rattle.n2k_join.proofs.Held.{carried-held, has_twice-held, held_frames, piece_in}
 use Rattle.n2k_join.proofs.Rising.{filter_map-range, find-passes, look-range}
 use mathlib.Core.List.{reverse-cons}

@@ -10,7 +10,7 @@ use Rattle.serde_json.specs.View.{items_of, members_view}
 use Rattle.serde_json.specs.declared.value.Value.{Value}
 use Rattle.n2k_join.specs.declared.saved.place.Place.{Place}
 use Rattle.n2k_join.specs.declared.state_fault.StateFault.{StateFault}
-use Rattle.n2k_join.specs.SavedTokens.{tokens_of}
+use Rattle.n2k_join.specs.Inner.SavedTokens.{tokens_of}
 use Rattle.n2k_join.specs.Resumed.{elements, is_name, has_only}
 
 -- the elements of an array that was made of a list

@@ -12,9 +12,9 @@ use Rattle.n2k_join.specs.Frames.{Key, most_frames}
 use Rattle.n2k_join.specs.Groups.{carried}
 use Rattle.n2k_join.specs.Open.{Piece, Group, piece_at, pieces_of}
 use Rattle.n2k_join.specs.Saved.{piece_tree, group_tree, state_tree, state_text}
-use Rattle.n2k_join.specs.SavedTokens.{tokens_of, count_tokens, piece_tokens, pieces_tokens, frames_tokens, key_tokens, groups_tokens, open_tokens, front_tokens, lines_tokens, table_tokens, back_tokens}
+use Rattle.n2k_join.specs.Inner.SavedTokens.{tokens_of, count_tokens, piece_tokens, pieces_tokens, frames_tokens, key_tokens, groups_tokens, open_tokens, front_tokens, lines_tokens, table_tokens, back_tokens}
 use Rattle.n2k_join.specs.State.{State, held_of}
-use Rattle.n2k_join.specs.Stored.{stored_frames, stored_group}
+use Rattle.n2k_join.specs.Inner.Stored.{stored_frames, stored_group}
 use Rattle.n2k_join.proofs.Rising.{range-push, filter_map-push, filter_map-range}
 use Rattle.n2k_join.proofs.SavedLists.{items_tokens-map, six_written}
 use Rattle.n2k_join.proofs.StoredLemmas.{carried-held}

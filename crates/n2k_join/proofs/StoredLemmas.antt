@@ -14,7 +14,7 @@ use Rattle.n2k_join.specs.Groups.{carried, has_number, has_twice}
 use Rattle.n2k_join.specs.Open.{Piece, Group, piece_at, pieces_of}
 use Rattle.n2k_join.specs.State.{held_frame, held_of}
 use Rattle.n2k_join.proofs.Carried.{carried-push, has_twice-push, pieces_of-same}
-use Rattle.n2k_join.specs.Stored.{stored_frame, stored_frames, stored_group, piece_of}
+use Rattle.n2k_join.specs.Inner.Stored.{stored_frame, stored_frames, stored_group, piece_of}
 
 -- what a stored piece carries is found by its number
 pub carried-stored : (first : ℕ) (key : Key) (ps : List StoredPiece) (n : ℕ)

@@ -18,12 +18,7 @@ abbrev pub holds_or : StateFault → Bool → Result (Unit {0}) StateFault
 holds_or fault true = Ok tt
 holds_or fault false = Err fault
 
--- What a reader answers, seen by view, is what reading gives.
-abbrev pub Gives : {X Y : Type 0} → (X → Y) → Result X StateFault → Result Y StateFault → Type 0
-Gives view (Ok x) read = read ≡ Ok (view x)
-Gives view (Err fault) read = read ≡ Err fault
-
--- The same, unless memory ran out.
+-- What a reader answers, seen by view, is what reading gives, unless memory ran out.
 abbrev pub GivesOrMemory : {X Y : Type 0} → (X → Y) → Result X StateFault → Result Y StateFault → Type 0
 GivesOrMemory view (Ok x) read = read ≡ Ok (view x)
 GivesOrMemory view (Err fault) read = fault ≢ Memory → read ≡ Err fault

@@ -1,13 +1,13 @@
 //! Frames of fast packets.
 ghost use Rattle.std.specs.Prelude.{◌≡◌, ℕ, option_map, slice_index_or};
 ghost use Rattle.n2k_join.specs.Frames.{fast_frame, seven_bytes};
-ghost use Rattle.n2k_join.specs.Stored.{frame_of};
+ghost use Rattle.n2k_join.specs.Inner.Stored.{frame_of};
 
 use crate::piece::{FastFrame, FrameKey, StoredPiece};
 use n2k_wire::Packet;
 
 /// The most bytes of a message.
-pub const LONGEST_TOTAL: u8 = 223;
+const LONGEST_TOTAL: u8 = 223;
 
 /// What the bytes of a frame are filled with.
 const FILLER: u8 = 0xff;
@@ -32,7 +32,7 @@ fn seven_bytes(rest: &[u8]) -> [u8; 7]
 /// The frame that a packet of a fast PGN is. `None` where its data can't be a frame's: there is no byte, or it is a
 /// frame 0 without a total or with one over 223.
 #[tactic(auto, unfolding(crate::specs::Frames::fast_frame))]
-pub fn fast_frame(packet: &Packet) -> Option<FastFrame>
+pub(crate) fn fast_frame(packet: &Packet) -> Option<FastFrame>
     ensures { (line : ℕ) → option_map (λ frame. frame_of line packet.now frame) result ≡ fast_frame line packet.now }
 {
     let (header, rest) = packet.data().split_first()?;

@@ -12,7 +12,7 @@ ghost use Rattle.n2k_join.specs.Resumed.{pieces_rise};
 ghost use Rattle.n2k_join.specs.State.{IsKey, IsPiece, HasParts};
 ghost use Rattle.std.specs.List.{AllByRecursion};
 ghost use Rattle.std.specs.Prelude.{map, vec_capacity};
-ghost use Rattle.n2k_join.specs.Stored.{key_of, piece_of, frame_of, with_frame, message_if};
+ghost use Rattle.n2k_join.specs.Inner.Stored.{key_of, piece_of, frame_of, with_frame, message_if};
 
 use crate::broken::Broken;
 use crate::piece::{FastFrame, FrameKey, StoredPiece};
@@ -27,7 +27,7 @@ const MOST_FRAMES: usize = 32;
 /// The frames of one key that may become a message. It has room for all of them, so that a frame that joins it
 /// takes no memory.
 #[derive(Drop)]
-pub struct StoredGroup {
+pub(crate) struct StoredGroup {
     first: u64,
     key: FrameKey,
     // As they came.
@@ -37,7 +37,7 @@ pub struct StoredGroup {
 impl Model for StoredGroup {
     ghost use Rattle.std.specs.Prelude.{vec_capacity};
     ghost use Rattle.n2k_join.specs.Open.{Group};
-    ghost use Rattle.n2k_join.specs.Stored.{key_of, stored_group, IsStored};
+    ghost use Rattle.n2k_join.specs.Inner.Stored.{key_of, stored_group, IsStored};
 
     ghost Value = { Group };
 
@@ -62,7 +62,11 @@ fn are_within(pieces: &[StoredPiece], last: u8) -> bool
 
 impl StoredGroup {
     /// The group that a frame opens at a line.
-    pub fn open(alloc: Global, first: u64, frame: &FastFrame) -> Result<StoredGroup, AllocError>
+    pub(crate) fn open(
+        alloc: Global,
+        first: u64,
+        frame: &FastFrame,
+    ) -> Result<StoredGroup, AllocError>
         ensures { (packet : PacketParts) → IfOk result (λ g. g ≡ group_of (key_of frame.now.key) (frame_of first packet frame.now ∷ [])) }
     {
         let mut pieces = Vec::with_capacity(alloc, MOST_FRAMES)?;
@@ -75,7 +79,7 @@ impl StoredGroup {
     }
 
     /// The group of frames by rising number, which lie in room for all that it can get.
-    pub fn of_pieces(first: u64, key: FrameKey, rising: Vec<StoredPiece>) -> StoredGroup
+    pub(crate) fn of_pieces(first: u64, key: FrameKey, rising: Vec<StoredPiece>) -> StoredGroup
         requires rise { pieces_rise 0 (map piece_of rising.items) ≡ true }
         requires room { most_frames ≤ vec_capacity rising }
         requires key { IsKey (key_of key) }
@@ -90,7 +94,7 @@ impl StoredGroup {
     }
 
     /// The line that opened it.
-    pub fn first(&self) -> u64
+    pub(crate) fn first(&self) -> u64
         ensures value { result ≡ self.now.first }
         ensures kept { pieces_of (held_of self.now) ≡ self.now.pieces }
     {
@@ -98,14 +102,14 @@ impl StoredGroup {
     }
 
     /// What its frames have in common.
-    pub fn key(&self) -> FrameKey
+    pub(crate) fn key(&self) -> FrameKey
         ensures { key_of result ≡ self.now.key }
     {
         self.key
     }
 
     /// Ends it, and begins another with a frame at a line, in the same room.
-    pub fn restart(&mut self, first: u64, frame: &FastFrame)
+    pub(crate) fn restart(&mut self, first: u64, frame: &FastFrame)
         ensures { (packet : PacketParts) → self.new ≡ group_of (key_of frame.now.key) (frame_of first packet frame.now ∷ []) }
     {
         self.first = first;
@@ -115,14 +119,14 @@ impl StoredGroup {
     }
 
     /// Whether it is the group of the key.
-    pub fn is_of(&self, key: &FrameKey) -> bool
+    pub(crate) fn is_of(&self, key: &FrameKey) -> bool
         ensures { result ≡ same_key (key_of key.now) self.now.key }
     {
         key.is(&self.key)
     }
 
     /// What its frame of a number carries.
-    pub fn carried(&self, number: u8) -> Option<&[u8; 7]>
+    pub(crate) fn carried(&self, number: u8) -> Option<&[u8; 7]>
         ensures bytes { option_map (λ bytes. bytes.now) result ≡ carried (held_of self.now) number }
         ensures seven { IfSome result (λ bytes. length bytes.now ≡ 7) }
     {
@@ -130,7 +134,7 @@ impl StoredGroup {
     }
 
     /// Whether a frame of the number is there.
-    pub fn has_number(&self, number: u8) -> bool
+    pub(crate) fn has_number(&self, number: u8) -> bool
         ensures { result ≡ has_number number (held_of self.now) }
     {
         self.carried(number).is_some()
@@ -158,7 +162,7 @@ impl StoredGroup {
     }
 
     /// Whether its numbers are exactly those of the message.
-    pub fn is_complete(&self) -> bool
+    pub(crate) fn is_complete(&self) -> bool
         ensures { result ≡ complete (held_of self.now) }
     {
         match self.total() {
@@ -198,7 +202,7 @@ impl StoredGroup {
     }
 
     /// The message of the group, which is complete, with the stamp and identifier of the packet that completed it.
-    pub fn message(&self, packet: &Packet) -> Packet
+    pub(crate) fn message(&self, packet: &Packet) -> Packet
         requires { complete (held_of self.now) ≡ true }
         ensures { result ≡ record { stamp = packet.now.stamp; id = packet.now.id; payload = data_of (held_of self.now) } }
     {
@@ -215,7 +219,7 @@ impl StoredGroup {
     }
 
     /// Takes a frame whose number isn't there yet, and answers the message where that completes it.
-    pub fn add(&mut self, frame: &FastFrame, packet: &Packet) -> Option<Packet>
+    pub(crate) fn add(&mut self, frame: &FastFrame, packet: &Packet) -> Option<Packet>
         requires open { IsOpen self.old }
         requires missing { has_number frame.now.piece.number (held_of self.old) ≡ false }
         ensures message { (line : ℕ) → let x = frame_of line packet.now frame.now in result ≡ message_if x (held_of self.old ++ x ∷ []) }
@@ -230,7 +234,7 @@ impl StoredGroup {
     }
 
     /// What is told of it where it ends without a message.
-    pub fn broken(&self) -> Broken
+    pub(crate) fn broken(&self) -> Broken
         ensures { result ≡ record { pgn = self.now.key.pgn; src = self.now.key.src; dst = self.now.key.dst; seq = self.now.key.sequence; first = self.now.first } }
     {
         Broken {

@@ -10,7 +10,7 @@ ghost use Rattle.n2k_join.specs.Refusal.{GivesOrMemory};
 ghost use Rattle.n2k_join.specs.Resumed.{is_valid, judged, state_of_parts, valid_if};
 ghost use Rattle.n2k_join.specs.Saved.{IsId, state_text, bare_bytes, group_bytes};
 ghost use Rattle.n2k_join.specs.Step.{given_of, lent_given_of, opens};
-ghost use Rattle.n2k_join.specs.Told.{packet_in, told};
+ghost use Rattle.n2k_join.specs.Inner.Told.{packet_in, told};
 
 use crate::counts::{Counts, MOST_LINES};
 use crate::fault::JoinFault;

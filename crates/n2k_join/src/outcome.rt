@@ -7,8 +7,8 @@ ghost use Rattle.n2k_join.specs.Frames.{frame_in, frame_by, fast_frame};
 ghost use Rattle.n2k_join.specs.Messages.{is_unknown, alone, cause_in, single_by, fast_cause};
 ghost use Rattle.n2k_join.specs.State.{IsOpen, AreApart};
 ghost use Rattle.n2k_join.specs.Step.{opens_by};
-ghost use Rattle.n2k_join.specs.Stored.{gives_by, leaves_by};
-ghost use Rattle.n2k_join.specs.Told.{packet_in, told, told_message};
+ghost use Rattle.n2k_join.specs.Inner.Stored.{gives_by, leaves_by};
+ghost use Rattle.n2k_join.specs.Inner.Told.{packet_in, told, told_message};
 
 use crate::broken::Broken;
 use crate::frame::fast_frame;
@@ -21,15 +21,15 @@ use std::alloc::{AllocError, Global};
 /// What a line gives. A packet is large, so that the line's own stays in its entry, and one of a group is written to
 /// where the caller wants it.
 #[derive(Drop)]
-pub struct Outcome {
+pub(crate) struct Outcome {
     /// Whether the line's own packet is its message.
-    pub is_own: bool,
+    pub(crate) is_own: bool,
     /// Why it is bad.
-    pub bad: Option<BadCause>,
+    pub(crate) bad: Option<BadCause>,
     /// The group that it breaks.
-    pub broken: Option<Broken>,
+    pub(crate) broken: Option<Broken>,
     /// Whether its PGN is unknown.
-    pub is_unknown: bool,
+    pub(crate) is_unknown: bool,
 }
 
 impl Outcome {
@@ -67,7 +67,11 @@ impl Outcome {
     }
 
     /// The message, of the line's entry and a group that it completes.
-    pub fn message<'a>(&self, entry: &'a Entry, joined: &'a Option<Packet>) -> Option<&'a Packet>
+    pub(crate) fn message<'a>(
+        &self,
+        entry: &'a Entry,
+        joined: &'a Option<Packet>,
+    ) -> Option<&'a Packet>
         ensures { option_map (λ p. p.now) result ≡ told_message self.now (packet_in entry.now) joined.now }
     {
         if self.is_own {
@@ -78,7 +82,7 @@ impl Outcome {
     }
 
     /// Whether there is one.
-    pub fn is_message(&self, entry: &Entry, joined: &Option<Packet>) -> bool
+    pub(crate) fn is_message(&self, entry: &Entry, joined: &Option<Packet>) -> bool
         ensures { result ≡ is_some (told_message self.now (packet_in entry.now) joined.now) }
     {
         self.message(entry, joined).is_some()
@@ -96,7 +100,7 @@ fn packet_in(entry: &Entry) -> Option<&Packet>
 }
 
 /// The same where the entry is let go.
-pub fn packet_of(entry: Entry) -> Option<Packet>
+pub(crate) fn packet_of(entry: Entry) -> Option<Packet>
     ensures { result ≡ packet_in entry }
 {
     match entry {
@@ -162,7 +166,7 @@ fn take_packet(
 }
 
 /// Takes the entry of a line into the open groups. The message of a group that it completes goes to `joined`.
-pub fn take_entry(
+pub(crate) fn take_entry(
     alloc: Global,
     groups: &mut Vec<StoredGroup>,
     line: u64,

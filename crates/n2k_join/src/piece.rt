@@ -3,37 +3,37 @@ ghost use Rattle.std.specs.Prelude.{◌≡◌, ◌<◌, ◌≤◌, length, slice
 
 /// The group that a frame belongs to: frames of one sender, receiver and PGN that have one sequence.
 #[derive(Clone, Copy, PartialEq, Eq, Hash)]
-pub struct FrameKey {
-    pub src: u8,
-    pub dst: u8,
-    pub pgn: u32,
-    pub sequence: u8,
+pub(crate) struct FrameKey {
+    pub(crate) src: u8,
+    pub(crate) dst: u8,
+    pub(crate) pgn: u32,
+    pub(crate) sequence: u8,
 }
 
 /// A frame as a group keeps it: its number, and the seven bytes after the header.
 #[derive(Clone, Copy)]
-pub struct StoredPiece {
-    pub number: u8,
-    pub bytes: [u8; 7],
-    pub ghost seven: { length bytes ≡ 7 },
-    pub ghost small: { number < 32 },
-    pub ghost total: { number ≡ 0 → slice_index bytes 0 ≤ 223 },
+pub(crate) struct StoredPiece {
+    pub(crate) number: u8,
+    pub(crate) bytes: [u8; 7],
+    pub(crate) ghost seven: { length bytes ≡ 7 },
+    pub(crate) ghost small: { number < 32 },
+    pub(crate) ghost total: { number ≡ 0 → slice_index bytes 0 ≤ 223 },
 }
 
 /// What the data of a fast packet's frame say.
 #[derive(Clone, Copy)]
-pub struct FastFrame {
-    pub key: FrameKey,
-    pub piece: StoredPiece,
+pub(crate) struct FastFrame {
+    pub(crate) key: FrameKey,
+    pub(crate) piece: StoredPiece,
 }
 
 impl FrameKey {
     ghost use Rattle.n2k_join.specs.Frames.{same_key};
-    ghost use Rattle.n2k_join.specs.Stored.{key_of};
+    ghost use Rattle.n2k_join.specs.Inner.Stored.{key_of};
 
     /// Whether both are one key.
     #[tactic(auto, unfolding(crate::specs::Frames::same_key))]
-    pub fn is(&self, other: &FrameKey) -> bool
+    pub(crate) fn is(&self, other: &FrameKey) -> bool
         ensures { result ≡ same_key (key_of self.now) (key_of other.now) }
     {
         self.src == other.src

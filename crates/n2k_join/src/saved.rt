@@ -8,11 +8,11 @@ mod spelled;
 mod text;
 mod value;
 
-pub use reader::read_state;
-pub use resume::{has_format, parsed, stored_groups};
-pub use rules::rules_hold;
-pub use spelled::{SpelledGroup, SpelledState};
-pub use text::state_text;
+pub(crate) use reader::read_state;
+pub(crate) use resume::{has_format, parsed, stored_groups};
+pub(crate) use rules::rules_hold;
+pub(crate) use spelled::{SpelledGroup, SpelledState};
+pub(crate) use text::state_text;
 
 #[cfg(test)]
 mod tests;

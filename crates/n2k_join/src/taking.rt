@@ -4,7 +4,7 @@ ghost use Rattle.std.specs.List.{AllByRecursion};
 ghost use Rattle.n2k_join.specs.Frames.{same_key};
 ghost use Rattle.n2k_join.specs.Groups.{has_number, complete, repeats, data_of};
 ghost use Rattle.n2k_join.specs.State.{held_of, IsOpen, AreApart};
-ghost use Rattle.n2k_join.specs.Stored.{key_of, frame_of, of_the_key, groups_after, gained, lost};
+ghost use Rattle.n2k_join.specs.Inner.Stored.{key_of, frame_of, of_the_key, groups_after, gained, lost};
 
 use crate::broken::Broken;
 use crate::group::StoredGroup;
@@ -32,11 +32,11 @@ fn place(
 
 /// What a frame gave.
 #[derive(Drop)]
-pub struct Taken {
+pub(crate) struct Taken {
     /// The message that it completes.
-    pub message: Option<Packet>,
+    pub(crate) message: Option<Packet>,
     /// The group that it breaks.
-    pub broken: Option<Broken>,
+    pub(crate) broken: Option<Broken>,
 }
 
 // The place of the group of a key.
@@ -114,7 +114,7 @@ fn open_last(
 }
 
 /// Takes a frame into the open groups. Memory is taken only where its key has none open.
-pub fn take_frame(
+pub(crate) fn take_frame(
     alloc: Global,
     groups: &mut Vec<StoredGroup>,
     line: u64,

@@ -1,12 +1,14 @@
 -- A run's promise in other words: by other functions that agree, and with another answer.
-use Rattle.std.proofs.Common.{◌≡◌, ℕ, List, refl, subst, Result, Ok, Err}
+use Rattle.std.proofs.Common.{◌≡◌, ℕ, List, ◌++◌, refl, sym, ap, ◌∙◌, subst, Option, Some, None, Result, Ok, Err}
+use Rattle.std.specs.Prelude.{IfSome}
+use Rattle.std.specs.Io.KnownBytes.{Consumes, IsAtEnd}
+use Rattle.std.proofs.lemmas.List.{append-nil}
 use mathlib.Core.Path.{fun_ext}
 use Rattle.n2k_wire.specs.declared.entry.Entry.{Entry}
 use Rattle.n2k_wire.specs.declared.entry.Packing.{Packing}
 use Rattle.n2k_run.specs.declared.fault.RunFault.{RunFault}
 use Rattle.n2k_run.specs.declared.fault.RunFault.TheVariants.{Read, Write, Report, Memory, TooManyLines}
-use Rattle.n2k_run.specs.Runs.{Devices, Ends, HasDevice, Output, Runs}
-use Rattle.n2k_run.proofs.Running.{known_more}
+use Rattle.n2k_run.specs.Runs.{Devices, Ends, HasDevice, IsWhole, Output, Runs}
 
 -- outputs are equal that agree on all entries
 pub output_same : (packing : Packing) (counted : ℕ) (texts texts' reports reports' : List Entry → List ℕ) → ((es : List Entry) → texts es ≡ texts' es) → ((es : List Entry) → reports es ≡ reports' es)
@@ -19,17 +21,27 @@ output_same packing counted texts texts' reports reports' same_texts same_report
 pub runs_same : {T : Type 0} (o o' : Output) (stands : List Entry → Type 0) (before after : Devices) (result : Result T RunFault) → o ≡ o' → Runs o stands before after result → Runs o' stands before after result
 runs_same o o' stands before after result same runs = subst (λ (p : Output). Runs p stands before after result) same runs
 
+-- what came until the source had no more is all that it had
+all_came : (P : List ℕ → Type 0) (left₀ left : Option (List ℕ)) (came : List ℕ) → Consumes left₀ left came → IsAtEnd left → P came → IfSome left₀ P
+all_came P None left came given end here = tt
+all_came P (Some log) None came given end here = absurd given
+all_came P (Some log) (Some rest) came given end here = subst P (sym (given ∙ ap (λ l. came ++ l) end ∙ append-nil came)) here
+
+-- what holds of the bytes of a run that came to its end holds of its log
+pub of_log : (o : Output) (stands : List Entry → Type 0) (before after : Devices) (P : List ℕ → Type 0) (whole : IsWhole o stands before after) → P whole.came → IfSome before.left P
+of_log o stands before after P whole here = all_came P before.left after.left whole.came whole.given whole.at_end here
+
 module _ (o : Output) (stands stands' : List Entry → Type 0) (before after : Devices) where
   pub ok_more : {T U : Type 0} (x : T) (y : U) → Runs {T = T} o stands before after (Ok x) → ((es : List Entry) → stands es → stands' es) → Runs {T = U} o stands' before after (Ok y)
   ok_more x y runs follows = record {
-    ends = record { at_end = runs.ends.at_end; gained = runs.ends.gained; holds = known_more before.left _ _ (λ log. follows _) runs.ends.holds };
+    ends = record { came = runs.ends.came; given = runs.ends.given; at_end = runs.ends.at_end; numbered = runs.ends.numbered; gained = runs.ends.gained; holds = follows _ runs.ends.holds };
     fronts = tt;
     reports_first = runs.reports_first;
     device = runs.device;
   }
 
   ends_more : (T U : Type 0) (fault : RunFault) → ((es : List Entry) → stands es → stands' es) → Ends {T = T} o stands before after (Err fault) → Ends {T = U} o stands' before after (Err fault)
-  ends_more T U Read follows e = record { came = e.came; given = e.given; gained = e.gained; holds = follows _ e.holds }
+  ends_more T U Read follows e = record { came = e.came; given = e.given; numbered = e.numbered; gained = e.gained; holds = follows _ e.holds }
   ends_more T U TooManyLines follows e = record { taken = e.taken; full = e.full; left = e.left; gained = e.gained; holds = follows _ e.holds }
   ends_more T U Write follows e = tt
   ends_more T U Report follows e = tt

@@ -1,6 +1,6 @@
 -- The output and the reports of a log that goes on, after those of its front.
 use Rattle.std.proofs.Common.{◌≡◌, ℕ, zero, suc, ◌+◌, ◌<◌, ◌≤◌, Bool, true, List, [], ◌∷◌, ◌++◌, length, Option, Some, None, Result, Ok, Err, refl, sym, ap, ◌∙◌, subst, length-append, arith}
-use Rattle.std.specs.Prelude.{◌⊎◌, IfSome, option_and_then, slice_get}
+use Rattle.std.specs.Prelude.{IfSome, option_and_then, slice_get}
 use mathlib.Core.Logic.{inl, inr}
 use Rattle.std.specs.List.{flat_map, range_with_len}
 use Rattle.std.specs.Io.{IsEmptyOrEndsWith}
@@ -13,8 +13,7 @@ use Rattle.n2k_join.specs.declared.state_fault.StateFault.TheVariants as state_f
 use Rattle.n2k_join.specs.Counts.{most_lines}
 use Rattle.n2k_join.specs.Laws.{StepsAgree, LinesStay}
 use Rattle.n2k_join.specs.Messages.{broken, cause_in, entry_at, numbers}
-use Rattle.n2k_join.specs.State.{State, state}
-use Rattle.n2k_run.specs.declared.fault.RunFault.{RunFault}
+use Rattle.n2k_join.specs.State.{state}
 use Rattle.n2k_run.specs.declared.fault.RunFault.TheVariants as run_faults
 use Rattle.n2k_run.specs.declared.options.Options.{Options}
 use Rattle.n2k_run.specs.declared.part.Part.{Part}
@@ -23,12 +22,14 @@ use Rattle.n2k_run.specs.declared.part.PartFault.TheVariants.{State as Refused, 
 use Rattle.n2k_run.specs.Decoded.{cause_at, message_line, numbers_after, out, out_of, output_after, report_at, reports, reports_of, text_at}
 use Rattle.n2k_run.specs.Entries.{entries}
 use Rattle.n2k_run.specs.Lines.{line_feed, whole_lines}
-use Rattle.n2k_run.specs.Parts.{Continues, GoesOn, GoesOnPartly, GoesOnToLimit, HasPart, IsOfKind, IsPartOf, as_run, begun, save, state_after}
+use Rattle.n2k_run.specs.Parts.{Continues, GoesOn, GoesOnPartly, GoesOnToLimit, HasPart, IsOfKind, IsPartOf, TellsRun, save, state_after}
 use Rattle.n2k_run.specs.Reports.{line_report}
-use Rattle.n2k_run.specs.Runs.{Devices, Gained, HasFronts, Runs}
+use Rattle.n2k_run.specs.Runs.{Devices, Gained, HasFronts}
 use Rattle.n2k_run.proofs.Fronts.{entries-append}
 use Rattle.n2k_run.proofs.LimitLines.{taken_bytes}
 use Rattle.n2k_run.proofs.LogSteps.{broken_stay, messages_stay}
+use Rattle.n2k_run.proofs.Parting.{line_fronts, told_ok, told_run, told_stopped}
+use Rattle.n2k_run.proofs.Ending.{of_log}
 use Rattle.n2k_run.proofs.Running.{known_more}
 
 range_append : (a n m : ℕ) → range_with_len a (n + m) ≡ range_with_len a n ++ range_with_len (a + n) m
@@ -140,18 +141,17 @@ module _ (agree : (id : List ℕ) (kind : ℕ → Option Kind) (es : List Entry)
               (subst (λ x. IsPartOf t (state t.id (kind t) (entries o.packing front ++ x)) part) (sym cut.entries_are) stands);
         }
 
-    known_both : (known : Option (List ℕ)) (P Q R : List ℕ → Type 0) → ((log : List ℕ) → P log → Q log → R log) → IfSome known P → IfSome known Q → IfSome known R
-    known_both None P Q R follows p q = tt
-    known_both (Some log) P Q R follows p q = follows log p q
-
     -- the headline
-    pub continues_of : (before after : Devices) (result : Result Part PartFault) → Runs (output_after t o (entries o.packing front)) (λ es. HasPart t result (state t.id (kind t) (entries o.packing front ++ es))) before after (as_run result)
+    pub continues_of : (before after : Devices) (result : Result Part PartFault) → TellsRun (output_after t o (entries o.packing front)) (λ es. HasPart t result (state t.id (kind t) (entries o.packing front ++ es))) before after result
         → IsOfKind result → ((fault : StateFault) → result ≡ Err (Refused fault) → fault ≡ state_faults.Memory) → Continues t o front before after result
-    continues_of before after (Ok part) runs kinds refused =
-        (runs.ends.at_end, known_both before.left _ _ _ (λ log gained holds. goes_on log before after part gained holds) runs.ends.gained runs.ends.holds)
-    continues_of before after (Err (Stopped run_faults.Read part)) runs kinds refused =
+    continues_of before after (Ok part) told kinds refused =
+        let runs = told_ok _ before after _ part told in
+        (runs.ends.at_end, of_log _ _ before after _ runs.ends (goes_on runs.ends.came before after part runs.ends.gained runs.ends.holds))
+    continues_of before after (Err (Stopped run_faults.Read part)) told kinds refused =
+        let runs = told_stopped _ before after _ run_faults.Read part told in
         (runs.ends.came, runs.ends.given, goes_on (whole_lines runs.ends.came) before after part runs.ends.gained runs.ends.holds)
-    continues_of before after (Err (Stopped run_faults.TooManyLines part)) runs kinds refused =
+    continues_of before after (Err (Stopped run_faults.TooManyLines part)) told kinds refused =
+        let runs = told_stopped _ before after _ run_faults.TooManyLines part told in
         known_more before.left _ _ (λ log left. to_limit log before after part runs.ends.taken left.0 left.1 left.2 runs.ends.full runs.ends.gained runs.ends.holds) runs.ends.left
     continues_of before after (Err (Stopped run_faults.Write part)) runs (inl e) refused = cc
     continues_of before after (Err (Stopped run_faults.Write part)) runs (inr e) refused = cc
@@ -160,5 +160,5 @@ module _ (agree : (id : List ℕ) (kind : ℕ → Option Kind) (es : List Entry)
     continues_of before after (Err (Stopped run_faults.Memory part)) runs (inl e) refused = cc
     continues_of before after (Err (Stopped run_faults.Memory part)) runs (inr e) refused = cc
     continues_of before after (Err (Refused fault)) runs kinds refused = refused fault refl
-    continues_of before after (Err (Run fault)) runs kinds refused = known_more before.left _ _ (λ log fronts. goes_partly log before after fronts) runs.fronts
-    continues_of before after (Err Memory) runs kinds refused = known_more before.left _ _ (λ log fronts. goes_partly log before after fronts) runs.fronts
+    continues_of before after (Err (Run fault)) told kinds refused = known_more before.left _ _ (λ log fronts. goes_partly log before after fronts) (told_run _ before after _ fault told).fronts
+    continues_of before after (Err Memory) told kinds refused = known_more before.left _ _ (λ log fronts. goes_partly log before after fronts) (line_fronts _ before after _ told.ran told.ended told.runs)

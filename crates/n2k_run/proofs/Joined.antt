@@ -1,14 +1,12 @@
 -- Parts that lie in memory, taken one after the other.
-use Rattle.std.proofs.Common.{◌≡◌, ℕ, List, [], ◌∷◌, ◌++◌, length, map, Option, Some, None, Result, Ok, Err, refl, sym, ap, ◌∙◌, subst, append_assoc, append-nil}
-use Rattle.std.specs.Prelude.{◌⊎◌, IfOk, IfSome}
-use mathlib.Core.Logic.{inl, inr}
-use Rattle.std.specs.List.{flat_map, concat}
+use Rattle.std.proofs.Common.{◌≡◌, ℕ, List, [], ◌∷◌, ◌++◌, length, map, Option, Some, None, Result, Ok, Err, refl, sym, ap, ◌∙◌, subst, append-nil}
+use Rattle.std.specs.Prelude.{IfOk}
+use Rattle.std.specs.List.{concat}
 use Rattle.std.specs.Prelude.{◌<◌, get_or, take, drop, suc}
 use Rattle.std.specs.Borrow.{Bor}
 use Rattle.std.proofs.lemmas.List.{map-append, take-append-drop}
 use Rattle.std.proofs.Math.Seq.{drop-cons}
 use Rattle.n2k_run.specs.Memory.{Supply}
-use Rattle.std.specs.Io.{IsEmptyOrEndsWith}
 use Rattle.std.specs.Io.KnownBytes.{Appends}
 use Rattle.std.proofs.KnownBytes.{Appends-nil, Appends-trans}
 use Rattle.std.proofs.lemmas.Grind.{flat_map-append}
@@ -25,12 +23,12 @@ use Rattle.n2k_run.specs.declared.part.PartFault.TheVariants.{State as Refused, 
 use Rattle.n2k_run.specs.Decoded.{out, out_of, output_after, reports, reports_of}
 use Rattle.n2k_run.specs.Entries.{entries}
 use Rattle.n2k_run.specs.Inner.Parts.{Saves}
-use Rattle.n2k_run.specs.Lines.{line_feed}
-use Rattle.n2k_run.specs.Parts.{AreCutAtLines, BeginsBy, IsPartOf, OnRefusal, PrintsLog, RefusedByMemory, RunsPart, Takes, TakesAll, as_run, begun, entries_of, save, with_source, HasPart}
-use Rattle.n2k_run.specs.Runs.{Devices, Runs}
+use Rattle.n2k_run.specs.Parts.{AreCutAtLines, BeginsBy, IsPartOf, OnRefusal, PrintsLog, RefusedByMemory, RunsPart, TakesAll, TellsRun, begun, entries_of, save, with_source, HasPart}
+use Rattle.n2k_run.specs.Runs.{Devices, Gained}
+use Rattle.n2k_run.proofs.Ending.{of_log}
 use Rattle.n2k_run.proofs.Fronts.{entries-append}
 use Rattle.n2k_run.proofs.GoingOn.{out_of-append, reports_of-append}
-use Rattle.n2k_run.proofs.Parting.{KeepsFast, begun-under, memory_alone, part-of}
+use Rattle.n2k_run.proofs.Parting.{KeepsFast, begun-under, memory_alone, part-of, told_ok}
 
 -- before the first part
 pub empty-of : (laws : KeepsFast) (t : TableParts) (join : State) {E : Type 0} (result : Result Part E) → IsId t.id → join ≡ state t.id (kind t) [] → IfOk result (Saves join) → IfOk result (IsPartOf t (state t.id (kind t) []))
@@ -60,7 +58,8 @@ module _ (agree : (id : List ℕ) (kind : ℕ → Option Kind) (es : List Entry)
       let front = entries_of o done in
       let es = entries o.packing met in
       let all : front ++ es ≡ entries_of o (done ++ met ∷ []) = sym (entries_next o done met) in
-      let gained = run.runs.ends.gained in
+      let ran = told_ok _ _ _ _ next run.told in
+      let gained = of_log _ _ _ _ (λ log. Gained (output_after t o front) (with_source between (Some met) 0 0) (with_source after run.left run.calls run.failed_reads) (entries o.packing log)) ran.ends ran.ends.gained in
       let text : Appends before.written after.written (out_of t o.empty (front ++ es)) =
       subst (Appends before.written after.written) (sym (out_of-append agree stay t o.empty front es)) (Appends-trans before.written between.written after.written _ _ so_far.taken.printed gained.printed) in
       let report : Appends before.reported after.reported (reports_of t (front ++ es)) =
@@ -69,10 +68,10 @@ module _ (agree : (id : List ℕ) (kind : ℕ → Option Kind) (es : List Entry)
         taken = record {
           printed = subst (λ es. Appends before.written after.written (out_of t o.empty es)) all text;
           reported = subst (λ es. Appends before.reported after.reported (reports_of t es)) all report;
-          writes = run.runs.device.writes ∙ so_far.taken.writes;
-          report_writes = run.runs.device.reports ∙ so_far.taken.report_writes;
+          writes = ran.device.writes ∙ so_far.taken.writes;
+          report_writes = ran.device.reports ∙ so_far.taken.report_writes;
         };
-        leads_to = subst (λ es. IsPartOf t (state t.id (kind t) es) next) all run.runs.ends.holds;
+        leads_to = subst (λ es. IsPartOf t (state t.id (kind t) es) next) all (of_log _ _ _ _ (λ log. IsPartOf t (state t.id (kind t) (front ++ entries o.packing log)) next) ran.ends ran.ends.holds);
       }
 
 -- where the state is refused, both sinks are as they were
@@ -85,12 +84,12 @@ both_untouched (Err (Refused fault)) w w' e e' seen p q = rw (p, q) refl
 
 -- the run of a part reads from its source in memory
 pub runs_part : (t : TableParts) (o : Options) (front : List Entry) (met : List ℕ) (reader : Supply) (at : ℕ) (before after : Devices) (left : Option (List ℕ)) (calls failed_reads : ℕ) (result : Result Part PartFault) → reader ≡ record { left = met; at_once = at; fails_at = 0; calls = 0; failed_calls = 0 }
-    → Runs (output_after t o front) (λ es. HasPart t result (state t.id (kind t) (front ++ es))) (with_source before (Some reader.left) reader.calls reader.failed_calls) (with_source after left calls failed_reads) (as_run result) → OnRefusal result (after ≡ before) → RunsPart t o front met before after result
-runs_part t o front met reader at before after left calls failed_reads result is runs untouched = record {
+    → TellsRun (output_after t o front) (λ es. HasPart t result (state t.id (kind t) (front ++ es))) (with_source before (Some reader.left) reader.calls reader.failed_calls) (with_source after left calls failed_reads) result → OnRefusal result (after ≡ before) → RunsPart t o front met before after result
+runs_part t o front met reader at before after left calls failed_reads result is told untouched = record {
   left = left;
   calls = calls;
   failed_reads = failed_reads;
-  runs = subst (λ (s : Supply). Runs (output_after t o front) (λ es. HasPart t result (state t.id (kind t) (front ++ es))) (with_source before (Some s.left) s.calls s.failed_calls) (with_source after left calls failed_reads) (as_run result)) is runs;
+  told = subst (λ (s : Supply). TellsRun (output_after t o front) (λ es. HasPart t result (state t.id (kind t) (front ++ es))) (with_source before (Some s.left) s.calls s.failed_calls) (with_source after left calls failed_reads) result) is told;
   untouched = untouched;
 }
 

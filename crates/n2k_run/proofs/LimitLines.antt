@@ -1,5 +1,5 @@
 -- The bytes of the lines that were taken, where a log has more lines.
-use Rattle.std.proofs.Common.{◌≡◌, inl, inr, ℕ, ◌<◌, ◌≤◌, ◌-◌, Bool, true, false, List, [], ◌∷◌, ◌++◌, length, get_or, map, refl, sym, ap, ◌∙◌, subst, append_assoc, arith, length-append}
+use Rattle.std.proofs.Common.{◌≡◌, inl, inr, ℕ, ◌<◌, ◌-◌, Bool, true, false, List, [], ◌∷◌, ◌++◌, length, get_or, map, refl, sym, ap, ◌∙◌, subst, append_assoc, arith, length-append}
 use Rattle.std.specs.Prelude.{◌⊎◌}
 use Rattle.std.specs.Io.{IsEmptyOrEndsWith}
 use Rattle.std.proofs.lemmas.Bool.{eqb-true}
@@ -10,7 +10,7 @@ use Rattle.n2k_wire.specs.declared.entry.Packing.{Packing}
 use Rattle.n2k_wire.specs.Entry.{entry}
 use Rattle.n2k_run.specs.Blocks.{HasNoFeed}
 use Rattle.n2k_run.specs.Entries.{entries}
-use Rattle.n2k_run.specs.Lines.{line_feed, is_line_feed, lines, without_return}
+use Rattle.n2k_run.specs.Lines.{line_feed, is_line_feed, without_return}
 use Rattle.n2k_run.proofs.Answering.{lines_piece, lines_rest}
 use Rattle.n2k_run.proofs.Fronts.{ends_feed}
 

@@ -1,6 +1,6 @@
 -- A part of a log: what its run promises is what its answer says.
-use Rattle.std.proofs.Common.{◌≡◌, ℕ, Bool, List, [], ◌∷◌, ◌++◌, length, Option, Some, None, Result, Ok, Err, refl, sym, ap, ◌∙◌, subst, append-nil}
-use Rattle.std.specs.Prelude.{◌⊎◌, IfSome, OnErr}
+use Rattle.std.proofs.Common.{◌≡◌, ℕ, Bool, List, [], ◌∷◌, ◌++◌, Option, Some, None, Result, Ok, Err, refl, sym, ap, ◌∙◌, subst, append-nil}
+use Rattle.std.specs.Prelude.{◌⊎◌, IfSome}
 use mathlib.Core.Logic.{inl, inr}
 use Rattle.std.specs.Io.KnownBytes.{Appends}
 use Rattle.std.proofs.KnownBytes.{Appends-nil}
@@ -22,12 +22,12 @@ use Rattle.n2k_run.specs.declared.part.PartFault.TheVariants.{State as Refused, 
 use Rattle.n2k_run.specs.declared.options.Options.{Options}
 use Rattle.n2k_run.specs.Decoded.{join_making, output_after}
 use Rattle.n2k_run.specs.Entries.{entries}
-use Rattle.n2k_run.specs.Inner.Parts.{Finishes, HasSaved, Saves, StandsAtLine}
+use Rattle.n2k_run.specs.Inner.Parts.{Finishes, HasSaved, Saves}
 use Rattle.n2k_run.specs.Making.{after_all}
-use Rattle.n2k_run.specs.Parts.{HasPart, IsPartOf, as_run, begun}
-use Rattle.n2k_run.specs.Runs.{Devices, Output, Runs, output_from}
+use Rattle.n2k_run.specs.Parts.{HasPart, IsPartOf, Ran, StandsAtLine, TellsRun, begun}
+use Rattle.n2k_run.specs.Runs.{Devices, HasFronts, Output, Runs, output_from}
 use Rattle.n2k_run.specs.Writing.{AppendsFront}
-use Rattle.n2k_run.proofs.Ending.{ok_more, err_more, runs_more, runs_same}
+use Rattle.n2k_run.proofs.Ending.{of_log, runs_more, runs_same}
 use Rattle.n2k_run.proofs.LogSteps.{output_after-is, state_after}
 use Rattle.n2k_run.proofs.Running.{known_more}
 
@@ -42,48 +42,56 @@ all_gained : (old new : Option (List ℕ)) (text : List ℕ) → Appends old new
 all_gained old new text appended = ([], record { front = text; appended = appended; still = sym (append-nil text) })
 
 -- a run that never began: nothing was read or written
-pub unbegun : {T : Type 0} (o : Output) (stands : List Entry → Type 0) (before : Devices) → o.reports [] ≡ [] → Runs {T = T} o stands before before (Err run_faults.Memory)
-unbegun o stands before none = record {
-  ends = tt;
-  fronts = known_any before.left _ (λ log. record {
-    printed = none_gained before.written (o.texts (entries o.packing log));
-    reported = none_gained before.reported (o.reports (entries o.packing log));
-  });
-  reports_first = known_any before.left _ (λ log. record {
-    taken = [];
-    left = entries o.packing log;
-    lines_taken = refl;
-    printed = none_gained before.written (o.texts []);
-    reported = ([], subst (Appends before.reported before.reported) (sym (append-nil (o.reports []) ∙ none)) (Appends-nil before.reported));
-  });
-  device = record { writes = refl; reports = refl };
+pub unbegun : (o : Output) (stands : List Entry → Type 0) (before : Devices) (fault : StateFault) → o.reports [] ≡ [] → TellsRun o stands before before (Err (Refused fault))
+unbegun o stands before fault none = record {
+  ran = Err run_faults.Memory;
+  ended = refl;
+  runs = record {
+    ends = tt;
+    fronts = known_any before.left _ (λ log. record {
+      printed = none_gained before.written (o.texts (entries o.packing log));
+      reported = none_gained before.reported (o.reports (entries o.packing log));
+    });
+    reports_first = known_any before.left _ (λ log. record {
+      taken = [];
+      left = entries o.packing log;
+      lines_taken = refl;
+      printed = none_gained before.written (o.texts []);
+      reported = ([], subst (Appends before.reported before.reported) (sym (append-nil (o.reports []) ∙ none)) (Appends-nil before.reported));
+    });
+    device = record { reads = refl; writes = refl; reports = refl };
+  };
 }
 
--- a run after which memory was refused
-module _ (o : Output) (stands stands' : List Entry → Type 0) (before after : Devices) where
-  pub then_memory : {U : Type 0} (ran : Result (Unit {0}) RunFault) → StandsAtLine ran → Runs o stands before after ran → Runs {T = U} o stands' before after (Err run_faults.Memory)
-  then_memory (Ok x) line runs = record {
-    ends = tt;
-    fronts = known_more before.left _ _ (λ log gained. record {
-      printed = all_gained before.written after.written (o.texts (entries o.packing log)) gained.printed;
-      reported = all_gained before.reported after.reported (o.reports (entries o.packing log)) gained.reported;
-    }) runs.ends.gained;
-    reports_first = runs.reports_first;
-    device = record { writes = runs.device.writes; reports = runs.device.reports };
-  }
-  then_memory (Err run_faults.Read) line runs = record { ends = tt; fronts = runs.fronts; reports_first = runs.reports_first; device = runs.device.1 }
-  then_memory (Err run_faults.TooManyLines) line runs = record { ends = tt; fronts = runs.fronts; reports_first = runs.reports_first; device = runs.device }
-  then_memory (Err run_faults.Write) line runs = absurd line
-  then_memory (Err run_faults.Report) line runs = absurd line
-  then_memory (Err run_faults.Memory) line runs = absurd line
+module _ (o : Output) (before after : Devices) where
+  -- where a run stands at a line, the sinks gained fronts of what is made of the log
+  pub line_fronts : (stands : List Entry → Type 0) (ran : Result (Unit {0}) RunFault) → StandsAtLine ran → Runs o stands before after ran → IfSome before.left (HasFronts o before after)
+  line_fronts stands (Ok x) line runs = of_log o stands before after _ runs.ends (record {
+    printed = all_gained before.written after.written (o.texts (entries o.packing runs.ends.came)) runs.ends.gained.printed;
+    reported = all_gained before.reported after.reported (o.reports (entries o.packing runs.ends.came)) runs.ends.gained.reported;
+  })
+  line_fronts stands (Err run_faults.Read) line runs = runs.fronts
+  line_fronts stands (Err run_faults.TooManyLines) line runs = runs.fronts
+  line_fronts stands (Err run_faults.Write) line runs = absurd line
+  line_fronts stands (Err run_faults.Report) line runs = absurd line
+  line_fronts stands (Err run_faults.Memory) line runs = absurd line
 
-  -- what a run promises, its part promises
-  pub part_runs : (ran : Result (Unit {0}) RunFault) (result : Result Part PartFault) → Finishes result ran → Runs o stands before after ran → ((es : List Entry) → stands es → stands' es) → Runs o stands' before after (as_run result)
-  part_runs ran (Ok part) is runs follows = ok_more o stands stands' before after tt part (subst (λ r. Runs o stands before after r) is runs) follows
-  part_runs ran (Err (Stopped fault part)) is runs follows = err_more o stands stands' before after (Unit {0}) Part fault (subst (λ r. Runs o stands before after r) is runs) follows
-  part_runs ran (Err (Run fault)) is runs follows = err_more o stands stands' before after (Unit {0}) Part fault (subst (λ r. Runs o stands before after r) is runs) follows
-  part_runs ran (Err Memory) is runs follows = then_memory ran is runs
-  part_runs ran (Err (Refused fault)) is runs follows = absurd is
+  -- the run of which an answer tells, by the end that it tells
+  pub told_ok : (stands : List Entry → Type 0) (part : Part) → TellsRun o stands before after (Ok part) → Runs {T = Unit {0}} o stands before after (Ok tt)
+  told_ok stands part told = subst (λ r. Runs o stands before after r) told.ended told.runs
+
+  pub told_stopped : (stands : List Entry → Type 0) (fault : RunFault) (part : Part) → TellsRun o stands before after (Err (Stopped fault part)) → Runs {T = Unit {0}} o stands before after (Err fault)
+  told_stopped stands fault part told = subst (λ r. Runs o stands before after r) told.ended told.runs
+
+  pub told_run : (stands : List Entry → Type 0) (fault : RunFault) → TellsRun o stands before after (Err (Run fault)) → Runs {T = Unit {0}} o stands before after (Err fault)
+  told_run stands fault told = subst (λ r. Runs o stands before after r) told.ended told.runs
+
+finished : (result : Result Part PartFault) (ran : Result (Unit {0}) RunFault) → Finishes result ran → Ran result ran
+finished (Ok part) ran is = is
+finished (Err (Stopped fault part)) ran is = is
+finished (Err (Run fault)) ran is = is
+finished (Err Memory) ran is = is
+finished (Err (Refused fault)) ran is = absurd is
 
 -- ---- the states that a part goes through
 
@@ -139,23 +147,32 @@ module _ (laws : KeepsFast) (t : TableParts) where
   -- the steps from the state that the part began with
   pub steps_of : (packing : Packing) (empty : Bool) (handed : Option (List ℕ)) (join join' : State) (before after : Devices) (ran : Result (Unit {0}) RunFault) (result : Result Part PartFault) → IsId t.id → begun t handed ≡ Ok join
       → Runs (output_from (join_making t empty) packing join) (λ es. join' ≡ after_all (join_making t empty) join es) before after ran → HasSaved result join' → Finishes result ran
-      → (s : State) → begun t handed ≡ Ok s → Runs (output_from (join_making t empty) packing s) (λ es. HasPart t result (after_all (join_making t empty) s es)) before after (as_run result)
+      → (s : State) → begun t handed ≡ Ok s → TellsRun (output_from (join_making t empty) packing s) (λ es. HasPart t result (after_all (join_making t empty) s es)) before after result
   steps_of packing empty handed join join' before after ran result id began runs saved finishes s is =
       let same : join ≡ s = same_state _ _ (sym began ∙ is) in
       let under : IsUnder t join = begun-under handed join began in
-      subst (λ (s : State). Runs (output_from (join_making t empty) packing s) (λ es. HasPart t result (after_all (join_making t empty) s es)) before after (as_run result)) same
-      (part_runs (output_from (join_making t empty) packing join) (λ es. join' ≡ after_all (join_making t empty) join es) (λ es. HasPart t result (after_all (join_making t empty) join es)) before after ran result finishes runs
-      (λ es at. subst (HasPart t result) at (has_part join' result id (subst (IsUnder t) (sym at) (after-under empty join es under)) saved)))
+      let o : Output = output_from (join_making t empty) packing join in
+      let stands : List Entry → Type 0 = λ es. HasPart t result (after_all (join_making t empty) join es) in
+      subst (λ (s : State). TellsRun (output_from (join_making t empty) packing s) (λ es. HasPart t result (after_all (join_making t empty) s es)) before after result) same (record {
+        ran = ran;
+        ended = finished result ran finishes;
+        runs = runs_more o (λ es. join' ≡ after_all (join_making t empty) join es) stands before after ran runs
+            (λ es at. subst (HasPart t result) at (has_part join' result id (subst (IsUnder t) (sym at) (after-under empty join es under)) saved));
+      })
 
 -- from the state of a log: what the whole log says
 pub log_of : ((id : List ℕ) (kind : ℕ → Option Kind) (es : List Entry) (e : Entry) → StepsAgree id kind es e) → ((kind : ℕ → Option Kind) (es : List Entry) (e : Entry) → LinesStay kind es e) → (t : TableParts) (o : Options) (before after : Devices) (result : Result Part PartFault) (front : List Entry)
-    → Runs (output_from (join_making t o.empty) o.packing (state t.id (kind t) front)) (λ es. HasPart t result (after_all (join_making t o.empty) (state t.id (kind t) front) es)) before after (as_run result)
-    → Runs (output_after t o front) (λ es. HasPart t result (state t.id (kind t) (front ++ es))) before after (as_run result)
+    → TellsRun (output_from (join_making t o.empty) o.packing (state t.id (kind t) front)) (λ es. HasPart t result (after_all (join_making t o.empty) (state t.id (kind t) front) es)) before after result
+    → TellsRun (output_after t o front) (λ es. HasPart t result (state t.id (kind t) (front ++ es))) before after result
 log_of agree stay t o before after result front steps =
     let same = output_after-is agree stay t o t.id front in
-    let runs = runs_same _ (output_after t o front) _ before after (as_run result) same steps in
-    runs_more (output_after t o front) (λ es. HasPart t result (after_all (join_making t o.empty) (state t.id (kind t) front) es)) (λ es. HasPart t result (state t.id (kind t) (front ++ es))) before after (as_run result) runs
-    (λ es has. subst (HasPart t result) (state_after agree stay t o.empty t.id front es) has)
+    let runs = runs_same _ (output_after t o front) _ before after steps.ran same steps.runs in
+    record {
+      ran = steps.ran;
+      ended = steps.ended;
+      runs = runs_more (output_after t o front) (λ es. HasPart t result (after_all (join_making t o.empty) (state t.id (kind t) front) es)) (λ es. HasPart t result (state t.id (kind t) (front ++ es))) before after steps.ran runs
+          (λ es has. subst (HasPart t result) (state_after agree stay t o.empty t.id front es) has);
+    }
 
 -- ---- a refused state
 

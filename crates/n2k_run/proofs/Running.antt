@@ -1,5 +1,5 @@
 -- The engine of the runs: what stands after each step, and what each end leaves.
-use Rattle.std.proofs.Common.{◌≡◌, inl, inr, ℕ, true, false, List, [], ◌∷◌, ◌++◌, refl, sym, ap, ◌∙◌, subst, append_assoc, arith, length-append, Option, Some, None, Result, Ok, Err}
+use Rattle.std.proofs.Common.{◌≡◌, inl, inr, ℕ, true, false, List, [], ◌∷◌, ◌++◌, length, refl, sym, ap, ◌∙◌, subst, append_assoc, arith, length-append, Option, Some, None, Result, Ok, Err}
 use Rattle.std.specs.Prelude.{IfSome}
 use Rattle.std.specs.Io.KnownBytes.{Appends, Consumes, IsAtEnd}
 use Rattle.std.proofs.KnownBytes.{Appends-nil, Appends-trans, Consumes-nil, Consumes-trans}
@@ -13,7 +13,7 @@ use Rattle.n2k_run.specs.Device.{HasFailed}
 use Rattle.n2k_run.specs.Entries.{entries}
 use Rattle.n2k_run.specs.Lines.{whole_lines}
 use Rattle.n2k_run.specs.Making.{Making, after_all, texts_from, reports_from}
-use Rattle.n2k_run.specs.Runs.{Devices, Ends, Gained, HasDevice, HasFronts, IsCut, IsFull, NoneFailed, Output, ReportsFirst, Runs, output_from}
+use Rattle.n2k_run.specs.Runs.{AreNumbered, Devices, Ends, Gained, HasDevice, HasFronts, IsCut, IsFull, NoneFailed, Output, ReportsFirst, Runs, output_from}
 use Rattle.n2k_run.specs.Writing.{AppendsFront}
 use Rattle.n2k_run.specs.Inner.Engine.{FailsKept, Made, MovesOn, ReadsNext, Stands, StandsStill, TakesNext, WritesKept}
 use Rattle.n2k_run.proofs.Finding.{calls_end}
@@ -35,6 +35,20 @@ more_front old mid new text part more whole first second is =
 pub known_more : (known : Option (List ℕ)) (P Q : List ℕ → Type 0) → ((log : List ℕ) → P log → Q log) → IfSome known P → IfSome known Q
 known_more None P Q follows p = tt
 known_more (Some log) P Q follows p = follows log p
+
+-- A sink failed once the next line had its fault: then something was kept, so that the fault is none of the source.
+pub none_read : {S : Type 0} (m : Making S) (packing : Packing) (s s' : S) (held held' : Held) (text text' report report' : List ℕ) (left₀ left : Option (List ℕ)) (failed₀ failed : ℕ) (w w' e e' : Option (List ℕ)) (fault sink : RunFault)
+    → TakesNext {T = Unit {0}} m packing s s' held held' left₀ left text text' report report' (Err fault) → (fault ≡ Memory → ⊥) → ReadsNext {T = Unit {0}} held' failed₀ failed (Err fault)
+    → WritesKept {T = Unit {0}} text' report' w w' e e' (Err sink) → failed ≡ failed₀
+none_read m packing s s' held held' text text' report report' left₀ left failed₀ failed w w' e e' Read Write next not_memory reads out = absurd (omega (arith, ap length next.2, out.2))
+none_read m packing s s' held held' text text' report report' left₀ left failed₀ failed w w' e e' Read Report next not_memory reads out = absurd (omega (arith, ap length next.3, out.2))
+none_read m packing s s' held held' text text' report report' left₀ left failed₀ failed w w' e e' Read Read next not_memory reads out = absurd out
+none_read m packing s s' held held' text text' report report' left₀ left failed₀ failed w w' e e' Read Memory next not_memory reads out = absurd out
+none_read m packing s s' held held' text text' report report' left₀ left failed₀ failed w w' e e' Read TooManyLines next not_memory reads out = absurd out
+none_read m packing s s' held held' text text' report report' left₀ left failed₀ failed w w' e e' TooManyLines sink next not_memory reads out = reads
+none_read m packing s s' held held' text text' report report' left₀ left failed₀ failed w w' e e' Memory sink next not_memory reads out = reads
+none_read m packing s s' held held' text text' report report' left₀ left failed₀ failed w w' e e' Write sink next not_memory reads out = absurd next
+none_read m packing s s' held held' text text' report report' left₀ left failed₀ failed w w' e e' Report sink next not_memory reads out = absurd next
 
 module _ {S : Type 0} (m : Making S) (packing : Packing) (s₀ : S) (before : Devices) where
   abbrev o : Output
@@ -78,6 +92,7 @@ module _ {S : Type 0} (m : Making S) (packing : Packing) (s₀ : S) (before : De
           text_is = none_text;
           report_is = none_report;
           counted = omega arith;
+          numbered = λ some. absurd (omega (arith, some));
         };
         called = (omega arith, inl (omega (arith, ap (λ (h : Held). h.reads) is)));
         none_failed = record { reads = refl; writes = refl; reports = refl };
@@ -95,6 +110,7 @@ module _ {S : Type 0} (m : Making S) (packing : Packing) (s₀ : S) (before : De
     text_is = refl;
     report_is = refl;
     counted = made.counted;
+    numbered = made.numbered;
   }
 
   pub writes : (s : S) (held : Held) (text report : List ℕ) (now : Devices) (w' e' : Option (List ℕ)) (fw' fe' : ℕ) (text' report' : List ℕ) → Stands m packing s₀ s held text report before now
@@ -128,6 +144,7 @@ module _ {S : Type 0} (m : Making S) (packing : Packing) (s₀ : S) (before : De
         text_is = moves.text_after ∙ ap (λ t. t ++ m.text s x) made.text_is ∙ ap (λ s. texts_from m mid made.kept ++ m.text s x) (sym here) ∙ ap (λ t. texts_from m mid made.kept ++ t) (sym (append-nil (m.text (after_all m mid made.kept) x))) ∙ sym (texts-append m mid made.kept (x ∷ []));
         report_is = moves.report_after ∙ ap (λ t. t ++ m.report s x) made.report_is ∙ ap (λ s. reports_from m mid made.kept ++ m.report s x) (sym here) ∙ ap (λ t. reports_from m mid made.kept ++ t) (sym (append-nil (m.report (after_all m mid made.kept) x))) ∙ sym (reports-append m mid made.kept (x ∷ []));
         counted = omega (arith, moves.counted, made.counted, length-append es (x ∷ []));
+        numbered = λ some. omega (arith, moves.few, made.counted, length-append es (x ∷ []));
       }
 
   made_still : (s s' : S) (es : List Entry) (text text' report report' : List ℕ) (now : Devices) → Made m s₀ s es text report before now → StandsStill s s' text text' report report' → Made m s₀ s' es text' report' before now
@@ -141,6 +158,7 @@ module _ {S : Type 0} (m : Making S) (packing : Packing) (s₀ : S) (before : De
     text_is = still.same_text ∙ made.text_is;
     report_is = still.same_report ∙ made.report_is;
     counted = ap m.lines still.same_state ∙ made.counted;
+    numbered = made.numbered;
   }
 
   -- the source after a call, the sinks as they were
@@ -159,6 +177,7 @@ module _ {S : Type 0} (m : Making S) (packing : Packing) (s₀ : S) (before : De
     text_is = made.text_is;
     report_is = made.report_is;
     counted = made.counted;
+    numbered = made.numbered;
   }
 
   calls_trans : (c₀ c c' r₀ r r' : ℕ) → CallsAre c₀ c r₀ r → CallsAre c c' r r' → CallsAre c₀ c' r₀ r'
@@ -273,46 +292,41 @@ module _ {S : Type 0} (m : Making S) (packing : Packing) (s₀ : S) (before : De
   }) lead
 
   -- a sink failed
-  pub sink_end : (stands : List Entry → Type 0) (s : S) (es : List Entry) (text report : List ℕ) (now after : Devices) (fault : RunFault) → Made m s₀ s es text report before now → Leads packing before.left es → now.failed_writes ≡ before.failed_writes → now.failed_reports ≡ before.failed_reports
+  pub sink_end : (stands : List Entry → Type 0) (s : S) (es : List Entry) (text report : List ℕ) (now after : Devices) (fault : RunFault) → Made m s₀ s es text report before now → Leads packing before.left es → after.failed_reads ≡ before.failed_reads → now.failed_writes ≡ before.failed_writes → now.failed_reports ≡ before.failed_reports
       → WritesKept {T = Unit {0}} text report now.written after.written now.reported after.reported (Err fault) → FailsKept {T = Unit {0}} now.failed_writes after.failed_writes now.failed_reports after.failed_reports (Err fault)
       → Runs {T = Unit {0}} o stands before after (Err fault)
-  sink_end stands s es text report now after Write made lead writes reports out fails = record {
+  sink_end stands s es text report now after Write made lead reads writes reports out fails = record {
     ends = tt;
-    fronts = write_fronts s es text report now after made out lead;
-    reports_first = write_first s es text report now after made out lead;
-    device = subst (λ n. HasFailed n after.failed_writes) writes fails;
+    fronts = write_fronts s es text report now after made (out.0, out.1) lead;
+    reports_first = write_first s es text report now after made (out.0, out.1) lead;
+    device = record { reads = reads; writes = subst (λ n. HasFailed n after.failed_writes) writes fails.0; reports = fails.1 ∙ reports };
   }
-  sink_end stands s es text report now after Report made lead writes reports out fails = record {
+  sink_end stands s es text report now after Report made lead reads writes reports out fails = record {
     ends = tt;
-    fronts = report_fronts s es text report now after made out lead;
-    reports_first = report_first s es text report now after made out lead;
-    device = subst (λ n. HasFailed n after.failed_reports) reports fails;
+    fronts = report_fronts s es text report now after made (out.0, out.1) lead;
+    reports_first = report_first s es text report now after made (out.0, out.1) lead;
+    device = record { reads = reads; writes = fails.1 ∙ writes; reports = subst (λ n. HasFailed n after.failed_reports) reports fails.0 };
   }
-  sink_end stands s es text report now after Read made lead writes reports out fails = absurd out
-  sink_end stands s es text report now after Memory made lead writes reports out fails = absurd out
-  sink_end stands s es text report now after TooManyLines made lead writes reports out fails = absurd out
+  sink_end stands s es text report now after Read made lead reads writes reports out fails = absurd out
+  sink_end stands s es text report now after Memory made lead reads writes reports out fails = absurd out
+  sink_end stands s es text report now after TooManyLines made lead reads writes reports out fails = absurd out
 
   pub lead_of : (s : S) (held : Held) (text report : List ℕ) (now : Devices) (stands : Stands m packing s₀ s held text report before now) → Leads packing before.left (entries packing stands.front)
   lead_of s held text report now stands = leads packing before.left now.left stands.front (unanswered held) held.has_ended stands.came stands.whole stands.end
 
   -- memory was refused: nothing more is written
-  pub memory_end : (stands : List Entry → Type 0) (s : S) (held : Held) (text report : List ℕ) (now : Devices) (left : Option (List ℕ)) (calls failed : ℕ) → Stands m packing s₀ s held text report before now → Runs {T = Unit {0}} o stands before (read_on now left calls failed) (Err Memory)
-  memory_end stands s held text report now left calls failed stood =
+  pub memory_end : (stands : List Entry → Type 0) (s : S) (held : Held) (text report : List ℕ) (now : Devices) (left : Option (List ℕ)) (calls failed : ℕ) → Stands m packing s₀ s held text report before now → failed ≡ now.failed_reads → Runs {T = Unit {0}} o stands before (read_on now left calls failed) (Err Memory)
+  memory_end stands s held text report now left calls failed stood none_failed =
       let made = made_read s (entries packing stood.front) text report now left calls failed stood.made in
       let lead = lead_of s held text report now stood in
       record {
         ends = tt;
         fronts = kept_fronts s (entries packing stood.front) text report (read_on now left calls failed) made lead;
         reports_first = kept_first s (entries packing stood.front) text report (read_on now left calls failed) made lead;
-        device = record { writes = stood.none_failed.writes; reports = stood.none_failed.reports };
+        device = record { reads = none_failed ∙ stood.none_failed.reads; writes = stood.none_failed.writes; reports = stood.none_failed.reports };
       }
 
   -- the end of the log
-  whole_log : (left₀ left : Option (List ℕ)) (front held : List ℕ) → Consumes left₀ left (front ++ held) → held ≡ [] → IsAtEnd left → IfSome left₀ (λ log. front ≡ log)
-  whole_log None left front held given none end = tt
-  whole_log (Some log) None front held given none end = absurd given
-  whole_log (Some log) (Some left) front held given none end = sym (given ∙ ap (λ l. (front ++ held) ++ l) end ∙ append-nil (front ++ held) ∙ ap (λ h. front ++ h) none ∙ append-nil front)
-
   pub whole_end : (s : S) (held : Held) (text report : List ℕ) (now : Devices) (w' e' : Option (List ℕ)) (fw' fe' : ℕ) → Stands m packing s₀ s held text report before now → held.has_ended ≡ true
       → Appends now.written w' text × Appends now.reported e' report → (fw' ≡ now.failed_writes) × (fe' ≡ now.failed_reports)
       → Runs {T = Unit {0}} o (λ es. s ≡ after_all m s₀ es) before (record now { written = w'; failed_writes = fw'; reported = e'; failed_reports = fe' }) (Ok tt)
@@ -323,12 +337,14 @@ module _ {S : Type 0} (m : Making S) (packing : Packing) (s₀ : S) (before : De
       let all = gained s es after made in
       let lead = lead_of s held text report now stands in
       let end = stands.end ended in
-      let log_is = whole_log before.left now.left stands.front (unanswered held) stands.came end.0 end.1 in
       record {
         ends = record {
+          came = stands.front;
+          given = subst (Consumes before.left now.left) (ap (λ h. stands.front ++ h) end.0 ∙ append-nil stands.front) stands.came;
           at_end = end.1;
-          gained = known_more before.left _ _ (λ log is. subst (λ front. Gained o before after (entries packing front)) is all) log_is;
-          holds = known_more before.left _ _ (λ log is. subst (λ front. s ≡ after_all m s₀ (entries packing front)) is stands.made.state) log_is;
+          numbered = stands.made.numbered;
+          gained = all;
+          holds = stands.made.state;
         };
         fronts = tt;
         reports_first = gained_first es after all lead;
@@ -341,7 +357,7 @@ module _ {S : Type 0} (m : Making S) (packing : Packing) (s₀ : S) (before : De
   last_end s held text report now w' e' fw' fe' (Ok x) stands ended out fails = whole_end s held text report now w' e' fw' fe' stands ended out fails
   last_end s held text report now w' e' fw' fe' (Err fault) stands ended out fails =
       let after : Devices = record now { written = w'; failed_writes = fw'; reported = e'; failed_reports = fe' } in
-      sink_end (λ es. s ≡ after_all m s₀ es) s (entries packing stands.front) text report now after fault stands.made (lead_of s held text report now stands) stands.none_failed.writes stands.none_failed.reports out fails
+      sink_end (λ es. s ≡ after_all m s₀ es) s (entries packing stands.front) text report now after fault stands.made (lead_of s held text report now stands) stands.none_failed.reads stands.none_failed.writes stands.none_failed.reports out fails
 
   -- a fault of the next line, where nothing moved
   pub still_made : (s s' : S) (held held' : Held) (text text' report report' : List ℕ) (now : Devices) (left : Option (List ℕ)) (calls failed : ℕ) (fault : RunFault) → Stands m packing s₀ s held text report before now → TakesNext {T = Unit {0}} m packing s s' held held' now.left left text text' report report' (Err fault) → (fault ≡ Memory → ⊥)
@@ -364,6 +380,7 @@ module _ {S : Type 0} (m : Making S) (packing : Packing) (s₀ : S) (before : De
       record {
         came = came;
         given = Consumes-trans before.left now.left after.left (stands.front ++ unanswered held) next.0.came stands.came next.0.given;
+        numbered = subst (λ front. AreNumbered (m.lines s₀) (entries packing front)) is made.numbered;
         gained = subst (λ front. Gained o before after (entries packing front)) is (gained s' (entries packing stands.front) after made);
         holds = subst (λ front. s' ≡ after_all m s₀ (entries packing front)) is made.state;
       }
@@ -398,14 +415,15 @@ module _ {S : Type 0} (m : Making S) (packing : Packing) (s₀ : S) (before : De
   fault_device : (now after : Devices) (s s' : S) (held held' : Held) (text text' report report' : List ℕ) (fault : RunFault) → NoneFailed before now → (after.failed_writes ≡ now.failed_writes) × (after.failed_reports ≡ now.failed_reports) → CallsAre before.calls after.calls 0 held'.reads
       → TakesNext {T = Unit {0}} m packing s s' held held' now.left after.left text text' report report' (Err fault) → ReadsNext {T = Unit {0}} held' now.failed_reads after.failed_reads (Err fault)
       → HasDevice {T = Unit {0}} before after (Err fault)
-  fault_device now after s s' held held' text text' report report' Read none hold called next reads = (
-    elim reads [ inl p ↦ inl (subst (λ n. HasFailed n after.failed_reads) none.reads p) | inr p ↦ inr (calls_end before.calls after.calls held'.reads called p) ],
-    record { writes = hold.0 ∙ none.writes; reports = hold.1 ∙ none.reports },
-  )
+  fault_device now after s s' held held' text text' report report' Read none hold called next reads = record {
+    reads = elim reads [ inl p ↦ inl (subst (λ n. HasFailed n after.failed_reads) none.reads p) | inr p ↦ inr (calls_end before.calls after.calls held'.reads called p.0, p.1 ∙ none.reads) ];
+    writes = hold.0 ∙ none.writes;
+    reports = hold.1 ∙ none.reports;
+  }
   fault_device now after s s' held held' text text' report report' Write none hold called next reads = absurd next
   fault_device now after s s' held held' text text' report report' Report none hold called next reads = absurd next
-  fault_device now after s s' held held' text text' report report' Memory none hold called next reads = record { writes = hold.0 ∙ none.writes; reports = hold.1 ∙ none.reports }
-  fault_device now after s s' held held' text text' report report' TooManyLines none hold called next reads = record { writes = hold.0 ∙ none.writes; reports = hold.1 ∙ none.reports }
+  fault_device now after s s' held held' text text' report report' Memory none hold called next reads = record { reads = reads ∙ none.reads; writes = hold.0 ∙ none.writes; reports = hold.1 ∙ none.reports }
+  fault_device now after s s' held held' text text' report report' TooManyLines none hold called next reads = record { reads = reads ∙ none.reads; writes = hold.0 ∙ none.writes; reports = hold.1 ∙ none.reports }
 
   pub fault_end : (s s' : S) (held held' : Held) (text text' report report' : List ℕ) (now : Devices) (left : Option (List ℕ)) (calls failed : ℕ) (w' e' : Option (List ℕ)) (fw' fe' : ℕ) (fault : RunFault) → Stands m packing s₀ s held text report before now → held.has_ended ≡ false
       → TakesNext {T = Unit {0}} m packing s s' held held' now.left left text text' report report' (Err fault) → (fault ≡ Memory → ⊥) → ReadsNext {T = Unit {0}} held' now.failed_reads failed (Err fault) → CallsAre now.calls calls held.reads held'.reads

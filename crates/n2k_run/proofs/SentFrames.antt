@@ -14,7 +14,7 @@ use Rattle.n2k_wire.specs.Candump.{frame_payload}
 use Rattle.n2k_wire.specs.Packet.{PacketParts}
 use Rattle.n2k_wire.specs.Stamp.{Moment}
 use Rattle.n2k_wire.specs.Steps.{◌>>=◌, or_cause}
-use Rattle.n2k_wire.specs.Texts.{candump_line, candump_parts, candump_text}
+use Rattle.n2k_wire.specs.Texts.{candump_line, candump_parts}
 use Rattle.n2k_table.specs.declared.definition.Kind.{Kind}
 use Rattle.n2k_table.specs.declared.definition.Kind.TheVariants.{Single, Fast}
 use Rattle.n2k_join.specs.declared.split_fault.SplitFault.{SplitFault}
@@ -22,7 +22,7 @@ use Rattle.n2k_join.specs.declared.split_fault.SplitFault.TheVariants as unsplit
 use Rattle.n2k_join.specs.Pieces.{Sequences, last_piece, piece, piece_bytes, pieces_as, pieces_by, raised, sent_byte, stream_of}
 use Rattle.n2k_join.specs.Splitter.{refusal}
 use Rattle.n2k_run.specs.declared.frames.Outcome.{Outcome}
-use Rattle.n2k_run.specs.FramesOut.{fault_cause, frame_text, frame_texts, interface_cause, split_cause}
+use Rattle.n2k_run.specs.FramesOut.{fault_cause, frame_texts, interface_cause, split_cause}
 use Rattle.n2k_run.specs.Inner.Sending.{MadeOf, SentMessage, WritesFrames, candump_texts, lines_of, outcome_by}
 
 -- what candump writes in front of a frame's data is what it writes for the message, and the frame has at most 8 bytes

@@ -20,7 +20,6 @@ use Rattle.n2k_join.specs.declared.split_fault.SplitFault.TheVariants as unsplit
 use Rattle.n2k_join.specs.Counts.{most_lines}
 use Rattle.n2k_join.specs.Pieces.{Sequences, first_sequences, frames_of_sending, pieces_by, raised, sendings, sendings_after, sequence_after, split, split_from, stream_of, written}
 use Rattle.n2k_join.specs.Splitter.{refusal}
-use Rattle.n2k_run.specs.declared.frames.Outcome.{Outcome}
 use Rattle.n2k_run.specs.declared.frames.Outcome.TheVariants.{Skipped, Written, Bad}
 use Rattle.n2k_run.specs.FramesOut.{frame_counts_of, frame_lines, frame_reports_from, frame_texts, frames_output, interface_cause, is_refused, is_sent, line_cause, message_cause, sending_text, split_cause, split_messages}
 use Rattle.n2k_run.specs.Making.{after_all, texts_from, reports_from}

@@ -22,7 +22,7 @@ use Rattle.n2k_run.specs.declared.part.PartFault.TheVariants.{State as Refused, 
 use Rattle.n2k_run.specs.Decoded.{out, out_of, output_after, reports, reports_of}
 use Rattle.n2k_run.specs.Entries.{entries}
 use Rattle.n2k_run.specs.Lines.{line_feed, whole_lines}
-use Rattle.n2k_run.specs.Runs.{Devices, Runs}
+use Rattle.n2k_run.specs.Runs.{Devices, Output, Runs}
 use Rattle.n2k_run.specs.Writing.{AppendsFront}
 
 -- ---- where a part begins
@@ -57,13 +57,29 @@ HasPart t (Err (Refused fault)) s = Unit {0}
 HasPart t (Err (Run fault)) s = Unit {0}
 HasPart t (Err Memory) s = Unit {0}
 
--- What an answer says of the run. Where the part never began, or its state could not be saved, this is as after want of memory.
-abbrev pub as_run : Result Part PartFault → Result Part RunFault
-as_run (Ok part) = Ok part
-as_run (Err (Stopped fault part)) = Err fault
-as_run (Err (Run fault)) = Err fault
-as_run (Err (Refused fault)) = Err run_faults.Memory
-as_run (Err Memory) = Err run_faults.Memory
+-- after such a run the join stands at a line, and can be saved
+abbrev pub StandsAtLine : Result (Unit {0}) RunFault → Type 0
+StandsAtLine (Ok x) = Unit {0}
+StandsAtLine (Err run_faults.Read) = Unit {0}
+StandsAtLine (Err run_faults.TooManyLines) = Unit {0}
+StandsAtLine (Err run_faults.Write) = ⊥
+StandsAtLine (Err run_faults.Report) = ⊥
+StandsAtLine (Err run_faults.Memory) = ⊥
+
+-- How the run ended of which an answer tells: so as the answer says, or at a line where its state could not be saved. Where
+-- the state that was handed in is refused, nothing was run, and this is as after want of memory.
+abbrev pub Ran : Result Part PartFault → Result (Unit {0}) RunFault → Type 0
+Ran (Ok part) ran = ran ≡ Ok tt
+Ran (Err (Stopped fault part)) ran = ran ≡ Err fault
+Ran (Err (Run fault)) ran = ran ≡ Err fault
+Ran (Err (Refused fault)) ran = ran ≡ Err run_faults.Memory
+Ran (Err Memory) ran = StandsAtLine ran
+
+-- what every run promises holds of the run of which an answer tells
+pub record TellsRun (o : Output) (stands : List Entry → Type 0) (before after : Devices) (result : Result Part PartFault) : Type 0 where
+  pub ran : Result (Unit {0}) RunFault
+  pub ended : Ran result ran
+  pub runs : Runs o stands before after ran
 
 -- Each kind of refusal has its faults: a Part is answered where the run stands at a line, and none where it is spent.
 abbrev pub IsOfKind : Result Part PartFault → Type 0
@@ -186,7 +202,7 @@ pub record RunsPart (t : TableParts) (o : Options) (front : List Entry) (met : L
   pub left : Option (List ℕ)
   pub calls : ℕ
   pub failed_reads : ℕ
-  pub runs : Runs (output_after t o front) (λ es. HasPart t result (state t.id (kind t) (front ++ es))) (with_source before (Some met) 0 0) (with_source after left calls failed_reads) (as_run result)
+  pub told : TellsRun (output_after t o front) (λ es. HasPart t result (state t.id (kind t) (front ++ es))) (with_source before (Some met) 0 0) (with_source after left calls failed_reads) result
   pub untouched : OnRefusal result (after ≡ before)
 
 -- The parts before one of them were taken whole, and at this one the run ended so, as that of a part does.

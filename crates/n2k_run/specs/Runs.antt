@@ -1,5 +1,5 @@
 -- What every run promises, by the texts and the reports that it makes of the entries of its log.
-use Rattle.std.specs.Prelude.{◌≡◌, ◌⊎◌, ◌+◌, ℕ, List, ◌∷◌, ◌++◌, length, Option, Result, Ok, Err, OnErr, IfSome}
+use Rattle.std.specs.Prelude.{◌≡◌, ◌⊎◌, ◌<◌, ◌≤◌, ◌+◌, ℕ, List, ◌∷◌, ◌++◌, length, Option, Result, Ok, Err, OnErr, IfSome}
 use Rattle.std.specs.Io.KnownBytes.{Appends, Consumes, IsAtEnd}
 use Rattle.n2k_wire.specs.declared.entry.Entry.{Entry}
 use Rattle.n2k_wire.specs.declared.entry.Packing.{Packing}
@@ -62,17 +62,26 @@ pub record Gained (o : Output) (before after : Devices) (es : List Entry) : Type
   pub printed : Appends before.written after.written (o.texts es)
   pub reported : Appends before.reported after.reported (o.reports es)
 
--- The run came to its end: all of the log was read, and of all its entries the texts and reports were written. `stands`
--- says what else holds where a run has taken these entries.
+-- each of these entries, the first of which is that of line `counted + 1`, has a number that is counted
+abbrev pub AreNumbered : ℕ → List Entry → Type 0
+AreNumbered counted es = 0 < length es → counted + length es ≤ most_lines
+
+-- The run came to its end: bytes came until the source had no more, and of all their entries the texts and reports were
+-- written. Where the source's bytes are known, these are all that it had. `stands` says what else holds where a run has
+-- taken these entries.
 pub record IsWhole (o : Output) (stands : List Entry → Type 0) (before after : Devices) : Type 0 where
+  pub came : List ℕ
+  pub given : Consumes before.left after.left came
   pub at_end : IsAtEnd after.left
-  pub gained : IfSome before.left (λ log. Gained o before after (entries o.packing log))
-  pub holds : IfSome before.left (λ log. stands (entries o.packing log))
+  pub numbered : AreNumbered o.counted (entries o.packing came)
+  pub gained : Gained o before after (entries o.packing came)
+  pub holds : stands (entries o.packing came)
 
 -- After Read the run stands after the last line whose LF came: it has taken the lines up to there, and no more.
 pub record IsCut (o : Output) (stands : List Entry → Type 0) (before after : Devices) : Type 0 where
   pub came : List ℕ
   pub given : Consumes before.left after.left came
+  pub numbered : AreNumbered o.counted (entries o.packing (whole_lines came))
   pub gained : Gained o before after (entries o.packing (whole_lines came))
   pub holds : stands (entries o.packing (whole_lines came))
 
@@ -113,20 +122,33 @@ pub record NoneFailed (before after : Devices) : Type 0 where
   pub writes : after.failed_writes ≡ before.failed_writes
   pub reports : after.failed_reports ≡ before.failed_reports
 
--- no call of a sink failed
-pub record SinksHold (before after : Devices) : Type 0 where
+-- a call of the source failed, or none did and 10^12 reads found no end; no call of a sink failed
+pub record ReadFails (before after : Devices) : Type 0 where
+  pub reads : HasFailed before.failed_reads after.failed_reads ⊎ (OutlastsReads before.calls after.calls × (after.failed_reads ≡ before.failed_reads))
   pub writes : after.failed_writes ≡ before.failed_writes
   pub reports : after.failed_reports ≡ before.failed_reports
 
--- A fault of a device is that device's own, or for Read that no end was found by 10^12 reads. No fault of a sink is told as
--- another.
+-- a call of the sink of the texts failed, and none of another device
+pub record WriteFails (before after : Devices) : Type 0 where
+  pub reads : after.failed_reads ≡ before.failed_reads
+  pub writes : HasFailed before.failed_writes after.failed_writes
+  pub reports : after.failed_reports ≡ before.failed_reports
+
+-- a call of the sink of the reports failed, and none of another device
+pub record ReportFails (before after : Devices) : Type 0 where
+  pub reads : after.failed_reads ≡ before.failed_reads
+  pub writes : after.failed_writes ≡ before.failed_writes
+  pub reports : HasFailed before.failed_reports after.failed_reports
+
+-- A fault of a device is that device's own, or for Read that no end was found by 10^12 reads, and no other device failed.
+-- No failure of a device is told as another fault, or as none.
 abbrev pub HasDevice : {T : Type 0} → Devices → Devices → Result T RunFault → Type 0
 HasDevice before after (Ok x) = NoneFailed before after
-HasDevice before after (Err Read) = (HasFailed before.failed_reads after.failed_reads ⊎ OutlastsReads before.calls after.calls) × SinksHold before after
-HasDevice before after (Err Write) = HasFailed before.failed_writes after.failed_writes
-HasDevice before after (Err Report) = HasFailed before.failed_reports after.failed_reports
-HasDevice before after (Err Memory) = SinksHold before after
-HasDevice before after (Err TooManyLines) = SinksHold before after
+HasDevice before after (Err Read) = ReadFails before after
+HasDevice before after (Err Write) = WriteFails before after
+HasDevice before after (Err Report) = ReportFails before after
+HasDevice before after (Err Memory) = NoneFailed before after
+HasDevice before after (Err TooManyLines) = NoneFailed before after
 
 -- what every run promises
 pub record Runs {T : Type 0} (o : Output) (stands : List Entry → Type 0) (before after : Devices) (result : Result T RunFault) : Type 0 where

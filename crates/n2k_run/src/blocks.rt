@@ -124,7 +124,8 @@ impl Blocks {
         ensures* after { sem 𝓛 (Rests the_row self.entry (λ new.
             Answers self.old new (R.remaining reader.old) (R.remaining reader.new) (R.calls reader.old) (R.calls reader.new) result
             × AnswersKnown self.old new (R.remaining reader.old) (R.remaining reader.new) result
-            × OnErr result (HasFailed (R.failed_calls reader.old) (R.failed_calls reader.new) ⊎ (new.reads ≡ most_reads)))) }
+            × OnErr result (HasFailed (R.failed_calls reader.old) (R.failed_calls reader.new)
+            ⊎ ((new.reads ≡ most_reads) × (R.failed_calls reader.new ≡ R.failed_calls reader.old))))) }
         ensures quiet { HasFeed self.old.kept → reader.new ≡ reader.old }
         ensures none_failed { OnOk result (R.failed_calls reader.new ≡ R.failed_calls reader.old) }
     {
@@ -147,7 +148,8 @@ impl Blocks {
         ensures found { AnswersFound self.old self.new (R.remaining reader.old) (R.remaining reader.new) (R.calls reader.old) (R.calls reader.new) result }
         ensures quiet { HasFeed self.old.kept → reader.new ≡ reader.old }
         ensures none_failed { OnOk result (R.failed_calls reader.new ≡ R.failed_calls reader.old) }
-        ensures failed { OnErr result (HasFailed (R.failed_calls reader.old) (R.failed_calls reader.new) ⊎ (self.new.reads ≡ most_reads)) }
+        ensures failed { OnErr result (HasFailed (R.failed_calls reader.old) (R.failed_calls reader.new)
+            ⊎ ((self.new.reads ≡ most_reads) × (R.failed_calls reader.new ≡ R.failed_calls reader.old))) }
     {
         loop {
             if let Some(found) = self.take_line() {

@@ -8,11 +8,11 @@
 //! - `Source` and `Sink` are devices: `StdSource` and `StdSink` over the standard library's, `MemorySource` and
 //!   `MemorySink` for tests, whose calls can be short and can fail.
 //! - `read_bytes` reads a source whole, up to a limit. `bad_text` and `broken_text` are the reports of a line,
-//!   `summary_text` the summary of a run.
+//!   `summary_text` the summary of a run, and `write_summary` writes it without memory.
 //!
 //! A run that answers Ok has written exactly the texts and reports of the log's lines, in their order. One that answers
-//! a fault has written a front of them, the reports first: the fault is that of a device whose call failed, of memory,
-//! of 10^12 reads without an end, or of too many lines. What every run promises stands once, in specs/Runs.
+//! a fault has written a front of them, the reports first: the fault is that of the one device whose call failed, of
+//! memory, of 10^12 reads without an end, or of too many lines. What every run promises stands once, in specs/Runs.
 #![tactic(auto)]
 
 mod blocks;
@@ -45,7 +45,7 @@ pub use part::{Part, PartFault, run_part, run_parts};
 pub use plain::run_plain;
 pub use reading::{MOST_READS, read_bytes};
 pub use standard::{StdSink, StdSource};
-pub use texts::{bad_text, broken_text, summary_text};
+pub use texts::{bad_text, broken_text, summary_text, write_summary};
 pub use writing::write_all;
 
 #[cfg(test)]

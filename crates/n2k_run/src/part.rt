@@ -9,8 +9,8 @@ ghost use Rattle.n2k_join.specs.State.{State, state};
 ghost use Rattle.n2k_run.specs.Decoded.{join_making, output_after};
 ghost use Rattle.n2k_run.specs.Inner.Parts.{Finishes, HasSaved, Saves};
 ghost use Rattle.n2k_run.specs.Making.{after_all};
-ghost use Rattle.n2k_run.specs.Parts.{AreCutAtLines, BeginsBy, Continues, EndsParts, HasPart, IsFront, IsOfKind, IsPartOf, OnRefusal, PrintsLog, RefusedByMemory, RunsPart, as_run, begun};
-ghost use Rattle.n2k_run.specs.Runs.{Runs, devices, output_from};
+ghost use Rattle.n2k_run.specs.Parts.{AreCutAtLines, BeginsBy, Continues, EndsParts, HasPart, IsFront, IsOfKind, IsPartOf, OnRefusal, PrintsLog, RefusedByMemory, RunsPart, TellsRun, begun};
+ghost use Rattle.n2k_run.specs.Runs.{devices, output_from};
 
 use crate::decoding::run;
 use crate::device::{Sink, Source};
@@ -142,7 +142,7 @@ pub fn run_part<R: Source, W: Sink, E: Sink>(
         let after = devices (R.remaining reader.new) (R.calls reader.new) (R.failed_calls reader.new)
         (W.contents writer.new) (W.failed_calls writer.new) (E.contents reporter.new) (E.failed_calls reporter.new) in
         let making = join_making table.now options.empty in
-        Runs (output_from making options.packing s) (λ es. HasPart table.now result (after_all making s es)) before after (as_run result) }
+        TellsRun (output_from making options.packing s) (λ es. HasPart table.now result (after_all making s es)) before after result }
 
     // From the state that these entries lead to: what the whole log says of the lines after them.
     ensures log { (front : List Entry) → begun table.now (option_map (λ bytes. bytes.now) saved.entry) ≡ Ok (state table.now.id (kind table.now) front) →
@@ -150,7 +150,7 @@ pub fn run_part<R: Source, W: Sink, E: Sink>(
         (W.contents writer.old) (W.failed_calls writer.old) (E.contents reporter.old) (E.failed_calls reporter.old) in
         let after = devices (R.remaining reader.new) (R.calls reader.new) (R.failed_calls reader.new)
         (W.contents writer.new) (W.failed_calls writer.new) (E.contents reporter.new) (E.failed_calls reporter.new) in
-        Runs (output_after table.now options front) (λ es. HasPart table.now result (state table.now.id (kind table.now) (front ++ es))) before after (as_run result) }
+        TellsRun (output_after table.now options front) (λ es. HasPart table.now result (state table.now.id (kind table.now) (front ++ es))) before after result }
 
     // The headline: after this front of a log, whose saved state was handed in, exactly the rest of the whole log's output
     // is printed, and its state is saved.

@@ -63,7 +63,8 @@ impl Maker for PlainLines {
 /// to `reporter`. Whole, or until a fault: `Read` where the source failed or 10^12 reads found no end, and then the
 /// lines whose LF was read are printed and reported; `Write` and `Report` where that sink failed, `Memory` where
 /// an allocation was refused, `TooManyLines` past 999,999,999,999,999 lines, and then those lines are printed and
-/// reported. After any fault a front of the texts and of the reports has been written.
+/// reported. After any fault a front of the texts and of the reports has been written. No device failed but the one
+/// that the fault tells of.
 pub fn run_plain<R: Source, W: Sink, E: Sink>(
     alloc: Global,
     reader: &mut R,

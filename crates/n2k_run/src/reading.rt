@@ -24,7 +24,7 @@ fn read_more<R: Source>(
     ensures count { IfOk result (λ n. vec_len input.new ≡ vec_len input.old + n) }
     ensures few { vec_len input.new ≤ vec_len input.old + length block.old }
     ensures end { IfOk result (λ n. n ≡ 0 → IsAtEnd (R.remaining reader.new)) }
-    ensures no_failure { OnOk result (R.failed_calls reader.new ≡ R.failed_calls reader.old) }
+    ensures no_failure { (IsErrOf result BytesFault.Read → ⊥) → R.failed_calls reader.new ≡ R.failed_calls reader.old }
     ensures read { IsErrOf result BytesFault.Read → HasFailed (R.failed_calls reader.old) (R.failed_calls reader.new) }
     ensures called { OnOk result (R.calls reader.new ≡ one_more (R.calls reader.old)) }
     ensures short { IsErrOf result BytesFault.TooLong → ⊥ }
@@ -36,8 +36,9 @@ fn read_more<R: Source>(
 }
 
 /// All bytes of a source that has at most `limit` of them. `TooLong` where it has more; `Read` where the
-/// device failed or 10^12 reads found no end; `Memory` where an allocation was refused. No more is asked of
-/// the source than tells whether the limit is passed: one byte more than the limit.
+/// device failed or 10^12 reads found no end; `Memory` where an allocation was refused. A failed call is told as
+/// nothing but `Read`. No more is asked of the source than tells whether the limit is passed: one byte more than the
+/// limit.
 #[tactic(auto, using(crate::proofs::Finding::calls_more, crate::proofs::Finding::calls_end))]
 pub fn read_bytes<R: Source>(
     alloc: Global,
@@ -47,12 +48,12 @@ pub fn read_bytes<R: Source>(
     ensures bytes { IfOk result (λ bytes. IfSome (R.remaining reader.old) (λ left. bytes.items ≡ left)) }
     ensures within { IfOk result (λ bytes. vec_len bytes ≤ limit) }
     ensures end { OnOk result (IsAtEnd (R.remaining reader.new)) }
-    ensures no_failure { OnOk result (R.failed_calls reader.new ≡ R.failed_calls reader.old) }
+    ensures no_failure { (IsErrOf result BytesFault.Read → ⊥) → R.failed_calls reader.new ≡ R.failed_calls reader.old }
     ensures too_long { IsErrOf result BytesFault.TooLong
         → IfSome (R.remaining reader.old) (λ left. limit < length left) }
     ensures read { IsErrOf result BytesFault.Read
         → HasFailed (R.failed_calls reader.old) (R.failed_calls reader.new)
-        ⊎ (OutlastsReads (R.calls reader.old) (R.calls reader.new) × (most_reads ≤ limit)) }
+        ⊎ (OutlastsReads (R.calls reader.old) (R.calls reader.new) × (R.failed_calls reader.new ≡ R.failed_calls reader.old) × (most_reads ≤ limit)) }
     ensures taken { (taken : List ℕ)
         × Consumes (R.remaining reader.old) (R.remaining reader.new) taken × (length taken ≤ limit + 1) }
 {

@@ -74,6 +74,30 @@ fn a_write_fails_and_the_next_goes_on(rt: HostRuntime) -> Result<(), Fail> {
     Ok(())
 }
 
+const MOST_COUNTED: Counts = Counts {
+    lines: u64::MAX,
+    messages: u64::MAX,
+    bad: u64::MAX,
+    unknown: u64::MAX,
+    broken: u64::MAX,
+    held: u64::MAX,
+};
+
+#[test]
+fn the_longest_summary(rt: HostRuntime) -> Result<(), Fail> {
+    let text = b"lines 18446744073709551615 messages 18446744073709551615 bad 18446744073709551615 \
+        unknown 18446744073709551615 broken 18446744073709551615 open 18446744073709551615\n"
+        .as_slice();
+    let mut sink = MemorySink::new(rt.alloc(), 7, 0);
+    assert_eq!(rt; write_summary(&MOST_COUNTED, &mut sink), Ok(()));
+    assert_eq!(rt; sink.bytes(), text);
+
+    let mut failing = MemorySink::new(rt.alloc(), 7, 2);
+    assert_eq!(rt; write_summary(&MOST_COUNTED, &mut failing), Err(Failed));
+    assert_eq!(rt; failing.bytes(), b"lines 1".as_slice());
+    Ok(())
+}
+
 // A device whose first call a signal interrupts, and which then gives a dot, or takes nothing.
 #[derive(Drop)]
 struct Interrupted {

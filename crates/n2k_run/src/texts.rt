@@ -1,10 +1,22 @@
 //! The texts of reports and of the summary.
-ghost use Rattle.std.specs.Prelude.{◌≡◌, ◌++◌, ◌+◌, ◌≤◌, OnOk, OnErr, decimal};
+ghost use Rattle.std.specs.Prelude.{◌≡◌, ◌++◌, ◌+◌, ◌≤◌, OnOk, OnErr, decimal, length};
+ghost use Rattle.std.specs.Io.KnownBytes.{Appends};
+ghost use Rattle.arrayvec.specs.ArrayVec.{array_vec_len};
+ghost use Rattle.n2k_run.specs.Device.{CountsFailure};
 ghost use Rattle.n2k_run.specs.Reports.{bad_text, broken_text, cause_text, summary_text};
+ghost use Rattle.n2k_run.specs.Writing.{AppendsFront};
 
+use crate::device::{Failed, Sink};
+use crate::writing::write_all;
+use arrayvec::ArrayVec;
 use n2k_join::{Broken, Counts};
 use n2k_wire::BadCause;
 use std::alloc::{AllocError, Global};
+
+/// Room for the summary: its words have 45 bytes, and each of its six numbers at most 20 digits.
+const SUMMARY_ROOM: usize = 165;
+
+type Summary = ArrayVec<u8, SUMMARY_ROOM>;
 
 // A cause's number and word.
 fn cause_text(cause: BadCause) -> &'static [u8]
@@ -86,20 +98,48 @@ fn push_count(text: &mut Vec<u8>, name: &[u8], number: u64) -> Result<(), AllocE
     push_decimal(text, number)
 }
 
+// Appends a name and what was counted under it.
+fn push_total(text: &mut Summary, name: &[u8], number: u64)
+    requires { array_vec_len text.old + length name.now + 20 ≤ 165 }
+    ensures items { text.new.items ≡ text.old.items ++ name.now ++ decimal number }
+    ensures len { array_vec_len text.new ≤ array_vec_len text.old + length name.now + 20 }
+{
+    let mut buffer = itoa::Buffer::new();
+    let _ = text.try_extend_from_slice(name);
+    let _ = text.try_extend_from_slice(buffer.format(number).as_bytes());
+}
+
+// The summary of a run. It takes no memory.
+#[tactic(auto, using(std::proofs::Common::append_assoc), unfolding(crate::specs::Reports::summary_text))]
+fn summary(counts: &Counts) -> Summary
+    ensures { result.items ≡ summary_text counts.now }
+{
+    let mut text = ArrayVec::new();
+    push_total(&mut text, b"lines ", counts.lines);
+    push_total(&mut text, b" messages ", counts.messages);
+    push_total(&mut text, b" bad ", counts.bad);
+    push_total(&mut text, b" unknown ", counts.unknown);
+    push_total(&mut text, b" broken ", counts.broken);
+    push_total(&mut text, b" open ", counts.held);
+    text.push(b'\n');
+    text
+}
+
 /// Appends the summary of a run, `lines 3 messages 1 bad 0 unknown 0 broken 0 open 0` with an LF. `out` is as
 /// it was where memory is refused.
-#[tactic(auto, using(std::proofs::Common::append_assoc), unfolding(crate::specs::Reports::summary_text))]
-pub fn summary_text(alloc: Global, counts: &Counts, out: &mut Vec<u8>) -> Result<(), AllocError>
+pub fn summary_text(_alloc: Global, counts: &Counts, out: &mut Vec<u8>) -> Result<(), AllocError>
     ensures ok { OnOk result (out.new.items ≡ out.old.items ++ summary_text counts.now) }
     ensures err { OnErr result (out.new.items ≡ out.old.items) }
 {
-    let mut text = Vec::new(alloc);
-    push_count(&mut text, b"lines ", counts.lines)?;
-    push_count(&mut text, b" messages ", counts.messages)?;
-    push_count(&mut text, b" bad ", counts.bad)?;
-    push_count(&mut text, b" unknown ", counts.unknown)?;
-    push_count(&mut text, b" broken ", counts.broken)?;
-    push_count(&mut text, b" open ", counts.held)?;
-    text.push(b'\n')?;
-    out.extend_from_slice(&text)
+    out.extend_from_slice(summary(counts).as_slice())
+}
+
+/// Writes the summary of a run to a device. It takes no memory, so nothing but a failure of the device cuts it; then a
+/// front of it has been written.
+pub fn write_summary<E: Sink>(counts: &Counts, errors: &mut E) -> Result<(), Failed>
+    ensures written { OnOk result (Appends (E.contents errors.old) (E.contents errors.new) (summary_text counts.now)) }
+    ensures front { OnErr result (AppendsFront (E.contents errors.old) (E.contents errors.new) (summary_text counts.now)) }
+    ensures counted { CountsFailure (E.failed_calls errors.old) (E.failed_calls errors.new) result }
+{
+    write_all(errors, summary(counts).as_slice())
 }

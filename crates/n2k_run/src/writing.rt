@@ -1,5 +1,5 @@
 //! Writing a whole text to a sink that may take it in parts.
-ghost use Rattle.std.specs.Prelude.{OnOk, OnErr};
+ghost use Rattle.std.specs.Prelude.{◌<◌, length, OnOk, OnErr};
 ghost use Rattle.std.specs.Io.KnownBytes.{Appends};
 ghost use Rattle.n2k_run.specs.Device.{CountsFailure};
 ghost use Rattle.n2k_run.specs.Writing.{AppendsFront};
@@ -7,10 +7,11 @@ ghost use Rattle.n2k_run.specs.Writing.{AppendsFront};
 use crate::device::{Failed, Sink};
 
 /// Writes the whole text, by as many calls as the device asks for. Where the device fails, a front of the text has
-/// been written.
+/// been written. It can fail only where there is something to write.
 pub fn write_all<W: Sink>(writer: &mut W, text: &[u8]) -> Result<(), Failed>
     ensures written { OnOk result (Appends (W.contents writer.old) (W.contents writer.new) text.now) }
     ensures front { OnErr result (AppendsFront (W.contents writer.old) (W.contents writer.new) text.now) }
+    ensures some { OnErr result (0 < length text.now) }
     ensures counted { CountsFailure (W.failed_calls writer.old) (W.failed_calls writer.new) result }
 {
     let mut rest = text;

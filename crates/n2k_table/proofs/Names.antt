@@ -14,7 +14,7 @@ use Rattle.toml.specs.declared.value.Value.{Value}
 use Rattle.n2k_table.specs.declared.fault.TableFault.TheVariants.{Key, Twice}
 use Rattle.n2k_table.specs.Tree.{elements, as_elements}
 use Rattle.n2k_table.specs.Twice.{has_twice}
-use Rattle.n2k_table.specs.Entries.{seen, once}
+use Rattle.n2k_table.specs.Inner.Entries.{seen, once}
 use Rattle.n2k_table.specs.Lookup.{LookupParts, name_of_value, pair_in, pair_of}
 use Rattle.n2k_table.proofs.Each.{length-elements}
 

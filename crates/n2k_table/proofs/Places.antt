@@ -10,7 +10,7 @@ use Rattle.std.proofs.lemmas.List.{append-nil, drop_more, at_drop_all, length-ap
 use Rattle.indexmap.specs.IndexMap.{IndexMap, get}
 use Rattle.n2k_table.specs.Definition.{DefinitionParts}
 use Rattle.n2k_table.specs.Table.{is_of}
-use Rattle.n2k_table.specs.Index.{numbers, places_from, places, IsIndex}
+use Rattle.n2k_table.specs.Inner.Index.{numbers, places_from, places, IsIndex}
 
 -- one more definition, which is of the number or not
 pub places_more : (number : ℕ) (ds : List DefinitionParts) (i : ℕ) (d : DefinitionParts) → i < length ds → d ≡ get_or ds i d

@@ -4,6 +4,7 @@ use Rattle.std.specs.List.{filter_map}
 use Rattle.std.specs.Result.{result_ok}
 use Rattle.std.specs.Str.{bytes_eq}
 use Rattle.toml.specs.Data.{Data, Members}
+use Rattle.n2k_wire.specs.Packet.{greatest_pgn}
 use Rattle.n2k_table.specs.declared.definition.Kind.{Kind}
 use Rattle.n2k_table.specs.declared.definition.Kind.TheVariants.{Single, Fast}
 use Rattle.n2k_table.specs.declared.fault.TableFault.{TableFault}
@@ -14,10 +15,6 @@ use Rattle.n2k_table.specs.Tree.{has_only_keys, as_members, whole_at, any_text_a
 use Rattle.n2k_table.specs.Lookup.{LookupParts}
 use Rattle.n2k_table.specs.Field.{FieldParts, members_or_none, field_faults, field, counted_name}
 use Rattle.n2k_table.specs.Twice.{has_twice}
-
--- the greatest PGN, 24 bits
-abbrev pub greatest_number : ℕ
-greatest_number = 16777215
 
 -- the most fields of a definition
 abbrev pub most_fields : ℕ
@@ -32,7 +29,7 @@ pub record DefinitionParts : Type 0 where
 
 -- the values of a definition, each by itself
 abbrev pub number_of : Members → Result ℕ TableFault
-number_of = whole_at (codes "number") 0 greatest_number
+number_of = whole_at (codes "number") 0 greatest_pgn
 
 -- how a PGN is sent: in single frames or as fast packets
 abbrev pub named_kind : List ℕ → Result Kind TableFault

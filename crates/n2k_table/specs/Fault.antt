@@ -33,12 +33,7 @@ abbrev pub judged : {A : Type 0} → List TableFault → A → Result A TableFau
 judged [] x = Ok x
 judged (fault ∷ more) x = Err fault
 
--- What a reader answers, seen by view, is what reading gives.
-abbrev pub Gives : {X Y : Type 0} → (X → Y) → Result X TableFault → Result Y TableFault → Type 0
-Gives view (Ok x) read = read ≡ Ok (view x)
-Gives view (Err fault) read = read ≡ Err fault
-
--- The same, unless memory ran out.
+-- What a reader answers, seen by view, is what reading gives, unless memory ran out.
 abbrev pub GivesOrMemory : {X Y : Type 0} → (X → Y) → Result X TableFault → Result Y TableFault → Type 0
 GivesOrMemory view (Ok x) read = read ≡ Ok (view x)
 GivesOrMemory view (Err fault) read = fault ≢ Memory → read ≡ Err fault

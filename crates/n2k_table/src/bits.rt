@@ -13,7 +13,7 @@ fn bit(data: &[u8], i: usize) -> u8
 
 /// The raw value of some bits, the sum of bit `at + j` times `2^j`. It is read from the top, by whole bytes
 /// where they lie wholly inside.
-pub fn raw(data: &[u8], at: u32, bits: u32) -> u64
+pub(crate) fn raw(data: &[u8], at: u32, bits: u32) -> u64
     requires within { at + bits ≤ 8 * length «data».now }
     requires room { bits ≤ 64 }
     ensures value { result ≡ raw «data».now at bits }
@@ -44,7 +44,7 @@ fn half(bits: u32) -> u64
 }
 
 /// The value of bits with that raw value, in two's complement where it is signed.
-pub fn signed_value(signed: bool, bits: u32, raw: u64) -> i128
+pub(crate) fn signed_value(signed: bool, bits: u32, raw: u64) -> i128
     requires some { 1 ≤ bits }
     requires room { bits ≤ 64 }
     ensures value { result ≡ signed_value signed bits raw }
@@ -59,7 +59,7 @@ pub fn signed_value(signed: bool, bits: u32, raw: u64) -> i128
 }
 
 /// The greatest value of some bits.
-pub fn greatest(signed: bool, bits: u32) -> u64
+pub(crate) fn greatest(signed: bool, bits: u32) -> u64
     requires some { 1 ≤ bits }
     requires room { bits ≤ 64 }
     ensures { result ≡ greatest signed bits }

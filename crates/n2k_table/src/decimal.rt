@@ -58,7 +58,7 @@ fn digits_of(size: u128, buffer: &mut Buffer) -> &str
 }
 
 /// Appends the decimal text of `value / 10^decimals`.
-pub fn push_decimal(value: i128, decimals: u8, line: &mut Tail) -> Result<(), AllocError>
+pub(crate) fn push_decimal(value: i128, decimals: u8, line: &mut Tail) -> Result<(), AllocError>
     ensures appends { OnOk result (line.new.items ≡ line.old.items ++ dec value decimals) }
     ensures before { line.new.before ≡ line.old.before }
 {

@@ -3,7 +3,8 @@ ghost use Rattle.std.specs.Prelude.{◌≡◌, IfOk, map, flat_map};
 ghost use Rattle.std.specs.List.{list_any};
 ghost use Rattle.std.specs.Str.{bytes_eq};
 ghost use Rattle.toml.specs.View.{view, table_view, array_view};
-ghost use Rattle.n2k_table.specs.Fault.{Gives, GivesOrMemory, judged};
+ghost use Rattle.n2k_wire.specs.Views.{Gives};
+ghost use Rattle.n2k_table.specs.Fault.{GivesOrMemory, judged};
 ghost use Rattle.n2k_table.specs.Tree.{elements};
 ghost use Rattle.n2k_table.specs.Lookup.{LookupParts};
 ghost use Rattle.n2k_table.specs.Json.{label_json};
@@ -19,16 +20,14 @@ use crate::shown::Fields;
 use crate::text::text_json;
 use crate::tree::{Place, any_text_at, as_members, elements_at, has_only_keys, text_at, whole_at};
 use itoa::Buffer;
+use n2k_wire::GREATEST_PGN;
 use std::alloc::{AllocError, Global};
 use std::marker::Model;
 use toml::value::Array;
 use toml::{Table, Value};
 
-/// The greatest PGN, 24 bits.
-pub const GREATEST_NUMBER: u32 = 16_777_215;
-
 /// The most fields of a definition.
-pub const MOST_FIELDS: usize = 256;
+pub(crate) const MOST_FIELDS: usize = 256;
 
 /// How the messages of a PGN are sent.
 #[derive(Clone, Copy, PartialEq, Eq, Debug)]
@@ -41,7 +40,7 @@ pub enum Kind {
 
 /// A definition, as the table keeps it.
 #[derive(Drop)]
-pub struct StoredDefinition {
+pub(crate) struct StoredDefinition {
     number: u32,
     kind: Kind,
     description: String,
@@ -72,21 +71,21 @@ impl StoredDefinition {
     ghost use Rattle.n2k_table.specs.Table.{matches};
 
     /// The PGN that it describes.
-    pub fn number(&self) -> u32
+    pub(crate) fn number(&self) -> u32
         ensures { result ≡ self.now.number }
     {
         self.number
     }
 
     /// How its messages are sent.
-    pub fn kind(&self) -> Kind
+    pub(crate) fn kind(&self) -> Kind
         ensures { result ≡ self.now.kind }
     {
         self.kind
     }
 
     /// The text that names the message.
-    pub fn description(&self) -> &str
+    pub(crate) fn description(&self) -> &str
         ensures { result.now ≡ self.now.description }
     {
         self.description.as_str()
@@ -99,14 +98,14 @@ impl StoredDefinition {
     }
 
     /// The fields in printing order.
-    pub fn fields(&self) -> &[Field]
+    pub(crate) fn fields(&self) -> &[Field]
         ensures { result.now ≡ self.now.fields }
     {
         self.fields.as_slice()
     }
 
     /// Whether the data have what the fields ask for.
-    pub fn matches(&self, data: &[u8]) -> bool
+    pub(crate) fn matches(&self, data: &[u8]) -> bool
         ensures { result ≡ matches «data».now self.now }
     {
         self.fields.iter().all(|field| field.matches(data))
@@ -273,7 +272,7 @@ fn read_members(
     if !has_only_keys(table, Place::Definition) {
         return Err(TableFault::Key);
     }
-    let number = whole_at(table, "number", 0, GREATEST_NUMBER)?;
+    let number = whole_at(table, "number", 0, GREATEST_PGN)?;
     let kind = named_kind(any_text_at(table, "kind")?)?;
     let description = text_at(table, "description")?;
     let fields = read_fields(alloc, lookups, elements_at(table, "fields")?)?;
@@ -287,7 +286,7 @@ fn read_members(
 }
 
 /// Whether two definitions of one PGN have different kinds.
-pub fn has_mixed(definitions: &[StoredDefinition]) -> bool
+pub(crate) fn has_mixed(definitions: &[StoredDefinition]) -> bool
     ensures { result ≡ has_mixed (map pgn_kind definitions.now) }
 {
     let mut rest = definitions;
@@ -312,7 +311,7 @@ fn is_mixed_among(definitions: &[StoredDefinition], definition: &StoredDefinitio
 }
 
 /// Reads a definition, in a table of these lookups.
-pub fn read_definition(
+pub(crate) fn read_definition(
     alloc: Global,
     lookups: &Lookups,
     value: &Value,

@@ -2,9 +2,10 @@
 ghost use Rattle.std.specs.Prelude.{◌≡◌, ◌≤◌, ◌+◌, ◌*◌, true, length, map, option_map, IfOk};
 ghost use Rattle.n2k_table.specs.Json.{key_json};
 ghost use Rattle.toml.specs.View.{view, table_view};
-ghost use Rattle.n2k_table.specs.Fault.{Gives, GivesOrMemory, judged};
+ghost use Rattle.n2k_wire.specs.Views.{Gives};
+ghost use Rattle.n2k_table.specs.Fault.{GivesOrMemory, judged};
 ghost use Rattle.n2k_table.specs.Lookup.{LookupParts};
-ghost use Rattle.n2k_table.specs.Kept.{meaning as seen_meaning, IsByteMeaning};
+ghost use Rattle.n2k_table.specs.Inner.Kept.{meaning as seen_meaning, IsByteMeaning};
 ghost use Rattle.n2k_table.specs.Field.{in_bytes, byte_at_of, byte_bits_of, wanted_of, is_of_bits, named_field_kind, number_faults, number_field, lookup_field_faults, lookup_field, byte_field_faults, byte_field, field_faults, field};
 
 use crate::bits::{greatest, raw};
@@ -22,20 +23,20 @@ use std::rc::Rc;
 use toml::{Table, Value};
 
 /// The last bit at which a field may begin.
-pub const LAST_BIT: u32 = 1783;
+pub(crate) const LAST_BIT: u32 = 1783;
 
 /// The bits of the longest message.
-pub const MESSAGE_BITS: u32 = 1784;
+pub(crate) const MESSAGE_BITS: u32 = 1784;
 
 /// The most bits of a number.
-pub const MOST_NUMBER_BITS: u32 = 64;
+pub(crate) const MOST_NUMBER_BITS: u32 = 64;
 
 /// The most bits of a lookup field.
-pub const MOST_LOOKUP_BITS: u32 = 32;
+pub(crate) const MOST_LOOKUP_BITS: u32 = 32;
 
 /// What the bits of a field mean.
 #[derive(Drop)]
-pub enum Meaning {
+pub(crate) enum Meaning {
     /// A number, in two's complement where it is signed, times its resolution.
     Number {
         /// Whether the number may be below zero.
@@ -54,7 +55,7 @@ pub enum Meaning {
 /// A field: its name, its first bit, how many bits it has, what they mean, and the raw value that it asks
 /// for, if it asks for one.
 #[derive(Drop)]
-pub struct Field {
+pub(crate) struct Field {
     name: String,
     // What stands before the value in a line, with a comma, kept since each line needs it.
     key: Vec<u8>,
@@ -67,7 +68,7 @@ pub struct Field {
 impl Model for Field {
     ghost use Rattle.std.specs.Prelude.{string_bytes};
     ghost use Rattle.n2k_table.specs.Field.{FieldParts};
-    ghost use Rattle.n2k_table.specs.Kept.{meaning as seen_meaning, IsKept};
+    ghost use Rattle.n2k_table.specs.Inner.Kept.{meaning as seen_meaning, IsKept};
 
     ghost Value = { FieldParts };
 
@@ -240,7 +241,11 @@ fn named_kind(name: &str) -> Result<FieldKind, TableFault>
 }
 
 /// Reads a field, by its kind, in a table of these lookups.
-pub fn read_field(alloc: Global, lookups: &Lookups, value: &Value) -> Result<Field, TableFault>
+pub(crate) fn read_field(
+    alloc: Global,
+    lookups: &Lookups,
+    value: &Value,
+) -> Result<Field, TableFault>
     ensures { let names = map (λ (lookup : LookupParts). lookup.name) lookups.now in
         let d = view value.now in
         GivesOrMemory (λ field. field) result (judged (field_faults names d) (field lookups.now d)) }
@@ -256,19 +261,19 @@ pub fn read_field(alloc: Global, lookups: &Lookups, value: &Value) -> Result<Fie
 
 impl Field {
     ghost use Rattle.n2k_table.specs.Json.{key_json};
-    ghost use Rattle.n2k_table.specs.Seen.{seen_parts};
+    ghost use Rattle.n2k_table.specs.Inner.Seen.{seen_parts};
     ghost use Rattle.n2k_table.specs.Shown.{shown_parts, lies_inside, field_bytes, shown};
     ghost use Rattle.n2k_table.specs.Table.{field_matches};
 
     /// The name.
-    pub fn name(&self) -> &str
+    pub(crate) fn name(&self) -> &str
         ensures { result.now ≡ self.now.name }
     {
         self.name.as_str()
     }
 
     /// What stands before the value in a line, with a comma where a member stands before.
-    pub fn key(&self, later: bool) -> &[u8]
+    pub(crate) fn key(&self, later: bool) -> &[u8]
         ensures { result.now ≡ key_json later self.now.name }
     {
         let from = if later { 0 } else { 1 };
@@ -282,7 +287,7 @@ impl Field {
     }
 
     /// Whether the data have the raw value that the field asks for, or it asks for none.
-    pub fn matches(&self, data: &[u8]) -> bool
+    pub(crate) fn matches(&self, data: &[u8]) -> bool
         ensures { result ≡ field_matches «data».now self.now }
     {
         match self.wanted {
@@ -302,7 +307,7 @@ impl Field {
     }
 
     /// What the field shows of the data of a message: nothing where it does not lie wholly inside.
-    pub fn seen<'a>(&'a self, data: &'a [u8]) -> Seen<'a>
+    pub(crate) fn seen<'a>(&'a self, data: &'a [u8]) -> Seen<'a>
         ensures { seen_parts result ≡ shown self.now «data».now }
     {
         if !self.lies_inside(data) {
@@ -323,7 +328,7 @@ impl Field {
     }
 
     /// The same, with the text of a name.
-    pub fn shown<'a>(&'a self, data: &'a [u8]) -> Shown<'a>
+    pub(crate) fn shown<'a>(&'a self, data: &'a [u8]) -> Shown<'a>
         ensures { shown_parts result ≡ shown self.now «data».now }
     {
         match self.seen(data) {

@@ -98,7 +98,7 @@ fn is_plain_stamp(stamp: &[u8]) -> bool
 }
 
 /// Appends what stands before the PGN.
-pub fn push_seen(packet: &Packet, line: &mut Tail) -> Result<(), AllocError>
+pub(crate) fn push_seen(packet: &Packet, line: &mut Tail) -> Result<(), AllocError>
     ensures appends { OnOk result (line.new.items ≡ line.old.items ++ seen_json packet.now) }
     ensures before { line.new.before ≡ line.old.before }
 {

@@ -1,13 +1,13 @@
 //! Where the definitions of a PGN stand, found without walking all of them.
 ghost use Rattle.std.specs.Prelude.{◌≡◌, IfOk};
-ghost use Rattle.n2k_table.specs.Index.{numbers, places, places_in, IsIndex};
+ghost use Rattle.n2k_table.specs.Inner.Index.{numbers, places, places_in, IsIndex};
 
 use crate::definition::StoredDefinition;
 use indexmap::IndexMap;
 use std::alloc::{AllocError, Global};
 
 /// For each PGN the places of its definitions, in file order.
-pub type Index = IndexMap<u32, Vec<usize>>;
+pub(crate) type Index = IndexMap<u32, Vec<usize>>;
 
 // The places of the definitions of a PGN.
 fn places_of(
@@ -27,7 +27,7 @@ fn places_of(
 }
 
 /// The places of all definitions.
-pub fn index_of(alloc: Global, definitions: &[StoredDefinition]) -> Result<Index, AllocError>
+pub(crate) fn index_of(alloc: Global, definitions: &[StoredDefinition]) -> Result<Index, AllocError>
     ensures { IfOk result (λ index. IsIndex index.entries (numbers definitions.now)) }
 {
     let mut index = IndexMap::new(alloc);
@@ -42,7 +42,7 @@ pub fn index_of(alloc: Global, definitions: &[StoredDefinition]) -> Result<Index
 }
 
 /// The places of a PGN, none where the table doesn't have it.
-pub fn places_at(index: &Index, pgn: u32) -> &[usize]
+pub(crate) fn places_at(index: &Index, pgn: u32) -> &[usize]
     ensures { result.now ≡ places_in index.now.entries pgn }
 {
     match index.get(&pgn) {

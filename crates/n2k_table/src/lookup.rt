@@ -3,10 +3,11 @@ ghost use Rattle.std.specs.Prelude.{◌≡◌, map, flat_map, nat_eq, option_map
 ghost use Rattle.std.specs.List.{list_any};
 ghost use Rattle.std.specs.Str.{bytes_eq};
 ghost use Rattle.toml.specs.View.{view, table_view, array_view};
-ghost use Rattle.n2k_table.specs.Fault.{Gives, GivesOrMemory, judged};
+ghost use Rattle.n2k_wire.specs.Views.{Gives};
+ghost use Rattle.n2k_table.specs.Fault.{GivesOrMemory, judged};
 ghost use Rattle.n2k_table.specs.Tree.{elements};
 ghost use Rattle.n2k_table.specs.Twice.{has_twice};
-ghost use Rattle.n2k_table.specs.Entries.{seen_entries, once};
+ghost use Rattle.n2k_table.specs.Inner.Entries.{seen_entries, once};
 ghost use Rattle.n2k_table.specs.Lookup.{pair_of, entry_faults, entry, entries_faults, lookup_members_faults, members_lookup, lookup_faults, lookup, lookups_faults};
 
 use crate::fault::TableFault;
@@ -20,17 +21,17 @@ use toml::value::Array;
 use toml::{Table, Value};
 
 /// The most lookups of a table.
-pub const MOST_LOOKUPS: usize = 1024;
+pub(crate) const MOST_LOOKUPS: usize = 1024;
 
 /// The most entries of a lookup.
-pub const MOST_ENTRIES: usize = 4096;
+pub(crate) const MOST_ENTRIES: usize = 4096;
 
 /// The greatest value that an entry names.
-pub const GREATEST_VALUE: u32 = 4_294_967_295;
+pub(crate) const GREATEST_VALUE: u32 = 4_294_967_295;
 
 /// The name of a value.
 #[derive(Drop)]
-pub struct Name {
+pub(crate) struct Name {
     text: String,
     // As JSON, kept since each line that shows it needs it.
     json: Vec<u8>,
@@ -60,14 +61,14 @@ impl Name {
     }
 
     /// The text.
-    pub fn text(&self) -> &str
+    pub(crate) fn text(&self) -> &str
         ensures { result.now ≡ self.now }
     {
         self.text.as_str()
     }
 
     /// The text as JSON.
-    pub fn json(&self) -> &[u8]
+    pub(crate) fn json(&self) -> &[u8]
         ensures { result.now ≡ text_json self.now }
     {
         self.json.as_slice()
@@ -76,7 +77,7 @@ impl Name {
 
 /// A value with its name.
 #[derive(Drop)]
-pub struct Entry {
+pub(crate) struct Entry {
     value: u64,
     name: Name,
 }
@@ -99,7 +100,7 @@ impl Entry {
 
 /// The names of some values, found by the value.
 #[derive(Drop)]
-pub struct Lookup {
+pub(crate) struct Lookup {
     name: String,
     // In file order.
     names: IndexMap<u64, Name>,
@@ -119,7 +120,7 @@ impl Model for Lookup {
 
 /// The lookups of a table, in file order. Each is shared by the fields that name it.
 #[derive(Drop)]
-pub struct Lookups {
+pub(crate) struct Lookups {
     list: Vec<Rc<Lookup>>,
 }
 
@@ -142,7 +143,7 @@ impl Lookup {
     }
 
     /// The name of a value, if it has one.
-    pub fn name_of(&self, value: u64) -> Option<&Name>
+    pub(crate) fn name_of(&self, value: u64) -> Option<&Name>
         ensures { option_map (λ name. name.now) result ≡ name_of_value self.now.entries value }
     {
         self.names.get(&value)
@@ -289,7 +290,7 @@ fn shared(alloc: Global, lookups: Vec<Lookup>) -> Result<Lookups, AllocError>
 }
 
 /// Reads the lookups of a table.
-pub fn read_lookups(alloc: Global, values: &Array) -> Result<Lookups, TableFault>
+pub(crate) fn read_lookups(alloc: Global, values: &Array) -> Result<Lookups, TableFault>
     ensures { let ds = elements (array_view values.now) in
         GivesOrMemory (λ lookups. lookups) result (judged (lookups_faults ds) (map lookup ds)) }
 {
@@ -307,7 +308,7 @@ impl Lookups {
     ghost use Rattle.std.specs.Prelude.{[]};
 
     /// No lookup at all.
-    pub fn none(alloc: Global) -> Lookups
+    pub(crate) fn none(alloc: Global) -> Lookups
         ensures { result ≡ [] }
     {
         Lookups {
@@ -316,7 +317,7 @@ impl Lookups {
     }
 
     /// The lookup of that name, if there is one.
-    pub fn find(&self, name: &str) -> Option<&Rc<Lookup>>
+    pub(crate) fn find(&self, name: &str) -> Option<&Rc<Lookup>>
         ensures { option_map (λ lookup. lookup.now.value) result ≡ find (λ lookup. bytes_eq name.now lookup.name) self.now }
     {
         for lookup in &self.list {

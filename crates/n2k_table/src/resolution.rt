@@ -5,7 +5,7 @@ ghost use Rattle.std.specs.List.{list_all};
 ghost use Rattle.std.specs.Option.{SomeIff};
 ghost use Rattle.std.specs.Str.Parse.{digits_value_after};
 ghost use Rattle.toml.specs.View.{table_view};
-ghost use Rattle.n2k_table.specs.Fault.{Gives};
+ghost use Rattle.n2k_wire.specs.Views.{Gives};
 ghost use Rattle.n2k_table.specs.Resolution.{is_digits, parts, of_parts, resolution, resolution_at, ArePartsOfDigits};
 
 use crate::fault::TableFault;
@@ -14,11 +14,11 @@ use toml::Table;
 
 /// What the raw value of a number field is multiplied with: `mantissa / 10^decimals`.
 #[derive(Clone, Copy)]
-pub struct Resolution {
+pub(crate) struct Resolution {
     /// The number that all digits make, 1 to 4294967295.
-    pub mantissa: u32,
+    pub(crate) mantissa: u32,
     /// How many digits stand after the dot, 0 to 18.
-    pub decimals: u8,
+    pub(crate) decimals: u8,
 }
 
 const MOST_WHOLE_DIGITS: usize = 10;
@@ -108,7 +108,7 @@ fn of_text(text: &str) -> Result<Resolution, TableFault>
 }
 
 /// The resolution of a field, 1 where it has none.
-pub fn resolution_at(table: &Table) -> Result<Resolution, TableFault>
+pub(crate) fn resolution_at(table: &Table) -> Result<Resolution, TableFault>
     ensures { Gives (λ resolution. resolution) result (resolution_at (table_view table.now)) }
 {
     match found(table, "resolution") {

@@ -1,6 +1,6 @@
 //! What a field shows of a message.
 ghost use Rattle.std.specs.Prelude.{◌≡◌, ◌≤◌, ◌^◌, ◌<◌, option_map};
-ghost use Rattle.n2k_table.specs.Seen.{seen_parts};
+ghost use Rattle.n2k_table.specs.Inner.Seen.{seen_parts};
 ghost use Rattle.n2k_table.specs.Shown.{shown_parts, shown_number, shown_unnamed, shown_name, shown_text, says_none, is_filling, trimmed};
 
 use crate::bits::{greatest, raw, signed_value};
@@ -40,7 +40,12 @@ fn says_none(signed: bool, bits: u32, value: i128) -> bool
 }
 
 /// What bits of that raw value show as a number: the value times the mantissa of its resolution.
-pub fn shown_number<'a>(signed: bool, resolution: Resolution, bits: u32, raw: u64) -> Shown<'a>
+pub(crate) fn shown_number<'a>(
+    signed: bool,
+    resolution: Resolution,
+    bits: u32,
+    raw: u64,
+) -> Shown<'a>
     requires some { 1 ≤ bits }
     requires room { bits ≤ 64 }
     requires range { raw < 2 ^ bits }
@@ -73,7 +78,7 @@ fn shown_unnamed<'a>(bits: u32, raw: u64) -> Shown<'a>
 
 /// What a field shows, where a name comes with its JSON.
 #[derive(Clone, Copy)]
-pub enum Seen<'a> {
+pub(crate) enum Seen<'a> {
     /// The name of a value.
     Name(&'a Name),
     /// Anything else.
@@ -81,7 +86,7 @@ pub enum Seen<'a> {
 }
 
 /// What bits of that raw value show by the name of the value, if it has one.
-pub fn shown_name<'a>(name: Option<&'a Name>, bits: u32, raw: u64) -> Seen<'a>
+pub(crate) fn shown_name<'a>(name: Option<&'a Name>, bits: u32, raw: u64) -> Seen<'a>
     requires some { 1 ≤ bits }
     requires room { bits ≤ 64 }
     ensures { seen_parts result ≡ shown_name (option_map (λ n. n.now) name.entry) bits raw }
@@ -114,7 +119,7 @@ fn trimmed(text: &[u8]) -> &[u8]
 }
 
 /// What the bytes of a text show: nothing where all of them fill it up.
-pub fn shown_text(text: &[u8]) -> Shown<'_>
+pub(crate) fn shown_text(text: &[u8]) -> Shown<'_>
     ensures { shown_parts result ≡ shown_text (trimmed text.now) }
 {
     let kept = trimmed(text);

@@ -19,7 +19,7 @@ use std::marker::Model;
 use toml::value::Array;
 
 /// The most definitions of a table.
-pub const MOST_DEFINITIONS: usize = 4096;
+pub(crate) const MOST_DEFINITIONS: usize = 4096;
 
 /// A table of messages: which PGNs there are, how they are sent, and what their bits mean.
 #[derive(Drop)]
@@ -32,7 +32,7 @@ pub struct Table {
 
 impl Model for Table {
     ghost use Rattle.n2k_table.specs.Table.{TableParts};
-    ghost use Rattle.n2k_table.specs.Index.{IsIndex, numbers};
+    ghost use Rattle.n2k_table.specs.Inner.Index.{IsIndex, numbers};
 
     ghost Value = { TableParts };
 
@@ -124,7 +124,7 @@ impl Table {
     ghost use Rattle.std.specs.Prelude.{option_map, find};
     ghost use Rattle.std.specs.Prelude.{◌<◌, length, slice_index, EachIndex};
     ghost use Rattle.n2k_table.specs.Table.{faults, table, kind, choice, is_of};
-    ghost use Rattle.n2k_table.specs.Index.{places, numbers};
+    ghost use Rattle.n2k_table.specs.Inner.Index.{places, numbers};
 
     fn judge(alloc: Global, bytes: &[u8]) -> Result<Table, TableFault>
         ensures { GivesOrMemory (λ t. t) result (judged (faults bytes.now) (table bytes.now)) }

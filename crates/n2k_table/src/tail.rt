@@ -7,7 +7,7 @@ use std::marker::Model;
 /// A vector to which a line is appended in parts. Where one of them is refused the vector can be had back as
 /// it was.
 #[derive(Drop)]
-pub struct Tail {
+pub(crate) struct Tail {
     out: Vec<u8>,
     // How many bytes stood before.
     start: usize,
@@ -15,7 +15,7 @@ pub struct Tail {
 
 impl Model for Tail {
     ghost use Rattle.std.specs.Prelude.{◌≤◌, take, length};
-    ghost use Rattle.n2k_table.specs.Tail.{TailParts};
+    ghost use Rattle.n2k_table.specs.Inner.Tail.{TailParts};
 
     ghost Value = { TailParts };
 
@@ -26,7 +26,7 @@ impl Model for Tail {
 
 impl Tail {
     /// A line behind what the vector holds.
-    pub fn after(out: Vec<u8>) -> Tail
+    pub(crate) fn after(out: Vec<u8>) -> Tail
         ensures { result ≡ record { before = out.items; items = out.items } }
     {
         let start = out.len();
@@ -34,7 +34,7 @@ impl Tail {
     }
 
     /// Appends a byte.
-    pub fn push(&mut self, byte: u8) -> Result<(), AllocError>
+    pub(crate) fn push(&mut self, byte: u8) -> Result<(), AllocError>
         ensures items { OnOk result (self.new.items ≡ self.old.items ++ byte ∷ []) }
         ensures before { self.new.before ≡ self.old.before }
     {
@@ -43,7 +43,7 @@ impl Tail {
     }
 
     /// Appends bytes.
-    pub fn extend_from_slice(&mut self, bytes: &[u8]) -> Result<(), AllocError>
+    pub(crate) fn extend_from_slice(&mut self, bytes: &[u8]) -> Result<(), AllocError>
         ensures items { OnOk result (self.new.items ≡ self.old.items ++ bytes.now) }
         ensures before { self.new.before ≡ self.old.before }
     {
@@ -51,7 +51,7 @@ impl Tail {
     }
 
     /// The vector, with the line where it was written and else as it was.
-    pub fn end(self, written: bool) -> Vec<u8>
+    pub(crate) fn end(self, written: bool) -> Vec<u8>
         ensures { result.items ≡ (if written then self.items else self.before) }
     {
         let Tail { mut out, start } = self;

@@ -15,7 +15,7 @@ const DIGITS: [u8; 16] = *b"0123456789ABCDEF";
 
 /// A text as JSON, as `serde_json` writes it.
 #[tactic(auto, unfolding(crate::specs::Text::text_json))]
-pub fn text_json(alloc: Global, text: &str) -> Result<Vec<u8>, AllocError>
+pub(crate) fn text_json(alloc: Global, text: &str) -> Result<Vec<u8>, AllocError>
     ensures { IfOk result (λ bytes. bytes.items ≡ text_json text.now) }
 {
     Value::String(String::from_str(alloc, text)?).to_vec(alloc)
@@ -29,7 +29,7 @@ fn is_plain(byte: u8) -> bool
 }
 
 /// Whether each byte stands for itself. It looks at each, so that several are compared at once.
-pub fn are_plain(text: &[u8]) -> bool
+pub(crate) fn are_plain(text: &[u8]) -> bool
     ensures { result ≡ list_all is_plain text.now }
 {
     let mut all = true;
@@ -108,7 +108,7 @@ fn push_inner(text: &[u8], line: &mut Tail) -> Result<(), AllocError>
 
 /// Appends a text.
 #[tactic(auto, using(std::proofs::Common::append_assoc), unfolding(crate::specs::Text::text_json))]
-pub fn push_text(text: &[u8], line: &mut Tail) -> Result<(), AllocError>
+pub(crate) fn push_text(text: &[u8], line: &mut Tail) -> Result<(), AllocError>
     ensures appends { OnOk result (line.new.items ≡ line.old.items ++ text_json text.now) }
     ensures before { line.new.before ≡ line.old.before }
 {
@@ -141,7 +141,7 @@ fn push_inner_characters(numbers: &[u8], line: &mut Tail) -> Result<(), AllocErr
 
 /// Appends the text of the characters that have these numbers.
 #[tactic(auto, using(std::proofs::Common::append_assoc), unfolding(crate::specs::Text::text_json))]
-pub fn push_characters(numbers: &[u8], line: &mut Tail) -> Result<(), AllocError>
+pub(crate) fn push_characters(numbers: &[u8], line: &mut Tail) -> Result<(), AllocError>
     ensures appends { OnOk result (line.new.items ≡ line.old.items ++ text_json (flat_map character numbers.now)) }
     ensures before { line.new.before ≡ line.old.before }
 {
@@ -177,7 +177,7 @@ fn push_inner_pairs(bytes: &[u8], line: &mut Tail) -> Result<(), AllocError>
 
 /// Appends the text of bytes: two digits each, and a space between.
 #[tactic(auto, using(std::proofs::Common::append_assoc))]
-pub fn push_pairs(bytes: &[u8], line: &mut Tail) -> Result<(), AllocError>
+pub(crate) fn push_pairs(bytes: &[u8], line: &mut Tail) -> Result<(), AllocError>
     ensures appends { OnOk result (line.new.items ≡ line.old.items ++ text_json (pairs bytes.now)) }
     ensures before { line.new.before ≡ line.old.before }
 {

@@ -2,7 +2,7 @@
 ghost use Rattle.std.specs.Prelude.{◌≡◌, ◌≤◌, option_map, IfOk};
 ghost use Rattle.toml.specs.Data.{get_member};
 ghost use Rattle.toml.specs.View.{view, table_view, array_view};
-ghost use Rattle.n2k_table.specs.Fault.{Gives};
+ghost use Rattle.n2k_wire.specs.Views.{Gives};
 ghost use Rattle.n2k_table.specs.declared.tree.Place.TheVariants.{ByteField};
 ghost use Rattle.n2k_table.specs.Tree.{is_key, has_only_keys, required, as_members, whole_at, any_text_at, sized, text_at, truth_at, elements, as_elements, elements_at, elements_or_none, elements_of};
 
@@ -11,11 +11,11 @@ use toml::value::Array;
 use toml::{Table, Value};
 
 /// The most bytes of a name or a description.
-pub const LONGEST_TEXT: usize = 255;
+pub(crate) const LONGEST_TEXT: usize = 255;
 
 /// Where a table of the document stands, which decides its keys.
 #[derive(Clone, Copy)]
-pub enum Place {
+pub(crate) enum Place {
     /// The top level.
     Document,
     /// A lookup.
@@ -32,7 +32,7 @@ pub enum Place {
 
 /// What a field says that its bits are.
 #[derive(Clone, Copy)]
-pub enum FieldKind {
+pub(crate) enum FieldKind {
     /// A number.
     Number,
     /// A value that a lookup gives names for.
@@ -72,7 +72,7 @@ impl Place {
 }
 
 /// Whether each key of the table is one of its place.
-pub fn has_only_keys(table: &Table, place: Place) -> bool
+pub(crate) fn has_only_keys(table: &Table, place: Place) -> bool
     ensures { result ≡ has_only_keys place (table_view table.now) }
 {
     for key in table.keys() {
@@ -84,7 +84,7 @@ pub fn has_only_keys(table: &Table, place: Place) -> bool
 }
 
 /// The value at a key, if it is there.
-pub fn found<'a>(table: &'a Table, key: &str) -> Option<&'a Value>
+pub(crate) fn found<'a>(table: &'a Table, key: &str) -> Option<&'a Value>
     ensures { option_map (λ value. view value.now) result ≡ get_member key.now (table_view table.now) }
 {
     table.get(key)
@@ -98,14 +98,14 @@ fn required<'a>(table: &'a Table, key: &str) -> Result<&'a Value, TableFault>
 }
 
 /// A value that has to be a table.
-pub fn as_members(value: &Value) -> Result<&Table, TableFault>
+pub(crate) fn as_members(value: &Value) -> Result<&Table, TableFault>
     ensures { Gives (λ table. table_view table.now) result (as_members (view value.now)) }
 {
     value.as_table().ok_or(TableFault::Key)
 }
 
 /// An integer from `least` to `most`, at a key that has to be there.
-pub fn whole_at(table: &Table, key: &str, least: u32, most: u32) -> Result<u32, TableFault>
+pub(crate) fn whole_at(table: &Table, key: &str, least: u32, most: u32) -> Result<u32, TableFault>
     ensures value { Gives (λ number. number) result (whole_at key.now least most (table_view table.now)) }
     ensures range { IfOk result (λ number. (least ≤ number) × (number ≤ most)) }
 {
@@ -117,14 +117,14 @@ pub fn whole_at(table: &Table, key: &str, least: u32, most: u32) -> Result<u32, 
 }
 
 /// A text of any length, at a key that has to be there.
-pub fn any_text_at<'a>(table: &'a Table, key: &str) -> Result<&'a str, TableFault>
+pub(crate) fn any_text_at<'a>(table: &'a Table, key: &str) -> Result<&'a str, TableFault>
     ensures { Gives (λ text. text.now) result (any_text_at key.now (table_view table.now)) }
 {
     required(table, key)?.as_str().ok_or(TableFault::Key)
 }
 
 /// A text that has 1 to 255 bytes.
-pub fn sized(text: &str) -> Result<&str, TableFault>
+pub(crate) fn sized(text: &str) -> Result<&str, TableFault>
     ensures { Gives (λ text. text.now) result (sized text.now) }
 {
     if text.is_empty() || text.len() > LONGEST_TEXT {
@@ -134,14 +134,14 @@ pub fn sized(text: &str) -> Result<&str, TableFault>
 }
 
 /// A text of 1 to 255 bytes, at a key that has to be there.
-pub fn text_at<'a>(table: &'a Table, key: &str) -> Result<&'a str, TableFault>
+pub(crate) fn text_at<'a>(table: &'a Table, key: &str) -> Result<&'a str, TableFault>
     ensures { Gives (λ text. text.now) result (text_at key.now (table_view table.now)) }
 {
     sized(any_text_at(table, key)?)
 }
 
 /// A truth value, false where the key is missing.
-pub fn truth_at(table: &Table, key: &str) -> Result<bool, TableFault>
+pub(crate) fn truth_at(table: &Table, key: &str) -> Result<bool, TableFault>
     ensures { Gives (λ truth. truth) result (truth_at key.now (table_view table.now)) }
 {
     match found(table, key) {
@@ -151,21 +151,24 @@ pub fn truth_at(table: &Table, key: &str) -> Result<bool, TableFault>
 }
 
 /// A value that has to be an array.
-pub fn as_elements(value: &Value) -> Result<&Array, TableFault>
+pub(crate) fn as_elements(value: &Value) -> Result<&Array, TableFault>
     ensures { Gives (λ array. elements (array_view array.now)) result (as_elements (view value.now)) }
 {
     value.as_array().ok_or(TableFault::Key)
 }
 
 /// The elements of an array, at a key that has to be there.
-pub fn elements_at<'a>(table: &'a Table, key: &str) -> Result<&'a Array, TableFault>
+pub(crate) fn elements_at<'a>(table: &'a Table, key: &str) -> Result<&'a Array, TableFault>
     ensures { Gives (λ array. elements (array_view array.now)) result (elements_at key.now (table_view table.now)) }
 {
     as_elements(required(table, key)?)
 }
 
 /// The elements of an array, `None` where the key is missing.
-pub fn elements_if_there<'a>(table: &'a Table, key: &str) -> Result<Option<&'a Array>, TableFault>
+pub(crate) fn elements_if_there<'a>(
+    table: &'a Table,
+    key: &str,
+) -> Result<Option<&'a Array>, TableFault>
     ensures { Gives elements_of result (elements_or_none (get_member key.now (table_view table.now))) }
 {
     match found(table, key) {

@@ -10,3 +10,4 @@ pub mod PrivateWords
 pub mod Stamp
 pub mod Steps
 pub mod Texts
+pub mod Views

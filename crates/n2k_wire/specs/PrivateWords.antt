@@ -1,6 +1,6 @@
 -- Words for the contracts of private functions: what the code holds, as the definitions have it. Nothing that a
 -- caller sees needs them.
-use Rattle.std.specs.Prelude.{◌≡◌, ℕ, ◌+◌, ◌*◌, ◌/◌, ◌%◌, List, [], Option, Some, None, option_map, option_and_then, Result, Ok, Err}
+use Rattle.std.specs.Prelude.{ℕ, ◌+◌, ◌*◌, ◌/◌, ◌%◌, List, [], Option, Some, None, option_map, option_and_then, Result}
 use Rattle.std.specs.Borrow.{Bor}
 use Rattle.n2k_wire.specs.declared.candump.CandumpFrame.{CandumpFrame}
 use Rattle.n2k_wire.specs.declared.entry.Entry.{Entry}
@@ -49,13 +49,3 @@ pieces_left (Some text) = pieces text.now
 abbrev pub plain_header : pieces_of_code.Header → Header
 plain_header h =
     record { prio = h.prio.now; pgn = h.pgn.now; src = h.src.now; dst = h.dst.now; len = h.len.now; more = pieces_left h.more }
-
--- What a function answered, seen by view, is what the definition says.
-abbrev pub Gives : {X Y E : Type 0} → (X → Y) → Result X E → Result Y E → Type 0
-Gives view (Ok x) said = said ≡ Ok (view x)
-Gives view (Err cause) said = said ≡ Err cause
-
--- The same of a function that answers a value or nothing.
-abbrev pub Finds : {X Y : Type 0} → (X → Y) → Option X → Option Y → Type 0
-Finds view (Some x) said = said ≡ Some (view x)
-Finds view None said = said ≡ None

@@ -6,7 +6,8 @@ ghost use Rattle.n2k_wire.specs.Candump.{candump, frame_payload, is_interface_by
 ghost use Rattle.std.specs.Int.{w32, from_be_bytes};
 ghost use Rattle.std.specs.Result.{result_ok};
 ghost use Rattle.hex.specs.Hex.{decode_of};
-ghost use Rattle.n2k_wire.specs.PrivateWords.{Finds, Gives, candump_by, candump_entry, plain_moment, seen_behind};
+ghost use Rattle.n2k_wire.specs.PrivateWords.{candump_by, candump_entry, plain_moment, seen_behind};
+ghost use Rattle.n2k_wire.specs.Views.{Finds, Gives};
 ghost use Rattle.n2k_wire.specs.Stamp.{IsMoment};
 ghost use Rattle.n2k_wire.specs.Entry.{IsEntry, settled};
 ghost use Rattle.n2k_wire.specs.Packet.{IsPacket};

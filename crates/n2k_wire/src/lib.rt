@@ -26,7 +26,7 @@ pub use candump::is_interface;
 pub use entry::{BadCause, Entry, LONGEST_LINE, Packing, read_line};
 pub use fault::WireFault;
 pub use identifier::{Id, join_id, split_id};
-pub use packet::Packet;
+pub use packet::{GREATEST_PGN, Packet};
 pub use texts::{candump_text, plain_text};
 
 #[cfg(test)]

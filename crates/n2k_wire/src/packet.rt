@@ -14,8 +14,8 @@ pub(crate) const LONGEST_STAMP: usize = 32;
 /// The most bytes of a message.
 pub(crate) const LONGEST_MESSAGE: usize = 223;
 
-/// The greatest PGN of a plain line.
-pub(crate) const GREATEST_PGN: u32 = 16_777_215;
+/// The greatest PGN of a packet, of a table and of a saved state.
+pub const GREATEST_PGN: u32 = 16_777_215;
 
 /// The greatest priority.
 pub(crate) const GREATEST_PRIORITY: u8 = 7;

@@ -1,6 +1,6 @@
 //! The parts of a line.
 ghost use Rattle.std.specs.Prelude.{◌≡◌, ◌==◌, not, position};
-ghost use Rattle.n2k_wire.specs.PrivateWords.{Finds};
+ghost use Rattle.n2k_wire.specs.Views.{Finds};
 ghost use Rattle.n2k_wire.specs.Pieces.{cut_at, after_byte, skip_spaces};
 
 fn place_of(byte: u8, bytes: &[u8]) -> Option<usize>

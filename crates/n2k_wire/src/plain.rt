@@ -1,7 +1,8 @@
 //! Plain lines: `stamp,prio,pgn,src,dst,len,b0,b1,..`, the format that canboat's programs read and write.
 ghost use Rattle.std.specs.Prelude.{◌≡◌, ◌≤◌, [], ◌∷◌, length, IfSome, IfOk};
 ghost use Rattle.n2k_wire.specs.Plain.{plain, plain_packet, pieces, number_to, pair, header, id_of, bytes_of, is_frame};
-ghost use Rattle.n2k_wire.specs.PrivateWords.{Finds, Gives, pieces_left, plain_header};
+ghost use Rattle.n2k_wire.specs.PrivateWords.{pieces_left, plain_header};
+ghost use Rattle.n2k_wire.specs.Views.{Finds, Gives};
 ghost use Rattle.n2k_wire.specs.Entry.{IsEntry, settled};
 ghost use Rattle.n2k_wire.specs.Packet.{IsPacket, greatest_pgn, greatest_priority, longest_message};
 

@@ -1,5 +1,5 @@
 -- From what a run, the place of a state and the summary leave to what a command leaves.
-use Rattle.std.proofs.Common.{◌≡◌, ◌⊎◌, ◌≤◌, ◌==◌, ◌++◌, Bool, true, false, cond, arith, MatchResult, ◌∙◌, ℕ, List, [], Option, Some, None, Ok, Err, Result, IfOk, IfSome, IfErr, IsErrAnd, IsErrOf, OnErr, OnOk, ap, sym, subst, refl, inl, inr, append_assoc, append-nil}
+use Rattle.std.proofs.Common.{◌≡◌, ◌⊎◌, ◌≤◌, ◌+◌, length, ◌==◌, ◌++◌, Bool, true, false, cond, arith, MatchResult, ◌∙◌, ℕ, List, [], Option, Some, None, Ok, Err, Result, IfSome, IsErrAnd, ap, sym, subst, refl, inl, inr, append_assoc}
 use Rattle.std.proofs.KnownBytes.{Appends-nil, Appends-trans}
 use Rattle.std.specs.Io.KnownBytes.{Appends}
 use Rattle.n2k_wire.specs.declared.entry.Entry.{Entry}
@@ -7,19 +7,20 @@ use Rattle.n2k_join.specs.declared.counts.Counts.{Counts}
 use Rattle.n2k_run.specs.Device.{HasFailed}
 use Rattle.n2k_run.specs.Reports.{summary_text}
 use Rattle.n2k_run.specs.Writing.{AppendsFront}
-use Rattle.n2k_run.specs.Runs.{Devices, Gained, HasFronts, Output, ReportsFirst, Runs}
+use Rattle.n2k_run.specs.Runs.{AreNumbered, Devices, Gained, HasFronts, NoneFailed, ReportsFirst, Runs}
+use Rattle.n2k_run.specs.Parts.{StandsAtLine}
+use Rattle.n2k_run.proofs.Ending.{of_log}
+use Rattle.n2k_run.proofs.Parting.{line_fronts}
+use Rattle.n2k_join.specs.Counts.{most_lines}
 use Rattle.n2k_run.specs.declared.fault.RunFault.{RunFault}
 use Rattle.n2k_run.specs.declared.fault.RunFault.TheVariants as run
 use Rattle.n2k_table.specs.Table.{TableParts}
 use Rattle.n2k_table.specs.declared.fault.TableFault.{TableFault}
 use Rattle.n2kdec.specs.Closing.{Closes, SumsUp}
-use Rattle.n2kdec.specs.Commands.{Command, Ends, HasPrinted, HasTaken, IsDone, CannotBeSaved, IsRefusedOrStopped, IsSaved, IsStopped, IsUntouched, Keeps, Place, SavesFirst, SumsUpPart, Tells, entries_for, no_saving, place}
+use Rattle.n2kdec.specs.Commands.{BreaksOff, CannotBeSaved, Command, Ends, HasDevice, HasTaken, IsCutOff, IsDone, IsRefusedOrStopped, IsSaved, IsStopped, IsUntouched, IsWritten, IsWrittenUnlessFailed, Keeps, Leaves, Place, SumsUpPart, entries_for, no_saving, place}
 use Rattle.n2kdec.specs.Fault.{exit_status, fault_of_run}
 use Rattle.n2kdec.specs.declared.fault.Fault.{Fault}
-use Rattle.n2kdec.specs.declared.fault.Fault.TheVariants.{Words, Interface, TableSize, StateSize, Table, State, TableFile, StateFile, Read, Write, Report, Memory, Lines, Save}
-
-pub front_whole : (old new : Option (List ℕ)) (text : List ℕ) → Appends old new text → AppendsFront old new text
-front_whole old new text all = ([], record { front = text; appended = all; still = sym (append-nil text) })
+use Rattle.n2kdec.specs.declared.fault.Fault.TheVariants.{Memory, Report, Table}
 
 pub if_some : {A : Type 0} (P Q : A → Type 0) (o : Option A) → ((a : A) → P a → Q a) → IfSome o P → IfSome o Q
 if_some P Q None weaker p = tt
@@ -28,6 +29,10 @@ if_some P Q (Some a) weaker p = weaker a p
 if_both : {A : Type 0} (P Q S : A → Type 0) (o : Option A) → ((a : A) → P a → Q a → S a) → IfSome o P → IfSome o Q → IfSome o S
 if_both P Q S None both p q = tt
 if_both P Q S (Some a) both p q = both a p q
+
+if_three : {A : Type 0} (P Q R S : A → Type 0) (o : Option A) → ((a : A) → P a → Q a → R a → S a) → IfSome o P → IfSome o Q → IfSome o R → IfSome o S
+if_three P Q R S None all p q r = tt
+if_three P Q R S (Some a) all p q r = all a p q r
 
 -- a text follows what was written first
 more_after : (old mid new : Option (List ℕ)) (text more : List ℕ) → (rest : List ℕ) × Appends old mid (text ++ rest) → Appends mid new more → (rest : List ℕ) × Appends old new (text ++ rest)
@@ -43,68 +48,15 @@ few counts = go (counts.bad == 0)
     go true = omega arith
     go false = omega arith
 
--- what the summary's function says, case by case
-pub summed_up : (before after : Place) (counts : Counts) (r : Result ℕ Fault)
-    → OnOk r (Appends before.text after.text (summary_text counts))
-    → AppendsFront before.text after.text (summary_text counts)
-    → OnOk r (after.failed ≡ before.failed)
-    → IfOk r (λ status. status ≡ exit_status counts)
-    → IfErr r (λ fault. (fault ≡ Report) ⊎ (fault ≡ Memory))
-    → (IsErrOf r Report → HasFailed before.failed after.failed)
-    → SumsUp before after counts r
-summed_up before after counts (Ok status) written front same is which report = (written, same, is)
-summed_up before after counts (Err fault) written front same is (inl which) report =
-    subst (λ f. SumsUp before after counts (Err f)) (sym which) (report (ap Err which), front)
-summed_up before after counts (Err fault) written front same is (inr which) report =
-    subst (λ f. SumsUp before after counts (Err f)) (sym which) front
+-- a text that was written, or cut off, followed what stood there
+pub some_written : (before after : Place) (text : List ℕ) → IsWrittenUnlessFailed before after text → (more : List ℕ) × Appends before.text after.text more
+some_written before after text (inl whole) = (text, whole.written)
+some_written before after text (inr cut) = (cut.front.1.front, cut.front.1.appended)
 
--- the state is kept, and then the summary is written
-pub closes_saved : (keeper kept errors summed : Place) (text : List ℕ) (counts : Counts) (r : Result ℕ Fault) → Keeps keeper kept text → SumsUp errors summed counts r
-    → Closes keeper kept errors summed text counts r
-closes_saved keeper kept errors summed text counts (Ok status) keeps said = (keeps, said)
-closes_saved keeper kept errors summed text counts (Err Report) keeps said = (keeps, said)
-closes_saved keeper kept errors summed text counts (Err Memory) keeps said = (keeps, said)
-closes_saved keeper kept errors summed text counts (Err Words) keeps said = absurd said
-closes_saved keeper kept errors summed text counts (Err Interface) keeps said = absurd said
-closes_saved keeper kept errors summed text counts (Err TableSize) keeps said = absurd said
-closes_saved keeper kept errors summed text counts (Err StateSize) keeps said = absurd said
-closes_saved keeper kept errors summed text counts (Err (Table f)) keeps said = absurd said
-closes_saved keeper kept errors summed text counts (Err (State f)) keeps said = absurd said
-closes_saved keeper kept errors summed text counts (Err TableFile) keeps said = absurd said
-closes_saved keeper kept errors summed text counts (Err StateFile) keeps said = absurd said
-closes_saved keeper kept errors summed text counts (Err Read) keeps said = absurd said
-closes_saved keeper kept errors summed text counts (Err Write) keeps said = absurd said
-closes_saved keeper kept errors summed text counts (Err Lines) keeps said = absurd said
-closes_saved keeper kept errors summed text counts (Err Save) keeps said = absurd said
-
--- by a command that has no state
+-- the summary is written by a command that has no state
 pub closes_unsaved : (errors summed : Place) (counts : Counts) (r : Result ℕ Fault) → SumsUp errors summed counts r
     → Closes no_saving.before no_saving.after errors summed [] counts r
-closes_unsaved errors summed counts r said = closes_saved no_saving.before no_saving.after errors summed [] counts r (record { kept = tt; none_failed = refl }) said
-
--- a front of the summary is written in any case
-pub front_summed : (errors summed : Place) (counts : Counts) (r : Result ℕ Fault) → SumsUp errors summed counts r → AppendsFront errors.text summed.text (summary_text counts)
-front_summed errors summed counts (Ok status) said = front_whole errors.text summed.text (summary_text counts) said.0
-front_summed errors summed counts (Err Report) said = said.1
-front_summed errors summed counts (Err Memory) said = said
-front_summed errors summed counts (Err Words) said = absurd said
-front_summed errors summed counts (Err Interface) said = absurd said
-front_summed errors summed counts (Err TableSize) said = absurd said
-front_summed errors summed counts (Err StateSize) said = absurd said
-front_summed errors summed counts (Err (Table f)) said = absurd said
-front_summed errors summed counts (Err (State f)) said = absurd said
-front_summed errors summed counts (Err TableFile) said = absurd said
-front_summed errors summed counts (Err StateFile) said = absurd said
-front_summed errors summed counts (Err Read) said = absurd said
-front_summed errors summed counts (Err Write) said = absurd said
-front_summed errors summed counts (Err Lines) said = absurd said
-front_summed errors summed counts (Err Save) said = absurd said
-
--- a place has kept a text, or has failed
-pub kept_or_failed : {T E : Type 0} (keeper kept : Place) (text : List ℕ) (r : Result T E) → OnOk r (IfSome kept.text (λ now. now ≡ text)) → OnOk r (kept.failed ≡ keeper.failed) → OnErr r (HasFailed keeper.failed kept.failed)
-    → Keeps keeper kept text ⊎ HasFailed keeper.failed kept.failed
-kept_or_failed keeper kept text (Ok x) is same failed = inl (record { kept = is; none_failed = same })
-kept_or_failed keeper kept text (Err e) is same failed = inr failed
+closes_unsaved errors summed counts r said = inl (record { kept = tt; none_failed = refl }, said)
 
 -- a run ended, by which the devices stood so but for the errors, which then took a summary or a front of it
 module _ (c : Command) (stands : List Entry → Type 0) (before after : Devices) (errors : Place) where
@@ -120,16 +72,27 @@ module _ (c : Command) (stands : List Entry → Type 0) (before after : Devices)
 
   -- what follows the fault of a run: the summary of the lines that it has taken, or nothing
   abbrev pub Follows : RunFault → Type 0
-  Follows run.Read = (es : List Entry) → stands es → SumsUpPart c.sums_up_a_part errors.text after.reported (summary_text (c.counts es))
+  Follows run.Read = (es : List Entry) → stands es → SumsUpPart c.sums_up_a_part errors summed (summary_text (c.counts es))
       × (IsSaved c.saving es ⊎ CannotBeSaved c.saving)
-  Follows run.TooManyLines = (es : List Entry) → stands es → SumsUpPart c.sums_up_a_part errors.text after.reported (summary_text (c.counts es))
+  Follows run.TooManyLines = (es : List Entry) → stands es → SumsUpPart c.sums_up_a_part errors summed (summary_text (c.counts es))
       × IsUntouched c.saving
   Follows run.Write = IsLeft
   Follows run.Report = IsLeft
   Follows run.Memory = IsLeft
 
-  taken : (es : List Entry) → Gained c.output before mid es → SumsUpPart c.sums_up_a_part errors.text after.reported (summary_text (c.counts es)) → HasTaken c before after es
-  taken es gained summary = record { errors = errors.text; text = gained.printed; report = gained.reported; summary = summary }
+  -- no call of the errors failed in the run
+  taken : (es : List Entry) (said : Place → Place → List ℕ → Type 0) → AreNumbered c.output.counted es → Gained c.output before mid es → errors.failed ≡ before.failed_reports
+      → said errors summed (summary_text (c.counts es)) → HasTaken c before after es said
+  taken es said numbered gained held summary = record {
+    errors = errors.text;
+    numbered = numbered;
+    text = gained.printed;
+    report = gained.reported;
+    summary = subst (λ n. said (place errors.text n) summed (summary_text (c.counts es))) held summary;
+  }
+
+  all_numbered : (es : List Entry) → c.output.counted + length es ≡ most_lines → AreNumbered c.output.counted es
+  all_numbered es full = λ some. omega (arith, full)
 
   same_text : summed ≡ errors → errors.text ≡ after.reported
   same_text same = ap (λ (p : Place). p.text) (sym same)
@@ -140,92 +103,129 @@ module _ (c : Command) (stands : List Entry → Type 0) (before after : Devices)
     reported = subst (λ e. AppendsFront before.reported e (c.output.reports (entries_for c log))) same front.reported;
   }) ran
 
-  unsaved : IsLeft → IfSome before.left (HasFronts c.output before mid) → IfSome before.left (SavesFirst c before after)
-  unsaved left ran = if_some _ _ before.left (λ log front. inl (left.1, front)) (fronts (same_text left.0) ran)
+  breaks_off : IsLeft → IfSome before.left (HasFronts c.output before mid) → BreaksOff c before after
+  breaks_off left ran = (left.1, fronts (same_text left.0) ran)
 
-  tells : {T : Type 0} (f : RunFault) → Runs {T = T} c.output stands before mid (Err f) → Follows f → Tells c before after (fault_of_run f)
-  tells run.Read ran follows =
+  leaves : {T : Type 0} (f : RunFault) → Runs {T = T} c.output stands before mid (Err f) → Follows f → Leaves c before after (fault_of_run f)
+  leaves run.Read ran follows =
       let said = follows _ ran.ends.holds in
-      (ran.device.0, record { came = ran.ends.came; given = ran.ends.given; taken = taken _ ran.ends.gained said.0; saved = said.1 })
-  tells run.TooManyLines ran follows =
+      record { came = ran.ends.came; given = ran.ends.given; taken = taken _ (SumsUpPart c.sums_up_a_part) ran.ends.numbered ran.ends.gained ran.device.reports said.0; saved = said.1 }
+  leaves run.TooManyLines ran follows =
       let said = follows _ ran.ends.holds in
-      record { lines = ran.ends.taken; full = ran.ends.full; more = ran.ends.left; taken = taken _ ran.ends.gained said.0; unsaved = said.1 }
-  tells run.Write ran follows = (ran.device, follows.1, fronts (same_text follows.0) ran.fronts)
-  tells run.Report ran follows =
-      (subst (λ n. HasFailed before.failed_reports n) (ap (λ (p : Place). p.failed) (sym follows.0)) ran.device, unsaved follows ran.fronts)
-  tells run.Memory ran follows = unsaved follows ran.fronts
+      let numbered = all_numbered ran.ends.taken ran.ends.full in
+      record { lines = ran.ends.taken; full = ran.ends.full; more = ran.ends.left; taken = taken _ (SumsUpPart c.sums_up_a_part) numbered ran.ends.gained ran.device.reports said.0; unsaved = said.1 }
+  leaves run.Write ran follows = breaks_off follows ran.fronts
+  leaves run.Report ran follows = inl (breaks_off follows ran.fronts)
+  leaves run.Memory ran follows = breaks_off follows ran.fronts
 
-  still_first : (more : List ℕ) → Appends errors.text after.reported more → IfSome before.left (ReportsFirst c.output before mid) → IfSome before.left (ReportsFirst c.output before after)
-  still_first more written = if_some _ _ before.left (λ log first. record {
+  same_failed : summed ≡ errors → after.failed_reports ≡ errors.failed
+  same_failed same = ap (λ (p : Place). p.failed) same
+
+  none_failed : summed ≡ errors → NoneFailed before mid → NoneFailed before after
+  none_failed same none = record { reads = none.reads; writes = none.writes; reports = same_failed same ∙ none.reports }
+
+  device : {T : Type 0} (f : RunFault) → Runs {T = T} c.output stands before mid (Err f) → Follows f → HasDevice c before after (fault_of_run f)
+  device run.Read ran follows = (ran.device.reads, ran.device.writes)
+  device run.TooManyLines ran follows = record { reads = ran.device.reads; writes = ran.device.writes }
+  device run.Write ran follows = record { reads = ran.device.reads; writes = ran.device.writes; reports = same_failed follows.0 ∙ ran.device.reports }
+  device run.Report ran follows = (
+    record {
+      reads = ran.device.reads;
+      writes = ran.device.writes;
+      reports = subst (λ n. HasFailed before.failed_reports n) (sym (same_failed follows.0)) ran.device.reports;
+    },
+    ap (λ (p : Place). p.failed) follows.1,
+  )
+  device run.Memory ran follows = inl (none_failed follows.0 ran.device)
+
+  still_first : (more : List ℕ) × Appends errors.text after.reported more → IfSome before.left (ReportsFirst c.output before mid) → IfSome before.left (ReportsFirst c.output before after)
+  still_first then = if_some _ _ before.left (λ log first. record {
     taken = first.taken;
     left = first.left;
     lines_taken = first.lines_taken;
     printed = first.printed;
-    reported = more_after before.reported errors.text after.reported (c.output.reports first.taken) more first.reported written;
+    reported = more_after before.reported errors.text after.reported (c.output.reports first.taken) then.0 first.reported then.1;
   })
 
   -- a run's fault stops a command
-  pub stopped_by_run : {T : Type 0} (f : RunFault) → Runs {T = T} c.output stands before mid (Err f) → Follows f → (more : List ℕ) → Appends errors.text after.reported more
+  pub stopped_by_run : {T : Type 0} (f : RunFault) → Runs {T = T} c.output stands before mid (Err f) → Follows f → (more : List ℕ) × Appends errors.text after.reported more
       → IsStopped c before after (fault_of_run f)
-  stopped_by_run f ran follows more written = record { tells = tells f ran follows; reports_first = still_first more written ran.reports_first }
+  stopped_by_run f ran follows then = record { leaves = leaves f ran follows; device = device f ran follows; reports_first = still_first then ran.reports_first }
 
   -- one after which nothing is written and nothing is saved
   pub left_by_run : {T : Type 0} (f : RunFault) → Runs {T = T} c.output stands before mid (Err f) → Follows f → summed ≡ errors → IsStopped c before after (fault_of_run f)
-  left_by_run f ran follows same = stopped_by_run f ran follows [] (subst (λ e. Appends errors.text e []) (same_text same) (Appends-nil errors.text))
+  left_by_run f ran follows same = stopped_by_run f ran follows ([], subst (λ e. Appends errors.text e []) (same_text same) (Appends-nil errors.text))
+
+  -- a run stands at a line, but memory for its state was refused
+  line_device : (ran : Result (Unit {0}) RunFault) → StandsAtLine ran → c.sums_up_a_part ≡ true → summed ≡ errors → Runs c.output stands before mid ran → HasDevice c before after Memory
+  line_device (Ok x) line part same runs = inl (none_failed same runs.device)
+  line_device (Err run.Read) line part same runs = inr (part, record { reads = runs.device.reads; writes = runs.device.writes; reports = same_failed same ∙ runs.device.reports })
+  line_device (Err run.TooManyLines) line part same runs = inl (none_failed same runs.device)
+  line_device (Err run.Write) line part same runs = absurd line
+  line_device (Err run.Report) line part same runs = absurd line
+  line_device (Err run.Memory) line part same runs = absurd line
+
+  pub left_at_line : (ran : Result (Unit {0}) RunFault) → StandsAtLine ran → c.sums_up_a_part ≡ true → Runs c.output stands before mid ran → IsLeft → IsStopped c before after Memory
+  left_at_line ran line part runs left = record {
+    leaves = breaks_off left (line_fronts c.output before mid stands ran line runs);
+    device = line_device ran line part left.0 runs;
+    reports_first = still_first ([], subst (λ e. Appends errors.text e []) (same_text left.0) (Appends-nil errors.text)) runs.reports_first;
+  }
 
   -- a run came to its end, and what is saved and summed up is what the command saves and counts
   module _ {T : Type 0} (x : T) (text : List ℕ) (counts : Counts) (ran : Runs {T = T} c.output stands before mid (Ok x))
       (counted : IfSome before.left (λ log. (counts ≡ c.counts (entries_for c log)) × (text ≡ c.saving.state (entries_for c log)))) where
-    done : (status : ℕ) → Keeps c.saving.before c.saving.after text → SumsUp errors summed counts (Ok status) → IsDone c before after status
-    done status keeps said = record {
-      text = if_some _ _ before.left (λ log gained. gained.printed) ran.ends.gained;
+    log_numbered : IfSome before.left (λ log. AreNumbered c.output.counted (entries_for c log))
+    log_numbered = of_log c.output stands before mid (λ log. AreNumbered c.output.counted (entries_for c log)) ran.ends ran.ends.numbered
+
+    log_gained : IfSome before.left (λ log. Gained c.output before mid (entries_for c log))
+    log_gained = of_log c.output stands before mid (λ log. Gained c.output before mid (entries_for c log)) ran.ends ran.ends.gained
+
+    done : (status : ℕ) → Keeps c.saving.before c.saving.after text → IsWritten errors summed (summary_text counts) → status ≡ exit_status counts → IsDone c before after status
+    done status keeps whole is = record {
+      numbered = log_numbered;
+      text = if_some _ _ before.left (λ log gained. gained.printed) log_gained;
       report = if_both _ _ _ before.left (λ log gained now. Appends-trans before.reported errors.text after.reported (c.output.reports (entries_for c log)) (summary_text (c.counts (entries_for c log)))
-          gained.reported (subst (λ n. Appends errors.text after.reported (summary_text n)) now.0 said.0)) ran.ends.gained counted;
-      status = if_some _ _ before.left (λ log now. said.2 ∙ ap exit_status now.0) counted;
-      end = subst (λ n. n ≤ 1) (sym said.2) (few counts);
-      none_failed = record { reads = ran.device.reads; writes = ran.device.writes; reports = said.1 ∙ ran.device.reports };
+          gained.reported (subst (λ n. Appends errors.text after.reported (summary_text n)) now.0 whole.written)) log_gained counted;
+      status = if_some _ _ before.left (λ log now. is ∙ ap exit_status now.0) counted;
+      end = subst (λ n. n ≤ 1) (sym is) (few counts);
+      none_failed = record { reads = ran.device.reads; writes = ran.device.writes; reports = whole.none_failed ∙ ran.device.reports };
       place = keeps.none_failed;
       saved = if_some _ _ before.left (λ log now. subst (Keeps c.saving.before c.saving.after) now.1 keeps) counted;
     }
 
-    first : AppendsFront errors.text after.reported (summary_text counts) → IfSome before.left (ReportsFirst c.output before after)
-    first front = still_first front.1.front front.1.appended ran.reports_first
+    first : IsWrittenUnlessFailed errors summed (summary_text counts) → IfSome before.left (ReportsFirst c.output before after)
+    first said = still_first (some_written errors summed (summary_text counts) said) ran.reports_first
 
-    printed : AppendsFront errors.text after.reported (summary_text counts) → IfSome before.left (HasPrinted c before after)
-    printed front = if_both _ _ _ before.left (λ log gained now. record {
-      errors = errors.text;
-      text = gained.printed;
-      report = gained.reported;
-      summary = subst (λ n. AppendsFront errors.text after.reported (summary_text n)) now.0 front;
-    }) ran.ends.gained counted
+    log_taken : (said : Place → Place → List ℕ → Type 0) → said errors summed (summary_text counts) → IfSome before.left (λ log. HasTaken c before after (entries_for c log) said)
+    log_taken said summary = if_three _ _ _ _ before.left (λ log numbered gained now. taken (entries_for c log) said numbered gained ran.device.reports
+        (subst (λ n. said errors summed (summary_text n)) now.0 summary)) log_numbered log_gained counted
 
-    saved_first : Keeps c.saving.before c.saving.after text → AppendsFront errors.text after.reported (summary_text counts) → IfSome before.left (SavesFirst c before after)
-    saved_first keeps front = if_both _ _ _ before.left (λ log now said. inr (subst (Keeps c.saving.before c.saving.after) now.1 keeps, said)) counted (printed front)
+    unsummed : Keeps c.saving.before c.saving.after text → IsCutOff errors summed (summary_text counts) → IsStopped c before after Report
+    unsummed keeps cut = record {
+      leaves = inr (if_both _ _ _ before.left (λ log now said. (subst (Keeps c.saving.before c.saving.after) now.1 keeps, said)) counted (log_taken IsCutOff cut));
+      device = (
+        record {
+          reads = ran.device.reads;
+          writes = ran.device.writes;
+          reports = subst (λ n. HasFailed n after.failed_reports) ran.device.reports cut.failed;
+        },
+        keeps.none_failed,
+      );
+      reports_first = first (inr cut);
+    }
+
+    summed_up : (r : Result ℕ Fault) → Keeps c.saving.before c.saving.after text → SumsUp errors summed counts r → Ends c before after r
+    summed_up (Ok status) keeps said = done status keeps said.0 said.1
+    summed_up (Err fault) keeps said = subst (IsStopped c before after) (sym said.0) (unsummed keeps said.1)
 
     pub ended_by_closing : (r : Result ℕ Fault) → Closes c.saving.before c.saving.after errors summed text counts r → Ends c before after r
-    ended_by_closing (Ok status) said = done status said.0 said.1
-    ended_by_closing (Err Save) said = record { tells = (said.0, printed said.1); reports_first = first said.1 }
-    ended_by_closing (Err Report) said = record {
-      tells = (subst (λ n. HasFailed n after.failed_reports) ran.device.reports said.1.0, saved_first said.0 said.1.1);
-      reports_first = first said.1.1;
-    }
-    ended_by_closing (Err Memory) said = record { tells = saved_first said.0 said.1; reports_first = first said.1 }
-    ended_by_closing (Err Words) said = absurd said.1
-    ended_by_closing (Err Interface) said = absurd said.1
-    ended_by_closing (Err TableSize) said = absurd said.1
-    ended_by_closing (Err StateSize) said = absurd said.1
-    ended_by_closing (Err (Table f)) said = absurd said.1
-    ended_by_closing (Err (State f)) said = absurd said.1
-    ended_by_closing (Err TableFile) said = absurd said.1
-    ended_by_closing (Err StateFile) said = absurd said.1
-    ended_by_closing (Err Read) said = absurd said.1
-    ended_by_closing (Err Write) said = absurd said.1
-    ended_by_closing (Err Lines) said = absurd said.1
-
--- what is counted, where there is no state
-pub counts_alone : (left : Option (List ℕ)) (counts : Counts) (text : List ℕ) (of : List ℕ → Counts) → IfSome left (λ log. counts ≡ of log) → IfSome left (λ log. (counts ≡ of log) × (text ≡ text))
-counts_alone None counts text of is = tt
-counts_alone (Some log) counts text of is = (is, refl)
+    ended_by_closing r (inl saved) = summed_up r saved.0 saved.1
+    ended_by_closing r (inr unsaved) = subst (Ends c before after) (sym unsaved.0) (record {
+      leaves = log_taken IsWrittenUnlessFailed unsaved.2;
+      device = (unsaved.1, record { reads = ran.device.reads; writes = ran.device.writes });
+      reports_first = first unsaved.2;
+    })
 
 -- nothing follows a run that a fault ended, where the command sums up whole logs alone and saves nothing
 pub ended_by_run : (c : Command) → c.sums_up_a_part ≡ false → c.saving ≡ no_saving → (before after : Devices) (stands : List Entry → Type 0) {T : Type 0} (f : RunFault) (r : Result ℕ Fault)
@@ -240,8 +240,8 @@ ended_by_run c no_part no_state before after stands f (Err fault) is ran = subst
     saved : (es : List Entry) → IsSaved c.saving es
     saved es = subst (λ s. IsSaved s es) (sym no_state) (record { kept = tt; none_failed = refl })
 
-    unsummed : (text : List ℕ) → SumsUpPart c.sums_up_a_part after.reported after.reported text
-    unsummed text = subst (λ b. SumsUpPart b after.reported after.reported text) (sym no_part) refl
+    unsummed : (text : List ℕ) → SumsUpPart c.sums_up_a_part (place after.reported after.failed_reports) (place after.reported after.failed_reports) text
+    unsummed text = subst (λ b. SumsUpPart b (place after.reported after.failed_reports) (place after.reported after.failed_reports) text) (sym no_part) refl
 
     nothing : (f : RunFault) → Follows c stands before after (place after.reported after.failed_reports) f
     nothing run.Read = λ es is. (unsummed _, inl (saved es))
@@ -256,7 +256,7 @@ pub ended_past_table : (found : List TableFault) (command : TableParts → Comma
 ended_past_table found command t read before after r sound ends = past r (subst (λ u. Ends (command u) before after r) sound.1 ends)
   where
     refused : (f : Fault) → IsStopped (command t) before after f → IsRefusedOrStopped found (command t) before after f
-    refused (Table fault) s = absurd s.tells
+    refused (Table fault) s = absurd s.leaves
     refused f s = (sound.0, s)
 
     past : (r : Result ℕ Fault) → Ends (command t) before after r → MatchResult r (λ status. (found ≡ []) × IsDone (command t) before after status) (IsRefusedOrStopped found (command t) before after)

@@ -1,5 +1,5 @@
 -- From what the run of a part and its closing leave to what `decode` leaves.
-use Rattle.std.proofs.Common.{◌≡◌, ◌⊎◌, ◌∙◌, ℕ, List, Option, Some, None, Ok, Err, Result, IfOk, IfSome, ◌++◌, ap, sym, subst, inl, inr}
+use Rattle.std.proofs.Common.{◌≡◌, ◌⊎◌, ◌∙◌, ℕ, List, Option, Some, Ok, Err, Result, IfOk, IfSome, ◌++◌, ap, sym, subst, refl, inl, inr}
 use Rattle.std.proofs.KnownBytes.{Appends-trans}
 use Rattle.std.specs.Io.KnownBytes.{Appends}
 use Rattle.n2k_wire.specs.declared.entry.Entry.{Entry}
@@ -10,22 +10,23 @@ use Rattle.n2k_run.specs.Decoded.{join_making, output_after}
 use Rattle.n2k_run.specs.Device.{HasFailed}
 use Rattle.n2k_run.specs.Entries.{entries}
 use Rattle.n2k_run.specs.Making.{after_all}
-use Rattle.n2k_run.specs.Parts.{BeginsBy, Continues, HasPart, IsFront, IsOfKind, IsPartOf, RefusedByMemory, as_run, begun, state_after}
+use Rattle.n2k_run.specs.Parts.{BeginsBy, Continues, HasPart, IsFront, IsOfKind, IsPartOf, RefusedByMemory, TellsRun, begun, state_after}
 use Rattle.n2k_run.specs.Reports.{summary_text}
-use Rattle.n2k_run.specs.Runs.{Devices, Output, Runs, output_from}
-use Rattle.n2k_run.specs.Writing.{AppendsFront}
+use Rattle.n2k_run.specs.Runs.{Devices, Output, output_from}
 use Rattle.n2k_run.specs.declared.fault.RunFault.TheVariants as run
 use Rattle.n2k_run.specs.declared.part.Part.{Part}
 use Rattle.n2k_run.specs.declared.part.PartFault.{PartFault}
 use Rattle.n2k_run.specs.declared.part.PartFault.TheVariants as part_faults
 use Rattle.n2k_run.specs.declared.options.Options.{Options}
 use Rattle.n2k_table.specs.Table.{TableParts, kind as kind_of}
+use Rattle.n2k_run.proofs.Ending.{of_log}
+use Rattle.n2k_run.proofs.Parting.{told_ok, told_run, told_stopped}
 use Rattle.n2kdec.specs.Closing.{ClosesPart}
-use Rattle.n2kdec.specs.Commands.{Command, Ends, EndsUnlessRefused, CannotBeSaved, IsSaved, IsStopped, Keeps, Place, PrintsRest, decode_command, decode_from, decode_to, place}
+use Rattle.n2kdec.specs.Commands.{CannotBeSaved, Command, Ends, EndsUnlessRefused, IsSaved, IsStopped, IsWrittenUnlessFailed, Keeps, Place, PrintsRest, decode_command, decode_from, decode_to, entries_for, place}
 use Rattle.n2kdec.specs.Fault.{exit_status}
 use Rattle.n2kdec.specs.declared.fault.Fault.{Fault}
-use Rattle.n2kdec.specs.declared.fault.Fault.TheVariants.{Table, State}
-use Rattle.n2kdec.proofs.CommandLemmas.{ended_by_closing, if_some, left_by_run, stopped_by_run}
+use Rattle.n2kdec.specs.declared.fault.Fault.TheVariants.{Save, State, Table}
+use Rattle.n2kdec.proofs.CommandLemmas.{ended_by_closing, if_some, left_at_line, left_by_run, some_written, stopped_by_run}
 
 -- no command that has begun ends by a refusal
 unless : (c : Command) (before after : Devices) (r : Result ℕ Fault) → Ends c before after r → EndsUnlessRefused c before after r
@@ -34,7 +35,7 @@ unless c before after (Err fault) stopped = go fault stopped
   where
     go : (f : Fault) → IsStopped c before after f → EndsUnlessRefused c before after (Err f)
     go (Table refused) s = tt
-    go (State refused) s = absurd s.tells
+    go (State refused) s = absurd s.leaves
     go f s = s
 
 module _ (o : Output) (stands_at : List Entry → StateOf) (t : TableParts) (before after : Devices) (errors keeper kept : Place) where
@@ -47,9 +48,9 @@ module _ (o : Output) (stands_at : List Entry → StateOf) (t : TableParts) (bef
   abbrev said : Place
   said = place after.reported after.failed_reports
 
-  summary_of : (part : Part) (es : List Entry) → IsPartOf t (stands_at es) part → AppendsFront errors.text after.reported (summary_text part.counts)
-      → AppendsFront errors.text after.reported (summary_text (c.counts es))
-  summary_of part es is front = subst (λ n. AppendsFront errors.text after.reported (summary_text n)) is.counted front
+  summary_of : (part : Part) (es : List Entry) → IsPartOf t (stands_at es) part → IsWrittenUnlessFailed errors said (summary_text part.counts)
+      → IsWrittenUnlessFailed errors said (summary_text (c.counts es))
+  summary_of part es is written = subst (λ n. IsWrittenUnlessFailed errors said (summary_text n)) is.counted written
 
   saved_or_not : (part : Part) (es : List Entry) → IsPartOf t (stands_at es) part → Keeps keeper kept part.state.items ⊎ HasFailed keeper.failed kept.failed
       → IsSaved c.saving es ⊎ CannotBeSaved c.saving
@@ -58,26 +59,28 @@ module _ (o : Output) (stands_at : List Entry → StateOf) (t : TableParts) (bef
 
   -- what the run of a part and its closing come to
   closed : (ended : Result Part PartFault) (r : Result ℕ Fault) → IsOfKind ended → RefusedByMemory ended
-      → Runs o (λ es. HasPart t ended (stands_at es)) before mid (as_run ended) → ClosesPart keeper kept errors said ended r → EndsUnlessRefused c before after r
-  closed (Ok part) r kind memory ran closes = unless c before after r
-      (ended_by_closing c _ before after errors part part.state.items part.counts ran
-      (if_some _ _ before.left (λ log is. (is.counted, is.saved)) ran.ends.holds) r closes)
-  closed (Err (part_faults.Stopped run.Read part)) r kind memory ran closes = subst (EndsUnlessRefused c before after) (sym closes.0)
-      (stopped_by_run c _ before after errors run.Read ran (λ es is. (summary_of part es is closes.2, saved_or_not part es is closes.1)) closes.2.1.front closes.2.1.appended)
-  closed (Err (part_faults.Stopped run.TooManyLines part)) r kind memory ran closes = subst (EndsUnlessRefused c before after) (sym closes.0)
-      (stopped_by_run c _ before after errors run.TooManyLines ran (λ es is. (summary_of part es is closes.2, closes.1)) closes.2.1.front closes.2.1.appended)
+      → TellsRun o (λ es. HasPart t ended (stands_at es)) before mid ended → ClosesPart keeper kept errors said ended r → EndsUnlessRefused c before after r
+  closed (Ok part) r kind memory told closes =
+      let ran = told_ok o before mid _ part told in
+      unless c before after r
+      (ended_by_closing c _ before after errors tt part.state.items part.counts ran
+      (of_log o _ before mid (λ log. (part.counts ≡ c.counts (entries_for c log)) × (part.state.items ≡ c.saving.state (entries_for c log))) ran.ends (ran.ends.holds.counted, ran.ends.holds.saved)) r closes)
+  closed (Err (part_faults.Stopped run.Read part)) r kind memory told closes = subst (EndsUnlessRefused c before after) (sym closes.0)
+      (stopped_by_run c _ before after errors run.Read (told_stopped o before mid _ run.Read part told) (λ es is. (summary_of part es is closes.2, saved_or_not part es is closes.1)) (some_written errors said (summary_text part.counts) closes.2))
+  closed (Err (part_faults.Stopped run.TooManyLines part)) r kind memory told closes = subst (EndsUnlessRefused c before after) (sym closes.0)
+      (stopped_by_run c _ before after errors run.TooManyLines (told_stopped o before mid _ run.TooManyLines part told) (λ es is. (summary_of part es is closes.2, closes.1)) (some_written errors said (summary_text part.counts) closes.2))
   closed (Err (part_faults.Stopped run.Write part)) r (inl kind) memory ran closes = let bad : run.Write ≡ run.Read = kind in cc
   closed (Err (part_faults.Stopped run.Write part)) r (inr kind) memory ran closes = let bad : run.Write ≡ run.TooManyLines = kind in cc
   closed (Err (part_faults.Stopped run.Report part)) r (inl kind) memory ran closes = let bad : run.Report ≡ run.Read = kind in cc
   closed (Err (part_faults.Stopped run.Report part)) r (inr kind) memory ran closes = let bad : run.Report ≡ run.TooManyLines = kind in cc
   closed (Err (part_faults.Stopped run.Memory part)) r (inl kind) memory ran closes = let bad : run.Memory ≡ run.Read = kind in cc
   closed (Err (part_faults.Stopped run.Memory part)) r (inr kind) memory ran closes = let bad : run.Memory ≡ run.TooManyLines = kind in cc
-  closed (Err (part_faults.Run run.Write)) r kind memory ran closes = subst (EndsUnlessRefused c before after) (sym closes.0)
-      (left_by_run c _ before after errors run.Write ran (closes.2, closes.1) closes.2)
-  closed (Err (part_faults.Run run.Report)) r kind memory ran closes = subst (EndsUnlessRefused c before after) (sym closes.0)
-      (left_by_run c _ before after errors run.Report ran (closes.2, closes.1) closes.2)
-  closed (Err (part_faults.Run run.Memory)) r kind memory ran closes = subst (EndsUnlessRefused c before after) (sym closes.0)
-      (left_by_run c _ before after errors run.Memory ran (closes.2, closes.1) closes.2)
+  closed (Err (part_faults.Run run.Write)) r kind memory told closes = subst (EndsUnlessRefused c before after) (sym closes.0)
+      (left_by_run c _ before after errors run.Write (told_run o before mid _ run.Write told) (closes.2, closes.1) closes.2)
+  closed (Err (part_faults.Run run.Report)) r kind memory told closes = subst (EndsUnlessRefused c before after) (sym closes.0)
+      (left_by_run c _ before after errors run.Report (told_run o before mid _ run.Report told) (closes.2, closes.1) closes.2)
+  closed (Err (part_faults.Run run.Memory)) r kind memory told closes = subst (EndsUnlessRefused c before after) (sym closes.0)
+      (left_by_run c _ before after errors run.Memory (told_run o before mid _ run.Memory told) (closes.2, closes.1) closes.2)
   closed (Err (part_faults.Run run.Read)) r (inl kind) memory ran closes = let bad : run.Read ≡ run.Write = kind in cc
   closed (Err (part_faults.Run run.Read)) r (inr (inl kind)) memory ran closes = let bad : run.Read ≡ run.Report = kind in cc
   closed (Err (part_faults.Run run.Read)) r (inr (inr kind)) memory ran closes = let bad : run.Read ≡ run.Memory = kind in cc
@@ -85,8 +88,8 @@ module _ (o : Output) (stands_at : List Entry → StateOf) (t : TableParts) (bef
   closed (Err (part_faults.Run run.TooManyLines)) r (inr (inl kind)) memory ran closes = let bad : run.TooManyLines ≡ run.Report = kind in cc
   closed (Err (part_faults.Run run.TooManyLines)) r (inr (inr kind)) memory ran closes = let bad : run.TooManyLines ≡ run.Memory = kind in cc
   closed (Err (part_faults.State fault)) r kind memory ran closes = subst (EndsUnlessRefused c before after) (sym closes.0) memory
-  closed (Err part_faults.Memory) r kind memory ran closes = subst (EndsUnlessRefused c before after) (sym closes.0)
-      (left_by_run c _ before after errors run.Memory ran (closes.2, closes.1) closes.2)
+  closed (Err part_faults.Memory) r kind memory told closes = subst (EndsUnlessRefused c before after) (sym closes.0)
+      (left_at_line c _ before after errors told.ran told.ended refl told.runs (closes.2, closes.1))
 
 -- a state that spells this one is refused for want of memory alone
 memory_only : (t : TableParts) (handed : Option (List ℕ)) (s : StateOf) (ended : Result Part PartFault) → BeginsBy t handed ended → begun t handed ≡ Ok s → RefusedByMemory ended
@@ -103,8 +106,8 @@ memory_only t handed s (Err (part_faults.State fault)) begins is = go begins.1
 -- from a state, and from the entries that lead to it, past a table that is read as its bytes spell it
 pub decoded_from : (t read : TableParts) (options : Options) (handed : Option (List ℕ)) (s : StateOf) (before after : Devices) (errors keeper kept : Place) (ended : Result Part PartFault) (r : Result ℕ Fault)
     → read ≡ t → begun t handed ≡ Ok s → IsOfKind ended → BeginsBy read handed ended
-    → (begun read handed ≡ Ok s → Runs (output_from (join_making read options.empty) options.packing s) (λ es. HasPart read ended (after_all (join_making read options.empty) s es))
-    before (record after { reported = errors.text; failed_reports = errors.failed }) (as_run ended))
+    → (begun read handed ≡ Ok s → TellsRun (output_from (join_making read options.empty) options.packing s) (λ es. HasPart read ended (after_all (join_making read options.empty) s es))
+    before (record after { reported = errors.text; failed_reports = errors.failed }) ended)
     → ClosesPart keeper kept errors (place after.reported after.failed_reports) ended r
     → EndsUnlessRefused (decode_from t options s keeper kept) before after r
 decoded_from t read options handed s before after errors keeper kept ended r same begins kind by ran closes =
@@ -115,8 +118,8 @@ decoded_from t read options handed s before after errors keeper kept ended r sam
 
 pub decoded_after : (t read : TableParts) (options : Options) (handed : Option (List ℕ)) (front : List Entry) (before after : Devices) (errors keeper kept : Place) (ended : Result Part PartFault) (r : Result ℕ Fault)
     → read ≡ t → begun t handed ≡ Ok (state t.id (kind_of t) front) → IsOfKind ended → BeginsBy read handed ended
-    → (begun read handed ≡ Ok (state read.id (kind_of read) front) → Runs (output_after read options front) (λ es. HasPart read ended (state read.id (kind_of read) (front ++ es)))
-    before (record after { reported = errors.text; failed_reports = errors.failed }) (as_run ended))
+    → (begun read handed ≡ Ok (state read.id (kind_of read) front) → TellsRun (output_after read options front) (λ es. HasPart read ended (state read.id (kind_of read) (front ++ es)))
+    before (record after { reported = errors.text; failed_reports = errors.failed }) ended)
     → ClosesPart keeper kept errors (place after.reported after.failed_reports) ended r
     → EndsUnlessRefused (decode_command t options front keeper kept) before after r
 decoded_after t read options handed front before after errors keeper kept ended r same begins kind by ran closes =
@@ -144,15 +147,16 @@ module _ (o : Options) (front : List ℕ) (before after : Devices) (errors keepe
   rest_of : (t : TableParts) (ended : Result Part PartFault) (r : Result ℕ Fault) → Continues t o front before (record after { reported = errors.text; failed_reports = errors.failed }) ended
       → ClosesPart keeper kept errors (place after.reported after.failed_reports) ended r → Rest t r
   rest_of t (Ok part) (Err fault) goes closes = tt
-  rest_of t (Ok part) (Ok status) goes closes = if_some _ _ before.left (λ log on. record {
+  rest_of t (Ok part) (Ok status) goes (inr unsaved) = let bad : Ok status ≡ Err Save = unsaved.0 in cc
+  rest_of t (Ok part) (Ok status) goes (inl closes) = if_some _ _ before.left (λ log on. record {
     text = on.text;
     printed = on.printed;
     output = on.output;
     report = on.report;
     reported = Appends-trans before.reported errors.text after.reported on.report (summary_text (counts (kind_of t) (entries o.packing (front ++ log))))
-        on.reported (subst (λ n. Appends errors.text after.reported (summary_text n)) on.counted closes.1.0);
+        on.reported (subst (λ n. Appends errors.text after.reported (summary_text n)) on.counted closes.1.0.written);
     told = on.told;
-    answered = closes.1.2 ∙ ap exit_status on.counted;
+    answered = closes.1.1 ∙ ap exit_status on.counted;
     saved = subst (Keeps keeper kept) on.saved closes.0;
     reads_back = subst (λ s. begun t (Some s) ≡ Ok (state_after t o (front ++ log))) on.saved on.reads_back;
   }) goes.1

@@ -22,7 +22,7 @@ use Rattle.n2k_run.specs.Parts.{begun, save, state_after}
 use Rattle.n2k_run.specs.Plain.{plain_counts_of, plain_output}
 use Rattle.n2k_run.specs.Reading.{OutlastsReads}
 use Rattle.n2k_run.specs.Reports.{summary_text}
-use Rattle.n2k_run.specs.Runs.{Devices, HasFronts, NoneFailed, Output, ReportsFirst, output_from}
+use Rattle.n2k_run.specs.Runs.{AreNumbered, Devices, HasFronts, NoneFailed, Output, ReadFails, ReportFails, ReportsFirst, WriteFails, output_from}
 use Rattle.n2k_run.specs.Writing.{AppendsFront}
 use Rattle.n2k_run.specs.declared.options.Options.{Options}
 use Rattle.n2kdec.specs.Fault.{exit_status}
@@ -38,6 +38,20 @@ pub record Place : Type 0 where
 
 abbrev pub place : Option (List ℕ) → ℕ → Place
 place text failed = record { text = text; failed = failed }
+
+-- the text is written to the place whole, by calls of which none failed
+pub record IsWritten (before after : Place) (text : List ℕ) : Type 0 where
+  pub written : Appends before.text after.text text
+  pub none_failed : after.failed ≡ before.failed
+
+-- the place failed, and a front of the text is written
+pub record IsCutOff (before after : Place) (text : List ℕ) : Type 0 where
+  pub failed : HasFailed before.failed after.failed
+  pub front : AppendsFront before.text after.text text
+
+-- the one or the other
+abbrev pub IsWrittenUnlessFailed : Place → Place → List ℕ → Type 0
+IsWrittenUnlessFailed before after text = IsWritten before after text ⊎ IsCutOff before after text
 
 -- the state that is saved after entries, and the place where it is kept, before the command and after it
 pub record Saving : Type 0 where
@@ -113,10 +127,11 @@ entries_for c log = entries c.output.packing log
 abbrev pub summed_up : Command → List Entry → List ℕ
 summed_up c es = c.output.reports es ++ summary_text (c.counts es)
 
--- The command came to its end: the output has gained what is printed of the log, the errors its reports and then its
--- summary, the status tells whether a line was bad, no device failed, nor the place of the state, and the state after the
--- log is saved.
+-- The command came to its end: the lines of the log have numbers that are counted, the output has gained what is printed of
+-- it, the errors its reports and then its summary, the status tells whether a line was bad, no device failed, nor the place
+-- of the state, and the state after the log is saved.
 pub record IsDone (c : Command) (before after : Devices) (answer : ℕ) : Type 0 where
+  pub numbered : IfSome before.left (λ log. AreNumbered c.output.counted (entries_for c log))
   pub text : IfSome before.left (λ log. Appends before.written after.written (c.output.texts (entries_for c log)))
   pub report : IfSome before.left (λ log. Appends before.reported after.reported (summed_up c (entries_for c log)))
   pub status : IfSome before.left (λ log. answer ≡ exit_status (c.counts (entries_for c log)))
@@ -125,25 +140,27 @@ pub record IsDone (c : Command) (before after : Devices) (answer : ℕ) : Type 0
   pub place : c.saving.after.failed ≡ c.saving.before.failed
   pub saved : IfSome before.left (λ log. IsSaved c.saving (entries_for c log))
 
--- what is written of a part's summary: a front, which is all where neither the errors nor memory fail; or nothing
-abbrev pub SumsUpPart : Bool → Option (List ℕ) → Option (List ℕ) → List ℕ → Type 0
-SumsUpPart true old new summary = AppendsFront old new summary
-SumsUpPart false old new summary = new ≡ old
-
--- a command has printed and reported these entries, and has summed them up if it does so
-pub record HasTaken (c : Command) (before after : Devices) (es : List Entry) : Type 0 where
+-- A command has printed and reported these entries, which have numbers that are counted. No call of the errors failed until
+-- then, and then they have of the summary what `summed` says.
+pub record HasTaken (c : Command) (before after : Devices) (es : List Entry) (summed : Place → Place → List ℕ → Type 0) : Type 0 where
   -- what the errors held before the summary
   pub errors : Option (List ℕ)
+  pub numbered : AreNumbered c.output.counted es
   pub text : Appends before.written after.written (c.output.texts es)
   pub report : Appends before.reported errors (c.output.reports es)
-  pub summary : SumsUpPart c.sums_up_a_part errors after.reported (summary_text (c.counts es))
+  pub summary : summed (place errors before.failed_reports) (place after.reported after.failed_reports) (summary_text (c.counts es))
+
+-- what is written of a part's summary: all of it, unless the errors fail; or nothing
+abbrev pub SumsUpPart : Bool → Place → Place → List ℕ → Type 0
+SumsUpPart true before after summary = IsWrittenUnlessFailed before after summary
+SumsUpPart false before after summary = after ≡ before
 
 -- Bytes came of the log, and the lines among them whose line feed came are taken. The state after them is saved, where
 -- that can be.
 pub record HasRead (c : Command) (before after : Devices) : Type 0 where
   pub came : List ℕ
   pub given : Consumes before.left after.left came
-  pub taken : HasTaken c before after (entries_for c (whole_lines came))
+  pub taken : HasTaken c before after (entries_for c (whole_lines came)) (SumsUpPart c.sums_up_a_part)
   pub saved : IsSaved c.saving (entries_for c (whole_lines came)) ⊎ CannotBeSaved c.saving
 
 -- As many lines are taken as are counted, and the log has more. Nothing is saved.
@@ -151,40 +168,53 @@ pub record IsFull (c : Command) (before after : Devices) : Type 0 where
   pub lines : List Entry
   pub full : c.output.counted + length lines ≡ most_lines
   pub more : IfSome before.left (λ log. (next : Entry) × (rest : List Entry) × (entries_for c log ≡ lines ++ next ∷ rest))
-  pub taken : HasTaken c before after lines
+  pub taken : HasTaken c before after lines (SumsUpPart c.sums_up_a_part)
   pub unsaved : IsUntouched c.saving
 
--- the output has gained what is printed of the log, and the errors its reports and then a front of its summary
-pub record HasPrinted (c : Command) (before after : Devices) (log : List ℕ) : Type 0 where
-  -- what the errors held before the summary
-  pub errors : Option (List ℕ)
-  pub text : Appends before.written after.written (c.output.texts (entries_for c log))
-  pub report : Appends before.reported errors (c.output.reports (entries_for c log))
-  pub summary : AppendsFront errors after.reported (summary_text (c.counts (entries_for c log)))
+-- Nothing is saved and nothing is summed up, and fronts are written of what is printed and reported.
+abbrev pub BreaksOff : Command → Devices → Devices → Type 0
+BreaksOff c before after = IsUntouched c.saving × IfSome before.left (HasFronts c.output before after)
 
--- Nothing is saved and nothing is summed up, and fronts are written of what is printed and reported; or the log is printed
--- and reported whole, the state after it is saved, and a front of the summary is written.
-abbrev pub SavesFirst : Command → Devices → Devices → List ℕ → Type 0
-SavesFirst c before after log =
-    (IsUntouched c.saving × HasFronts c.output before after log)
-    ⊎ (IsSaved c.saving (entries_for c log) × HasPrinted c before after log)
+-- the log is printed and reported and the state after it saved, and only its summary is cut off
+abbrev pub LacksSummary : Command → Devices → Devices → List ℕ → Type 0
+LacksSummary c before after log = IsSaved c.saving (entries_for c log) × HasTaken c before after (entries_for c log) IsCutOff
 
--- What each fault of a command tells. Read: the log's device failed, or 10^12 reads found no end, and the lines that came
--- are taken. Lines: as many as are counted are. Save: the log is printed, and its state can't be kept. Write, Report: that
--- device failed. Memory may be refused at any time. After Write fronts are written, nothing is saved and nothing is summed
--- up; after Report and Memory the same holds, or only the summary is cut. No other fault stops a run.
-abbrev pub Tells : Command → Devices → Devices → Fault → Type 0
-Tells c before after Read = (HasFailed before.failed_reads after.failed_reads ⊎ OutlastsReads before.calls after.calls) × HasRead c before after
-Tells c before after Lines = IsFull c before after
-Tells c before after Save = CannotBeSaved c.saving × IfSome before.left (HasPrinted c before after)
-Tells c before after Write = HasFailed before.failed_writes after.failed_writes × IsUntouched c.saving × IfSome before.left (HasFronts c.output before after)
-Tells c before after Report = HasFailed before.failed_reports after.failed_reports × IfSome before.left (SavesFirst c before after)
-Tells c before after Memory = IfSome before.left (SavesFirst c before after)
-Tells c before after _ = ⊥
+-- What each fault leaves. Read: the lines that came are taken. Lines: as many as are counted are. Save: the log is taken. In
+-- these three the summary is cut off only where the errors failed. After Write and Memory the run breaks off; after Report
+-- too, or all but the summary is done. So memory is not refused once something is saved or summed up. No other fault stops a
+-- run.
+abbrev pub Leaves : Command → Devices → Devices → Fault → Type 0
+Leaves c before after Read = HasRead c before after
+Leaves c before after Lines = IsFull c before after
+Leaves c before after Save = IfSome before.left (λ log. HasTaken c before after (entries_for c log) IsWrittenUnlessFailed)
+Leaves c before after Write = BreaksOff c before after
+Leaves c before after Report = BreaksOff c before after ⊎ IfSome before.left (LacksSummary c before after)
+Leaves c before after Memory = BreaksOff c before after
+Leaves c before after _ = ⊥
+
+-- no call of the log's device failed, and none of the output
+pub record LogAndOutputHold (before after : Devices) : Type 0 where
+  pub reads : after.failed_reads ≡ before.failed_reads
+  pub writes : after.failed_writes ≡ before.failed_writes
+
+-- Which device failed. Read: the log's, or none and 10^12 reads found no end. Write, Report: that one alone, and not the place
+-- of the state. Save: that place. Lines: none. Memory: none; or, where parts are summed up, the log's, and memory was refused
+-- for the state of what had been read. After Read, Lines and Save the errors may have failed too, in the summary.
+abbrev pub HasDevice : Command → Devices → Devices → Fault → Type 0
+HasDevice c before after Read =
+    (HasFailed before.failed_reads after.failed_reads ⊎ (OutlastsReads before.calls after.calls × (after.failed_reads ≡ before.failed_reads)))
+    × (after.failed_writes ≡ before.failed_writes)
+HasDevice c before after Lines = LogAndOutputHold before after
+HasDevice c before after Save = CannotBeSaved c.saving × LogAndOutputHold before after
+HasDevice c before after Write = WriteFails before after
+HasDevice c before after Report = ReportFails before after × (c.saving.after.failed ≡ c.saving.before.failed)
+HasDevice c before after Memory = NoneFailed before after ⊎ ((c.sums_up_a_part ≡ true) × ReadFails before after)
+HasDevice c before after _ = ⊥
 
 -- A fault stopped the command. No text stands before the report of its own line or of an earlier one.
 pub record IsStopped (c : Command) (before after : Devices) (fault : Fault) : Type 0 where
-  pub tells : Tells c before after fault
+  pub leaves : Leaves c before after fault
+  pub device : HasDevice c before after fault
   pub reports_first : IfSome before.left (ReportsFirst c.output before after)
 
 -- how a command ends whose table and state are taken

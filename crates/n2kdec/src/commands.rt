@@ -1,14 +1,11 @@
 //! The commands over their devices: what they print, what they save, and the status that they end with.
-ghost use Rattle.std.specs.Prelude.{◌≡◌, ◌≤◌, ◌⊎◌, [], IfErr, IfOk, IfSome, IsErrOf, IsOk, List, MatchResult, Ok, OnErr, OnOk, ℕ, false, option_map};
-ghost use Rattle.std.specs.Io.KnownBytes.{Appends};
+ghost use Rattle.std.specs.Prelude.{◌≡◌, ◌≤◌, [], IfErr, IfOk, IfSome, IsErrOf, IsOk, List, MatchResult, Ok, OnErr, OnOk, ℕ, option_map};
 ghost use Rattle.n2k_wire.specs.declared.entry.Entry.{Entry};
 ghost use Rattle.n2k_join.specs.State.{State, state as state_of};
 ghost use Rattle.n2k_run.specs.Device.{HasFailed};
 ghost use Rattle.n2k_run.specs.FramesOut.{IsInterface, interface_of};
 ghost use Rattle.n2k_run.specs.Parts.{IsFront, OnRefusal, begun};
-ghost use Rattle.n2k_run.specs.Reports.{summary_text};
 ghost use Rattle.n2k_run.specs.Runs.{devices};
-ghost use Rattle.n2k_run.specs.Writing.{AppendsFront};
 ghost use Rattle.n2k_table.specs.Table.{faults, kind, table as table_of};
 ghost use Rattle.n2k_table.specs.declared.fault.TableFault.{TableFault};
 ghost use Rattle.n2kdec.specs.Closing.{ClosesPart, SumsUp};
@@ -20,24 +17,17 @@ use crate::keeper::Keeper;
 use n2k_join::Counts;
 use n2k_run::{
     Failed, Options, Part, PartFault, RunFault, Sink, Source, run_frames, run_part, run_plain,
-    summary_text, write_all,
+    write_summary,
 };
 use n2k_table::Table;
 use std::alloc::Global;
 
 // Writes the summary of what a run has counted, and answers the status of these counts.
-#[tactic(auto, using(crate::proofs::CommandLemmas::front_whole))]
-fn sum_up<E: Sink>(alloc: Global, counts: &Counts, errors: &mut E) -> Result<u8, Fault>
-    ensures written { OnOk result (Appends (E.contents errors.old) (E.contents errors.new) (summary_text counts.now)) }
-    ensures front { AppendsFront (E.contents errors.old) (E.contents errors.new) (summary_text counts.now) }
-    ensures none_failed { OnOk result (E.failed_calls errors.new ≡ E.failed_calls errors.old) }
-    ensures status { IfOk result (λ status. status ≡ exit_status counts.now) }
-    ensures fault { IfErr result (λ fault. (fault ≡ Fault.Report) ⊎ (fault ≡ Fault.Memory)) }
-    ensures report { IsErrOf result Fault.Report → HasFailed (E.failed_calls errors.old) (E.failed_calls errors.new) }
+fn sum_up<E: Sink>(counts: &Counts, errors: &mut E) -> Result<u8, Fault>
+    ensures { SumsUp (place (E.contents errors.old) (E.failed_calls errors.old))
+        (place (E.contents errors.new) (E.failed_calls errors.new)) counts.now result }
 {
-    let mut summary = Vec::new(alloc);
-    summary_text(alloc, counts, &mut summary)?;
-    match write_all(errors, &summary) {
+    match write_summary(counts, errors) {
         Ok(()) => Ok(exit_status(counts)),
         Err(_) => Err(Fault::Report),
     }
@@ -51,12 +41,7 @@ struct Closing {
 }
 
 // Saves the state of a part, and then writes its summary, also where the state can't be saved.
-fn save_and_sum_up<K: Keeper, E: Sink>(
-    alloc: Global,
-    part: &Part,
-    keeper: &mut K,
-    errors: &mut E,
-) -> Closing
+fn save_and_sum_up<K: Keeper, E: Sink>(part: &Part, keeper: &mut K, errors: &mut E) -> Closing
     ensures kept { OnOk result.saved (IfSome (K.kept keeper.new) (λ text. text ≡ part.now.state.items)) }
     ensures none_failed { OnOk result.saved (K.failed_calls keeper.new ≡ K.failed_calls keeper.old) }
     ensures failed { OnErr result.saved (HasFailed (K.failed_calls keeper.old) (K.failed_calls keeper.new)) }
@@ -64,14 +49,13 @@ fn save_and_sum_up<K: Keeper, E: Sink>(
         (place (E.contents errors.new) (E.failed_calls errors.new)) part.now.counts result.summed }
 {
     let saved = keeper.keep(&part.state);
-    let summed = sum_up(alloc, &part.counts, errors);
+    let summed = sum_up(&part.counts, errors);
     Closing { saved, summed }
 }
 
 // What the run of a part comes to. Where it stands after whole lines it is summed up, and saved unless it stands at the
 // limit of lines; of two faults the first counts.
 fn close<K: Keeper, E: Sink>(
-    alloc: Global,
     ended: Result<Part, PartFault>,
     keeper: &mut K,
     errors: &mut E,
@@ -85,18 +69,18 @@ fn close<K: Keeper, E: Sink>(
 {
     match ended {
         Ok(part) => {
-            let closing = save_and_sum_up(alloc, &part, keeper, errors);
+            let closing = save_and_sum_up(&part, keeper, errors);
             match closing.saved {
                 Ok(()) => closing.summed,
                 Err(_) => Err(Fault::Save),
             }
         }
         Err(PartFault::Stopped(RunFault::Read, part)) => {
-            let _ = save_and_sum_up(alloc, &part, keeper, errors);
+            let _ = save_and_sum_up(&part, keeper, errors);
             Err(Fault::Read)
         }
         Err(PartFault::Stopped(fault, part)) => {
-            let _ = sum_up(alloc, &part.counts, errors);
+            let _ = sum_up(&part.counts, errors);
             Err(Fault::from(fault))
         }
         Err(PartFault::Run(fault)) => Err(Fault::from(fault)),
@@ -121,7 +105,7 @@ pub fn plain<R: Source, W: Sink, E: Sink>(
         Ends plain_command before after result }
 {
     let counts = run_plain(alloc, log, output, errors)?;
-    sum_up(alloc, &counts, errors)
+    sum_up(&counts, errors)
 }
 
 /// Reads a table, and then prints the messages of a log by it, with these options: each as its JSON line to `output`,
@@ -184,7 +168,7 @@ pub fn decode<K: Keeper, R: Source, W: Sink, E: Sink>(
 {
     let table = Table::read(alloc, table)?;
     let ended = run_part(alloc, &table, state, options, log, output, errors);
-    close(alloc, ended, keeper, errors)
+    close(ended, keeper, errors)
 }
 
 /// Reads a table, and then writes each whole message of a log as the lines of its frames to `output`: plain lines, or
@@ -212,5 +196,5 @@ pub fn frames<R: Source, W: Sink, E: Sink>(
 {
     let table = Table::read(alloc, table)?;
     let counts = run_frames(alloc, &table, interface, log, output, errors)?;
-    sum_up(alloc, &counts, errors)
+    sum_up(&counts, errors)
 }

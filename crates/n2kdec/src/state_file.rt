@@ -1,14 +1,27 @@
 //! The file that keeps the state after a run.
+ghost use Rattle.std.specs.Prelude.{OnOk};
+ghost use Rattle.std.specs.Io.KnownBytes.{Appends};
 
 use crate::keeper::Keeper;
 use crate::word::Word;
-use n2k_run::{Failed, StdSink, write_all};
+use n2k_run::Failed;
 use std::fs;
+use std::io::Write;
+
+// Writes a state whole.
+fn write_state<W: Write>(file: &mut W, state: &[u8]) -> Result<(), Failed>
+    ensures { OnOk result (Appends (W.contents file.old) (W.contents file.new) state.now) }
+{
+    match file.write_all(state) {
+        Ok(()) => Ok(()),
+        Err(_) => Err(Failed),
+    }
+}
 
 // Writes a file whole, over what it had.
-fn write_file(rt: &HostRuntime, name: &Word, bytes: &[u8]) -> Result<(), Failed> {
+fn write_file(rt: &HostRuntime, name: &Word, state: &[u8]) -> Result<(), Failed> {
     match fs::create(rt, name.as_str()) {
-        Ok(file) => write_all(&mut StdSink::new(file), bytes),
+        Ok(mut file) => write_state(&mut file, state),
         Err(_) => Err(Failed),
     }
 }

@@ -4,7 +4,7 @@ ghost use Rattle.n2k_join.specs.Resumed.{is_name};
 
 /// Where an object stands.
 #[derive(Clone, Copy)]
-pub enum Place {
+pub(crate) enum Place {
     /// The state itself.
     State,
     /// An open group.
@@ -13,7 +13,7 @@ pub enum Place {
 
 impl Place {
     /// Whether it has a member of that name.
-    pub fn has(self, name: &str) -> bool
+    pub(crate) fn has(self, name: &str) -> bool
         ensures { result ≡ is_name self name.now }
     {
         match self {

@@ -1,7 +1,8 @@
 //! The state that a value spells: a reader for each part.
 ghost use Rattle.std.specs.Prelude.{◌≡◌, map};
 ghost use Rattle.serde_json.specs.View.{view};
-ghost use Rattle.n2k_join.specs.Refusal.{Gives, GivesOrMemory};
+ghost use Rattle.n2k_wire.specs.Views.{Gives};
+ghost use Rattle.n2k_join.specs.Refusal.{GivesOrMemory};
 ghost use Rattle.n2k_join.specs.Resumed.{each, piece_of, key_of, pieces_at, group_of, groups_at, counts_of, id_at, state_of};
 
 use crate::counts::Counts;
@@ -116,7 +117,7 @@ fn read_id(value: &Value) -> Result<[u8; 32], StateFault>
 
 /// The state that a value spells, whatever its numbers.
 #[tactic(auto, unfolding(crate::specs::Resumed::state_of))]
-pub fn read_state(alloc: Global, value: &Value) -> Result<SpelledState, StateFault>
+pub(crate) fn read_state(alloc: Global, value: &Value) -> Result<SpelledState, StateFault>
     ensures { GivesOrMemory (λ state. state) result (state_of (view value.now)) }
 {
     members_at(Place::State, value)?;

@@ -1,6 +1,6 @@
 //! A join from a saved state.
 ghost use Rattle.std.specs.Prelude.{◌≡◌, ◌≤◌, [], map, IfOk, vec_capacity};
-ghost use Rattle.n2k_join.specs.Apart.{each_holds, are_new};
+ghost use Rattle.n2k_join.specs.Inner.Apart.{each_holds, are_new};
 ghost use Rattle.serde_json.specs.View.{view};
 ghost use Rattle.n2k_table.specs.Table.{kind};
 ghost use Rattle.n2k_wire.specs.Packet.{greatest_pgn};
@@ -8,7 +8,7 @@ ghost use Rattle.n2k_join.specs.Refusal.{GivesOrMemory, or_fault};
 ghost use Rattle.n2k_join.specs.Resumed.{pieces_rise, group_holds, groups_hold, valid_if, parsed, has_format};
 ghost use Rattle.n2k_join.specs.State.{IsKey, IsPiece, HasParts};
 ghost use Rattle.std.specs.List.{AllByRecursion};
-ghost use Rattle.n2k_join.specs.Stored.{key_of, piece_of};
+ghost use Rattle.n2k_join.specs.Inner.Stored.{key_of, piece_of};
 
 use crate::group::StoredGroup;
 use crate::piece::{FrameKey, StoredPiece};
@@ -86,7 +86,7 @@ fn stored_group(
 }
 
 // The open groups, where each can be one under the table.
-#[tactic(auto, unfolding(crate::specs::Apart::each_holds))]
+#[tactic(auto, unfolding(crate::specs::Inner::Apart::each_holds))]
 fn each_stored(
     alloc: Global,
     table: &Table,
@@ -103,7 +103,7 @@ fn each_stored(
 }
 
 // Whether no two of the groups have one key.
-#[tactic(auto, unfolding(crate::specs::Apart::are_new))]
+#[tactic(auto, unfolding(crate::specs::Inner::Apart::are_new))]
 fn keys_differ(alloc: Global, groups: &[StoredGroup]) -> Result<bool, AllocError>
     ensures { IfOk result (λ differ. differ ≡ are_new [] groups.now) }
 {
@@ -117,7 +117,7 @@ fn keys_differ(alloc: Global, groups: &[StoredGroup]) -> Result<bool, AllocError
 }
 
 /// The open groups, where they can be those of a state under the table.
-pub fn stored_groups(
+pub(crate) fn stored_groups(
     alloc: Global,
     table: &Table,
     groups: &[SpelledGroup],
@@ -133,7 +133,7 @@ pub fn stored_groups(
 }
 
 /// The JSON value of a text.
-pub fn parsed(alloc: Global, bytes: &[u8]) -> Result<Value, StateFault>
+pub(crate) fn parsed(alloc: Global, bytes: &[u8]) -> Result<Value, StateFault>
     ensures { GivesOrMemory (λ value. view value) result (or_fault StateFault.NotJson (parsed bytes.now)) }
 {
     match Value::from_slice(alloc, bytes) {
@@ -144,7 +144,7 @@ pub fn parsed(alloc: Global, bytes: &[u8]) -> Result<Value, StateFault>
 }
 
 /// Whether it is of the format that is read.
-pub fn has_format(value: &Value) -> bool
+pub(crate) fn has_format(value: &Value) -> bool
     ensures { result ≡ has_format (view value.now) }
 {
     match value.get("format") {

@@ -1,20 +1,19 @@
 //! The rules of a valid state.
 ghost use Rattle.std.specs.Prelude.{◌≡◌, ◌≤◌, ◌<◌, ◌&&◌, true, IfSome};
 ghost use Rattle.std.specs.List.{AllByRecursion};
+ghost use Rattle.n2k_wire.specs.Packet.{greatest_pgn};
 ghost use Rattle.n2k_table.specs.Table.{kind};
 ghost use Rattle.n2k_join.specs.Counts.{most_lines};
 ghost use Rattle.n2k_join.specs.Refusal.{SomeUnder};
 ghost use Rattle.n2k_join.specs.State.{IsPiece};
-ghost use Rattle.n2k_join.specs.Stored.{piece_of};
+ghost use Rattle.n2k_join.specs.Inner.Stored.{piece_of};
 ghost use Rattle.n2k_join.specs.Resumed.{counts_hold, firsts_rise, is_fast, key_holds, total_holds, piece_holds};
 
 use crate::counts::{Counts, MOST_LINES};
 use crate::piece::StoredPiece;
 use crate::saved::spelled::{SpelledGroup, SpelledKey, SpelledPiece};
 use n2k_table::{Kind, Table};
-
-/// The greatest PGN, 24 bits.
-const GREATEST_PGN: u64 = 16_777_215;
+use n2k_wire::GREATEST_PGN;
 
 /// The greatest address.
 const GREATEST_ADDRESS: u64 = 255;
@@ -57,14 +56,14 @@ fn firsts_rise(lines: u64, groups: &[SpelledGroup]) -> bool
 }
 
 /// Whether the counts and the lines that opened the groups can be those of one state.
-pub fn rules_hold(counts: &Counts, groups: &[SpelledGroup]) -> bool
+pub(crate) fn rules_hold(counts: &Counts, groups: &[SpelledGroup]) -> bool
     ensures { result ≡ (counts_hold counts.now && firsts_rise 1 counts.now.lines groups.now) }
 {
     counts_hold(counts) && firsts_rise(counts.lines, groups)
 }
 
 fn is_fast(table: &Table, pgn: u64) -> bool
-    requires { pgn ≤ 16_777_215 }
+    requires { pgn ≤ greatest_pgn }
     ensures { result ≡ is_fast (kind table.now pgn) }
 {
     match table.kind(pgn as u32) {
@@ -75,10 +74,10 @@ fn is_fast(table: &Table, pgn: u64) -> bool
 
 /// Whether frames of a fast PGN of the table can have the key.
 #[tactic(auto, unfolding(crate::specs::Resumed::key_holds))]
-pub fn key_holds(table: &Table, key: &SpelledKey) -> bool
+pub(crate) fn key_holds(table: &Table, key: &SpelledKey) -> bool
     ensures { result ≡ key_holds (kind table.now) key.now }
 {
-    key.pgn <= GREATEST_PGN
+    key.pgn <= u64::from(GREATEST_PGN)
         && (is_fast(table, key.pgn)
             && (key.src <= GREATEST_ADDRESS
                 && (key.dst <= GREATEST_ADDRESS && key.sequence <= GREATEST_SEQUENCE)))
@@ -111,7 +110,7 @@ fn piece_of_parts(number: u8, bytes: &[u8; 7]) -> StoredPiece
 }
 
 /// A frame as a group keeps it, where its number is from `least` to the greatest and its total isn't too large.
-pub fn stored_piece(least: u8, piece: &SpelledPiece) -> Option<StoredPiece>
+pub(crate) fn stored_piece(least: u8, piece: &SpelledPiece) -> Option<StoredPiece>
     ensures value { SomeUnder piece_of result (piece_holds least piece.now) piece.now }
     ensures parts { IfSome result (λ stored. IsPiece (piece_of stored)) }
 {

@@ -5,9 +5,9 @@ use std::marker::Model;
 
 /// A frame of a group.
 #[derive(Drop)]
-pub struct SpelledPiece {
-    pub number: u64,
-    pub bytes: [u8; 7],
+pub(crate) struct SpelledPiece {
+    pub(crate) number: u64,
+    pub(crate) bytes: [u8; 7],
 }
 
 impl Model for SpelledPiece {
@@ -20,11 +20,11 @@ impl Model for SpelledPiece {
 
 /// What the frames of a group have in common.
 #[derive(Drop)]
-pub struct SpelledKey {
-    pub src: u64,
-    pub dst: u64,
-    pub pgn: u64,
-    pub sequence: u64,
+pub(crate) struct SpelledKey {
+    pub(crate) src: u64,
+    pub(crate) dst: u64,
+    pub(crate) pgn: u64,
+    pub(crate) sequence: u64,
 }
 
 impl Model for SpelledKey {
@@ -37,10 +37,10 @@ impl Model for SpelledKey {
 
 /// An open group.
 #[derive(Drop)]
-pub struct SpelledGroup {
-    pub first: u64,
-    pub key: SpelledKey,
-    pub pieces: Vec<SpelledPiece>,
+pub(crate) struct SpelledGroup {
+    pub(crate) first: u64,
+    pub(crate) key: SpelledKey,
+    pub(crate) pieces: Vec<SpelledPiece>,
 }
 
 impl Model for SpelledGroup {
@@ -53,10 +53,10 @@ impl Model for SpelledGroup {
 
 /// A state. The count of open groups is their number.
 #[derive(Drop)]
-pub struct SpelledState {
-    pub id: [u8; 32],
-    pub counts: Counts,
-    pub groups: Vec<SpelledGroup>,
+pub(crate) struct SpelledState {
+    pub(crate) id: [u8; 32],
+    pub(crate) counts: Counts,
+    pub(crate) groups: Vec<SpelledGroup>,
 }
 
 impl Model for SpelledState {

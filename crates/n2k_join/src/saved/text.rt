@@ -5,9 +5,9 @@ ghost use Rattle.json.specs.Token.{Token};
 ghost use Rattle.n2k_join.specs.Groups.{carried};
 ghost use Rattle.n2k_join.specs.Open.{piece_at, pieces_of};
 ghost use Rattle.n2k_join.specs.Saved.{piece_tree, group_tree, state_tree, state_text, IsId};
-ghost use Rattle.n2k_join.specs.SavedTokens.{Appends, tokens_of, count_tokens, piece_tokens, pieces_tokens, frames_tokens, key_tokens, groups_tokens, open_tokens, front_tokens, lines_tokens, table_tokens, back_tokens};
+ghost use Rattle.n2k_join.specs.Inner.SavedTokens.{Appends, tokens_of, count_tokens, piece_tokens, pieces_tokens, frames_tokens, key_tokens, groups_tokens, open_tokens, front_tokens, lines_tokens, table_tokens, back_tokens};
 ghost use Rattle.n2k_join.specs.State.{held_of};
-ghost use Rattle.n2k_join.specs.Stored.{key_of};
+ghost use Rattle.n2k_join.specs.Inner.Stored.{key_of};
 ghost use Rattle.std.specs.Str.{IsUtf8};
 
 use crate::counts::Counts;
@@ -198,7 +198,7 @@ fn push_state(
 }
 
 /// The text of a state.
-pub fn state_text(
+pub(crate) fn state_text(
     alloc: Global,
     id: &[u8; 32],
     counts: &Counts,

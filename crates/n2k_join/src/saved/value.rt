@@ -1,7 +1,8 @@
 //! One value of a saved state: whether it is there, and of which kind it is.
 ghost use Rattle.std.specs.Prelude.{◌≡◌, map};
 ghost use Rattle.serde_json.specs.View.{view, members_view};
-ghost use Rattle.n2k_join.specs.Refusal.{Gives, or_fault};
+ghost use Rattle.n2k_wire.specs.Views.{Gives};
+ghost use Rattle.n2k_join.specs.Refusal.{or_fault};
 ghost use Rattle.n2k_join.specs.Resumed.{has_only, members_at, required, as_whole, whole_at, digits_of, elements_of};
 
 use crate::saved::place::Place;
@@ -21,7 +22,7 @@ fn has_only(members: &Map<String, Value>, place: Place) -> bool
 }
 
 /// An object that has no member but those of the place.
-pub fn members_at(place: Place, value: &Value) -> Result<(), StateFault>
+pub(crate) fn members_at(place: Place, value: &Value) -> Result<(), StateFault>
     ensures { Gives (λ done. done) result (members_at place (view value.now)) }
 {
     let members = value.as_object().ok_or(StateFault::Shape)?;
@@ -32,28 +33,28 @@ pub fn members_at(place: Place, value: &Value) -> Result<(), StateFault>
 }
 
 /// The member of that name, which has to be there.
-pub fn required<'a>(name: &str, value: &'a Value) -> Result<&'a Value, StateFault>
+pub(crate) fn required<'a>(name: &str, value: &'a Value) -> Result<&'a Value, StateFault>
     ensures { Gives (λ found. view found.now) result (required name.now (view value.now)) }
 {
     value.get(name).ok_or(StateFault::Shape)
 }
 
 /// The whole number that a value is.
-pub fn as_whole(value: &Value) -> Result<u64, StateFault>
+pub(crate) fn as_whole(value: &Value) -> Result<u64, StateFault>
     ensures { Gives (λ number. number) result (or_fault StateFault.Shape (as_whole (view value.now))) }
 {
     value.as_u64().ok_or(StateFault::Shape)
 }
 
 /// The whole number at a name.
-pub fn whole_at(name: &str, value: &Value) -> Result<u64, StateFault>
+pub(crate) fn whole_at(name: &str, value: &Value) -> Result<u64, StateFault>
     ensures { Gives (λ number. number) result (whole_at name.now (view value.now)) }
 {
     as_whole(required(name, value)?)
 }
 
 /// The bytes that hexadecimal digits spell.
-pub fn digits_of<const COUNT: usize>(value: &Value) -> Result<[u8; COUNT], StateFault>
+pub(crate) fn digits_of<const COUNT: usize>(value: &Value) -> Result<[u8; COUNT], StateFault>
     ensures { Gives (λ bytes. bytes) result (digits_of COUNT (view value.now)) }
 {
     let text = value.as_str().ok_or(StateFault::Shape)?;
@@ -65,7 +66,7 @@ pub fn digits_of<const COUNT: usize>(value: &Value) -> Result<[u8; COUNT], State
 }
 
 /// The elements of an array.
-pub fn elements_of(value: &Value) -> Result<&Vec<Value>, StateFault>
+pub(crate) fn elements_of(value: &Value) -> Result<&Vec<Value>, StateFault>
     ensures { Gives (λ values. map view values.now.items) result (elements_of (view value.now)) }
 {
     value.as_array().ok_or(StateFault::Shape)

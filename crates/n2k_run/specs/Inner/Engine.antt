@@ -14,7 +14,7 @@ use Rattle.n2k_run.specs.Entries.{entries}
 use Rattle.n2k_run.specs.Lines.{line_feed}
 use Rattle.n2k_run.specs.Making.{Making, after_all, texts_from, reports_from}
 use Rattle.n2k_run.specs.Reading.{most_reads}
-use Rattle.n2k_run.specs.Runs.{Devices, NoneFailed}
+use Rattle.n2k_run.specs.Runs.{AreNumbered, Devices, NoneFailed}
 use Rattle.n2k_run.specs.Writing.{AppendsFront}
 
 -- a maker took an entry: the state, the text and the report moved on
@@ -67,25 +67,25 @@ pub record FailsNext (old : Held) (left₀ left : Option (List ℕ)) : Type 0 wh
 abbrev pub TakesNext : {S T : Type 0} → Making S → Packing → S → S → Held → Held → Option (List ℕ) → Option (List ℕ) → List ℕ → List ℕ → List ℕ → List ℕ → Result T RunFault → Type 0
 TakesNext m packing s s' old new left₀ left text text' report report' (Ok y) = ((x : Entry) × NextEntry packing old new left₀ left x × MovesOn m s s' x text text' report report') ⊎ (NoneNext old new left₀ left × StandsStill s s' text text' report report')
 TakesNext m packing s s' old new left₀ left text text' report report' (Err TooManyLines) = (x : Entry) × NextEntry packing old new left₀ left x × StandsStill s s' text text' report report' × (m.lines s ≡ most_lines)
-TakesNext m packing s s' old new left₀ left text text' report report' (Err Read) = FailsNext old left₀ left × StandsStill s s' text text' report report'
+TakesNext m packing s s' old new left₀ left text text' report report' (Err Read) = FailsNext old left₀ left × StandsStill s s' text text' report report' × (text' ≡ []) × (report' ≡ [])
 TakesNext m packing s s' old new left₀ left text text' report report' (Err Memory) = Unit {0}
 TakesNext m packing s s' old new left₀ left text text' report report' (Err Write) = ⊥
 TakesNext m packing s s' old new left₀ left text text' report report' (Err Report) = ⊥
 
--- the source's calls and failures at it
+-- the source's failures at it: none where a line or the end was found, also where the maker refuses the line
 abbrev pub ReadsNext : {T : Type 0} → Held → ℕ → ℕ → Result T RunFault → Type 0
-ReadsNext new failed₀ failed (Err Read) = HasFailed failed₀ failed ⊎ (new.reads ≡ most_reads)
+ReadsNext new failed₀ failed (Err Read) = HasFailed failed₀ failed ⊎ ((new.reads ≡ most_reads) × (failed ≡ failed₀))
 ReadsNext new failed₀ failed (Err Write) = Unit {0}
 ReadsNext new failed₀ failed (Err Report) = Unit {0}
-ReadsNext new failed₀ failed (Err Memory) = Unit {0}
-ReadsNext new failed₀ failed (Err TooManyLines) = Unit {0}
+ReadsNext new failed₀ failed (Err Memory) = failed ≡ failed₀
+ReadsNext new failed₀ failed (Err TooManyLines) = failed ≡ failed₀
 ReadsNext new failed₀ failed (Ok x) = failed ≡ failed₀
 
--- what is kept is written, the reports first
+-- what is kept is written, the reports first; a sink that fails had something to write
 abbrev pub WritesKept : {T : Type 0} → List ℕ → List ℕ → Option (List ℕ) → Option (List ℕ) → Option (List ℕ) → Option (List ℕ) → Result T RunFault → Type 0
 WritesKept text report w w' e e' (Ok x) = Appends w w' text × Appends e e' report
-WritesKept text report w w' e e' (Err Report) = (w' ≡ w) × AppendsFront e e' report
-WritesKept text report w w' e e' (Err Write) = AppendsFront w w' text × Appends e e' report
+WritesKept text report w w' e e' (Err Report) = (w' ≡ w) × AppendsFront e e' report × (0 < length report)
+WritesKept text report w w' e e' (Err Write) = AppendsFront w w' text × Appends e e' report × (0 < length text)
 WritesKept text report w w' e e' (Err Read) = ⊥
 WritesKept text report w w' e e' (Err Memory) = ⊥
 WritesKept text report w w' e e' (Err TooManyLines) = ⊥
@@ -93,8 +93,8 @@ WritesKept text report w w' e e' (Err TooManyLines) = ⊥
 -- the sinks' failures at it
 abbrev pub FailsKept : {T : Type 0} → ℕ → ℕ → ℕ → ℕ → Result T RunFault → Type 0
 FailsKept writes₀ writes reports₀ reports (Ok x) = (writes ≡ writes₀) × (reports ≡ reports₀)
-FailsKept writes₀ writes reports₀ reports (Err Write) = HasFailed writes₀ writes
-FailsKept writes₀ writes reports₀ reports (Err Report) = HasFailed reports₀ reports
+FailsKept writes₀ writes reports₀ reports (Err Write) = HasFailed writes₀ writes × (reports ≡ reports₀)
+FailsKept writes₀ writes reports₀ reports (Err Report) = HasFailed reports₀ reports × (writes ≡ writes₀)
 FailsKept writes₀ writes reports₀ reports (Err Read) = ⊥
 FailsKept writes₀ writes reports₀ reports (Err Memory) = ⊥
 FailsKept writes₀ writes reports₀ reports (Err TooManyLines) = ⊥
@@ -110,6 +110,7 @@ pub record Made {S : Type 0} (m : Making S) (s₀ s : S) (es : List Entry) (text
   pub text_is : text ≡ texts_from m (after_all m s₀ written) kept
   pub report_is : report ≡ reports_from m (after_all m s₀ written) kept
   pub counted : m.lines s ≡ m.lines s₀ + length es
+  pub numbered : AreNumbered (m.lines s₀) es
 
 -- The engine between two lines: what came of the log is what was taken and what the block holds.
 pub record Stands {S : Type 0} (m : Making S) (packing : Packing) (s₀ s : S) (held : Held) (text report : List ℕ) (before now : Devices) : Type 0 where

@@ -5,11 +5,10 @@ use Rattle.n2k_join.specs.Resumed.{judged}
 use Rattle.n2k_join.specs.Saved.{IsId, state_text}
 use Rattle.n2k_join.specs.State.{State, AreFast}
 use Rattle.n2k_run.specs.declared.fault.RunFault.{RunFault}
-use Rattle.n2k_run.specs.declared.fault.RunFault.TheVariants.{Read, TooManyLines, Write, Report}
-use Rattle.n2k_run.specs.declared.fault.RunFault.TheVariants as run_faults
 use Rattle.n2k_run.specs.declared.part.Part.{Part}
 use Rattle.n2k_run.specs.declared.part.PartFault.{PartFault}
 use Rattle.n2k_run.specs.declared.part.PartFault.TheVariants.{State as Refused, Stopped, Run, Memory}
+use Rattle.n2k_run.specs.Parts.{StandsAtLine}
 
 -- the text and the counts of a state, and the text reads back under each table that it can be of
 pub record Saves (s : State) (part : Part) : Type 0 where
@@ -23,15 +22,6 @@ HasSaved (Err (Stopped fault part)) s = Saves s part
 HasSaved (Err (Refused fault)) s = Unit {0}
 HasSaved (Err (Run fault)) s = Unit {0}
 HasSaved (Err Memory) s = Unit {0}
-
--- after such a run the join stands at a line, and can be saved
-abbrev pub StandsAtLine : Result (Unit {0}) RunFault → Type 0
-StandsAtLine (Ok x) = Unit {0}
-StandsAtLine (Err Read) = Unit {0}
-StandsAtLine (Err TooManyLines) = Unit {0}
-StandsAtLine (Err Write) = ⊥
-StandsAtLine (Err Report) = ⊥
-StandsAtLine (Err run_faults.Memory) = ⊥
 
 -- what is answered after a run
 abbrev pub Finishes : Result Part PartFault → Result (Unit {0}) RunFault → Type 0

@@ -2,7 +2,7 @@ use Rattle.std.proofs.Common.{not, ap, sym, ◌∙◌}
 use Rattle.n2k_join.specs.Frames.{same_key}
 use Rattle.n2k_join.specs.Open.{Group}
 use Rattle.n2k_join.specs.Step.{opens_by}
-use Rattle.n2k_join.specs.Stored.{key_of}
+use Rattle.n2k_join.specs.Inner.Stored.{key_of}
 use Rattle.n2k_join.proofs.JoinLemmas.{none-listed, on_err}
 use Rattle.n2k_join.proofs.outcome.take_fast.Goals as goal
 

@@ -5,7 +5,7 @@ use Rattle.n2k_join.specs.Frames.{Frame, same_key}
 use Rattle.n2k_join.specs.Groups.{complete, has_number}
 use Rattle.n2k_join.specs.Open.{Group}
 use Rattle.n2k_join.specs.State.{held_of, AreApart}
-use Rattle.n2k_join.specs.Stored.{frame_of, of_the_key, message_if}
+use Rattle.n2k_join.specs.Inner.Stored.{frame_of, of_the_key, message_if}
 use Rattle.n2k_join.proofs.JoinLemmas.{is_some-message_if, found-place, gained-joins, joins-done, joins-left}
 use Rattle.n2k_join.proofs.taking.join_at.Goals as goal
 

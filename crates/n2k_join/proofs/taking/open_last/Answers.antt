@@ -1,5 +1,5 @@
 use Rattle.std.proofs.Common.{◌≡◌, ◌++◌, ap, sym, subst, ◌∙◌, IfOk, OnOk}
-use Rattle.n2k_join.specs.Stored.{frame_of, gained}
+use Rattle.n2k_join.specs.Inner.Stored.{frame_of, gained}
 use Rattle.n2k_join.proofs.JoinLemmas.{none_at_all, message-begun, groups-begun}
 use Rattle.n2k_join.proofs.taking.open_last.Goals as goal
 

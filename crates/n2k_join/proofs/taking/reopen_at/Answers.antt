@@ -4,7 +4,7 @@ use Rattle.n2k_join.specs.Frames.{Frame, same_key}
 use Rattle.n2k_join.specs.Groups.{complete, has_number}
 use Rattle.n2k_join.specs.Open.{Group}
 use Rattle.n2k_join.specs.State.{held_of, AreApart, IsOpen}
-use Rattle.n2k_join.specs.Stored.{frame_of, of_the_key}
+use Rattle.n2k_join.specs.Inner.Stored.{frame_of, of_the_key}
 use Rattle.n2k_join.proofs.JoinLemmas.{found-place, key-place, at_place, gained-repeats, lost-repeats, after-repeats, all-at, broken-held, message-begun, groups-begun}
 use Rattle.n2k_join.proofs.taking.reopen_at.Goals as goal
 

@@ -4,7 +4,7 @@ use Rattle.n2k_join.specs.Frames.{Frame, same_key}
 use Rattle.n2k_join.specs.Groups.{has_number}
 use Rattle.n2k_join.specs.Open.{Group}
 use Rattle.n2k_join.specs.State.{held_of, AreApart}
-use Rattle.n2k_join.specs.Stored.{frame_of, of_the_key, lost}
+use Rattle.n2k_join.specs.Inner.Stored.{frame_of, of_the_key, lost}
 use Rattle.n2k_join.proofs.JoinLemmas.{none_at_all, found-place, lost-joins}
 use Rattle.n2k_join.proofs.taking.take_frame.Goals as goal
 

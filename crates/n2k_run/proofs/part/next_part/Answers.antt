@@ -1,4 +1,4 @@
-use Rattle.std.proofs.Common.{◌≡◌, None, Some, Ok, ap, sym, ◌∙◌}
+use Rattle.std.proofs.Common.{None, Some, ap, ◌∙◌}
 use Rattle.n2k_run.specs.Parts.{begun}
 use Rattle.n2k_run.specs.Runs.{devices}
 use Rattle.n2k_run.proofs.Joined.{both_untouched, refused_memory, runs_part}

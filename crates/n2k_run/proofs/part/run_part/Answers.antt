@@ -12,10 +12,10 @@ pub returns-in-Err-clause-begins : goal.returns-in-Err-clause-begins
 returns-in-Err-clause-begins g c = (c.begin.ensures.handed cc, refused_by c.in-Err.fault _ c.in-Err.ensures.state)
 
 pub returns-in-Err-clause-steps : goal.returns-in-Err-clause-steps
-returns-in-Err-clause-steps g c = λ s is. unbegun _ _ _ refl
+returns-in-Err-clause-steps g c = λ s is. unbegun _ _ _ c.in-Err.fault refl
 
 pub returns-in-Err-clause-log : goal.returns-in-Err-clause-log
-returns-in-Err-clause-log g c = λ front is. unbegun _ _ _ refl
+returns-in-Err-clause-log g c = λ front is. unbegun _ _ _ c.in-Err.fault refl
 
 pub returns-in-Err-clause-headline : goal.returns-in-Err-clause-headline
 returns-in-Err-clause-headline g c = λ front is. memory_alone c.in-Err.fault _ _ is.leads_to (refused_by c.in-Err.fault _ c.in-Err.ensures.state)

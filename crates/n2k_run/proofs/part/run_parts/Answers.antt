@@ -1,4 +1,4 @@
-use Rattle.std.proofs.Common.{◌≡◌, ℕ, List, [], None, map, take, drop, suc, get_or, Bor, sym, subst, arith}
+use Rattle.std.proofs.Common.{ℕ, List, [], None, map, take, drop, suc, get_or, Bor, sym, subst, arith}
 use mathlib.Core.Logic.{inr}
 use Rattle.std.proofs.lemmas.List.{map_more, take_all}
 use Rattle.n2k_run.specs.Parts.{TakesAll, entries_of}

@@ -1,5 +1,5 @@
 use Rattle.std.proofs.Common.{◌≡◌, length, sym, arith}
-use Rattle.n2k_table.specs.Index.{numbers}
+use Rattle.n2k_table.specs.Inner.Index.{numbers}
 use Rattle.n2k_table.proofs.Places.{length-numbers, index_kept, index_right, index_gained, index_done}
 use Rattle.n2k_table.proofs.index.index_of.Goals as goal
 

@@ -1,5 +1,5 @@
 -- Each number of the map has its places, and the map has the numbers so far.
-use Rattle.n2k_table.specs.Index.{numbers}
+use Rattle.n2k_table.specs.Inner.Index.{numbers}
 use Rattle.n2k_table.proofs.Places.{AreRight, HasFirst}
 use Rattle.n2k_table.proofs.index.index_of.Given as goal
 

@@ -1,6 +1,6 @@
 -- The places so far, and those among the definitions that are left.
 use Rattle.std.proofs.Common.{◌≡◌, ◌++◌, drop}
-use Rattle.n2k_table.specs.Index.{numbers, places, places_from}
+use Rattle.n2k_table.specs.Inner.Index.{numbers, places, places_from}
 use Rattle.n2k_table.proofs.index.places_of.Given as goal
 
 abbrev pub invariant-loop-place : goal.invariant-loop-place

@@ -2,7 +2,7 @@
 use Rattle.std.proofs.Common.{◌≡◌, ◌++◌, false, map, nat_eq}
 use Rattle.std.specs.Vec.Iter.{into_iter_items}
 use Rattle.n2k_table.specs.Twice.{has_twice}
-use Rattle.n2k_table.specs.Entries.{seen}
+use Rattle.n2k_table.specs.Inner.Entries.{seen}
 use Rattle.n2k_table.proofs.Names.{values}
 use Rattle.n2k_table.proofs.lookup.by_value.Given as goal
 

@@ -4,7 +4,7 @@ use Rattle.toml.specs.View.{array_view}
 use Rattle.n2k_table.specs.declared.fault.TableFault.{TableFault}
 use Rattle.n2k_table.specs.Fault.{GivesOrMemory}
 use Rattle.n2k_table.specs.Tree.{elements}
-use Rattle.n2k_table.specs.Entries.{seen_entries}
+use Rattle.n2k_table.specs.Inner.Entries.{seen_entries}
 use Rattle.n2k_table.proofs.Each.{length-elements}
 use Rattle.n2k_table.proofs.LookupFaults.{entries_many, entries_fault, entries_once}
 use Rattle.n2k_table.proofs.lookup.read_entries.Goals as goal

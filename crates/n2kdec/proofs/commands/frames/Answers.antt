@@ -1,7 +1,8 @@
-use Rattle.std.proofs.Common.{[], refl}
+use Rattle.std.proofs.Common.{◌≡◌, [], refl}
 use Rattle.n2k_run.specs.FramesOut.{interface_of}
 use Rattle.n2kdec.specs.Commands.{entries_for, frames_command, place}
-use Rattle.n2kdec.proofs.CommandLemmas.{closes_unsaved, counts_alone, ended_by_closing, ended_by_run, ended_past_table, summed_up}
+use Rattle.n2k_run.proofs.Ending.{of_log}
+use Rattle.n2kdec.proofs.CommandLemmas.{closes_unsaved, ended_by_closing, ended_by_run, ended_past_table}
 use Rattle.n2kdec.proofs.commands.frames.Goals as goal
 
 pub returns-in_err-counts-clause-ends : goal.returns-in_err-counts-clause-ends
@@ -11,10 +12,8 @@ returns-in_err-counts-clause-ends g c =
 
 pub returns-clause-ends : goal.returns-clause-ends
 returns-clause-ends g c =
-    let said = c.sum_up.ensures in
     let counts = c.in_ok-counts.counts in
     ended_past_table _ (λ t. frames_command t (interface_of c.args.interface)) _ c.in_ok-table.table _ _ c.sum_up.result c.in_ok-table.ensures.sound
     (ended_by_closing (frames_command c.in_ok-table.table (interface_of c.args.interface)) _ _ _ (place _ _) counts [] counts c.in_ok-counts.ensures
-    (counts_alone _ counts [] (λ log. (frames_command c.in_ok-table.table (interface_of c.args.interface)).counts (entries_for (frames_command c.in_ok-table.table (interface_of c.args.interface)) log)) c.in_ok-counts.ensures.ends.holds) c.sum_up.result
-    (closes_unsaved (place _ _) (place _ _) counts c.sum_up.result
-    (summed_up (place _ _) (place _ _) counts c.sum_up.result said.written said.front said.none_failed said.status said.fault said.report)))
+    (of_log _ _ _ _ (λ log. (counts ≡ (frames_command c.in_ok-table.table (interface_of c.args.interface)).counts (entries_for (frames_command c.in_ok-table.table (interface_of c.args.interface)) log)) × ([] ≡ [])) c.in_ok-counts.ensures.ends (c.in_ok-counts.ensures.ends.holds, refl)) c.sum_up.result
+    (closes_unsaved (place _ _) (place _ _) counts c.sum_up.result c.sum_up.ensures))

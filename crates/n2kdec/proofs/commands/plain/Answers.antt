@@ -1,6 +1,7 @@
-use Rattle.std.proofs.Common.{[], refl}
+use Rattle.std.proofs.Common.{◌≡◌, [], refl}
 use Rattle.n2kdec.specs.Commands.{entries_for, place, plain_command}
-use Rattle.n2kdec.proofs.CommandLemmas.{closes_unsaved, counts_alone, ended_by_closing, ended_by_run, summed_up}
+use Rattle.n2k_run.proofs.Ending.{of_log}
+use Rattle.n2kdec.proofs.CommandLemmas.{closes_unsaved, ended_by_closing, ended_by_run}
 use Rattle.n2kdec.proofs.commands.plain.Goals as goal
 
 pub returns-in_err-counts : goal.returns-in_err-counts
@@ -9,9 +10,7 @@ returns-in_err-counts g c =
 
 pub returns : goal.returns
 returns g c =
-    let said = c.sum_up.ensures in
     let counts = c.in_ok-counts.counts in
     ended_by_closing plain_command _ _ _ (place _ _) counts [] counts c.in_ok-counts.ensures
-    (counts_alone _ counts [] (λ log. plain_command.counts (entries_for plain_command log)) c.in_ok-counts.ensures.ends.holds) c.sum_up.result
-    (closes_unsaved (place _ _) (place _ _) counts c.sum_up.result
-    (summed_up (place _ _) (place _ _) counts c.sum_up.result said.written said.front said.none_failed said.status said.fault said.report))
+    (of_log _ _ _ _ (λ log. (counts ≡ plain_command.counts (entries_for plain_command log)) × ([] ≡ [])) c.in_ok-counts.ensures.ends (c.in_ok-counts.ensures.ends.holds, refl)) c.sum_up.result
+    (closes_unsaved (place _ _) (place _ _) counts c.sum_up.result c.sum_up.ensures)

@@ -4,7 +4,7 @@ use Rattle.n2k_join.specs.Groups.{complete, has_number, data_of}
 use Rattle.n2k_join.specs.Messages.{message_of}
 use Rattle.n2k_join.specs.Open.{Group}
 use Rattle.n2k_join.specs.State.{held_of, IsOpen}
-use Rattle.n2k_join.specs.Stored.{frame_of, with_frame}
+use Rattle.n2k_join.specs.Inner.Stored.{frame_of, with_frame}
 use Rattle.n2k_join.proofs.JoinLemmas.{with_piece, complete-with_frame, data_of-with_frame}
 use Rattle.n2k_join.proofs.group.StoredGroup.add.Goals as goal
 

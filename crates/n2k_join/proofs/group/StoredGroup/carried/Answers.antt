@@ -1,5 +1,5 @@
 use Rattle.std.proofs.Common.{None, Some, option_map, ap, ◌∙◌}
-use Rattle.n2k_join.specs.Stored.{key_of}
+use Rattle.n2k_join.specs.Inner.Stored.{key_of}
 use Rattle.n2k_join.proofs.StoredLemmas.{carried_found}
 use Rattle.n2k_join.proofs.group.StoredGroup.carried.Goals as goal
 

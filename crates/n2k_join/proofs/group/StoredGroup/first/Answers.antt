@@ -1,4 +1,4 @@
-use Rattle.n2k_join.specs.Stored.{key_of}
+use Rattle.n2k_join.specs.Inner.Stored.{key_of}
 use Rattle.n2k_join.proofs.SavedPieces.{pieces_kept}
 use Rattle.n2k_join.proofs.group.StoredGroup.first.Goals as goal
 

@@ -1,5 +1,5 @@
 use Rattle.std.proofs.Common.{◌≡◌, ◌+◌, ◌/◌, length, ne_eqb, sym, ◌∙◌, arith}
-use Rattle.n2k_join.specs.Stored.{key_of}
+use Rattle.n2k_join.specs.Inner.Stored.{key_of}
 use Rattle.n2k_join.proofs.CompleteLemmas.{complete-held, incomplete-held, incomplete-without_total}
 use Rattle.n2k_join.proofs.group.StoredGroup.is_complete.Goals as goal
 

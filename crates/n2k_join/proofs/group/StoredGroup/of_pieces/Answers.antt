@@ -1,5 +1,5 @@
 use Rattle.std.proofs.Common.{arith}
-use Rattle.n2k_join.specs.Stored.{key_of}
+use Rattle.n2k_join.specs.Inner.Stored.{key_of}
 use Rattle.n2k_join.proofs.SavedGroups.{turned_back, turned_once, turned_parts}
 use Rattle.n2k_join.proofs.group.StoredGroup.of_pieces.Goals as goal
 

@@ -1,5 +1,5 @@
 use Rattle.std.proofs.Common.{◌≡◌, ◌++◌, ◌∷◌, [], ap, ◌∙◌}
-use Rattle.n2k_join.specs.Stored.{key_of, stored_group}
+use Rattle.n2k_join.specs.Inner.Stored.{key_of, stored_group}
 use Rattle.n2k_join.proofs.JoinLemmas.{begun_by}
 use Rattle.n2k_join.proofs.group.StoredGroup.open.Goals as goal
 

@@ -1,5 +1,5 @@
 use Rattle.std.proofs.Common.{◌≡◌, ◌++◌, ◌∷◌, [], IsOk, cond, ap, ◌∙◌, arith}
-use Rattle.n2k_join.specs.Stored.{key_of, stored_group}
+use Rattle.n2k_join.specs.Inner.Stored.{key_of, stored_group}
 use Rattle.n2k_join.proofs.JoinLemmas.{begun_by}
 use Rattle.n2k_join.proofs.group.StoredGroup.restart.Goals as goal
 

@@ -2,7 +2,7 @@ use Rattle.std.proofs.Common.{◌≡◌, ◌++◌, ◌∷◌, [], false, ap, sym
 use Rattle.n2k_join.specs.Groups.{has_number}
 use Rattle.n2k_join.specs.Open.{Group, pieces_of}
 use Rattle.n2k_join.specs.State.{held_frame, held_of}
-use Rattle.n2k_join.specs.Stored.{key_of, piece_of, stored_group}
+use Rattle.n2k_join.specs.Inner.Stored.{key_of, piece_of, stored_group}
 use Rattle.n2k_join.proofs.StoredLemmas.{stored-push, once-push, has_room}
 use Rattle.n2k_join.proofs.group.StoredGroup.take.Goals as goal
 

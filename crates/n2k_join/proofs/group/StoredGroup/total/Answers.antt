@@ -1,7 +1,7 @@
 use Rattle.std.proofs.Common.{None, Some, option_map, ap, sym, slice_index, ◌==◌}
 use Rattle.std.proofs.lemmas.Bool.{eqb-true}
 use Rattle.n2k_join.specs.declared.piece.StoredPiece.{StoredPiece}
-use Rattle.n2k_join.specs.Stored.{key_of}
+use Rattle.n2k_join.specs.Inner.Stored.{key_of}
 use Rattle.n2k_join.proofs.Rising.{find-passes}
 use Rattle.n2k_join.proofs.StoredLemmas.{carried_found}
 use Rattle.n2k_join.proofs.group.StoredGroup.total.Goals as goal

@@ -3,7 +3,7 @@ use Rattle.n2k_table.specs.Table.{kind}
 use Rattle.n2k_join.specs.Counts.{most_lines}
 use Rattle.n2k_join.specs.declared.step.Step.{Step}
 use Rattle.n2k_join.specs.State.{State, step_given, step_after, IsState}
-use Rattle.n2k_join.specs.Told.{packet_in, told_message}
+use Rattle.n2k_join.specs.Inner.Told.{packet_in, told_message}
 use Rattle.n2k_join.proofs.Keeping.{step-keeps}
 use Rattle.n2k_join.proofs.LineLemmas.{line-steps, line-reached}
 use Rattle.n2k_join.proofs.join.Join.take.Goals as goal

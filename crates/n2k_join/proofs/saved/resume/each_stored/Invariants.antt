@@ -2,7 +2,7 @@
 use Rattle.std.proofs.Common.{◌≡◌, take, drop}
 use Rattle.std.specs.List.{AllByRecursion}
 use Rattle.n2k_table.specs.Table.{kind}
-use Rattle.n2k_join.specs.Apart.{each_holds}
+use Rattle.n2k_join.specs.Inner.Apart.{each_holds}
 use Rattle.n2k_join.specs.State.{HasParts}
 use Rattle.n2k_join.proofs.saved.resume.each_stored.Given as goal
 

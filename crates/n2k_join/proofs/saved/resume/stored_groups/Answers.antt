@@ -2,7 +2,7 @@ use Rattle.std.proofs.Common.{◌∙◌, [], ap}
 use Rattle.std.proofs.lemmas.Result.{err_from_is_err_and}
 use Rattle.n2k_table.specs.Table.{kind}
 use Rattle.n2k_join.specs.Resumed.{valid_if}
-use Rattle.n2k_join.specs.Apart.{are_new}
+use Rattle.n2k_join.specs.Inner.Apart.{are_new}
 use Rattle.n2k_join.proofs.Apart.{each_broken, all_judged}
 use Rattle.n2k_join.proofs.saved.resume.stored_groups.Goals as goal
 

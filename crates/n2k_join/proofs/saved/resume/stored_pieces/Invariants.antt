@@ -3,7 +3,7 @@ use Rattle.std.proofs.Common.{◌≡◌, ◌≤◌, map, take, drop, vec_capacit
 use Rattle.n2k_join.specs.Resumed.{pieces_rise}
 use Rattle.std.specs.List.{AllByRecursion}
 use Rattle.n2k_join.specs.State.{IsPiece}
-use Rattle.n2k_join.specs.Stored.{piece_of}
+use Rattle.n2k_join.specs.Inner.Stored.{piece_of}
 use Rattle.n2k_join.proofs.saved.resume.stored_pieces.Given as goal
 
 abbrev pub invariant-loop-piece : goal.invariant-loop-piece

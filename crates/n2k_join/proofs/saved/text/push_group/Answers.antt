@@ -1,7 +1,7 @@
 use Rattle.std.proofs.Common.{rules}
 use Rattle.n2k_join.specs.Open.{pieces_of}
 use Rattle.n2k_join.specs.State.{held_of}
-use Rattle.n2k_join.specs.Stored.{key_of}
+use Rattle.n2k_join.specs.Inner.Stored.{key_of}
 use Rattle.n2k_join.proofs.SavedPieces.{group_written}
 use Rattle.n2k_join.proofs.saved.text.push_group.Goals as goal
 

@@ -1,6 +1,6 @@
 -- The groups so far are written.
 use Rattle.std.proofs.Common.{◌≡◌, ◌++◌, take}
-use Rattle.n2k_join.specs.SavedTokens.{groups_tokens}
+use Rattle.n2k_join.specs.Inner.SavedTokens.{groups_tokens}
 use Rattle.n2k_join.proofs.saved.text.push_groups.Given as goal
 
 abbrev pub invariant-loop-group : goal.invariant-loop-group

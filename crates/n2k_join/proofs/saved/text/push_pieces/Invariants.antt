@@ -2,7 +2,7 @@
 use Rattle.std.proofs.Common.{◌≡◌, ◌++◌}
 use Rattle.n2k_join.specs.Groups.{carried}
 use Rattle.n2k_join.specs.State.{held_of}
-use Rattle.n2k_join.specs.SavedTokens.{pieces_tokens}
+use Rattle.n2k_join.specs.Inner.SavedTokens.{pieces_tokens}
 use Rattle.n2k_join.proofs.SavedPieces.{pieces_below}
 use Rattle.n2k_join.proofs.saved.text.push_pieces.Given as goal
 

@@ -1,4 +1,4 @@
--- For private clauses: what the code keeps, as the definitions see it.
+-- What the code keeps, as the definitions see it.
 use Rattle.std.specs.Prelude.{◌≡◌, ◌≤◌, ℕ, List, [], ◌∷◌, ◌++◌, map, false, if◌then◌else◌, Option, Some, None, filter_map, find, option_to_list}
 use Rattle.n2k_join.specs.declared.broken.Broken.{Broken}
 use Rattle.n2k_wire.specs.Packet.{PacketParts}

@@ -1,4 +1,4 @@
--- For private clauses: what a line gives, where its own packet stays in its entry.
+-- What a line gives, where its own packet stays in its entry.
 use Rattle.std.specs.Prelude.{if◌then◌else◌, Option, Some, None, option_to_list}
 use Rattle.n2k_wire.specs.declared.entry.Entry.{Entry}
 use Rattle.n2k_wire.specs.declared.entry.Entry.TheVariants as entries

@@ -1,4 +1,4 @@
--- For private clauses: what the code keeps of a field, and that it is a field that can be shown.
+-- What the code keeps of a field, and that it is a field that can be shown.
 use Rattle.std.specs.Prelude.{◌≡◌, ◌≤◌, ℕ, ◌+◌, true, List, Option, IfSome}
 use Rattle.n2k_table.specs.declared.field.Meaning.{Meaning as CodeMeaning}
 use Rattle.n2k_table.specs.declared.field.Meaning.TheVariants as code

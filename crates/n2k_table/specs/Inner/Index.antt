@@ -1,4 +1,4 @@
--- For private clauses: where the definitions of each PGN stand, as the code keeps it.
+-- Where the definitions of each PGN stand, as the code keeps it.
 use Rattle.std.specs.Prelude.{◌≡◌, ℕ, suc, ◌==◌, nat_eq, List, [], ◌∷◌, map, option_map, unwrap_or, Vec, if◌then◌else◌}
 use Rattle.std.specs.Map.{lookup as value_at}
 use Rattle.std.specs.declared.alloc.Global.{Global}

@@ -1,4 +1,4 @@
--- For private clauses: the entries of a lookup as the code's map has them.
+-- The entries of a lookup as the code's map has them.
 use Rattle.std.specs.Prelude.{ℕ, nat_eq, List, map, Result, Ok, Err, if◌then◌else◌}
 use Rattle.indexmap.specs.IndexMap.{IndexMap}
 use Rattle.n2k_table.specs.declared.fault.TableFault.{TableFault}

@@ -1,4 +1,4 @@
--- For private clauses: what a field shows, as the code answers it where a name comes with its JSON.
+-- What a field shows, as the code answers it where a name comes with its JSON.
 use Rattle.n2k_table.specs.declared.shown.Seen.{Seen}
 use Rattle.n2k_table.specs.declared.shown.Seen.TheVariants as code
 use Rattle.n2k_table.specs.Shown.{ShownParts, name, shown_parts}

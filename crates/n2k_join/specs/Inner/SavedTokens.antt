@@ -1,4 +1,4 @@
--- For private clauses: the text of a saved state, token by token.
+-- The text of a saved state, token by token.
 use Rattle.std.specs.Prelude.{◌≡◌, ℕ, List, [], ◌∷◌, ◌++◌, decimal, codes, map, Option, Some, None, OnOk, Result}
 use Rattle.std.specs.List.{flat_map}
 use Rattle.json.specs.Token.{Token}

@@ -1,4 +1,4 @@
--- For private clauses: the rules on the groups of a state that is read, each by itself, and their keys by an index.
+-- The rules on the groups of a state that is read, each by itself, and their keys by an index.
 use Rattle.std.specs.Prelude.{ℕ, Bool, true, not, ◌&&◌, List, [], ◌∷◌, ◌++◌, Option}
 use Rattle.std.specs.List.{list_any}
 use Rattle.n2k_table.specs.declared.definition.Kind.{Kind}

@@ -1,4 +1,4 @@
--- For private clauses: a vector that is appended to, and what it held before.
+-- A vector that is appended to, and what it held before.
 use Rattle.std.specs.Prelude.{ℕ, List}
 
 pub record TailParts : Type 0 where
