@@ -92,7 +92,7 @@ fn part_of(alloc: Global, join: &Join) -> Result<Part, AllocError>
 fn finish(alloc: Global, join: &Join, ran: Result<(), RunFault>) -> Result<Part, PartFault>
     ensures part { HasSaved result join.now }
     ensures ran { Finishes result ran }
-    ensures kinds { IsOfKind result }
+    ensures fault_kinds { IsOfKind result }
 {
     match ran {
         Ok(()) => Ok(part_of(alloc, join)?),
@@ -129,7 +129,7 @@ pub fn run_part<R: Source, W: Sink, E: Sink>(
     reporter: &mut E,
 ) -> Result<Part, PartFault>
     // Each kind of refusal has its faults. A state is refused for what stands in it, or for want of memory.
-    ensures kinds { IsOfKind result }
+    ensures fault_kinds { IsOfKind result }
     ensures begins { BeginsBy table.now (option_map (λ bytes. bytes.now) saved.entry) result }
     ensures unread { OnRefusal result (reader.new ≡ reader.old) }
     ensures unwritten { OnRefusal result (writer.new ≡ writer.old) }
@@ -193,7 +193,7 @@ fn next_part<W: Sink, E: Sink>(
     writer: &mut W,
     reporter: &mut E,
 ) -> Result<Part, PartFault>
-    ensures kinds { IsOfKind result }
+    ensures fault_kinds { IsOfKind result }
     ensures memory_only { (s : State) → IsPartOf table.now s last.now → RefusedByMemory result }
     ensures log { (front : List Entry) → IsPartOf table.now (state table.now.id (kind table.now) front) last.now →
         let before = devices None 0 0 (W.contents writer.old) (W.failed_calls writer.old) (E.contents reporter.old) (E.failed_calls reporter.old) in
@@ -222,7 +222,7 @@ pub fn run_parts<W: Sink, E: Sink>(
     writer: &mut W,
     reporter: &mut E,
 ) -> Result<Part, PartFault>
-    ensures kinds { IsOfKind result }
+    ensures fault_kinds { IsOfKind result }
     ensures memory_only { RefusedByMemory result }
 
     // What the entries of all parts make, one part after the other; or a part was met at which the run ended.

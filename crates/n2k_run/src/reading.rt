@@ -54,7 +54,7 @@ pub fn read_bytes<R: Source>(
     ensures read { IsErrOf result BytesFault.Read
         → HasFailed (R.failed_calls reader.old) (R.failed_calls reader.new)
         ⊎ (OutlastsReads (R.calls reader.old) (R.calls reader.new) × (R.failed_calls reader.new ≡ R.failed_calls reader.old) × (most_reads ≤ limit)) }
-    ensures taken { (taken : List ℕ)
+    ensures consumed { (taken : List ℕ)
         × Consumes (R.remaining reader.old) (R.remaining reader.new) taken × (length taken ≤ limit + 1) }
 {
     let mut block = [0; BLOCK];

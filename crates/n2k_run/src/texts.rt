@@ -55,7 +55,7 @@ pub fn bad_text(
     out: &mut Vec<u8>,
 ) -> Result<(), AllocError>
     ensures ok { OnOk result (out.new.items ≡ out.old.items ++ bad_text number cause) }
-    ensures err { OnErr result (out.new.items ≡ out.old.items) }
+    ensures unchanged { OnErr result (out.new.items ≡ out.old.items) }
 {
     let mut text = Vec::new(alloc);
     text.extend_from_slice(b"line ")?;
@@ -77,7 +77,7 @@ pub fn broken_text(
     out: &mut Vec<u8>,
 ) -> Result<(), AllocError>
     ensures ok { OnOk result (out.new.items ≡ out.old.items ++ broken_text number group.now) }
-    ensures err { OnErr result (out.new.items ≡ out.old.items) }
+    ensures unchanged { OnErr result (out.new.items ≡ out.old.items) }
 {
     let mut text = Vec::new(alloc);
     push_count(&mut text, b"line ", number)?;
@@ -129,7 +129,7 @@ fn summary(counts: &Counts) -> Summary
 /// it was where memory is refused.
 pub fn summary_text(_alloc: Global, counts: &Counts, out: &mut Vec<u8>) -> Result<(), AllocError>
     ensures ok { OnOk result (out.new.items ≡ out.old.items ++ summary_text counts.now) }
-    ensures err { OnErr result (out.new.items ≡ out.old.items) }
+    ensures unchanged { OnErr result (out.new.items ≡ out.old.items) }
 {
     out.extend_from_slice(summary(counts).as_slice())
 }

@@ -133,7 +133,7 @@ pub fn decode<K: Keeper, R: Source, W: Sink, E: Sink>(
     ensures untouched { IfErr result (λ fault. IsRefusal fault
         → (log.new ≡ log.old) × (output.new ≡ output.old) × (errors.new ≡ errors.old) × (keeper.new ≡ keeper.old)) }
 
-    ensures end { IfOk result (λ status. status ≤ 1) }
+    ensures at_most_one { IfOk result (λ status. status ≤ 1) }
 
     // From any state that is taken: what the steps of the log's entries make, one after the other.
     ensures steps { (s : State) → begun (table_of table.now) (option_map (λ bytes. bytes.now) state.entry) ≡ Ok s →

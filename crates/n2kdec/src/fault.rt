@@ -149,7 +149,7 @@ fn line_of(fault: Fault) -> &'static [u8]
 /// Appends the line of a fault, as `n2kdec: read` with an LF. `out` is as it was where memory is refused.
 pub fn fault_text(_alloc: Global, fault: &Fault, out: &mut Vec<u8>) -> Result<(), AllocError>
     ensures ok { OnOk result (out.new.items ≡ out.old.items ++ fault_line fault.now) }
-    ensures err { OnErr result (out.new.items ≡ out.old.items) }
+    ensures unchanged { OnErr result (out.new.items ≡ out.old.items) }
 {
     out.extend_from_slice(line_of(*fault))
 }

@@ -36,5 +36,5 @@ returns-clause-log g c = λ front is.
 
 pub returns-clause-headline : goal.returns-clause-headline
 returns-clause-headline g c = λ front is.
-    continues_of c.steps_agree.ensures c.lines_stay.ensures c.args.table.now c.args.options front is.whole_lines _ _ c.finish.result (returns-clause-log g c (entries c.args.options.packing front) is.leads_to) c.finish.ensures.kinds
+    continues_of c.steps_agree.ensures c.lines_stay.ensures c.args.table.now c.args.options front is.whole_lines _ _ c.finish.result (returns-clause-log g c (entries c.args.options.packing front) is.leads_to) c.finish.ensures.fault_kinds
     (λ fault at. absurd (subst (λ r. Finishes r c.run-ran.result) at c.finish.ensures.ran))
