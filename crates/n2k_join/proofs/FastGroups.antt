@@ -16,7 +16,7 @@ use Rattle.n2k_join.specs.declared.state_fault.StateFault.TheVariants.{NotJson, 
 use Rattle.n2k_join.specs.Counts.{most_lines}
 use Rattle.n2k_join.specs.Frames.{same_key}
 use Rattle.n2k_join.specs.Open.{Group}
-use Rattle.n2k_join.specs.Refusal.{◌>>=◌, or_fault, holds_or}
+use Rattle.n2k_wire.specs.Steps.{◌>>=◌, or_cause, holds_or}
 use Rattle.n2k_join.specs.Resumed.{counts_hold, firsts_rise, group_holds, groups_hold, has_format, is_fast, is_valid, judged, key_holds, parsed, state_of, valid_if}
 use Rattle.n2k_join.specs.Saved.{IsId, state_text}
 use Rattle.n2k_join.specs.State.{State, state, AreFast}
@@ -65,7 +65,7 @@ unfolding judged
 read-spelled kind id bytes s h =
     let last : State → Result State StateFault = λ s. holds_or TableDiffers (bytes_eq s.id id) >>= (λ same. valid_if (is_valid kind s) s) in
     let second : Data → Result State StateFault = λ d. holds_or Format (has_format d) >>= (λ known. state_of d >>= last) in
-    let parsing = then_ok (or_fault NotJson (parsed bytes)) second s h in
+    let parsing = then_ok (or_cause NotJson (parsed bytes)) second s h in
     let format = then_ok (holds_or Format (has_format parsing.0)) (λ known. state_of parsing.0 >>= last) s parsing.2 in
     let spelling = then_ok (state_of parsing.0) last s format.2 in
     let same = then_ok (holds_or TableDiffers (bytes_eq spelling.0.id id)) (λ same. valid_if (is_valid kind spelling.0) spelling.0) s spelling.2 in

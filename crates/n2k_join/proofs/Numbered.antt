@@ -7,7 +7,8 @@ use Rattle.indexmap.specs.IndexMap.{insert_entry}
 use Rattle.n2k_table.specs.declared.definition.Kind.{Kind}
 use Rattle.n2k_table.specs.declared.definition.Kind.TheVariants.{Single, Fast}
 use Rattle.n2k_join.specs.Pieces.{Stream, same_stream, Sequences, is_fast, raised}
-use Rattle.n2k_join.specs.Splitter.{sequences, are_sequences}
+use Rattle.n2k_join.specs.Splitter.{sequences}
+use Rattle.n2k_join.specs.Inner.Stored.{are_sequences}
 
 -- one that is found is below 8
 pub found_below : (test : Stream → Bool) (held : List (Stream × ℕ)) (n : ℕ) → are_sequences held ≡ true → Some n ≡ lookup test held → n < 8

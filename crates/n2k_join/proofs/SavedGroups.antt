@@ -1,7 +1,7 @@
 -- Groups made of frames by rising number, as a saved state has them.
 use Rattle.std.proofs.Common.{◌≡◌, ◌≤◌, ◌<◌, ◌+◌, ◌==◌, ℕ, zero, suc, true, false, List, [], ◌∷◌, ◌++◌, map, reverse, get_or, Option, Some, None, option_map, refl, sym, ap, ◌∙◌, subst, arith, slice_index_or}
 use Rattle.std.specs.List.{AllByRecursion}
-use Rattle.std.proofs.lemmas.Bool.{eqb-true}
+use Rattle.std.proofs.lemmas.Bool.{eqb-true, ltb-true}
 use Rattle.n2k_join.specs.declared.piece.StoredPiece.{StoredPiece}
 use Rattle.n2k_join.specs.Frames.{Key, most_frames, longest_total}
 use Rattle.n2k_join.specs.Groups.{carried, has_twice}
@@ -30,11 +30,7 @@ unfolding pieces_rise
 small_from least [] h = tt
 small_from least (p ∷ ps) h =
     let hs = both _ _ h in
-    let few : p.number ≤ 31 = at_most p.number 31 (both _ _ (both _ _ hs.0).1).0 in
-    (below p few, small_from (p.number + 1) ps hs.1)
-  where
-    below : (p : Piece) → p.number ≤ 31 → p.number < most_frames
-    below p few = omega (arith, few)
+    (ltb-true p.number most_frames (both _ _ (both _ _ hs.0).1).0, small_from (p.number + 1) ps hs.1)
 
 pub small_bytes : (bs : List ℕ) → ((i : ℕ) → get_or bs i 0 < 256) → AllByRecursion (λ byte. byte < 256) bs
 small_bytes [] h = tt

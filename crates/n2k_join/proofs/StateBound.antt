@@ -10,6 +10,7 @@ use Rattle.serde_json.specs.View.{items_of}
 use Rattle.serde_json.specs.Written.{comma_if, compact_text, items_text, members_text}
 use Rattle.n2k_join.specs.declared.counts.Counts.{Counts}
 use Rattle.n2k_join.specs.Counts.{most_lines}
+use Rattle.n2k_wire.specs.Packet.{greatest_pgn}
 use Rattle.n2k_join.specs.Frames.{Key, most_frames}
 use Rattle.n2k_join.specs.Open.{Piece, Group}
 use Rattle.n2k_join.specs.Saved.{whole, list, piece_tree, group_tree, state_tree, state_text, bare_bytes, group_bytes, IsId}
@@ -129,7 +130,7 @@ record KeyShort (key : Key) : Type 0 where
 key_short : (key : Key) → IsKey key → KeyShort key
 key_short key is =
     let dst : key.dst < 256 = is.dst in
-    let pgn : key.pgn < 2 ^ 24 = is.pgn in
+    let pgn : key.pgn ≤ greatest_pgn = is.pgn in
     let sequence : key.sequence < 8 = is.sequence in
     let src : key.src < 256 = is.src in
     record {

@@ -10,25 +10,25 @@ use Rattle.n2k_table.specs.declared.definition.Kind.TheVariants.{Fast}
 use Rattle.n2k_join.specs.declared.counts.Counts.{Counts}
 use Rattle.n2k_join.specs.declared.state_fault.StateFault.{StateFault}
 use Rattle.n2k_join.specs.declared.state_fault.StateFault.TheVariants.{NotJson, Invalid}
-use Rattle.n2k_wire.specs.Packet.{greatest_pgn}
+use Rattle.n2k_wire.specs.Plain.{greatest_address}
 use Rattle.n2k_join.specs.Frames.{Key, same_key, most_frames, longest_total}
 use Rattle.n2k_join.specs.Groups.{complete}
 use Rattle.n2k_join.specs.Open.{Piece, Group}
-use Rattle.n2k_join.specs.Refusal.{or_fault}
+use Rattle.n2k_wire.specs.Steps.{or_cause}
 use Rattle.n2k_join.specs.Resumed.{parsed, counts_hold, firsts_rise, group_holds, groups_hold, is_valid, is_some_list, pieces_rise, state_of_parts, valid_if, total_holds, key_holds, is_fast}
 use Rattle.n2k_join.specs.State.{State, IsState, AreCounts, AreApart, AreFast, IsOpen, IsKey, IsPiece, HasParts, Rise, held_of}
-use Rattle.std.proofs.lemmas.Bool.{le-leb, and_from, ne_eqb}
+use Rattle.std.proofs.lemmas.Bool.{le-leb, lt-ltb, and_from, ne_eqb}
 use Rattle.n2k_join.proofs.StateTests.{both, at_most}
 use Rattle.n2k_join.proofs.SavedGroups.{rise_from, small_from}
 
 parsed_by : (bs : List ℕ) (b : Bool) → is_utf8 bs ≡ b → parsed bs ≡ (if b then read bs else None)
 parsed_by bs b e = ap (λ b. if b then read bs else None) e
 
-pub parsed_some : (bs : List ℕ) (d : Data) → IsUtf8 bs → read bs ≡ Some d → or_fault NotJson (parsed bs) ≡ Ok d
-parsed_some bs d text is = ap (or_fault NotJson) (parsed_by bs true (is_utf8-from_IsUtf8 bs text) ∙ is)
+pub parsed_some : (bs : List ℕ) (d : Data) → IsUtf8 bs → read bs ≡ Some d → or_cause NotJson (parsed bs) ≡ Ok d
+parsed_some bs d text is = ap (or_cause NotJson) (parsed_by bs true (is_utf8-from_IsUtf8 bs text) ∙ is)
 
-pub parsed_none : (bs : List ℕ) → (IsUtf8 bs → read bs ≡ None) → or_fault NotJson (parsed bs) ≡ Err NotJson
-parsed_none bs none = ap (or_fault NotJson) (by (is_utf8 bs) refl)
+pub parsed_none : (bs : List ℕ) → (IsUtf8 bs → read bs ≡ None) → or_cause NotJson (parsed bs) ≡ Err NotJson
+parsed_none bs none = ap (or_cause NotJson) (by (is_utf8 bs) refl)
   where
     by : (b : Bool) → is_utf8 bs ≡ b → parsed bs ≡ None
     by true e = parsed_by bs true e ∙ none (IsUtf8-from_is_utf8 bs e)
@@ -173,19 +173,15 @@ pieces_to : (least : ℕ) (ps : List Piece) → Rise (λ (p : Piece). p.number) 
 unfolding pieces_rise
 pieces_to least [] rise small parts = refl
 pieces_to least (p ∷ ps) rise small parts =
-    let few : p.number < most_frames = small.0 in
-    let within : p.number ≤ 31 = omega (arith, few) in
-    and_from _ _ (and_from _ _ (at_most-true _ _ rise.0) (and_from _ _ (at_most-true _ _ within) (total_to p.number p.bytes parts.0.total)))
+    and_from _ _ (and_from _ _ (at_most-true _ _ rise.0) (and_from _ _ (lt-ltb _ _ small.0) (total_to p.number p.bytes parts.0.total)))
     (pieces_to (p.number + 1) ps rise.1 small.1 parts.1)
 
 key_to : (kind : ℕ → Option Kind) (k : Key) → IsKey k → kind k.pgn ≡ Some Fast → key_holds kind k ≡ true
 unfolding key_holds
 key_to kind k is fast =
-    let pgn : k.pgn ≤ greatest_pgn = omega (arith, is.pgn) in
-    let src : k.src ≤ 255 = omega (arith, is.src) in
-    let dst : k.dst ≤ 255 = omega (arith, is.dst) in
-    let sequence : k.sequence ≤ 7 = omega (arith, is.sequence) in
-    and_from _ _ (at_most-true _ _ pgn) (and_from _ _ (ap is_fast fast) (and_from _ _ (at_most-true _ _ src) (and_from _ _ (at_most-true _ _ dst) (at_most-true _ _ sequence))))
+    let src : k.src ≤ greatest_address = omega (arith, is.src) in
+    let dst : k.dst ≤ greatest_address = omega (arith, is.dst) in
+    and_from _ _ (at_most-true _ _ is.pgn) (and_from _ _ (ap is_fast fast) (and_from _ _ (at_most-true _ _ src) (and_from _ _ (at_most-true _ _ dst) (lt-ltb _ _ is.sequence))))
 
 list_to : (ps : List Piece) → 0 < length ps → is_some_list ps ≡ true
 list_to [] h = absurd (omega (arith, h))

@@ -1,6 +1,6 @@
 -- What a text says as a saved state: which state it spells, or the first reason why it is refused. Any JSON text is taken
 -- that `serde_json` reads as such an object: spaces, another order of members, digits of either case.
-use Rattle.std.specs.Prelude.{ℕ, ◌+◌, ◌==◌, nat_le, Bool, true, false, not, ◌&&◌, ◌||◌, slice_index_or, codes, List, [], ◌∷◌, length, if◌then◌else◌, Option, Some, None, option_and_then, Result, Ok, Err}
+use Rattle.std.specs.Prelude.{ℕ, ◌+◌, ◌==◌, nat_le, nat_lt, Bool, true, false, not, ◌&&◌, ◌||◌, slice_index_or, codes, List, [], ◌∷◌, length, if◌then◌else◌, Option, Some, None, option_and_then, Result, Ok, Err}
 use Rattle.std.specs.List.{list_any}
 use Rattle.std.specs.Result.{result_ok}
 use Rattle.std.specs.Str.{bytes_eq, is_utf8}
@@ -9,6 +9,7 @@ use Rattle.serde_json.specs.Data.{Data, Items, no_items, item, Members, no_membe
 use Rattle.serde_json.specs.Find.{get, as_number, as_u64, as_str, as_array, as_object}
 use Rattle.serde_json.specs.Read.{read}
 use Rattle.n2k_wire.specs.Packet.{greatest_pgn}
+use Rattle.n2k_wire.specs.Plain.{greatest_address}
 use Rattle.n2k_table.specs.declared.definition.Kind.{Kind}
 use Rattle.n2k_table.specs.declared.definition.Kind.TheVariants.{Single, Fast}
 use Rattle.n2k_join.specs.declared.counts.Counts.{Counts}
@@ -17,12 +18,12 @@ use Rattle.n2k_join.specs.declared.state_fault.StateFault.TheVariants.{NotJson, 
 use Rattle.n2k_join.specs.declared.saved.place.Place.{Place}
 use Rattle.n2k_join.specs.declared.saved.place.Place.TheVariants as places
 use Rattle.n2k_join.specs.Counts.{most_lines}
-use Rattle.n2k_join.specs.Frames.{Key, same_key, longest_total, frame_bytes}
+use Rattle.n2k_join.specs.Frames.{Key, same_key, longest_total, frame_bytes, most_frames, most_sequences}
 use Rattle.n2k_join.specs.Groups.{complete}
 use Rattle.n2k_join.specs.Open.{Piece, Group}
 use Rattle.n2k_join.specs.State.{State, held_of}
 use Rattle.n2k_join.specs.Saved.{saved_format}
-use Rattle.n2k_join.specs.Refusal.{◌>>=◌, or_fault, holds_or}
+use Rattle.n2k_wire.specs.Steps.{◌>>=◌, or_cause, holds_or}
 
 -- the members that an object has, by its place
 abbrev pub names : Place → List (List ℕ)
@@ -39,12 +40,12 @@ has_only place (member name d ms) = is_name place name && has_only place ms
 -- An object without any member but those of its place. That each of those is there, the readers of the members say.
 abbrev pub members_at : Place → Data → Result (Unit {0}) StateFault
 members_at place d = do
-  ms ← or_fault Shape (as_object d)
+  ms ← or_cause Shape (as_object d)
   holds_or Shape (has_only place ms)
 
 -- the value of a member that has to be there
 abbrev pub required : List ℕ → Data → Result Data StateFault
-required name d = or_fault Shape (get name d)
+required name d = or_cause Shape (get name d)
 
 -- a whole number from 0 to 2^64 - 1
 abbrev pub as_whole : Data → Option ℕ
@@ -53,13 +54,13 @@ as_whole d = option_and_then as_u64 (as_number d)
 abbrev pub whole_at : List ℕ → Data → Result ℕ StateFault
 whole_at name d = do
   e ← required name d
-  or_fault Shape (as_whole e)
+  or_cause Shape (as_whole e)
 
 -- so many bytes as hexadecimal digits of either case
 abbrev pub digits_of : ℕ → Data → Result (List ℕ) StateFault
 digits_of count d = do
-  text ← or_fault Shape (as_str d)
-  or_fault Shape (result_ok (decode_sized text count))
+  text ← or_cause Shape (as_str d)
+  or_cause Shape (result_ok (decode_sized text count))
 
 -- the elements of an array, as a list
 abbrev pub elements : Items → List Data
@@ -68,7 +69,7 @@ elements (item d ds) = d ∷ elements ds
 
 abbrev pub elements_of : Data → Result (List Data) StateFault
 elements_of d = do
-  ds ← or_fault Shape (as_array d)
+  ds ← or_cause Shape (as_array d)
   Ok (elements ds)
 
 -- each of a list read in turn
@@ -82,7 +83,7 @@ each f (d ∷ ds) = do
 -- a frame is an array of two: its number, and its seven bytes
 abbrev pub piece_in : List Data → Result Piece StateFault
 piece_in (first ∷ second ∷ []) = do
-  number ← or_fault Shape (as_whole first)
+  number ← or_cause Shape (as_whole first)
   bytes ← digits_of frame_bytes second
   Ok (record { number = number; bytes = bytes })
 piece_in _ = Err Shape
@@ -173,16 +174,16 @@ is_fast (Some Fast) = true
 
 -- a key is one that frames of the table's fast PGNs can have
 unfoldable pub key_holds : (ℕ → Option Kind) → Key → Bool
-key_holds kind k = nat_le k.pgn greatest_pgn && (is_fast (kind k.pgn) && (nat_le k.src 255 && (nat_le k.dst 255 && nat_le k.sequence 7)))
+key_holds kind k = nat_le k.pgn greatest_pgn && (is_fast (kind k.pgn) && (nat_le k.src greatest_address && (nat_le k.dst greatest_address && nat_lt k.sequence most_sequences)))
 
 -- a frame 0 has a total that isn't too large
 abbrev pub total_holds : ℕ → List ℕ → Bool
 total_holds number bytes = not (number == 0) || nat_le (slice_index_or bytes 0 0) longest_total
 
 abbrev pub piece_holds : ℕ → Piece → Bool
-piece_holds least p = nat_le least p.number && (nat_le p.number 31 && total_holds p.number p.bytes)
+piece_holds least p = nat_le least p.number && (nat_lt p.number most_frames && total_holds p.number p.bytes)
 
--- numbers rise and are below 32
+-- numbers rise and are those that frames can have
 unfoldable pub pieces_rise : ℕ → List Piece → Bool
 pieces_rise least [] = true
 pieces_rise least (p ∷ ps) = piece_holds least p && pieces_rise (p.number + 1) ps
@@ -214,7 +215,7 @@ parsed bytes = if is_utf8 bytes then read bytes else None
 -- The state that the bytes spell under a table, or the first fault that stands in them.
 unfoldable pub judged : (ℕ → Option Kind) → List ℕ → List ℕ → Result State StateFault
 judged kind id bytes = do
-  d ← or_fault NotJson (parsed bytes)
+  d ← or_cause NotJson (parsed bytes)
   known ← holds_or Format (has_format d)
   s ← state_of d
   same ← holds_or TableDiffers (bytes_eq s.id id)

@@ -1,6 +1,5 @@
 -- What a splitter holds, and why it refuses a message.
-use Rattle.std.specs.Prelude.{ℕ, Bool, List, Option, Some, None, unwrap_or, length, nat_lt, nat_le, if◌then◌else◌}
-use Rattle.std.specs.List.{list_all}
+use Rattle.std.specs.Prelude.{ℕ, List, Option, Some, None, unwrap_or, length, nat_le, if◌then◌else◌}
 use Rattle.std.specs.Map.{lookup}
 use Rattle.n2k_wire.specs.Packet.{PacketParts}
 use Rattle.n2k_wire.specs.Candump.{frame_payload}
@@ -13,10 +12,6 @@ use Rattle.n2k_join.specs.Pieces.{Stream, same_stream, Sequences}
 -- The sequences that a splitter holds, by streams: 0 for a stream without one.
 abbrev pub sequences : List (Stream × ℕ) → Sequences
 sequences held stream = unwrap_or (lookup (same_stream stream) held) 0
-
--- each of them is of three bits
-abbrev pub are_sequences : List (Stream × ℕ) → Bool
-are_sequences held = list_all (λ (e : Stream × ℕ). nat_lt e.1 8) held
 
 -- Why a message is refused, whose PGN is of this kind: nothing says how it is sent, or it is over what a frame carries
 -- and its PGN is sent in single frames.

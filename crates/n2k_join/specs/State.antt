@@ -1,17 +1,17 @@
 -- The state of a join after a log, and the step that one more entry makes. The step knows no log: it is read off the
 -- cuts of the frames that the state holds, followed by the entry's.
-use Rattle.std.specs.Prelude.{◌≡◌, ◌≤◌, ◌<◌, ℕ, ◌+◌, ◌^◌, false, true, Bool, List, [], ◌∷◌, ◌++◌, map, reverse, length, flat_map, Option, option_map, option_to_list, is_some, slice_index_or, Some}
+use Rattle.std.specs.Prelude.{◌≡◌, ◌≤◌, ◌<◌, ℕ, ◌+◌, false, true, Bool, List, [], ◌∷◌, ◌++◌, map, reverse, length, flat_map, Option, option_map, option_to_list, is_some, slice_index_or, Some}
 use Rattle.std.specs.Option.{option_or}
 use Rattle.std.specs.List.{AllByRecursion}
 use Rattle.n2k_wire.specs.declared.entry.BadCause.{BadCause}
 use Rattle.n2k_wire.specs.declared.entry.Entry.{Entry}
-use Rattle.n2k_wire.specs.Packet.{PacketParts}
+use Rattle.n2k_wire.specs.Packet.{PacketParts, greatest_pgn}
 use Rattle.n2k_table.specs.declared.definition.Kind.{Kind}
 use Rattle.n2k_table.specs.declared.definition.Kind.TheVariants.{Fast}
 use Rattle.n2k_join.specs.declared.broken.Broken.{Broken}
 use Rattle.n2k_join.specs.declared.counts.Counts.{Counts}
 use Rattle.n2k_join.specs.Counts.{most_lines}
-use Rattle.n2k_join.specs.Frames.{Key, same_key, Frame, most_frames, frame_bytes, longest_total, frames, frame_in}
+use Rattle.n2k_join.specs.Frames.{Key, same_key, Frame, most_frames, most_sequences, frame_bytes, longest_total, frames, frame_in}
 use Rattle.n2k_join.specs.Groups.{repeats, complete}
 use Rattle.n2k_join.specs.Open.{open_groups}
 pub use Rattle.n2k_join.specs.Open.{Piece, Group}
@@ -107,8 +107,8 @@ pub record AreCounts (c : Counts) : Type 0 where
 pub record IsKey (key : Key) : Type 0 where
   pub src : key.src < 256
   pub dst : key.dst < 256
-  pub pgn : key.pgn < 2 ^ 24
-  pub sequence : key.sequence < 8
+  pub pgn : key.pgn ≤ greatest_pgn
+  pub sequence : key.sequence < most_sequences
 
 -- a piece that a frame can carry: seven bytes, and with number 0 a total that isn't too large
 pub record IsPiece (piece : Piece) : Type 0 where

@@ -1,19 +1,25 @@
 //! Frames of fast packets.
 ghost use Rattle.std.specs.Prelude.{◌≡◌, ℕ, option_map, slice_index_or};
-ghost use Rattle.n2k_join.specs.Frames.{fast_frame, seven_bytes};
+ghost use Rattle.n2k_join.specs.Frames.{fast_frame, filler, seven_bytes};
 ghost use Rattle.n2k_join.specs.Inner.Stored.{frame_of};
 
 use crate::piece::{FastFrame, FrameKey, StoredPiece};
 use n2k_wire::Packet;
 
+/// The most frames of a group.
+pub(crate) const MOST_FRAMES: u8 = 32;
+
+/// The most messages of one sender, destination and PGN that are under way at once.
+pub(crate) const MOST_SEQUENCES: u8 = 8;
+
 /// The most bytes of a message.
-const LONGEST_TOTAL: u8 = 223;
+pub(crate) const LONGEST_TOTAL: u8 = 223;
 
 /// What the bytes of a frame are filled with.
-const FILLER: u8 = 0xff;
+pub(crate) const FILLER: u8 = 0xff;
 
 fn byte_or_filler(bytes: &[u8], at: usize) -> u8
-    ensures { result ≡ slice_index_or bytes.now at 255 }
+    ensures { result ≡ slice_index_or bytes.now at filler }
 {
     match bytes.get(at) {
         Some(byte) => *byte,
@@ -36,7 +42,7 @@ pub(crate) fn fast_frame(packet: &Packet) -> Option<FastFrame>
     ensures { (line : ℕ) → option_map (λ frame. frame_of line packet.now frame) result ≡ fast_frame line packet.now }
 {
     let (header, rest) = packet.data().split_first()?;
-    let number = *header % 32;
+    let number = *header % MOST_FRAMES;
     let bytes = seven_bytes(rest);
     if number == 0 && (rest.is_empty() || bytes[0] > LONGEST_TOTAL) {
         return None;
@@ -46,7 +52,7 @@ pub(crate) fn fast_frame(packet: &Packet) -> Option<FastFrame>
         src: id.src,
         dst: id.dst,
         pgn: id.pgn,
-        sequence: *header / 32,
+        sequence: *header / MOST_FRAMES,
     };
     let piece = StoredPiece { number, bytes };
     Some(FastFrame { key, piece })

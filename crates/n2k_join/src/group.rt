@@ -1,13 +1,11 @@
 //! A group of frames that is open.
-ghost use Rattle.std.specs.Prelude.{◌≡◌, ℕ, ◌+◌, ◌*◌, ◌<◌, ◌≤◌, ◌++◌, ◌==◌, [], ◌∷◌, true, false, not, option_map, find, IfOk, IfSome, nat_le, slice_index, flat_map, length};
+ghost use Rattle.std.specs.Prelude.{◌≡◌, ℕ, ◌+◌, ◌*◌, ◌<◌, ◌≤◌, ◌++◌, ◌==◌, [], ◌∷◌, true, false, option_map, find, IfOk, IfSome, nat_le, slice_index, flat_map, length};
 ghost use Rattle.std.specs.List.{range_with_len, list_all};
 ghost use Rattle.n2k_wire.specs.Packet.{PacketParts};
-ghost use Rattle.n2k_join.specs.Frames.{same_key, longest_total};
+ghost use Rattle.n2k_join.specs.Frames.{same_key, frame_bytes, longest_total, most_frames};
 ghost use Rattle.n2k_join.specs.Groups.{carried, has_number, has_all, complete, total, bytes_at, data_of};
-ghost use Rattle.n2k_join.specs.Messages.{broken_of};
 ghost use Rattle.n2k_join.specs.Open.{pieces_of, group_of};
 ghost use Rattle.n2k_join.specs.State.{held_frame, held_of, IsOpen};
-ghost use Rattle.n2k_join.specs.Frames.{most_frames};
 ghost use Rattle.n2k_join.specs.Resumed.{pieces_rise};
 ghost use Rattle.n2k_join.specs.State.{IsKey, IsPiece, HasParts};
 ghost use Rattle.std.specs.List.{AllByRecursion};
@@ -15,14 +13,12 @@ ghost use Rattle.std.specs.Prelude.{map, vec_capacity};
 ghost use Rattle.n2k_join.specs.Inner.Stored.{key_of, piece_of, frame_of, with_frame, message_if};
 
 use crate::broken::Broken;
+use crate::frame::MOST_FRAMES;
 use crate::piece::{FastFrame, FrameKey, StoredPiece};
 use arrayvec::ArrayVec;
 use n2k_wire::Packet;
 use std::alloc::{AllocError, Global};
 use std::marker::Model;
-
-/// The most frames of a group.
-const MOST_FRAMES: usize = 32;
 
 /// The frames of one key that may become a message. It has room for all of them, so that a frame that joins it
 /// takes no memory.
@@ -69,7 +65,7 @@ impl StoredGroup {
     ) -> Result<StoredGroup, AllocError>
         ensures { (packet : PacketParts) → IfOk result (λ g. g ≡ group_of (key_of frame.now.key) (frame_of first packet frame.now ∷ [])) }
     {
-        let mut pieces = Vec::with_capacity(alloc, MOST_FRAMES)?;
+        let mut pieces = Vec::with_capacity(alloc, usize::from(MOST_FRAMES))?;
         pieces.push(frame.piece)?;
         Ok(StoredGroup {
             first,
@@ -128,7 +124,7 @@ impl StoredGroup {
     /// What its frame of a number carries.
     pub(crate) fn carried(&self, number: u8) -> Option<&[u8; 7]>
         ensures bytes { option_map (λ bytes. bytes.now) result ≡ carried (held_of self.now) number }
-        ensures seven { IfSome result (λ bytes. length bytes.now ≡ 7) }
+        ensures seven { IfSome result (λ bytes. length bytes.now ≡ frame_bytes) }
     {
         Some(&find_piece(&self.pieces, number)?.bytes)
     }
@@ -178,7 +174,7 @@ impl StoredGroup {
     fn bytes_of(&self, number: u8) -> [u8; 7]
         requires { has_number number (held_of self.now) ≡ true }
         ensures bytes { result ≡ bytes_at (held_of self.now) number }
-        ensures seven { length result ≡ 7 }
+        ensures seven { length result ≡ frame_bytes }
     {
         match self.carried(number) {
             Some(bytes) => *bytes,
@@ -188,10 +184,10 @@ impl StoredGroup {
 
     // What the frames carry up to the one of a number, joined.
     fn joined(&self, last: u8) -> ArrayVec<u8, 224>
-        requires last { last < 32 }
+        requires last { last < most_frames }
         requires all { has_all last (held_of self.now) ≡ true }
         ensures items { result.items ≡ flat_map (bytes_at (held_of self.now)) (range_with_len 0 (last + 1)) }
-        ensures len { length result.items ≡ 7 * (last + 1) }
+        ensures len { length result.items ≡ frame_bytes * (last + 1) }
     {
         let mut joined = ArrayVec::new();
         for number in 0..last + 1 {

@@ -1,5 +1,5 @@
 //! What an entry gives, and the open groups that it leaves.
-ghost use Rattle.std.specs.Prelude.{◌≡◌, ℕ, [], Some, None, true, false, not, IfOk, OnOk, OnErr, is_some, option_map};
+ghost use Rattle.std.specs.Prelude.{◌≡◌, Some, None, true, false, not, IfOk, OnOk, OnErr, is_some, option_map};
 ghost use Rattle.std.specs.List.{AllByRecursion};
 ghost use Rattle.n2k_table.specs.declared.definition.Kind.TheVariants.{Fast};
 ghost use Rattle.n2k_table.specs.Table.{kind};

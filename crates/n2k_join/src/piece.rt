@@ -1,5 +1,6 @@
 //! What the join keeps of a frame.
 ghost use Rattle.std.specs.Prelude.{◌≡◌, ◌<◌, ◌≤◌, length, slice_index};
+ghost use Rattle.n2k_join.specs.Frames.{frame_bytes, longest_total, most_frames};
 
 /// The group that a frame belongs to: frames of one sender, receiver and PGN that have one sequence.
 #[derive(Clone, Copy, PartialEq, Eq, Hash)]
@@ -15,9 +16,9 @@ pub(crate) struct FrameKey {
 pub(crate) struct StoredPiece {
     pub(crate) number: u8,
     pub(crate) bytes: [u8; 7],
-    pub(crate) ghost seven: { length bytes ≡ 7 },
-    pub(crate) ghost small: { number < 32 },
-    pub(crate) ghost total: { number ≡ 0 → slice_index bytes 0 ≤ 223 },
+    pub(crate) ghost seven: { length bytes ≡ frame_bytes },
+    pub(crate) ghost small: { number < most_frames },
+    pub(crate) ghost total: { number ≡ 0 → slice_index bytes 0 ≤ longest_total },
 }
 
 /// What the data of a fast packet's frame say.

@@ -14,5 +14,8 @@ pub(crate) use rules::rules_hold;
 pub(crate) use spelled::{SpelledGroup, SpelledState};
 pub(crate) use text::state_text;
 
+/// The format of the states that are written and read.
+pub(crate) const SAVED_FORMAT: u64 = 1;
+
 #[cfg(test)]
 mod tests;

@@ -1,28 +1,25 @@
 //! The writer: messages are split into the frames of the bus.
 ghost use Rattle.std.specs.Prelude.{◌≡◌, ◌+◌, ◌*◌, ◌/◌, ◌%◌, if◌then◌else◌, ◌<◌, ◌≤◌, ◌++◌, [], ◌∷◌, IfOk, OnOk, OnErr, IsOkUnless, MatchOption, Some, Err, length, map, vec_len, vec_capacity};
 ghost use Rattle.std.specs.List.{range_with_len};
+ghost use Rattle.n2k_wire.specs.Packet.{longest_message};
 ghost use Rattle.n2k_table.specs.Table.{kind};
 ghost use Rattle.n2k_table.specs.declared.definition.Kind.TheVariants.{Single, Fast};
 ghost use Rattle.n2k_join.specs.declared.split_fault.SplitFault.TheVariants.{Memory};
+ghost use Rattle.n2k_join.specs.Frames.{most_frames, most_sequences};
 ghost use Rattle.n2k_join.specs.Pieces.{piece, last_piece, sent_byte, piece_bytes, pieces_by, Stream, same_stream, stream_of, raised, first_sequences};
 ghost use Rattle.n2k_join.specs.Splitter.{sequences, refusal};
 
+use crate::frame::{FILLER, MOST_FRAMES, MOST_SEQUENCES};
 use crate::split_fault::SplitFault;
 use crate::stream::Stream;
 use indexmap::IndexMap;
 use n2k_table::{Kind, Table};
-use n2k_wire::Packet;
+use n2k_wire::{FRAME_PAYLOAD, Packet};
 use std::alloc::Global;
 use std::marker::Model;
 
-/// The most bytes of a frame.
-const FRAME_PAYLOAD: usize = 8;
-
 /// The bytes of a frame after its header.
 const FRAME_BYTES: usize = 7;
-
-/// What stands behind the data in a last frame.
-const FILLER: u8 = 0xff;
 
 /// Splits messages into frames. It numbers the messages of each stream, a sender's messages of one PGN to one
 /// receiver, from 0 to 7 and again from 0.
@@ -35,7 +32,7 @@ pub struct Splitter {
 impl Model for Splitter {
     ghost use Rattle.std.specs.Prelude.{ℕ, List, IsTrue};
     ghost use Rattle.n2k_join.specs.Pieces.{Stream};
-    ghost use Rattle.n2k_join.specs.Splitter.{are_sequences};
+    ghost use Rattle.n2k_join.specs.Inner.Stored.{are_sequences};
 
     ghost Value = { List (Stream × ℕ) };
 
@@ -46,7 +43,7 @@ impl Model for Splitter {
 
 // A packet like another, with these data.
 fn with_data(packet: &Packet, data: &[u8]) -> Packet
-    requires { length «data».now ≤ 223 }
+    requires { length «data».now ≤ longest_message }
     ensures { result ≡ record { stamp = packet.now.stamp; id = packet.now.id; payload = «data».now } }
 {
     match Packet::new(packet.stamp(), packet.id(), data) {
@@ -57,7 +54,7 @@ fn with_data(packet: &Packet, data: &[u8]) -> Packet
 
 // The byte at a place of what the frames carry: the length of the data, the data, and then the filler.
 fn sent_byte(data: &[u8], place: usize) -> u8
-    requires short { length «data».now ≤ 223 }
+    requires short { length «data».now ≤ longest_message }
     ensures value { result ≡ sent_byte «data».now place }
 {
     if place == 0 {
@@ -72,7 +69,7 @@ fn sent_byte(data: &[u8], place: usize) -> u8
 // The seven bytes that a frame carries.
 #[tactic(auto, using(crate::proofs::PieceBytes::bytes_by_place), unfolding(crate::specs::Pieces::piece_bytes))]
 fn piece_bytes(data: &[u8], number: u8) -> [u8; 7]
-    requires { length «data».now ≤ 223 }
+    requires { length «data».now ≤ longest_message }
     ensures { result ≡ piece_bytes «data».now number }
 {
     let first = FRAME_BYTES * number as usize;
@@ -82,19 +79,19 @@ fn piece_bytes(data: &[u8], number: u8) -> [u8; 7]
 
 // Frame `number` of a message.
 fn piece(message: &Packet, sequence: u8, number: u8) -> Packet
-    requires sequence { sequence < 8 }
-    requires number { number < 32 }
+    requires sequence { sequence < most_sequences }
+    requires number { number < most_frames }
     ensures value { result ≡ piece message.now sequence number }
 {
-    let header = 32 * sequence + number;
+    let header = MOST_FRAMES * sequence + number;
     let [a, b, c, d, e, f, g] = piece_bytes(message.data(), number);
     with_data(message, &[header, a, b, c, d, e, f, g])
 }
 
 // Appends the frames of a message of a fast PGN, for which there is room.
 fn append_pieces(packets: &mut Vec<Packet>, message: &Packet, sequence: u8, count: u8)
-    requires sequence { sequence < 8 }
-    requires count { count ≤ 32 }
+    requires sequence { sequence < most_sequences }
+    requires count { count ≤ most_frames }
     requires room { vec_len packets.old + count ≤ vec_capacity packets.old }
     ensures frames { packets.new.items ≡ packets.old.items ++ map (piece message.now sequence) (range_with_len 0 count) }
 {
@@ -130,7 +127,7 @@ impl Splitter {
     #[tactic(auto, using(crate::proofs::Numbered::found_below))]
     fn sequence(&self, stream: Stream) -> u8
         ensures value { result ≡ sequences self.now stream }
-        ensures small { result < 8 }
+        ensures small { result < most_sequences }
     {
         match self.next.get(&stream) {
             Some(sequence) => *sequence,
@@ -141,12 +138,12 @@ impl Splitter {
     // The stream's next message gets the next sequence.
     fn raise(&mut self, stream: Stream, sequence: u8) -> Result<(), SplitFault>
         requires current { sequence ≡ sequences self.old stream }
-        requires small { sequence < 8 }
-        ensures raised { OnOk result ((s : Stream) → sequences self.new s ≡ (if same_stream stream s then (sequences self.old s + 1) % 8 else sequences self.old s)) }
+        requires small { sequence < most_sequences }
+        ensures raised { OnOk result ((s : Stream) → sequences self.new s ≡ (if same_stream stream s then (sequences self.old s + 1) % most_sequences else sequences self.old s)) }
         ensures memory { IsOkUnless result Memory }
         ensures unchanged { OnErr result (self.new ≡ self.old) }
     {
-        self.next.insert(stream, (sequence + 1) % 8)?;
+        self.next.insert(stream, (sequence + 1) % MOST_SEQUENCES)?;
         Ok(())
     }
 
@@ -157,7 +154,7 @@ impl Splitter {
         message: &Packet,
     ) -> Result<usize, SplitFault>
         ensures sent { IfOk result (λ count. (count ≡ last_piece message.now + 1) × (packets.new.items ≡ packets.old.items ++ map (piece message.now (sequences self.old (stream_of message.now.id))) (range_with_len 0 count))) }
-        ensures raised { OnOk result ((s : Stream) → sequences self.new s ≡ (if same_stream (stream_of message.now.id) s then (sequences self.old s + 1) % 8 else sequences self.old s)) }
+        ensures raised { OnOk result ((s : Stream) → sequences self.new s ≡ (if same_stream (stream_of message.now.id) s then (sequences self.old s + 1) % most_sequences else sequences self.old s)) }
         ensures memory { IsOkUnless result Memory }
         ensures splitter_unchanged { OnErr result (self.new ≡ self.old) }
         ensures packets_unchanged { OnErr result (packets.new.items ≡ packets.old.items) }

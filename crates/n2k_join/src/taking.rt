@@ -1,8 +1,8 @@
 //! A frame taken into the open groups.
-ghost use Rattle.std.specs.Prelude.{◌≡◌, ℕ, if◌then◌else◌, Some, None, ◌<◌, ◌≤◌, ◌++◌, [], ◌∷◌, OnOk, OnErr, IfOk, IfSome, vec_len, vec_capacity, slice_get, position, true, false};
+ghost use Rattle.std.specs.Prelude.{◌≡◌, ℕ, if◌then◌else◌, Some, None, ◌<◌, ◌≤◌, ◌++◌, [], ◌∷◌, OnOk, OnErr, IfOk, IfSome, vec_len, vec_capacity, position, true, false};
 ghost use Rattle.std.specs.List.{AllByRecursion};
 ghost use Rattle.n2k_join.specs.Frames.{same_key};
-ghost use Rattle.n2k_join.specs.Groups.{has_number, complete, repeats, data_of};
+ghost use Rattle.n2k_join.specs.Groups.{has_number, complete, data_of};
 ghost use Rattle.n2k_join.specs.State.{held_of, IsOpen, AreApart};
 ghost use Rattle.n2k_join.specs.Inner.Stored.{key_of, frame_of, of_the_key, groups_after, gained, lost};
 

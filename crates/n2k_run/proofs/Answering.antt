@@ -6,7 +6,7 @@ use Rattle.n2k_run.specs.declared.blocks.Found.TheVariants as found
 use Rattle.n2k_run.specs.declared.blocks.Next.{Next}
 use Rattle.n2k_run.specs.declared.blocks.Next.TheVariants.{Line, Long, End}
 use Rattle.n2k_run.specs.declared.device.Failed.{Failed}
-use Rattle.n2k_run.specs.Blocks.{Held, Answers, AnswersKnown, AnswersLine, FirstLine, Gives, HasNoFeed, unanswered}
+use Rattle.n2k_run.specs.Blocks.{Held, Answers, AnswersKnown, AnswersLine, FirstLine, GivesNext, HasNoFeed, unanswered}
 use Rattle.n2k_run.specs.Inner.Block.{AnswersFound}
 use Rattle.n2k_run.specs.Lines.{is_line_feed, lines, without_last_empty, without_return}
 use Rattle.n2k_run.proofs.Finding.{stays_more}
@@ -29,7 +29,7 @@ first_line whole line rest left ended f =
     ap lines all ∙ lines_rest f.piece f.no_feed e.3 ∙ ap (λ l. l ∷ []) (sym f.line_is) ∙ ap (λ r. line ∷ lines r) (sym none) in
     elim f.ends [ inl e ↦ feed e | inr e ↦ end e ]
 
-gives_line : (whole rest left : List ℕ) (ended : Bool) (result : Result Next Failed) → Gives whole rest ended (Some left) result → AnswersLine (whole ++ left) (rest ++ left) result
+gives_line : (whole rest left : List ℕ) (ended : Bool) (result : Result Next Failed) → GivesNext whole rest ended (Some left) result → AnswersLine (whole ++ left) (rest ++ left) result
 gives_line whole rest left ended (Ok (Line line)) gives = first_line whole line.now rest left ended gives.0
 gives_line whole rest left ended (Ok Long) gives = (gives.0, first_line whole gives.0 rest left ended gives.1, gives.2)
 gives_line whole rest left ended (Ok End) gives = (ap (λ w. w ++ left) gives.2 ∙ gives.0, ap (λ r. r ++ left) gives.3 ∙ gives.0)

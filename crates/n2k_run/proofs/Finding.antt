@@ -14,7 +14,8 @@ use Rattle.n2k_run.specs.Blocks.{Held, FirstLine, FirstLong, HasNoFeed, Replaces
 use Rattle.n2k_run.specs.Device.{one_more}
 use Rattle.n2k_run.specs.Inner.Block.{Finds, MakesRoom, Reads, AnswersFound}
 use Rattle.n2k_run.specs.Lines.{without_return}
-use Rattle.n2k_run.specs.Reading.{Gains, OutlastsReads, most_reads}
+use Rattle.n2k_run.specs.Reading.{OutlastsReads, most_reads}
+use Rattle.n2k_run.specs.Inner.Reading.{Gains}
 use Rattle.n2k_run.proofs.Feeds.{is_plain, long_piece, long_after, length-passed, passed-no_feed, split_past, unanswered-no_feed}
 
 -- no line ends in all of it where none ends in what stands for it

@@ -65,11 +65,11 @@ abbrev pub Stays : List ℕ → List ℕ → Type 0
 Stays whole bytes = (bytes ≡ whole) ⊎ Replaces whole bytes
 
 -- What an answer says of all the bytes that it was given of: those unanswered before, and those that came.
-abbrev pub Gives : List ℕ → List ℕ → Bool → Option (List ℕ) → Result Next Failed → Type 0
-Gives whole rest has_ended left (Ok (Line line)) = FirstLine whole line.now rest has_ended left × (length line.now ≤ longest_line)
-Gives whole rest has_ended left (Ok Long) = FirstLong whole rest has_ended left
-Gives whole rest has_ended left (Ok End) = IsAtEnd left × (has_ended ≡ true) × (whole ≡ []) × (rest ≡ [])
-Gives whole rest has_ended left (Err failed) = HasNoFeed whole × Stays whole rest
+abbrev pub GivesNext : List ℕ → List ℕ → Bool → Option (List ℕ) → Result Next Failed → Type 0
+GivesNext whole rest has_ended left (Ok (Line line)) = FirstLine whole line.now rest has_ended left × (length line.now ≤ longest_line)
+GivesNext whole rest has_ended left (Ok Long) = FirstLong whole rest has_ended left
+GivesNext whole rest has_ended left (Ok End) = IsAtEnd left × (has_ended ≡ true) × (whole ≡ []) × (rest ≡ [])
+GivesNext whole rest has_ended left (Err failed) = HasNoFeed whole × Stays whole rest
 
 -- the calls of a source are those that were counted, unless their number stands at its greatest
 abbrev pub CallsAre : ℕ → ℕ → ℕ → ℕ → Type 0
@@ -80,7 +80,7 @@ pub record Answers (old new : Held) (left₀ left : Option (List ℕ)) (calls₀
   -- the bytes that came of the source
   pub came : List ℕ
   pub given : Consumes left₀ left came
-  pub answer : Gives (unanswered old ++ came) (unanswered new) new.has_ended left result
+  pub answer : GivesNext (unanswered old ++ came) (unanswered new) new.has_ended left result
   pub called : CallsAre calls₀ calls old.reads new.reads
 
 -- an answer, by the lines of the bytes that are unanswered and those that the source has left

@@ -130,7 +130,7 @@ frames_output t interface = record {
   reports = frame_reports_from 1 (kind t) interface;
 }
 
--- the same of a log's bytes
+-- what `frames` writes of a log's bytes, reports and counts
 abbrev pub frames_out : TableParts → Option (List ℕ) → List ℕ → List ℕ
 frames_out t interface log = frame_lines (kind t) interface (entries packings.Whole log)
 

@@ -1,7 +1,7 @@
--- Words that only private clauses, invariants and proofs of this crate use.
+-- Words of private clauses, invariants and proofs of this crate, and `held_of`, the view of `Blocks`.
 pub mod Block
 pub mod Counting
 pub mod Engine
-pub mod Joining
 pub mod Parts
+pub mod Reading
 pub mod Sending

@@ -2,6 +2,7 @@ pub mod Blocks
 pub mod Decoded
 pub mod Device
 pub mod Entries
+pub mod Fault
 pub mod FramesOut
 pub mod Inner
 pub mod Lines

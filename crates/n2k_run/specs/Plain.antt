@@ -39,7 +39,7 @@ plain_counts_of es = record {
 abbrev pub plain_output : Output
 plain_output = record { packing = Frames; counted = 0; texts = plain_lines; reports = plain_reports_of }
 
--- the same of a log's bytes
+-- what `plain` prints of a log's bytes, reports and counts
 abbrev pub plain_out : List ℕ → List ℕ
 plain_out log = plain_lines (entries Frames log)
 

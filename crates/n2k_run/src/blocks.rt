@@ -83,7 +83,8 @@ impl Blocks {
     ghost use Rattle.n2k_run.specs.Blocks.{unanswered, HasFeed, HasNoFeed, Answers, AnswersKnown};
     ghost use Rattle.n2k_run.specs.Device.{CountsFailure, HasFailed, one_more};
     ghost use Rattle.n2k_run.specs.Inner.Block.{AnswersFound, Finds, Judges, MakesRoom};
-    ghost use Rattle.n2k_run.specs.Reading.{Gains, most_reads};
+    ghost use Rattle.n2k_run.specs.Reading.{most_reads};
+    ghost use Rattle.n2k_run.specs.Inner.Reading.{Gains};
 
     /// Before the first read.
     pub fn new() -> Self
@@ -121,7 +122,7 @@ impl Blocks {
     /// `Failed` where the source failed in this call, or where these reads are used up. No line is lost by it: a
     /// later call goes on where this one stood. It takes no memory.
     pub fn next_line<R: Source>(&mut self, reader: &mut R) -> Result<Next<'_>, Failed>
-        ensures* after { sem 𝓛 (Rests the_row self.entry (λ new.
+        ensures* answers { sem 𝓛 (Rests the_row self.entry (λ new.
             Answers self.old new (R.remaining reader.old) (R.remaining reader.new) (R.calls reader.old) (R.calls reader.new) result
             × AnswersKnown self.old new (R.remaining reader.old) (R.remaining reader.new) result
             × OnErr result (HasFailed (R.failed_calls reader.old) (R.failed_calls reader.new)

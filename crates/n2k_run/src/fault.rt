@@ -37,7 +37,7 @@ impl From<AllocError> for RunFault {
 
 impl From<JoinFault> for RunFault {
     ghost use Rattle.std.specs.Prelude.{◌≡◌};
-    ghost use Rattle.n2k_run.specs.Inner.Joining.{fault_of_join};
+    ghost use Rattle.n2k_run.specs.Fault.{fault_of_join};
 
     ghost from_gives = { λ refused fault. fault ≡ fault_of_join refused };
 

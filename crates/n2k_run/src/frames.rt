@@ -1,10 +1,11 @@
 //! The run of `frames`: each whole message of a log as the lines of its frames.
-ghost use Rattle.std.specs.Prelude.{◌≡◌, ◌++◌, ◌≤◌, length, All, IfOk, IsTrue, OnOk, Some};
+ghost use Rattle.std.specs.Prelude.{◌≡◌, ◌++◌, ◌≤◌, length, All, IfOk, IfSome, IsTrue, OnOk, Some};
+ghost use Rattle.std.specs.Io.KnownBytes.{Appends};
 ghost use Rattle.n2k_wire.specs.Candump.{frame_payload, is_interface};
 ghost use Rattle.n2k_wire.specs.Packet.{PacketParts};
 ghost use Rattle.n2k_table.specs.Table.{kind};
 ghost use Rattle.n2k_join.specs.Splitter.{sequences};
-ghost use Rattle.n2k_run.specs.FramesOut.{IsInterface, interface_of, frame_texts, frames_output, frame_counts_of};
+ghost use Rattle.n2k_run.specs.FramesOut.{IsInterface, interface_of, frame_texts, frames_counts, frames_out, frames_output, frames_reports, frame_counts_of};
 ghost use Rattle.n2k_run.specs.Runs.{Runs, devices};
 ghost use Rattle.n2k_run.specs.Inner.Sending.{AppendsLines, SentLine, SentMessage, WritesFrames, candump_texts};
 
@@ -206,11 +207,17 @@ pub fn run_frames<R: Source, W: Sink, E: Sink>(
     reporter: &mut E,
 ) -> Result<Counts, RunFault>
     requires { IsInterface (interface_of interface) }
-    ensures { let before = devices (R.remaining reader.old) (R.calls reader.old) (R.failed_calls reader.old)
+    ensures runs { let before = devices (R.remaining reader.old) (R.calls reader.old) (R.failed_calls reader.old)
         (W.contents writer.old) (W.failed_calls writer.old) (E.contents reporter.old) (E.failed_calls reporter.old) in
         let after = devices (R.remaining reader.new) (R.calls reader.new) (R.failed_calls reader.new)
         (W.contents writer.new) (W.failed_calls writer.new) (E.contents reporter.new) (E.failed_calls reporter.new) in
         Runs (frames_output table.now (interface_of interface.entry)) (λ es. IfOk result (λ counts. counts ≡ frame_counts_of (kind table.now) (interface_of interface.entry) es)) before after result }
+
+    // Ok, where the bytes of the log are known: what `frames` makes of them.
+    ensures out { IfOk result (λ counts. IfSome (R.remaining reader.old) (λ log.
+        Appends (W.contents writer.old) (W.contents writer.new) (frames_out table.now (interface_of interface.entry) log)
+        × Appends (E.contents reporter.old) (E.contents reporter.new) (frames_reports table.now (interface_of interface.entry) log)
+        × (counts ≡ frames_counts table.now (interface_of interface.entry) log))) }
 {
     laws::splits_written();
     let maker = FrameLines { table, interface };

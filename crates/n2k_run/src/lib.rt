@@ -3,12 +3,16 @@
 //! - `run` prints the JSON line of each message that a log gives on a join, `run_plain` each frame and each whole
 //!   message as its plain line, `run_frames` each whole message as the lines of the frames in which it is sent. All
 //!   report each bad line by its number, and `run` each broken group.
+//! - `run_part` runs a part of a log from the state that was saved before it, and gives the state and the counts after
+//!   it; `run_parts` runs parts that lie in memory, one after the other.
+//! - `Options` say how the data of lines are packed, and whether absent fields are printed.
 //! - `Blocks` lends the lines of a log from a block of 4,096 bytes. A run holds no more of its log, and writes what
 //!   its lines gave before it reads on: so a live pipe shows each message when its line came.
 //! - `Source` and `Sink` are devices: `StdSource` and `StdSink` over the standard library's, `MemorySource` and
 //!   `MemorySink` for tests, whose calls can be short and can fail.
 //! - `read_bytes` reads a source whole, up to a limit. `bad_text` and `broken_text` are the reports of a line,
-//!   `summary_text` the summary of a run, and `write_summary` writes it without memory.
+//!   `summary_text` the summary of a run, and `write_summary` writes it without memory. `write_all` writes any text.
+//! - `laws` say what is printed of messages that were scattered over a log, or written and then read.
 //!
 //! A run that answers Ok has written exactly the texts and reports of the log's lines, in their order. One that answers
 //! a fault has written a front of them, the reports first: the fault is that of the one device whose call failed, of

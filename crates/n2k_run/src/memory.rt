@@ -65,8 +65,8 @@ impl<'a> Source for MemorySource<'a> {
         ensures fails { IsErr result ↔ (self.old.fails_at ≡ 1) }
         ensures count { IfOk result (λ n. n ≡ min self.old.at_once (min (length buffer.old) (length self.old.left))) }
         ensures given { IfOk result (λ n. take n buffer.new ≡ take n self.old.left) }
-        ensures ok { IfOk result (λ n. self.new ≡ after_read self.old n) }
-        ensures err { OnErr result (self.new ≡ after_failed_read self.old) }
+        ensures device { IfOk result (λ n. self.new ≡ after_read self.old n) }
+        ensures failed_device { OnErr result (self.new ≡ after_failed_read self.old) }
     {
         let fails = self.fails_at == 1;
         self.fails_at = self.fails_at.saturating_sub(1);
@@ -148,8 +148,8 @@ impl Sink for MemorySink {
         // It also fails where memory is refused.
         ensures fails { self.old.fails_at ≡ 1 → IsErr result }
         ensures count { IfOk result (λ n. n ≡ min self.old.at_once (length piece.now)) }
-        ensures ok { IfOk result (λ n. self.new ≡ after_write self.old (take n piece.now)) }
-        ensures err { OnErr result (self.new ≡ after_failed_write self.old) }
+        ensures device { IfOk result (λ n. self.new ≡ after_write self.old (take n piece.now)) }
+        ensures failed_device { OnErr result (self.new ≡ after_failed_write self.old) }
     {
         let fails = self.fails_at == 1;
         self.fails_at = self.fails_at.saturating_sub(1);

@@ -1,6 +1,7 @@
 //! The run of `plain`: each frame and each whole message of a log as a plain line.
-ghost use Rattle.std.specs.Prelude.{◌≡◌, IfOk};
-ghost use Rattle.n2k_run.specs.Plain.{plain_output, plain_counts_of};
+ghost use Rattle.std.specs.Prelude.{◌≡◌, IfOk, IfSome};
+ghost use Rattle.std.specs.Io.KnownBytes.{Appends};
+ghost use Rattle.n2k_run.specs.Plain.{plain_counts, plain_counts_of, plain_out, plain_output, plain_reports};
 ghost use Rattle.n2k_run.specs.Runs.{Runs, devices};
 
 use crate::device::{Sink, Source};
@@ -19,7 +20,7 @@ impl Maker for PlainLines {
     ghost use Rattle.std.specs.Prelude.{false};
     ghost use Rattle.n2k_join.specs.declared.counts.Counts.{Counts};
     ghost use Rattle.n2k_run.specs.Entries.{is_packet};
-    ghost use Rattle.n2k_run.specs.Inner.Counting.{AreCounts, counting};
+    ghost use Rattle.n2k_run.specs.Inner.Counting.{AreLineCounts, counting};
     ghost use Rattle.n2k_run.specs.Plain.{plain_line};
 
     type State = Counts;
@@ -30,7 +31,7 @@ impl Maker for PlainLines {
 
     ghost making = { λ _. counting plain_line is_packet (λ _. false) };
 
-    ghost is_ready = { λ _ counts. AreCounts counts };
+    ghost is_ready = { λ _ counts. AreLineCounts counts };
 
     fn take(
         &self,
@@ -71,11 +72,17 @@ pub fn run_plain<R: Source, W: Sink, E: Sink>(
     writer: &mut W,
     reporter: &mut E,
 ) -> Result<Counts, RunFault>
-    ensures { let before = devices (R.remaining reader.old) (R.calls reader.old) (R.failed_calls reader.old)
+    ensures runs { let before = devices (R.remaining reader.old) (R.calls reader.old) (R.failed_calls reader.old)
         (W.contents writer.old) (W.failed_calls writer.old) (E.contents reporter.old) (E.failed_calls reporter.old) in
         let after = devices (R.remaining reader.new) (R.calls reader.new) (R.failed_calls reader.new)
         (W.contents writer.new) (W.failed_calls writer.new) (E.contents reporter.new) (E.failed_calls reporter.new) in
         Runs plain_output (λ es. IfOk result (λ counts. counts ≡ plain_counts_of es)) before after result }
+
+    // Ok, where the bytes of the log are known: what `plain` makes of them.
+    ensures out { IfOk result (λ counts. IfSome (R.remaining reader.old) (λ log.
+        Appends (W.contents writer.old) (W.contents writer.new) (plain_out log)
+        × Appends (E.contents reporter.old) (E.contents reporter.new) (plain_reports log)
+        × (counts ≡ plain_counts log))) }
 {
     let mut counts = Counts::NONE;
     match run_entries(

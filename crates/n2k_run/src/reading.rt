@@ -1,8 +1,9 @@
 //! Reading a source whole, into a vector.
-ghost use Rattle.std.specs.Prelude.{◌≡◌, ◌⊎◌, ◌<◌, ◌≤◌, ◌+◌, ℕ, List, length, IfOk, IfSome, OnOk, OnErr, IsErrOf, vec_len, ◌++◌};
-ghost use Rattle.std.specs.Io.KnownBytes.{Consumes, IsAtEnd, Keeps};
+ghost use Rattle.std.specs.Prelude.{◌≡◌, ◌⊎◌, ◌<◌, ◌≤◌, ◌+◌, ℕ, List, length, IfOk, IfSome, OnOk, IsErrOf, vec_len};
+ghost use Rattle.std.specs.Io.KnownBytes.{Consumes, IsAtEnd};
 ghost use Rattle.n2k_run.specs.Device.{HasFailed, one_more};
-ghost use Rattle.n2k_run.specs.Reading.{Gains, OutlastsReads, most_reads};
+ghost use Rattle.n2k_run.specs.Reading.{OutlastsReads, most_reads};
+ghost use Rattle.n2k_run.specs.Inner.Reading.{Gains};
 
 use crate::blocks::BLOCK;
 use crate::device::Source;
@@ -25,7 +26,7 @@ fn read_more<R: Source>(
     ensures few { vec_len input.new ≤ vec_len input.old + length block.old }
     ensures end { IfOk result (λ n. n ≡ 0 → IsAtEnd (R.remaining reader.new)) }
     ensures no_failure { (IsErrOf result BytesFault.Read → ⊥) → R.failed_calls reader.new ≡ R.failed_calls reader.old }
-    ensures read { IsErrOf result BytesFault.Read → HasFailed (R.failed_calls reader.old) (R.failed_calls reader.new) }
+    ensures read_fails { IsErrOf result BytesFault.Read → HasFailed (R.failed_calls reader.old) (R.failed_calls reader.new) }
     ensures called { OnOk result (R.calls reader.new ≡ one_more (R.calls reader.old)) }
     ensures short { IsErrOf result BytesFault.TooLong → ⊥ }
 {
@@ -51,7 +52,7 @@ pub fn read_bytes<R: Source>(
     ensures no_failure { (IsErrOf result BytesFault.Read → ⊥) → R.failed_calls reader.new ≡ R.failed_calls reader.old }
     ensures too_long { IsErrOf result BytesFault.TooLong
         → IfSome (R.remaining reader.old) (λ left. limit < length left) }
-    ensures read { IsErrOf result BytesFault.Read
+    ensures read_fails { IsErrOf result BytesFault.Read
         → HasFailed (R.failed_calls reader.old) (R.failed_calls reader.new)
         ⊎ (OutlastsReads (R.calls reader.old) (R.calls reader.new) × (R.failed_calls reader.new ≡ R.failed_calls reader.old) × (most_reads ≤ limit)) }
     ensures consumed { (taken : List ℕ)

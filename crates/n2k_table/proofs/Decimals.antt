@@ -11,7 +11,8 @@ use Rattle.std.proofs.lemmas.Fmt.{decimal_is_IsNumeral_wide, decimal_by_steps_wi
 use Rattle.std.proofs.lemmas.Int.Digits.{digits_value-lt}
 use Rattle.std.proofs.lemmas.List.{length-append, length-replicate, length-take, length-drop, take-append-drop, take_at, drop_at, get_or_append_left, get_or-take}
 use Rattle.std.proofs.lemmas.Str.Parse.{digit_from_value}
-use Rattle.n2k_table.specs.Decimal.{sign_of, after_dot, IsDecimal, padded_digits, dotted, filled, dec}
+use Rattle.n2k_table.specs.Decimal.{sign_of, after_dot, IsDecimal, padded_digits, dotted, dec}
+use Rattle.n2k_table.specs.Inner.Digits.{filled}
 use Rattle.n2k_table.proofs.Digits.{digit_value_is, digits_value_after-append}
 
 -- digits of n, at least e + 1 of them, and where there are more none of them leads as a zero

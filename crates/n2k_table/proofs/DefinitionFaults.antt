@@ -8,11 +8,14 @@ use Rattle.n2k_table.specs.declared.definition.Kind.TheVariants.{Single}
 use Rattle.n2k_table.specs.declared.fault.TableFault.{TableFault}
 use Rattle.n2k_table.specs.declared.fault.TableFault.TheVariants.{Key, Mixed, TooMany}
 use Rattle.n2k_table.specs.declared.tree.Place.TheVariants.{Definition}
-use Rattle.n2k_table.specs.Fault.{◌>>=◌, fault_of, faults_in, value_or, unless, judged}
+use Rattle.n2k_wire.specs.Steps.{◌>>=◌}
+use Rattle.n2k_table.specs.Fault.{fault_of, faults_in, value_or, unless}
 use Rattle.n2k_table.specs.Tree.{has_only_keys, as_members}
 use Rattle.n2k_table.specs.Lookup.{LookupParts}
-use Rattle.n2k_table.specs.Definition.{DefinitionParts, fields_faults, members_faults, definition_faults, members_definition, definition, number_of, kind_of, description_of, fields_of, number_and_kind, pgn_kind, counted_kind}
+use Rattle.n2k_table.specs.Definition.{DefinitionParts, fields_faults, members_faults, definition_faults, members_definition, definition, number_of, kind_of, description_of, fields_of, number_and_kind, counted_kind}
 use Rattle.n2k_table.specs.Table.{has_mixed, definitions_faults}
+use Rattle.n2k_table.specs.Inner.Reading.{judged}
+use Rattle.n2k_table.specs.Inner.Kinds.{pgn_kind}
 use Rattle.n2k_table.proofs.Each.{nil_parts, filter_map-counted}
 use Rattle.n2k_table.proofs.Listed.{ok_without_fault, list_many, list_fault, list_late, list_read}
 

@@ -9,7 +9,7 @@ use Rattle.toml.specs.Data.{Members}
 use Rattle.toml.specs.Parse.{parse_document}
 use Rattle.n2k_table.specs.declared.fault.TableFault.{TableFault}
 use Rattle.n2k_table.specs.declared.fault.TableFault.TheVariants.{NotToml}
-use Rattle.n2k_table.specs.Fault.{judged}
+use Rattle.n2k_table.specs.Inner.Reading.{judged}
 use Rattle.n2k_table.specs.Definition.{DefinitionParts}
 use Rattle.n2k_table.specs.Table.{document, document_faults, faults, table, top_faults, top_definitions}
 use Rattle.n2k_table.proofs.Each.{judged_err, judged_ok}

@@ -8,8 +8,9 @@ use Rattle.toml.specs.declared.value.Value.{Value}
 use Rattle.toml.proofs.Views.{items_view-drop}
 use Rattle.n2k_table.specs.declared.fault.TableFault.{TableFault}
 use Rattle.n2k_table.specs.declared.fault.TableFault.TheVariants.{TooMany}
-use Rattle.n2k_table.specs.Fault.{judged, unless}
+use Rattle.n2k_table.specs.Fault.{unless}
 use Rattle.n2k_table.specs.Tree.{elements}
+use Rattle.n2k_table.specs.Inner.Reading.{judged}
 
 -- what reading gives for each of some elements
 abbrev pub each : {X : Type 0} → (Data → List TableFault) → (Data → X) → List Data → Result (List X) TableFault

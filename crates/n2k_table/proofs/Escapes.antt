@@ -9,7 +9,8 @@ use Rattle.std.proofs.lemmas.List.Folds.{list_all_at}
 use Rattle.std.proofs.Math.Bool.{and-true, and_assoc}
 use Rattle.std.proofs.Math.ListN.{drop_of_length-le}
 use Rattle.json.specs.Print.{escape_letter, escape_byte}
-use Rattle.n2k_table.specs.Text.{text_json, character, hex_digits, pair, pairs, is_plain}
+use Rattle.n2k_table.specs.Text.{text_json, character, hex_digits, pair, pairs}
+use Rattle.n2k_table.specs.Inner.Line.{is_plain}
 
 is_not : (b : ℕ) → is_plain b ≡ true → (32 ≤ b) × (eqb b 34 ≡ false) × (eqb b 92 ≡ false)
 is_not b h =

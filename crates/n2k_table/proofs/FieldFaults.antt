@@ -9,7 +9,8 @@ use Rattle.n2k_table.specs.declared.fault.TableFault.TheVariants.{Key, Range, Lo
 use Rattle.n2k_table.specs.declared.tree.FieldKind.{FieldKind}
 use Rattle.n2k_table.specs.declared.tree.FieldKind.TheVariants as kind
 use Rattle.n2k_table.specs.declared.tree.Place.TheVariants.{NumberField, LookupField, ByteField, Definition}
-use Rattle.n2k_table.specs.Fault.{◌>>=◌, fault_of, faults_in, value_or, unless, judged}
+use Rattle.n2k_wire.specs.Steps.{◌>>=◌}
+use Rattle.n2k_table.specs.Fault.{fault_of, faults_in, value_or, unless}
 use Rattle.n2k_table.specs.Tree.{has_only_keys}
 use Rattle.n2k_table.specs.Resolution.{resolution_at}
 use Rattle.n2k_table.specs.Twice.{has_twice}
@@ -17,6 +18,7 @@ use Rattle.n2k_table.specs.Lookup.{LookupParts}
 use Rattle.n2k_table.specs.Field.{FieldParts, name_of, at_of, bits_of, byte_at_of, byte_bits_of, signed_of, wanted_of, lookup_of, ends_in_message, has_room_for_sign, fits_bits, is_there, number_faults, lookup_field_faults, byte_field_faults, faults_by_kind, field_by_kind, kind_of_field, members_or_none, field_faults, field, counted_name}
 use Rattle.n2k_table.specs.declared.definition.Kind.{Kind}
 use Rattle.n2k_table.specs.Definition.{fields_faults, members_faults, number_of, kind_of, description_of, fields_of}
+use Rattle.n2k_table.specs.Inner.Reading.{judged}
 use Rattle.n2k_table.proofs.Each.{nil_parts, judged_err}
 use Rattle.n2k_table.proofs.Listed.{ok_without_fault, list_many, list_fault, list_late, list_read}
 

@@ -9,8 +9,9 @@ use Rattle.n2k_wire.specs.Packet.{PacketParts}
 use Rattle.n2k_table.specs.Definition.{DefinitionParts}
 use Rattle.n2k_table.specs.Shown.{ShownParts}
 use Rattle.n2k_table.specs.Table.{TableParts, is_of, matches, choice}
-use Rattle.n2k_table.specs.Text.{text_json, pairs, is_plain}
-use Rattle.n2k_table.specs.Json.{id_json, head_json, sender_json, seen_json, label_json, members_json, line_json, unmatched_json}
+use Rattle.n2k_table.specs.Text.{text_json, pairs}
+use Rattle.n2k_table.specs.Json.{id_json, head_json, line_json, unmatched_json}
+use Rattle.n2k_table.specs.Inner.Line.{is_plain, sender_json, seen_json, label_json, members_json}
 use Rattle.n2k_table.proofs.Escapes.{text_json-plain}
 
 -- numbers of up to three digits

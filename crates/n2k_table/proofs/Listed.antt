@@ -5,7 +5,8 @@ use Rattle.std.proofs.lemmas.Bool.Decides.{nat_tests}
 use Rattle.toml.specs.Data.{Data}
 use Rattle.n2k_table.specs.declared.fault.TableFault.{TableFault}
 use Rattle.n2k_table.specs.declared.fault.TableFault.TheVariants.{TooMany}
-use Rattle.n2k_table.specs.Fault.{fault_of, value_or, unless, judged}
+use Rattle.n2k_table.specs.Fault.{fault_of, value_or, unless}
+use Rattle.n2k_table.specs.Inner.Reading.{judged}
 use Rattle.n2k_table.proofs.Each.{filter_map-counted, judged_ok, listed_many, listed_fault, listed_late, listed_none}
 use Rattle.std.proofs.Common.{refl}
 

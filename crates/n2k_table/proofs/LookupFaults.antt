@@ -8,11 +8,13 @@ use Rattle.toml.specs.Data.{Data, Members, no_members}
 use Rattle.n2k_table.specs.declared.fault.TableFault.{TableFault}
 use Rattle.n2k_table.specs.declared.fault.TableFault.TheVariants.{Key, Twice, TooMany}
 use Rattle.n2k_table.specs.declared.tree.Place.TheVariants.{Lookup}
-use Rattle.n2k_table.specs.Fault.{◌>>=◌, fault_of, faults_in, value_or, unless, judged}
+use Rattle.n2k_wire.specs.Steps.{◌>>=◌}
+use Rattle.n2k_table.specs.Fault.{fault_of, faults_in, value_or, unless}
 use Rattle.n2k_table.specs.Tree.{has_only_keys, as_members}
 use Rattle.n2k_table.specs.Twice.{has_twice}
 use Rattle.n2k_table.specs.Inner.Entries.{once}
 use Rattle.n2k_table.specs.Lookup.{LookupParts, pair_of, value_in, name_in, pair_faults, pair_entry, entry_faults, entry, counted_value, entries_faults, lookup_name_of, entries_of, lookup_members_faults, members_lookup, lookup_faults, lookup, counted_lookup, lookups_faults}
+use Rattle.n2k_table.specs.Inner.Reading.{judged}
 use Rattle.n2k_table.proofs.Each.{nil_parts, judged_err}
 use Rattle.n2k_table.proofs.Listed.{ok_without_fault, list_many, list_fault, list_late, list_read}
 use Rattle.n2k_table.proofs.Names.{values}

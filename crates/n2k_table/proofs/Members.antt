@@ -4,7 +4,8 @@ use Rattle.std.specs.List.{filter_map, cons_option, join_with_byte}
 use Rattle.std.proofs.lemmas.List.{append-nil, drop_more, at_drop_all}
 use Rattle.n2k_table.specs.Field.{FieldParts}
 use Rattle.n2k_table.specs.Shown.{all_shown, shown}
-use Rattle.n2k_table.specs.Json.{member_json, member_text}
+use Rattle.n2k_table.specs.Json.{member_json}
+use Rattle.n2k_table.specs.Inner.Line.{member_text}
 
 -- members with a comma before each, but for the first where none stands before
 abbrev pub members_from : Bool → List (List ℕ) → List ℕ

@@ -10,11 +10,13 @@ use Rattle.n2k_table.specs.declared.definition.Kind.TheVariants.{Single, Fast}
 use Rattle.n2k_table.specs.declared.fault.TableFault.{TableFault}
 use Rattle.n2k_table.specs.declared.fault.TableFault.TheVariants.{Format, Key, Mixed, TooMany}
 use Rattle.n2k_table.specs.declared.tree.Place.TheVariants.{Document}
-use Rattle.n2k_table.specs.Fault.{unless, value_or, faults_in, judged, GivesOrMemory}
+use Rattle.n2k_table.specs.Fault.{unless, value_or, faults_in}
 use Rattle.n2k_table.specs.Tree.{has_only_keys}
 use Rattle.n2k_table.specs.Lookup.{LookupParts, lookups_faults}
-use Rattle.n2k_table.specs.Definition.{DefinitionParts, definition_faults, definition, pgn_kind, counted_kind}
+use Rattle.n2k_table.specs.Definition.{DefinitionParts, definition_faults, definition, counted_kind}
 use Rattle.n2k_table.specs.Table.{TableParts, is_format_1, is_same_kind, are_mixed, has_mixed, definitions_faults, lookups_of, lookup_names, definitions_of, top_faults, top_lookups, document, document_faults, faults, top_definitions, table, is_of, kind}
+use Rattle.n2k_table.specs.Inner.Reading.{judged, GivesOrMemory}
+use Rattle.n2k_table.specs.Inner.Kinds.{pgn_kind}
 use Rattle.n2k_table.proofs.Each.{nil_parts, judged_ok}
 use Rattle.n2k_table.proofs.DefinitionFaults.{counted_kinds}
 

@@ -6,11 +6,12 @@ use Rattle.toml.specs.Data.{Data, Members}
 use Rattle.n2k_table.specs.declared.fault.TableFault.{TableFault}
 use Rattle.n2k_table.specs.declared.fault.TableFault.TheVariants.{Twice, TooMany}
 use Rattle.n2k_table.specs.declared.tree.Place.TheVariants.{Document}
-use Rattle.n2k_table.specs.Fault.{faults_in, value_or, unless, judged}
+use Rattle.n2k_table.specs.Fault.{faults_in, value_or, unless}
 use Rattle.n2k_table.specs.Tree.{has_only_keys}
 use Rattle.n2k_table.specs.Twice.{has_twice}
 use Rattle.n2k_table.specs.Lookup.{LookupParts, lookup, lookup_faults, lookups_faults, counted_lookup}
 use Rattle.n2k_table.specs.Table.{is_format_1, lookups_of, lookup_names, definitions_of, definitions_faults, definitions_in, top_faults, top_lookups, top_definitions}
+use Rattle.n2k_table.specs.Inner.Reading.{judged}
 use Rattle.n2k_table.proofs.Each.{nil_parts, filter_map-counted, judged_ok}
 use Rattle.n2k_table.proofs.LookupFaults.{counted_lookup-without_fault}
 

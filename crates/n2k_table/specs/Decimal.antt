@@ -46,10 +46,6 @@ padded_digits n e = replicate (e + 1 - length (decimal n)) nought ++ decimal n
 abbrev pub dotted : ℕ → List ℕ → List ℕ
 dotted e ds = take (length ds - e) ds ++ after_dot (drop (length ds - e) ds)
 
--- for private clauses: e digits after the dot, of which the last are these, and a zero before it
-abbrev pub filled : ℕ → List ℕ → List ℕ
-filled e ds = nought ∷ dot ∷ (replicate (e - length ds) nought ++ ds)
-
 -- the decimal text of x / 10 ^ e
 unfoldable pub dec : ℤ → ℕ → List ℕ
 dec x e = sign_of x ++ dotted e (padded_digits (unsigned_abs x) e)

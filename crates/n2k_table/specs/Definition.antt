@@ -10,7 +10,8 @@ use Rattle.n2k_table.specs.declared.definition.Kind.TheVariants.{Single, Fast}
 use Rattle.n2k_table.specs.declared.fault.TableFault.{TableFault}
 use Rattle.n2k_table.specs.declared.fault.TableFault.TheVariants.{Key, Text, Twice, TooMany}
 use Rattle.n2k_table.specs.declared.tree.Place.TheVariants.{Definition}
-use Rattle.n2k_table.specs.Fault.{◌>>=◌, fault_of, faults_in, value_or, unless}
+use Rattle.n2k_wire.specs.Steps.{◌>>=◌}
+use Rattle.n2k_table.specs.Fault.{fault_of, faults_in, value_or, unless}
 use Rattle.n2k_table.specs.Tree.{has_only_keys, as_members, whole_at, any_text_at, text_at, elements_at}
 use Rattle.n2k_table.specs.Lookup.{LookupParts}
 use Rattle.n2k_table.specs.Field.{FieldParts, members_or_none, field_faults, field, counted_name}
@@ -77,10 +78,6 @@ members_definition lookups m = record {
 
 abbrev pub definition : List LookupParts → Data → DefinitionParts
 definition lookups d = members_definition lookups (members_or_none d)
-
--- the PGN of a definition, and how it says that the PGN is sent
-abbrev pub pgn_kind : DefinitionParts → ℕ × Kind
-pgn_kind d = (d.number, d.kind)
 
 -- The PGN and the kind under which a definition counts, where neither has a fault.
 abbrev pub number_and_kind : Members → Result (ℕ × Kind) TableFault

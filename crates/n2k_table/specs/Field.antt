@@ -11,7 +11,8 @@ use Rattle.n2k_table.specs.declared.resolution.Resolution.{Resolution}
 use Rattle.n2k_table.specs.declared.tree.FieldKind.{FieldKind}
 use Rattle.n2k_table.specs.declared.tree.FieldKind.TheVariants as kind
 use Rattle.n2k_table.specs.declared.tree.Place.TheVariants.{NumberField, LookupField, ByteField}
-use Rattle.n2k_table.specs.Fault.{◌>>=◌, fault_of, faults_in, value_or, unless}
+use Rattle.n2k_wire.specs.Steps.{◌>>=◌}
+use Rattle.n2k_table.specs.Fault.{fault_of, faults_in, value_or, unless}
 use Rattle.n2k_table.specs.Lookup.{LookupParts}
 use Rattle.n2k_table.specs.Tree.{has_only_keys, as_members, whole_at, any_text_at, text_at, truth_at}
 use Rattle.n2k_table.specs.Resolution.{resolution_at, one}

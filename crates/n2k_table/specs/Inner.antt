@@ -1,6 +1,10 @@
 -- Words that only private clauses, invariants and proofs of this crate use.
+pub mod Digits
 pub mod Entries
 pub mod Index
 pub mod Kept
+pub mod Kinds
+pub mod Line
+pub mod Reading
 pub mod Seen
 pub mod Tail

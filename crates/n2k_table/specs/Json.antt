@@ -67,28 +67,3 @@ chosen_json None m empty = unmatched_json m
 
 unfoldable pub json : TableParts → PacketParts → Bool → List ℕ
 json t m empty = chosen_json (choice t m.id.pgn m.payload) m empty
-
--- for private clauses: who sent what to whom, up to the PGN
-unfoldable pub sender_json : Id → List ℕ
-sender_json id = codes ",\"prio\":" ++ decimal id.prio ++ codes ",\"src\":" ++ decimal id.src ++ codes ",\"dst\":" ++ decimal id.dst
-
--- for private clauses: what stands before the PGN
-unfoldable pub seen_json : PacketParts → List ℕ
-seen_json m = codes "{\"timestamp\":" ++ text_json m.stamp ++ sender_json m.id
-
--- for private clauses: what a definition puts between that and the members
-unfoldable pub label_json : ℕ → List ℕ → List ℕ
-label_json pgn description = codes ",\"pgn\":" ++ decimal pgn ++ codes ",\"description\":" ++ text_json description ++ codes ",\"fields\":{"
-
--- for private clauses: the members of an object, of these fields
-abbrev pub members_json : Bool → List (List ℕ × ShownParts) → List ℕ
-members_json empty fields = join_with_byte comma (filter_map (member_json empty) fields)
-
--- for private clauses: what stands before the value of a member, with a comma where a member stands before
-abbrev pub key_json : Bool → List ℕ → List ℕ
-key_json later key = (if later then comma ∷ [] else []) ++ (text_json key ++ colon ∷ [])
-
--- for private clauses: a member after those before it
-abbrev pub member_text : Bool → Option (List ℕ) → List ℕ
-member_text later None = []
-member_text later (Some member) = (if later then comma ∷ [] else []) ++ member

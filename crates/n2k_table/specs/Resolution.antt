@@ -1,5 +1,5 @@
 -- A resolution as text: 1 to 10 digits, and then nothing or a dot and 1 to 18 digits.
-use Rattle.std.specs.Prelude.{◌≡◌, ◌≤◌, ℕ, ◌+◌, Bool, true, ◌&&◌, ◌==◌, nat_le, codes, List, [], ◌++◌, length, take, drop, position, Option, Some, None, Result, Ok, Err, if◌then◌else◌}
+use Rattle.std.specs.Prelude.{ℕ, ◌+◌, Bool, ◌&&◌, ◌==◌, nat_le, codes, List, [], ◌++◌, length, take, drop, position, Option, Some, None, Result, Ok, Err, if◌then◌else◌}
 use Rattle.std.specs.Char.{is_ascii_digit}
 use Rattle.std.specs.List.{list_all}
 use Rattle.std.specs.Option.{ok_or}
@@ -9,7 +9,7 @@ use Rattle.n2k_table.specs.declared.fault.TableFault.{TableFault}
 use Rattle.n2k_table.specs.declared.fault.TableFault.TheVariants.{Key, Range, Text}
 use Rattle.n2k_table.specs.declared.resolution.Resolution.{Resolution}
 use Rattle.n2k_table.specs.Decimal.{dot}
-use Rattle.n2k_table.specs.Fault.{◌>>=◌}
+use Rattle.n2k_wire.specs.Steps.{◌>>=◌}
 
 -- the most digits before the dot
 abbrev pub most_whole_digits : ℕ
@@ -36,11 +36,6 @@ parts_at (Some i) text =
 
 abbrev pub parts : List ℕ → Result (List ℕ × List ℕ) TableFault
 parts text = parts_at (position (λ b. b == dot) text) text
-
--- for private clauses: digits alone, and not too many after the dot
-abbrev pub ArePartsOfDigits : List ℕ → List ℕ → Type 0
-ArePartsOfDigits whole decimals =
-    (list_all is_ascii_digit whole ≡ true) × (list_all is_ascii_digit decimals ≡ true) × (length decimals ≤ most_decimals)
 
 -- the number that all digits make, and how many stand after the dot
 abbrev pub of_parts : List ℕ → List ℕ → Result Resolution TableFault

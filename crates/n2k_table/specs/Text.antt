@@ -1,5 +1,5 @@
 -- Texts in JSON.
-use Rattle.std.specs.Prelude.{ℕ, ◌/◌, ◌%◌, ◌==◌, Bool, not, ◌&&◌, nat_le, codes, List, [], ◌∷◌, slice_index, map}
+use Rattle.std.specs.Prelude.{ℕ, ◌/◌, ◌%◌, codes, List, [], ◌∷◌, slice_index, map}
 use Rattle.std.specs.List.{join_with_byte}
 use Rattle.std.specs.Char.{encode_utf8}
 use Rattle.serde_json.specs.Data.{string}
@@ -28,8 +28,3 @@ space = 32
 -- bytes as pairs of digits, with a space between
 abbrev pub pairs : List ℕ → List ℕ
 pairs bytes = join_with_byte space (map pair bytes)
-
--- for private clauses: a byte that stands for itself in a JSON text, neither below the space nor a quote nor a
--- backslash
-abbrev pub is_plain : ℕ → Bool
-is_plain b = nat_le 32 b && not (b == 34) && not (b == 92)

@@ -1,19 +1,14 @@
 -- One value of a TOML table: of which kind it is, and whether it lies in its range.
 use Rattle.std.specs.Prelude.{ℕ, ℤ, pos, negsuc, Bool, true, false, ◌&&◌, nat_le, codes, List, [], ◌∷◌, length, Option, Some, None, Result, Ok, Err, if◌then◌else◌}
-use Rattle.std.specs.Prelude.{Vec}
-use Rattle.std.specs.declared.alloc.Global.{Global}
-use Rattle.std.specs.Borrow.{Bor}
 use Rattle.std.specs.Option.{ok_or}
 use Rattle.std.specs.Str.{bytes_eq}
 use Rattle.std.specs.List.{list_any}
 use Rattle.toml.specs.Data.{Data, Items, no_items, item, Members, no_members, member, get_member, as_integer, as_str, as_bool, as_array, as_table}
-use Rattle.toml.specs.View.{array_view}
-use Rattle.toml.specs.declared.value.Value.{Value}
 use Rattle.n2k_table.specs.declared.fault.TableFault.{TableFault}
 use Rattle.n2k_table.specs.declared.fault.TableFault.TheVariants.{Key, Range, Text}
 use Rattle.n2k_table.specs.declared.tree.Place.{Place}
 use Rattle.n2k_table.specs.declared.tree.Place.TheVariants.{Document, Lookup, Definition, NumberField, LookupField, ByteField}
-use Rattle.n2k_table.specs.Fault.{◌>>=◌}
+use Rattle.n2k_wire.specs.Steps.{◌>>=◌}
 
 -- the most bytes of a name or a description
 abbrev pub longest_text : ℕ
@@ -97,8 +92,3 @@ elements_at key ms = do
 abbrev pub elements_or_none : Option Data → Result (List Data) TableFault
 elements_or_none None = Ok []
 elements_or_none (Some d) = as_elements d
-
--- for private clauses: what an array that may be missing holds
-abbrev pub elements_of : Option (Bor (Vec Value Global)) → List Data
-elements_of None = []
-elements_of (Some array) = elements (array_view array.now)

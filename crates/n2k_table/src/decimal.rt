@@ -1,6 +1,7 @@
 //! The decimal text of a whole number over a power of ten.
 ghost use Rattle.std.specs.Prelude.{◌≡◌, ◌++◌, ◌≤◌, ℕ, List, length, decimal, OnOk, OnErr};
-ghost use Rattle.n2k_table.specs.Decimal.{IsDecimal, dec, dotted, filled, sign_of};
+ghost use Rattle.n2k_table.specs.Decimal.{IsDecimal, dec, dotted, sign_of};
+ghost use Rattle.n2k_table.specs.Inner.Digits.{filled};
 
 use crate::tail::Tail;
 use itoa::Buffer;

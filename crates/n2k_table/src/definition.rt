@@ -4,14 +4,15 @@ ghost use Rattle.std.specs.List.{list_any};
 ghost use Rattle.std.specs.Str.{bytes_eq};
 ghost use Rattle.toml.specs.View.{view, table_view, array_view};
 ghost use Rattle.n2k_wire.specs.Views.{Gives};
-ghost use Rattle.n2k_table.specs.Fault.{GivesOrMemory, judged};
+ghost use Rattle.n2k_table.specs.Inner.Reading.{GivesOrMemory, judged};
 ghost use Rattle.n2k_table.specs.Tree.{elements};
 ghost use Rattle.n2k_table.specs.Lookup.{LookupParts};
-ghost use Rattle.n2k_table.specs.Json.{label_json};
+ghost use Rattle.n2k_table.specs.Inner.Line.{label_json};
 ghost use Rattle.n2k_table.specs.Twice.{has_twice};
 ghost use Rattle.n2k_table.specs.Field.{field, field_faults};
 ghost use Rattle.n2k_table.specs.Table.{are_mixed, has_mixed};
-ghost use Rattle.n2k_table.specs.Definition.{named_kind, pgn_kind, fields_faults, members_faults, members_definition, definition_faults, definition};
+ghost use Rattle.n2k_table.specs.Definition.{named_kind, fields_faults, members_faults, members_definition, definition_faults, definition};
+ghost use Rattle.n2k_table.specs.Inner.Kinds.{pgn_kind};
 
 use crate::fault::TableFault;
 use crate::field::{Field, read_field};
@@ -51,7 +52,7 @@ pub(crate) struct StoredDefinition {
 
 impl Model for StoredDefinition {
     ghost use Rattle.std.specs.Prelude.{◌≡◌, string_bytes};
-    ghost use Rattle.n2k_table.specs.Json.{label_json};
+    ghost use Rattle.n2k_table.specs.Inner.Line.{label_json};
     ghost use Rattle.n2k_table.specs.Definition.{DefinitionParts};
 
     ghost Value = { DefinitionParts };
@@ -67,7 +68,7 @@ impl Model for StoredDefinition {
 }
 
 impl StoredDefinition {
-    ghost use Rattle.n2k_table.specs.Json.{label_json};
+    ghost use Rattle.n2k_table.specs.Inner.Line.{label_json};
     ghost use Rattle.n2k_table.specs.Table.{matches};
 
     /// The PGN that it describes.
@@ -134,7 +135,7 @@ impl<'a> Model for Definition<'a> {
 }
 
 impl<'a> Definition<'a> {
-    ghost use Rattle.n2k_table.specs.Json.{label_json};
+    ghost use Rattle.n2k_table.specs.Inner.Line.{label_json};
     ghost use Rattle.n2k_table.specs.Shown.{all_shown};
 
     /// The view of a definition that the table keeps.
@@ -245,7 +246,7 @@ fn read_fields(alloc: Global, lookups: &Lookups, values: &Array) -> Result<Vec<F
 }
 
 // What the definition of a PGN puts into a line before the members.
-#[tactic(auto, using(std::proofs::Common::append_assoc), unfolding(crate::specs::Json::label_json))]
+#[tactic(auto, using(std::proofs::Common::append_assoc), unfolding(crate::specs::Inner::Line::label_json))]
 fn label_of(alloc: Global, number: u32, description: &str) -> Result<Vec<u8>, AllocError>
     ensures { IfOk result (λ label. label.items ≡ label_json number description.now) }
 {

@@ -1,9 +1,9 @@
 //! What a table says of one field.
-ghost use Rattle.std.specs.Prelude.{◌≡◌, ◌≤◌, ◌+◌, ◌*◌, true, length, map, option_map, IfOk};
-ghost use Rattle.n2k_table.specs.Json.{key_json};
+ghost use Rattle.std.specs.Prelude.{◌≡◌, ◌≤◌, ◌+◌, ◌*◌, true, length, map, IfOk};
+ghost use Rattle.n2k_table.specs.Inner.Line.{key_json};
 ghost use Rattle.toml.specs.View.{view, table_view};
 ghost use Rattle.n2k_wire.specs.Views.{Gives};
-ghost use Rattle.n2k_table.specs.Fault.{GivesOrMemory, judged};
+ghost use Rattle.n2k_table.specs.Inner.Reading.{GivesOrMemory, judged};
 ghost use Rattle.n2k_table.specs.Lookup.{LookupParts};
 ghost use Rattle.n2k_table.specs.Inner.Kept.{meaning as seen_meaning, IsByteMeaning};
 ghost use Rattle.n2k_table.specs.Field.{in_bytes, byte_at_of, byte_bits_of, wanted_of, is_of_bits, named_field_kind, number_faults, number_field, lookup_field_faults, lookup_field, byte_field_faults, byte_field, field_faults, field};
@@ -260,7 +260,7 @@ pub(crate) fn read_field(
 }
 
 impl Field {
-    ghost use Rattle.n2k_table.specs.Json.{key_json};
+    ghost use Rattle.n2k_table.specs.Inner.Line.{key_json};
     ghost use Rattle.n2k_table.specs.Inner.Seen.{seen_parts};
     ghost use Rattle.n2k_table.specs.Shown.{shown_parts, lies_inside, field_bytes, shown};
     ghost use Rattle.n2k_table.specs.Table.{field_matches};

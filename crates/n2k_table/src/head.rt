@@ -1,9 +1,8 @@
 //! What stands in a line before the PGN: when a message was seen, and who sent it to whom.
-ghost use Rattle.std.specs.Prelude.{◌≡◌, ◌++◌, ◌+◌, ◌≤◌, true, codes, length, decimal, OnOk};
+ghost use Rattle.std.specs.Prelude.{◌≡◌, ◌++◌, ◌+◌, ◌≤◌, true, length, decimal, OnOk};
 ghost use Rattle.std.specs.List.{list_all};
 ghost use Rattle.arrayvec.specs.ArrayVec.{array_vec_len};
-ghost use Rattle.n2k_table.specs.Text.{is_plain};
-ghost use Rattle.n2k_table.specs.Json.{sender_json, seen_json};
+ghost use Rattle.n2k_table.specs.Inner.Line.{is_plain, sender_json, seen_json};
 
 use crate::tail::Tail;
 use crate::text::{are_plain, push_text};
@@ -44,7 +43,7 @@ fn push_small(head: &mut Head, number: u8)
 }
 
 // Appends who sent what to whom, up to the PGN.
-#[tactic(auto, using(std::proofs::Common::append_assoc), unfolding(crate::specs::Json::sender_json))]
+#[tactic(auto, using(std::proofs::Common::append_assoc), unfolding(crate::specs::Inner::Line::sender_json))]
 fn push_sender(head: &mut Head, id: Id)
     requires { array_vec_len head.old + 31 ≤ 80 }
     ensures items { head.new.items ≡ head.old.items ++ sender_json id }

@@ -1,9 +1,9 @@
 //! The JSON line of a message.
-ghost use Rattle.std.specs.Prelude.{◌≡◌, ◌++◌, ◌||◌, [], ◌∷◌, Bool, true, is_some, decimal, codes, option_map, IfOk, IfSome, OnOk, OnErr, Some};
+ghost use Rattle.std.specs.Prelude.{◌≡◌, ◌++◌, ◌||◌, true, is_some, decimal, IfOk, IfSome, OnOk, OnErr, Some};
 ghost use Rattle.n2k_table.specs.Inner.Seen.{seen_parts};
 ghost use Rattle.n2k_table.specs.Shown.{shown, all_shown};
-ghost use Rattle.n2k_table.specs.Text.{text_json};
-ghost use Rattle.n2k_table.specs.Json.{value_json, member_json, member_text, members_json, unmatched_json, chosen_json, json};
+ghost use Rattle.n2k_table.specs.Json.{value_json, member_json, unmatched_json, chosen_json, json};
+ghost use Rattle.n2k_table.specs.Inner.Line.{member_text, members_json};
 
 use crate::decimal::push_decimal;
 use crate::definition::Definition;

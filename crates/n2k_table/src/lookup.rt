@@ -1,10 +1,10 @@
 //! Names of values.
-ghost use Rattle.std.specs.Prelude.{◌≡◌, map, flat_map, nat_eq, option_map, IfOk, find};
+ghost use Rattle.std.specs.Prelude.{◌≡◌, map, flat_map, option_map, IfOk, find};
 ghost use Rattle.std.specs.List.{list_any};
 ghost use Rattle.std.specs.Str.{bytes_eq};
 ghost use Rattle.toml.specs.View.{view, table_view, array_view};
 ghost use Rattle.n2k_wire.specs.Views.{Gives};
-ghost use Rattle.n2k_table.specs.Fault.{GivesOrMemory, judged};
+ghost use Rattle.n2k_table.specs.Inner.Reading.{GivesOrMemory, judged};
 ghost use Rattle.n2k_table.specs.Tree.{elements};
 ghost use Rattle.n2k_table.specs.Twice.{has_twice};
 ghost use Rattle.n2k_table.specs.Inner.Entries.{seen_entries, once};

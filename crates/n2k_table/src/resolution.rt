@@ -6,7 +6,8 @@ ghost use Rattle.std.specs.Option.{SomeIff};
 ghost use Rattle.std.specs.Str.Parse.{digits_value_after};
 ghost use Rattle.toml.specs.View.{table_view};
 ghost use Rattle.n2k_wire.specs.Views.{Gives};
-ghost use Rattle.n2k_table.specs.Resolution.{is_digits, parts, of_parts, resolution, resolution_at, ArePartsOfDigits};
+ghost use Rattle.n2k_table.specs.Resolution.{is_digits, parts, of_parts, resolution, resolution_at};
+ghost use Rattle.n2k_table.specs.Inner.Digits.{ArePartsOfDigits};
 
 use crate::fault::TableFault;
 use crate::tree::found;

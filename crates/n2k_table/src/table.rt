@@ -2,11 +2,12 @@
 ghost use Rattle.std.specs.Prelude.{◌≡◌, ◌≢◌, [], All, Contains, Some, IfOk, IfErr, map, flat_map};
 ghost use Rattle.toml.specs.View.{view, table_view, array_view};
 ghost use Rattle.n2k_table.specs.declared.fault.TableFault.TheVariants.{Memory};
-ghost use Rattle.n2k_table.specs.Fault.{GivesOrMemory, judged, faults_in};
+ghost use Rattle.n2k_table.specs.Fault.{faults_in};
 ghost use Rattle.n2k_table.specs.Lookup.{LookupParts, lookups_faults};
 ghost use Rattle.n2k_table.specs.Tree.{elements};
 ghost use Rattle.n2k_table.specs.Definition.{definition_faults, definition};
 ghost use Rattle.n2k_table.specs.Table.{definitions_faults, lookups_of, definitions_of, definitions_in, top_faults, top_lookups, top_definitions};
+ghost use Rattle.n2k_table.specs.Inner.Reading.{GivesOrMemory, judged};
 
 use crate::definition::{Definition, Kind, StoredDefinition, has_mixed, read_definition};
 use crate::fault::TableFault;
@@ -121,9 +122,9 @@ fn read_top(alloc: Global, top: &toml::Table) -> Result<Vec<StoredDefinition>, T
 }
 
 impl Table {
-    ghost use Rattle.std.specs.Prelude.{option_map, find};
+    ghost use Rattle.std.specs.Prelude.{option_map};
     ghost use Rattle.std.specs.Prelude.{◌<◌, length, slice_index, EachIndex};
-    ghost use Rattle.n2k_table.specs.Table.{faults, table, kind, choice, is_of};
+    ghost use Rattle.n2k_table.specs.Table.{faults, table, kind, choice};
     ghost use Rattle.n2k_table.specs.Inner.Index.{places, numbers};
 
     fn judge(alloc: Global, bytes: &[u8]) -> Result<Table, TableFault>

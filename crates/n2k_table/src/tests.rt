@@ -1,7 +1,8 @@
 //! The worked examples of the table, of field values and of JSON lines.
-use crate::{Kind, Shown, Table, TableFault, decimal_text, json_line};
+use crate::{Fields, Kind, Shown, Table, TableFault, decimal_text, json_line};
 use n2k_wire::{Id, Packet};
 use std::alloc::{AllocError, Global};
+use std::process::Abort;
 use std::test::Fail;
 
 // The sample table, in another spelling of the same document.
@@ -155,9 +156,14 @@ reads | kind = 'bytes', at = 1776, bits = 8
 3 Key | kind = 'text', at = 0, bits = 8, match = 0
 3 Key | kind = 'bytes', at = 0, bits = 8, resolution = '1'";
 
+// The table of a text. It has no clause, so that no test's proof goes through the text.
+fn read(alloc: Global, text: &str) -> Result<Table, TableFault> {
+    Table::read(alloc, text.as_bytes())
+}
+
 // What reading a table answers: `reads`, or the fault with its number.
 fn answer(alloc: Global, text: &str) -> Result<String, AllocError> {
-    match Table::read(alloc, text.as_bytes()) {
+    match read(alloc, text) {
         Ok(_) => String::from_str(alloc, "reads"),
         Err(fault) => format!(in alloc; "{fault}"),
     }
@@ -170,14 +176,24 @@ fn with_fields(alloc: Global, fields: &str) -> Result<String, AllocError> {
     )
 }
 
+fn sample(alloc: Global) -> Result<Table, TableFault> {
+    read(alloc, SAMPLE)
+}
+
 #[test]
 fn sample_reads(rt: HostRuntime) -> Result<(), Fail> {
-    let table = Table::read(rt.alloc(), SAMPLE.as_bytes())?;
+    let table = sample(rt.alloc())?;
     assert_eq!(rt; table.kind(129026), Some(Kind::Single));
     assert_eq!(rt; table.kind(130820), Some(Kind::Fast));
     assert_eq!(rt; table.kind(130821), None);
     assert_eq!(rt; table.places(130820), [2].as_slice());
     assert!(rt; table.places(130821).is_empty());
+    Ok(())
+}
+
+#[test]
+fn sample_chooses(rt: HostRuntime) -> Result<(), Fail> {
+    let table = sample(rt.alloc())?;
     let definition = table.choose(127251, &[]).ok_or("a definition")?;
     assert_eq!(rt; definition.description(), "Rate of Turn");
     assert!(rt; table.choose(130821, &[]).is_none());
@@ -186,173 +202,238 @@ fn sample_reads(rt: HostRuntime) -> Result<(), Fail> {
     Ok(())
 }
 
-// The digest is that of sha256sum.
+// The digest of `format = 1` and a line feed is that of sha256sum.
+const FORMAT_ALONE: [u8; 32] = [
+    0xa1, 0xaf, 0x1b, 0xcc, 0xf4, 0x68, 0x62, 0xc1, 0xce, 0x45, 0xd1, 0x06, 0x40, 0x94, 0xb0, 0x0a,
+    0x08, 0x08, 0x32, 0x95, 0x40, 0xe0, 0x6a, 0x44, 0xbc, 0xed, 0xd8, 0xc9, 0x21, 0x84, 0x9f, 0x1e,
+];
+
 #[test]
 fn format_alone_reads(rt: HostRuntime) -> Result<(), Fail> {
     let table = Table::read(rt.alloc(), b"format = 1\n")?;
     assert_eq!(rt; table.kind(129026), None);
-    let id = [
-        0xa1, 0xaf, 0x1b, 0xcc, 0xf4, 0x68, 0x62, 0xc1, 0xce, 0x45, 0xd1, 0x06, 0x40, 0x94, 0xb0,
-        0x0a, 0x08, 0x08, 0x32, 0x95, 0x40, 0xe0, 0x6a, 0x44, 0xbc, 0xed, 0xd8, 0xc9, 0x21, 0x84,
-        0x9f, 0x1e,
-    ];
-    assert_eq!(rt; table.id(), id);
+    assert_eq!(rt; table.id(), FORMAT_ALONE);
+    Ok(())
+}
+
+// The sample with one change answers as the case says.
+fn changed<R: Abort + AllocGlobal>(rt: &R, case: &str) -> Result<(), Fail> {
+    let (wanted, change) = case.split_once(" | ").ok_or("an answer")?;
+    let (old, new) = change.split_once(" | ").ok_or("a replacement")?;
+    let text = replaced(rt.alloc(), SAMPLE, old, new)?;
+    answers(rt, &text, wanted, case)
+}
+
+// A text with this part, where it stands first, replaced.
+fn replaced(alloc: Global, text: &str, old: &str, new: &str) -> Result<String, Fail> {
+    let (front, back) = text.split_once(old).ok_or("a part of the sample")?;
+    Ok(format!(in alloc; "{front}{new}{back}")?)
+}
+
+// The reading of a text gives this answer.
+fn answers<R: Abort + AllocGlobal>(
+    rt: &R,
+    text: &str,
+    wanted: &str,
+    case: &str,
+) -> Result<(), Fail> {
+    let text = answer(rt.alloc(), text)?;
+    assert_eq!(rt; text.as_str(), wanted, "{case}");
     Ok(())
 }
 
 #[test]
 fn one_change_each(rt: HostRuntime) -> Result<(), Fail> {
     for case in CHANGES.lines() {
-        let (wanted, change) = case.split_once(" | ").ok_or("an answer")?;
-        let (old, new) = change.split_once(" | ").ok_or("a replacement")?;
-        let (front, back) = SAMPLE.split_once(old).ok_or("a part of the sample")?;
-        let text = format!(in rt.alloc(); "{front}{new}{back}")?;
-        let text = answer(rt.alloc(), &text)?;
-        assert_eq!(rt; text.as_str(), wanted, "{case}");
+        changed(&rt, case)?;
     }
-    // the byte FF before the document
+    Ok(())
+}
+
+// The byte FF stands before the document.
+#[test]
+fn no_utf8(rt: HostRuntime) {
     let bytes = b"\xffformat = 1\n";
     assert_eq!(rt;
         Table::read(rt.alloc(), bytes).err(),
         Some(TableFault::NotToml)
     );
-    Ok(())
+}
+
+// A table of one field answers as the case says.
+fn field_answers<R: Abort + AllocGlobal>(rt: &R, case: &str) -> Result<(), Fail> {
+    let (wanted, field) = case.split_once(" | ").ok_or("an answer")?;
+    let field = format!(in rt.alloc(); "{{ name = 'F', {field} }}")?;
+    let text = with_fields(rt.alloc(), &field)?;
+    answers(rt, &text, wanted, case)
 }
 
 #[test]
 fn one_field_each(rt: HostRuntime) -> Result<(), Fail> {
     for case in FIELDS.lines() {
-        let (wanted, field) = case.split_once(" | ").ok_or("an answer")?;
-        let field = format!(in rt.alloc(); "{{ name = 'F', {field} }}")?;
-        let text = with_fields(rt.alloc(), &field)?;
-        let text = answer(rt.alloc(), &text)?;
-        assert_eq!(rt; text.as_str(), wanted, "{case}");
+        field_answers(&rt, case)?;
     }
     Ok(())
 }
 
-// A text of so many parts, where `{}` in a part stands for its number.
+// A part of a text, where `{}` stands for its number.
+fn push_part(
+    alloc: Global,
+    number: usize,
+    part: &str,
+    text: &mut String,
+) -> Result<(), AllocError> {
+    match part.split_once("{}") {
+        None => text.push_str(part),
+        Some((front, back)) => {
+            let one = format!(in alloc; "{front}{number}{back}")?;
+            text.push_str(&one)
+        }
+    }
+}
+
+// A text of so many parts.
 fn many(alloc: Global, count: usize, part: &str) -> Result<String, AllocError> {
     let mut text = String::new(alloc);
-    for i in 0..count {
-        match part.split_once("{}") {
-            None => text.push_str(part)?,
-            Some((front, back)) => {
-                let one = format!(in alloc; "{front}{i}{back}")?;
-                text.push_str(&one)?;
-            }
-        }
+    for number in 0..count {
+        push_part(alloc, number, part, &mut text)?;
     }
     Ok(text)
 }
 
+const FIELD: &str = "{ name = '{}', kind = 'number', at = 0, bits = 8 }, ";
+
+const DEFINITION: &str = "{ number = {}, kind = 'fast', description = 'D', fields = [] }, ";
+
+const ONE: &str = "pgn = [{ number = 1, kind = 'fast', description = 'D', fields = [";
+
+// What is answered where so many parts stand in a text: its front, the count, the part, its end, the answer.
+const LIMITS: [(&str, usize, &str, &str, &str); 13] = [
+    ("pgn = [", 4096, DEFINITION, "]", "reads"),
+    ("pgn = [", 4097, DEFINITION, "]", "9 TooMany"),
+    (ONE, 256, FIELD, "] }]", "reads"),
+    (ONE, 257, FIELD, "] }]", "9 TooMany"),
+    (
+        "lookup = [",
+        1024,
+        "{ name = '{}', entries = [] }, ",
+        "]",
+        "reads",
+    ),
+    (
+        "lookup = [",
+        1025,
+        "{ name = '{}', entries = [] }, ",
+        "]",
+        "9 TooMany",
+    ),
+    (
+        "lookup = [{ name = 'L', entries = [",
+        4096,
+        "[{}, 'N'], ",
+        "] }]",
+        "reads",
+    ),
+    (
+        "lookup = [{ name = 'L', entries = [",
+        4097,
+        "[{}, 'N'], ",
+        "] }]",
+        "9 TooMany",
+    ),
+    (
+        "lookup = [{ entries = [], name = '",
+        255,
+        "N",
+        "' }]",
+        "reads",
+    ),
+    (
+        "lookup = [{ entries = [], name = '",
+        256,
+        "N",
+        "' }]",
+        "5 Text",
+    ),
+    (
+        "lookup = [{ entries = [], name = '",
+        128,
+        "\u{e9}",
+        "' }]",
+        "5 Text",
+    ),
+    (
+        "pgn = [",
+        1,
+        "{ number = 1, kind = 'fast', description = 'D', fields = [], repeat = 1 }",
+        "]",
+        "3 Key",
+    ),
+    (
+        "lookup = [",
+        2,
+        "{ name = 'L', entries = [] }, ",
+        "]",
+        "6 Twice",
+    ),
+];
+
+fn limit_answers<R: Abort + AllocGlobal>(
+    rt: &R,
+    case: &(&str, usize, &str, &str, &str),
+) -> Result<(), Fail> {
+    let (front, count, part, back, wanted) = *case;
+    let middle = many(rt.alloc(), count, part)?;
+    let text = format!(in rt.alloc(); "format = 1\n{front}{middle}{back}\n")?;
+    let text = answer(rt.alloc(), &text)?;
+    assert_eq!(rt; text.as_str(), wanted, "{count} of {part}");
+    Ok(())
+}
+
 #[test]
 fn limits(rt: HostRuntime) -> Result<(), Fail> {
-    let field = "{ name = '{}', kind = 'number', at = 0, bits = 8 }, ";
-    let definition = "{ number = {}, kind = 'fast', description = 'D', fields = [] }, ";
-    let one = "pgn = [{ number = 1, kind = 'fast', description = 'D', fields = [";
-    let cases = [
-        ("pgn = [", 4096, definition, "]", "reads"),
-        ("pgn = [", 4097, definition, "]", "9 TooMany"),
-        (one, 256, field, "] }]", "reads"),
-        (one, 257, field, "] }]", "9 TooMany"),
-        (
-            "lookup = [",
-            1024,
-            "{ name = '{}', entries = [] }, ",
-            "]",
-            "reads",
-        ),
-        (
-            "lookup = [",
-            1025,
-            "{ name = '{}', entries = [] }, ",
-            "]",
-            "9 TooMany",
-        ),
-        (
-            "lookup = [{ name = 'L', entries = [",
-            4096,
-            "[{}, 'N'], ",
-            "] }]",
-            "reads",
-        ),
-        (
-            "lookup = [{ name = 'L', entries = [",
-            4097,
-            "[{}, 'N'], ",
-            "] }]",
-            "9 TooMany",
-        ),
-        (
-            "lookup = [{ entries = [], name = '",
-            255,
-            "N",
-            "' }]",
-            "reads",
-        ),
-        (
-            "lookup = [{ entries = [], name = '",
-            256,
-            "N",
-            "' }]",
-            "5 Text",
-        ),
-        (
-            "lookup = [{ entries = [], name = '",
-            128,
-            "\u{e9}",
-            "' }]",
-            "5 Text",
-        ),
-        (
-            "pgn = [",
-            1,
-            "{ number = 1, kind = 'fast', description = 'D', fields = [], repeat = 1 }",
-            "]",
-            "3 Key",
-        ),
-        (
-            "lookup = [",
-            2,
-            "{ name = 'L', entries = [] }, ",
-            "]",
-            "6 Twice",
-        ),
-    ];
-    for (front, count, part, back, wanted) in cases {
-        let middle = many(rt.alloc(), count, part)?;
-        let text = format!(in rt.alloc(); "format = 1\n{front}{middle}{back}\n")?;
-        let text = answer(rt.alloc(), &text)?;
-        assert_eq!(rt; text.as_str(), wanted, "{count} of {part}");
+    for case in &LIMITS {
+        limit_answers(&rt, case)?;
     }
+    Ok(())
+}
+
+// A value, its decimals, and its text.
+const DECIMALS: [(i128, u8, &str); 9] = [
+    (-1, 2, "-0.01"),
+    (0, 2, "0.00"),
+    (5, 0, "5"),
+    (-123456, 3, "-123.456"),
+    (1, 18, "0.000000000000000001"),
+    (i128::MIN, 0, "-170141183460469231731687303715884105728"),
+    (i128::MIN, 18, "-170141183460469231731.687303715884105728"),
+    (i128::MAX, 0, "170141183460469231731687303715884105727"),
+    (18446744073709551616, 1, "1844674407370955161.6"),
+];
+
+fn decimal_is<R: Abort + AllocGlobal>(
+    rt: &R,
+    value: i128,
+    decimals: u8,
+    text: &str,
+) -> Result<(), Fail> {
+    let mut out = Vec::from_slice(rt.alloc(), b"x=")?;
+    decimal_text(rt.alloc(), value, decimals, &mut out)?;
+    let wanted = format!(in rt.alloc(); "x={text}")?;
+    assert_eq!(rt; out.as_slice(), wanted.as_bytes(), "{text}");
     Ok(())
 }
 
 #[test]
 fn decimals(rt: HostRuntime) -> Result<(), Fail> {
-    let cases: [(i128, u8, &str); 9] = [
-        (-1, 2, "-0.01"),
-        (0, 2, "0.00"),
-        (5, 0, "5"),
-        (-123456, 3, "-123.456"),
-        (1, 18, "0.000000000000000001"),
-        (i128::MIN, 0, "-170141183460469231731687303715884105728"),
-        (i128::MIN, 18, "-170141183460469231731.687303715884105728"),
-        (i128::MAX, 0, "170141183460469231731687303715884105727"),
-        (18446744073709551616, 1, "1844674407370955161.6"),
-    ];
-    for (value, decimals, text) in cases {
-        let mut out = Vec::from_slice(rt.alloc(), b"x=")?;
-        decimal_text(rt.alloc(), value, decimals, &mut out)?;
-        let wanted = format!(in rt.alloc(); "x={text}")?;
-        assert_eq!(rt; out.as_slice(), wanted.as_bytes(), "{text}");
+    for (value, decimals, text) in &DECIMALS {
+        decimal_is(&rt, *value, *decimals, text)?;
     }
     Ok(())
 }
 
-// The object of the fields that a table prints of these data.
-fn printed(
+// The line that a table prints of these data, after a line that stands before it.
+fn line_of(
     alloc: Global,
     table: &Table,
     pgn: u32,
@@ -368,298 +449,379 @@ fn printed(
     let packet = Packet::new(b"a \"b\\c", id, data).ok_or("a packet")?;
     let mut out = Vec::from_slice(alloc, b"before\n")?;
     json_line(alloc, table, &packet, empty, &mut out)?;
+    Ok(String::from_utf8(out)?)
+}
+
+// The object of the fields that a table prints of these data.
+fn printed(
+    alloc: Global,
+    table: &Table,
+    pgn: u32,
+    data: &[u8],
+    empty: bool,
+) -> Result<String, Fail> {
     let head = format!(in alloc;
         "before\n{{\"timestamp\":\"a \\\"b\\\\c\",\"prio\":2,\"src\":36,\"dst\":255,\"pgn\":{pgn},\"description\":"
     )?;
-    let text = String::from_utf8(out).map_err(|_| "no UTF-8")?;
+    let text = line_of(alloc, table, pgn, data, empty)?;
     let rest = text.strip_prefix(head.as_str()).ok_or("another head")?;
     let rest = rest.strip_suffix("}\n").ok_or("another end")?;
     Ok(String::from_str(alloc, rest)?)
 }
 
+// A field, data, and what is shown.
+const SHOWN: [(&str, &[u8], &str); 36] = [
+    // bits that cross bytes, the low ones first
+    ("kind = 'number', at = 4, bits = 8", &[0xa5, 0x5b], "186"),
+    ("kind = 'number', at = 3, bits = 11", &[0xf8, 0x07], "255"),
+    ("kind = 'number', at = 0, bits = 16", &[0x02, 0x01], "258"),
+    // 64 bits at an odd bit: -2, and the least
+    (
+        "kind = 'number', at = 1, bits = 64, signed = true",
+        &[0xfc, 0xff, 0xff, 0xff, 0xff, 0xff, 0xff, 0xff, 0x01],
+        "-2",
+    ),
+    (
+        "kind = 'number', at = 1, bits = 64, signed = true",
+        &[0, 0, 0, 0, 0, 0, 0, 0, 1],
+        "-9223372036854775808",
+    ),
+    // the greatest product
+    (
+        "kind = 'number', at = 0, bits = 64, resolution = '42949672.95'",
+        &[0xfd, 0xff, 0xff, 0xff, 0xff, 0xff, 0xff, 0xff],
+        "792281624958175935069494968.35",
+    ),
+    // data that end before the field does
+    ("kind = 'number', at = 8, bits = 16", &[1, 2], "null"),
+    ("kind = 'number', at = 8, bits = 9", &[1, 2], "null"),
+    // the greatest value from two bits on, the greatest but one from four bits on
+    ("kind = 'number', at = 0, bits = 1", &[1], "1"),
+    ("kind = 'number', at = 0, bits = 2", &[3], "null"),
+    ("kind = 'number', at = 0, bits = 2", &[2], "2"),
+    ("kind = 'number', at = 0, bits = 3", &[6], "6"),
+    ("kind = 'number', at = 0, bits = 4", &[15], "null"),
+    ("kind = 'number', at = 0, bits = 4", &[14], "null"),
+    ("kind = 'number', at = 0, bits = 4", &[13], "13"),
+    (
+        "kind = 'number', at = 0, bits = 4, signed = true",
+        &[7],
+        "null",
+    ),
+    (
+        "kind = 'number', at = 0, bits = 4, signed = true",
+        &[6],
+        "null",
+    ),
+    (
+        "kind = 'number', at = 0, bits = 4, signed = true",
+        &[15],
+        "-1",
+    ),
+    // a match is the raw value, also of a signed field, and is printed like any other
+    (
+        "kind = 'number', at = 0, bits = 8, match = 255, signed = true",
+        &[255],
+        "-1",
+    ),
+    (
+        "kind = 'number', at = 0, bits = 8, match = 255",
+        &[255],
+        "null",
+    ),
+    // names, asked before a greatest value is absent
+    (
+        "kind = 'lookup', at = 0, bits = 2, lookup = 'L'",
+        &[3],
+        "\"Three\"",
+    ),
+    (
+        "kind = 'lookup', at = 0, bits = 2, lookup = 'L'",
+        &[0],
+        "\"z\u{e9}ro \\\"0\\\"\"",
+    ),
+    ("kind = 'lookup', at = 0, bits = 2, lookup = 'L'", &[2], "2"),
+    ("kind = 'lookup', at = 0, bits = 1, lookup = 'L'", &[1], "1"),
+    (
+        "kind = 'lookup', at = 0, bits = 4, lookup = 'L'",
+        &[14],
+        "14",
+    ),
+    (
+        "kind = 'lookup', at = 0, bits = 4, lookup = 'L'",
+        &[15],
+        "null",
+    ),
+    (
+        "kind = 'lookup', at = 8, bits = 4, lookup = 'L'",
+        &[0],
+        "null",
+    ),
+    // texts: what fills them up is cut, each byte is the character of its number
+    (
+        "kind = 'text', at = 8, bits = 32",
+        &[1, 65, 64, 32, 0],
+        "\"A\"",
+    ),
+    (
+        "kind = 'text', at = 0, bits = 32",
+        &[64, 65, 255, 66],
+        "\"@A\u{ff}B\"",
+    ),
+    ("kind = 'text', at = 0, bits = 16", &[0, 255], "null"),
+    (
+        "kind = 'text', at = 0, bits = 40",
+        &[10, 34, 92, 1, 127],
+        "\"\\n\\\"\\\\\\u0001\u{7f}\"",
+    ),
+    (
+        "kind = 'text', at = 0, bits = 16",
+        &[0xe9, 0x9f],
+        "\"\u{e9}\u{9f}\"",
+    ),
+    ("kind = 'text', at = 0, bits = 24", &[65, 66], "null"),
+    // bytes as they are
+    (
+        "kind = 'bytes', at = 8, bits = 24",
+        &[1, 0xff, 0x0a, 0],
+        "\"FF 0A 00\"",
+    ),
+    ("kind = 'bytes', at = 0, bits = 8", &[0xff, 1], "\"FF\""),
+    ("kind = 'bytes', at = 0, bits = 16", &[1], "null"),
+];
+
+// A table of this one field.
+fn with_field(alloc: Global, field: &str) -> Result<Table, Fail> {
+    let fields = format!(in alloc; "{{ name = 'F \"', {field} }}")?;
+    let text = with_fields(alloc, &fields)?;
+    Ok(read(alloc, &text)?)
+}
+
+fn field_shows<R: Abort + AllocGlobal>(
+    rt: &R,
+    field: &str,
+    data: &[u8],
+    value: &str,
+) -> Result<(), Fail> {
+    let table = with_field(rt.alloc(), field)?;
+    let line = printed(rt.alloc(), &table, 65280, data, true)?;
+    let wanted = format!(in rt.alloc(); "\"D\",\"fields\":{{\"F \\\"\":{value}}}")?;
+    assert_eq!(rt; line.as_str(), wanted.as_str(), "{field}");
+    Ok(())
+}
+
 #[test]
 fn single_fields(rt: HostRuntime) -> Result<(), Fail> {
-    let cases: [(&str, &[u8], &str); 36] = [
-        // bits that cross bytes, the low ones first
-        ("kind = 'number', at = 4, bits = 8", &[0xa5, 0x5b], "186"),
-        ("kind = 'number', at = 3, bits = 11", &[0xf8, 0x07], "255"),
-        ("kind = 'number', at = 0, bits = 16", &[0x02, 0x01], "258"),
-        // 64 bits at an odd bit: -2, and the least
-        (
-            "kind = 'number', at = 1, bits = 64, signed = true",
-            &[0xfc, 0xff, 0xff, 0xff, 0xff, 0xff, 0xff, 0xff, 0x01],
-            "-2",
-        ),
-        (
-            "kind = 'number', at = 1, bits = 64, signed = true",
-            &[0, 0, 0, 0, 0, 0, 0, 0, 1],
-            "-9223372036854775808",
-        ),
-        // the greatest product
-        (
-            "kind = 'number', at = 0, bits = 64, resolution = '42949672.95'",
-            &[0xfd, 0xff, 0xff, 0xff, 0xff, 0xff, 0xff, 0xff],
-            "792281624958175935069494968.35",
-        ),
-        // data that end before the field does
-        ("kind = 'number', at = 8, bits = 16", &[1, 2], "null"),
-        ("kind = 'number', at = 8, bits = 9", &[1, 2], "null"),
-        // the greatest value from two bits on, the greatest but one from four bits on
-        ("kind = 'number', at = 0, bits = 1", &[1], "1"),
-        ("kind = 'number', at = 0, bits = 2", &[3], "null"),
-        ("kind = 'number', at = 0, bits = 2", &[2], "2"),
-        ("kind = 'number', at = 0, bits = 3", &[6], "6"),
-        ("kind = 'number', at = 0, bits = 4", &[15], "null"),
-        ("kind = 'number', at = 0, bits = 4", &[14], "null"),
-        ("kind = 'number', at = 0, bits = 4", &[13], "13"),
-        (
-            "kind = 'number', at = 0, bits = 4, signed = true",
-            &[7],
-            "null",
-        ),
-        (
-            "kind = 'number', at = 0, bits = 4, signed = true",
-            &[6],
-            "null",
-        ),
-        (
-            "kind = 'number', at = 0, bits = 4, signed = true",
-            &[15],
-            "-1",
-        ),
-        // a match is the raw value, also of a signed field, and is printed like any other
-        (
-            "kind = 'number', at = 0, bits = 8, match = 255, signed = true",
-            &[255],
-            "-1",
-        ),
-        (
-            "kind = 'number', at = 0, bits = 8, match = 255",
-            &[255],
-            "null",
-        ),
-        // names, asked before a greatest value is absent
-        (
-            "kind = 'lookup', at = 0, bits = 2, lookup = 'L'",
-            &[3],
-            "\"Three\"",
-        ),
-        (
-            "kind = 'lookup', at = 0, bits = 2, lookup = 'L'",
-            &[0],
-            "\"z\u{e9}ro \\\"0\\\"\"",
-        ),
-        ("kind = 'lookup', at = 0, bits = 2, lookup = 'L'", &[2], "2"),
-        ("kind = 'lookup', at = 0, bits = 1, lookup = 'L'", &[1], "1"),
-        (
-            "kind = 'lookup', at = 0, bits = 4, lookup = 'L'",
-            &[14],
-            "14",
-        ),
-        (
-            "kind = 'lookup', at = 0, bits = 4, lookup = 'L'",
-            &[15],
-            "null",
-        ),
-        (
-            "kind = 'lookup', at = 8, bits = 4, lookup = 'L'",
-            &[0],
-            "null",
-        ),
-        // texts: what fills them up is cut, each byte is the character of its number
-        (
-            "kind = 'text', at = 8, bits = 32",
-            &[1, 65, 64, 32, 0],
-            "\"A\"",
-        ),
-        (
-            "kind = 'text', at = 0, bits = 32",
-            &[64, 65, 255, 66],
-            "\"@A\u{ff}B\"",
-        ),
-        ("kind = 'text', at = 0, bits = 16", &[0, 255], "null"),
-        (
-            "kind = 'text', at = 0, bits = 40",
-            &[10, 34, 92, 1, 127],
-            "\"\\n\\\"\\\\\\u0001\u{7f}\"",
-        ),
-        (
-            "kind = 'text', at = 0, bits = 16",
-            &[0xe9, 0x9f],
-            "\"\u{e9}\u{9f}\"",
-        ),
-        ("kind = 'text', at = 0, bits = 24", &[65, 66], "null"),
-        // bytes as they are
-        (
-            "kind = 'bytes', at = 8, bits = 24",
-            &[1, 0xff, 0x0a, 0],
-            "\"FF 0A 00\"",
-        ),
-        ("kind = 'bytes', at = 0, bits = 8", &[0xff, 1], "\"FF\""),
-        ("kind = 'bytes', at = 0, bits = 16", &[1], "null"),
-    ];
-    for (field, data, value) in cases {
-        let fields = format!(in rt.alloc(); "{{ name = 'F \"', {field} }}")?;
-        let table = Table::read(rt.alloc(), with_fields(rt.alloc(), &fields)?.as_bytes())?;
-        let line = printed(rt.alloc(), &table, 65280, data, true)?;
-        let wanted = format!(in rt.alloc(); "\"D\",\"fields\":{{\"F \\\"\":{value}}}")?;
-        assert_eq!(rt; line.as_str(), wanted.as_str(), "{field}");
+    for (field, data, value) in &SHOWN {
+        field_shows(&rt, field, data, value)?;
     }
+    Ok(())
+}
+
+// A PGN, data, whether absent fields are printed, and the fields that are.
+const LINES: [(u32, &[u8], bool, &str); 18] = [
+    // cog-and-sog, lookup-and-short-data
+    (
+        129026,
+        &[0x00, 0xfc, 0xff, 0xff, 0, 0, 0xff, 0xff],
+        false,
+        "\"SID\":0,\"COG Reference\":\"True\",\"SOG\":0.00",
+    ),
+    (
+        129026,
+        &[0x00, 0xfc, 0xff, 0xff, 0, 0, 0xff, 0xff],
+        true,
+        "\"SID\":0,\"COG Reference\":\"True\",\"COG\":null,\"SOG\":0.00",
+    ),
+    (
+        129026,
+        &[0x00, 0xff, 0, 0, 0xfe, 0xff, 0xff, 0xff],
+        false,
+        "\"SID\":0,\"COG\":0.0000",
+    ),
+    (
+        129026,
+        &[0x05, 0x00],
+        false,
+        "\"SID\":5,\"COG Reference\":\"True\"",
+    ),
+    // rate-of-turn, negative-and-absent
+    (
+        127251,
+        &[0x7d, 0x0b, 0x7d, 0x02, 0, 0xff, 0xff, 0xff],
+        false,
+        "\"SID\":125,\"Rate\":0.00509634375",
+    ),
+    (
+        127251,
+        &[0x7d, 0xff, 0xff, 0xff, 0xff, 0xff, 0xff, 0xff],
+        false,
+        "\"SID\":125,\"Rate\":-0.00000003125",
+    ),
+    (
+        127251,
+        &[0x7d, 0xff, 0xff, 0xff, 0x7f, 0xff, 0xff, 0xff],
+        false,
+        "\"SID\":125",
+    ),
+    (
+        127251,
+        &[0x7d, 0xfe, 0xff, 0xff, 0x7f, 0xff, 0xff, 0xff],
+        false,
+        "\"SID\":125",
+    ),
+    (
+        127251,
+        &[0x7d, 0xfe, 0xff, 0xff, 0x7f, 0xff, 0xff, 0xff],
+        true,
+        "\"SID\":125,\"Rate\":null",
+    ),
+    (127251, &[], true, "\"SID\":null,\"Rate\":null"),
+    (127251, &[], false, ""),
+    // whole-among-frames, two-sources, short-totals
+    (
+        130820,
+        &[0xa3, 0x99, 1, 0x41, 0x42, 0x43, 0, 0, 0, 0, 0],
+        false,
+        "\"Maker\":419,\"Kind\":1,\"Label\":\"ABC\"",
+    ),
+    (
+        130820,
+        &[
+            0xa3, 0x99, 2, 0x58, 0x59, 0x20, 0x20, 0x20, 0x20, 0x20, 0xff,
+        ],
+        false,
+        "\"Maker\":419,\"Kind\":2,\"Label\":\"XY\"",
+    ),
+    (
+        130820,
+        &[0xa3, 0x99, 1, 0x41, 0x42, 0x43],
+        false,
+        "\"Maker\":419,\"Kind\":1",
+    ),
+    (
+        130820,
+        &[7, 0x98, 1, 0x41, 0x42, 0x43, 0x44, 0x45, 0x46],
+        true,
+        "\"Data\":\"07 98 01 41 42 43 44 45 46\"",
+    ),
+    (130820, &[0xa3], false, "\"Data\":\"A3\""),
+    (130820, &[], false, "\"Data\":\"\""),
+    (59904, &[0x14, 0xf0, 0x01], false, "\"Data\":\"14 F0 01\""),
+];
+
+// The description that is printed of data under the sample table.
+fn description_of(pgn: u32, data: &[u8]) -> &'static str {
+    match pgn {
+        129026 => "COG & SOG, Rapid Update",
+        127251 => "Rate of Turn",
+        _ if data.len() > 1 && data[0] == 0xa3 => "Sample: Label",
+        _ => "Unmatched",
+    }
+}
+
+fn line_shows<R: Abort + AllocGlobal>(
+    rt: &R,
+    table: &Table,
+    case: &(u32, &[u8], bool, &str),
+) -> Result<(), Fail> {
+    let (pgn, data, empty, fields) = *case;
+    let line = printed(rt.alloc(), table, pgn, data, empty)?;
+    let description = description_of(pgn, data);
+    let wanted = format!(in rt.alloc(); "\"{description}\",\"fields\":{{{fields}}}")?;
+    assert_eq!(rt; line.as_str(), wanted.as_str(), "{fields}");
     Ok(())
 }
 
 #[test]
 fn lines(rt: HostRuntime) -> Result<(), Fail> {
-    let table = Table::read(rt.alloc(), SAMPLE.as_bytes())?;
-    let cases: [(u32, &[u8], bool, &str); 18] = [
-        // cog-and-sog, lookup-and-short-data
-        (
-            129026,
-            &[0x00, 0xfc, 0xff, 0xff, 0, 0, 0xff, 0xff],
-            false,
-            "\"SID\":0,\"COG Reference\":\"True\",\"SOG\":0.00",
-        ),
-        (
-            129026,
-            &[0x00, 0xfc, 0xff, 0xff, 0, 0, 0xff, 0xff],
-            true,
-            "\"SID\":0,\"COG Reference\":\"True\",\"COG\":null,\"SOG\":0.00",
-        ),
-        (
-            129026,
-            &[0x00, 0xff, 0, 0, 0xfe, 0xff, 0xff, 0xff],
-            false,
-            "\"SID\":0,\"COG\":0.0000",
-        ),
-        (
-            129026,
-            &[0x05, 0x00],
-            false,
-            "\"SID\":5,\"COG Reference\":\"True\"",
-        ),
-        // rate-of-turn, negative-and-absent
-        (
-            127251,
-            &[0x7d, 0x0b, 0x7d, 0x02, 0, 0xff, 0xff, 0xff],
-            false,
-            "\"SID\":125,\"Rate\":0.00509634375",
-        ),
-        (
-            127251,
-            &[0x7d, 0xff, 0xff, 0xff, 0xff, 0xff, 0xff, 0xff],
-            false,
-            "\"SID\":125,\"Rate\":-0.00000003125",
-        ),
-        (
-            127251,
-            &[0x7d, 0xff, 0xff, 0xff, 0x7f, 0xff, 0xff, 0xff],
-            false,
-            "\"SID\":125",
-        ),
-        (
-            127251,
-            &[0x7d, 0xfe, 0xff, 0xff, 0x7f, 0xff, 0xff, 0xff],
-            false,
-            "\"SID\":125",
-        ),
-        (
-            127251,
-            &[0x7d, 0xfe, 0xff, 0xff, 0x7f, 0xff, 0xff, 0xff],
-            true,
-            "\"SID\":125,\"Rate\":null",
-        ),
-        (127251, &[], true, "\"SID\":null,\"Rate\":null"),
-        (127251, &[], false, ""),
-        // whole-among-frames, two-sources, short-totals
-        (
-            130820,
-            &[0xa3, 0x99, 1, 0x41, 0x42, 0x43, 0, 0, 0, 0, 0],
-            false,
-            "\"Maker\":419,\"Kind\":1,\"Label\":\"ABC\"",
-        ),
-        (
-            130820,
-            &[
-                0xa3, 0x99, 2, 0x58, 0x59, 0x20, 0x20, 0x20, 0x20, 0x20, 0xff,
-            ],
-            false,
-            "\"Maker\":419,\"Kind\":2,\"Label\":\"XY\"",
-        ),
-        (
-            130820,
-            &[0xa3, 0x99, 1, 0x41, 0x42, 0x43],
-            false,
-            "\"Maker\":419,\"Kind\":1",
-        ),
-        (
-            130820,
-            &[7, 0x98, 1, 0x41, 0x42, 0x43, 0x44, 0x45, 0x46],
-            true,
-            "\"Data\":\"07 98 01 41 42 43 44 45 46\"",
-        ),
-        (130820, &[0xa3], false, "\"Data\":\"A3\""),
-        (130820, &[], false, "\"Data\":\"\""),
-        (59904, &[0x14, 0xf0, 0x01], false, "\"Data\":\"14 F0 01\""),
-    ];
-    for (pgn, data, empty, fields) in cases {
-        let line = printed(rt.alloc(), &table, pgn, data, empty)?;
-        let description = match pgn {
-            129026 => "COG & SOG, Rapid Update",
-            127251 => "Rate of Turn",
-            _ if data.len() > 1 && data[0] == 0xa3 => "Sample: Label",
-            _ => "Unmatched",
-        };
-        let wanted = format!(in rt.alloc(); "\"{description}\",\"fields\":{{{fields}}}")?;
-        assert_eq!(rt; line.as_str(), wanted.as_str(), "{fields}");
+    let table = sample(rt.alloc())?;
+    for case in &LINES {
+        line_shows(&rt, &table, case)?;
     }
-    // lookup-and-short-data with the entries 0 and 3: a name before an absent value
-    let (front, back) = SAMPLE
-        .split_once("[1, 'Magnetic'], [2, 'Error']")
-        .ok_or("entries")?;
-    let text = format!(in rt.alloc(); "{front}[3, 'None']{back}")?;
-    let table = Table::read(rt.alloc(), text.as_bytes())?;
+    Ok(())
+}
+
+// lookup-and-short-data with the entries 0 and 3: a name before an absent value
+#[test]
+fn a_name_before_an_absent_value(rt: HostRuntime) -> Result<(), Fail> {
+    let text = replaced(
+        rt.alloc(),
+        SAMPLE,
+        "[1, 'Magnetic'], [2, 'Error']",
+        "[3, 'None']",
+    )?;
+    let table = read(rt.alloc(), &text)?;
     let data = [0x00, 0xff, 0, 0, 0xfe, 0xff, 0xff, 0xff];
     let line = printed(rt.alloc(), &table, 129026, &data, false)?;
     assert!(rt; line.ends_with("{\"SID\":0,\"COG Reference\":\"None\",\"COG\":0.0000}"));
     Ok(())
 }
 
+const WIDE: &str = "{ number = 1, kind = 'fast', description = 'Wide', fields = [] }";
+
+const NARROW: &str = "{ number = 1, kind = 'fast', description = 'Narrow', fields = [\
+    { name = 'A', kind = 'number', at = 0, bits = 8, match = 7 }, \
+    { name = 'B', kind = 'lookup', at = 4, bits = 8, lookup = 'L', match = 16 }] }";
+
+// A table of these two definitions, after one of another PGN.
+fn two(alloc: Global, first: &str, second: &str) -> Result<Table, Fail> {
+    let text = format!(in alloc;
+        "format = 1\npgn = [{{ number = 2, kind = 'single', description = 'O', fields = [] }}, {first}, {second}]\nlookup = [{{ name = 'L', entries = [] }}]\n"
+    )?;
+    Ok(read(alloc, &text)?)
+}
+
+// Whether the wide definition comes first, data, and the description that is chosen.
+const CHOICES: [(bool, &[u8], &str); 6] = [
+    (false, &[7, 1], "Narrow"),
+    (true, &[7, 1], "Wide"),
+    (false, &[7, 2], "Wide"),
+    (false, &[8, 1], "Wide"),
+    (false, &[7], "Wide"),
+    (false, &[], "Wide"),
+];
+
+fn chooses<R: Abort + AllocGlobal>(
+    rt: &R,
+    wide_first: bool,
+    data: &[u8],
+    wanted: &str,
+) -> Result<(), Fail> {
+    let table = if wide_first {
+        two(rt.alloc(), WIDE, NARROW)?
+    } else {
+        two(rt.alloc(), NARROW, WIDE)?
+    };
+    let definition = table.choose(1, data).ok_or("a definition")?;
+    assert_eq!(rt; definition.description(), wanted);
+    Ok(())
+}
+
 // Of two definitions of a PGN the first in the file is chosen that the data match, whichever asks for more.
 #[test]
 fn first_match_in_file_order(rt: HostRuntime) -> Result<(), Fail> {
-    let wide = "{ number = 1, kind = 'fast', description = 'Wide', fields = [] }";
-    let first = "{ name = 'A', kind = 'number', at = 0, bits = 8, match = 7 }";
-    let second = "{ name = 'B', kind = 'lookup', at = 4, bits = 8, lookup = 'L', match = 16 }";
-    let cases: [(bool, &[u8], &str); 6] = [
-        (false, &[7, 1], "Narrow"),
-        (true, &[7, 1], "Wide"),
-        (false, &[7, 2], "Wide"),
-        (false, &[8, 1], "Wide"),
-        (false, &[7], "Wide"),
-        (false, &[], "Wide"),
-    ];
-    for (wide_first, data, wanted) in cases {
-        let narrow = format!(in rt.alloc();
-            "{{ number = 1, kind = 'fast', description = 'Narrow', fields = [{first}, {second}] }}"
-        )?;
-        let both = if wide_first {
-            format!(in rt.alloc(); "{wide}, {narrow}")?
-        } else {
-            format!(in rt.alloc(); "{narrow}, {wide}")?
-        };
-        let text = format!(in rt.alloc();
-            "format = 1\npgn = [{{ number = 2, kind = 'single', description = 'O', fields = [] }}, {both}]\nlookup = [{{ name = 'L', entries = [] }}]\n"
-        )?;
-        let table = Table::read(rt.alloc(), text.as_bytes())?;
-        let definition = table.choose(1, data).ok_or("a definition")?;
-        assert_eq!(rt; definition.description(), wanted);
+    for (wide_first, data, wanted) in &CHOICES {
+        chooses(&rt, *wide_first, data, wanted)?;
     }
+    Ok(())
+}
+
+fn next_is<R: Abort>(
+    rt: &R,
+    fields: &mut Fields<'_>,
+    name: &str,
+    shown: Shown<'_>,
+) -> Result<(), Fail> {
+    let field = fields.next().ok_or("a field")?;
+    assert_eq!(rt; field.0, name);
+    assert_eq!(rt; field.1, shown, "{name}");
     Ok(())
 }
 
 #[test]
 fn each_field_is_shown(rt: HostRuntime) -> Result<(), Fail> {
-    let table = Table::read(rt.alloc(), SAMPLE.as_bytes())?;
+    let table = sample(rt.alloc())?;
     let data = [
         0xa3, 0x99, 0xff, 0x41, 0x20, 0x20, 0x20, 0x20, 0x20, 0x20, 0x20,
     ];
@@ -669,15 +831,9 @@ fn each_field_is_shown(rt: HostRuntime) -> Result<(), Fail> {
         value: 419,
         decimals: 0,
     };
-    for (name, shown) in [
-        ("Maker", maker),
-        ("Kind", Shown::Absent),
-        ("Label", Shown::Text(b"A")),
-    ] {
-        let field = fields.next().ok_or("a field")?;
-        assert_eq!(rt; field.0, name);
-        assert_eq!(rt; field.1, shown, "{name}");
-    }
+    next_is(&rt, &mut fields, "Maker", maker)?;
+    next_is(&rt, &mut fields, "Kind", Shown::Absent)?;
+    next_is(&rt, &mut fields, "Label", Shown::Text(b"A"))?;
     assert!(rt; fields.next().is_none());
     assert!(rt; fields.next().is_none());
     Ok(())

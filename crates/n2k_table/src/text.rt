@@ -1,10 +1,11 @@
 //! Texts in JSON.
 ghost use Rattle.std.specs.Char.{digit_char};
-ghost use Rattle.std.specs.Prelude.{◌≡◌, ◌++◌, ◌<◌, ◌%◌, IfOk, OnOk, map, unwrap_or};
+ghost use Rattle.std.specs.Prelude.{◌≡◌, ◌++◌, ◌<◌, ◌%◌, IfOk, OnOk, unwrap_or};
 ghost use Rattle.std.specs.List.{list_all, flat_map};
 ghost use Rattle.std.specs.Option.{IfSome};
 ghost use Rattle.json.specs.Print.{escape_letter, escape_byte};
-ghost use Rattle.n2k_table.specs.Text.{text_json, pair, pairs, is_plain, character};
+ghost use Rattle.n2k_table.specs.Text.{text_json, pair, pairs, character};
+ghost use Rattle.n2k_table.specs.Inner.Line.{is_plain};
 
 use crate::tail::Tail;
 use serde_json::Value;

@@ -4,7 +4,8 @@ ghost use Rattle.toml.specs.Data.{get_member};
 ghost use Rattle.toml.specs.View.{view, table_view, array_view};
 ghost use Rattle.n2k_wire.specs.Views.{Gives};
 ghost use Rattle.n2k_table.specs.declared.tree.Place.TheVariants.{ByteField};
-ghost use Rattle.n2k_table.specs.Tree.{is_key, has_only_keys, required, as_members, whole_at, any_text_at, sized, text_at, truth_at, elements, as_elements, elements_at, elements_or_none, elements_of};
+ghost use Rattle.n2k_table.specs.Tree.{is_key, has_only_keys, required, as_members, whole_at, any_text_at, sized, text_at, truth_at, elements, as_elements, elements_at, elements_or_none};
+ghost use Rattle.n2k_table.specs.Inner.Reading.{elements_of};
 
 use crate::fault::TableFault;
 use toml::value::Array;

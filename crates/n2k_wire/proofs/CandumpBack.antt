@@ -23,9 +23,10 @@ use Rattle.n2k_wire.specs.Entry.{entry, settled}
 use Rattle.n2k_wire.specs.Identifier.{join, split}
 use Rattle.n2k_wire.specs.Packet.{PacketParts, IsPacketParts}
 use Rattle.n2k_wire.specs.Pieces.{cut_at, after_byte, skip_spaces}
-use Rattle.n2k_wire.specs.Stamp.{Moment, IsMoment, moment, three_digits, millis_digits, utc_text, utc_moment}
+use Rattle.n2k_wire.specs.Stamp.{Moment, moment, three_digits, millis_digits, utc_text, utc_moment}
 use Rattle.n2k_wire.specs.Steps.{◌>>=◌, or_cause}
 use Rattle.n2k_wire.specs.Texts.{second_digits, candump_line, candump_parts, candump_text}
+use Rattle.n2k_wire.specs.PrivateWords.{IsMoment}
 use Rattle.n2k_wire.proofs.CandumpLemmas.{seconds_short}
 use Rattle.n2k_wire.proofs.HexDigits.{all_digits, hex_digit_value-none}
 use Rattle.n2k_wire.proofs.IdentifierLemmas.{join_split, join_bits}

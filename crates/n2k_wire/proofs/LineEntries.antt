@@ -19,8 +19,9 @@ use Rattle.n2k_wire.specs.Entry.{IsEntry, IsShort, entry, is_candump, is_skipped
 use Rattle.n2k_wire.specs.Identifier.{split, pdu_format}
 use Rattle.n2k_wire.specs.Packet.{PacketParts, IsPacketParts, is_stamp}
 use Rattle.n2k_wire.specs.Plain.{Header, pieces, number_to, pair, pairs, header, id_of, bytes_of, packed, packet_of, packet_of_pieces, plain, plain_packet}
-use Rattle.n2k_wire.specs.Stamp.{Moment, IsMoment, moment, utc_text}
+use Rattle.n2k_wire.specs.Stamp.{Moment, moment, utc_text}
 use Rattle.n2k_wire.specs.Steps.{◌>>=◌, or_cause, holds_or, some_if}
+use Rattle.n2k_wire.specs.PrivateWords.{IsMoment}
 use Rattle.n2k_wire.proofs.UtcBack.{with_some, if_some}
 use Rattle.n2k_wire.proofs.UtcStamps.{utc_is_stamp, moment_is_one}
 

@@ -3,10 +3,6 @@
 use Rattle.std.specs.Prelude.{ℕ, zero, suc, ◌+◌, ◌-◌, ◌&&◌, nat_le, Bool, if◌then◌else◌, pos}
 use Rattle.jiff_core.specs.Calendar.{day_count, days_in_month}
 
--- the day number of 31 December 9999
-abbrev pub last_day : ℕ
-last_day = 2932896
-
 -- the day number of a date
 abbrev pub day_number : ℕ → ℕ → ℕ → ℕ
 day_number year month day = day_count (pos year) month day - day_count (pos 1970) 1 1

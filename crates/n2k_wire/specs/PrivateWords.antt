@@ -1,6 +1,6 @@
 -- Words for the contracts of private functions: what the code holds, as the definitions have it. Nothing that a
 -- caller sees needs them.
-use Rattle.std.specs.Prelude.{ℕ, ◌+◌, ◌*◌, ◌/◌, ◌%◌, List, [], Option, Some, None, option_map, option_and_then, Result}
+use Rattle.std.specs.Prelude.{◌≤◌, ℕ, ◌+◌, ◌*◌, ◌/◌, ◌%◌, List, [], Option, Some, None, option_map, option_and_then, Result}
 use Rattle.std.specs.Borrow.{Bor}
 use Rattle.n2k_wire.specs.declared.candump.CandumpFrame.{CandumpFrame}
 use Rattle.n2k_wire.specs.declared.entry.Entry.{Entry}
@@ -11,13 +11,22 @@ use Rattle.n2k_wire.specs.Plain.{Header, pieces}
 use Rattle.n2k_wire.specs.declared.entry.BadCause.{BadCause}
 use Rattle.n2k_wire.specs.declared.entry.BadCause.TheVariants as causes
 use Rattle.n2k_wire.specs.Candump.{stamped, framed, identifier, frame_of}
-use Rattle.n2k_wire.specs.Stamp.{Moment, moment}
+use Rattle.n2k_wire.specs.Stamp.{Moment, last_second, moment}
 use Rattle.n2k_wire.specs.Steps.{◌>>=◌, or_cause}
 
 -- The value of a hexadecimal digit, by arithmetic alone: `0` to `9` are 48 to 57, `A` to `F` 65 to 70, `a` to `f` 97
 -- to 102, so the letters, at 64 and above, count from 10.
 abbrev pub hex_value : ℕ → ℕ
 hex_value digit = digit % 16 + digit / 64 * 9
+
+-- the day number of 31 December 9999
+abbrev pub last_day : ℕ
+last_day = 2932896
+
+-- a moment that a stamp can name
+pub record IsMoment (m : Moment) : Type 0 where
+  pub seconds_fit : m.seconds ≤ last_second
+  pub millis_fit : m.millis ≤ 999
 
 -- a moment of the code
 abbrev pub plain_moment : moments_of_code.Moment → Moment

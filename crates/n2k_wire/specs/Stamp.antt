@@ -1,5 +1,5 @@
 -- Stamps of candump lines, `seconds.fraction` since 1970, and the UTC text that packets keep of them.
-use Rattle.std.specs.Prelude.{ℕ, ◌+◌, ◌*◌, ◌/◌, ◌%◌, ◌≤◌, ◌==◌, ◌&&◌, nat_lt, nat_le, Bool, List, [], ◌∷◌, ◌++◌, length, slice_index, take, drop, Option, Some, codes, option_and_then}
+use Rattle.std.specs.Prelude.{ℕ, ◌+◌, ◌*◌, ◌/◌, ◌%◌, ◌==◌, ◌&&◌, nat_lt, nat_le, Bool, List, [], ◌∷◌, ◌++◌, length, slice_index, take, drop, Option, Some, codes, option_and_then}
 use Rattle.n2k_wire.specs.Calendar.{day_number, is_date, year_of, month_of, day_of_month}
 use Rattle.n2k_wire.specs.Digits.{decimal_number}
 use Rattle.n2k_wire.specs.Pieces.{cut_at}
@@ -23,11 +23,6 @@ most_fraction_digits = 9
 pub record Moment : Type 0 where
   pub seconds : ℕ
   pub millis : ℕ
-
--- a moment that a stamp can name
-pub record IsMoment (m : Moment) : Type 0 where
-  pub seconds_fit : m.seconds ≤ last_second
-  pub millis_fit : m.millis ≤ 999
 
 -- the digits of a fraction, filled with zeros on the right and cut to three
 unfoldable pub three_digits : List ℕ → List ℕ

@@ -6,9 +6,8 @@ ghost use Rattle.n2k_wire.specs.Candump.{candump, frame_payload, is_interface_by
 ghost use Rattle.std.specs.Int.{w32, from_be_bytes};
 ghost use Rattle.std.specs.Result.{result_ok};
 ghost use Rattle.hex.specs.Hex.{decode_of};
-ghost use Rattle.n2k_wire.specs.PrivateWords.{candump_by, candump_entry, plain_moment, seen_behind};
+ghost use Rattle.n2k_wire.specs.PrivateWords.{candump_by, candump_entry, plain_moment, seen_behind, IsMoment};
 ghost use Rattle.n2k_wire.specs.Views.{Finds, Gives};
-ghost use Rattle.n2k_wire.specs.Stamp.{IsMoment};
 ghost use Rattle.n2k_wire.specs.Entry.{IsEntry, settled};
 ghost use Rattle.n2k_wire.specs.Packet.{IsPacket};
 
@@ -24,7 +23,7 @@ use arrayvec::ArrayVec;
 const LONGEST_INTERFACE: usize = 15;
 
 /// The most data bytes of a frame.
-pub(crate) const FRAME_PAYLOAD: usize = 8;
+pub const FRAME_PAYLOAD: usize = 8;
 
 /// The bytes of the seconds that `candump` writes, from 2001 to 2286.
 const USUAL_SECONDS: usize = 10;

@@ -3,7 +3,7 @@ ghost use Rattle.std.specs.Prelude.{◌≡◌, ◌+◌, ◌<◌, ◌≤◌, ◌^
 ghost use Rattle.std.specs.Char.{is_ascii_hexdigit};
 ghost use Rattle.std.specs.List.{list_all};
 ghost use Rattle.std.specs.Result.{result_ok};
-ghost use Rattle.hex.specs.Hex.{hex_digit_value, decode_of};
+ghost use Rattle.hex.specs.Hex.{decode_of};
 ghost use Rattle.n2k_wire.specs.PrivateWords.{hex_value};
 ghost use Rattle.n2k_wire.specs.Digits.{decimal_after, decimal_digit, decimal_number};
 ghost use Rattle.n2k_wire.specs.Views.{Finds};

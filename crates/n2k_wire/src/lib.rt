@@ -22,11 +22,12 @@ mod plain;
 mod stamp;
 mod texts;
 
-pub use candump::is_interface;
+pub use candump::{FRAME_PAYLOAD, is_interface};
 pub use entry::{BadCause, Entry, LONGEST_LINE, Packing, read_line};
 pub use fault::WireFault;
 pub use identifier::{Id, join_id, split_id};
 pub use packet::{GREATEST_PGN, Packet};
+pub use plain::GREATEST_ADDRESS;
 pub use texts::{candump_text, plain_text};
 
 #[cfg(test)]

@@ -14,8 +14,8 @@ use crate::packet::{GREATEST_PGN, GREATEST_PRIORITY, LONGEST_MESSAGE, Packet, is
 use crate::pieces::cut_at;
 use arrayvec::ArrayVec;
 
-/// The greatest address.
-const GREATEST_ADDRESS: u64 = 255;
+/// The greatest address of a packet and of a saved state.
+pub const GREATEST_ADDRESS: u64 = 255;
 
 /// The five pieces behind the stamp, and what is left behind those: nothing, or a text of pieces.
 #[derive(Clone, Copy)]

@@ -4,8 +4,8 @@ ghost use Rattle.std.specs.List.{flat_map};
 ghost use Rattle.arrayvec.specs.ArrayVec.{array_vec_len};
 ghost use Rattle.hex.specs.Hex.{encode_upper};
 ghost use Rattle.n2k_wire.specs.Candump.{frame_payload, is_interface, longest_interface};
-ghost use Rattle.n2k_wire.specs.PrivateWords.{plain_moment};
-ghost use Rattle.n2k_wire.specs.Stamp.{IsMoment, last_second, millis_digits};
+ghost use Rattle.n2k_wire.specs.PrivateWords.{plain_moment, IsMoment};
+ghost use Rattle.n2k_wire.specs.Stamp.{last_second, millis_digits};
 ghost use Rattle.n2k_wire.specs.Texts.{Appends, byte_piece, number_piece, plain_text, second_digits, candump_line, candump_parts, candump_text};
 ghost use Rattle.n2k_wire.specs.Views.{Gives};
 

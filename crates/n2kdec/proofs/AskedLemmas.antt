@@ -14,7 +14,8 @@ use Rattle.n2kdec.specs.declared.fault.Fault.TheVariants as fault
 use Rattle.n2kdec.specs.declared.word.Words.{Words}
 use Rattle.n2kdec.specs.declared.word.Words.TheVariants.{Help}
 use Rattle.n2kdec.specs.Usage.{program_app}
-use Rattle.n2kdec.specs.Words.{AnswersKind, IsAskedBy, IsRefused, Names, decode_words, frames_words, named, plain_words, words_of}
+use Rattle.n2kdec.specs.Inner.Parse.{AnswersKind}
+use Rattle.n2kdec.specs.Words.{IsAskedBy, IsRefused, Names, decode_words, frames_words, named, plain_words, words_of}
 
 -- the command is one of those whose matches and faults are known
 program_is_simple : is_simple program_app ≡ true

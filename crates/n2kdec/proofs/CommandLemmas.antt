@@ -9,15 +9,14 @@ use Rattle.n2k_run.specs.Reports.{summary_text}
 use Rattle.n2k_run.specs.Writing.{AppendsFront}
 use Rattle.n2k_run.specs.Runs.{AreNumbered, Devices, Gained, HasFronts, NoneFailed, ReportsFirst, Runs}
 use Rattle.n2k_run.specs.Parts.{StandsAtLine}
-use Rattle.n2k_run.proofs.Ending.{of_log}
 use Rattle.n2k_run.proofs.Parting.{line_fronts}
 use Rattle.n2k_join.specs.Counts.{most_lines}
 use Rattle.n2k_run.specs.declared.fault.RunFault.{RunFault}
 use Rattle.n2k_run.specs.declared.fault.RunFault.TheVariants as run
 use Rattle.n2k_table.specs.Table.{TableParts}
 use Rattle.n2k_table.specs.declared.fault.TableFault.{TableFault}
-use Rattle.n2kdec.specs.Closing.{Closes, SumsUp}
-use Rattle.n2kdec.specs.Commands.{BreaksOff, CannotBeSaved, Command, Ends, HasDevice, HasTaken, IsCutOff, IsDone, IsRefusedOrStopped, IsSaved, IsStopped, IsUntouched, IsWritten, IsWrittenUnlessFailed, Keeps, Leaves, Place, SumsUpPart, entries_for, no_saving, place}
+use Rattle.n2kdec.specs.Inner.Closing.{Closes, SumsUp}
+use Rattle.n2kdec.specs.Commands.{BreaksOff, CannotBeSaved, Command, Ends, HasDevice, HasTaken, HasTakenAll, IsCutOff, IsDone, IsRefusedOrStopped, IsSaved, IsStopped, IsUntouched, IsWritten, IsWrittenUnlessFailed, Replaces, Leaves, Place, SumsUpPart, entries_for, no_saving, place}
 use Rattle.n2kdec.specs.Fault.{exit_status, fault_of_run}
 use Rattle.n2kdec.specs.declared.fault.Fault.{Fault}
 use Rattle.n2kdec.specs.declared.fault.Fault.TheVariants.{Memory, Report, Table}
@@ -25,14 +24,6 @@ use Rattle.n2kdec.specs.declared.fault.Fault.TheVariants.{Memory, Report, Table}
 pub if_some : {A : Type 0} (P Q : A → Type 0) (o : Option A) → ((a : A) → P a → Q a) → IfSome o P → IfSome o Q
 if_some P Q None weaker p = tt
 if_some P Q (Some a) weaker p = weaker a p
-
-if_both : {A : Type 0} (P Q S : A → Type 0) (o : Option A) → ((a : A) → P a → Q a → S a) → IfSome o P → IfSome o Q → IfSome o S
-if_both P Q S None both p q = tt
-if_both P Q S (Some a) both p q = both a p q
-
-if_three : {A : Type 0} (P Q R S : A → Type 0) (o : Option A) → ((a : A) → P a → Q a → R a → S a) → IfSome o P → IfSome o Q → IfSome o R → IfSome o S
-if_three P Q R S None all p q r = tt
-if_three P Q R S (Some a) all p q r = all a p q r
 
 -- a text follows what was written first
 more_after : (old mid new : Option (List ℕ)) (text more : List ℕ) → (rest : List ℕ) × Appends old mid (text ++ rest) → Appends mid new more → (rest : List ℕ) × Appends old new (text ++ rest)
@@ -174,36 +165,43 @@ module _ (c : Command) (stands : List Entry → Type 0) (before after : Devices)
 
   -- a run came to its end, and what is saved and summed up is what the command saves and counts
   module _ {T : Type 0} (x : T) (text : List ℕ) (counts : Counts) (ran : Runs {T = T} c.output stands before mid (Ok x))
-      (counted : IfSome before.left (λ log. (counts ≡ c.counts (entries_for c log)) × (text ≡ c.saving.state (entries_for c log)))) where
-    log_numbered : IfSome before.left (λ log. AreNumbered c.output.counted (entries_for c log))
-    log_numbered = of_log c.output stands before mid (λ log. AreNumbered c.output.counted (entries_for c log)) ran.ends ran.ends.numbered
+      (counted : (counts ≡ c.counts (entries_for c ran.ends.came)) × (text ≡ c.saving.state (entries_for c ran.ends.came))) where
+    abbrev es : List Entry
+    es = entries_for c ran.ends.came
 
-    log_gained : IfSome before.left (λ log. Gained c.output before mid (entries_for c log))
-    log_gained = of_log c.output stands before mid (λ log. Gained c.output before mid (entries_for c log)) ran.ends ran.ends.gained
+    saved : Replaces c.saving.before c.saving.after text → IsSaved c.saving es
+    saved = subst (Replaces c.saving.before c.saving.after) counted.1
 
-    done : (status : ℕ) → Keeps c.saving.before c.saving.after text → IsWritten errors summed (summary_text counts) → status ≡ exit_status counts → IsDone c before after status
+    done : (status : ℕ) → Replaces c.saving.before c.saving.after text → IsWritten errors summed (summary_text counts) → status ≡ exit_status counts → IsDone c before after status
     done status keeps whole is = record {
-      numbered = log_numbered;
-      text = if_some _ _ before.left (λ log gained. gained.printed) log_gained;
-      report = if_both _ _ _ before.left (λ log gained now. Appends-trans before.reported errors.text after.reported (c.output.reports (entries_for c log)) (summary_text (c.counts (entries_for c log)))
-          gained.reported (subst (λ n. Appends errors.text after.reported (summary_text n)) now.0 whole.written)) log_gained counted;
-      status = if_some _ _ before.left (λ log now. is ∙ ap exit_status now.0) counted;
-      end = subst (λ n. n ≤ 1) (sym is) (few counts);
+      came = ran.ends.came;
+      given = ran.ends.given;
+      at_end = ran.ends.at_end;
+      numbered = ran.ends.numbered;
+      text = ran.ends.gained.printed;
+      report = Appends-trans before.reported errors.text after.reported (c.output.reports es) (summary_text (c.counts es))
+          ran.ends.gained.reported (subst (λ n. Appends errors.text after.reported (summary_text n)) counted.0 whole.written);
+      status = is ∙ ap exit_status counted.0;
+      at_most_one = subst (λ n. n ≤ 1) (sym is) (few counts);
       none_failed = record { reads = ran.device.reads; writes = ran.device.writes; reports = whole.none_failed ∙ ran.device.reports };
-      place = keeps.none_failed;
-      saved = if_some _ _ before.left (λ log now. subst (Keeps c.saving.before c.saving.after) now.1 keeps) counted;
+      saved = saved keeps;
     }
 
     first : IsWrittenUnlessFailed errors summed (summary_text counts) → IfSome before.left (ReportsFirst c.output before after)
     first said = still_first (some_written errors summed (summary_text counts) said) ran.reports_first
 
-    log_taken : (said : Place → Place → List ℕ → Type 0) → said errors summed (summary_text counts) → IfSome before.left (λ log. HasTaken c before after (entries_for c log) said)
-    log_taken said summary = if_three _ _ _ _ before.left (λ log numbered gained now. taken (entries_for c log) said numbered gained ran.device.reports
-        (subst (λ n. said errors summed (summary_text n)) now.0 summary)) log_numbered log_gained counted
+    all_taken : (said : Place → Place → List ℕ → Type 0) (closed : List Entry → Type 0) → said errors summed (summary_text counts) → closed es → HasTakenAll c before after said closed
+    all_taken said closed summary closing = record {
+      came = ran.ends.came;
+      given = ran.ends.given;
+      at_end = ran.ends.at_end;
+      taken = taken es said ran.ends.numbered ran.ends.gained ran.device.reports (subst (λ n. said errors summed (summary_text n)) counted.0 summary);
+      closing = closing;
+    }
 
-    unsummed : Keeps c.saving.before c.saving.after text → IsCutOff errors summed (summary_text counts) → IsStopped c before after Report
+    unsummed : Replaces c.saving.before c.saving.after text → IsCutOff errors summed (summary_text counts) → IsStopped c before after Report
     unsummed keeps cut = record {
-      leaves = inr (if_both _ _ _ before.left (λ log now said. (subst (Keeps c.saving.before c.saving.after) now.1 keeps, said)) counted (log_taken IsCutOff cut));
+      leaves = inr (all_taken IsCutOff (IsSaved c.saving) cut (saved keeps));
       device = (
         record {
           reads = ran.device.reads;
@@ -215,14 +213,14 @@ module _ (c : Command) (stands : List Entry → Type 0) (before after : Devices)
       reports_first = first (inr cut);
     }
 
-    summed_up : (r : Result ℕ Fault) → Keeps c.saving.before c.saving.after text → SumsUp errors summed counts r → Ends c before after r
+    summed_up : (r : Result ℕ Fault) → Replaces c.saving.before c.saving.after text → SumsUp errors summed counts r → Ends c before after r
     summed_up (Ok status) keeps said = done status keeps said.0 said.1
     summed_up (Err fault) keeps said = subst (IsStopped c before after) (sym said.0) (unsummed keeps said.1)
 
     pub ended_by_closing : (r : Result ℕ Fault) → Closes c.saving.before c.saving.after errors summed text counts r → Ends c before after r
     ended_by_closing r (inl saved) = summed_up r saved.0 saved.1
     ended_by_closing r (inr unsaved) = subst (Ends c before after) (sym unsaved.0) (record {
-      leaves = log_taken IsWrittenUnlessFailed unsaved.2;
+      leaves = all_taken IsWrittenUnlessFailed (λ es. CannotBeSaved c.saving) unsaved.2 unsaved.1;
       device = (unsaved.1, record { reads = ran.device.reads; writes = ran.device.writes });
       reports_first = first unsaved.2;
     })

@@ -19,10 +19,9 @@ use Rattle.n2k_run.specs.declared.part.PartFault.{PartFault}
 use Rattle.n2k_run.specs.declared.part.PartFault.TheVariants as part_faults
 use Rattle.n2k_run.specs.declared.options.Options.{Options}
 use Rattle.n2k_table.specs.Table.{TableParts, kind as kind_of}
-use Rattle.n2k_run.proofs.Ending.{of_log}
 use Rattle.n2k_run.proofs.Parting.{told_ok, told_run, told_stopped}
-use Rattle.n2kdec.specs.Closing.{ClosesPart}
-use Rattle.n2kdec.specs.Commands.{CannotBeSaved, Command, Ends, EndsUnlessRefused, IsSaved, IsStopped, IsWrittenUnlessFailed, Keeps, Place, PrintsRest, decode_command, decode_from, decode_to, entries_for, place}
+use Rattle.n2kdec.specs.Inner.Closing.{ClosesPart}
+use Rattle.n2kdec.specs.Commands.{CannotBeSaved, Command, Ends, EndsUnlessRefused, IsSaved, IsStopped, IsWrittenUnlessFailed, Replaces, Place, PrintsRest, decode_command, decode_from, decode_to, place}
 use Rattle.n2kdec.specs.Fault.{exit_status}
 use Rattle.n2kdec.specs.declared.fault.Fault.{Fault}
 use Rattle.n2kdec.specs.declared.fault.Fault.TheVariants.{Save, State, Table}
@@ -52,9 +51,9 @@ module _ (o : Output) (stands_at : List Entry → StateOf) (t : TableParts) (bef
       → IsWrittenUnlessFailed errors said (summary_text (c.counts es))
   summary_of part es is written = subst (λ n. IsWrittenUnlessFailed errors said (summary_text n)) is.counted written
 
-  saved_or_not : (part : Part) (es : List Entry) → IsPartOf t (stands_at es) part → Keeps keeper kept part.state.items ⊎ HasFailed keeper.failed kept.failed
+  saved_or_not : (part : Part) (es : List Entry) → IsPartOf t (stands_at es) part → Replaces keeper kept part.state.items ⊎ HasFailed keeper.failed kept.failed
       → IsSaved c.saving es ⊎ CannotBeSaved c.saving
-  saved_or_not part es is (inl keeps) = inl (subst (Keeps keeper kept) is.saved keeps)
+  saved_or_not part es is (inl keeps) = inl (subst (Replaces keeper kept) is.saved keeps)
   saved_or_not part es is (inr failed) = inr failed
 
   -- what the run of a part and its closing come to
@@ -63,8 +62,7 @@ module _ (o : Output) (stands_at : List Entry → StateOf) (t : TableParts) (bef
   closed (Ok part) r kind memory told closes =
       let ran = told_ok o before mid _ part told in
       unless c before after r
-      (ended_by_closing c _ before after errors tt part.state.items part.counts ran
-      (of_log o _ before mid (λ log. (part.counts ≡ c.counts (entries_for c log)) × (part.state.items ≡ c.saving.state (entries_for c log))) ran.ends (ran.ends.holds.counted, ran.ends.holds.saved)) r closes)
+      (ended_by_closing c _ before after errors tt part.state.items part.counts ran (ran.ends.holds.counted, ran.ends.holds.saved) r closes)
   closed (Err (part_faults.Stopped run.Read part)) r kind memory told closes = subst (EndsUnlessRefused c before after) (sym closes.0)
       (stopped_by_run c _ before after errors run.Read (told_stopped o before mid _ run.Read part told) (λ es is. (summary_of part es is closes.2, saved_or_not part es is closes.1)) (some_written errors said (summary_text part.counts) closes.2))
   closed (Err (part_faults.Stopped run.TooManyLines part)) r kind memory told closes = subst (EndsUnlessRefused c before after) (sym closes.0)
@@ -157,7 +155,7 @@ module _ (o : Options) (front : List ℕ) (before after : Devices) (errors keepe
         on.reported (subst (λ n. Appends errors.text after.reported (summary_text n)) on.counted closes.1.0.written);
     told = on.told;
     answered = closes.1.1 ∙ ap exit_status on.counted;
-    saved = subst (Keeps keeper kept) on.saved closes.0;
+    saved = subst (Replaces keeper kept) on.saved closes.0;
     reads_back = subst (λ s. begun t (Some s) ≡ Ok (state_after t o (front ++ log))) on.saved on.reads_back;
   }) goes.1
   rest_of t (Err fault) r goes closes = subst (Rest t) (sym (fault_by_part keeper kept errors (place after.reported after.failed_reports) fault r closes).1) tt

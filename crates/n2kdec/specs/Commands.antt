@@ -1,6 +1,6 @@
 -- What a command leaves on its devices where it comes to its end, and where a fault stops it.
 use Rattle.std.specs.Prelude.{◌≡◌, ◌≢◌, ◌⊎◌, ◌≤◌, ◌+◌, ◌++◌, ℕ, Bool, true, false, List, [], ◌∷◌, length, Option, Some, None, IfSome, IsSome, Result, Ok, Err, IsOk, MatchResult, Contains}
-use Rattle.std.specs.Io.KnownBytes.{Appends, Consumes}
+use Rattle.std.specs.Io.KnownBytes.{Appends, Consumes, IsAtEnd}
 use Rattle.n2k_wire.specs.declared.entry.Entry.{Entry}
 use Rattle.n2k_table.specs.Table.{TableParts, kind}
 use Rattle.n2k_table.specs.declared.fault.TableFault.{TableFault}
@@ -64,13 +64,13 @@ abbrev pub no_saving : Saving
 no_saving = record { state = λ es. []; before = place None 0; after = place None 0 }
 
 -- the place has this text in the stead of what it had
-pub record Keeps (before after : Place) (text : List ℕ) : Type 0 where
+pub record Replaces (before after : Place) (text : List ℕ) : Type 0 where
   pub kept : IfSome after.text (λ now. now ≡ text)
   pub none_failed : after.failed ≡ before.failed
 
 -- the state after these entries is kept
 abbrev pub IsSaved : Saving → List Entry → Type 0
-IsSaved s es = Keeps s.before s.after (s.state es)
+IsSaved s es = Replaces s.before s.after (s.state es)
 
 -- it can't be kept
 abbrev pub CannotBeSaved : Saving → Type 0
@@ -127,18 +127,21 @@ entries_for c log = entries c.output.packing log
 abbrev pub summed_up : Command → List Entry → List ℕ
 summed_up c es = c.output.reports es ++ summary_text (c.counts es)
 
--- The command came to its end: the lines of the log have numbers that are counted, the output has gained what is printed of
--- it, the errors its reports and then its summary, the status tells whether a line was bad, no device failed, nor the place
--- of the state, and the state after the log is saved.
+-- The command came to its end: bytes came until the log had no more. Their lines have numbers that are counted, the output has
+-- gained what is printed of them, the errors their reports and then their summary, the status tells whether a line was bad,
+-- no device failed, and the state after them is saved by calls of which none failed. Where the log's bytes are known, these
+-- are all that it had.
 pub record IsDone (c : Command) (before after : Devices) (answer : ℕ) : Type 0 where
-  pub numbered : IfSome before.left (λ log. AreNumbered c.output.counted (entries_for c log))
-  pub text : IfSome before.left (λ log. Appends before.written after.written (c.output.texts (entries_for c log)))
-  pub report : IfSome before.left (λ log. Appends before.reported after.reported (summed_up c (entries_for c log)))
-  pub status : IfSome before.left (λ log. answer ≡ exit_status (c.counts (entries_for c log)))
-  pub end : answer ≤ 1
+  pub came : List ℕ
+  pub given : Consumes before.left after.left came
+  pub at_end : IsAtEnd after.left
+  pub numbered : AreNumbered c.output.counted (entries_for c came)
+  pub text : Appends before.written after.written (c.output.texts (entries_for c came))
+  pub report : Appends before.reported after.reported (summed_up c (entries_for c came))
+  pub status : answer ≡ exit_status (c.counts (entries_for c came))
+  pub at_most_one : answer ≤ 1
   pub none_failed : NoneFailed before after
-  pub place : c.saving.after.failed ≡ c.saving.before.failed
-  pub saved : IfSome before.left (λ log. IsSaved c.saving (entries_for c log))
+  pub saved : IsSaved c.saving (entries_for c came)
 
 -- A command has printed and reported these entries, which have numbers that are counted. No call of the errors failed until
 -- then, and then they have of the summary what `summed` says.
@@ -149,6 +152,14 @@ pub record HasTaken (c : Command) (before after : Devices) (es : List Entry) (su
   pub text : Appends before.written after.written (c.output.texts es)
   pub report : Appends before.reported errors (c.output.reports es)
   pub summary : summed (place errors before.failed_reports) (place after.reported after.failed_reports) (summary_text (c.counts es))
+
+-- Bytes came until the log had no more, and all their entries are taken. `closed` says what became of the state after them.
+pub record HasTakenAll (c : Command) (before after : Devices) (summed : Place → Place → List ℕ → Type 0) (closed : List Entry → Type 0) : Type 0 where
+  pub came : List ℕ
+  pub given : Consumes before.left after.left came
+  pub at_end : IsAtEnd after.left
+  pub taken : HasTaken c before after (entries_for c came) summed
+  pub closing : closed (entries_for c came)
 
 -- what is written of a part's summary: all of it, unless the errors fail; or nothing
 abbrev pub SumsUpPart : Bool → Place → Place → List ℕ → Type 0
@@ -176,19 +187,23 @@ abbrev pub BreaksOff : Command → Devices → Devices → Type 0
 BreaksOff c before after = IsUntouched c.saving × IfSome before.left (HasFronts c.output before after)
 
 -- the log is printed and reported and the state after it saved, and only its summary is cut off
-abbrev pub LacksSummary : Command → Devices → Devices → List ℕ → Type 0
-LacksSummary c before after log = IsSaved c.saving (entries_for c log) × HasTaken c before after (entries_for c log) IsCutOff
+abbrev pub LacksSummary : Command → Devices → Devices → Type 0
+LacksSummary c before after = HasTakenAll c before after IsCutOff (IsSaved c.saving)
+
+-- the log is printed and reported, and the state after it can't be saved
+abbrev pub LacksState : Command → Devices → Devices → Type 0
+LacksState c before after = HasTakenAll c before after IsWrittenUnlessFailed (λ es. CannotBeSaved c.saving)
 
 -- What each fault leaves. Read: the lines that came are taken. Lines: as many as are counted are. Save: the log is taken. In
--- these three the summary is cut off only where the errors failed. After Write and Memory the run breaks off; after Report
+-- these three the summary, where one is written, is cut off only where the errors failed. After Write and Memory the run breaks off; after Report
 -- too, or all but the summary is done. So memory is not refused once something is saved or summed up. No other fault stops a
 -- run.
 abbrev pub Leaves : Command → Devices → Devices → Fault → Type 0
 Leaves c before after Read = HasRead c before after
 Leaves c before after Lines = IsFull c before after
-Leaves c before after Save = IfSome before.left (λ log. HasTaken c before after (entries_for c log) IsWrittenUnlessFailed)
+Leaves c before after Save = LacksState c before after
 Leaves c before after Write = BreaksOff c before after
-Leaves c before after Report = BreaksOff c before after ⊎ IfSome before.left (LacksSummary c before after)
+Leaves c before after Report = BreaksOff c before after ⊎ LacksSummary c before after
 Leaves c before after Memory = BreaksOff c before after
 Leaves c before after _ = ⊥
 
@@ -198,7 +213,7 @@ pub record LogAndOutputHold (before after : Devices) : Type 0 where
   pub writes : after.failed_writes ≡ before.failed_writes
 
 -- Which device failed. Read: the log's, or none and 10^12 reads found no end. Write, Report: that one alone, and not the place
--- of the state. Save: that place. Lines: none. Memory: none; or, where parts are summed up, the log's, and memory was refused
+-- of the state. Save: that place. Lines: none. Memory: none; or, where parts are summed up, as for Read, and memory was refused
 -- for the state of what had been read. After Read, Lines and Save the errors may have failed too, in the summary.
 abbrev pub HasDevice : Command → Devices → Devices → Fault → Type 0
 HasDevice c before after Read =
@@ -262,5 +277,5 @@ pub record PrintsRest (t : TableParts) (o : Options) (front more : List ℕ) (be
   pub reported : Appends before.reported after.reported (report ++ summary_text (counts (kind t) (entries o.packing (front ++ more))))
   pub told : reports t o (front ++ more) ≡ reports t o front ++ report
   pub answered : status ≡ exit_status (counts (kind t) (entries o.packing (front ++ more)))
-  pub saved : Keeps keeper kept (save t o (front ++ more))
+  pub saved : Replaces keeper kept (save t o (front ++ more))
   pub reads_back : begun t (Some (save t o (front ++ more))) ≡ Ok (state_after t o (front ++ more))

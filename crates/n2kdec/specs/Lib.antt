@@ -1,5 +1,5 @@
-pub mod Closing
 pub mod Commands
 pub mod Fault
+pub mod Inner
 pub mod Usage
 pub mod Words

@@ -4,7 +4,7 @@ use Rattle.std.specs.Option.{option_map_or}
 use Rattle.std.specs.Str.{bytes_eq}
 use Rattle.clap.specs.Words.{IsAmong, Row, Text, fault_of, first_of, subcommand_of}
 use Rattle.clap.specs.declared.error.kind.ErrorKind.{ErrorKind}
-use Rattle.clap.specs.declared.error.kind.ErrorKind.TheVariants.{DisplayHelp, OutOfMemory}
+use Rattle.clap.specs.declared.error.kind.ErrorKind.TheVariants.{DisplayHelp}
 use Rattle.n2k_run.specs.declared.options.Options.{Options}
 use Rattle.n2k_wire.specs.declared.entry.Packing.TheVariants as packed
 use Rattle.n2kdec.specs.declared.fault.Fault.{Fault}
@@ -67,14 +67,6 @@ Names command (Ok words) = command ≡ Some words
 Names command (Err fault.Words) = command ≡ None
 Names command (Err fault.Memory) = Unit {0}
 Names command (Err _) = ⊥
-
--- an answer on a parse that failed
-abbrev pub AnswersKind : ErrorKind → Result Words Fault → Type 0
-AnswersKind kind (Ok (Help text)) = kind ≡ DisplayHelp
-AnswersKind kind (Ok _) = ⊥
-AnswersKind kind (Err fault.Words) = (kind ≢ DisplayHelp) × (kind ≢ OutOfMemory)
-AnswersKind kind (Err fault.Memory) = Unit {0}
-AnswersKind kind (Err _) = ⊥
 
 -- the options that the words `--empty` and `--whole` stand for
 abbrev pub options_of : Bool → Bool → Options

@@ -8,7 +8,7 @@ ghost use Rattle.n2k_run.specs.Parts.{IsFront, OnRefusal, begun};
 ghost use Rattle.n2k_run.specs.Runs.{devices};
 ghost use Rattle.n2k_table.specs.Table.{faults, kind, table as table_of};
 ghost use Rattle.n2k_table.specs.declared.fault.TableFault.{TableFault};
-ghost use Rattle.n2kdec.specs.Closing.{ClosesPart, SumsUp};
+ghost use Rattle.n2kdec.specs.Inner.Closing.{ClosesPart, SumsUp};
 ghost use Rattle.n2kdec.specs.Commands.{Ends, EndsUnlessRefused, IsDone, IsJudged, IsRefusal, IsRefusedOrStopped, PrintsRest, decode_command, decode_from, frames_command, place, plain_command};
 ghost use Rattle.n2kdec.specs.Fault.{exit_status};
 
@@ -90,8 +90,8 @@ fn close<K: Keeper, E: Sink>(
 }
 
 /// Prints each frame and each whole message of a log as its plain line to `output`, and to `errors` the reports of its
-/// bad lines and then the summary. Answers the status: 0, or 1 where a line was bad. A fault ends the run before the
-/// summary.
+/// bad lines and then the summary. Answers the status: 0, or 1 where a line was bad. After a fault there
+/// is no summary, but for a part of it where `errors` fails in it.
 pub fn plain<R: Source, W: Sink, E: Sink>(
     alloc: Global,
     log: &mut R,
@@ -174,7 +174,8 @@ pub fn decode<K: Keeper, R: Source, W: Sink, E: Sink>(
 /// Reads a table, and then writes each whole message of a log as the lines of its frames to `output`: plain lines, or
 /// candump lines of an interface. To `errors` go the reports of bad lines, a message that can't be written among them,
 /// and then the summary. Answers the status, as `plain` does. A table with a fault is refused before the log is read,
-/// and leaves each device as it was. A fault ends the run before the summary.
+/// and leaves each device as it was. After a fault there is no summary, but for a part of it
+/// where `errors` fails in it.
 pub fn frames<R: Source, W: Sink, E: Sink>(
     alloc: Global,
     table: &[u8],

@@ -3,8 +3,9 @@ ghost use Rattle.std.specs.Prelude.{◌≡◌, ◌⊎◌, true, IfOk, IfErr, IsE
 ghost use Rattle.clap.specs.Walk.{texts};
 ghost use Rattle.clap.specs.Words.{first_of, found_of, kind_of, rows_of, subcommand_rows_of, takes};
 ghost use Rattle.n2k_run.specs.FramesOut.{IsInterface, interface_of};
+ghost use Rattle.n2kdec.specs.Inner.Parse.{AnswersKind};
 ghost use Rattle.n2kdec.specs.Usage.{program_app};
-ghost use Rattle.n2kdec.specs.Words.{AnswersKind, IsAskedBy, IsRefused, Names, decode_words, flag_of, frames_words, named, plain_words, words_of};
+ghost use Rattle.n2kdec.specs.Words.{IsAskedBy, IsRefused, Names, decode_words, flag_of, frames_words, named, plain_words, words_of};
 
 use crate::fault::Fault;
 use crate::usage::program;
@@ -126,7 +127,7 @@ pub fn words(alloc: Global, words: &[&str]) -> Result<Words, Fault>
 /// The interface that frames are written for, where one is given. One that isn't the name of an interface is refused.
 pub fn interface(given: &Option<Word>) -> Result<Option<&str>, Fault>
     ensures taken { IfOk result (λ interface. interface_of interface ≡ given.now) }
-    ensures ok { IfOk result (λ interface. IsInterface (interface_of interface)) }
+    ensures is_one { IfOk result (λ interface. IsInterface (interface_of interface)) }
     ensures refused { IfErr result (λ fault. (fault ≡ Fault.Interface) × (IsInterface given.now → ⊥)) }
 {
     match given {

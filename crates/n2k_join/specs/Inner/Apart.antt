@@ -1,5 +1,5 @@
 -- The rules on the groups of a state that is read, each by itself, and their keys by an index.
-use Rattle.std.specs.Prelude.{ℕ, Bool, true, not, ◌&&◌, List, [], ◌∷◌, ◌++◌, Option}
+use Rattle.std.specs.Prelude.{◌≡◌, ℕ, Bool, true, false, not, ◌&&◌, List, [], ◌∷◌, ◌++◌, Option, Some, None}
 use Rattle.std.specs.List.{list_any}
 use Rattle.n2k_table.specs.declared.definition.Kind.{Kind}
 use Rattle.n2k_join.specs.Frames.{Key, same_key}
@@ -15,3 +15,8 @@ each_holds kind (g ∷ gs) = group_holds kind g && each_holds kind gs
 unfoldable pub are_new : List Key → List Group → Bool
 are_new seen [] = true
 are_new seen (g ∷ gs) = not (list_any (same_key g.key) seen) && are_new (seen ++ g.key ∷ []) gs
+
+-- What a function answered, seen by view, is this value, where the test holds, and nothing where it doesn't.
+abbrev pub SomeUnder : {X Y : Type 0} → (X → Y) → Option X → Bool → Y → Type 0
+SomeUnder view (Some x) test y = (test ≡ true) × (view x ≡ y)
+SomeUnder view None test y = test ≡ false

@@ -1,15 +1,17 @@
 -- What the code keeps, as the definitions see it.
-use Rattle.std.specs.Prelude.{◌≡◌, ◌≤◌, ℕ, List, [], ◌∷◌, ◌++◌, map, false, if◌then◌else◌, Option, Some, None, filter_map, find, option_to_list}
+use Rattle.std.specs.Prelude.{◌≡◌, ◌≤◌, ℕ, nat_lt, Bool, List, [], ◌∷◌, ◌++◌, map, false, if◌then◌else◌, Option, Some, None, filter_map, find, option_to_list}
+use Rattle.std.specs.List.{list_all}
 use Rattle.n2k_join.specs.declared.broken.Broken.{Broken}
 use Rattle.n2k_wire.specs.Packet.{PacketParts}
 use Rattle.n2k_wire.specs.declared.entry.BadCause.{BadCause}
 use Rattle.n2k_join.specs.declared.piece.FrameKey.{FrameKey}
 use Rattle.n2k_join.specs.declared.piece.StoredPiece.{StoredPiece}
 use Rattle.n2k_join.specs.declared.piece.FastFrame.{FastFrame}
-use Rattle.n2k_join.specs.Frames.{Key, same_key, Frame, most_frames}
+use Rattle.n2k_join.specs.Frames.{Key, same_key, Frame, most_frames, most_sequences}
 use Rattle.n2k_join.specs.Groups.{repeats, has_twice, complete}
 use Rattle.n2k_join.specs.Open.{Piece, Group, pieces_of, group_of}
 use Rattle.n2k_join.specs.Messages.{message_of, broken_of}
+use Rattle.n2k_join.specs.Pieces.{Stream}
 use Rattle.n2k_join.specs.State.{Given, held_frame, held_of}
 
 abbrev pub key_of : FrameKey → Key
@@ -45,6 +47,10 @@ stored_group first key ps = record { first = first; key = key; pieces = pieces_o
 pub record IsStored (first : ℕ) (key : Key) (ps : List StoredPiece) (size : ℕ) : Type 0 where
   pub once : has_twice (stored_frames first key ps) ≡ false
   pub room : most_frames ≤ size
+
+-- each sequence that a splitter holds is of three bits
+abbrev pub are_sequences : List (Stream × ℕ) → Bool
+are_sequences held = list_all (λ (e : Stream × ℕ). nat_lt e.1 most_sequences) held
 
 -- ---- a frame taken into the open groups, as the code does it
 

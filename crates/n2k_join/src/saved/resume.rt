@@ -1,17 +1,22 @@
 //! A join from a saved state.
-ghost use Rattle.std.specs.Prelude.{◌≡◌, ◌≤◌, [], map, IfOk, vec_capacity};
+ghost use Rattle.std.specs.Prelude.{◌≡◌, ◌≤◌, ◌<◌, [], map, IfOk, vec_capacity};
 ghost use Rattle.n2k_join.specs.Inner.Apart.{each_holds, are_new};
 ghost use Rattle.serde_json.specs.View.{view};
 ghost use Rattle.n2k_table.specs.Table.{kind};
 ghost use Rattle.n2k_wire.specs.Packet.{greatest_pgn};
-ghost use Rattle.n2k_join.specs.Refusal.{GivesOrMemory, or_fault};
+ghost use Rattle.n2k_wire.specs.Plain.{greatest_address};
+ghost use Rattle.n2k_join.specs.Frames.{most_frames, most_sequences};
+ghost use Rattle.n2k_join.specs.Refusal.{GivesOrMemory};
+ghost use Rattle.n2k_wire.specs.Steps.{or_cause};
 ghost use Rattle.n2k_join.specs.Resumed.{pieces_rise, group_holds, groups_hold, valid_if, parsed, has_format};
 ghost use Rattle.n2k_join.specs.State.{IsKey, IsPiece, HasParts};
 ghost use Rattle.std.specs.List.{AllByRecursion};
 ghost use Rattle.n2k_join.specs.Inner.Stored.{key_of, piece_of};
 
+use crate::frame::MOST_FRAMES;
 use crate::group::StoredGroup;
 use crate::piece::{FrameKey, StoredPiece};
+use crate::saved::SAVED_FORMAT;
 use crate::saved::rules::{key_holds, stored_piece};
 use crate::saved::spelled::{SpelledGroup, SpelledKey, SpelledPiece};
 use crate::state_fault::StateFault;
@@ -20,20 +25,14 @@ use n2k_table::Table;
 use serde_json::Value;
 use std::alloc::{AllocError, Global};
 
-/// The most frames of a group.
-const MOST_FRAMES: usize = 32;
-
-/// The format of the states that are read.
-const SAVED_FORMAT: u64 = 1;
-
 // The frames of a group, by rising number, where they can be a group's.
 #[tactic(auto, unfolding(crate::specs::Resumed::pieces_rise))]
 fn stored_pieces(alloc: Global, pieces: &[SpelledPiece]) -> Result<Vec<StoredPiece>, StateFault>
     ensures value { GivesOrMemory (λ stored. map piece_of stored.items) result (valid_if (pieces_rise 0 pieces.now) pieces.now) }
-    ensures room { IfOk result (λ stored. MOST_FRAMES ≤ vec_capacity stored) }
+    ensures room { IfOk result (λ stored. most_frames ≤ vec_capacity stored) }
     ensures parts { IfOk result (λ stored. AllByRecursion IsPiece (map piece_of stored.items)) }
 {
-    let mut stored = Vec::with_capacity(alloc, MOST_FRAMES)?;
+    let mut stored = Vec::with_capacity(alloc, usize::from(MOST_FRAMES))?;
     let mut least = 0;
     for piece in pieces {
         match stored_piece(least, piece) {
@@ -49,10 +48,10 @@ fn stored_pieces(alloc: Global, pieces: &[SpelledPiece]) -> Result<Vec<StoredPie
 
 // A key whose parts are small enough.
 fn stored_key(key: &SpelledKey) -> FrameKey
-    requires src { key.now.src ≤ 255 }
-    requires dst { key.now.dst ≤ 255 }
+    requires src { key.now.src ≤ greatest_address }
+    requires dst { key.now.dst ≤ greatest_address }
     requires pgn { key.now.pgn ≤ greatest_pgn }
-    requires sequence { key.now.sequence ≤ 7 }
+    requires sequence { key.now.sequence < most_sequences }
     ensures value { key_of result ≡ key.now }
     ensures parts { IsKey (key_of result) }
 {
@@ -134,7 +133,7 @@ pub(crate) fn stored_groups(
 
 /// The JSON value of a text.
 pub(crate) fn parsed(alloc: Global, bytes: &[u8]) -> Result<Value, StateFault>
-    ensures { GivesOrMemory (λ value. view value) result (or_fault StateFault.NotJson (parsed bytes.now)) }
+    ensures { GivesOrMemory (λ value. view value) result (or_cause StateFault.NotJson (parsed bytes.now)) }
 {
     match Value::from_slice(alloc, bytes) {
         Ok(value) => Ok(value),

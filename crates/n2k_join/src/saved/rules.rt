@@ -4,28 +4,18 @@ ghost use Rattle.std.specs.List.{AllByRecursion};
 ghost use Rattle.n2k_wire.specs.Packet.{greatest_pgn};
 ghost use Rattle.n2k_table.specs.Table.{kind};
 ghost use Rattle.n2k_join.specs.Counts.{most_lines};
-ghost use Rattle.n2k_join.specs.Refusal.{SomeUnder};
+ghost use Rattle.n2k_join.specs.Frames.{most_frames};
+ghost use Rattle.n2k_join.specs.Inner.Apart.{SomeUnder};
 ghost use Rattle.n2k_join.specs.State.{IsPiece};
 ghost use Rattle.n2k_join.specs.Inner.Stored.{piece_of};
 ghost use Rattle.n2k_join.specs.Resumed.{counts_hold, firsts_rise, is_fast, key_holds, total_holds, piece_holds};
 
 use crate::counts::{Counts, MOST_LINES};
+use crate::frame::{LONGEST_TOTAL, MOST_FRAMES, MOST_SEQUENCES};
 use crate::piece::StoredPiece;
 use crate::saved::spelled::{SpelledGroup, SpelledKey, SpelledPiece};
 use n2k_table::{Kind, Table};
-use n2k_wire::GREATEST_PGN;
-
-/// The greatest address.
-const GREATEST_ADDRESS: u64 = 255;
-
-/// The greatest sequence of a fast packet.
-const GREATEST_SEQUENCE: u64 = 7;
-
-/// The greatest number of a frame.
-const GREATEST_NUMBER: u64 = 31;
-
-/// The most bytes of a message.
-const LONGEST_TOTAL: u8 = 223;
+use n2k_wire::{GREATEST_ADDRESS, GREATEST_PGN};
 
 /// Whether these can be the counts of lines. No sum of them wraps.
 #[tactic(auto, unfolding(crate::specs::Resumed::counts_hold))]
@@ -80,7 +70,7 @@ pub(crate) fn key_holds(table: &Table, key: &SpelledKey) -> bool
     key.pgn <= u64::from(GREATEST_PGN)
         && (is_fast(table, key.pgn)
             && (key.src <= GREATEST_ADDRESS
-                && (key.dst <= GREATEST_ADDRESS && key.sequence <= GREATEST_SEQUENCE)))
+                && (key.dst <= GREATEST_ADDRESS && key.sequence < u64::from(MOST_SEQUENCES))))
 }
 
 // Whether a frame has a total that isn't too large, where it has the number 0.
@@ -97,7 +87,7 @@ fn know_bytes(bytes: &[u8])
 
 // The piece of a number and its bytes.
 fn piece_of_parts(number: u8, bytes: &[u8; 7]) -> StoredPiece
-    requires small { number ≤ 31 }
+    requires small { number < most_frames }
     requires total { total_holds number bytes.now ≡ true }
     ensures value { piece_of result ≡ record { number = number; bytes = bytes.now } }
     ensures parts { IsPiece (piece_of result) }
@@ -114,7 +104,7 @@ pub(crate) fn stored_piece(least: u8, piece: &SpelledPiece) -> Option<StoredPiec
     ensures value { SomeUnder piece_of result (piece_holds least piece.now) piece.now }
     ensures parts { IfSome result (λ stored. IsPiece (piece_of stored)) }
 {
-    if piece.number < u64::from(least) || piece.number > GREATEST_NUMBER {
+    if piece.number < u64::from(least) || piece.number >= u64::from(MOST_FRAMES) {
         return None;
     }
     if !total_holds(piece.number, &piece.bytes) {

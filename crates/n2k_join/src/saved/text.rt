@@ -11,17 +11,13 @@ ghost use Rattle.n2k_join.specs.Inner.Stored.{key_of};
 ghost use Rattle.std.specs.Str.{IsUtf8};
 
 use crate::counts::Counts;
+use crate::frame::MOST_FRAMES;
 use crate::group::StoredGroup;
 use crate::piece::FrameKey;
+use crate::saved::SAVED_FORMAT;
 use json::Writer;
 use std::alloc::{AllocError, Global};
 use std::str;
-
-/// The most frames of a group.
-const MOST_FRAMES: u8 = 32;
-
-/// The format of the states that are written.
-const SAVED_FORMAT: u64 = 1;
 
 /// Writes a member that is a whole number.
 fn push_count(name: &str, number: u64, out: &mut Writer) -> Result<(), AllocError>

@@ -2,7 +2,7 @@
 ghost use Rattle.std.specs.Prelude.{◌≡◌, map};
 ghost use Rattle.serde_json.specs.View.{view, members_view};
 ghost use Rattle.n2k_wire.specs.Views.{Gives};
-ghost use Rattle.n2k_join.specs.Refusal.{or_fault};
+ghost use Rattle.n2k_wire.specs.Steps.{or_cause};
 ghost use Rattle.n2k_join.specs.Resumed.{has_only, members_at, required, as_whole, whole_at, digits_of, elements_of};
 
 use crate::saved::place::Place;
@@ -41,7 +41,7 @@ pub(crate) fn required<'a>(name: &str, value: &'a Value) -> Result<&'a Value, St
 
 /// The whole number that a value is.
 pub(crate) fn as_whole(value: &Value) -> Result<u64, StateFault>
-    ensures { Gives (λ number. number) result (or_fault StateFault.Shape (as_whole (view value.now))) }
+    ensures { Gives (λ number. number) result (or_cause StateFault.Shape (as_whole (view value.now))) }
 {
     value.as_u64().ok_or(StateFault::Shape)
 }

@@ -8,7 +8,7 @@ use Rattle.n2k_run.specs.Making.{Making}
 use Rattle.n2k_run.specs.Reports.{bad_report}
 
 -- no count is above that of the lines, and no more lines are counted than there can be
-pub record AreCounts (c : Counts) : Type 0 where
+pub record AreLineCounts (c : Counts) : Type 0 where
   pub few : c.lines ≤ most_lines
   pub messages : c.messages ≤ c.lines
   pub bad : c.bad ≤ c.lines

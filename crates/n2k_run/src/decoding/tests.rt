@@ -2,15 +2,16 @@ ghost use Rattle.std.specs.Prelude.{◌<◌};
 
 use super::run;
 use crate::{MemorySink, MemorySource, Options, RunFault, summary_text};
-use n2k_join::Join;
-use n2k_table::Table;
+use n2k_join::{Counts, Join};
+use n2k_table::{Table, TableFault};
 use n2k_wire::Packing;
 use serde_json::Value;
+use std::alloc::{AllocError, Global};
 use std::process::Abort;
 use std::test::Fail;
 
 // The sample's fast packet, and a PGN of single frames.
-const TABLE: &[u8] = b"
+const TABLE: &str = "
 format = 1
 
 [[pgn]]
@@ -34,6 +35,11 @@ fields = [
 ]
 ";
 
+// That the text is a table is no part of what a test's proof has to go through.
+fn table(alloc: Global) -> Result<Table, TableFault> {
+    Table::read(alloc, TABLE.as_bytes())
+}
+
 const FRAMES: Options = Options {
     packing: Packing::Frames,
     empty: false,
@@ -41,58 +47,63 @@ const FRAMES: Options = Options {
 
 #[derive(Drop)]
 struct Example {
-    log: &'static [u8],
-    text: &'static [u8],
-    reports: &'static [u8],
-    summary: &'static [u8],
+    log: &'static str,
+    text: &'static str,
+    reports: &'static str,
+    summary: &'static str,
 }
+
+const TWO_SOURCES: &str = "(10.000001) can0 1DFF0405#000BA39901414243
+(10.100000) can0 1DFF0406#200BA39902585920
+(10.200000) can0 1DFF0406#212020202020FFFF
+(10.300000) can0 1DFF0405#010000000000FFFF
+";
+
+const TWO_SOURCES_TEXT: &str =
+    "{\"timestamp\":\"1970-01-01T00:00:10.200Z\",\"prio\":7,\"src\":6,\"dst\":255,\"pgn\":130820,\"description\":\"Sample: Label\",\"fields\":{\"Maker\":419,\"Kind\":2,\"Label\":\"XY\"}}
+{\"timestamp\":\"1970-01-01T00:00:10.300Z\",\"prio\":7,\"src\":5,\"dst\":255,\"pgn\":130820,\"description\":\"Sample: Label\",\"fields\":{\"Maker\":419,\"Kind\":1,\"Label\":\"ABC\"}}
+";
 
 const EXAMPLES: [Example; 10] = [
     // empty-log
     Example {
-        log: b"",
-        text: b"",
-        reports: b"",
-        summary: b"lines 0 messages 0 bad 0 unknown 0 broken 0 open 0\n",
+        log: "",
+        text: "",
+        reports: "",
+        summary: "lines 0 messages 0 bad 0 unknown 0 broken 0 open 0\n",
     },
     // two-sources
     Example {
-        log: b"(10.000001) can0 1DFF0405#000BA39901414243
-(10.100000) can0 1DFF0406#200BA39902585920
-(10.200000) can0 1DFF0406#212020202020FFFF
-(10.300000) can0 1DFF0405#010000000000FFFF
-",
-        text: b"{\"timestamp\":\"1970-01-01T00:00:10.200Z\",\"prio\":7,\"src\":6,\"dst\":255,\"pgn\":130820,\"description\":\"Sample: Label\",\"fields\":{\"Maker\":419,\"Kind\":2,\"Label\":\"XY\"}}
-{\"timestamp\":\"1970-01-01T00:00:10.300Z\",\"prio\":7,\"src\":5,\"dst\":255,\"pgn\":130820,\"description\":\"Sample: Label\",\"fields\":{\"Maker\":419,\"Kind\":1,\"Label\":\"ABC\"}}
-",
-        reports: b"",
-        summary: b"lines 4 messages 2 bad 0 unknown 0 broken 0 open 0\n",
+        log: TWO_SOURCES,
+        text: TWO_SOURCES_TEXT,
+        reports: "",
+        summary: "lines 4 messages 2 bad 0 unknown 0 broken 0 open 0\n",
     },
     // repeat-breaks
     Example {
-        log: b"(1.0) can0 1DFF0405#6014A39904474849
+        log: "(1.0) can0 1DFF0405#6014A39904474849
 (2.0) can0 1DFF0405#6120202020202020
 (3.0) can0 1DFF0405#6120202020202020
 (4.0) can0 1DFF0405#6014A39904474849
 (5.0) can0 1DFF0405#6220202020202020
 ",
-        text: b"{\"timestamp\":\"1970-01-01T00:00:05.000Z\",\"prio\":7,\"src\":5,\"dst\":255,\"pgn\":130820,\"description\":\"Sample: Label\",\"fields\":{\"Maker\":419,\"Kind\":4,\"Label\":\"GHI\"}}\n",
-        reports: b"line 3 broken pgn 130820 src 5 dst 255 seq 3 first 1\n",
-        summary: b"lines 5 messages 1 bad 0 unknown 0 broken 1 open 0\n",
+        text: "{\"timestamp\":\"1970-01-01T00:00:05.000Z\",\"prio\":7,\"src\":5,\"dst\":255,\"pgn\":130820,\"description\":\"Sample: Label\",\"fields\":{\"Maker\":419,\"Kind\":4,\"Label\":\"GHI\"}}\n",
+        reports: "line 3 broken pgn 130820 src 5 dst 255 seq 3 first 1\n",
+        summary: "lines 5 messages 1 bad 0 unknown 0 broken 1 open 0\n",
     },
     // frames-in-reverse
     Example {
-        log: b"(11.0) can0 1DFF0405#4120202020202020
+        log: "(11.0) can0 1DFF0405#4120202020202020
 (12.0) can0 1DFF0405#400DA39903444546
 ",
-        text: b"{\"timestamp\":\"1970-01-01T00:00:12.000Z\",\"prio\":7,\"src\":5,\"dst\":255,\"pgn\":130820,\"description\":\"Sample: Label\",\"fields\":{\"Maker\":419,\"Kind\":3,\"Label\":\"DEF\"}}
+        text: "{\"timestamp\":\"1970-01-01T00:00:12.000Z\",\"prio\":7,\"src\":5,\"dst\":255,\"pgn\":130820,\"description\":\"Sample: Label\",\"fields\":{\"Maker\":419,\"Kind\":3,\"Label\":\"DEF\"}}
 ",
-        reports: b"",
-        summary: b"lines 2 messages 1 bad 0 unknown 0 broken 0 open 0\n",
+        reports: "",
+        summary: "lines 2 messages 1 bad 0 unknown 0 broken 0 open 0\n",
     },
     // longest-message
     Example {
-        log: b"(1.0) can0 1DFF0405#00DFA399054A4B4C
+        log: "(1.0) can0 1DFF0405#00DFA399054A4B4C
 (2.0) can0 1DFF0405#0120202020202020
 (3.0) can0 1DFF0405#0220202020202020
 (4.0) can0 1DFF0405#0320202020202020
@@ -126,63 +137,63 @@ const EXAMPLES: [Example; 10] = [
 (32.0) can0 1DFF0405#1F20202020202020
 (33.0) can0 1DFF0405#00E0A399054A4B4C
 ",
-        text: b"{\"timestamp\":\"1970-01-01T00:00:32.000Z\",\"prio\":7,\"src\":5,\"dst\":255,\"pgn\":130820,\"description\":\"Sample: Label\",\"fields\":{\"Maker\":419,\"Kind\":5,\"Label\":\"JKL\"}}
+        text: "{\"timestamp\":\"1970-01-01T00:00:32.000Z\",\"prio\":7,\"src\":5,\"dst\":255,\"pgn\":130820,\"description\":\"Sample: Label\",\"fields\":{\"Maker\":419,\"Kind\":5,\"Label\":\"JKL\"}}
 ",
-        reports: b"line 33 bad B7 fast
+        reports: "line 33 bad B7 fast
 ",
-        summary: b"lines 33 messages 1 bad 1 unknown 0 broken 0 open 0\n",
+        summary: "lines 33 messages 1 bad 1 unknown 0 broken 0 open 0\n",
     },
     // short-totals
     Example {
-        log: b"(1.0) can0 1DFF0405#000BA39901414243
+        log: "(1.0) can0 1DFF0405#000BA39901414243
 (2.0) can0 1DFF0405#0006A39901414243
 ",
-        text: b"{\"timestamp\":\"1970-01-01T00:00:02.000Z\",\"prio\":7,\"src\":5,\"dst\":255,\"pgn\":130820,\"description\":\"Sample: Label\",\"fields\":{\"Maker\":419,\"Kind\":1}}
+        text: "{\"timestamp\":\"1970-01-01T00:00:02.000Z\",\"prio\":7,\"src\":5,\"dst\":255,\"pgn\":130820,\"description\":\"Sample: Label\",\"fields\":{\"Maker\":419,\"Kind\":1}}
 ",
-        reports: b"line 2 broken pgn 130820 src 5 dst 255 seq 0 first 1
+        reports: "line 2 broken pgn 130820 src 5 dst 255 seq 0 first 1
 ",
-        summary: b"lines 2 messages 1 bad 0 unknown 0 broken 1 open 0\n",
+        summary: "lines 2 messages 1 bad 0 unknown 0 broken 1 open 0\n",
     },
     // extra-frame
     Example {
-        log: b"(1.0) can0 1DFF0405#800DA39906414243
+        log: "(1.0) can0 1DFF0405#800DA39906414243
 (2.0) can0 1DFF0405#8320202020202020
 (3.0) can0 1DFF0405#8120202020202020
 (4.0) can0 1DFF0405#800DA39906414243
 ",
-        text: b"",
-        reports: b"line 4 broken pgn 130820 src 5 dst 255 seq 4 first 1
+        text: "",
+        reports: "line 4 broken pgn 130820 src 5 dst 255 seq 4 first 1
 ",
-        summary: b"lines 4 messages 0 bad 0 unknown 0 broken 1 open 1\n",
+        summary: "lines 4 messages 0 bad 0 unknown 0 broken 1 open 1\n",
     },
     // whole-among-frames
     Example {
-        log: b"(10.000001) can0 1DFF0405#000BA39901414243
+        log: "(10.000001) can0 1DFF0405#000BA39901414243
 2020-01-01T00:00:00.000Z,7,130820,5,255,9,07,98,01,41,42,43,44,45,46
 (10.300000) can0 1DFF0405#010000000000FFFF
 ",
-        text: b"{\"timestamp\":\"2020-01-01T00:00:00.000Z\",\"prio\":7,\"src\":5,\"dst\":255,\"pgn\":130820,\"description\":\"Unmatched\",\"fields\":{\"Data\":\"07 98 01 41 42 43 44 45 46\"}}
+        text: "{\"timestamp\":\"2020-01-01T00:00:00.000Z\",\"prio\":7,\"src\":5,\"dst\":255,\"pgn\":130820,\"description\":\"Unmatched\",\"fields\":{\"Data\":\"07 98 01 41 42 43 44 45 46\"}}
 {\"timestamp\":\"1970-01-01T00:00:10.300Z\",\"prio\":7,\"src\":5,\"dst\":255,\"pgn\":130820,\"description\":\"Sample: Label\",\"fields\":{\"Maker\":419,\"Kind\":1,\"Label\":\"ABC\"}}
 ",
-        reports: b"",
-        summary: b"lines 3 messages 2 bad 0 unknown 0 broken 0 open 0\n",
+        reports: "",
+        summary: "lines 3 messages 2 bad 0 unknown 0 broken 0 open 0\n",
     },
     // mixed-message
     Example {
-        log: b"(1.0) can0 1DFF0405#0141414141414141
+        log: "(1.0) can0 1DFF0405#0141414141414141
 (9.0) can0 1DFF0405#000DA39903444546
 ",
-        text: b"{\"timestamp\":\"1970-01-01T00:00:09.000Z\",\"prio\":7,\"src\":5,\"dst\":255,\"pgn\":130820,\"description\":\"Sample: Label\",\"fields\":{\"Maker\":419,\"Kind\":3,\"Label\":\"DEFAAAAA\"}}
+        text: "{\"timestamp\":\"1970-01-01T00:00:09.000Z\",\"prio\":7,\"src\":5,\"dst\":255,\"pgn\":130820,\"description\":\"Sample: Label\",\"fields\":{\"Maker\":419,\"Kind\":3,\"Label\":\"DEFAAAAA\"}}
 ",
-        reports: b"",
-        summary: b"lines 2 messages 1 bad 0 unknown 0 broken 0 open 0\n",
+        reports: "",
+        summary: "lines 2 messages 1 bad 0 unknown 0 broken 0 open 0\n",
     },
     // an unknown PGN, and a frame of a fast packet without a byte
     Example {
-        log: b"(1.0) can0 18EAFF01#14F001\n(10.3) can0 1DFF0405#\n",
-        text: b"",
-        reports: b"line 2 bad B7 fast\n",
-        summary: b"lines 2 messages 0 bad 1 unknown 1 broken 0 open 0\n",
+        log: "(1.0) can0 18EAFF01#14F001\n(10.3) can0 1DFF0405#\n",
+        text: "",
+        reports: "line 2 bad B7 fast\n",
+        summary: "lines 2 messages 0 bad 1 unknown 1 broken 0 open 0\n",
     },
 ];
 
@@ -208,30 +219,44 @@ fn decodes<R: Abort + AllocGlobal>(
         &mut writer,
         &mut reporter,
     )?;
-    assert_eq!(rt; writer.bytes(), example.text);
-    assert_eq!(rt; reporter.bytes(), example.reports);
+    assert_eq!(rt; writer.bytes(), example.text.as_bytes());
+    assert_eq!(rt; reporter.bytes(), example.reports.as_bytes());
+    has_summary(rt, &join.counts(), example.summary)
+}
+
+fn has_summary<R: Abort + AllocGlobal>(rt: &R, counts: &Counts, text: &str) -> Result<(), Fail> {
     let mut summary = Vec::new(rt.alloc());
-    summary_text(rt.alloc(), &join.counts(), &mut summary)?;
-    assert_eq!(rt; summary.as_slice(), example.summary);
+    summary_text(rt.alloc(), counts, &mut summary)?;
+    assert_eq!(rt; summary.as_slice(), text.as_bytes());
+    Ok(())
+}
+
+fn decodes_in_pieces<R: Abort + AllocGlobal>(
+    rt: &R,
+    table: &Table,
+    log: &[u8],
+    example: &Example,
+) -> Result<(), Fail> {
+    for piece in [1, 7, 4095, 4096, 100_000] {
+        if piece > 0 {
+            decodes(rt, table, log, example, piece)?;
+        }
+    }
     Ok(())
 }
 
 #[test]
 fn worked_examples_in_pieces(rt: HostRuntime) -> Result<(), Fail> {
-    let table = Table::read(rt.alloc(), TABLE)?;
+    let table = table(rt.alloc())?;
     for example in &EXAMPLES {
-        decodes(&rt, &table, example.log, example, 1)?;
-        decodes(&rt, &table, example.log, example, 7)?;
-        decodes(&rt, &table, example.log, example, 4095)?;
-        decodes(&rt, &table, example.log, example, 4096)?;
-        decodes(&rt, &table, example.log, example, 100_000)?;
+        decodes_in_pieces(&rt, &table, example.log.as_bytes(), example)?;
     }
     Ok(())
 }
 
 // Ten lines, of which one gives a message; the second has 2,049 bytes.
 const TEN_LINES: Example = Example {
-    log: b"
+    log: "
 (10.1) can0 1DFF0405#010
 (10.2) can0 40000000#00
 2011-11-24-22:42:04.388,2,127251,36,255,3,7d,0b
@@ -241,9 +266,9 @@ const TEN_LINES: Example = Example {
 x,8,127251,36,255,0
 hello
 ",
-    text: b"{\"timestamp\":\"1970-01-01T00:00:10.400Z\",\"prio\":7,\"src\":5,\"dst\":255,\"pgn\":130820,\"description\":\"Sample: Label\",\"fields\":{\"Maker\":419,\"Kind\":1,\"Label\":\"ABC\"}}
+    text: "{\"timestamp\":\"1970-01-01T00:00:10.400Z\",\"prio\":7,\"src\":5,\"dst\":255,\"pgn\":130820,\"description\":\"Sample: Label\",\"fields\":{\"Maker\":419,\"Kind\":1,\"Label\":\"ABC\"}}
 ",
-    reports: b"line 2 bad B1 long
+    reports: "line 2 bad B1 long
 line 3 bad B6 data
 line 4 bad B4 identifier
 line 5 bad B6 data
@@ -252,55 +277,73 @@ line 8 bad B2 stamp
 line 9 bad B5 number
 line 10 bad B3 form
 ",
-    summary: b"lines 10 messages 1 bad 8 unknown 0 broken 0 open 0\n",
+    summary: "lines 10 messages 1 bad 8 unknown 0 broken 0 open 0\n",
 };
+
+// A frame's line, and x's in front of the other lines.
+fn ten_lines(alloc: Global, others: &str) -> Result<Vec<u8>, AllocError> {
+    let mut log = Vec::new(alloc);
+    log.extend_from_slice(b"(10.0) can0 1DFF0405#000BA39901414243\n")?;
+    let long = vec![in alloc; b'x'; 2049]?;
+    log.extend_from_slice(&long)?;
+    log.extend_from_slice(others.as_bytes())?;
+    Ok(log)
+}
 
 #[test]
 fn ten_lines_eight_bad(rt: HostRuntime) -> Result<(), Fail> {
-    let table = Table::read(rt.alloc(), TABLE)?;
-    let mut log = Vec::new(rt.alloc());
-    log.extend_from_slice(b"(10.0) can0 1DFF0405#000BA39901414243\n")?;
-    let long = vec![in rt.alloc(); b'x'; 2049]?;
-    log.extend_from_slice(&long)?;
-    log.extend_from_slice(TEN_LINES.log)?;
-    decodes(&rt, &table, &log, &TEN_LINES, 1)?;
-    decodes(&rt, &table, &log, &TEN_LINES, 7)?;
-    decodes(&rt, &table, &log, &TEN_LINES, 4095)?;
-    decodes(&rt, &table, &log, &TEN_LINES, 4096)?;
-    decodes(&rt, &table, &log, &TEN_LINES, 100_000)
+    let table = table(rt.alloc())?;
+    let log = ten_lines(rt.alloc(), TEN_LINES.log)?;
+    decodes_in_pieces(&rt, &table, &log, &TEN_LINES)
 }
 
-// Each printed line is one JSON text. That its members stand in their order the texts above show.
-#[test]
-fn each_line_is_read_by_serde_json(rt: HostRuntime) -> Result<(), Fail> {
-    let table = Table::read(rt.alloc(), TABLE)?;
-    let mut join = Join::new(rt.alloc(), &table);
-    // A stamp may hold what JSON escapes.
-    let log = b"\"\\,2,129026,36,255,8,7d,0b,7d,02,00,ff,ff,ff
+// A stamp may hold what JSON escapes.
+const STAMPS: &str = "\"\\,2,129026,36,255,8,7d,0b,7d,02,00,ff,ff,ff
 (1502979132.106111) can0 09F8027F#00FCFFFF0000FFFF
 ";
+
+// The stamp of a JSON line.
+fn stamp_of(alloc: Global, line: &str) -> Result<String, Fail> {
+    let value = Value::from_str(alloc, line)?;
+    let stamp = value
+        .get("timestamp")
+        .and_then(|stamp| stamp.as_str())
+        .ok_or("no stamp")?;
+    Ok(stamp.to_string(alloc)?)
+}
+
+fn stamps_of(alloc: Global, text: &str) -> Result<Vec<String>, Fail> {
+    let mut stamps = Vec::new(alloc);
+    for line in text.lines() {
+        stamps.push(stamp_of(alloc, line)?)?;
+    }
+    Ok(stamps)
+}
+
+// What is printed of a log.
+fn printed<R: AllocGlobal>(rt: &R, table: &Table, log: &[u8]) -> Result<MemorySink, Fail> {
+    let mut join = Join::new(rt.alloc(), table);
     let mut reader = MemorySource::new(log, 1000, 0);
     let mut writer = MemorySink::new(rt.alloc(), 1000, 0);
     let mut reporter = MemorySink::new(rt.alloc(), 1000, 0);
     run(
         rt.alloc(),
-        &table,
+        table,
         &mut join,
         FRAMES,
         &mut reader,
         &mut writer,
         &mut reporter,
     )?;
-    let text = std::str::from_utf8(writer.bytes())?;
-    let mut stamps = Vec::new(rt.alloc());
-    for line in text.lines() {
-        let value = Value::from_str(rt.alloc(), line)?;
-        let stamp = value
-            .get("timestamp")
-            .and_then(|stamp| stamp.as_str())
-            .ok_or("no stamp")?;
-        stamps.push(stamp.to_string(rt.alloc())?)?;
-    }
+    Ok(writer)
+}
+
+// Each printed line is one JSON text. That its members stand in their order the texts above show.
+#[test]
+fn each_line_is_read_by_serde_json(rt: HostRuntime) -> Result<(), Fail> {
+    let table = table(rt.alloc())?;
+    let writer = printed(&rt, &table, STAMPS.as_bytes())?;
+    let stamps = stamps_of(rt.alloc(), std::str::from_utf8(writer.bytes())?)?;
     assert_eq!(rt; stamps.len(), 2);
     assert_eq!(rt; stamps[0].as_str(), "\"\\");
     assert_eq!(rt; stamps[1].as_str(), "2017-08-17T14:12:12.106Z");
@@ -310,9 +353,9 @@ fn each_line_is_read_by_serde_json(rt: HostRuntime) -> Result<(), Fail> {
 // After a failed read the join stands after the lines that came, and a later run goes on from there.
 #[test]
 fn a_failed_read_leaves_the_join_at_a_line(rt: HostRuntime) -> Result<(), Fail> {
-    let table = Table::read(rt.alloc(), TABLE)?;
+    let table = table(rt.alloc())?;
     let mut join = Join::new(rt.alloc(), &table);
-    let log = EXAMPLES[1].log;
+    let log = TWO_SOURCES.as_bytes();
     let mut reader = MemorySource::new(log, 60, 3);
     let mut writer = MemorySink::new(rt.alloc(), 7, 0);
     let mut reporter = MemorySink::new(rt.alloc(), 7, 0);
@@ -339,6 +382,6 @@ fn a_failed_read_leaves_the_join_at_a_line(rt: HostRuntime) -> Result<(), Fail> 
         &mut writer,
         &mut reporter,
     )?;
-    assert_eq!(rt; writer.bytes(), EXAMPLES[1].text);
+    assert_eq!(rt; writer.bytes(), TWO_SOURCES_TEXT.as_bytes());
     Ok(())
 }

@@ -4,14 +4,14 @@ ghost use Rattle.std.specs.Prelude.{◌<◌};
 use super::run_frames;
 use crate::{MemorySink, MemorySource, Options, RunFault, run, summary_text};
 use n2k_join::{Counts, Join};
-use n2k_table::Table;
+use n2k_table::{Table, TableFault};
 use n2k_wire::{Id, Packet, Packing, is_interface, plain_text};
 use std::alloc::Global;
 use std::process::Abort;
 use std::test::Fail;
 
 // Two PGNs of single frames, and one of fast packets.
-const TABLE: &[u8] = b"
+const TABLE: &str = "
 format = 1
 
 [[pgn]]
@@ -37,63 +37,68 @@ fields = [
 ]
 ";
 
+// That the text is a table is no part of what a test's proof has to go through.
+fn table(alloc: Global) -> Result<Table, TableFault> {
+    Table::read(alloc, TABLE.as_bytes())
+}
+
 // A log, the interface at which its frames are seen, or none for plain lines, and what is made of it.
 #[derive(Drop)]
 struct Example {
-    log: &'static [u8],
+    log: &'static str,
     interface: bool,
-    text: &'static [u8],
-    reports: &'static [u8],
-    summary: &'static [u8],
+    text: &'static str,
+    reports: &'static str,
+    summary: &'static str,
 }
 
 const EXAMPLES: [Example; 6] = [
     // empty-log
     Example {
-        log: b"",
+        log: "",
         interface: false,
-        text: b"",
-        reports: b"",
-        summary: b"lines 0 messages 0 bad 0 unknown 0 broken 0 open 0\n",
+        text: "",
+        reports: "",
+        summary: "lines 0 messages 0 bad 0 unknown 0 broken 0 open 0\n",
     },
     // split-and-back, as plain lines
     Example {
-        log: b"1970-01-01T00:00:10.300Z,7,130820,5,255,11,a3,99,01,41,42,43,00,00,00,00,00\n",
+        log: "1970-01-01T00:00:10.300Z,7,130820,5,255,11,a3,99,01,41,42,43,00,00,00,00,00\n",
         interface: false,
-        text: b"1970-01-01T00:00:10.300Z,7,130820,5,255,8,00,0b,a3,99,01,41,42,43
+        text: "1970-01-01T00:00:10.300Z,7,130820,5,255,8,00,0b,a3,99,01,41,42,43
 1970-01-01T00:00:10.300Z,7,130820,5,255,8,01,00,00,00,00,00,ff,ff
 ",
-        reports: b"",
-        summary: b"lines 1 messages 1 bad 0 unknown 0 broken 0 open 0\n",
+        reports: "",
+        summary: "lines 1 messages 1 bad 0 unknown 0 broken 0 open 0\n",
     },
     // split-and-back, as candump writes it
     Example {
-        log: b"1970-01-01T00:00:10.300Z,7,130820,5,255,11,a3,99,01,41,42,43,00,00,00,00,00\n",
+        log: "1970-01-01T00:00:10.300Z,7,130820,5,255,11,a3,99,01,41,42,43,00,00,00,00,00\n",
         interface: true,
-        text: b"(0000000010.300000) can0 1DFF0405#000BA39901414243
+        text: "(0000000010.300000) can0 1DFF0405#000BA39901414243
 (0000000010.300000) can0 1DFF0405#010000000000FFFF
 ",
-        reports: b"",
-        summary: b"lines 1 messages 1 bad 0 unknown 0 broken 0 open 0\n",
+        reports: "",
+        summary: "lines 1 messages 1 bad 0 unknown 0 broken 0 open 0\n",
     },
     // refused-message-uses-its-number
     Example {
-        log: b"1970-01-01T00:00:10.300Z,7,130820,5,255,11,a3,99,01,41,42,43,00,00,00,00,00
+        log: "1970-01-01T00:00:10.300Z,7,130820,5,255,11,a3,99,01,41,42,43,00,00,00,00,00
 x,7,130820,5,255,11,a3,99,01,41,42,43,00,00,00,00,00
 1970-01-01T00:00:10.300Z,7,130820,5,255,11,a3,99,01,41,42,43,00,00,00,00,00
 ",
         interface: true,
-        text: b"(0000000010.300000) can0 1DFF0405#000BA39901414243
+        text: "(0000000010.300000) can0 1DFF0405#000BA39901414243
 (0000000010.300000) can0 1DFF0405#010000000000FFFF
 (0000000010.300000) can0 1DFF0405#400BA39901414243
 (0000000010.300000) can0 1DFF0405#410000000000FFFF
 ",
-        reports: b"line 2 bad B11 time\n",
-        summary: b"lines 3 messages 2 bad 1 unknown 0 broken 0 open 0\n",
+        reports: "line 2 bad B11 time\n",
+        summary: "lines 3 messages 2 bad 1 unknown 0 broken 0 open 0\n",
     },
     // Bad lines, and a message of a single PGN, which is its own frame and needs no stamp of a form.
     Example {
-        log: b"1970-01-01T00:00:10.300Z,2,129026,36,255,9,00,01,02,03,04,05,06,07,08
+        log: "1970-01-01T00:00:10.300Z,2,129026,36,255,9,00,01,02,03,04,05,06,07,08
 # skipped
 1970-01-01T00:00:10.300Z,6,59904,1,255,3,14,f0,01
 (1502979132.106111) can0 09F8027F#00FCFFFF0000FFFF
@@ -102,32 +107,32 @@ x,7,130820,5,255,11,a3,99,01,41,42,43,00,00,00,00,00
 hello
 ",
         interface: false,
-        text: b"2011-11-24-22:42:04.388,2,127251,36,255,8,7d,0b,7d,02,00,ff,ff,ff\n",
-        reports: b"line 1 bad B9 size
+        text: "2011-11-24-22:42:04.388,2,127251,36,255,8,7d,0b,7d,02,00,ff,ff,ff\n",
+        reports: "line 1 bad B9 size
 line 3 bad B8 unknown
 line 4 bad B10 frame
 line 6 bad B10 frame
 line 7 bad B3 form
 ",
-        summary: b"lines 7 messages 1 bad 5 unknown 0 broken 0 open 0\n",
+        summary: "lines 7 messages 1 bad 5 unknown 0 broken 0 open 0\n",
     },
     // Bad lines at an interface; what can't be split is judged first.
     Example {
-        log: b"2011-11-24-22:42:04.388,2,127251,36,255,8,7d,0b,7d,02,00,ff,ff,ff
+        log: "2011-11-24-22:42:04.388,2,127251,36,255,8,7d,0b,7d,02,00,ff,ff,ff
 1970-01-01T00:00:10.300Z,7,130820,5,9,0
 x,7,130820,5,9,0
 x,6,59904,1,9,0
 x,2,129026,36,9,9,00,01,02,03,04,05,06,07,08
 ",
         interface: true,
-        text: b"",
-        reports: b"line 1 bad B11 time
+        text: "",
+        reports: "line 1 bad B11 time
 line 2 bad B12 address
 line 3 bad B11 time
 line 4 bad B8 unknown
 line 5 bad B9 size
 ",
-        summary: b"lines 5 messages 0 bad 5 unknown 0 broken 0 open 0\n",
+        summary: "lines 5 messages 0 bad 5 unknown 0 broken 0 open 0\n",
     },
 ];
 
@@ -154,7 +159,7 @@ fn makes<R: Abort + AllocGlobal>(
 ) -> Result<(), Fail>
     requires { 0 < piece }
 {
-    let mut reader = MemorySource::new(example.log, piece, 0);
+    let mut reader = MemorySource::new(example.log.as_bytes(), piece, 0);
     let mut writer = MemorySink::new(rt.alloc(), piece, 0);
     let mut reporter = MemorySink::new(rt.alloc(), piece, 0);
     let counts = if example.interface {
@@ -176,17 +181,17 @@ fn makes<R: Abort + AllocGlobal>(
             &mut reporter,
         )?
     };
-    assert_eq!(rt; writer.bytes(), example.text);
-    assert_eq!(rt; reporter.bytes(), example.reports);
+    assert_eq!(rt; writer.bytes(), example.text.as_bytes());
+    assert_eq!(rt; reporter.bytes(), example.reports.as_bytes());
     let mut summary = Vec::new(rt.alloc());
     summary_text(rt.alloc(), &counts, &mut summary)?;
-    assert_eq!(rt; summary.as_slice(), example.summary);
+    assert_eq!(rt; summary.as_slice(), example.summary.as_bytes());
     Ok(())
 }
 
 #[test]
 fn worked_examples_in_pieces(rt: HostRuntime) -> Result<(), Fail> {
-    let table = Table::read(rt.alloc(), TABLE)?;
+    let table = table(rt.alloc())?;
     for example in &EXAMPLES {
         makes(&rt, &table, example, 1)?;
         makes(&rt, &table, example, 7)?;
@@ -253,7 +258,7 @@ fn decodes<R: Abort + AllocGlobal>(
     Ok(writer)
 }
 
-const NINE: &[u8] = b"1970-01-01T00:00:10.300Z,7,130820,5,255,11,a3,99,01,41,42,43,00,00,00,00,00
+const NINE: &str = "1970-01-01T00:00:10.300Z,7,130820,5,255,11,a3,99,01,41,42,43,00,00,00,00,00
 1970-01-01T00:00:10.300Z,7,130820,5,255,11,a3,99,01,41,42,43,00,00,00,00,00
 1970-01-01T00:00:10.300Z,7,130820,5,255,11,a3,99,01,41,42,43,00,00,00,00,00
 1970-01-01T00:00:10.300Z,7,130820,5,255,11,a3,99,01,41,42,43,00,00,00,00,00
@@ -265,18 +270,18 @@ const NINE: &[u8] = b"1970-01-01T00:00:10.300Z,7,130820,5,255,11,a3,99,01,41,42,
 ";
 
 // The JSON line of such a message, about its Kind.
-const BEFORE_KIND: &[u8] =
-    b"{\"timestamp\":\"1970-01-01T00:00:10.300Z\",\"prio\":7,\"src\":5,\"dst\":255,\"pgn\":130820,\"description\":\"Sample: Label\",\"fields\":{\"Maker\":419,\"Kind\":";
+const BEFORE_KIND: &str =
+    "{\"timestamp\":\"1970-01-01T00:00:10.300Z\",\"prio\":7,\"src\":5,\"dst\":255,\"pgn\":130820,\"description\":\"Sample: Label\",\"fields\":{\"Maker\":419,\"Kind\":";
 
-const AFTER_KIND: &[u8] = b",\"Label\":\"ABC\"}}\n";
+const AFTER_KIND: &str = ",\"Label\":\"ABC\"}}\n";
 
-const XY: &[u8] =
-    b"{\"timestamp\":\"1970-01-01T00:00:10.200Z\",\"prio\":7,\"src\":6,\"dst\":255,\"pgn\":130820,\"description\":\"Sample: Label\",\"fields\":{\"Maker\":419,\"Kind\":2,\"Label\":\"XY\"}}\n";
+const XY: &str =
+    "{\"timestamp\":\"1970-01-01T00:00:10.200Z\",\"prio\":7,\"src\":6,\"dst\":255,\"pgn\":130820,\"description\":\"Sample: Label\",\"fields\":{\"Maker\":419,\"Kind\":2,\"Label\":\"XY\"}}\n";
 
 fn push_label(lines: &mut Vec<u8>, kind: &[u8]) -> Result<(), Fail> {
-    lines.extend_from_slice(BEFORE_KIND)?;
+    lines.extend_from_slice(BEFORE_KIND.as_bytes())?;
     lines.extend_from_slice(kind)?;
-    lines.extend_from_slice(AFTER_KIND)?;
+    lines.extend_from_slice(AFTER_KIND.as_bytes())?;
     Ok(())
 }
 
@@ -293,8 +298,8 @@ fn push_frames(lines: &mut Vec<u8>, digit: &[u8]) -> Result<(), Fail> {
 // Nine messages of one stream are numbered 0 to 7 and then 0 again.
 #[test]
 fn nine_messages(rt: HostRuntime) -> Result<(), Fail> {
-    let table = Table::read(rt.alloc(), TABLE)?;
-    let frames = frames_of(&rt, &table, NINE)?;
+    let table = table(rt.alloc())?;
+    let frames = frames_of(&rt, &table, NINE.as_bytes())?;
     let mut wanted = Vec::new(rt.alloc());
     for digit in [b"0", b"2", b"4", b"6", b"8", b"a", b"c", b"e", b"0"] {
         push_frames(&mut wanted, digit)?;
@@ -317,80 +322,118 @@ fn with_another_source(alloc: Global, frames: &[u8]) -> Result<Vec<u8>, Fail> {
     Ok(log)
 }
 
+// The JSON lines of nine messages, and that of another source behind the fifth.
+fn nine_and_another(alloc: Global) -> Result<Vec<u8>, Fail> {
+    let mut lines = Vec::new(alloc);
+    for number in 0..9 {
+        if number == 5 {
+            lines.extend_from_slice(XY.as_bytes())?;
+        }
+        push_label(&mut lines, b"1")?;
+    }
+    Ok(lines)
+}
+
 // The frames of nine messages give them back, also with the two frames of another source between them.
 #[test]
 fn nine_messages_and_another_source(rt: HostRuntime) -> Result<(), Fail> {
-    let table = Table::read(rt.alloc(), TABLE)?;
-    let frames = frames_of(&rt, &table, NINE)?;
+    let table = table(rt.alloc())?;
+    let frames = frames_of(&rt, &table, NINE.as_bytes())?;
     let log = with_another_source(rt.alloc(), frames.bytes())?;
-    let mut wanted = Vec::new(rt.alloc());
-    for number in 0..9 {
-        if number == 5 {
-            wanted.extend_from_slice(XY)?;
-        }
-        push_label(&mut wanted, b"1")?;
-    }
+    let wanted = nine_and_another(rt.alloc())?;
     let decoded = decodes(&rt, &table, Packing::Frames, &log, 10)?;
     assert_eq!(rt; decoded.bytes(), wanted.as_slice());
     Ok(())
+}
+
+fn push_message(lines: &mut Vec<u8>, kind: &[u8]) -> Result<(), Fail> {
+    lines.extend_from_slice(b"1970-01-01T00:00:10.300Z,7,130820,5,255,11,a3,99,0")?;
+    lines.extend_from_slice(kind)?;
+    lines.extend_from_slice(b",41,42,43,00,00,00,00,00\n")?;
+    Ok(())
+}
+
+fn eight_messages(alloc: Global) -> Result<Vec<u8>, Fail> {
+    let mut messages = Vec::new(alloc);
+    for kind in [b"1", b"2", b"3", b"4", b"5", b"6", b"7", b"8"] {
+        push_message(&mut messages, kind)?;
+    }
+    Ok(messages)
+}
+
+// The JSON lines of the eight messages, the last one first.
+fn last_to_first(alloc: Global) -> Result<Vec<u8>, Fail> {
+    let mut lines = Vec::new(alloc);
+    for kind in [b"8", b"7", b"6", b"5", b"4", b"3", b"2", b"1"] {
+        push_label(&mut lines, kind)?;
+    }
+    Ok(lines)
+}
+
+// The lines of 16 frames in the order of the test below.
+fn under_way(alloc: Global, frames: &[u8]) -> Result<Vec<u8>, Fail> {
+    let mut log = Vec::new(alloc);
+    for place in [1u8, 3, 5, 7, 9, 11, 13, 15, 14, 12, 10, 8, 6, 4, 2, 0] {
+        // Each line has 66 bytes.
+        let start = 66 * usize::from(place);
+        let line = frames.get(start..start + 66).ok_or("no line")?;
+        log.extend_from_slice(line)?;
+    }
+    Ok(log)
 }
 
 // Eight messages of one stream are under way at once: first comes each one's second frame, in order, then each one's
 // first frame, the last message's first.
 #[test]
 fn eight_under_way(rt: HostRuntime) -> Result<(), Fail> {
-    let table = Table::read(rt.alloc(), TABLE)?;
-    let mut messages = Vec::new(rt.alloc());
-    let mut wanted = Vec::new(rt.alloc());
-    for kind in [b"1", b"2", b"3", b"4", b"5", b"6", b"7", b"8"] {
-        messages.extend_from_slice(b"1970-01-01T00:00:10.300Z,7,130820,5,255,11,a3,99,0")?;
-        messages.extend_from_slice(kind)?;
-        messages.extend_from_slice(b",41,42,43,00,00,00,00,00\n")?;
-    }
-    for kind in [b"8", b"7", b"6", b"5", b"4", b"3", b"2", b"1"] {
-        push_label(&mut wanted, kind)?;
-    }
+    let table = table(rt.alloc())?;
+    let messages = eight_messages(rt.alloc())?;
     let frames = frames_of(&rt, &table, &messages)?;
-    let mut log = Vec::new(rt.alloc());
-    for place in [1u8, 3, 5, 7, 9, 11, 13, 15, 14, 12, 10, 8, 6, 4, 2, 0] {
-        // Each line has 66 bytes.
-        let start = 66 * usize::from(place);
-        let line = frames.bytes().get(start..start + 66).ok_or("no line")?;
-        log.extend_from_slice(line)?;
-    }
+    let log = under_way(rt.alloc(), frames.bytes())?;
+    let wanted = last_to_first(rt.alloc())?;
     let decoded = decodes(&rt, &table, Packing::Frames, &log, 8)?;
     assert_eq!(rt; decoded.bytes(), wanted.as_slice());
     Ok(())
 }
 
-// 300 messages of four senders, of 0 to 223 bytes, come back as they were.
-#[test]
-fn messages_of_four_senders_come_back(rt: HostRuntime) -> Result<(), Fail> {
-    let table = Table::read(rt.alloc(), TABLE)?;
+// A message of as many bytes as its number says, from one of four senders.
+fn push_numbered(alloc: Global, number: usize, data: &[u8], log: &mut Vec<u8>) -> Result<(), Fail> {
+    let len = match number / 4 % 6 {
+        0 => 0,
+        1 => 6,
+        2 => 7,
+        3 => 13,
+        4 => 14,
+        _ => 223,
+    };
+    let id = Id {
+        prio: 7,
+        pgn: 130820,
+        src: (number % 4) as u8,
+        dst: 255,
+    };
+    let data = data.get(..len).ok_or("no data")?;
+    let message = Packet::new(b"1970-01-01T00:00:10.300Z", id, data).ok_or("no message")?;
+    plain_text(alloc, &message, log)?;
+    Ok(())
+}
+
+fn four_senders(alloc: Global) -> Result<Vec<u8>, Fail> {
     let mut data = [0x41; 223];
     data[0] = 0xa3;
     data[1] = 0x99;
-    let mut log = Vec::new(rt.alloc());
+    let mut log = Vec::new(alloc);
     for number in 0..300usize {
-        let len = match number / 4 % 6 {
-            0 => 0,
-            1 => 6,
-            2 => 7,
-            3 => 13,
-            4 => 14,
-            _ => 223,
-        };
-        let id = Id {
-            prio: 7,
-            pgn: 130820,
-            src: (number % 4) as u8,
-            dst: 255,
-        };
-        let message = Packet::new(b"1970-01-01T00:00:10.300Z", id, &data[..len]).ok_or(
-            "no message",
-        )?;
-        plain_text(rt.alloc(), &message, &mut log)?;
+        push_numbered(alloc, number, &data, &mut log)?;
     }
+    Ok(log)
+}
+
+// 300 messages of four senders, of 0 to 223 bytes, come back as they were.
+#[test]
+fn messages_of_four_senders_come_back(rt: HostRuntime) -> Result<(), Fail> {
+    let table = table(rt.alloc())?;
+    let log = four_senders(rt.alloc())?;
     let frames = frames_of(&rt, &table, &log)?;
     let decoded = decodes(&rt, &table, Packing::Frames, frames.bytes(), 300)?;
     let wanted = decodes(&rt, &table, Packing::Whole, &log, 300)?;
@@ -401,14 +444,14 @@ fn messages_of_four_senders_come_back(rt: HostRuntime) -> Result<(), Fail> {
 // After a fault of a device a front is written.
 #[test]
 fn a_failed_device_leaves_a_front(rt: HostRuntime) -> Result<(), Fail> {
-    let table = Table::read(rt.alloc(), TABLE)?;
-    let frames = frames_of(&rt, &table, NINE)?;
+    let table = table(rt.alloc())?;
+    let frames = frames_of(&rt, &table, NINE.as_bytes())?;
     for (read_fails, write_fails, fault, written) in [
         (0, 3, RunFault::Write, 20),
         // Two lines of 76 bytes came, and the third in part.
         (4, 0, RunFault::Read, 264),
     ] {
-        let mut reader = MemorySource::new(NINE, 60, read_fails);
+        let mut reader = MemorySource::new(NINE.as_bytes(), 60, read_fails);
         let mut writer = MemorySink::new(rt.alloc(), 10, write_fails);
         let mut reporter = MemorySink::new(rt.alloc(), 10, 0);
         let answer = run_frames(

@@ -4,13 +4,13 @@ ghost use Rattle.std.specs.Prelude.{◌<◌};
 use super::{Part, PartFault, run_part, run_parts};
 use crate::{MemorySink, MemorySource, Options, RunFault, read_bytes, summary_text};
 use n2k_join::StateFault;
-use n2k_table::Table;
+use n2k_table::{Table, TableFault};
 use n2k_wire::Packing;
 use std::alloc::Global;
 use std::process::Abort;
 use std::test::Fail;
 
-const TABLE: &[u8] = b"format = 1
+const TABLE: &str = "format = 1
 
 [[lookup]]
 name = \"Reference\"
@@ -47,6 +47,11 @@ fields = [
 ]
 ";
 
+// That the text is a table is no part of what a test's proof has to go through.
+fn table(alloc: Global) -> Result<Table, TableFault> {
+    Table::read(alloc, TABLE.as_bytes())
+}
+
 const FRAMES: Options = Options {
     packing: Packing::Frames,
     empty: false,
@@ -55,40 +60,42 @@ const FRAMES: Options = Options {
 // A log, what is printed and reported of it, and the state after it, which holds the id of the table above.
 #[derive(Drop)]
 struct Example {
-    log: &'static [u8],
-    text: &'static [u8],
-    reports: &'static [u8],
-    summary: &'static [u8],
-    state: &'static [u8],
+    log: &'static str,
+    text: &'static str,
+    reports: &'static str,
+    summary: &'static str,
+    state: &'static str,
 }
+
+const TWO_SOURCES: &str = "(10.000001) can0 1DFF0405#000BA39901414243
+(10.100000) can0 1DFF0406#200BA39902585920
+(10.200000) can0 1DFF0406#212020202020FFFF
+(10.300000) can0 1DFF0405#010000000000FFFF
+";
 
 const EXAMPLES: [Example; 3] = [
     // empty-log
     Example {
-        log: b"",
-        text: b"",
-        reports: b"",
-        summary: b"lines 0 messages 0 bad 0 unknown 0 broken 0 open 0\n",
-        state: b"{\"bad\":0,\"broken\":0,\"format\":1,\"groups\":[],\"lines\":0,\"messages\":0,\"table\":\"6b85e2b24165c1cf1b657bbddd71b3850cd65dafaf42319db5372fef7b615284\",\"unknown\":0}",
+        log: "",
+        text: "",
+        reports: "",
+        summary: "lines 0 messages 0 bad 0 unknown 0 broken 0 open 0\n",
+        state: "{\"bad\":0,\"broken\":0,\"format\":1,\"groups\":[],\"lines\":0,\"messages\":0,\"table\":\"6b85e2b24165c1cf1b657bbddd71b3850cd65dafaf42319db5372fef7b615284\",\"unknown\":0}",
     },
     // two-sources
     Example {
-        log: b"(10.000001) can0 1DFF0405#000BA39901414243
-(10.100000) can0 1DFF0406#200BA39902585920
-(10.200000) can0 1DFF0406#212020202020FFFF
-(10.300000) can0 1DFF0405#010000000000FFFF
-",
-        text: b"{\"timestamp\":\"1970-01-01T00:00:10.200Z\",\"prio\":7,\"src\":6,\"dst\":255,\"pgn\":130820,\"description\":\"Sample: Label\",\"fields\":{\"Maker\":419,\"Kind\":2,\"Label\":\"XY\"}}
+        log: TWO_SOURCES,
+        text: "{\"timestamp\":\"1970-01-01T00:00:10.200Z\",\"prio\":7,\"src\":6,\"dst\":255,\"pgn\":130820,\"description\":\"Sample: Label\",\"fields\":{\"Maker\":419,\"Kind\":2,\"Label\":\"XY\"}}
 {\"timestamp\":\"1970-01-01T00:00:10.300Z\",\"prio\":7,\"src\":5,\"dst\":255,\"pgn\":130820,\"description\":\"Sample: Label\",\"fields\":{\"Maker\":419,\"Kind\":1,\"Label\":\"ABC\"}}
 ",
-        reports: b"",
-        summary: b"lines 4 messages 2 bad 0 unknown 0 broken 0 open 0\n",
-        state: b"{\"bad\":0,\"broken\":0,\"format\":1,\"groups\":[],\"lines\":4,\"messages\":2,\"table\":\"6b85e2b24165c1cf1b657bbddd71b3850cd65dafaf42319db5372fef7b615284\",\"unknown\":0}",
+        reports: "",
+        summary: "lines 4 messages 2 bad 0 unknown 0 broken 0 open 0\n",
+        state: "{\"bad\":0,\"broken\":0,\"format\":1,\"groups\":[],\"lines\":4,\"messages\":2,\"table\":\"6b85e2b24165c1cf1b657bbddd71b3850cd65dafaf42319db5372fef7b615284\",\"unknown\":0}",
     },
     // Every kind of line: skipped, bad, single, whole, of an unknown PGN, fast packets of three senders, a broken group,
     // and one that stays open.
     Example {
-        log: b"# a comment
+        log: "# a comment
 (1.0) can0 1DFF0405#000BA39901414243
 (2.0) can0 1DFF0406#200BA39902585920
 hello
@@ -103,18 +110,18 @@ hello
 (10.0) can0 1DFF0405#010000000000FFFF
 (11.0) can0 1DFF0407#6120202020202020
 ",
-        text: b"{\"timestamp\":\"1970-01-01T00:00:04.000Z\",\"prio\":2,\"src\":127,\"dst\":255,\"pgn\":129026,\"description\":\"COG & SOG, Rapid Update\",\"fields\":{\"SID\":0,\"COG Reference\":\"True\",\"SOG\":0.00}}
+        text: "{\"timestamp\":\"1970-01-01T00:00:04.000Z\",\"prio\":2,\"src\":127,\"dst\":255,\"pgn\":129026,\"description\":\"COG & SOG, Rapid Update\",\"fields\":{\"SID\":0,\"COG Reference\":\"True\",\"SOG\":0.00}}
 {\"timestamp\":\"2020-01-01T00:00:00.000Z\",\"prio\":7,\"src\":5,\"dst\":255,\"pgn\":130820,\"description\":\"Unmatched\",\"fields\":{\"Data\":\"07 98 01 41 42 43 44 45 46\"}}
 {\"timestamp\":\"1970-01-01T00:00:07.000Z\",\"prio\":7,\"src\":6,\"dst\":255,\"pgn\":130820,\"description\":\"Sample: Label\",\"fields\":{\"Maker\":419,\"Kind\":2,\"Label\":\"XY\"}}
 {\"timestamp\":\"1970-01-01T00:00:09.000Z\",\"prio\":7,\"src\":7,\"dst\":255,\"pgn\":130820,\"description\":\"Sample: Label\",\"fields\":{\"Maker\":419,\"Kind\":3,\"Label\":\"DEF\"}}
 {\"timestamp\":\"1970-01-01T00:00:10.000Z\",\"prio\":7,\"src\":5,\"dst\":255,\"pgn\":130820,\"description\":\"Sample: Label\",\"fields\":{\"Maker\":419,\"Kind\":4,\"Label\":\"DEF\"}}
 ",
-        reports: b"line 4 bad B3 form
+        reports: "line 4 bad B3 form
 line 7 broken pgn 130820 src 5 dst 255 seq 0 first 2
 line 11 bad B7 fast
 ",
-        summary: b"lines 14 messages 5 bad 2 unknown 1 broken 1 open 1\n",
-        state: b"{\"bad\":2,\"broken\":1,\"format\":1,\"groups\":[{\"dst\":255,\"first\":14,\"frames\":[[1,\"20202020202020\"]],\"pgn\":130820,\"seq\":3,\"src\":7}],\"lines\":14,\"messages\":5,\"table\":\"6b85e2b24165c1cf1b657bbddd71b3850cd65dafaf42319db5372fef7b615284\",\"unknown\":1}",
+        summary: "lines 14 messages 5 bad 2 unknown 1 broken 1 open 1\n",
+        state: "{\"bad\":2,\"broken\":1,\"format\":1,\"groups\":[{\"dst\":255,\"first\":14,\"frames\":[[1,\"20202020202020\"]],\"pgn\":130820,\"seq\":3,\"src\":7}],\"lines\":14,\"messages\":5,\"table\":\"6b85e2b24165c1cf1b657bbddd71b3850cd65dafaf42319db5372fef7b615284\",\"unknown\":1}",
     },
 ];
 
@@ -128,9 +135,9 @@ fn gives<R: Abort + AllocGlobal>(
     let mut writer = MemorySink::new(rt.alloc(), 4096, 0);
     let mut reporter = MemorySink::new(rt.alloc(), 4096, 0);
     let last = run_parts(rt.alloc(), table, FRAMES, parts, &mut writer, &mut reporter)?;
-    assert_eq!(rt; writer.bytes(), example.text);
-    assert_eq!(rt; reporter.bytes(), example.reports);
-    assert_eq!(rt; last.state.as_slice(), example.state);
+    assert_eq!(rt; writer.bytes(), example.text.as_bytes());
+    assert_eq!(rt; reporter.bytes(), example.reports.as_bytes());
+    assert_eq!(rt; last.state.as_slice(), example.state.as_bytes());
     has_summary(rt, &last, example.summary)
 }
 
@@ -140,11 +147,12 @@ fn gives_in_two<R: Abort + AllocGlobal>(
     table: &Table,
     example: &Example,
 ) -> Result<(), Fail> {
-    gives(rt, table, &[example.log], example)?;
-    for (at, byte) in example.log.iter().enumerate() {
+    gives(rt, table, &[example.log.as_bytes()], example)?;
+    let log = example.log.as_bytes();
+    for (at, byte) in log.iter().enumerate() {
         if *byte == b'\n' {
-            let front = example.log.get(..=at).ok_or("no front")?;
-            let back = example.log.get(front.len()..).ok_or("no back")?;
+            let front = log.get(..=at).ok_or("no front")?;
+            let back = log.get(front.len()..).ok_or("no back")?;
             gives(rt, table, &[front, back], example)?;
         }
     }
@@ -159,7 +167,11 @@ fn gives_by_lines<R: Abort + AllocGlobal>(
 ) -> Result<(), Fail> {
     let mut lines = Vec::new(rt.alloc());
     lines.push(b"".as_slice())?;
-    for line in example.log.split_inclusive(|byte| *byte == b'\n') {
+    for line in example
+        .log
+        .as_bytes()
+        .split_inclusive(|byte| *byte == b'\n')
+    {
         lines.push(line)?;
     }
     gives(rt, table, &lines, example)
@@ -167,7 +179,7 @@ fn gives_by_lines<R: Abort + AllocGlobal>(
 
 #[test]
 fn cut_after_each_line(rt: HostRuntime) -> Result<(), Fail> {
-    let table = Table::read(rt.alloc(), TABLE)?;
+    let table = table(rt.alloc())?;
     for example in &EXAMPLES {
         gives_in_two(&rt, &table, example)?;
         gives_by_lines(&rt, &table, example)?;
@@ -175,54 +187,61 @@ fn cut_after_each_line(rt: HostRuntime) -> Result<(), Fail> {
     gives(&rt, &table, &[], &EXAMPLES[0])
 }
 
+// The states of two sources' log after its second line and after its third.
+const AFTER_TWO: &str =
+    "{\"bad\":0,\"broken\":0,\"format\":1,\"groups\":[{\"dst\":255,\"first\":1,\"frames\":[[0,\"0ba39901414243\"]],\"pgn\":130820,\"seq\":0,\"src\":5},{\"dst\":255,\"first\":2,\"frames\":[[0,\"0ba39902585920\"]],\"pgn\":130820,\"seq\":1,\"src\":6}],\"lines\":2,\"messages\":0,\"table\":\"6b85e2b24165c1cf1b657bbddd71b3850cd65dafaf42319db5372fef7b615284\",\"unknown\":0}";
+
+const AFTER_THREE: &str =
+    "{\"bad\":0,\"broken\":0,\"format\":1,\"groups\":[{\"dst\":255,\"first\":1,\"frames\":[[0,\"0ba39901414243\"]],\"pgn\":130820,\"seq\":0,\"src\":5}],\"lines\":3,\"messages\":1,\"table\":\"6b85e2b24165c1cf1b657bbddd71b3850cd65dafaf42319db5372fef7b615284\",\"unknown\":0}";
+
 // A state that is handed in, the lines after it, and what is made of them.
 #[derive(Drop)]
 struct Resumed {
-    state: &'static [u8],
-    log: &'static [u8],
-    text: &'static [u8],
-    reports: &'static [u8],
-    summary: &'static [u8],
+    state: &'static str,
+    log: &'static str,
+    text: &'static str,
+    reports: &'static str,
+    summary: &'static str,
 }
 
 const RESUMED: [Resumed; 4] = [
     // two-sources-cut, after the second line
     Resumed {
-        state: b"{\"bad\":0,\"broken\":0,\"format\":1,\"groups\":[{\"dst\":255,\"first\":1,\"frames\":[[0,\"0ba39901414243\"]],\"pgn\":130820,\"seq\":0,\"src\":5},{\"dst\":255,\"first\":2,\"frames\":[[0,\"0ba39902585920\"]],\"pgn\":130820,\"seq\":1,\"src\":6}],\"lines\":2,\"messages\":0,\"table\":\"6b85e2b24165c1cf1b657bbddd71b3850cd65dafaf42319db5372fef7b615284\",\"unknown\":0}",
-        log: b"(10.200000) can0 1DFF0406#212020202020FFFF
+        state: AFTER_TWO,
+        log: "(10.200000) can0 1DFF0406#212020202020FFFF
 (10.300000) can0 1DFF0405#010000000000FFFF
 ",
-        text: b"{\"timestamp\":\"1970-01-01T00:00:10.200Z\",\"prio\":7,\"src\":6,\"dst\":255,\"pgn\":130820,\"description\":\"Sample: Label\",\"fields\":{\"Maker\":419,\"Kind\":2,\"Label\":\"XY\"}}
+        text: "{\"timestamp\":\"1970-01-01T00:00:10.200Z\",\"prio\":7,\"src\":6,\"dst\":255,\"pgn\":130820,\"description\":\"Sample: Label\",\"fields\":{\"Maker\":419,\"Kind\":2,\"Label\":\"XY\"}}
 {\"timestamp\":\"1970-01-01T00:00:10.300Z\",\"prio\":7,\"src\":5,\"dst\":255,\"pgn\":130820,\"description\":\"Sample: Label\",\"fields\":{\"Maker\":419,\"Kind\":1,\"Label\":\"ABC\"}}
 ",
-        reports: b"",
-        summary: b"lines 4 messages 2 bad 0 unknown 0 broken 0 open 0\n",
+        reports: "",
+        summary: "lines 4 messages 2 bad 0 unknown 0 broken 0 open 0\n",
     },
     // two-sources-cut, after the third line
     Resumed {
-        state: b"{\"bad\":0,\"broken\":0,\"format\":1,\"groups\":[{\"dst\":255,\"first\":1,\"frames\":[[0,\"0ba39901414243\"]],\"pgn\":130820,\"seq\":0,\"src\":5}],\"lines\":3,\"messages\":1,\"table\":\"6b85e2b24165c1cf1b657bbddd71b3850cd65dafaf42319db5372fef7b615284\",\"unknown\":0}",
-        log: b"(10.300000) can0 1DFF0405#010000000000FFFF
+        state: AFTER_THREE,
+        log: "(10.300000) can0 1DFF0405#010000000000FFFF
 ",
-        text: b"{\"timestamp\":\"1970-01-01T00:00:10.300Z\",\"prio\":7,\"src\":5,\"dst\":255,\"pgn\":130820,\"description\":\"Sample: Label\",\"fields\":{\"Maker\":419,\"Kind\":1,\"Label\":\"ABC\"}}
+        text: "{\"timestamp\":\"1970-01-01T00:00:10.300Z\",\"prio\":7,\"src\":5,\"dst\":255,\"pgn\":130820,\"description\":\"Sample: Label\",\"fields\":{\"Maker\":419,\"Kind\":1,\"Label\":\"ABC\"}}
 ",
-        reports: b"",
-        summary: b"lines 4 messages 2 bad 0 unknown 0 broken 0 open 0\n",
+        reports: "",
+        summary: "lines 4 messages 2 bad 0 unknown 0 broken 0 open 0\n",
     },
     // The group of source 5 waits for its other frames: its frame 3 is broken by another frame 3.
     Resumed {
-        state: b"{\"bad\":0,\"broken\":0,\"format\":1,\"groups\":[{\"dst\":255,\"first\":1,\"frames\":[[3,\"0ba39901414243\"]],\"pgn\":130820,\"seq\":0,\"src\":5},{\"dst\":255,\"first\":2,\"frames\":[[0,\"0ba39902585920\"]],\"pgn\":130820,\"seq\":1,\"src\":6}],\"lines\":2,\"messages\":0,\"table\":\"6b85e2b24165c1cf1b657bbddd71b3850cd65dafaf42319db5372fef7b615284\",\"unknown\":0}",
-        log: b"(10.3) can0 1DFF0405#030000000000FFFF\n",
-        text: b"",
-        reports: b"line 3 broken pgn 130820 src 5 dst 255 seq 0 first 1\n",
-        summary: b"lines 3 messages 0 bad 0 unknown 0 broken 1 open 2\n",
+        state: "{\"bad\":0,\"broken\":0,\"format\":1,\"groups\":[{\"dst\":255,\"first\":1,\"frames\":[[3,\"0ba39901414243\"]],\"pgn\":130820,\"seq\":0,\"src\":5},{\"dst\":255,\"first\":2,\"frames\":[[0,\"0ba39902585920\"]],\"pgn\":130820,\"seq\":1,\"src\":6}],\"lines\":2,\"messages\":0,\"table\":\"6b85e2b24165c1cf1b657bbddd71b3850cd65dafaf42319db5372fef7b615284\",\"unknown\":0}",
+        log: "(10.3) can0 1DFF0405#030000000000FFFF\n",
+        text: "",
+        reports: "line 3 broken pgn 130820 src 5 dst 255 seq 0 first 1\n",
+        summary: "lines 3 messages 0 bad 0 unknown 0 broken 1 open 2\n",
     },
     // The group of source 5 has a frame past its total of 6, so that no frame makes it whole.
     Resumed {
-        state: b"{\"bad\":0,\"broken\":0,\"format\":1,\"groups\":[{\"dst\":255,\"first\":1,\"frames\":[[0,\"06a39901414243\"],[3,\"20202020202020\"]],\"pgn\":130820,\"seq\":0,\"src\":5},{\"dst\":255,\"first\":2,\"frames\":[[0,\"0ba39902585920\"]],\"pgn\":130820,\"seq\":1,\"src\":6}],\"lines\":2,\"messages\":0,\"table\":\"6b85e2b24165c1cf1b657bbddd71b3850cd65dafaf42319db5372fef7b615284\",\"unknown\":0}",
-        log: b"(10.3) can0 1DFF0405#0100000000FFFFFF\n",
-        text: b"",
-        reports: b"",
-        summary: b"lines 3 messages 0 bad 0 unknown 0 broken 0 open 2\n",
+        state: "{\"bad\":0,\"broken\":0,\"format\":1,\"groups\":[{\"dst\":255,\"first\":1,\"frames\":[[0,\"06a39901414243\"],[3,\"20202020202020\"]],\"pgn\":130820,\"seq\":0,\"src\":5},{\"dst\":255,\"first\":2,\"frames\":[[0,\"0ba39902585920\"]],\"pgn\":130820,\"seq\":1,\"src\":6}],\"lines\":2,\"messages\":0,\"table\":\"6b85e2b24165c1cf1b657bbddd71b3850cd65dafaf42319db5372fef7b615284\",\"unknown\":0}",
+        log: "(10.3) can0 1DFF0405#0100000000FFFFFF\n",
+        text: "",
+        reports: "",
+        summary: "lines 3 messages 0 bad 0 unknown 0 broken 0 open 2\n",
     },
 ];
 
@@ -239,33 +258,33 @@ fn part_of_log(
     run_part(alloc, table, state, FRAMES, &mut reader, writer, reporter)
 }
 
-fn has_summary<R: Abort + AllocGlobal>(rt: &R, part: &Part, summary: &[u8]) -> Result<(), Fail> {
+fn has_summary<R: Abort + AllocGlobal>(rt: &R, part: &Part, summary: &str) -> Result<(), Fail> {
     let mut text = Vec::new(rt.alloc());
     summary_text(rt.alloc(), &part.counts, &mut text)?;
-    assert_eq!(rt; text.as_slice(), summary);
+    assert_eq!(rt; text.as_slice(), summary.as_bytes());
     Ok(())
 }
 
 fn goes_on<R: Abort + AllocGlobal>(rt: &R, table: &Table, resumed: &Resumed) -> Result<(), Fail> {
     let mut writer = MemorySink::new(rt.alloc(), 7, 0);
     let mut reporter = MemorySink::new(rt.alloc(), 7, 0);
-    let state = Some(resumed.state);
+    let state = Some(resumed.state.as_bytes());
     let part = part_of_log(
         rt.alloc(),
         table,
         state,
-        resumed.log,
+        resumed.log.as_bytes(),
         &mut writer,
         &mut reporter,
     )?;
-    assert_eq!(rt; writer.bytes(), resumed.text);
-    assert_eq!(rt; reporter.bytes(), resumed.reports);
+    assert_eq!(rt; writer.bytes(), resumed.text.as_bytes());
+    assert_eq!(rt; reporter.bytes(), resumed.reports.as_bytes());
     has_summary(rt, &part, resumed.summary)
 }
 
 #[test]
 fn goes_on_from_states(rt: HostRuntime) -> Result<(), Fail> {
-    let table = Table::read(rt.alloc(), TABLE)?;
+    let table = table(rt.alloc())?;
     for resumed in &RESUMED {
         goes_on(&rt, &table, resumed)?;
     }
@@ -275,13 +294,13 @@ fn goes_on_from_states(rt: HostRuntime) -> Result<(), Fail> {
 // Cuts stand after line feeds: here each half of a line is a line.
 #[test]
 fn cut_inside_a_line(rt: HostRuntime) -> Result<(), Fail> {
-    let table = Table::read(rt.alloc(), TABLE)?;
+    let table = table(rt.alloc())?;
     let halves = Example {
-        log: b"",
-        text: b"{\"timestamp\":\"2017-08-17T14:12:12.106Z\",\"prio\":2,\"src\":127,\"dst\":255,\"pgn\":129026,\"description\":\"COG & SOG, Rapid Update\",\"fields\":{\"SID\":0,\"COG Reference\":\"True\"}}\n",
-        reports: b"line 2 bad B3 form\n",
-        summary: b"lines 2 messages 1 bad 1 unknown 0 broken 0 open 0\n",
-        state: b"{\"bad\":1,\"broken\":0,\"format\":1,\"groups\":[],\"lines\":2,\"messages\":1,\"table\":\"6b85e2b24165c1cf1b657bbddd71b3850cd65dafaf42319db5372fef7b615284\",\"unknown\":0}",
+        log: "",
+        text: "{\"timestamp\":\"2017-08-17T14:12:12.106Z\",\"prio\":2,\"src\":127,\"dst\":255,\"pgn\":129026,\"description\":\"COG & SOG, Rapid Update\",\"fields\":{\"SID\":0,\"COG Reference\":\"True\"}}\n",
+        reports: "line 2 bad B3 form\n",
+        summary: "lines 2 messages 1 bad 1 unknown 0 broken 0 open 0\n",
+        state: "{\"bad\":1,\"broken\":0,\"format\":1,\"groups\":[],\"lines\":2,\"messages\":1,\"table\":\"6b85e2b24165c1cf1b657bbddd71b3850cd65dafaf42319db5372fef7b615284\",\"unknown\":0}",
     };
     gives(
         &rt,
@@ -298,8 +317,8 @@ fn stops_with_read<R: Abort + AllocGlobal>(
     log: &[u8],
     piece: usize,
     failing_read: u64,
-    text: &[u8],
-    left: &[u8],
+    text: &str,
+    left: &str,
 ) -> Result<(), Fail>
     requires { 0 < piece }
 {
@@ -318,37 +337,37 @@ fn stops_with_read<R: Abort + AllocGlobal>(
     let Err(PartFault::Stopped(RunFault::Read, part)) = answer else {
         return Err("the read was taken".into());
     };
-    assert_eq!(rt; writer.bytes(), text);
-    assert_eq!(rt; part.state.as_slice(), left);
+    assert_eq!(rt; writer.bytes(), text.as_bytes());
+    assert_eq!(rt; part.state.as_slice(), left.as_bytes());
     Ok(())
 }
 
-const XY: &[u8] =
-    b"{\"timestamp\":\"1970-01-01T00:00:10.200Z\",\"prio\":7,\"src\":6,\"dst\":255,\"pgn\":130820,\"description\":\"Sample: Label\",\"fields\":{\"Maker\":419,\"Kind\":2,\"Label\":\"XY\"}}
+const XY: &str =
+    "{\"timestamp\":\"1970-01-01T00:00:10.200Z\",\"prio\":7,\"src\":6,\"dst\":255,\"pgn\":130820,\"description\":\"Sample: Label\",\"fields\":{\"Maker\":419,\"Kind\":2,\"Label\":\"XY\"}}
 ";
 
 // read-fails: two lines came, and the third in part; and where each piece is a line, three came.
 #[test]
 fn a_failed_read_leaves_a_state(rt: HostRuntime) -> Result<(), Fail> {
-    let table = Table::read(rt.alloc(), TABLE)?;
-    let log = EXAMPLES[1].log;
-    stops_with_read(&rt, &table, log, 60, 3, b"", RESUMED[0].state)?;
-    stops_with_read(&rt, &table, log, 43, 4, XY, RESUMED[1].state)
+    let table = table(rt.alloc())?;
+    let log = TWO_SOURCES.as_bytes();
+    stops_with_read(&rt, &table, log, 60, 3, "", AFTER_TWO)?;
+    stops_with_read(&rt, &table, log, 43, 4, XY, AFTER_THREE)
 }
 
 // A state of as many lines as are counted.
-const FULL: &[u8] =
-    b"{\"bad\":0,\"broken\":0,\"format\":1,\"groups\":[],\"lines\":999999999999999,\"messages\":0,\"table\":\"6b85e2b24165c1cf1b657bbddd71b3850cd65dafaf42319db5372fef7b615284\",\"unknown\":0}";
+const FULL: &str =
+    "{\"bad\":0,\"broken\":0,\"format\":1,\"groups\":[],\"lines\":999999999999999,\"messages\":0,\"table\":\"6b85e2b24165c1cf1b657bbddd71b3850cd65dafaf42319db5372fef7b615284\",\"unknown\":0}";
 
 #[test]
 fn no_line_past_the_last(rt: HostRuntime) -> Result<(), Fail> {
-    let table = Table::read(rt.alloc(), TABLE)?;
+    let table = table(rt.alloc())?;
     let mut writer = MemorySink::new(rt.alloc(), 7, 0);
     let mut reporter = MemorySink::new(rt.alloc(), 7, 0);
     let answer = part_of_log(
         rt.alloc(),
         &table,
-        Some(FULL),
+        Some(FULL.as_bytes()),
         b"\n",
         &mut writer,
         &mut reporter,
@@ -356,14 +375,14 @@ fn no_line_past_the_last(rt: HostRuntime) -> Result<(), Fail> {
     let Err(PartFault::Stopped(RunFault::TooManyLines, part)) = answer else {
         return Err("one line more was taken".into());
     };
-    assert_eq!(rt; part.state.as_slice(), FULL);
+    assert_eq!(rt; part.state.as_slice(), FULL.as_bytes());
     Ok(())
 }
 
 // A refused state leaves the log unread.
 #[test]
 fn a_refused_state_reads_nothing(rt: HostRuntime) -> Result<(), Fail> {
-    let table = Table::read(rt.alloc(), TABLE)?;
+    let table = table(rt.alloc())?;
     let mut reader = MemorySource::new(b"hello", 4096, 0);
     let mut writer = MemorySink::new(rt.alloc(), 4096, 0);
     let mut reporter = MemorySink::new(rt.alloc(), 4096, 0);
@@ -385,10 +404,10 @@ fn a_refused_state_reads_nothing(rt: HostRuntime) -> Result<(), Fail> {
 // write-fails, and a report that can't be written, that of repeat-breaks: a front is written.
 #[test]
 fn a_failed_write_leaves_a_front(rt: HostRuntime) -> Result<(), Fail> {
-    let table = Table::read(rt.alloc(), TABLE)?;
+    let table = table(rt.alloc())?;
     let mut writer = MemorySink::new(rt.alloc(), 10, 3);
     let mut reporter = MemorySink::new(rt.alloc(), 10, 3);
-    let log = EXAMPLES[1].log;
+    let log = TWO_SOURCES.as_bytes();
     let answer = part_of_log(rt.alloc(), &table, None, log, &mut writer, &mut reporter);
     assert!(rt; matches!(answer, Err(PartFault::Run(RunFault::Write))));
     assert_eq!(rt; writer.bytes(), b"{\"timestamp\":\"1970-0".as_slice());

@@ -3,61 +3,62 @@ ghost use Rattle.std.specs.Prelude.{◌<◌};
 use super::run_plain;
 use crate::{MemorySink, MemorySource, RunFault, read_bytes, summary_text};
 use n2k_join::Counts;
+use std::alloc::{AllocError, Global};
 use std::process::Abort;
 use std::test::Fail;
 
 // The two frames of two senders in turns, 43 bytes a line.
-const TWO_SOURCES: &[u8] = b"(10.000001) can0 1DFF0405#000BA39901414243
+const TWO_SOURCES: &str = "(10.000001) can0 1DFF0405#000BA39901414243
 (10.100000) can0 1DFF0406#200BA39902585920
 (10.200000) can0 1DFF0406#212020202020FFFF
 (10.300000) can0 1DFF0405#010000000000FFFF
 ";
 
-const TWO_SOURCES_TEXT: &[u8] = b"1970-01-01T00:00:10.000Z,7,130820,5,255,8,00,0b,a3,99,01,41,42,43
+const TWO_SOURCES_TEXT: &str = "1970-01-01T00:00:10.000Z,7,130820,5,255,8,00,0b,a3,99,01,41,42,43
 1970-01-01T00:00:10.100Z,7,130820,6,255,8,20,0b,a3,99,02,58,59,20
 1970-01-01T00:00:10.200Z,7,130820,6,255,8,21,20,20,20,20,20,ff,ff
 1970-01-01T00:00:10.300Z,7,130820,5,255,8,01,00,00,00,00,00,ff,ff
 ";
 
 struct Example {
-    log: &'static [u8],
-    text: &'static [u8],
-    reports: &'static [u8],
-    summary: &'static [u8],
+    log: &'static str,
+    text: &'static str,
+    reports: &'static str,
+    summary: &'static str,
 }
 
 const EXAMPLES: [Example; 6] = [
     // cog-and-sog
     Example {
-        log: b"(1502979132.106111) can0 09F8027F#00FCFFFF0000FFFF",
-        text: b"2017-08-17T14:12:12.106Z,2,129026,127,255,8,00,fc,ff,ff,00,00,ff,ff\n",
-        reports: b"",
-        summary: b"lines 1 messages 1 bad 0 unknown 0 broken 0 open 0\n",
+        log: "(1502979132.106111) can0 09F8027F#00FCFFFF0000FFFF",
+        text: "2017-08-17T14:12:12.106Z,2,129026,127,255,8,00,fc,ff,ff,00,00,ff,ff\n",
+        reports: "",
+        summary: "lines 1 messages 1 bad 0 unknown 0 broken 0 open 0\n",
     },
     // rate-of-turn, with a CR
     Example {
-        log: b"2011-11-24-22:42:04.388,2,127251,36,255,8,7d,0b,7d,02,00,ff,ff,ff\r\n",
-        text: b"2011-11-24-22:42:04.388,2,127251,36,255,8,7d,0b,7d,02,00,ff,ff,ff\n",
-        reports: b"",
-        summary: b"lines 1 messages 1 bad 0 unknown 0 broken 0 open 0\n",
+        log: "2011-11-24-22:42:04.388,2,127251,36,255,8,7d,0b,7d,02,00,ff,ff,ff\r\n",
+        text: "2011-11-24-22:42:04.388,2,127251,36,255,8,7d,0b,7d,02,00,ff,ff,ff\n",
+        reports: "",
+        summary: "lines 1 messages 1 bad 0 unknown 0 broken 0 open 0\n",
     },
     // unknown-pgn
     Example {
-        log: b"(1.0) can0 18EAFF01#14F001\n",
-        text: b"1970-01-01T00:00:01.000Z,6,59904,1,255,3,14,f0,01\n",
-        reports: b"",
-        summary: b"lines 1 messages 1 bad 0 unknown 0 broken 0 open 0\n",
+        log: "(1.0) can0 18EAFF01#14F001\n",
+        text: "1970-01-01T00:00:01.000Z,6,59904,1,255,3,14,f0,01\n",
+        reports: "",
+        summary: "lines 1 messages 1 bad 0 unknown 0 broken 0 open 0\n",
     },
     // empty-log
     Example {
-        log: b"",
-        text: b"",
-        reports: b"",
-        summary: b"lines 0 messages 0 bad 0 unknown 0 broken 0 open 0\n",
+        log: "",
+        text: "",
+        reports: "",
+        summary: "lines 0 messages 0 bad 0 unknown 0 broken 0 open 0\n",
     },
     // candump-forms
     Example {
-        log: b"(1.0)  can0  09f8027f#00fcffff0000ffff R
+        log: "(1.0)  can0  09f8027f#00fcffff0000ffff R
 (1.0) can0 09F8027F#00FCFFFF0000FFFF_9
 (1.0) can0 123#00
 (1.0) can0 09F8027F#R8
@@ -68,34 +69,34 @@ const EXAMPLES: [Example; 6] = [
 (253402300799.999999999) can0 18EAFF01#
 (253402300800.0) can0 18EAFF01#
 ",
-        text: b"1970-01-01T00:00:01.000Z,2,129026,127,255,8,00,fc,ff,ff,00,00,ff,ff
+        text: "1970-01-01T00:00:01.000Z,2,129026,127,255,8,00,fc,ff,ff,00,00,ff,ff
 1970-01-01T00:00:01.000Z,2,129026,127,255,8,00,fc,ff,ff,00,00,ff,ff
 9999-12-31T23:59:59.999Z,6,59904,1,255,0
 ",
-        reports: b"line 10 bad B2 stamp\n",
-        summary: b"lines 10 messages 3 bad 1 unknown 0 broken 0 open 0\n",
+        reports: "line 10 bad B2 stamp\n",
+        summary: "lines 10 messages 3 bad 1 unknown 0 broken 0 open 0\n",
     },
     // two-sources
     Example {
         log: TWO_SOURCES,
         text: TWO_SOURCES_TEXT,
-        reports: b"",
-        summary: b"lines 4 messages 4 bad 0 unknown 0 broken 0 open 0\n",
+        reports: "",
+        summary: "lines 4 messages 4 bad 0 unknown 0 broken 0 open 0\n",
     },
 ];
 
 fn prints<R: Abort + AllocGlobal>(rt: &R, example: &Example, piece: usize) -> Result<(), Fail>
     requires { 0 < piece }
 {
-    let mut reader = MemorySource::new(example.log, piece, 0);
+    let mut reader = MemorySource::new(example.log.as_bytes(), piece, 0);
     let mut writer = MemorySink::new(rt.alloc(), piece, 0);
     let mut reports = MemorySink::new(rt.alloc(), piece, 0);
     let counts = run_plain(rt.alloc(), &mut reader, &mut writer, &mut reports)?;
-    assert_eq!(rt; writer.bytes(), example.text);
-    assert_eq!(rt; reports.bytes(), example.reports);
+    assert_eq!(rt; writer.bytes(), example.text.as_bytes());
+    assert_eq!(rt; reports.bytes(), example.reports.as_bytes());
     let mut summary = Vec::new(rt.alloc());
     summary_text(rt.alloc(), &counts, &mut summary)?;
-    assert_eq!(rt; summary.as_slice(), example.summary);
+    assert_eq!(rt; summary.as_slice(), example.summary.as_bytes());
     Ok(())
 }
 
@@ -129,20 +130,27 @@ fn reports_in_pieces<R: Abort + AllocGlobal>(
     Ok(())
 }
 
+// Lines of so many x's, and what stands behind them.
+const LONG_LINES: [(usize, &[u8]); 5] = [
+    (2048, b"\r\n"),
+    (2048, b"x\n"),
+    (2048, b"\r\r\n#"),
+    (2047, b"\n#"),
+    (2048, b"\n\r"),
+];
+
+fn push_long(alloc: Global, count: usize, end: &[u8], log: &mut Vec<u8>) -> Result<(), AllocError> {
+    let long = vec![in alloc; b'x'; count]?;
+    log.extend_from_slice(&long)?;
+    log.extend_from_slice(end)
+}
+
 #[test]
 fn long_lines(rt: HostRuntime) -> Result<(), Fail> {
     let mut log = Vec::new(rt.alloc());
-    let longest = vec![in rt.alloc(); b'x'; 2048]?;
-    log.extend_from_slice(&longest)?;
-    log.extend_from_slice(b"\r\n")?;
-    log.extend_from_slice(&longest)?;
-    log.extend_from_slice(b"x\n")?;
-    log.extend_from_slice(&longest)?;
-    log.extend_from_slice(b"\r\r\n#")?;
-    log.extend_from_slice(&vec![in rt.alloc(); b'x'; 2047]?)?;
-    log.extend_from_slice(b"\n#")?;
-    log.extend_from_slice(&longest)?;
-    log.extend_from_slice(b"\n\r")?;
+    for (count, end) in &LONG_LINES {
+        push_long(rt.alloc(), *count, end, &mut log)?;
+    }
     let reports =
         b"line 1 bad B2 stamp\nline 2 bad B1 long\nline 3 bad B1 long\nline 5 bad B1 long\n";
     let counts = Counts {
@@ -153,14 +161,7 @@ fn long_lines(rt: HostRuntime) -> Result<(), Fail> {
     reports_in_pieces(&rt, &log, reports, counts)
 }
 
-#[test]
-fn ten_lines_of_which_seven_are_bad(rt: HostRuntime) -> Result<(), Fail> {
-    let mut log = Vec::new(rt.alloc());
-    log.extend_from_slice(b"(10.0) can0 1DFF0405#000BA39901414243\n")?;
-    let long = vec![in rt.alloc(); b'x'; 2049]?;
-    log.extend_from_slice(&long)?;
-    log.extend_from_slice(
-        b"
+const TEN_LINES: &str = "
 (10.1) can0 1DFF0405#010
 (10.2) can0 40000000#00
 2011-11-24-22:42:04.388,2,127251,36,255,3,7d,0b
@@ -169,8 +170,19 @@ fn ten_lines_of_which_seven_are_bad(rt: HostRuntime) -> Result<(), Fail> {
 (10) can0 1DFF0405#00
 x,8,127251,36,255,0
 hello
-",
-    )?;
+";
+
+// A frame's line, and x's in front of the other lines.
+fn ten_lines(alloc: Global) -> Result<Vec<u8>, AllocError> {
+    let mut log = Vec::new(alloc);
+    log.extend_from_slice(b"(10.0) can0 1DFF0405#000BA39901414243\n")?;
+    push_long(alloc, 2049, TEN_LINES.as_bytes(), &mut log)?;
+    Ok(log)
+}
+
+#[test]
+fn ten_lines_of_which_seven_are_bad(rt: HostRuntime) -> Result<(), Fail> {
+    let log = ten_lines(rt.alloc())?;
     let reports = b"line 2 bad B1 long
 line 3 bad B6 data
 line 4 bad B4 identifier
@@ -192,13 +204,13 @@ line 10 bad B3 form
 // has given its first block alone.
 #[test]
 fn a_block_is_written_before_the_next_is_read(rt: HostRuntime) -> Result<(), Fail> {
-    let mut reader = MemorySource::new(TWO_SOURCES, 60, 0);
+    let mut reader = MemorySource::new(TWO_SOURCES.as_bytes(), 60, 0);
     let mut writer = MemorySink::new(rt.alloc(), 100, 1);
     let mut reports = MemorySink::new(rt.alloc(), 100, 0);
     let answer = run_plain(rt.alloc(), &mut reader, &mut writer, &mut reports);
     assert_eq!(rt; answer, Err(RunFault::Write));
     let left = read_bytes(rt.alloc(), &mut reader, 1000)?;
-    assert_eq!(rt; left.as_slice(), &TWO_SOURCES[60..]);
+    assert_eq!(rt; left.as_slice(), &TWO_SOURCES.as_bytes()[60..]);
     Ok(())
 }
 
@@ -207,12 +219,12 @@ fn a_block_is_written_before_the_next_is_read(rt: HostRuntime) -> Result<(), Fai
 fn a_failed_read_keeps_the_lines_that_came(rt: HostRuntime) -> Result<(), Fail> {
     for (piece, fail_at, written) in [(60, 3, 132), (43, 4, 198), (43, 1, 0), (171, 2, 198)] {
         if piece > 0 {
-            let mut reader = MemorySource::new(TWO_SOURCES, piece, fail_at);
+            let mut reader = MemorySource::new(TWO_SOURCES.as_bytes(), piece, fail_at);
             let mut writer = MemorySink::new(rt.alloc(), 7, 0);
             let mut reports = MemorySink::new(rt.alloc(), 7, 0);
             let answer = run_plain(rt.alloc(), &mut reader, &mut writer, &mut reports);
             assert_eq!(rt; answer, Err(RunFault::Read));
-            assert_eq!(rt; writer.bytes(), &TWO_SOURCES_TEXT[..written]);
+            assert_eq!(rt; writer.bytes(), &TWO_SOURCES_TEXT.as_bytes()[..written]);
         }
     }
     Ok(())
@@ -220,12 +232,12 @@ fn a_failed_read_keeps_the_lines_that_came(rt: HostRuntime) -> Result<(), Fail> 
 
 #[test]
 fn a_failed_write_leaves_a_front(rt: HostRuntime) -> Result<(), Fail> {
-    let mut reader = MemorySource::new(TWO_SOURCES, 60, 0);
+    let mut reader = MemorySource::new(TWO_SOURCES.as_bytes(), 60, 0);
     let mut writer = MemorySink::new(rt.alloc(), 10, 3);
     let mut reports = MemorySink::new(rt.alloc(), 10, 0);
     let answer = run_plain(rt.alloc(), &mut reader, &mut writer, &mut reports);
     assert_eq!(rt; answer, Err(RunFault::Write));
-    assert_eq!(rt; writer.bytes(), &TWO_SOURCES_TEXT[..20]);
+    assert_eq!(rt; writer.bytes(), &TWO_SOURCES_TEXT.as_bytes()[..20]);
 
     let mut reader = MemorySource::new(b"hello\n", 60, 0);
     let mut writer = MemorySink::new(rt.alloc(), 10, 0);
@@ -240,17 +252,17 @@ fn a_failed_write_leaves_a_front(rt: HostRuntime) -> Result<(), Fail> {
 // memory or a refusal, and what was written is a front.
 #[test]
 fn refused_memory_leaves_a_front(rt: HostRuntime) {
-    let mut reader = MemorySource::new(TWO_SOURCES, 60, 0);
+    let mut reader = MemorySource::new(TWO_SOURCES.as_bytes(), 60, 0);
     let mut writer = MemorySink::new(rt.alloc(), 10, 0);
     let mut reports = MemorySink::new(rt.alloc(), 10, 0);
     match run_plain(rt.alloc(), &mut reader, &mut writer, &mut reports) {
         Ok(counts) => {
             assert_eq!(rt; counts.messages, 4);
-            assert_eq!(rt; writer.bytes(), TWO_SOURCES_TEXT);
+            assert_eq!(rt; writer.bytes(), TWO_SOURCES_TEXT.as_bytes());
         }
         Err(fault) => {
             assert!(rt; fault == RunFault::Memory || fault == RunFault::Write);
-            assert!(rt; TWO_SOURCES_TEXT.starts_with(writer.bytes()));
+            assert!(rt; TWO_SOURCES_TEXT.as_bytes().starts_with(writer.bytes()));
         }
     }
 }

@@ -3,7 +3,7 @@ use Rattle.std.specs.Prelude.{◌≡◌, ◌≤◌, ℕ, ◌+◌, true, List, Op
 use Rattle.n2k_table.specs.declared.field.Meaning.{Meaning as CodeMeaning}
 use Rattle.n2k_table.specs.declared.field.Meaning.TheVariants as code
 use Rattle.n2k_table.specs.Field.{Meaning, number, named, text, bytes, message_bits, most_number_bits}
-use Rattle.n2k_table.specs.Json.{key_json}
+use Rattle.n2k_table.specs.Inner.Line.{key_json}
 
 -- what the bits mean, as contracts see it
 abbrev pub meaning : CodeMeaning → Meaning

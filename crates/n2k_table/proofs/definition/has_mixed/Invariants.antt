@@ -1,6 +1,6 @@
 -- Among the definitions that are left two are mixed where two are among all.
 use Rattle.std.proofs.Common.{◌≡◌, length, map}
-use Rattle.n2k_table.specs.Definition.{pgn_kind}
+use Rattle.n2k_table.specs.Inner.Kinds.{pgn_kind}
 use Rattle.n2k_table.specs.Table.{has_mixed}
 use Rattle.n2k_table.proofs.definition.has_mixed.Given as goal
 

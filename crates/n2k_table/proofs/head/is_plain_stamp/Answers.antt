@@ -1,7 +1,7 @@
 use Rattle.std.proofs.Common.{◌≡◌, length, take, ap, ◌∙◌, arith}
 use Rattle.std.specs.List.{list_all}
 use Rattle.std.proofs.Math.Seq.{take-length}
-use Rattle.n2k_table.specs.Text.{is_plain}
+use Rattle.n2k_table.specs.Inner.Line.{is_plain}
 use Rattle.n2k_table.proofs.head.is_plain_stamp.Goals as goal
 
 pub returns-then-stamp-eq-USUAL_STAMP : goal.returns-then-stamp-eq-USUAL_STAMP

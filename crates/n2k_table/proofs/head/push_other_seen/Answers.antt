@@ -1,6 +1,6 @@
 use Rattle.std.proofs.Common.{ℕ, List, ◌++◌, codes, ap, ◌∙◌}
 use Rattle.n2k_table.specs.Text.{text_json}
-use Rattle.n2k_table.specs.Json.{sender_json, seen_json}
+use Rattle.n2k_table.specs.Inner.Line.{sender_json, seen_json}
 use Rattle.n2k_table.proofs.Heads.{three_parts}
 use Rattle.n2k_table.proofs.head.push_other_seen.Goals as goal
 

@@ -1,5 +1,5 @@
 use Rattle.std.proofs.Common.{ℕ, List, [], ◌++◌, codes, ap, ◌∙◌}
-use Rattle.n2k_table.specs.Json.{sender_json}
+use Rattle.n2k_table.specs.Inner.Line.{sender_json}
 use Rattle.n2k_table.proofs.Members.{four_parts}
 use Rattle.n2k_table.proofs.Heads.{plain_seen}
 use Rattle.n2k_table.proofs.head.push_plain_seen.Goals as goal

@@ -1,5 +1,5 @@
 use Rattle.std.proofs.Common.{ℕ, List, ◌++◌, codes, ap, ◌∙◌}
-use Rattle.n2k_table.specs.Json.{seen_json, label_json, members_json}
+use Rattle.n2k_table.specs.Inner.Line.{seen_json, label_json, members_json}
 use Rattle.n2k_table.specs.Shown.{all_shown}
 use Rattle.n2k_table.proofs.Members.{four_parts}
 use Rattle.n2k_table.proofs.Heads.{matched_parts}

@@ -1,6 +1,6 @@
 use Rattle.std.proofs.Common.{ℕ, List, ◌++◌, codes, refl, ap, ◌∙◌}
 use Rattle.std.specs.Prelude.{decimal}
-use Rattle.n2k_table.specs.Json.{seen_json}
+use Rattle.n2k_table.specs.Inner.Line.{seen_json}
 use Rattle.n2k_table.specs.Text.{text_json, pairs}
 use Rattle.n2k_table.proofs.Members.{six_parts}
 use Rattle.n2k_table.proofs.Heads.{unmatched_parts}

@@ -2,7 +2,7 @@ use Rattle.std.proofs.Common.{sym, subst, Result, List, ℕ, arith}
 use Rattle.std.proofs.lemmas.Result.{err_from_is_err_and}
 use Rattle.toml.specs.View.{array_view}
 use Rattle.n2k_table.specs.declared.fault.TableFault.{TableFault}
-use Rattle.n2k_table.specs.Fault.{GivesOrMemory}
+use Rattle.n2k_table.specs.Inner.Reading.{GivesOrMemory}
 use Rattle.n2k_table.specs.Tree.{elements}
 use Rattle.n2k_table.specs.Inner.Entries.{seen_entries}
 use Rattle.n2k_table.proofs.Each.{length-elements}

@@ -1,5 +1,5 @@
 use Rattle.std.proofs.Common.{arith}
-use Rattle.n2k_table.specs.Text.{is_plain}
+use Rattle.n2k_table.specs.Inner.Line.{is_plain}
 use Rattle.n2k_table.proofs.Escapes.{all_more, all_done}
 use Rattle.n2k_table.proofs.text.are_plain.Goals as goal
 

@@ -1,7 +1,7 @@
 -- The bytes so far and those that are left are plain where all are.
 use Rattle.std.proofs.Common.{◌≡◌, ◌&&◌, drop}
 use Rattle.std.specs.List.{list_all}
-use Rattle.n2k_table.specs.Text.{is_plain}
+use Rattle.n2k_table.specs.Inner.Line.{is_plain}
 use Rattle.n2k_table.proofs.text.are_plain.Given as goal
 
 abbrev pub invariant-loop-byte : goal.invariant-loop-byte

@@ -2,7 +2,7 @@ use Rattle.std.proofs.Common.{◌+◌, ◌%◌, ◌<◌, cond, Some, ap, ◌∙�
 use Rattle.std.specs.Map.{lookup}
 use Rattle.std.proofs.lemmas.Bool.{lt-ltb}
 use Rattle.n2k_join.specs.Pieces.{same_stream}
-use Rattle.n2k_join.specs.Splitter.{are_sequences}
+use Rattle.n2k_join.specs.Inner.Stored.{are_sequences}
 use Rattle.n2k_join.proofs.Numbered.{insert_entry-are_sequences, raised_by_map}
 use Rattle.n2k_join.proofs.splitter.Splitter.raise.Goals as goal
 

@@ -1,4 +1,4 @@
--- How a join serves a run.
+-- What a run says of the faults of others.
 use Rattle.n2k_join.specs.declared.fault.JoinFault.{JoinFault}
 use Rattle.n2k_join.specs.declared.fault.JoinFault.TheVariants as join
 use Rattle.n2k_run.specs.declared.fault.RunFault.{RunFault}

@@ -1,0 +1,37 @@
+-- A JSON line as the code appends it: bytes that stand for themselves, and the parts of a line.
+use Rattle.std.specs.Prelude.{ℕ, ◌==◌, Bool, not, ◌&&◌, nat_le, codes, decimal, List, [], ◌∷◌, ◌++◌, Option, Some, None, if◌then◌else◌}
+use Rattle.std.specs.List.{filter_map, join_with_byte}
+use Rattle.n2k_wire.specs.Packet.{PacketParts}
+use Rattle.n2k_wire.specs.declared.identifier.Id.{Id}
+use Rattle.n2k_table.specs.Shown.{ShownParts}
+use Rattle.n2k_table.specs.Text.{text_json}
+use Rattle.n2k_table.specs.Json.{comma, colon, member_json}
+
+-- a byte that stands for itself in a JSON text, neither below the space nor a quote nor a backslash
+abbrev pub is_plain : ℕ → Bool
+is_plain b = nat_le 32 b && not (b == 34) && not (b == 92)
+
+-- who sent what to whom, up to the PGN
+unfoldable pub sender_json : Id → List ℕ
+sender_json id = codes ",\"prio\":" ++ decimal id.prio ++ codes ",\"src\":" ++ decimal id.src ++ codes ",\"dst\":" ++ decimal id.dst
+
+-- what stands before the PGN
+unfoldable pub seen_json : PacketParts → List ℕ
+seen_json m = codes "{\"timestamp\":" ++ text_json m.stamp ++ sender_json m.id
+
+-- what a definition puts between that and the members
+unfoldable pub label_json : ℕ → List ℕ → List ℕ
+label_json pgn description = codes ",\"pgn\":" ++ decimal pgn ++ codes ",\"description\":" ++ text_json description ++ codes ",\"fields\":{"
+
+-- the members of an object, of these fields
+abbrev pub members_json : Bool → List (List ℕ × ShownParts) → List ℕ
+members_json empty fields = join_with_byte comma (filter_map (member_json empty) fields)
+
+-- what stands before the value of a member, with a comma where a member stands before
+abbrev pub key_json : Bool → List ℕ → List ℕ
+key_json later key = (if later then comma ∷ [] else []) ++ (text_json key ++ colon ∷ [])
+
+-- a member after those before it
+abbrev pub member_text : Bool → Option (List ℕ) → List ℕ
+member_text later None = []
+member_text later (Some member) = (if later then comma ∷ [] else []) ++ member

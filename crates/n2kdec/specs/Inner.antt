@@ -1,0 +1,3 @@
+-- Words that only private clauses and proofs of this crate use.
+pub mod Closing
+pub mod Parse
