@@ -2,8 +2,7 @@
 ghost use Rattle.std.specs.Prelude.{◌<◌};
 
 use super::{Part, PartFault, run_part, run_parts};
-use crate::{MemorySink, MemorySource, Options, RunFault, read_bytes, summary_text};
-use n2k_join::StateFault;
+use crate::{MemorySink, MemorySource, Options, RunFault, summary_text};
 use n2k_table::{Table, TableFault};
 use n2k_wire::Packing;
 use std::alloc::Global;
@@ -376,28 +375,6 @@ fn no_line_past_the_last(rt: HostRuntime) -> Result<(), Fail> {
         return Err("one line more was taken".into());
     };
     assert_eq!(rt; part.state.as_slice(), FULL.as_bytes());
-    Ok(())
-}
-
-// A refused state leaves the log unread.
-#[test]
-fn a_refused_state_reads_nothing(rt: HostRuntime) -> Result<(), Fail> {
-    let table = table(rt.alloc())?;
-    let mut reader = MemorySource::new(b"hello", 4096, 0);
-    let mut writer = MemorySink::new(rt.alloc(), 4096, 0);
-    let mut reporter = MemorySink::new(rt.alloc(), 4096, 0);
-    let answer = run_part(
-        rt.alloc(),
-        &table,
-        Some(b"{}"),
-        FRAMES,
-        &mut reader,
-        &mut writer,
-        &mut reporter,
-    );
-    assert!(rt; matches!(answer, Err(PartFault::State(StateFault::Format))));
-    let left = read_bytes(rt.alloc(), &mut reader, 1000)?;
-    assert_eq!(rt; left.as_slice(), b"hello".as_slice());
     Ok(())
 }
 
