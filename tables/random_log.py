@@ -1,5 +1,6 @@
 #!/usr/bin/env python3
-"""Prints a log of frames over a whole table, for trials: each definition in turn, random fields, eight senders mixed.
+"""Prints a log of frames over a whole table, for trials: each definition in turn, random fields and sets, eight senders
+mixed.
 
     tables/random_log.py TABLE SEED LINES
 
