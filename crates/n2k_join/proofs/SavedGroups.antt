@@ -1,18 +1,18 @@
--- Groups made of frames by rising number, as a saved state has them.
-use Rattle.std.proofs.Common.{◌≡◌, ◌≤◌, ◌<◌, ◌+◌, ◌==◌, ℕ, zero, suc, true, false, List, [], ◌∷◌, ◌++◌, map, reverse, get_or, Option, Some, None, option_map, refl, sym, ap, ◌∙◌, subst, arith, slice_index_or}
+-- Pieces by rising number, as a saved state has them, taken into a group one by one.
+use Rattle.std.proofs.Common.{◌≡◌, ◌≤◌, ◌<◌, ◌+◌, ◌==◌, ℕ, zero, suc, Bool, true, false, cond, List, [], ◌∷◌, ◌++◌, map, reverse, get_or, Option, Some, None, option_map, refl, sym, ap, ◌∙◌, arith, slice_index_or}
+use mathlib.Core.Path.{fun_ext}
+use Rattle.std.specs.Option.{option_or}
 use Rattle.std.specs.List.{AllByRecursion}
-use Rattle.std.proofs.lemmas.Bool.{eqb-true, ltb-true}
-use Rattle.n2k_join.specs.declared.piece.StoredPiece.{StoredPiece}
-use Rattle.n2k_join.specs.Frames.{Key, most_frames, longest_total}
-use Rattle.n2k_join.specs.Groups.{carried, has_twice}
+use Rattle.std.proofs.lemmas.Bool.{eqb-true, ltb-true, ne_eqb}
+use Rattle.std.proofs.lemmas.List.{map-append, reverse-append}
+use Rattle.n2k_join.specs.Frames.{most_frames, longest_total}
+use Rattle.n2k_join.specs.Groups.{carried}
 use Rattle.n2k_join.specs.Open.{Piece, Group, piece_at, pieces_of}
 use Rattle.n2k_join.specs.Resumed.{pieces_rise, total_holds}
-use Rattle.n2k_join.specs.State.{Rise, IsKey, IsPiece, HasParts, held_frame}
-use Rattle.n2k_join.specs.Inner.Stored.{piece_of, stored_frame, stored_frames, stored_group}
-use Rattle.n2k_join.proofs.Held.{carried-held, has_twice-held, held_frames, piece_in}
-use Rattle.n2k_join.proofs.Rising.{filter_map-range, find-passes, look-range}
-use mathlib.Core.List.{reverse-cons}
-use Rattle.std.proofs.lemmas.List.{map-append}
+use Rattle.n2k_join.specs.State.{Rise, held_frame, held_of}
+use Rattle.n2k_join.proofs.Carried.{carried-append, option_or_none, pieces_of-same}
+use Rattle.n2k_join.proofs.Held.{carried-held, held_frames, piece_in}
+use Rattle.n2k_join.proofs.Rising.{filter_map-range, find-none, find-passes, look-range, all-map, all-append}
 use Rattle.n2k_join.proofs.StateTests.{both, at_most}
 
 abbrev number_of : Piece → ℕ
@@ -40,17 +40,7 @@ pub total_from : (n : ℕ) (bs : List ℕ) → total_holds n bs ≡ true → n �
 total_from zero bs h e = at_most (slice_index_or bs 0 0) longest_total h
 total_from (suc n) bs h e = absurd (omega (arith, e))
 
--- ---- frames that are stored by falling number
-
-abbrev bare : ℕ → Key → Group
-bare first key = record { first = first; key = key; pieces = [] }
-
-reversed_frames : (first : ℕ) (key : Key) (sp : List StoredPiece) → stored_frames first key (reverse sp) ≡ held_frames (bare first key) (map piece_of sp)
-reversed_frames first key [] = refl
-reversed_frames first key (p ∷ sp) =
-    ap (map (stored_frame first key)) (reverse-cons p sp) ∙ map-append (stored_frame first key) (reverse sp) (p ∷ [])
-    ∙ ap (λ fs. fs ++ stored_frame first key p ∷ []) (reversed_frames first key sp)
-    ∙ sym (ap (map (held_frame (bare first key))) (reverse-cons (piece_of p) (map piece_of sp)) ∙ map-append (held_frame (bare first key)) (reverse (map piece_of sp)) (piece_of p ∷ []))
+-- ---- pieces that join a group by rising number
 
 pieces_back : (o : Group) (ps : List Piece) → Rise number_of 0 ps → AllByRecursion (λ (p : Piece). p.number < most_frames) ps → pieces_of (held_frames o ps) ≡ ps
 unfolding pieces_of
@@ -68,31 +58,38 @@ pieces_back o ps rise small =
     same : (n : ℕ) → piece_at (carried (held_frames o ps)) n ≡ piece_in ps n
     same n = ap (option_map (λ (bytes : List ℕ). record { number = n; bytes = bytes })) (carried-held o 0 ps n rise) ∙ by n (piece_in ps n) refl
 
--- the group of frames by rising number, stored by falling
-pub stored_back : (first : ℕ) (key : Key) (sp : List StoredPiece) → pieces_rise 0 (map piece_of sp) ≡ true
-    → stored_group first key (reverse sp) ≡ record { first = first; key = key; pieces = map piece_of sp }
-stored_back first key sp rise =
-    let o : Group = bare first key in
-    λ i. record {
-      first = first;
-      key = key;
-      pieces = (ap pieces_of (reversed_frames first key sp) ∙ pieces_back o (map piece_of sp) (rise_from 0 (map piece_of sp) rise) (small_from 0 (map piece_of sp) rise)) i;
-    }
+-- a piece behind those whose numbers are all smaller
+rise-last : (least : ℕ) (ps : List Piece) (p : Piece) → Rise number_of least ps → AllByRecursion (λ (q : Piece). q.number < p.number) ps → least ≤ p.number → Rise number_of least (ps ++ p ∷ [])
+rise-last least [] p rise below l = (l, tt)
+rise-last least (q ∷ ps) p rise below l = (rise.0, rise-last (q.number + 1) ps p rise.1 below.1 (omega (arith, below.0)))
 
-pub once_back : (first : ℕ) (key : Key) (sp : List StoredPiece) → pieces_rise 0 (map piece_of sp) ≡ true → has_twice (stored_frames first key (reverse sp)) ≡ false
-once_back first key sp rise =
-    let o : Group = bare first key in
-    ap has_twice (reversed_frames first key sp) ∙ has_twice-held o 0 (map piece_of sp) (rise_from 0 (map piece_of sp) rise)
+-- nothing is carried under a number that all others are below
+pub carried-past : (o : Group) (ps : List Piece) (n : ℕ) → Rise number_of 0 ps → AllByRecursion (λ (q : Piece). q.number < n) ps → carried (held_frames o ps) n ≡ None
+carried-past o ps n rise below =
+    carried-held o 0 ps n rise
+    ∙ ap (option_map (λ (p : Piece). p.bytes)) (find-none (λ (p : Piece). p.number == n) ps (all-map (λ (q : Piece). q.number < n) (λ (q : Piece). (q.number == n) ≡ false) ps (λ q l. ne_eqb q.number n (λ e. omega (arith, e, l))) below))
 
--- the same, of frames that were turned round in their vector
-pub turned_back : (first : ℕ) (key : Key) (sp turned : List StoredPiece) → turned ≡ reverse sp → pieces_rise 0 (map piece_of sp) ≡ true
-    → stored_group first key turned ≡ record { first = first; key = key; pieces = map piece_of sp }
-turned_back first key sp turned is rise = ap (stored_group first key) is ∙ stored_back first key sp rise
+-- The piece that follows those of a group is its last.
+pub piece-last : (o : Group) (ps : List Piece) (p : Piece) → o.pieces ≡ ps → Rise number_of 0 ps → AllByRecursion (λ (q : Piece). q.number < p.number) ps
+    → AllByRecursion (λ (q : Piece). q.number < most_frames) ps → p.number < most_frames
+    → pieces_of (held_of o ++ held_frame o p ∷ []) ≡ ps ++ p ∷ []
+piece-last o ps p is rise below small fits =
+    let held : held_of o ≡ held_frames o ps = ap (held_frames o) is in
+    ap (λ fs. pieces_of (fs ++ held_frame o p ∷ [])) held
+    ∙ ap pieces_of (sym (map-append (held_frame o) (reverse ps) (p ∷ [])))
+    ∙ pieces_of-same (map (held_frame o) (reverse ps ++ p ∷ [])) (held_frames o (ps ++ p ∷ [])) (fun_ext carry)
+    ∙ pieces_back o (ps ++ p ∷ []) (rise-last 0 ps p rise below (omega arith)) (all-append (λ (q : Piece). q.number < most_frames) ps (p ∷ []) small (fits, tt))
+  where
+    turned : held_frames o (ps ++ p ∷ []) ≡ held_frame o p ∷ held_frames o ps
+    turned = ap (map (held_frame o)) (reverse-append ps (p ∷ []))
 
-pub turned_once : (first : ℕ) (key : Key) (sp turned : List StoredPiece) → turned ≡ reverse sp → pieces_rise 0 (map piece_of sp) ≡ true
-    → has_twice (stored_frames first key turned) ≡ false
-turned_once first key sp turned is rise = ap (λ ps. has_twice (stored_frames first key ps)) is ∙ once_back first key sp rise
+    by : (n : ℕ) (b : Bool) → (p.number == n) ≡ b → option_or (carried (held_frames o ps) n) (cond b (Some p.bytes) None) ≡ cond b (Some p.bytes) (carried (held_frames o ps) n)
+    by n true e = ap (λ (c : Option (List ℕ)). option_or c (Some p.bytes)) (ap (carried (held_frames o ps)) (sym (eqb-true p.number n e)) ∙ carried-past o ps p.number rise below)
+    by n false e = option_or_none (carried (held_frames o ps) n)
 
-pub turned_parts : (first : ℕ) (key : Key) (sp : List StoredPiece) (g : Group) → g ≡ record { first = first; key = key; pieces = map piece_of sp }
-    → IsKey key → AllByRecursion IsPiece (map piece_of sp) → HasParts g
-turned_parts first key sp g is is_key parts = subst HasParts (sym is) (record { key = is_key; pieces = parts })
+    carry : (n : ℕ) → carried (map (held_frame o) (reverse ps ++ p ∷ [])) n ≡ carried (held_frames o (ps ++ p ∷ [])) n
+    carry n =
+        ap (λ fs. carried fs n) (map-append (held_frame o) (reverse ps) (p ∷ []))
+        ∙ carried-append (held_frames o ps) (held_frame o p ∷ []) n
+        ∙ by n (p.number == n) refl
+        ∙ ap (λ fs. carried fs n) (sym turned)
