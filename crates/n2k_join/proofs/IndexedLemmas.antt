@@ -12,15 +12,14 @@ use Rattle.n2k_join.specs.declared.piece.FrameKey.{FrameKey}
 use Rattle.n2k_join.specs.declared.piece.OpenGroup.{OpenGroup}
 use Rattle.n2k_join.specs.declared.piece.StoredPiece.{StoredPiece}
 use Rattle.n2k_join.specs.Frames.{Key, same_key, Frame, most_frames}
-use Rattle.n2k_join.specs.Groups.{complete, has_number}
+use Rattle.n2k_join.specs.Groups.{complete, has_number, data_of}
+use Rattle.n2k_join.specs.Messages.{message_of}
 use Rattle.n2k_join.specs.Open.{Group, pieces_of, group_of}
 use Rattle.n2k_join.specs.State.{held_frame, held_of, IsOpen, AreApart}
-use Rattle.n2k_join.specs.Inner.Stored.{key_of, piece_of, with_frame, of_the_key, begun, groups_after}
+use Rattle.n2k_join.specs.Inner.Stored.{key_of, piece_of, with_frame, of_the_key, begun, groups_after, gained, lost}
 use Rattle.n2k_join.specs.Inner.Slots.{slot_of, group_in, group_at, groups_in}
 use Rattle.n2k_join.proofs.SlotLemmas.{carried-slots}
-use Rattle.n2k_join.proofs.JoinLemmas.{position-None, none_at_all, groups-begun, at_place, found-place, key-place, with_piece, complete-with_frame, joins-done, joins-left, after-repeats, all-at}
-
-
+use Rattle.n2k_join.proofs.JoinLemmas.{position-None, none_at_all, groups-begun, at_place, found-place, key-place, with_piece, complete-with_frame, joins-done, joins-left, after-repeats, all-at, data_of-with_frame, gained-joins, gained-repeats, lost-joins, lost-repeats, broken-held, message-begun}
 
 
 -- ---- places
@@ -41,7 +40,7 @@ module _ (k : FrameKey) where
 -- ---- a new group
 
 module _ (k : FrameKey) (v : OpenGroup) where
-  insert-last : (es : List (FrameKey × OpenGroup)) → AllByRecursion (λ (g : Group). same_key (key_of k) g.key ≡ false) (groups_in es) → insert_entry (λ (a b : FrameKey). same_key (key_of a) (key_of b)) es k v ≡ es ++ (k, v) ∷ []
+  pub insert-last : (es : List (FrameKey × OpenGroup)) → AllByRecursion (λ (g : Group). same_key (key_of k) g.key ≡ false) (groups_in es) → insert_entry (λ (a b : FrameKey). same_key (key_of a) (key_of b)) es k v ≡ es ++ (k, v) ∷ []
   insert-last [] others = refl
   insert-last (e ∷ es) others = ap (λ b. cond b ((e.0, v) ∷ es) (e ∷ insert_entry (λ (a b : FrameKey). same_key (key_of a) (key_of b)) es k v)) others.0 ∙ ap (λ t. e ∷ t) (insert-last es others.1)
 
@@ -182,6 +181,16 @@ module _ (x : Frame) (es : List (FrameKey × OpenGroup)) (i : ℕ) (v : OpenGrou
       by None e = refl
       by (Some b) e = absurd cc
 
+  has-there : x.number < most_frames → (b : Bool) → is_some (slot_of v x.number) ≡ b → has_number x.number (held_of there) ≡ b
+  has-there small b e = ap is_some (carried-slots (key_of at.key) v x.number small) ∙ e
+
+  -- what its slots say is what the group of the key says
+  pub there-has : x.number < most_frames → (b : Bool) → is_some (slot_of v x.number) ≡ b → IfSome (of_the_key x.key (groups_in es)) (λ (o : Group). has_number x.number (held_of o) ≡ b)
+  there-has small b e = subst (λ o. IfSome o (λ (g : Group). has_number x.number (held_of g) ≡ b)) (sym found-there) (has-there small b e)
+
+  pub none-lost : x.number < most_frames → is_some (slot_of v x.number) ≡ false → None ≡ lost x (of_the_key x.key (groups_in es))
+  none-lost small e = sym (lost-joins x (groups_in es) i there apart place stands (has-there small false e))
+
   -- A frame with its number ends it, and the group that it begins goes last, or gives its message.
   module _ (w : OpenGroup) (number : IfSome (of_the_key x.key (groups_in es)) (λ (o : Group). has_number x.number (held_of o) ≡ true)) (small : x.number < most_frames) (is : group_in (key_of at.key) w ≡ group_of x.key (x ∷ [])) where
     has_it : has_number x.number (held_of (group_at (at.key, v))) ≡ true
@@ -198,6 +207,22 @@ module _ (x : Frame) (es : List (FrameKey × OpenGroup)) (i : ℕ) (v : OpenGrou
         removed-groups es i ∙ sym (append-nil (take i (groups_in es) ++ drop (i + 1) (groups_in es)))
         ∙ ap (λ gs. (take i (groups_in es) ++ drop (i + 1) (groups_in es)) ++ gs) (ap (λ b. cond b [] (group_at (at.key, w) ∷ [])) (sym done) ∙ begins)
         ∙ sym after
+
+    -- where it was written before it goes
+    pub ends-written : complete (held_of (group_at (at.key, w))) ≡ true → groups_in (remove (set_value_at es i w) i) ≡ groups_after (groups_in es) x
+    ends-written done = ap groups_in (removed-written es i w) ∙ ends-go done
+
+    pub begun-gives : complete (held_of (group_at (at.key, w))) ≡ true → Some (record { stamp = x.stamp; id = x.id; payload = data_of (held_of (group_at (at.key, w))) }) ≡ gained x (of_the_key x.key (groups_in es))
+    begun-gives done = sym (ap (λ b. cond b (Some (record { stamp = x.stamp; id = x.id; payload = data_of (held_of (group_at (at.key, w))) })) None) done) ∙ message-begun x (group_at (at.key, w)) small is ∙ sym (gained-repeats x (groups_in es) i there apart place stands has_it)
+
+    pub begun-none : complete (held_of (group_at (at.key, w))) ≡ false → None ≡ gained x (of_the_key x.key (groups_in es))
+    begun-none left = sym (ap (λ b. cond b (Some (record { stamp = x.stamp; id = x.id; payload = data_of (held_of (group_at (at.key, w))) })) None) left) ∙ message-begun x (group_at (at.key, w)) small is ∙ sym (gained-repeats x (groups_in es) i there apart place stands has_it)
+
+    pub breaks : AllByRecursion IsOpen (groups_in es) → Some (record { pgn = x.key.pgn; src = x.key.src; dst = x.key.dst; seq = x.key.sequence; first = v.first }) ≡ lost x (of_the_key x.key (groups_in es))
+    breaks all =
+        (λ j. let k = key-there j in Some (record { pgn = k.pgn; src = k.src; dst = k.dst; seq = k.sequence; first = v.first }))
+        ∙ ap Some (broken-held there x.key (open-there all) key-there)
+        ∙ sym (lost-repeats x (groups_in es) i there apart place stands has_it)
 
     pub ends-last : complete (held_of (group_at (at.key, w))) ≡ false → groups_in (move_index (set_value_at es i w) i (length es - 1)) ≡ groups_after (groups_in es) x
     ends-last left =
@@ -226,3 +251,18 @@ module _ (x : Frame) (es : List (FrameKey × OpenGroup)) (i : ℕ) (v : OpenGrou
         removed-groups (set_value_at es i w) i
         ∙ ap (λ gs. take i gs ++ drop (i + 1) gs) (at.written w)
         ∙ joins-done x (groups_in es) i there apart place stands missing (group_at (at.key, w)) (sym complete-grown ∙ done)
+
+    data-grown : data_of (held_of (group_at (at.key, w))) ≡ data_of (held_of (group_at (at.key, v)) ++ x ∷ [])
+    data-grown = ap (λ (g : Group). data_of (held_of g)) grown ∙ data_of-with_frame there x (open-there fit) missing small
+
+    -- and gives its message, where it goes
+    pub gives-there : complete (held_of (group_at (at.key, w))) ≡ true → Some (record { stamp = x.stamp; id = x.id; payload = data_of (held_of (group_at (at.key, w))) }) ≡ gained x (of_the_key x.key (groups_in es))
+    gives-there done =
+        (λ j. Some (record { stamp = x.stamp; id = x.id; payload = data-grown j }))
+        ∙ sym (ap (λ b. cond b (Some (message_of x (held_of there ++ x ∷ []))) None) (sym complete-grown ∙ done))
+        ∙ sym (gained-joins x (groups_in es) i there apart place stands missing)
+
+    pub gives-none : complete (held_of (group_at (at.key, w))) ≡ false → None ≡ gained x (of_the_key x.key (groups_in es))
+    gives-none left =
+        sym (ap (λ b. cond b (Some (message_of x (held_of there ++ x ∷ []))) None) (sym complete-grown ∙ left))
+        ∙ sym (gained-joins x (groups_in es) i there apart place stands missing)

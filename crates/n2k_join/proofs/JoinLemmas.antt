@@ -14,7 +14,7 @@ use Rattle.n2k_join.specs.Frames.{Key, same_key, Frame, most_frames}
 use Rattle.n2k_join.specs.Groups.{complete, has_number, data_of, first}
 use Rattle.n2k_join.specs.Open.{Piece, Group, pieces_of, group_of}
 use Rattle.n2k_join.specs.State.{held_frame, held_of, IsOpen, AreApart}
-use Rattle.n2k_join.specs.Inner.Stored.{key_of, frame_of, stored_frames, stored_group, with_frame, joined, taken, begun, of_the_key, opened, groups_after, message_if, gained, lost}
+use Rattle.n2k_join.specs.Inner.Stored.{key_of, with_frame, joined, taken, begun, of_the_key, opened, groups_after, message_if, gained, lost}
 use Rattle.n2k_join.proofs.Carried.{carried-append, has_twice-push, complete-same, data_of-same, pieces_of-same}
 use Rattle.n2k_join.proofs.Held.{carried-kept, has_twice-kept, has_twice-held, length-held, all-held, all-reverse, first-held}
 use Rattle.n2k_join.proofs.Keys.{same_key-true}

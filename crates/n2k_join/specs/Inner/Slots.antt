@@ -18,6 +18,10 @@ slot_of g = slot g.mask g.slots
 abbrev pub group_by : ℕ → Key → ℕ → List (List ℕ) → Group
 group_by first key mask slots = record { first = first; key = key; pieces = filter_map (piece_at (slot mask slots)) (range_with_len 0 most_frames) }
 
+-- its pieces, by rising number
+unfoldable pub pieces_in : OpenGroup → List Piece
+pieces_in g = filter_map (piece_at (slot_of g)) (range_with_len 0 most_frames)
+
 -- what is kept of a group of a key
 abbrev pub group_in : Key → OpenGroup → Group
 group_in key g = group_by g.first key g.mask g.slots

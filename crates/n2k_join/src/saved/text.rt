@@ -2,12 +2,12 @@
 ghost use Rattle.std.specs.Prelude.{◌≡◌, ◌<◌, [], ◌∷◌, IfOk};
 ghost use Rattle.hex.specs.Hex.{encode_lower};
 ghost use Rattle.json.specs.Token.{Token};
-ghost use Rattle.n2k_join.specs.Frames.{Key, most_frames};
+ghost use Rattle.n2k_join.specs.Frames.{most_frames};
 ghost use Rattle.n2k_join.specs.Open.{piece_at};
 ghost use Rattle.n2k_join.specs.Saved.{piece_tree, group_tree, state_tree, state_text, IsId};
 ghost use Rattle.n2k_join.specs.Inner.SavedTokens.{Appends, tokens_of, count_tokens, piece_tokens, pieces_tokens, frames_tokens, key_tokens, groups_tokens, open_tokens, front_tokens, lines_tokens, table_tokens, back_tokens};
 ghost use Rattle.n2k_join.specs.Inner.Stored.{key_of};
-ghost use Rattle.n2k_join.specs.Inner.Slots.{slot_of, group_in, groups_in};
+ghost use Rattle.n2k_join.specs.Inner.Slots.{slot_of, pieces_in, group_in, groups_in};
 ghost use Rattle.std.specs.Str.{IsUtf8};
 
 use crate::counts::Counts;
@@ -79,7 +79,7 @@ fn push_numbered(group: &OpenGroup, number: u8, out: &mut Writer) -> Result<(), 
 
 // Writes the frames of a group, by rising number.
 fn push_pieces(group: &OpenGroup, out: &mut Writer) -> Result<(), AllocError>
-    ensures { (key : Key) → Appends result out.old out.new (pieces_tokens (group_in key group.now).pieces) }
+    ensures { Appends result out.old out.new (pieces_tokens (pieces_in group.now)) }
 {
     for number in 0..MOST_FRAMES {
         push_numbered(group, number, out)?;
@@ -89,7 +89,7 @@ fn push_pieces(group: &OpenGroup, out: &mut Writer) -> Result<(), AllocError>
 
 // Writes the frames of a group as a member.
 fn push_frames(group: &OpenGroup, out: &mut Writer) -> Result<(), AllocError>
-    ensures { (key : Key) → Appends result out.old out.new (frames_tokens (group_in key group.now).pieces) }
+    ensures { Appends result out.old out.new (frames_tokens (pieces_in group.now)) }
 {
     out.key("frames")?;
     out.begin_array()?;
