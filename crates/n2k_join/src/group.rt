@@ -72,13 +72,8 @@ impl OpenGroup {
         } }
     {
         let StoredPiece { number, bytes, .. } = piece;
-        let mut slots = self.slots;
-        slots[usize::from(number)] = bytes;
-        *self = OpenGroup {
-            first: self.first,
-            mask: self.mask | 1 << u32::from(number),
-            slots,
-        };
+        self.slots[usize::from(number)] = bytes;
+        self.mask |= 1 << u32::from(number);
     }
 
     // The total of the message, if frame 0 is there.

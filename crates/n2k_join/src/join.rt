@@ -197,7 +197,9 @@ impl Join {
         ensures full { IsErrOf result JoinFault.TooManyLines ↔ (self.old.counts.lines ≡ most_lines) }
         ensures memory { IsErrOf result JoinFault.Memory → opens (kind table.now) self.old entry.now ≡ true }
     {
-        *joined = None;
+        if joined.is_some() {
+            *joined = None;
+        }
         let outcome = self.take(table, entry, joined)?;
         Ok(LentStep {
             message: outcome.message(entry, joined),
