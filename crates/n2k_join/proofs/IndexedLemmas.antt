@@ -21,7 +21,6 @@ use Rattle.n2k_join.specs.Inner.Slots.{slot_of, group_in, group_at, groups_in}
 use Rattle.n2k_join.proofs.SlotLemmas.{carried-slots}
 use Rattle.n2k_join.proofs.JoinLemmas.{position-None, none_at_all, groups-begun, at_place, found-place, key-place, with_piece, complete-with_frame, joins-done, joins-left, after-repeats, all-at, data_of-with_frame, gained-joins, gained-repeats, lost-joins, lost-repeats, broken-held, message-begun}
 
-
 -- ---- places
 
 module _ (k : FrameKey) where

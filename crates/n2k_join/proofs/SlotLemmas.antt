@@ -322,7 +322,7 @@ module _ (k : Key) (g : OpenGroup) (done : complete (held_of (group_in k g)) ≡
       let few : last + 1 ≤ length g.slots = omega (arith, small, g.many) in
       let all = ap (λ n. has_all (last_number n) (held_of (group_in k g))) (sym total-slots) ∙ each_there in
       let same : (n : ℕ) → n < last + 1 → bytes_at (held_of (group_in k g)) (0 + n) ≡ get_or g.slots n [] =
-          λ n l. let at : 0 + n ≡ n = omega arith in ap (bytes_at (held_of (group_in k g))) at ∙ carried-there n (omega (arith, l, small)) (all_to (λ n. has_number n (held_of (group_in k g))) 0 (last + 1) n all (omega arith) (omega (arith, l))) in
+      λ n l. let at : 0 + n ≡ n = omega arith in ap (bytes_at (held_of (group_in k g))) at ∙ carried-there n (omega (arith, l, small)) (all_to (λ n. has_number n (held_of (group_in k g))) 0 (last + 1) n all (omega arith) (omega (arith, l))) in
       let long : t + 1 ≤ length (flat_map (λ (b : List ℕ). b) (take (last + 1) g.slots)) = omega (arith, length-sevens g.slots (last + 1) g.seven few) in
       (λ i. take (total-slots i) (drop 1 (flat_map (bytes_at (held_of (group_in k g))) (range_with_len 0 (last_number (total-slots i) + 1)))))
       ∙ ap (λ bs. take t (drop 1 bs)) (first-slots (bytes_at (held_of (group_in k g))) g.slots 0 (last + 1) few same)

@@ -122,3 +122,6 @@ impl OpenGroup {
         }
     }
 }
+
+#[cfg(test)]
+mod tests;

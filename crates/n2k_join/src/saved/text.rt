@@ -121,10 +121,7 @@ fn push_group(key: &FrameKey, group: &OpenGroup, out: &mut Writer) -> Result<(),
 }
 
 // Writes the open groups as a member.
-fn push_groups(
-    groups: &IndexMap<FrameKey, OpenGroup>,
-    out: &mut Writer,
-) -> Result<(), AllocError>
+fn push_groups(groups: &IndexMap<FrameKey, OpenGroup>, out: &mut Writer) -> Result<(), AllocError>
     ensures { Appends result out.old out.new (groups_tokens (groups_in groups.now.entries)) }
 {
     for (key, group) in groups.iter() {
