@@ -14,15 +14,16 @@ ghost use Rattle.n2k_join.specs.Inner.Told.{packet_in, told};
 
 use crate::counts::{Counts, MOST_LINES};
 use crate::fault::JoinFault;
-use crate::group::StoredGroup;
 use crate::laws;
 use crate::outcome::{Outcome, packet_of, take_entry};
+use crate::piece::{FrameKey, OpenGroup};
 use crate::saved::{
     SpelledGroup, SpelledState, has_format, parsed, read_state, rules_hold, state_text,
     stored_groups,
 };
 use crate::state_fault::StateFault;
 use crate::step::{LentStep, Step};
+use indexmap::IndexMap;
 use n2k_table::Table;
 use n2k_wire::{Entry, Id, Packet};
 use std::alloc::{AllocError, Global};
@@ -34,17 +35,18 @@ use std::marker::Model;
 pub struct Join {
     id: [u8; 32],
     counts: Counts,
-    groups: Vec<StoredGroup>,
+    groups: IndexMap<FrameKey, OpenGroup>,
 }
 
 impl Model for Join {
+    ghost use Rattle.n2k_join.specs.Inner.Slots.{groups_in};
     ghost use Rattle.n2k_join.specs.State.{State, IsState};
 
     ghost Value = { State };
 
-    ghost view = { λ j. record { id = j.id; counts = j.counts; groups = j.groups.items } };
+    ghost view = { λ j. record { id = j.id; counts = j.counts; groups = groups_in j.groups.entries } };
 
-    ghost invariant = { λ j. IsState (record { id = j.id; counts = j.counts; groups = j.groups.items }) };
+    ghost invariant = { λ j. IsState (record { id = j.id; counts = j.counts; groups = groups_in j.groups.entries }) };
 }
 
 // What the types say of the parts of a packet.
@@ -101,7 +103,7 @@ impl Join {
         Join {
             id: table.id(),
             counts: Counts::NONE,
-            groups: Vec::new(alloc),
+            groups: IndexMap::new(alloc),
         }
     }
 
@@ -133,9 +135,8 @@ impl Join {
             return Err(JoinFault::TooManyLines);
         }
         know_entry(entry);
-        let alloc = *self.groups.allocator();
         let line = self.counts.lines + 1;
-        let outcome = take_entry(alloc, &mut self.groups, line, table, entry, joined)?;
+        let outcome = take_entry(&mut self.groups, line, table, entry, joined)?;
         let is_message = outcome.is_message(entry, joined);
         self.counts = counted(self.counts, &outcome, is_message, self.groups.len());
         Ok(outcome)
@@ -196,7 +197,9 @@ impl Join {
         ensures full { IsErrOf result JoinFault.TooManyLines ↔ (self.old.counts.lines ≡ most_lines) }
         ensures memory { IsErrOf result JoinFault.Memory → opens (kind table.now) self.old entry.now ≡ true }
     {
-        *joined = None;
+        if joined.is_some() {
+            *joined = None;
+        }
         let outcome = self.take(table, entry, joined)?;
         Ok(LentStep {
             message: outcome.message(entry, joined),

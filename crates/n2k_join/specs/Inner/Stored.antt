@@ -31,23 +31,6 @@ frame_of line packet frame = record {
   id = packet.id;
 }
 
--- a stored piece as a frame of its group
-abbrev pub stored_frame : ℕ → Key → StoredPiece → Frame
-stored_frame first key piece = held_frame (record { first = first; key = key; pieces = [] }) (piece_of piece)
-
--- the frames of a stored group, as they came
-abbrev pub stored_frames : ℕ → Key → List StoredPiece → List Frame
-stored_frames first key ps = map (stored_frame first key) ps
-
--- the group that they are
-abbrev pub stored_group : ℕ → Key → List StoredPiece → Group
-stored_group first key ps = record { first = first; key = key; pieces = pieces_of (stored_frames first key ps) }
-
--- a stored group has room for all frames, and no number twice
-pub record IsStored (first : ℕ) (key : Key) (ps : List StoredPiece) (size : ℕ) : Type 0 where
-  pub once : has_twice (stored_frames first key ps) ≡ false
-  pub room : most_frames ≤ size
-
 -- each sequence that a splitter holds is of three bits
 abbrev pub are_sequences : List (Stream × ℕ) → Bool
 are_sequences held = list_all (λ (e : Stream × ℕ). nat_lt e.1 most_sequences) held

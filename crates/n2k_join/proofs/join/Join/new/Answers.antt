@@ -1,3 +1,5 @@
+use Rattle.std.proofs.Common.{ap}
+use Rattle.n2k_join.specs.Inner.Slots.{groups_in}
 use Rattle.n2k_join.specs.Open.{open_groups}
 use Rattle.n2k_join.proofs.join.Join.new.Goals as goal
 
@@ -6,5 +8,5 @@ unfolding open_groups
 returns c = λ i. record {
   id = c.id.ensures i;
   counts = record { lines = 0; messages = 0; bad = 0; unknown = 0; broken = 0; held = 0 };
-  groups = c.new.ensures.items i;
+  groups = ap groups_in c.new.ensures.empty i;
 }

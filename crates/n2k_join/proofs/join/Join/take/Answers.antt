@@ -1,8 +1,10 @@
 use Rattle.std.proofs.Common.{◌≡◌, ◌<◌, ◌∙◌, sym, ap, subst, length, arith}
+use Rattle.std.proofs.lemmas.List.{length-map}
 use Rattle.n2k_table.specs.Table.{kind}
 use Rattle.n2k_join.specs.Counts.{most_lines}
 use Rattle.n2k_join.specs.declared.step.Step.{Step}
 use Rattle.n2k_join.specs.State.{State, step_given, step_after, IsState}
+use Rattle.n2k_join.specs.Inner.Slots.{group_at, groups_in}
 use Rattle.n2k_join.specs.Inner.Told.{packet_in, told_message}
 use Rattle.n2k_join.proofs.Keeping.{step-keeps}
 use Rattle.n2k_join.proofs.LineLemmas.{line-steps, line-reached}
@@ -10,27 +12,27 @@ use Rattle.n2k_join.proofs.join.Join.take.Goals as goal
 
 pub invariant_of-self-2 : goal.invariant_of-self-2
 invariant_of-self-2 c =
-    let s : State = record { id = c.self.inside.id; counts = c.self.inside.counts; groups = c.self.inside.groups.items } in
+    let s : State = record { id = c.self.inside.id; counts = c.self.inside.counts; groups = groups_in c.self.inside.groups.entries } in
     let below : s.counts.lines < most_lines = omega (arith, c.self.invariant.counted.lines, c.if-self-eq-MOST_LINES.false) in
     let o = c.in_ok-outcome.outcome in
     let step : Step = record { message = told_message o (packet_in c.args.entry.now) c.take_entry.new.joined; bad = o.bad; broken = o.broken } in
-    let held : c.len.result ≡ length c.take_entry.new.groups.items = omega (arith, c.len.ensures) in
+    let held : c.len.result ≡ length (groups_in c.take_entry.new.groups.entries) = c.len.ensures.len ∙ sym (length-map c.take_entry.new.groups.entries group_at) in
     let gives = c.in_ok-outcome.ensures in
-    let reached = line-reached (kind c.args.table.now) s c.args.entry.now step o.is_unknown c.len.result c.take_entry.new.groups.items c.counted-self-inside.result c.self.invariant.groups gives.given gives.unknown gives.groups held (rw c.is_message-is_message.ensures at c.counted-self-inside.ensures) in
+    let reached = line-reached (kind c.args.table.now) s c.args.entry.now step o.is_unknown c.len.result (groups_in c.take_entry.new.groups.entries) c.counted-self-inside.result c.self.invariant.groups gives.given gives.unknown gives.groups held (rw c.is_message-is_message.ensures at c.counted-self-inside.ensures) in
     subst IsState (sym reached) (step-keeps (kind c.args.table.now) s c.args.entry.now c.self.invariant (c.know_entry.ensures c.requires.short) below)
 
 pub returns-clause-given : goal.returns-clause-given
 returns-clause-given c =
-    let s : State = record { id = c.self.inside.id; counts = c.self.inside.counts; groups = c.self.inside.groups.items } in
+    let s : State = record { id = c.self.inside.id; counts = c.self.inside.counts; groups = groups_in c.self.inside.groups.entries } in
     c.in_ok-outcome.ensures.given ∙ sym (line-steps (kind c.args.table.now) s c.args.entry.now c.self.invariant.groups).given
     ∙ ap (λ t. step_given (kind c.args.table.now) t c.args.entry.now) c.self.view_is
 
 pub returns-clause-after : goal.returns-clause-after
 returns-clause-after c =
-    let s : State = record { id = c.self.inside.id; counts = c.self.inside.counts; groups = c.self.inside.groups.items } in
+    let s : State = record { id = c.self.inside.id; counts = c.self.inside.counts; groups = groups_in c.self.inside.groups.entries } in
     let o = c.in_ok-outcome.outcome in
     let step : Step = record { message = told_message o (packet_in c.args.entry.now) c.take_entry.new.joined; bad = o.bad; broken = o.broken } in
-    let held : c.len.result ≡ length c.take_entry.new.groups.items = omega (arith, c.len.ensures) in
+    let held : c.len.result ≡ length (groups_in c.take_entry.new.groups.entries) = c.len.ensures.len ∙ sym (length-map c.take_entry.new.groups.entries group_at) in
     let gives = c.in_ok-outcome.ensures in
-    let reached = line-reached (kind c.args.table.now) s c.args.entry.now step o.is_unknown c.len.result c.take_entry.new.groups.items c.counted-self-inside.result c.self.invariant.groups gives.given gives.unknown gives.groups held (rw c.is_message-is_message.ensures at c.counted-self-inside.ensures) in
+    let reached = line-reached (kind c.args.table.now) s c.args.entry.now step o.is_unknown c.len.result (groups_in c.take_entry.new.groups.entries) c.counted-self-inside.result c.self.invariant.groups gives.given gives.unknown gives.groups held (rw c.is_message-is_message.ensures at c.counted-self-inside.ensures) in
     reached ∙ ap (λ t. step_after (kind c.args.table.now) t c.args.entry.now) c.self.view_is
