@@ -3,7 +3,7 @@ use Rattle.std.proofs.Common.{◌≡◌, ◌+◌, ◌*◌, ◌-◌, ◌/◌, ◌
 use Rattle.std.specs.List.{range_with_len}
 use Rattle.std.proofs.Math.Nat.{div-div-eq-div-mul, mul_left_comm, le-div_iff_mul-le, suc-mul}
 use Rattle.n2k_table.specs.Field.{FieldParts}
-use Rattle.n2k_table.specs.Repeat.{set_bytes}
+use Rattle.n2k_table.specs.Repeat.{RepeatParts, set_bytes}
 
 -- as many sets by bits as by bytes
 pub count_by_bytes : (n f s : ℕ) → (8 * n - 8 * f) / (8 * s) ≡ (n - f) / s
