@@ -3,7 +3,7 @@ use Rattle.std.proofs.Common.{◌≡◌, drop, map}
 use Rattle.std.specs.List.{list_any}
 use Rattle.std.specs.Str.{bytes_eq}
 use Rattle.n2k_table.specs.Field.{FieldParts}
-use Rattle.n2k_table.proofs.definition.is_named.Given as goal
+use Rattle.n2k_table.proofs.fields.is_named.Given as goal
 
 abbrev pub invariant-loop-field : goal.invariant-loop-field
 invariant-loop-field l =

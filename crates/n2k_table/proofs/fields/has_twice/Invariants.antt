@@ -3,7 +3,7 @@ use Rattle.std.proofs.Common.{◌≡◌, length, map}
 use Rattle.std.specs.Str.{bytes_eq}
 use Rattle.n2k_table.specs.Field.{FieldParts}
 use Rattle.n2k_table.specs.Twice.{has_twice}
-use Rattle.n2k_table.proofs.definition.has_twice.Given as goal
+use Rattle.n2k_table.proofs.fields.has_twice.Given as goal
 
 abbrev pub invariant-loop-field : goal.invariant-loop-field
 invariant-loop-field l = has_twice bytes_eq (map (λ (f : FieldParts). f.name) l.rest) ≡ has_twice bytes_eq (map (λ (f : FieldParts). f.name) l.fields)
