@@ -49,7 +49,7 @@ class BadInput(Exception):
 
 
 class LeftOut(Exception):
-    """Why a field or a message is left out of the table."""
+    """Why a field or a message is left out of the table, and of a message the field that is the cause."""
 
 
 KINDS = {"a whole number": (int,), "a number": (int, decimal.Decimal), "a text": (str,), "true or false": (bool,),
@@ -135,16 +135,16 @@ class Table:
 
 # ---- The file ----
 
-def load(path):
+def parse(text):
+    """What the file's bytes hold; numbers with a dot are decimals, so that none is rounded."""
     def refuse(name):
         raise BadInput(f"this is not JSON: it has the number {name}")
 
-    with open(path, "rb") as file:
-        text = file.read()
     try:
         return json.loads(text, parse_float=decimal.Decimal, parse_constant=refuse)
     except (ValueError, RecursionError, decimal.InvalidOperation) as error:
-        raise BadInput(f"this is not JSON: {str(error) or 'a number is out of range'}") from None
+        why = "a number is out of range" if isinstance(error, decimal.InvalidOperation) else error
+        raise BadInput(f"this is not JSON: {why}") from None
 
 
 def read_field(field, lookups):
@@ -215,11 +215,11 @@ def resolution_text(number):
     exponent += len(digits) - len(shorter)
     whole = len(shorter) + max(exponent, 0) if exponent >= 0 else 0
     if sign or not shorter or exponent < -18 or whole > 10 or len(shorter) > 10:
-        raise LeftOut("of a resolution that a table can't say")
+        raise LeftOut("with a resolution that a table can't say")
     decimals = max(-exponent, 0)
     mantissa = shorter + "0" * max(exponent, 0)
     if int(mantissa) > GREATEST_MANTISSA:
-        raise LeftOut("of a resolution that a table can't say")
+        raise LeftOut("with a resolution that a table can't say")
     mantissa = mantissa.rjust(decimals + 1, "0")
     return mantissa[:len(mantissa) - decimals] + ("." + mantissa[-decimals:] if decimals else "")
 
@@ -229,7 +229,7 @@ def match_of(given):
     count = 1 << given.bits
     least = -(count >> 1) if given.signed else 0
     if not least <= given.match < least + count or given.match % count > GREATEST_MATCH:
-        raise LeftOut("of a match that a table can't say")
+        raise LeftOut("with a match that a table can't say")
     return given.match % count
 
 
@@ -238,7 +238,7 @@ def kind_of(given, lookups):
     whole = given.at % 8 == 0 and given.bits % 8 == 0
     if given.kind == "LOOKUP":
         if given.bits > 32 or lookups[given.lookup] is None:
-            return "number", "since the lookup is one that a table can't say"
+            return "number", "since a table can't say the lookup"
         return "lookup", None
     if given.kind == "STRING_FIX":
         if not whole:
@@ -256,11 +256,11 @@ def check_field(given):
     if given.kind in KEYED:
         raise LeftOut("as a part of a key and its value")
     if given.offset != 0:
-        raise LeftOut("of an offset")
+        raise LeftOut("with an offset")
     if given.at + given.bits > LONGEST_MESSAGE:
         raise LeftOut("past the longest message")
     if not is_text(given.name):
-        raise LeftOut("of a name that a table can't say")
+        raise LeftOut("with a name that a table can't say")
 
 
 def field_of(given, start, lookups):
@@ -273,14 +273,14 @@ def field_of(given, start, lookups):
             raise LeftOut("of more than 64 bits")
         if given.kind in NUMBERS:
             if given.signed and given.bits < 2:
-                raise LeftOut("of one bit with a sign")
+                raise LeftOut("with one bit and a sign")
             resolution = resolution_text(given.resolution)
             field |= ({"signed": True} if given.signed else {}) | ({"resolution": resolution} if resolution != "1" else {})
     if kind == "lookup":
         field["lookup"] = given.lookup
     if given.match is not None:
         if kind == "text":
-            raise LeftOut("of a match that a table can't say")
+            raise LeftOut("with a match that a table can't say")
         field["match"] = match_of(given)
     return field | {"unit": given.unit}, note
 
@@ -347,10 +347,10 @@ class Maker:
                 said, note = field_of(field, start, self.lookups)
                 said["name"] = free_name(field.name, used, names)
                 if not is_text(said["name"]):
-                    raise LeftOut("of a name that a table can't say")
+                    raise LeftOut("with a name that a table can't say")
             except LeftOut as why:
                 if field.match is not None:
-                    raise LeftOut(f"since the match of {quoted(field.name)} can't be said") from None
+                    raise LeftOut("with a match that a table can't say", field.name) from None
                 notes[f"Left out, {why}"].append(field.name)
                 continue
             used.add(said["name"])
@@ -362,12 +362,12 @@ class Maker:
     def message(self, number, description, packet, given, repeat, is_last):
         notes = collections.defaultdict(list)
         if number > GREATEST_PGN or not is_text(description):
-            raise LeftOut("since its number or description can't be said")
+            raise LeftOut("with a number or description that a table can't say")
         kind = PACKETS[packet]
         if kind is None:
-            raise LeftOut("since it is sent as single frames and as fast packets")
+            raise LeftOut("sent as single frames and as fast packets")
         if self.packets.get(number, kind) != kind:
-            raise LeftOut("since the PGN's first message is sent otherwise")
+            raise LeftOut("sent otherwise than the PGN's first message")
         causes = causes_of(given, repeat, is_last)
         has_set = bool(repeat) and causes[repeat.start] is None
         own = slice(0, repeat.start if has_set else None)
@@ -376,8 +376,9 @@ class Maker:
         said = None
         if has_set:
             repeated = given[repeat.start:]
-            if any(field.match is not None for field in repeated):
-                raise LeftOut("since a match in a set that repeats can't be said")
+            for field in repeated:
+                if field.match is not None:
+                    raise LeftOut("with a match that a table can't say", field.name)
             at, bits = place_of(repeated)
             said = {"at": at, "bits": bits,
                     "fields": self.say_fields(repeated, causes[repeat.start:], at, set(), notes)}
@@ -394,13 +395,14 @@ class Maker:
         given = [read_field(field, self.lookups) for field in pgn.objects("Fields", [])]
         repeat, is_last = set_of(pgn, len(given))
         if pgn.ask("Fallback", "true or false", False):
-            self.counts["messages left out, since they stand for a range (Fallback)"] += 1
+            self.counts["messages left out, as they stand for a range (Fallback)"] += 1
             return number, None
         try:
             message = self.message(number, description, packet, given, repeat, is_last)
         except LeftOut as why:
-            self.counts[f"messages left out, {why}"] += 1
-            return number, f"{number} {quoted(description)} is left out, {why}."
+            self.counts[f"messages left out, {why.args[0]}"] += 1
+            field = f" (its field {quoted(why.args[1])})" if why.args[1:] else ""
+            return number, f"Left out, {why.args[0]}: {number} {quoted(description)}{field}."
         for note, names in message.notes.items():
             self.counts[f"fields {note[0].lower()}{note[1:]}"] += len(names)
         return number, message
@@ -529,7 +531,8 @@ def main():
     words.add_argument("file", metavar="canboat.json")
     asked = words.parse_args()
     try:
-        value = load(asked.file)
+        with open(asked.file, "rb") as file:
+            value = parse(file.read())
         table = table_of(value)
         text = table_text(value, table)
     except OSError as error:
