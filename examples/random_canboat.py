@@ -20,7 +20,7 @@ import tomllib
 import table_faults
 
 sys.path.insert(0, os.path.join(os.path.dirname(os.path.abspath(__file__)), "..", "tables"))
-import from_canboat  # noqa: E402
+import from_canboat
 
 KINDS = ["NUMBER"] * 40 + ["LOOKUP"] * 16 + ["RESERVED"] * 8 + sorted(from_canboat.KNOWN)
 SIZES = [1, 2, 3, 4, 5, 6, 7, 11, 12, 19, 21, 30, 33, 40, 63, 65, 72, 288, 800, 1784, 1785, 5000]

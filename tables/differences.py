@@ -1,6 +1,7 @@
 """Where two tables differ, message by message. from_canboat.py --compare prints it."""
 import collections
 import decimal
+import json
 import os
 import tomllib
 
@@ -27,7 +28,7 @@ class Differences:
         return lines
 
     def message_lines(self, number, first, second):
-        title = f'{number} "{(first or second)["description"]}"'
+        title = f"{number} {quoted((first or second)['description'])}"
         if first is None or second is None:
             self.counts[name := self.names[first is None]] += 1
             return [f"{title}: only in {name}"]
@@ -47,10 +48,10 @@ class Differences:
         for one, other in pairs_of(first, second, FIELD_KEYS):
             if one is None or other is None:
                 field = one or other
-                lines.append(f'  {place}"{field["name"]}" at {field["at"]}, bits {field["bits"]}: '
+                lines.append(f"  {place}{quoted(field['name'])} at {field['at']}, bits {field['bits']}: "
                              f"only in {self.names[one is None]}")
                 continue
-            of = f'{place}"{one["name"]}": '
+            of = f"{place}{quoted(one['name'])}: "
             lines += self.value_lines(of, one, other, ("name", "kind", "at", "bits", "signed", "resolution", "match"))
             if "lookup" in one and "lookup" in other:
                 lines += self.lookup_lines(title, of, one["lookup"], other["lookup"])
@@ -68,14 +69,16 @@ class Differences:
         if (first, second) in self.seen:
             return [f"  {of}values as in {self.seen[first, second]}"]
         self.seen[first, second] = title
-        lines = []
-        for value in sorted(ones.keys() | others.keys()):
-            if value in ones and value in others and ones[value] != others[value]:
-                lines.append(f'  {of}value {value} "{ones[value]}", in {self.names[1]} "{others[value]}"')
-            elif (value in ones) != (value in others):
-                side = value in others
-                lines.append(f'  {of}value {value} "{(ones, others)[side][value]}": only in {self.names[side]}')
+        lines = [f"  {of}value {value} {quoted(ones[value])}, in {self.names[1]} {quoted(others[value])}"
+                 for value in sorted(ones.keys() & others.keys()) if ones[value] != others[value]]
+        for name, here, there in zip(self.names, (ones, others), (others, ones)):
+            alone = [f"{value} {quoted(here[value])}" for value in sorted(here.keys() - there.keys())]
+            lines += [f"  {of}values only in {name}: {', '.join(alone)}"] if alone else []
         return lines
+
+
+def quoted(text):
+    return json.dumps(text, ensure_ascii=False)
 
 
 def meant(holder, key):
@@ -87,7 +90,7 @@ def meant(holder, key):
 
 def shown(holder, key):
     value = holder.get(key, {"signed": False, "resolution": "1"}.get(key, "none"))
-    return f'"{value}"' if key in ("name", "description") else str(value).lower()
+    return quoted(value) if key in ("name", "description") else str(value).lower()
 
 
 def matches(message):
