@@ -4,9 +4,9 @@
     examples/random_canboat.py PROGRAM FIRST LAST
 
 One file for each seed from FIRST to LAST. Each table has to read without a fault, by table_faults.py and by PROGRAM (by
-the first alone, and a line says so, where PROGRAM reads no format 2), and its text has to read back as the table that it
-was made of. Of each file two damaged copies are converted too: each gets an error in words, or a table without a fault.
-The last line is `N tables, M of damaged files, K faults` (Python 3.11 or newer).
+the first alone, and a line says so, where PROGRAM reads no format 2), and its text has to read back as the table that
+it was made of. Of each file two damaged copies are converted too: each gets an error in words, or a table without a
+fault. The last line is `N tables, M of damaged files, K faults` (Python 3.11 or newer).
 """
 import copy
 import json
@@ -27,8 +27,9 @@ SIZES = [1, 2, 3, 4, 5, 6, 7, 11, 12, 19, 21, 30, 33, 40, 63, 65, 72, 288, 800, 
 WORDS = ["SID", "Value", "Value 2", "list", "Status", "Zone", "", "é", "日本", "a\"b", "a\\b", "two\nlines", "\0", "\x7f",
          "x" * 255, "x" * 256, "é" * 127, "# not a comment", "'''", '"""', "]", "\t", "\u2028", "a" * 254]
 UNITS = ["m", "m/s", "deg", "%", "two\nlines", "\x1b", "\\", '"', "µ", "# x", "\r"]
-NUMBERS = [1] * 20 + [0.1] * 10 + [0.01] * 10 + [0.1, 0.01, 1e-07, 3.125e-08, 2.0**-21, 2.0**-32, 100, 1e-18, 1e-19, 1e300, 1e-300, 0, 0.0, -1, -0.5,
-           4294967295, 4294967296, 4294967295e-18, 4294967296e-18, 10**10, 9999999999, 1e9, 42949672.95, 12.5, 1e22]
+NUMBERS = [1] * 20 + [0.1] * 10 + [0.01] * 10 + [
+    1e-07, 3.125e-08, 2.0**-21, 2.0**-32, 100, 1e-18, 1e-19, 1e300, 1e-300, 0, 0.0, -1, -0.5, 4294967295, 4294967296,
+    4294967295e-18, 4294967296e-18, 10**10, 9999999999, 1e9, 42949672.95, 12.5, 1e22]
 
 
 def text(rng):
@@ -93,7 +94,8 @@ def message(rng, lookups):
     if fields and rng.random() < 0.4:
         start = rng.randint(1, len(fields))
         made["RepeatingFieldSet1StartField"] = start
-        made["RepeatingFieldSet1Size"] = rng.choice([len(fields) - start + 1, 1, 0, rng.randint(1, len(fields) - start + 1)])
+        rest = len(fields) - start + 1
+        made["RepeatingFieldSet1Size"] = rng.choice([rest, 1, 0, rng.randint(1, rest)])
         if rng.random() < 0.1:
             made["RepeatingFieldSet2Size"] = rng.randint(0, 1)
     if fields or rng.random() < 0.5:
@@ -107,8 +109,8 @@ def lookup(rng, name):
     if rng.random() < 0.01:
         values = range(rng.choice([4096, 4097]))
     names = ["Unavailable", "Not available", "Unknown", "Null", "On", "Off"]
-    return {"Name": name, "MaxValue": 3,
-            "EnumValues": [{"Name": rng.choice(names) if rng.random() < 0.7 else text(rng), "Value": value} for value in values]}
+    entries = [{"Name": rng.choice(names) if rng.random() < 0.7 else text(rng), "Value": value} for value in values]
+    return {"Name": name, "MaxValue": 3, "EnumValues": entries}
 
 
 def database(rng):
@@ -144,13 +146,14 @@ class Judge:
 
     def program_says(self):
         """What is wrong with the table by the program, or nothing."""
-        done = subprocess.run([self.program, "decode", "--table", self.path, "/dev/null"], capture_output=True, text=True)
-        if (done.returncode, done.stdout, done.stderr) == (0, "", "lines 0 messages 0 bad 0 unknown 0 broken 0 open 0\n"):
+        words = [self.program, "decode", "--table", self.path, "/dev/null"]
+        done = subprocess.run(words, capture_output=True, text=True)
+        if done.returncode == 0 and done.stderr == "lines 0 messages 0 bad 0 unknown 0 broken 0 open 0\n":
             return ""
         return f"status {done.returncode}: {done.stderr}"
 
     def table(self, name, made):
-        """Whether this is a table without a fault; each fault is told."""
+        """Tells each fault of a table."""
         faults = sorted(table_faults.faults(made.encode()))
         if self.reads_2:
             with open(self.path, "w", encoding="utf-8", newline="") as file:
@@ -172,17 +175,18 @@ def convert(text):
 
 def is_same(table, made):
     """Whether the text reads back as the table that it was made of."""
-    read = tomllib.loads(made)
-    lookups = {lookup["name"]: dict(lookup["entries"]) for lookup in read.get("lookup", [])}
-    messages = [(message["number"], message["kind"], message["description"], message["fields"], message.get("repeat"))
-                for message in read.get("pgn", [])]
-
     def bare(fields):
         return [{key: value for key, value in field.items() if key != "unit"} for field in fields]
 
-    return lookups == table.lookups and messages == [
-        (message.number, message.kind, message.description, bare(message.fields),
-         message.repeat and message.repeat | {"fields": bare(message.repeat["fields"])}) for message in table.messages()]
+    messages = []
+    for message in table.messages():
+        messages.append({"number": message.number, "kind": message.kind, "description": message.description,
+                         "fields": bare(message.fields)})
+        if message.repeat:
+            messages[-1]["repeat"] = message.repeat | {"fields": bare(message.repeat["fields"])}
+    read = tomllib.loads(made)
+    lookups = {lookup["name"]: dict(lookup["entries"]) for lookup in read.get("lookup", [])}
+    return lookups == table.lookups and messages == read.get("pgn", [])
 
 
 def main(program, first, last):

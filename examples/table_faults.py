@@ -16,7 +16,8 @@ FIELD_KEYS = {
     "text": ({"name", "kind", "at", "bits"}, set()),
     "bytes": ({"name", "kind", "at", "bits"}, set()),
 }
-TYPES = {"name": str, "kind": str, "at": int, "bits": int, "signed": bool, "resolution": str, "match": int, "lookup": str}
+TYPES = {"name": str, "kind": str, "at": int, "bits": int, "signed": bool, "resolution": str, "match": int,
+         "lookup": str}
 BITS = {"number": (1, 64), "lookup": (1, 32), "text": (8, 1784), "bytes": (8, 1784)}
 
 

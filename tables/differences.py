@@ -97,8 +97,13 @@ def matches(message):
     return sorted((field["at"], field["bits"], field["match"]) for field in message["fields"] if "match" in field)
 
 
-MESSAGE_KEYS = (lambda message: (matches(message), message["description"]), matches, lambda message: message["description"])
-FIELD_KEYS = (lambda field: (field["name"], field["at"]), lambda field: field["name"], lambda field: field["at"])
+def of(*keys):
+    return lambda holder: [holder[key] for key in keys]
+
+
+# What messages of one PGN, and fields of one message, have in common in both tables: the first that is found counts.
+MESSAGE_KEYS = (lambda message: (matches(message), message["description"]), matches, of("description"))
+FIELD_KEYS = (of("name", "at"), of("name"), of("at"))
 
 
 def pairs_of(first, second, keys):

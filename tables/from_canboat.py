@@ -21,6 +21,7 @@ import differences
 
 LONGEST_TEXT = 255  # bytes
 LONGEST_MESSAGE = 1784  # bits
+MOST_DECIMALS = 18
 MOST_DEFINITIONS, MOST_FIELDS, MOST_LOOKUPS, MOST_ENTRIES = 4096, 256, 1024, 4096
 GREATEST_PGN, GREATEST_VALUE, GREATEST_MANTISSA, GREATEST_MATCH = 2**24 - 1, 2**32 - 1, 2**32 - 1, 2**63 - 1
 LONGEST_FILE = 16777216  # bytes
@@ -157,7 +158,7 @@ def read_field(field, lookups):
     if kind == "LOOKUP" and lookup not in lookups:
         raise BadInput(f"{field.place}: LookupEnumerations has no {quoted(lookup or '')}")
     varies = field.ask("BitLengthVariable", "true or false", False) or kind in VARYING
-    bits = field.count("BitLength", 0 if varies else REQUIRED)
+    bits = field.count("BitLength", 0 if varies or kind in KEYED else REQUIRED)
     return Given(
         name, kind, field.count("BitOffset", None), bits, varies or bits == 0,
         sometimes=field.ask("Condition", "a text", None) is not None,
@@ -209,19 +210,12 @@ def is_text(text):
 
 def resolution_text(number):
     """The exact decimals of a resolution, without zeros at the end."""
-    sign, digits, exponent = number.as_tuple()
-    digits = "".join(map(str, digits)).lstrip("0")
-    shorter = digits.rstrip("0")
-    exponent += len(digits) - len(shorter)
-    whole = len(shorter) + max(exponent, 0) if exponent >= 0 else 0
-    if sign or not shorter or exponent < -18 or whole > 10 or len(shorter) > 10:
-        raise LeftOut("with a resolution that a table can't say")
-    decimals = max(-exponent, 0)
-    mantissa = shorter + "0" * max(exponent, 0)
-    if int(mantissa) > GREATEST_MANTISSA:
-        raise LeftOut("with a resolution that a table can't say")
-    mantissa = mantissa.rjust(decimals + 1, "0")
-    return mantissa[:len(mantissa) - decimals] + ("." + mantissa[-decimals:] if decimals else "")
+    if 0 < number < 10**10 and number.adjusted() >= -MOST_DECIMALS:
+        whole, _, decimals = f"{number:f}".partition(".")
+        decimals = decimals.rstrip("0")
+        if len(decimals) <= MOST_DECIMALS and int(whole + decimals) <= GREATEST_MANTISSA:
+            return f"{whole}.{decimals}" if decimals else whole
+    raise LeftOut("with a resolution that a table can't say")
 
 
 def match_of(given):
@@ -274,8 +268,10 @@ def field_of(given, start, lookups):
         if given.kind in NUMBERS:
             if given.signed and given.bits < 2:
                 raise LeftOut("with one bit and a sign")
-            resolution = resolution_text(given.resolution)
-            field |= ({"signed": True} if given.signed else {}) | ({"resolution": resolution} if resolution != "1" else {})
+            if given.signed:
+                field["signed"] = True
+            if (resolution := resolution_text(given.resolution)) != "1":
+                field["resolution"] = resolution
     if kind == "lookup":
         field["lookup"] = given.lookup
     if given.match is not None:
@@ -336,7 +332,7 @@ class Maker:
         self.packets = {}  # the kind of each PGN
 
     def say_fields(self, given, causes, start, used, notes):
-        """The fields that a table can say, and in `notes` what it can't. A match that it can't say takes the message."""
+        """The fields that a table can say, and in `notes` what it can't; with a match that it can't say no message."""
         fields, names = [], {field.name for field in given}
         for field, cause in zip(given, causes):
             if field.kind in UNNAMED and field.match is None:
@@ -419,7 +415,8 @@ def named_lookups(lookups, messages, counts):
     for name, entries in lookups.items():
         if name in lengths:
             # The greatest value of one bit is never absent.
-            none = {value for bits in lengths[name] if bits >= 2 and entries.get(value := (1 << bits) - 1, "").lower() in NONE}
+            greatest = {(1 << bits) - 1 for bits in lengths[name] if bits >= 2}
+            none = {value for value in greatest if entries.get(value, "").lower() in NONE}
             counts["names of values left out, since they say that there is none"] += len(none)
             named[name] = {value: said for value, said in entries.items() if value not in none}
     return named
@@ -427,7 +424,7 @@ def named_lookups(lookups, messages, counts):
 
 def table_of(value):
     """The table of what the file holds."""
-    if not isinstance(value, dict) or not all(isinstance(value.get(name), list) for name in ("PGNs", "LookupEnumerations")):
+    if not isinstance(value, dict) or not {"PGNs", "LookupEnumerations"} <= value.keys():
         raise BadInput("this is not canboat.json of version 4 to 6: it has no PGNs or no LookupEnumerations")
     top = Object(value, "canboat.json")
     counts = collections.Counter()
@@ -451,12 +448,12 @@ def table_of(value):
 
 # ---- The table as a text ----
 
-ESCAPES = {'"': '\\"', "\\": "\\\\"}
+ESCAPES = {chr(code): f"\\u{code:04X}" for code in (*range(32), 127)} | {'"': '\\"', "\\": "\\\\"}
 
 
 def quoted(text):
     """A text of TOML."""
-    return '"' + "".join(ESCAPES.get(c, f"\\u{ord(c):04X}" if ord(c) < 32 or ord(c) == 127 else c) for c in text) + '"'
+    return '"' + "".join(ESCAPES.get(letter, letter) for letter in text) + '"'
 
 
 def comment(text):
@@ -479,7 +476,9 @@ def fields_lines(fields):
 
 
 def message_lines(message):
-    lines = [line for note, names in message.notes.items() for line in comment(f"{note}: {', '.join(map(quoted, names))}.")]
+    lines = []
+    for note, names in message.notes.items():
+        lines += comment(f"{note}: {', '.join(map(quoted, names))}.")
     lines += ["[[pgn]]", f"number = {message.number}", f'kind = "{message.kind}"',
               f"description = {quoted(message.description)}", *fields_lines(message.fields)]
     if message.repeat:
@@ -498,8 +497,9 @@ def lookup_lines(name, names):
 def head(value):
     """What the file says of itself, as comments."""
     top = Object(value, "canboat.json")
-    lines = comment("canboat's PGN database, made a table by tables/from_canboat.py. A unit stands behind each field that "
-                    "has one. Where the greatest value of a lookup only says that there is none, it has no name here.")
+    lines = comment("canboat's PGN database, made a table by tables/from_canboat.py. A unit stands behind each field "
+                    "that has one. Where the greatest value of a lookup only says that there is none, it has no name "
+                    "here.")
     for name in ("Version", "License", "Copyright"):
         for line in top.ask(name, "a text", "").split("\n"):
             if line.strip():
