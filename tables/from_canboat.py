@@ -525,29 +525,37 @@ def summary(table):
     return lines + [f"{cause}: {count}" for cause, count in sorted(table.counts.items()) if count]
 
 
+def made_of(path, compared):
+    """The text that is asked for, and the summary of the table."""
+    try:
+        with open(path, "rb") as file:
+            value = parse(file.read())
+        table = table_of(value)
+        text = table_text(value, table)
+    except BadInput as error:
+        raise BadInput(f"{path}: {error}") from None
+    return differences.text(text, path, compared) if compared else text, summary(table)
+
+
+def write(text):
+    """Text on standard output, without a buffer that would try again at the end."""
+    rest = text.encode()
+    with open(sys.stdout.fileno(), "wb", buffering=0, closefd=False) as output:
+        while rest:
+            rest = rest[output.write(rest):]
+
+
 def main():
     words = argparse.ArgumentParser(description=__doc__, formatter_class=argparse.RawDescriptionHelpFormatter)
     words.add_argument("--compare", metavar="TABLE")
     words.add_argument("file", metavar="canboat.json")
     asked = words.parse_args()
     try:
-        with open(asked.file, "rb") as file:
-            value = parse(file.read())
-        table = table_of(value)
-        text = table_text(value, table)
-    except OSError as error:
+        text, said = made_of(asked.file, asked.compare)
+        write(text)
+    except (BadInput, differences.NoTable, OSError) as error:
         sys.exit(f"from_canboat: {error}")
-    except BadInput as error:
-        sys.exit(f"from_canboat: {asked.file}: {error}")
-    if asked.compare:
-        try:
-            text = differences.text(text, asked.file, asked.compare)
-        except (OSError, differences.NoTable) as error:
-            sys.exit(f"from_canboat: {error}")
-    # Nothing is written before all is made.
-    sys.stdout.buffer.write(text.encode())
-    sys.stdout.flush()
-    print("\n".join(summary(table)), file=sys.stderr)
+    print("\n".join(said), file=sys.stderr)
 
 
 if __name__ == "__main__":
