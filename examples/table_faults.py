@@ -148,7 +148,7 @@ def fields_faults(fields, end, may_match, lookups):
 
 def field_faults(field, end, may_match, lookups):
     kind = field.get("kind")
-    if kind not in FIELD_KEYS:
+    if not isinstance(kind, str) or kind not in FIELD_KEYS:
         yield "Text" if isinstance(kind, str) else "Key"
         return
     required, optional = FIELD_KEYS[kind]

@@ -501,7 +501,8 @@ def head(value):
                     "that has one. Where the greatest value of a lookup only says that there is none, it has no name "
                     "here.")
     for name in ("Version", "License", "Copyright"):
-        for line in top.ask(name, "a text", "").split("\n"):
+        said = top.ask(name, "a text") if isinstance(value.get(name), str) else ""
+        for line in said.split("\n"):
             if line.strip():
                 lines += comment(f"{name}: {quoted(line.strip())[1:-1]}")
     return lines
