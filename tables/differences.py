@@ -58,6 +58,7 @@ class Differences:
         return lines
 
     def value_lines(self, of, first, second, keys):
+        """One line for each key that differs; `of` says what has the keys."""
         return [f"  {of}{key} {shown(first, key)}, in {self.names[1]} {shown(second, key)}"
                 for key in keys if meant(first, key) != meant(second, key)]
 
@@ -97,13 +98,14 @@ def matches(message):
     return sorted((field["at"], field["bits"], field["match"]) for field in message["fields"] if "match" in field)
 
 
-def of(*keys):
+def values(*keys):
+    """What gives the values of these keys."""
     return lambda holder: [holder[key] for key in keys]
 
 
 # What messages of one PGN, and fields of one message, have in common in both tables: the first that is found counts.
-MESSAGE_KEYS = (lambda message: (matches(message), message["description"]), matches, of("description"))
-FIELD_KEYS = (of("name", "at"), of("name"), of("at"))
+MESSAGE_KEYS = (lambda message: (matches(message), message["description"]), matches, values("description"))
+FIELD_KEYS = (values("name", "at"), values("name"), values("at"))
 
 
 def pairs_of(first, second, keys):
@@ -131,6 +133,8 @@ def text(first, first_name, second_name):
         except ValueError as error:
             raise NoTable(f"{second_name}: this is not TOML: {error}") from None
     names = [os.path.basename(first_name), os.path.basename(second_name)]
+    if names[0] == names[1]:
+        names = [first_name, second_name]
     try:
         found = Differences(tomllib.loads(first), second, names)
         lines = found.lines()
