@@ -3,9 +3,8 @@
 
     examples/random_canboat.py PROGRAM FIRST LAST
 
-One file for each seed from FIRST to LAST. Each table has to read without a fault, by table_faults.py and by PROGRAM (by
-the first alone, and a line says so, where PROGRAM reads no format 2), and its text has to read back as the table that
-it was made of. Of each file two damaged copies are converted too: each gets an error in words, or a table without a
+One file for each seed from FIRST to LAST. Each table has to read without a fault, by table_faults.py and by PROGRAM,
+and its text has to read back as the table that it was made of. Of each file two damaged copies are converted too: each gets an error in words, or a table without a
 fault. The last line is `N tables, M of damaged files, K faults` (Python 3.11 or newer).
 """
 import copy
@@ -139,9 +138,6 @@ def damage(rng, value):
 class Judge:
     def __init__(self, program, room):
         self.program, self.path = program, os.path.join(room, "table.toml")
-        with open(self.path, "w") as file:
-            file.write("format = 2\n")
-        self.reads_2 = self.program_says() == ""
         self.faults = 0
 
     def program_says(self):
@@ -155,10 +151,9 @@ class Judge:
     def table(self, name, made):
         """Tells each fault of a table."""
         faults = sorted(table_faults.faults(made.encode()))
-        if self.reads_2:
-            with open(self.path, "w", encoding="utf-8", newline="") as file:
-                file.write(made)
-            faults += filter(None, [self.program_says()])
+        with open(self.path, "w", encoding="utf-8", newline="") as file:
+            file.write(made)
+        faults += filter(None, [self.program_says()])
         for fault in faults:
             self.fault(name, fault)
 
@@ -208,8 +203,6 @@ def main(program, first, last):
                     continue
                 damaged += 1
                 judge.table(f"seed {seed}, damaged {part}", made)
-    if not judge.reads_2:
-        print("the program was not asked: it reads no format 2")
     print(f"{tables} tables, {damaged} of damaged files, {judge.faults} faults")
     sys.exit(judge.faults > 0)
 
