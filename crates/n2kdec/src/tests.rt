@@ -436,7 +436,7 @@ fn a_refused_table_reads_no_log(rt: HostRuntime) -> Result<(), Fail> {
         MemorySink::new(alloc, 100, 0),
         MemorySink::new(alloc, 100, 0),
     );
-    let status = decode_alone(alloc, b"format = 2", &mut log, &mut output, &mut errors);
+    let status = decode_alone(alloc, b"format = 3", &mut log, &mut output, &mut errors);
     assert_eq!(rt; status, Err(Fault::Table(TableFault::Format)));
     assert_eq!(rt; output.bytes(), b"".as_slice());
     assert_eq!(rt; errors.bytes(), b"".as_slice());
