@@ -43,8 +43,8 @@ pub data Meaning : Type 0 where
   text : Meaning
   bytes : Meaning
 
--- a field: its name, its first bit in the message or in its set, how many bits it has, what they mean, and the raw value that a message must
--- have there for the definition to be chosen, if it asks for one
+-- a field: its name, its first bit in the message or in its set, how many bits it has, what they mean, and the raw
+-- value that a message must have there for the definition to be chosen, if it asks for one
 pub record FieldParts : Type 0 where
   pub name : List ℕ
   pub at : ℕ
