@@ -1,5 +1,5 @@
 -- The open groups in a map by key: what its entries are after a frame.
-use Rattle.std.proofs.Common.{◌≡◌, ◌≤◌, ◌<◌, ◌+◌, ◌-◌, ℕ, zero, suc, Bool, true, false, cond, not, List, [], ◌∷◌, ◌++◌, length, map, get_or, take, drop, set, slice_get, nat_lt, refl, sym, ap, ◌∙◌, subst, arith, Option, Some, None, IfSome, option_to_list}
+use Rattle.std.proofs.Common.{◌≡◌, ◌<◌, ◌+◌, ◌-◌, ℕ, zero, suc, Bool, true, false, cond, not, List, [], ◌∷◌, ◌++◌, length, get_or, take, drop, set, slice_get, nat_lt, refl, sym, ap, ◌∙◌, subst, arith, Option, Some, None, IfSome, option_to_list}
 use Rattle.std.specs.Prelude.{position, remove, insert, is_some}
 use Rattle.std.specs.Option.{option_map_or}
 use Rattle.std.specs.Map.{keys_of, values_of}

@@ -1,7 +1,6 @@
 -- The text of a state, as its parts are written one after the other.
-use Rattle.std.proofs.Common.{◌≡◌, ℕ, ◌+◌, List, [], ◌∷◌, ◌++◌, Option, Some, None, option_map, option_to_list, filter_map, flat_map, refl, sym, ap, ◌∙◌, append_assoc, append-nil, zero-add, codes, take, length, get_or, ◌<◌}
+use Rattle.std.proofs.Common.{◌≡◌, ℕ, ◌+◌, List, [], ◌∷◌, ◌++◌, Option, Some, None, option_to_list, filter_map, flat_map, refl, sym, ap, ◌∙◌, append_assoc, append-nil, zero-add, codes}
 use Rattle.std.proofs.lemmas.Grind.{flat_map-append}
-use Rattle.std.proofs.lemmas.List.{take_more}
 use Rattle.std.specs.List.{range_with_len}
 use Rattle.json.specs.Print.{print}
 use Rattle.json.specs.Token.{Token}
@@ -10,14 +9,12 @@ use Rattle.n2k_join.specs.declared.counts.Counts.{Counts}
 use Rattle.n2k_join.specs.declared.piece.FrameKey.{FrameKey}
 use Rattle.n2k_join.specs.declared.piece.OpenGroup.{OpenGroup}
 use Rattle.n2k_join.specs.Frames.{Key, most_frames}
-use Rattle.n2k_join.specs.Groups.{carried}
-use Rattle.n2k_join.specs.Open.{Piece, Group, piece_at, pieces_of}
+use Rattle.n2k_join.specs.Open.{Piece, Group, piece_at}
 use Rattle.n2k_join.specs.Saved.{piece_tree, group_tree, state_tree, state_text}
 use Rattle.n2k_join.specs.Inner.SavedTokens.{tokens_of, count_tokens, piece_tokens, pieces_tokens, frames_tokens, key_tokens, groups_tokens, open_tokens, front_tokens, lines_tokens, table_tokens, back_tokens}
-use Rattle.n2k_join.specs.State.{State, held_of}
-use Rattle.n2k_join.specs.Inner.Stored.{key_of}
+use Rattle.n2k_join.specs.State.{State}
 use Rattle.n2k_join.specs.Inner.Slots.{slot_of, pieces_in, group_in, group_at, groups_in}
-use Rattle.n2k_join.proofs.Rising.{range-push, filter_map-push, filter_map-range}
+use Rattle.n2k_join.proofs.Rising.{range-push, filter_map-push}
 use Rattle.n2k_join.proofs.SavedLists.{items_tokens-map, six_written}
 
 -- the pieces that a look-up finds below a number

@@ -1,12 +1,12 @@
 -- The slots of a group: what they carry is what the group's frames carry, and its mask tells whether it is complete.
-use Rattle.std.proofs.Common.{◌≡◌, ◌≢◌, ◌==◌, ◌≤◌, ◌<◌, ◌+◌, ◌-◌, ◌*◌, ◌/◌, ◌%◌, ◌^◌, ℕ, suc, zero, Bool, true, false, cond, not, ◌&&◌, nat_le, List, [], ◌∷◌, ◌++◌, map, reverse, length, get_or, set, w32, refl, sym, ap, ◌∙◌, subst, arith, Option, Some, None, option_map, filter_map, flat_map, take, drop, unwrap_or, bit_or, slice_index, slice_index_or}
+use Rattle.std.proofs.Common.{◌≡◌, ◌≢◌, ◌==◌, ◌≤◌, ◌<◌, ◌+◌, ◌-◌, ◌*◌, ◌/◌, ◌%◌, ◌^◌, ℕ, suc, zero, Bool, true, false, cond, not, ◌&&◌, nat_le, List, [], ◌∷◌, ◌++◌, map, length, get_or, set, w32, refl, sym, ap, ◌∙◌, subst, arith, Option, Some, None, option_map, flat_map, take, drop, unwrap_or, bit_or, slice_index, slice_index_or}
 use mathlib.Core.Path.{fun_ext}
 use mathlib.Core.Logic.{◌⊎◌, inl, inr}
 use Rattle.std.specs.Prelude.{is_some}
 use Rattle.std.specs.Int.{bit_at}
 use Rattle.std.specs.Option.{option_or}
 use Rattle.std.specs.List.{range_with_len, list_all, AllByRecursion}
-use Rattle.std.proofs.lemmas.Bool.{cases_lt, eqb-true, eq-eqb, ne_eqb, and_parts, and_from, le-leb, leb-true, false≢true}
+use Rattle.std.proofs.lemmas.Bool.{cases_lt, eqb-true, eq-eqb, and_parts, and_from, le-leb, leb-true, false≢true}
 use Rattle.std.proofs.Math.Nat.{pow-suc}
 use Rattle.std.proofs.lemmas.Nat.Bits.{bit_at_lowest, bit_at-suc, bit_at-zero, bit_at_ones, bit_at_set_same, bit_at_set_other}
 use Rattle.std.proofs.lemmas.Option.{none-some, same_Some}

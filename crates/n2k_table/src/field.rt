@@ -346,7 +346,8 @@ impl Field {
         &data[from..to]
     }
 
-    /// What the field shows of the data of a message: nothing where it does not lie wholly inside.
+    /// What the field shows of the data of a message or of a set: nothing where it does not lie wholly inside.
+    #[inline(always)]
     pub(crate) fn seen<'a>(&'a self, data: &'a [u8]) -> Seen<'a>
         ensures { seen_parts result ≡ shown self.now «data».now }
     {

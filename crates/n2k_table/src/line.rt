@@ -32,6 +32,7 @@ fn push_number(label: &[u8], number: u32, line: &mut Tail) -> Result<(), AllocEr
 }
 
 // Appends what a field shows as a value.
+#[inline(always)]
 fn push_value(seen: Seen<'_>, line: &mut Tail) -> Result<(), AllocError>
     ensures appends { OnOk result (IfSome (value_json true (seen_parts seen.entry))
         (λ value. line.new.items ≡ line.old.items ++ value)) }
@@ -51,6 +52,7 @@ fn push_value(seen: Seen<'_>, line: &mut Tail) -> Result<(), AllocError>
 
 // Appends a field as a member of an object, after a comma where a member stands before, and answers
 // whether one stands before the next.
+#[inline(always)]
 fn push_member(
     field: &Field,
     data: &[u8],
@@ -73,7 +75,8 @@ fn push_member(
 }
 
 // Appends the fields as the members of an object, of a message or of a set, and answers whether one stands
-// before the next.
+// before the next. It is inlined for the message and for sets, since a call for each line costs more.
+#[inline(always)]
 fn push_members(
     fields: &[Field],
     data: &[u8],
@@ -129,7 +132,8 @@ fn list_key(later: bool) -> &'static [u8]
     if later { b",\"list\":[" } else { b"\"list\":[" }
 }
 
-// Appends the sets as a member, after a comma where a member stands before.
+// Appends the sets as a member, after a comma where a member stands before. Most messages have none.
+#[inline(never)]
 fn push_list(
     repeat: &Repeat,
     data: &[u8],

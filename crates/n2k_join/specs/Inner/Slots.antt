@@ -1,11 +1,11 @@
 -- A group as bytes and a mask: each number has a slot of seven bytes, and the mask says which slots are filled.
-use Rattle.std.specs.Prelude.{◌≡◌, ◌<◌, ◌≤◌, ℕ, ◌==◌, if◌then◌else◌, List, [], length, get_or, map, Option, Some, None, filter_map, option_map}
+use Rattle.std.specs.Prelude.{ℕ, ◌==◌, if◌then◌else◌, List, [], get_or, map, Option, Some, None, filter_map}
 use Rattle.std.specs.Int.{bit_at}
-use Rattle.std.specs.List.{range_with_len, AllByRecursion}
+use Rattle.std.specs.List.{range_with_len}
 use Rattle.n2k_join.specs.declared.piece.FrameKey.{FrameKey}
 use Rattle.n2k_join.specs.Inner.Stored.{key_of}
 use Rattle.n2k_join.specs.declared.piece.OpenGroup.{OpenGroup}
-use Rattle.n2k_join.specs.Frames.{Key, Frame, most_frames, frame_bytes, longest_total}
+use Rattle.n2k_join.specs.Frames.{Key, most_frames}
 use Rattle.n2k_join.specs.Open.{Piece, Group, piece_at}
 
 -- the bytes under a number, where its bit is set

@@ -1,5 +1,5 @@
 -- What the code keeps, as the definitions see it.
-use Rattle.std.specs.Prelude.{◌≡◌, ◌≤◌, ℕ, nat_lt, Bool, List, [], ◌∷◌, ◌++◌, map, false, if◌then◌else◌, Option, Some, None, filter_map, find, option_to_list}
+use Rattle.std.specs.Prelude.{ℕ, nat_lt, Bool, List, [], ◌∷◌, ◌++◌, if◌then◌else◌, Option, Some, None, filter_map, find, option_to_list}
 use Rattle.std.specs.List.{list_all}
 use Rattle.n2k_join.specs.declared.broken.Broken.{Broken}
 use Rattle.n2k_wire.specs.Packet.{PacketParts}
@@ -7,12 +7,12 @@ use Rattle.n2k_wire.specs.declared.entry.BadCause.{BadCause}
 use Rattle.n2k_join.specs.declared.piece.FrameKey.{FrameKey}
 use Rattle.n2k_join.specs.declared.piece.StoredPiece.{StoredPiece}
 use Rattle.n2k_join.specs.declared.piece.FastFrame.{FastFrame}
-use Rattle.n2k_join.specs.Frames.{Key, same_key, Frame, most_frames, most_sequences}
-use Rattle.n2k_join.specs.Groups.{repeats, has_twice, complete}
+use Rattle.n2k_join.specs.Frames.{Key, same_key, Frame, most_sequences}
+use Rattle.n2k_join.specs.Groups.{repeats, complete}
 use Rattle.n2k_join.specs.Open.{Piece, Group, pieces_of, group_of}
 use Rattle.n2k_join.specs.Messages.{message_of, broken_of}
 use Rattle.n2k_join.specs.Pieces.{Stream}
-use Rattle.n2k_join.specs.State.{Given, held_frame, held_of}
+use Rattle.n2k_join.specs.State.{Given, held_of}
 
 abbrev pub key_of : FrameKey → Key
 key_of key = record { src = key.src; dst = key.dst; pgn = key.pgn; sequence = key.sequence }

@@ -1,5 +1,4 @@
-use Rattle.std.proofs.Common.{◌≡◌, ◌∙◌, [], ℕ, sym, ap, refl}
-use Rattle.n2k_wire.specs.Packet.{PacketParts}
+use Rattle.std.proofs.Common.{◌∙◌, sym, ap, refl}
 use Rattle.n2k_join.specs.Frames.{Frame}
 use Rattle.n2k_join.specs.Inner.Stored.{key_of, frame_of}
 use Rattle.n2k_join.specs.Inner.Slots.{groups_in}

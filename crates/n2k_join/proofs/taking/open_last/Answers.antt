@@ -1,5 +1,4 @@
-use Rattle.std.proofs.Common.{◌≡◌, ◌∙◌, sym, ap, cond, Some, None, refl}
-use Rattle.n2k_wire.specs.Packet.{PacketParts}
+use Rattle.std.proofs.Common.{◌∙◌, sym, ap, cond, Some, None, refl}
 use Rattle.n2k_join.specs.Frames.{same_key, Frame}
 use Rattle.n2k_join.specs.Groups.{data_of}
 use Rattle.n2k_join.specs.State.{held_of}

@@ -1,7 +1,6 @@
-use Rattle.std.proofs.Common.{◌≡◌, ◌<◌, ◌-◌, ◌∙◌, [], Some, length, sym, ap, arith}
+use Rattle.std.proofs.Common.{◌≡◌, ◌-◌, ◌∙◌, Some, length, sym, ap, arith}
 use Rattle.indexmap.specs.IndexMap.{set_value_at, move_index}
-use Rattle.n2k_join.specs.Frames.{same_key, Frame, Key}
-use Rattle.n2k_join.specs.Open.{Group}
+use Rattle.n2k_join.specs.Frames.{Frame, Key}
 use Rattle.n2k_join.specs.Inner.Stored.{key_of, frame_of}
 use Rattle.n2k_join.specs.Inner.Slots.{groups_in, group_in}
 use Rattle.n2k_join.proofs.IndexedLemmas.{entry_at, key-there, length-there, length-written, ends-written, ends-last, begun-gives, begun-none, breaks}

@@ -1,9 +1,6 @@
-use Rattle.std.proofs.Common.{◌≡◌, ◌∙◌, ℕ, Some, None, Bool, true, false, IfSome, is_some, Option, List, sym, ap, subst}
+use Rattle.std.proofs.Common.{◌∙◌, true, false, sym, ap}
 use Rattle.n2k_join.specs.Frames.{Frame}
-use Rattle.n2k_join.specs.Groups.{has_number}
-use Rattle.n2k_join.specs.Open.{Group}
-use Rattle.n2k_join.specs.State.{held_of}
-use Rattle.n2k_join.specs.Inner.Stored.{key_of, frame_of, of_the_key, lost}
+use Rattle.n2k_join.specs.Inner.Stored.{frame_of, lost}
 use Rattle.n2k_join.specs.Inner.Slots.{groups_in}
 use Rattle.n2k_join.proofs.JoinLemmas.{none_at_all, on_err}
 use Rattle.n2k_join.proofs.IndexedLemmas.{entry_at, there-has, none-lost}

@@ -1,4 +1,4 @@
-use Rattle.std.proofs.Common.{◌≡◌, ◌∙◌, ap, sym, ◌==◌, ℕ, bit_and, ◌/◌, ◌^◌}
+use Rattle.std.proofs.Common.{◌∙◌, ap, sym, ◌==◌, ℕ, bit_and, ◌/◌, ◌^◌}
 use Rattle.std.proofs.lemmas.Nat.Bits.{shr_and_one}
 use Rattle.n2k_join.proofs.SlotLemmas.{is_some-slot}
 use Rattle.n2k_join.proofs.piece.OpenGroup.has.Goals as goal

@@ -1,4 +1,4 @@
-use Rattle.std.proofs.Common.{◌≡◌, ◌∙◌, ap, sym, subst, refl, ℕ, ◌^◌, ◌%◌, ◌*◌, arith, length, bit_or, slice_set, slice_index_or, slice_index, ◌≤◌, []}
+use Rattle.std.proofs.Common.{◌≡◌, ◌∙◌, sym, subst, refl, ℕ, ◌^◌, ◌%◌, ◌*◌, bit_or, slice_set, slice_index_or, slice_index, ◌≤◌, []}
 use Rattle.std.specs.Int.{bit_at}
 use Rattle.std.proofs.lemmas.List.{length-set}
 use Rattle.n2k_join.specs.Frames.{longest_total}

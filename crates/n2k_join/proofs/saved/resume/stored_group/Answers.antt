@@ -5,7 +5,7 @@ use Rattle.n2k_join.specs.Frames.{Key}
 use Rattle.n2k_join.specs.Groups.{complete}
 use Rattle.n2k_join.specs.Open.{Piece, Group}
 use Rattle.n2k_join.specs.Resumed.{pieces_rise, group_holds, key_holds, is_some_list}
-use Rattle.n2k_join.specs.State.{held_of, IsPiece, HasParts}
+use Rattle.n2k_join.specs.State.{held_of, IsPiece}
 use Rattle.n2k_join.specs.Inner.Apart.{SomeUnder}
 use Rattle.n2k_join.specs.Inner.Slots.{group_at, group_in}
 use Rattle.n2k_join.specs.Inner.Stored.{key_of}

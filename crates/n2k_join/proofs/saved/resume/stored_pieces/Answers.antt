@@ -4,7 +4,7 @@ use Rattle.std.proofs.lemmas.List.{take_all}
 use Rattle.n2k_join.specs.Frames.{Key}
 use Rattle.n2k_join.specs.Open.{Piece, Group}
 use Rattle.n2k_join.specs.State.{IsPiece}
-use Rattle.n2k_join.specs.Inner.Slots.{slot_of, group_in}
+use Rattle.n2k_join.specs.Inner.Slots.{group_in}
 use Rattle.n2k_join.specs.Inner.Stored.{piece_of}
 use Rattle.n2k_join.proofs.SavedGroups.{slot-past, below-next, left-next, rise-next, all-next, parts-next, kept-next, all-taken}
 use Rattle.n2k_join.proofs.saved.resume.stored_pieces.Goals as goal
