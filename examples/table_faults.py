@@ -117,7 +117,8 @@ def message_faults(message, version, lookups):
     yield from fields_faults(message.get("fields"), 1784, True, lookups)
     if version == 2 and "repeat" in message:
         yield from repeat_faults(message["repeat"], lookups)
-        if is_list_of(message.get("fields"), dict) and any(field.get("name") == "list" for field in message["fields"]):
+        fields = message.get("fields")
+        if isinstance(message["repeat"], dict) and is_list_of(fields, dict) and "list" in names_of(fields):
             yield "Twice"
 
 
@@ -125,12 +126,17 @@ def repeat_faults(repeat, lookups):
     if not isinstance(repeat, dict) or repeat.keys() != {"at", "bits", "fields"}:
         yield "Key"
         return
-    wrong = [*range_faults(repeat, "at", 0, 1783, 8), *range_faults(repeat, "bits", 8, 1784, 8)]
-    yield from wrong
-    if not wrong and repeat["at"] + repeat["bits"] > 1784:
+    of_at, of_bits = [*range_faults(repeat, "at", 0, 1783, 8)], [*range_faults(repeat, "bits", 8, 1784, 8)]
+    yield from of_at + of_bits
+    if not of_at + of_bits and repeat["at"] + repeat["bits"] > 1784:
         yield "Range"
-    end = 1784 if list(range_faults(repeat, "bits", 8, 1784, 8)) else repeat["bits"]
-    yield from fields_faults(repeat["fields"], end, False, lookups)
+    # No field is past the end of a set whose own length is at fault.
+    yield from fields_faults(repeat["fields"], None if of_bits else repeat["bits"], False, lookups)
+
+
+def names_of(fields):
+    """The names of the fields whose kind is known: no other takes part in Twice."""
+    return [it["name"] for it in fields if isinstance(it.get("name"), str) and it.get("kind") in [*FIELD_KEYS]]
 
 
 def fields_faults(fields, end, may_match, lookups):
@@ -139,7 +145,7 @@ def fields_faults(fields, end, may_match, lookups):
         return
     if len(fields) > 256:
         yield "TooMany"
-    names = [field["name"] for field in fields if isinstance(field.get("name"), str)]
+    names = names_of(fields)
     if len(names) != len(set(names)):
         yield "Twice"
     for field in fields:
@@ -164,7 +170,7 @@ def field_faults(field, end, may_match, lookups):
     yield from text_faults(field, "name")
     yield from range_faults(field, "at", 0, 1783, step)
     yield from range_faults(field, "bits", *BITS[kind], step)
-    if field["at"] + field["bits"] > end:
+    if end is not None and field["at"] + field["bits"] > end:
         yield "Range"
     if field.get("signed") and field["bits"] < 2:
         yield "Range"
