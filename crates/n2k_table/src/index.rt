@@ -1,13 +1,37 @@
 //! Where the definitions of a PGN stand, found without walking all of them.
-ghost use Rattle.std.specs.Prelude.{◌≡◌, IfOk};
+ghost use Rattle.std.specs.Prelude.{◌≡◌, length, IfOk};
 ghost use Rattle.n2k_table.specs.Inner.Index.{numbers, places, places_in, IsIndex};
 
 use crate::definition::StoredDefinition;
 use indexmap::IndexMap;
 use std::alloc::{AllocError, Global};
+use std::marker::Model;
 
-/// For each PGN the places of its definitions, in file order.
-pub(crate) type Index = IndexMap<u32, Vec<usize>>;
+/// How many PGNs are told apart by their remainder. By this prime PGNs whose lower 16 bits are the same have different ones.
+const QUICK: usize = 8191;
+
+// For each PGN the places of its definitions, in file order.
+type PlacesByPgn = IndexMap<u32, Vec<usize>>;
+
+/// Where the definitions of each PGN stand.
+#[derive(Drop)]
+pub(crate) struct Index {
+    places: PlacesByPgn,
+    // For the remainder of a PGN where it may stand in the map. Whoever goes by it compares the PGN; that costs less than a
+    // hash.
+    quick: Vec<u16>,
+}
+
+impl Model for Index {
+    ghost use Rattle.std.specs.Prelude.{◌≡◌, List, ℕ, Vec, length};
+    ghost use Rattle.std.specs.declared.alloc.Global.{Global};
+
+    ghost Value = { List (ℕ × Vec ℕ Global) };
+
+    ghost view = { λ i. i.places.entries };
+
+    ghost invariant = { λ i. length i.quick.items ≡ 8191 };
+}
 
 // The places of the definitions of a PGN.
 fn places_of(
@@ -26,8 +50,8 @@ fn places_of(
     Ok(places)
 }
 
-/// The places of all definitions.
-pub(crate) fn index_of(alloc: Global, definitions: &[StoredDefinition]) -> Result<Index, AllocError>
+// The places of all definitions.
+fn all_places(alloc: Global, definitions: &[StoredDefinition]) -> Result<PlacesByPgn, AllocError>
     ensures { IfOk result (λ index. IsIndex index.entries (numbers definitions.now)) }
 {
     let mut index = IndexMap::new(alloc);
@@ -41,12 +65,46 @@ pub(crate) fn index_of(alloc: Global, definitions: &[StoredDefinition]) -> Resul
     Ok(index)
 }
 
-/// The places of a PGN, none where the table doesn't have it.
-pub(crate) fn places_at(index: &Index, pgn: u32) -> &[usize]
-    ensures { result.now ≡ places_in index.now.entries pgn }
+// Where each PGN stands in the map, by its remainder; the last of those that have the same.
+fn quick_of(alloc: Global, places: &PlacesByPgn) -> Result<Vec<u16>, AllocError>
+    ensures { IfOk result (λ quick. length quick.items ≡ 8191) }
 {
-    match index.get(&pgn) {
+    let mut quick = vec![in alloc; 0u16; QUICK]?;
+    for (at, pgn) in places.keys().enumerate() {
+        if let Ok(at) = u16::try_from(at) {
+            quick[*pgn as usize % QUICK] = at;
+        }
+    }
+    Ok(quick)
+}
+
+/// The places of all definitions.
+pub(crate) fn index_of(alloc: Global, definitions: &[StoredDefinition]) -> Result<Index, AllocError>
+    ensures { IfOk result (λ index. IsIndex index (numbers definitions.now)) }
+{
+    let places = all_places(alloc, definitions)?;
+    let quick = quick_of(alloc, &places)?;
+    Ok(Index { places, quick })
+}
+
+// The places of a PGN, found by its hash. It is not inlined: few PGNs are looked up so.
+#[inline(never)]
+fn places_by_hash(places: &PlacesByPgn, pgn: u32) -> &[usize]
+    ensures { result.now ≡ places_in places.now.entries pgn }
+{
+    match places.get(&pgn) {
         Some(places) => places.as_slice(),
         None => &[],
+    }
+}
+
+/// The places of a PGN, none where the table doesn't have it.
+pub(crate) fn places_at(index: &Index, pgn: u32) -> &[usize]
+    ensures { result.now ≡ places_in index.now pgn }
+{
+    let at = index.quick[pgn as usize % QUICK];
+    match index.places.get_index(usize::from(at)) {
+        Some((found, places)) if *found == pgn => places.as_slice(),
+        _ => places_by_hash(&index.places, pgn),
     }
 }

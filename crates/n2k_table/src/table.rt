@@ -43,7 +43,7 @@ impl Model for Table {
 
     ghost view = { λ t. record { id = t.id; definitions = t.definitions.items } };
 
-    ghost invariant = { λ t. IsIndex t.index.entries (numbers t.definitions.items) };
+    ghost invariant = { λ t. IsIndex t.index (numbers t.definitions.items) };
 }
 
 // The definitions, up to a first fault among theirs.

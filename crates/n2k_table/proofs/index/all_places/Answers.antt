@@ -1,7 +1,7 @@
 use Rattle.std.proofs.Common.{◌≡◌, length, sym, arith}
 use Rattle.n2k_table.specs.Inner.Index.{numbers}
 use Rattle.n2k_table.proofs.Places.{length-numbers, index_kept, index_right, index_gained, index_done}
-use Rattle.n2k_table.proofs.index.index_of.Goals as goal
+use Rattle.n2k_table.proofs.index.all_places.Goals as goal
 
 pub loop-definition-preserved-then-contains_key : goal.loop-definition-preserved-then-contains_key
 loop-definition-preserved-then-contains_key c = (
