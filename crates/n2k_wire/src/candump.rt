@@ -12,9 +12,8 @@ ghost use Rattle.n2k_wire.specs.Entry.{IsEntry, settled};
 ghost use Rattle.n2k_wire.specs.Packet.{IsPacket};
 
 use crate::digits::{are_hex_digits, decimal_number, decode_digits, is_hex_digit};
-use crate::entry::{BadCause, Entry};
+use crate::entry::{BadCause, Entry, set_frame};
 use crate::identifier::{Id, split_id};
-use crate::packet::Packet;
 use crate::pieces::{after_byte, cut_at, skip_spaces};
 use crate::stamp::{Moment, UTC_LEN, read_moment, three_digits, utc_text};
 use arrayvec::ArrayVec;
@@ -291,18 +290,15 @@ fn read_frame(line: &[u8]) -> Result<Option<CandumpFrame>, BadCause>
     frame_of(seen, known, text)
 }
 
-/// The entry of a candump line.
-#[inline]
+/// The entry of a candump line, put where that of an earlier line was.
 #[tactic(auto, using(crate::proofs::UsualStamps::same_candump))]
-pub(crate) fn read_candump(line: &[u8]) -> Entry
-    ensures entry { result ≡ settled (candump line.now) }
-    ensures valid { IsEntry result }
+pub(crate) fn read_candump(line: &[u8], place: &mut Entry)
+    ensures entry { place.new ≡ settled (candump line.now) }
+    ensures valid { IsEntry place.new }
 {
-    // The packet is large: each answer is returned at once, so that none is kept in between.
-    let frame = match read_frame(line) {
-        Ok(Some(frame)) => frame,
-        Ok(None) => return Entry::Skip,
-        Err(cause) => return Entry::Bad(cause),
-    };
-    Entry::Frame(Packet::of_parts(&frame.stamp, frame.id, frame.data.as_slice()))
+    match read_frame(line) {
+        Ok(Some(frame)) => set_frame(place, &frame.stamp, frame.id, frame.data.as_slice()),
+        Ok(None) => *place = Entry::Skip,
+        Err(cause) => *place = Entry::Bad(cause),
+    }
 }
