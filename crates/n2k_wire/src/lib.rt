@@ -21,6 +21,7 @@ mod pieces;
 mod plain;
 mod stamp;
 mod texts;
+mod usual;
 
 pub use candump::{FRAME_PAYLOAD, is_interface};
 pub use entry::{BadCause, Entry, LONGEST_LINE, Packing, read_line, read_line_into};
