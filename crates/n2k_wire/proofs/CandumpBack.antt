@@ -211,7 +211,7 @@ name_parts name ok =
     let inner = and_parts (ltb 0 (length name)) (leb (length name) 15) outer.0 in
     (ltb-true 0 (length name) inner.0, leb-true (length name) 15 inner.1, outer.1)
 
-framed_read : (name digits behind : List ℕ) → is_interface name ≡ true → 0 < length digits → list_all is_ascii_hexdigit digits ≡ true
+pub framed_read : (name digits behind : List ℕ) → is_interface name ≡ true → 0 < length digits → list_all is_ascii_hexdigit digits ≡ true
     → framed (32 ∷ (name ++ (32 ∷ (digits ++ (35 ∷ behind))))) ≡ Some (digits, behind)
 unfolding framed after_byte
 framed_read name digits behind ok some hex =

@@ -24,7 +24,7 @@ number_digits most n text e =
       | inr long ↦ absurd (let none = rw long at e in cc)
     ]
 
-follows : (byte : ℕ) (text rest : List ℕ) → after_byte byte text ≡ Some rest → text ≡ byte ∷ rest
+pub follows : (byte : ℕ) (text rest : List ℕ) → after_byte byte text ≡ Some rest → text ≡ byte ∷ rest
 unfolding after_byte
 follows byte [] rest e = absurd cc
 follows byte (b ∷ text) rest e =

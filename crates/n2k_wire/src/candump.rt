@@ -12,15 +12,15 @@ ghost use Rattle.n2k_wire.specs.Entry.{IsEntry, settled};
 ghost use Rattle.n2k_wire.specs.Packet.{IsPacket};
 
 use crate::digits::{are_hex_digits, decimal_number, decode_digits, is_hex_digit};
-use crate::entry::{BadCause, Entry};
+use crate::entry::{BadCause, Entry, set_frame};
 use crate::identifier::{Id, split_id};
-use crate::packet::Packet;
 use crate::pieces::{after_byte, cut_at, skip_spaces};
 use crate::stamp::{Moment, UTC_LEN, read_moment, three_digits, utc_text};
+use crate::usual::usual_framed;
 use arrayvec::ArrayVec;
 
 /// The most bytes of an interface's name.
-const LONGEST_INTERFACE: usize = 15;
+pub(crate) const LONGEST_INTERFACE: usize = 15;
 
 /// The most data bytes of a frame.
 pub const FRAME_PAYLOAD: usize = 8;
@@ -46,7 +46,7 @@ struct CandumpFrame {
     data: ArrayVec<u8, FRAME_PAYLOAD>,
 }
 
-fn is_interface_byte(byte: u8) -> bool
+pub(crate) fn is_interface_byte(byte: u8) -> bool
     ensures { result ≡ is_interface_byte byte }
 {
     byte >= b'!' && byte <= b'~'
@@ -278,6 +278,16 @@ fn read_seen(line: &[u8]) -> Option<(Moment, &[u8])>
     }
 }
 
+/// The digits of the identifier, and what follows them behind the first `#`.
+fn read_parts(text: &[u8]) -> Option<(&[u8], &[u8])>
+    ensures { Finds (λ x. (x.0.now, x.1.now)) result (framed text.now) }
+{
+    match usual_framed(text) {
+        Some(found) => Some(found),
+        None => read_framed(text),
+    }
+}
+
 /// The frame of a candump line, none where it is skipped, or the first of its causes.
 #[tactic(auto, unfolding(crate::specs::PrivateWords::candump_by))]
 fn read_frame(line: &[u8]) -> Result<Option<CandumpFrame>, BadCause>
@@ -286,23 +296,20 @@ fn read_frame(line: &[u8]) -> Result<Option<CandumpFrame>, BadCause>
     ensures short { IfOk result (λ frame. IfSome frame (λ f. length f.«data».items ≤ frame_payload)) }
 {
     let (seen, text) = read_seen(line).ok_or(BadCause::Stamp)?;
-    let (digits, text) = read_framed(text).ok_or(BadCause::Form)?;
+    let (digits, text) = read_parts(text).ok_or(BadCause::Form)?;
     let known = read_identifier(digits)?;
     frame_of(seen, known, text)
 }
 
-/// The entry of a candump line.
-#[inline]
+/// The entry of a candump line, put where that of an earlier line was.
 #[tactic(auto, using(crate::proofs::UsualStamps::same_candump))]
-pub(crate) fn read_candump(line: &[u8]) -> Entry
-    ensures entry { result ≡ settled (candump line.now) }
-    ensures valid { IsEntry result }
+pub(crate) fn read_candump(line: &[u8], place: &mut Entry)
+    ensures entry { place.new ≡ settled (candump line.now) }
+    ensures valid { IsEntry place.new }
 {
-    // The packet is large: each answer is returned at once, so that none is kept in between.
-    let frame = match read_frame(line) {
-        Ok(Some(frame)) => frame,
-        Ok(None) => return Entry::Skip,
-        Err(cause) => return Entry::Bad(cause),
-    };
-    Entry::Frame(Packet::of_parts(&frame.stamp, frame.id, frame.data.as_slice()))
+    match read_frame(line) {
+        Ok(Some(frame)) => set_frame(place, &frame.stamp, frame.id, frame.data.as_slice()),
+        Ok(None) => *place = Entry::Skip,
+        Err(cause) => *place = Entry::Bad(cause),
+    }
 }

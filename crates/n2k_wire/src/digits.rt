@@ -1,5 +1,5 @@
 //! Numbers as digits.
-ghost use Rattle.std.specs.Prelude.{◌≡◌, ◌+◌, ◌<◌, ◌≤◌, ◌^◌, ◌*◌, ◌%◌, IsSome, true, length, IfSome};
+ghost use Rattle.std.specs.Prelude.{◌≡◌, ◌+◌, ◌<◌, ◌≤◌, ◌^◌, ◌*◌, ◌%◌, Some, IsSome, true, length, IfSome};
 ghost use Rattle.std.specs.Char.{is_ascii_hexdigit};
 ghost use Rattle.std.specs.List.{list_all};
 ghost use Rattle.std.specs.Result.{result_ok};
@@ -95,6 +95,18 @@ pub(crate) fn spelled_byte(high: u8, low: u8) -> u8
     hex_value(high) * 16 + hex_value(low)
 }
 
+/// The eight bytes that sixteen digits spell.
+pub(crate) fn eight_bytes(digits: &[u8; 16]) -> [u8; 8]
+    requires { list_all is_ascii_hexdigit digits.now ≡ true }
+    ensures { result_ok (decode_of digits.now) ≡ Some result }
+{
+    let mut bytes = [0; 8];
+    for i in 0..8usize {
+        bytes[i] = spelled_byte(digits[2 * i], digits[2 * i + 1]);
+    }
+    bytes
+}
+
 /// The bytes that up to eight pairs of hexadecimal digits spell, as `hex` decodes them.
 pub(crate) fn decode_digits(digits: &[u8]) -> Option<ArrayVec<u8, 8>>
     requires short { length digits.now ≤ 16 }
@@ -103,6 +115,9 @@ pub(crate) fn decode_digits(digits: &[u8]) -> Option<ArrayVec<u8, 8>>
     ensures len { IfSome result (λ bytes. length digits.now ≡ 2 * length bytes.items) }
     ensures even { length digits.now % 2 ≡ 0 → IsSome result }
 {
+    if let Some(sixteen) = digits.as_array::<16>() {
+        return Some(ArrayVec::from(eight_bytes(sixteen)));
+    }
     if digits.len() % 2 == 1 {
         return None;
     }

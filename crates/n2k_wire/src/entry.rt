@@ -1,8 +1,12 @@
 //! What a line of a log is.
-ghost use Rattle.std.specs.Prelude.{◌≡◌};
+ghost use Rattle.std.specs.Prelude.{◌≡◌, ◌≤◌, length};
+ghost use Rattle.n2k_wire.specs.Candump.{frame_payload};
 ghost use Rattle.n2k_wire.specs.Entry.{entry, IsEntry, IsShort};
+ghost use Rattle.n2k_wire.specs.Packet.{IsPacket};
+ghost use Rattle.n2k_wire.specs.declared.entry.Entry.TheVariants as entries;
 
 use crate::candump::read_candump;
+use crate::identifier::Id;
 use crate::packet::Packet;
 use crate::plain::read_plain;
 
@@ -62,19 +66,60 @@ pub enum Entry {
 }
 
 /// The entry of a line, which is handed in without its LF and CR. It takes no memory.
-#[tactic(auto, unfolding(crate::specs::Entry::entry))]
 pub fn read_line(line: &[u8], packing: Packing) -> Entry
     ensures entry { result ≡ entry line.now packing }
     ensures valid { IsEntry result }
     ensures short { IsShort result }
 {
+    let mut place = Entry::Skip;
+    read_line_into(line, packing, &mut place);
+    place
+}
+
+/// The same, put where the entry of an earlier line was, which saves that an entry is moved. It takes no memory.
+///
+/// ```text
+/// let mut entry = Entry::Skip;
+/// read_line_into(line, Packing::Frames, &mut entry);
+/// ```
+#[tactic(auto, unfolding(crate::specs::Entry::entry))]
+pub fn read_line_into(line: &[u8], packing: Packing, place: &mut Entry)
+    ensures entry { place.new ≡ entry line.now packing }
+    ensures valid { IsEntry place.new }
+    ensures short { IsShort place.new }
+{
     if line.len() > LONGEST_LINE {
-        return Entry::Bad(BadCause::Long);
+        *place = Entry::Bad(BadCause::Long);
+        return;
     }
-    // As in `read_candump`, each answer is returned at once.
     match line {
-        [] | [b'#', ..] => return Entry::Skip,
-        [b'(', ..] => return read_candump(line),
-        _ => return read_plain(line, packing),
+        [] | [b'#', ..] => *place = Entry::Skip,
+        [b'(', ..] => read_candump(line, place),
+        _ => read_plain(line, packing, place),
+    }
+}
+
+/// Makes an entry the frame of these parts, in the room of the packet that it has, if it is a frame.
+pub(crate) fn set_frame(place: &mut Entry, stamp: &[u8], id: Id, data: &[u8])
+    requires parts { IsPacket stamp.now id «data».now }
+    requires short { length «data».now ≤ frame_payload }
+    ensures value { place.new ≡ entries.Frame (record { stamp = stamp.now; id = id; payload = «data».now }) }
+    ensures valid { IsEntry place.new }
+{
+    match place {
+        Entry::Frame(packet) => packet.set_parts(stamp, id, data),
+        _ => *place = Entry::Frame(Packet::of_parts(stamp, id, data)),
+    }
+}
+
+/// Makes an entry the whole message of these parts, in the room of the packet that it has, if it is one.
+pub(crate) fn set_whole(place: &mut Entry, stamp: &[u8], id: Id, data: &[u8])
+    requires { IsPacket stamp.now id «data».now }
+    ensures value { place.new ≡ entries.Whole (record { stamp = stamp.now; id = id; payload = «data».now }) }
+    ensures valid { IsEntry place.new }
+{
+    match place {
+        Entry::Whole(packet) => packet.set_parts(stamp, id, data),
+        _ => *place = Entry::Whole(Packet::of_parts(stamp, id, data)),
     }
 }

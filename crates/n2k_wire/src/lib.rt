@@ -21,9 +21,10 @@ mod pieces;
 mod plain;
 mod stamp;
 mod texts;
+mod usual;
 
 pub use candump::{FRAME_PAYLOAD, is_interface};
-pub use entry::{BadCause, Entry, LONGEST_LINE, Packing, read_line};
+pub use entry::{BadCause, Entry, LONGEST_LINE, Packing, read_line, read_line_into};
 pub use fault::WireFault;
 pub use identifier::{Id, join_id, split_id};
 pub use packet::{GREATEST_PGN, Packet};

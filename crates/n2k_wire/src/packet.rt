@@ -5,7 +5,6 @@ ghost use Rattle.std.specs.Option.{SomeIff};
 ghost use Rattle.n2k_wire.specs.Packet.{IsPacket, IsPacketParts, is_stamp, is_stamp_byte, is_stamp_start};
 
 use crate::identifier::Id;
-use arrayvec::ArrayVec;
 use std::marker::Model;
 
 /// The most bytes of a stamp.
@@ -23,19 +22,22 @@ pub(crate) const GREATEST_PRIORITY: u8 = 7;
 /// A frame or a whole message: when it was seen, its identifier, and its data of at most 223 bytes.
 #[derive(Drop)]
 pub struct Packet {
-    stamp: ArrayVec<u8, 32>,
+    stamp: [u8; LONGEST_STAMP],
+    stamp_len: usize,
     id: Id,
-    data: ArrayVec<u8, 223>,
+    data: [u8; LONGEST_MESSAGE],
+    data_len: usize,
 }
 
 impl Model for Packet {
+    ghost use Rattle.std.specs.Prelude.{◌≤◌, take};
     ghost use Rattle.n2k_wire.specs.Packet.{PacketParts, IsPacket};
 
     ghost Value = { PacketParts };
 
-    ghost view = { λ p. record { stamp = p.stamp.items; id = p.id; payload = p.«data».items } };
+    ghost view = { λ p. record { stamp = take p.stamp_len p.stamp; id = p.id; payload = take p.data_len p.«data» } };
 
-    ghost invariant = { λ p. IsPacket p.stamp.items p.id p.«data».items };
+    ghost invariant = { λ p. IsPacket (take p.stamp_len p.stamp) p.id (take p.data_len p.«data») × (p.stamp_len ≤ 32) × (p.data_len ≤ 223) };
 }
 
 // A byte that a stamp may hold.
@@ -92,15 +94,31 @@ impl Packet {
         ensures value { result ≡ record { stamp = stamp.now; id = id; payload = «data».now } }
         ensures valid { IsPacketParts result }
     {
-        let mut kept_stamp = ArrayVec::new();
-        let mut kept_data = ArrayVec::new();
-        let _ = kept_stamp.try_extend_from_slice(stamp);
-        let _ = kept_data.try_extend_from_slice(data);
+        let mut kept_stamp = [0; LONGEST_STAMP];
+        let mut kept_data = [0; LONGEST_MESSAGE];
+        kept_stamp[..stamp.len()].copy_from_slice(stamp);
+        kept_data[..data.len()].copy_from_slice(data);
         Packet {
             stamp: kept_stamp,
+            stamp_len: stamp.len(),
             id,
             data: kept_data,
+            data_len: data.len(),
         }
+    }
+
+    /// Makes it the packet of these parts, in its own place.
+    #[inline]
+    pub(crate) fn set_parts(&mut self, stamp: &[u8], id: Id, data: &[u8])
+        requires { IsPacket stamp.now id «data».now }
+        ensures value { self.new ≡ record { stamp = stamp.now; id = id; payload = «data».now } }
+        ensures valid { IsPacketParts self.new }
+    {
+        self.stamp[..stamp.len()].copy_from_slice(stamp);
+        self.stamp_len = stamp.len();
+        self.id = id;
+        self.data[..data.len()].copy_from_slice(data);
+        self.data_len = data.len();
     }
 
     /// The stamp, as text.
@@ -108,7 +126,7 @@ impl Packet {
         ensures value { result.now ≡ self.now.stamp }
         ensures valid { IsPacket self.now.stamp self.now.id self.now.payload }
     {
-        self.stamp.as_slice()
+        &self.stamp[..self.stamp_len]
     }
 
     /// The identifier.
@@ -124,6 +142,6 @@ impl Packet {
         ensures value { result.now ≡ self.now.payload }
         ensures valid { IsPacket self.now.stamp self.now.id self.now.payload }
     {
-        self.data.as_slice()
+        &self.data[..self.data_len]
     }
 }

@@ -8,9 +8,9 @@ ghost use Rattle.n2k_wire.specs.Packet.{IsPacket, greatest_pgn, greatest_priorit
 
 use crate::candump::FRAME_PAYLOAD;
 use crate::digits::{decimal_number, is_hex_digit, spelled_byte};
-use crate::entry::{BadCause, Entry, Packing};
+use crate::entry::{BadCause, Entry, Packing, set_frame, set_whole};
 use crate::identifier::Id;
-use crate::packet::{GREATEST_PGN, GREATEST_PRIORITY, LONGEST_MESSAGE, Packet, is_stamp};
+use crate::packet::{GREATEST_PGN, GREATEST_PRIORITY, LONGEST_MESSAGE, is_stamp};
 use crate::pieces::cut_at;
 use arrayvec::ArrayVec;
 
@@ -162,18 +162,17 @@ fn read_packet<'a>(
     Ok((stamp, id))
 }
 
-/// The entry of a plain line.
-#[inline]
-pub(crate) fn read_plain(line: &[u8], packing: Packing) -> Entry
-    ensures entry { result ≡ settled (plain packing line.now) }
-    ensures valid { IsEntry result }
+/// The entry of a plain line, put where that of an earlier line was.
+pub(crate) fn read_plain(line: &[u8], packing: Packing, place: &mut Entry)
+    ensures entry { place.new ≡ settled (plain packing line.now) }
+    ensures valid { IsEntry place.new }
 {
     let mut data = ArrayVec::new();
     match read_packet(line, &mut data) {
         Ok((stamp, id)) if is_frame(packing, data.len()) => {
-            Entry::Frame(Packet::of_parts(stamp, id, data.as_slice()))
+            set_frame(place, stamp, id, data.as_slice())
         }
-        Ok((stamp, id)) => Entry::Whole(Packet::of_parts(stamp, id, data.as_slice())),
-        Err(cause) => Entry::Bad(cause),
+        Ok((stamp, id)) => set_whole(place, stamp, id, data.as_slice()),
+        Err(cause) => *place = Entry::Bad(cause),
     }
 }
