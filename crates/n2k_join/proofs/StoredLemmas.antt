@@ -1,5 +1,5 @@
 -- What the frames of a stored group, which lie as they came, have in common with its pieces by rising number.
-use Rattle.std.proofs.Common.{◌≡◌, ℕ, zero, suc, ◌+◌, ◌<◌, ◌≤◌, Bool, true, false, cond, eqb, List, [], ◌∷◌, ◌++◌, length, map, Option, Some, None, zero-add, eq-eqb, ne_eqb, inl, inr, refl, sym, ap, ◌∙◌, subst, arith}
+use Rattle.std.proofs.Common.{◌≡◌, ℕ, zero, suc, ◌+◌, ◌<◌, ◌≤◌, Bool, true, false, cond, eqb, nat_le, ◌||◌, List, [], ◌∷◌, ◌++◌, length, map, Option, Some, None, zero-add, eq-eqb, ne_eqb, inl, inr, refl, sym, ap, ◌∙◌, subst, arith}
 use Rattle.std.proofs.lemmas.List.{append-nil, map-append, length-map}
 use Rattle.std.proofs.lemmas.Bool.{cases_eq, cases_lt, eqb-true, eqb-false, true≢false, false≢true, or_parts, or_cases}
 use Rattle.std.proofs.lemmas.Map.Steps.{length-le_from_distinct_below}
@@ -10,10 +10,11 @@ use Rattle.std.specs.Prelude.{reverse, is_some, option_map, ◌==◌}
 use Rattle.std.specs.List.{range_with_len, filter_map, cons_option, list_any, find, IsDistinct, AllByRecursion}
 use Rattle.n2k_join.specs.declared.piece.StoredPiece.{StoredPiece}
 use Rattle.n2k_join.specs.Frames.{Key, most_frames}
-use Rattle.n2k_join.specs.Groups.{carried, has_number, has_twice}
+use Rattle.n2k_join.specs.Groups.{carried, has_number, has_from, has_twice}
 use Rattle.n2k_join.specs.Open.{Piece, Group, piece_at, pieces_of}
 use Rattle.n2k_join.specs.State.{held_frame, held_of}
 use Rattle.n2k_join.proofs.Carried.{carried-push, has_twice-push, pieces_of-same}
+use Rattle.n2k_join.proofs.Cuts.{has_from-same}
 use Rattle.n2k_join.specs.Inner.Stored.{stored_frame, stored_frames, stored_group, piece_of}
 
 -- what a stored piece carries is found by its number
@@ -129,6 +130,15 @@ pub carried_found : (first : ℕ) (key : Key) (ps : List StoredPiece) (g : Group
     → option_map (λ (p : StoredPiece). p.bytes) o ≡ carried (held_of g) n
 carried_found first key ps g n o is found =
     ap (option_map (λ (p : StoredPiece). p.bytes)) found ∙ sym (carried-stored first key ps n) ∙ sym (carried-held first key ps n) ∙ ap (λ g. carried (held_of g) n) is
+
+-- a number from one on among the pieces is one among the frames that the group holds
+any_from : (first : ℕ) (key : Key) (ps : List StoredPiece) (n : ℕ) → list_any (λ (p : StoredPiece). nat_le n p.number) ps ≡ has_from n (stored_frames first key ps)
+any_from first key [] n = refl
+any_from first key (p ∷ ps) n = ap (λ b. nat_le n p.number || b) (any_from first key ps n)
+
+pub found_from : (first : ℕ) (key : Key) (ps : List StoredPiece) (g : Group) (n : ℕ) → stored_group first key ps ≡ g → list_any (λ (p : StoredPiece). nat_le n p.number) ps ≡ has_from n (held_of g)
+found_from first key ps g n is =
+    any_from first key ps n ∙ has_from-same n (stored_frames first key ps) (held_of (stored_group first key ps)) (sym (fun_ext (λ m. carried-held first key ps m))) ∙ ap (λ g. has_from n (held_of g)) is
 
 -- ---- one piece more
 

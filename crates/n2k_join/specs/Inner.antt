@@ -3,3 +3,4 @@ pub mod Apart
 pub mod SavedTokens
 pub mod Stored
 pub mod Told
+pub mod Trial

@@ -1,20 +1,36 @@
 -- The text of a saved state: one JSON object, as `serde_json` writes it. It is compact, and the members of each object stand
 -- in the order of their names.
-use Rattle.std.specs.Prelude.{◌≡◌, ℕ, List, length, map, codes}
-use Rattle.serde_json.specs.Data.{Data, number, unsigned, string, array, object, no_items, item, no_members, member}
+use Rattle.std.specs.Prelude.{◌≡◌, ℕ, Bool, if◌then◌else◌, List, length, map, codes}
+use Rattle.std.specs.List.{list_all}
+use Rattle.serde_json.specs.Data.{Data, Members, number, unsigned, string, array, object, no_items, item, no_members, member}
 use Rattle.serde_json.specs.View.{items_of}
 use Rattle.serde_json.specs.Written.{compact_text}
 use Rattle.hex.specs.Hex.{encode_lower, IsBytes}
-use Rattle.n2k_join.specs.Open.{Piece, Group}
+use Rattle.n2k_join.specs.Open.{Piece, Group, is_waiting}
 use Rattle.n2k_join.specs.State.{State}
-
--- the format of the state
-abbrev pub saved_format : ℕ
-saved_format = 1
 
 -- a whole number
 abbrev pub whole : ℕ → Data
 whole n = number (unsigned n)
+
+-- the format of a state with its window, and that of one without it
+abbrev pub saved_format : ℕ
+saved_format = 2
+
+abbrev pub old_format : ℕ
+old_format = 1
+
+-- No group's window has ended. Where one has, the state was read in the old format and no line has been taken since.
+abbrev pub are_waiting : State → Bool
+are_waiting s = list_all (is_waiting s.rule s.counts.lines) s.groups
+
+-- so the old format is written of such a state, since the other would not be read
+abbrev pub format_of : State → ℕ
+format_of s = if are_waiting s then saved_format else old_format
+
+-- the last member of a state, where its format has it
+abbrev pub window_member : State → Members
+window_member s = if are_waiting s then member (codes "window") (whole s.rule.window) no_members else no_members
 
 -- a list of values
 abbrev pub list : List Data → Data
@@ -39,12 +55,12 @@ unfoldable pub state_tree : State → Data
 state_tree s = object (
     member (codes "bad") (whole s.counts.bad) (
     member (codes "broken") (whole s.counts.broken) (
-    member (codes "format") (whole saved_format) (
+    member (codes "format") (whole (format_of s)) (
     member (codes "groups") (list (map group_tree s.groups)) (
     member (codes "lines") (whole s.counts.lines) (
     member (codes "messages") (whole s.counts.messages) (
     member (codes "table") (string (encode_lower s.id)) (
-    member (codes "unknown") (whole s.counts.unknown) no_members))))))))
+    member (codes "unknown") (whole s.counts.unknown) (window_member s)))))))))
 
 -- its text
 unfoldable pub state_text : State → List ℕ

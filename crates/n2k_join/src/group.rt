@@ -1,16 +1,16 @@
 //! A group of frames that is open.
 ghost use Rattle.std.specs.Prelude.{◌≡◌, ℕ, ◌+◌, ◌*◌, ◌<◌, ◌≤◌, ◌++◌, ◌==◌, [], ◌∷◌, true, false, option_map, find, IfOk, IfSome, nat_le, slice_index, flat_map, length};
-ghost use Rattle.std.specs.List.{range_with_len, list_all};
+ghost use Rattle.std.specs.List.{range_with_len, list_all, list_any};
 ghost use Rattle.n2k_wire.specs.Packet.{PacketParts};
 ghost use Rattle.n2k_join.specs.Frames.{same_key, frame_bytes, longest_total, most_frames};
-ghost use Rattle.n2k_join.specs.Groups.{carried, has_number, has_all, complete, total, bytes_at, data_of};
+ghost use Rattle.n2k_join.specs.Groups.{carried, has_number, has_from, has_all, complete, total, bytes_at, data_of};
 ghost use Rattle.n2k_join.specs.Open.{pieces_of, group_of};
 ghost use Rattle.n2k_join.specs.State.{held_frame, held_of, IsOpen};
 ghost use Rattle.n2k_join.specs.Resumed.{pieces_rise};
 ghost use Rattle.n2k_join.specs.State.{IsKey, IsPiece, HasParts};
 ghost use Rattle.std.specs.List.{AllByRecursion};
 ghost use Rattle.std.specs.Prelude.{map, vec_capacity};
-ghost use Rattle.n2k_join.specs.Inner.Stored.{key_of, piece_of, frame_of, with_frame, message_if};
+ghost use Rattle.n2k_join.specs.Inner.Stored.{bars, key_of, piece_of, frame_of, with_frame, message_if};
 
 use crate::broken::Broken;
 use crate::frame::MOST_FRAMES;
@@ -54,6 +54,13 @@ fn are_within(pieces: &[StoredPiece], last: u8) -> bool
     ensures { result ≡ list_all (λ p. nat_le p.number last) pieces.now }
 {
     pieces.iter().all(|piece| piece.number <= last)
+}
+
+// Whether a number is this one, or above it.
+fn is_any_from(pieces: &[StoredPiece], number: u8) -> bool
+    ensures { result ≡ list_any (λ p. nat_le number p.number) pieces.now }
+{
+    pieces.iter().any(|piece| number <= piece.number)
 }
 
 impl StoredGroup {
@@ -134,6 +141,25 @@ impl StoredGroup {
         ensures { result ≡ has_number number (held_of self.now) }
     {
         self.carried(number).is_some()
+    }
+
+    // Whether a frame of the number, or of one above it, is there.
+    fn has_from(&self, number: u8) -> bool
+        ensures { result ≡ has_from number (held_of self.now) }
+    {
+        is_any_from(&self.pieces, number)
+    }
+
+    /// Whether it has no place for a frame of the number: that is there, or, where messages are sent in order, it isn't
+    /// greater than each of its own.
+    pub(crate) fn bars(&self, in_order: bool, number: u8) -> bool
+        ensures { result ≡ bars in_order number self.now }
+    {
+        if in_order {
+            self.has_from(number)
+        } else {
+            self.has_number(number)
+        }
     }
 
     // Takes a piece whose number isn't there yet.

@@ -1,5 +1,5 @@
 //! The join: the open groups and the counts of a log, taken on line by line.
-ghost use Rattle.std.specs.Prelude.{◌≡◌, ◌+◌, ◌*◌, ◌≤◌, ◌<◌, ◌↔◌, ℕ, [], length, IfOk, OnOk, OnErr, IsErrOf, Ok, Option, None, true, is_some};
+ghost use Rattle.std.specs.Prelude.{◌≡◌, ◌+◌, ◌*◌, ◌≤◌, ◌<◌, ◌↔◌, ℕ, [], length, IfOk, OnOk, OnErr, IsErrOf, IsSome, IsNone, Ok, Option, None, Some, true, is_some, option_map};
 ghost use Rattle.n2k_table.specs.declared.definition.Kind.{Kind};
 ghost use Rattle.n2k_table.specs.Table.{kind};
 ghost use Rattle.n2k_wire.specs.Entry.{IsShort, IsEntry};
@@ -9,7 +9,13 @@ ghost use Rattle.n2k_join.specs.State.{state, step_given, step_after, AreCounts,
 ghost use Rattle.n2k_join.specs.Refusal.{GivesOrMemory};
 ghost use Rattle.n2k_join.specs.Resumed.{is_valid, judged, state_of_parts, valid_if};
 ghost use Rattle.n2k_join.specs.Saved.{IsId, state_text, bare_bytes, group_bytes};
-ghost use Rattle.n2k_join.specs.Step.{given_of, lent_given_of, opens};
+ghost use Rattle.n2k_join.specs.Step.{given_of, lent_given_of, opens, due, expired};
+ghost use Rattle.n2k_join.specs.Messages.{told_of};
+ghost use Rattle.n2k_join.specs.Open.{Group};
+ghost use Rattle.n2k_join.specs.Laws.{ExpiresFirst};
+ghost use Rattle.n2k_wire.specs.declared.entry.Entry.{Entry};
+ghost use Rattle.n2k_join.specs.State.{AreWaiting};
+ghost use Rattle.n2k_join.specs.declared.saved.place.Place.{Place};
 ghost use Rattle.n2k_join.specs.Inner.Told.{packet_in, told};
 
 use crate::counts::{Counts, MOST_LINES};
@@ -18,11 +24,14 @@ use crate::group::StoredGroup;
 use crate::laws;
 use crate::outcome::{Outcome, packet_of, take_entry};
 use crate::saved::{
-    SpelledGroup, SpelledState, has_format, parsed, read_state, rules_hold, state_text,
+    SpelledGroup, SpelledState, format_in, parsed, read_state, rules_hold, state_text,
     stored_groups,
 };
 use crate::state_fault::StateFault;
+use crate::broken::Broken;
+use crate::saved::Place;
 use crate::step::{LentStep, Step};
+use crate::window::Window;
 use n2k_table::Table;
 use n2k_wire::{Entry, Id, Packet};
 use std::alloc::{AllocError, Global};
@@ -33,6 +42,7 @@ use std::marker::Model;
 #[derive(Drop)]
 pub struct Join {
     id: [u8; 32],
+    window: Window,
     counts: Counts,
     groups: Vec<StoredGroup>,
 }
@@ -42,9 +52,9 @@ impl Model for Join {
 
     ghost Value = { State };
 
-    ghost view = { λ j. record { id = j.id; counts = j.counts; groups = j.groups.items } };
+    ghost view = { λ j. record { id = j.id; rule = j.window; counts = j.counts; groups = j.groups.items } };
 
-    ghost invariant = { λ j. IsState (record { id = j.id; counts = j.counts; groups = j.groups.items }) };
+    ghost invariant = { λ j. IsState (record { id = j.id; rule = j.window; counts = j.counts; groups = j.groups.items }) };
 }
 
 // What the types say of the parts of a packet.
@@ -94,12 +104,13 @@ fn counted(counts: Counts, outcome: &Outcome, is_message: bool, held: usize) -> 
 }
 
 impl Join {
-    /// Before the first line, with a table. It takes no memory.
-    pub fn new(alloc: Global, table: &Table) -> Join
-        ensures { result ≡ state table.now.id (kind table.now) [] }
+    /// Before the first line, with a table and a window. It takes no memory.
+    pub fn new(alloc: Global, table: &Table, window: Window) -> Join
+        ensures { result ≡ state table.now.id window (kind table.now) [] }
     {
         Join {
             id: table.id(),
+            window,
             counts: Counts::NONE,
             groups: Vec::new(alloc),
         }
@@ -113,6 +124,45 @@ impl Join {
         *counts
     }
 
+    /// How long a group may wait for its frames. It takes no memory.
+    pub fn window(&self) -> Window
+        ensures { result ≡ self.now.rule }
+    {
+        self.window
+    }
+
+    // The oldest open group, where its window ends at the next line, if not before.
+    fn oldest_due(&self) -> Option<Broken>
+        ensures { result ≡ option_map told_of (due self.now) }
+    {
+        if self.counts.lines == MOST_LINES {
+            return None;
+        }
+        let oldest = self.groups.first()?;
+        if self.counts.lines + 1 < oldest.first() + u64::from(self.window.get()) {
+            return None;
+        }
+        Some(oldest.broken())
+    }
+
+    /// Breaks the oldest open group whose window ends at the next line, if not before, and answers what is told of it.
+    /// `None` where there is none, or where no more lines are counted; the join is then as it was. It takes no memory.
+    ///
+    /// Before each line it is called until it answers `None`.
+    pub fn expire(&mut self) -> Option<Broken>
+        ensures told { result ≡ option_map told_of (due self.old) }
+        ensures after { IsSome result → self.new ≡ expired self.old }
+        ensures unchanged { IsNone result → self.new ≡ self.old }
+        ensures one_step { (kind : ℕ → Option Kind) (e : Entry) (group : Group) → due self.old ≡ Some group → ExpiresFirst kind self.old e group }
+        ensures waiting { AreWaiting self.old → AreWaiting self.new }
+    {
+        let broken = self.oldest_due()?;
+        self.groups.remove(0);
+        let Counts { broken: before, held, .. } = self.counts;
+        self.counts = Counts { broken: before + 1, held: held - 1, ..self.counts };
+        Some(broken)
+    }
+
     // Takes the next line, as its entry. The message of a group that it completes goes to `joined`.
     fn take(
         &mut self,
@@ -121,9 +171,12 @@ impl Join {
         joined: &mut Option<Packet>,
     ) -> Result<Outcome, JoinFault>
         requires short { IsShort entry.now }
+        requires expired { due self.old ≡ None }
         requires none { joined.old ≡ None }
         ensures given { IfOk result (λ o. told o (packet_in entry.now) joined.new ≡ step_given (kind table.now) self.old entry.now) }
         ensures after { OnOk result (self.new ≡ step_after (kind table.now) self.old entry.now) }
+        ensures waiting { OnOk result (AreWaiting self.new) }
+        ensures few_open { OnOk result (length self.new.groups ≤ self.new.rule.window) }
         ensures unchanged { OnErr result (self.new ≡ self.old) }
         ensures few { OnOk result (self.old.counts.lines < most_lines) }
         ensures full { IsErrOf result JoinFault.TooManyLines ↔ (self.old.counts.lines ≡ most_lines) }
@@ -135,7 +188,7 @@ impl Join {
         know_entry(entry);
         let alloc = *self.groups.allocator();
         let line = self.counts.lines + 1;
-        let outcome = take_entry(alloc, &mut self.groups, line, table, entry, joined)?;
+        let outcome = take_entry(alloc, self.window.is_in_order(), &mut self.groups, line, table, entry, joined)?;
         let is_message = outcome.is_message(entry, joined);
         self.counts = counted(self.counts, &outcome, is_message, self.groups.len());
         Ok(outcome)
@@ -151,9 +204,12 @@ impl Join {
     /// let step = join.line(&table, read_line(line, Packing::Frames))?;
     /// ```
     pub fn line(&mut self, table: &Table, entry: Entry) -> Result<Step, JoinFault>
-        requires { IsShort entry }
+        requires short { IsShort entry }
+        requires expired { due self.old ≡ None }
         ensures given { IfOk result (λ step. given_of step ≡ step_given (kind table.now) self.old entry) }
         ensures after { OnOk result (self.new ≡ step_after (kind table.now) self.old entry) }
+        ensures waiting { OnOk result (AreWaiting self.new) }
+        ensures few_open { OnOk result (length self.new.groups ≤ self.new.rule.window) }
         ensures unchanged { OnErr result (self.new ≡ self.old) }
         ensures few { OnOk result (self.old.counts.lines < most_lines) }
         ensures full { IsErrOf result JoinFault.TooManyLines ↔ (self.old.counts.lines ≡ most_lines) }
@@ -189,8 +245,11 @@ impl Join {
         joined: &'a mut Option<Packet>,
     ) -> Result<LentStep<'a>, JoinFault>
         requires short { IsShort entry.now }
+        requires expired { due self.old ≡ None }
         ensures given { IfOk result (λ step. lent_given_of step ≡ step_given (kind table.now) self.old entry.now) }
         ensures after { OnOk result (self.new ≡ step_after (kind table.now) self.old entry.now) }
+        ensures waiting { OnOk result (AreWaiting self.new) }
+        ensures few_open { OnOk result (length self.new.groups ≤ self.new.rule.window) }
         ensures unchanged { OnErr result (self.new ≡ self.old) }
         ensures few { OnOk result (self.old.counts.lines < most_lines) }
         ensures full { IsErrOf result JoinFault.TooManyLines ↔ (self.old.counts.lines ≡ most_lines) }
@@ -209,20 +268,23 @@ impl Join {
     fn of_state(
         alloc: Global,
         table: &Table,
+        format: Place,
         id: [u8; 32],
+        window: Window,
         counts: Counts,
         groups: &[SpelledGroup],
     ) -> Result<Join, StateFault>
-        ensures { let state = state_of_parts id counts groups.now in
-            GivesOrMemory (λ join. join) result (valid_if (is_valid (kind table.now) state) state) }
+        ensures { let state = state_of_parts id window counts groups.now in
+            GivesOrMemory (λ join. join) result (valid_if (is_valid (kind table.now) format state) state) }
     {
-        if !rules_hold(&counts, groups) {
+        if !rules_hold(format, window, &counts, groups) {
             return Err(StateFault::Invalid);
         }
         let stored = stored_groups(alloc, table, groups)?;
         let held = stored.len() as u64;
         Ok(Join {
             id,
+            window,
             counts: Counts { held, ..counts },
             groups: stored,
         })
@@ -238,19 +300,25 @@ impl Join {
     /// let join = Join::resume(alloc, &table, &state)?;
     /// ```
     #[tactic(auto, unfolding(crate::specs::Resumed::judged))]
-    pub fn resume(alloc: Global, table: &Table, bytes: &[u8]) -> Result<Join, StateFault>
-        ensures { GivesOrMemory (λ join. join) result (judged (kind table.now) table.now.id bytes.now) }
+    pub fn resume(
+        alloc: Global,
+        table: &Table,
+        window: Window,
+        bytes: &[u8],
+    ) -> Result<Join, StateFault>
+        ensures { GivesOrMemory (λ join. join) result (judged (kind table.now) table.now.id window bytes.now) }
     {
         let value = parsed(alloc, bytes)?;
-        if !has_format(&value) {
-            return Err(StateFault::Format);
-        }
-        let state = read_state(alloc, &value)?;
+        let format = format_in(&value)?;
+        let state = read_state(alloc, format, window, &value)?;
         if state.id != table.id() {
             return Err(StateFault::TableDiffers);
         }
-        let SpelledState { id, counts, groups } = state;
-        Join::of_state(alloc, table, id, counts, &groups)
+        if state.window != u64::from(window.get()) {
+            return Err(StateFault::WindowDiffers);
+        }
+        let SpelledState { id, counts, groups, .. } = state;
+        Join::of_state(alloc, table, format, id, window, counts, &groups)
     }
 
     /// The text of its state, from which `resume` goes on: JSON, as docs/PROFILE.md has it, without an LF.
@@ -260,9 +328,9 @@ impl Join {
     pub fn save(&self, alloc: Global) -> Result<Vec<u8>, AllocError>
         ensures text { IfOk result (λ text. text.items ≡ state_text self.now) }
         ensures bounded { IfOk result (λ text. length text.items ≤ bare_bytes + group_bytes * length self.now.groups) }
-        ensures reads_back { (kind : ℕ → Option Kind) → AreFast kind self.now.groups → IsId self.now.id → judged kind self.now.id (state_text self.now) ≡ Ok self.now }
+        ensures reads_back { (kind : ℕ → Option Kind) → AreFast kind self.now.groups → IsId self.now.id → judged kind self.now.id self.now.rule (state_text self.now) ≡ Ok self.now }
     {
         laws::state_reads_back();
-        state_text(alloc, &self.id, &self.counts, &self.groups)
+        state_text(alloc, &self.id, self.window, &self.counts, &self.groups)
     }
 }

@@ -32,6 +32,8 @@ mod state_fault;
 mod step;
 mod stream;
 mod taking;
+pub mod trial;
+mod window;
 
 pub use broken::Broken;
 pub use counts::{Counts, MOST_LINES};
@@ -42,6 +44,7 @@ pub use splitter::Splitter;
 pub use state_fault::StateFault;
 pub use step::{LentStep, Step};
 pub use stream::Stream;
+pub use window::Window;
 
 #[cfg(test)]
 mod tests;

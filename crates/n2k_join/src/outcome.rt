@@ -113,6 +113,7 @@ pub(crate) fn packet_of(entry: Entry) -> Option<Packet>
 #[tactic(auto, unfolding(crate::specs::Frames::fast_frame))]
 fn take_fast(
     alloc: Global,
+    in_order: bool,
     groups: &mut Vec<StoredGroup>,
     line: u64,
     packet: &Packet,
@@ -121,16 +122,16 @@ fn take_fast(
     requires open { AllByRecursion IsOpen groups.old.items }
     requires apart { AreApart groups.old.items }
     requires none { joined.old ≡ None }
-    ensures given { IfOk result (λ o. told o (Some packet.now) joined.new ≡ gives_by None (fast_cause (Some Fast) packet.now) groups.old.items (fast_frame line packet.now)) }
+    ensures given { IfOk result (λ o. told o (Some packet.now) joined.new ≡ gives_by in_order None (fast_cause (Some Fast) packet.now) groups.old.items (fast_frame line packet.now)) }
     ensures unknown { IfOk result (λ o. o.is_unknown ≡ false) }
-    ensures groups { OnOk result (groups.new.items ≡ leaves_by groups.old.items (fast_frame line packet.now)) }
+    ensures groups { OnOk result (groups.new.items ≡ leaves_by in_order groups.old.items (fast_frame line packet.now)) }
     ensures unchanged { OnErr result (groups.new.items ≡ groups.old.items) }
     ensures memory { OnErr result (opens_by groups.old.items (fast_frame line packet.now) ≡ true) }
 {
     let Some(frame) = fast_frame(packet) else {
         return Ok(Outcome::of_bad(BadCause::Fast));
     };
-    let taken = take_frame(alloc, groups, line, &frame, packet)?;
+    let taken = take_frame(alloc, in_order, groups, line, &frame, packet)?;
     *joined = taken.message;
     Ok(Outcome {
         is_own: false,
@@ -143,6 +144,7 @@ fn take_fast(
 // A frame whose PGN is sent as its kind says.
 fn take_packet(
     alloc: Global,
+    in_order: bool,
     groups: &mut Vec<StoredGroup>,
     line: u64,
     kind: Option<Kind>,
@@ -152,22 +154,23 @@ fn take_packet(
     requires open { AllByRecursion IsOpen groups.old.items }
     requires apart { AreApart groups.old.items }
     requires none { joined.old ≡ None }
-    ensures given { IfOk result (λ o. told o (Some packet.now) joined.new ≡ gives_by (single_by kind packet.now) (fast_cause kind packet.now) groups.old.items (frame_by kind line packet.now)) }
+    ensures given { IfOk result (λ o. told o (Some packet.now) joined.new ≡ gives_by in_order (single_by kind packet.now) (fast_cause kind packet.now) groups.old.items (frame_by kind line packet.now)) }
     ensures unknown { IfOk result (λ o. o.is_unknown ≡ not (is_some kind)) }
-    ensures groups { OnOk result (groups.new.items ≡ leaves_by groups.old.items (frame_by kind line packet.now)) }
+    ensures groups { OnOk result (groups.new.items ≡ leaves_by in_order groups.old.items (frame_by kind line packet.now)) }
     ensures unchanged { OnErr result (groups.new.items ≡ groups.old.items) }
     ensures memory { OnErr result (opens_by groups.old.items (frame_by kind line packet.now) ≡ true) }
 {
     match kind {
         None => Ok(Outcome::of_nothing(true)),
         Some(Kind::Single) => Ok(Outcome::of_own()),
-        Some(Kind::Fast) => take_fast(alloc, groups, line, packet, joined),
+        Some(Kind::Fast) => take_fast(alloc, in_order, groups, line, packet, joined),
     }
 }
 
 /// Takes the entry of a line into the open groups. The message of a group that it completes goes to `joined`.
 pub(crate) fn take_entry(
     alloc: Global,
+    in_order: bool,
     groups: &mut Vec<StoredGroup>,
     line: u64,
     table: &Table,
@@ -177,9 +180,9 @@ pub(crate) fn take_entry(
     requires open { AllByRecursion IsOpen groups.old.items }
     requires apart { AreApart groups.old.items }
     requires none { joined.old ≡ None }
-    ensures given { let k = kind table.now in IfOk result (λ o. told o (packet_in entry.now) joined.new ≡ gives_by (alone k entry.now) (cause_in k entry.now) groups.old.items (frame_in k line entry.now)) }
+    ensures given { let k = kind table.now in IfOk result (λ o. told o (packet_in entry.now) joined.new ≡ gives_by in_order (alone k entry.now) (cause_in k entry.now) groups.old.items (frame_in k line entry.now)) }
     ensures unknown { IfOk result (λ o. o.is_unknown ≡ is_unknown (kind table.now) entry.now) }
-    ensures groups { OnOk result (groups.new.items ≡ leaves_by groups.old.items (frame_in (kind table.now) line entry.now)) }
+    ensures groups { OnOk result (groups.new.items ≡ leaves_by in_order groups.old.items (frame_in (kind table.now) line entry.now)) }
     ensures unchanged { OnErr result (groups.new.items ≡ groups.old.items) }
     ensures memory { OnErr result (opens_by groups.old.items (frame_in (kind table.now) line entry.now) ≡ true) }
 {
@@ -188,7 +191,7 @@ pub(crate) fn take_entry(
         Entry::Bad(cause) => Ok(Outcome::of_bad(*cause)),
         Entry::Frame(packet) => {
             let kind = table.kind(packet.id().pgn);
-            take_packet(alloc, groups, line, kind, packet, joined)
+            take_packet(alloc, in_order, groups, line, kind, packet, joined)
         }
         Entry::Whole(packet) => match table.kind(packet.id().pgn) {
             None => Ok(Outcome::of_nothing(true)),

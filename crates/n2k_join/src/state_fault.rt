@@ -11,7 +11,7 @@ pub enum StateFault {
     /// The bytes are not UTF-8, or no JSON text.
     #[error("1 NotJson")]
     NotJson,
-    /// It isn't an object whose `format` is 1.
+    /// It isn't an object whose `format` is 1 or 2.
     #[error("2 Format")]
     Format,
     /// A member is missing, unknown, or of another kind than its name asks.
@@ -26,6 +26,9 @@ pub enum StateFault {
     /// A growth was refused.
     #[error("6 Memory")]
     Memory,
+    /// It was saved under another window.
+    #[error("7 WindowDiffers")]
+    WindowDiffers,
 }
 
 impl From<AllocError> for StateFault {

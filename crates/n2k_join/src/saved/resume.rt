@@ -8,7 +8,8 @@ ghost use Rattle.n2k_wire.specs.Plain.{greatest_address};
 ghost use Rattle.n2k_join.specs.Frames.{most_frames, most_sequences};
 ghost use Rattle.n2k_join.specs.Refusal.{GivesOrMemory};
 ghost use Rattle.n2k_wire.specs.Steps.{or_cause};
-ghost use Rattle.n2k_join.specs.Resumed.{pieces_rise, group_holds, groups_hold, valid_if, parsed, has_format};
+ghost use Rattle.n2k_join.specs.Resumed.{pieces_rise, group_holds, groups_hold, valid_if, parsed, format_in};
+ghost use Rattle.n2k_wire.specs.Views.{Gives};
 ghost use Rattle.n2k_join.specs.State.{IsKey, IsPiece, HasParts};
 ghost use Rattle.std.specs.List.{AllByRecursion};
 ghost use Rattle.n2k_join.specs.Inner.Stored.{key_of, piece_of};
@@ -16,7 +17,8 @@ ghost use Rattle.n2k_join.specs.Inner.Stored.{key_of, piece_of};
 use crate::frame::MOST_FRAMES;
 use crate::group::StoredGroup;
 use crate::piece::{FrameKey, StoredPiece};
-use crate::saved::SAVED_FORMAT;
+use crate::saved::place::Place;
+use crate::saved::{OLD_FORMAT, SAVED_FORMAT};
 use crate::saved::rules::{key_holds, stored_piece};
 use crate::saved::spelled::{SpelledGroup, SpelledKey, SpelledPiece};
 use crate::state_fault::StateFault;
@@ -142,12 +144,16 @@ pub(crate) fn parsed(alloc: Global, bytes: &[u8]) -> Result<Value, StateFault>
     }
 }
 
-/// Whether it is of the format that is read.
-pub(crate) fn has_format(value: &Value) -> bool
-    ensures { result ≡ has_format (view value.now) }
+/// The format of a value, as the place of its members.
+pub(crate) fn format_in(value: &Value) -> Result<Place, StateFault>
+    ensures { Gives (λ place. place) result (format_in (view value.now)) }
 {
-    match value.get("format") {
-        Some(format) => format.as_u64() == Some(SAVED_FORMAT),
-        None => false,
+    let Some(format) = value.get("format") else {
+        return Err(StateFault::Format);
+    };
+    match format.as_u64() {
+        Some(OLD_FORMAT) => Ok(Place::State),
+        Some(SAVED_FORMAT) => Ok(Place::WindowState),
+        _ => Err(StateFault::Format),
     }
 }

@@ -1,6 +1,7 @@
 //! The rules of a valid state.
-ghost use Rattle.std.specs.Prelude.{◌≡◌, ◌≤◌, ◌<◌, ◌&&◌, true, IfSome};
-ghost use Rattle.std.specs.List.{AllByRecursion};
+ghost use Rattle.std.specs.Prelude.{◌≡◌, ◌≤◌, ◌<◌, ◌&&◌, true, IfSome, ℕ, List};
+ghost use Rattle.std.specs.List.{AllByRecursion, list_all};
+ghost use Rattle.n2k_join.specs.Open.{is_waiting};
 ghost use Rattle.n2k_wire.specs.Packet.{greatest_pgn};
 ghost use Rattle.n2k_table.specs.Table.{kind};
 ghost use Rattle.n2k_join.specs.Counts.{most_lines};
@@ -8,25 +9,28 @@ ghost use Rattle.n2k_join.specs.Frames.{most_frames};
 ghost use Rattle.n2k_join.specs.Inner.Apart.{SomeUnder};
 ghost use Rattle.n2k_join.specs.State.{IsPiece};
 ghost use Rattle.n2k_join.specs.Inner.Stored.{piece_of};
-ghost use Rattle.n2k_join.specs.Resumed.{counts_hold, firsts_rise, is_fast, key_holds, total_holds, piece_holds};
+ghost use Rattle.n2k_join.specs.Resumed.{counts_hold, firsts_rise, waits_hold, state_of_parts, is_fast, key_holds, total_holds, piece_holds};
 
 use crate::counts::{Counts, MOST_LINES};
 use crate::frame::{LONGEST_TOTAL, MOST_FRAMES, MOST_SEQUENCES};
 use crate::piece::StoredPiece;
+use crate::saved::place::Place;
+use crate::window::Window;
 use crate::saved::spelled::{SpelledGroup, SpelledKey, SpelledPiece};
 use n2k_table::{Kind, Table};
 use n2k_wire::{GREATEST_ADDRESS, GREATEST_PGN};
 
 /// Whether these can be the counts of lines. No sum of them wraps.
 #[tactic(auto, unfolding(crate::specs::Resumed::counts_hold))]
-fn counts_hold(counts: &Counts) -> bool
-    ensures value { result ≡ counts_hold counts.now }
+fn counts_hold(counts: &Counts, held: u64) -> bool
+    ensures value { result ≡ counts_hold (record counts.now { held = held }) }
     ensures few { result ≡ true → counts.now.lines ≤ most_lines }
 {
     let messages = u128::from(counts.messages);
     let given = messages + u128::from(counts.bad) + u128::from(counts.unknown);
+    let opened = u128::from(counts.broken) + u128::from(held);
     counts.lines <= MOST_LINES
-        && (counts.broken <= counts.lines && given <= u128::from(counts.lines))
+        && (opened <= u128::from(counts.lines) && given <= u128::from(counts.lines))
 }
 
 /// Whether the first lines rise strictly from 1, and none is past the last line.
@@ -45,11 +49,25 @@ fn firsts_rise(lines: u64, groups: &[SpelledGroup]) -> bool
     true
 }
 
-/// Whether the counts and the lines that opened the groups can be those of one state.
-pub(crate) fn rules_hold(counts: &Counts, groups: &[SpelledGroup]) -> bool
-    ensures { result ≡ (counts_hold counts.now && firsts_rise 1 counts.now.lines groups.now) }
+// Whether no group's window has ended.
+fn are_waiting(window: Window, lines: u64, groups: &[SpelledGroup]) -> bool
+    requires lines { lines ≤ most_lines }
+    requires firsts { firsts_rise 1 lines groups.now ≡ true }
+    ensures { result ≡ list_all (is_waiting window lines) groups.now }
 {
-    counts_hold(counts) && firsts_rise(counts.lines, groups)
+    groups.iter().all(|group| lines < group.first.saturating_add(u64::from(window.get())))
+}
+
+/// Whether the counts and the lines that opened the groups can be those of one state.
+pub(crate) fn rules_hold(format: Place, window: Window, counts: &Counts, groups: &[SpelledGroup]) -> bool
+    ensures { (id : List ℕ) → result ≡ (let s = state_of_parts id window counts.now groups.now in counts_hold s.counts && (firsts_rise 1 counts.now.lines groups.now && waits_hold format s)) }
+{
+    counts_hold(counts, groups.len() as u64)
+        && (firsts_rise(counts.lines, groups)
+            && match format {
+                Place::WindowState => are_waiting(window, counts.lines, groups),
+                _ => true,
+            })
 }
 
 fn is_fast(table: &Table, pgn: u64) -> bool

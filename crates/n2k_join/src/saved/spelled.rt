@@ -55,6 +55,8 @@ impl Model for SpelledGroup {
 #[derive(Drop)]
 pub(crate) struct SpelledState {
     pub(crate) id: [u8; 32],
+    pub(crate) window: u64,
+    pub(crate) in_order: bool,
     pub(crate) counts: Counts,
     pub(crate) groups: Vec<SpelledGroup>,
 }
@@ -67,6 +69,7 @@ impl Model for SpelledState {
 
     ghost view = { λ s. record {
       id = s.id;
+      rule = record { window = s.window; in_order = s.in_order };
       counts = record s.counts { held = length s.groups.items };
       groups = s.groups.items;
     } };

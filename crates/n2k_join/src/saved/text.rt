@@ -5,16 +5,19 @@ ghost use Rattle.json.specs.Token.{Token};
 ghost use Rattle.n2k_join.specs.Groups.{carried};
 ghost use Rattle.n2k_join.specs.Open.{piece_at, pieces_of};
 ghost use Rattle.n2k_join.specs.Saved.{piece_tree, group_tree, state_tree, state_text, IsId};
-ghost use Rattle.n2k_join.specs.Inner.SavedTokens.{Appends, tokens_of, count_tokens, piece_tokens, pieces_tokens, frames_tokens, key_tokens, groups_tokens, open_tokens, front_tokens, lines_tokens, table_tokens, back_tokens};
+ghost use Rattle.n2k_join.specs.Inner.SavedTokens.{Appends, tokens_of, count_tokens, piece_tokens, pieces_tokens, frames_tokens, key_tokens, groups_tokens, open_tokens, front_tokens, lines_tokens, table_tokens, back_tokens, window_tokens};
+ghost use Rattle.n2k_join.specs.Open.{is_waiting};
+ghost use Rattle.std.specs.List.{list_all};
 ghost use Rattle.n2k_join.specs.State.{held_of};
 ghost use Rattle.n2k_join.specs.Inner.Stored.{key_of};
 ghost use Rattle.std.specs.Str.{IsUtf8};
 
+use crate::window::Window;
 use crate::counts::Counts;
 use crate::frame::MOST_FRAMES;
 use crate::group::StoredGroup;
 use crate::piece::FrameKey;
-use crate::saved::SAVED_FORMAT;
+use crate::saved::{OLD_FORMAT, SAVED_FORMAT};
 use json::Writer;
 use std::alloc::{AllocError, Global};
 use std::str;
@@ -142,12 +145,12 @@ fn push_open(groups: &[StoredGroup], out: &mut Writer) -> Result<(), AllocError>
 }
 
 // Writes the members before `groups`.
-fn push_front(counts: &Counts, out: &mut Writer) -> Result<(), AllocError>
-    ensures { Appends result out.old out.new (front_tokens counts.now) }
+fn push_front(waiting: bool, counts: &Counts, out: &mut Writer) -> Result<(), AllocError>
+    ensures { Appends result out.old out.new (front_tokens waiting counts.now) }
 {
     push_count("bad", counts.bad, out)?;
     push_count("broken", counts.broken, out)?;
-    push_count("format", SAVED_FORMAT, out)
+    push_count("format", if waiting { SAVED_FORMAT } else { OLD_FORMAT }, out)
 }
 
 // Writes the member `table`.
@@ -176,19 +179,40 @@ fn push_back(id: &[u8; 32], counts: &Counts, out: &mut Writer) -> Result<(), All
     Ok(())
 }
 
+// Writes the member `window`, where the format has it.
+fn push_window(waiting: bool, window: u32, out: &mut Writer) -> Result<(), AllocError>
+    ensures { Appends result out.old out.new (window_tokens waiting window) }
+{
+    if waiting {
+        push_count("window", u64::from(window), out)
+    } else {
+        Ok(())
+    }
+}
+
+// Whether no group's window has ended.
+fn are_waiting(window: Window, lines: u64, groups: &[StoredGroup]) -> bool
+    ensures { result ≡ list_all (is_waiting window lines) groups.now }
+{
+    groups.iter().all(|group| u128::from(lines) < u128::from(group.first()) + u128::from(window.get()))
+}
+
 // Writes a state.
 fn push_state(
     id: &[u8; 32],
+    window: Window,
     counts: &Counts,
     groups: &[StoredGroup],
     out: &mut Writer,
 ) -> Result<(), AllocError>
-    ensures { Appends result out.old out.new (tokens_of (state_tree (record { id = id.now; counts = counts.now; groups = groups.now }))) }
+    ensures { Appends result out.old out.new (tokens_of (state_tree (record { id = id.now; rule = window; counts = counts.now; groups = groups.now }))) }
 {
+    let waiting = are_waiting(window, counts.lines, groups);
     out.begin_object()?;
-    push_front(counts, out)?;
+    push_front(waiting, counts, out)?;
     push_open(groups, out)?;
     push_back(id, counts, out)?;
+    push_window(waiting, window.get(), out)?;
     out.end_object()?;
     Ok(())
 }
@@ -197,13 +221,14 @@ fn push_state(
 pub(crate) fn state_text(
     alloc: Global,
     id: &[u8; 32],
+    window: Window,
     counts: &Counts,
     groups: &[StoredGroup],
 ) -> Result<Vec<u8>, AllocError>
     ensures id { IsId id.now }
-    ensures text { IfOk result (λ text. text.items ≡ state_text (record { id = id.now; counts = counts.now; groups = groups.now })) }
+    ensures text { IfOk result (λ text. text.items ≡ state_text (record { id = id.now; rule = window; counts = counts.now; groups = groups.now })) }
 {
     let mut out = Writer::new(Vec::new(alloc));
-    push_state(id, counts, groups, &mut out)?;
+    push_state(id, window, counts, groups, &mut out)?;
     Ok(out.into_inner())
 }
