@@ -1,5 +1,6 @@
 #!/usr/bin/env python3
-"""Prints a log of frames over a whole table, for trials: each definition in turn, random fields, eight senders mixed.
+"""Prints a log of frames over a whole table, for trials: each definition in turn, random fields and sets, eight senders
+mixed.
 
     tables/random_log.py TABLE SEED LINES
 
@@ -12,9 +13,12 @@ import tomllib
 
 
 def data_of(definition, rng):
-    """The bytes that its fields take, a single frame eight: random, but for the match fields."""
+    """The bytes that its fields take and up to three sets, a single frame eight: random, but for the match fields."""
     bits = max((f["at"] + f["bits"] for f in definition["fields"]), default=8)
-    size = 8 if definition["kind"] == "single" else (bits + 7) // 8
+    if "repeat" in definition:
+        sets = definition["repeat"]
+        bits = max(bits, sets["at"] + rng.randrange(4) * sets["bits"])
+    size = 8 if definition["kind"] == "single" else min((bits + 7) // 8, 223)
     data = rng.getrandbits(8 * size)
     for f in definition["fields"]:
         if "match" in f:

@@ -1,16 +1,24 @@
 -- Groups hold where each does and none has a key that was seen before it.
-use Rattle.std.proofs.Common.{◌≡◌, ℕ, ◌+◌, ◌<◌, Bool, true, false, not, ◌&&◌, ◌||◌, cond, List, [], ◌∷◌, ◌++◌, length, get_or, drop, map, Option, Ok, Err, refl, sym, ap, ◌∙◌}
-use Rattle.std.specs.List.{list_any}
-use Rattle.std.proofs.lemmas.List.{drop_more, map-append}
+use Rattle.std.proofs.Common.{◌≡◌, ℕ, ◌+◌, ◌<◌, Bool, true, false, not, ◌&&◌, ◌||◌, cond, List, [], ◌∷◌, ◌++◌, length, get_or, take, drop, map, Option, Some, None, refl, sym, ap, subst, ◌∙◌}
+use Rattle.std.specs.Prelude.{is_some}
+use Rattle.std.specs.List.{list_any, AllByRecursion}
+use Rattle.std.specs.Map.{lookup}
+use Rattle.std.proofs.lemmas.Bool.{or_parts}
+use Rattle.std.proofs.lemmas.List.{drop_more, take_more, map-append}
+use Rattle.indexmap.specs.IndexMap.{insert_entry}
 use Rattle.n2k_table.specs.declared.definition.Kind.{Kind}
 use Rattle.n2k_join.specs.declared.piece.FrameKey.{FrameKey}
-use Rattle.n2k_join.specs.declared.state_fault.StateFault.{StateFault}
+use Rattle.n2k_join.specs.declared.piece.OpenGroup.{OpenGroup}
 use Rattle.n2k_join.specs.Frames.{Key, same_key}
 use Rattle.n2k_join.specs.Open.{Group}
-use Rattle.n2k_join.specs.Resumed.{group_holds, groups_hold, valid_if}
-use Rattle.n2k_join.specs.Inner.Apart.{each_holds, are_new}
+use Rattle.n2k_join.specs.Resumed.{group_holds, groups_hold}
+use Rattle.n2k_join.specs.State.{HasParts}
+use Rattle.n2k_join.specs.Inner.Apart.{each_new}
 use Rattle.n2k_join.specs.Inner.Stored.{key_of}
+use Rattle.n2k_join.specs.Inner.Slots.{group_at, groups_in}
+use Rattle.n2k_join.proofs.IndexedLemmas.{insert-last}
 use Rattle.n2k_join.proofs.Keys.{same_key-sym}
+use Rattle.n2k_join.proofs.Rising.{all-append}
 
 abbrev has : Key → List Group → Bool
 has k gs = list_any (λ (other : Group). same_key k other.key) gs
@@ -52,88 +60,78 @@ none_of-last ks k (g ∷ gs) =
     regroup false true false b = refl
     regroup false false n b = refl
 
-new-apart : (ks : List Key) (gs : List Group) → are_new ks gs ≡ (none_of ks gs && apart gs)
-unfolding are_new
-new-apart ks [] = refl
-new-apart ks (g ∷ gs) =
-    ap (λ b. not (list_any (same_key g.key) ks) && b) (new-apart (ks ++ g.key ∷ []) gs ∙ ap (λ b. b && apart gs) (none_of-last ks g.key gs))
-    ∙ regroup (not (list_any (same_key g.key) ks)) (none_of ks gs) (not (has g.key gs)) (apart gs)
-  where
-    regroup : (a n b p : Bool) → (a && ((n && b) && p)) ≡ ((a && n) && (b && p))
-    regroup true true b p = refl
-    regroup true false b p = refl
-    regroup false n b p = refl
-
-hold-apart : (kind : ℕ → Option Kind) (gs : List Group) → groups_hold kind gs ≡ (each_holds kind gs && apart gs)
-unfolding groups_hold each_holds
-hold-apart kind [] = refl
-hold-apart kind (g ∷ gs) =
-    ap (λ b. group_holds kind g && (not (has g.key gs) && b)) (hold-apart kind gs)
-    ∙ regroup (group_holds kind g) (not (has g.key gs)) (each_holds kind gs) (apart gs)
-  where
-    regroup : (h n e p : Bool) → (h && (n && (e && p))) ≡ ((h && e) && (n && p))
-    regroup false n e p = refl
-    regroup true n true p = refl
-    regroup true true false p = refl
-    regroup true false false p = refl
-
 -- the rules on groups, by their keys as they are seen
-hold-new : (kind : ℕ → Option Kind) (gs : List Group) → groups_hold kind gs ≡ (each_holds kind gs && are_new [] gs)
-hold-new kind gs = hold-apart kind gs ∙ ap (λ b. each_holds kind gs && b) (sym (new-apart [] gs ∙ ap (λ b. b && apart gs) (none_of-nil gs)))
-
-pub each_broken : (kind : ℕ → Option Kind) (gs : List Group) (fault : StateFault) → valid_if (each_holds kind gs) gs ≡ Err fault → valid_if (groups_hold kind gs) gs ≡ Err fault
-each_broken kind gs fault broken = ap (λ b. valid_if b gs) (hold-new kind gs) ∙ by (each_holds kind gs) broken
+hold-new : (kind : ℕ → Option Kind) (ks : List Key) (gs : List Group) → each_new kind ks gs ≡ (none_of ks gs && groups_hold kind gs)
+unfolding each_new groups_hold
+hold-new kind ks [] = refl
+hold-new kind ks (g ∷ gs) =
+    ap (λ b. group_holds kind g && (not (list_any (same_key g.key) ks) && b)) (hold-new kind (ks ++ g.key ∷ []) gs ∙ ap (λ b. b && groups_hold kind gs) (none_of-last ks g.key gs))
+    ∙ regroup (group_holds kind g) (not (list_any (same_key g.key) ks)) (none_of ks gs) (not (has g.key gs)) (groups_hold kind gs)
   where
-    by : (b : Bool) → valid_if b gs ≡ Err fault → valid_if (b && are_new [] gs) gs ≡ Err fault
-    by true h = cc
-    by false h = h
+    regroup : (h s n a r : Bool) → (h && (s && ((n && a) && r))) ≡ ((s && n) && (h && (a && r)))
+    regroup true true true a r = refl
+    regroup true true false a r = refl
+    regroup true false n a r = refl
+    regroup false true true a r = refl
+    regroup false true false a r = refl
+    regroup false false n a r = refl
 
--- what each group's holding and the index tell together
-pub all_judged : (kind : ℕ → Option Kind) (gs stored : List Group) (differ : Bool) → valid_if (each_holds kind gs) gs ≡ Ok stored → differ ≡ are_new [] stored
-    → valid_if (groups_hold kind gs) gs ≡ valid_if differ stored
-all_judged kind gs stored differ hold is = ap (λ b. valid_if b gs) (hold-new kind gs) ∙ by (each_holds kind gs) hold
-  where
-    by : (b : Bool) → valid_if b gs ≡ Ok stored → valid_if (b && are_new [] gs) gs ≡ valid_if differ stored
-    by true h = let same : gs ≡ stored = cc in ap (λ hs. valid_if (are_new [] hs) hs) same ∙ ap (λ b. valid_if b stored) (sym is)
-    by false h = cc
+pub hold-each_new : (kind : ℕ → Option Kind) (gs : List Group) → each_new kind [] gs ≡ groups_hold kind gs
+hold-each_new kind gs = hold-new kind [] gs ∙ ap (λ b. b && groups_hold kind gs) (none_of-nil gs)
 
--- ---- the index: one key more is seen
+-- ---- one group more is taken into the map
 
-abbrev pub same : FrameKey → FrameKey → Bool
-same k j = same_key (key_of k) (key_of j)
+-- the keys of groups
+abbrev pub keys_in : List Group → List Key
+keys_in gs = map (λ (g : Group). g.key) gs
 
-seen_any : (k : FrameKey) (ks : List FrameKey) → list_any (same_key (key_of k)) (map key_of ks) ≡ list_any (same k) ks
-seen_any k [] = refl
-seen_any k (j ∷ ks) = ap (λ b. same k j || b) (seen_any k ks)
+module _ (kind : ℕ → Option Kind) (ks : List Key) (gs : List Group) (i : ℕ) (g : Group) (lt : i < length gs) (at : g ≡ get_or gs i g) (left : each_new kind ks (drop i gs) ≡ groups_hold kind gs) where
+  opened : (group_holds kind g && (not (list_any (same_key g.key) ks) && each_new kind (ks ++ g.key ∷ []) (drop (i + 1) gs))) ≡ groups_hold kind gs
+  unfolding each_new
+  opened = sym (ap (each_new kind ks) (drop_more gs i g lt ∙ ap (λ h. h ∷ drop (i + 1) gs) (sym at))) ∙ left
 
-drop_at : (gs : List Group) (i : ℕ) (g : Group) → i < length gs → g ≡ get_or gs i g → drop i gs ≡ g ∷ drop (i + 1) gs
-drop_at gs i g lt at = drop_more gs i g lt ∙ ap (λ h. h ∷ drop (i + 1) gs) (sym at)
+  pub group_refused : group_holds kind g ≡ false → groups_hold kind gs ≡ false
+  group_refused bad = sym opened ∙ ap (λ b. b && (not (list_any (same_key g.key) ks) && each_new kind (ks ++ g.key ∷ []) (drop (i + 1) gs))) bad
 
-new_step : (ks : List FrameKey) (k : FrameKey) (gs : List Group) (i : ℕ) (g : Group) (b : Bool) → i < length gs → g ≡ get_or gs i g → key_of k ≡ g.key
-    → are_new (map key_of ks) (drop i gs) ≡ are_new [] gs → b ≡ not (list_any (same k) ks)
-    → are_new [] gs ≡ (b && are_new (map key_of (ks ++ k ∷ [])) (drop (i + 1) gs))
-unfolding are_new
-new_step ks k gs i g b lt at key left added =
-    sym left
-    ∙ ap (are_new (map key_of ks)) (drop_at gs i g lt at)
-    ∙ ap (λ (l : Key). not (list_any (same_key l) (map key_of ks)) && are_new (map key_of ks ++ l ∷ []) (drop (i + 1) gs)) (sym key)
-    ∙ ap (λ c. not c && are_new (map key_of ks ++ key_of k ∷ []) (drop (i + 1) gs)) (seen_any k ks)
-    ∙ ap (λ c. c && are_new (map key_of ks ++ key_of k ∷ []) (drop (i + 1) gs)) (sym added)
-    ∙ ap (λ ts. b && are_new ts (drop (i + 1) gs)) (sym (map-append key_of ks (k ∷ [])))
+  pub key_again : group_holds kind g ≡ true → list_any (same_key g.key) ks ≡ true → groups_hold kind gs ≡ false
+  key_again good again = sym opened ∙ (λ j. good j && (not (again j) && each_new kind (ks ++ g.key ∷ []) (drop (i + 1) gs)))
 
-pub key_again : (ks : List FrameKey) (k : FrameKey) (gs : List Group) (i : ℕ) (g : Group) (b : Bool) → i < length gs → g ≡ get_or gs i g → key_of k ≡ g.key
-    → are_new (map key_of ks) (drop i gs) ≡ are_new [] gs → b ≡ not (list_any (same k) ks) → b ≡ false
-    → false ≡ are_new [] gs
-key_again ks k gs i g b lt at key left added again =
-    sym (new_step ks k gs i g b lt at key left added ∙ ap (λ c. c && are_new (map key_of (ks ++ k ∷ [])) (drop (i + 1) gs)) again)
+  pub key_new : group_holds kind g ≡ true → list_any (same_key g.key) ks ≡ false → each_new kind (ks ++ g.key ∷ []) (drop (i + 1) gs) ≡ groups_hold kind gs
+  key_new good new = (λ j. sym good j && (not (sym new j) && each_new kind (ks ++ g.key ∷ []) (drop (i + 1) gs))) ∙ opened
 
-pub key_new : (ks after : List FrameKey) (k : FrameKey) (gs : List Group) (i : ℕ) (g : Group) (b : Bool) → i < length gs → g ≡ get_or gs i g → key_of k ≡ g.key
-    → are_new (map key_of ks) (drop i gs) ≡ are_new [] gs → b ≡ not (list_any (same k) ks) → b ≡ true → after ≡ cond (list_any (same k) ks) ks (ks ++ k ∷ [])
-    → are_new (map key_of after) (drop (i + 1) gs) ≡ are_new [] gs
-key_new ks after k gs i g b lt at key left added fresh inserted =
-    ap (λ js. are_new (map key_of js) (drop (i + 1) gs)) (inserted ∙ by (list_any (same k) ks) (sym added ∙ fresh))
-    ∙ sym (new_step ks k gs i g b lt at key left added ∙ ap (λ c. c && are_new (map key_of (ks ++ k ∷ [])) (drop (i + 1) gs)) fresh)
-  where
-    by : (b : Bool) → not b ≡ true → cond b ks (ks ++ k ∷ []) ≡ ks ++ k ∷ []
-    by true h = cc
-    by false h = refl
+-- the map has a key where a group has it
+pub key_listed : (k : FrameKey) (es : List (FrameKey × OpenGroup)) → list_any (same_key (key_of k)) (keys_in (groups_in es)) ≡ is_some (lookup (λ (j : FrameKey). same_key (key_of k) (key_of j)) es)
+key_listed k [] = refl
+key_listed k (e ∷ es) =
+    ap (λ b. same_key (key_of k) (key_of e.0) || b) (key_listed k es)
+    ∙ elim (same_key (key_of k) (key_of e.0)) as (λ b. (b || is_some (lookup (λ (j : FrameKey). same_key (key_of k) (key_of j)) es)) ≡ is_some (cond b (Some e.1) (lookup (λ (j : FrameKey). same_key (key_of k) (key_of j)) es))) [ true ↦ refl | false ↦ refl ]
+
+none_listed : (k : Key) (gs : List Group) → list_any (same_key k) (keys_in gs) ≡ false → AllByRecursion (λ (g : Group). same_key k g.key ≡ false) gs
+none_listed k [] none = tt
+none_listed k (g ∷ gs) none = let parts = or_parts _ _ none in (parts.0, none_listed k gs parts.1)
+
+-- a group of a new key is the last
+pub grown : (k : FrameKey) (v : OpenGroup) (es : List (FrameKey × OpenGroup)) → list_any (same_key (key_of k)) (keys_in (groups_in es)) ≡ false
+    → groups_in (insert_entry (λ (a b : FrameKey). same_key (key_of a) (key_of b)) es k v) ≡ groups_in es ++ group_at (k, v) ∷ []
+grown k v es new = ap groups_in (insert-last k v es (none_listed (key_of k) (groups_in es) new)) ∙ map-append group_at es ((k, v) ∷ [])
+
+-- What is stored is one group more of those that are read.
+module _ (kind : ℕ → Option Kind) (gs : List Group) (i : ℕ) (g : Group) (lt : i < length gs) (at : g ≡ get_or gs i g) (k : FrameKey) (v : OpenGroup) (es next : List (FrameKey × OpenGroup))
+    (is : group_at (k, v) ≡ g) (new : lookup (λ (j : FrameKey). same_key (key_of k) (key_of j)) es ≡ None) (inserted : next ≡ insert_entry (λ (a b : FrameKey). same_key (key_of a) (key_of b)) es k v) where
+  unseen : list_any (same_key (key_of k)) (keys_in (groups_in es)) ≡ false
+  unseen = key_listed k es ∙ ap is_some new
+
+  last : groups_in next ≡ groups_in es ++ g ∷ []
+  last = ap groups_in inserted ∙ grown k v es unseen ∙ ap (λ h. groups_in es ++ h ∷ []) is
+
+  pub stored_kept : groups_in es ≡ take i gs → groups_in next ≡ take (i + 1) gs
+  stored_kept kept = last ∙ ap (λ hs. hs ++ g ∷ []) kept ∙ sym (take_more gs i g lt ∙ ap (λ h. take i gs ++ h ∷ []) (sym at))
+
+  pub stored_left : group_holds kind g ≡ true → each_new kind (keys_in (groups_in es)) (drop i gs) ≡ groups_hold kind gs → each_new kind (keys_in (groups_in next)) (drop (i + 1) gs) ≡ groups_hold kind gs
+  stored_left good left =
+      ap (λ hs. each_new kind (keys_in hs) (drop (i + 1) gs)) last
+      ∙ ap (λ ks. each_new kind ks (drop (i + 1) gs)) (map-append (λ (h : Group). h.key) (groups_in es) (g ∷ []))
+      ∙ key_new kind (keys_in (groups_in es)) gs i g lt at left good (ap (λ (h : Group). list_any (same_key h.key) (keys_in (groups_in es))) (sym is) ∙ unseen)
+
+  pub stored_parts : AllByRecursion HasParts (groups_in es) → HasParts (group_at (k, v)) → AllByRecursion HasParts (groups_in next)
+  stored_parts each one = subst (AllByRecursion HasParts) (sym last) (all-append HasParts (groups_in es) (g ∷ []) each (subst HasParts is one, tt))

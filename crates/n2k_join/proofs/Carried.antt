@@ -56,7 +56,7 @@ has_twice-push (f ∷ g) x h =
     ∙ ap (λ b. (f.number == x.number) || b) (has_twice-push g x (or_parts _ _ h).1)
     ∙ elim (f.number == x.number) as (λ b. (b || has_number x.number g) ≡ is_some (cond b (Some f.bytes) (carried g x.number))) [ true ↦ refl | false ↦ refl ]
 
-within_there : (last : ℕ) (g : List Frame) (n : ℕ) → is_within last g ≡ true → has_number n g ≡ true → nat_le n last ≡ true
+pub within_there : (last : ℕ) (g : List Frame) (n : ℕ) → is_within last g ≡ true → has_number n g ≡ true → nat_le n last ≡ true
 within_there last [] n w h = absurd (false≢true h)
 within_there last (f ∷ g) n w h = by (f.number == n) refl h (within_there last g n (and_parts _ _ w).1)
   where
@@ -64,7 +64,7 @@ within_there last (f ∷ g) n w h = by (f.number == n) refl h (within_there last
     by true e h rest = subst (λ k. nat_le k last ≡ true) (eqb-true f.number n e) (and_parts _ _ w).0
     by false e h rest = rest h
 
-within_back : (last : ℕ) (g : List Frame) → ((n : ℕ) → has_number n g ≡ true → nat_le n last ≡ true) → is_within last g ≡ true
+pub within_back : (last : ℕ) (g : List Frame) → ((n : ℕ) → has_number n g ≡ true → nat_le n last ≡ true) → is_within last g ≡ true
 within_back last [] all = refl
 within_back last (f ∷ g) all =
     and_from _ _ (all f.number (ap (λ b. is_some (cond b (Some f.bytes) (carried g f.number))) (eq-eqb f.number f.number refl)))

@@ -1,20 +1,18 @@
 -- The fit groups after a frame, as the code makes them: by the place of the group of its key.
 use Rattle.std.proofs.Common.{◌≡◌, ℕ, zero, suc, ◌+◌, ◌<◌, ◌≤◌, Bool, true, false, not, cond, List, [], ◌∷◌, ◌++◌, length, ltb, get_or, take, drop, set, ◌||◌, Result, Ok, Err, OnErr, Option, Some, None, option_to_list, filter_map, find, reverse, length-append, refl, sym, ap, ◌∙◌, arith}
 use mathlib.Core.Path.{fun_ext}
-use Rattle.std.specs.Prelude.{is_some, position}
-use Rattle.n2k_wire.specs.Packet.{PacketParts}
-use Rattle.n2k_join.specs.declared.piece.FastFrame.{FastFrame}
+use Rattle.std.specs.Prelude.{position}
 use Rattle.std.specs.List.{AllByRecursion, cons_option, list_any, position_or_len}
 use Rattle.std.proofs.lemmas.Bool.{ltb-false, or_from, false≢true, false_from_ne_true}
 use Rattle.std.proofs.lemmas.List.{append-nil, take-set, drop-set-lt}
 use Rattle.std.proofs.lemmas.List.Quantifiers.{position-Some}
 use Rattle.std.proofs.lemmas.Option.{none-some}
-use Rattle.n2k_join.specs.Messages.{message_of, broken_of}
+use Rattle.n2k_join.specs.Messages.{broken_of}
 use Rattle.n2k_join.specs.Frames.{Key, same_key, Frame, most_frames}
 use Rattle.n2k_join.specs.Groups.{complete, has_number, data_of, first}
 use Rattle.n2k_join.specs.Open.{Piece, Group, pieces_of, group_of}
 use Rattle.n2k_join.specs.State.{held_frame, held_of, IsOpen, AreApart}
-use Rattle.n2k_join.specs.Inner.Stored.{bars, key_of, frame_of, stored_frames, stored_group, with_frame, joined, taken, begun, of_the_key, opened, groups_after, message_if, gained, lost}
+use Rattle.n2k_join.specs.Inner.Stored.{bars, with_frame, joined, taken, begun, of_the_key, opened, groups_after, message_if, gained, lost}
 use Rattle.n2k_join.proofs.Carried.{carried-append, has_twice-push, complete-same, data_of-same, pieces_of-same}
 use Rattle.n2k_join.proofs.Cuts.{has-from}
 use Rattle.n2k_join.proofs.Held.{carried-kept, has_twice-kept, has_twice-held, length-held, all-held, all-reverse, first-held}
@@ -75,12 +73,6 @@ module _ (o : Group) (x : Frame) (fit : IsOpen o) (missing : has_number x.number
   pub data_of-with_frame : data_of (held_of (with_frame o x)) ≡ data_of (held_of o ++ x ∷ [])
   data_of-with_frame = ap (λ (g : Group). data_of (held_of g)) (with_frame-group_of o x fit) ∙ data_of-group_of o.key (held_of o ++ x ∷ []) (fine-push (held_of o) x (fine-held o fit) missing small)
 
--- the group that a frame opens, by its piece
-pub begun_by : (line : ℕ) (packet : PacketParts) (frame : FastFrame) → stored_group line (key_of frame.key) (frame.piece ∷ []) ≡ group_of (key_of frame.key) (frame_of line packet frame ∷ [])
-begun_by line packet frame =
-    ap (λ ps. record { first = line; key = key_of frame.key; pieces = ps })
-    (pieces_of-same (stored_frames line (key_of frame.key) (frame.piece ∷ [])) (frame_of line packet frame ∷ []) refl)
-
 -- ---- the group of a key among groups
 
 -- groups of other keys stay as they are
@@ -101,7 +93,7 @@ none-pass P (g ∷ gs) past = by (P g) refl past (λ l. none-pass P gs l)
     by true e l rest = absurd (omega (arith, l))
     by false e l rest = (e, rest (omega (arith, l)))
 
-position-None : (P : Group → Bool) (gs : List Group) → position P gs ≡ None → AllByRecursion (λ (g : Group). P g ≡ false) gs
+pub position-None : (P : Group → Bool) (gs : List Group) → position P gs ≡ None → AllByRecursion (λ (g : Group). P g ≡ false) gs
 position-None P gs none = by (ltb (position_or_len P gs) (length gs)) refl none
   where
     by : (b : Bool) → ltb (position_or_len P gs) (length gs) ≡ b → cond b (Some (position_or_len P gs)) None ≡ None → AllByRecursion (λ (g : Group). P g ≡ false) gs
@@ -141,10 +133,6 @@ set-parts : (gs : List Group) (i : ℕ) (y : Group) → i < length gs → set gs
 set-parts [] i y l = absurd (omega arith)
 set-parts (g ∷ gs) zero y l = refl
 set-parts (g ∷ gs) (suc i) y l = ap (λ hs. g ∷ hs) (set-parts gs i y (omega arith))
-
--- a message is there exactly where the frames are complete
-pub is_some-message_if : (x : Frame) (g : List Frame) → is_some (message_if x g) ≡ complete g
-is_some-message_if x g = elim (complete g) as (λ b. is_some (cond b (Some (message_of x g)) None) ≡ b) [ true ↦ refl | false ↦ refl ]
 
 -- where no group has the frame's key
 pub none_at_all : (order : Bool) (x : Frame) (gs : List Group) → position (λ (g : Group). same_key x.key g.key) gs ≡ None

@@ -1,18 +1,22 @@
--- Groups made of frames by rising number, as a saved state has them.
-use Rattle.std.proofs.Common.{◌≡◌, ◌≤◌, ◌<◌, ◌+◌, ◌==◌, ℕ, zero, suc, true, false, List, [], ◌∷◌, ◌++◌, map, reverse, get_or, Option, Some, None, option_map, refl, sym, ap, ◌∙◌, subst, arith, slice_index_or}
+-- Pieces by rising number, as a saved state has them, taken into a group one by one.
+use Rattle.std.proofs.Common.{◌≡◌, ◌≤◌, ◌<◌, ◌+◌, ◌==◌, ℕ, zero, suc, Bool, true, false, not, ◌&&◌, cond, length, take, drop, subst, List, [], ◌∷◌, ◌++◌, map, reverse, get_or, Option, Some, None, option_map, refl, sym, ap, ◌∙◌, arith, slice_index_or}
+use mathlib.Core.Path.{fun_ext}
+use Rattle.std.specs.Option.{option_or}
 use Rattle.std.specs.List.{AllByRecursion}
-use Rattle.std.proofs.lemmas.Bool.{eqb-true, ltb-true}
-use Rattle.n2k_join.specs.declared.piece.StoredPiece.{StoredPiece}
+use Rattle.std.proofs.lemmas.Bool.{eqb-true, ltb-true, ne_eqb}
+use Rattle.std.proofs.lemmas.List.{map-append, reverse-append, take_more, drop_more, drop_all}
+use Rattle.n2k_table.specs.declared.definition.Kind.{Kind}
+use Rattle.n2k_join.specs.declared.piece.OpenGroup.{OpenGroup}
 use Rattle.n2k_join.specs.Frames.{Key, most_frames, longest_total}
-use Rattle.n2k_join.specs.Groups.{carried, has_twice}
+use Rattle.n2k_join.specs.Groups.{carried, complete}
 use Rattle.n2k_join.specs.Open.{Piece, Group, piece_at, pieces_of}
-use Rattle.n2k_join.specs.Resumed.{pieces_rise, total_holds}
-use Rattle.n2k_join.specs.State.{Rise, IsKey, IsPiece, HasParts, held_frame}
-use Rattle.n2k_join.specs.Inner.Stored.{piece_of, stored_frame, stored_frames, stored_group}
-use Rattle.n2k_join.proofs.Held.{carried-held, has_twice-held, held_frames, piece_in}
-use Rattle.n2k_join.proofs.Rising.{filter_map-range, find-passes, look-range}
-use mathlib.Core.List.{reverse-cons}
-use Rattle.std.proofs.lemmas.List.{map-append}
+use Rattle.n2k_join.specs.Resumed.{pieces_rise, piece_holds, total_holds, key_holds, is_some_list, group_holds}
+use Rattle.n2k_join.specs.State.{Rise, IsPiece, held_frame, held_of}
+use Rattle.n2k_join.specs.Inner.Slots.{slot_of, group_in}
+use Rattle.n2k_join.proofs.Carried.{carried-append, option_or_none, pieces_of-same}
+use Rattle.n2k_join.proofs.Held.{carried-held, held_frames, piece_in}
+use Rattle.n2k_join.proofs.Rising.{filter_map-range, find-none, find-passes, look-range, all-map, all-append}
+use Rattle.n2k_join.proofs.SlotLemmas.{carried-slots}
 use Rattle.n2k_join.proofs.StateTests.{both, at_most}
 
 abbrev number_of : Piece → ℕ
@@ -40,17 +44,7 @@ pub total_from : (n : ℕ) (bs : List ℕ) → total_holds n bs ≡ true → n �
 total_from zero bs h e = at_most (slice_index_or bs 0 0) longest_total h
 total_from (suc n) bs h e = absurd (omega (arith, e))
 
--- ---- frames that are stored by falling number
-
-abbrev bare : ℕ → Key → Group
-bare first key = record { first = first; key = key; pieces = [] }
-
-reversed_frames : (first : ℕ) (key : Key) (sp : List StoredPiece) → stored_frames first key (reverse sp) ≡ held_frames (bare first key) (map piece_of sp)
-reversed_frames first key [] = refl
-reversed_frames first key (p ∷ sp) =
-    ap (map (stored_frame first key)) (reverse-cons p sp) ∙ map-append (stored_frame first key) (reverse sp) (p ∷ [])
-    ∙ ap (λ fs. fs ++ stored_frame first key p ∷ []) (reversed_frames first key sp)
-    ∙ sym (ap (map (held_frame (bare first key))) (reverse-cons (piece_of p) (map piece_of sp)) ∙ map-append (held_frame (bare first key)) (reverse (map piece_of sp)) (piece_of p ∷ []))
+-- ---- pieces that join a group by rising number
 
 pieces_back : (o : Group) (ps : List Piece) → Rise number_of 0 ps → AllByRecursion (λ (p : Piece). p.number < most_frames) ps → pieces_of (held_frames o ps) ≡ ps
 unfolding pieces_of
@@ -68,31 +62,115 @@ pieces_back o ps rise small =
     same : (n : ℕ) → piece_at (carried (held_frames o ps)) n ≡ piece_in ps n
     same n = ap (option_map (λ (bytes : List ℕ). record { number = n; bytes = bytes })) (carried-held o 0 ps n rise) ∙ by n (piece_in ps n) refl
 
--- the group of frames by rising number, stored by falling
-pub stored_back : (first : ℕ) (key : Key) (sp : List StoredPiece) → pieces_rise 0 (map piece_of sp) ≡ true
-    → stored_group first key (reverse sp) ≡ record { first = first; key = key; pieces = map piece_of sp }
-stored_back first key sp rise =
-    let o : Group = bare first key in
-    λ i. record {
-      first = first;
-      key = key;
-      pieces = (ap pieces_of (reversed_frames first key sp) ∙ pieces_back o (map piece_of sp) (rise_from 0 (map piece_of sp) rise) (small_from 0 (map piece_of sp) rise)) i;
-    }
+-- a piece behind those whose numbers are all smaller
+rise-last : (least : ℕ) (ps : List Piece) (p : Piece) → Rise number_of least ps → AllByRecursion (λ (q : Piece). q.number < p.number) ps → least ≤ p.number → Rise number_of least (ps ++ p ∷ [])
+rise-last least [] p rise below l = (l, tt)
+rise-last least (q ∷ ps) p rise below l = (rise.0, rise-last (q.number + 1) ps p rise.1 below.1 (omega (arith, below.0)))
 
-pub once_back : (first : ℕ) (key : Key) (sp : List StoredPiece) → pieces_rise 0 (map piece_of sp) ≡ true → has_twice (stored_frames first key (reverse sp)) ≡ false
-once_back first key sp rise =
-    let o : Group = bare first key in
-    ap has_twice (reversed_frames first key sp) ∙ has_twice-held o 0 (map piece_of sp) (rise_from 0 (map piece_of sp) rise)
+-- nothing is carried under a number that all others are below
+pub carried-past : (o : Group) (ps : List Piece) (n : ℕ) → Rise number_of 0 ps → AllByRecursion (λ (q : Piece). q.number < n) ps → carried (held_frames o ps) n ≡ None
+carried-past o ps n rise below =
+    carried-held o 0 ps n rise
+    ∙ ap (option_map (λ (p : Piece). p.bytes)) (find-none (λ (p : Piece). p.number == n) ps (all-map (λ (q : Piece). q.number < n) (λ (q : Piece). (q.number == n) ≡ false) ps (λ q l. ne_eqb q.number n (λ e. omega (arith, e, l))) below))
 
--- the same, of frames that were turned round in their vector
-pub turned_back : (first : ℕ) (key : Key) (sp turned : List StoredPiece) → turned ≡ reverse sp → pieces_rise 0 (map piece_of sp) ≡ true
-    → stored_group first key turned ≡ record { first = first; key = key; pieces = map piece_of sp }
-turned_back first key sp turned is rise = ap (stored_group first key) is ∙ stored_back first key sp rise
+-- The piece that follows those of a group is its last.
+pub piece-last : (o : Group) (ps : List Piece) (p : Piece) → o.pieces ≡ ps → Rise number_of 0 ps → AllByRecursion (λ (q : Piece). q.number < p.number) ps
+    → AllByRecursion (λ (q : Piece). q.number < most_frames) ps → p.number < most_frames
+    → pieces_of (held_of o ++ held_frame o p ∷ []) ≡ ps ++ p ∷ []
+piece-last o ps p is rise below small fits =
+    let held : held_of o ≡ held_frames o ps = ap (held_frames o) is in
+    ap (λ fs. pieces_of (fs ++ held_frame o p ∷ [])) held
+    ∙ ap pieces_of (sym (map-append (held_frame o) (reverse ps) (p ∷ [])))
+    ∙ pieces_of-same (map (held_frame o) (reverse ps ++ p ∷ [])) (held_frames o (ps ++ p ∷ [])) (fun_ext carry)
+    ∙ pieces_back o (ps ++ p ∷ []) (rise-last 0 ps p rise below (omega arith)) (all-append (λ (q : Piece). q.number < most_frames) ps (p ∷ []) small (fits, tt))
+  where
+    turned : held_frames o (ps ++ p ∷ []) ≡ held_frame o p ∷ held_frames o ps
+    turned = ap (map (held_frame o)) (reverse-append ps (p ∷ []))
 
-pub turned_once : (first : ℕ) (key : Key) (sp turned : List StoredPiece) → turned ≡ reverse sp → pieces_rise 0 (map piece_of sp) ≡ true
-    → has_twice (stored_frames first key turned) ≡ false
-turned_once first key sp turned is rise = ap (λ ps. has_twice (stored_frames first key ps)) is ∙ once_back first key sp rise
+    by : (n : ℕ) (b : Bool) → (p.number == n) ≡ b → option_or (carried (held_frames o ps) n) (cond b (Some p.bytes) None) ≡ cond b (Some p.bytes) (carried (held_frames o ps) n)
+    by n true e = ap (λ (c : Option (List ℕ)). option_or c (Some p.bytes)) (ap (carried (held_frames o ps)) (sym (eqb-true p.number n e)) ∙ carried-past o ps p.number rise below)
+    by n false e = option_or_none (carried (held_frames o ps) n)
 
-pub turned_parts : (first : ℕ) (key : Key) (sp : List StoredPiece) (g : Group) → g ≡ record { first = first; key = key; pieces = map piece_of sp }
-    → IsKey key → AllByRecursion IsPiece (map piece_of sp) → HasParts g
-turned_parts first key sp g is is_key parts = subst HasParts (sym is) (record { key = is_key; pieces = parts })
+    carry : (n : ℕ) → carried (map (held_frame o) (reverse ps ++ p ∷ [])) n ≡ carried (held_frames o (ps ++ p ∷ [])) n
+    carry n =
+        ap (λ fs. carried fs n) (map-append (held_frame o) (reverse ps) (p ∷ []))
+        ∙ carried-append (held_frames o ps) (held_frame o p ∷ []) n
+        ∙ by n (p.number == n) refl
+        ∙ ap (λ fs. carried fs n) (sym turned)
+
+-- ---- the pieces of a list, taken in turn
+
+take_next : (ps : List Piece) (i : ℕ) (p : Piece) → i < length ps → p ≡ get_or ps i p → take (i + 1) ps ≡ take i ps ++ p ∷ []
+take_next ps i p lt at = take_more ps i p lt ∙ ap (λ q. take i ps ++ q ∷ []) (sym at)
+
+-- an empty slot for a number that all pieces are below
+pub slot-past : (v : OpenGroup) (g : Group) (key : Key) (n : ℕ) → group_in key v ≡ g → Rise number_of 0 g.pieces → AllByRecursion (λ (q : Piece). q.number < n) g.pieces → n < most_frames → slot_of v n ≡ None
+slot-past v g key n is rise below fits =
+    sym (carried-slots key v n fits) ∙ ap (λ (h : Group). carried (held_of h) n) is ∙ carried-past g g.pieces n rise below
+
+module _ (ps : List Piece) (i least : ℕ) (p : Piece) (lt : i < length ps) (at : p ≡ get_or ps i p) (holds : piece_holds least p ≡ true) where
+  above : least ≤ p.number
+  above = at_most least p.number (both _ _ holds).0
+
+  fits : p.number < most_frames
+  fits = ltb-true p.number most_frames (both _ _ (both _ _ holds).1).0
+
+  pub below-next : AllByRecursion (λ (q : Piece). q.number < least) (take i ps) → AllByRecursion (λ (q : Piece). q.number < p.number) (take i ps)
+  below-next below = all-map (λ (q : Piece). q.number < least) (λ (q : Piece). q.number < p.number) (take i ps) (λ q l. omega (arith, l, above)) below
+
+  pub left-next : pieces_rise least (drop i ps) ≡ pieces_rise 0 ps → pieces_rise (p.number + 1) (drop (i + 1) ps) ≡ pieces_rise 0 ps
+  unfolding pieces_rise
+  left-next left =
+      ap (λ b. b && pieces_rise (p.number + 1) (drop (i + 1) ps)) (sym holds)
+      ∙ sym (ap (pieces_rise least) (drop_more ps i p lt ∙ ap (λ q. q ∷ drop (i + 1) ps) (sym at)))
+      ∙ left
+
+  pub rise-next : Rise number_of 0 (take i ps) → AllByRecursion (λ (q : Piece). q.number < least) (take i ps) → Rise number_of 0 (take (i + 1) ps)
+  rise-next rise below = subst (Rise number_of 0) (sym (take_next ps i p lt at)) (rise-last 0 (take i ps) p rise (below-next below) (omega arith))
+
+  pub all-next : AllByRecursion (λ (q : Piece). q.number < least) (take i ps) → AllByRecursion (λ (q : Piece). q.number < p.number + 1) (take (i + 1) ps)
+  all-next below =
+      let before = all-map (λ (q : Piece). q.number < p.number) (λ (q : Piece). q.number < p.number + 1) (take i ps) (λ q l. omega (arith, l)) (below-next below) in
+      subst (AllByRecursion (λ (q : Piece). q.number < p.number + 1)) (sym (take_next ps i p lt at)) (all-append (λ (q : Piece). q.number < p.number + 1) (take i ps) (p ∷ []) before (omega arith, tt))
+
+  pub parts-next : AllByRecursion IsPiece (take i ps) → IsPiece p → AllByRecursion IsPiece (take (i + 1) ps)
+  parts-next parts one = subst (AllByRecursion IsPiece) (sym (take_next ps i p lt at)) (all-append IsPiece (take i ps) (p ∷ []) parts (one, tt))
+
+  -- the group with the next piece
+  pub kept-next : (o q : Group) (r : Piece) (first : ℕ) (key : Key) → r ≡ p → o ≡ record { first = first; key = key; pieces = take i ps } → q ≡ record o { pieces = pieces_of (held_of o ++ held_frame o r ∷ []) }
+      → Rise number_of 0 (take i ps) → AllByRecursion (λ (x : Piece). x.number < least) (take i ps) → q ≡ record { first = first; key = key; pieces = take (i + 1) ps }
+  kept-next o q r first key same is taken rise below =
+      let small = all-map (λ (x : Piece). x.number < p.number) (λ (x : Piece). x.number < most_frames) (take i ps) (λ x l. omega (arith, l, fits)) (below-next below) in
+      let pieces = ap (λ (x : Piece). pieces_of (held_of o ++ held_frame o x ∷ [])) same ∙ piece-last o (take i ps) p (ap (λ (g : Group). g.pieces) is) rise (below-next below) small fits ∙ sym (take_next ps i p lt at) in
+      taken ∙ (λ j. let h : Group = is j in record { first = h.first; key = h.key; pieces = pieces j })
+
+-- all are taken
+pub all-taken : (ps : List Piece) (i least : ℕ) → length ps ≤ i → pieces_rise least (drop i ps) ≡ pieces_rise 0 ps → pieces_rise 0 ps ≡ true
+unfolding pieces_rise
+all-taken ps i least end left = sym left ∙ ap (pieces_rise least) (drop_all i ps end)
+
+-- ---- a group that is read
+
+module _ (kind : ℕ → Option Kind) (g : Group) where
+  pub pieces-refused : pieces_rise 0 g.pieces ≡ false → group_holds kind g ≡ false
+  unfolding group_holds
+  pieces-refused bad = (λ j. key_holds kind g.key && (is_some_list g.pieces && (bad j && not (complete (held_of g))))) ∙ both-false (key_holds kind g.key) (is_some_list g.pieces)
+    where
+      both-false : (a b : Bool) → (a && (b && false)) ≡ false
+      both-false true true = refl
+      both-false true false = refl
+      both-false false b = refl
+
+  pub complete-refused : complete (held_of g) ≡ true → group_holds kind g ≡ false
+  unfolding group_holds
+  complete-refused done = (λ j. key_holds kind g.key && (is_some_list g.pieces && (pieces_rise 0 g.pieces && not (done j)))) ∙ three-false (key_holds kind g.key) (is_some_list g.pieces) (pieces_rise 0 g.pieces)
+    where
+      three-false : (a b c : Bool) → (a && (b && (c && false))) ≡ false
+      three-false true true true = refl
+      three-false true true false = refl
+      three-false true false c = refl
+      three-false false b c = refl
+
+  pub group-taken : key_holds kind g.key ≡ true → is_some_list g.pieces ≡ true → pieces_rise 0 g.pieces ≡ true → complete (held_of g) ≡ false → group_holds kind g ≡ true
+  unfolding group_holds
+  group-taken key some rise left = λ j. key j && (some j && (rise j && not (left j)))

@@ -31,6 +31,9 @@ fn byte_or_filler(bytes: &[u8], at: usize) -> u8
 fn seven_bytes(rest: &[u8]) -> [u8; 7]
     ensures { result ≡ seven_bytes rest.now }
 {
+    if let Some(bytes) = rest.first_chunk::<7>() {
+        return *bytes;
+    }
     let at = |i| byte_or_filler(rest, i);
     [at(0), at(1), at(2), at(3), at(4), at(5), at(6)]
 }

@@ -20,9 +20,9 @@ ghost use Rattle.n2k_join.specs.Inner.Told.{packet_in, told};
 
 use crate::counts::{Counts, MOST_LINES};
 use crate::fault::JoinFault;
-use crate::group::StoredGroup;
 use crate::laws;
 use crate::outcome::{Outcome, packet_of, take_entry};
+use crate::piece::{FrameKey, OpenGroup};
 use crate::saved::{
     SpelledGroup, SpelledState, format_in, parsed, read_state, rules_hold, state_text,
     stored_groups,
@@ -32,6 +32,7 @@ use crate::broken::Broken;
 use crate::saved::Place;
 use crate::step::{LentStep, Step};
 use crate::window::Window;
+use indexmap::IndexMap;
 use n2k_table::Table;
 use n2k_wire::{Entry, Id, Packet};
 use std::alloc::{AllocError, Global};
@@ -44,17 +45,18 @@ pub struct Join {
     id: [u8; 32],
     window: Window,
     counts: Counts,
-    groups: Vec<StoredGroup>,
+    groups: IndexMap<FrameKey, OpenGroup>,
 }
 
 impl Model for Join {
+    ghost use Rattle.n2k_join.specs.Inner.Slots.{groups_in};
     ghost use Rattle.n2k_join.specs.State.{State, IsState};
 
     ghost Value = { State };
 
-    ghost view = { λ j. record { id = j.id; rule = j.window; counts = j.counts; groups = j.groups.items } };
+    ghost view = { λ j. record { id = j.id; rule = j.window; counts = j.counts; groups = groups_in j.groups.entries } };
 
-    ghost invariant = { λ j. IsState (record { id = j.id; rule = j.window; counts = j.counts; groups = j.groups.items }) };
+    ghost invariant = { λ j. IsState (record { id = j.id; rule = j.window; counts = j.counts; groups = groups_in j.groups.entries }) };
 }
 
 // What the types say of the parts of a packet.
@@ -112,7 +114,7 @@ impl Join {
             id: table.id(),
             window,
             counts: Counts::NONE,
-            groups: Vec::new(alloc),
+            groups: IndexMap::new(alloc),
         }
     }
 
@@ -138,11 +140,11 @@ impl Join {
         if self.counts.lines == MOST_LINES {
             return None;
         }
-        let oldest = self.groups.first()?;
-        if self.counts.lines + 1 < oldest.first() + u64::from(self.window.get()) {
+        let (key, group) = self.groups.first()?;
+        if self.counts.lines + 1 < group.first + u64::from(self.window.get()) {
             return None;
         }
-        Some(oldest.broken())
+        Some(group.broken(key))
     }
 
     /// Breaks the oldest open group whose window ends at the next line, if not before, and answers what is told of it.
@@ -155,9 +157,11 @@ impl Join {
         ensures unchanged { IsNone result → self.new ≡ self.old }
         ensures one_step { (kind : ℕ → Option Kind) (e : Entry) (group : Group) → due self.old ≡ Some group → ExpiresFirst kind self.old e group }
         ensures waiting { AreWaiting self.old → AreWaiting self.new }
+        ensures none_due { IsNone result → due self.new ≡ None }
+        ensures fewer { IsSome result → length self.new.groups < length self.old.groups }
     {
         let broken = self.oldest_due()?;
-        self.groups.remove(0);
+        self.groups.shift_remove_index(0);
         let Counts { broken: before, held, .. } = self.counts;
         self.counts = Counts { broken: before + 1, held: held - 1, ..self.counts };
         Some(broken)
@@ -186,9 +190,8 @@ impl Join {
             return Err(JoinFault::TooManyLines);
         }
         know_entry(entry);
-        let alloc = *self.groups.allocator();
         let line = self.counts.lines + 1;
-        let outcome = take_entry(alloc, self.window.is_in_order(), &mut self.groups, line, table, entry, joined)?;
+        let outcome = take_entry(self.window.is_in_order(), &mut self.groups, line, table, entry, joined)?;
         let is_message = outcome.is_message(entry, joined);
         self.counts = counted(self.counts, &outcome, is_message, self.groups.len());
         Ok(outcome)
@@ -255,7 +258,9 @@ impl Join {
         ensures full { IsErrOf result JoinFault.TooManyLines ↔ (self.old.counts.lines ≡ most_lines) }
         ensures memory { IsErrOf result JoinFault.Memory → opens (kind table.now) self.old entry.now ≡ true }
     {
-        *joined = None;
+        if joined.is_some() {
+            *joined = None;
+        }
         let outcome = self.take(table, entry, joined)?;
         Ok(LentStep {
             message: outcome.message(entry, joined),

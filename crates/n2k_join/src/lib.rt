@@ -32,7 +32,6 @@ mod state_fault;
 mod step;
 mod stream;
 mod taking;
-pub mod trial;
 mod window;
 
 pub use broken::Broken;

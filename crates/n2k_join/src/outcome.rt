@@ -8,15 +8,17 @@ ghost use Rattle.n2k_join.specs.Messages.{is_unknown, alone, cause_in, single_by
 ghost use Rattle.n2k_join.specs.State.{IsOpen, AreApart};
 ghost use Rattle.n2k_join.specs.Step.{opens_by};
 ghost use Rattle.n2k_join.specs.Inner.Stored.{gives_by, leaves_by};
+ghost use Rattle.n2k_join.specs.Inner.Slots.{groups_in};
 ghost use Rattle.n2k_join.specs.Inner.Told.{packet_in, told, told_message};
 
 use crate::broken::Broken;
 use crate::frame::fast_frame;
-use crate::group::StoredGroup;
+use crate::piece::{FrameKey, OpenGroup};
 use crate::taking::take_frame;
+use indexmap::IndexMap;
 use n2k_table::{Kind, Table};
 use n2k_wire::{BadCause, Entry, Packet};
-use std::alloc::{AllocError, Global};
+use std::alloc::AllocError;
 
 /// What a line gives. A packet is large, so that the line's own stays in its entry, and one of a group is written to
 /// where the caller wants it.
@@ -112,86 +114,82 @@ pub(crate) fn packet_of(entry: Entry) -> Option<Packet>
 // A frame of a fast PGN.
 #[tactic(auto, unfolding(crate::specs::Frames::fast_frame))]
 fn take_fast(
-    alloc: Global,
     in_order: bool,
-    groups: &mut Vec<StoredGroup>,
+    groups: &mut IndexMap<FrameKey, OpenGroup>,
     line: u64,
     packet: &Packet,
     joined: &mut Option<Packet>,
 ) -> Result<Outcome, AllocError>
-    requires open { AllByRecursion IsOpen groups.old.items }
-    requires apart { AreApart groups.old.items }
+    requires open { AllByRecursion IsOpen (groups_in groups.old.entries) }
+    requires apart { AreApart (groups_in groups.old.entries) }
     requires none { joined.old ≡ None }
-    ensures given { IfOk result (λ o. told o (Some packet.now) joined.new ≡ gives_by in_order None (fast_cause (Some Fast) packet.now) groups.old.items (fast_frame line packet.now)) }
+    ensures given { IfOk result (λ o. told o (Some packet.now) joined.new ≡ gives_by in_order None (fast_cause (Some Fast) packet.now) (groups_in groups.old.entries) (fast_frame line packet.now)) }
     ensures unknown { IfOk result (λ o. o.is_unknown ≡ false) }
-    ensures groups { OnOk result (groups.new.items ≡ leaves_by in_order groups.old.items (fast_frame line packet.now)) }
-    ensures unchanged { OnErr result (groups.new.items ≡ groups.old.items) }
-    ensures memory { OnErr result (opens_by groups.old.items (fast_frame line packet.now) ≡ true) }
+    ensures groups { OnOk result (groups_in groups.new.entries ≡ leaves_by in_order (groups_in groups.old.entries) (fast_frame line packet.now)) }
+    ensures unchanged { OnErr result (groups.new.entries ≡ groups.old.entries) }
+    ensures memory { OnErr result (opens_by (groups_in groups.old.entries) (fast_frame line packet.now) ≡ true) }
 {
     let Some(frame) = fast_frame(packet) else {
         return Ok(Outcome::of_bad(BadCause::Fast));
     };
-    let taken = take_frame(alloc, in_order, groups, line, &frame, packet)?;
-    *joined = taken.message;
+    let broken = take_frame(in_order, groups, line, &frame, packet, joined)?;
     Ok(Outcome {
         is_own: false,
         bad: None,
-        broken: taken.broken,
+        broken,
         is_unknown: false,
     })
 }
 
 // A frame whose PGN is sent as its kind says.
 fn take_packet(
-    alloc: Global,
     in_order: bool,
-    groups: &mut Vec<StoredGroup>,
+    groups: &mut IndexMap<FrameKey, OpenGroup>,
     line: u64,
     kind: Option<Kind>,
     packet: &Packet,
     joined: &mut Option<Packet>,
 ) -> Result<Outcome, AllocError>
-    requires open { AllByRecursion IsOpen groups.old.items }
-    requires apart { AreApart groups.old.items }
+    requires open { AllByRecursion IsOpen (groups_in groups.old.entries) }
+    requires apart { AreApart (groups_in groups.old.entries) }
     requires none { joined.old ≡ None }
-    ensures given { IfOk result (λ o. told o (Some packet.now) joined.new ≡ gives_by in_order (single_by kind packet.now) (fast_cause kind packet.now) groups.old.items (frame_by kind line packet.now)) }
+    ensures given { IfOk result (λ o. told o (Some packet.now) joined.new ≡ gives_by in_order (single_by kind packet.now) (fast_cause kind packet.now) (groups_in groups.old.entries) (frame_by kind line packet.now)) }
     ensures unknown { IfOk result (λ o. o.is_unknown ≡ not (is_some kind)) }
-    ensures groups { OnOk result (groups.new.items ≡ leaves_by in_order groups.old.items (frame_by kind line packet.now)) }
-    ensures unchanged { OnErr result (groups.new.items ≡ groups.old.items) }
-    ensures memory { OnErr result (opens_by groups.old.items (frame_by kind line packet.now) ≡ true) }
+    ensures groups { OnOk result (groups_in groups.new.entries ≡ leaves_by in_order (groups_in groups.old.entries) (frame_by kind line packet.now)) }
+    ensures unchanged { OnErr result (groups.new.entries ≡ groups.old.entries) }
+    ensures memory { OnErr result (opens_by (groups_in groups.old.entries) (frame_by kind line packet.now) ≡ true) }
 {
     match kind {
         None => Ok(Outcome::of_nothing(true)),
         Some(Kind::Single) => Ok(Outcome::of_own()),
-        Some(Kind::Fast) => take_fast(alloc, in_order, groups, line, packet, joined),
+        Some(Kind::Fast) => take_fast(in_order, groups, line, packet, joined),
     }
 }
 
 /// Takes the entry of a line into the open groups. The message of a group that it completes goes to `joined`.
 pub(crate) fn take_entry(
-    alloc: Global,
     in_order: bool,
-    groups: &mut Vec<StoredGroup>,
+    groups: &mut IndexMap<FrameKey, OpenGroup>,
     line: u64,
     table: &Table,
     entry: &Entry,
     joined: &mut Option<Packet>,
 ) -> Result<Outcome, AllocError>
-    requires open { AllByRecursion IsOpen groups.old.items }
-    requires apart { AreApart groups.old.items }
+    requires open { AllByRecursion IsOpen (groups_in groups.old.entries) }
+    requires apart { AreApart (groups_in groups.old.entries) }
     requires none { joined.old ≡ None }
-    ensures given { let k = kind table.now in IfOk result (λ o. told o (packet_in entry.now) joined.new ≡ gives_by in_order (alone k entry.now) (cause_in k entry.now) groups.old.items (frame_in k line entry.now)) }
+    ensures given { let k = kind table.now in IfOk result (λ o. told o (packet_in entry.now) joined.new ≡ gives_by in_order (alone k entry.now) (cause_in k entry.now) (groups_in groups.old.entries) (frame_in k line entry.now)) }
     ensures unknown { IfOk result (λ o. o.is_unknown ≡ is_unknown (kind table.now) entry.now) }
-    ensures groups { OnOk result (groups.new.items ≡ leaves_by in_order groups.old.items (frame_in (kind table.now) line entry.now)) }
-    ensures unchanged { OnErr result (groups.new.items ≡ groups.old.items) }
-    ensures memory { OnErr result (opens_by groups.old.items (frame_in (kind table.now) line entry.now) ≡ true) }
+    ensures groups { OnOk result (groups_in groups.new.entries ≡ leaves_by in_order (groups_in groups.old.entries) (frame_in (kind table.now) line entry.now)) }
+    ensures unchanged { OnErr result (groups.new.entries ≡ groups.old.entries) }
+    ensures memory { OnErr result (opens_by (groups_in groups.old.entries) (frame_in (kind table.now) line entry.now) ≡ true) }
 {
     match entry {
         Entry::Skip => Ok(Outcome::of_nothing(false)),
         Entry::Bad(cause) => Ok(Outcome::of_bad(*cause)),
         Entry::Frame(packet) => {
             let kind = table.kind(packet.id().pgn);
-            take_packet(alloc, in_order, groups, line, kind, packet, joined)
+            take_packet(in_order, groups, line, kind, packet, joined)
         }
         Entry::Whole(packet) => match table.kind(packet.id().pgn) {
             None => Ok(Outcome::of_nothing(true)),

@@ -1,5 +1,8 @@
 //! What the join keeps of a frame.
-ghost use Rattle.std.specs.Prelude.{◌≡◌, ◌<◌, ◌≤◌, length, slice_index};
+ghost use Rattle.std.specs.Prelude.{◌≡◌, ◌<◌, ◌≤◌, [], length, get_or, slice_index};
+ghost use Rattle.std.specs.Int.{bit_at};
+ghost use Rattle.std.specs.List.{AllByRecursion};
+ghost use Rattle.std.proofs.Props.{props};
 ghost use Rattle.n2k_join.specs.Frames.{frame_bytes, longest_total, most_frames};
 
 /// The group that a frame belongs to: frames of one sender, receiver and PGN that have one sequence.
@@ -28,16 +31,14 @@ pub(crate) struct FastFrame {
     pub(crate) piece: StoredPiece,
 }
 
-impl FrameKey {
-    ghost use Rattle.n2k_join.specs.Frames.{same_key};
-    ghost use Rattle.n2k_join.specs.Inner.Stored.{key_of};
-
-    /// Whether both are one key.
-    #[tactic(auto, unfolding(crate::specs::Frames::same_key))]
-    pub(crate) fn is(&self, other: &FrameKey) -> bool
-        ensures { result ≡ same_key (key_of self.now) (key_of other.now) }
-    {
-        self.src == other.src
-            && (self.dst == other.dst && (self.pgn == other.pgn && self.sequence == other.sequence))
-    }
+/// A group of frames that is open: the line that opened it, which numbers are there, and seven bytes for each number
+/// that there can be. Its key is that under which it is kept.
+#[derive(Clone, Copy)]
+pub(crate) struct OpenGroup {
+    pub(crate) first: u64,
+    pub(crate) mask: u32,
+    pub(crate) slots: [[u8; 7]; 32],
+    pub(crate) ghost many: { length slots ≡ most_frames },
+    pub(crate) ghost seven: { AllByRecursion (λ bytes. length bytes ≡ frame_bytes) slots } by { Prim.hlevel props },
+    pub(crate) ghost total: { bit_at mask 0 ≡ 1 → slice_index (get_or slots 0 []) 0 ≤ longest_total },
 }

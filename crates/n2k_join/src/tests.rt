@@ -1,5 +1,5 @@
 //! The worked examples of groups.
-use crate::{Counts, Join, JoinFault, Step};
+use crate::{Broken, Counts, Join, JoinFault, Step, Window};
 use n2k_table::{Table, TableFault};
 use n2k_wire::{BadCause, Packing, plain_text, read_line};
 use std::alloc::Global;
@@ -27,14 +27,25 @@ fn sample(alloc: Global) -> Result<ManuallyDrop<Table>, TableFault> {
     Ok(ManuallyDrop::new(Table::read(alloc, SAMPLE.as_bytes())?))
 }
 
+// A window that ends no group of the logs below that are shorter.
+fn long_window() -> Window {
+    Window::new(10_000).unwrap()
+}
+
+// A group that a line breaks, after the number of the line.
+fn push_broken(alloc: Global, line: u64, group: &Broken, text: &mut Vec<u8>) -> Result<(), Fail> {
+    let told = format!(in alloc;
+        "{line} broken {} {} {} {} {}\n",
+        group.pgn, group.src, group.dst, group.seq, group.first
+    )?;
+    text.extend_from_slice(told.as_bytes())?;
+    Ok(())
+}
+
 // What a line gave, after the number of the line: the group that it breaks, its cause, its message as a plain line.
 fn push_step(alloc: Global, line: u64, step: &Step, text: &mut Vec<u8>) -> Result<(), Fail> {
-    if let Some(broken) = &step.broken {
-        let told = format!(in alloc;
-            "{line} broken {} {} {} {} {}\n",
-            broken.pgn, broken.src, broken.dst, broken.seq, broken.first
-        )?;
-        text.extend_from_slice(told.as_bytes())?;
+    if let Some(group) = &step.broken {
+        push_broken(alloc, line, group, text)?;
     }
     if let Some(cause) = step.bad {
         let told = format!(in alloc; "{line} bad {cause:?}\n")?;
@@ -48,19 +59,35 @@ fn push_step(alloc: Global, line: u64, step: &Step, text: &mut Vec<u8>) -> Resul
     Ok(())
 }
 
-// Takes a line.
+// Takes a line. The groups whose window ends at it are broken before.
 fn take(join: &mut Join, table: &Table, line: &str) -> Result<Step, JoinFault> {
+    while join.expire().is_some() {}
     join.line(table, read_line(line.as_bytes(), Packing::Frames))
 }
 
+// Takes a line, and tells what it gave.
+fn tell(
+    alloc: Global,
+    join: &mut Join,
+    table: &Table,
+    line: &str,
+    text: &mut Vec<u8>,
+) -> Result<(), Fail> {
+    let number = join.counts().lines.saturating_add(1);
+    while let Some(group) = join.expire() {
+        push_broken(alloc, number, &group, text)?;
+    }
+    let step = join.line(table, read_line(line.as_bytes(), Packing::Frames))?;
+    push_step(alloc, number, &step, text)
+}
+
 // What the lines of a log gave, and the six counts after them.
-fn told(alloc: Global, log: &str) -> Result<Vec<u8>, Fail> {
+fn told(alloc: Global, window: Window, log: &str) -> Result<Vec<u8>, Fail> {
     let table = sample(alloc)?;
-    let mut join = Join::new(alloc, &table);
+    let mut join = Join::new(alloc, &table, window);
     let mut text = Vec::new(alloc);
     for line in log.lines() {
-        let step = take(&mut join, &table, line)?;
-        push_step(alloc, join.counts().lines, &step, &mut text)?;
+        tell(alloc, &mut join, &table, line, &mut text)?;
     }
     let Counts {
         lines,
@@ -168,7 +195,7 @@ fn groups_as_worked(rt: HostRuntime) -> Result<(), Fail> {
         ),
     ];
     for (log, expected) in cases {
-        let text = told(rt.alloc(), log)?;
+        let text = told(rt.alloc(), long_window(), log)?;
         assert_eq!(rt; text.as_slice(), expected.as_bytes());
     }
     Ok(())
@@ -179,12 +206,12 @@ fn groups_as_worked(rt: HostRuntime) -> Result<(), Fail> {
 fn longest_message(rt: HostRuntime) -> Result<(), Fail> {
     let alloc = rt.alloc();
     let table = sample(alloc)?;
-    let mut join = Join::new(alloc, &table);
+    let mut join = Join::new(alloc, &table, long_window());
     let first = take(&mut join, &table, "(1.0) can0 1DFF0405#00DFA399054A4B4C")?;
     assert!(rt; first.message.is_none());
     for number in 1..32u8 {
         let line = format!(in alloc; "({number}.0) can0 1DFF0405#{number:02X}20202020202020")?;
-        let step = join.line(&table, read_line(line.as_bytes(), Packing::Frames))?;
+        let step = take(&mut join, &table, &line)?;
         assert_eq!(rt; step.message.is_some(), number == 31);
         if let Some(message) = &step.message {
             assert_eq!(rt; message.data().len(), 223);
@@ -194,10 +221,7 @@ fn longest_message(rt: HostRuntime) -> Result<(), Fail> {
             );
         }
     }
-    let over = join.line(
-        &table,
-        read_line(b"(33.0) can0 1DFF0405#00E0A399054A4B4C", Packing::Frames),
-    )?;
+    let over = take(&mut join, &table, "(33.0) can0 1DFF0405#00E0A399054A4B4C")?;
     assert_eq!(rt; over.bad, Some(BadCause::Fast));
     Ok(())
 }
@@ -224,7 +248,7 @@ const EIGHT_UNDER_WAY: &str = "(1.0) can0 1DFF0405#010000000000FFFF
 fn eight_under_way(rt: HostRuntime) -> Result<(), Fail> {
     let alloc = rt.alloc();
     let table = sample(alloc)?;
-    let mut join = Join::new(alloc, &table);
+    let mut join = Join::new(alloc, &table, long_window());
     let mut kind = 8u8;
     for line in EIGHT_UNDER_WAY.lines() {
         let step = take(&mut join, &table, line)?;
@@ -272,7 +296,7 @@ fn take_though_refused(
 
 // The state after a log, and the counts.
 fn after(alloc: Global, table: &Table, log: &str) -> Result<(Vec<u8>, Counts), Fail> {
-    let mut join = Join::new(alloc, table);
+    let mut join = Join::new(alloc, table, long_window());
     for line in log.lines() {
         take_though_refused(alloc, table, &mut join, line)?;
     }

@@ -80,6 +80,13 @@ pub judged_ok : {X : Type 0} (fs : List TableFault) (x y : X) → judged fs x �
 judged_ok [] x y e = (refl, cc)
 judged_ok (f ∷ fs) x y e = absurd cc
 
+-- a fault comes before those behind it
+pub judged_first : {X Y : Type 0} (fs gs : List TableFault) (f : TableFault) (x : X) (y : Y) → judged fs y ≡ Err f → judged (fs ++ gs) x ≡ Err f
+judged_first [] gs f x y e = absurd cc
+judged_first (g ∷ fs) gs f x y e =
+    let same : g ≡ f = cc in
+    ap (λ h. Err h) same
+
 -- the faults of a list: too many elements, those of its elements, and last one over several of them
 abbrev pub listed : Bool → List TableFault → Bool → TableFault → List TableFault
 listed within fs kept late = unless within TooMany ++ fs ++ unless kept late

@@ -1,17 +1,16 @@
 -- What stands in a line before the members, as the code appends it.
-use Rattle.std.proofs.Common.{◌≡◌, ℕ, ◌+◌, ◌/◌, ◌%◌, ◌<◌, ◌≤◌, Bool, true, ◌&&◌, List, [], ◌∷◌, ◌++◌, IfSome, refl, codes, append_assoc, arith, inl, inr}
+use Rattle.std.proofs.Common.{◌≡◌, ℕ, ◌+◌, ◌/◌, ◌%◌, ◌<◌, ◌≤◌, true, ◌&&◌, List, [], ◌∷◌, ◌++◌, IfSome, refl, codes, append_assoc, arith, inl, inr}
 use Rattle.std.specs.Prelude.{decimal}
-use Rattle.std.specs.List.{list_all, find}
+use Rattle.std.specs.List.{list_all, find, join_with_byte}
 use Rattle.std.proofs.lemmas.Bool.{cases_Bool, eqb-true, and_parts}
 use Rattle.std.proofs.lemmas.Fmt.{decimal_digit}
 use Rattle.itoa.proofs.Decimal.{decimal_two, decimal_pair}
 use Rattle.n2k_wire.specs.Packet.{PacketParts}
 use Rattle.n2k_table.specs.Definition.{DefinitionParts}
-use Rattle.n2k_table.specs.Shown.{ShownParts}
 use Rattle.n2k_table.specs.Table.{TableParts, is_of, matches, choice}
 use Rattle.n2k_table.specs.Text.{text_json, pairs}
-use Rattle.n2k_table.specs.Json.{id_json, head_json, line_json, unmatched_json}
-use Rattle.n2k_table.specs.Inner.Line.{is_plain, sender_json, seen_json, label_json, members_json}
+use Rattle.n2k_table.specs.Json.{comma, id_json, head_json, line_json, unmatched_json}
+use Rattle.n2k_table.specs.Inner.Line.{is_plain, sender_json, seen_json, label_json}
 use Rattle.n2k_table.proofs.Escapes.{text_json-plain}
 
 -- numbers of up to three digits
@@ -51,12 +50,12 @@ line_lists : (ts st c1 p c2 s c3 d c4 g c5 de c6 ms : List ℕ)
 line_lists ts st c1 p c2 s c3 d c4 g c5 de c6 ms = simp append_assoc
 
 -- the line of a message under a definition of its PGN
-pub matched_parts : (description : List ℕ) (fields : List (List ℕ × ShownParts)) (m : PacketParts) (empty : Bool)
-    → ((seen_json m ++ label_json m.id.pgn description) ++ members_json empty fields) ++ codes "}}\n" ≡ line_json description fields m empty
+pub matched_parts : (description : List ℕ) (ms : List (List ℕ)) (m : PacketParts)
+    → ((seen_json m ++ label_json m.id.pgn description) ++ join_with_byte comma ms) ++ codes "}}\n" ≡ line_json description ms m
 unfolding seen_json sender_json label_json head_json id_json
-matched_parts description fields m empty =
+matched_parts description ms m =
     line_lists (codes "{\"timestamp\":") (text_json m.stamp) (codes ",\"prio\":") (decimal m.id.prio) (codes ",\"src\":") (decimal m.id.src) (codes ",\"dst\":") (decimal m.id.dst)
-    (codes ",\"pgn\":") (decimal m.id.pgn) (codes ",\"description\":") (text_json description) (codes ",\"fields\":") (members_json empty fields)
+    (codes ",\"pgn\":") (decimal m.id.pgn) (codes ",\"description\":") (text_json description) (codes ",\"fields\":") (join_with_byte comma ms)
 
 unmatched_lists : (ts st c1 p c2 s c3 d c4 g c5 de c6 key value : List ℕ)
     → ((((((ts ++ st) ++ (((((c1 ++ p) ++ c2) ++ s) ++ c3) ++ d)) ++ c4) ++ g) ++ (((c5 ++ de) ++ c6) ++ (123 ∷ key))) ++ value) ++ (125 ∷ 125 ∷ 10 ∷ [])

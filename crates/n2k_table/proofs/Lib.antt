@@ -6,6 +6,7 @@ pub mod Each
 pub mod Escapes
 pub mod FieldFaults
 pub mod Keys
+pub mod Layouts
 pub mod Listed
 pub mod LookupFaults
 pub mod Members
@@ -16,5 +17,6 @@ pub mod OneLine
 pub mod Places
 pub mod RawBits
 pub mod Scaled
+pub mod SetPlaces
 pub mod Tops
 pub mod Trims

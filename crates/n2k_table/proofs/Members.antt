@@ -1,11 +1,17 @@
 -- The members of an object, one after the other.
-use Rattle.std.proofs.Common.{◌≡◌, ℕ, ◌+◌, ◌<◌, ◌≤◌, Bool, true, false, ◌||◌, List, [], ◌∷◌, ◌++◌, length, get_or, drop, Option, Some, None, is_some, refl, sym, ap, ◌∙◌, append_assoc}
-use Rattle.std.specs.List.{filter_map, cons_option, join_with_byte}
+use Rattle.std.proofs.Common.{◌≡◌, ℕ, zero, suc, ◌+◌, ◌<◌, ◌≤◌, Bool, true, false, ◌||◌, List, [], ◌∷◌, ◌++◌, length, get_or, drop, Option, Some, None, is_some, map, refl, sym, ap, ◌∙◌, append_assoc, arith, Result, Ok, Err, OnOk, codes}
+use Rattle.std.specs.Prelude.{nat_lt, if◌then◌else◌}
+use Rattle.std.specs.List.{filter_map, cons_option, join_with_byte, range_with_len}
+use Rattle.std.proofs.lemmas.Bool.{lt-ltb, le-ltb}
+use Rattle.std.proofs.lemmas.List.FromFn.{map-range_with_len_more}
 use Rattle.std.proofs.lemmas.List.{append-nil, drop_more, at_drop_all}
 use Rattle.n2k_table.specs.Field.{FieldParts}
 use Rattle.n2k_table.specs.Shown.{all_shown, shown}
-use Rattle.n2k_table.specs.Json.{member_json}
-use Rattle.n2k_table.specs.Inner.Line.{member_text}
+use Rattle.n2k_table.specs.Json.{colon, member_json}
+use Rattle.n2k_table.specs.Definition.{list_name}
+use Rattle.n2k_table.specs.Text.{text_json}
+use Rattle.n2k_table.proofs.Escapes.{text_json-plain}
+use Rattle.n2k_table.specs.Inner.Line.{has_members, member_text}
 
 -- members with a comma before each, but for the first where none stands before
 abbrev pub members_from : Bool → List (List ℕ) → List ℕ
@@ -40,6 +46,83 @@ pub is_done : (empty later : Bool) (fields : List FieldParts) (payload : List �
 is_done empty later fields payload i line total le so_far =
     let nothing = at_drop_all (λ fs. line ++ members_from later (filter_map (member_json empty) (all_shown fs payload))) fields i le in
     sym (append-nil line) ∙ sym nothing ∙ so_far
+
+-- one more member behind some
+pub joined_more : (ms : List (List ℕ)) (m : List ℕ) → join_with_byte 44 (ms ++ m ∷ []) ≡ join_with_byte 44 ms ++ member_text (has_members ms) (Some m)
+joined_more [] m = refl
+joined_more (x ∷ []) m = refl
+joined_more (x ∷ y ∷ ms) m = ap (λ rest. x ++ (44 ∷ rest)) (joined_more (y ∷ ms) m) ∙ sym (append_assoc x (44 ∷ join_with_byte 44 (y ∷ ms)) (44 ∷ m))
+
+map_twice : {X Y Z : Type 0} (g : Y → Z) (f : X → Y) (xs : List X) → map g (map f xs) ≡ map (λ x. g (f x)) xs
+map_twice g f [] = refl
+map_twice g f (x ∷ xs) = ap (λ ys. g (f x) ∷ ys) (map_twice g f xs)
+
+-- members of the first n numbers
+pub has_members-range : (f : ℕ → List ℕ) (n : ℕ) → has_members (map f (range_with_len 0 n)) ≡ nat_lt 0 n
+has_members-range f zero = sym (le-ltb 0 0 (omega arith))
+has_members-range f (suc n) = sym (lt-ltb 0 (suc n) (omega arith))
+
+pub range_more : (f : ℕ → List ℕ) (n : ℕ) → join_with_byte 44 (map f (range_with_len 0 (n + 1))) ≡ join_with_byte 44 (map f (range_with_len 0 n)) ++ member_text (nat_lt 0 n) (Some (f n))
+range_more f n =
+    ap (join_with_byte 44) (map-range_with_len_more f 0 n n (omega arith))
+    ∙ joined_more (map f (range_with_len 0 n)) (f n)
+    ∙ ap (λ later. join_with_byte 44 (map f (range_with_len 0 n)) ++ member_text later (Some (f n))) (has_members-range f n)
+
+-- one more set
+pub sets_more : (f : ℕ → List ℕ) (n : ℕ) (line l1 l2 : List ℕ) → l1 ≡ line ++ join_with_byte 44 (map f (range_with_len 0 n)) → l2 ≡ l1 ++ member_text (nat_lt 0 n) (Some (f n))
+    → l2 ≡ line ++ join_with_byte 44 (map f (range_with_len 0 (n + 1)))
+sets_more f n line l1 l2 p1 p2 = rw (p2, p1, range_more f n) (append_assoc line (join_with_byte 44 (map f (range_with_len 0 n))) (member_text (nat_lt 0 n) (Some (f n))))
+
+-- all sets
+pub sets_done : {X : Type 0} (g : X → List ℕ) (f : ℕ → X) (n count total : ℕ) (line l1 : List ℕ) → n ≡ count → count ≡ total
+    → l1 ≡ line ++ join_with_byte 44 (map (λ j. g (f j)) (range_with_len 0 n)) → l1 ≡ line ++ join_with_byte 44 (map g (map f (range_with_len 0 total)))
+sets_done g f n count total line l1 p q so_far =
+    so_far ∙ ap (λ k. line ++ join_with_byte 44 (map (λ j. g (f j)) (range_with_len 0 k))) (p ∙ q) ∙ ap (λ xs. line ++ join_with_byte 44 xs) (sym (map_twice g f (range_with_len 0 total)))
+
+-- whether a member stands before the next
+flag_more : (later : Bool) (m : Option (List ℕ)) (rest : List (List ℕ)) → (later || has_members (cons_option m rest)) ≡ ((later || is_some m) || has_members rest)
+flag_more true m rest = refl
+flag_more false None rest = refl
+flag_more false (Some m) rest = refl
+
+flag_end : (later : Bool) → (later || false) ≡ later
+flag_end true = refl
+flag_end false = refl
+
+pub flag_goes_on : (empty later total : Bool) (fields : List FieldParts) (payload : List ℕ) (i : ℕ) (f : FieldParts) → i < length fields → f ≡ get_or fields i f
+    → (later || has_members (filter_map (member_json empty) (all_shown (drop i fields) payload))) ≡ total
+    → ((later || is_some (member_json empty (f.name, shown f payload))) || has_members (filter_map (member_json empty) (all_shown (drop (i + 1) fields) payload))) ≡ total
+flag_goes_on empty later total fields payload i f lt at so_far =
+    let rest = filter_map (member_json empty) (all_shown (drop (i + 1) fields) payload) in
+    let here : drop i fields ≡ f ∷ drop (i + 1) fields = drop_more fields i f lt ∙ ap (λ g. g ∷ drop (i + 1) fields) (sym at) in
+    sym (flag_more later (member_json empty (f.name, shown f payload)) rest)
+    ∙ sym (ap (λ fs. later || has_members (filter_map (member_json empty) (all_shown fs payload))) here) ∙ so_far
+
+pub flag_is_done : (empty later total : Bool) (fields : List FieldParts) (payload : List ℕ) (i : ℕ) → length fields ≤ i
+    → (later || has_members (filter_map (member_json empty) (all_shown (drop i fields) payload))) ≡ total → later ≡ total
+flag_is_done empty later total fields payload i le so_far =
+    sym (flag_end later) ∙ sym (at_drop_all (λ fs. later || has_members (filter_map (member_json empty) (all_shown fs payload))) fields i le) ∙ so_far
+
+-- what holds of an answer
+pub on_ok : {T E : Type 0} {P Q : Type 0} (r : Result T E) → (P → Q) → OnOk r P → OnOk r Q
+on_ok (Ok x) f p = f p
+on_ok (Err e) f p = p
+
+-- the sets as a last member, in three parts
+pub last_parts : (line sets l1 l2 l3 : List ℕ) (later : Bool) → l1 ≡ line ++ (if later then codes ",\"list\":[" else codes "\"list\":[") → l2 ≡ l1 ++ sets → l3 ≡ l2 ++ codes "]"
+    → l3 ≡ line ++ member_text later (Some (text_json list_name ++ colon ∷ (codes "[" ++ sets ++ codes "]")))
+last_parts line sets l1 l2 l3 later p1 p2 p3 =
+    let name : text_json list_name ≡ codes "\"list\"" = text_json-plain list_name refl in
+    rw (p3, p2, p1, name) (by_later later)
+  where
+    by_later : (b : Bool) → ((line ++ (if b then codes ",\"list\":[" else codes "\"list\":[")) ++ sets) ++ codes "]" ≡ line ++ member_text b (Some (codes "\"list\"" ++ colon ∷ (codes "[" ++ sets ++ codes "]")))
+    by_later true = simp append_assoc
+    by_later false = simp append_assoc
+
+-- the fields of a message, and a last member behind them
+pub with_last : (ms : List (List ℕ)) (m line l1 l2 : List ℕ) (later : Bool) → l1 ≡ line ++ join_with_byte 44 ms → later ≡ has_members ms → l2 ≡ l1 ++ member_text later (Some m)
+    → l2 ≡ line ++ join_with_byte 44 (ms ++ m ∷ [])
+with_last ms m line l1 l2 later p1 flag p2 = rw (p2, flag, p1, joined_more ms m) (append_assoc line (join_with_byte 44 ms) (member_text (has_members ms) (Some m)))
 
 -- a line to which six parts are appended in turn
 pub six_parts : (line a b c d e f l1 l2 l3 l4 l5 l6 : List ℕ)

@@ -8,13 +8,15 @@ use Rattle.toml.specs.Data.{Data, Members, no_members}
 use Rattle.n2k_table.specs.declared.definition.Kind.{Kind}
 use Rattle.n2k_table.specs.declared.definition.Kind.TheVariants.{Single, Fast}
 use Rattle.n2k_table.specs.declared.fault.TableFault.{TableFault}
-use Rattle.n2k_table.specs.declared.fault.TableFault.TheVariants.{Format, Key, Mixed, TooMany}
+use Rattle.n2k_table.specs.declared.fault.TableFault.TheVariants.{Key, Mixed, TooMany}
+use Rattle.n2k_table.specs.declared.tree.TableFormat.{TableFormat}
+use Rattle.n2k_table.specs.declared.tree.TableFormat.TheVariants.{One}
 use Rattle.n2k_table.specs.declared.tree.Place.TheVariants.{Document}
 use Rattle.n2k_table.specs.Fault.{unless, value_or, faults_in}
 use Rattle.n2k_table.specs.Tree.{has_only_keys}
 use Rattle.n2k_table.specs.Lookup.{LookupParts, lookups_faults}
 use Rattle.n2k_table.specs.Definition.{DefinitionParts, definition_faults, definition, counted_kind}
-use Rattle.n2k_table.specs.Table.{TableParts, is_format_1, is_same_kind, are_mixed, has_mixed, definitions_faults, lookups_of, lookup_names, definitions_of, top_faults, top_lookups, document, document_faults, faults, top_definitions, table, is_of, kind}
+use Rattle.n2k_table.specs.Table.{TableParts, format_of, is_same_kind, are_mixed, has_mixed, definitions_faults, lookups_of, lookup_names, definitions_of, definitions_in, formatted_faults, top_faults, top_lookups, document, document_faults, faults, top_definitions, table, is_of, kind}
 use Rattle.n2k_table.specs.Inner.Reading.{judged, GivesOrMemory}
 use Rattle.n2k_table.specs.Inner.Kinds.{pgn_kind}
 use Rattle.n2k_table.proofs.Each.{nil_parts, judged_ok}
@@ -69,30 +71,28 @@ kept true fault none = refl
 kept false fault none = absurd cc
 
 -- a table whose definitions have no fault
-definitions_pure : (names : List (List ℕ)) (lookups : List LookupParts) (r : Result (List Data) TableFault) → faults_in r (definitions_faults names) ≡ []
-    → has_mixed (map pgn_kind (map (definition lookups) (value_or [] r))) ≡ false
-definitions_pure names lookups (Err fault) none = absurd cc
-definitions_pure names lookups (Ok ds) none =
+definitions_pure : (format : TableFormat) (names : List (List ℕ)) (lookups : List LookupParts) (r : Result (List Data) TableFault) → faults_in r (definitions_faults format names) ≡ []
+    → has_mixed (map pgn_kind (map (definition format lookups) (value_or [] r))) ≡ false
+definitions_pure format names lookups (Err fault) none = absurd cc
+definitions_pure format names lookups (Ok ds) none =
     let a0 = unless (leb (length ds) 4096) TooMany in
-    let a1 = a0 ++ flat_map (definition_faults names) ds in
+    let a1 = a0 ++ flat_map (definition_faults format names) ds in
     let p1 = nil_parts a1 (unless (not (has_mixed (filter_map counted_kind ds))) Mixed) none in
-    let p0 = nil_parts a0 (flat_map (definition_faults names) ds) p1.0 in
+    let p0 = nil_parts a0 (flat_map (definition_faults format names) ds) p1.0 in
     let pure : not (has_mixed (filter_map counted_kind ds)) ≡ true = kept _ Mixed p1.1 in
-    let counted = counted_kinds names lookups ds p0.1 in
+    let counted = counted_kinds format names lookups ds p0.1 in
     ap has_mixed (sym counted) ∙ not_true (has_mixed (filter_map counted_kind ds)) pure
 
+top_by_format : (top : Members) (r : Result TableFormat TableFault) → faults_in r (formatted_faults top) ≡ []
+    → has_mixed (map pgn_kind (definitions_in (value_or One r) (top_lookups top) top)) ≡ false
+top_by_format top (Err fault) none = absurd cc
+top_by_format top (Ok format) none =
+    let a0 = unless (has_only_keys Document top) Key in
+    let a1 = a0 ++ faults_in (lookups_of top) lookups_faults in
+    definitions_pure format (lookup_names top) (top_lookups top) (definitions_of top) (nil_parts a1 (faults_in (definitions_of top) (definitions_faults format (lookup_names top))) none).1
+
 top_pure : (top : Members) → top_faults top ≡ [] → has_mixed (map pgn_kind (top_definitions top)) ≡ false
-top_pure top none =
-    elim (cases_Bool (is_format_1 top)) [
-      | inl known ↦
-          let a0 = unless (has_only_keys Document top) Key in
-          let a1 = a0 ++ faults_in (lookups_of top) lookups_faults in
-          let parts : a1 ++ faults_in (definitions_of top) (definitions_faults (lookup_names top)) ≡ [] = rw known at none in
-          definitions_pure (lookup_names top) (top_lookups top) (definitions_of top) (nil_parts a1 (faults_in (definitions_of top) (definitions_faults (lookup_names top))) parts).1
-      | inr other ↦
-          let parts : Format ∷ [] ≡ [] = rw other at none in
-          absurd cc
-    ]
+top_pure top none = top_by_format top (format_of top) none
 
 document_pure : (d : Option Members) → document_faults d ≡ [] → has_mixed (map pgn_kind (top_definitions (unwrap_or d no_members))) ≡ false
 document_pure None none = absurd cc

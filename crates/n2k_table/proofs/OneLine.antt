@@ -1,5 +1,5 @@
 -- A JSON line is one line: no byte below the space stands before the line feed at its end.
-use Rattle.std.proofs.Common.{◌≡◌, ℕ, zero, suc, ◌+◌, ◌-◌, ◌/◌, ◌%◌, ◌<◌, ◌≤◌, Bool, true, false, cond, ◌||◌, List, [], ◌∷◌, ◌++◌, length, take, drop, replicate, refl, sym, arith, append_assoc, Option, Some, None, inl, inr}
+use Rattle.std.proofs.Common.{◌≡◌, ℕ, zero, suc, ◌+◌, ◌-◌, ◌/◌, ◌%◌, ◌<◌, ◌≤◌, Bool, true, false, cond, ◌||◌, List, [], ◌∷◌, ◌++◌, length, take, drop, replicate, map, refl, sym, arith, append_assoc, Option, Some, None, inl, inr}
 use Rattle.std.specs.Prelude.{option_to_list, ◌==◌, nat_le, nat_lt, codes, decimal, filter_map, if◌then◌else◌, ℤ, pos, negsuc}
 use Rattle.std.specs.List.{AllByRecursion, list_all, cons_option, join_with_byte}
 use Rattle.std.specs.Fmt.{digit_glyph, digits_onto, digits}
@@ -11,10 +11,11 @@ use Rattle.n2k_wire.specs.Packet.{PacketParts}
 use Rattle.n2k_wire.specs.declared.identifier.Id.{Id}
 use Rattle.n2k_table.specs.Text.{text_json}
 use Rattle.n2k_table.specs.Decimal.{sign_of, after_dot, padded_digits, dotted, dec}
-use Rattle.n2k_table.specs.Definition.{DefinitionParts}
+use Rattle.n2k_table.specs.Definition.{DefinitionParts, list_name}
+use Rattle.n2k_table.specs.Repeat.{RepeatParts, all_sets}
 use Rattle.n2k_table.specs.Shown.{ShownParts, absent, number, name, text, bytes, all_shown}
 use Rattle.n2k_table.specs.Table.{TableParts, choice}
-use Rattle.n2k_table.specs.Json.{value_json, pair_json, member_json, fields_json, id_json, head_json, line_json, chosen_json, json}
+use Rattle.n2k_table.specs.Json.{value_json, pair_json, member_json, members, object, set_json, repeat_members, message_members, id_json, head_json, line_json, chosen_json, json}
 use Rattle.n2k_table.specs.OneLine.{IsOneLine}
 
 -- no byte is below the space
@@ -158,8 +159,31 @@ clean-joined [] is = clean-nil
 clean-joined (t ∷ []) is = is.0
 clean-joined (t ∷ u ∷ texts) is = clean-append t _ is.0 (clean-cons 44 _ (omega arith) (clean-joined (u ∷ texts) is.1))
 
-clean-fields : (empty : Bool) (fields : List (List ℕ × ShownParts)) → IsClean (fields_json empty fields)
-clean-fields empty fields = clean-append (codes "{") _ (clean-literal (codes "{") refl) (clean-append (join_with_byte 44 (filter_map (member_json empty) fields)) (codes "}") (clean-joined _ (clean-members empty fields)) (clean-literal (codes "}") refl))
+clean-array : (first last : ℕ) (texts : List (List ℕ)) → 32 ≤ first → 32 ≤ last → AllByRecursion IsClean texts → IsClean (first ∷ (join_with_byte 44 texts ++ last ∷ []))
+clean-array first last texts h i is =
+    clean-cons first _ h (clean-append (join_with_byte 44 texts) (last ∷ []) (clean-joined texts is) (clean-cons last [] i clean-nil))
+
+clean-object : (ms : List (List ℕ)) → AllByRecursion IsClean ms → IsClean (object ms)
+clean-object ms is = clean-array 123 125 ms (omega arith) (omega arith) is
+
+-- what repeats
+clean-sets : (empty : Bool) (sets : List (List (List ℕ × ShownParts))) → AllByRecursion IsClean (map (set_json empty) sets)
+clean-sets empty [] = tt
+clean-sets empty (set ∷ sets) = (clean-object (members empty set) (clean-members empty set), clean-sets empty sets)
+
+clean-repeat : (empty : Bool) (r : Option RepeatParts) (payload : List ℕ) → AllByRecursion IsClean (repeat_members empty r payload)
+clean-repeat empty None payload = tt
+clean-repeat empty (Some r) payload =
+    let sets = map (set_json empty) (all_sets r payload) in
+    (clean-append (text_json list_name) _ (clean-text list_name) (clean-cons 58 _ (omega arith) (clean-array 91 93 sets (omega arith) (omega arith) (clean-sets empty (all_sets r payload)))), tt)
+
+clean-both : (xs ys : List (List ℕ)) → AllByRecursion IsClean xs → AllByRecursion IsClean ys → AllByRecursion IsClean (xs ++ ys)
+clean-both [] ys a b = b
+clean-both (x ∷ xs) ys a b = (a.0, clean-both xs ys a.1 b)
+
+clean-message : (empty : Bool) (d : DefinitionParts) (payload : List ℕ) → AllByRecursion IsClean (message_members empty d payload)
+clean-message empty d payload =
+    clean-both (members empty (all_shown d.fields payload)) (repeat_members empty d.repeat payload) (clean-members empty (all_shown d.fields payload)) (clean-repeat empty d.repeat payload)
 
 clean-id : (id : Id) → IsClean (id_json id)
 unfolding id_json
@@ -171,11 +195,11 @@ unfolding head_json
 clean-head description m is =
     onward (onward (onward (onward (onward (clean-literal (codes "{\"timestamp\":") refl) (text_json m.stamp) (clean-text m.stamp)) (id_json m.id) (clean-id m.id)) (codes ",\"description\":") (clean-literal (codes ",\"description\":") refl)) description is) (codes ",\"fields\":") (clean-literal (codes ",\"fields\":") refl)
 
-line-one : (description : List ℕ) (fields : List (List ℕ × ShownParts)) (m : PacketParts) (empty : Bool) → IsOneLine (line_json description fields m empty)
-line-one description fields m empty = record {
-  front = (head_json (text_json description) m ++ fields_json empty fields) ++ 125 ∷ [];
-  spelled = sym (append_assoc (head_json (text_json description) m ++ fields_json empty fields) (125 ∷ []) (10 ∷ []));
-  clean = All-from_recursion (λ b. 32 ≤ b) _ (onward (onward (clean-head (text_json description) m (clean-text description)) (fields_json empty fields) (clean-fields empty fields)) (125 ∷ []) (clean-cons 125 [] (omega arith) clean-nil)).each;
+line-one : (description : List ℕ) (ms : List (List ℕ)) (m : PacketParts) → AllByRecursion IsClean ms → IsOneLine (line_json description ms m)
+line-one description ms m is = record {
+  front = (head_json (text_json description) m ++ object ms) ++ 125 ∷ [];
+  spelled = sym (append_assoc (head_json (text_json description) m ++ object ms) (125 ∷ []) (10 ∷ []));
+  clean = All-from_recursion (λ b. 32 ≤ b) _ (onward (onward (clean-head (text_json description) m (clean-text description)) (object ms) (clean-object ms is)) (125 ∷ []) (clean-cons 125 [] (omega arith) clean-nil)).each;
 }
 
 pub json-one : (t : TableParts) (m : PacketParts) (empty : Bool) → IsOneLine (json t m empty)
@@ -183,5 +207,5 @@ unfolding json
 json-one t m empty = by_choice (choice t m.id.pgn m.payload)
   where
     by_choice : (d : Option DefinitionParts) → IsOneLine (chosen_json d m empty)
-    by_choice None = line-one (codes "Unmatched") ((codes "Data", bytes m.payload) ∷ []) m false
-    by_choice (Some d) = line-one d.description (all_shown d.fields m.payload) m empty
+    by_choice None = line-one (codes "Unmatched") (members false ((codes "Data", bytes m.payload) ∷ [])) m (clean-members false ((codes "Data", bytes m.payload) ∷ []))
+    by_choice (Some d) = line-one d.description (message_members empty d m.payload) m (clean-message empty d m.payload)

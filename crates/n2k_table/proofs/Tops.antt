@@ -1,18 +1,19 @@
 -- The faults of the top level, by those of its lookups and definitions.
-use Rattle.std.proofs.Common.{◌≡◌, true, not, leb, length, List, [], ◌∷◌, ◌++◌, Result, Ok, Err, refl, ap, ◌∙◌, map}
+use Rattle.std.proofs.Common.{◌≡◌, true, not, leb, length, List, [], ◌++◌, Result, Ok, Err, refl, ap, ◌∙◌, map}
 use Rattle.std.specs.List.{flat_map, filter_map}
 use Rattle.std.specs.Str.{bytes_eq}
 use Rattle.toml.specs.Data.{Data, Members}
 use Rattle.n2k_table.specs.declared.fault.TableFault.{TableFault}
 use Rattle.n2k_table.specs.declared.fault.TableFault.TheVariants.{Twice, TooMany}
+use Rattle.n2k_table.specs.declared.tree.TableFormat.{TableFormat}
 use Rattle.n2k_table.specs.declared.tree.Place.TheVariants.{Document}
 use Rattle.n2k_table.specs.Fault.{faults_in, value_or, unless}
 use Rattle.n2k_table.specs.Tree.{has_only_keys}
 use Rattle.n2k_table.specs.Twice.{has_twice}
 use Rattle.n2k_table.specs.Lookup.{LookupParts, lookup, lookup_faults, lookups_faults, counted_lookup}
-use Rattle.n2k_table.specs.Table.{is_format_1, lookups_of, lookup_names, definitions_of, definitions_faults, definitions_in, top_faults, top_lookups, top_definitions}
+use Rattle.n2k_table.specs.Table.{format_of, lookups_of, lookup_names, definitions_of, definitions_faults, definitions_in, top_faults, top_lookups, top_definitions}
 use Rattle.n2k_table.specs.Inner.Reading.{judged}
-use Rattle.n2k_table.proofs.Each.{nil_parts, filter_map-counted, judged_ok}
+use Rattle.n2k_table.proofs.Each.{nil_parts, filter_map-counted, judged_ok, judged_first}
 use Rattle.n2k_table.proofs.LookupFaults.{counted_lookup-without_fault}
 
 -- the names of lookups without a fault
@@ -29,24 +30,18 @@ names_by (Ok ds) none =
 pub names_read : (top : Members) → faults_in (lookups_of top) lookups_faults ≡ [] → lookup_names top ≡ map (λ (l : LookupParts). l.name) (top_lookups top)
 names_read top none = names_by (lookups_of top) none
 
-judged_first : {X Y : Type 0} (fs gs : List TableFault) (f : TableFault) (x : X) (y : Y) → judged fs y ≡ Err f → judged (fs ++ gs) x ≡ Err f
-judged_first [] gs f x y e = absurd cc
-judged_first (g ∷ fs) gs f x y e =
-    let same : g ≡ f = cc in
-    ap (λ h. Err h) same
-
 -- a fault among the lookups
-pub top_lookups_fault : {X : Type 0} (top : Members) (f : TableFault) (x : X) → is_format_1 top ≡ true → has_only_keys Document top ≡ true
+pub top_lookups_fault : {X : Type 0} (top : Members) (format : TableFormat) (f : TableFault) (x : X) → format_of top ≡ Ok format → has_only_keys Document top ≡ true
     → judged (faults_in (lookups_of top) lookups_faults) (top_lookups top) ≡ Err f → judged (top_faults top) x ≡ Err f
-top_lookups_fault top f x format keys first =
-    rw (format, keys) (judged_first (faults_in (lookups_of top) lookups_faults) (faults_in (definitions_of top) (definitions_faults (lookup_names top))) f x (top_lookups top) first)
+top_lookups_fault top format f x known keys first =
+    rw (known, keys) (judged_first (faults_in (lookups_of top) lookups_faults) (faults_in (definitions_of top) (definitions_faults format (lookup_names top))) f x (top_lookups top) first)
 
 -- lookups without a fault
-pub top_judged : (top : Members) (lookups : List LookupParts) → is_format_1 top ≡ true → has_only_keys Document top ≡ true
+pub top_judged : (top : Members) (format : TableFormat) (lookups : List LookupParts) → format_of top ≡ Ok format → has_only_keys Document top ≡ true
     → judged (faults_in (lookups_of top) lookups_faults) (top_lookups top) ≡ Ok lookups
     → judged (top_faults top) (top_definitions top)
-    ≡ judged (faults_in (definitions_of top) (definitions_faults (map (λ (l : LookupParts). l.name) lookups))) (definitions_in lookups top)
-top_judged top lookups format keys read =
+    ≡ judged (faults_in (definitions_of top) (definitions_faults format (map (λ (l : LookupParts). l.name) lookups))) (definitions_in format lookups top)
+top_judged top format lookups known keys read =
     let p = judged_ok (faults_in (lookups_of top) lookups_faults) (top_lookups top) lookups read in
     let names : lookup_names top ≡ map (λ (l : LookupParts). l.name) lookups = names_read top p.0 ∙ ap (map (λ (l : LookupParts). l.name)) p.1 in
-    rw (format, keys, p.0, names, p.1) refl
+    rw (known, keys, p.0, names, p.1) refl

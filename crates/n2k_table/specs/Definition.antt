@@ -1,32 +1,34 @@
 -- What a table says of one message, and the faults that a definition may have.
-use Rattle.std.specs.Prelude.{ℕ, not, nat_le, codes, List, [], ◌++◌, length, map, flat_map, Option, Result, Ok, Err, if◌then◌else◌}
-use Rattle.std.specs.List.{filter_map}
+use Rattle.std.specs.Prelude.{ℕ, not, codes, List, [], ◌++◌, map, Option, Some, None, option_map, Result, Ok, Err, if◌then◌else◌}
+use Rattle.std.specs.List.{list_any, filter_map}
 use Rattle.std.specs.Result.{result_ok}
 use Rattle.std.specs.Str.{bytes_eq}
-use Rattle.toml.specs.Data.{Data, Members}
+use Rattle.toml.specs.Data.{Data, Members, get_member}
 use Rattle.n2k_wire.specs.Packet.{greatest_pgn}
 use Rattle.n2k_table.specs.declared.definition.Kind.{Kind}
 use Rattle.n2k_table.specs.declared.definition.Kind.TheVariants.{Single, Fast}
 use Rattle.n2k_table.specs.declared.fault.TableFault.{TableFault}
-use Rattle.n2k_table.specs.declared.fault.TableFault.TheVariants.{Key, Text, Twice, TooMany}
+use Rattle.n2k_table.specs.declared.fault.TableFault.TheVariants.{Key, Text, Twice}
+use Rattle.n2k_table.specs.declared.tree.TableFormat.{TableFormat}
+use Rattle.n2k_table.specs.declared.tree.TableFormat.TheVariants.{One, Two}
+use Rattle.n2k_table.specs.declared.tree.Holder.TheVariants.{Message}
 use Rattle.n2k_table.specs.declared.tree.Place.TheVariants.{Definition}
 use Rattle.n2k_wire.specs.Steps.{◌>>=◌}
 use Rattle.n2k_table.specs.Fault.{fault_of, faults_in, value_or, unless}
-use Rattle.n2k_table.specs.Tree.{has_only_keys, as_members, whole_at, any_text_at, text_at, elements_at}
+use Rattle.n2k_table.specs.Tree.{has_only_keys, as_members, whole_at, any_text_at, text_at}
 use Rattle.n2k_table.specs.Lookup.{LookupParts}
-use Rattle.n2k_table.specs.Field.{FieldParts, members_or_none, field_faults, field, counted_name}
-use Rattle.n2k_table.specs.Twice.{has_twice}
+use Rattle.n2k_table.specs.Field.{FieldParts, message_bits, members_or_none, field, counted_name}
+use Rattle.n2k_table.specs.Fields.{fields_of, fields_faults}
+use Rattle.n2k_table.specs.Repeat.{RepeatParts, repeat_faults, repeat}
 
--- the most fields of a definition
-abbrev pub most_fields : ℕ
-most_fields = 256
-
--- a definition: the PGN that it describes, how that is sent, and its fields in printing order
+-- a definition: the PGN that it describes, how that is sent, its own fields in printing order, and what repeats behind
+-- them, if something does
 pub record DefinitionParts : Type 0 where
   pub number : ℕ
   pub kind : Kind
   pub description : List ℕ
   pub fields : List FieldParts
+  pub repeat : Option RepeatParts
 
 -- the values of a definition, each by itself
 abbrev pub number_of : Members → Result ℕ TableFault
@@ -45,39 +47,65 @@ kind_of m = do
 abbrev pub description_of : Members → Result (List ℕ) TableFault
 description_of = text_at (codes "description")
 
-abbrev pub fields_of : Members → Result (List Data) TableFault
-fields_of = elements_at (codes "fields")
+-- the repeat of a definition, if it has one: a key of format 2
+abbrev pub members_if_there : Option Data → Result (Option Members) TableFault
+members_if_there None = Ok None
+members_if_there (Some d) = do
+  m ← as_members d
+  Ok (Some m)
 
--- the faults of the fields of a definition, by the names of the lookups that are there
-abbrev pub fields_faults : List (List ℕ) → List Data → List TableFault
-fields_faults names ds =
-    unless (nat_le (length ds) most_fields) TooMany
-    ++ flat_map (field_faults names) ds
-    ++ unless (not (has_twice bytes_eq (filter_map counted_name ds))) Twice
+abbrev pub repeat_of : TableFormat → Members → Result (Option Members) TableFault
+repeat_of One m = Ok None
+repeat_of Two m = members_if_there (get_member (codes "repeat") m)
+
+-- the name of the member that holds the sets of a message
+abbrev pub list_name : List ℕ
+list_name = codes "list"
+
+-- the names of a definition's own fields, where they have no fault
+abbrev pub own_names : List Data → List (List ℕ)
+own_names ds = filter_map counted_name ds
+
+-- The faults of a repeat, if there is one, beside fields of these names, by the names of the lookups that are there.
+abbrev pub repeat_beside_faults : List (List ℕ) → List (List ℕ) → Option Members → List TableFault
+repeat_beside_faults names own None = []
+repeat_beside_faults names own (Some m) = repeat_faults names m ++ unless (not (list_any (bytes_eq list_name) own)) Twice
+
+-- the faults of what a message shows: a definition's own fields, and its repeat
+unfoldable pub layout_faults : TableFormat → List (List ℕ) → Members → List TableFault
+layout_faults format names m =
+    faults_in (fields_of m) (fields_faults Message (Ok message_bits) names)
+    ++ faults_in (repeat_of format m) (repeat_beside_faults names (own_names (value_or [] (fields_of m))))
 
 -- the faults of a definition, by the names of the lookups that are there
-abbrev pub members_faults : List (List ℕ) → Members → List TableFault
-members_faults names m =
-    unless (has_only_keys Definition m) Key
+abbrev pub members_faults : TableFormat → List (List ℕ) → Members → List TableFault
+members_faults format names m =
+    unless (has_only_keys (Definition format) m) Key
     ++ fault_of (number_of m)
     ++ fault_of (kind_of m)
     ++ fault_of (description_of m)
-    ++ faults_in (fields_of m) (fields_faults names)
+    ++ layout_faults format names m
 
-abbrev pub definition_faults : List (List ℕ) → Data → List TableFault
-definition_faults names d = faults_in (as_members d) (members_faults names)
+abbrev pub definition_faults : TableFormat → List (List ℕ) → Data → List TableFault
+definition_faults format names d = faults_in (as_members d) (members_faults format names)
+
+-- what a message shows: a definition's own fields, and its repeat
+unfoldable pub layout : TableFormat → List LookupParts → Members → List FieldParts × Option RepeatParts
+layout format lookups m =
+    (map (field Message lookups) (value_or [] (fields_of m)), option_map (repeat lookups) (value_or None (repeat_of format m)))
 
 -- The definition that the values spell, in a table of these lookups. Where one has a fault the table is refused.
-abbrev pub members_definition : List LookupParts → Members → DefinitionParts
-members_definition lookups m = record {
+abbrev pub members_definition : TableFormat → List LookupParts → Members → DefinitionParts
+members_definition format lookups m = record {
   number = value_or 0 (number_of m);
   kind = value_or Single (kind_of m);
   description = value_or [] (description_of m);
-  fields = map (field lookups) (value_or [] (fields_of m));
+  fields = (layout format lookups m).0;
+  repeat = (layout format lookups m).1;
 }
 
-abbrev pub definition : List LookupParts → Data → DefinitionParts
-definition lookups d = members_definition lookups (members_or_none d)
+abbrev pub definition : TableFormat → List LookupParts → Data → DefinitionParts
+definition format lookups d = members_definition format lookups (members_or_none d)
 
 -- The PGN and the kind under which a definition counts, where neither has a fault.
 abbrev pub number_and_kind : Members → Result (ℕ × Kind) TableFault

@@ -10,6 +10,8 @@ use Rattle.n2k_table.specs.declared.fault.TableFault.TheVariants.{Key, Range, Te
 use Rattle.n2k_table.specs.declared.resolution.Resolution.{Resolution}
 use Rattle.n2k_table.specs.declared.tree.FieldKind.{FieldKind}
 use Rattle.n2k_table.specs.declared.tree.FieldKind.TheVariants as kind
+use Rattle.n2k_table.specs.declared.tree.Holder.{Holder}
+use Rattle.n2k_table.specs.declared.tree.Holder.TheVariants.{Message, Set}
 use Rattle.n2k_table.specs.declared.tree.Place.TheVariants.{NumberField, LookupField, ByteField}
 use Rattle.n2k_wire.specs.Steps.{◌>>=◌}
 use Rattle.n2k_table.specs.Fault.{fault_of, faults_in, value_or, unless}
@@ -41,8 +43,8 @@ pub data Meaning : Type 0 where
   text : Meaning
   bytes : Meaning
 
--- a field: its name, its first bit, how many bits it has, what they mean, and the raw value that a message must
--- have there for the definition to be chosen, if it asks for one
+-- a field: its name, its first bit in the message or in its set, how many bits it has, what they mean, and the raw
+-- value that a message must have there for the definition to be chosen, if it asks for one
 pub record FieldParts : Type 0 where
   pub name : List ℕ
   pub at : ℕ
@@ -88,20 +90,22 @@ raw_or_none (Some d) = do
   z ← ok_or (as_integer d) Key
   raw_value z
 
--- the raw value that a field asks for, if it asks for one
-abbrev pub wanted_of : Members → Result (Option ℕ) TableFault
-wanted_of f = raw_or_none (get_member (codes "match") f)
+-- the raw value that a field asks for, if it asks for one: a field of a set can't
+abbrev pub wanted_of : Holder → Members → Result (Option ℕ) TableFault
+wanted_of Message f = raw_or_none (get_member (codes "match") f)
+wanted_of Set f = Ok None
 
 -- the name of the lookup of a lookup field
 abbrev pub lookup_of : Members → Result (List ℕ) TableFault
 lookup_of = text_at (codes "lookup")
 
--- the field ends within the longest message, where its place has no fault by itself
-abbrev pub ends_in_message : Result ℕ TableFault → Result ℕ TableFault → Bool
-ends_in_message at bits = value_or true (do
+-- what has its first bit there and so many bits ends within the end, where none of the three has a fault by itself
+abbrev pub ends_within : Result ℕ TableFault → Result ℕ TableFault → Result ℕ TableFault → Bool
+ends_within end at bits = value_or true (do
+  e ← end
   a ← at
   n ← bits
-  Ok (nat_le (a + n) message_bits))
+  Ok (nat_le (a + n) e))
 
 -- a signed number has a bit beside its sign
 abbrev pub has_room_for_sign : Result Bool TableFault → Result ℕ TableFault → Bool
@@ -127,50 +131,52 @@ is_there names name = value_or true (do
   wanted ← name
   Ok (list_any (bytes_eq wanted) names))
 
+-- The faults of a field by what it stands in, and by the end of that, which may have a fault.
+
 -- the faults of a number field
-abbrev pub number_faults : Members → List TableFault
-number_faults f =
-    unless (has_only_keys NumberField f) Key
+abbrev pub number_faults : Holder → Result ℕ TableFault → Members → List TableFault
+number_faults holder end f =
+    unless (has_only_keys (NumberField holder) f) Key
     ++ fault_of (name_of f)
     ++ fault_of (at_of f)
     ++ fault_of (bits_of most_number_bits f)
     ++ fault_of (signed_of f)
     ++ fault_of (resolution_at f)
-    ++ fault_of (wanted_of f)
-    ++ unless (ends_in_message (at_of f) (bits_of most_number_bits f)) Range
+    ++ fault_of (wanted_of holder f)
+    ++ unless (ends_within end (at_of f) (bits_of most_number_bits f)) Range
     ++ unless (has_room_for_sign (signed_of f) (bits_of most_number_bits f)) Range
-    ++ unless (fits_bits (wanted_of f) (bits_of most_number_bits f)) Range
+    ++ unless (fits_bits (wanted_of holder f) (bits_of most_number_bits f)) Range
 
 -- the faults of a lookup field, by the names of the lookups that are there
-abbrev pub lookup_field_faults : List (List ℕ) → Members → List TableFault
-lookup_field_faults names f =
-    unless (has_only_keys LookupField f) Key
+abbrev pub lookup_field_faults : Holder → Result ℕ TableFault → List (List ℕ) → Members → List TableFault
+lookup_field_faults holder end names f =
+    unless (has_only_keys (LookupField holder) f) Key
     ++ fault_of (name_of f)
     ++ fault_of (at_of f)
     ++ fault_of (bits_of most_lookup_bits f)
-    ++ fault_of (wanted_of f)
+    ++ fault_of (wanted_of holder f)
     ++ fault_of (lookup_of f)
-    ++ unless (ends_in_message (at_of f) (bits_of most_lookup_bits f)) Range
-    ++ unless (fits_bits (wanted_of f) (bits_of most_lookup_bits f)) Range
+    ++ unless (ends_within end (at_of f) (bits_of most_lookup_bits f)) Range
+    ++ unless (fits_bits (wanted_of holder f) (bits_of most_lookup_bits f)) Range
     ++ unless (is_there names (lookup_of f)) Lookup
 
 -- the faults of a field of text or bytes
-abbrev pub byte_field_faults : Members → List TableFault
-byte_field_faults f =
+abbrev pub byte_field_faults : Result ℕ TableFault → Members → List TableFault
+byte_field_faults end f =
     unless (has_only_keys ByteField f) Key
     ++ fault_of (name_of f)
     ++ fault_of (byte_at_of f)
     ++ fault_of (byte_bits_of f)
-    ++ unless (ends_in_message (byte_at_of f) (byte_bits_of f)) Range
+    ++ unless (ends_within end (byte_at_of f) (byte_bits_of f)) Range
 
 -- The number field that the values spell. Where one has a fault the table is refused.
-abbrev pub number_field : Members → FieldParts
-number_field f = record {
+abbrev pub number_field : Holder → Members → FieldParts
+number_field holder f = record {
   name = value_or [] (name_of f);
   at = value_or 0 (at_of f);
   bits = value_or 0 (bits_of most_number_bits f);
   meaning = number (value_or false (signed_of f)) (value_or one (resolution_at f));
-  wanted = value_or None (wanted_of f);
+  wanted = value_or None (wanted_of holder f);
 }
 
 -- the entries of the lookup of that name
@@ -178,13 +184,13 @@ abbrev pub entries_named : List LookupParts → List ℕ → List (ℕ × List �
 entries_named lookups name = unwrap_or (option_map (λ l. l.entries) (find (λ l. bytes_eq name l.name) lookups)) []
 
 -- the lookup field that the values spell
-abbrev pub lookup_field : List LookupParts → Members → FieldParts
-lookup_field lookups f = record {
+abbrev pub lookup_field : Holder → List LookupParts → Members → FieldParts
+lookup_field holder lookups f = record {
   name = value_or [] (name_of f);
   at = value_or 0 (at_of f);
   bits = value_or 0 (bits_of most_lookup_bits f);
   meaning = named (entries_named lookups (value_or [] (lookup_of f)));
-  wanted = value_or None (wanted_of f);
+  wanted = value_or None (wanted_of holder f);
 }
 
 -- the field of text or bytes that the values spell
@@ -216,26 +222,26 @@ abbrev pub members_or_none : Data → Members
 members_or_none d = value_or no_members (as_members d)
 
 -- the faults of a field of that kind
-abbrev pub faults_by_kind : List (List ℕ) → Members → FieldKind → List TableFault
-faults_by_kind names f kind.Number = number_faults f
-faults_by_kind names f kind.Lookup = lookup_field_faults names f
-faults_by_kind names f kind.Text = byte_field_faults f
-faults_by_kind names f kind.Bytes = byte_field_faults f
+abbrev pub faults_by_kind : Holder → Result ℕ TableFault → List (List ℕ) → Members → FieldKind → List TableFault
+faults_by_kind holder end names f kind.Number = number_faults holder end f
+faults_by_kind holder end names f kind.Lookup = lookup_field_faults holder end names f
+faults_by_kind holder end names f kind.Text = byte_field_faults end f
+faults_by_kind holder end names f kind.Bytes = byte_field_faults end f
 
 -- the faults of a field, by the names of the lookups that are there
-abbrev pub field_faults : List (List ℕ) → Data → List TableFault
-field_faults names d = faults_in (kind_of_field d) (faults_by_kind names (members_or_none d))
+abbrev pub field_faults : Holder → Result ℕ TableFault → List (List ℕ) → Data → List TableFault
+field_faults holder end names d = faults_in (kind_of_field d) (faults_by_kind holder end names (members_or_none d))
 
 -- the field of that kind that the values spell
-abbrev pub field_by_kind : List LookupParts → Members → FieldKind → FieldParts
-field_by_kind lookups f kind.Number = number_field f
-field_by_kind lookups f kind.Lookup = lookup_field lookups f
-field_by_kind lookups f kind.Text = byte_field text f
-field_by_kind lookups f kind.Bytes = byte_field bytes f
+abbrev pub field_by_kind : Holder → List LookupParts → Members → FieldKind → FieldParts
+field_by_kind holder lookups f kind.Number = number_field holder f
+field_by_kind holder lookups f kind.Lookup = lookup_field holder lookups f
+field_by_kind holder lookups f kind.Text = byte_field text f
+field_by_kind holder lookups f kind.Bytes = byte_field bytes f
 
 -- the field that a value spells, in a table of these lookups
-abbrev pub field : List LookupParts → Data → FieldParts
-field lookups d = field_by_kind lookups (members_or_none d) (value_or kind.Number (kind_of_field d))
+abbrev pub field : Holder → List LookupParts → Data → FieldParts
+field holder lookups d = field_by_kind holder lookups (members_or_none d) (value_or kind.Number (kind_of_field d))
 
 -- the name under which a field counts: one of a kind that is there, where the name has no fault
 abbrev pub counted_name : Data → Option (List ℕ)

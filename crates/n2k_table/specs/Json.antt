@@ -1,10 +1,11 @@
 -- The JSON line of a message.
-use Rattle.std.specs.Prelude.{ℕ, Bool, false, codes, decimal, List, [], ◌∷◌, ◌++◌, flat_map, Option, Some, None, if◌then◌else◌}
+use Rattle.std.specs.Prelude.{ℕ, Bool, false, codes, decimal, List, [], ◌∷◌, ◌++◌, map, flat_map, Option, Some, None, if◌then◌else◌}
 use Rattle.std.specs.List.{filter_map, join_with_byte}
 use Rattle.n2k_wire.specs.Packet.{PacketParts}
 use Rattle.n2k_wire.specs.declared.identifier.Id.{Id}
 use Rattle.n2k_table.specs.Decimal.{dec}
-use Rattle.n2k_table.specs.Definition.{DefinitionParts}
+use Rattle.n2k_table.specs.Repeat.{RepeatParts, all_sets}
+use Rattle.n2k_table.specs.Definition.{DefinitionParts, list_name}
 use Rattle.n2k_table.specs.Shown.{ShownParts, absent, number, name, text, bytes, all_shown}
 use Rattle.n2k_table.specs.Table.{TableParts, choice}
 use Rattle.n2k_table.specs.Text.{text_json, character, pairs}
@@ -32,9 +33,34 @@ pair_json key (Some value) = Some (text_json key ++ colon ∷ value)
 abbrev pub member_json : Bool → List ℕ × ShownParts → Option (List ℕ)
 member_json empty f = pair_json f.0 (value_json empty f.1)
 
--- the object of the fields
-abbrev pub fields_json : Bool → List (List ℕ × ShownParts) → List ℕ
-fields_json empty fields = codes "{" ++ join_with_byte comma (filter_map (member_json empty) fields) ++ codes "}"
+-- the members of the fields that are shown
+abbrev pub members : Bool → List (List ℕ × ShownParts) → List (List ℕ)
+members empty fields = filter_map (member_json empty) fields
+
+-- an object of members
+abbrev pub object : List (List ℕ) → List ℕ
+object ms = codes "{" ++ join_with_byte comma ms ++ codes "}"
+
+-- an array of values
+abbrev pub array : List (List ℕ) → List ℕ
+array values = codes "[" ++ join_with_byte comma values ++ codes "]"
+
+-- the object of a set
+abbrev pub set_json : Bool → List (List ℕ × ShownParts) → List ℕ
+set_json empty set = object (members empty set)
+
+-- the sets as a member: an array of one object for each, also where there is none
+abbrev pub list_json : Bool → List (List (List ℕ × ShownParts)) → List ℕ
+list_json empty sets = text_json list_name ++ colon ∷ array (map (set_json empty) sets)
+
+-- the member of what repeats in the data, if something does
+abbrev pub repeat_members : Bool → Option RepeatParts → List ℕ → List (List ℕ)
+repeat_members empty None payload = []
+repeat_members empty (Some r) payload = list_json empty (all_sets r payload) ∷ []
+
+-- the members of a message under a definition: its own fields, and last what repeats
+abbrev pub message_members : Bool → DefinitionParts → List ℕ → List (List ℕ)
+message_members empty d payload = members empty (all_shown d.fields payload) ++ repeat_members empty d.repeat payload
 
 -- who sent what to whom
 unfoldable pub id_json : Id → List ℕ
@@ -52,17 +78,17 @@ head_json description_json m =
     ++ codes ",\"description\":" ++ description_json
     ++ codes ",\"fields\":"
 
--- the line of a message, with its LF
-abbrev pub line_json : List ℕ → List (List ℕ × ShownParts) → PacketParts → Bool → List ℕ
-line_json description fields m empty = head_json (text_json description) m ++ fields_json empty fields ++ codes "}\n"
+-- the line of a message with these members, with its LF
+abbrev pub line_json : List ℕ → List (List ℕ) → PacketParts → List ℕ
+line_json description ms m = head_json (text_json description) m ++ object ms ++ codes "}\n"
 
 -- the line of a message that no definition matches: its data as they are (never absent, whatever `empty` says)
 abbrev pub unmatched_json : PacketParts → List ℕ
-unmatched_json m = line_json (codes "Unmatched") ((codes "Data", bytes m.payload) ∷ []) m false
+unmatched_json m = line_json (codes "Unmatched") (members false ((codes "Data", bytes m.payload) ∷ [])) m
 
 -- The line of a message under the definition that is chosen for it. Where there is none it is unmatched.
 abbrev pub chosen_json : Option DefinitionParts → PacketParts → Bool → List ℕ
-chosen_json (Some d) m empty = line_json d.description (all_shown d.fields m.payload) m empty
+chosen_json (Some d) m empty = line_json d.description (message_members empty d m.payload) m
 chosen_json None m empty = unmatched_json m
 
 unfoldable pub json : TableParts → PacketParts → Bool → List ℕ

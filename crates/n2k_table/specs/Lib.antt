@@ -3,10 +3,12 @@ pub mod Decimal
 pub mod Definition
 pub mod Fault
 pub mod Field
+pub mod Fields
 pub mod Inner
 pub mod Json
 pub mod Lookup
 pub mod OneLine
+pub mod Repeat
 pub mod Resolution
 pub mod Shown
 pub mod Table

@@ -1,7 +1,6 @@
 -- The faults that stand in the bytes of a table, the table that they spell, and what is looked up in it.
-use Rattle.std.specs.Prelude.{ℕ, Bool, true, false, not, ◌&&◌, ◌||◌, ◌==◌, nat_le, codes, List, [], ◌∷◌, ◌++◌, length, map, flat_map, Option, Some, None, option_map, unwrap_or, Result, if◌then◌else◌}
+use Rattle.std.specs.Prelude.{ℕ, Bool, true, false, not, ◌&&◌, ◌||◌, ◌==◌, nat_le, codes, List, [], ◌∷◌, ◌++◌, length, map, flat_map, Option, Some, None, option_map, unwrap_or, Result, Ok, Err, if◌then◌else◌}
 use Rattle.std.specs.List.{list_all, list_any, filter_map, find}
-use Rattle.std.specs.Result.{is_ok}
 use Rattle.std.specs.Str.{is_utf8}
 use Rattle.sha2.specs.Sha256.{sha256}
 use Rattle.toml.specs.Data.{Data, Members, no_members, get_member}
@@ -10,6 +9,8 @@ use Rattle.n2k_table.specs.declared.definition.Kind.{Kind}
 use Rattle.n2k_table.specs.declared.definition.Kind.TheVariants.{Single, Fast}
 use Rattle.n2k_table.specs.declared.fault.TableFault.{TableFault}
 use Rattle.n2k_table.specs.declared.fault.TableFault.TheVariants.{NotToml, Format, Key, Mixed, TooMany}
+use Rattle.n2k_table.specs.declared.tree.TableFormat.{TableFormat}
+use Rattle.n2k_table.specs.declared.tree.TableFormat.TheVariants.{One, Two}
 use Rattle.n2k_table.specs.declared.tree.Place.TheVariants.{Document}
 use Rattle.n2k_table.specs.Fault.{faults_in, value_or, unless}
 use Rattle.n2k_table.specs.Tree.{has_only_keys, whole_at, elements_or_none}
@@ -32,9 +33,18 @@ pub record TableParts : Type 0 where
 abbrev pub document : List ℕ → Option Members
 document bytes = if is_utf8 bytes then parse_document bytes else None
 
--- the top level says that it is of format 1
-abbrev pub is_format_1 : Members → Bool
-is_format_1 top = is_ok (whole_at (codes "format") 1 1 top)
+-- the newest format of a table
+abbrev pub newest_format : ℕ
+newest_format = 2
+
+-- the format of a number that is no fault; any other value at `format`, and none, is one fault
+abbrev pub as_format : Result ℕ TableFault → Result TableFormat TableFault
+as_format (Ok n) = Ok (if n == 1 then One else Two)
+as_format (Err fault) = Err Format
+
+-- the format that the top level says it is of
+abbrev pub format_of : Members → Result TableFormat TableFault
+format_of top = as_format (whole_at (codes "format") 1 newest_format top)
 
 abbrev pub is_same_kind : Kind → Kind → Bool
 is_same_kind Single Single = true
@@ -50,11 +60,11 @@ abbrev pub has_mixed : List (ℕ × Kind) → Bool
 has_mixed [] = false
 has_mixed (d ∷ ds) = list_any (are_mixed d) ds || has_mixed ds
 
--- the faults of the definitions of a table, by the names of the lookups that are there
-abbrev pub definitions_faults : List (List ℕ) → List Data → List TableFault
-definitions_faults names ds =
+-- the faults of the definitions of a table of that format, by the names of the lookups that are there
+abbrev pub definitions_faults : TableFormat → List (List ℕ) → List Data → List TableFault
+definitions_faults format names ds =
     unless (nat_le (length ds) most_definitions) TooMany
-    ++ flat_map (definition_faults names) ds
+    ++ flat_map (definition_faults format names) ds
     ++ unless (not (has_mixed (filter_map counted_kind ds))) Mixed
 
 -- the lookups of the top level, none where it has no key `lookup`
@@ -69,14 +79,16 @@ lookup_names top = filter_map counted_lookup (value_or [] (lookups_of top))
 abbrev pub definitions_of : Members → Result (List Data) TableFault
 definitions_of top = elements_or_none (get_member (codes "pgn") top)
 
+-- the faults of a document of that format
+abbrev pub formatted_faults : Members → TableFormat → List TableFault
+formatted_faults top format =
+    unless (has_only_keys Document top) Key
+    ++ faults_in (lookups_of top) lookups_faults
+    ++ faults_in (definitions_of top) (definitions_faults format (lookup_names top))
+
 -- The faults of a document. One that is of no format that is known is judged no further.
 abbrev pub top_faults : Members → List TableFault
-top_faults top =
-    if is_format_1 top
-    then unless (has_only_keys Document top) Key
-    ++ faults_in (lookups_of top) lookups_faults
-    ++ faults_in (definitions_of top) (definitions_faults (lookup_names top))
-    else Format ∷ []
+top_faults top = faults_in (format_of top) (formatted_faults top)
 
 abbrev pub document_faults : Option Members → List TableFault
 document_faults None = NotToml ∷ []
@@ -90,13 +102,13 @@ faults bytes = document_faults (document bytes)
 abbrev pub top_lookups : Members → List LookupParts
 top_lookups top = map lookup (value_or [] (lookups_of top))
 
--- the definitions that a document spells in a table of these lookups
-abbrev pub definitions_in : List LookupParts → Members → List DefinitionParts
-definitions_in lookups top = map (definition lookups) (value_or [] (definitions_of top))
+-- the definitions that a document of that format spells in a table of these lookups
+abbrev pub definitions_in : TableFormat → List LookupParts → Members → List DefinitionParts
+definitions_in format lookups top = map (definition format lookups) (value_or [] (definitions_of top))
 
 -- the definitions that a document spells, each lookup field with the entries of its lookup
 abbrev pub top_definitions : Members → List DefinitionParts
-top_definitions top = definitions_in (top_lookups top) top
+top_definitions top = definitions_in (value_or One (format_of top)) (top_lookups top) top
 
 -- The table that the bytes spell. Where a fault stands they are refused.
 abbrev pub table : List ℕ → TableParts

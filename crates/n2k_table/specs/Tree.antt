@@ -6,21 +6,36 @@ use Rattle.std.specs.List.{list_any}
 use Rattle.toml.specs.Data.{Data, Items, no_items, item, Members, no_members, member, get_member, as_integer, as_str, as_bool, as_array, as_table}
 use Rattle.n2k_table.specs.declared.fault.TableFault.{TableFault}
 use Rattle.n2k_table.specs.declared.fault.TableFault.TheVariants.{Key, Range, Text}
+use Rattle.n2k_table.specs.declared.tree.TableFormat.{TableFormat}
+use Rattle.n2k_table.specs.declared.tree.TableFormat.TheVariants.{One, Two}
+use Rattle.n2k_table.specs.declared.tree.Holder.{Holder}
+use Rattle.n2k_table.specs.declared.tree.Holder.TheVariants.{Message, Set}
 use Rattle.n2k_table.specs.declared.tree.Place.{Place}
-use Rattle.n2k_table.specs.declared.tree.Place.TheVariants.{Document, Lookup, Definition, NumberField, LookupField, ByteField}
+use Rattle.n2k_table.specs.declared.tree.Place.TheVariants.{Document, Lookup, Definition, Repeat, NumberField, LookupField, ByteField}
 use Rattle.n2k_wire.specs.Steps.{◌>>=◌}
 
 -- the most bytes of a name or a description
 abbrev pub longest_text : ℕ
 longest_text = 255
 
+-- the key by which a field of a message asks for a value; a field of a set can't
+abbrev pub match_keys : Holder → List (List ℕ)
+match_keys Message = codes "match" ∷ []
+match_keys Set = []
+
+-- the key by which a definition of format 2 may have sets
+abbrev pub repeat_keys : TableFormat → List (List ℕ)
+repeat_keys One = []
+repeat_keys Two = codes "repeat" ∷ []
+
 -- the keys that a table of the document may have, by its place
 abbrev pub keys : Place → List (List ℕ)
 keys Document = codes "format" ∷ codes "lookup" ∷ codes "pgn" ∷ []
 keys Lookup = codes "name" ∷ codes "entries" ∷ []
-keys Definition = codes "number" ∷ codes "kind" ∷ codes "description" ∷ codes "fields" ∷ []
-keys NumberField = codes "name" ∷ codes "kind" ∷ codes "at" ∷ codes "bits" ∷ codes "signed" ∷ codes "resolution" ∷ codes "match" ∷ []
-keys LookupField = codes "name" ∷ codes "kind" ∷ codes "at" ∷ codes "bits" ∷ codes "match" ∷ codes "lookup" ∷ []
+keys (Definition format) = codes "number" ∷ codes "kind" ∷ codes "description" ∷ codes "fields" ∷ repeat_keys format
+keys Repeat = codes "at" ∷ codes "bits" ∷ codes "fields" ∷ []
+keys (NumberField holder) = codes "name" ∷ codes "kind" ∷ codes "at" ∷ codes "bits" ∷ codes "signed" ∷ codes "resolution" ∷ match_keys holder
+keys (LookupField holder) = codes "name" ∷ codes "kind" ∷ codes "at" ∷ codes "bits" ∷ codes "lookup" ∷ match_keys holder
 keys ByteField = codes "name" ∷ codes "kind" ∷ codes "at" ∷ codes "bits" ∷ []
 
 abbrev pub is_key : Place → List ℕ → Bool

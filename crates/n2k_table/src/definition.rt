@@ -1,34 +1,43 @@
 //! What a table says of one message.
-ghost use Rattle.std.specs.Prelude.{◌≡◌, IfOk, map, flat_map};
+ghost use Rattle.std.specs.Prelude.{◌≡◌, IfOk, map, option_map};
 ghost use Rattle.std.specs.List.{list_any};
-ghost use Rattle.std.specs.Str.{bytes_eq};
-ghost use Rattle.toml.specs.View.{view, table_view, array_view};
+ghost use Rattle.toml.specs.View.{view, table_view};
 ghost use Rattle.n2k_wire.specs.Views.{Gives};
 ghost use Rattle.n2k_table.specs.Inner.Reading.{GivesOrMemory, judged};
-ghost use Rattle.n2k_table.specs.Tree.{elements};
 ghost use Rattle.n2k_table.specs.Lookup.{LookupParts};
 ghost use Rattle.n2k_table.specs.Inner.Line.{label_json};
-ghost use Rattle.n2k_table.specs.Twice.{has_twice};
-ghost use Rattle.n2k_table.specs.Field.{field, field_faults};
+ghost use Rattle.n2k_table.specs.Field.{FieldParts, field};
+ghost use Rattle.n2k_table.specs.Repeat.{repeat};
 ghost use Rattle.n2k_table.specs.Table.{are_mixed, has_mixed};
-ghost use Rattle.n2k_table.specs.Definition.{named_kind, fields_faults, members_faults, members_definition, definition_faults, definition};
+ghost use Rattle.n2k_table.specs.Definition.{named_kind, repeat_of, repeat_beside_faults, layout_faults, layout, members_faults, members_definition, definition_faults, definition};
 ghost use Rattle.n2k_table.specs.Inner.Kinds.{pgn_kind};
 
 use crate::fault::TableFault;
-use crate::field::{Field, read_field};
+use crate::field::{Field, MESSAGE_BITS, Room};
+use crate::fields::{is_named, read_fields};
 use crate::lookup::Lookups;
+use crate::repeat::{Repeat, read_repeat};
+use crate::sets::Sets;
 use crate::shown::Fields;
 use crate::text::text_json;
-use crate::tree::{Place, any_text_at, as_members, elements_at, has_only_keys, text_at, whole_at};
+use crate::tree::{
+    Holder, Place, TableFormat, any_text_at, as_members, elements_at, found, has_only_keys,
+    text_at, whole_at,
+};
 use itoa::Buffer;
 use n2k_wire::GREATEST_PGN;
 use std::alloc::{AllocError, Global};
 use std::marker::Model;
-use toml::value::Array;
 use toml::{Table, Value};
 
-/// The most fields of a definition.
-pub(crate) const MOST_FIELDS: usize = 256;
+/// The name of the member that holds the sets of a message.
+const LIST: &str = "list";
+
+// The room of a field of a message.
+const MESSAGE: Room = Room {
+    holder: Holder::Message,
+    bits: MESSAGE_BITS,
+};
 
 /// How the messages of a PGN are sent.
 #[derive(Clone, Copy, PartialEq, Eq, Debug)]
@@ -48,6 +57,7 @@ pub(crate) struct StoredDefinition {
     // What stands in a line between who sent the message and the members, kept since each line needs it.
     label: Vec<u8>,
     fields: Vec<Field>,
+    repeat: Option<Repeat>,
 }
 
 impl Model for StoredDefinition {
@@ -62,6 +72,7 @@ impl Model for StoredDefinition {
       kind = d.kind;
       description = string_bytes d.description;
       fields = d.fields.items;
+      repeat = d.repeat;
     } };
 
     ghost invariant = { λ d. d.label.items ≡ label_json d.number (string_bytes d.description) };
@@ -105,6 +116,13 @@ impl StoredDefinition {
         self.fields.as_slice()
     }
 
+    /// What repeats behind them, if something does.
+    pub(crate) fn repeat(&self) -> Option<&Repeat>
+        ensures { option_map (λ r. r.now) result ≡ self.now.repeat }
+    {
+        self.repeat.as_ref()
+    }
+
     /// Whether the data have what the fields ask for.
     pub(crate) fn matches(&self, data: &[u8]) -> bool
         ensures { result ≡ matches «data».now self.now }
@@ -137,6 +155,7 @@ impl<'a> Model for Definition<'a> {
 impl<'a> Definition<'a> {
     ghost use Rattle.n2k_table.specs.Inner.Line.{label_json};
     ghost use Rattle.n2k_table.specs.Shown.{all_shown};
+    ghost use Rattle.n2k_table.specs.Repeat.{all_sets};
 
     /// The view of a definition that the table keeps.
     pub(crate) fn of(stored: &'a StoredDefinition) -> Definition<'a>
@@ -166,8 +185,15 @@ impl<'a> Definition<'a> {
         self.stored.fields()
     }
 
-    /// What each field shows of the data of a message (the bytes in the order of the bus), with its name, in
-    /// printing order. It takes no memory.
+    /// What repeats behind the fields, as the table keeps it.
+    pub(crate) fn stored_repeat(&self) -> Option<&Repeat>
+        ensures { option_map (λ r. r.now) result ≡ self.now.repeat }
+    {
+        self.stored.repeat()
+    }
+
+    /// What each field of the definition's own shows of the data of a message (the bytes in the order of the bus),
+    /// with its name, in printing order. It takes no memory.
     ///
     /// ```text
     /// for (name, shown) in definition.fields(packet.data()) { .. }
@@ -176,6 +202,20 @@ impl<'a> Definition<'a> {
         ensures { result ≡ all_shown self.now.fields «data».now }
     {
         Fields::new(self.stored.fields(), data)
+    }
+
+    /// What each set shows of the data of a message, where the definition says that sets repeat in it; `None` where
+    /// it doesn't. There are as many sets as lie wholly in the data, which may be none. It takes no memory.
+    ///
+    /// ```text
+    /// for set in definition.repeat(packet.data())? {
+    ///     for (name, shown) in set { .. }
+    /// }
+    /// ```
+    pub fn repeat(&self, data: &'a [u8]) -> Option<Sets<'a>>
+        ensures { result ≡ option_map (λ r. all_sets r «data».now) self.now.repeat }
+    {
+        Some(Sets::of(self.stored.repeat()?, data))
     }
 }
 
@@ -187,62 +227,6 @@ fn named_kind(text: &str) -> Result<Kind, TableFault>
         "fast" => Ok(Kind::Fast),
         _ => Err(TableFault::Text),
     }
-}
-
-// Whether two fields have one name.
-fn has_twice(fields: &[Field]) -> bool
-    ensures { result ≡ has_twice bytes_eq (map (λ field. field.name) fields.now) }
-{
-    let mut rest = fields;
-    while let Some((field, others)) = rest.split_first() {
-        if is_named(others, field.name()) {
-            return true;
-        }
-        rest = others;
-    }
-    false
-}
-
-// Whether a field has the name.
-fn is_named(fields: &[Field], name: &str) -> bool
-    ensures { let names = map (λ field. field.name) fields.now in
-        result ≡ list_any (bytes_eq name.now) names }
-{
-    for field in fields {
-        if name == field.name() {
-            return true;
-        }
-    }
-    false
-}
-
-// The fields, up to a first fault among theirs.
-fn each_field(alloc: Global, lookups: &Lookups, values: &Array) -> Result<Vec<Field>, TableFault>
-    ensures { let names = map (λ (lookup : LookupParts). lookup.name) lookups.now in
-        let ds = elements (array_view values.now) in
-        GivesOrMemory (λ fields. fields.items) result
-        (judged (flat_map (field_faults names) ds) (map (field lookups.now) ds)) }
-{
-    let mut fields = Vec::new(alloc);
-    for value in values {
-        fields.push(read_field(alloc, lookups, value)?)?;
-    }
-    Ok(fields)
-}
-
-fn read_fields(alloc: Global, lookups: &Lookups, values: &Array) -> Result<Vec<Field>, TableFault>
-    ensures { let names = map (λ (lookup : LookupParts). lookup.name) lookups.now in
-        let ds = elements (array_view values.now) in
-        GivesOrMemory (λ fields. fields.items) result (judged (fields_faults names ds) (map (field lookups.now) ds)) }
-{
-    if values.len() > MOST_FIELDS {
-        return Err(TableFault::TooMany);
-    }
-    let fields = each_field(alloc, lookups, values)?;
-    if has_twice(&fields) {
-        return Err(TableFault::Twice);
-    }
-    Ok(fields)
 }
 
 // What the definition of a PGN puts into a line before the members.
@@ -261,28 +245,84 @@ fn label_of(alloc: Global, number: u32, description: &str) -> Result<Vec<u8>, Al
     Ok(label)
 }
 
+// The repeat of a definition, if it has one.
+fn repeat_at(format: TableFormat, table: &Table) -> Result<Option<&Table>, TableFault>
+    ensures { Gives (λ repeat. option_map (λ t. table_view t.now) repeat) result (repeat_of format (table_view table.now)) }
+{
+    match format {
+        TableFormat::One => Ok(None),
+        TableFormat::Two => match found(table, "repeat") {
+            None => Ok(None),
+            Some(value) => Ok(Some(as_members(value)?)),
+        },
+    }
+}
+
+// Reads what repeats behind these fields, if something does.
+fn read_beside(
+    alloc: Global,
+    lookups: &Lookups,
+    fields: &[Field],
+    table: Option<&Table>,
+) -> Result<Option<Repeat>, TableFault>
+    ensures { let names = map (λ (lookup : LookupParts). lookup.name) lookups.now in
+        let own = map (λ (field : FieldParts). field.name) fields.now in
+        let m = option_map (λ t. table_view t.now) table.entry in
+        GivesOrMemory (λ r. r) result
+        (judged (repeat_beside_faults names own m) (option_map (repeat lookups.now) m)) }
+{
+    let Some(table) = table else {
+        return Ok(None);
+    };
+    let repeat = read_repeat(alloc, lookups, table)?;
+    if is_named(fields, LIST) {
+        return Err(TableFault::Twice);
+    }
+    Ok(Some(repeat))
+}
+
+// Reads what a message shows: its fields, and what repeats behind them.
+fn read_layout(
+    alloc: Global,
+    lookups: &Lookups,
+    format: TableFormat,
+    table: &Table,
+) -> Result<(Vec<Field>, Option<Repeat>), TableFault>
+    ensures { let names = map (λ (lookup : LookupParts). lookup.name) lookups.now in
+        let m = table_view table.now in
+        GivesOrMemory (λ l. (l.0.items, l.1)) result
+        (judged (layout_faults format names m) (layout format lookups.now m)) }
+{
+    let fields = read_fields(alloc, lookups, MESSAGE, elements_at(table, "fields")?)?;
+    let repeat = read_beside(alloc, lookups, &fields, repeat_at(format, table)?)?;
+    Ok((fields, repeat))
+}
+
 fn read_members(
     alloc: Global,
     lookups: &Lookups,
+    format: TableFormat,
     table: &Table,
 ) -> Result<StoredDefinition, TableFault>
     ensures { let names = map (λ (lookup : LookupParts). lookup.name) lookups.now in
         let m = table_view table.now in
-        GivesOrMemory (λ stored. stored) result (judged (members_faults names m) (members_definition lookups.now m)) }
+        GivesOrMemory (λ stored. stored) result
+        (judged (members_faults format names m) (members_definition format lookups.now m)) }
 {
-    if !has_only_keys(table, Place::Definition) {
+    if !has_only_keys(table, Place::Definition(format)) {
         return Err(TableFault::Key);
     }
     let number = whole_at(table, "number", 0, GREATEST_PGN)?;
     let kind = named_kind(any_text_at(table, "kind")?)?;
     let description = text_at(table, "description")?;
-    let fields = read_fields(alloc, lookups, elements_at(table, "fields")?)?;
+    let (fields, repeat) = read_layout(alloc, lookups, format, table)?;
     Ok(StoredDefinition {
         number,
         kind,
         description: String::from_str(alloc, description)?,
         label: label_of(alloc, number, description)?,
         fields,
+        repeat,
     })
 }
 
@@ -311,15 +351,17 @@ fn is_mixed_among(definitions: &[StoredDefinition], definition: &StoredDefinitio
     false
 }
 
-/// Reads a definition, in a table of these lookups.
+/// Reads a definition, in a table of this format and of these lookups.
 pub(crate) fn read_definition(
     alloc: Global,
     lookups: &Lookups,
+    format: TableFormat,
     value: &Value,
 ) -> Result<StoredDefinition, TableFault>
     ensures { let names = map (λ (lookup : LookupParts). lookup.name) lookups.now in
         let d = view value.now in
-        GivesOrMemory (λ stored. stored) result (judged (definition_faults names d) (definition lookups.now d)) }
+        GivesOrMemory (λ stored. stored) result
+        (judged (definition_faults format names d) (definition format lookups.now d)) }
 {
-    read_members(alloc, lookups, as_members(value)?)
+    read_members(alloc, lookups, format, as_members(value)?)
 }

@@ -11,21 +11,22 @@ pub enum TableFault {
     /// The bytes are not UTF-8, or no TOML 1.1 document.
     #[error("1 NotToml")]
     NotToml,
-    /// The top level has no `format`, or it isn't the integer 1.
+    /// The top level has no `format`, or it is neither the integer 1 nor 2.
     #[error("2 Format")]
     Format,
     /// A key is missing or unknown, a value is of another TOML kind than its key asks, or an entry of a lookup
     /// isn't an array of an integer and a text.
     #[error("3 Key")]
     Key,
-    /// An integer or a mantissa is out of its range, a field of text or bytes doesn't begin and end with a byte,
-    /// or a field ends past the longest message.
+    /// An integer or a mantissa is out of its range, a field of text or bytes or a set doesn't begin and end with a
+    /// byte, or a field ends past the longest message or past its set.
     #[error("4 Range")]
     Range,
     /// A text is empty or too long, or isn't one of those that its key asks.
     #[error("5 Text")]
     Text,
-    /// Two lookups, or two fields of a definition, have one name, or a lookup has a value twice.
+    /// Two lookups, or two fields of a definition or of a set, have one name, a field beside sets is named `list`, or a
+    /// lookup has a value twice.
     #[error("6 Twice")]
     Twice,
     /// A field names a lookup that isn't there.
@@ -34,7 +35,7 @@ pub enum TableFault {
     /// Two definitions of one PGN have different kinds.
     #[error("8 Mixed")]
     Mixed,
-    /// There are too many definitions, fields in one, lookups, or entries in one.
+    /// There are too many definitions, fields in one or in a set, lookups, or entries in one.
     #[error("9 TooMany")]
     TooMany,
     /// A growth was refused.

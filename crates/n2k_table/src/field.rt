@@ -1,12 +1,13 @@
 //! What a table says of one field.
-ghost use Rattle.std.specs.Prelude.{◌≡◌, ◌≤◌, ◌+◌, ◌*◌, true, length, map, IfOk};
+ghost use Rattle.std.specs.Prelude.{◌≡◌, ◌≤◌, ◌+◌, ◌*◌, ◌%◌, codes, true, length, map, IfOk, Ok};
 ghost use Rattle.n2k_table.specs.Inner.Line.{key_json};
+ghost use Rattle.toml.specs.Data.{get_member};
 ghost use Rattle.toml.specs.View.{view, table_view};
 ghost use Rattle.n2k_wire.specs.Views.{Gives};
 ghost use Rattle.n2k_table.specs.Inner.Reading.{GivesOrMemory, judged};
 ghost use Rattle.n2k_table.specs.Lookup.{LookupParts};
 ghost use Rattle.n2k_table.specs.Inner.Kept.{meaning as seen_meaning, IsByteMeaning};
-ghost use Rattle.n2k_table.specs.Field.{in_bytes, byte_at_of, byte_bits_of, wanted_of, is_of_bits, named_field_kind, number_faults, number_field, lookup_field_faults, lookup_field, byte_field_faults, byte_field, field_faults, field};
+ghost use Rattle.n2k_table.specs.Field.{in_bytes, byte_at_of, byte_bits_of, raw_or_none, wanted_of, is_of_bits, named_field_kind, number_faults, number_field, lookup_field_faults, lookup_field, byte_field_faults, byte_field, field_faults, field};
 
 use crate::bits::{greatest, raw};
 use crate::fault::TableFault;
@@ -15,7 +16,8 @@ use crate::resolution::{Resolution, resolution_at};
 use crate::shown::{Seen, Shown, shown_name, shown_number, shown_text};
 use crate::text::text_json;
 use crate::tree::{
-    FieldKind, Place, any_text_at, as_members, found, has_only_keys, text_at, truth_at, whole_at,
+    FieldKind, Holder, Place, any_text_at, as_members, found, has_only_keys, text_at, truth_at,
+    whole_at,
 };
 use std::alloc::{AllocError, Global};
 use std::marker::Model;
@@ -33,6 +35,13 @@ pub(crate) const MOST_NUMBER_BITS: u32 = 64;
 
 /// The most bits of a lookup field.
 pub(crate) const MOST_LOOKUP_BITS: u32 = 32;
+
+/// The room of a field: what it stands in, and how many bits that has.
+#[derive(Clone, Copy)]
+pub(crate) struct Room {
+    pub(crate) holder: Holder,
+    pub(crate) bits: u32,
+}
 
 /// What the bits of a field mean.
 #[derive(Drop)]
@@ -52,7 +61,7 @@ pub(crate) enum Meaning {
     Bytes,
 }
 
-/// A field: its name, its first bit, how many bits it has, what they mean, and the raw value that it asks
+/// A field: its name, its first bit in the message or in its set, how many bits it has, what they mean, and the raw value that it asks
 /// for, if it asks for one.
 #[derive(Drop)]
 pub(crate) struct Field {
@@ -84,8 +93,17 @@ impl Model for Field {
 }
 
 // The raw value that a field asks for, if it asks for one.
-fn wanted_at(table: &Table) -> Result<Option<u64>, TableFault>
-    ensures { Gives (λ wanted. wanted) result (wanted_of (table_view table.now)) }
+fn wanted_at(holder: Holder, table: &Table) -> Result<Option<u64>, TableFault>
+    ensures { Gives (λ wanted. wanted) result (wanted_of holder (table_view table.now)) }
+{
+    match holder {
+        Holder::Message => match_at(table),
+        Holder::Set => Ok(None),
+    }
+}
+
+fn match_at(table: &Table) -> Result<Option<u64>, TableFault>
+    ensures { Gives (λ wanted. wanted) result (raw_or_none (get_member (codes "match") (table_view table.now))) }
 {
     let Some(value) = found(table, "match") else {
         return Ok(None);
@@ -113,6 +131,7 @@ fn is_of_bits(wanted: Option<u64>, bits: u32) -> bool
 fn in_bytes(bits: u32) -> Result<u32, TableFault>
     ensures value { Gives (λ bits. bits) result (in_bytes bits) }
     ensures same { IfOk result (λ same. same ≡ bits) }
+    ensures whole { IfOk result (λ bits. bits % 8 ≡ 0) }
 {
     if bits % 8 == 0 {
         Ok(bits)
@@ -121,18 +140,20 @@ fn in_bytes(bits: u32) -> Result<u32, TableFault>
     }
 }
 
-// The first bit of a field of whole bytes.
-fn byte_at(table: &Table) -> Result<u32, TableFault>
+/// The first bit of a field of whole bytes, or of what repeats.
+pub(crate) fn byte_at(table: &Table) -> Result<u32, TableFault>
     ensures value { Gives (λ at. at) result (byte_at_of (table_view table.now)) }
     ensures range { IfOk result (λ at. at ≤ 1783) }
+    ensures whole { IfOk result (λ at. at % 8 ≡ 0) }
 {
     in_bytes(whole_at(table, "at", 0, LAST_BIT)?)
 }
 
-// The bits of a field of whole bytes.
-fn byte_bits(table: &Table) -> Result<u32, TableFault>
+/// The bits of a field of whole bytes, or of a set.
+pub(crate) fn byte_bits(table: &Table) -> Result<u32, TableFault>
     ensures value { Gives (λ bits. bits) result (byte_bits_of (table_view table.now)) }
     ensures range { IfOk result (λ bits. (1 ≤ bits) × (bits ≤ 1784)) }
+    ensures whole { IfOk result (λ bits. bits % 8 ≡ 0) }
 {
     in_bytes(whole_at(table, "bits", 1, MESSAGE_BITS)?)
 }
@@ -149,11 +170,13 @@ fn key_of(alloc: Global, name: &str) -> Result<Vec<u8>, AllocError>
     Ok(key)
 }
 
-fn number_field(alloc: Global, table: &Table) -> Result<Field, TableFault>
+fn number_field(alloc: Global, room: Room, table: &Table) -> Result<Field, TableFault>
+    requires { room.bits ≤ 1784 }
     ensures { let f = table_view table.now in
-        GivesOrMemory (λ field. field) result (judged (number_faults f) (number_field f)) }
+        GivesOrMemory (λ field. field) result
+        (judged (number_faults room.holder (Ok room.bits) f) (number_field room.holder f)) }
 {
-    if !has_only_keys(table, Place::NumberField) {
+    if !has_only_keys(table, Place::NumberField(room.holder)) {
         return Err(TableFault::Key);
     }
     let name = text_at(table, "name")?;
@@ -161,8 +184,8 @@ fn number_field(alloc: Global, table: &Table) -> Result<Field, TableFault>
     let bits = whole_at(table, "bits", 1, MOST_NUMBER_BITS)?;
     let signed = truth_at(table, "signed")?;
     let resolution = resolution_at(table)?;
-    let wanted = wanted_at(table)?;
-    if at + bits > MESSAGE_BITS || (signed && bits < 2) || !is_of_bits(wanted, bits) {
+    let wanted = wanted_at(room.holder, table)?;
+    if at + bits > room.bits || (signed && bits < 2) || !is_of_bits(wanted, bits) {
         return Err(TableFault::Range);
     }
     Ok(Field {
@@ -175,20 +198,27 @@ fn number_field(alloc: Global, table: &Table) -> Result<Field, TableFault>
     })
 }
 
-fn lookup_field(alloc: Global, lookups: &Lookups, table: &Table) -> Result<Field, TableFault>
+fn lookup_field(
+    alloc: Global,
+    lookups: &Lookups,
+    room: Room,
+    table: &Table,
+) -> Result<Field, TableFault>
+    requires { room.bits ≤ 1784 }
     ensures { let names = map (λ (lookup : LookupParts). lookup.name) lookups.now in
         let f = table_view table.now in
-        GivesOrMemory (λ field. field) result (judged (lookup_field_faults names f) (lookup_field lookups.now f)) }
+        GivesOrMemory (λ field. field) result
+        (judged (lookup_field_faults room.holder (Ok room.bits) names f) (lookup_field room.holder lookups.now f)) }
 {
-    if !has_only_keys(table, Place::LookupField) {
+    if !has_only_keys(table, Place::LookupField(room.holder)) {
         return Err(TableFault::Key);
     }
     let name = text_at(table, "name")?;
     let at = whole_at(table, "at", 0, LAST_BIT)?;
     let bits = whole_at(table, "bits", 1, MOST_LOOKUP_BITS)?;
-    let wanted = wanted_at(table)?;
+    let wanted = wanted_at(room.holder, table)?;
     let lookup_name = text_at(table, "lookup")?;
-    if at + bits > MESSAGE_BITS || !is_of_bits(wanted, bits) {
+    if at + bits > room.bits || !is_of_bits(wanted, bits) {
         return Err(TableFault::Range);
     }
     let Some(lookup) = lookups.find(lookup_name) else {
@@ -204,10 +234,17 @@ fn lookup_field(alloc: Global, lookups: &Lookups, table: &Table) -> Result<Field
     })
 }
 
-fn byte_field(alloc: Global, meaning: Meaning, table: &Table) -> Result<Field, TableFault>
-    requires { IsByteMeaning (seen_meaning meaning) }
+fn byte_field(
+    alloc: Global,
+    meaning: Meaning,
+    room: Room,
+    table: &Table,
+) -> Result<Field, TableFault>
+    requires meaning { IsByteMeaning (seen_meaning meaning) }
+    requires room { room.bits ≤ 1784 }
     ensures { let f = table_view table.now in
-        GivesOrMemory (λ field. field) result (judged (byte_field_faults f) (byte_field (seen_meaning meaning) f)) }
+        GivesOrMemory (λ field. field) result
+        (judged (byte_field_faults (Ok room.bits) f) (byte_field (seen_meaning meaning) f)) }
 {
     if !has_only_keys(table, Place::ByteField) {
         return Err(TableFault::Key);
@@ -215,7 +252,7 @@ fn byte_field(alloc: Global, meaning: Meaning, table: &Table) -> Result<Field, T
     let name = text_at(table, "name")?;
     let at = byte_at(table)?;
     let bits = byte_bits(table)?;
-    if at + bits > MESSAGE_BITS {
+    if at + bits > room.bits {
         return Err(TableFault::Range);
     }
     Ok(Field {
@@ -240,22 +277,25 @@ fn named_kind(name: &str) -> Result<FieldKind, TableFault>
     }
 }
 
-/// Reads a field, by its kind, in a table of these lookups.
+/// Reads a field of a message or of a set, by its kind, in a table of these lookups.
 pub(crate) fn read_field(
     alloc: Global,
     lookups: &Lookups,
+    room: Room,
     value: &Value,
 ) -> Result<Field, TableFault>
+    requires { room.bits ≤ 1784 }
     ensures { let names = map (λ (lookup : LookupParts). lookup.name) lookups.now in
         let d = view value.now in
-        GivesOrMemory (λ field. field) result (judged (field_faults names d) (field lookups.now d)) }
+        GivesOrMemory (λ field. field) result
+        (judged (field_faults room.holder (Ok room.bits) names d) (field room.holder lookups.now d)) }
 {
     let table = as_members(value)?;
     match named_kind(any_text_at(table, "kind")?)? {
-        FieldKind::Number => number_field(alloc, table),
-        FieldKind::Lookup => lookup_field(alloc, lookups, table),
-        FieldKind::Text => byte_field(alloc, Meaning::Text, table),
-        FieldKind::Bytes => byte_field(alloc, Meaning::Bytes, table),
+        FieldKind::Number => number_field(alloc, room, table),
+        FieldKind::Lookup => lookup_field(alloc, lookups, room, table),
+        FieldKind::Text => byte_field(alloc, Meaning::Text, room, table),
+        FieldKind::Bytes => byte_field(alloc, Meaning::Bytes, room, table),
     }
 }
 
@@ -306,7 +346,8 @@ impl Field {
         &data[from..to]
     }
 
-    /// What the field shows of the data of a message: nothing where it does not lie wholly inside.
+    /// What the field shows of the data of a message or of a set: nothing where it does not lie wholly inside.
+    #[inline(always)]
     pub(crate) fn seen<'a>(&'a self, data: &'a [u8]) -> Seen<'a>
         ensures { seen_parts result ≡ shown self.now «data».now }
     {

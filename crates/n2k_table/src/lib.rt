@@ -5,7 +5,8 @@
 //! - `Table::kind` says how a PGN is sent, and `Table::choose` gives the `Definition` of a message: the first
 //!   of its PGN in the file that its data match.
 //! - `Definition::fields` gives each field's name and what it shows of the data (`Shown`): a number, the name
-//!   of a value, a text, bytes, or nothing.
+//!   of a value, a text, bytes, or nothing. `Definition::repeat` gives the same of each set of fields that repeats
+//!   behind them (`Sets`), where the table says that something does.
 //! - `decimal_text` appends a number with its decimals, and `json_line` the line of a message.
 //!
 //! A table that reads has no fault, and an answered fault stands in it. What a number field shows is its raw
@@ -19,12 +20,15 @@ mod decimal;
 mod definition;
 mod fault;
 mod field;
+mod fields;
 mod head;
 mod index;
 pub mod laws;
 mod line;
 mod lookup;
+mod repeat;
 mod resolution;
+mod sets;
 mod shown;
 mod table;
 mod tail;
@@ -35,6 +39,7 @@ pub use decimal::decimal_text;
 pub use definition::{Definition, Kind};
 pub use fault::TableFault;
 pub use line::json_line;
+pub use sets::Sets;
 pub use shown::{Fields, Shown};
 pub use table::Table;
 

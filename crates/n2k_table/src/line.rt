@@ -1,14 +1,17 @@
 //! The JSON line of a message.
-ghost use Rattle.std.specs.Prelude.{◌≡◌, ◌++◌, ◌||◌, true, is_some, decimal, IfOk, IfSome, OnOk, OnErr, Some};
+ghost use Rattle.std.specs.Prelude.{◌≡◌, ◌++◌, ◌+◌, ◌*◌, ◌≤◌, ◌||◌, true, is_some, nat_lt, codes, if◌then◌else◌, decimal, length, map, IfOk, IfSome, OnOk, OnErr, Some};
 ghost use Rattle.n2k_table.specs.Inner.Seen.{seen_parts};
 ghost use Rattle.n2k_table.specs.Shown.{shown, all_shown};
-ghost use Rattle.n2k_table.specs.Json.{value_json, member_json, unmatched_json, chosen_json, json};
-ghost use Rattle.n2k_table.specs.Inner.Line.{member_text, members_json};
+ghost use Rattle.std.specs.List.{join_with_byte};
+ghost use Rattle.n2k_table.specs.Repeat.{set_shown, all_sets};
+ghost use Rattle.n2k_table.specs.Json.{comma, value_json, member_json, members, set_json, list_json, message_members, unmatched_json, chosen_json, json};
+ghost use Rattle.n2k_table.specs.Inner.Line.{has_members, member_text};
 
 use crate::decimal::push_decimal;
 use crate::definition::Definition;
 use crate::field::Field;
 use crate::head::push_seen;
+use crate::repeat::Repeat;
 use crate::shown::{Seen, Shown};
 use crate::table::Table;
 use crate::tail::Tail;
@@ -29,6 +32,7 @@ fn push_number(label: &[u8], number: u32, line: &mut Tail) -> Result<(), AllocEr
 }
 
 // Appends what a field shows as a value.
+#[inline(always)]
 fn push_value(seen: Seen<'_>, line: &mut Tail) -> Result<(), AllocError>
     ensures appends { OnOk result (IfSome (value_json true (seen_parts seen.entry))
         (λ value. line.new.items ≡ line.old.items ++ value)) }
@@ -48,6 +52,7 @@ fn push_value(seen: Seen<'_>, line: &mut Tail) -> Result<(), AllocError>
 
 // Appends a field as a member of an object, after a comma where a member stands before, and answers
 // whether one stands before the next.
+#[inline(always)]
 fn push_member(
     field: &Field,
     data: &[u8],
@@ -69,22 +74,98 @@ fn push_member(
     Ok(true)
 }
 
-// Appends the fields as the members of an object.
+// Appends the fields as the members of an object, of a message or of a set, and answers whether one stands
+// before the next. It is inlined for the message and for sets, since a call for each line costs more.
+#[inline(always)]
 fn push_members(
     fields: &[Field],
     data: &[u8],
     empty: bool,
     line: &mut Tail,
-) -> Result<(), AllocError>
-    ensures appends { OnOk result
-        (line.new.items ≡ line.old.items ++ members_json empty (all_shown fields.now «data».now)) }
+) -> Result<bool, AllocError>
+    ensures appends { let ms = members empty (all_shown fields.now «data».now) in
+        IfOk result (λ later. (line.new.items ≡ line.old.items ++ join_with_byte comma ms) × (later ≡ has_members ms)) }
     ensures before { line.new.before ≡ line.old.before }
 {
     let mut later = false;
     for field in fields {
         later = push_member(field, data, empty, later, line)?;
     }
+    Ok(later)
+}
+
+// Appends a set as an object, after a comma where a set stands before.
+fn push_set(
+    repeat: &Repeat,
+    data: &[u8],
+    number: usize,
+    empty: bool,
+    line: &mut Tail,
+) -> Result<(), AllocError>
+    requires { repeat.now.at + number * repeat.now.bits + repeat.now.bits ≤ 8 * length «data».now }
+    ensures appends { let set = set_json empty (set_shown repeat.now «data».now number) in
+        OnOk result (line.new.items ≡ line.old.items ++ member_text (nat_lt 0 number) (Some set)) }
+    ensures before { line.new.before ≡ line.old.before }
+{
+    line.extend_from_slice(if number > 0 { b",{" } else { b"{" })?;
+    push_members(repeat.fields(), repeat.set(data, number), empty, line)?;
+    line.push(b'}')
+}
+
+// Appends the sets, a comma between each.
+fn push_sets(repeat: &Repeat, data: &[u8], empty: bool, line: &mut Tail) -> Result<(), AllocError>
+    ensures appends { let sets = map (set_json empty) (all_sets repeat.now «data».now) in
+        OnOk result (line.new.items ≡ line.old.items ++ join_with_byte comma sets) }
+    ensures before { line.new.before ≡ line.old.before }
+{
+    let count = repeat.count(data);
+    for number in 0..count {
+        push_set(repeat, data, number, empty, line)?;
+    }
     Ok(())
+}
+
+// What stands before the sets, with a comma where a member stands before.
+fn list_key(later: bool) -> &'static [u8]
+    ensures { result.now ≡ (if later then codes ",\"list\":[" else codes "\"list\":[") }
+{
+    if later { b",\"list\":[" } else { b"\"list\":[" }
+}
+
+// Appends the sets as a member, after a comma where a member stands before. Most messages have none.
+#[inline(never)]
+fn push_list(
+    repeat: &Repeat,
+    data: &[u8],
+    empty: bool,
+    later: bool,
+    line: &mut Tail,
+) -> Result<(), AllocError>
+    ensures appends { let list = list_json empty (all_sets repeat.now «data».now) in
+        OnOk result (line.new.items ≡ line.old.items ++ member_text later (Some list)) }
+    ensures before { line.new.before ≡ line.old.before }
+{
+    line.extend_from_slice(list_key(later))?;
+    push_sets(repeat, data, empty, line)?;
+    line.push(b']')
+}
+
+// Appends the members of a message: the fields, and last what repeats behind them.
+fn push_fields(
+    definition: &Definition<'_>,
+    data: &[u8],
+    empty: bool,
+    line: &mut Tail,
+) -> Result<(), AllocError>
+    ensures appends { let ms = message_members empty definition.now «data».now in
+        OnOk result (line.new.items ≡ line.old.items ++ join_with_byte comma ms) }
+    ensures before { line.new.before ≡ line.old.before }
+{
+    let later = push_members(definition.stored_fields(), data, empty, line)?;
+    match definition.stored_repeat() {
+        None => Ok(()),
+        Some(repeat) => push_list(repeat, data, empty, later, line),
+    }
 }
 
 // Appends the line of a message under a definition of its PGN.
@@ -100,7 +181,7 @@ fn push_matched(
 {
     push_seen(packet, line)?;
     line.extend_from_slice(definition.label())?;
-    push_members(definition.stored_fields(), packet.data(), empty, line)?;
+    push_fields(definition, packet.data(), empty, line)?;
     line.extend_from_slice(b"}}\n")?;
     Ok(())
 }
@@ -136,7 +217,8 @@ fn push_line(
 
 /// Appends the JSON line of a packet, with its LF: when it was seen, its priority, source, destination and
 /// PGN, and the fields of its definition in their order, without spaces. A field that shows nothing is left
-/// out, and with `empty` it is `null`. A packet of an unknown PGN, and one that no definition of its PGN
+/// out, and with `empty` it is `null`. Where sets repeat behind the fields, the last member is `list`, an array of one
+/// object for each set that lies wholly in the data. A packet of an unknown PGN, and one that no definition of its PGN
 /// matches, is `Unmatched` and has its data as they are. A refused growth leaves `out` as it was.
 ///
 /// ```text

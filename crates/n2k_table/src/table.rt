@@ -6,14 +6,15 @@ ghost use Rattle.n2k_table.specs.Fault.{faults_in};
 ghost use Rattle.n2k_table.specs.Lookup.{LookupParts, lookups_faults};
 ghost use Rattle.n2k_table.specs.Tree.{elements};
 ghost use Rattle.n2k_table.specs.Definition.{definition_faults, definition};
-ghost use Rattle.n2k_table.specs.Table.{definitions_faults, lookups_of, definitions_of, definitions_in, top_faults, top_lookups, top_definitions};
+ghost use Rattle.n2k_table.specs.Table.{definitions_faults, format_of, lookups_of, definitions_of, definitions_in, top_faults, top_lookups, top_definitions};
+ghost use Rattle.n2k_wire.specs.Views.{Gives};
 ghost use Rattle.n2k_table.specs.Inner.Reading.{GivesOrMemory, judged};
 
 use crate::definition::{Definition, Kind, StoredDefinition, has_mixed, read_definition};
 use crate::fault::TableFault;
 use crate::index::{Index, index_of, places_at};
 use crate::lookup::{Lookups, read_lookups};
-use crate::tree::{Place, elements_if_there, has_only_keys, whole_at};
+use crate::tree::{Place, TableFormat, elements_if_there, has_only_keys, whole_at};
 use sha2::{Digest, Sha256};
 use std::alloc::Global;
 use std::marker::Model;
@@ -21,6 +22,9 @@ use toml::value::Array;
 
 /// The most definitions of a table.
 pub(crate) const MOST_DEFINITIONS: usize = 4096;
+
+/// The newest format of a table.
+pub(crate) const NEWEST_FORMAT: u32 = 2;
 
 /// A table of messages: which PGNs there are, how they are sent, and what their bits mean.
 #[derive(Drop)]
@@ -46,16 +50,17 @@ impl Model for Table {
 fn each_definition(
     alloc: Global,
     lookups: &Lookups,
+    format: TableFormat,
     values: &Array,
 ) -> Result<Vec<StoredDefinition>, TableFault>
     ensures { let names = map (λ (lookup : LookupParts). lookup.name) lookups.now in
         let ds = elements (array_view values.now) in
         GivesOrMemory (λ v. v.items) result
-        (judged (flat_map (definition_faults names) ds) (map (definition lookups.now) ds)) }
+        (judged (flat_map (definition_faults format names) ds) (map (definition format lookups.now) ds)) }
 {
     let mut definitions = Vec::new(alloc);
     for value in values {
-        definitions.push(read_definition(alloc, lookups, value)?)?;
+        definitions.push(read_definition(alloc, lookups, format, value)?)?;
     }
     Ok(definitions)
 }
@@ -63,16 +68,18 @@ fn each_definition(
 fn read_definitions(
     alloc: Global,
     lookups: &Lookups,
+    format: TableFormat,
     values: &Array,
 ) -> Result<Vec<StoredDefinition>, TableFault>
     ensures { let names = map (λ (lookup : LookupParts). lookup.name) lookups.now in
         let ds = elements (array_view values.now) in
-        GivesOrMemory (λ v. v.items) result (judged (definitions_faults names ds) (map (definition lookups.now) ds)) }
+        GivesOrMemory (λ v. v.items) result
+        (judged (definitions_faults format names ds) (map (definition format lookups.now) ds)) }
 {
     if values.len() > MOST_DEFINITIONS {
         return Err(TableFault::TooMany);
     }
-    let definitions = each_definition(alloc, lookups, values)?;
+    let definitions = each_definition(alloc, lookups, format, values)?;
     if has_mixed(&definitions) {
         return Err(TableFault::Mixed);
     }
@@ -90,20 +97,32 @@ fn top_lookups(alloc: Global, top: &toml::Table) -> Result<Lookups, TableFault>
     }
 }
 
-// The definitions of the top level, in a table of these lookups.
+// The definitions of the top level, in a table of this format and of these lookups.
 fn top_definitions(
     alloc: Global,
     lookups: &Lookups,
+    format: TableFormat,
     top: &toml::Table,
 ) -> Result<Vec<StoredDefinition>, TableFault>
     ensures { let names = map (λ (lookup : LookupParts). lookup.name) lookups.now in
         let m = table_view top.now in
         GivesOrMemory (λ v. v.items) result
-        (judged (faults_in (definitions_of m) (definitions_faults names)) (definitions_in lookups.now m)) }
+        (judged (faults_in (definitions_of m) (definitions_faults format names)) (definitions_in format lookups.now m)) }
 {
     match elements_if_there(top, "pgn")? {
         None => Ok(Vec::new(alloc)),
-        Some(values) => read_definitions(alloc, lookups, values),
+        Some(values) => read_definitions(alloc, lookups, format, values),
+    }
+}
+
+// The format that the top level says it is of.
+fn format_of(top: &toml::Table) -> Result<TableFormat, TableFault>
+    ensures { Gives (λ format. format) result (format_of (table_view top.now)) }
+{
+    match whole_at(top, "format", 1, NEWEST_FORMAT) {
+        Ok(1) => Ok(TableFormat::One),
+        Ok(_) => Ok(TableFormat::Two),
+        Err(_) => Err(TableFault::Format),
     }
 }
 
@@ -111,14 +130,12 @@ fn read_top(alloc: Global, top: &toml::Table) -> Result<Vec<StoredDefinition>, T
     ensures { let m = table_view top.now in
         GivesOrMemory (λ v. v.items) result (judged (top_faults m) (top_definitions m)) }
 {
-    if whole_at(top, "format", 1, 1).is_err() {
-        return Err(TableFault::Format);
-    }
+    let format = format_of(top)?;
     if !has_only_keys(top, Place::Document) {
         return Err(TableFault::Key);
     }
     let lookups = top_lookups(alloc, top)?;
-    top_definitions(alloc, &lookups, top)
+    top_definitions(alloc, &lookups, format, top)
 }
 
 impl Table {
@@ -144,8 +161,8 @@ impl Table {
         })
     }
 
-    /// Reads a table: the bytes of a TOML 1.1 document in UTF-8, of format 1 (docs/PROFILE.md has the
-    /// format). A table with the line `format = 1` alone is one without messages.
+    /// Reads a table: the bytes of a TOML 1.1 document in UTF-8, of format 1 or 2 (docs/PROFILE.md has the
+    /// formats). A table with the line `format = 1` alone is one without messages.
     ///
     /// A document in which a fault stands is refused. Where it is no TOML or of another format, no other
     /// fault is looked for. Where several of the others stand, any of them may be answered.

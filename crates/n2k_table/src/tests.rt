@@ -42,12 +42,63 @@ fields = [
   { name = 'Label', kind = 'text', at = 24, bits = 64 } ]
 ";
 
+// What stands at the end of sample 2, in another spelling of the same document. The rest is the sample in format 2.
+const PAIRS: &str = "
+[[pgn]]
+number = 130822
+kind = 'fast'
+description = 'Sample: Pairs'
+fields = [ { name = 'SID', kind = 'number', at = 0, bits = 8 } ]
+repeat = { at = 8, bits = 24, fields = [
+  { name = 'Id', kind = 'number', at = 0, bits = 8 },
+  { name = 'Value', kind = 'number', at = 8, bits = 16, signed = true, resolution = '0.1' },
+] }
+";
+
+// What is answered where a part of that, where it stands first, is replaced: answer, part, replacement.
+const PAIRS_CHANGES: &str = "reads | repeat = | repeat =
+3 Key | 'Id', | 'Id', match = 1,
+4 Range | bits = 24 | bits = 20
+4 Range | at = 8, bits = 16 | at = 16, bits = 16
+6 Twice | 'SID' | 'list'
+6 Twice | 'Value' | 'Id'
+reads | 'Id' | 'list'
+reads | 'Id' | 'SID'
+3 Key | repeat = | repeats =
+3 Key | { at = 8, | { 
+3 Key | bits = 24, | 
+3 Key | bits = 24, fields | bits = 24, list
+3 Key | bits = 24, | bits = 24, kind = 'number',
+3 Key | { at = 8, | { at = '8',
+3 Key | bits = 24, | bits = 24.0,
+3 Key | bits = 16, | bits = 16, match = -1,
+3 Key | 'Id', kind = 'number', | 'Id', kind = 'lookup', lookup = 'Reference', match = 1,
+reads | 'Id', kind = 'number', | 'Id', kind = 'lookup', lookup = 'Reference',
+7 Lookup | 'Id', kind = 'number', | 'Id', kind = 'lookup', lookup = 'Ref',
+5 Text | 'Id' | ''
+5 Text | 'Id', kind = 'number' | 'Id', kind = 'pair'
+reads | 'Id', kind = 'number' | 'Id', kind = 'bytes'
+4 Range | 'Id', kind = 'number', at = 0, | 'Id', kind = 'bytes', at = 24,
+4 Range | 'Id', kind = 'number', at = 0, | 'Id', kind = 'number', at = 17,
+reads | 'Id', kind = 'number', at = 0, | 'Id', kind = 'number', at = 16,
+reads | at = 8, bits = 24 | at = 1760, bits = 24
+4 Range | at = 8, bits = 24 | at = 1768, bits = 24
+reads | at = 8, bits = 24 | at = 0, bits = 1784
+4 Range | at = 8, bits = 24 | at = 0, bits = 1792
+4 Range | at = 8, bits = 24 | at = 8, bits = 1784
+4 Range | at = 8, bits = 24 | at = 1784, bits = 24
+4 Range | at = 8, bits = 24 | at = -8, bits = 24
+4 Range | at = 8, bits = 24 | at = 4, bits = 24
+4 Range | at = 8, bits = 24 | at = 8, bits = 0
+4 Range | at = 8, bits = 24 | at = 8, bits = 16";
+
 // What is answered where a part of the sample, where it stands first, is replaced: answer, part, replacement.
 const CHANGES: &str = "reads | format = 1 | format = 1
 1 NotToml | bits = 64 } ] | bits = 64 }
 2 Format | format = 1 | 
-2 Format | format = 1 | format = 2
+2 Format | format = 1 | format = 0
 2 Format | format = 1 | format = 3
+reads | format = 1 | format = 2
 2 Format | format = 1 | format = '1'
 3 Key | [[lookup]] | [[lookups]]
 3 Key | '0.01' } | '0.01', unit = 'm' }
@@ -250,6 +301,36 @@ fn one_change_each(rt: HostRuntime) -> Result<(), Fail> {
     Ok(())
 }
 
+// Sample 2, with this at its end.
+fn sample_2(alloc: Global, end: &str) -> Result<String, Fail> {
+    let front = replaced(alloc, SAMPLE, "format = 1", "format = 2")?;
+    Ok(format!(in alloc; "{front}{end}")?)
+}
+
+// Sample 2 with one change at its end answers as the case says.
+fn changed_pairs<R: Abort + AllocGlobal>(rt: &R, case: &str) -> Result<(), Fail> {
+    let (wanted, change) = case.split_once(" | ").ok_or("an answer")?;
+    let (old, new) = change.split_once(" | ").ok_or("a replacement")?;
+    let end = replaced(rt.alloc(), PAIRS, old, new)?;
+    let text = sample_2(rt.alloc(), &end)?;
+    answers(rt, &text, wanted, case)
+}
+
+#[test]
+fn one_change_of_pairs_each(rt: HostRuntime) -> Result<(), Fail> {
+    for case in PAIRS_CHANGES.lines() {
+        changed_pairs(&rt, case)?;
+    }
+    Ok(())
+}
+
+// Sets are none of format 1.
+#[test]
+fn pairs_in_format_1_key(rt: HostRuntime) -> Result<(), Fail> {
+    let text = format!(in rt.alloc(); "{SAMPLE}{PAIRS}")?;
+    answers(&rt, &text, "3 Key", "format 1")
+}
+
 // The byte FF stands before the document.
 #[test]
 fn no_utf8(rt: HostRuntime) {
@@ -306,6 +387,9 @@ const FIELD: &str = "{ name = '{}', kind = 'number', at = 0, bits = 8 }, ";
 const DEFINITION: &str = "{ number = {}, kind = 'fast', description = 'D', fields = [] }, ";
 
 const ONE: &str = "pgn = [{ number = 1, kind = 'fast', description = 'D', fields = [";
+
+const SET: &str = "pgn = [{ number = 1, kind = 'fast', description = 'D', fields = [], \
+    repeat = { at = 0, bits = 8, fields = [";
 
 // What is answered where so many parts stand in a text: its front, the count, the part, its end, the answer.
 const LIMITS: [(&str, usize, &str, &str, &str); 13] = [
@@ -378,13 +462,42 @@ const LIMITS: [(&str, usize, &str, &str, &str); 13] = [
     ),
 ];
 
+// The same in a table of format 2.
+const SET_LIMITS: [(&str, usize, &str, &str, &str); 6] = [
+    (SET, 0, FIELD, "] } }]", "reads"),
+    (SET, 256, FIELD, "] } }]", "reads"),
+    (SET, 257, FIELD, "] } }]", "9 TooMany"),
+    (
+        "pgn = [",
+        1,
+        "{ number = 1, kind = 'fast', description = 'D', fields = [], repeat = 1 }",
+        "]",
+        "3 Key",
+    ),
+    (
+        "pgn = [",
+        1,
+        "{ number = 1, kind = 'fast', description = 'D', fields = [], repeat = [] }",
+        "]",
+        "3 Key",
+    ),
+    (
+        ONE,
+        1,
+        "{ name = 'list', kind = 'number', at = 0, bits = 8 }",
+        "] }]",
+        "reads",
+    ),
+];
+
 fn limit_answers<R: Abort + AllocGlobal>(
     rt: &R,
+    format: u32,
     case: &(&str, usize, &str, &str, &str),
 ) -> Result<(), Fail> {
     let (front, count, part, back, wanted) = *case;
     let middle = many(rt.alloc(), count, part)?;
-    let text = format!(in rt.alloc(); "format = 1\n{front}{middle}{back}\n")?;
+    let text = format!(in rt.alloc(); "format = {format}\n{front}{middle}{back}\n")?;
     let text = answer(rt.alloc(), &text)?;
     assert_eq!(rt; text.as_str(), wanted, "{count} of {part}");
     Ok(())
@@ -393,7 +506,10 @@ fn limit_answers<R: Abort + AllocGlobal>(
 #[test]
 fn limits(rt: HostRuntime) -> Result<(), Fail> {
     for case in &LIMITS {
-        limit_answers(&rt, case)?;
+        limit_answers(&rt, 1, case)?;
+    }
+    for case in &SET_LIMITS {
+        limit_answers(&rt, 2, case)?;
     }
     Ok(())
 }
@@ -742,6 +858,63 @@ fn lines(rt: HostRuntime) -> Result<(), Fail> {
     Ok(())
 }
 
+// Data, whether absent fields are printed, and the fields of the pairs that are.
+const PAIRS_LINES: [(&[u8], bool, &str); 8] = [
+    (
+        &[0x01, 0x0a, 0x64, 0x00, 0x0b, 0x9c, 0xff, 0x0c, 0x00],
+        false,
+        "\"SID\":1,\"list\":[{\"Id\":10,\"Value\":10.0},{\"Id\":11,\"Value\":-10.0}]",
+    ),
+    (
+        &[0x01, 0x0a, 0x64, 0x00, 0x0b, 0x9c, 0xff, 0x0c, 0x00],
+        true,
+        "\"SID\":1,\"list\":[{\"Id\":10,\"Value\":10.0},{\"Id\":11,\"Value\":-10.0}]",
+    ),
+    (&[0x01, 0xff, 0xff, 0x7f], false, "\"SID\":1,\"list\":[{}]"),
+    (
+        &[0x01, 0xff, 0xff, 0x7f],
+        true,
+        "\"SID\":1,\"list\":[{\"Id\":null,\"Value\":null}]",
+    ),
+    (&[0x01], false, "\"SID\":1,\"list\":[]"),
+    (&[0x01], true, "\"SID\":1,\"list\":[]"),
+    (&[], false, "\"list\":[]"),
+    (&[], true, "\"SID\":null,\"list\":[]"),
+];
+
+fn pairs_show<R: Abort + AllocGlobal>(
+    rt: &R,
+    table: &Table,
+    case: &(&[u8], bool, &str),
+) -> Result<(), Fail> {
+    let (data, empty, fields) = *case;
+    let line = printed(rt.alloc(), table, 130822, data, empty)?;
+    let wanted = format!(in rt.alloc(); "\"Sample: Pairs\",\"fields\":{{{fields}}}")?;
+    assert_eq!(rt; line.as_str(), wanted.as_str(), "{fields}");
+    Ok(())
+}
+
+#[test]
+fn pairs(rt: HostRuntime) -> Result<(), Fail> {
+    let text = sample_2(rt.alloc(), PAIRS)?;
+    let table = read(rt.alloc(), &text)?;
+    for case in &PAIRS_LINES {
+        pairs_show(&rt, &table, case)?;
+    }
+    Ok(())
+}
+
+// The lines of a table without sets are the same in both formats.
+#[test]
+fn lines_in_format_2(rt: HostRuntime) -> Result<(), Fail> {
+    let text = sample_2(rt.alloc(), "")?;
+    let table = read(rt.alloc(), &text)?;
+    for case in &LINES {
+        line_shows(&rt, &table, case)?;
+    }
+    Ok(())
+}
+
 // lookup-and-short-data with the entries 0 and 3: a name before an absent value
 #[test]
 fn a_name_before_an_absent_value(rt: HostRuntime) -> Result<(), Fail> {
@@ -836,5 +1009,33 @@ fn each_field_is_shown(rt: HostRuntime) -> Result<(), Fail> {
     next_is(&rt, &mut fields, "Label", Shown::Text(b"A"))?;
     assert!(rt; fields.next().is_none());
     assert!(rt; fields.next().is_none());
+    Ok(())
+}
+
+// Of the second pair, the number: a set's fields are shown in the set's own bytes.
+#[test]
+fn each_set_is_shown(rt: HostRuntime) -> Result<(), Fail> {
+    let text = sample_2(rt.alloc(), PAIRS)?;
+    let table = read(rt.alloc(), &text)?;
+    let data = [0x01, 0x0a, 0x64, 0x00, 0x0b, 0x9c, 0xff, 0x0c, 0x00];
+    let definition = table.choose(130822, &data).ok_or("a definition")?;
+    let mut sets = definition.repeat(&data).ok_or("sets")?;
+    assert!(rt; sets.next().is_some());
+    let mut second = sets.next().ok_or("a second set")?;
+    let id = Shown::Number {
+        value: 11,
+        decimals: 0,
+    };
+    let value = Shown::Number {
+        value: -100,
+        decimals: 1,
+    };
+    next_is(&rt, &mut second, "Id", id)?;
+    next_is(&rt, &mut second, "Value", value)?;
+    assert!(rt; second.next().is_none());
+    assert!(rt; sets.next().is_none());
+    assert!(rt; sets.next().is_none());
+    let cog = table.choose(129026, &data).ok_or("another")?;
+    assert!(rt; cog.repeat(&data).is_none());
     Ok(())
 }

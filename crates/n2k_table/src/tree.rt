@@ -1,5 +1,7 @@
 //! One value of a TOML table: of which kind it is, and whether it lies in its range.
 ghost use Rattle.std.specs.Prelude.{◌≡◌, ◌≤◌, option_map, IfOk};
+ghost use Rattle.std.specs.List.{list_any};
+ghost use Rattle.std.specs.Str.{bytes_eq};
 ghost use Rattle.toml.specs.Data.{get_member};
 ghost use Rattle.toml.specs.View.{view, table_view, array_view};
 ghost use Rattle.n2k_wire.specs.Views.{Gives};
@@ -14,6 +16,24 @@ use toml::{Table, Value};
 /// The most bytes of a name or a description.
 pub(crate) const LONGEST_TEXT: usize = 255;
 
+/// The format of a table.
+#[derive(Clone, Copy)]
+pub(crate) enum TableFormat {
+    /// Without sets.
+    One,
+    /// With sets: a definition may have a key `repeat`.
+    Two,
+}
+
+/// What a field stands in.
+#[derive(Clone, Copy)]
+pub(crate) enum Holder {
+    /// A message. A field may ask for a value there.
+    Message,
+    /// A set, which repeats. No field asks for a value there.
+    Set,
+}
+
 /// Where a table of the document stands, which decides its keys.
 #[derive(Clone, Copy)]
 pub(crate) enum Place {
@@ -21,12 +41,14 @@ pub(crate) enum Place {
     Document,
     /// A lookup.
     Lookup,
-    /// A definition.
-    Definition,
+    /// A definition, in a table of this format.
+    Definition(TableFormat),
+    /// What repeats in a message.
+    Repeat,
     /// A number field.
-    NumberField,
+    NumberField(Holder),
     /// A lookup field.
-    LookupField,
+    LookupField(Holder),
     /// A field of text or bytes.
     ByteField,
 }
@@ -51,6 +73,34 @@ fn is_field_key(key: &str) -> bool
     key == "name" || key == "kind" || key == "at" || key == "bits"
 }
 
+impl TableFormat {
+    ghost use Rattle.n2k_table.specs.Tree.{repeat_keys};
+
+    // Whether a key is one that only some formats have.
+    fn has_key(self, key: &str) -> bool
+        ensures { result ≡ list_any (bytes_eq key.now) (repeat_keys self) }
+    {
+        match self {
+            TableFormat::One => false,
+            TableFormat::Two => key == "repeat",
+        }
+    }
+}
+
+impl Holder {
+    ghost use Rattle.n2k_table.specs.Tree.{match_keys};
+
+    // Whether a key is one by which a field asks for a value.
+    fn has_key(self, key: &str) -> bool
+        ensures { result ≡ list_any (bytes_eq key.now) (match_keys self) }
+    {
+        match self {
+            Holder::Message => key == "match",
+            Holder::Set => false,
+        }
+    }
+}
+
 impl Place {
     ghost use Rattle.n2k_table.specs.Tree.{is_key};
 
@@ -60,13 +110,20 @@ impl Place {
         match self {
             Place::Document => key == "format" || key == "lookup" || key == "pgn",
             Place::Lookup => key == "name" || key == "entries",
-            Place::Definition => {
-                key == "number" || key == "kind" || key == "description" || key == "fields"
+            Place::Definition(format) => {
+                key == "number"
+                    || key == "kind"
+                    || key == "description"
+                    || key == "fields"
+                    || format.has_key(key)
             }
-            Place::NumberField => {
-                is_field_key(key) || key == "signed" || key == "resolution" || key == "match"
+            Place::Repeat => key == "at" || key == "bits" || key == "fields",
+            Place::NumberField(holder) => {
+                is_field_key(key) || key == "signed" || key == "resolution" || holder.has_key(key)
             }
-            Place::LookupField => is_field_key(key) || key == "match" || key == "lookup",
+            Place::LookupField(holder) => {
+                is_field_key(key) || key == "lookup" || holder.has_key(key)
+            }
             Place::ByteField => is_field_key(key),
         }
     }

@@ -6,15 +6,10 @@ use Rattle.n2k_join.specs.Frames.{Key, same_key}
 use Rattle.n2k_join.specs.Open.{Group}
 use Rattle.n2k_join.specs.Resumed.{group_holds}
 
--- each group holds
-unfoldable pub each_holds : (ℕ → Option Kind) → List Group → Bool
-each_holds kind [] = true
-each_holds kind (g ∷ gs) = group_holds kind g && each_holds kind gs
-
--- no group has a key that was seen before it
-unfoldable pub are_new : List Key → List Group → Bool
-are_new seen [] = true
-are_new seen (g ∷ gs) = not (list_any (same_key g.key) seen) && are_new (seen ++ g.key ∷ []) gs
+-- each group holds, and none has a key that was seen before it
+unfoldable pub each_new : (ℕ → Option Kind) → List Key → List Group → Bool
+each_new kind seen [] = true
+each_new kind seen (g ∷ gs) = group_holds kind g && (not (list_any (same_key g.key) seen) && each_new kind (seen ++ g.key ∷ []) gs)
 
 -- What a function answered, seen by view, is this value, where the test holds, and nothing where it doesn't.
 abbrev pub SomeUnder : {X Y : Type 0} → (X → Y) → Option X → Bool → Y → Type 0

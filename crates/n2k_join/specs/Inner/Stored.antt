@@ -1,5 +1,5 @@
 -- What the code keeps, as the definitions see it.
-use Rattle.std.specs.Prelude.{◌≡◌, ◌≤◌, ℕ, nat_lt, Bool, List, [], ◌∷◌, ◌++◌, map, false, if◌then◌else◌, Option, Some, None, filter_map, find, option_to_list}
+use Rattle.std.specs.Prelude.{ℕ, nat_lt, Bool, List, [], ◌∷◌, ◌++◌, if◌then◌else◌, Option, Some, None, filter_map, find, option_to_list}
 use Rattle.std.specs.List.{list_all}
 use Rattle.n2k_join.specs.declared.broken.Broken.{Broken}
 use Rattle.n2k_wire.specs.Packet.{PacketParts}
@@ -7,12 +7,12 @@ use Rattle.n2k_wire.specs.declared.entry.BadCause.{BadCause}
 use Rattle.n2k_join.specs.declared.piece.FrameKey.{FrameKey}
 use Rattle.n2k_join.specs.declared.piece.StoredPiece.{StoredPiece}
 use Rattle.n2k_join.specs.declared.piece.FastFrame.{FastFrame}
-use Rattle.n2k_join.specs.Frames.{Key, same_key, Frame, most_frames, most_sequences}
-use Rattle.n2k_join.specs.Groups.{has_number, has_from, has_twice, complete}
+use Rattle.n2k_join.specs.Frames.{Key, same_key, Frame, most_sequences}
+use Rattle.n2k_join.specs.Groups.{has_number, has_from, complete}
 use Rattle.n2k_join.specs.Open.{Piece, Group, pieces_of, group_of}
 use Rattle.n2k_join.specs.Messages.{message_of, broken_of}
 use Rattle.n2k_join.specs.Pieces.{Stream}
-use Rattle.n2k_join.specs.State.{Given, held_frame, held_of}
+use Rattle.n2k_join.specs.State.{Given, held_of}
 
 abbrev pub key_of : FrameKey → Key
 key_of key = record { src = key.src; dst = key.dst; pgn = key.pgn; sequence = key.sequence }
@@ -30,23 +30,6 @@ frame_of line packet frame = record {
   stamp = packet.stamp;
   id = packet.id;
 }
-
--- a stored piece as a frame of its group
-abbrev pub stored_frame : ℕ → Key → StoredPiece → Frame
-stored_frame first key piece = held_frame (record { first = first; key = key; pieces = [] }) (piece_of piece)
-
--- the frames of a stored group, as they came
-abbrev pub stored_frames : ℕ → Key → List StoredPiece → List Frame
-stored_frames first key ps = map (stored_frame first key) ps
-
--- the group that they are
-abbrev pub stored_group : ℕ → Key → List StoredPiece → Group
-stored_group first key ps = record { first = first; key = key; pieces = pieces_of (stored_frames first key ps) }
-
--- a stored group has room for all frames, and no number twice
-pub record IsStored (first : ℕ) (key : Key) (ps : List StoredPiece) (size : ℕ) : Type 0 where
-  pub once : has_twice (stored_frames first key ps) ≡ false
-  pub room : most_frames ≤ size
 
 -- each sequence that a splitter holds is of three bits
 abbrev pub are_sequences : List (Stream × ℕ) → Bool

@@ -1,5 +1,5 @@
 //! The states that are taken, and why others are refused.
-use crate::{Join, JoinFault, StateFault, Step};
+use crate::{Join, JoinFault, StateFault, Step, Window};
 use n2k_table::{Table, TableFault};
 use n2k_wire::{Packing, read_line};
 use std::alloc::Global;
@@ -71,6 +71,11 @@ fn sample(alloc: Global) -> Result<ManuallyDrop<Table>, TableFault> {
     Ok(ManuallyDrop::new(Table::read(alloc, SAMPLE.as_bytes())?))
 }
 
+// A window that ends no group of the states below.
+fn long_window() -> Window {
+    Window::new(10_000).unwrap()
+}
+
 // The text that a state stands for.
 fn spelled(alloc: Global, table: &Table, state: &str) -> Result<String, Fail> {
     let id = hex::encode(alloc, table.id().as_slice())?;
@@ -81,7 +86,7 @@ fn spelled(alloc: Global, table: &Table, state: &str) -> Result<String, Fail> {
 // What the reading of a state answers: `taken`, or the fault.
 fn answer(alloc: Global, table: &Table, state: &str) -> Result<String, Fail> {
     let text = spelled(alloc, table, state)?;
-    match Join::resume(alloc, table, text.as_bytes()) {
+    match Join::resume(alloc, table, long_window(), text.as_bytes()) {
         Ok(_) => Ok(String::from_str(alloc, "taken")?),
         Err(fault) => Ok(format!(in alloc; "{fault:?}")?),
     }
@@ -118,8 +123,9 @@ fn states_judged(rt: HostRuntime) -> Result<(), Fail> {
     one_change_each(&rt, &table, OPEN, OF_OPEN)
 }
 
-// Takes a line.
+// Takes a line. The groups whose window ends at it are broken before.
 fn take(table: &Table, join: &mut Join, line: &str) -> Result<Step, JoinFault> {
+    while join.expire().is_some() {}
     join.line(table, read_line(line.as_bytes(), Packing::Frames))
 }
 
@@ -128,7 +134,7 @@ fn take(table: &Table, join: &mut Join, line: &str) -> Result<Step, JoinFault> {
 fn saved_and_resumed(rt: HostRuntime) -> Result<(), Fail> {
     let alloc = rt.alloc();
     let table = sample(alloc)?;
-    let mut join = Join::new(alloc, &table);
+    let mut join = Join::new(alloc, &table, long_window());
     let empty = spelled(alloc, &table, EMPTY)?;
     assert_eq!(rt; join.save(alloc)?.as_slice(), empty.as_bytes());
 
@@ -138,7 +144,7 @@ fn saved_and_resumed(rt: HostRuntime) -> Result<(), Fail> {
     let open = spelled(alloc, &table, OPEN)?;
     assert_eq!(rt; state.as_slice(), open.as_bytes());
 
-    let mut resumed = Join::resume(alloc, &table, &state)?;
+    let mut resumed = Join::resume(alloc, &table, long_window(), &state)?;
     let line = "(10.2) can0 1DFF0406#212020202020FFFF";
     let step = take(&table, &mut resumed, line)?;
     assert!(rt; step.message.is_some());
@@ -153,7 +159,7 @@ fn the_limit_of_lines(rt: HostRuntime) -> Result<(), Fail> {
     let table = sample(alloc)?;
     let full = EMPTY.replace(alloc, "'lines':0", "'lines':999999999999999")?;
     let text = spelled(alloc, &table, &full)?;
-    let mut join = Join::resume(alloc, &table, text.as_bytes())?;
+    let mut join = Join::resume(alloc, &table, long_window(), text.as_bytes())?;
     let refused = take(&table, &mut join, "");
     assert!(rt; matches!(refused, Err(JoinFault::TooManyLines)));
     Ok(())
@@ -167,7 +173,7 @@ fn invented_states(rt: HostRuntime) -> Result<(), Fail> {
     let text = spelled(alloc, &table, OPEN)?;
     let bytes = text.as_bytes();
     for end in 0..bytes.len() {
-        let cut = Join::resume(alloc, &table, &bytes[..end]);
+        let cut = Join::resume(alloc, &table, long_window(), &bytes[..end]);
         assert!(rt; matches!(cut, Err(StateFault::NotJson)));
     }
     let mut changed = Vec::new(alloc);
@@ -175,7 +181,7 @@ fn invented_states(rt: HostRuntime) -> Result<(), Fail> {
     for at in 0..bytes.len() {
         if bytes[at].is_ascii_digit() {
             changed[at] = b'9';
-            let taken = Join::resume(alloc, &table, &changed);
+            let taken = Join::resume(alloc, &table, long_window(), &changed);
             assert!(rt; !matches!(taken, Err(StateFault::Memory)));
             changed[at] = bytes[at];
         }

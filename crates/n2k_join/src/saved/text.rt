@@ -1,23 +1,23 @@
 //! The text of a saved state.
-ghost use Rattle.std.specs.Prelude.{◌≡◌, [], ◌∷◌, IfOk};
+ghost use Rattle.std.specs.Prelude.{◌≡◌, ◌<◌, [], ◌∷◌, IfOk};
 ghost use Rattle.hex.specs.Hex.{encode_lower};
 ghost use Rattle.json.specs.Token.{Token};
-ghost use Rattle.n2k_join.specs.Groups.{carried};
-ghost use Rattle.n2k_join.specs.Open.{piece_at, pieces_of};
+ghost use Rattle.n2k_join.specs.Frames.{most_frames};
+ghost use Rattle.n2k_join.specs.Open.{piece_at};
 ghost use Rattle.n2k_join.specs.Saved.{piece_tree, group_tree, state_tree, state_text, IsId};
 ghost use Rattle.n2k_join.specs.Inner.SavedTokens.{Appends, tokens_of, count_tokens, piece_tokens, pieces_tokens, frames_tokens, key_tokens, groups_tokens, open_tokens, front_tokens, lines_tokens, table_tokens, back_tokens, window_tokens};
-ghost use Rattle.n2k_join.specs.Open.{is_waiting};
 ghost use Rattle.std.specs.List.{list_all};
-ghost use Rattle.n2k_join.specs.State.{held_of};
+ghost use Rattle.n2k_join.specs.Open.{is_waiting};
 ghost use Rattle.n2k_join.specs.Inner.Stored.{key_of};
+ghost use Rattle.n2k_join.specs.Inner.Slots.{slot_of, pieces_in, group_in, groups_in};
 ghost use Rattle.std.specs.Str.{IsUtf8};
 
-use crate::window::Window;
 use crate::counts::Counts;
 use crate::frame::MOST_FRAMES;
-use crate::group::StoredGroup;
-use crate::piece::FrameKey;
+use crate::piece::{FrameKey, OpenGroup};
 use crate::saved::{OLD_FORMAT, SAVED_FORMAT};
+use crate::window::Window;
+use indexmap::IndexMap;
 use json::Writer;
 use std::alloc::{AllocError, Global};
 use std::str;
@@ -70,8 +70,9 @@ fn push_piece(number: u8, bytes: &[u8; 7], out: &mut Writer) -> Result<(), Alloc
 }
 
 // Writes the frame of a number, where the group has it.
-fn push_numbered(group: &StoredGroup, number: u8, out: &mut Writer) -> Result<(), AllocError>
-    ensures { Appends result out.old out.new (piece_tokens (piece_at (carried (held_of group.now)) number)) }
+fn push_numbered(group: &OpenGroup, number: u8, out: &mut Writer) -> Result<(), AllocError>
+    requires { number < most_frames }
+    ensures { Appends result out.old out.new (piece_tokens (piece_at (slot_of group.now) number)) }
 {
     match group.carried(number) {
         Some(bytes) => push_piece(number, bytes, out),
@@ -80,8 +81,8 @@ fn push_numbered(group: &StoredGroup, number: u8, out: &mut Writer) -> Result<()
 }
 
 // Writes the frames of a group, by rising number.
-fn push_pieces(group: &StoredGroup, out: &mut Writer) -> Result<(), AllocError>
-    ensures { Appends result out.old out.new (pieces_tokens (pieces_of (held_of group.now))) }
+fn push_pieces(group: &OpenGroup, out: &mut Writer) -> Result<(), AllocError>
+    ensures { Appends result out.old out.new (pieces_tokens (pieces_in group.now)) }
 {
     for number in 0..MOST_FRAMES {
         push_numbered(group, number, out)?;
@@ -90,8 +91,8 @@ fn push_pieces(group: &StoredGroup, out: &mut Writer) -> Result<(), AllocError>
 }
 
 // Writes the frames of a group as a member.
-fn push_frames(group: &StoredGroup, out: &mut Writer) -> Result<(), AllocError>
-    ensures { Appends result out.old out.new (frames_tokens (pieces_of (held_of group.now))) }
+fn push_frames(group: &OpenGroup, out: &mut Writer) -> Result<(), AllocError>
+    ensures { Appends result out.old out.new (frames_tokens (pieces_in group.now)) }
 {
     out.key("frames")?;
     out.begin_array()?;
@@ -110,32 +111,31 @@ fn push_key(key: &FrameKey, out: &mut Writer) -> Result<(), AllocError>
 }
 
 // Writes an open group.
-fn push_group(group: &StoredGroup, out: &mut Writer) -> Result<(), AllocError>
-    ensures { Appends result out.old out.new (tokens_of (group_tree group.now)) }
+fn push_group(key: &FrameKey, group: &OpenGroup, out: &mut Writer) -> Result<(), AllocError>
+    ensures { Appends result out.old out.new (tokens_of (group_tree (group_in (key_of key.now) group.now))) }
 {
-    let key = group.key();
     out.begin_object()?;
     push_count("dst", u64::from(key.dst), out)?;
-    push_count("first", group.first(), out)?;
+    push_count("first", group.first, out)?;
     push_frames(group, out)?;
-    push_key(&key, out)?;
+    push_key(key, out)?;
     out.end_object()?;
     Ok(())
 }
 
 // Writes the open groups as a member.
-fn push_groups(groups: &[StoredGroup], out: &mut Writer) -> Result<(), AllocError>
-    ensures { Appends result out.old out.new (groups_tokens groups.now) }
+fn push_groups(groups: &IndexMap<FrameKey, OpenGroup>, out: &mut Writer) -> Result<(), AllocError>
+    ensures { Appends result out.old out.new (groups_tokens (groups_in groups.now.entries)) }
 {
-    for group in groups {
-        push_group(group, out)?;
+    for (key, group) in groups.iter() {
+        push_group(key, group, out)?;
     }
     Ok(())
 }
 
 // Writes the member `groups`.
-fn push_open(groups: &[StoredGroup], out: &mut Writer) -> Result<(), AllocError>
-    ensures { Appends result out.old out.new (open_tokens groups.now) }
+fn push_open(groups: &IndexMap<FrameKey, OpenGroup>, out: &mut Writer) -> Result<(), AllocError>
+    ensures { Appends result out.old out.new (open_tokens (groups_in groups.now.entries)) }
 {
     out.key("groups")?;
     out.begin_array()?;
@@ -191,10 +191,15 @@ fn push_window(waiting: bool, window: u32, out: &mut Writer) -> Result<(), Alloc
 }
 
 // Whether no group's window has ended.
-fn are_waiting(window: Window, lines: u64, groups: &[StoredGroup]) -> bool
-    ensures { result ≡ list_all (is_waiting window lines) groups.now }
+fn are_waiting(window: Window, lines: u64, groups: &IndexMap<FrameKey, OpenGroup>) -> bool
+    ensures { result ≡ list_all (is_waiting window lines) (groups_in groups.now.entries) }
 {
-    groups.iter().all(|group| u128::from(lines) < u128::from(group.first()) + u128::from(window.get()))
+    for (_, group) in groups.iter() {
+        if u128::from(lines) >= u128::from(group.first) + u128::from(window.get()) {
+            return false;
+        }
+    }
+    true
 }
 
 // Writes a state.
@@ -202,10 +207,10 @@ fn push_state(
     id: &[u8; 32],
     window: Window,
     counts: &Counts,
-    groups: &[StoredGroup],
+    groups: &IndexMap<FrameKey, OpenGroup>,
     out: &mut Writer,
 ) -> Result<(), AllocError>
-    ensures { Appends result out.old out.new (tokens_of (state_tree (record { id = id.now; rule = window; counts = counts.now; groups = groups.now }))) }
+    ensures { Appends result out.old out.new (tokens_of (state_tree (record { id = id.now; rule = window; counts = counts.now; groups = groups_in groups.now.entries }))) }
 {
     let waiting = are_waiting(window, counts.lines, groups);
     out.begin_object()?;
@@ -223,10 +228,10 @@ pub(crate) fn state_text(
     id: &[u8; 32],
     window: Window,
     counts: &Counts,
-    groups: &[StoredGroup],
+    groups: &IndexMap<FrameKey, OpenGroup>,
 ) -> Result<Vec<u8>, AllocError>
     ensures id { IsId id.now }
-    ensures text { IfOk result (λ text. text.items ≡ state_text (record { id = id.now; rule = window; counts = counts.now; groups = groups.now })) }
+    ensures text { IfOk result (λ text. text.items ≡ state_text (record { id = id.now; rule = window; counts = counts.now; groups = groups_in groups.now.entries })) }
 {
     let mut out = Writer::new(Vec::new(alloc));
     push_state(id, window, counts, groups, &mut out)?;

@@ -5,7 +5,7 @@ use super::run_frames;
 use crate::{MemorySink, MemorySource, Options, RunFault, run, summary_text};
 use n2k_join::{Counts, Join};
 use n2k_table::{Table, TableFault};
-use n2k_wire::{Id, Packet, Packing, is_interface, plain_text};
+use n2k_wire::{Packing, is_interface};
 use std::alloc::Global;
 use std::process::Abort;
 use std::test::Fail;
@@ -227,12 +227,11 @@ fn frames_of<R: Abort + AllocGlobal>(
 fn decodes<R: Abort + AllocGlobal>(
     rt: &R,
     table: &Table,
-    packing: Packing,
     log: &[u8],
     messages: u64,
 ) -> Result<MemorySink, Fail> {
     let options = Options {
-        packing,
+        packing: Packing::Frames,
         empty: false,
     };
     let mut join = Join::new(rt.alloc(), table);
@@ -285,29 +284,6 @@ fn push_label(lines: &mut Vec<u8>, kind: &[u8]) -> Result<(), Fail> {
     Ok(())
 }
 
-// The two frames of such a message, by the first digit of their numbers.
-fn push_frames(lines: &mut Vec<u8>, digit: &[u8]) -> Result<(), Fail> {
-    lines.extend_from_slice(b"1970-01-01T00:00:10.300Z,7,130820,5,255,8,")?;
-    lines.extend_from_slice(digit)?;
-    lines.extend_from_slice(b"0,0b,a3,99,01,41,42,43\n1970-01-01T00:00:10.300Z,7,130820,5,255,8,")?;
-    lines.extend_from_slice(digit)?;
-    lines.extend_from_slice(b"1,00,00,00,00,00,ff,ff\n")?;
-    Ok(())
-}
-
-// Nine messages of one stream are numbered 0 to 7 and then 0 again.
-#[test]
-fn nine_messages(rt: HostRuntime) -> Result<(), Fail> {
-    let table = table(rt.alloc())?;
-    let frames = frames_of(&rt, &table, NINE.as_bytes())?;
-    let mut wanted = Vec::new(rt.alloc());
-    for digit in [b"0", b"2", b"4", b"6", b"8", b"a", b"c", b"e", b"0"] {
-        push_frames(&mut wanted, digit)?;
-    }
-    assert_eq!(rt; frames.bytes(), wanted.as_slice());
-    Ok(())
-}
-
 // Frames with those of another source between them: the third line and the eleventh are followed by one of them.
 fn with_another_source(alloc: Global, frames: &[u8]) -> Result<Vec<u8>, Fail> {
     let mut log = Vec::new(alloc);
@@ -341,7 +317,7 @@ fn nine_messages_and_another_source(rt: HostRuntime) -> Result<(), Fail> {
     let frames = frames_of(&rt, &table, NINE.as_bytes())?;
     let log = with_another_source(rt.alloc(), frames.bytes())?;
     let wanted = nine_and_another(rt.alloc())?;
-    let decoded = decodes(&rt, &table, Packing::Frames, &log, 10)?;
+    let decoded = decodes(&rt, &table, &log, 10)?;
     assert_eq!(rt; decoded.bytes(), wanted.as_slice());
     Ok(())
 }
@@ -391,53 +367,8 @@ fn eight_under_way(rt: HostRuntime) -> Result<(), Fail> {
     let frames = frames_of(&rt, &table, &messages)?;
     let log = under_way(rt.alloc(), frames.bytes())?;
     let wanted = last_to_first(rt.alloc())?;
-    let decoded = decodes(&rt, &table, Packing::Frames, &log, 8)?;
+    let decoded = decodes(&rt, &table, &log, 8)?;
     assert_eq!(rt; decoded.bytes(), wanted.as_slice());
-    Ok(())
-}
-
-// A message of as many bytes as its number says, from one of four senders.
-fn push_numbered(alloc: Global, number: usize, data: &[u8], log: &mut Vec<u8>) -> Result<(), Fail> {
-    let len = match number / 4 % 6 {
-        0 => 0,
-        1 => 6,
-        2 => 7,
-        3 => 13,
-        4 => 14,
-        _ => 223,
-    };
-    let id = Id {
-        prio: 7,
-        pgn: 130820,
-        src: (number % 4) as u8,
-        dst: 255,
-    };
-    let data = data.get(..len).ok_or("no data")?;
-    let message = Packet::new(b"1970-01-01T00:00:10.300Z", id, data).ok_or("no message")?;
-    plain_text(alloc, &message, log)?;
-    Ok(())
-}
-
-fn four_senders(alloc: Global) -> Result<Vec<u8>, Fail> {
-    let mut data = [0x41; 223];
-    data[0] = 0xa3;
-    data[1] = 0x99;
-    let mut log = Vec::new(alloc);
-    for number in 0..300usize {
-        push_numbered(alloc, number, &data, &mut log)?;
-    }
-    Ok(log)
-}
-
-// 300 messages of four senders, of 0 to 223 bytes, come back as they were.
-#[test]
-fn messages_of_four_senders_come_back(rt: HostRuntime) -> Result<(), Fail> {
-    let table = table(rt.alloc())?;
-    let log = four_senders(rt.alloc())?;
-    let frames = frames_of(&rt, &table, &log)?;
-    let decoded = decodes(&rt, &table, Packing::Frames, frames.bytes(), 300)?;
-    let wanted = decodes(&rt, &table, Packing::Whole, &log, 300)?;
-    assert_eq!(rt; decoded.bytes(), wanted.bytes());
     Ok(())
 }
 

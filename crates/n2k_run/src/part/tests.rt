@@ -2,8 +2,7 @@
 ghost use Rattle.std.specs.Prelude.{◌<◌};
 
 use super::{Part, PartFault, run_part, run_parts};
-use crate::{MemorySink, MemorySource, Options, RunFault, read_bytes, summary_text};
-use n2k_join::StateFault;
+use crate::{MemorySink, MemorySource, Options, RunFault, summary_text};
 use n2k_table::{Table, TableFault};
 use n2k_wire::Packing;
 use std::alloc::Global;
@@ -319,6 +318,7 @@ fn stops_with_read<R: Abort + AllocGlobal>(
     failing_read: u64,
     text: &str,
     left: &str,
+    summary: &str,
 ) -> Result<(), Fail>
     requires { 0 < piece }
 {
@@ -339,20 +339,24 @@ fn stops_with_read<R: Abort + AllocGlobal>(
     };
     assert_eq!(rt; writer.bytes(), text.as_bytes());
     assert_eq!(rt; part.state.as_slice(), left.as_bytes());
-    Ok(())
+    has_summary(rt, &part, summary)
 }
 
 const XY: &str =
     "{\"timestamp\":\"1970-01-01T00:00:10.200Z\",\"prio\":7,\"src\":6,\"dst\":255,\"pgn\":130820,\"description\":\"Sample: Label\",\"fields\":{\"Maker\":419,\"Kind\":2,\"Label\":\"XY\"}}
 ";
 
+const TWO_OPEN: &str = "lines 2 messages 0 bad 0 unknown 0 broken 0 open 2\n";
+
+const ONE_OPEN: &str = "lines 3 messages 1 bad 0 unknown 0 broken 0 open 1\n";
+
 // read-fails: two lines came, and the third in part; and where each piece is a line, three came.
 #[test]
 fn a_failed_read_leaves_a_state(rt: HostRuntime) -> Result<(), Fail> {
     let table = table(rt.alloc())?;
     let log = TWO_SOURCES.as_bytes();
-    stops_with_read(&rt, &table, log, 60, 3, "", AFTER_TWO)?;
-    stops_with_read(&rt, &table, log, 43, 4, XY, AFTER_THREE)
+    stops_with_read(&rt, &table, log, 60, 3, "", AFTER_TWO, TWO_OPEN)?;
+    stops_with_read(&rt, &table, log, 43, 4, XY, AFTER_THREE, ONE_OPEN)
 }
 
 // A state of as many lines as are counted.
@@ -379,28 +383,6 @@ fn no_line_past_the_last(rt: HostRuntime) -> Result<(), Fail> {
     Ok(())
 }
 
-// A refused state leaves the log unread.
-#[test]
-fn a_refused_state_reads_nothing(rt: HostRuntime) -> Result<(), Fail> {
-    let table = table(rt.alloc())?;
-    let mut reader = MemorySource::new(b"hello", 4096, 0);
-    let mut writer = MemorySink::new(rt.alloc(), 4096, 0);
-    let mut reporter = MemorySink::new(rt.alloc(), 4096, 0);
-    let answer = run_part(
-        rt.alloc(),
-        &table,
-        Some(b"{}"),
-        FRAMES,
-        &mut reader,
-        &mut writer,
-        &mut reporter,
-    );
-    assert!(rt; matches!(answer, Err(PartFault::State(StateFault::Format))));
-    let left = read_bytes(rt.alloc(), &mut reader, 1000)?;
-    assert_eq!(rt; left.as_slice(), b"hello".as_slice());
-    Ok(())
-}
-
 // write-fails, and a report that can't be written, that of repeat-breaks: a front is written.
 #[test]
 fn a_failed_write_leaves_a_front(rt: HostRuntime) -> Result<(), Fail> {
@@ -414,6 +396,8 @@ fn a_failed_write_leaves_a_front(rt: HostRuntime) -> Result<(), Fail> {
     let log = b"(1.0) can0 1DFF0405#6014A39904474849
 (2.0) can0 1DFF0405#6120202020202020
 (3.0) can0 1DFF0405#6120202020202020
+(4.0) can0 1DFF0405#6014A39904474849
+(5.0) can0 1DFF0405#6220202020202020
 ";
     let answer = part_of_log(rt.alloc(), &table, None, log, &mut writer, &mut reporter);
     assert!(rt; matches!(answer, Err(PartFault::Run(RunFault::Report))));

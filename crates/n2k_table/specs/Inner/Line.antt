@@ -1,11 +1,9 @@
 -- A JSON line as the code appends it: bytes that stand for themselves, and the parts of a line.
-use Rattle.std.specs.Prelude.{ℕ, ◌==◌, Bool, not, ◌&&◌, nat_le, codes, decimal, List, [], ◌∷◌, ◌++◌, Option, Some, None, if◌then◌else◌}
-use Rattle.std.specs.List.{filter_map, join_with_byte}
+use Rattle.std.specs.Prelude.{ℕ, ◌==◌, Bool, true, false, not, ◌&&◌, nat_le, codes, decimal, List, [], ◌∷◌, ◌++◌, Option, Some, None, if◌then◌else◌}
 use Rattle.n2k_wire.specs.Packet.{PacketParts}
 use Rattle.n2k_wire.specs.declared.identifier.Id.{Id}
-use Rattle.n2k_table.specs.Shown.{ShownParts}
 use Rattle.n2k_table.specs.Text.{text_json}
-use Rattle.n2k_table.specs.Json.{comma, colon, member_json}
+use Rattle.n2k_table.specs.Json.{comma, colon}
 
 -- a byte that stands for itself in a JSON text, neither below the space nor a quote nor a backslash
 abbrev pub is_plain : ℕ → Bool
@@ -23,9 +21,10 @@ seen_json m = codes "{\"timestamp\":" ++ text_json m.stamp ++ sender_json m.id
 unfoldable pub label_json : ℕ → List ℕ → List ℕ
 label_json pgn description = codes ",\"pgn\":" ++ decimal pgn ++ codes ",\"description\":" ++ text_json description ++ codes ",\"fields\":{"
 
--- the members of an object, of these fields
-abbrev pub members_json : Bool → List (List ℕ × ShownParts) → List ℕ
-members_json empty fields = join_with_byte comma (filter_map (member_json empty) fields)
+-- a member stands before the next
+abbrev pub has_members : List (List ℕ) → Bool
+has_members [] = false
+has_members (m ∷ ms) = true
 
 -- what stands before the value of a member, with a comma where a member stands before
 abbrev pub key_json : Bool → List ℕ → List ℕ

@@ -9,5 +9,5 @@ use Rattle.n2k_table.proofs.table.each_definition.Given as goal
 
 abbrev pub invariant-loop-value : goal.invariant-loop-value
 invariant-loop-value l =
-    after l.definitions.items (each (definition_faults (map (λ (l : LookupParts). l.name) l.lookups)) (definition l.lookups) (elements (items_view (drop l.value-index l.values.items))))
-    ≡ each (definition_faults (map (λ (l : LookupParts). l.name) l.lookups)) (definition l.lookups) (elements (items_view l.values.items))
+    after l.definitions.items (each (definition_faults l.format (map (λ (l : LookupParts). l.name) l.lookups)) (definition l.format l.lookups) (elements (items_view (drop l.value-index l.values.items))))
+    ≡ each (definition_faults l.format (map (λ (l : LookupParts). l.name) l.lookups)) (definition l.format l.lookups) (elements (items_view l.values.items))

@@ -9,19 +9,19 @@ use Rattle.n2k_table.proofs.table.read_definitions.Goals as goal
 
 pub returns-then-len-gt-MOST_DEFINITIONS : goal.returns-then-len-gt-MOST_DEFINITIONS
 returns-then-len-gt-MOST_DEFINITIONS c = λ other.
-    definitions_many (map (λ (l : LookupParts). l.name) c.args.lookups.now) c.args.lookups.now (elements (array_view c.args.values.now)) _ (omega (arith, length-elements c.args.values.now.items))
+    definitions_many c.args.format (map (λ (l : LookupParts). l.name) c.args.lookups.now) c.args.lookups.now (elements (array_view c.args.values.now)) _ (omega (arith, length-elements c.args.values.now.items))
 
 pub returns-in_err-definitions : goal.returns-in_err-definitions
 returns-in_err-definitions c =
     let p = err_from_is_err_and c.from_residual.result c.from_residual.ensures.1 in
-    rw (p.1, p.2) (λ other. definitions_fault (map (λ (l : LookupParts). l.name) c.args.lookups.now) c.args.lookups.now (elements (array_view c.args.values.now)) c.in_err-definitions.field-0.0 _ (omega (arith, length-elements c.args.values.now.items)) (c.in_err-definitions.ensures other))
+    rw (p.1, p.2) (λ other. definitions_fault c.args.format (map (λ (l : LookupParts). l.name) c.args.lookups.now) c.args.lookups.now (elements (array_view c.args.values.now)) c.in_err-definitions.field-0.0 _ (omega (arith, length-elements c.args.values.now.items)) (c.in_err-definitions.ensures other))
 
 pub returns-then-has_mixed : goal.returns-then-has_mixed
 returns-then-has_mixed c = λ other.
-    definitions_mixed (map (λ (l : LookupParts). l.name) c.args.lookups.now) c.args.lookups.now (elements (array_view c.args.values.now)) c.in_ok-definitions.definitions.items (omega (arith, length-elements c.args.values.now.items)) c.in_ok-definitions.ensures
+    definitions_mixed c.args.format (map (λ (l : LookupParts). l.name) c.args.lookups.now) c.args.lookups.now (elements (array_view c.args.values.now)) c.in_ok-definitions.definitions.items (omega (arith, length-elements c.args.values.now.items)) c.in_ok-definitions.ensures
     (rw (← c.deref.ensures.value) (sym c.if-has_mixed.ensures))
 
 pub returns : goal.returns
 returns c =
-    definitions_read (map (λ (l : LookupParts). l.name) c.args.lookups.now) c.args.lookups.now (elements (array_view c.args.values.now)) c.in_ok-definitions.definitions.items (omega (arith, length-elements c.args.values.now.items)) c.in_ok-definitions.ensures
+    definitions_read c.args.format (map (λ (l : LookupParts). l.name) c.args.lookups.now) c.args.lookups.now (elements (array_view c.args.values.now)) c.in_ok-definitions.definitions.items (omega (arith, length-elements c.args.values.now.items)) c.in_ok-definitions.ensures
     (rw (← c.deref.ensures.value) (sym c.if-has_mixed.ensures))

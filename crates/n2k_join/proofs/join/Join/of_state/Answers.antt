@@ -1,6 +1,8 @@
-use Rattle.std.proofs.Common.{◌∙◌}
+use Rattle.std.proofs.Common.{sym, ◌∙◌}
+use Rattle.std.proofs.lemmas.List.{length-map}
 use Rattle.std.proofs.lemmas.Result.{err_from_is_err_and}
 use Rattle.n2k_table.specs.Table.{kind}
+use Rattle.n2k_join.specs.Inner.Slots.{group_at, groups_in}
 use Rattle.n2k_join.proofs.ValidStates.{rules_broken, groups_broken, all_hold, is_state}
 use Rattle.n2k_join.proofs.join.Join.of_state.Goals as goal
 
@@ -14,8 +16,8 @@ returns-in_err-stored c =
 
 pub invariant_of-result : goal.invariant_of-result
 invariant_of-result c =
-    is_state (kind c.args.table.now) c.args.id c.args.counts c.args.groups.now c.in_ok-stored.stored.items c.len-held.result c.rules_hold.result c.rules_hold.ensures c.if-not-rules_hold.false c.in_ok-stored.ensures.value (c.len-held.ensures ∙ c.in_ok-stored.stored.ok.0) c.in_ok-stored.ensures.parts
+    is_state (kind c.args.table.now) c.args.id c.args.counts c.args.groups.now (groups_in c.in_ok-stored.stored.entries) c.len-held.result c.rules_hold.result c.rules_hold.ensures c.if-not-rules_hold.false c.in_ok-stored.ensures.value (c.len-held.ensures.len ∙ sym (length-map c.in_ok-stored.stored.entries group_at)) c.in_ok-stored.ensures.parts
 
 pub returns : goal.returns
 returns c =
-    all_hold (kind c.args.table.now) c.args.id c.args.counts c.args.groups.now c.in_ok-stored.stored.items c.len-held.result c.rules_hold.result c.rules_hold.ensures c.if-not-rules_hold.false c.in_ok-stored.ensures.value (c.len-held.ensures ∙ c.in_ok-stored.stored.ok.0)
+    all_hold (kind c.args.table.now) c.args.id c.args.counts c.args.groups.now (groups_in c.in_ok-stored.stored.entries) c.len-held.result c.rules_hold.result c.rules_hold.ensures c.if-not-rules_hold.false c.in_ok-stored.ensures.value (c.len-held.ensures.len ∙ sym (length-map c.in_ok-stored.stored.entries group_at))

@@ -1,16 +1,19 @@
--- The frames so far, and those that are left, which rise where all rise.
-use Rattle.std.proofs.Common.{◌≡◌, ◌≤◌, map, take, drop, vec_capacity}
-use Rattle.n2k_join.specs.Resumed.{pieces_rise}
+-- The frames so far, by rising number, and those that are left, which rise where all rise.
+use Rattle.std.proofs.Common.{◌≡◌, ◌≤◌, ◌<◌, take, drop}
 use Rattle.std.specs.List.{AllByRecursion}
-use Rattle.n2k_join.specs.State.{IsPiece}
-use Rattle.n2k_join.specs.Inner.Stored.{piece_of}
+use Rattle.n2k_join.specs.Frames.{Key}
+use Rattle.n2k_join.specs.Open.{Piece}
+use Rattle.n2k_join.specs.Resumed.{pieces_rise}
+use Rattle.n2k_join.specs.State.{Rise, IsPiece}
+use Rattle.n2k_join.specs.Inner.Slots.{group_in}
 use Rattle.n2k_join.proofs.saved.resume.stored_pieces.Given as goal
 
 abbrev pub invariant-loop-piece : goal.invariant-loop-piece
 invariant-loop-piece l = record {
   left : pieces_rise l.least (drop l.piece-index l.pieces) ≡ pieces_rise 0 l.pieces;
-  kept : map piece_of l.stored.items ≡ take l.piece-index l.pieces;
-  room : 32 ≤ vec_capacity l.stored;
+  kept : (key : Key) → group_in key l.group ≡ record { first = l.fn.first; key = key; pieces = take l.piece-index l.pieces };
+  rise : Rise (λ (p : Piece). p.number) 0 (take l.piece-index l.pieces);
+  below : AllByRecursion (λ (p : Piece). p.number < l.least) (take l.piece-index l.pieces);
   small : l.least ≤ 32;
-  parts : AllByRecursion IsPiece (map piece_of l.stored.items);
+  parts : AllByRecursion IsPiece (take l.piece-index l.pieces);
 }

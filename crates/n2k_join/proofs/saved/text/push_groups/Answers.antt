@@ -1,12 +1,20 @@
-use Rattle.std.proofs.Common.{◌∙◌, refl, arith}
-use Rattle.n2k_join.proofs.SavedPieces.{no_group_written, group_more_written}
+use Rattle.std.proofs.Common.{◌∙◌, ◌++◌, ap, sym, refl}
+use Rattle.n2k_join.specs.Inner.SavedTokens.{groups_tokens}
+use Rattle.n2k_join.specs.Inner.Slots.{groups_in}
+use Rattle.n2k_join.proofs.SavedPieces.{groups_written, group_more_written}
 use Rattle.n2k_join.proofs.saved.text.push_groups.Goals as goal
 
-pub loop-group-init : goal.loop-group-init
-loop-group-init c = record { tokens = no_group_written c.args.out.now.tokens c.args.groups.now; before = refl }
+pub loop-key-init : goal.loop-key-init
+loop-key-init c = record { tokens = ap (λ es. c.args.out.now.tokens ++ groups_tokens (groups_in es)) (sym (c.into_iter-key-iterator.ensures.into_iter_gives ∙ c.iter-key-items.ensures.rest)); before = refl }
 
-pub loop-group-preserved : goal.loop-group-preserved
-loop-group-preserved c = record {
-  tokens = group_more_written c.args.groups.now c.loop-group.group-index c.group-item.result c.args.out.now.tokens c.loop-group.out.tokens c.push_group.new.out.tokens (omega arith) c.group-item.is c.in_ok-push_group.ensures.tokens c.loop-group.invariant.tokens;
-  before = c.in_ok-push_group.ensures.before ∙ c.loop-group.invariant.before;
+pub loop-key-preserved : goal.loop-key-preserved
+loop-key-preserved c = record {
+  tokens = group_more_written c.in-Some.key.now c.in-Some.group.now _ c.loop-key.out.tokens c.push_group.new.out.tokens c.loop-key.key-iterator c.next.new.self c.in-Some.ensures.steps c.in_ok-push_group.ensures.tokens c.loop-key.invariant.tokens;
+  before = c.in_ok-push_group.ensures.before ∙ c.loop-key.invariant.before;
+}
+
+pub returns : goal.returns
+returns c = record {
+  tokens = groups_written _ c.loop-key.out.tokens c.loop-key.key-iterator c.in-None.ensures.steps.0 c.loop-key.invariant.tokens;
+  before = c.loop-key.invariant.before;
 }

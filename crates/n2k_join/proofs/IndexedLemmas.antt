@@ -1,0 +1,267 @@
+-- The open groups in a map by key: what its entries are after a frame.
+use Rattle.std.proofs.Common.{◌≡◌, ◌<◌, ◌+◌, ◌-◌, ℕ, zero, suc, Bool, true, false, cond, not, List, [], ◌∷◌, ◌++◌, length, get_or, take, drop, set, slice_get, nat_lt, refl, sym, ap, ◌∙◌, subst, arith, Option, Some, None, IfSome, option_to_list}
+use Rattle.std.specs.Prelude.{position, remove, insert, is_some}
+use Rattle.std.specs.Option.{option_map_or}
+use Rattle.std.specs.Map.{keys_of, values_of}
+use Rattle.std.specs.List.{position_or_len, AllByRecursion}
+use Rattle.std.proofs.lemmas.List.{map-append, append-nil, length-map}
+use Rattle.std.proofs.lemmas.Bool.{ltb-true}
+use Rattle.std.proofs.lemmas.Option.{none-some, same_Some}
+use Rattle.indexmap.specs.IndexMap.{insert_entry, set_value_at, move_index}
+use Rattle.n2k_join.specs.declared.piece.FrameKey.{FrameKey}
+use Rattle.n2k_join.specs.declared.piece.OpenGroup.{OpenGroup}
+use Rattle.n2k_join.specs.declared.piece.StoredPiece.{StoredPiece}
+use Rattle.n2k_join.specs.Frames.{Key, same_key, Frame, most_frames}
+use Rattle.n2k_join.specs.Groups.{complete, has_number, data_of}
+use Rattle.n2k_join.specs.Messages.{message_of}
+use Rattle.n2k_join.specs.Open.{Group, pieces_of, group_of}
+use Rattle.n2k_join.specs.State.{held_frame, held_of, IsOpen, AreApart}
+use Rattle.n2k_join.specs.Inner.Stored.{key_of, piece_of, with_frame, of_the_key, begun, groups_after, gained, lost}
+use Rattle.n2k_join.specs.Inner.Slots.{slot_of, group_in, group_at, groups_in}
+use Rattle.n2k_join.proofs.SlotLemmas.{carried-slots}
+use Rattle.n2k_join.proofs.JoinLemmas.{position-None, none_at_all, groups-begun, at_place, found-place, key-place, with_piece, complete-with_frame, joins-done, joins-left, after-repeats, all-at, data_of-with_frame, gained-joins, gained-repeats, lost-joins, lost-repeats, broken-held, message-begun}
+
+-- ---- places
+
+module _ (k : FrameKey) where
+  place_or_len : (es : List (FrameKey × OpenGroup)) → position_or_len (λ (j : FrameKey). same_key (key_of k) (key_of j)) (keys_of es) ≡ position_or_len (λ (g : Group). same_key (key_of k) g.key) (groups_in es)
+  place_or_len [] = refl
+  place_or_len (e ∷ es) = ap (λ (n : ℕ). cond (not (same_key (key_of k) (key_of e.0))) (1 + n) 0) (place_or_len es)
+
+  keys-groups : (es : List (FrameKey × OpenGroup)) → length (keys_of es) ≡ length (groups_in es)
+  keys-groups [] = refl
+  keys-groups (e ∷ es) = ap suc (keys-groups es)
+
+  -- the place of a key is that of its group
+  pub place-key : (es : List (FrameKey × OpenGroup)) → position (λ (j : FrameKey). same_key (key_of k) (key_of j)) (keys_of es) ≡ position (λ (g : Group). same_key (key_of k) g.key) (groups_in es)
+  place-key es = λ i. cond (nat_lt (place_or_len es i) (keys-groups es i)) (Some (place_or_len es i)) None
+
+-- ---- a new group
+
+module _ (k : FrameKey) (v : OpenGroup) where
+  pub insert-last : (es : List (FrameKey × OpenGroup)) → AllByRecursion (λ (g : Group). same_key (key_of k) g.key ≡ false) (groups_in es) → insert_entry (λ (a b : FrameKey). same_key (key_of a) (key_of b)) es k v ≡ es ++ (k, v) ∷ []
+  insert-last [] others = refl
+  insert-last (e ∷ es) others = ap (λ b. cond b ((e.0, v) ∷ es) (e ∷ insert_entry (λ (a b : FrameKey). same_key (key_of a) (key_of b)) es k v)) others.0 ∙ ap (λ t. e ∷ t) (insert-last es others.1)
+
+  -- the group of a frame whose key has none goes last
+  pub opens-last : (x : Frame) (es : List (FrameKey × OpenGroup)) → key_of k ≡ x.key → x.number < most_frames → group_in (key_of k) v ≡ group_of x.key (x ∷ []) → position (λ (g : Group). same_key x.key g.key) (groups_in es) ≡ None
+      → complete (held_of (group_in (key_of k) v)) ≡ false
+      → groups_in (insert_entry (λ (a b : FrameKey). same_key (key_of a) (key_of b)) es k v) ≡ groups_after (groups_in es) x
+  opens-last x es of small is none left =
+      let none_k = ap (λ (j : Key). position (λ (g : Group). same_key j g.key) (groups_in es)) of ∙ none in
+      ap groups_in (insert-last es (position-None (λ (g : Group). same_key (key_of k) g.key) (groups_in es) none_k))
+      ∙ map-append group_at es ((k, v) ∷ [])
+      ∙ ap (λ gs. groups_in es ++ gs) (sym (ap (λ b. cond b [] (group_in (key_of k) v ∷ [])) left) ∙ groups-begun x (group_in (key_of k) v) small is)
+      ∙ sym (none_at_all x (groups_in es) none).1
+
+  pub opens-done : (x : Frame) (es : List (FrameKey × OpenGroup)) → x.number < most_frames → group_in (key_of k) v ≡ group_of x.key (x ∷ []) → position (λ (g : Group). same_key x.key g.key) (groups_in es) ≡ None
+      → complete (held_of (group_in (key_of k) v)) ≡ true → groups_in es ≡ groups_after (groups_in es) x
+  opens-done x es small is none done =
+      sym (append-none (groups_in es)) ∙ ap (λ gs. groups_in es ++ gs) (sym (ap (λ b. cond b [] (group_in (key_of k) v ∷ [])) done) ∙ groups-begun x (group_in (key_of k) v) small is)
+      ∙ sym (none_at_all x (groups_in es) none).1
+    where
+      append-none : (gs : List Group) → gs ++ [] ≡ gs
+      append-none [] = refl
+      append-none (g ∷ gs) = ap (λ t. g ∷ t) (append-none gs)
+
+-- ---- the entry at a place
+
+pub record IsEntryAt (es : List (FrameKey × OpenGroup)) (i : ℕ) (v : OpenGroup) : Type 0 where
+  pub key : FrameKey
+  pub found : slice_get es i ≡ Some (key, v)
+  pub is : (d : Group) → get_or (groups_in es) i d ≡ group_at (key, v)
+  pub written : (w : OpenGroup) → groups_in (set_value_at es i w) ≡ set (groups_in es) i (group_at (key, w))
+
+pub entry_at : (es : List (FrameKey × OpenGroup)) (i : ℕ) (v : OpenGroup) → slice_get (values_of es) i ≡ Some v → IsEntryAt es i v
+entry_at [] i v e = absurd (none-some v e)
+entry_at (e ∷ es) zero v h = record { key = e.0; found = ap (λ w. Some (e.0, w)) (same_Some e.1 v h); is = λ d. ap (λ w. group_at (e.0, w)) (same_Some e.1 v h); written = λ w. refl }
+entry_at (e ∷ es) (suc i) v h =
+    let rest = entry_at es i v h in
+    record { key = rest.key; found = rest.found; is = rest.is; written = λ w. ap (λ gs. group_at e ∷ gs) (rest.written w) }
+
+-- an entry stands at each place
+pub record Placed (es : List (FrameKey × OpenGroup)) (i : ℕ) : Type 0 where
+  pub value : OpenGroup
+  pub at : IsEntryAt es i value
+
+pub placed : (es : List (FrameKey × OpenGroup)) (i : ℕ) → i < length (groups_in es) → Placed es i
+placed [] i l = absurd (omega (arith, l))
+placed (e ∷ es) zero l = record { value = e.1; at = entry_at (e ∷ es) 0 e.1 refl }
+placed (e ∷ es) (suc i) l =
+    let rest = placed es i (omega (arith, l)) in
+    record { value = rest.value; at = record { key = rest.at.key; found = rest.at.found; is = rest.at.is; written = λ w. ap (λ gs. group_at e ∷ gs) (rest.at.written w) } }
+
+pub position-below : (P : Group → Bool) (gs : List Group) (i : ℕ) → position P gs ≡ Some i → i < length gs
+position-below P gs i e = by (nat_lt (position_or_len P gs) (length gs)) refl e
+  where
+    by : (b : Bool) → nat_lt (position_or_len P gs) (length gs) ≡ b → cond b (Some (position_or_len P gs)) None ≡ Some i → i < length gs
+    by true t e = let is : position_or_len P gs ≡ i = same_Some _ _ e in let l : position_or_len P gs < length gs = ltb-true _ _ t in omega (arith, is, l)
+    by false t e = absurd (none-some i e)
+
+take-groups : (i : ℕ) (es : List (FrameKey × OpenGroup)) → groups_in (take i es) ≡ take i (groups_in es)
+take-groups zero es = refl
+take-groups (suc i) [] = refl
+take-groups (suc i) (e ∷ es) = ap (λ gs. group_at e ∷ gs) (take-groups i es)
+
+drop-groups : (i : ℕ) (es : List (FrameKey × OpenGroup)) → groups_in (drop i es) ≡ drop i (groups_in es)
+drop-groups zero es = refl
+drop-groups (suc i) [] = refl
+drop-groups (suc i) (e ∷ es) = drop-groups i es
+
+pub removed-groups : (es : List (FrameKey × OpenGroup)) (i : ℕ) → groups_in (remove es i) ≡ take i (groups_in es) ++ drop (i + 1) (groups_in es)
+removed-groups es i =
+    let next : suc i ≡ i + 1 = omega arith in
+    map-append group_at (take i es) (drop (suc i) es) ∙ (λ j. take-groups i es j ++ drop-groups (suc i) es j) ∙ ap (λ n. take i (groups_in es) ++ drop n (groups_in es)) next
+
+-- ---- an entry written and moved last
+
+slot-written : (es : List (FrameKey × OpenGroup)) (i : ℕ) (w : OpenGroup) (k : FrameKey) (v : OpenGroup) → slice_get es i ≡ Some (k, v) → slice_get (set_value_at es i w) i ≡ Some (k, w)
+slot-written [] i w k v e = absurd (none-some (k, v) e)
+slot-written (e ∷ es) zero w k v h = ap (λ (p : FrameKey × OpenGroup). Some (p.0, w)) (same_Some e (k, v) h)
+slot-written (e ∷ es) (suc i) w k v h = slot-written es i w k v h
+
+removed-written : (es : List (FrameKey × OpenGroup)) (i : ℕ) (w : OpenGroup) → remove (set_value_at es i w) i ≡ remove es i
+removed-written [] i w = refl
+removed-written (e ∷ es) zero w = refl
+removed-written (e ∷ es) (suc i) w = ap (λ t. e ∷ t) (removed-written es i w)
+
+pub length-written : (es : List (FrameKey × OpenGroup)) (i : ℕ) (w : OpenGroup) → length (set_value_at es i w) ≡ length es
+length-written [] i w = refl
+length-written (e ∷ es) zero w = refl
+length-written (e ∷ es) (suc i) w = ap suc (length-written es i w)
+
+removed-length : {X : Type 0} (xs : List X) (i : ℕ) (x : X) → slice_get xs i ≡ Some x → length (remove xs i) + 1 ≡ length xs
+removed-length [] i x e = absurd (none-some x e)
+removed-length (y ∷ ys) zero x e = omega arith
+removed-length (y ∷ ys) (suc i) x e = omega (arith, removed-length ys i x e)
+
+insert-end : {X : Type 0} (xs : List X) (n : ℕ) (x : X) → n ≡ length xs → insert xs n x ≡ xs ++ x ∷ []
+insert-end [] zero x e = refl
+insert-end [] (suc n) x e = absurd (omega (arith, e))
+insert-end (y ∷ ys) zero x e = absurd (omega (arith, e))
+insert-end (y ∷ ys) (suc n) x e = ap (λ t. y ∷ t) (insert-end ys n x (omega (arith, e)))
+
+pub moved : (es : List (FrameKey × OpenGroup)) (i : ℕ) (w : OpenGroup) (k : FrameKey) (v : OpenGroup) → slice_get es i ≡ Some (k, v) → move_index (set_value_at es i w) i (length es - 1) ≡ remove es i ++ (k, w) ∷ []
+moved es i w k v found =
+    ap (λ o. option_map_or (λ (e : FrameKey × OpenGroup). insert (remove (set_value_at es i w) i) (length es - 1) e) o (set_value_at es i w)) (slot-written es i w k v found)
+    ∙ ap (λ r. insert r (length es - 1) (k, w)) (removed-written es i w)
+    ∙ insert-end (remove es i) (length es - 1) (k, w) (omega (arith, removed-length es i (k, v) found))
+
+-- where the group of a frame's key stands at a place
+module _ (x : Frame) (es : List (FrameKey × OpenGroup)) (i : ℕ) (v : OpenGroup) (apart : AreApart (groups_in es)) (place : position (λ (g : Group). same_key x.key g.key) (groups_in es) ≡ Some i) (at : IsEntryAt es i v) where
+  abbrev pub there : Group
+  there = group_at (at.key, v)
+
+  pub stands : there ≡ get_or (groups_in es) i there
+  stands = sym (at.is there)
+
+  pub found-there : of_the_key x.key (groups_in es) ≡ Some there
+  found-there = found-place x (groups_in es) i there apart place stands
+
+  pub open-there : AllByRecursion IsOpen (groups_in es) → IsOpen there
+  open-there all =
+      let here = all-at IsOpen (groups_in es) i there all (at_place x (groups_in es) i there apart place stands).0 in
+      subst IsOpen (at.is there) here
+
+  pub key-there : x.key ≡ key_of at.key
+  key-there = key-place x (groups_in es) i there apart place stands
+
+  pub length-there : i < length es
+  length-there = omega (arith, (at_place x (groups_in es) i there apart place stands).0, length-map es group_at)
+
+  -- a number that isn't there has an empty slot
+  pub lacks : IfSome (of_the_key x.key (groups_in es)) (λ (o : Group). has_number x.number (held_of o) ≡ false) → has_number x.number (held_of (group_at (at.key, v))) ≡ false
+  lacks missing = subst (λ o. IfSome o (λ (g : Group). has_number x.number (held_of g) ≡ false)) found-there missing
+
+  pub empty : x.number < most_frames → has_number x.number (held_of (group_at (at.key, v))) ≡ false → slot_of v x.number ≡ None
+  empty small missing = by (slot_of v x.number) (sym (ap is_some (carried-slots (key_of at.key) v x.number small)) ∙ missing)
+    where
+      by : (o : Option (List ℕ)) → is_some o ≡ false → o ≡ None
+      by None e = refl
+      by (Some b) e = absurd cc
+
+  has-there : x.number < most_frames → (b : Bool) → is_some (slot_of v x.number) ≡ b → has_number x.number (held_of there) ≡ b
+  has-there small b e = ap is_some (carried-slots (key_of at.key) v x.number small) ∙ e
+
+  -- what its slots say is what the group of the key says
+  pub there-has : x.number < most_frames → (b : Bool) → is_some (slot_of v x.number) ≡ b → IfSome (of_the_key x.key (groups_in es)) (λ (o : Group). has_number x.number (held_of o) ≡ b)
+  there-has small b e = subst (λ o. IfSome o (λ (g : Group). has_number x.number (held_of g) ≡ b)) (sym found-there) (has-there small b e)
+
+  pub none-lost : x.number < most_frames → is_some (slot_of v x.number) ≡ false → None ≡ lost x (of_the_key x.key (groups_in es))
+  none-lost small e = sym (lost-joins x (groups_in es) i there apart place stands (has-there small false e))
+
+  -- A frame with its number ends it, and the group that it begins goes last, or gives its message.
+  module _ (w : OpenGroup) (number : IfSome (of_the_key x.key (groups_in es)) (λ (o : Group). has_number x.number (held_of o) ≡ true)) (small : x.number < most_frames) (is : group_in (key_of at.key) w ≡ group_of x.key (x ∷ [])) where
+    has_it : has_number x.number (held_of (group_at (at.key, v))) ≡ true
+    has_it = subst (λ o. IfSome o (λ (g : Group). has_number x.number (held_of g) ≡ true)) found-there number
+
+    after : groups_after (groups_in es) x ≡ (take i (groups_in es) ++ drop (i + 1) (groups_in es)) ++ option_to_list (begun x)
+    after = after-repeats x (groups_in es) i there apart place stands has_it
+
+    begins : cond (complete (held_of (group_at (at.key, w)))) [] (group_at (at.key, w) ∷ []) ≡ option_to_list (begun x)
+    begins = groups-begun x (group_at (at.key, w)) small is
+
+    pub ends-go : complete (held_of (group_at (at.key, w))) ≡ true → groups_in (remove es i) ≡ groups_after (groups_in es) x
+    ends-go done =
+        removed-groups es i ∙ sym (append-nil (take i (groups_in es) ++ drop (i + 1) (groups_in es)))
+        ∙ ap (λ gs. (take i (groups_in es) ++ drop (i + 1) (groups_in es)) ++ gs) (ap (λ b. cond b [] (group_at (at.key, w) ∷ [])) (sym done) ∙ begins)
+        ∙ sym after
+
+    -- where it was written before it goes
+    pub ends-written : complete (held_of (group_at (at.key, w))) ≡ true → groups_in (remove (set_value_at es i w) i) ≡ groups_after (groups_in es) x
+    ends-written done = ap groups_in (removed-written es i w) ∙ ends-go done
+
+    pub begun-gives : complete (held_of (group_at (at.key, w))) ≡ true → Some (record { stamp = x.stamp; id = x.id; payload = data_of (held_of (group_at (at.key, w))) }) ≡ gained x (of_the_key x.key (groups_in es))
+    begun-gives done = sym (ap (λ b. cond b (Some (record { stamp = x.stamp; id = x.id; payload = data_of (held_of (group_at (at.key, w))) })) None) done) ∙ message-begun x (group_at (at.key, w)) small is ∙ sym (gained-repeats x (groups_in es) i there apart place stands has_it)
+
+    pub begun-none : complete (held_of (group_at (at.key, w))) ≡ false → None ≡ gained x (of_the_key x.key (groups_in es))
+    begun-none left = sym (ap (λ b. cond b (Some (record { stamp = x.stamp; id = x.id; payload = data_of (held_of (group_at (at.key, w))) })) None) left) ∙ message-begun x (group_at (at.key, w)) small is ∙ sym (gained-repeats x (groups_in es) i there apart place stands has_it)
+
+    pub breaks : AllByRecursion IsOpen (groups_in es) → Some (record { pgn = x.key.pgn; src = x.key.src; dst = x.key.dst; seq = x.key.sequence; first = v.first }) ≡ lost x (of_the_key x.key (groups_in es))
+    breaks all =
+        (λ j. let k = key-there j in Some (record { pgn = k.pgn; src = k.src; dst = k.dst; seq = k.sequence; first = v.first }))
+        ∙ ap Some (broken-held there x.key (open-there all) key-there)
+        ∙ sym (lost-repeats x (groups_in es) i there apart place stands has_it)
+
+    pub ends-last : complete (held_of (group_at (at.key, w))) ≡ false → groups_in (move_index (set_value_at es i w) i (length es - 1)) ≡ groups_after (groups_in es) x
+    ends-last left =
+        ap groups_in (moved es i w at.key v (at.found))
+        ∙ map-append group_at (remove es i) ((at.key, w) ∷ [])
+        ∙ ap (λ gs. gs ++ group_at (at.key, w) ∷ []) (removed-groups es i)
+        ∙ ap (λ gs. (take i (groups_in es) ++ drop (i + 1) (groups_in es)) ++ gs) (ap (λ b. cond b [] (group_at (at.key, w) ∷ [])) (sym left) ∙ begins)
+        ∙ sym after
+
+  module _ (w : OpenGroup) (p : StoredPiece) (fit : AllByRecursion IsOpen (groups_in es)) (small : x.number < most_frames) (number : p.number ≡ x.number) (bytes : p.bytes ≡ x.bytes)
+      (missing : has_number x.number (held_of (group_at (at.key, v))) ≡ false)
+      (taken : group_at (at.key, w) ≡ record (group_at (at.key, v)) { pieces = pieces_of (held_of (group_at (at.key, v)) ++ held_frame (group_at (at.key, v)) (piece_of p) ∷ []) }) where
+    pub grown : group_at (at.key, w) ≡ with_frame (group_at (at.key, v)) x
+    grown = taken ∙ (λ j. record there { pieces = pieces_of (held_of there ++ held_frame there (record { number = number j; bytes = bytes j }) ∷ []) }) ∙ with_piece there x
+
+    pub complete-grown : complete (held_of (group_at (at.key, w))) ≡ complete (held_of (group_at (at.key, v)) ++ x ∷ [])
+    complete-grown = ap (λ (g : Group). complete (held_of g)) grown ∙ complete-with_frame there x (open-there fit) missing small
+
+    -- it stays with the frame
+    pub joins-stay : complete (held_of (group_at (at.key, w))) ≡ false → groups_in (set_value_at es i w) ≡ groups_after (groups_in es) x
+    joins-stay left = at.written w ∙ joins-left x (groups_in es) i there apart place stands missing (group_at (at.key, w)) (sym complete-grown ∙ left) grown
+
+    -- or goes
+    pub joins-go : complete (held_of (group_at (at.key, w))) ≡ true → groups_in (remove (set_value_at es i w) i) ≡ groups_after (groups_in es) x
+    joins-go done =
+        removed-groups (set_value_at es i w) i
+        ∙ ap (λ gs. take i gs ++ drop (i + 1) gs) (at.written w)
+        ∙ joins-done x (groups_in es) i there apart place stands missing (group_at (at.key, w)) (sym complete-grown ∙ done)
+
+    data-grown : data_of (held_of (group_at (at.key, w))) ≡ data_of (held_of (group_at (at.key, v)) ++ x ∷ [])
+    data-grown = ap (λ (g : Group). data_of (held_of g)) grown ∙ data_of-with_frame there x (open-there fit) missing small
+
+    -- and gives its message, where it goes
+    pub gives-there : complete (held_of (group_at (at.key, w))) ≡ true → Some (record { stamp = x.stamp; id = x.id; payload = data_of (held_of (group_at (at.key, w))) }) ≡ gained x (of_the_key x.key (groups_in es))
+    gives-there done =
+        (λ j. Some (record { stamp = x.stamp; id = x.id; payload = data-grown j }))
+        ∙ sym (ap (λ b. cond b (Some (message_of x (held_of there ++ x ∷ []))) None) (sym complete-grown ∙ done))
+        ∙ sym (gained-joins x (groups_in es) i there apart place stands missing)
+
+    pub gives-none : complete (held_of (group_at (at.key, w))) ≡ false → None ≡ gained x (of_the_key x.key (groups_in es))
+    gives-none left =
+        sym (ap (λ b. cond b (Some (message_of x (held_of there ++ x ∷ []))) None) (sym complete-grown ∙ left))
+        ∙ sym (gained-joins x (groups_in es) i there apart place stands missing)

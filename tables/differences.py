@@ -1,0 +1,146 @@
+"""Where two tables differ, message by message. from_canboat.py --compare prints it."""
+import collections
+import decimal
+import json
+import os
+import tomllib
+
+
+class Differences:
+    """The lines on what differs; each line speaks of the first table and then of the second."""
+
+    def __init__(self, first, second, names):
+        self.first, self.second, self.names = first, second, names
+        self.entries = [{lookup["name"]: dict(map(tuple, lookup["entries"])) for lookup in table.get("lookup", [])}
+                        for table in (first, second)]
+        self.seen = {}  # pairs of lookups that were compared, by the message
+        self.counts = collections.Counter()
+
+    def lines(self):
+        by_number = [collections.defaultdict(list), collections.defaultdict(list)]
+        for table, numbers in zip((self.first, self.second), by_number):
+            for message in table.get("pgn", []):
+                numbers[message["number"]].append(message)
+        lines = []
+        for number in sorted(by_number[0] | by_number[1]):
+            for pair in pairs_of(by_number[0][number], by_number[1][number], MESSAGE_KEYS):
+                lines += self.message_lines(number, *pair)
+        return lines
+
+    def message_lines(self, number, first, second):
+        title = f"{number} {quoted((first or second)['description'])}"
+        if first is None or second is None:
+            self.counts[name := self.names[first is None]] += 1
+            return [f"{title}: only in {name}"]
+        lines = self.value_lines("", first, second, ("kind", "description"))
+        lines += self.field_lines(title, "", first["fields"], second["fields"])
+        sets = first.get("repeat"), second.get("repeat")
+        if all(sets):
+            lines += self.value_lines("the set: ", *sets, ("at", "bits"))
+            lines += self.field_lines(title, "the set: ", sets[0]["fields"], sets[1]["fields"])
+        elif any(sets):
+            lines.append(f"  its set: only in {self.names[sets[0] is None]}")
+        self.counts["differ" if lines else "equal"] += 1
+        return [title, *lines] if lines else []
+
+    def field_lines(self, title, place, first, second):
+        lines = []
+        for one, other in pairs_of(first, second, FIELD_KEYS):
+            if one is None or other is None:
+                field = one or other
+                lines.append(f"  {place}{quoted(field['name'])} at {field['at']}, bits {field['bits']}: "
+                             f"only in {self.names[one is None]}")
+                continue
+            of = f"{place}{quoted(one['name'])}: "
+            lines += self.value_lines(of, one, other, ("name", "kind", "at", "bits", "signed", "resolution", "match"))
+            if "lookup" in one and "lookup" in other:
+                lines += self.lookup_lines(title, of, one["lookup"], other["lookup"])
+        return lines
+
+    def value_lines(self, of, first, second, keys):
+        """One line for each key that differs; `of` says what has the keys."""
+        return [f"  {of}{key} {shown(first, key)}, in {self.names[1]} {shown(second, key)}"
+                for key in keys if meant(first, key) != meant(second, key)]
+
+    def lookup_lines(self, title, of, first, second):
+        """How the names of values differ; a pair of lookups is listed at its first message."""
+        ones, others = self.entries[0][first], self.entries[1][second]
+        if ones == others:
+            return []
+        if (first, second) in self.seen:
+            return [f"  {of}values as in {self.seen[first, second]}"]
+        self.seen[first, second] = title
+        lines = [f"  {of}value {value} {quoted(ones[value])}, in {self.names[1]} {quoted(others[value])}"
+                 for value in sorted(ones.keys() & others.keys()) if ones[value] != others[value]]
+        for name, here, there in zip(self.names, (ones, others), (others, ones)):
+            alone = [f"{value} {quoted(here[value])}" for value in sorted(here.keys() - there.keys())]
+            lines += [f"  {of}values only in {name}: {', '.join(alone)}"] if alone else []
+        return lines
+
+
+def quoted(text):
+    return json.dumps(text, ensure_ascii=False)
+
+
+def meant(holder, key):
+    """A key's value, as it counts: 0.10 is 0.1."""
+    if key == "resolution":
+        return decimal.Decimal(holder.get(key, "1"))
+    return holder.get(key, False if key == "signed" else None)
+
+
+def shown(holder, key):
+    value = holder.get(key, {"signed": False, "resolution": "1"}.get(key, "none"))
+    return quoted(value) if key in ("name", "description") else str(value).lower()
+
+
+def matches(message):
+    return sorted((field["at"], field["bits"], field["match"]) for field in message["fields"] if "match" in field)
+
+
+def values(*keys):
+    """What gives the values of these keys."""
+    return lambda holder: [holder[key] for key in keys]
+
+
+# What messages of one PGN, and fields of one message, have in common in both tables: the first that is found counts.
+MESSAGE_KEYS = (lambda message: (matches(message), message["description"]), matches, values("description"))
+FIELD_KEYS = (values("name", "at"), values("name"), values("at"))
+
+
+def pairs_of(first, second, keys):
+    """Each item of two lists with the one that it is in the other: alike by the first key, or the next, or None."""
+    partners, left = {}, list(range(len(second)))
+    for key in keys:
+        for at, item in enumerate(first):
+            other = next((other for other in left if key(second[other]) == key(item)), None)
+            if at not in partners and other is not None:
+                partners[at] = other
+                left.remove(other)
+    pairs = [(item, second[partners[at]] if at in partners else None) for at, item in enumerate(first)]
+    return pairs + [(None, second[other]) for other in left]
+
+
+class NoTable(Exception):
+    """Why a file is no table."""
+
+
+def text(first, first_name, second_name):
+    """The differences between a table, given as its text, and that of a file; and how many messages they are about."""
+    with open(second_name, "rb") as file:
+        try:
+            second = tomllib.load(file)
+        except ValueError as error:
+            raise NoTable(f"{second_name}: this is not TOML: {error}") from None
+    names = [os.path.basename(first_name), os.path.basename(second_name)]
+    if names[0] == names[1]:
+        names = [first_name, second_name]
+    try:
+        found = Differences(tomllib.loads(first), second, names)
+        lines = found.lines()
+    except (KeyError, TypeError, AttributeError, ValueError, decimal.InvalidOperation):
+        raise NoTable(f"{second_name}: this is no table of n2kdec") from None
+    counts = found.counts
+    lines.append(f"equal {counts['equal']} differ {counts['differ']} "
+                 f"only in {names[0]} {counts[names[0]]} only in {names[1]} {counts[names[1]]}")
+    return "\n".join(lines) + "\n"
