@@ -1,5 +1,5 @@
 -- The open groups in a map by key: what its entries are after a frame.
-use Rattle.std.proofs.Common.{◌≡◌, ◌<◌, ◌+◌, ◌-◌, ℕ, zero, suc, Bool, true, false, cond, not, List, [], ◌∷◌, ◌++◌, length, get_or, take, drop, set, slice_get, nat_lt, refl, sym, ap, ◌∙◌, subst, arith, Option, Some, None, IfSome, option_to_list}
+use Rattle.std.proofs.Common.{◌≡◌, ◌<◌, ◌+◌, ◌-◌, ℕ, zero, suc, Bool, true, false, cond, not, List, [], ◌∷◌, ◌++◌, length, get_or, take, drop, set, slice_get, nat_lt, refl, sym, ap, ◌∙◌, subst, arith, Option, Some, None, IfSome, option_map, option_to_list}
 use Rattle.std.specs.Prelude.{position, remove, insert, is_some}
 use Rattle.std.specs.Option.{option_map_or}
 use Rattle.std.specs.Map.{keys_of, values_of}
@@ -112,6 +112,16 @@ pub removed-groups : (es : List (FrameKey × OpenGroup)) (i : ℕ) → groups_in
 removed-groups es i =
     let next : suc i ≡ i + 1 = omega arith in
     map-append group_at (take i es) (drop (suc i) es) ∙ (λ j. take-groups i es j ++ drop-groups (suc i) es j) ∙ ap (λ n. take i (groups_in es) ++ drop n (groups_in es)) next
+
+-- ---- the first of the groups
+
+pub first-group : (es : List (FrameKey × OpenGroup)) (o : Option (FrameKey × OpenGroup)) → slice_get es 0 ≡ o → slice_get (groups_in es) 0 ≡ option_map group_at o
+first-group [] o e = ap (option_map group_at) e
+first-group (e ∷ es) o is = ap (option_map group_at) is
+
+pub removed-first : (es : List (FrameKey × OpenGroup)) → groups_in (remove es 0) ≡ drop 1 (groups_in es)
+removed-first [] = refl
+removed-first (e ∷ es) = refl
 
 -- ---- an entry written and moved last
 
