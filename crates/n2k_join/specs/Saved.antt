@@ -1,5 +1,5 @@
 -- The text of a saved state: one JSON object, as `serde_json` writes it. It is compact, and the members of each object stand
--- in the order of their names.
+-- in the order of their names. It tells the window, but not whether the order of frames is asked for.
 use Rattle.std.specs.Prelude.{◌≡◌, ℕ, Bool, if◌then◌else◌, List, length, map, codes}
 use Rattle.std.specs.List.{list_all}
 use Rattle.serde_json.specs.Data.{Data, Members, number, unsigned, string, array, object, no_items, item, no_members, member}
@@ -13,7 +13,7 @@ use Rattle.n2k_join.specs.State.{State}
 abbrev pub whole : ℕ → Data
 whole n = number (unsigned n)
 
--- the format of a state with its window, and that of one without it
+-- the format of a state that tells its window, and of one that doesn't
 abbrev pub saved_format : ℕ
 saved_format = 2
 
@@ -24,11 +24,11 @@ old_format = 1
 abbrev pub are_waiting : State → Bool
 are_waiting s = list_all (is_waiting s.rule s.counts.lines) s.groups
 
--- so the old format is written of such a state, since the other would not be read
+-- So the old format is written where one has: a state that tells its window is not read with such a group.
 abbrev pub format_of : State → ℕ
 format_of s = if are_waiting s then saved_format else old_format
 
--- the last member of a state, where its format has it
+-- the last member, where the format has it
 abbrev pub window_member : State → Members
 window_member s = if are_waiting s then member (codes "window") (whole s.rule.window) no_members else no_members
 

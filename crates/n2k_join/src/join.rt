@@ -15,7 +15,6 @@ ghost use Rattle.n2k_join.specs.Open.{Group};
 ghost use Rattle.n2k_join.specs.Laws.{ExpiresFirst};
 ghost use Rattle.n2k_wire.specs.declared.entry.Entry.{Entry};
 ghost use Rattle.n2k_join.specs.State.{AreWaiting};
-ghost use Rattle.n2k_join.specs.declared.saved.place.Place.{Place};
 ghost use Rattle.n2k_join.specs.Inner.Told.{packet_in, told};
 
 use crate::counts::{Counts, MOST_LINES};
@@ -25,11 +24,10 @@ use crate::outcome::{Outcome, packet_of, take_entry};
 use crate::piece::{FrameKey, OpenGroup};
 use crate::saved::{
     SpelledGroup, SpelledState, format_in, parsed, read_state, rules_hold, state_text,
-    stored_groups,
+    stored_groups, waits_hold,
 };
 use crate::state_fault::StateFault;
 use crate::broken::Broken;
-use crate::saved::Place;
 use crate::step::{LentStep, Step};
 use crate::window::Window;
 use indexmap::IndexMap;
@@ -273,16 +271,15 @@ impl Join {
     fn of_state(
         alloc: Global,
         table: &Table,
-        format: Place,
         id: [u8; 32],
         window: Window,
         counts: Counts,
         groups: &[SpelledGroup],
     ) -> Result<Join, StateFault>
         ensures { let state = state_of_parts id window counts groups.now in
-            GivesOrMemory (λ join. join) result (valid_if (is_valid (kind table.now) format state) state) }
+            GivesOrMemory (λ join. join) result (valid_if (is_valid (kind table.now) state) state) }
     {
-        if !rules_hold(format, window, &counts, groups) {
+        if !rules_hold(&counts, groups) {
             return Err(StateFault::Invalid);
         }
         let stored = stored_groups(alloc, table, groups)?;
@@ -322,8 +319,11 @@ impl Join {
         if state.window != u64::from(window.get()) {
             return Err(StateFault::WindowDiffers);
         }
+        if !waits_hold(format, &state) {
+            return Err(StateFault::Invalid);
+        }
         let SpelledState { id, counts, groups, .. } = state;
-        Join::of_state(alloc, table, format, id, window, counts, &groups)
+        Join::of_state(alloc, table, id, window, counts, &groups)
     }
 
     /// The text of its state, from which `resume` goes on: JSON, as docs/PROFILE.md has it, without an LF.
