@@ -229,3 +229,15 @@ fewer s t b e is =
     by : (b : Bool) (g : Group) → cond b None (slice_get (overdue s) 0) ≡ Some g → length (drop 1 s.groups) < length s.groups
     by true g e = absurd (none-some g e)
     by false g e = some-ended s.rule (next_line s) s.groups g e
+
+-- where one is due, the next line has a number
+pub due-few : (s : State) (b : Broken) → s.counts.lines ≤ most_lines → option_map told_of (due s) ≡ Some b → s.counts.lines < most_lines
+due-few s b most e = by (s.counts.lines == most_lines) refl (found_due s b e)
+  where
+    by : (t : Bool) → (s.counts.lines == most_lines) ≡ t → FoundDue s → s.counts.lines < most_lines
+    by true t found = absurd (none-some found.group (sym (ap (λ c. cond c None (slice_get (overdue s) 0)) t) ∙ found.due_is))
+    by false t found = below (ltb s.counts.lines most_lines) refl
+      where
+        below : (l : Bool) → ltb s.counts.lines most_lines ≡ l → s.counts.lines < most_lines
+        below true l = ltb-true _ _ l
+        below false l = absurd (eqb-false _ _ t (omega (arith, most, ltb-false _ _ l)))

@@ -157,6 +157,7 @@ impl Join {
         ensures waiting { AreWaiting self.old → AreWaiting self.new }
         ensures none_due { IsNone result → due self.new ≡ None }
         ensures fewer { IsSome result → length self.new.groups < length self.old.groups }
+        ensures few { IsSome result → self.old.counts.lines < most_lines }
     {
         let broken = self.oldest_due()?;
         self.groups.shift_remove_index(0);

@@ -6,7 +6,7 @@ use Rattle.n2k_join.specs.Laws.{ExpiresFirst}
 use Rattle.n2k_join.specs.State.{State, IsState, AreWaiting}
 use Rattle.n2k_join.specs.Step.{due, expired}
 use Rattle.n2k_join.specs.Inner.Slots.{groups_in}
-use Rattle.n2k_join.proofs.Expiring.{is_due, expires_first, expires_by, expired_by, expired-state, expired-waits, some-due, fewer}
+use Rattle.n2k_join.proofs.Expiring.{is_due, expires_first, expires_by, expired_by, expired-state, expired-waits, some-due, fewer, due-few}
 use Rattle.n2k_join.proofs.IndexedLemmas.{removed-first}
 use Rattle.n2k_join.proofs.join.Join.expire.Goals as goal
 
@@ -38,6 +38,9 @@ pub returns-clause-fewer : goal.returns-clause-fewer
 returns-clause-fewer c = λ _.
     let s : State = record { id = c.self.inside.id; rule = c.self.inside.window; counts = c.self.inside.counts; groups = groups_in c.self.inside.groups.entries } in
     fewer c.args.self.now _ c.in_ok-broken.broken (sym c.oldest_due.ensures ∙ c.in_ok-broken.was) (expired_by s c.args.self.now (groups_in c.shift_remove_index.new.self.entries) c.self.view_is (ap groups_in c.shift_remove_index.ensures.entries ∙ removed-first c.self.inside.groups.entries))
+
+pub returns-clause-few : goal.returns-clause-few
+returns-clause-few c = λ _. due-few c.args.self.now c.in_ok-broken.broken (subst IsState c.self.view_is c.self.invariant).counted.lines (sym c.oldest_due.ensures ∙ c.in_ok-broken.was)
 
 pub returns-clause-one_step : goal.returns-clause-one_step
 returns-clause-one_step c = λ kind e group due_is. steps c.args.self.now group kind e (subst IsState c.self.view_is c.self.invariant) due_is
