@@ -190,7 +190,7 @@ counts_short : (c : Counts) → AreCounts c → CountsShort c
 counts_short c are =
     let lines : c.lines ≤ most_lines = are.lines in
     let given : c.messages + c.bad + c.unknown ≤ c.lines = are.given in
-    let broken : c.broken ≤ c.lines = are.broken in
+    let broken : c.broken + c.held ≤ c.lines = are.broken in
     record {
       bad = count_short c.bad (omega (arith, given, lines));
       broken = count_short c.broken (omega (arith, broken, lines));
