@@ -1,5 +1,5 @@
 -- The text of a valid state is read as that state.
-use Rattle.std.proofs.Common.{◌≡◌, ◌≤◌, ◌<◌, ◌+◌, ◌^◌, ◌==◌, ℕ, zero, suc, Bool, true, false, if◌then◌else◌, List, [], ◌∷◌, map, Option, Some, option_map, Result, Ok, Err, codes, refl, sym, ap, ◌∙◌, arith, IsUtf8}
+use Rattle.std.proofs.Common.{◌≡◌, ◌≤◌, ◌<◌, ◌+◌, ◌^◌, ◌==◌, ℕ, zero, suc, Bool, true, false, if◌then◌else◌, List, [], ◌∷◌, length, map, Option, Some, option_map, Result, Ok, Err, codes, refl, sym, ap, ◌∙◌, arith, IsUtf8}
 use Rattle.std.specs.List.{AllByRecursion}
 use Rattle.std.proofs.lemmas.Bool.{eq-eqb, ne_eqb}
 use Rattle.hex.specs.Hex.{IsBytes, encode_lower}
@@ -12,7 +12,7 @@ use Rattle.serde_json.specs.View.{items_of}
 use Rattle.serde_json.specs.Written.{outline, items_outline}
 use Rattle.serde_json.proofs.Numbers.{number_of-decimal}
 use Rattle.n2k_join.specs.Open.{Piece, Group}
-use Rattle.n2k_join.specs.Resumed.{each, elements, piece_of, group_of, key_of, pieces_at, groups_at, counts_of, id_at, is_valid, state_of, judged, parsed, valid_if, waits_hold}
+use Rattle.n2k_join.specs.Resumed.{each, elements, format_in, piece_of, group_of, key_of, pieces_at, groups_at, counts_of, id_at, is_valid, state_of, state_of_parts, judged, parsed, valid_if, waits_hold}
 use Rattle.n2k_join.specs.Saved.{IsId, are_waiting, saved_format, old_format, whole, list, piece_tree, group_tree, state_text, format_by, window_member, tree_by}
 use Rattle.n2k_join.specs.State.{State, IsState, AreCounts, AreFast, AreWaiting, IsKey, IsPiece, IsOpen, HasParts}
 use Rattle.n2k_join.specs.Window.{Rule, IsWindow}
@@ -324,3 +324,20 @@ pub state_elsewhere : (kind : ℕ → Option Kind) (s : State) (rule : Rule) →
 state_elsewhere kind s rule is waits id other =
     text-by kind s.id rule s true (in_time-to s waits) ∙ text-asked true kind s.id rule s is id
     ∙ asked-elsewhere kind s.id rule places.WindowState (read_under true rule s) (bytes_eq-same s.id) (ne_eqb s.rule.window rule.window other)
+
+-- What a text is read as, once each question but that of the rules is answered.
+pub judged-by : (kind : ℕ → Option Kind) (id bytes : List ℕ) (rule : Rule) (d : Data) (format : Place) (s : State)
+    → or_cause NotJson (parsed bytes) ≡ Ok d → format_in d ≡ Ok format → state_of format rule d ≡ Ok s
+    → bytes_eq s.id id ≡ true → (s.rule.window == rule.window) ≡ true → waits_hold format s ≡ true
+    → judged kind id rule bytes ≡ valid_if (is_valid kind s) s
+unfolding judged
+judged-by kind id bytes rule d format s text place spells table window waits = rw text (rw place (rw spells (rw table (rw window (rw waits refl)))))
+
+-- a state that was read is made of its parts and the window that was handed in, where both are one
+pub of-parts : (s : State) (id : List ℕ) (window : ℕ) (order : Bool) (counts : Counts) (gs lent : List Group) (rule : Rule)
+    → record { id = id; rule = record { window = window; in_order = order }; counts = record counts { held = length gs }; groups = gs } ≡ s
+    → s.rule.window ≡ rule.window → s.rule.in_order ≡ rule.in_order → lent ≡ gs → s ≡ state_of_parts id rule counts lent
+of-parts s id window order counts gs lent rule view same_window same_order same =
+    let with_rule = λ (u : State). let v : State = record { id = u.id; rule = rule; counts = u.counts; groups = u.groups } in v in
+    let ruled : s ≡ with_rule s = λ i. record { id = s.id; rule = record { window = same_window i; in_order = same_order i }; counts = s.counts; groups = s.groups } in
+    ruled ∙ ap with_rule (sym view) ∙ ap (state_of_parts id rule counts) (sym same)
