@@ -28,12 +28,12 @@ repeats-ends = record {
 }
 
 -- a number that is in a group, and not below another
-record HasFrom (n : ℕ) (g : List Frame) : Type 0 where
-  number : ℕ
-  least : n ≤ number
-  has : has_number number g ≡ true
+pub record HasFrom (n : ℕ) (g : List Frame) : Type 0 where
+  pub number : ℕ
+  pub least : n ≤ number
+  pub has : has_number number g ≡ true
 
-from_has : (n : ℕ) (g : List Frame) → has_from n g ≡ true → HasFrom n g
+pub from_has : (n : ℕ) (g : List Frame) → has_from n g ≡ true → HasFrom n g
 from_has n [] e = absurd (false≢true e)
 from_has n (f ∷ g) e = by (nat_le n f.number) refl e (from_has n g)
   where

@@ -180,6 +180,11 @@ due-late s g rise below e l = due_by s below ∙ ended-first s.rule (next_line s
         by true e = absurd (never (ltb-true a b e))
         by false e = e
 
+-- what holds of each group holds of the first
+pub all-first : (P : Group → Type 0) (gs : List Group) (g : Group) → AllByRecursion P gs → slice_get gs 0 ≡ Some g → P g
+all-first P [] g all e = absurd (none-some g e)
+all-first P (h ∷ gs) g all e = subst P (same_Some h g e) all.0
+
 -- what is told of one that is due
 pub record FoundDue (s : State) : Type 0 where
   pub group : Group
