@@ -21,5 +21,5 @@ returns c =
     let same : s ≡ t = of-parts s c.state.inside.id c.state.inside.window c.state.inside.in_order c.state.inside.counts c.state.inside.groups.items c.deref.result.now c.args.window c.state.view_is window order c.deref.ensures.value in
     subst (λ r. GivesOrMemory (λ join. join) c.of_state.result r)
     (ap (λ (u : State). valid_if (is_valid k u) u) (sym same)
-        ∙ sym (judged-by k c.args.table.now.id c.args.bytes.now c.args.window _ c.in_ok-format.format s c.in_ok-value.ensures c.in_ok-format.ensures c.in_ok-state.ensures.value table (eq-eqb s.rule.window c.args.window.window window) (sym c.waits_hold.ensures ∙ c.if-not-waits_hold.false)))
+    ∙ sym (judged-by k c.args.table.now.id c.args.bytes.now c.args.window _ c.in_ok-format.format s c.in_ok-value.ensures c.in_ok-format.ensures c.in_ok-state.ensures.value table (eq-eqb s.rule.window c.args.window.window window) (sym c.waits_hold.ensures ∙ c.if-not-waits_hold.false)))
     c.of_state.ensures

@@ -7,5 +7,5 @@ use Rattle.n2k_join.proofs.saved.text.are_waiting.Given as goal
 
 abbrev pub invariant-loop-group : goal.invariant-loop-group
 invariant-loop-group l = record {
-  left : list_all (is_waiting l.fn.window l.fn.lines) (groups_in l.group-iterator) ≡ list_all (is_waiting l.fn.window l.fn.lines) (groups_in l.groups.entries)
+  left : list_all (is_waiting l.fn.window l.fn.lines) (groups_in l.group-iterator) ≡ list_all (is_waiting l.fn.window l.fn.lines) (groups_in l.groups.entries);
 }
