@@ -5,12 +5,12 @@ ghost use Rattle.n2k_wire.specs.Views.{Gives};
 ghost use Rattle.n2k_join.specs.Refusal.{GivesOrMemory};
 ghost use Rattle.n2k_join.specs.Resumed.{window_at, each, piece_of, key_of, pieces_at, group_of, groups_at, counts_of, id_at, state_of};
 
-use crate::window::Window;
 use crate::counts::Counts;
 use crate::saved::place::Place;
 use crate::saved::spelled::{SpelledGroup, SpelledKey, SpelledPiece, SpelledState};
 use crate::saved::value::{as_whole, digits_of, elements_of, members_at, required, whole_at};
 use crate::state_fault::StateFault;
+use crate::window::Window;
 use serde_json::Value;
 use std::alloc::Global;
 

@@ -15,8 +15,8 @@ use crate::counts::{Counts, MOST_LINES};
 use crate::frame::{LONGEST_TOTAL, MOST_FRAMES, MOST_SEQUENCES};
 use crate::piece::StoredPiece;
 use crate::saved::place::Place;
-use crate::window::Window;
 use crate::saved::spelled::{SpelledGroup, SpelledKey, SpelledPiece};
+use crate::window::Window;
 use n2k_table::{Kind, Table};
 use n2k_wire::{GREATEST_ADDRESS, GREATEST_PGN};
 
@@ -59,7 +59,12 @@ fn are_waiting(window: Window, lines: u64, groups: &[SpelledGroup]) -> bool
 }
 
 /// Whether the counts and the lines that opened the groups can be those of one state.
-pub(crate) fn rules_hold(format: Place, window: Window, counts: &Counts, groups: &[SpelledGroup]) -> bool
+pub(crate) fn rules_hold(
+    format: Place,
+    window: Window,
+    counts: &Counts,
+    groups: &[SpelledGroup],
+) -> bool
     ensures { (id : List ℕ) → result ≡ (let s = state_of_parts id window counts.now groups.now in counts_hold s.counts && (firsts_rise 1 counts.now.lines groups.now && waits_hold format s)) }
 {
     counts_hold(counts, groups.len() as u64)

@@ -150,7 +150,11 @@ fn push_front(waiting: bool, counts: &Counts, out: &mut Writer) -> Result<(), Al
 {
     push_count("bad", counts.bad, out)?;
     push_count("broken", counts.broken, out)?;
-    push_count("format", if waiting { SAVED_FORMAT } else { OLD_FORMAT }, out)
+    push_count(
+        "format",
+        if waiting { SAVED_FORMAT } else { OLD_FORMAT },
+        out,
+    )
 }
 
 // Writes the member `table`.
