@@ -127,7 +127,8 @@ impl Join {
     pub fn window(&self) -> Window
         ensures { result ≡ self.now.rule }
     {
-        self.window
+        let Join { window, .. } = self;
+        *window
     }
 
     // The oldest open group, as it is told, where its window ends at the next line, if not before.
