@@ -26,6 +26,7 @@ pub mod LineTaken
 pub mod Lines
 pub mod Logs
 pub mod Numbered
+pub mod OneRules
 pub mod Opened
 pub mod Overdue
 pub mod PieceBytes

@@ -151,15 +151,15 @@ abbrev pub window_at : Place → ℕ → Data → Result ℕ StateFault
 window_at places.WindowState window d = whole_at (codes "window") d
 window_at _ window d = Ok window
 
--- the state that a value of a format spells, whatever its numbers
+-- The state that a value of a format spells, whatever its numbers. Whether the order of frames is asked for is as handed in.
 unfoldable pub state_of : Place → Rule → Data → Result State StateFault
 state_of format rule d = do
   known ← members_at format d
   counts ← counts_of d
   id ← id_at d
   groups ← groups_at d
-  held ← window_at format rule.window d
-  Ok (state_of_parts id (record { window = held; in_order = rule.in_order }) counts groups)
+  window ← window_at format rule.window d
+  Ok (state_of_parts id (record { window = window; in_order = rule.in_order }) counts groups)
 
 -- the format of a value, as the place of its members
 abbrev pub is_whole : ℕ → Option ℕ → Bool
@@ -215,13 +215,13 @@ unfoldable pub groups_hold : (ℕ → Option Kind) → List Group → Bool
 groups_hold kind [] = true
 groups_hold kind (g ∷ gs) = group_holds kind g && (not (list_any (λ (other : Group). same_key g.key other.key) gs) && groups_hold kind gs)
 
--- a state that tells its window has no group whose window has ended
+unfoldable pub is_valid : (ℕ → Option Kind) → State → Bool
+is_valid kind s = counts_hold s.counts && (firsts_rise 1 s.counts.lines s.groups && groups_hold kind s.groups)
+
+-- beside these, a state that tells its window has no group whose window has ended
 abbrev pub waits_hold : Place → State → Bool
 waits_hold places.WindowState s = are_waiting s
 waits_hold _ s = true
-
-unfoldable pub is_valid : (ℕ → Option Kind) → Place → State → Bool
-is_valid kind format s = counts_hold s.counts && (firsts_rise 1 s.counts.lines s.groups && (waits_hold format s && groups_hold kind s.groups))
 
 -- a value where the test holds, and else Invalid
 abbrev pub valid_if : {A : Type 0} → Bool → A → Result A StateFault
@@ -232,7 +232,8 @@ valid_if false x = Err Invalid
 abbrev pub parsed : List ℕ → Option Data
 parsed bytes = if is_utf8 bytes then read bytes else None
 
--- The state that the bytes spell under a table and a window, or the first fault that stands in them.
+-- The state that the bytes spell under a table and a window, or the first fault that stands in them. A window that the
+-- bytes tell is never taken on in the place of the one that is handed in.
 unfoldable pub judged : (ℕ → Option Kind) → List ℕ → Rule → List ℕ → Result State StateFault
 judged kind id rule bytes = do
   d ← or_cause NotJson (parsed bytes)
@@ -240,4 +241,5 @@ judged kind id rule bytes = do
   s ← state_of format rule d
   same ← holds_or TableDiffers (bytes_eq s.id id)
   as_long ← holds_or WindowDiffers (s.rule.window == rule.window)
-  valid_if (is_valid kind format s) s
+  in_time ← holds_or Invalid (waits_hold format s)
+  valid_if (is_valid kind s) s

@@ -14,7 +14,6 @@ ghost use Rattle.n2k_join.specs.Resumed.{is_valid, judged, state_of_parts, valid
 ghost use Rattle.n2k_join.specs.Saved.{IsId, state_text, bare_bytes, group_bytes};
 ghost use Rattle.n2k_join.specs.Step.{given_of, lent_given_of, opens, due, expired};
 ghost use Rattle.n2k_join.specs.Laws.{ExpiresFirst};
-ghost use Rattle.n2k_join.specs.declared.saved.place.Place.{Place};
 ghost use Rattle.n2k_join.specs.Inner.Told.{packet_in, told};
 
 use crate::broken::Broken;
@@ -24,8 +23,8 @@ use crate::laws;
 use crate::outcome::{Outcome, packet_of, take_entry};
 use crate::piece::{FrameKey, OpenGroup};
 use crate::saved::{
-    Place, SpelledGroup, SpelledState, format_in, parsed, read_state, rules_hold, state_text,
-    stored_groups,
+    SpelledGroup, SpelledState, format_in, parsed, read_state, rules_hold, state_text,
+    stored_groups, waits_hold,
 };
 use crate::state_fault::StateFault;
 use crate::step::{LentStep, Step};
@@ -294,16 +293,15 @@ impl Join {
     fn of_state(
         alloc: Global,
         table: &Table,
-        format: Place,
         id: [u8; 32],
         window: Window,
         counts: Counts,
         groups: &[SpelledGroup],
     ) -> Result<Join, StateFault>
         ensures { let state = state_of_parts id window counts groups.now in
-            GivesOrMemory (λ join. join) result (valid_if (is_valid (kind table.now) format state) state) }
+            GivesOrMemory (λ join. join) result (valid_if (is_valid (kind table.now) state) state) }
     {
-        if !rules_hold(format, window, &counts, groups) {
+        if !rules_hold(&counts, groups) {
             return Err(StateFault::Invalid);
         }
         let stored = stored_groups(alloc, table, groups)?;
@@ -343,13 +341,16 @@ impl Join {
         if state.window != u64::from(window.get()) {
             return Err(StateFault::WindowDiffers);
         }
+        if !waits_hold(format, &state) {
+            return Err(StateFault::Invalid);
+        }
         let SpelledState {
             id,
             counts,
             groups,
             ..
         } = state;
-        Join::of_state(alloc, table, format, id, window, counts, &groups)
+        Join::of_state(alloc, table, id, window, counts, &groups)
     }
 
     /// The text of its state, from which `resume` goes on: JSON, as docs/PROFILE.md has it, without an LF.

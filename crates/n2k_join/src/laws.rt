@@ -1,5 +1,5 @@
 //! Laws that hold of the definitions: each is the contract of a function that does nothing.
-ghost use Rattle.std.specs.Prelude.{◌≡◌, ◌≤◌, ℕ, All, true, List, [], length, Ok, Option, Some, is_some};
+ghost use Rattle.std.specs.Prelude.{◌≡◌, ◌≤◌, ◌≢◌, ℕ, Bool, All, true, List, [], length, Ok, Err, Option, Some, is_some};
 ghost use Rattle.n2k_wire.specs.declared.entry.Entry.{Entry};
 ghost use Rattle.n2k_wire.specs.Entry.{IsEntry};
 ghost use Rattle.n2k_wire.specs.Packet.{PacketParts, IsPacketParts};
@@ -16,6 +16,8 @@ ghost use Rattle.n2k_join.specs.Laws.{CutJoins, CutFirst, CutGrows, StepsAgree, 
 ghost use Rattle.n2k_join.specs.Open.{Group};
 ghost use Rattle.n2k_join.specs.Step.{due};
 ghost use Rattle.n2k_join.specs.Resumed.{judged};
+ghost use Rattle.n2k_join.specs.Rules.{HasShape, RulesAreOne};
+ghost use Rattle.n2k_join.specs.declared.state_fault.StateFault.TheVariants.{WindowDiffers};
 ghost use Rattle.n2k_join.specs.Saved.{IsId, state_text};
 ghost use Rattle.n2k_join.specs.State.{State, IsState, AreFast, AreWaiting, state, step_after};
 ghost use Rattle.n2k_join.specs.Window.{Rule, IsWindow};
@@ -101,10 +103,19 @@ pub fn one_transmission()
     ensures messages { (rule : Rule) (kind : ℕ → Option Kind) (es : List Entry) (line : ℕ) (m : Keyed) → rule.in_order ≡ true → gathered (within rule) (frames kind es) line ≡ Some m → ComesOfOne kind es line m }
 {}
 
-/// The text of a state, read under its own table, gives that state: for every state that a join can have, whose open groups
-/// are of fast PGNs of the table.
+/// The rules of a valid state are one: those that a text is asked for, and those that the state of each join keeps.
+pub fn rules_are_one()
+    ensures { (kind : ℕ → Option Kind) (s : State) → HasShape s → RulesAreOne kind s }
+{}
+
+/// The text of a state, read under its own table and window, gives that state, with the order of frames as it is asked for:
+/// for every state that a join can have, whose open groups are of fast PGNs of the table. Under another window it is
+/// refused, where no group's window has ended.
 pub fn state_reads_back()
-    ensures { (kind : ℕ → Option Kind) (s : State) → IsState s → AreFast kind s.groups → IsId s.id → judged kind s.id s.rule (state_text s) ≡ Ok s }
+    ensures same { (kind : ℕ → Option Kind) (s : State) → IsState s → AreFast kind s.groups → IsId s.id → judged kind s.id s.rule (state_text s) ≡ Ok s }
+    ensures any_order { (kind : ℕ → Option Kind) (s : State) (order : Bool) → IsState s → AreFast kind s.groups → IsId s.id
+        → judged kind s.id (record { window = s.rule.window; in_order = order }) (state_text s) ≡ Ok (record { id = s.id; rule = record { window = s.rule.window; in_order = order }; counts = s.counts; groups = s.groups }) }
+    ensures other_window { (kind : ℕ → Option Kind) (s : State) (rule : Rule) → IsState s → AreWaiting s → IsId s.id → s.rule.window ≢ rule.window → judged kind s.id rule (state_text s) ≡ Err WindowDiffers }
 {}
 
 /// So a join that goes on under one table is read back: before the first line no group is open; those of a state that was
@@ -113,6 +124,7 @@ pub fn groups_stay_fast()
     ensures new { (kind : ℕ → Option Kind) (id : List ℕ) (rule : Rule) → AreFast kind (state id rule kind []).groups }
     ensures read { (kind : ℕ → Option Kind) (id : List ℕ) (rule : Rule) (bytes : List ℕ) (s : State) → judged kind id rule bytes ≡ Ok s → AreFast kind s.groups }
     ensures same_table { (kind : ℕ → Option Kind) (id : List ℕ) (rule : Rule) (bytes : List ℕ) (s : State) → judged kind id rule bytes ≡ Ok s → s.id ≡ id }
+    ensures same_rule { (kind : ℕ → Option Kind) (id : List ℕ) (rule : Rule) (bytes : List ℕ) (s : State) → judged kind id rule bytes ≡ Ok s → s.rule ≡ rule }
     ensures step { (kind : ℕ → Option Kind) (s : State) (e : Entry) → IsWindow s.rule.window → AreFast kind s.groups → AreFast kind (step_after kind s e).groups }
 {}
 

@@ -1,5 +1,5 @@
 //! The state that a value spells: a reader for each part.
-ghost use Rattle.std.specs.Prelude.{map};
+ghost use Rattle.std.specs.Prelude.{◌≡◌, map, IfOk};
 ghost use Rattle.serde_json.specs.View.{view};
 ghost use Rattle.n2k_wire.specs.Views.{Gives};
 ghost use Rattle.n2k_join.specs.Refusal.{GivesOrMemory};
@@ -134,7 +134,8 @@ pub(crate) fn read_state(
     rule: Window,
     value: &Value,
 ) -> Result<SpelledState, StateFault>
-    ensures { GivesOrMemory (λ state. state) result (state_of format rule (view value.now)) }
+    ensures value { GivesOrMemory (λ state. state) result (state_of format rule (view value.now)) }
+    ensures order { IfOk result (λ state. state.rule.in_order ≡ rule.in_order) }
 {
     members_at(format, value)?;
     let counts = read_counts(value)?;

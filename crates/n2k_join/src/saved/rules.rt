@@ -1,7 +1,8 @@
 //! The rules of a valid state.
-ghost use Rattle.std.specs.Prelude.{◌≡◌, ◌≤◌, ◌<◌, ◌&&◌, true, IfSome, ℕ, List};
-ghost use Rattle.std.specs.List.{AllByRecursion, list_all};
-ghost use Rattle.n2k_join.specs.Open.{is_waiting};
+ghost use Rattle.std.specs.Prelude.{◌≡◌, ◌≤◌, ◌<◌, true, IfSome};
+ghost use Rattle.std.specs.List.{AllByRecursion};
+ghost use Rattle.n2k_join.specs.Saved.{are_waiting};
+ghost use Rattle.n2k_join.specs.Inner.Apart.{numbers_hold};
 ghost use Rattle.n2k_wire.specs.Packet.{greatest_pgn};
 ghost use Rattle.n2k_table.specs.Table.{kind};
 ghost use Rattle.n2k_join.specs.Counts.{most_lines};
@@ -9,14 +10,13 @@ ghost use Rattle.n2k_join.specs.Frames.{most_frames};
 ghost use Rattle.n2k_join.specs.Inner.Apart.{SomeUnder};
 ghost use Rattle.n2k_join.specs.State.{IsPiece};
 ghost use Rattle.n2k_join.specs.Inner.Stored.{piece_of};
-ghost use Rattle.n2k_join.specs.Resumed.{counts_hold, firsts_rise, waits_hold, state_of_parts, is_fast, key_holds, total_holds, piece_holds};
+ghost use Rattle.n2k_join.specs.Resumed.{counts_hold, firsts_rise, waits_hold, is_fast, key_holds, total_holds, piece_holds};
 
 use crate::counts::{Counts, MOST_LINES};
 use crate::frame::{LONGEST_TOTAL, MOST_FRAMES, MOST_SEQUENCES};
 use crate::piece::StoredPiece;
 use crate::saved::place::Place;
-use crate::saved::spelled::{SpelledGroup, SpelledKey, SpelledPiece};
-use crate::window::Window;
+use crate::saved::spelled::{SpelledGroup, SpelledKey, SpelledPiece, SpelledState};
 use n2k_table::{Kind, Table};
 use n2k_wire::{GREATEST_ADDRESS, GREATEST_PGN};
 
@@ -49,30 +49,35 @@ fn firsts_rise(lines: u64, groups: &[SpelledGroup]) -> bool
     true
 }
 
-// Whether no group's window has ended.
-fn are_waiting(window: Window, lines: u64, groups: &[SpelledGroup]) -> bool
-    requires lines { lines ≤ most_lines }
-    requires firsts { firsts_rise 1 lines groups.now ≡ true }
-    ensures { result ≡ list_all (is_waiting window lines) groups.now }
+/// Whether the counts and the lines that opened the groups can be those of one state.
+pub(crate) fn rules_hold(counts: &Counts, groups: &[SpelledGroup]) -> bool
+    ensures { result ≡ numbers_hold counts.now groups.now }
 {
-    groups.iter().all(|group| lines < group.first.saturating_add(u64::from(window.get())))
+    counts_hold(counts, groups.len() as u64) && firsts_rise(counts.lines, groups)
 }
 
-/// Whether the counts and the lines that opened the groups can be those of one state.
-pub(crate) fn rules_hold(
-    format: Place,
-    window: Window,
-    counts: &Counts,
-    groups: &[SpelledGroup],
-) -> bool
-    ensures { (id : List ℕ) → result ≡ (let s = state_of_parts id window counts.now groups.now in counts_hold s.counts && (firsts_rise 1 counts.now.lines groups.now && waits_hold format s)) }
+// Whether no group's window has ended.
+fn are_waiting(state: &SpelledState) -> bool
+    ensures { result ≡ are_waiting state.now }
 {
-    counts_hold(counts, groups.len() as u64)
-        && (firsts_rise(counts.lines, groups)
-            && match format {
-                Place::WindowState => are_waiting(window, counts.lines, groups),
-                _ => true,
-            })
+    let line = u128::from(state.counts.lines);
+    let long = u128::from(state.window);
+    for group in &state.groups {
+        if line >= u128::from(group.first) + long {
+            return false;
+        }
+    }
+    true
+}
+
+/// Whether no group's window has ended, where the state tells its window.
+pub(crate) fn waits_hold(format: Place, state: &SpelledState) -> bool
+    ensures { result ≡ waits_hold format state.now }
+{
+    match format {
+        Place::WindowState => are_waiting(state),
+        _ => true,
+    }
 }
 
 fn is_fast(table: &Table, pgn: u64) -> bool
