@@ -16,7 +16,7 @@ use Rattle.n2k_join.specs.State.{Rise}
 use Rattle.n2k_join.specs.Transmission.{IsTransmission, AreTransmissions, ComesOfOne}
 use Rattle.n2k_join.specs.Window.{Rule}
 use Rattle.n2k_join.proofs.Arriving.{key-rise}
-use Rattle.n2k_join.proofs.CompleteLemmas.{all_at_range}
+use Rattle.n2k_join.proofs.SlotLemmas.{all_to}
 use Rattle.n2k_join.proofs.Healing.{cut_joined}
 use Rattle.n2k_join.proofs.Lines.{RiseFrom, rise-all, all_with}
 use Rattle.n2k_join.proofs.GroupLines.{IsGroup, all-back}
@@ -121,7 +121,7 @@ whole-range g r e =
     let one = and_parts (not (has_twice g)) (has_number 0 g && (has_all (last_number (total g)) g && is_within (last_number (total g)) g)) e in
     let two = and_parts (has_number 0 g) (has_all (last_number (total g)) g && is_within (last_number (total g)) g) one.1 in
     let three = and_parts (has_all (last_number (total g)) g) (is_within (last_number (total g)) g) two.1 in
-    are-range 0 (last_number (total g) + 1) g r (below-last (last_number (total g)) g three.1) (λ m l u. all_at_range (λ n. has_number n g) 0 (last_number (total g) + 1) m three.0 l u)
+    are-range 0 (last_number (total g) + 1) g r (below-last (last_number (total g)) g three.1) (λ m l u. all_to (λ n. has_number n g) 0 (last_number (total g) + 1) m three.0 l u)
 
 -- ---- the groups of a key, in their places
 

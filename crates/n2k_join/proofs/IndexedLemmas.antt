@@ -38,18 +38,19 @@ module _ (k : FrameKey) where
 
 -- ---- a new group
 
-module _ (order : Bool) (k : FrameKey) (v : OpenGroup) where
+module _ (k : FrameKey) (v : OpenGroup) where
   pub insert-last : (es : List (FrameKey × OpenGroup)) → AllByRecursion (λ (g : Group). same_key (key_of k) g.key ≡ false) (groups_in es) → insert_entry (λ (a b : FrameKey). same_key (key_of a) (key_of b)) es k v ≡ es ++ (k, v) ∷ []
   insert-last [] others = refl
   insert-last (e ∷ es) others = ap (λ b. cond b ((e.0, v) ∷ es) (e ∷ insert_entry (λ (a b : FrameKey). same_key (key_of a) (key_of b)) es k v)) others.0 ∙ ap (λ t. e ∷ t) (insert-last es others.1)
 
+module _ (order : Bool) (k : FrameKey) (v : OpenGroup) where
   -- the group of a frame whose key has none goes last
   pub opens-last : (x : Frame) (es : List (FrameKey × OpenGroup)) → key_of k ≡ x.key → x.number < most_frames → group_in (key_of k) v ≡ group_of x.key (x ∷ []) → position (λ (g : Group). same_key x.key g.key) (groups_in es) ≡ None
       → complete (held_of (group_in (key_of k) v)) ≡ false
       → groups_in (insert_entry (λ (a b : FrameKey). same_key (key_of a) (key_of b)) es k v) ≡ groups_after order (groups_in es) x
   opens-last x es of small is none left =
       let none_k = ap (λ (j : Key). position (λ (g : Group). same_key j g.key) (groups_in es)) of ∙ none in
-      ap groups_in (insert-last es (position-None (λ (g : Group). same_key (key_of k) g.key) (groups_in es) none_k))
+      ap groups_in (insert-last k v es (position-None (λ (g : Group). same_key (key_of k) g.key) (groups_in es) none_k))
       ∙ map-append group_at es ((k, v) ∷ [])
       ∙ ap (λ gs. groups_in es ++ gs) (sym (ap (λ b. cond b [] (group_in (key_of k) v ∷ [])) left) ∙ groups-begun x (group_in (key_of k) v) small is)
       ∙ sym (none_at_all order x (groups_in es) none).1

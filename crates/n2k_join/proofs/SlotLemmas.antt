@@ -82,7 +82,7 @@ all_from : (p : ℕ → Bool) (a n : ℕ) → ((i : ℕ) → a ≤ i → i < a +
 all_from p a zero each = refl
 all_from p a (suc n) each = and_from _ _ (each a (omega arith) (omega arith)) (all_from p (a + 1) n (λ i l u. each i (omega (arith, l)) (omega (arith, u))))
 
-all_to : (p : ℕ → Bool) (a n i : ℕ) → list_all p (range_with_len a n) ≡ true → a ≤ i → i < a + n → p i ≡ true
+pub all_to : (p : ℕ → Bool) (a n i : ℕ) → list_all p (range_with_len a n) ≡ true → a ≤ i → i < a + n → p i ≡ true
 all_to p a zero i h l u = absurd (omega (arith, l, u))
 all_to p a (suc n) i h l u = by (a == i) refl (all_to p (a + 1) n i (and_parts _ _ h).1)
   where

@@ -1,5 +1,5 @@
 -- The text of a valid state is read as that state.
-use Rattle.std.proofs.Common.{◌≡◌, ◌≤◌, ◌<◌, ◌+◌, ◌^◌, ◌==◌, ℕ, zero, suc, Bool, true, false, if◌then◌else◌, List, [], ◌∷◌, map, Option, Some, option_map, Result, Ok, Err, codes, refl, sym, ap, ◌∙◌, arith, IsUtf8}
+use Rattle.std.proofs.Common.{◌≡◌, ◌≤◌, ◌<◌, ◌+◌, ◌^◌, ◌==◌, ℕ, zero, suc, Bool, true, false, if◌then◌else◌, List, [], ◌∷◌, length, map, Option, Some, option_map, Result, Ok, Err, codes, refl, sym, ap, ◌∙◌, arith, IsUtf8}
 use Rattle.std.specs.List.{AllByRecursion}
 use Rattle.std.proofs.lemmas.Bool.{eq-eqb, ne_eqb}
 use Rattle.hex.specs.Hex.{IsBytes, encode_lower}
@@ -12,8 +12,8 @@ use Rattle.serde_json.specs.View.{items_of}
 use Rattle.serde_json.specs.Written.{outline, items_outline}
 use Rattle.serde_json.proofs.Numbers.{number_of-decimal}
 use Rattle.n2k_join.specs.Open.{Piece, Group}
-use Rattle.n2k_join.specs.Resumed.{each, elements, piece_of, group_of, key_of, pieces_at, groups_at, counts_of, id_at, is_valid, state_of, judged, parsed, valid_if, waits_hold}
-use Rattle.n2k_join.specs.Saved.{IsId, are_waiting, saved_format, old_format, whole, list, piece_tree, group_tree, state_tree, state_text}
+use Rattle.n2k_join.specs.Resumed.{each, elements, format_in, piece_of, group_of, key_of, pieces_at, groups_at, counts_of, id_at, is_valid, state_of, state_of_parts, judged, parsed, valid_if, waits_hold}
+use Rattle.n2k_join.specs.Saved.{IsId, are_waiting, saved_format, old_format, whole, list, piece_tree, group_tree, state_text, format_by, window_member, tree_by}
 use Rattle.n2k_join.specs.State.{State, IsState, AreCounts, AreFast, AreWaiting, IsKey, IsPiece, IsOpen, HasParts}
 use Rattle.n2k_join.specs.Window.{Rule, IsWindow}
 use Rattle.n2k_join.specs.declared.counts.Counts.{Counts}
@@ -139,30 +139,9 @@ kept_groups s is =
     (all-zip HasParts (λ (g : Group). IsOpen g × (g.first ≤ s.counts.lines)) s.groups is.parts
     (all-zip IsOpen (λ (g : Group). g.first ≤ s.counts.lines) s.groups is.groups.each is.groups.begun))
 
--- A state in either format, by whether it tells its window.
-abbrev format_by : Bool → ℕ
-format_by tells = if tells then saved_format else old_format
-
+-- the place of a state that tells its window or doesn't
 abbrev place_by : Bool → Place
 place_by tells = if tells then places.WindowState else places.State
-
-abbrev last_by : Bool → State → Members
-last_by tells s = if tells then member (codes "window") (whole s.rule.window) no_members else no_members
-
-abbrev tree_by : Bool → State → Data
-tree_by tells s = object (
-    member (codes "bad") (whole s.counts.bad) (
-    member (codes "broken") (whole s.counts.broken) (
-    member (codes "format") (whole (format_by tells)) (
-    member (codes "groups") (list (map group_tree s.groups)) (
-    member (codes "lines") (whole s.counts.lines) (
-    member (codes "messages") (whole s.counts.messages) (
-    member (codes "table") (string (encode_lower s.id)) (
-    member (codes "unknown") (whole s.counts.unknown) (last_by tells s)))))))))
-
-tree_is : (s : State) → state_tree s ≡ tree_by (are_waiting s) s
-unfolding state_tree
-tree_is s = refl
 
 -- the trees of the groups
 groups-tree : (s : State) → IsState s → IsTree 4 (list (map group_tree s.groups))
@@ -189,11 +168,12 @@ format-small : (tells : Bool) → format_by tells < 2 ^ 64
 format-small true = omega arith
 format-small false = omega arith
 
-last-plain : (tells : Bool) (s : State) → IsWindow s.rule.window → ArePlainMembers (last_by tells s)
+last-plain : (tells : Bool) (s : State) → IsWindow s.rule.window → ArePlainMembers (window_member tells s.rule.window)
 last-plain true s is = (name (codes "window") refl, omega (arith, is.most), tt)
 last-plain false s is = tt
 
 tree-plain : (tells : Bool) (s : State) → IsState s → IsPlain (tree_by tells s)
+unfolding tree_by
 tree-plain tells s is =
     let small = counts-small s.counts is.counted in (
       name (codes "bad") refl,
@@ -226,10 +206,12 @@ tree-plain tells s is =
     )
 
 tree-shallow : (tells : Bool) (s : State) → IsState s → depth (outline (tree_by tells s)) ≤ 5
+unfolding tree_by
 tree-shallow true s is = let more = (groups-tree s is).shallow in omega arith
 tree-shallow false s is = let more = (groups-tree s is).shallow in omega arith
 
 tree-back : (tells : Bool) (s : State) → IsState s → of_json (outline (tree_by tells s)) ≡ Some (tree_by tells s)
+unfolding tree_by
 tree-back true s is =
     let small = counts-small s.counts is.counted in
     rw (
@@ -262,7 +244,7 @@ abbrev read_under : Bool → Rule → State → State
 read_under tells rule s = record { id = s.id; rule = record { window = if tells then s.rule.window else rule.window; in_order = rule.in_order }; counts = s.counts; groups = s.groups }
 
 pub state-reads : (tells : Bool) (rule : Rule) (s : State) → IsState s → IsId s.id → state_of (place_by tells) rule (tree_by tells s) ≡ Ok (read_under tells rule s)
-unfolding state_of counts_of id_at groups_at
+unfolding state_of counts_of id_at groups_at tree_by
 state-reads true rule s is id =
     rw (
       decode_sized-encode_lower s.id 32 id.long id.are_bytes,
@@ -289,7 +271,7 @@ asked kind id rule format s = do
 
 text-asked : (tells : Bool) (kind : ℕ → Option Kind) (id : List ℕ) (rule : Rule) (s : State) → IsState s → IsId s.id
     → judged kind id rule (compact_text (tree_by tells s)) ≡ asked kind id rule (place_by tells) (read_under tells rule s)
-unfolding judged
+unfolding judged tree_by
 text-asked tells kind id rule s is known = by tells
   where
     text : (tells : Bool) → or_cause NotJson (parsed (compact_text (tree_by tells s))) ≡ Ok (tree_by tells s)
@@ -313,7 +295,7 @@ asked-elsewhere kind id rule format s table window = rw table (rw window refl)
 -- the text of a state that tells its window or doesn't
 text-by : (kind : ℕ → Option Kind) (id : List ℕ) (rule : Rule) (s : State) (tells : Bool) → are_waiting s ≡ tells → judged kind id rule (state_text s) ≡ judged kind id rule (compact_text (tree_by tells s))
 unfolding state_text
-text-by kind id rule s tells e = ap (λ d. judged kind id rule (compact_text d)) (tree_is s ∙ ap (λ b. tree_by b s) e)
+text-by kind id rule s tells e = ap (λ d. judged kind id rule (compact_text d)) (ap (λ b. tree_by b s) e)
 
 -- The text of a valid state, whose groups are of fast PGNs of its table, spells that state under its window, whether the
 -- order of frames is asked for or not.
@@ -342,3 +324,20 @@ pub state_elsewhere : (kind : ℕ → Option Kind) (s : State) (rule : Rule) →
 state_elsewhere kind s rule is waits id other =
     text-by kind s.id rule s true (in_time-to s waits) ∙ text-asked true kind s.id rule s is id
     ∙ asked-elsewhere kind s.id rule places.WindowState (read_under true rule s) (bytes_eq-same s.id) (ne_eqb s.rule.window rule.window other)
+
+-- What a text is read as, once each question but that of the rules is answered.
+pub judged-by : (kind : ℕ → Option Kind) (id bytes : List ℕ) (rule : Rule) (d : Data) (format : Place) (s : State)
+    → or_cause NotJson (parsed bytes) ≡ Ok d → format_in d ≡ Ok format → state_of format rule d ≡ Ok s
+    → bytes_eq s.id id ≡ true → (s.rule.window == rule.window) ≡ true → waits_hold format s ≡ true
+    → judged kind id rule bytes ≡ valid_if (is_valid kind s) s
+unfolding judged
+judged-by kind id bytes rule d format s text place spells table window waits = rw text (rw place (rw spells (rw table (rw window (rw waits refl)))))
+
+-- a state that was read is made of its parts and the window that was handed in, where both are one
+pub of-parts : (s : State) (id : List ℕ) (window : ℕ) (order : Bool) (counts : Counts) (gs lent : List Group) (rule : Rule)
+    → record { id = id; rule = record { window = window; in_order = order }; counts = record counts { held = length gs }; groups = gs } ≡ s
+    → s.rule.window ≡ rule.window → s.rule.in_order ≡ rule.in_order → lent ≡ gs → s ≡ state_of_parts id rule counts lent
+of-parts s id window order counts gs lent rule view same_window same_order same =
+    let with_rule = λ (u : State). let v : State = record { id = u.id; rule = rule; counts = u.counts; groups = u.groups } in v in
+    let ruled : s ≡ with_rule s = λ i. record { id = s.id; rule = record { window = same_window i; in_order = same_order i }; counts = s.counts; groups = s.groups } in
+    ruled ∙ ap with_rule (sym view) ∙ ap (state_of_parts id rule counts) (sym same)

@@ -1,6 +1,7 @@
 -- How the frames of one key fall into groups, and what a group's message holds. A group ends where it is complete, or
 -- where the frame after it can't join it. Whether a frame can't is a test (`Ends`), which every word that cuts takes as an
--- argument: with a window, the frame's number is in the group, or it stands so many lines after the group's first.
+-- argument. By a rule it can't where its number is in the group, where the group's window has ended, and, in order, where
+-- its number isn't greater than each number in the group.
 use Rattle.std.specs.Prelude.{◌≡◌, ◌<◌, ℕ, ◌+◌, length, ◌/◌, ◌==◌, nat_le, nat_lt, slice_index_or, Bool, true, false, not, ◌&&◌, ◌||◌, if◌then◌else◌, List, [], ◌∷◌, ◌++◌, take, drop, flat_map, Option, Some, None, unwrap_or, option_and_then, is_some}
 use Rattle.std.specs.List.{range_with_len, list_all, last_or}
 use Rattle.n2k_join.specs.Frames.{Key, Frame, frame_bytes, of_key}
@@ -67,11 +68,12 @@ abbrev pub has_from : ℕ → List Frame → Bool
 has_from number [] = false
 has_from number (f ∷ fs) = nat_le number f.number || has_from number fs
 
--- the frame's number isn't greater than each number in it, and the frame stands after its first
+-- The frame's number isn't greater than each number in it. The frames that a state holds of a group stand at its first
+-- line, and end nothing among themselves.
 abbrev pub falls_back : Ends
 falls_back group f = nat_lt (first group) f.line && has_from f.number group
 
--- The group has no place for the frame: its number is in it, or, where messages are sent in order, it falls back.
+-- the group has no place for the frame: its number is in it, or, in order, it falls back
 abbrev pub misfits : Rule → Ends
 misfits rule group f = repeats group f || (rule.in_order && falls_back group f)
 

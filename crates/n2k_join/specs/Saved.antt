@@ -24,13 +24,12 @@ old_format = 1
 abbrev pub are_waiting : State → Bool
 are_waiting s = list_all (is_waiting s.rule s.counts.lines) s.groups
 
--- So the old format is written where one has: a state that tells its window is not read with such a group.
-abbrev pub format_of : State → ℕ
-format_of s = if are_waiting s then saved_format else old_format
+-- the format of a state that tells its window or doesn't, and its last member
+abbrev pub format_by : Bool → ℕ
+format_by tells = if tells then saved_format else old_format
 
--- the last member, where the format has it
-abbrev pub window_member : State → Members
-window_member s = if are_waiting s then member (codes "window") (whole s.rule.window) no_members else no_members
+abbrev pub window_member : Bool → ℕ → Members
+window_member tells window = if tells then member (codes "window") (whole window) no_members else no_members
 
 -- a list of values
 abbrev pub list : List Data → Data
@@ -50,17 +49,21 @@ group_tree g = object (
     member (codes "seq") (whole g.key.sequence) (
     member (codes "src") (whole g.key.src) no_members))))))
 
--- the state
-unfoldable pub state_tree : State → Data
-state_tree s = object (
+-- a state that tells its window or doesn't
+unfoldable pub tree_by : Bool → State → Data
+tree_by tells s = object (
     member (codes "bad") (whole s.counts.bad) (
     member (codes "broken") (whole s.counts.broken) (
-    member (codes "format") (whole (format_of s)) (
+    member (codes "format") (whole (format_by tells)) (
     member (codes "groups") (list (map group_tree s.groups)) (
     member (codes "lines") (whole s.counts.lines) (
     member (codes "messages") (whole s.counts.messages) (
     member (codes "table") (string (encode_lower s.id)) (
-    member (codes "unknown") (whole s.counts.unknown) (window_member s)))))))))
+    member (codes "unknown") (whole s.counts.unknown) (window_member tells s.rule.window)))))))))
+
+-- The state as it is saved. With a group whose window has ended it would not be read if it told its window; so it doesn't.
+abbrev pub state_tree : State → Data
+state_tree s = tree_by (are_waiting s) s
 
 -- its text
 unfoldable pub state_text : State → List ℕ

@@ -26,7 +26,7 @@ pub record State : Type 0 where
   pub counts : Counts
   pub groups : List Group
 
--- the state after a log, with the table of this id and a window
+-- the state after a log, under a rule and with the table of this id
 abbrev pub state : List ℕ → Rule → (ℕ → Option Kind) → List Entry → State
 state id rule kind es = record { id = id; rule = rule; counts = counts rule kind es; groups = open_within rule (length es) (frames kind es) }
 

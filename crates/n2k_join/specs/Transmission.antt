@@ -1,4 +1,4 @@
--- What a group is where messages are sent in order: the frames of one transmission.
+-- What a complete group is in order: the frames of one transmission.
 use Rattle.std.specs.Prelude.{◌≡◌, ℕ, ◌+◌, true, List, ◌++◌, map, Option}
 use Rattle.std.specs.List.{All, range_with_len}
 use Rattle.n2k_wire.specs.declared.entry.Entry.{Entry}

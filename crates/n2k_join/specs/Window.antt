@@ -1,4 +1,4 @@
--- How long a group may wait for its frames: so many lines from its first on, that one counted.
+-- What ends a group that isn't complete: its window of lines, and the order of its frames' numbers.
 use Rattle.std.specs.Prelude.{◌≤◌, ℕ, Bool}
 
 -- the fewest lines of a window, and the most
@@ -8,12 +8,13 @@ shortest_window = 32
 abbrev pub longest_window : ℕ
 longest_window = 1_000_000
 
--- What ends a group that isn't complete, beside a number that comes twice: that so many lines have passed from its first
--- on, and, where the frames of each message come in the order of their numbers, a number that doesn't rise.
+-- What ends a group that isn't complete, beside a number that comes twice: so many lines from its first frame's on, that
+-- one counted; and, in order, a frame whose number isn't greater than each number in it.
 pub record Rule : Type 0 where
   pub window : ℕ
   pub in_order : Bool
 
+-- a number of lines that a window can have
 pub record IsWindow (window : ℕ) : Type 0 where
   pub least : shortest_window ≤ window
   pub most : window ≤ longest_window

@@ -2,21 +2,21 @@
 ghost use Rattle.std.specs.Prelude.{◌≡◌, ◌+◌, ◌*◌, ◌≤◌, ◌<◌, ◌↔◌, ℕ, [], length, IfOk, OnOk, OnErr, IsErrOf, IsSome, IsNone, Ok, Option, None, Some, true, is_some, option_map};
 ghost use Rattle.n2k_table.specs.declared.definition.Kind.{Kind};
 ghost use Rattle.n2k_table.specs.Table.{kind};
+ghost use Rattle.n2k_wire.specs.declared.entry.Entry.{Entry};
 ghost use Rattle.n2k_wire.specs.Entry.{IsShort, IsEntry};
 ghost use Rattle.n2k_wire.specs.Packet.{IsPacket, IsPacketParts};
 ghost use Rattle.n2k_join.specs.Counts.{most_lines};
-ghost use Rattle.n2k_join.specs.State.{state, step_given, step_after, AreCounts, AreFast, one_if};
+ghost use Rattle.n2k_join.specs.Open.{Group};
+ghost use Rattle.n2k_join.specs.Messages.{told_of};
+ghost use Rattle.n2k_join.specs.State.{state, step_given, step_after, AreCounts, AreFast, AreWaiting, one_if};
 ghost use Rattle.n2k_join.specs.Refusal.{GivesOrMemory};
 ghost use Rattle.n2k_join.specs.Resumed.{is_valid, judged, state_of_parts, valid_if};
 ghost use Rattle.n2k_join.specs.Saved.{IsId, state_text, bare_bytes, group_bytes};
 ghost use Rattle.n2k_join.specs.Step.{given_of, lent_given_of, opens, due, expired};
-ghost use Rattle.n2k_join.specs.Messages.{told_of};
-ghost use Rattle.n2k_join.specs.Open.{Group};
 ghost use Rattle.n2k_join.specs.Laws.{ExpiresFirst};
-ghost use Rattle.n2k_wire.specs.declared.entry.Entry.{Entry};
-ghost use Rattle.n2k_join.specs.State.{AreWaiting};
 ghost use Rattle.n2k_join.specs.Inner.Told.{packet_in, told};
 
+use crate::broken::Broken;
 use crate::counts::{Counts, MOST_LINES};
 use crate::fault::JoinFault;
 use crate::laws;
@@ -27,7 +27,6 @@ use crate::saved::{
     stored_groups, waits_hold,
 };
 use crate::state_fault::StateFault;
-use crate::broken::Broken;
 use crate::step::{LentStep, Step};
 use crate::window::Window;
 use indexmap::IndexMap;
@@ -124,14 +123,15 @@ impl Join {
         *counts
     }
 
-    /// How long a group may wait for its frames. It takes no memory.
+    /// What ends a group that isn't complete: the window that was handed in. It takes no memory.
     pub fn window(&self) -> Window
         ensures { result ≡ self.now.rule }
     {
-        self.window
+        let Join { window, .. } = self;
+        *window
     }
 
-    // The oldest open group, where its window ends at the next line, if not before.
+    // The oldest open group, as it is told, where its window ends at the next line, if not before.
     fn oldest_due(&self) -> Option<Broken>
         ensures { result ≡ option_map told_of (due self.now) }
     {
@@ -145,10 +145,16 @@ impl Join {
         Some(group.broken(key))
     }
 
-    /// Breaks the oldest open group whose window ends at the next line, if not before, and answers what is told of it.
-    /// `None` where there is none, or where no more lines are counted; the join is then as it was. It takes no memory.
+    /// Breaks the oldest of the open groups whose window ends at the next line, if not before, and answers what is told of
+    /// it. `None` where there is none, or where no more lines are counted; the join is then as it was. It takes no memory.
     ///
-    /// Before each line it is called until it answers `None`.
+    /// It is called before each line until it answers `None`: each group that it breaks is one of that line.
+    ///
+    /// ```text
+    /// while let Some(group) = join.expire() {
+    ///     told.push(group)?;
+    /// }
+    /// ```
     pub fn expire(&mut self) -> Option<Broken>
         ensures told { result ≡ option_map told_of (due self.old) }
         ensures after { IsSome result → self.new ≡ expired self.old }
@@ -161,8 +167,16 @@ impl Join {
     {
         let broken = self.oldest_due()?;
         self.groups.shift_remove_index(0);
-        let Counts { broken: before, held, .. } = self.counts;
-        self.counts = Counts { broken: before + 1, held: held - 1, ..self.counts };
+        let Counts {
+            broken: before,
+            held,
+            ..
+        } = self.counts;
+        self.counts = Counts {
+            broken: before + 1,
+            held: held - 1,
+            ..self.counts
+        };
         Some(broken)
     }
 
@@ -190,14 +204,22 @@ impl Join {
         }
         know_entry(entry);
         let line = self.counts.lines + 1;
-        let outcome = take_entry(self.window.is_in_order(), &mut self.groups, line, table, entry, joined)?;
+        let outcome = take_entry(
+            self.window.is_in_order(),
+            &mut self.groups,
+            line,
+            table,
+            entry,
+            joined,
+        )?;
         let is_message = outcome.is_message(entry, joined);
         self.counts = counted(self.counts, &outcome, is_message, self.groups.len());
         Ok(outcome)
     }
 
     /// Takes the next line, as its entry, and answers what it gives: the message that it is or completes, why it is
-    /// bad, and the group that it breaks. The table says how each PGN is sent.
+    /// bad, and the group that its frame breaks. The table says how each PGN is sent. The groups whose window ends at the
+    /// line have been broken before, by `expire`.
     ///
     /// At 999,999,999,999,999 lines it is refused as too many. Memory is taken only where a group is opened of a
     /// key that has none open. After a refusal the join is as it was.
@@ -293,14 +315,16 @@ impl Join {
         })
     }
 
-    /// The join that a saved state spells, under the table that it was saved with. It goes on where that one stood.
+    /// The join that a saved state spells, under the table and the window that it was saved with. It goes on where that
+    /// one stood. A state of format 1 tells no window: it is read under the one that is handed in. Whether a group ends
+    /// before a lower number is not saved: that is as handed in, too.
     ///
     /// Any JSON text is taken that spells a valid state, whether or not a log leads to it (docs/PROFILE.md has its
-    /// members and rules). Else the first fault is answered that stands, in the order of their numbers, or `Memory`
+    /// members and rules). Else the first fault is answered that stands, in the order of docs/PROFILE.md, or `Memory`
     /// where a growth was refused.
     ///
     /// ```text
-    /// let join = Join::resume(alloc, &table, &state)?;
+    /// let join = Join::resume(alloc, &table, window, &state)?;
     /// ```
     #[tactic(auto, unfolding(crate::specs::Resumed::judged))]
     pub fn resume(
@@ -323,14 +347,20 @@ impl Join {
         if !waits_hold(format, &state) {
             return Err(StateFault::Invalid);
         }
-        let SpelledState { id, counts, groups, .. } = state;
+        let SpelledState {
+            id,
+            counts,
+            groups,
+            ..
+        } = state;
         Join::of_state(alloc, table, id, window, counts, &groups)
     }
 
     /// The text of its state, from which `resume` goes on: JSON, as docs/PROFILE.md has it, without an LF.
     ///
-    /// It reads back under a table of the join's id in which the PGNs of its groups are fast ones: so under the table that
-    /// the join was made with, where its lines were taken with that one too.
+    /// It reads back under the join's window and a table of the join's id in which the PGNs of its groups are fast ones: so
+    /// under the table that the join was made with, where its lines were taken with that one too. It is of format 2, but of
+    /// format 1 where a group's window has ended: that state was read in format 1, and has taken no line since.
     pub fn save(&self, alloc: Global) -> Result<Vec<u8>, AllocError>
         ensures text { IfOk result (λ text. text.items ≡ state_text self.now) }
         ensures bounded { IfOk result (λ text. length text.items ≤ bare_bytes + group_bytes * length self.now.groups) }

@@ -7,10 +7,11 @@ ghost use Rattle.n2k_table.specs.declared.definition.Kind.{Kind};
 ghost use Rattle.n2k_table.specs.declared.definition.Kind.TheVariants.{Fast};
 ghost use Rattle.n2k_join.specs.Counts.{most_lines};
 ghost use Rattle.n2k_join.specs.Pieces.{Sending, split, written};
-ghost use Rattle.n2k_join.specs.Frames.{Frame, frames};
+ghost use Rattle.n2k_join.specs.Frames.{Key, Frame, frames};
+ghost use Rattle.n2k_join.specs.Groups.{within};
 ghost use Rattle.n2k_join.specs.Scattered.{IsScattered, IsMute, WrittenLog};
 ghost use Rattle.n2k_join.specs.Replay.{Replays};
-ghost use Rattle.n2k_join.specs.Messages.{cause_in};
+ghost use Rattle.n2k_join.specs.Messages.{Keyed, cause_in, gathered};
 ghost use Rattle.n2k_join.specs.Laws.{CutJoins, CutFirst, CutGrows, StepsAgree, LinesStay, BadAlone, ExpiresFirst};
 ghost use Rattle.n2k_join.specs.Open.{Group};
 ghost use Rattle.n2k_join.specs.Step.{due};
@@ -22,9 +23,6 @@ ghost use Rattle.n2k_join.specs.State.{State, IsState, AreFast, AreWaiting, stat
 ghost use Rattle.n2k_join.specs.Window.{Rule, IsWindow};
 ghost use Rattle.n2k_join.specs.Arrival.{PiecesJoin, ArriveWhole, ComesNext, LeavesZero, Heals};
 ghost use Rattle.n2k_join.specs.Transmission.{AreTransmissions, ComesOfOne};
-ghost use Rattle.n2k_join.specs.Messages.{Keyed, gathered};
-ghost use Rattle.n2k_join.specs.Groups.{within};
-ghost use Rattle.n2k_join.specs.Frames.{Key};
 
 /// The groups that frames are cut into are the frames in their order; none is empty, and none has a number twice.
 pub fn cut_joins()
@@ -32,7 +30,7 @@ pub fn cut_joins()
 {}
 
 /// What the groups are, in other words: no frames have none; of others the first is the shortest front that has ended,
-/// because it is complete, or no frame follows, or the next one's number is in it; and the rest is cut likewise.
+/// because it is complete, or no frame follows, or it ends before the next one; and the rest is cut likewise.
 pub fn cut_first()
     ensures { (rule : Rule) (fs : List Frame) → CutFirst rule fs }
 {}
@@ -85,28 +83,31 @@ pub fn written_is_scattered()
     ensures { (rule : Rule) (kind : ℕ → Option Kind) (ms : List PacketParts) → IsWindow rule.window → All IsPacketParts ms → All (λ (m : PacketParts). kind m.id.pgn ≡ Some Fast) ms → WrittenLog rule kind ms }
 {}
 
-/// A key heals: where the next frames of a key are the pieces of one message by rising number, and what the key has
-/// open, if anything, has frame 0, the message is given at the line of its last piece, and what was open is broken at the
-/// line of its first. So with a sender in rising order a lost frame other than frame 0 costs its own message alone.
+/// A key heals: where the next frames of a key are the pieces of one message by rising number, within the window, and what
+/// the key has open, if anything, has frame 0, the message is given at the line of its last piece, and what was open is
+/// broken at the line of its first, or where its own window ends before. So with a sender in rising order a lost frame
+/// other than frame 0 costs its own message alone.
 pub fn heals()
     ensures { (rule : Rule) (kind : ℕ → Option Kind) (front back : List Entry) (x : Sending) (group after : List Frame) → IsWindow rule.window → ComesNext rule kind front back x group after → LeavesZero rule kind front x → Heals rule kind front back x group }
 {}
 
-/// Where the order of the numbers is asked for, a key heals whatever was lost: nothing is asked of what it has open.
+/// In order a key heals whatever was lost: nothing is asked of what it has open.
 pub fn heals_in_order()
     ensures { (rule : Rule) (kind : ℕ → Option Kind) (front back : List Entry) (x : Sending) (group after : List Frame) → rule.in_order ≡ true → ComesNext rule kind front back x group after → Heals rule kind front back x group }
 {}
 
-/// Where the order of the numbers is asked for, each message of a group is of one transmission: its frames stand in the
-/// log in the order of their numbers, 0 to the last, with no other frame of the key between them.
+/// In order each message of a group is of one transmission: its frames stand in the log in the order of their numbers, 0 to
+/// the last, with no other frame of the key between them.
 pub fn one_transmission()
     ensures groups { (rule : Rule) (kind : ℕ → Option Kind) (es : List Entry) (key : Key) → rule.in_order ≡ true → AreTransmissions rule kind es key }
     ensures messages { (rule : Rule) (kind : ℕ → Option Kind) (es : List Entry) (line : ℕ) (m : Keyed) → rule.in_order ≡ true → gathered (within rule) (frames kind es) line ≡ Some m → ComesOfOne kind es line m }
 {}
 
-/// The rules of a valid state are one: those that a text is asked for, and those that the state of each join keeps.
+/// The rules of a valid state are one: those that a text is asked for, and those that the state of each join keeps. So each
+/// text that is read spells a state that a join can have.
 pub fn rules_are_one()
-    ensures { (kind : ℕ → Option Kind) (s : State) → HasShape s → RulesAreOne kind s }
+    ensures one { (kind : ℕ → Option Kind) (s : State) → HasShape s → RulesAreOne kind s }
+    ensures read { (kind : ℕ → Option Kind) (id : List ℕ) (rule : Rule) (bytes : List ℕ) (s : State) → IsWindow rule.window → judged kind id rule bytes ≡ Ok s → IsState s }
 {}
 
 /// The text of a state, read under its own table and window, gives that state, with the order of frames as it is asked for:
@@ -115,7 +116,7 @@ pub fn rules_are_one()
 pub fn state_reads_back()
     ensures same { (kind : ℕ → Option Kind) (s : State) → IsState s → AreFast kind s.groups → IsId s.id → judged kind s.id s.rule (state_text s) ≡ Ok s }
     ensures any_order { (kind : ℕ → Option Kind) (s : State) (order : Bool) → IsState s → AreFast kind s.groups → IsId s.id
-      → judged kind s.id (record { window = s.rule.window; in_order = order }) (state_text s) ≡ Ok (record { id = s.id; rule = record { window = s.rule.window; in_order = order }; counts = s.counts; groups = s.groups }) }
+        → judged kind s.id (record { window = s.rule.window; in_order = order }) (state_text s) ≡ Ok (record { id = s.id; rule = record { window = s.rule.window; in_order = order }; counts = s.counts; groups = s.groups }) }
     ensures other_window { (kind : ℕ → Option Kind) (s : State) (rule : Rule) → IsState s → AreWaiting s → IsId s.id → s.rule.window ≢ rule.window → judged kind s.id rule (state_text s) ≡ Err WindowDiffers }
 {}
 

@@ -9,7 +9,6 @@ mod text;
 mod value;
 
 pub(crate) use reader::read_state;
-pub(crate) use place::Place;
 pub(crate) use resume::{format_in, parsed, stored_groups};
 pub(crate) use rules::{rules_hold, waits_hold};
 pub(crate) use spelled::{SpelledGroup, SpelledState};

@@ -27,9 +27,13 @@ fn sample(alloc: Global) -> Result<ManuallyDrop<Table>, TableFault> {
     Ok(ManuallyDrop::new(Table::read(alloc, SAMPLE.as_bytes())?))
 }
 
-// A window that ends no group of the logs below that are shorter.
+// A window that ends no group of the logs below.
 fn long_window() -> Window {
     Window::new(10_000).unwrap()
+}
+
+fn shortest_window() -> Window {
+    Window::new(Window::SHORTEST).unwrap()
 }
 
 // A group that a line breaks, after the number of the line.
@@ -81,12 +85,24 @@ fn tell(
     push_step(alloc, number, &step, text)
 }
 
-// What the lines of a log gave, and the six counts after them.
-fn told(alloc: Global, window: Window, log: &str) -> Result<Vec<u8>, Fail> {
+// What the lines of a log gave, and the six counts after them. So many empty lines stand between its two parts.
+fn told_apart(
+    alloc: Global,
+    window: Window,
+    front: &str,
+    between: u8,
+    back: &str,
+) -> Result<Vec<u8>, Fail> {
     let table = sample(alloc)?;
     let mut join = Join::new(alloc, &table, window);
     let mut text = Vec::new(alloc);
-    for line in log.lines() {
+    for line in front.lines() {
+        tell(alloc, &mut join, &table, line, &mut text)?;
+    }
+    for _ in 0..between {
+        tell(alloc, &mut join, &table, "", &mut text)?;
+    }
+    for line in back.lines() {
         tell(alloc, &mut join, &table, line, &mut text)?;
     }
     let Counts {
@@ -100,6 +116,10 @@ fn told(alloc: Global, window: Window, log: &str) -> Result<Vec<u8>, Fail> {
     let counts = format!(in alloc; "{lines} {messages} {bad} {unknown} {broken} {held}")?;
     text.extend_from_slice(counts.as_bytes())?;
     Ok(text)
+}
+
+fn told(alloc: Global, window: Window, log: &str) -> Result<Vec<u8>, Fail> {
+    told_apart(alloc, window, log, 0, "")
 }
 
 const TWO_SOURCES: &str = "(10.000001) can0 1DFF0405#000BA39901414243
@@ -125,6 +145,13 @@ const EXTRA_FRAME: &str = "(1.0) can0 1DFF0405#800DA39906414243
 const MIXED_MESSAGE: &str = "(1.0) can0 1DFF0405#0141414141414141
 (9.0) can0 1DFF0405#000DA39903444546";
 
+// The frame 0 of the first of two messages was lost.
+const FIRST_FRAME_LOST: &str = "(1.0) can0 1DFF0405#0141414141414141
+(2.0) can0 1DFF0405#0242424242424242
+(3.0) can0 1DFF0405#0014A39904474849
+(4.0) can0 1DFF0405#0120202020202020
+(5.0) can0 1DFF0405#0220202020202020";
+
 // A frame without a byte, a frame 0 without a total, a PGN that isn't in the table, a message of a single frame.
 const ODD_FRAMES: &str = "(1.0) can0 1DFF0405#
 (2.0) can0 1DFF0405#00
@@ -145,7 +172,7 @@ const SHORT_TOTALS: &str = "(1.0) can0 1DFF0405#0000FFFFFFFFFFFF
 
 #[test]
 fn groups_as_worked(rt: HostRuntime) -> Result<(), Fail> {
-    let cases: [(&str, &str); 8] = [
+    let cases: [(&str, &str); 9] = [
         (
             TWO_SOURCES,
             "3 1970-01-01T00:00:10.200Z,7,130820,6,255,11,a3,99,02,58,59,20,20,20,20,20,20
@@ -174,6 +201,11 @@ fn groups_as_worked(rt: HostRuntime) -> Result<(), Fail> {
 2 1 0 0 0 0",
         ),
         (
+            FIRST_FRAME_LOST,
+            "3 1970-01-01T00:00:03.000Z,7,130820,5,255,20,a3,99,04,47,48,49,41,41,41,41,41,41,41,42,42,42,42,42,42,42
+5 1 0 0 0 1",
+        ),
+        (
             ODD_FRAMES,
             "1 bad Fast
 2 bad Fast
@@ -198,6 +230,79 @@ fn groups_as_worked(rt: HostRuntime) -> Result<(), Fail> {
         let text = told(rt.alloc(), long_window(), log)?;
         assert_eq!(rt; text.as_slice(), expected.as_bytes());
     }
+    Ok(())
+}
+
+// The same logs in order: a lost frame 0 costs its own message, exchanged frames make none, and after a repeated frame the
+// frame 0 that comes next breaks what that one opened.
+#[test]
+fn groups_in_order(rt: HostRuntime) -> Result<(), Fail> {
+    let cases: [(&str, &str); 4] = [
+        (
+            FIRST_FRAME_LOST,
+            "3 broken 130820 5 255 0 1
+5 1970-01-01T00:00:05.000Z,7,130820,5,255,20,a3,99,04,47,48,49,20,20,20,20,20,20,20,20,20,20,20,20,20,20
+5 1 0 0 1 0",
+        ),
+        (
+            FRAMES_IN_REVERSE,
+            "2 broken 130820 5 255 2 1
+2 0 0 0 1 1",
+        ),
+        (
+            REPEAT_BREAKS,
+            "3 broken 130820 5 255 3 1
+4 broken 130820 5 255 3 3
+5 0 0 0 2 1",
+        ),
+        (
+            MIXED_MESSAGE,
+            "2 broken 130820 5 255 0 1
+2 0 0 0 1 1",
+        ),
+    ];
+    for (log, expected) in cases {
+        let text = told(rt.alloc(), long_window().in_order(), log)?;
+        assert_eq!(rt; text.as_slice(), expected.as_bytes());
+    }
+    Ok(())
+}
+
+// A window of 32 lines ends a group of line 1 at line 33, and not at line 32.
+#[test]
+fn stale_group(rt: HostRuntime) -> Result<(), Fail> {
+    let (front, back) = MIXED_MESSAGE.split_once("\n").ok_or("two lines")?;
+    let cases: [(u8, &str); 2] = [
+        (
+            31,
+            "33 broken 130820 5 255 0 1
+33 0 0 0 1 1",
+        ),
+        (
+            30,
+            "32 1970-01-01T00:00:09.000Z,7,130820,5,255,13,a3,99,03,44,45,46,41,41,41,41,41,41,41
+32 1 0 0 0 0",
+        ),
+    ];
+    for (between, expected) in cases {
+        let text = told_apart(rt.alloc(), shortest_window(), front, between, back)?;
+        assert_eq!(rt; text.as_slice(), expected.as_bytes());
+    }
+    Ok(())
+}
+
+// At line 33 the window of the first group ends, and a frame 0 repeats that of the second.
+const TWO_OPEN: &str = "(10.000001) can0 1DFF0405#000BA39901414243
+(10.100000) can0 1DFF0406#200BA39902585920";
+
+#[test]
+fn two_broken_at_one_line(rt: HostRuntime) -> Result<(), Fail> {
+    let again = "(10.100000) can0 1DFF0406#200BA39902585920";
+    let text = told_apart(rt.alloc(), shortest_window(), TWO_OPEN, 30, again)?;
+    let expected = "33 broken 130820 5 255 0 1
+33 broken 130820 6 255 1 2
+33 0 0 0 2 1";
+    assert_eq!(rt; text.as_slice(), expected.as_bytes());
     Ok(())
 }
 

@@ -10,7 +10,7 @@ use Rattle.hex.specs.Hex.{encode_lower}
 use Rattle.n2k_join.specs.declared.counts.Counts.{Counts}
 use Rattle.n2k_join.specs.Frames.{Key}
 use Rattle.n2k_join.specs.Open.{Piece, Group}
-use Rattle.n2k_join.specs.Saved.{saved_format, old_format, list, piece_tree, group_tree}
+use Rattle.n2k_join.specs.Saved.{format_by, list, piece_tree, group_tree}
 
 -- the tokens of a value
 abbrev pub tokens_of : Data → List Token
@@ -46,7 +46,7 @@ open_tokens gs = Token.key (codes "groups") ∷ tokens_of (list (map group_tree 
 
 -- the members before them, and those behind them
 abbrev pub front_tokens : Bool → Counts → List Token
-front_tokens waiting c = count_tokens (codes "bad") c.bad ++ count_tokens (codes "broken") c.broken ++ count_tokens (codes "format") (if waiting then saved_format else old_format)
+front_tokens tells c = count_tokens (codes "bad") c.bad ++ count_tokens (codes "broken") c.broken ++ count_tokens (codes "format") (format_by tells)
 
 abbrev pub lines_tokens : Counts → List Token
 lines_tokens c = count_tokens (codes "lines") c.lines ++ count_tokens (codes "messages") c.messages
@@ -56,10 +56,10 @@ table_tokens id = Token.key (codes "table") ∷ Token.string (encode_lower id) �
 
 -- the last of them, where the format has it
 abbrev pub window_tokens : Bool → ℕ → List Token
-window_tokens waiting window = if waiting then count_tokens (codes "window") window else []
+window_tokens tells window = if tells then count_tokens (codes "window") window else []
 
-abbrev pub back_tokens : List ℕ → Counts → List Token
-back_tokens id c = lines_tokens c ++ table_tokens id ++ count_tokens (codes "unknown") c.unknown
+abbrev pub back_tokens : Bool → List ℕ → ℕ → Counts → List Token
+back_tokens tells id window c = lines_tokens c ++ table_tokens id ++ count_tokens (codes "unknown") c.unknown ++ window_tokens tells window
 
 -- these tokens were written behind those from before, and nothing else changed
 pub record Appends {E : Type 0} (result : Result (Unit {0}) E) (old new : Written) (added : List Token) : Type 0 where

@@ -1,16 +1,16 @@
 //! The state that a value spells: a reader for each part.
-ghost use Rattle.std.specs.Prelude.{map};
+ghost use Rattle.std.specs.Prelude.{◌≡◌, map, IfOk};
 ghost use Rattle.serde_json.specs.View.{view};
 ghost use Rattle.n2k_wire.specs.Views.{Gives};
 ghost use Rattle.n2k_join.specs.Refusal.{GivesOrMemory};
 ghost use Rattle.n2k_join.specs.Resumed.{window_at, each, piece_of, key_of, pieces_at, group_of, groups_at, counts_of, id_at, state_of};
 
-use crate::window::Window;
 use crate::counts::Counts;
 use crate::saved::place::Place;
 use crate::saved::spelled::{SpelledGroup, SpelledKey, SpelledPiece, SpelledState};
 use crate::saved::value::{as_whole, digits_of, elements_of, members_at, required, whole_at};
 use crate::state_fault::StateFault;
+use crate::window::Window;
 use serde_json::Value;
 use std::alloc::Global;
 
@@ -134,7 +134,8 @@ pub(crate) fn read_state(
     rule: Window,
     value: &Value,
 ) -> Result<SpelledState, StateFault>
-    ensures { GivesOrMemory (λ state. state) result (state_of format rule (view value.now)) }
+    ensures value { GivesOrMemory (λ state. state) result (state_of format rule (view value.now)) }
+    ensures order { IfOk result (λ state. state.rule.in_order ≡ rule.in_order) }
 {
     members_at(format, value)?;
     let counts = read_counts(value)?;

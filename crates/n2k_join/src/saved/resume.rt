@@ -17,9 +17,9 @@ ghost use Rattle.n2k_join.specs.Inner.Slots.{group_in, group_at, groups_in};
 
 use crate::piece::{FrameKey, OpenGroup};
 use crate::saved::place::Place;
-use crate::saved::{OLD_FORMAT, SAVED_FORMAT};
 use crate::saved::rules::{key_holds, stored_piece};
 use crate::saved::spelled::{SpelledGroup, SpelledKey, SpelledPiece};
+use crate::saved::{OLD_FORMAT, SAVED_FORMAT};
 use crate::state_fault::StateFault;
 use indexmap::IndexMap;
 use n2k_table::Table;

@@ -60,10 +60,10 @@ pub(crate) fn rules_hold(counts: &Counts, groups: &[SpelledGroup]) -> bool
 fn are_waiting(state: &SpelledState) -> bool
     ensures { result ≡ are_waiting state.now }
 {
-    let lines = u128::from(state.counts.lines);
-    let window = u128::from(state.window);
+    let line = u128::from(state.counts.lines);
+    let long = u128::from(state.window);
     for group in &state.groups {
-        if lines >= u128::from(group.first) + window {
+        if line >= u128::from(group.first) + long {
             return false;
         }
     }

@@ -144,13 +144,14 @@ fn push_open(groups: &IndexMap<FrameKey, OpenGroup>, out: &mut Writer) -> Result
     Ok(())
 }
 
-// Writes the members before `groups`.
-fn push_front(waiting: bool, counts: &Counts, out: &mut Writer) -> Result<(), AllocError>
-    ensures { Appends result out.old out.new (front_tokens waiting counts.now) }
+// Writes the members before `groups`, of a state that tells its window or doesn't.
+fn push_front(tells: bool, counts: &Counts, out: &mut Writer) -> Result<(), AllocError>
+    ensures { Appends result out.old out.new (front_tokens tells counts.now) }
 {
+    let format = if tells { SAVED_FORMAT } else { OLD_FORMAT };
     push_count("bad", counts.bad, out)?;
     push_count("broken", counts.broken, out)?;
-    push_count("format", if waiting { SAVED_FORMAT } else { OLD_FORMAT }, out)
+    push_count("format", format, out)
 }
 
 // Writes the member `table`.
@@ -169,40 +170,49 @@ fn push_lines(counts: &Counts, out: &mut Writer) -> Result<(), AllocError>
     push_count("messages", counts.messages, out)
 }
 
-// Writes the members behind `groups`.
-fn push_back(id: &[u8; 32], counts: &Counts, out: &mut Writer) -> Result<(), AllocError>
-    ensures { Appends result out.old out.new (back_tokens id.now counts.now) }
+// Writes the member `window`, where the state tells it.
+fn push_window(tells: bool, window: u32, out: &mut Writer) -> Result<(), AllocError>
+    ensures { Appends result out.old out.new (window_tokens tells window) }
 {
-    push_lines(counts, out)?;
-    push_table(id, out)?;
-    push_count("unknown", counts.unknown, out)?;
-    Ok(())
-}
-
-// Writes the member `window`, where the format has it.
-fn push_window(waiting: bool, window: u32, out: &mut Writer) -> Result<(), AllocError>
-    ensures { Appends result out.old out.new (window_tokens waiting window) }
-{
-    if waiting {
+    if tells {
         push_count("window", u64::from(window), out)
     } else {
         Ok(())
     }
 }
 
+// Writes the members behind `groups`.
+fn push_back(
+    tells: bool,
+    id: &[u8; 32],
+    window: Window,
+    counts: &Counts,
+    out: &mut Writer,
+) -> Result<(), AllocError>
+    ensures { Appends result out.old out.new (back_tokens tells id.now window.window counts.now) }
+{
+    push_lines(counts, out)?;
+    push_table(id, out)?;
+    push_count("unknown", counts.unknown, out)?;
+    push_window(tells, window.get(), out)?;
+    Ok(())
+}
+
 // Whether no group's window has ended.
 fn are_waiting(window: Window, lines: u64, groups: &IndexMap<FrameKey, OpenGroup>) -> bool
     ensures { result ≡ list_all (is_waiting window lines) (groups_in groups.now.entries) }
 {
+    let line = u128::from(lines);
+    let long = u128::from(window.get());
     for (_, group) in groups.iter() {
-        if u128::from(lines) >= u128::from(group.first) + u128::from(window.get()) {
+        if line >= u128::from(group.first) + long {
             return false;
         }
     }
     true
 }
 
-// Writes a state.
+// Writes a state, which tells its window where no group's has ended.
 fn push_state(
     id: &[u8; 32],
     window: Window,
@@ -212,12 +222,11 @@ fn push_state(
 ) -> Result<(), AllocError>
     ensures { Appends result out.old out.new (tokens_of (state_tree (record { id = id.now; rule = window; counts = counts.now; groups = groups_in groups.now.entries }))) }
 {
-    let waiting = are_waiting(window, counts.lines, groups);
+    let tells = are_waiting(window, counts.lines, groups);
     out.begin_object()?;
-    push_front(waiting, counts, out)?;
+    push_front(tells, counts, out)?;
     push_open(groups, out)?;
-    push_back(id, counts, out)?;
-    push_window(waiting, window.get(), out)?;
+    push_back(tells, id, window, counts, out)?;
     out.end_object()?;
     Ok(())
 }

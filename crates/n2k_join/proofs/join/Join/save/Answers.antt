@@ -11,4 +11,4 @@ returns-clause-bounded c =
     IfOk-weaker c.state_text.result _ _ (λ text is. saved-short s c.args.self.now (groups_in c.self.inside.groups.entries) text.items c.self.invariant c.state_text.ensures.id refl c.self.view_is is) c.state_text.ensures.text
 
 pub returns-clause-reads_back : goal.returns-clause-reads_back
-returns-clause-reads_back c = λ kind fast id. c.state_reads_back.ensures kind c.args.self.now (subst IsState c.self.view_is c.self.invariant) fast id
+returns-clause-reads_back c = λ kind fast id. c.state_reads_back.ensures.same kind c.args.self.now (subst IsState c.self.view_is c.self.invariant) fast id
