@@ -1,5 +1,5 @@
 -- Scattered frames arrive whole.
-use Rattle.std.proofs.Common.{◌≡◌, ℕ, true, List, [], ◌∷◌, ◌++◌, length, refl, ap, subst, ◌∙◌, sym, Option, Some, None}
+use Rattle.std.proofs.Common.{◌≡◌, ◌<◌, ◌+◌, ℕ, true, List, [], ◌∷◌, ◌++◌, length, refl, ap, subst, ◌∙◌, sym, Option, Some, None}
 use Rattle.std.specs.Prelude.{find, flat_map, filter_map, map, option_map, option_and_then, option_to_list}
 use Rattle.std.specs.Option.{option_or}
 use Rattle.std.specs.List.{AllByRecursion, AllZip, last_or, range_with_len}
@@ -8,18 +8,19 @@ use Rattle.n2k_wire.specs.Packet.{PacketParts}
 use Rattle.n2k_wire.specs.declared.entry.Entry.{Entry}
 use Rattle.n2k_table.specs.declared.definition.Kind.{Kind}
 use Rattle.n2k_join.specs.Frames.{Key, same_key, Frame, frames, of_key, frame_at}
-use Rattle.n2k_join.specs.Groups.{Ends, repeats, complete, cut, last_line, data_of, incomplete, open_of}
-use Rattle.n2k_join.specs.Messages.{Keyed, message_of, is_done_at, gathered_by, gathered, alone, entry_at, broken_of, broken_before, broken_by, broken_with}
-use Rattle.n2k_join.specs.Open.{where_begun, begun_at, open_groups}
-use Rattle.n2k_join.specs.Pieces.{Sending}
-use Rattle.n2k_join.specs.Scattered.{joined, IsPieceOf, IsStretchOf, FallInto, sendings_of, IsScattered}
+use Rattle.n2k_join.specs.Groups.{Ends, within, first, complete, cut, last_line, data_of, incomplete, open_of}
+use Rattle.n2k_join.specs.Messages.{Keyed, message_of, is_done_at, gathered_by, gathered, alone, entry_at, broken_of, broken_among, broken_by, broken_begun, broken_with}
+use Rattle.n2k_join.specs.Open.{where_begun, begun_at, open_groups, waiting, open_within}
+use Rattle.n2k_join.specs.Pieces.{Sending, last_piece}
+use Rattle.n2k_join.specs.Scattered.{joined, IsPieceOf, IsStretchOf, IsStretchWithin, FallInto, sendings_of, IsScattered}
 use Rattle.n2k_join.specs.Arrival.{Brings, ArriveWhole}
 use Rattle.n2k_join.proofs.Keys.{of_key-keeps}
 use Rattle.n2k_join.proofs.PieceFrames.{piece_says}
 use Rattle.n2k_join.proofs.WholePieces.{data_pieces}
-use Rattle.n2k_join.proofs.Stretches.{IsStretch, cut_stretches, GoesOn, goes_on-repeats, stretch_pieces}
+use Rattle.n2k_join.proofs.Stretches.{IsStretch, cut_stretches, GoesOn, goes_on-within, stretch_pieces}
 use Rattle.n2k_join.proofs.Lines.{RiseFrom, all_with, rise-filter, frames-rise, frames_found}
 use Rattle.n2k_join.proofs.GroupLines.{IsGroup, IsDone, LastFrame, last_frame, all-joined, done_found}
+use Rattle.n2k_join.specs.Window.{Rule}
 
 -- what R gives of the second list
 pub zip-all : {X Y : Type 0} (R : X → Y → Type 0) (Q : Y → Type 0) → ((x : X) (y : Y) → R x y → Q y) → (xs : List X) (ys : List Y) → AllZip R xs ys → AllByRecursion Q ys
@@ -88,12 +89,12 @@ gathers ends kind es k x g comes =
     ∙ ap (λ m. Some (record { key = k; message = m })) (message_is x.message last.frame g says.stamp says.id (data_pieces x g pieces comes.stretch.pieces.apart comes.stretch.whole))
 
 -- and bring it
-pub brings : (kind : ℕ → Option Kind) (es : List Entry) (k : Key) (x : Sending) (g : List Frame) → Comes repeats kind es k x g → Brings kind es x g
-brings kind es k x g comes = record {
+pub brings : (w : Rule) (kind : ℕ → Option Kind) (es : List Entry) (k : Key) (x : Sending) (g : List Frame) → Comes (within w) kind es k x g → Brings w kind es x g
+brings w kind es k x g comes = record {
   stretch = comes.stretch;
-  whole = (as_stretch repeats x g comes.stretch comes.goes_on).whole;
+  whole = (as_stretch (within w) x g comes.stretch comes.goes_on).whole;
   carries = data_pieces x g (pieces_in x g comes.stretch) comes.stretch.pieces.apart comes.stretch.whole;
-  given = ap (λ (o : Option Keyed). option_or (option_map (λ (m : Keyed). m.message) o) (option_and_then (alone kind) (entry_at es (last_line g)))) (gathers repeats kind es k x g comes);
+  given = ap (λ (o : Option Keyed). option_or (option_map (λ (m : Keyed). m.message) o) (option_and_then (alone kind) (entry_at es (last_line g)))) (gathers (within w) kind es k x g comes);
 }
 
 -- frames fall into stretches that go on to their ends
@@ -102,12 +103,12 @@ pub record FallOn (ends : Ends) (xs : List Sending) (fs : List Frame) : Type 0 w
   pub one_behind_the_other : fs ≡ joined stretches
   pub each : AllZip (λ x g. IsStretchOf x g × GoesOn ends g) xs stretches
 
--- a number that doesn't repeat ends nothing
-pub falls_on : (xs : List Sending) (fs : List Frame) → FallInto xs fs → FallOn repeats xs fs
-falls_on xs fs falls = record {
+-- a number that doesn't repeat ends nothing, nor does one that rises, nor a window that ends later
+pub falls_on : (w : Rule) (xs : List Sending) (fs : List Frame) → FallInto w xs fs → FallOn (within w) xs fs
+falls_on w xs fs falls = record {
   stretches = falls.stretches;
   one_behind_the_other = falls.one_behind_the_other;
-  each = zip-map IsStretchOf (λ x g. IsStretchOf x g × GoesOn repeats g) (λ x g is. (is, goes_on-repeats g is.pieces.apart)) xs falls.stretches falls.each;
+  each = zip-map (IsStretchWithin w) (λ x g. IsStretchOf x g × GoesOn (within w) g) (λ x g is. (is.stretch, goes_on-within w (last_piece x.message + 1) g is.stretch.pieces.apart is.ordered (recursion_from_All (λ (f : Frame). f.line < first g + w.window) g is.in_time))) xs falls.stretches falls.each;
 }
 
 -- the groups of a key are the stretches of its messages
@@ -140,38 +141,37 @@ settled ends kind ms es k falls =
     }
 
 -- each message of a scattered log is settled
-pub settles : (kind : ℕ → Option Kind) (ms : List PacketParts) (es : List Entry) → IsScattered kind ms es → (k : Key) → Settled repeats kind ms es k
-settles kind ms es scattered k = settled repeats kind ms es k (falls_on (sendings_of k ms) (of_key k (frames kind es)) (scattered.falls k))
+pub settles : (w : Rule) (kind : ℕ → Option Kind) (ms : List PacketParts) (es : List Entry) → IsScattered w kind ms es → (k : Key) → Settled (within w) kind ms es k
+settles w kind ms es scattered k = settled (within w) kind ms es k (falls_on w (sendings_of k ms) (of_key k (frames kind es)) (scattered.falls k))
 
-pub brought : (kind : ℕ → Option Kind) (ms : List PacketParts) (es : List Entry) → IsScattered kind ms es → (k : Key) → AllZip (Brings kind es) (sendings_of k ms) (cut repeats (of_key k (frames kind es)))
-brought kind ms es scattered k =
-    let at = settles kind ms es scattered k in
-    subst (AllZip (Brings kind es) (sendings_of k ms)) (sym at.cut_is) (zip-map (Comes repeats kind es k) (Brings kind es) (brings kind es k) (sendings_of k ms) at.groups at.each)
+pub brought : (w : Rule) (kind : ℕ → Option Kind) (ms : List PacketParts) (es : List Entry) → IsScattered w kind ms es → (k : Key) → AllZip (Brings w kind es) (sendings_of k ms) (cut (within w) (of_key k (frames kind es)))
+brought w kind ms es scattered k =
+    let at = settles w kind ms es scattered k in
+    subst (AllZip (Brings w kind es) (sendings_of k ms)) (sym at.cut_is) (zip-map (Comes (within w) kind es k) (Brings w kind es) (brings w kind es k) (sendings_of k ms) at.groups at.each)
 
 -- no group of any key is incomplete
 abbrev pub AllWhole : Ends → List Frame → Type 0
 AllWhole ends fs = (k : Key) → AllByRecursion (λ g. complete g ≡ true) (cut ends (of_key k fs))
 
-broken_before-none : (line : ℕ) (gs : List (List Frame)) → AllByRecursion (λ g. complete g ≡ true) gs → broken_before line gs ≡ []
-broken_before-none line [] each = refl
-broken_before-none line (g ∷ []) each = refl
-broken_before-none line (g ∷ h ∷ gs) each = rw each.0 (broken_before-none line (h ∷ gs) each.1)
-
-pub none_broken : (ends : Ends) (fs : List Frame) → AllWhole ends fs → (line : ℕ) → broken_with ends fs line ≡ []
-unfolding broken_with
-none_broken ends fs whole line = by_frame (frame_at line fs)
-  where
-    by_frame : (o : Option Frame) → flat_map (broken_by ends fs) (option_to_list o) ≡ []
-    by_frame None = refl
-    by_frame (Some f) = ap (λ (gs : List (List Frame)). map (broken_of f.key) gs ++ []) (broken_before-none f.line (cut ends (of_key f.key fs)) (whole f.key))
-
-none_last : (o : Option (List Frame)) (gs : List (List Frame)) → option_and_then incomplete o ≡ None → AllByRecursion (λ g. complete g ≡ true) gs → option_and_then incomplete (last_or o gs) ≡ None
-none_last o [] e each = e
-none_last o (g ∷ gs) e each = none_last (Some g) gs (rw each.0 refl) each.1
+broken_among-none : (w : Rule) (begun line : ℕ) (gs : List (List Frame)) → AllByRecursion (λ g. complete g ≡ true) gs → broken_among w begun line gs ≡ None
+broken_among-none w begun line [] each = refl
+broken_among-none w begun line (g ∷ gs) each = rw each.0 (broken_among-none w begun line gs each.1)
 
 pub filter_map-none : {X Y : Type 0} (h : X → Option Y) → ((x : X) → h x ≡ None) → (xs : List X) → filter_map h xs ≡ []
 filter_map-none h e [] = refl
 filter_map-none h e (x ∷ xs) = rw (e x) (filter_map-none h e xs)
+
+pub none_broken : (w : Rule) (fs : List Frame) → AllWhole (within w) fs → (line : ℕ) → broken_with w fs line ≡ []
+unfolding broken_with
+none_broken w fs whole line = filter_map-none (broken_begun w fs line) (λ begun. by_frame (frame_at begun fs)) (range_with_len 1 line)
+  where
+    by_frame : (o : Option Frame) → option_and_then (broken_by w fs line) o ≡ None
+    by_frame None = refl
+    by_frame (Some f) = ap (option_map (broken_of f.key)) (broken_among-none w f.line line (cut (within w) (of_key f.key fs)) (whole f.key))
+
+none_last : (o : Option (List Frame)) (gs : List (List Frame)) → option_and_then incomplete o ≡ None → AllByRecursion (λ g. complete g ≡ true) gs → option_and_then incomplete (last_or o gs) ≡ None
+none_last o [] e each = e
+none_last o (g ∷ gs) e each = none_last (Some g) gs (rw each.0 refl) each.1
 
 pub none_open : (ends : Ends) (fs : List Frame) (n : ℕ) → AllWhole ends fs → open_groups ends n fs ≡ []
 unfolding open_groups begun_at
@@ -181,11 +181,15 @@ none_open ends fs n whole = filter_map-none (begun_at ends fs) (λ line. by_fram
     by_frame line None = refl
     by_frame line (Some f) = ap (option_and_then (where_begun line f.key)) (none_last None (cut ends (of_key f.key fs)) refl (whole f.key))
 
-pub arrive : (kind : ℕ → Option Kind) (ms : List PacketParts) (es : List Entry) → IsScattered kind ms es → ArriveWhole kind ms es
-arrive kind ms es scattered =
-    let whole : AllWhole repeats (frames kind es) = λ k. zip-all (Brings kind es) (λ g. complete g ≡ true) (λ x g is. is.whole) _ _ (brought kind ms es scattered k) in
+none_open-within : (w : Rule) (fs : List Frame) (n : ℕ) → AllWhole (within w) fs → open_within w n fs ≡ []
+unfolding waiting
+none_open-within w fs n whole = ap (waiting w n) (none_open (within w) fs n whole)
+
+pub arrive : (w : Rule) (kind : ℕ → Option Kind) (ms : List PacketParts) (es : List Entry) → IsScattered w kind ms es → ArriveWhole w kind ms es
+arrive w kind ms es scattered =
+    let whole : AllWhole (within w) (frames kind es) = λ k. zip-all (Brings w kind es) (λ g. complete g ≡ true) (λ x g is. is.whole) _ _ (brought w kind ms es scattered k) in
     record {
-      brought = brought kind ms es scattered;
-      none_broken = none_broken repeats (frames kind es) whole;
-      none_open = none_open repeats (frames kind es) (length es) whole;
+      brought = brought w kind ms es scattered;
+      none_broken = none_broken w (frames kind es) whole;
+      none_open = none_open-within w (frames kind es) (length es) whole;
     }

@@ -12,10 +12,11 @@ use Rattle.n2k_wire.specs.declared.entry.Entry.TheVariants as entries
 use Rattle.n2k_table.specs.declared.definition.Kind.{Kind}
 use Rattle.n2k_table.specs.declared.definition.Kind.TheVariants.{Single, Fast}
 use Rattle.n2k_join.specs.Frames.{is_fast_payload, fast_frame, frame_with, frame_by, frame_in, frames_from, frames}
-use Rattle.n2k_join.specs.Groups.{repeats}
+use Rattle.n2k_join.specs.Groups.{within}
 use Rattle.n2k_join.specs.Messages.{Keyed, alone, single_by, cause_in, fast_cause, is_unknown, gathered, message, broken_with, broken, entry_at, counts}
-use Rattle.n2k_join.specs.Open.{open_groups}
+use Rattle.n2k_join.specs.Open.{open_within}
 use Rattle.n2k_join.specs.Laws.{BadAlone}
+use Rattle.n2k_join.specs.Window.{Rule}
 
 -- an entry that gives nothing but its cause
 record IsNothing (kind : ℕ → Option Kind) (e : Entry) : Type 0 where
@@ -43,7 +44,7 @@ bad-nothing kind (entries.Frame packet) bad = by_kind (kind packet.id.pgn) refl 
     by_kind (Some Single) k bad = absurd (false≢true bad)
     by_kind (Some Fast) k bad = by_test (is_fast_payload packet.payload) refl k bad
 
-module _ (kind : ℕ → Option Kind) (e : Entry) (nothing : IsNothing kind e) where
+module _ (w : Rule) (kind : ℕ → Option Kind) (e : Entry) (nothing : IsNothing kind e) where
   frames_from-same : (n : ℕ) (front back : List Entry) → frames_from kind n (front ++ e ∷ back) ≡ frames_from kind n (front ++ entries.Skip ∷ back)
   frames_from-same n [] back = ap (λ o. cons_option o (frames_from kind (n + 1) back)) (nothing.no_frame n)
   frames_from-same n (f ∷ front) back = ap (cons_option (frame_in kind n f)) (frames_from-same (n + 1) front back)
@@ -54,15 +55,15 @@ module _ (kind : ℕ → Option Kind) (e : Entry) (nothing : IsNothing kind e) w
   alone-same (f ∷ front) back zero = refl
   alone-same (f ∷ front) back (suc i) = alone-same front back i
 
-  message-same : (front back : List Entry) (i : ℕ) → message kind (front ++ e ∷ back) i ≡ message kind (front ++ entries.Skip ∷ back) i
-  message-same front back i = λ j. option_or (option_map (λ (m : Keyed). m.message) (gathered repeats (frames_from-same 1 front back j) i)) (by i j)
+  message-same : (front back : List Entry) (i : ℕ) → message w kind (front ++ e ∷ back) i ≡ message w kind (front ++ entries.Skip ∷ back) i
+  message-same front back i = λ j. option_or (option_map (λ (m : Keyed). m.message) (gathered (within w) (frames_from-same 1 front back j) i)) (by i j)
     where
       by : (i : ℕ) → option_and_then (alone kind) (entry_at (front ++ e ∷ back) i) ≡ option_and_then (alone kind) (entry_at (front ++ entries.Skip ∷ back) i)
       by zero = refl
       by (suc i) = alone-same front back i
 
-  broken-same : (front back : List Entry) (i : ℕ) → broken kind (front ++ e ∷ back) i ≡ broken kind (front ++ entries.Skip ∷ back) i
-  broken-same front back i = ap (λ fs. broken_with repeats fs i) (frames_from-same 1 front back)
+  broken-same : (front back : List Entry) (i : ℕ) → broken w kind (front ++ e ∷ back) i ≡ broken w kind (front ++ entries.Skip ∷ back) i
+  broken-same front back i = ap (λ fs. broken_with w fs i) (frames_from-same 1 front back)
 
   length-same : (front back : List Entry) → length (front ++ e ∷ back) ≡ length (front ++ entries.Skip ∷ back)
   length-same front back = length-append front (e ∷ back) ∙ sym (length-append front (entries.Skip ∷ back))
@@ -81,10 +82,10 @@ module _ (kind : ℕ → Option Kind) (e : Entry) (nothing : IsNothing kind e) w
       let less = count-with p entries.Skip front back ∙ ap (λ b. count_by p front + (cond b 1 0 + count_by p back)) not_skip in
       omega (arith, more, less)
 
-  open-same : (front back : List Entry) → open_groups repeats (length (front ++ e ∷ back)) (frames kind (front ++ e ∷ back)) ≡ open_groups repeats (length (front ++ entries.Skip ∷ back)) (frames kind (front ++ entries.Skip ∷ back))
-  open-same front back = λ i. open_groups repeats (length-same front back i) (frames_from-same 1 front back i)
+  open-same : (front back : List Entry) → open_within w (length (front ++ e ∷ back)) (frames kind (front ++ e ∷ back)) ≡ open_within w (length (front ++ entries.Skip ∷ back)) (frames kind (front ++ entries.Skip ∷ back))
+  open-same front back = λ i. open_within w (length-same front back i) (frames_from-same 1 front back i)
 
-  counts-same : (front back : List Entry) → is_some (cause_in kind e) ≡ true → counts kind (front ++ e ∷ back) ≡ record (counts kind (front ++ entries.Skip ∷ back)) { bad = (counts kind (front ++ entries.Skip ∷ back)).bad + 1 }
+  counts-same : (front back : List Entry) → is_some (cause_in kind e) ≡ true → counts w kind (front ++ e ∷ back) ≡ record (counts w kind (front ++ entries.Skip ∷ back)) { bad = (counts w kind (front ++ entries.Skip ∷ back)).bad + 1 }
   counts-same front back bad = λ i. record {
     lines = length-same front back i;
     messages = count_by (λ line. is_some (message-same front back line i)) (range_with_len 1 (length-same front back i));
@@ -94,12 +95,12 @@ module _ (kind : ℕ → Option Kind) (e : Entry) (nothing : IsNothing kind e) w
     held = length (open-same front back i);
   }
 
-pub bad_alone : (kind : ℕ → Option Kind) (front : List Entry) (e : Entry) (back : List Entry) → is_some (cause_in kind e) ≡ true → BadAlone kind front e back
-bad_alone kind front e back bad =
+pub bad_alone : (w : Rule) (kind : ℕ → Option Kind) (front : List Entry) (e : Entry) (back : List Entry) → is_some (cause_in kind e) ≡ true → BadAlone w kind front e back
+bad_alone w kind front e back bad =
     let nothing = bad-nothing kind e bad in
     record {
-      messages = message-same kind e nothing front back;
-      broken_groups = broken-same kind e nothing front back;
-      open_still = open-same kind e nothing front back;
-      counted = counts-same kind e nothing front back bad;
+      messages = message-same w kind e nothing front back;
+      broken_groups = broken-same w kind e nothing front back;
+      open_still = open-same w kind e nothing front back;
+      counted = counts-same w kind e nothing front back bad;
     }

@@ -1,5 +1,5 @@
 -- The laws of what frames are cut into.
-use Rattle.std.proofs.Common.{◌≡◌, ◌≤◌, ◌<◌, ◌+◌, ℕ, suc, zero, Bool, true, false, cond, List, [], ◌∷◌, ◌++◌, length, refl, sym, ap, ◌∙◌, subst, arith, append_assoc, Some, slice_get}
+use Rattle.std.proofs.Common.{◌≡◌, ◌≤◌, ◌<◌, ◌+◌, ◌&&◌, ℕ, suc, zero, Bool, true, false, cond, List, [], ◌∷◌, ◌++◌, length, refl, sym, ap, ◌∙◌, subst, arith, append_assoc, Some, slice_get}
 use Rattle.std.specs.Prelude.{option_map}
 use Rattle.std.specs.List.{AllByRecursion}
 use mathlib.Core.Logic.{◌⊎◌, inl, inr}
@@ -8,27 +8,28 @@ use Rattle.std.proofs.lemmas.List.Elements.{All-from_recursion}
 use Rattle.std.proofs.lemmas.Bool.{or_parts, or_left}
 use Rattle.std.proofs.lemmas.Option.{none-some, same_Some}
 use Rattle.n2k_join.specs.Frames.{Frame}
-use Rattle.n2k_join.specs.Groups.{Ends, closes, complete, repeats, has_twice, cut_from, cut, HasEnded, IsFirstGroup, first}
+use Rattle.n2k_join.specs.Groups.{Ends, closes, complete, repeats, misfits, falls_back, is_late, within, has_twice, cut_from, cut, HasEnded, IsFirstGroup, first}
 use Rattle.n2k_join.specs.Laws.{CutJoins, HasFirstGroup, CutFirst, CutGrows}
 use Rattle.n2k_join.proofs.Carried.{has_twice-push}
 use Rattle.n2k_join.proofs.Cuts.{grown, cut-push, cut-joined, cut-keeps}
+use Rattle.n2k_join.specs.Window.{Rule}
 
 -- no group is empty
 abbrev AreGroups : List (List Frame) → Type 0
 AreGroups gs = AllByRecursion (λ (g : List Frame). 0 < length g) gs
 
-cut-nonempty : (fs : List Frame) → AreGroups (cut repeats fs)
-cut-nonempty fs = cut-keeps repeats (λ g. 0 < length g) (λ x. omega arith) (λ g x c h. omega (arith, length-append g (x ∷ []))) fs
+cut-nonempty : (ends : Ends) (fs : List Frame) → AreGroups (cut ends fs)
+cut-nonempty ends fs = cut-keeps ends (λ g. 0 < length g) (λ x. omega arith) (λ g x c h. omega (arith, length-append g (x ∷ []))) fs
 
-pub cut_joins : (fs : List Frame) → CutJoins fs
-cut_joins fs = record {
-  joined = cut-joined repeats fs;
-  nonempty = All-from_recursion (λ (g : List Frame). 0 < length g) (cut repeats fs) (cut-nonempty fs);
-  once = All-from_recursion (λ (g : List Frame). has_twice g ≡ false) (cut repeats fs) (cut-keeps repeats (λ g. has_twice g ≡ false) (λ x. refl) more fs);
+pub cut_joins : (rule : Rule) (fs : List Frame) → CutJoins rule fs
+cut_joins rule fs = record {
+  joined = cut-joined (within rule) fs;
+  nonempty = All-from_recursion (λ (g : List Frame). 0 < length g) (cut (within rule) fs) (cut-nonempty (within rule) fs);
+  once = All-from_recursion (λ (g : List Frame). has_twice g ≡ false) (cut (within rule) fs) (cut-keeps (within rule) (λ g. has_twice g ≡ false) (λ x. refl) more fs);
 }
   where
-    more : (g : List Frame) (x : Frame) → closes repeats g x ≡ false → has_twice g ≡ false → has_twice (g ++ x ∷ []) ≡ false
-    more g x c h = has_twice-push g x h ∙ (or_parts (complete g) (repeats g x) c).1
+    more : (g : List Frame) (x : Frame) → closes (within rule) g x ≡ false → has_twice g ≡ false → has_twice (g ++ x ∷ []) ≡ false
+    more g x c h = has_twice-push g x h ∙ (or_parts (repeats g x) (rule.in_order && falls_back g x) (or_parts (misfits rule g x) (is_late rule g x) (or_parts (complete g) (within rule g x) c).1).0).0
 
 -- ---- the first group
 
@@ -85,63 +86,63 @@ none_more ends f front x none open_still h g before back e = by (last_or_none ba
 none_alone : (ends : Ends) (f : Frame) → NoneEnds ends (f ∷ [])
 none_alone ends f h g before back e = absurd (omega (arith, ap length e, length-append (h ∷ before) (g ∷ back)))
 
-first_from : (f : Frame) (front rest : List Frame) → NoneEnds repeats (f ∷ front) → HasFirstGroup ((f ∷ front) ++ rest)
-first_from f front [] none = record { group = f ∷ front; rest = []; is = record { joined = refl; nonempty = omega arith; ended = tt; shortest = none } }
-first_from f front (x ∷ rest) none = by (closes repeats (f ∷ front) x) refl (first_from f (front ++ x ∷ []) rest)
+first_from : (rule : Rule) (f : Frame) (front rest : List Frame) → NoneEnds (within rule) (f ∷ front) → HasFirstGroup rule ((f ∷ front) ++ rest)
+first_from rule f front [] none = record { group = f ∷ front; rest = []; is = record { joined = refl; nonempty = omega arith; ended = tt; shortest = none } }
+first_from rule f front (x ∷ rest) none = by (closes (within rule) (f ∷ front) x) refl (first_from rule f (front ++ x ∷ []) rest)
   where
-    by : (b : Bool) → closes repeats (f ∷ front) x ≡ b → (NoneEnds repeats ((f ∷ front) ++ x ∷ []) → HasFirstGroup (((f ∷ front) ++ x ∷ []) ++ rest)) → HasFirstGroup ((f ∷ front) ++ (x ∷ rest))
+    by : (b : Bool) → closes (within rule) (f ∷ front) x ≡ b → (NoneEnds (within rule) ((f ∷ front) ++ x ∷ []) → HasFirstGroup rule (((f ∷ front) ++ x ∷ []) ++ rest)) → HasFirstGroup rule ((f ∷ front) ++ (x ∷ rest))
     by true e later = record { group = f ∷ front; rest = x ∷ rest; is = record { joined = refl; nonempty = omega arith; ended = e; shortest = none } }
-    by false e later = subst HasFirstGroup (append_assoc (f ∷ front) (x ∷ []) rest) (later (none_more repeats f front x none e))
+    by false e later = subst (HasFirstGroup rule) (append_assoc (f ∷ front) (x ∷ []) rest) (later (none_more (within rule) f front x none e))
 
-pub cut_first : (fs : List Frame) → CutFirst fs
+pub cut_first : (rule : Rule) (fs : List Frame) → CutFirst rule fs
 unfolding cut
-cut_first fs = record { none = refl; begins = begins fs; follows = first_follows repeats fs }
+cut_first rule fs = record { none = refl; begins = begins fs; follows = first_follows (within rule) fs }
   where
-    begins : (fs : List Frame) → 0 < length fs → HasFirstGroup fs
+    begins : (fs : List Frame) → 0 < length fs → HasFirstGroup rule fs
     begins [] some = absurd (omega (arith, some))
-    begins (f ∷ fs) some = first_from f [] fs (none_alone repeats f)
+    begins (f ∷ fs) some = first_from rule f [] fs (none_alone (within rule) f)
 
 -- ---- with a frame more
 
-grown-stays : (gs : List (List Frame)) (x : Frame) (i : ℕ) (g : List Frame) → slice_get gs i ≡ Some g → (complete g ≡ true) ⊎ (i + 1 < length gs) → slice_get (grown repeats gs x) i ≡ Some g
-grown-stays [] x i g e settled = absurd (none-some g e)
-grown-stays (h ∷ []) x zero g e settled = by settled
+grown-stays : (ends : Ends) (gs : List (List Frame)) (x : Frame) (i : ℕ) (g : List Frame) → slice_get gs i ≡ Some g → (complete g ≡ true) ⊎ (i + 1 < length gs) → slice_get (grown ends gs x) i ≡ Some g
+grown-stays ends [] x i g e settled = absurd (none-some g e)
+grown-stays ends (h ∷ []) x zero g e settled = by settled
   where
-    by : (complete g ≡ true) ⊎ (0 + 1 < 1) → slice_get (cond (closes repeats h x) (h ∷ (x ∷ []) ∷ []) ((h ++ x ∷ []) ∷ [])) 0 ≡ Some g
-    by (inl done) = ap (λ b. slice_get (cond b (h ∷ (x ∷ []) ∷ []) ((h ++ x ∷ []) ∷ [])) 0) (or_left (complete h) (repeats h x) (ap complete (same_Some h g e) ∙ done)) ∙ e
+    by : (complete g ≡ true) ⊎ (0 + 1 < 1) → slice_get (cond (closes ends h x) (h ∷ (x ∷ []) ∷ []) ((h ++ x ∷ []) ∷ [])) 0 ≡ Some g
+    by (inl done) = ap (λ b. slice_get (cond b (h ∷ (x ∷ []) ∷ []) ((h ++ x ∷ []) ∷ [])) 0) (or_left (complete h) (ends h x) (ap complete (same_Some h g e) ∙ done)) ∙ e
     by (inr past) = absurd (omega (arith, past))
-grown-stays (h ∷ []) x (suc i) g e settled = absurd (none-some g e)
-grown-stays (h ∷ k ∷ gs) x zero g e settled = e
-grown-stays (h ∷ k ∷ gs) x (suc i) g e settled = grown-stays (k ∷ gs) x i g e (by settled)
+grown-stays ends (h ∷ []) x (suc i) g e settled = absurd (none-some g e)
+grown-stays ends (h ∷ k ∷ gs) x zero g e settled = e
+grown-stays ends (h ∷ k ∷ gs) x (suc i) g e settled = grown-stays ends (k ∷ gs) x i g e (by settled)
   where
     by : (complete g ≡ true) ⊎ (suc i + 1 < length (h ∷ k ∷ gs)) → (complete g ≡ true) ⊎ (i + 1 < length (k ∷ gs))
     by (inl done) = inl done
     by (inr l) = inr (omega (arith, l))
 
-grown-length : (gs : List (List Frame)) (x : Frame) → length gs ≤ length (grown repeats gs x)
-grown-length [] x = omega arith
-grown-length (g ∷ []) x = by (closes repeats g x)
+grown-length : (ends : Ends) (gs : List (List Frame)) (x : Frame) → length gs ≤ length (grown ends gs x)
+grown-length ends [] x = omega arith
+grown-length ends (g ∷ []) x = by (closes ends g x)
   where
     by : (b : Bool) → 1 ≤ length (cond b (g ∷ (x ∷ []) ∷ []) ((g ++ x ∷ []) ∷ []))
     by true = omega arith
     by false = omega arith
-grown-length (g ∷ h ∷ gs) x = omega (arith, grown-length (h ∷ gs) x)
+grown-length ends (g ∷ h ∷ gs) x = omega (arith, grown-length ends (h ∷ gs) x)
 
-grown-begins : (gs : List (List Frame)) (x : Frame) (i : ℕ) (g : List Frame) → AreGroups gs → slice_get gs i ≡ Some g → option_map first (slice_get (grown repeats gs x) i) ≡ Some (first g)
-grown-begins [] x i g some e = absurd (none-some g e)
-grown-begins ([] ∷ gs) x i g some e = absurd (omega (arith, some.0))
-grown-begins ((f ∷ h) ∷ []) x zero g some e = by (closes repeats (f ∷ h) x)
+grown-begins : (ends : Ends) (gs : List (List Frame)) (x : Frame) (i : ℕ) (g : List Frame) → AreGroups gs → slice_get gs i ≡ Some g → option_map first (slice_get (grown ends gs x) i) ≡ Some (first g)
+grown-begins ends [] x i g some e = absurd (none-some g e)
+grown-begins ends ([] ∷ gs) x i g some e = absurd (omega (arith, some.0))
+grown-begins ends ((f ∷ h) ∷ []) x zero g some e = by (closes ends (f ∷ h) x)
   where
     by : (b : Bool) → option_map first (slice_get (cond b ((f ∷ h) ∷ (x ∷ []) ∷ []) (((f ∷ h) ++ x ∷ []) ∷ [])) 0) ≡ Some (first g)
     by true = ap (option_map first) e
     by false = ap (option_map first) e
-grown-begins ((f ∷ h) ∷ []) x (suc i) g some e = absurd (none-some g e)
-grown-begins ((f ∷ h) ∷ k ∷ gs) x zero g some e = ap (option_map first) e
-grown-begins ((f ∷ h) ∷ k ∷ gs) x (suc i) g some e = grown-begins (k ∷ gs) x i g some.1 e
+grown-begins ends ((f ∷ h) ∷ []) x (suc i) g some e = absurd (none-some g e)
+grown-begins ends ((f ∷ h) ∷ k ∷ gs) x zero g some e = ap (option_map first) e
+grown-begins ends ((f ∷ h) ∷ k ∷ gs) x (suc i) g some e = grown-begins ends (k ∷ gs) x i g some.1 e
 
-pub cut_grows : (fs : List Frame) (x : Frame) → CutGrows fs x
-cut_grows fs x = record {
-  stays = λ place group at settled. ap (λ gs. slice_get gs place) (cut-push repeats fs x) ∙ grown-stays (cut repeats fs) x place group at settled;
-  begins = λ place group at. ap (λ gs. option_map first (slice_get gs place)) (cut-push repeats fs x) ∙ grown-begins (cut repeats fs) x place group (cut-nonempty fs) at;
-  no_fewer = omega (arith, grown-length (cut repeats fs) x, ap length (cut-push repeats fs x));
+pub cut_grows : (rule : Rule) (fs : List Frame) (x : Frame) → CutGrows rule fs x
+cut_grows rule fs x = record {
+  stays = λ place group at settled. ap (λ gs. slice_get gs place) (cut-push (within rule) fs x) ∙ grown-stays (within rule) (cut (within rule) fs) x place group at settled;
+  begins = λ place group at. ap (λ gs. option_map first (slice_get gs place)) (cut-push (within rule) fs x) ∙ grown-begins (within rule) (cut (within rule) fs) x place group (cut-nonempty (within rule) fs) at;
+  no_fewer = omega (arith, grown-length (within rule) (cut (within rule) fs) x, ap length (cut-push (within rule) fs x));
 }

@@ -1,10 +1,13 @@
 -- The groups of a list of frames, and those of a list with one frame more.
-use Rattle.std.proofs.Common.{◌≡◌, ℕ, Bool, true, false, cond, List, [], ◌∷◌, ◌++◌, refl, sym, ap, ◌∙◌, append_assoc, Option, Some, None}
-use Rattle.std.specs.Prelude.{fold, is_some, IfSome}
+use Rattle.std.proofs.Common.{◌≡◌, ◌==◌, ℕ, ◌+◌, ◌<◌, ◌≤◌, ◌||◌, ◌&&◌, Bool, true, false, cond, List, [], ◌∷◌, ◌++◌, refl, sym, ap, ◌∙◌, arith, nat_le, append_assoc, Option, Some, None}
+use Rattle.std.specs.Prelude.{fold, is_some, IfSome, nat_lt}
 use Rattle.std.specs.List.{last_or, flat_map, AllByRecursion}
 use Rattle.std.proofs.lemmas.List.Sums.{fold_push}
 use Rattle.n2k_join.specs.Frames.{Frame}
-use Rattle.n2k_join.specs.Groups.{Ends, closes, repeats, cut_from, cut, carried, has_number, first}
+use Rattle.n2k_join.specs.Window.{Rule}
+use Rattle.n2k_join.proofs.Carried.{same_bool}
+use Rattle.std.proofs.lemmas.Bool.{or_left, or_right, or_from, lt-leb, le-leb, leb-true, le-ltb, eqb-true, eq-eqb, false≢true}
+use Rattle.n2k_join.specs.Groups.{Ends, closes, repeats, has_from, falls_back, misfits, is_late, within, cut_from, cut, carried, has_number, first}
 
 pub all-push : {A : Type 0} (P : A → Type 0) (xs : List A) (x : A) → AllByRecursion P xs → P x → AllByRecursion P (xs ++ x ∷ [])
 all-push P [] x h px = (px, tt)
@@ -23,6 +26,52 @@ repeats-ends = record {
   alike = λ g h x e f. ap (λ (c : ℕ → Option (List ℕ)). is_some (c x.number)) e;
   own_line = λ g x e h. h;
 }
+
+-- a number that is in a group, and not below another
+pub record HasFrom (n : ℕ) (g : List Frame) : Type 0 where
+  pub number : ℕ
+  pub least : n ≤ number
+  pub has : has_number number g ≡ true
+
+pub from_has : (n : ℕ) (g : List Frame) → has_from n g ≡ true → HasFrom n g
+from_has n [] e = absurd (false≢true e)
+from_has n (f ∷ g) e = by (nat_le n f.number) refl e (from_has n g)
+  where
+    by : (b : Bool) → nat_le n f.number ≡ b → (b || has_from n g) ≡ true → (has_from n g ≡ true → HasFrom n g) → HasFrom n (f ∷ g)
+    by true l e later = record { number = f.number; least = leb-true n f.number l; has = ap (λ b. is_some (cond b (Some f.bytes) (carried g f.number))) (eq-eqb f.number f.number refl) }
+    by false l e later =
+        let h = later e in
+        record { number = h.number; least = h.least; has = elim (f.number == h.number) as (λ b. is_some (cond b (Some f.bytes) (carried g h.number)) ≡ true) [ true ↦ refl | false ↦ h.has ] }
+
+pub has-from : (n m : ℕ) (g : List Frame) → n ≤ m → has_number m g ≡ true → has_from n g ≡ true
+has-from n m [] l e = absurd (false≢true e)
+has-from n m (f ∷ g) l e = by (f.number == m) refl e (has-from n m g l)
+  where
+    by : (b : Bool) → (f.number == m) ≡ b → is_some (cond b (Some f.bytes) (carried g m)) ≡ true → (has_number m g ≡ true → has_from n g ≡ true) → (nat_le n f.number || has_from n g) ≡ true
+    by true is e later = or_left _ _ (le-leb n f.number (omega (arith, l, eqb-true f.number m is)))
+    by false is e later = or_right _ _ (later e)
+
+-- whether a number stands in a group from one on is told by what the group carries
+pub has_from-same : (n : ℕ) (g h : List Frame) → carried g ≡ carried h → has_from n g ≡ has_from n h
+has_from-same n g h same = same_bool (has_from n g) (has_from n h) (there g h same) (there h g (sym same))
+  where
+    there : (g h : List Frame) → carried g ≡ carried h → has_from n g ≡ true → has_from n h ≡ true
+    there g h same e = let a = from_has n g e in has-from n a.number h a.least (ap (λ c. is_some (c a.number)) (sym same) ∙ a.has)
+
+and_false : (b c : Bool) → c ≡ false → (b && c) ≡ false
+and_false true c e = e
+and_false false c e = refl
+
+-- A rule with a window of at least one line is such a test, too.
+pub within-ends : (rule : Rule) → 0 < rule.window → IsEnding (within rule)
+within-ends rule some = record {
+  repeated = λ g x e. or_left (misfits rule g x) (is_late rule g x) (or_left (repeats g x) (rule.in_order && falls_back g x) e);
+  alike = λ g h x e f. λ i. (is_some (e i x.number) || (rule.in_order && (nat_lt (f i) x.line && has_from-same x.number g h e i))) || nat_le (f i + rule.window) x.line;
+  own_line = λ g x e h. or_from (misfits rule g x) (is_late rule g x) (fits g x e h) (lt-leb (first g + rule.window) x.line (omega (arith, e, some)));
+}
+  where
+    fits : (g : List Frame) (x : Frame) → first g ≡ x.line → has_number x.number g ≡ false → misfits rule g x ≡ false
+    fits g x e h = or_from (repeats g x) (rule.in_order && falls_back g x) h (and_false rule.in_order (falls_back g x) (ap (λ b. b && has_from x.number g) (le-ltb (first g) x.line (omega (arith, e)))))
 
 -- the group that a frame joins or begins, where this is the group so far
 abbrev pub next : Ends → Option (List Frame) → Frame → List Frame

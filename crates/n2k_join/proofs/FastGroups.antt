@@ -1,26 +1,26 @@
--- What a saved text spells under a table: its groups are of fast PGNs of that table, whose id it has.
-use Rattle.std.proofs.Common.{◌≡◌, ℕ, Bool, true, false, List, [], ◌∷◌, length, Option, Some, None, Result, Ok, Err, refl, sym, ap, ◌∙◌, subst}
+-- What a saved text spells under a table and a window: its groups are of fast PGNs of that table, whose id it has.
+use Rattle.std.proofs.Common.{◌≡◌, ◌==◌, ℕ, Bool, true, false, List, [], ◌∷◌, length, Option, Some, None, Result, Ok, refl, IfOk}
 use Rattle.std.specs.Prelude.{All, ◌≤◌, not}
 use Rattle.std.specs.List.{list_any}
 use Rattle.std.specs.Str.{bytes_eq}
-use Rattle.std.proofs.lemmas.Bool.{false≢true}
+use Rattle.std.proofs.lemmas.Bool.{false≢true, eqb-true}
 use Rattle.std.proofs.lemmas.List.Elements.{recursion_from_All}
 use Rattle.std.proofs.lemmas.Slice.Eq.{bytes_eq-Decides}
-use Rattle.serde_json.specs.Data.{Data}
 use Rattle.n2k_wire.specs.declared.entry.Entry.{Entry}
 use Rattle.n2k_wire.specs.Entry.{IsEntry}
 use Rattle.n2k_table.specs.declared.definition.Kind.{Kind}
 use Rattle.n2k_table.specs.declared.definition.Kind.TheVariants.{Single, Fast}
-use Rattle.n2k_join.specs.declared.state_fault.StateFault.{StateFault}
-use Rattle.n2k_join.specs.declared.state_fault.StateFault.TheVariants.{NotJson, Format, TableDiffers}
+use Rattle.n2k_join.specs.declared.state_fault.StateFault.TheVariants.{NotJson, TableDiffers, WindowDiffers, Invalid}
 use Rattle.n2k_join.specs.Counts.{most_lines}
 use Rattle.n2k_join.specs.Frames.{same_key}
 use Rattle.n2k_join.specs.Open.{Group}
-use Rattle.n2k_wire.specs.Steps.{◌>>=◌, or_cause, holds_or}
-use Rattle.n2k_join.specs.Resumed.{counts_hold, firsts_rise, group_holds, groups_hold, has_format, is_fast, is_valid, judged, key_holds, parsed, state_of, valid_if}
+use Rattle.n2k_wire.specs.Steps.{or_cause}
+use Rattle.n2k_join.specs.Resumed.{counts_hold, firsts_rise, format_in, group_holds, groups_hold, is_fast, is_valid, judged, key_holds, parsed, state_of, waits_hold}
 use Rattle.n2k_join.specs.Saved.{IsId, state_text}
 use Rattle.n2k_join.specs.State.{State, state, AreFast}
+use Rattle.n2k_join.specs.Window.{Rule, IsWindow}
 use Rattle.n2k_join.proofs.Keeping.{state-valid}
+use Rattle.n2k_join.proofs.Spelled.{if_ok-then, if_ok-held, if_ok-valid, if_ok-of, IsSpelled, state-spelled}
 use Rattle.n2k_join.proofs.StateReads.{state_back}
 use Rattle.n2k_join.proofs.StateTests.{both}
 
@@ -39,45 +39,38 @@ groups-fast kind (g ∷ gs) h =
     let rest = both (not (list_any (λ (other : Group). same_key g.key other.key) gs)) (groups_hold kind gs) all.1 in
     (is_fast-true (kind g.key.pgn) (both (is_fast (kind g.key.pgn)) _ ranges.1).0, groups-fast kind gs rest.1)
 
-valid-fast : (kind : ℕ → Option Kind) (s : State) → is_valid kind s ≡ true → AreFast kind s.groups
+pub valid-fast : (kind : ℕ → Option Kind) (s : State) → is_valid kind s ≡ true → AreFast kind s.groups
 unfolding is_valid
 valid-fast kind s h = groups-fast kind s.groups (both (firsts_rise 1 s.counts.lines s.groups) (groups_hold kind s.groups) (both (counts_hold s.counts) _ h).1).1
 
-then_ok : {A B : Type 0} (r : Result A StateFault) (f : A → Result B StateFault) (y : B) → (r >>= f) ≡ Ok y → (x : A) × (r ≡ Ok x) × (f x ≡ Ok y)
-then_ok (Ok x) f y h = (x, refl, h)
-then_ok (Err e) f y h = cc
-
-holds-true : (fault : StateFault) (test : Bool) (u : Unit {0}) → holds_or fault test ≡ Ok u → test ≡ true
-holds-true fault true u h = refl
-holds-true fault false u h = cc
-
-valid_if-true : (test : Bool) (s s' : State) → valid_if test s ≡ Ok s' → (test ≡ true) × (s ≡ s')
-valid_if-true true s s' h = (refl, cc)
-valid_if-true false s s' h = cc
-
--- a text that is read spells a valid state of the table
-pub record IsSpelled (kind : ℕ → Option Kind) (id : List ℕ) (s : State) : Type 0 where
+-- A text that is read spells a state of the table and the window that were handed in, which keeps the rules.
+pub record IsRead (kind : ℕ → Option Kind) (id : List ℕ) (rule : Rule) (s : State) : Type 0 where
   pub same_table : s.id ≡ id
-  pub fast : AreFast kind s.groups
+  pub same_rule : s.rule ≡ rule
+  pub spelled : IsSpelled rule s
+  pub valid : is_valid kind s ≡ true
 
-pub read-spelled : (kind : ℕ → Option Kind) (id bytes : List ℕ) (s : State) → judged kind id bytes ≡ Ok s → IsSpelled kind id s
+reads : (kind : ℕ → Option Kind) (id : List ℕ) (rule : Rule) (bytes : List ℕ) → IfOk (judged kind id rule bytes) (IsRead kind id rule)
 unfolding judged
-read-spelled kind id bytes s h =
-    let last : State → Result State StateFault = λ s. holds_or TableDiffers (bytes_eq s.id id) >>= (λ same. valid_if (is_valid kind s) s) in
-    let second : Data → Result State StateFault = λ d. holds_or Format (has_format d) >>= (λ known. state_of d >>= last) in
-    let parsing = then_ok (or_cause NotJson (parsed bytes)) second s h in
-    let format = then_ok (holds_or Format (has_format parsing.0)) (λ known. state_of parsing.0 >>= last) s parsing.2 in
-    let spelling = then_ok (state_of parsing.0) last s format.2 in
-    let same = then_ok (holds_or TableDiffers (bytes_eq spelling.0.id id)) (λ same. valid_if (is_valid kind spelling.0) spelling.0) s spelling.2 in
-    let valid = valid_if-true (is_valid kind spelling.0) spelling.0 s same.2 in
-    let id_is : spelling.0.id ≡ id = (bytes_eq-Decides spelling.0.id id).0 (holds-true TableDiffers (bytes_eq spelling.0.id id) same.0 same.1) in
-    record {
-      same_table = ap (λ (x : State). x.id) (sym valid.1) ∙ id_is;
-      fast = subst (λ (x : State). AreFast kind x.groups) valid.1 (valid-fast kind spelling.0 valid.0);
-    }
+reads kind id rule bytes =
+    if_ok-then (IsRead kind id rule) (or_cause NotJson (parsed bytes)) _ (λ d e. if_ok-then (IsRead kind id rule) (format_in d) _ (λ format e.
+    if_ok-then (IsRead kind id rule) (state_of format rule d) _ (λ s spelled.
+    if_ok-held (IsRead kind id rule) TableDiffers (bytes_eq s.id id) _ (λ table.
+    if_ok-held (IsRead kind id rule) WindowDiffers (s.rule.window == rule.window) _ (λ window.
+    if_ok-held (IsRead kind id rule) Invalid (waits_hold format s) _ (λ in_time.
+    if_ok-valid (IsRead kind id rule) (is_valid kind s) s (λ valid. is_read s (if_ok-of (IsSpelled rule) (state_of format rule d) s (state-spelled format rule d) spelled) table window valid)))))))
+  where
+    is_read : (s : State) → IsSpelled rule s → bytes_eq s.id id ≡ true → (s.rule.window == rule.window) ≡ true → is_valid kind s ≡ true → IsRead kind id rule s
+    is_read s spelled table window valid =
+        let same_window : s.rule.window ≡ rule.window = eqb-true s.rule.window rule.window window in
+        record { same_table = (bytes_eq-Decides s.id id).0 table; same_rule = λ i. record { window = same_window i; in_order = spelled.order i }; spelled = spelled; valid = valid }
+
+pub read-spelled : (kind : ℕ → Option Kind) (id : List ℕ) (rule : Rule) (bytes : List ℕ) (s : State) → judged kind id rule bytes ≡ Ok s → IsRead kind id rule s
+read-spelled kind id rule bytes s is = if_ok-of (IsRead kind id rule) (judged kind id rule bytes) s (reads kind id rule bytes) is
 
 -- what is saved after a log reads back
-pub log_back : (kind : ℕ → Option Kind) (id : List ℕ) (es : List Entry) → IsId id → All IsEntry es → length es ≤ most_lines → judged kind id (state_text (state id kind es)) ≡ Ok (state id kind es)
-log_back kind id es is valid few =
-    let stands = state-valid id kind es (recursion_from_All IsEntry es valid) few in
-    state_back kind (state id kind es) stands.valid stands.fast is
+pub log_back : (kind : ℕ → Option Kind) (id : List ℕ) (rule : Rule) (es : List Entry) → IsWindow rule.window → IsId id → All IsEntry es → length es ≤ most_lines
+    → judged kind id rule (state_text (state id rule kind es)) ≡ Ok (state id rule kind es)
+log_back kind id rule es window is valid few =
+    let stands = state-valid id rule kind es window (recursion_from_All IsEntry es valid) few in
+    state_back kind (state id rule kind es) stands.valid stands.fast is

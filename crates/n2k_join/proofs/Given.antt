@@ -5,7 +5,7 @@ use Rattle.std.proofs.lemmas.List.{append-nil, length-append}
 use Rattle.std.proofs.lemmas.Bool.{eqb-true, eq-eqb, ne_eqb, or_parts}
 use Rattle.n2k_join.specs.Frames.{Key, same_key, Frame, of_key, frame_at}
 use Rattle.n2k_join.specs.Groups.{Ends, closes, complete, cut, first, last_line}
-use Rattle.n2k_join.specs.Messages.{Keyed, message_of, is_done_at, gathered_by, gathered, broken_of, broken_before, broken_by, broken_with}
+use Rattle.n2k_join.specs.Messages.{Keyed, message_of, is_done_at, gathered_by, gathered}
 use Rattle.n2k_join.proofs.Cuts.{next, so_far, grown, cut-push, last-cut, cut-keeps, cut-all}
 use Rattle.n2k_join.proofs.Keys.{same_key-refl, of_key-same, of_key-other, of_key-keeps}
 use Rattle.n2k_join.proofs.Opened.{IsLog, none_at, at_last, at_line}
@@ -16,7 +16,7 @@ pub record IsUpTo (n : ℕ) (g : List Frame) : Type 0 where
   pub nonempty : 0 < length g
   pub lines : AllByRecursion (λ (f : Frame). f.line ≤ n) g
 
-first-le : (n : ℕ) (g : List Frame) → IsUpTo n g → first g ≤ n
+pub first-le : (n : ℕ) (g : List Frame) → IsUpTo n g → first g ≤ n
 first-le n [] up = omega arith
 first-le n (f ∷ g) up = up.lines.0
 
@@ -30,7 +30,7 @@ last_line-push [] x = refl
 last_line-push (f ∷ []) x = refl
 last_line-push (f ∷ h ∷ g) x = last_line-push (h ∷ g) x
 
-first-push : (g : List Frame) (x : Frame) → 0 < length g → first (g ++ x ∷ []) ≡ first g
+pub first-push : (g : List Frame) (x : Frame) → 0 < length g → first (g ++ x ∷ []) ≡ first g
 first-push [] x some = absurd (omega (arith, some))
 first-push (f ∷ g) x some = refl
 
@@ -49,11 +49,6 @@ module _ (ends : Ends) where
   -- what the frame completes
   abbrev pub completed : Option (List Frame) → Frame → Option (List Frame)
   completed s x = cond (complete (next ends s x)) (Some (next ends s x)) None
-
-  -- what it breaks
-  abbrev pub broke : Option (List Frame) → Frame → List (List Frame)
-  broke None x = []
-  broke (Some g) x = cond (complete g) [] (cond (ends g x) (g ∷ []) [])
 
   found_alone : (x : Frame) → find (is_done_at x.line) ((x ∷ []) ∷ []) ≡ cond (complete (x ∷ [])) (Some (x ∷ [])) None
   found_alone x = ap (λ b. cond b (Some (x ∷ [])) None) (done-here [] x)
@@ -78,47 +73,6 @@ module _ (ends : Ends) where
           ∙ sym (ap (λ b. cond b (Some g) None) (done-incomplete i g (or_parts (complete g) (ends g x) e).0))
   found_stays i (g ∷ h ∷ gs) x other = ap (λ o. cond (is_done_at i g) (Some g) o) (found_stays i (h ∷ gs) x other)
 
-  -- a group that is followed by one that begins at another line
-  skipped : (i : ℕ) (g h : List Frame) (gs : List (List Frame)) → (first h ≡ i → ⊥) → broken_before i (g ∷ h ∷ gs) ≡ broken_before i (h ∷ gs)
-  skipped i g h gs other =
-      ap (λ b. cond (not (complete g) && b) (g ∷ broken_before i (h ∷ gs)) (broken_before i (h ∷ gs))) (ne_eqb (first h) i other)
-      ∙ ap (λ b. cond b (g ∷ broken_before i (h ∷ gs)) (broken_before i (h ∷ gs))) (elim (not (complete g)) as (λ b. (b && false) ≡ false) [ true ↦ refl | false ↦ refl ])
-
-  -- the group before one of the frame alone
-  before_alone : (g : List Frame) (x : Frame) → broken_before x.line (g ∷ (x ∷ []) ∷ []) ≡ cond (complete g) [] (g ∷ [])
-  before_alone g x =
-      ap (λ b. cond (not (complete g) && b) (g ∷ []) []) (eq-eqb x.line x.line refl)
-      ∙ elim (complete g) as (λ c. cond (not c && true) (g ∷ []) [] ≡ cond c [] (g ∷ [])) [ true ↦ refl | false ↦ refl ]
-
-  broken_one : (g : List Frame) (x : Frame) → broken_before x.line (grown ends (g ∷ []) x) ≡ broke (Some g) x
-  broken_one g x = by (complete g) refl (ends g x)
-    where
-      by : (c : Bool) → complete g ≡ c → (e : Bool) → broken_before x.line (cond (c || e) (g ∷ (x ∷ []) ∷ []) ((g ++ x ∷ []) ∷ [])) ≡ cond c [] (cond e (g ∷ []) [])
-      by true t e = before_alone g x ∙ ap (λ c. cond c [] (g ∷ [])) t
-      by false t true = before_alone g x ∙ ap (λ c. cond c [] (g ∷ [])) t
-      by false t false = refl
-
-  broken_last : (n : ℕ) (gs : List (List Frame)) (x : Frame) → AllByRecursion (IsUpTo n) gs → n < x.line → broken_before x.line (grown ends gs x) ≡ broke (last_or None gs) x
-  broken_last n [] x all l = refl
-  broken_last n (g ∷ []) x all l = broken_one g x
-  broken_last n (g ∷ h ∷ []) x all l = by (closes ends h x) ∙ broken_one h x
-    where
-      by : (b : Bool) → broken_before x.line (g ∷ cond b (h ∷ (x ∷ []) ∷ []) ((h ++ x ∷ []) ∷ [])) ≡ broken_before x.line (cond b (h ∷ (x ∷ []) ∷ []) ((h ++ x ∷ []) ∷ []))
-      by true = skipped x.line g h ((x ∷ []) ∷ []) (λ e. omega (arith, first-le n h all.1.0, l, e))
-      by false = skipped x.line g (h ++ x ∷ []) [] (λ e. omega (arith, first-le n h all.1.0, l, e, first-push h x all.1.0.nonempty))
-  broken_last n (g ∷ h ∷ k ∷ gs) x all l = skipped x.line g h (grown ends (k ∷ gs) x) (λ e. omega (arith, first-le n h all.1.0, l, e)) ∙ broken_last n (h ∷ k ∷ gs) x all.1 l
-
-  broken_stays : (i n : ℕ) (gs : List (List Frame)) (x : Frame) → AllByRecursion (IsUpTo n) gs → (x.line ≡ i → ⊥) → broken_before i (grown ends gs x) ≡ broken_before i gs
-  broken_stays i n [] x all other = refl
-  broken_stays i n (g ∷ []) x all other =
-      elim (closes ends g x) as (λ b. broken_before i (cond b (g ∷ (x ∷ []) ∷ []) ((g ++ x ∷ []) ∷ [])) ≡ []) [ true ↦ skipped i g (x ∷ []) [] other | false ↦ refl ]
-  broken_stays i n (g ∷ h ∷ []) x all other = by (closes ends h x)
-    where
-      by : (b : Bool) → broken_before i (g ∷ cond b (h ∷ (x ∷ []) ∷ []) ((h ++ x ∷ []) ∷ [])) ≡ broken_before i (g ∷ h ∷ [])
-      by true = ap (λ t. cond (not (complete g) && (first h == i)) (g ∷ t) t) (skipped i h (x ∷ []) [] other)
-      by false = ap (λ k. cond (not (complete g) && (k == i)) (g ∷ []) []) (first-push h x all.1.0.nonempty)
-  broken_stays i n (g ∷ h ∷ k ∷ gs) x all other = ap (λ t. cond (not (complete g) && (first h == i)) (g ∷ t) t) (broken_stays i n (h ∷ k ∷ gs) x all.1 other)
-
   -- the groups of frames of lines up to n
   groups-up_to : (n : ℕ) (fs : List Frame) → AllByRecursion (λ (f : Frame). f.line ≤ n) fs → AllByRecursion (IsUpTo n) (cut ends fs)
   groups-up_to n fs all =
@@ -130,7 +84,7 @@ module _ (ends : Ends) where
   last_of : (k : Key) (fs : List Frame) → last_or None (cut ends (of_key k fs)) ≡ so_far ends (of_key k fs)
   last_of k fs = last-cut ends (of_key k fs)
 
-  up_to : (n : ℕ) (k : Key) (fs : List Frame) → IsLog n fs → AllByRecursion (IsUpTo n) (cut ends (of_key k fs))
+  pub up_to : (n : ℕ) (k : Key) (fs : List Frame) → IsLog n fs → AllByRecursion (IsUpTo n) (cut ends (of_key k fs))
   up_to n k fs log =
       groups-up_to n (of_key k fs)
       (all-map _ (λ (f : Frame). f.line ≤ n) (of_key k fs) (λ f h. h.0.1) (of_key-keeps (λ (f : Frame). (1 ≤ f.line) × (f.line ≤ n)) k fs log.lines))
@@ -153,23 +107,10 @@ module _ (ends : Ends) where
       (all-map (IsUpTo n) (λ g. is_done_at x.line g ≡ false) (cut ends (of_key x.key fs)) (λ g up. done-not x.line g (λ e. omega (arith, last_line-all n g up.lines, l, e))) (up_to n x.key fs log))
       ∙ ap (λ s. completed s x) (last-cut ends (of_key x.key fs)))
 
-  -- It breaks the group so far that its frame can't join.
-  pub broken-last : (n : ℕ) (fs : List Frame) (x : Frame) → IsLog n fs → n < x.line → broken_with ends (fs ++ x ∷ []) x.line ≡ map (broken_of x.key) (broke (so_far ends (of_key x.key fs)) x)
-  unfolding broken_with
-  broken-last n fs x log l =
-      ap (λ o. flat_map (broken_by ends (fs ++ x ∷ [])) (option_to_list o)) (at_last n fs x log l)
-      ∙ append-nil (broken_by ends (fs ++ x ∷ []) x)
-      ∙ ap (λ gs. map (broken_of x.key) (broken_before x.line gs)) (cut_of_key fs x)
-      ∙ ap (map (broken_of x.key)) (broken_last n (cut ends (of_key x.key fs)) x (up_to n x.key fs log) l ∙ ap (λ s. broke s x) (last-cut ends (of_key x.key fs)))
-
-  -- a line without a frame gives neither
+  -- a line without a frame gives none
   pub gathered-none : (n i : ℕ) (fs : List Frame) → IsLog n fs → n < i → gathered ends fs i ≡ None
   unfolding gathered
   gathered-none n i fs log l = ap (option_and_then (gathered_by ends fs)) (none_at n i fs log l)
-
-  pub broken-none : (n i : ℕ) (fs : List Frame) → IsLog n fs → n < i → broken_with ends fs i ≡ []
-  unfolding broken_with
-  broken-none n i fs log l = ap (λ o. flat_map (broken_by ends fs) (option_to_list o)) (none_at n i fs log l)
 
   -- ---- earlier lines keep what they gave
 
@@ -190,15 +131,3 @@ module _ (ends : Ends) where
       by : (o : Option Frame) → frame_at i fs ≡ o → option_and_then (gathered_by ends (fs ++ x ∷ [])) o ≡ option_and_then (gathered_by ends fs) o
       by None e = refl
       by (Some f) e = keyed_stays f (eqb-true f.line i (find-passes (λ (f : Frame). f.line == i) fs f e)) (same_key f.key x.key) refl
-
-  pub broken-stays : (n : ℕ) (fs : List Frame) (x : Frame) (i : ℕ) → IsLog n fs → (x.line ≡ i → ⊥) → broken_with ends (fs ++ x ∷ []) i ≡ broken_with ends fs i
-  unfolding broken_with
-  broken-stays n fs x i log other = ap (λ o. flat_map (broken_by ends (fs ++ x ∷ [])) (option_to_list o)) (at_line i fs x other) ∙ by (frame_at i fs) refl
-    where
-      broken_stay : (f : Frame) → f.line ≡ i → (b : Bool) → same_key f.key x.key ≡ b → broken_by ends (fs ++ x ∷ []) f ≡ broken_by ends fs f
-      broken_stay f at true e = ap (λ gs. map (broken_of f.key) (broken_before f.line gs)) (cut_of_same f.key fs x e) ∙ ap (map (broken_of f.key)) (broken_stays f.line n (cut ends (of_key f.key fs)) x (up_to n f.key fs log) (λ t. other (t ∙ at)))
-      broken_stay f at false e = ap (λ gs. map (broken_of f.key) (broken_before f.line gs)) (cut_of_other f.key fs x e)
-
-      by : (o : Option Frame) → frame_at i fs ≡ o → flat_map (broken_by ends (fs ++ x ∷ [])) (option_to_list o) ≡ flat_map (broken_by ends fs) (option_to_list o)
-      by None e = refl
-      by (Some f) e = ap (λ t. t ++ []) (broken_stay f (eqb-true f.line i (find-passes (λ (f : Frame). f.line == i) fs f e)) (same_key f.key x.key) refl)

@@ -1,23 +1,31 @@
 -- A message whose pieces come in order under its key is given, whatever stood open before with a frame 0.
 use Rattle.std.proofs.Common.{◌≡◌, ℕ, zero, suc, ◌+◌, ◌<◌, ◌≤◌, Bool, true, false, not, ◌&&◌, List, [], ◌∷◌, ◌++◌, length, refl, ap, subst, ◌∙◌, sym, arith, append_assoc, Option, Some, None}
-use Rattle.std.specs.Prelude.{if◌then◌else◌, find, flat_map, map, IfSome, option_and_then, option_to_list}
-use Rattle.std.specs.List.{AllByRecursion, last_or, range_with_len}
-use Rattle.std.proofs.lemmas.Bool.{eq-eqb, ne_eqb, and_right, or_left, or_right, or_from}
-use Rattle.std.proofs.lemmas.List.{append-nil}
+use Rattle.std.specs.Prelude.{◌==◌, nat_lt, drop, min, cond, if◌then◌else◌, find, filter_map, map, Contains, IfSome, option_map, option_and_then}
+use Rattle.std.specs.List.{AllByRecursion, last_or, range_with_len, cons_option}
+use Rattle.std.proofs.lemmas.Bool.{cases_lt, le-leb, true≢false, eqb-true, eqb-false, eq-eqb, ne_eqb, and_right, and_from, lt-ltb, or_left, or_right, or_from}
+use Rattle.std.proofs.lemmas.Option.{none-some, same_Some}
+use Rattle.std.proofs.Math.Nat.{min-eq_left, min-eq_right}
+use mathlib.Core.Logic.{◌⊎◌, inl, inr}
 use Rattle.std.proofs.lemmas.List.Elements.{recursion_from_All}
 use Rattle.n2k_wire.specs.declared.entry.Entry.{Entry}
 use Rattle.n2k_table.specs.declared.definition.Kind.{Kind}
-use Rattle.n2k_join.specs.Frames.{Key, Frame, frames, of_key}
-use Rattle.n2k_join.specs.Groups.{Ends, has_number, has_twice, repeats, complete, closes, cut_from, cut, first, last_line, incomplete}
-use Rattle.n2k_join.specs.Messages.{is_done_at, broken_of, broken_before, broken_by, broken_with}
+use Rattle.n2k_join.specs.Frames.{Key, Frame, frames_from, frames, of_key}
+use Rattle.n2k_join.specs.Groups.{Ends, has_number, has_from, falls_back, has_twice, repeats, misfits, is_late, within, complete, closes, cut_from, cut, open_of, first, last_line, incomplete}
+use Rattle.n2k_join.specs.Messages.{is_done_at, broken_of, broken_line, broken_among, broken_by, broken_begun, broken_with, broken}
 use Rattle.n2k_join.specs.Pieces.{Sending, last_piece}
 use Rattle.n2k_join.specs.Scattered.{key_of_sending, joined, IsPieceOf}
-use Rattle.n2k_join.specs.Arrival.{Brings, ComesNext, Heals}
+use Rattle.n2k_join.specs.Arrival.{Brings, ComesNext, LeavesZero, Heals}
+use Rattle.n2k_join.proofs.Cuts.{cut-all}
+use Rattle.n2k_join.proofs.Keys.{of_key-append, of_key-keeps}
+use Rattle.n2k_join.proofs.Logs.{frames_from-append, frames-log}
+use Rattle.n2k_join.proofs.BrokenGroups.{last-all}
+use Rattle.n2k_join.proofs.Given.{IsUpTo, first-le, up_to}
 use Rattle.n2k_join.proofs.Counting.{has_number-cons}
-use Rattle.n2k_join.proofs.Stretches.{IsStretch, cut_stretch, goes_on-repeats, stretch_pieces}
-use Rattle.n2k_join.proofs.Lines.{RiseFrom, all_with, rise-all, rise-weaker}
+use Rattle.n2k_join.proofs.Stretches.{IsStretch, cut_stretch, goes_on-within, stretch_pieces}
+use Rattle.n2k_join.proofs.Lines.{RiseFrom, all_with, rise-all, rise-weaker, frames-rise}
 use Rattle.n2k_join.proofs.GroupLines.{IsGroup, IsDone, all-front, all-back, all-joined, first_above, done_found}
 use Rattle.n2k_join.proofs.Arriving.{StandsAt, stand, key-rise, brings}
+use Rattle.n2k_join.specs.Window.{Rule}
 
 -- where the group so far ends before a frame, the frames before it and those from it on are cut by themselves
 cut_splits_from : (ends : Ends) (o : Option (List Frame)) (g fs : List Frame) (x : Frame) (rest : List Frame) → ((h : List Frame) → last_or o (cut_from ends g fs) ≡ Some h → closes ends h x ≡ true) → cut_from ends g (fs ++ (x ∷ rest)) ≡ cut_from ends g fs ++ cut_from ends (x ∷ []) rest
@@ -81,22 +89,56 @@ firsts_rise n ((f ∷ g) ∷ gs) some rise =
       firsts_rise (f.line + 1) gs some.1 later,
     )
 
--- no group begins at the line but perhaps the first
-broken_before-later : (line : ℕ) (g : List Frame) (gs : List (List Frame)) → AllByRecursion (λ h. line + 1 ≤ first h) gs → broken_before line (g ∷ gs) ≡ []
-broken_before-later line g [] later = refl
-broken_before-later line g (h ∷ gs) later = rw (ne_eqb (first h) line (λ same. omega (arith, later.0)), and_right (not (complete g)) false refl) (broken_before-later line h gs later.1)
+-- The last group of the front of a cut, where it isn't complete, is broken where its window ends or the group after it begins.
+broken_among-at : (w : Rule) (a : List (List Frame)) (left g : List Frame) (later : List (List Frame)) → FirstsRise (a ++ (left ∷ g ∷ later)) → complete left ≡ false
+    → broken_among w (first left) (min (first left + w.window) (first g)) (a ++ (left ∷ g ∷ later)) ≡ Some left
+broken_among-at w [] left g later rise c =
+    λ i. cond (not (c i) && (eq-eqb (first left) (first left) refl i && eq-eqb (min (first left + w.window) (first g)) (min (first left + w.window) (first g)) refl i)) (Some left) (broken_among w (first left) (min (first left + w.window) (first g)) (g ∷ later))
+broken_among-at w (h ∷ a) left g later rise c =
+    let apart : first h + 1 ≤ first left = (all-back (λ j. first h + 1 ≤ first j) a (left ∷ g ∷ later) rise.0).0 in
+    let other : (first h == first left) ≡ false = ne_eqb (first h) (first left) (λ same. omega (arith, same, apart)) in
+    (λ i. cond (not (complete h) && (other i && (broken_line w h (a ++ (left ∷ g ∷ later)) == min (first left + w.window) (first g)))) (Some h) (broken_among w (first left) (min (first left + w.window) (first g)) (a ++ (left ∷ g ∷ later))))
+    ∙ ap (λ b. cond b (Some h) (broken_among w (first left) (min (first left + w.window) (first g)) (a ++ (left ∷ g ∷ later)))) (and_right (not (complete h)) false refl)
+    ∙ broken_among-at w a left g later rise.1 c
 
--- the group before the one that begins at the line is broken there, where it isn't complete
-broken_before-at : (gs : List (List Frame)) (g : List Frame) (later : List (List Frame)) → FirstsRise (gs ++ (g ∷ later)) → broken_before (first g) (gs ++ (g ∷ later)) ≡ option_to_list (option_and_then incomplete (last_or None gs))
-broken_before-at [] g later rise = broken_before-later (first g) g later rise.0
-broken_before-at (h ∷ []) g later rise = rw (eq-eqb (first g) (first g) refl, broken_before-later (first g) g later rise.1.0) (by_test (complete h))
+-- a list that has a last item
+record EndsWith (gs : List (List Frame)) (l : List Frame) : Type 0 where
+  before : List (List Frame)
+  is : gs ≡ before ++ l ∷ []
+
+ends_with : (o : Option (List Frame)) (gs : List (List Frame)) (l : List Frame) → (o ≡ Some l → ⊥) → last_or o gs ≡ Some l → EndsWith gs l
+ends_with o [] l none e = absurd (none e)
+ends_with o (g ∷ []) l none e = record { before = []; is = ap (λ h. h ∷ []) (same_Some g l e) }
+ends_with o (g ∷ h ∷ gs) l none e = by (ends_with None (h ∷ gs) l (λ t. none-some l t) e)
   where
-    by_test : (b : Bool) → (if not b && true then h ∷ [] else []) ≡ option_to_list (if b then None else Some h)
-    by_test true = refl
-    by_test false = refl
-broken_before-at (h ∷ i ∷ gs) g later rise =
-    let apart : first i + 1 ≤ first g = (all-back (λ j. first i + 1 ≤ first j) gs (g ∷ later) rise.1.0).0 in
-    rw (ne_eqb (first i) (first g) (λ same. omega arith), and_right (not (complete h)) false refl) (broken_before-at (i ∷ gs) g later rise.1)
+    by : EndsWith (h ∷ gs) l → EndsWith (g ∷ h ∷ gs) l
+    by r = record { before = g ∷ r.before; is = ap (λ hs. g ∷ hs) r.is }
+
+-- what a number of a range gives stands among what the range gives
+given_among : {Y : Type 0} (h : ℕ → Option Y) (y : Y) (i a n : ℕ) → a ≤ i → i < a + n → h i ≡ Some y → Contains (filter_map h (range_with_len a n)) y
+given_among h y i a zero l u e = absurd (omega (arith, l, u))
+given_among {Y} h y i a (suc n) l u e = by (a == i) refl (given_among h y i (a + 1) n)
+  where
+    here : (o : Option Y) → o ≡ Some y → Contains (cons_option o (filter_map h (range_with_len (a + 1) n))) y
+    here None t = absurd (none-some y t)
+    here (Some z) t = (0, omega arith, same_Some z y t)
+
+    there : (o : Option Y) → Contains (filter_map h (range_with_len (a + 1) n)) y → Contains (cons_option o (filter_map h (range_with_len (a + 1) n))) y
+    there None c = c
+    there (Some z) c = (suc c.0, omega (arith, c.1), c.2)
+
+    by : (b : Bool) → (a == i) ≡ b → (a + 1 ≤ i → i < (a + 1) + n → h i ≡ Some y → Contains (filter_map h (range_with_len (a + 1) n)) y) → Contains (cons_option (h a) (filter_map h (range_with_len (a + 1) n))) y
+    by true t rest = here (h a) (ap h (eqb-true a i t) ∙ e)
+    by false t rest = there (h a) (rest (omega (arith, l, eqb-false a i t)) (omega (arith, u)) e)
+
+-- the group of a key's cut that begins at its first line, where it is broken at a line
+broken_where : (w : Rule) (fs : List Frame) (k : Key) (left : List Frame) (line : ℕ) → IsGroup left → AllByRecursion (StandsAt fs k) left → broken_among w (first left) line (cut (within w) (of_key k fs)) ≡ Some left
+    → broken_begun w fs line (first left) ≡ Some (broken_of k left)
+broken_where w fs k [] line some stands is = absurd (omega (arith, some))
+broken_where w fs k (f ∷ left) line some stands is =
+    ap (option_and_then (broken_by w fs line)) stands.0.0
+    ∙ ap (λ (c : Key). option_map (broken_of c) (broken_among w f.line line (cut (within w) (of_key c fs)))) stands.0.1
+    ∙ ap (option_map (broken_of k)) is
 
 -- frames whose numbers rise one by one have no number twice
 none_below : (m a n : ℕ) (fs : List Frame) → m < a → map (λ (f : Frame). f.number) fs ≡ range_with_len a n → has_number m fs ≡ false
@@ -127,48 +169,140 @@ rising-first : (n : ℕ) (f : Frame) (fs : List Frame) → 0 < n → map (λ (g 
 rising-first zero f fs some numbers = absurd (omega arith)
 rising-first (suc n) f fs some numbers = cc
 
--- what stood open with a frame 0, or was complete, ends before another frame 0
-ends_before : (o : Option (List Frame)) (h : List Frame) (f : Frame) → f.number ≡ 0 → IfSome (option_and_then incomplete o) (λ g. has_number 0 g ≡ true) → o ≡ Some h → closes repeats h f ≡ true
-ends_before o h f first open_has last = by_test (complete h) refl (subst (λ (v : Option (List Frame)). IfSome (option_and_then incomplete v) (λ g. has_number 0 g ≡ true)) last open_has)
+some-from : (h : List Frame) → 0 < length h → has_from 0 h ≡ true
+some-from [] some = absurd (omega (arith, some))
+some-from (f ∷ h) some = or_left _ _ (le-leb 0 f.number (omega arith))
+
+-- what stood open with a frame 0, was complete, or has waited too long ends before another frame 0
+ends_before : (w : Rule) (n : ℕ) (o : Option (List Frame)) (h : List Frame) (f : Frame) → IfSome o (IsUpTo n) → f.number ≡ 0 → n < f.line → IfSome (option_and_then incomplete o) (λ g. w.in_order ≡ false → n < first g + w.window → has_number 0 g ≡ true) → o ≡ Some h → closes (within w) h f ≡ true
+ends_before w n o h f up zeroth past open_has last = by_test (complete h) refl (subst (λ (v : Option (List Frame)). IfSome (option_and_then incomplete v) (λ g. w.in_order ≡ false → n < first g + w.window → has_number 0 g ≡ true)) last open_has)
   where
-    by_test : (b : Bool) → complete h ≡ b → IfSome (if b then None else Some h) (λ g. has_number 0 g ≡ true) → closes repeats h f ≡ true
+    is_up : IsUpTo n h
+    is_up = subst (λ (v : Option (List Frame)). IfSome v (IsUpTo n)) last up
+
+    falls : falls_back h f ≡ true
+    falls =
+        let before : first h ≤ n = first-le n h is_up in
+        and_from (nat_lt (first h) f.line) (has_from f.number h) (lt-ltb (first h) f.line (omega (arith, before, past))) (ap (λ m. has_from m h) zeroth ∙ some-from h is_up.nonempty)
+
+    by_time : (n < first h + w.window) ⊎ (first h + w.window ≤ n) → (n < first h + w.window → has_number 0 h ≡ true) → within w h f ≡ true
+    by_time (inl l) has = or_left (misfits w h f) (is_late w h f) (or_left (repeats h f) (w.in_order && falls_back h f) (ap (λ n. has_number n h) zeroth ∙ has l))
+    by_time (inr l) has = or_right (misfits w h f) (is_late w h f) (le-leb (first h + w.window) f.line (omega (arith, l, past)))
+
+    by_order : (b : Bool) → w.in_order ≡ b → (w.in_order ≡ false → n < first h + w.window → has_number 0 h ≡ true) → within w h f ≡ true
+    by_order true t has = or_left (misfits w h f) (is_late w h f) (or_right (repeats h f) (w.in_order && falls_back h f) (and_from w.in_order (falls_back h f) t falls))
+    by_order false t has = by_time (cases_lt n (first h + w.window)) (has t)
+
+    by_test : (b : Bool) → complete h ≡ b → IfSome (if b then None else Some h) (λ g. w.in_order ≡ false → n < first g + w.window → has_number 0 g ≡ true) → closes (within w) h f ≡ true
     by_test true e has = or_left _ _ e
-    by_test false e has = or_right _ _ (ap (λ n. has_number n h) first ∙ has)
+    by_test false e has = or_right _ _ (by_order w.in_order refl has)
 
--- what is broken at a frame's line, by the groups of its key
-broken_at_frame : (ends : Ends) (fs : List Frame) (k : Key) (f : Frame) → StandsAt fs k f → broken_with ends fs f.line ≡ map (broken_of k) (broken_before f.line (cut ends (of_key k fs)))
+append-cancel : (xs ys zs : List Frame) → xs ++ ys ≡ xs ++ zs → ys ≡ zs
+append-cancel [] ys zs e = e
+append-cancel (x ∷ xs) ys zs e = append-cancel xs ys zs (ap (drop 1) e)
+
+-- the next frame of the key stands past the entries before it
+next_past : (kind : ℕ → Option Kind) (front back : List Entry) (k : Key) (f : Frame) (g : List Frame) → of_key k (frames kind (front ++ back)) ≡ of_key k (frames kind front) ++ (f ∷ g) → length front < f.line
+next_past kind front back k f g next =
+    let later = frames_from kind (1 + length front) back in
+    let parts : of_key k (frames kind (front ++ back)) ≡ of_key k (frames kind front) ++ of_key k later = ap (of_key k) (frames_from-append kind 1 front back) ∙ of_key-append k (frames kind front) later in
+    let same : of_key k later ≡ f ∷ g = append-cancel (of_key k (frames kind front)) (of_key k later) (f ∷ g) (sym parts ∙ next) in
+    let past = subst (AllByRecursion (λ (i : Frame). (1 + length front ≤ i.line) × (i.key ≡ k))) same (of_key-keeps (λ (i : Frame). 1 + length front ≤ i.line) k later (rise-all (1 + length front) later (frames-rise kind (1 + length front) back))) in
+    omega (arith, past.0.0)
+
+rise-at : (b : List (List Frame)) (left g : List Frame) (later : List (List Frame)) → FirstsRise (b ++ (left ∷ g ∷ later)) → first left + 1 ≤ first g
+rise-at [] left g later rise = rise.0.0
+rise-at (h ∷ b) left g later rise = rise-at b left g later rise.1
+
+min-above : (c a b : ℕ) → c ≤ a → c ≤ b → c < 1 + min a b
+min-above c a b l u = by (cases_lt a b)
+  where
+    by : (a < b) ⊎ (b ≤ a) → c < 1 + min a b
+    by (inl e) = let le : a ≤ b = omega (arith, e) in let is : min a b ≡ a = min-eq_left le in omega (arith, is, l)
+    by (inr e) = let is : min a b ≡ b = min-eq_right e in omega (arith, is, u)
+
+-- what stands open has a frame 0, where the rule doesn't ask for the order of the numbers
+abbrev HasZero : Rule → (ℕ → Option Kind) → List Entry → Sending → Type 0
+HasZero w kind front x = IfSome (open_of (within w) (key_of_sending x) (frames kind front)) (λ last. w.in_order ≡ false → length front < first last + w.window → has_number 0 last ≡ true)
+
+heals_by : (w : Rule) (kind : ℕ → Option Kind) (front back : List Entry) (x : Sending) (group after : List Frame) → ComesNext w kind front back x group after → HasZero w kind front x → Heals w kind front back x group
 unfolding broken_with
-broken_at_frame ends fs k f stands =
-    ap (λ o. flat_map (broken_by ends fs) (option_to_list o)) stands.0
-    ∙ (append-nil (broken_by ends fs f)
-    ∙ ap (λ (c : Key). map (broken_of c) (broken_before f.line (cut ends (of_key c fs)))) stands.1)
-
-pub heals : (kind : ℕ → Option Kind) (front back : List Entry) (x : Sending) (group after : List Frame) → ComesNext kind front back x group after → Heals kind front back x group
-heals kind front back x [] after comes = absurd (let none : 0 ≡ last_piece x.message + 1 = rising-length 0 _ [] comes.rising in omega arith)
-heals kind front back x (f ∷ g) after comes =
+heals_by w kind front back x [] after comes left_open = absurd (let none : 0 ≡ last_piece x.message + 1 = rising-length 0 _ [] comes.rising in omega arith)
+heals_by w kind front back x (f ∷ g) after comes left_open =
     let k = key_of_sending x in
     let es = front ++ back in
     let before = of_key k (frames kind front) in
     let pieces : AllByRecursion (IsPieceOf x) (f ∷ g) = recursion_from_All (IsPieceOf x) (f ∷ g) comes.each in
     let apart : has_twice (f ∷ g) ≡ false = rising-apart 0 _ (f ∷ g) comes.rising in
     let full : length (f ∷ g) ≡ last_piece x.message + 1 = rising-length 0 _ (f ∷ g) comes.rising in
-    let goes_on = goes_on-repeats (f ∷ g) apart in
-    let stretch : IsStretch repeats (f ∷ g) = stretch_pieces repeats x (f ∷ g) pieces apart full goes_on in
+    let goes_on = goes_on-within w (last_piece x.message + 1) (f ∷ g) apart (λ _. comes.rising) (recursion_from_All (λ (i : Frame). i.line < first (f ∷ g) + w.window) (f ∷ g) comes.in_time) in
+    let stretch : IsStretch (within w) (f ∷ g) = stretch_pieces (within w) x (f ∷ g) pieces apart full goes_on in
     let zeroth : f.number ≡ 0 = rising-first (last_piece x.message + 1) f g (omega arith) comes.rising in
-    let gs = cut repeats before ++ ((f ∷ g) ∷ cut repeats after) in
-    let cuts : cut repeats (of_key k (frames kind es)) ≡ gs =
-    ap (cut repeats) comes.next
-    ∙ (cut_splits repeats before f (g ++ after) (λ h last. ends_before (last_or None (cut repeats before)) h f zeroth comes.left_open last)
-    ∙ ap (λ l. cut repeats before ++ l) (cut_stretch repeats (f ∷ g) after stretch)) in
-    let some : AllByRecursion IsGroup gs = subst (AllByRecursion IsGroup) cuts (cut_groups repeats (of_key k (frames kind es))) in
-    let rise : RiseFrom 1 (joined gs) = subst (λ hs. RiseFrom 1 (joined hs)) cuts (subst (RiseFrom 1) (sym (cut_joined repeats (of_key k (frames kind es)))) (key-rise kind es k)) in
-    let done : IsDone gs (f ∷ g) = (all-back (IsDone gs) (cut repeats before) ((f ∷ g) ∷ cut repeats after) (done_found 1 gs some rise)).0 in
+    let gs = cut (within w) before ++ ((f ∷ g) ∷ cut (within w) after) in
+    let cuts : cut (within w) (of_key k (frames kind es)) ≡ gs =
+    ap (cut (within w)) comes.next
+    ∙ (cut_splits (within w) before f (g ++ after) (λ h last. ends_before w (length front) (last_or None (cut (within w) before)) h f (last-all (IsUpTo (length front)) None (cut (within w) before) tt (up_to (within w) (length front) k (frames kind front) (frames-log kind front))) zeroth (next_past kind front back k f (g ++ after) comes.next) left_open last)
+    ∙ ap (λ l. cut (within w) before ++ l) (cut_stretch (within w) (f ∷ g) after stretch)) in
+    let some : AllByRecursion IsGroup gs = subst (AllByRecursion IsGroup) cuts (cut_groups (within w) (of_key k (frames kind es))) in
+    let rise : RiseFrom 1 (joined gs) = subst (λ hs. RiseFrom 1 (joined hs)) cuts (subst (RiseFrom 1) (sym (cut_joined (within w) (of_key k (frames kind es)))) (key-rise kind es k)) in
+    let done : IsDone gs (f ∷ g) = (all-back (IsDone gs) (cut (within w) before) ((f ∷ g) ∷ cut (within w) after) (done_found 1 gs some rise)).0 in
     let standing : AllByRecursion (StandsAt (frames kind es) k) (f ∷ g) =
     all-front (StandsAt (frames kind es) k) (f ∷ g) after (all-back (StandsAt (frames kind es) k) before ((f ∷ g) ++ after) (subst (AllByRecursion (StandsAt (frames kind es) k)) comes.next (stand kind es k))) in
-    let brought : Brings kind es x (f ∷ g) =
-    brings kind es k x (f ∷ g) (record { stretch = record { pieces = record { each = comes.each; apart = apart }; whole = full }; goes_on = goes_on; stands = standing; found = ap (find (is_done_at (last_line (f ∷ g)))) cuts ∙ done stretch.whole }) in
+    let all_stand : AllByRecursion (AllByRecursion (StandsAt (frames kind es) k)) gs = subst (AllByRecursion (AllByRecursion (StandsAt (frames kind es) k))) cuts (cut-all (within w) (StandsAt (frames kind es) k) (of_key k (frames kind es)) (stand kind es k)) in
+    let brought : Brings w kind es x (f ∷ g) =
+    brings w kind es k x (f ∷ g) (record { stretch = record { pieces = record { each = comes.each; apart = apart }; whole = full }; goes_on = goes_on; stands = standing; found = ap (find (is_done_at (last_line (f ∷ g)))) cuts ∙ done stretch.whole }) in
     record {
       given = brought.given;
-      breaks = broken_at_frame repeats (frames kind es) k f standing.0
-          ∙ ap (map (broken_of k)) (ap (broken_before f.line) cuts ∙ broken_before-at (cut repeats before) (f ∷ g) (cut repeats after) (firsts_rise 1 gs some rise));
+      breaks = by_open (last_or None (cut (within w) before)) refl (firsts_rise 1 gs some rise) some all_stand (all-joined _ gs (rise-all 1 (joined gs) rise)) cuts;
     }
+  where
+    told : Option (List Frame) → Type 0
+    told o = IfSome o (λ left. Contains (broken w kind (front ++ back) (min (first left + w.window) f.line)) (broken_of (key_of_sending x) left))
+
+    at_left : (left : List Frame) (b : List (List Frame)) (gs : List (List Frame)) → gs ≡ b ++ (left ∷ (f ∷ g) ∷ cut (within w) after) → complete left ≡ false → FirstsRise gs → AllByRecursion IsGroup gs
+        → AllByRecursion (AllByRecursion (StandsAt (frames kind (front ++ back)) (key_of_sending x))) gs → AllByRecursion (AllByRecursion (λ (i : Frame). 1 ≤ i.line)) gs → cut (within w) (of_key (key_of_sending x) (frames kind (front ++ back))) ≡ gs
+        → Contains (broken w kind (front ++ back) (min (first left + w.window) f.line)) (broken_of (key_of_sending x) left)
+    at_left left b gs e c rise some stands lines cuts =
+        let later = (f ∷ g) ∷ cut (within w) after in
+        let rise' : FirstsRise (b ++ (left ∷ later)) = subst FirstsRise e rise in
+        let some' : IsGroup left = (all-back IsGroup b (left ∷ later) (subst (AllByRecursion IsGroup) e some)).0 in
+        let stands' : AllByRecursion (StandsAt (frames kind (front ++ back)) (key_of_sending x)) left = (all-back (AllByRecursion (StandsAt (frames kind (front ++ back)) (key_of_sending x))) b (left ∷ later) (subst (AllByRecursion (AllByRecursion (StandsAt (frames kind (front ++ back)) (key_of_sending x)))) e stands)).0 in
+        let lines' : AllByRecursion (λ (i : Frame). 1 ≤ i.line) left = (all-back (AllByRecursion (λ (i : Frame). 1 ≤ i.line)) b (left ∷ later) (subst (AllByRecursion (AllByRecursion (λ (i : Frame). 1 ≤ i.line))) e lines)).0 in
+        let from : 1 ≤ first left = first_above 1 left some' lines' in
+        let before : first left + 1 ≤ f.line = rise-at b left (f ∷ g) (cut (within w) after) rise' in
+        let up_to : first left < 1 + min (first left + w.window) f.line = min-above (first left) (first left + w.window) f.line (omega arith) (omega (arith, before)) in
+        given_among (broken_begun w (frames kind (front ++ back)) (min (first left + w.window) f.line)) (broken_of (key_of_sending x) left) (first left) 1 (min (first left + w.window) f.line) from up_to
+        (broken_where w (frames kind (front ++ back)) (key_of_sending x) left (min (first left + w.window) f.line) some' stands'
+        (ap (broken_among w (first left) (min (first left + w.window) f.line)) (cuts ∙ e) ∙ broken_among-at w b left (f ∷ g) (cut (within w) after) rise' c))
+
+    by_open : (o : Option (List Frame)) → last_or None (cut (within w) (of_key (key_of_sending x) (frames kind front))) ≡ o
+        → FirstsRise (cut (within w) (of_key (key_of_sending x) (frames kind front)) ++ ((f ∷ g) ∷ cut (within w) after))
+        → AllByRecursion IsGroup (cut (within w) (of_key (key_of_sending x) (frames kind front)) ++ ((f ∷ g) ∷ cut (within w) after))
+        → AllByRecursion (AllByRecursion (StandsAt (frames kind (front ++ back)) (key_of_sending x))) (cut (within w) (of_key (key_of_sending x) (frames kind front)) ++ ((f ∷ g) ∷ cut (within w) after))
+        → AllByRecursion (AllByRecursion (λ (i : Frame). 1 ≤ i.line)) (cut (within w) (of_key (key_of_sending x) (frames kind front)) ++ ((f ∷ g) ∷ cut (within w) after))
+        → cut (within w) (of_key (key_of_sending x) (frames kind (front ++ back))) ≡ cut (within w) (of_key (key_of_sending x) (frames kind front)) ++ ((f ∷ g) ∷ cut (within w) after)
+        → told (option_and_then incomplete o)
+    by_open None is rise some stands lines cuts = tt
+    by_open (Some left) is rise some stands lines cuts = by_test (complete left) refl
+      where
+        by_test : (c : Bool) → complete left ≡ c → told (cond c None (Some left))
+        by_test true c = tt
+        by_test false c =
+            let ew = ends_with None (cut (within w) (of_key (key_of_sending x) (frames kind front))) left (λ t. none-some left t) is in
+            at_left left ew.before (cut (within w) (of_key (key_of_sending x) (frames kind front)) ++ ((f ∷ g) ∷ cut (within w) after))
+            (ap (λ hs. hs ++ ((f ∷ g) ∷ cut (within w) after)) ew.is ∙ append_assoc ew.before (left ∷ []) ((f ∷ g) ∷ cut (within w) after)) c rise some stands lines cuts
+
+pub heals : (w : Rule) (kind : ℕ → Option Kind) (front back : List Entry) (x : Sending) (group after : List Frame) → ComesNext w kind front back x group after → LeavesZero w kind front x → Heals w kind front back x group
+heals w kind front back x group after comes has = heals_by w kind front back x group after comes (by (open_of (within w) (key_of_sending x) (frames kind front)) has)
+  where
+    by : (o : Option (List Frame)) → IfSome o (λ last. length front < first last + w.window → has_number 0 last ≡ true) → IfSome o (λ last. w.in_order ≡ false → length front < first last + w.window → has_number 0 last ≡ true)
+    by None h = tt
+    by (Some g) h = λ e. h
+
+-- with a rule that asks for the order nothing is asked of what stands open
+pub heals_in_order : (w : Rule) (kind : ℕ → Option Kind) (front back : List Entry) (x : Sending) (group after : List Frame) → w.in_order ≡ true → ComesNext w kind front back x group after → Heals w kind front back x group
+heals_in_order w kind front back x group after order comes = heals_by w kind front back x group after comes (by (open_of (within w) (key_of_sending x) (frames kind front)))
+  where
+    by : (o : Option (List Frame)) → IfSome o (λ last. w.in_order ≡ false → length front < first last + w.window → has_number 0 last ≡ true)
+    by None = tt
+    by (Some g) = λ e. absurd (true≢false (sym order ∙ e))

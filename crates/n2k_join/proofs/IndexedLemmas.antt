@@ -1,5 +1,5 @@
 -- The open groups in a map by key: what its entries are after a frame.
-use Rattle.std.proofs.Common.{◌≡◌, ◌<◌, ◌+◌, ◌-◌, ℕ, zero, suc, Bool, true, false, cond, not, List, [], ◌∷◌, ◌++◌, length, get_or, take, drop, set, slice_get, nat_lt, refl, sym, ap, ◌∙◌, subst, arith, Option, Some, None, IfSome, option_to_list}
+use Rattle.std.proofs.Common.{◌≡◌, ◌<◌, ◌+◌, ◌-◌, ℕ, zero, suc, Bool, true, false, cond, not, List, [], ◌∷◌, ◌++◌, length, get_or, take, drop, set, slice_get, nat_lt, refl, sym, ap, ◌∙◌, subst, arith, Option, Some, None, IfSome, option_map, option_to_list}
 use Rattle.std.specs.Prelude.{position, remove, insert, is_some}
 use Rattle.std.specs.Option.{option_map_or}
 use Rattle.std.specs.Map.{keys_of, values_of}
@@ -16,10 +16,10 @@ use Rattle.n2k_join.specs.Groups.{complete, has_number, data_of}
 use Rattle.n2k_join.specs.Messages.{message_of}
 use Rattle.n2k_join.specs.Open.{Group, pieces_of, group_of}
 use Rattle.n2k_join.specs.State.{held_frame, held_of, IsOpen, AreApart}
-use Rattle.n2k_join.specs.Inner.Stored.{key_of, piece_of, with_frame, of_the_key, begun, groups_after, gained, lost}
+use Rattle.n2k_join.specs.Inner.Stored.{bars, key_of, piece_of, with_frame, of_the_key, begun, groups_after, gained, lost}
 use Rattle.n2k_join.specs.Inner.Slots.{slot_of, group_in, group_at, groups_in}
 use Rattle.n2k_join.proofs.SlotLemmas.{carried-slots}
-use Rattle.n2k_join.proofs.JoinLemmas.{position-None, none_at_all, groups-begun, at_place, found-place, key-place, with_piece, complete-with_frame, joins-done, joins-left, after-repeats, all-at, data_of-with_frame, gained-joins, gained-repeats, lost-joins, lost-repeats, broken-held, message-begun}
+use Rattle.n2k_join.proofs.JoinLemmas.{position-None, none_at_all, groups-begun, at_place, found-place, key-place, with_piece, complete-with_frame, joins-done, joins-left, after-repeats, all-at, data_of-with_frame, gained-joins, gained-repeats, lost-joins, lost-repeats, bars-missing, broken-held, message-begun}
 
 -- ---- places
 
@@ -43,22 +43,23 @@ module _ (k : FrameKey) (v : OpenGroup) where
   insert-last [] others = refl
   insert-last (e ∷ es) others = ap (λ b. cond b ((e.0, v) ∷ es) (e ∷ insert_entry (λ (a b : FrameKey). same_key (key_of a) (key_of b)) es k v)) others.0 ∙ ap (λ t. e ∷ t) (insert-last es others.1)
 
+module _ (order : Bool) (k : FrameKey) (v : OpenGroup) where
   -- the group of a frame whose key has none goes last
   pub opens-last : (x : Frame) (es : List (FrameKey × OpenGroup)) → key_of k ≡ x.key → x.number < most_frames → group_in (key_of k) v ≡ group_of x.key (x ∷ []) → position (λ (g : Group). same_key x.key g.key) (groups_in es) ≡ None
       → complete (held_of (group_in (key_of k) v)) ≡ false
-      → groups_in (insert_entry (λ (a b : FrameKey). same_key (key_of a) (key_of b)) es k v) ≡ groups_after (groups_in es) x
+      → groups_in (insert_entry (λ (a b : FrameKey). same_key (key_of a) (key_of b)) es k v) ≡ groups_after order (groups_in es) x
   opens-last x es of small is none left =
       let none_k = ap (λ (j : Key). position (λ (g : Group). same_key j g.key) (groups_in es)) of ∙ none in
-      ap groups_in (insert-last es (position-None (λ (g : Group). same_key (key_of k) g.key) (groups_in es) none_k))
+      ap groups_in (insert-last k v es (position-None (λ (g : Group). same_key (key_of k) g.key) (groups_in es) none_k))
       ∙ map-append group_at es ((k, v) ∷ [])
       ∙ ap (λ gs. groups_in es ++ gs) (sym (ap (λ b. cond b [] (group_in (key_of k) v ∷ [])) left) ∙ groups-begun x (group_in (key_of k) v) small is)
-      ∙ sym (none_at_all x (groups_in es) none).1
+      ∙ sym (none_at_all order x (groups_in es) none).1
 
   pub opens-done : (x : Frame) (es : List (FrameKey × OpenGroup)) → x.number < most_frames → group_in (key_of k) v ≡ group_of x.key (x ∷ []) → position (λ (g : Group). same_key x.key g.key) (groups_in es) ≡ None
-      → complete (held_of (group_in (key_of k) v)) ≡ true → groups_in es ≡ groups_after (groups_in es) x
+      → complete (held_of (group_in (key_of k) v)) ≡ true → groups_in es ≡ groups_after order (groups_in es) x
   opens-done x es small is none done =
       sym (append-none (groups_in es)) ∙ ap (λ gs. groups_in es ++ gs) (sym (ap (λ b. cond b [] (group_in (key_of k) v ∷ [])) done) ∙ groups-begun x (group_in (key_of k) v) small is)
-      ∙ sym (none_at_all x (groups_in es) none).1
+      ∙ sym (none_at_all order x (groups_in es) none).1
     where
       append-none : (gs : List Group) → gs ++ [] ≡ gs
       append-none [] = refl
@@ -113,6 +114,16 @@ removed-groups es i =
     let next : suc i ≡ i + 1 = omega arith in
     map-append group_at (take i es) (drop (suc i) es) ∙ (λ j. take-groups i es j ++ drop-groups (suc i) es j) ∙ ap (λ n. take i (groups_in es) ++ drop n (groups_in es)) next
 
+-- ---- the first of the groups
+
+pub first-group : (es : List (FrameKey × OpenGroup)) (o : Option (FrameKey × OpenGroup)) → slice_get es 0 ≡ o → slice_get (groups_in es) 0 ≡ option_map group_at o
+first-group [] o e = ap (option_map group_at) e
+first-group (e ∷ es) o is = ap (option_map group_at) is
+
+pub removed-first : (es : List (FrameKey × OpenGroup)) → groups_in (remove es 0) ≡ drop 1 (groups_in es)
+removed-first [] = refl
+removed-first (e ∷ es) = refl
+
 -- ---- an entry written and moved last
 
 slot-written : (es : List (FrameKey × OpenGroup)) (i : ℕ) (w : OpenGroup) (k : FrameKey) (v : OpenGroup) → slice_get es i ≡ Some (k, v) → slice_get (set_value_at es i w) i ≡ Some (k, w)
@@ -148,7 +159,7 @@ moved es i w k v found =
     ∙ insert-end (remove es i) (length es - 1) (k, w) (omega (arith, removed-length es i (k, v) found))
 
 -- where the group of a frame's key stands at a place
-module _ (x : Frame) (es : List (FrameKey × OpenGroup)) (i : ℕ) (v : OpenGroup) (apart : AreApart (groups_in es)) (place : position (λ (g : Group). same_key x.key g.key) (groups_in es) ≡ Some i) (at : IsEntryAt es i v) where
+module _ (order : Bool) (x : Frame) (es : List (FrameKey × OpenGroup)) (i : ℕ) (v : OpenGroup) (apart : AreApart (groups_in es)) (place : position (λ (g : Group). same_key x.key g.key) (groups_in es) ≡ Some i) (at : IsEntryAt es i v) where
   abbrev pub there : Group
   there = group_at (at.key, v)
 
@@ -156,74 +167,71 @@ module _ (x : Frame) (es : List (FrameKey × OpenGroup)) (i : ℕ) (v : OpenGrou
   stands = sym (at.is there)
 
   pub found-there : of_the_key x.key (groups_in es) ≡ Some there
-  found-there = found-place x (groups_in es) i there apart place stands
+  found-there = found-place order x (groups_in es) i there apart place stands
 
   pub open-there : AllByRecursion IsOpen (groups_in es) → IsOpen there
   open-there all =
-      let here = all-at IsOpen (groups_in es) i there all (at_place x (groups_in es) i there apart place stands).0 in
+      let here = all-at IsOpen (groups_in es) i there all (at_place order x (groups_in es) i there apart place stands).0 in
       subst IsOpen (at.is there) here
 
   pub key-there : x.key ≡ key_of at.key
-  key-there = key-place x (groups_in es) i there apart place stands
+  key-there = key-place order x (groups_in es) i there apart place stands
 
   pub length-there : i < length es
-  length-there = omega (arith, (at_place x (groups_in es) i there apart place stands).0, length-map es group_at)
+  length-there = omega (arith, (at_place order x (groups_in es) i there apart place stands).0, length-map es group_at)
 
-  -- a number that isn't there has an empty slot
-  pub lacks : IfSome (of_the_key x.key (groups_in es)) (λ (o : Group). has_number x.number (held_of o) ≡ false) → has_number x.number (held_of (group_at (at.key, v))) ≡ false
-  lacks missing = subst (λ o. IfSome o (λ (g : Group). has_number x.number (held_of g) ≡ false)) found-there missing
+  -- a number for which there is a place has an empty slot
+  pub has_place : IfSome (of_the_key x.key (groups_in es)) (λ (o : Group). bars order x.number o ≡ false) → bars order x.number (group_at (at.key, v)) ≡ false
+  has_place free = subst (λ o. IfSome o (λ (g : Group). bars order x.number g ≡ false)) found-there free
 
-  pub empty : x.number < most_frames → has_number x.number (held_of (group_at (at.key, v))) ≡ false → slot_of v x.number ≡ None
-  empty small missing = by (slot_of v x.number) (sym (ap is_some (carried-slots (key_of at.key) v x.number small)) ∙ missing)
+  pub empty : x.number < most_frames → bars order x.number (group_at (at.key, v)) ≡ false → slot_of v x.number ≡ None
+  empty small free = by (slot_of v x.number) (sym (ap is_some (carried-slots (key_of at.key) v x.number small)) ∙ bars-missing order x.number there free)
     where
       by : (o : Option (List ℕ)) → is_some o ≡ false → o ≡ None
       by None e = refl
       by (Some b) e = absurd cc
 
-  has-there : x.number < most_frames → (b : Bool) → is_some (slot_of v x.number) ≡ b → has_number x.number (held_of there) ≡ b
-  has-there small b e = ap is_some (carried-slots (key_of at.key) v x.number small) ∙ e
+  -- what it says is what the group of the key says
+  pub there-bars : (b : Bool) → bars order x.number (group_at (at.key, v)) ≡ b → IfSome (of_the_key x.key (groups_in es)) (λ (o : Group). bars order x.number o ≡ b)
+  there-bars b e = subst (λ o. IfSome o (λ (g : Group). bars order x.number g ≡ b)) (sym found-there) e
 
-  -- what its slots say is what the group of the key says
-  pub there-has : x.number < most_frames → (b : Bool) → is_some (slot_of v x.number) ≡ b → IfSome (of_the_key x.key (groups_in es)) (λ (o : Group). has_number x.number (held_of o) ≡ b)
-  there-has small b e = subst (λ o. IfSome o (λ (g : Group). has_number x.number (held_of g) ≡ b)) (sym found-there) (has-there small b e)
+  pub none-lost : bars order x.number (group_at (at.key, v)) ≡ false → None ≡ lost order x (of_the_key x.key (groups_in es))
+  none-lost e = sym (lost-joins order x (groups_in es) i there apart place stands e)
 
-  pub none-lost : x.number < most_frames → is_some (slot_of v x.number) ≡ false → None ≡ lost x (of_the_key x.key (groups_in es))
-  none-lost small e = sym (lost-joins x (groups_in es) i there apart place stands (has-there small false e))
+  -- A frame for which it has no place ends it, and the group that the frame begins goes last, or gives its message.
+  module _ (w : OpenGroup) (barred : IfSome (of_the_key x.key (groups_in es)) (λ (o : Group). bars order x.number o ≡ true)) (small : x.number < most_frames) (is : group_in (key_of at.key) w ≡ group_of x.key (x ∷ [])) where
+    ends_it : bars order x.number (group_at (at.key, v)) ≡ true
+    ends_it = subst (λ o. IfSome o (λ (g : Group). bars order x.number g ≡ true)) found-there barred
 
-  -- A frame with its number ends it, and the group that it begins goes last, or gives its message.
-  module _ (w : OpenGroup) (number : IfSome (of_the_key x.key (groups_in es)) (λ (o : Group). has_number x.number (held_of o) ≡ true)) (small : x.number < most_frames) (is : group_in (key_of at.key) w ≡ group_of x.key (x ∷ [])) where
-    has_it : has_number x.number (held_of (group_at (at.key, v))) ≡ true
-    has_it = subst (λ o. IfSome o (λ (g : Group). has_number x.number (held_of g) ≡ true)) found-there number
-
-    after : groups_after (groups_in es) x ≡ (take i (groups_in es) ++ drop (i + 1) (groups_in es)) ++ option_to_list (begun x)
-    after = after-repeats x (groups_in es) i there apart place stands has_it
+    after : groups_after order (groups_in es) x ≡ (take i (groups_in es) ++ drop (i + 1) (groups_in es)) ++ option_to_list (begun x)
+    after = after-repeats order x (groups_in es) i there apart place stands ends_it
 
     begins : cond (complete (held_of (group_at (at.key, w)))) [] (group_at (at.key, w) ∷ []) ≡ option_to_list (begun x)
     begins = groups-begun x (group_at (at.key, w)) small is
 
-    pub ends-go : complete (held_of (group_at (at.key, w))) ≡ true → groups_in (remove es i) ≡ groups_after (groups_in es) x
+    pub ends-go : complete (held_of (group_at (at.key, w))) ≡ true → groups_in (remove es i) ≡ groups_after order (groups_in es) x
     ends-go done =
         removed-groups es i ∙ sym (append-nil (take i (groups_in es) ++ drop (i + 1) (groups_in es)))
         ∙ ap (λ gs. (take i (groups_in es) ++ drop (i + 1) (groups_in es)) ++ gs) (ap (λ b. cond b [] (group_at (at.key, w) ∷ [])) (sym done) ∙ begins)
         ∙ sym after
 
     -- where it was written before it goes
-    pub ends-written : complete (held_of (group_at (at.key, w))) ≡ true → groups_in (remove (set_value_at es i w) i) ≡ groups_after (groups_in es) x
+    pub ends-written : complete (held_of (group_at (at.key, w))) ≡ true → groups_in (remove (set_value_at es i w) i) ≡ groups_after order (groups_in es) x
     ends-written done = ap groups_in (removed-written es i w) ∙ ends-go done
 
-    pub begun-gives : complete (held_of (group_at (at.key, w))) ≡ true → Some (record { stamp = x.stamp; id = x.id; payload = data_of (held_of (group_at (at.key, w))) }) ≡ gained x (of_the_key x.key (groups_in es))
-    begun-gives done = sym (ap (λ b. cond b (Some (record { stamp = x.stamp; id = x.id; payload = data_of (held_of (group_at (at.key, w))) })) None) done) ∙ message-begun x (group_at (at.key, w)) small is ∙ sym (gained-repeats x (groups_in es) i there apart place stands has_it)
+    pub begun-gives : complete (held_of (group_at (at.key, w))) ≡ true → Some (record { stamp = x.stamp; id = x.id; payload = data_of (held_of (group_at (at.key, w))) }) ≡ gained order x (of_the_key x.key (groups_in es))
+    begun-gives done = sym (ap (λ b. cond b (Some (record { stamp = x.stamp; id = x.id; payload = data_of (held_of (group_at (at.key, w))) })) None) done) ∙ message-begun x (group_at (at.key, w)) small is ∙ sym (gained-repeats order x (groups_in es) i there apart place stands ends_it)
 
-    pub begun-none : complete (held_of (group_at (at.key, w))) ≡ false → None ≡ gained x (of_the_key x.key (groups_in es))
-    begun-none left = sym (ap (λ b. cond b (Some (record { stamp = x.stamp; id = x.id; payload = data_of (held_of (group_at (at.key, w))) })) None) left) ∙ message-begun x (group_at (at.key, w)) small is ∙ sym (gained-repeats x (groups_in es) i there apart place stands has_it)
+    pub begun-none : complete (held_of (group_at (at.key, w))) ≡ false → None ≡ gained order x (of_the_key x.key (groups_in es))
+    begun-none left = sym (ap (λ b. cond b (Some (record { stamp = x.stamp; id = x.id; payload = data_of (held_of (group_at (at.key, w))) })) None) left) ∙ message-begun x (group_at (at.key, w)) small is ∙ sym (gained-repeats order x (groups_in es) i there apart place stands ends_it)
 
-    pub breaks : AllByRecursion IsOpen (groups_in es) → Some (record { pgn = x.key.pgn; src = x.key.src; dst = x.key.dst; seq = x.key.sequence; first = v.first }) ≡ lost x (of_the_key x.key (groups_in es))
+    pub breaks : AllByRecursion IsOpen (groups_in es) → Some (record { pgn = x.key.pgn; src = x.key.src; dst = x.key.dst; seq = x.key.sequence; first = v.first }) ≡ lost order x (of_the_key x.key (groups_in es))
     breaks all =
         (λ j. let k = key-there j in Some (record { pgn = k.pgn; src = k.src; dst = k.dst; seq = k.sequence; first = v.first }))
         ∙ ap Some (broken-held there x.key (open-there all) key-there)
-        ∙ sym (lost-repeats x (groups_in es) i there apart place stands has_it)
+        ∙ sym (lost-repeats order x (groups_in es) i there apart place stands ends_it)
 
-    pub ends-last : complete (held_of (group_at (at.key, w))) ≡ false → groups_in (move_index (set_value_at es i w) i (length es - 1)) ≡ groups_after (groups_in es) x
+    pub ends-last : complete (held_of (group_at (at.key, w))) ≡ false → groups_in (move_index (set_value_at es i w) i (length es - 1)) ≡ groups_after order (groups_in es) x
     ends-last left =
         ap groups_in (moved es i w at.key v (at.found))
         ∙ map-append group_at (remove es i) ((at.key, w) ∷ [])
@@ -232,8 +240,11 @@ module _ (x : Frame) (es : List (FrameKey × OpenGroup)) (i : ℕ) (v : OpenGrou
         ∙ sym after
 
   module _ (w : OpenGroup) (p : StoredPiece) (fit : AllByRecursion IsOpen (groups_in es)) (small : x.number < most_frames) (number : p.number ≡ x.number) (bytes : p.bytes ≡ x.bytes)
-      (missing : has_number x.number (held_of (group_at (at.key, v))) ≡ false)
+      (free : bars order x.number (group_at (at.key, v)) ≡ false)
       (taken : group_at (at.key, w) ≡ record (group_at (at.key, v)) { pieces = pieces_of (held_of (group_at (at.key, v)) ++ held_frame (group_at (at.key, v)) (piece_of p) ∷ []) }) where
+    missing : has_number x.number (held_of (group_at (at.key, v))) ≡ false
+    missing = bars-missing order x.number there free
+
     pub grown : group_at (at.key, w) ≡ with_frame (group_at (at.key, v)) x
     grown = taken ∙ (λ j. record there { pieces = pieces_of (held_of there ++ held_frame there (record { number = number j; bytes = bytes j }) ∷ []) }) ∙ with_piece there x
 
@@ -241,27 +252,27 @@ module _ (x : Frame) (es : List (FrameKey × OpenGroup)) (i : ℕ) (v : OpenGrou
     complete-grown = ap (λ (g : Group). complete (held_of g)) grown ∙ complete-with_frame there x (open-there fit) missing small
 
     -- it stays with the frame
-    pub joins-stay : complete (held_of (group_at (at.key, w))) ≡ false → groups_in (set_value_at es i w) ≡ groups_after (groups_in es) x
-    joins-stay left = at.written w ∙ joins-left x (groups_in es) i there apart place stands missing (group_at (at.key, w)) (sym complete-grown ∙ left) grown
+    pub joins-stay : complete (held_of (group_at (at.key, w))) ≡ false → groups_in (set_value_at es i w) ≡ groups_after order (groups_in es) x
+    joins-stay left = at.written w ∙ joins-left order x (groups_in es) i there apart place stands free (group_at (at.key, w)) (sym complete-grown ∙ left) grown
 
     -- or goes
-    pub joins-go : complete (held_of (group_at (at.key, w))) ≡ true → groups_in (remove (set_value_at es i w) i) ≡ groups_after (groups_in es) x
+    pub joins-go : complete (held_of (group_at (at.key, w))) ≡ true → groups_in (remove (set_value_at es i w) i) ≡ groups_after order (groups_in es) x
     joins-go done =
         removed-groups (set_value_at es i w) i
         ∙ ap (λ gs. take i gs ++ drop (i + 1) gs) (at.written w)
-        ∙ joins-done x (groups_in es) i there apart place stands missing (group_at (at.key, w)) (sym complete-grown ∙ done)
+        ∙ joins-done order x (groups_in es) i there apart place stands free (group_at (at.key, w)) (sym complete-grown ∙ done)
 
     data-grown : data_of (held_of (group_at (at.key, w))) ≡ data_of (held_of (group_at (at.key, v)) ++ x ∷ [])
     data-grown = ap (λ (g : Group). data_of (held_of g)) grown ∙ data_of-with_frame there x (open-there fit) missing small
 
     -- and gives its message, where it goes
-    pub gives-there : complete (held_of (group_at (at.key, w))) ≡ true → Some (record { stamp = x.stamp; id = x.id; payload = data_of (held_of (group_at (at.key, w))) }) ≡ gained x (of_the_key x.key (groups_in es))
+    pub gives-there : complete (held_of (group_at (at.key, w))) ≡ true → Some (record { stamp = x.stamp; id = x.id; payload = data_of (held_of (group_at (at.key, w))) }) ≡ gained order x (of_the_key x.key (groups_in es))
     gives-there done =
         (λ j. Some (record { stamp = x.stamp; id = x.id; payload = data-grown j }))
         ∙ sym (ap (λ b. cond b (Some (message_of x (held_of there ++ x ∷ []))) None) (sym complete-grown ∙ done))
-        ∙ sym (gained-joins x (groups_in es) i there apart place stands missing)
+        ∙ sym (gained-joins order x (groups_in es) i there apart place stands free)
 
-    pub gives-none : complete (held_of (group_at (at.key, w))) ≡ false → None ≡ gained x (of_the_key x.key (groups_in es))
+    pub gives-none : complete (held_of (group_at (at.key, w))) ≡ false → None ≡ gained order x (of_the_key x.key (groups_in es))
     gives-none left =
         sym (ap (λ b. cond b (Some (message_of x (held_of there ++ x ∷ []))) None) (sym complete-grown ∙ left))
-        ∙ sym (gained-joins x (groups_in es) i there apart place stands missing)
+        ∙ sym (gained-joins order x (groups_in es) i there apart place stands free)

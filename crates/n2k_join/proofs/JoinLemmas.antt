@@ -3,7 +3,7 @@ use Rattle.std.proofs.Common.{◌≡◌, ℕ, zero, suc, ◌+◌, ◌<◌, ◌�
 use mathlib.Core.Path.{fun_ext}
 use Rattle.std.specs.Prelude.{position}
 use Rattle.std.specs.List.{AllByRecursion, cons_option, list_any, position_or_len}
-use Rattle.std.proofs.lemmas.Bool.{ltb-false, or_from}
+use Rattle.std.proofs.lemmas.Bool.{ltb-false, or_from, false≢true, false_from_ne_true}
 use Rattle.std.proofs.lemmas.List.{append-nil, take-set, drop-set-lt}
 use Rattle.std.proofs.lemmas.List.Quantifiers.{position-Some}
 use Rattle.std.proofs.lemmas.Option.{none-some}
@@ -12,8 +12,9 @@ use Rattle.n2k_join.specs.Frames.{Key, same_key, Frame, most_frames}
 use Rattle.n2k_join.specs.Groups.{complete, has_number, data_of, first}
 use Rattle.n2k_join.specs.Open.{Piece, Group, pieces_of, group_of}
 use Rattle.n2k_join.specs.State.{held_frame, held_of, IsOpen, AreApart}
-use Rattle.n2k_join.specs.Inner.Stored.{with_frame, joined, taken, begun, of_the_key, opened, groups_after, message_if, gained, lost}
+use Rattle.n2k_join.specs.Inner.Stored.{bars, with_frame, joined, taken, begun, of_the_key, opened, groups_after, message_if, gained, lost}
 use Rattle.n2k_join.proofs.Carried.{carried-append, has_twice-push, complete-same, data_of-same, pieces_of-same}
+use Rattle.n2k_join.proofs.Cuts.{has-from}
 use Rattle.n2k_join.proofs.Held.{carried-kept, has_twice-kept, has_twice-held, length-held, all-held, all-reverse, first-held}
 use Rattle.n2k_join.proofs.Keys.{same_key-true}
 use Rattle.n2k_join.proofs.Opened.{IsFine}
@@ -75,10 +76,10 @@ module _ (o : Group) (x : Frame) (fit : IsOpen o) (missing : has_number x.number
 -- ---- the group of a key among groups
 
 -- groups of other keys stay as they are
-pub taken-others : (x : Frame) (gs : List Group) → AllByRecursion (λ (g : Group). same_key x.key g.key ≡ false) gs → filter_map (taken x) gs ≡ gs
-taken-others x [] all = refl
-taken-others x (g ∷ gs) all =
-    ap (λ b. cons_option (cond b (joined x g) (Some g)) (filter_map (taken x) gs)) all.0 ∙ ap (λ hs. g ∷ hs) (taken-others x gs all.1)
+pub taken-others : (order : Bool) (x : Frame) (gs : List Group) → AllByRecursion (λ (g : Group). same_key x.key g.key ≡ false) gs → filter_map (taken order x) gs ≡ gs
+taken-others order x [] all = refl
+taken-others order x (g ∷ gs) all =
+    ap (λ b. cons_option (cond b (joined order x g) (Some g)) (filter_map (taken order x) gs)) all.0 ∙ ap (λ hs. g ∷ hs) (taken-others order x gs all.1)
 
 none-found : (key : Key) (gs : List Group) → AllByRecursion (λ (g : Group). same_key key g.key ≡ false) gs → of_the_key key gs ≡ None
 none-found key gs all = find-none (λ (g : Group). same_key key g.key) gs all
@@ -103,21 +104,21 @@ one_or_none : (o : Option Group) (gs : List Group) → cons_option o gs ≡ opti
 one_or_none None gs = refl
 one_or_none (Some g) gs = refl
 
-module _ (x : Frame) where
+module _ (order : Bool) (x : Frame) where
   same : Group → Bool
   same g = same_key x.key g.key
 
   -- the group of the frame's key goes its way, and the others stay
   pub taken-at : (gs : List Group) (i : ℕ) (d : Group) → AreApart gs → i < length gs → same_key x.key (get_or gs i d).key ≡ true → ((k : ℕ) → k < i → same_key x.key (get_or gs k d).key ≡ false)
-      → filter_map (taken x) gs ≡ take i gs ++ (option_to_list (joined x (get_or gs i d)) ++ drop (suc i) gs)
+      → filter_map (taken order x) gs ≡ take i gs ++ (option_to_list (joined order x (get_or gs i d)) ++ drop (suc i) gs)
   taken-at [] i d apart l here before = absurd (omega arith)
   taken-at (g ∷ gs) zero d apart l here before =
       let others = all-map (λ (h : Group). same_key g.key h.key ≡ false) (λ (h : Group). same_key x.key h.key ≡ false) gs (λ h e. ap (λ (k : Key). same_key k h.key) (same_key-true x.key g.key here) ∙ e) apart.0 in
-      ap (λ b. cons_option (cond b (joined x g) (Some g)) (filter_map (taken x) gs)) here
-      ∙ ap (cons_option (joined x g)) (taken-others x gs others)
-      ∙ one_or_none (joined x g) gs
+      ap (λ b. cons_option (cond b (joined order x g) (Some g)) (filter_map (taken order x) gs)) here
+      ∙ ap (cons_option (joined order x g)) (taken-others order x gs others)
+      ∙ one_or_none (joined order x g) gs
   taken-at (g ∷ gs) (suc i) d apart l here before =
-      ap (λ b. cons_option (cond b (joined x g) (Some g)) (filter_map (taken x) gs)) (before 0 (omega arith))
+      ap (λ b. cons_option (cond b (joined order x g) (Some g)) (filter_map (taken order x) gs)) (before 0 (omega arith))
       ∙ ap (λ hs. g ∷ hs) (taken-at gs i d apart.1 (omega arith) here (λ k m. before (suc k) (omega arith)))
 
   pub found-at : (gs : List Group) (i : ℕ) (d : Group) → i < length gs → same_key x.key (get_or gs i d).key ≡ true → ((k : ℕ) → k < i → same_key x.key (get_or gs k d).key ≡ false)
@@ -134,50 +135,50 @@ set-parts (g ∷ gs) zero y l = refl
 set-parts (g ∷ gs) (suc i) y l = ap (λ hs. g ∷ hs) (set-parts gs i y (omega arith))
 
 -- where no group has the frame's key
-pub none_at_all : (x : Frame) (gs : List Group) → position (λ (g : Group). same_key x.key g.key) gs ≡ None
-    → (of_the_key x.key gs ≡ None) × (groups_after gs x ≡ gs ++ option_to_list (begun x))
+pub none_at_all : (order : Bool) (x : Frame) (gs : List Group) → position (λ (g : Group). same_key x.key g.key) gs ≡ None
+    → (of_the_key x.key gs ≡ None) × (groups_after order gs x ≡ gs ++ option_to_list (begun x))
 unfolding groups_after
-none_at_all x gs none =
+none_at_all order x gs none =
     let each = position-None (λ (h : Group). same_key x.key h.key) gs none in
     let found = none-found x.key gs each in (
       found,
-      ap (λ hs. hs ++ option_to_list (opened x (of_the_key x.key gs))) (taken-others x gs each)
-          ∙ ap (λ (o : Option Group). gs ++ option_to_list (opened x o)) found,
+      ap (λ hs. hs ++ option_to_list (opened order x (of_the_key x.key gs))) (taken-others order x gs each)
+          ∙ ap (λ (o : Option Group). gs ++ option_to_list (opened order x o)) found,
     )
 
 -- where the group of its key stands at a place
-module _ (x : Frame) (gs : List Group) (i : ℕ) (o : Group) (apart : AreApart gs) (place : position (λ (g : Group). same_key x.key g.key) gs ≡ Some i) (is : o ≡ get_or gs i o) where
+module _ (order : Bool) (x : Frame) (gs : List Group) (i : ℕ) (o : Group) (apart : AreApart gs) (place : position (λ (g : Group). same_key x.key g.key) gs ≡ Some i) (is : o ≡ get_or gs i o) where
   pub at_place : (i < length gs) × (same_key x.key (get_or gs i o).key ≡ true) × ((k : ℕ) → k < i → same_key x.key (get_or gs k o).key ≡ false)
   at_place = position-Some (λ (g : Group). same_key x.key g.key) gs i o place
 
   pub found-place : of_the_key x.key gs ≡ Some o
-  found-place = found-at x gs i o at_place.0 at_place.1 at_place.2 ∙ ap Some (sym is)
+  found-place = found-at order x gs i o at_place.0 at_place.1 at_place.2 ∙ ap Some (sym is)
 
   pub key-place : x.key ≡ o.key
   key-place = same_key-true x.key o.key (ap (λ (g : Group). same_key x.key g.key) is ∙ at_place.1)
 
-  taken-place : filter_map (taken x) gs ≡ take i gs ++ (option_to_list (joined x o) ++ drop (suc i) gs)
-  taken-place = taken-at x gs i o apart at_place.0 at_place.1 at_place.2 ∙ ap (λ (g : Group). take i gs ++ (option_to_list (joined x g) ++ drop (suc i) gs)) (sym is)
+  taken-place : filter_map (taken order x) gs ≡ take i gs ++ (option_to_list (joined order x o) ++ drop (suc i) gs)
+  taken-place = taken-at order x gs i o apart at_place.0 at_place.1 at_place.2 ∙ ap (λ (g : Group). take i gs ++ (option_to_list (joined order x g) ++ drop (suc i) gs)) (sym is)
 
-  after-place : groups_after gs x ≡ (take i gs ++ (option_to_list (joined x o) ++ drop (suc i) gs)) ++ option_to_list (opened x (Some o))
+  after-place : groups_after order gs x ≡ (take i gs ++ (option_to_list (joined order x o) ++ drop (suc i) gs)) ++ option_to_list (opened order x (Some o))
   unfolding groups_after
-  after-place = ap (λ hs. hs ++ option_to_list (opened x (of_the_key x.key gs))) taken-place ∙ ap (λ (p : Option Group). (take i gs ++ (option_to_list (joined x o) ++ drop (suc i) gs)) ++ option_to_list (opened x p)) found-place
+  after-place = ap (λ hs. hs ++ option_to_list (opened order x (of_the_key x.key gs))) taken-place ∙ ap (λ (p : Option Group). (take i gs ++ (option_to_list (joined order x o) ++ drop (suc i) gs)) ++ option_to_list (opened order x p)) found-place
 
-  -- its number isn't there: the frame joins it
-  module _ (missing : has_number x.number (held_of o) ≡ false) where
-    pub gained-joins : gained x (of_the_key x.key gs) ≡ message_if x (held_of o ++ x ∷ [])
-    gained-joins = ap (gained x) found-place ∙ ap (λ b. cond b (message_if x (x ∷ [])) (message_if x (held_of o ++ x ∷ []))) missing
+  -- the group has a place for it: the frame joins it
+  module _ (missing : bars order x.number o ≡ false) where
+    pub gained-joins : gained order x (of_the_key x.key gs) ≡ message_if x (held_of o ++ x ∷ [])
+    gained-joins = ap (gained order x) found-place ∙ ap (λ b. cond b (message_if x (x ∷ [])) (message_if x (held_of o ++ x ∷ []))) missing
 
-    pub lost-joins : lost x (of_the_key x.key gs) ≡ None
-    lost-joins = ap (lost x) found-place ∙ ap (λ b. cond b (Some (broken_of x.key (held_of o))) None) missing
+    pub lost-joins : lost order x (of_the_key x.key gs) ≡ None
+    lost-joins = ap (lost order x) found-place ∙ ap (λ b. cond b (Some (broken_of x.key (held_of o))) None) missing
 
-    after-joins : groups_after gs x ≡ take i gs ++ (option_to_list (cond (complete (held_of o ++ x ∷ [])) None (Some (with_frame o x))) ++ drop (suc i) gs)
+    after-joins : groups_after order gs x ≡ take i gs ++ (option_to_list (cond (complete (held_of o ++ x ∷ [])) None (Some (with_frame o x))) ++ drop (suc i) gs)
     after-joins =
         after-place
         ∙ ap (λ b. (take i gs ++ (option_to_list (cond b None (cond (complete (held_of o ++ x ∷ [])) None (Some (with_frame o x)))) ++ drop (suc i) gs)) ++ option_to_list (cond b (begun x) None)) missing
         ∙ append-nil (take i gs ++ (option_to_list (cond (complete (held_of o ++ x ∷ [])) None (Some (with_frame o x))) ++ drop (suc i) gs))
 
-    pub joins-done : (y : Group) → complete (held_of o ++ x ∷ []) ≡ true → take i (set gs i y) ++ drop (i + 1) (set gs i y) ≡ groups_after gs x
+    pub joins-done : (y : Group) → complete (held_of o ++ x ∷ []) ≡ true → take i (set gs i y) ++ drop (i + 1) (set gs i y) ≡ groups_after order gs x
     joins-done y done =
         let next : i < i + 1 = omega arith in
         let suc_is : i + 1 ≡ suc i = omega arith in
@@ -186,27 +187,32 @@ module _ (x : Frame) (gs : List Group) (i : ℕ) (o : Group) (apart : AreApart g
         ∙ ap (λ b. take i gs ++ (option_to_list (cond b None (Some (with_frame o x))) ++ drop (suc i) gs)) (sym done)
         ∙ sym after-joins
 
-    pub joins-left : (y : Group) → complete (held_of o ++ x ∷ []) ≡ false → y ≡ with_frame o x → set gs i y ≡ groups_after gs x
+    pub joins-left : (y : Group) → complete (held_of o ++ x ∷ []) ≡ false → y ≡ with_frame o x → set gs i y ≡ groups_after order gs x
     joins-left y left grown =
         set-parts gs i y at_place.0
         ∙ ap (λ g. take i gs ++ g ∷ drop (suc i) gs) grown
         ∙ ap (λ b. take i gs ++ (option_to_list (cond b None (Some (with_frame o x))) ++ drop (suc i) gs)) (sym left)
         ∙ sym after-joins
 
-  -- its number is there: the frame breaks it
-  module _ (there : has_number x.number (held_of o) ≡ true) where
-    pub gained-repeats : gained x (of_the_key x.key gs) ≡ message_if x (x ∷ [])
-    gained-repeats = ap (gained x) found-place ∙ ap (λ b. cond b (message_if x (x ∷ [])) (message_if x (held_of o ++ x ∷ []))) there
+  -- the group has none: the frame breaks it
+  module _ (there : bars order x.number o ≡ true) where
+    pub gained-repeats : gained order x (of_the_key x.key gs) ≡ message_if x (x ∷ [])
+    gained-repeats = ap (gained order x) found-place ∙ ap (λ b. cond b (message_if x (x ∷ [])) (message_if x (held_of o ++ x ∷ []))) there
 
-    pub lost-repeats : lost x (of_the_key x.key gs) ≡ Some (broken_of x.key (held_of o))
-    lost-repeats = ap (lost x) found-place ∙ ap (λ b. cond b (Some (broken_of x.key (held_of o))) None) there
+    pub lost-repeats : lost order x (of_the_key x.key gs) ≡ Some (broken_of x.key (held_of o))
+    lost-repeats = ap (lost order x) found-place ∙ ap (λ b. cond b (Some (broken_of x.key (held_of o))) None) there
 
-    pub after-repeats : groups_after gs x ≡ (take i gs ++ drop (i + 1) gs) ++ option_to_list (begun x)
+    pub after-repeats : groups_after order gs x ≡ (take i gs ++ drop (i + 1) gs) ++ option_to_list (begun x)
     after-repeats =
         let suc_is : suc i ≡ i + 1 = omega arith in
         after-place
         ∙ ap (λ b. (take i gs ++ (option_to_list (cond b None (cond (complete (held_of o ++ x ∷ [])) None (Some (with_frame o x)))) ++ drop (suc i) gs)) ++ option_to_list (cond b (begun x) None)) there
         ∙ ap (λ j. (take i gs ++ drop j gs) ++ option_to_list (begun x)) suc_is
+
+-- a group that has a place for a number lacks it
+pub bars-missing : (order : Bool) (n : ℕ) (o : Group) → bars order n o ≡ false → has_number n (held_of o) ≡ false
+bars-missing false n o e = e
+bars-missing true n o e = false_from_ne_true (has_number n (held_of o)) (λ h. false≢true (sym e ∙ has-from n n (held_of o) (omega arith) h))
 
 -- what holds of each group holds of the one at a place
 pub all-at : (P : Group → Type 0) (gs : List Group) (i : ℕ) (d : Group) → AllByRecursion P gs → i < length gs → P (get_or gs i d)

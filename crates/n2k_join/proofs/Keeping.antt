@@ -1,10 +1,10 @@
 -- The step leads from a state that a join can have to another.
-use Rattle.std.proofs.Common.{◌≡◌, ◌==◌, ◌≤◌, ◌<◌, ◌+◌, ◌%◌, ℕ, suc, zero, Bool, true, false, cond, not, List, [], ◌∷◌, ◌++◌, length, map, refl, sym, ap, ◌∙◌, subst, arith, append_assoc, Option, Some, None, option_map, option_and_then, option_to_list, drop}
+use Rattle.std.proofs.Common.{◌≡◌, ◌==◌, ◌≤◌, ◌<◌, ◌+◌, ◌%◌, ℕ, suc, zero, Bool, true, false, cond, not, List, [], ◌∷◌, ◌++◌, length, map, refl, sym, ap, ◌∙◌, subst, arith, append_assoc, Option, Some, None, option_map, option_and_then, option_to_list, drop, ◌-◌, filter_map}
 use mathlib.Core.Logic.{◌⊎◌, inl, inr}
 use Rattle.std.specs.Prelude.{is_some, IfSome, slice_index_or, slice_index}
 use Rattle.std.specs.List.{range_with_len, AllByRecursion}
-use Rattle.std.proofs.lemmas.List.{append-nil, length-append}
-use Rattle.std.proofs.lemmas.Bool.{eqb-true, eq-eqb, leb-true, not-true, or_cases, false≢true}
+use Rattle.std.proofs.lemmas.List.{append-nil, length-append, length-map}
+use Rattle.std.proofs.lemmas.Bool.{eqb-true, eq-eqb, leb-true, ltb-true, not-true, or_cases, cases_lt, false≢true}
 use Rattle.std.proofs.lemmas.Option.{none-some, same_Some}
 use Rattle.n2k_wire.specs.declared.entry.BadCause.{BadCause}
 use Rattle.n2k_wire.specs.declared.entry.BadCause.TheVariants as causes
@@ -17,22 +17,24 @@ use Rattle.n2k_table.specs.declared.definition.Kind.TheVariants.{Single, Fast}
 use Rattle.n2k_join.specs.declared.counts.Counts.{Counts}
 use Rattle.n2k_join.specs.Counts.{most_lines}
 use Rattle.n2k_join.specs.Frames.{Key, Frame, most_frames, longest_total, filler, has_total, is_fast_payload, fast_frame, frame_with, frame_by, frame_in, of_key}
-use Rattle.n2k_join.specs.Groups.{Ends, repeats, carried, complete, open_of, incomplete}
-use Rattle.n2k_join.specs.Open.{Piece, Group, piece_at, pieces_of, group_of, begun_at, open_groups}
-use Rattle.n2k_join.specs.Messages.{message_of, alone, single_by, whole_by, cause_in, fast_cause, is_unknown, broken_of}
-use Rattle.n2k_join.specs.State.{State, state, Given, held_of, held, next_line, step_frames, step_given, step_groups, step_after, counted, one_if, AreCounts, IsKey, IsPiece, HasParts, IsState, AreFast}
-use Rattle.n2k_join.proofs.Cuts.{IsEnding, so_far, so_far-all, so_far-keeps, repeats-ends}
+use Rattle.n2k_join.specs.Groups.{Ends, within, carried, complete, open_of, incomplete}
+use Rattle.n2k_join.specs.Open.{Piece, Group, piece_at, pieces_of, group_of, begun_at, open_groups, is_waiting, waiting, ended, open_within}
+use Rattle.n2k_join.specs.Messages.{alone, single_by, whole_by, cause_in, fast_cause, told_of, is_unknown}
+use Rattle.n2k_join.specs.State.{State, state, Given, held_of, held, next_line, overdue, step_frames, step_given, step_groups, step_after, counted, one_if, AreCounts, IsKey, IsPiece, HasParts, Rise, AreOpen, IsState, AreFast, AreWaiting}
+use Rattle.n2k_join.specs.Window.{Rule, IsWindow}
+use Rattle.n2k_join.proofs.BrokenGroups.{told_if, breaks}
+use Rattle.n2k_join.proofs.Cuts.{IsEnding, so_far, so_far-all, so_far-keeps, within-ends}
 use Rattle.n2k_join.proofs.Held.{AreNumbered}
 use Rattle.n2k_join.proofs.Keys.{of_key-keeps}
-use Rattle.n2k_join.proofs.Given.{broke, completed}
 use Rattle.n2k_join.proofs.Lines.{frame_in-line}
 use Rattle.n2k_join.proofs.Logs.{frame_in-number}
 use Rattle.n2k_join.proofs.Opened.{IsLog, IsFine, key_at, at_line, at_last, begun_at-is, open_of-so_far, so_far-fine, numbers_of_key}
-use Rattle.n2k_join.proofs.Resumed.{held_of-all, held_of-any, held-log, open_groups-open}
+use Rattle.n2k_join.proofs.Overdue.{ended-counted, advanced-counted}
+use Rattle.n2k_join.proofs.Resumed.{held_of-all, held_of-any, held-log}
 use Rattle.n2k_join.proofs.Agreeing.{after_longer}
-use Rattle.n2k_join.proofs.Advanced.{of_the_key}
-use Rattle.n2k_join.proofs.Steps.{only_frame, frame_gives, step-none, step-frame}
-use Rattle.n2k_join.proofs.Rising.{all-map, all-append, all-zip, all-flat_map, all-range, all-filter_map}
+use Rattle.n2k_join.proofs.Steps.{StepsTo, kept, frame_message, only_frame, kept-open, kept-wait, step-none, step-frame}
+use Rattle.n2k_join.proofs.Rising.{all-map, all-append, all-zip, all-flat_map, all-range, all-filter_map, rise-less}
+use Rattle.n2k_join.proofs.Windows.{all-filter, all-waiting, open_within-open}
 
 -- the parts of a frame are such as the program's packets give
 pub record IsFramePart (f : Frame) : Type 0 where
@@ -240,75 +242,124 @@ one-le : (b : Bool) → one_if b ≤ 1
 one-le true = omega arith
 one-le false = omega arith
 
-broke-le : (x : Frame) (s : Option (List Frame)) → length (map (broken_of x.key) (broke repeats s x)) ≤ 1
-broke-le x None = omega arith
-broke-le x (Some g) = by (complete g) (repeats g x)
-  where
-    by : (c e : Bool) → length (map (broken_of x.key) (cond c [] (cond e (g ∷ []) []))) ≤ 1
-    by true e = omega arith
-    by false true = omega arith
-    by false false = omega arith
-
--- what a line gives, in numbers
-pub record GivesOnce (kind : ℕ → Option Kind) (e : Entry) (gives : Given) : Type 0 where
+-- What a line gives, in numbers: at most one of a message, a cause and an unknown PGN; and the groups that it breaks and
+-- those that it leaves are one more at most than there were.
+pub record GivesOnce (kind : ℕ → Option Kind) (s : State) (e : Entry) (gives : Given) (leaves : List Group) : Type 0 where
   pub one : one_if (is_some gives.message) + one_if (is_some gives.cause) + one_if (is_unknown kind e) ≤ 1
-  pub broken : length gives.broken ≤ 1
+  pub groups : length gives.broken + length leaves ≤ length s.groups + 1
 
-frame-once : (kind : ℕ → Option Kind) (e : Entry) (x : Frame) (o : Option Group) → is_unknown kind e ≡ false → GivesOnce kind e (frame_gives x o)
-frame-once kind e x o known = record {
-  one =
-      let message = one-le (is_some (option_map (message_of x) (completed repeats (option_map held_of o) x))) in
-      let unknown : one_if (is_unknown kind e) ≡ 0 = ap one_if known in
-      omega (arith, message, unknown);
-  broken = broke-le x (option_map held_of o);
-}
-
-counted-kept : (kind : ℕ → Option Kind) (c : Counts) (e : Entry) (gives : Given) (n : ℕ) → AreCounts c → c.lines < most_lines → GivesOnce kind e gives → AreCounts (counted kind c e gives n)
-counted-kept kind c e gives n are below once = record {
+counted-kept : (kind : ℕ → Option Kind) (s : State) (e : Entry) (gives : Given) (leaves : List Group) → AreCounts s.counts → s.counts.held ≡ length s.groups → s.counts.lines < most_lines → GivesOnce kind s e gives leaves
+    → AreCounts (counted kind s.counts e gives (length leaves))
+counted-kept kind s e gives leaves are held below once = record {
   lines = omega (arith, below);
   given = omega (arith, are.given, once.one);
-  broken = omega (arith, are.broken, once.broken);
+  broken = omega (arith, are.broken, held, once.groups);
 }
 
 module _ (kind : ℕ → Option Kind) (s : State) (e : Entry) (is : IsState s) where
+  window-some : 0 < s.rule.window
+  window-some = omega (arith, is.window.least)
+
+  step-open : AreOpen s.counts.lines (kept s)
+  step-open = kept-open kind s e window-some is.groups
+
   step-log : IsLog (next_line s) (step_frames kind s e)
   step-log = by (frame_in kind (next_line s) e) refl
     where
-      log : IsLog s.counts.lines (held s.groups)
-      log = held-log s.counts.lines s.groups is.groups
+      log : IsLog s.counts.lines (held (kept s))
+      log = held-log s.counts.lines (kept s) step-open
 
-      by : (o : Option Frame) → frame_in kind (next_line s) e ≡ o → IsLog (next_line s) (held s.groups ++ option_to_list o)
-      by None none = subst (λ fs. IsLog (next_line s) fs) (sym (append-nil (held s.groups))) (log-wider s.counts.lines (held s.groups) log)
-      by (Some x) some = log-push s.counts.lines (held s.groups) x log (frame_in-line kind (next_line s) e x some) (frame_in-number kind (next_line s) e x some)
+      by : (o : Option Frame) → frame_in kind (next_line s) e ≡ o → IsLog (next_line s) (held (kept s) ++ option_to_list o)
+      by None none = subst (λ fs. IsLog (next_line s) fs) (sym (append-nil (held (kept s)))) (log-wider s.counts.lines (held (kept s)) log)
+      by (Some x) some = log-push s.counts.lines (held (kept s)) x log (frame_in-line kind (next_line s) e x some) (frame_in-number kind (next_line s) e x some)
+
+  kept-parts : AllByRecursion HasParts (kept s)
+  unfolding waiting
+  kept-parts = all-filter HasParts (is_waiting s.rule (next_line s)) s.groups is.parts
 
   step-parts : IsEntry e → AllByRecursion IsFramePart (step_frames kind s e)
-  step-parts valid = all-append IsFramePart (held s.groups) (option_to_list (frame_in kind (next_line s) e)) (held-parts s.groups is.parts) (by (frame_in kind (next_line s) e) refl)
+  step-parts valid = all-append IsFramePart (held (kept s)) (option_to_list (frame_in kind (next_line s) e)) (held-parts (kept s) kept-parts) (by (frame_in kind (next_line s) e) refl)
     where
       by : (o : Option Frame) → frame_in kind (next_line s) e ≡ o → AllByRecursion IsFramePart (option_to_list o)
       by None none = tt
       by (Some x) some = (frame_in-part kind (next_line s) e x valid some, tt)
 
-  pub step-once : GivesOnce kind e (step_given kind s e)
+  pub step-once : GivesOnce kind s e (step_given kind s e) (step_groups kind s e)
+  unfolding step_after
   step-once = by (frame_in kind (next_line s) e) refl
     where
-      by : (o : Option Frame) → frame_in kind (next_line s) e ≡ o → GivesOnce kind e (step_given kind s e)
-      by None none = subst (GivesOnce kind e) (sym (step-none kind s e is.groups none).given) (record { one = one_of kind e; broken = omega arith })
-      by (Some x) some = subst (GivesOnce kind e) (sym (step-frame kind s e is.groups x some).given) (frame-once kind e x (of_the_key x.key s.groups) (only_frame kind (next_line s) e x some).known)
+      split : length (ended s.rule (next_line s) s.groups) + length (kept s) ≡ length s.groups
+      split = ended-counted s.rule window-some (next_line s) s.groups
+
+      both : (gives : Given) (leaves : List Group) → StepsTo kind s e gives leaves → GivesOnce kind s e gives leaves → GivesOnce kind s e (step_given kind s e) (step_groups kind s e)
+      both gives leaves steps once = subst (λ gs. GivesOnce kind s e (step_given kind s e) gs) (ap (λ (t : State). t.groups) (sym steps.after)) (subst (λ g. GivesOnce kind s e g leaves) (sym steps.given) once)
+
+      by : (o : Option Frame) → frame_in kind (next_line s) e ≡ o → GivesOnce kind s e (step_given kind s e) (step_groups kind s e)
+      by None none = both _ _ (step-none kind s e window-some is.groups none) (record {
+        one = one_of kind e;
+        groups = omega (arith, split, length-map (overdue s) told_of);
+      })
+      by (Some x) found = both _ _ (step-frame kind s e window-some is.groups x found) (record {
+        one =
+            let message = one-le (is_some (frame_message s.rule x (kept s))) in
+            let unknown : one_if (is_unknown kind e) ≡ 0 = ap one_if (only_frame kind (next_line s) e x found).known in
+            omega (arith, message, unknown);
+        groups =
+            let wait : AllByRecursion (λ (g : Group). is_waiting s.rule x.line g ≡ true) (kept s) = subst (λ l. AllByRecursion (λ (g : Group). is_waiting s.rule l g ≡ true) (kept s)) (sym (only_frame kind (next_line s) e x found).line) (kept-wait kind s e window-some is.groups) in
+            omega (arith, split, length-map (overdue s) told_of, advanced-counted s.rule window-some x (kept s) step-open.each wait, length-append (map told_of (overdue s)) (filter_map (told_if s.rule window-some (breaks s.rule window-some x)) (kept s)));
+      })
 
   -- after one more line the state is again one that a join can have
   pub step-keeps : IsEntry e → s.counts.lines < most_lines → IsState (step_after kind s e)
-  unfolding step_after
+  unfolding step_after waiting
   step-keeps valid below = record {
-    counted = counted-kept kind s.counts e (step_given kind s e) (length (step_groups kind s e)) is.counted below step-once;
+    window = is.window;
+    counted = counted-kept kind s e (step_given kind s e) (step_groups kind s e) is.counted is.held below step-once;
     held = refl;
-    groups = open_groups-open repeats repeats-ends (next_line s) (step_frames kind s e) step-log;
-    parts = open_groups-parts repeats repeats-ends (next_line s) (step_frames kind s e) step-log.numbers (step-parts valid);
+    groups = open_within-open s.rule (next_line s) window-some (step_frames kind s e) step-log;
+    parts = all-filter HasParts (is_waiting s.rule (next_line s)) (open_groups (within s.rule) (next_line s) (step_frames kind s e))
+        (open_groups-parts (within s.rule) (within-ends s.rule window-some) (next_line s) (step_frames kind s e) step-log.numbers (step-parts valid));
   }
 
+-- and no group's window has ended
+pub step-waits : (kind : ℕ → Option Kind) (s : State) (e : Entry) → AreWaiting (step_after kind s e)
+unfolding step_after
+step-waits kind s e =
+    all-map (λ (g : Group). is_waiting s.rule (next_line s) g ≡ true) (λ (g : Group). next_line s < g.first + s.rule.window) (step_groups kind s e) (λ g w. ltb-true (next_line s) (g.first + s.rule.window) w)
+    (all-waiting s.rule (next_line s) (open_groups (within s.rule) (next_line s) (step_frames kind s e)))
+
+-- ---- how many groups are open
+
+rise-few : (least n : ℕ) (gs : List Group) → Rise (λ (g : Group). g.first) least gs → AllByRecursion (λ (g : Group). g.first < least + n) gs → length gs ≤ n
+rise-few least n [] rise all = omega arith
+rise-few least zero (g ∷ gs) rise all = absurd (omega (arith, rise.0, all.0))
+rise-few least (suc n) (g ∷ gs) rise all =
+    let rest = rise-few (least + 1) n gs (rise-less (λ (g : Group). g.first) (least + 1) (g.first + 1) gs (omega (arith, rise.0)) rise.1)
+    (all-map (λ (g : Group). g.first < least + suc n) (λ (g : Group). g.first < (least + 1) + n) gs (λ g l. omega (arith, l)) all.1) in
+    omega (arith, rest)
+
+-- Where no group's window has ended, no more groups are open than the window has lines: each began at a line of its own.
+pub few-open : (s : State) → IsState s → AreWaiting s → length s.groups ≤ s.rule.window
+few-open s is wait = by (cases_lt s.counts.lines s.rule.window)
+  where
+    starts : (a b : ℕ) (gs : List Group) → Rise (λ (g : Group). g.first) b gs → AllByRecursion (λ (g : Group). a ≤ g.first) gs → Rise (λ (g : Group). g.first) a gs
+    starts a b [] r all = tt
+    starts a b (g ∷ gs) r all = (all.0, r.1)
+
+    by : (s.counts.lines < s.rule.window) ⊎ (s.rule.window ≤ s.counts.lines) → length s.groups ≤ s.rule.window
+    by (inl l) =
+        rise-few 1 s.rule.window s.groups is.groups.rise
+        (all-map (λ (g : Group). g.first ≤ s.counts.lines) (λ (g : Group). g.first < 1 + s.rule.window) s.groups (λ g u. omega (arith, u, l)) is.groups.begun)
+    by (inr l) =
+        let least = s.counts.lines - s.rule.window + 1 in
+        rise-few least s.rule.window s.groups (starts least 1 s.groups is.groups.rise (all-map (λ (g : Group). s.counts.lines < g.first + s.rule.window) (λ (g : Group). least ≤ g.first) s.groups (λ g u. omega (arith, u, l)) wait))
+        (all-map (λ (g : Group). g.first ≤ s.counts.lines) (λ (g : Group). g.first < least + s.rule.window) s.groups (λ g u. omega (arith, u, l)) is.groups.begun)
+
 -- before the first line
-pub state-new : (id : List ℕ) (kind : ℕ → Option Kind) → IsState (state id kind [])
-unfolding open_groups
-state-new id kind = record {
+pub state-new : (id : List ℕ) (rule : Rule) (kind : ℕ → Option Kind) → IsWindow rule.window → IsState (state id rule kind [])
+unfolding open_groups waiting
+state-new id rule kind is = record {
+  window = is;
   counted = record { lines = omega arith; given = omega arith; broken = omega arith };
   held = refl;
   groups = record { each = tt; rise = tt; begun = tt; apart = tt };
@@ -316,13 +367,15 @@ state-new id kind = record {
 }
 
 -- groups of fast PGNs stay such
-pub step-fast : (kind : ℕ → Option Kind) (s : State) (e : Entry) → AreFast kind s.groups → AreFast kind (step_after kind s e).groups
-unfolding step_after
-step-fast kind s e fast =
-    open_groups-keys repeats repeats-ends (λ (k : Key). kind k.pgn ≡ Some Fast) (next_line s) (step_frames kind s e)
-    (all-append (λ (f : Frame). kind f.key.pgn ≡ Some Fast) (held s.groups) (option_to_list (frame_in kind (next_line s) e))
-    (all-flat_map (λ (f : Frame). kind f.key.pgn ≡ Some Fast) held_of s.groups (all-map (λ (g : Group). kind g.key.pgn ≡ Some Fast) (λ (g : Group). AllByRecursion (λ (f : Frame). kind f.key.pgn ≡ Some Fast) (held_of g)) s.groups (λ g k. held_of-any (λ (f : Frame). kind f.key.pgn ≡ Some Fast) g (λ p. k)) fast))
-    (by (frame_in kind (next_line s) e) refl))
+pub step-fast : (kind : ℕ → Option Kind) (s : State) (e : Entry) → 0 < s.rule.window → AreFast kind s.groups → AreFast kind (step_after kind s e).groups
+unfolding step_after waiting
+step-fast kind s e some fast =
+    all-filter (λ (g : Group). kind g.key.pgn ≡ Some Fast) (is_waiting s.rule (next_line s)) (open_groups (within s.rule) (next_line s) (step_frames kind s e))
+    (open_groups-keys (within s.rule) (within-ends s.rule some) (λ (k : Key). kind k.pgn ≡ Some Fast) (next_line s) (step_frames kind s e)
+    (all-append (λ (f : Frame). kind f.key.pgn ≡ Some Fast) (held (kept s)) (option_to_list (frame_in kind (next_line s) e))
+    (all-flat_map (λ (f : Frame). kind f.key.pgn ≡ Some Fast) held_of (kept s) (all-map (λ (g : Group). kind g.key.pgn ≡ Some Fast) (λ (g : Group). AllByRecursion (λ (f : Frame). kind f.key.pgn ≡ Some Fast) (held_of g)) (kept s) (λ g k. held_of-any (λ (f : Frame). kind f.key.pgn ≡ Some Fast) g (λ p. k))
+    (all-filter (λ (g : Group). kind g.key.pgn ≡ Some Fast) (is_waiting s.rule (next_line s)) s.groups fast)))
+    (by (frame_in kind (next_line s) e) refl)))
   where
     by : (o : Option Frame) → frame_in kind (next_line s) e ≡ o → AllByRecursion (λ (f : Frame). kind f.key.pgn ≡ Some Fast) (option_to_list o)
     by None none = tt
@@ -330,20 +383,23 @@ step-fast kind s e fast =
 
 -- ---- the states of logs
 
--- the state of a log is one that a join can have, and its groups are of fast PGNs
+-- the state of a log is one that a join can have, and its groups are of fast PGNs and wait
 pub record IsLogState (kind : ℕ → Option Kind) (s : State) : Type 0 where
   pub valid : IsState s
   pub fast : AreFast kind s.groups
+  pub waits : AreWaiting s
 
-state-from : (id : List ℕ) (kind : ℕ → Option Kind) (front es : List Entry) → IsLogState kind (state id kind front) → AllByRecursion IsEntry es → length front + length es ≤ most_lines → IsLogState kind (state id kind (front ++ es))
-state-from id kind front [] so_far entries_valid few = subst (λ es. IsLogState kind (state id kind es)) (sym (append-nil front)) so_far
-state-from id kind front (e ∷ es) so_far entries_valid few =
-    let next : IsLogState kind (state id kind (front ++ e ∷ [])) = subst (IsLogState kind) (after_longer kind front e id) (record {
-      valid = step-keeps kind (state id kind front) e so_far.valid entries_valid.0 (omega (arith, few));
-      fast = step-fast kind (state id kind front) e so_far.fast;
+state-from : (id : List ℕ) (rule : Rule) (kind : ℕ → Option Kind) (front es : List Entry) → 0 < rule.window → IsLogState kind (state id rule kind front) → AllByRecursion IsEntry es → length front + length es ≤ most_lines → IsLogState kind (state id rule kind (front ++ es))
+state-from id rule kind front [] some so_far entries_valid few = subst (λ es. IsLogState kind (state id rule kind es)) (sym (append-nil front)) so_far
+state-from id rule kind front (e ∷ es) some so_far entries_valid few =
+    let next : IsLogState kind (state id rule kind (front ++ e ∷ [])) = subst (IsLogState kind) (after_longer rule some kind front e id) (record {
+      valid = step-keeps kind (state id rule kind front) e so_far.valid entries_valid.0 (omega (arith, few));
+      fast = step-fast kind (state id rule kind front) e some so_far.fast;
+      waits = step-waits kind (state id rule kind front) e;
     }) in
-    subst (λ es. IsLogState kind (state id kind es)) (append_assoc front (e ∷ []) es) (state-from id kind (front ++ e ∷ []) es next entries_valid.1 (omega (arith, few, length-append front (e ∷ []))))
+    subst (λ es. IsLogState kind (state id rule kind es)) (append_assoc front (e ∷ []) es) (state-from id rule kind (front ++ e ∷ []) es some next entries_valid.1 (omega (arith, few, length-append front (e ∷ []))))
 
-pub state-valid : (id : List ℕ) (kind : ℕ → Option Kind) (es : List Entry) → AllByRecursion IsEntry es → length es ≤ most_lines → IsLogState kind (state id kind es)
-unfolding open_groups
-state-valid id kind es entries_valid few = state-from id kind [] es (record { valid = state-new id kind; fast = tt }) entries_valid (omega (arith, few))
+pub state-valid : (id : List ℕ) (rule : Rule) (kind : ℕ → Option Kind) (es : List Entry) → IsWindow rule.window → AllByRecursion IsEntry es → length es ≤ most_lines → IsLogState kind (state id rule kind es)
+unfolding open_groups waiting
+state-valid id rule kind es is entries_valid few =
+    state-from id rule kind [] es (omega (arith, is.least)) (record { valid = state-new id rule kind is; fast = tt; waits = tt }) entries_valid (omega (arith, few))

@@ -1,6 +1,7 @@
--- What a line gives and leaves, as the code says it, is what the step says.
-use Rattle.std.proofs.Common.{◌≡◌, ◌+◌, ◌||◌, ℕ, Bool, true, false, cond, List, [], ◌∷◌, ◌++◌, length, map, refl, sym, ap, ◌∙◌, subst, Option, Some, None, option_map, option_to_list, IfSome}
+-- What a line gives and leaves, as the code says it, is what the step says, where no group is overdue.
+use Rattle.std.proofs.Common.{◌≡◌, ◌<◌, ◌+◌, ◌||◌, ℕ, Bool, true, false, cond, not, List, [], ◌∷◌, ◌++◌, length, map, refl, sym, ap, ◌∙◌, subst, arith, ◌≤◌, Option, Some, None, option_map, option_to_list, IfSome, filter, filter_map}
 use Rattle.std.specs.Prelude.{is_some}
+use Rattle.std.specs.List.{AllByRecursion, cons_option}
 use Rattle.n2k_wire.specs.declared.entry.Entry.{Entry}
 use Rattle.n2k_table.specs.declared.definition.Kind.{Kind}
 use Rattle.n2k_join.specs.declared.broken.Broken.{Broken}
@@ -8,22 +9,23 @@ use Rattle.n2k_join.specs.declared.counts.Counts.{Counts}
 use Rattle.n2k_join.specs.declared.step.Step.{Step}
 use Rattle.n2k_join.specs.Step.{given_of}
 use Rattle.n2k_join.specs.Frames.{Key, same_key, Frame, frame_in}
-use Rattle.n2k_join.specs.Groups.{repeats, complete}
-use Rattle.n2k_join.specs.Messages.{message_of, broken_of, alone, cause_in, is_unknown}
-use Rattle.n2k_join.specs.Open.{Group}
-use Rattle.n2k_join.specs.State.{State, Given, held_of, next_line, one_if, counted, step_after, IsOpen, AreOpen}
-use Rattle.n2k_join.specs.Inner.Stored.{of_the_key, groups_after, message_if, gained, lost, gives_by, leaves_by}
-use Rattle.n2k_join.proofs.Advanced.{advanced}
-use Rattle.n2k_join.proofs.Rising.{find-all}
-use Rattle.n2k_join.proofs.Steps.{StepsTo, frame_gives, step-none, step-frame}
+use Rattle.n2k_join.specs.Groups.{repeats, within, complete}
+use Rattle.n2k_join.specs.Messages.{message_of, told_of, alone, cause_in, is_unknown}
+use Rattle.n2k_join.specs.Open.{Group, is_waiting, ended}
+use Rattle.n2k_join.specs.State.{State, Given, held_of, next_line, overdue, one_if, counted, step_after, IsOpen, AreOpen}
+use Rattle.n2k_join.specs.Inner.Stored.{bars, with_frame, taken, begun, opened, of_the_key, groups_after, message_if, gained, lost, gives_by, leaves_by}
+use Rattle.n2k_join.proofs.Advanced.{advanced, taken as advanced-taken, opened as advanced-opened}
+use Rattle.n2k_join.proofs.BrokenGroups.{told_if, breaks}
+use Rattle.n2k_join.proofs.Given.{completed}
+use Rattle.n2k_join.proofs.Overdue.{one-broken}
+use Rattle.n2k_join.proofs.Rising.{find-all, all-zip, all-map}
+use Rattle.n2k_join.proofs.Steps.{StepsTo, kept, frame_message, only_frame, step-none, step-frame}
+use Rattle.n2k_join.proofs.Windows.{waiting-all, waits-ends, misfits-bars}
+use Rattle.n2k_join.specs.Window.{Rule}
 
 message_by : (x : Frame) (b : Bool) (g : List Frame) → option_map (message_of x) (cond b (Some g) None) ≡ cond b (Some (message_of x g)) None
 message_by x true g = refl
 message_by x false g = refl
-
-broken_by : (k : Key) (g : List Frame) (b : Bool) → map (broken_of k) (cond b (g ∷ []) []) ≡ option_to_list (cond b (Some (broken_of k g)) None)
-broken_by k g true = refl
-broken_by k g false = refl
 
 -- the message of a frame and the open group of its key
 message_with : (x : Frame) (g : List Frame) (c r : Bool) → c ≡ false
@@ -32,33 +34,91 @@ message_with x g true r e = absurd cc
 message_with x g false true e = message_by x (complete (x ∷ [])) (x ∷ [])
 message_with x g false false e = message_by x (complete (g ++ x ∷ [])) (g ++ x ∷ [])
 
--- what a frame gives with the open group of its key
-frame-gives : (x : Frame) (o : Option Group) → IfSome o IsOpen → frame_gives x o ≡ record { message = gained x o; cause = None; broken = option_to_list (lost x o) }
-frame-gives x None fit = λ i. record { message = message_by x (complete (x ∷ [])) (x ∷ []) i; cause = None; broken = [] }
-frame-gives x (Some o) fit =
-    let message_is = message_with x (held_of o) (complete (held_of o)) (repeats (held_of o) x) fit.incomplete in
-    let broken_is = ap (λ c. map (broken_of x.key) (cond c [] (cond (repeats (held_of o) x) (held_of o ∷ []) []))) fit.incomplete ∙ broken_by x.key (held_of o) (repeats (held_of o) x) in
-    λ i. record { message = message_is i; cause = None; broken = broken_is i }
+-- a group that can be open, waits at a line, and began before it
+abbrev WaitsAt : Rule → ℕ → Group → Type 0
+WaitsAt w line o = IsOpen o × (is_waiting w line o ≡ true) × (o.first < line)
 
-found-open : (k : Key) (gs : List Group) → (o : Option Group) → of_the_key k gs ≡ o → ((g : Group) → of_the_key k gs ≡ Some g → IsOpen g) → IfSome o IsOpen
-found-open k gs None e each = tt
-found-open k gs (Some g) e each = each g e
+bars-at : (w : Rule) (x : Frame) (o : Group) → WaitsAt w x.line o → within w (held_of o) x ≡ bars w.in_order x.number o
+bars-at w x o fit = waits-ends w x o fit.0 fit.1 ∙ misfits-bars w x o fit.0 fit.2
 
-same-groups : (x : Frame) (gs : List Group) → advanced repeats gs x ≡ groups_after gs x
+-- the message of a frame with the open group of its key, which waits
+frame-message : (w : Rule) (x : Frame) (gs : List Group) (o : Option Group) → of_the_key x.key gs ≡ o → IfSome o (WaitsAt w x.line) → frame_message w x gs ≡ gained w.in_order x o
+frame-message w x gs None e fit = ap (λ o. option_map (message_of x) (completed (within w) (option_map held_of o) x)) e ∙ message_by x (complete (x ∷ [])) (x ∷ [])
+frame-message w x gs (Some o) e fit =
+    ap (λ o. option_map (message_of x) (completed (within w) (option_map held_of o) x)) e
+    ∙ ap (λ r. let h = cond (complete (held_of o) || r) (x ∷ []) (held_of o ++ x ∷ []) in option_map (message_of x) (cond (complete h) (Some h) None)) (bars-at w x o fit)
+    ∙ message_with x (held_of o) (complete (held_of o)) (bars w.in_order x.number o) fit.0.incomplete
+
+found-fit : (w : Rule) (x : Frame) (gs : List Group) → AllByRecursion (WaitsAt w x.line) gs → (o : Option Group) → of_the_key x.key gs ≡ o → IfSome o (WaitsAt w x.line)
+found-fit w x gs all None e = tt
+found-fit w x gs all (Some g) e = find-all (WaitsAt w x.line) (λ (h : Group). same_key x.key h.key) gs g all e
+
+-- groups that wait go on as the frame's number says
+same-taken : (w : Rule) (x : Frame) (gs : List Group) → AllByRecursion (WaitsAt w x.line) gs → filter_map (advanced-taken (within w) x) gs ≡ filter_map (taken w.in_order x) gs
+same-taken w x [] all = refl
+same-taken w x (g ∷ gs) all =
+    ap (λ r. cons_option (cond (same_key x.key g.key) (cond r None (cond (complete (held_of g ++ x ∷ [])) None (Some (with_frame g x)))) (Some g)) (filter_map (advanced-taken (within w) x) gs)) (bars-at w x g all.0)
+    ∙ ap (cons_option (taken w.in_order x g)) (same-taken w x gs all.1)
+
+same-opened : (w : Rule) (x : Frame) (o : Option Group) → IfSome o (WaitsAt w x.line) → advanced-opened (within w) x o ≡ opened w.in_order x o
+same-opened w x None fit = refl
+same-opened w x (Some o) fit = ap (λ r. cond r (begun x) None) (bars-at w x o fit)
+
+same-groups : (w : Rule) (x : Frame) (gs : List Group) → AllByRecursion (WaitsAt w x.line) gs → advanced (within w) gs x ≡ groups_after w.in_order gs x
 unfolding advanced groups_after
-same-groups x gs = refl
+same-groups w x gs all =
+    (λ i. same-taken w x gs all i ++ option_to_list (same-opened w x (of_the_key x.key gs) (found-fit w x gs all (of_the_key x.key gs) refl) i))
 
--- the step on a state whose groups can be open
-pub line-steps : (kind : ℕ → Option Kind) (s : State) (e : Entry) → AreOpen s.counts.lines s.groups
-    → let o = frame_in kind (next_line s) e in StepsTo kind s e (gives_by (alone kind e) (cause_in kind e) s.groups o) (leaves_by s.groups o)
-line-steps kind s e are = by (frame_in kind (next_line s) e) refl
+-- where no group's window has ended, none is broken by it, and all are held
+none-overdue : (w : Rule) (line : ℕ) (gs : List Group) → ended w line gs ≡ [] → AllByRecursion (λ (g : Group). is_waiting w line g ≡ true) gs
+unfolding ended
+none-overdue w line [] e = tt
+none-overdue w line (g ∷ gs) e = by (is_waiting w line g) refl e (none-overdue w line gs)
   where
-    by : (o : Option Frame) → frame_in kind (next_line s) e ≡ o → StepsTo kind s e (gives_by (alone kind e) (cause_in kind e) s.groups o) (leaves_by s.groups o)
-    by None none = step-none kind s e are none
-    by (Some x) some =
-        let fit = found-open x.key s.groups (of_the_key x.key s.groups) refl (λ g found. find-all IsOpen (λ (h : Group). same_key x.key h.key) s.groups g are.each found) in
-        subst (λ gs. StepsTo kind s e (gives_by (alone kind e) (cause_in kind e) s.groups (Some x)) gs) (same-groups x s.groups)
-        (subst (λ g. StepsTo kind s e g (advanced repeats s.groups x)) (frame-gives x (of_the_key x.key s.groups) fit) (step-frame kind s e are x some))
+    by : (b : Bool) → is_waiting w line g ≡ b → cond (not b) (g ∷ filter (λ (g : Group). not (is_waiting w line g)) gs) (filter (λ (g : Group). not (is_waiting w line g)) gs) ≡ []
+        → (filter (λ (g : Group). not (is_waiting w line g)) gs ≡ [] → AllByRecursion (λ (g : Group). is_waiting w line g ≡ true) gs) → AllByRecursion (λ (g : Group). is_waiting w line g ≡ true) (g ∷ gs)
+    by true is e rest = (is, rest e)
+    by false is e rest = absurd cc
+
+-- The step on a state whose groups can be open, none of which is overdue.
+pub line-steps : (kind : ℕ → Option Kind) (s : State) (e : Entry) → 0 < s.rule.window → AreOpen s.counts.lines s.groups → overdue s ≡ []
+    → let o = frame_in kind (next_line s) e in StepsTo kind s e (gives_by s.rule.in_order (alone kind e) (cause_in kind e) s.groups o) (leaves_by s.rule.in_order s.groups o)
+line-steps kind s e some are none_over = by (frame_in kind (next_line s) e) refl
+  where
+    wait : AllByRecursion (λ (g : Group). is_waiting s.rule (next_line s) g ≡ true) s.groups
+    wait = none-overdue s.rule (next_line s) s.groups none_over
+
+    kept_is : kept s ≡ s.groups
+    kept_is = waiting-all s.rule (next_line s) s.groups wait
+
+    earlier : AllByRecursion (λ (g : Group). g.first < next_line s) s.groups
+    earlier = all-map (λ (g : Group). g.first ≤ s.counts.lines) (λ (g : Group). g.first < next_line s) s.groups (λ g l. omega (arith, l)) are.begun
+
+    fit : AllByRecursion (WaitsAt s.rule (next_line s)) s.groups
+    fit =
+        all-map (λ (g : Group). (IsOpen g × (is_waiting s.rule (next_line s) g ≡ true)) × (g.first < next_line s)) (WaitsAt s.rule (next_line s)) s.groups (λ g h. (h.0.0, h.0.1, h.1))
+        (all-zip (λ (g : Group). IsOpen g × (is_waiting s.rule (next_line s) g ≡ true)) (λ (g : Group). g.first < next_line s) s.groups (all-zip IsOpen (λ (g : Group). is_waiting s.rule (next_line s) g ≡ true) s.groups are.each wait) earlier)
+
+    told_none : map told_of (overdue s) ≡ []
+    told_none = ap (map told_of) none_over
+
+    change : (g h : Given) (a b : List Group) → g ≡ h → a ≡ b → StepsTo kind s e g a → StepsTo kind s e h b
+    change g h a b p q steps = subst (λ gs. StepsTo kind s e h gs) q (subst (λ g. StepsTo kind s e g a) p steps)
+
+    by : (o : Option Frame) → frame_in kind (next_line s) e ≡ o → StepsTo kind s e (gives_by s.rule.in_order (alone kind e) (cause_in kind e) s.groups o) (leaves_by s.rule.in_order s.groups o)
+    by None none = change _ _ _ _ (ap (λ b. record { message = alone kind e; cause = cause_in kind e; broken = b }) told_none) kept_is (step-none kind s e some are none)
+    by (Some x) found =
+        let at : next_line s ≡ x.line = sym (only_frame kind (next_line s) e x found).line in
+        let fit_x : AllByRecursion (WaitsAt s.rule x.line) s.groups = subst (λ l. AllByRecursion (WaitsAt s.rule l) s.groups) at fit in
+        let wait_x : AllByRecursion (λ (g : Group). is_waiting s.rule x.line g ≡ true) s.groups = subst (λ l. AllByRecursion (λ (g : Group). is_waiting s.rule l g ≡ true) s.groups) at wait in
+        change _ _ _ _
+        (λ i. record {
+          message = (ap (frame_message s.rule x) kept_is ∙ frame-message s.rule x s.groups (of_the_key x.key s.groups) refl (found-fit s.rule x s.groups fit_x (of_the_key x.key s.groups) refl)) i;
+          cause = None;
+          broken = (ap (λ bs. bs ++ filter_map (told_if s.rule some (breaks s.rule some x)) (kept s)) told_none ∙ ap (filter_map (told_if s.rule some (breaks s.rule some x))) kept_is ∙ one-broken s.rule some x s.groups are.each wait_x (subst (λ l. AllByRecursion (λ (g : Group). g.first < l) s.groups) at earlier) are.apart) i;
+        })
+        (ap (λ gs. advanced (within s.rule) gs x) kept_is ∙ same-groups s.rule x s.groups fit_x)
+        (step-frame kind s e some are x found)
 
 -- one group at most is told
 pub length-told : (o : Option Broken) → length (option_to_list o) ≡ one_if (is_some o)
@@ -82,21 +142,21 @@ counts-after kind c e step unknown n held r known count is =
 -- the state after a line
 pub line-after : (kind : ℕ → Option Kind) (s : State) (e : Entry) (step : Step) (gives : Given) (leaves gs : List Group) (r : Counts) → StepsTo kind s e gives leaves
     → given_of step ≡ gives → gs ≡ leaves → r ≡ counted kind s.counts e (given_of step) (length gs)
-    → record { id = s.id; counts = r; groups = gs } ≡ step_after kind s e
+    → record { id = s.id; rule = s.rule; counts = r; groups = gs } ≡ step_after kind s e
 line-after kind s e step gives leaves gs r steps given groups counts =
-    ap (λ (c : Counts). record { id = s.id; counts = c; groups = gs }) counts
-    ∙ (λ i. record { id = s.id; counts = counted kind s.counts e (given i) (length (groups i)); groups = groups i })
+    ap (λ (c : Counts). record { id = s.id; rule = s.rule; counts = c; groups = gs }) counts
+    ∙ (λ i. record { id = s.id; rule = s.rule; counts = counted kind s.counts e (given i) (length (groups i)); groups = groups i })
     ∙ sym steps.after
 
 -- the state that the code reaches, by its parts
-pub line-reached : (kind : ℕ → Option Kind) (s : State) (e : Entry) (step : Step) (unknown : Bool) (n : ℕ) (gs : List Group) (r : Counts) → AreOpen s.counts.lines s.groups
-    → given_of step ≡ gives_by (alone kind e) (cause_in kind e) s.groups (frame_in kind (next_line s) e)
+pub line-reached : (kind : ℕ → Option Kind) (s : State) (e : Entry) (step : Step) (unknown : Bool) (n : ℕ) (gs : List Group) (r : Counts) → 0 < s.rule.window → AreOpen s.counts.lines s.groups → overdue s ≡ []
+    → given_of step ≡ gives_by s.rule.in_order (alone kind e) (cause_in kind e) s.groups (frame_in kind (next_line s) e)
     → unknown ≡ is_unknown kind e
-    → gs ≡ leaves_by s.groups (frame_in kind (next_line s) e)
+    → gs ≡ leaves_by s.rule.in_order s.groups (frame_in kind (next_line s) e)
     → n ≡ length gs
     → r ≡ record { lines = s.counts.lines + 1; messages = s.counts.messages + one_if (is_some step.message); bad = s.counts.bad + one_if (is_some step.bad); unknown = s.counts.unknown + one_if unknown; broken = s.counts.broken + one_if (is_some step.broken); held = n }
-    → record { id = s.id; counts = r; groups = gs } ≡ step_after kind s e
-line-reached kind s e step unknown n gs r are given known groups count is =
+    → record { id = s.id; rule = s.rule; counts = r; groups = gs } ≡ step_after kind s e
+line-reached kind s e step unknown n gs r some are none_over given known groups count is =
     let o = frame_in kind (next_line s) e in
-    line-after kind s e step (gives_by (alone kind e) (cause_in kind e) s.groups o) (leaves_by s.groups o) gs r (line-steps kind s e are) given groups
+    line-after kind s e step (gives_by s.rule.in_order (alone kind e) (cause_in kind e) s.groups o) (leaves_by s.rule.in_order s.groups o) gs r (line-steps kind s e some are none_over) given groups
     (counts-after kind s.counts e step unknown n (length gs) r known count is)

@@ -13,10 +13,12 @@ use Rattle.n2k_table.specs.declared.definition.Kind.TheVariants.{Single, Fast}
 use Rattle.n2k_join.specs.Frames.{Frame, most_frames, is_fast_payload, fast_frame, frame_with, frame_by, frame_in, frames_from, frames, frame_at}
 use Rattle.n2k_join.specs.Groups.{Ends}
 use Rattle.n2k_join.specs.Messages.{Keyed, gathered, broken_with, message_with, alone, entry_at}
-use Rattle.n2k_join.proofs.Given.{gathered-stays, broken-stays}
+use Rattle.n2k_join.proofs.BrokenGroups.{broken-stays}
+use Rattle.n2k_join.proofs.Given.{gathered-stays}
 use Rattle.n2k_join.proofs.Lines.{frames-rise, frame_in-line, frames_found, rise-all}
 use Rattle.n2k_join.proofs.Opened.{IsLog, key_at}
 use Rattle.n2k_join.proofs.Rising.{all-map, all-zip}
+use Rattle.n2k_join.specs.Window.{Rule}
 
 -- What holds of a frame of each entry holds of all frames.
 pub frames-all : (P : Frame → Type 0) (Q : Entry → Type 0) (kind : ℕ → Option Kind) (n : ℕ) → ((i : ℕ) (e : Entry) (f : Frame) → Q e → frame_in kind i e ≡ Some f → P f) → (es : List Entry) → AllByRecursion Q es → AllByRecursion P (frames_from kind n es)
@@ -31,7 +33,7 @@ all_entries : (es : List Entry) → AllByRecursion (λ _. Unit {0}) es
 all_entries [] = tt
 all_entries (e ∷ es) = (tt, all_entries es)
 
-frames-below : (kind : ℕ → Option Kind) (n : ℕ) (es : List Entry) → AllByRecursion (λ (f : Frame). f.line < n + length es) (frames_from kind n es)
+pub frames-below : (kind : ℕ → Option Kind) (n : ℕ) (es : List Entry) → AllByRecursion (λ (f : Frame). f.line < n + length es) (frames_from kind n es)
 frames-below kind n [] = tt
 frames-below kind n (e ∷ es) =
     by (frame_in kind n e) (λ f is. frame_in-line kind n e f is) (all-map (λ (f : Frame). f.line < (n + 1) + length es) (λ (f : Frame). f.line < n + length (e ∷ es)) (frames_from kind (n + 1) es) (λ f l. omega (arith, l)) (frames-below kind (n + 1) es))
@@ -115,12 +117,12 @@ gathered-before ends kind es e i u = ap (λ fs. gathered ends fs i) (frames-push
 pub message-before : (ends : Ends) (kind : ℕ → Option Kind) (es : List Entry) (e : Entry) (i : ℕ) → 1 ≤ i → i ≤ length es → message_with ends kind (es ++ e ∷ []) i ≡ message_with ends kind es i
 message-before ends kind es e i l u = λ j. option_or (option_map (λ (m : Keyed). m.message) (gathered-before ends kind es e i u j)) (option_and_then (alone kind) (entry_at-before es e i l u j))
 
-pub broken-before : (ends : Ends) (kind : ℕ → Option Kind) (es : List Entry) (e : Entry) (i : ℕ) → i ≤ length es → broken_with ends (frames kind (es ++ e ∷ [])) i ≡ broken_with ends (frames kind es) i
-broken-before ends kind es e i u = ap (λ fs. broken_with ends fs i) (frames-push kind es e) ∙ by (frame_in kind (length es + 1) e) (λ x is. frame_in-line kind (length es + 1) e x is)
+pub broken-before : (w : Rule) → 0 < w.window → (kind : ℕ → Option Kind) (es : List Entry) (e : Entry) (i : ℕ) → i ≤ length es → broken_with w (frames kind (es ++ e ∷ [])) i ≡ broken_with w (frames kind es) i
+broken-before w some kind es e i u = ap (λ fs. broken_with w fs i) (frames-push kind es e) ∙ by (frame_in kind (length es + 1) e) (λ x is. frame_in-line kind (length es + 1) e x is)
   where
-    by : (o : Option Frame) → ((x : Frame) → o ≡ Some x → x.line ≡ length es + 1) → broken_with ends (frames kind es ++ option_to_list o) i ≡ broken_with ends (frames kind es) i
-    by None line = ap (λ fs. broken_with ends fs i) (append-nil (frames kind es))
-    by (Some x) line = let at : x.line ≡ length es + 1 = line x refl in broken-stays ends (length es) (frames kind es) x i (frames-log kind es) (λ t. omega (arith, t, at, u))
+    by : (o : Option Frame) → ((x : Frame) → o ≡ Some x → x.line ≡ length es + 1) → broken_with w (frames kind es ++ option_to_list o) i ≡ broken_with w (frames kind es) i
+    by None line = ap (λ fs. broken_with w fs i) (append-nil (frames kind es))
+    by (Some x) line = let at : x.line ≡ length es + 1 = line x refl in broken-stays w some (length es) (frames kind es) x i (frames-log kind es) (omega (arith, at, u))
 
 -- sums over a range, of what agrees there
 pub sum_by-range : (f g : ℕ → ℕ) (a n : ℕ) → ((i : ℕ) → a ≤ i → i < a + n → f i ≡ g i) → sum_by f (range_with_len a n) ≡ sum_by g (range_with_len a n)
@@ -129,3 +131,14 @@ sum_by-range f g a (suc n) e =
     sum_by-cons f a (range_with_len (a + 1) n)
     ∙ (λ j. e a (omega arith) (omega arith) j + sum_by-range f g (a + 1) n (λ i l u. e i (omega arith) (omega arith)) j)
     ∙ sym (sum_by-cons g a (range_with_len (a + 1) n))
+
+pub frames_from-append : (kind : ℕ → Option Kind) (line : ℕ) (es fs : List Entry) → frames_from kind line (es ++ fs) ≡ frames_from kind line es ++ frames_from kind (line + length es) fs
+frames_from-append kind line [] fs = let e : line ≡ line + 0 = omega arith in ap (λ n. frames_from kind n fs) e
+frames_from-append kind line (e ∷ es) fs =
+    let same : (line + 1) + length es ≡ line + suc (length es) = omega arith in
+    ap (cons_option (frame_in kind line e)) (frames_from-append kind (line + 1) es fs ∙ ap (λ n. frames_from kind (line + 1) es ++ frames_from kind n fs) same)
+    ∙ cons-append (frame_in kind line e)
+  where
+    cons-append : (o : Option Frame) → cons_option o (frames_from kind (line + 1) es ++ frames_from kind (line + suc (length es)) fs) ≡ cons_option o (frames_from kind (line + 1) es) ++ frames_from kind (line + suc (length es)) fs
+    cons-append None = refl
+    cons-append (Some f) = refl

@@ -9,7 +9,7 @@ use Rattle.n2k_wire.specs.Packet.{PacketParts}
 use Rattle.n2k_wire.specs.declared.entry.Entry.{Entry}
 use Rattle.n2k_table.specs.declared.definition.Kind.{Kind}
 use Rattle.n2k_join.specs.Frames.{Key, same_key, Frame, frame_in, frames_from, frames, of_key, frame_at}
-use Rattle.n2k_join.specs.Groups.{Ends, repeats, complete, cut, last_line}
+use Rattle.n2k_join.specs.Groups.{Ends, within, complete, cut, last_line}
 use Rattle.n2k_join.specs.Messages.{Keyed, message_of, is_done_at, gathered_by, gathered, alone, message, numbers}
 use Rattle.n2k_join.specs.Pieces.{Sending, sendings, sendings_after}
 use Rattle.n2k_join.specs.Scattered.{key_of_sending, joined, sendings_of, IsScattered, IsMute}
@@ -20,6 +20,7 @@ use Rattle.n2k_join.proofs.Rising.{find-passes, find-all, find-none, filter_map-
 use Rattle.n2k_join.proofs.Lines.{RiseFrom, frame_in-line}
 use Rattle.n2k_join.proofs.GroupLines.{IsGroup, rise-after, last_frame, lasts_above}
 use Rattle.n2k_join.proofs.Arriving.{StandsAt, Comes, gathers, Settled, settles, zip-map, zip-all, as_stretch, filter_map-none}
+use Rattle.n2k_join.specs.Window.{Rule}
 
 -- the sending whose group's last frame stands at the line
 unfoldable at_line : List Sending → List (List Frame) → ℕ → Option Sending
@@ -171,18 +172,18 @@ filter_map-agree g h e (x ∷ xs) = ap (λ o. cons_option o (filter_map g xs)) (
 -- what the groups of a key give, is what was sent under it, in order
 pub gathered_of_key : (ends : Ends) (kind : ℕ → Option Kind) (ms : List PacketParts) (es : List Entry) (k : Key) → Settled ends kind ms es k → filter (λ (m : Keyed). same_key k m.key) (filter_map (gathered ends (frames kind es)) (numbers es)) ≡ map (keyed k) (sendings_of k ms)
 gathered_of_key ends kind ms es k at =
-    let within : AllByRecursion (λ g. last_line g < 1 + length es) at.groups = zip-all (Comes ends kind es k) (λ g. last_line g < 1 + length es) (comes-within ends kind es k) (sendings_of k ms) at.groups at.each in
+    let inside : AllByRecursion (λ g. last_line g < 1 + length es) at.groups = zip-all (Comes ends kind es k) (λ g. last_line g < 1 + length es) (comes-within ends kind es k) (sendings_of k ms) at.groups at.each in
     filter-filter_map k (gathered ends (frames kind es)) (numbers es)
     ∙ (filter_map-agree (λ i. kept k (gathered ends (frames kind es) i)) (λ i. option_map (keyed k) (at_line (sendings_of k ms) at.groups i)) (line_of_key ends kind ms es k at) (numbers es)
     ∙ (sym (map-filter_map (keyed k) (at_line (sendings_of k ms) at.groups) (numbers es))
-    ∙ ap (map (keyed k)) (read_off (Comes ends kind es k) 1 (length es) (sendings_of k ms) at.groups at.each (lasts_rise 1 at.groups at.nonempty at.rise) within)))
+    ∙ ap (map (keyed k)) (read_off (Comes ends kind es k) 1 (length es) (sendings_of k ms) at.groups at.each (lasts_rise 1 at.groups at.nonempty at.rise) inside)))
 
 messages-keyed : (k : Key) (xs : List Sending) → map (λ (m : Keyed). m.message) (map (keyed k) xs) ≡ map (λ (x : Sending). x.message) xs
 messages-keyed k [] = refl
 messages-keyed k (x ∷ xs) = ap (λ l. x.message ∷ l) (messages-keyed k xs)
 
-pub gives_in_order : (kind : ℕ → Option Kind) (ms : List PacketParts) (es : List Entry) → IsScattered kind ms es → (k : Key) → given_to k kind es ≡ sent_to k ms
-gives_in_order kind ms es scattered k = ap (map (λ (m : Keyed). m.message)) (gathered_of_key repeats kind ms es k (settles kind ms es scattered k)) ∙ messages-keyed k (sendings_of k ms)
+pub gives_in_order : (w : Rule) (kind : ℕ → Option Kind) (ms : List PacketParts) (es : List Entry) → IsScattered w kind ms es → (k : Key) → given_to k w kind es ≡ sent_to k ms
+gives_in_order w kind ms es scattered k = ap (map (λ (m : Keyed). m.message)) (gathered_of_key (within w) kind ms es k (settles w kind ms es scattered k)) ∙ messages-keyed k (sendings_of k ms)
 
 -- where no entry gives a message alone, every message is a group's
 entry-mute : (kind : ℕ → Option Kind) (es : List Entry) (i : ℕ) → AllByRecursion (λ (e : Entry). alone kind e ≡ None) es → option_and_then (alone kind) (slice_get es i) ≡ None
@@ -194,14 +195,14 @@ option_or-none : {X : Type 0} (o : Option X) → option_or o None ≡ o
 option_or-none None = refl
 option_or-none (Some x) = refl
 
-line-mute : (kind : ℕ → Option Kind) (es : List Entry) (i : ℕ) → AllByRecursion (λ (e : Entry). alone kind e ≡ None) es → message kind es i ≡ option_map (λ (m : Keyed). m.message) (gathered repeats (frames kind es) i)
-line-mute kind es zero mute = option_or-none _
-line-mute kind es (suc i) mute = ap (option_or (option_map (λ (m : Keyed). m.message) (gathered repeats (frames kind es) (suc i)))) (entry-mute kind es i mute) ∙ option_or-none _
+line-mute : (w : Rule) (kind : ℕ → Option Kind) (es : List Entry) (i : ℕ) → AllByRecursion (λ (e : Entry). alone kind e ≡ None) es → message w kind es i ≡ option_map (λ (m : Keyed). m.message) (gathered (within w) (frames kind es) i)
+line-mute w kind es zero mute = option_or-none _
+line-mute w kind es (suc i) mute = ap (option_or (option_map (λ (m : Keyed). m.message) (gathered (within w) (frames kind es) (suc i)))) (entry-mute kind es i mute) ∙ option_or-none _
 
-pub by_groups : (kind : ℕ → Option Kind) (es : List Entry) → IsMute kind es → messages kind es ≡ map (λ (m : Keyed). m.message) (gathered_messages kind es)
-by_groups kind es mute =
-    filter_map-agree (message kind es) (λ i. option_map (λ (m : Keyed). m.message) (gathered repeats (frames kind es) i)) (λ i. line-mute kind es i (recursion_from_All _ es mute)) (numbers es)
-    ∙ sym (map-filter_map (λ (m : Keyed). m.message) (gathered repeats (frames kind es)) (numbers es))
+pub by_groups : (w : Rule) (kind : ℕ → Option Kind) (es : List Entry) → IsMute kind es → messages w kind es ≡ map (λ (m : Keyed). m.message) (gathered_messages w kind es)
+by_groups w kind es mute =
+    filter_map-agree (message w kind es) (λ i. option_map (λ (m : Keyed). m.message) (gathered (within w) (frames kind es) i)) (λ i. line-mute w kind es i (recursion_from_All _ es mute)) (numbers es)
+    ∙ sym (map-filter_map (λ (m : Keyed). m.message) (gathered (within w) (frames kind es)) (numbers es))
 
 length-map : {X Y : Type 0} (h : X → Y) (xs : List X) → length (map h xs) ≡ length xs
 length-map h [] = refl
@@ -212,15 +213,15 @@ length-sendings earlier [] = refl
 length-sendings earlier (m ∷ ms) = ap suc (length-sendings (earlier ++ m ∷ []) ms)
 
 -- as many as were sent
-pub gathers_all : (kind : ℕ → Option Kind) (ms : List PacketParts) (es : List Entry) → IsScattered kind ms es → length (gathered_messages kind es) ≡ length ms
-gathers_all kind ms es scattered =
-    same_length (λ (m : Keyed). m.key) key_of_sending (length (gathered_messages kind es)) (gathered_messages kind es) (sendings ms) (omega arith)
-    (λ k. ap length (gathered_of_key repeats kind ms es k (settles kind ms es scattered k)) ∙ length-map (keyed k) (sendings_of k ms))
+pub gathers_all : (w : Rule) (kind : ℕ → Option Kind) (ms : List PacketParts) (es : List Entry) → IsScattered w kind ms es → length (gathered_messages w kind es) ≡ length ms
+gathers_all w kind ms es scattered =
+    same_length (λ (m : Keyed). m.key) key_of_sending (length (gathered_messages w kind es)) (gathered_messages w kind es) (sendings ms) (omega arith)
+    (λ k. ap length (gathered_of_key (within w) kind ms es k (settles w kind ms es scattered k)) ∙ length-map (keyed k) (sendings_of k ms))
     ∙ length-sendings [] ms
 
-pub replays : (kind : ℕ → Option Kind) (ms : List PacketParts) (es : List Entry) → IsScattered kind ms es → IsMute kind es → Replays kind ms es
-replays kind ms es scattered mute = record {
-  as_many = ap length (by_groups kind es mute) ∙ (length-map (λ (m : Keyed). m.message) (gathered_messages kind es) ∙ gathers_all kind ms es scattered);
-  by_groups = by_groups kind es mute;
-  in_order = gives_in_order kind ms es scattered;
+pub replays : (w : Rule) (kind : ℕ → Option Kind) (ms : List PacketParts) (es : List Entry) → IsScattered w kind ms es → IsMute kind es → Replays w kind ms es
+replays w kind ms es scattered mute = record {
+  as_many = ap length (by_groups w kind es mute) ∙ (length-map (λ (m : Keyed). m.message) (gathered_messages w kind es) ∙ gathers_all w kind ms es scattered);
+  by_groups = by_groups w kind es mute;
+  in_order = gives_in_order w kind ms es scattered;
 }

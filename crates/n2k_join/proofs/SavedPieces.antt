@@ -1,5 +1,5 @@
 -- The text of a state, as its parts are written one after the other.
-use Rattle.std.proofs.Common.{◌≡◌, ℕ, ◌+◌, List, [], ◌∷◌, ◌++◌, Option, Some, None, option_to_list, filter_map, flat_map, refl, sym, ap, ◌∙◌, append_assoc, append-nil, zero-add, codes}
+use Rattle.std.proofs.Common.{◌≡◌, ℕ, ◌+◌, Bool, true, false, List, [], ◌∷◌, ◌++◌, Option, Some, None, option_to_list, filter_map, flat_map, refl, sym, ap, ◌∙◌, append_assoc, append-nil, zero-add, codes}
 use Rattle.std.proofs.lemmas.Grind.{flat_map-append}
 use Rattle.std.specs.List.{range_with_len}
 use Rattle.json.specs.Print.{print}
@@ -10,8 +10,8 @@ use Rattle.n2k_join.specs.declared.piece.FrameKey.{FrameKey}
 use Rattle.n2k_join.specs.declared.piece.OpenGroup.{OpenGroup}
 use Rattle.n2k_join.specs.Frames.{Key, most_frames}
 use Rattle.n2k_join.specs.Open.{Piece, Group, piece_at}
-use Rattle.n2k_join.specs.Saved.{piece_tree, group_tree, state_tree, state_text}
-use Rattle.n2k_join.specs.Inner.SavedTokens.{tokens_of, count_tokens, piece_tokens, pieces_tokens, frames_tokens, key_tokens, groups_tokens, open_tokens, front_tokens, lines_tokens, table_tokens, back_tokens}
+use Rattle.n2k_join.specs.Saved.{are_waiting, tree_by, piece_tree, group_tree, state_tree, state_text}
+use Rattle.n2k_join.specs.Inner.SavedTokens.{tokens_of, count_tokens, piece_tokens, pieces_tokens, frames_tokens, key_tokens, groups_tokens, open_tokens, front_tokens, lines_tokens, table_tokens, back_tokens, window_tokens}
 use Rattle.n2k_join.specs.State.{State}
 use Rattle.n2k_join.specs.Inner.Slots.{slot_of, pieces_in, group_in, group_at, groups_in}
 use Rattle.n2k_join.proofs.Rising.{range-push, filter_map-push}
@@ -86,13 +86,18 @@ open_written o o1 o2 o3 o4 gs p1 p2 p3 p4 =
     ∙ ap (λ ts. o ++ (Token.key (codes "groups") ∷ (Token.begin_array ∷ ts))) (sym (items_tokens-map group_tree gs))
 
 -- the state, as it is written
-pub state_written : (o o1 o2 o3 o4 o5 : List Token) (s : State)
-    → o1 ≡ o ++ Token.begin_object ∷ [] → o2 ≡ o1 ++ front_tokens s.counts → o3 ≡ o2 ++ open_tokens s.groups
-    → o4 ≡ o3 ++ back_tokens s.id s.counts → o5 ≡ o4 ++ Token.end_object ∷ []
+pub state_written : (o o1 o2 o3 o4 o5 : List Token) (s : State) (tells : Bool) → tells ≡ are_waiting s
+    → o1 ≡ o ++ Token.begin_object ∷ [] → o2 ≡ o1 ++ front_tokens tells s.counts → o3 ≡ o2 ++ open_tokens s.groups
+    → o4 ≡ o3 ++ back_tokens tells s.id s.rule.window s.counts → o5 ≡ o4 ++ Token.end_object ∷ []
     → o5 ≡ o ++ tokens_of (state_tree s)
-unfolding state_tree
-state_written o o1 o2 o3 o4 o5 s p1 p2 p3 p4 p5 =
-    six_written o (Token.begin_object ∷ []) (front_tokens s.counts) (open_tokens s.groups) (back_tokens s.id s.counts) (Token.end_object ∷ []) [] o1 o2 o3 o4 o5 o5 p1 p2 p3 p4 p5 (sym (append-nil o5))
+unfolding tree_by
+state_written o o1 o2 o3 o4 o5 s tells is p1 p2 p3 p4 p5 =
+    six_written o (Token.begin_object ∷ []) (front_tokens tells s.counts) (open_tokens s.groups) (back_tokens tells s.id s.rule.window s.counts) (Token.end_object ∷ []) [] o1 o2 o3 o4 o5 o5 p1 p2 p3 p4 p5 (sym (append-nil o5))
+    ∙ ap (λ ts. o ++ ts) (as_tree tells ∙ ap (λ b. tokens_of (tree_by b s)) is)
+  where
+    as_tree : (tells : Bool) → (Token.begin_object ∷ []) ++ (front_tokens tells s.counts ++ (open_tokens s.groups ++ (back_tokens tells s.id s.rule.window s.counts ++ (Token.end_object ∷ [] ++ [])))) ≡ tokens_of (tree_by tells s)
+    as_tree true = refl
+    as_tree false = refl
 
 -- the text of tokens that are a state's
 pub text_written : (s : State) (before text : List ℕ) (none ts : List Token) → text ≡ before ++ print ts → before ≡ [] → none ≡ [] → ts ≡ none ++ tokens_of (state_tree s)
@@ -116,8 +121,9 @@ unfolding groups_tokens
 groups_written all now left none is = sym (is ∙ ap (λ es. now ++ groups_tokens (groups_in es)) none ∙ append-nil now)
 
 -- the members behind the open groups, as they are written
-pub back_written : (o o1 o2 o3 : List Token) (id : List ℕ) (c : Counts)
-    → o1 ≡ o ++ lines_tokens c → o2 ≡ o1 ++ table_tokens id → o3 ≡ o2 ++ count_tokens (codes "unknown") c.unknown
-    → o3 ≡ o ++ back_tokens id c
-back_written o o1 o2 o3 id c p1 p2 p3 =
-    six_written o (lines_tokens c) (table_tokens id) (count_tokens (codes "unknown") c.unknown) [] [] [] o1 o2 o3 o3 o3 o3 p1 p2 p3 (sym (append-nil o3)) (sym (append-nil o3)) (sym (append-nil o3))
+pub back_written : (o o1 o2 o3 o4 : List Token) (tells : Bool) (id : List ℕ) (window : ℕ) (c : Counts)
+    → o1 ≡ o ++ lines_tokens c → o2 ≡ o1 ++ table_tokens id → o3 ≡ o2 ++ count_tokens (codes "unknown") c.unknown → o4 ≡ o3 ++ window_tokens tells window
+    → o4 ≡ o ++ back_tokens tells id window c
+back_written o o1 o2 o3 o4 tells id window c p1 p2 p3 p4 =
+    six_written o (lines_tokens c) (table_tokens id) (count_tokens (codes "unknown") c.unknown) (window_tokens tells window) [] [] o1 o2 o3 o4 o4 o4 p1 p2 p3 p4 (sym (append-nil o4)) (sym (append-nil o4))
+    ∙ ap (λ ts. o ++ (lines_tokens c ++ (table_tokens id ++ (count_tokens (codes "unknown") c.unknown ++ ts)))) (append-nil (window_tokens tells window))

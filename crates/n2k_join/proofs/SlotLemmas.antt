@@ -8,17 +8,19 @@ use Rattle.std.specs.Option.{option_or}
 use Rattle.std.specs.List.{range_with_len, list_all, AllByRecursion}
 use Rattle.std.proofs.lemmas.Bool.{cases_lt, eqb-true, eq-eqb, and_parts, and_from, le-leb, leb-true, false≢true}
 use Rattle.std.proofs.Math.Nat.{pow-suc}
-use Rattle.std.proofs.lemmas.Nat.Bits.{bit_at_lowest, bit_at-suc, bit_at-zero, bit_at_ones, bit_at_set_same, bit_at_set_other}
+use Rattle.std.proofs.lemmas.Nat.Bits.{bit_at_lowest, bit_at-suc, bit_at-zero, bit_at_ones, bit_at_above, bit_at_set_same, bit_at_set_other, same_from_bits}
+use Rattle.std.proofs.lemmas.Nat.{shr-shr}
 use Rattle.std.proofs.lemmas.Option.{none-some, same_Some}
 use Rattle.std.proofs.lemmas.List.{get_or-set_same, get_or-set_other, length-append, take-append-le, take-append-drop}
 use Rattle.std.proofs.lemmas.Grind.{flat_map-append}
 use Rattle.n2k_join.specs.declared.piece.OpenGroup.{OpenGroup}
 use Rattle.n2k_join.specs.Frames.{Key, Frame, most_frames, frame_bytes, longest_total}
-use Rattle.n2k_join.specs.Groups.{complete, carried, has_number, has_twice, has_all, is_within, total, total_by, last_number, bytes_at, data_of}
+use Rattle.n2k_join.specs.Groups.{complete, carried, has_number, has_from, has_twice, has_all, is_within, total, total_by, last_number, bytes_at, data_of}
 use Rattle.n2k_join.specs.Open.{Piece, Group, piece_at, pieces_of, group_of}
 use Rattle.n2k_join.specs.State.{held_frame, held_of}
 use Rattle.n2k_join.specs.Inner.Slots.{slot, slot_of, group_by, group_in}
 use Rattle.n2k_join.proofs.Carried.{same_bool, carried-append, pieces_of-same, within_there, within_back}
+use Rattle.n2k_join.proofs.Cuts.{HasFrom, from_has, has-from}
 use Rattle.n2k_join.proofs.Rising.{filter_map-range}
 use Rattle.n2k_join.proofs.Falling.{falling, carried_below, carried_past, once_falling}
 
@@ -80,7 +82,7 @@ all_from : (p : ℕ → Bool) (a n : ℕ) → ((i : ℕ) → a ≤ i → i < a +
 all_from p a zero each = refl
 all_from p a (suc n) each = and_from _ _ (each a (omega arith) (omega arith)) (all_from p (a + 1) n (λ i l u. each i (omega (arith, l)) (omega (arith, u))))
 
-all_to : (p : ℕ → Bool) (a n i : ℕ) → list_all p (range_with_len a n) ≡ true → a ≤ i → i < a + n → p i ≡ true
+pub all_to : (p : ℕ → Bool) (a n i : ℕ) → list_all p (range_with_len a n) ≡ true → a ≤ i → i < a + n → p i ≡ true
 all_to p a zero i h l u = absurd (omega (arith, l, u))
 all_to p a (suc n) i h l u = by (a == i) refl (all_to p (a + 1) n i (and_parts _ _ h).1)
   where
@@ -204,6 +206,48 @@ pub open-slots : (k : Key) (g : OpenGroup) (q : Group) (x : Frame) (p : Piece) �
     → q ≡ group_of k (x ∷ [])
 open-slots k g q x p number bytes first empty taken =
     open-by k g.slots q x p number bytes (taken ∙ (λ i. record (group_by (first i) k (empty i) g.slots) { pieces = pieces_of (held_of (group_by (first i) k (empty i) g.slots) ++ held_frame (group_by (first i) k (empty i) g.slots) p ∷ []) }))
+
+-- ---- numbers from one on
+
+bit-shr : (m n i : ℕ) → bit_at (m / 2 ^ n) i ≡ bit_at m (n + i)
+bit-shr m n i = ap (λ r. r % 2) (shr-shr m n i)
+
+-- a group has a frame of a number, or of one above it, exactly where its mask has a bit from that number on
+module _ (k : Key) (g : OpenGroup) (n : ℕ) (fits : g.mask < 2 ^ 32) where
+  bits_there : has_from n (held_of (group_in k g)) ≡ true → not (g.mask / 2 ^ n == 0) ≡ true
+  bits_there e = by (g.mask / 2 ^ n == 0) refl (from_has n (held_of (group_in k g)) e)
+    where
+      by : (b : Bool) → (g.mask / 2 ^ n == 0) ≡ b → HasFrom n (held_of (group_in k g)) → not b ≡ true
+      by false t a = refl
+      by true t a = small (cases_lt a.number most_frames)
+        where
+          small : (a.number < most_frames) ⊎ (most_frames ≤ a.number) → false ≡ true
+          small (inl l) =
+              let one : bit_at g.mask a.number ≡ 1 = eqb-true _ _ (sym (has-slot k g a.number l) ∙ a.has) in
+              let at : n + (a.number - n) ≡ a.number = omega (arith, a.least) in
+              let none : bit_at g.mask a.number ≡ 0 = ap (bit_at g.mask) (sym at) ∙ sym (bit-shr g.mask n (a.number - n)) ∙ ap (λ m. bit_at m (a.number - n)) (eqb-true _ _ t) ∙ bit_at-zero (a.number - n) in
+              absurd (omega (arith, one, none))
+          small (inr past) = sym (ap is_some (carried-none k g a.number past)) ∙ a.has
+
+  bits_back : not (g.mask / 2 ^ n == 0) ≡ true → has_from n (held_of (group_in k g)) ≡ true
+  bits_back h = by (has_from n (held_of (group_in k g))) refl
+    where
+      by : (b : Bool) → has_from n (held_of (group_in k g)) ≡ b → b ≡ true
+      by true e = refl
+      by false e = sym (ap (λ m. not (m == 0)) none) ∙ h
+        where
+          none_at : (i : ℕ) → (n + i < most_frames) ⊎ (most_frames ≤ n + i) → (bit_at g.mask (n + i) ≡ 0) ⊎ (bit_at g.mask (n + i) ≡ 1) → bit_at g.mask (n + i) ≡ 0
+          none_at i (inr past) b = bit_at_above g.mask 32 (n + i) fits past
+          none_at i (inl l) (inl zero_it) = zero_it
+          none_at i (inl l) (inr one) =
+              let from : has_from n (held_of (group_in k g)) ≡ true = has-from n (n + i) (held_of (group_in k g)) (omega arith) (has-slot k g (n + i) l ∙ eq-eqb _ _ one) in
+              absurd (false≢true (sym e ∙ from))
+
+          none : g.mask / 2 ^ n ≡ 0
+          none = same_from_bits (g.mask / 2 ^ n) 0 (λ i. bit-shr g.mask n i ∙ none_at i (cases_lt (n + i) most_frames) (bit_two g.mask (n + i)) ∙ sym (bit_at-zero i))
+
+  pub from-mask : has_from n (held_of (group_in k g)) ≡ not (g.mask / 2 ^ n == 0)
+  from-mask = same_bool (has_from n (held_of (group_in k g))) (not (g.mask / 2 ^ n == 0)) bits_there bits_back
 
 -- ---- a slot written
 

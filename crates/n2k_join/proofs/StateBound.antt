@@ -13,7 +13,8 @@ use Rattle.n2k_join.specs.Counts.{most_lines}
 use Rattle.n2k_wire.specs.Packet.{greatest_pgn}
 use Rattle.n2k_join.specs.Frames.{Key, most_frames}
 use Rattle.n2k_join.specs.Open.{Piece, Group}
-use Rattle.n2k_join.specs.Saved.{whole, list, piece_tree, group_tree, state_tree, state_text, bare_bytes, group_bytes, IsId}
+use Rattle.n2k_join.specs.Saved.{whole, list, piece_tree, group_tree, state_text, tree_by, format_by, window_member, are_waiting, bare_bytes, group_bytes, IsId}
+use Rattle.n2k_join.specs.Window.{IsWindow}
 use Rattle.n2k_join.specs.State.{State, IsState, AreCounts, IsKey, IsPiece, HasParts, IsOpen, Rise}
 use Rattle.n2k_join.proofs.SavedGroups.{small_bytes}
 
@@ -189,7 +190,7 @@ counts_short : (c : Counts) → AreCounts c → CountsShort c
 counts_short c are =
     let lines : c.lines ≤ most_lines = are.lines in
     let given : c.messages + c.bad + c.unknown ≤ c.lines = are.given in
-    let broken : c.broken ≤ c.lines = are.broken in
+    let broken : c.broken + c.held ≤ c.lines = are.broken in
     record {
       bad = count_short c.bad (omega (arith, given, lines));
       broken = count_short c.broken (omega (arith, broken, lines));
@@ -198,38 +199,48 @@ counts_short c are =
       unknown = count_short c.unknown (omega (arith, given, lines));
     }
 
+format_short : (tells : Bool) → length (compact_text (whole (format_by tells))) ≤ 1
+format_short true = number_short 1 2 (omega arith) (omega arith) (omega arith)
+format_short false = number_short 1 1 (omega arith) (omega arith) (omega arith)
+
+window_short : (tells : Bool) (window : ℕ) → IsWindow window → length (members_text true (window_member tells window)) ≤ 18
+unfolding escape_byte
+window_short true window is = member_short true (codes "window") (whole window) no_members 7 1 (number_short 7 window (omega arith) (omega (arith, is.most)) (omega (arith, is.most))) (omega arith)
+window_short false window is = omega arith
+
 -- the text of a state that a join can have, of a table's id
 pub state-short : (s : State) → IsState s → IsId s.id → length (state_text s) ≤ bare_bytes + group_bytes * length s.groups
-unfolding state_text state_tree escape_byte
+unfolding state_text tree_by escape_byte
 state-short s is known =
     let n = length s.groups in
     let most : s.counts.lines ≤ most_lines = is.counted.lines in
     let short = counts_short s.counts is.counted in
     let id = digits_short 32 s.id known.long (small_bytes s.id known.are_bytes) in
     let groups : length (compact_text (list (map group_tree s.groups))) ≤ 786 * n + 2 = list_short group_tree 785 s.groups (groups_each s.counts.lines s.groups most is.parts is.groups.each is.groups.begun) in
-    let format = number_short 1 1 (omega arith) (omega arith) (omega arith) in
-    let m-unknown = member (codes "unknown") (whole s.counts.unknown) no_members in
+    let m-window = window_member (are_waiting s) s.rule.window in
+    let m-unknown = member (codes "unknown") (whole s.counts.unknown) m-window in
     let m-table = member (codes "table") (string (encode_lower s.id)) m-unknown in
     let m-messages = member (codes "messages") (whole s.counts.messages) m-table in
     let m-lines = member (codes "lines") (whole s.counts.lines) m-messages in
     let m-groups = member (codes "groups") (list (map group_tree s.groups)) m-lines in
-    let m-format = member (codes "format") (whole 1) m-groups in
+    let m-format = member (codes "format") (whole (format_by (are_waiting s))) m-groups in
     let m-broken = member (codes "broken") (whole s.counts.broken) m-format in
-    let l-unknown : length (members_text true m-unknown) ≤ 27 = member_short true (codes "unknown") (whole s.counts.unknown) no_members 15 1 short.unknown (omega arith) in
-    let l-table : length (members_text true m-table) ≤ 102 = member_short true (codes "table") (string (encode_lower s.id)) m-unknown 66 27 id l-unknown in
-    let l-messages : length (members_text true m-messages) ≤ 129 = member_short true (codes "messages") (whole s.counts.messages) m-table 15 102 short.messages l-table in
-    let l-lines : length (members_text true m-lines) ≤ 153 = member_short true (codes "lines") (whole s.counts.lines) m-messages 15 129 short.lines l-messages in
-    let l-groups : length (members_text true m-groups) ≤ (10 + (786 * n + 2)) + 153 = member_short true (codes "groups") (list (map group_tree s.groups)) m-lines (786 * n + 2) 153 groups l-lines in
-    let l-format : length (members_text true m-format) ≤ 11 + ((10 + (786 * n + 2)) + 153) = member_short true (codes "format") (whole 1) m-groups 1 ((10 + (786 * n + 2)) + 153) format l-groups in
-    let l-broken : length (members_text true m-broken) ≤ 25 + (11 + ((10 + (786 * n + 2)) + 153)) = member_short true (codes "broken") (whole s.counts.broken) m-format 15 (11 + ((10 + (786 * n + 2)) + 153)) short.broken l-format in
-    let all : length (members_text false (member (codes "bad") (whole s.counts.bad) m-broken)) ≤ 22 + (25 + (11 + ((10 + (786 * n + 2)) + 153))) = member_short false (codes "bad") (whole s.counts.bad) m-broken 15 (25 + (11 + ((10 + (786 * n + 2)) + 153))) short.bad l-broken in
+    let l-window : length (members_text true m-window) ≤ 18 = window_short (are_waiting s) s.rule.window is.window in
+    let l-unknown : length (members_text true m-unknown) ≤ 44 = member_short true (codes "unknown") (whole s.counts.unknown) m-window 15 18 short.unknown l-window in
+    let l-table : length (members_text true m-table) ≤ 119 = member_short true (codes "table") (string (encode_lower s.id)) m-unknown 66 44 id l-unknown in
+    let l-messages : length (members_text true m-messages) ≤ 146 = member_short true (codes "messages") (whole s.counts.messages) m-table 15 119 short.messages l-table in
+    let l-lines : length (members_text true m-lines) ≤ 170 = member_short true (codes "lines") (whole s.counts.lines) m-messages 15 146 short.lines l-messages in
+    let l-groups : length (members_text true m-groups) ≤ (10 + (786 * n + 2)) + 170 = member_short true (codes "groups") (list (map group_tree s.groups)) m-lines (786 * n + 2) 170 groups l-lines in
+    let l-format : length (members_text true m-format) ≤ 11 + ((10 + (786 * n + 2)) + 170) = member_short true (codes "format") (whole (format_by (are_waiting s))) m-groups 1 ((10 + (786 * n + 2)) + 170) (format_short (are_waiting s)) l-groups in
+    let l-broken : length (members_text true m-broken) ≤ 25 + (11 + ((10 + (786 * n + 2)) + 170)) = member_short true (codes "broken") (whole s.counts.broken) m-format 15 (11 + ((10 + (786 * n + 2)) + 170)) short.broken l-format in
+    let all : length (members_text false (member (codes "bad") (whole s.counts.bad) m-broken)) ≤ 22 + (25 + (11 + ((10 + (786 * n + 2)) + 170))) = member_short false (codes "bad") (whole s.counts.bad) m-broken 15 (25 + (11 + ((10 + (786 * n + 2)) + 170))) short.bad l-broken in
     omega (arith, all)
 
 -- the same of a text whose groups were lent, as the state's owner sees it
 pub saved-short : (s view : State) (lent : List Group) (text : List ℕ) → IsState s → IsId s.id → lent ≡ s.groups → s ≡ view
-    → text ≡ state_text (record { id = s.id; counts = s.counts; groups = lent }) → length text ≤ bare_bytes + group_bytes * length view.groups
+    → text ≡ state_text (record { id = s.id; rule = s.rule; counts = s.counts; groups = lent }) → length text ≤ bare_bytes + group_bytes * length view.groups
 saved-short s view lent text is known same seen written =
-    let named = λ (gs : List Group). let made : State = record { id = s.id; counts = s.counts; groups = gs } in made in
+    let named = λ (gs : List Group). let made : State = record { id = s.id; rule = s.rule; counts = s.counts; groups = gs } in made in
     let all : text ≡ state_text s = written ∙ ap (λ gs. state_text (named gs)) same in
     let short = state-short s is known in
     subst (λ (v : State). length text ≤ bare_bytes + group_bytes * length v.groups) seen (subst (λ t. length t ≤ bare_bytes + group_bytes * length s.groups) (sym all) short)

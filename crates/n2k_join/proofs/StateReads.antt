@@ -1,22 +1,30 @@
 -- The text of a valid state is read as that state.
-use Rattle.std.proofs.Common.{◌≡◌, ◌≤◌, ◌<◌, ◌+◌, ℕ, zero, suc, true, List, [], ◌∷◌, map, Option, Some, option_map, Result, Ok, codes, refl, sym, ap, arith, IsUtf8}
+use Rattle.std.proofs.Common.{◌≡◌, ◌≤◌, ◌<◌, ◌+◌, ◌^◌, ◌==◌, ℕ, zero, suc, Bool, true, false, if◌then◌else◌, List, [], ◌∷◌, length, map, Option, Some, option_map, Result, Ok, Err, codes, refl, sym, ap, ◌∙◌, arith, IsUtf8}
 use Rattle.std.specs.List.{AllByRecursion}
-use Rattle.hex.specs.Hex.{IsBytes}
+use Rattle.std.proofs.lemmas.Bool.{eq-eqb, ne_eqb}
+use Rattle.hex.specs.Hex.{IsBytes, encode_lower}
 use Rattle.hex.proofs.HexLemmas.{decode_sized-encode_lower}
 use Rattle.json.specs.Tree.{depth, items_depth}
 use Rattle.json.proofs.Printed.Utf8.{are_ascii, IsUtf8-are_ascii}
-use Rattle.serde_json.specs.Data.{Data, array}
+use Rattle.serde_json.specs.Data.{Data, Members, array, string, object, member, no_members}
 use Rattle.serde_json.specs.Read.{of_json, of_items}
 use Rattle.serde_json.specs.View.{items_of}
 use Rattle.serde_json.specs.Written.{outline, items_outline}
 use Rattle.serde_json.proofs.Numbers.{number_of-decimal}
 use Rattle.n2k_join.specs.Open.{Piece, Group}
-use Rattle.n2k_join.specs.Resumed.{each, elements, piece_of, group_of, key_of, pieces_at, groups_at, counts_of, id_at, state_of, judged}
-use Rattle.n2k_join.specs.Saved.{IsId, saved_format, list, piece_tree, group_tree, state_tree, state_text}
-use Rattle.n2k_join.specs.State.{State, IsState, AreFast, IsKey, IsPiece, IsOpen, HasParts}
+use Rattle.n2k_join.specs.Resumed.{each, elements, format_in, piece_of, group_of, key_of, pieces_at, groups_at, counts_of, id_at, is_valid, state_of, state_of_parts, judged, parsed, valid_if, waits_hold}
+use Rattle.n2k_join.specs.Saved.{IsId, are_waiting, saved_format, old_format, whole, list, piece_tree, group_tree, state_text, format_by, window_member, tree_by}
+use Rattle.n2k_join.specs.State.{State, IsState, AreCounts, AreFast, AreWaiting, IsKey, IsPiece, IsOpen, HasParts}
+use Rattle.n2k_join.specs.Window.{Rule, IsWindow}
+use Rattle.n2k_join.specs.declared.counts.Counts.{Counts}
+use Rattle.n2k_join.specs.declared.saved.place.Place.{Place}
+use Rattle.n2k_join.specs.declared.saved.place.Place.TheVariants as places
+use Rattle.n2k_wire.specs.Steps.{◌>>=◌, or_cause, holds_or}
 use Rattle.n2k_join.specs.declared.state_fault.StateFault.{StateFault}
+use Rattle.n2k_join.specs.declared.state_fault.StateFault.TheVariants.{NotJson, TableDiffers, WindowDiffers, Invalid}
 use Rattle.n2k_table.specs.declared.definition.Kind.{Kind}
 use Rattle.n2k_join.proofs.ValidStates.{state_valid, parsed_some}
+use Rattle.n2k_join.proofs.StateTests.{in_time-to}
 use Rattle.n2k_join.specs.Counts.{most_lines}
 use Rattle.n2k_join.specs.Frames.{most_frames}
 use Rattle.n2k_join.proofs.Rising.{all-map, all-zip}
@@ -24,7 +32,7 @@ use Rattle.n2k_join.proofs.SavedDigits.{IsUtf8-encode_lower}
 use Rattle.std.specs.Str.{bytes_eq}
 use Rattle.std.proofs.lemmas.Slice.Eq.{bytes_eq-Decides}
 use Rattle.serde_json.specs.Written.{compact_text}
-use Rattle.n2k_join.proofs.WrittenReads.{IsPlain, ArePlain, compact_utf8, compact_reads}
+use Rattle.n2k_join.proofs.WrittenReads.{IsPlain, ArePlain, ArePlainMembers, compact_utf8, compact_reads}
 
 -- A tree that is written and read back: it is plain, nests no deeper than this, and stands for itself.
 pub record IsTree (deep : ℕ) (d : Data) : Type 0 where
@@ -131,70 +139,205 @@ kept_groups s is =
     (all-zip HasParts (λ (g : Group). IsOpen g × (g.first ≤ s.counts.lines)) s.groups is.parts
     (all-zip IsOpen (λ (g : Group). g.first ≤ s.counts.lines) s.groups is.groups.each is.groups.begun))
 
-pub state-tree : (s : State) → IsState s → IsTree 5 (state_tree s)
-unfolding state_tree
-state-tree s is =
-    let groups = lists 3 group_tree s.groups (all-map IsKept (λ (g : Group). IsTree 3 (group_tree g)) s.groups group-tree (kept_groups s is)) in
-    let c = is.counted in
-    record {
-      plain = (
-        name (codes "bad") refl,
-        omega (arith, c.lines, c.given),
+-- the place of a state that tells its window or doesn't
+abbrev place_by : Bool → Place
+place_by tells = if tells then places.WindowState else places.State
+
+-- the trees of the groups
+groups-tree : (s : State) → IsState s → IsTree 4 (list (map group_tree s.groups))
+groups-tree s is = lists 3 group_tree s.groups (all-map IsKept (λ (g : Group). IsTree 3 (group_tree g)) s.groups group-tree (kept_groups s is))
+
+-- the counts as numbers of a text
+record AreSmall (c : Counts) : Type 0 where
+  bad : c.bad < 2 ^ 64
+  broken : c.broken < 2 ^ 64
+  lines : c.lines < 2 ^ 64
+  messages : c.messages < 2 ^ 64
+  unknown : c.unknown < 2 ^ 64
+
+counts-small : (c : Counts) → AreCounts c → AreSmall c
+counts-small c are = record {
+  bad = omega (arith, are.lines, are.given);
+  broken = omega (arith, are.lines, are.broken);
+  lines = omega (arith, are.lines);
+  messages = omega (arith, are.lines, are.given);
+  unknown = omega (arith, are.lines, are.given);
+}
+
+format-small : (tells : Bool) → format_by tells < 2 ^ 64
+format-small true = omega arith
+format-small false = omega arith
+
+last-plain : (tells : Bool) (s : State) → IsWindow s.rule.window → ArePlainMembers (window_member tells s.rule.window)
+last-plain true s is = (name (codes "window") refl, omega (arith, is.most), tt)
+last-plain false s is = tt
+
+tree-plain : (tells : Bool) (s : State) → IsState s → IsPlain (tree_by tells s)
+unfolding tree_by
+tree-plain tells s is =
+    let small = counts-small s.counts is.counted in (
+      name (codes "bad") refl,
+      small.bad,
+      (
+        name (codes "broken") refl,
+        small.broken,
         (
-          name (codes "broken") refl,
-          omega (arith, c.lines, c.broken),
+          name (codes "format") refl,
+          format-small tells,
           (
-            name (codes "format") refl,
-            omega arith,
+            name (codes "groups") refl,
+            (groups-tree s is).plain,
             (
-              name (codes "groups") refl,
-              groups.plain,
+              name (codes "lines") refl,
+              small.lines,
               (
-                name (codes "lines") refl,
-                omega (arith, c.lines),
+                name (codes "messages") refl,
+                small.messages,
                 (
-                  name (codes "messages") refl,
-                  omega (arith, c.lines, c.given),
-                  (
-                    name (codes "table") refl,
-                    IsUtf8-encode_lower s.id,
-                    (name (codes "unknown") refl, omega (arith, c.lines, c.given), tt),
-                  ),
+                  name (codes "table") refl,
+                  IsUtf8-encode_lower s.id,
+                  (name (codes "unknown") refl, small.unknown, last-plain tells s is.window),
                 ),
               ),
             ),
           ),
         ),
-      );
-      shallow = let more = groups.shallow in omega arith;
-      back = rw (
-        number_of-decimal s.counts.bad (omega (arith, c.lines, c.given)),
-        number_of-decimal s.counts.broken (omega (arith, c.lines, c.broken)),
-        number_of-decimal saved_format (omega arith),
-        groups.back,
-        number_of-decimal s.counts.lines (omega (arith, c.lines)),
-        number_of-decimal s.counts.messages (omega (arith, c.lines, c.given)),
-        number_of-decimal s.counts.unknown (omega (arith, c.lines, c.given)),
-      ) refl;
-    }
+      ),
+    )
 
-pub state-reads : (s : State) → IsState s → IsId s.id → state_of (state_tree s) ≡ Ok s
-unfolding state_of counts_of id_at groups_at state_tree
-state-reads s is id =
+tree-shallow : (tells : Bool) (s : State) → IsState s → depth (outline (tree_by tells s)) ≤ 5
+unfolding tree_by
+tree-shallow true s is = let more = (groups-tree s is).shallow in omega arith
+tree-shallow false s is = let more = (groups-tree s is).shallow in omega arith
+
+tree-back : (tells : Bool) (s : State) → IsState s → of_json (outline (tree_by tells s)) ≡ Some (tree_by tells s)
+unfolding tree_by
+tree-back true s is =
+    let small = counts-small s.counts is.counted in
+    rw (
+      number_of-decimal s.counts.bad small.bad,
+      number_of-decimal s.counts.broken small.broken,
+      number_of-decimal saved_format (format-small true),
+      (groups-tree s is).back,
+      number_of-decimal s.counts.lines small.lines,
+      number_of-decimal s.counts.messages small.messages,
+      number_of-decimal s.counts.unknown small.unknown,
+      number_of-decimal s.rule.window (omega (arith, is.window.most)),
+    ) refl
+tree-back false s is =
+    let small = counts-small s.counts is.counted in
+    rw (
+      number_of-decimal s.counts.bad small.bad,
+      number_of-decimal s.counts.broken small.broken,
+      number_of-decimal old_format (format-small false),
+      (groups-tree s is).back,
+      number_of-decimal s.counts.lines small.lines,
+      number_of-decimal s.counts.messages small.messages,
+      number_of-decimal s.counts.unknown small.unknown,
+    ) refl
+
+pub state-tree : (tells : Bool) (s : State) → IsState s → IsTree 5 (tree_by tells s)
+state-tree tells s is = record { plain = tree-plain tells s is; shallow = tree-shallow tells s is; back = tree-back tells s is }
+
+-- the state that is read where this is handed in
+abbrev read_under : Bool → Rule → State → State
+read_under tells rule s = record { id = s.id; rule = record { window = if tells then s.rule.window else rule.window; in_order = rule.in_order }; counts = s.counts; groups = s.groups }
+
+pub state-reads : (tells : Bool) (rule : Rule) (s : State) → IsState s → IsId s.id → state_of (place_by tells) rule (tree_by tells s) ≡ Ok (read_under tells rule s)
+unfolding state_of counts_of id_at groups_at tree_by
+state-reads true rule s is id =
     rw (
       decode_sized-encode_lower s.id 32 id.long id.are_bytes,
       each-reads group_tree group_of s.groups (all-map IsKept (λ (g : Group). group_of (group_tree g) ≡ Ok g) s.groups group-reads (kept_groups s is)),
     )
-    (ap (λ n. Ok (record { id = s.id; counts = record s.counts { held = n }; groups = s.groups })) (sym is.held))
+    (ap (λ n. Ok (record { id = s.id; rule = record { window = s.rule.window; in_order = rule.in_order }; counts = record s.counts { held = n }; groups = s.groups })) (sym is.held))
+state-reads false rule s is id =
+    rw (
+      decode_sized-encode_lower s.id 32 id.long id.are_bytes,
+      each-reads group_tree group_of s.groups (all-map IsKept (λ (g : Group). group_of (group_tree g) ≡ Ok g) s.groups group-reads (kept_groups s is)),
+    )
+    (ap (λ n. Ok (record { id = s.id; rule = rule; counts = record s.counts { held = n }; groups = s.groups })) (sym is.held))
 
 bytes_eq-same : (bs : List ℕ) → bytes_eq bs bs ≡ true
 bytes_eq-same bs = (bytes_eq-Decides bs bs).1 refl
 
--- The text of a valid state, whose groups are of fast PGNs of its table, spells that state.
-pub state_back : (kind : ℕ → Option Kind) (s : State) → IsState s → AreFast kind s.groups → IsId s.id → judged kind s.id (state_text s) ≡ Ok s
-unfolding judged state_text state_tree
-state_back kind s is fast id =
-    let tree = state-tree s is in
-    let depth_ok : depth (outline (state_tree s)) ≤ 127 = let few = tree.shallow in omega arith in
-    let text = parsed_some (compact_text (state_tree s)) (state_tree s) (compact_utf8 (state_tree s) tree.plain) (compact_reads (state_tree s) tree.plain depth_ok tree.back) in
-    rw text (rw (state-reads s is id) (rw (bytes_eq-same s.id) (rw (state_valid kind s is fast) refl)))
+-- what remains to be asked of a text once its members are read
+abbrev asked : (ℕ → Option Kind) → List ℕ → Rule → Place → State → Result State StateFault
+asked kind id rule format s = do
+  same ← holds_or TableDiffers (bytes_eq s.id id)
+  as_long ← holds_or WindowDiffers (s.rule.window == rule.window)
+  in_time ← holds_or Invalid (waits_hold format s)
+  valid_if (is_valid kind s) s
+
+text-asked : (tells : Bool) (kind : ℕ → Option Kind) (id : List ℕ) (rule : Rule) (s : State) → IsState s → IsId s.id
+    → judged kind id rule (compact_text (tree_by tells s)) ≡ asked kind id rule (place_by tells) (read_under tells rule s)
+unfolding judged tree_by
+text-asked tells kind id rule s is known = by tells
+  where
+    text : (tells : Bool) → or_cause NotJson (parsed (compact_text (tree_by tells s))) ≡ Ok (tree_by tells s)
+    text tells =
+        let tree = state-tree tells s is in
+        let depth_ok : depth (outline (tree_by tells s)) ≤ 127 = let few = tree.shallow in omega arith in
+        parsed_some (compact_text (tree_by tells s)) (tree_by tells s) (compact_utf8 (tree_by tells s) tree.plain) (compact_reads (tree_by tells s) tree.plain depth_ok tree.back)
+
+    by : (tells : Bool) → judged kind id rule (compact_text (tree_by tells s)) ≡ asked kind id rule (place_by tells) (read_under tells rule s)
+    by true = rw (text true) (rw (state-reads true rule s is known) refl)
+    by false = rw (text false) (rw (state-reads false rule s is known) refl)
+
+asked-all : (kind : ℕ → Option Kind) (id : List ℕ) (rule : Rule) (format : Place) (s : State)
+    → bytes_eq s.id id ≡ true → (s.rule.window == rule.window) ≡ true → waits_hold format s ≡ true → is_valid kind s ≡ true → asked kind id rule format s ≡ Ok s
+asked-all kind id rule format s table window waits valid = rw table (rw window (rw waits (rw valid refl)))
+
+asked-elsewhere : (kind : ℕ → Option Kind) (id : List ℕ) (rule : Rule) (format : Place) (s : State)
+    → bytes_eq s.id id ≡ true → (s.rule.window == rule.window) ≡ false → asked kind id rule format s ≡ Err WindowDiffers
+asked-elsewhere kind id rule format s table window = rw table (rw window refl)
+
+-- the text of a state that tells its window or doesn't
+text-by : (kind : ℕ → Option Kind) (id : List ℕ) (rule : Rule) (s : State) (tells : Bool) → are_waiting s ≡ tells → judged kind id rule (state_text s) ≡ judged kind id rule (compact_text (tree_by tells s))
+unfolding state_text
+text-by kind id rule s tells e = ap (λ d. judged kind id rule (compact_text d)) (ap (λ b. tree_by b s) e)
+
+-- The text of a valid state, whose groups are of fast PGNs of its table, spells that state under its window, whether the
+-- order of frames is asked for or not.
+pub state_under : (kind : ℕ → Option Kind) (s : State) (order : Bool) → IsState s → AreFast kind s.groups → IsId s.id
+    → judged kind s.id (record { window = s.rule.window; in_order = order }) (state_text s) ≡ Ok (record { id = s.id; rule = record { window = s.rule.window; in_order = order }; counts = s.counts; groups = s.groups })
+unfolding is_valid
+state_under kind s order is fast id = by (are_waiting s) refl
+  where
+    by : (tells : Bool) → are_waiting s ≡ tells
+        → judged kind s.id (record { window = s.rule.window; in_order = order }) (state_text s) ≡ Ok (record { id = s.id; rule = record { window = s.rule.window; in_order = order }; counts = s.counts; groups = s.groups })
+    by true e =
+        let rule : Rule = record { window = s.rule.window; in_order = order } in
+        text-by kind s.id rule s true e ∙ text-asked true kind s.id rule s is id
+        ∙ asked-all kind s.id rule places.WindowState (read_under true rule s) (bytes_eq-same s.id) (eq-eqb s.rule.window s.rule.window refl) e (state_valid kind s is fast)
+    by false e =
+        let rule : Rule = record { window = s.rule.window; in_order = order } in
+        text-by kind s.id rule s false e ∙ text-asked false kind s.id rule s is id
+        ∙ asked-all kind s.id rule places.State (read_under false rule s) (bytes_eq-same s.id) (eq-eqb s.rule.window s.rule.window refl) refl (state_valid kind s is fast)
+
+pub state_back : (kind : ℕ → Option Kind) (s : State) → IsState s → AreFast kind s.groups → IsId s.id → judged kind s.id s.rule (state_text s) ≡ Ok s
+state_back kind s is fast id = state_under kind s s.rule.in_order is fast id
+
+-- Under another window it is refused, where it tells its own.
+pub state_elsewhere : (kind : ℕ → Option Kind) (s : State) (rule : Rule) → IsState s → AreWaiting s → IsId s.id → (s.rule.window ≡ rule.window → ⊥)
+    → judged kind s.id rule (state_text s) ≡ Err WindowDiffers
+state_elsewhere kind s rule is waits id other =
+    text-by kind s.id rule s true (in_time-to s waits) ∙ text-asked true kind s.id rule s is id
+    ∙ asked-elsewhere kind s.id rule places.WindowState (read_under true rule s) (bytes_eq-same s.id) (ne_eqb s.rule.window rule.window other)
+
+-- What a text is read as, once each question but that of the rules is answered.
+pub judged-by : (kind : ℕ → Option Kind) (id bytes : List ℕ) (rule : Rule) (d : Data) (format : Place) (s : State)
+    → or_cause NotJson (parsed bytes) ≡ Ok d → format_in d ≡ Ok format → state_of format rule d ≡ Ok s
+    → bytes_eq s.id id ≡ true → (s.rule.window == rule.window) ≡ true → waits_hold format s ≡ true
+    → judged kind id rule bytes ≡ valid_if (is_valid kind s) s
+unfolding judged
+judged-by kind id bytes rule d format s text place spells table window waits = rw text (rw place (rw spells (rw table (rw window (rw waits refl)))))
+
+-- a state that was read is made of its parts and the window that was handed in, where both are one
+pub of-parts : (s : State) (id : List ℕ) (window : ℕ) (order : Bool) (counts : Counts) (gs lent : List Group) (rule : Rule)
+    → record { id = id; rule = record { window = window; in_order = order }; counts = record counts { held = length gs }; groups = gs } ≡ s
+    → s.rule.window ≡ rule.window → s.rule.in_order ≡ rule.in_order → lent ≡ gs → s ≡ state_of_parts id rule counts lent
+of-parts s id window order counts gs lent rule view same_window same_order same =
+    let with_rule = λ (u : State). let v : State = record { id = u.id; rule = rule; counts = u.counts; groups = u.groups } in v in
+    let ruled : s ≡ with_rule s = λ i. record { id = s.id; rule = record { window = same_window i; in_order = same_order i }; counts = s.counts; groups = s.groups } in
+    ruled ∙ ap with_rule (sym view) ∙ ap (state_of_parts id rule counts) (sym same)

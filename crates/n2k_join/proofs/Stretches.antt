@@ -1,15 +1,16 @@
 -- Where frames fall into stretches, each of which ends by its last frame and not before, these are the groups.
-use Rattle.std.proofs.Common.{◌≡◌, ℕ, ◌+◌, ◌<◌, true, false, List, [], ◌∷◌, ◌++◌, length, refl, ap, subst, ◌∙◌, sym, arith, append_assoc, length-append, inl, inr}
-use Rattle.std.specs.Prelude.{◌==◌}
-use Rattle.std.specs.List.{AllByRecursion}
-use Rattle.std.proofs.lemmas.Bool.{false≢true, or_parts, or_from, eq-eqb, ne_eqb, cases_eq}
+use Rattle.std.proofs.Common.{◌≡◌, ℕ, zero, suc, ◌+◌, ◌<◌, ◌≤◌, ◌&&◌, Bool, map, true, false, List, [], ◌∷◌, ◌++◌, length, refl, ap, subst, ◌∙◌, sym, arith, append_assoc, length-append, inl, inr}
+use Rattle.std.specs.Prelude.{◌==◌, nat_lt}
+use Rattle.std.specs.List.{AllByRecursion, range_with_len}
+use Rattle.std.proofs.lemmas.Bool.{false≢true, or_parts, or_from, and_right, eq-eqb, ne_eqb, cases_eq, lt-leb}
 use Rattle.std.proofs.lemmas.List.{append-nil}
 use Rattle.n2k_join.specs.Frames.{Frame}
-use Rattle.n2k_join.specs.Groups.{Ends, has_number, has_twice, complete, repeats, closes, cut_from, cut}
+use Rattle.n2k_join.specs.Groups.{Ends, has_number, has_twice, complete, repeats, has_from, falls_back, misfits, is_late, within, first, closes, cut_from, cut}
 use Rattle.n2k_join.specs.Pieces.{last_piece, Sending}
 use Rattle.n2k_join.specs.Scattered.{IsPieceOf, joined}
 use Rattle.n2k_join.proofs.Counting.{has_number-cons}
 use Rattle.n2k_join.proofs.WholePieces.{complete_pieces}
+use Rattle.n2k_join.specs.Window.{Rule}
 
 -- frames that are complete, and don't end before the last
 pub record IsStretch (ends : Ends) (g : List Frame) : Type 0 where
@@ -77,6 +78,34 @@ pub record GoesOn (ends : Ends) (g : List Frame) : Type 0 where
 
 pub goes_on-repeats : (g : List Frame) → has_twice g ≡ false → GoesOn repeats g
 goes_on-repeats g apart = record { on = λ f h front back e. (apart-front (f ∷ front) back h (ap has_twice (sym e) ∙ apart)).1 }
+
+-- nor does a window that ends after the last of them
+all-at : (P : Frame → Type 0) (front : List Frame) (h : Frame) (back : List Frame) → AllByRecursion P (front ++ (h ∷ back)) → P h
+all-at P [] h back each = each.0
+all-at P (f ∷ front) h back each = all-at P front h back each.1
+
+-- of frames whose numbers rise one by one none falls back
+above : (a n : ℕ) (front : List Frame) (h : Frame) (back : List Frame) → map (λ (f : Frame). f.number) (front ++ (h ∷ back)) ≡ range_with_len a n → (a ≤ h.number) × (has_from h.number front ≡ false)
+above a zero [] h back numbers = absurd (cc)
+above a (suc n) [] h back numbers = let here : h.number ≡ a = cc in (omega (arith, here), refl)
+above a zero (f ∷ front) h back numbers = absurd (cc)
+above a (suc n) (f ∷ front) h back numbers =
+    let here : f.number ≡ a = cc in
+    let rest : map (λ (g : Frame). g.number) (front ++ (h ∷ back)) ≡ range_with_len (a + 1) n = cc in
+    let later = above (a + 1) n front h back rest in
+    (omega (arith, later.0), or_from _ _ (lt-leb h.number f.number (omega (arith, here, later.0))) later.1)
+
+pub goes_on-within : (w : Rule) (n : ℕ) (g : List Frame) → has_twice g ≡ false → (w.in_order ≡ true → map (λ (f : Frame). f.number) g ≡ range_with_len 0 n) → AllByRecursion (λ (f : Frame). f.line < first g + w.window) g → GoesOn (within w) g
+goes_on-within w n g apart ordered each = record {
+  on = λ f h front back e.
+      let l : h.line < first g + w.window = all-at (λ (i : Frame). i.line < first g + w.window) (f ∷ front) h back (subst (AllByRecursion (λ (i : Frame). i.line < first g + w.window)) e each) in
+      let same : first g ≡ f.line = ap first e in
+      or_from (misfits w (f ∷ front) h) (is_late w (f ∷ front) h) (or_from (repeats (f ∷ front) h) (w.in_order && falls_back (f ∷ front) h) ((goes_on-repeats g apart).on f h front back e) (rises f h front back e w.in_order refl)) (lt-leb (f.line + w.window) h.line (omega (arith, l, same)));
+}
+  where
+    rises : (f h : Frame) (front back : List Frame) → g ≡ (f ∷ front) ++ (h ∷ back) → (b : Bool) → w.in_order ≡ b → (b && falls_back (f ∷ front) h) ≡ false
+    rises f h front back e true t = and_right (nat_lt f.line h.line) (has_from h.number (f ∷ front)) (above 0 n (f ∷ front) h back (ap (map (λ (f : Frame). f.number)) (sym e) ∙ ordered t)).1
+    rises f h front back e false t = refl
 
 -- all pieces of a message are a stretch, where they go on together
 pub stretch_pieces : (ends : Ends) (x : Sending) (g : List Frame) → AllByRecursion (IsPieceOf x) g → has_twice g ≡ false → length g ≡ last_piece x.message + 1 → GoesOn ends g → IsStretch ends g

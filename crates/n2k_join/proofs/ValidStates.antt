@@ -16,7 +16,9 @@ use Rattle.n2k_join.specs.Groups.{complete}
 use Rattle.n2k_join.specs.Open.{Piece, Group}
 use Rattle.n2k_wire.specs.Steps.{or_cause}
 use Rattle.n2k_join.specs.Resumed.{parsed, counts_hold, firsts_rise, group_holds, groups_hold, is_valid, is_some_list, pieces_rise, state_of_parts, valid_if, total_holds, key_holds, is_fast}
+use Rattle.n2k_join.specs.Inner.Apart.{numbers_hold}
 use Rattle.n2k_join.specs.State.{State, IsState, AreCounts, AreApart, AreFast, IsOpen, IsKey, IsPiece, HasParts, Rise, held_of}
+use Rattle.n2k_join.specs.Window.{Rule, IsWindow}
 use Rattle.std.proofs.lemmas.Bool.{le-leb, lt-ltb, and_from, ne_eqb}
 use Rattle.n2k_join.proofs.StateTests.{both, at_most}
 use Rattle.n2k_join.proofs.SavedGroups.{rise_from, small_from}
@@ -86,70 +88,65 @@ groups_from kind (g ∷ gs) h =
     let rest = groups_from kind gs more.1 in
     ((open_from kind g hs.0, rest.0), (none_any g gs (not_true _ more.0), rest.1))
 
-valid_state : (kind : ℕ → Option Kind) (s : State) → counts_hold s.counts ≡ true → firsts_rise 1 s.counts.lines s.groups ≡ true → groups_hold kind s.groups ≡ true
+pub valid_state : (kind : ℕ → Option Kind) (s : State) → IsWindow s.rule.window → counts_hold s.counts ≡ true → firsts_rise 1 s.counts.lines s.groups ≡ true → groups_hold kind s.groups ≡ true
     → s.counts.held ≡ length s.groups → AllByRecursion HasParts s.groups → IsState s
-valid_state kind s counts firsts groups held parts =
+valid_state kind s window counts firsts groups held parts =
     let rises = firsts_from 1 s.counts.lines s.groups firsts in
     let opened = groups_from kind s.groups groups in
-    record { counted = counts_from s counts; held = held; groups = record { each = opened.0; rise = rises.0; begun = rises.1; apart = opened.1 }; parts = parts }
+    record { window = window; counted = counts_from s counts; held = held; groups = record { each = opened.0; rise = rises.0; begun = rises.1; apart = opened.1 }; parts = parts }
 
 -- ---- the rules judged in turn
-
-hold_counts : (id : List ℕ) (c : Counts) (gs : List Group) → counts_hold (state_of_parts id c gs).counts ≡ counts_hold c
-unfolding counts_hold
-hold_counts id c gs = refl
-
-valid_by : (kind : ℕ → Option Kind) (id : List ℕ) (c : Counts) (gs : List Group) → is_valid kind (state_of_parts id c gs) ≡ ((counts_hold c && firsts_rise 1 c.lines gs) && groups_hold kind gs)
-unfolding is_valid
-valid_by kind id c gs = ap (λ b. b && (firsts_rise 1 c.lines gs && groups_hold kind gs)) (hold_counts id c gs) ∙ assoc (counts_hold c) (firsts_rise 1 c.lines gs) (groups_hold kind gs)
-  where
-    assoc : (a b c : Bool) → (a && (b && c)) ≡ ((a && b) && c)
-    assoc true b c = refl
-    assoc false b c = refl
-
-pub rules_broken : (kind : ℕ → Option Kind) (id : List ℕ) (c : Counts) (gs : List Group) (r : Bool) → r ≡ (counts_hold c && firsts_rise 1 c.lines gs) → r ≡ false
-    → valid_if (is_valid kind (state_of_parts id c gs)) (state_of_parts id c gs) ≡ Err Invalid
-rules_broken kind id c gs r is is_false =
-    ap (λ b. valid_if b (state_of_parts id c gs)) (valid_by kind id c gs ∙ ap (λ b. b && groups_hold kind gs) (sym is ∙ is_false))
-
-pub groups_broken : (kind : ℕ → Option Kind) (id : List ℕ) (c : Counts) (gs : List Group) (r : Bool) (fault : StateFault) → r ≡ (counts_hold c && firsts_rise 1 c.lines gs) → r ≡ true
-    → valid_if (groups_hold kind gs) gs ≡ Err fault → valid_if (is_valid kind (state_of_parts id c gs)) (state_of_parts id c gs) ≡ Err fault
-groups_broken kind id c gs r fault is is_true broken =
-    ap (λ b. valid_if b (state_of_parts id c gs)) (valid_by kind id c gs ∙ ap (λ b. b && groups_hold kind gs) (sym is ∙ is_true)) ∙ by (groups_hold kind gs) broken
-  where
-    by : (b : Bool) → valid_if b gs ≡ Err fault → valid_if b (state_of_parts id c gs) ≡ Err fault
-    by true h = cc
-    by false h = ap (map_fault) h
-      where
-        map_fault : Result (List Group) StateFault → Result State StateFault
-        map_fault (Ok x) = Err Invalid
-        map_fault (Err f) = Err f
 
 holds_from : (b : Bool) (gs stored : List Group) → valid_if b gs ≡ Ok stored → (b ≡ true) × (stored ≡ gs)
 holds_from true gs stored h = (refl, cc)
 holds_from false gs stored h = cc
 
-pub all_hold : (kind : ℕ → Option Kind) (id : List ℕ) (c : Counts) (gs stored : List Group) (held : ℕ) (r : Bool) → r ≡ (counts_hold c && firsts_rise 1 c.lines gs) → r ≡ true
-    → valid_if (groups_hold kind gs) gs ≡ Ok stored → held ≡ length stored
-    → valid_if (is_valid kind (state_of_parts id c gs)) (state_of_parts id c gs) ≡ Ok (record { id = id; counts = record c { held = held }; groups = stored })
-all_hold kind id c gs stored held r is is_true holds len =
-    let got = holds_from (groups_hold kind gs) gs stored holds in
-    ap (λ b. valid_if b (state_of_parts id c gs)) (valid_by kind id c gs ∙ ap (λ b. b && groups_hold kind gs) (sym is ∙ is_true) ∙ got.0)
-    ∙ ap (λ gs. Ok (state_of_parts id c gs)) (sym got.1)
-    ∙ ap (λ n. Ok (record { id = id; counts = record c { held = n }; groups = stored })) (sym len)
+module _ (kind : ℕ → Option Kind) (id : List ℕ) (rule : Rule) (c : Counts) (gs : List Group) (r : Bool) (is : r ≡ numbers_hold c gs) where
+  abbrev spelled : State
+  spelled = state_of_parts id rule c gs
 
-with_held : (c : Counts) (held : ℕ) → counts_hold (record c { held = held }) ≡ counts_hold c
-unfolding counts_hold
-with_held c held = refl
+  valid_by : is_valid kind spelled ≡ (r && groups_hold kind gs)
+  unfolding is_valid
+  valid_by = assoc (counts_hold (record c { held = length gs })) (firsts_rise 1 c.lines gs) (groups_hold kind gs) ∙ ap (λ b. b && groups_hold kind gs) (sym is)
+    where
+      assoc : (a b c : Bool) → (a && (b && c)) ≡ ((a && b) && c)
+      assoc true b c = refl
+      assoc false b c = refl
 
-pub is_state : (kind : ℕ → Option Kind) (id : List ℕ) (c : Counts) (gs stored : List Group) (held : ℕ) (r : Bool) → r ≡ (counts_hold c && firsts_rise 1 c.lines gs) → r ≡ true
-    → valid_if (groups_hold kind gs) gs ≡ Ok stored → held ≡ length stored → AllByRecursion HasParts stored
-    → IsState (record { id = id; counts = record c { held = held }; groups = stored })
-is_state kind id c gs stored held r is is_true holds len parts =
-    let got = holds_from (groups_hold kind gs) gs stored holds in
-    let rules = both (counts_hold c) (firsts_rise 1 c.lines gs) (sym is ∙ is_true) in
-    let s : State = record { id = id; counts = record c { held = held }; groups = stored } in
-    valid_state kind s (with_held c held ∙ rules.0) (ap (firsts_rise 1 c.lines) got.1 ∙ rules.1) (ap (groups_hold kind) got.1 ∙ got.0) len parts
+  pub rules_broken : r ≡ false → valid_if (is_valid kind spelled) spelled ≡ Err Invalid
+  rules_broken is_false = ap (λ b. valid_if b spelled) (valid_by ∙ ap (λ b. b && groups_hold kind gs) is_false)
+
+  valid_groups : r ≡ true → is_valid kind spelled ≡ groups_hold kind gs
+  valid_groups is_true = valid_by ∙ ap (λ b. b && groups_hold kind gs) is_true
+
+  pub groups_broken : (fault : StateFault) → r ≡ true → valid_if (groups_hold kind gs) gs ≡ Err fault → valid_if (is_valid kind spelled) spelled ≡ Err fault
+  groups_broken fault is_true broken = ap (λ b. valid_if b spelled) (valid_groups is_true) ∙ by (groups_hold kind gs) broken
+    where
+      map_fault : Result (List Group) StateFault → Result State StateFault
+      map_fault (Ok x) = Err Invalid
+      map_fault (Err f) = Err f
+
+      by : (b : Bool) → valid_if b gs ≡ Err fault → valid_if b spelled ≡ Err fault
+      by true h = cc
+      by false h = ap map_fault h
+
+  module _ (stored : List Group) (held : ℕ) (is_true : r ≡ true) (holds : valid_if (groups_hold kind gs) gs ≡ Ok stored) (len : held ≡ length stored) where
+    abbrev reached : State
+    reached = record { id = id; rule = rule; counts = record c { held = held }; groups = stored }
+
+    hold : (groups_hold kind gs ≡ true) × (stored ≡ gs)
+    hold = holds_from (groups_hold kind gs) gs stored holds
+
+    same : spelled ≡ reached
+    same = ap (state_of_parts id rule c) (sym hold.1) ∙ ap (λ n. let s : State = record { id = id; rule = rule; counts = record c { held = n }; groups = stored } in s) (sym len)
+
+    pub all_hold : valid_if (is_valid kind spelled) spelled ≡ Ok reached
+    all_hold = ap (λ b. valid_if b spelled) (valid_groups is_true ∙ hold.0) ∙ ap Ok same
+
+    pub is_state : IsWindow rule.window → AllByRecursion HasParts stored → IsState reached
+    is_state window parts =
+        let rules = both (counts_hold (record c { held = length gs })) (firsts_rise 1 c.lines gs) (sym is ∙ is_true) in
+        valid_state kind reached window (ap (λ (s : State). counts_hold s.counts) (sym same) ∙ rules.0) (ap (firsts_rise 1 c.lines) hold.1 ∙ rules.1) (ap (groups_hold kind) hold.1 ∙ hold.0) len parts
 
 -- ---- a valid state meets the rules
 

@@ -1,6 +1,7 @@
 -- The definitions computed on worked examples, each entry being that of its line.
-use Rattle.std.proofs.Common.{◌≡◌, ◌==◌, ◌++◌, ◌∙◌, if◌then◌else◌, ℕ, Bool, true, false, List, [], ◌∷◌, Option, Some, None, refl, sym, ap, arith}
+use Rattle.std.proofs.Common.{◌≡◌, ◌==◌, ◌++◌, ◌∙◌, ◌<◌, if◌then◌else◌, ℕ, zero, suc, Bool, true, false, List, [], ◌∷◌, Option, Some, None, refl, sym, ap, arith}
 use Rattle.std.proofs.lemmas.List.Elements.{All-from_recursion}
+use Rattle.std.proofs.lemmas.Bool.{false≢true}
 use Rattle.n2k_wire.specs.declared.entry.BadCause.TheVariants as causes
 use Rattle.n2k_wire.specs.declared.entry.Entry.{Entry}
 use Rattle.n2k_wire.specs.declared.entry.Entry.TheVariants as entries
@@ -10,17 +11,28 @@ use Rattle.n2k_table.specs.declared.definition.Kind.TheVariants.{Single, Fast}
 use Rattle.n2k_join.specs.declared.counts.Counts.{Counts}
 use Rattle.n2k_join.specs.Frames.{Key, Frame, same_key, fast_frame, frame_with}
 use Rattle.n2k_join.specs.Groups.{complete, cut, data_of}
-use Rattle.n2k_join.specs.Open.{Group, pieces_of, begun_at, open_groups}
+use Rattle.n2k_join.specs.Open.{Group, pieces_of, begun_at, open_groups, waiting, ended}
 use Rattle.n2k_join.specs.Messages.{gathered, broken_with, message, broken, counts}
 use Rattle.n2k_join.specs.Pieces.{piece_bytes, same_stream, Sending}
-use Rattle.n2k_join.specs.Scattered.{IsPieceOf, IsStretchOf, FallInto, IsScattered}
-use Rattle.n2k_join.specs.Arrival.{ComesNext}
+use Rattle.n2k_join.specs.Scattered.{IsPieceOf, IsStretchOf, IsStretchWithin, FallInto, IsScattered}
+use Rattle.n2k_join.specs.Arrival.{ComesNext, LeavesZero}
 use Rattle.n2k_join.specs.State.{State, state, step_given, step_after}
+use Rattle.n2k_join.specs.Window.{Rule}
 use Rattle.n2k_join.proofs.Keys.{same_key-true}
 
 -- 130820 is sent in fast packets, 129026 in single frames, and nothing is known of other PGNs
 kind : ℕ → Option Kind
 kind pgn = if pgn == 130820 then Some Fast else if pgn == 129026 then Some Single else None
+
+-- a window that ends no group of a few lines, the shortest one, and the order of the numbers
+abbrev rule : Rule
+rule = record { window = 10_000; in_order = false }
+
+abbrev shortest : Rule
+shortest = record { window = 32; in_order = false }
+
+abbrev ordered : Rule
+ordered = record { window = 10_000; in_order = true }
 
 -- a packet to all, with a stamp of one byte
 abbrev packet : ℕ → ℕ → ℕ → List ℕ → PacketParts
@@ -41,7 +53,7 @@ abbrev lines_only : ℕ → ℕ → ℕ → ℕ → ℕ → ℕ → Counts
 lines_only l m b u r h = record { lines = l; messages = m; bad = b; unknown = u; broken = r; held = h }
 
 abbrev groups_after : List Entry → List Group
-groups_after es = (state [] kind es).groups
+groups_after es = (state [] rule kind es).groups
 
 -- Two sources in turns: the second completes first, and each message has the stamp of its completing line.
 abbrev two_sources : List Entry
@@ -52,20 +64,20 @@ two_sources =
     ∷ frame 5 4 (0x01 ∷ 0 ∷ 0 ∷ 0 ∷ 0 ∷ 0 ∷ 255 ∷ 255 ∷ [])
     ∷ []
 
-two_sources-third : message kind two_sources 3 ≡ Some (packet 130820 6 3 (0xA3 ∷ 0x99 ∷ 2 ∷ 0x41 ∷ 0x42 ∷ 0x43 ∷ 32 ∷ 32 ∷ 32 ∷ 32 ∷ 32 ∷ []))
+two_sources-third : message rule kind two_sources 3 ≡ Some (packet 130820 6 3 (0xA3 ∷ 0x99 ∷ 2 ∷ 0x41 ∷ 0x42 ∷ 0x43 ∷ 32 ∷ 32 ∷ 32 ∷ 32 ∷ 32 ∷ []))
 unfolding kind fast_frame same_key complete cut data_of gathered
 two_sources-third = refl
 
-two_sources-fourth : message kind two_sources 4 ≡ Some (packet 130820 5 4 (0xA3 ∷ 0x99 ∷ 1 ∷ 0x41 ∷ 0x42 ∷ 0x43 ∷ 0 ∷ 0 ∷ 0 ∷ 0 ∷ 0 ∷ []))
+two_sources-fourth : message rule kind two_sources 4 ≡ Some (packet 130820 5 4 (0xA3 ∷ 0x99 ∷ 1 ∷ 0x41 ∷ 0x42 ∷ 0x43 ∷ 0 ∷ 0 ∷ 0 ∷ 0 ∷ 0 ∷ []))
 unfolding kind fast_frame same_key complete cut data_of gathered
 two_sources-fourth = refl
 
-two_sources-counts : counts kind two_sources ≡ lines_only 4 2 0 0 0 0
-unfolding kind fast_frame same_key complete cut data_of gathered broken_with pieces_of begun_at open_groups
+two_sources-counts : counts rule kind two_sources ≡ lines_only 4 2 0 0 0 0
+unfolding kind fast_frame same_key complete cut data_of gathered broken_with pieces_of begun_at open_groups waiting
 two_sources-counts = refl
 
 -- frames 1 and 0 of a total of 13
-reversed : message kind (frame 5 1 (0x41 ∷ spaces) ∷ frame 5 2 (start 0x40 13 3) ∷ []) 2 ≡ Some (packet 130820 5 2 (0xA3 ∷ 0x99 ∷ 3 ∷ 0x41 ∷ 0x42 ∷ 0x43 ∷ spaces))
+reversed : message rule kind (frame 5 1 (0x41 ∷ spaces) ∷ frame 5 2 (start 0x40 13 3) ∷ []) 2 ≡ Some (packet 130820 5 2 (0xA3 ∷ 0x99 ∷ 3 ∷ 0x41 ∷ 0x42 ∷ 0x43 ∷ spaces))
 unfolding kind fast_frame same_key complete cut data_of gathered
 reversed = refl
 
@@ -79,56 +91,110 @@ repeated =
     ∷ frame 5 5 (0x62 ∷ spaces)
     ∷ []
 
-repeated-broken : broken kind repeated 3 ≡ record { pgn = 130820; src = 5; dst = 255; seq = 3; first = 1 } ∷ []
+repeated-broken : broken rule kind repeated 3 ≡ record { pgn = 130820; src = 5; dst = 255; seq = 3; first = 1 } ∷ []
 unfolding kind fast_frame same_key complete cut broken_with
 repeated-broken = refl
 
-repeated-message : message kind repeated 5 ≡ Some (packet 130820 5 5 ((0xA3 ∷ 0x99 ∷ 4 ∷ 0x41 ∷ 0x42 ∷ 0x43 ∷ []) ++ (spaces ++ spaces)))
+repeated-message : message rule kind repeated 5 ≡ Some (packet 130820 5 5 ((0xA3 ∷ 0x99 ∷ 4 ∷ 0x41 ∷ 0x42 ∷ 0x43 ∷ []) ++ (spaces ++ spaces)))
 unfolding kind fast_frame same_key complete cut data_of gathered
 repeated-message = refl
 
-repeated-counts : counts kind repeated ≡ lines_only 5 1 0 0 1 0
-unfolding kind fast_frame same_key complete cut data_of gathered broken_with pieces_of begun_at open_groups
+repeated-counts : counts rule kind repeated ≡ lines_only 5 1 0 0 1 0
+unfolding kind fast_frame same_key complete cut data_of gathered broken_with pieces_of begun_at open_groups waiting
 repeated-counts = refl
 
 -- Totals of 0, 6, 7, 13 and 14 need 1, 1, 2, 2 and 3 frames. A frame 0 that comes again breaks a group and may be complete alone.
-short_totals : counts kind (frame 1 1 (start 0 0 1) ∷ frame 2 1 (start 0 6 1) ∷ frame 3 1 (start 0 7 1) ∷ frame 3 1 (1 ∷ []) ∷ frame 4 1 (start 0 13 1) ∷ frame 4 1 (1 ∷ []) ∷ frame 5 1 (start 0 14 1) ∷ frame 5 1 (1 ∷ []) ∷ []) ≡ lines_only 8 4 0 0 0 1
-unfolding kind fast_frame same_key complete cut data_of gathered broken_with pieces_of begun_at open_groups
+short_totals : counts rule kind (frame 1 1 (start 0 0 1) ∷ frame 2 1 (start 0 6 1) ∷ frame 3 1 (start 0 7 1) ∷ frame 3 1 (1 ∷ []) ∷ frame 4 1 (start 0 13 1) ∷ frame 4 1 (1 ∷ []) ∷ frame 5 1 (start 0 14 1) ∷ frame 5 1 (1 ∷ []) ∷ []) ≡ lines_only 8 4 0 0 0 1
+unfolding kind fast_frame same_key complete cut data_of gathered broken_with pieces_of begun_at open_groups waiting
 short_totals = refl
 
-empty_total : message kind (frame 5 1 (0 ∷ 0 ∷ []) ∷ []) 1 ≡ Some (packet 130820 5 1 [])
+empty_total : message rule kind (frame 5 1 (0 ∷ 0 ∷ []) ∷ []) 1 ≡ Some (packet 130820 5 1 [])
 unfolding kind fast_frame same_key complete cut data_of gathered
 empty_total = refl
 
-again : counts kind (frame 5 1 (start 0 11 1) ∷ frame 5 2 (start 0 6 1) ∷ []) ≡ lines_only 2 1 0 0 1 0
-unfolding kind fast_frame same_key complete cut data_of gathered broken_with pieces_of begun_at open_groups
+again : counts rule kind (frame 5 1 (start 0 11 1) ∷ frame 5 2 (start 0 6 1) ∷ []) ≡ lines_only 2 1 0 0 1 0
+unfolding kind fast_frame same_key complete cut data_of gathered broken_with pieces_of begun_at open_groups waiting
 again = refl
 
 -- Frame 3 of a total of 13 keeps a group open though 0 and 1 are there.
 abbrev extra_frame : List Entry
 extra_frame = frame 5 1 (start 0x80 13 6) ∷ frame 5 2 (0x83 ∷ spaces) ∷ frame 5 3 (0x81 ∷ spaces) ∷ frame 5 4 (start 0x80 13 6) ∷ []
 
-extra_frame-counts : counts kind extra_frame ≡ lines_only 4 0 0 0 1 1
-unfolding kind fast_frame same_key complete cut data_of gathered broken_with pieces_of begun_at open_groups
+extra_frame-counts : counts rule kind extra_frame ≡ lines_only 4 0 0 0 1 1
+unfolding kind fast_frame same_key complete cut data_of gathered broken_with pieces_of begun_at open_groups waiting
 extra_frame-counts = refl
 
 extra_frame-open : groups_after extra_frame ≡ record { first = 4; key = record { src = 5; dst = 255; pgn = 130820; sequence = 4 }; pieces = record { number = 0; bytes = 13 ∷ 0xA3 ∷ 0x99 ∷ 6 ∷ 0x41 ∷ 0x42 ∷ 0x43 ∷ [] } ∷ [] } ∷ []
-unfolding kind fast_frame same_key complete cut pieces_of begun_at open_groups
+unfolding kind fast_frame same_key complete cut pieces_of begun_at open_groups waiting
 extra_frame-open = refl
 
 -- A new sequence ends no older group: eight messages of one stream may be under way.
-eight_under_way : counts kind (frame 5 1 (start 0x00 11 1) ∷ frame 5 2 (start 0x20 11 2) ∷ frame 5 3 (start 0x40 11 3) ∷ frame 5 4 (start 0x60 11 4) ∷ frame 5 5 (start 0x80 11 5) ∷ frame 5 6 (start 0xA0 11 6) ∷ frame 5 7 (start 0xC0 11 7) ∷ frame 5 8 (start 0xE0 11 8) ∷ []) ≡ lines_only 8 0 0 0 0 8
-unfolding kind fast_frame same_key complete cut data_of gathered broken_with pieces_of begun_at open_groups
+eight_under_way : counts rule kind (frame 5 1 (start 0x00 11 1) ∷ frame 5 2 (start 0x20 11 2) ∷ frame 5 3 (start 0x40 11 3) ∷ frame 5 4 (start 0x60 11 4) ∷ frame 5 5 (start 0x80 11 5) ∷ frame 5 6 (start 0xA0 11 6) ∷ frame 5 7 (start 0xC0 11 7) ∷ frame 5 8 (start 0xE0 11 8) ∷ []) ≡ lines_only 8 0 0 0 0 8
+unfolding kind fast_frame same_key complete cut data_of gathered broken_with pieces_of begun_at open_groups waiting
 eight_under_way = refl
 
 -- A stale frame 1 is taken for one of a later message; a short last frame is filled.
-mixed : message kind (frame 5 1 (0x01 ∷ spaces) ∷ frame 5 9 (start 0x00 13 3) ∷ []) 2 ≡ Some (packet 130820 5 9 (0xA3 ∷ 0x99 ∷ 3 ∷ 0x41 ∷ 0x42 ∷ 0x43 ∷ spaces))
+mixed : message rule kind (frame 5 1 (0x01 ∷ spaces) ∷ frame 5 9 (start 0x00 13 3) ∷ []) 2 ≡ Some (packet 130820 5 9 (0xA3 ∷ 0x99 ∷ 3 ∷ 0x41 ∷ 0x42 ∷ 0x43 ∷ spaces))
 unfolding kind fast_frame same_key complete cut data_of gathered
 mixed = refl
 
-filled : message kind (frame 5 1 (start 0x00 8 3) ∷ frame 5 2 (0x01 ∷ 7 ∷ []) ∷ []) 2 ≡ Some (packet 130820 5 2 (0xA3 ∷ 0x99 ∷ 3 ∷ 0x41 ∷ 0x42 ∷ 0x43 ∷ 7 ∷ 255 ∷ []))
+filled : message rule kind (frame 5 1 (start 0x00 8 3) ∷ frame 5 2 (0x01 ∷ 7 ∷ []) ∷ []) 2 ≡ Some (packet 130820 5 2 (0xA3 ∷ 0x99 ∷ 3 ∷ 0x41 ∷ 0x42 ∷ 0x43 ∷ 7 ∷ 255 ∷ []))
 unfolding kind fast_frame same_key complete cut data_of gathered
 filled = refl
+
+-- so many empty lines before others
+skips : ℕ → List Entry → List Entry
+skips zero es = es
+skips (suc n) es = entries.Skip ∷ skips n es
+
+-- The window of 32 lines of a group that began at line 1 ends at line 33, though the frame of that line would complete it.
+abbrev stale : ℕ → List Entry
+stale between = frame 5 1 (0x01 ∷ spaces) ∷ skips between (frame 5 9 (start 0x00 13 3) ∷ [])
+
+stale-broken : broken shortest kind (stale 31) 33 ≡ record { pgn = 130820; src = 5; dst = 255; seq = 0; first = 1 } ∷ []
+unfolding kind skips fast_frame same_key complete cut broken_with
+stale-broken = refl
+
+stale-counts : counts shortest kind (stale 31) ≡ lines_only 33 0 0 0 1 1
+unfolding kind skips fast_frame same_key complete cut data_of gathered broken_with pieces_of begun_at open_groups waiting
+stale-counts = refl
+
+in_time-counts : counts shortest kind (stale 30) ≡ lines_only 32 1 0 0 0 0
+unfolding kind skips fast_frame same_key complete cut data_of gathered broken_with pieces_of begun_at open_groups waiting
+in_time-counts = refl
+
+-- Two groups are broken at one line: the window of the first ends, and the second has the frame's number.
+abbrev two_at_once : List Entry
+two_at_once = frame 5 1 (start 0x00 11 1) ∷ frame 6 2 (start 0x20 11 2) ∷ skips 30 (frame 6 2 (start 0x20 11 2) ∷ [])
+
+two_at_once-broken : broken shortest kind two_at_once 33 ≡ record { pgn = 130820; src = 5; dst = 255; seq = 0; first = 1 } ∷ record { pgn = 130820; src = 6; dst = 255; seq = 1; first = 2 } ∷ []
+unfolding kind skips fast_frame same_key complete cut broken_with
+two_at_once-broken = refl
+
+two_at_once-counts : counts shortest kind two_at_once ≡ lines_only 33 0 0 0 2 1
+unfolding kind skips fast_frame same_key complete cut data_of gathered broken_with pieces_of begun_at open_groups waiting
+two_at_once-counts = refl
+
+-- Frame 0 of a message was lost, and the next of its key comes whole. In order it is given, and what was left is broken;
+-- else it takes in what was left, and leaves as much.
+abbrev first_lost : List Entry
+first_lost = frame 5 1 (0x01 ∷ 255 ∷ []) ∷ frame 5 2 (start 0x00 13 3) ∷ frame 5 3 (0x01 ∷ spaces) ∷ []
+
+first_lost-message : message ordered kind first_lost 3 ≡ Some (packet 130820 5 3 (0xA3 ∷ 0x99 ∷ 3 ∷ 0x41 ∷ 0x42 ∷ 0x43 ∷ spaces))
+unfolding kind fast_frame same_key complete cut data_of gathered
+first_lost-message = refl
+
+first_lost-broken : broken ordered kind first_lost 2 ≡ record { pgn = 130820; src = 5; dst = 255; seq = 0; first = 1 } ∷ []
+unfolding kind fast_frame same_key complete cut broken_with
+first_lost-broken = refl
+
+first_lost-counts : counts ordered kind first_lost ≡ lines_only 3 1 0 0 1 0
+unfolding kind fast_frame same_key complete cut data_of gathered broken_with pieces_of begun_at open_groups waiting
+first_lost-counts = refl
+
+first_lost-mixed : counts rule kind first_lost ≡ lines_only 3 1 0 0 0 1
+unfolding kind fast_frame same_key complete cut data_of gathered broken_with pieces_of begun_at open_groups waiting
+first_lost-mixed = refl
 
 -- Bad lines between the frames of a message: no byte, a frame 0 of one byte, a total of 224, a line that can't be read.
 -- An unknown PGN is counted, a single frame is a message, and a whole message leaves groups alone.
@@ -147,11 +213,11 @@ other_lines =
     ∷ frame 5 11 (0x01 ∷ 0 ∷ 0 ∷ 0 ∷ 0 ∷ 0 ∷ [])
     ∷ []
 
-other_lines-counts : counts kind other_lines ≡ lines_only 11 3 4 2 0 0
-unfolding kind fast_frame same_key complete cut data_of gathered broken_with pieces_of begun_at open_groups
+other_lines-counts : counts rule kind other_lines ≡ lines_only 11 3 4 2 0 0
+unfolding kind fast_frame same_key complete cut data_of gathered broken_with pieces_of begun_at open_groups waiting
 other_lines-counts = refl
 
-other_lines-whole : message kind other_lines 9 ≡ Some (packet 130820 5 9 (7 ∷ 0x98 ∷ []))
+other_lines-whole : message rule kind other_lines 9 ≡ Some (packet 130820 5 9 (7 ∷ 0x98 ∷ []))
 unfolding kind fast_frame same_key complete cut data_of gathered
 other_lines-whole = refl
 
@@ -162,28 +228,30 @@ other_lines-whole = refl
 abbrev resumed : State
 resumed = record {
   id = [];
+  rule = rule;
   counts = lines_only 2 0 0 0 0 1;
   groups = record { first = 2; key = record { src = 5; dst = 255; pgn = 130820; sequence = 0 }; pieces = record { number = 0; bytes = 6 ∷ 1 ∷ 2 ∷ 3 ∷ 4 ∷ 5 ∷ 6 ∷ [] } ∷ record { number = 3; bytes = spaces } ∷ [] } ∷ [];
 }
 
 resumed-waits : step_given kind resumed (frame 5 3 (0x01 ∷ spaces)) ≡ record { message = None; cause = None; broken = [] }
-unfolding kind fast_frame same_key complete cut data_of gathered broken_with step_given
+unfolding kind fast_frame same_key complete cut data_of gathered broken_with waiting ended step_given
 resumed-waits = refl
 
 resumed-joined : step_after kind resumed (frame 5 3 (0x01 ∷ spaces)) ≡ record {
   id = [];
+  rule = rule;
   counts = lines_only 3 0 0 0 0 1;
   groups = record { first = 2; key = record { src = 5; dst = 255; pgn = 130820; sequence = 0 }; pieces = record { number = 0; bytes = 6 ∷ 1 ∷ 2 ∷ 3 ∷ 4 ∷ 5 ∷ 6 ∷ [] } ∷ record { number = 1; bytes = spaces } ∷ record { number = 3; bytes = spaces } ∷ [] } ∷ [];
 }
-unfolding kind fast_frame same_key complete cut data_of gathered broken_with pieces_of begun_at open_groups step_given step_after
+unfolding kind fast_frame same_key complete cut data_of gathered broken_with pieces_of begun_at open_groups waiting ended step_given step_after
 resumed-joined = refl
 
 resumed-broken : step_given kind resumed (frame 5 3 (0x03 ∷ spaces)) ≡ record { message = None; cause = None; broken = record { pgn = 130820; src = 5; dst = 255; seq = 0; first = 2 } ∷ [] }
-unfolding kind fast_frame same_key complete cut data_of gathered broken_with step_given
+unfolding kind fast_frame same_key complete cut data_of gathered broken_with waiting ended step_given
 resumed-broken = refl
 
 resumed-again : step_given kind resumed (frame 5 3 (0x00 ∷ 6 ∷ 11 ∷ 12 ∷ 13 ∷ 14 ∷ 15 ∷ 16 ∷ [])) ≡ record { message = Some (packet 130820 5 3 (11 ∷ 12 ∷ 13 ∷ 14 ∷ 15 ∷ 16 ∷ [])); cause = None; broken = record { pgn = 130820; src = 5; dst = 255; seq = 0; first = 2 } ∷ [] }
-unfolding kind fast_frame same_key complete cut data_of gathered broken_with step_given
+unfolding kind fast_frame same_key complete cut data_of gathered broken_with waiting ended step_given
 resumed-again = refl
 
 -- ---- what the laws of arrival ask for
@@ -217,14 +285,18 @@ sent_second = record { sequence = 0; message = eleven 2 zeros }
 abbrev whole_frames : List Frame
 whole_frames = frame_on 2 2 0x00 (11 ∷ 0xA3 ∷ 0x99 ∷ 2 ∷ 0x41 ∷ 0x42 ∷ 0x43 ∷ []) ∷ frame_on 4 2 0x01 (filled_end zeros) ∷ []
 
-comes_next : ComesNext kind lost then_whole sent_second whole_frames []
+comes_next : ComesNext rule kind lost then_whole sent_second whole_frames []
 unfolding kind fast_frame same_key complete cut piece_bytes
 comes_next = record {
   next = refl;
   each = All-from_recursion (IsPieceOf sent_second) whole_frames (record { in_range = omega arith; is_piece = refl }, (record { in_range = omega arith; is_piece = refl }, tt));
   rising = refl;
-  left_open = refl;
+  in_time = All-from_recursion (λ (f : Frame). f.line < 10_002) whole_frames (omega arith, (omega arith, tt));
 }
+
+leaves_zero : LeavesZero rule kind lost sent_second
+unfolding kind fast_frame same_key complete cut
+leaves_zero = λ _. refl
 
 -- Two messages of one stream, under way at once, the frames of each by falling number, and other lines between.
 abbrev two_messages : List PacketParts
@@ -285,11 +357,17 @@ stretch_1 = record {
   whole = refl;
 }
 
+within_0 : IsStretchWithin rule sent_0 frames_0
+within_0 = record { stretch = stretch_0; in_time = All-from_recursion (λ (f : Frame). f.line < 10_002) frames_0 (omega arith, (omega arith, tt)); ordered = λ e. absurd (false≢true e) }
+
+within_1 : IsStretchWithin rule sent_1 frames_1
+within_1 = record { stretch = stretch_1; in_time = All-from_recursion (λ (f : Frame). f.line < 10_001) frames_1 (omega arith, (omega arith, tt)); ordered = λ e. absurd (false≢true e) }
+
 -- a value, where it is kept
 abbrev kept : {A : Type 0} → Bool → A → List A → List A
 kept b x xs = if b then x ∷ xs else xs
 
-interleaved-scattered : IsScattered kind two_messages interleaved
+interleaved-scattered : IsScattered rule kind two_messages interleaved
 unfolding kind fast_frame same_stream
 interleaved-scattered = record {
   fast = All-from_recursion (λ (m : PacketParts). kind m.id.pgn ≡ Some Fast) two_messages (refl, (refl, tt));
@@ -297,8 +375,8 @@ interleaved-scattered = record {
 }
   where
     by : (key : Key) (b c : Bool) → same_key key key_0 ≡ b → same_key key key_1 ≡ c
-        → FallInto (kept b sent_0 (kept c sent_1 [])) (kept c second_1 (kept b second_0 (kept b first_0 (kept c first_1 []))))
+        → FallInto rule (kept b sent_0 (kept c sent_1 [])) (kept c second_1 (kept b second_0 (kept b first_0 (kept c first_1 []))))
     by key true true e f = absurd (let same : key_0 ≡ key_1 = sym (same_key-true key key_0 e) ∙ same_key-true key key_1 f in let one : 0 ≡ 1 = ap (λ (k : Key). k.sequence) same in omega (arith, one))
-    by key true false e f = record { stretches = frames_0 ∷ []; one_behind_the_other = refl; each = (stretch_0, tt) }
-    by key false true e f = record { stretches = frames_1 ∷ []; one_behind_the_other = refl; each = (stretch_1, tt) }
+    by key true false e f = record { stretches = frames_0 ∷ []; one_behind_the_other = refl; each = (within_0, tt) }
+    by key false true e f = record { stretches = frames_1 ∷ []; one_behind_the_other = refl; each = (within_1, tt) }
     by key false false e f = record { stretches = []; one_behind_the_other = refl; each = tt }

@@ -3,7 +3,8 @@ use Rattle.std.proofs.Common.{◌≡◌, ℕ, zero, suc, ◌+◌, ◌*◌, ◌%�
 use Rattle.std.specs.Prelude.{flat_map, filter, slice_index, slice_index_or}
 use Rattle.std.specs.List.{AllByRecursion, All, range_with_len, cons_option}
 use Rattle.std.proofs.lemmas.Bool.{le-leb, or_left, or_right, ne_eqb, cases_eq}
-use Rattle.std.proofs.lemmas.List.{map-append}
+use Rattle.std.proofs.lemmas.List.{map-append, length-map}
+use Rattle.std.proofs.lemmas.List.FromFn.{length-map-range_with_len}
 use Rattle.std.proofs.lemmas.List.Elements.{recursion_from_All, All-from_recursion}
 use Rattle.n2k_wire.specs.declared.entry.Entry.{Entry}
 use Rattle.n2k_wire.specs.declared.entry.Entry.TheVariants as entries
@@ -14,11 +15,16 @@ use Rattle.n2k_table.specs.declared.definition.Kind.TheVariants.{Fast}
 use Rattle.n2k_join.specs.Frames.{Key, same_key, Frame, has_total, is_fast_payload, fast_frame, frame_by, frame_in, frames_from, of_key, longest_total}
 use Rattle.n2k_join.specs.Messages.{single_by, alone}
 use Rattle.n2k_join.specs.Pieces.{sent_byte, piece_bytes, piece, last_piece, pieces_as, Sending, sendings, sendings_after, frames_of_sending, written}
-use Rattle.n2k_join.specs.Scattered.{key_of_sending, IsPieceOf, IsStretchOf, FallInto, IsScattered, as_entries, WrittenLog}
+use Rattle.n2k_join.specs.Scattered.{key_of_sending, IsPieceOf, IsStretchOf, IsStretchWithin, FallInto, IsScattered, as_entries, WrittenLog}
 use Rattle.n2k_join.proofs.Keys.{of_key-append, of_key-all, of_key-none}
 use Rattle.n2k_join.proofs.Rising.{all-map, all-append}
 use Rattle.n2k_join.proofs.PieceFrames.{given_frame, piece_says}
+use Rattle.n2k_join.specs.Groups.{first}
+use Rattle.n2k_join.proofs.GroupLines.{IsGroup, first_above}
+use Rattle.n2k_join.proofs.Lines.{frames-rise, rise-all}
+use Rattle.n2k_join.proofs.Logs.{frames-below, frames_from-append}
 use Rattle.n2k_join.proofs.Healing.{rising-apart, rising-length}
+use Rattle.n2k_join.specs.Window.{Rule}
 
 -- a sending of a fast PGN, whose data a fast packet can hold
 pub record CanSend (kind : ℕ → Option Kind) (x : Sending) : Type 0 where
@@ -78,17 +84,6 @@ unfolding frames_at pieces_as
 sending_stretch kind line x can =
     subst (λ k. ComeInOrder x 0 (last_piece x.message + 1) (frames_from kind line (as_entries (pieces_as k x.message x.sequence)))) (sym can.fast) (come_in_order kind x can line 0 (last_piece x.message + 1) (omega arith))
 
-frames_from-append : (kind : ℕ → Option Kind) (line : ℕ) (es fs : List Entry) → frames_from kind line (es ++ fs) ≡ frames_from kind line es ++ frames_from kind (line + length es) fs
-frames_from-append kind line [] fs = let e : line ≡ line + 0 = omega arith in ap (λ n. frames_from kind n fs) e
-frames_from-append kind line (e ∷ es) fs =
-    let same : (line + 1) + length es ≡ line + suc (length es) = omega arith in
-    ap (cons_option (frame_in kind line e)) (frames_from-append kind (line + 1) es fs ∙ ap (λ n. frames_from kind (line + 1) es ++ frames_from kind n fs) same)
-    ∙ cons-append (frame_in kind line e)
-  where
-    cons-append : (o : Option Frame) → cons_option o (frames_from kind (line + 1) es ++ frames_from kind (line + suc (length es)) fs) ≡ cons_option o (frames_from kind (line + 1) es) ++ frames_from kind (line + suc (length es)) fs
-    cons-append None = refl
-    cons-append (Some f) = refl
-
 -- of the frames of a sending all have its key
 own_key : (kind : ℕ → Option Kind) (line : ℕ) (x : Sending) → CanSend kind x → (k : Key) (b : Bool) → same_key k (key_of_sending x) ≡ b → AllByRecursion (λ (f : Frame). same_key k f.key ≡ b) (frames_at kind line x)
 own_key kind line x can k b e = all-map (IsPieceOf x) (λ (f : Frame). same_key k f.key ≡ b) (frames_at kind line x) (λ f is. ap (same_key k) (piece_says x f is).key ∙ e) (sending_stretch kind line x can).each
@@ -97,24 +92,39 @@ own_key kind line x can k b e = all-map (IsPieceOf x) (λ (f : Frame). same_key 
 sent_frames : (ℕ → Option Kind) → ℕ → List Sending → List Frame
 sent_frames kind line xs = frames_from kind line (as_entries (flat_map (frames_of_sending kind) xs))
 
-one_more : (k : Key) (x : Sending) (xs : List Sending) (g fs : List Frame) → IsStretchOf x g → FallInto xs fs → FallInto (x ∷ xs) (g ++ fs)
-one_more k x xs g fs is falls = record {
+-- The frames of a sending stand at lines one behind the other, and there are 32 at most: so the shortest window holds them.
+short : (kind : ℕ → Option Kind) (x : Sending) → CanSend kind x → length (as_entries (frames_of_sending kind x)) ≤ 32
+unfolding pieces_as
+short kind x can =
+    let count : length (as_entries (frames_of_sending kind x)) ≡ last_piece x.message + 1 =
+    length-map (frames_of_sending kind x) (λ p. entries.Frame p) ∙ ap (λ k. length (pieces_as k x.message x.sequence)) can.fast ∙ length-map-range_with_len (piece x.message x.sequence) 0 (last_piece x.message + 1) in
+    omega (arith, count, can.fits)
+
+in_time : (kind : ℕ → Option Kind) (w : Rule) (line : ℕ) (x : Sending) → 32 ≤ w.window → CanSend kind x → IsGroup (frames_at kind line x) → AllByRecursion (λ (f : Frame). f.line < first (frames_at kind line x) + w.window) (frames_at kind line x)
+unfolding frames_at
+in_time kind w line x long can some =
+    let es = as_entries (frames_of_sending kind x) in
+    let from : line ≤ first (frames_from kind line es) = first_above line (frames_from kind line es) some (rise-all line (frames_from kind line es) (frames-rise kind line es)) in
+    all-map (λ (f : Frame). f.line < line + length es) (λ (f : Frame). f.line < first (frames_from kind line es) + w.window) (frames_from kind line es) (λ f l. omega (arith, l, from, short kind x can, long)) (frames-below kind line es)
+
+one_more : (w : Rule) (k : Key) (x : Sending) (xs : List Sending) (g fs : List Frame) → IsStretchWithin w x g → FallInto w xs fs → FallInto w (x ∷ xs) (g ++ fs)
+one_more w k x xs g fs is falls = record {
   stretches = g ∷ falls.stretches;
   one_behind_the_other = ap (λ l. g ++ l) falls.one_behind_the_other;
   each = (is, falls.each);
 }
 
-fall : (kind : ℕ → Option Kind) (k : Key) (line : ℕ) (xs : List Sending) → AllByRecursion (CanSend kind) xs → FallInto (filter (λ (x : Sending). same_key k (key_of_sending x)) xs) (of_key k (sent_frames kind line xs))
+fall : (w : Rule) → 32 ≤ w.window → (kind : ℕ → Option Kind) (k : Key) (line : ℕ) (xs : List Sending) → AllByRecursion (CanSend kind) xs → FallInto w (filter (λ (x : Sending). same_key k (key_of_sending x)) xs) (of_key k (sent_frames kind line xs))
 unfolding sent_frames frames_at
-fall kind k line [] can = record { stretches = []; one_behind_the_other = refl; each = tt }
-fall kind k line (x ∷ xs) can =
+fall w long kind k line [] can = record { stretches = []; one_behind_the_other = refl; each = tt }
+fall w long kind k line (x ∷ xs) can =
     let mine = as_entries (frames_of_sending kind x) in
     let others = as_entries (flat_map (frames_of_sending kind) xs) in
     let parts : of_key k (sent_frames kind line (x ∷ xs)) ≡ of_key k (frames_at kind line x) ++ of_key k (sent_frames kind (line + length mine) xs) =
     ap (λ es. of_key k (frames_from kind line es)) (map-append (λ p. entries.Frame p) (frames_of_sending kind x) (flat_map (frames_of_sending kind) xs))
     ∙ (ap (of_key k) (frames_from-append kind line mine others)
     ∙ of_key-append k (frames_at kind line x) (sent_frames kind (line + length mine) xs)) in
-    subst (FallInto (filter (λ (y : Sending). same_key k (key_of_sending y)) (x ∷ xs))) (sym parts) (by_key (same_key k (key_of_sending x)) refl (fall kind k (line + length mine) xs can.1))
+    subst (FallInto w (filter (λ (y : Sending). same_key k (key_of_sending y)) (x ∷ xs))) (sym parts) (by_key (same_key k (key_of_sending x)) refl (fall w long kind k (line + length mine) xs can.1))
   where
     in_order : ComeInOrder x 0 (last_piece x.message + 1) (frames_at kind line x)
     in_order = sending_stretch kind line x can.0
@@ -125,9 +135,12 @@ fall kind k line (x ∷ xs) can =
       whole = rising-length 0 _ (frames_at kind line x) in_order.rising;
     }
 
-    by_key : (b : Bool) → same_key k (key_of_sending x) ≡ b → FallInto (filter (λ (y : Sending). same_key k (key_of_sending y)) xs) (of_key k (sent_frames kind (line + length (as_entries (frames_of_sending kind x))) xs))
-        → FallInto (cond b (x ∷ filter (λ (y : Sending). same_key k (key_of_sending y)) xs) (filter (λ (y : Sending). same_key k (key_of_sending y)) xs)) (of_key k (frames_at kind line x) ++ of_key k (sent_frames kind (line + length (as_entries (frames_of_sending kind x))) xs))
-    by_key true e falls = rw (of_key-all k (frames_at kind line x) (own_key kind line x can.0 k true e)) (one_more k x _ (frames_at kind line x) _ stretch falls)
+    some : IsGroup (frames_at kind line x)
+    some = omega (arith, stretch.whole)
+
+    by_key : (b : Bool) → same_key k (key_of_sending x) ≡ b → FallInto w (filter (λ (y : Sending). same_key k (key_of_sending y)) xs) (of_key k (sent_frames kind (line + length (as_entries (frames_of_sending kind x))) xs))
+        → FallInto w (cond b (x ∷ filter (λ (y : Sending). same_key k (key_of_sending y)) xs) (filter (λ (y : Sending). same_key k (key_of_sending y)) xs)) (of_key k (frames_at kind line x) ++ of_key k (sent_frames kind (line + length (as_entries (frames_of_sending kind x))) xs))
+    by_key true e falls = rw (of_key-all k (frames_at kind line x) (own_key kind line x can.0 k true e)) (one_more w k x _ (frames_at kind line x) _ (record { stretch = stretch; in_time = All-from_recursion (λ (f : Frame). f.line < first (frames_at kind line x) + w.window) (frames_at kind line x) (in_time kind w line x long can.0 some); ordered = λ _. in_order.rising }) falls)
     by_key false e falls = rw (of_key-none k (frames_at kind line x) (own_key kind line x can.0 k false e)) falls
 
 -- each message of a fast PGN can be sent, under any sequence
@@ -135,11 +148,11 @@ can_send : (kind : ℕ → Option Kind) (earlier ms : List PacketParts) → AllB
 can_send kind earlier [] fast are = tt
 can_send kind earlier (m ∷ ms) fast are = (record { fast = fast.0; fits = are.0.packet_ok.payload_ok }, can_send kind (earlier ++ m ∷ []) ms fast.1 are.1)
 
-pub written_scattered : (kind : ℕ → Option Kind) (ms : List PacketParts) → All IsPacketParts ms → All (λ (m : PacketParts). kind m.id.pgn ≡ Some Fast) ms → IsScattered kind ms (as_entries (written kind ms))
+pub written_scattered : (w : Rule) → 32 ≤ w.window → (kind : ℕ → Option Kind) (ms : List PacketParts) → All IsPacketParts ms → All (λ (m : PacketParts). kind m.id.pgn ≡ Some Fast) ms → IsScattered w kind ms (as_entries (written kind ms))
 unfolding sent_frames
-written_scattered kind ms are fast = record {
+written_scattered w long kind ms are fast = record {
   fast = fast;
-  falls = λ k. fall kind k 1 (sendings ms) (can_send kind [] ms (recursion_from_All _ ms fast) (recursion_from_All _ ms are));
+  falls = λ k. fall w long kind k 1 (sendings ms) (can_send kind [] ms (recursion_from_All _ ms fast) (recursion_from_All _ ms are));
 }
 
 -- a sending that a packet of the program and a sequence make
@@ -218,11 +231,11 @@ are_sendings kind earlier (m ∷ ms) fast are = (record { fast = fast.0; packet 
 pub written_entries : (kind : ℕ → Option Kind) (ms : List PacketParts) → All IsPacketParts ms → All (λ (m : PacketParts). kind m.id.pgn ≡ Some Fast) ms → AllByRecursion (IsPieceEntry kind) (as_entries (written kind ms))
 written_entries kind ms are fast = all_entries kind (sendings ms) (are_sendings kind [] ms (recursion_from_All _ ms fast) (recursion_from_All _ ms are))
 
-pub written_log : (kind : ℕ → Option Kind) (ms : List PacketParts) → All IsPacketParts ms → All (λ (m : PacketParts). kind m.id.pgn ≡ Some Fast) ms → WrittenLog kind ms
-written_log kind ms are fast =
+pub written_log : (w : Rule) → 32 ≤ w.window → (kind : ℕ → Option Kind) (ms : List PacketParts) → All IsPacketParts ms → All (λ (m : PacketParts). kind m.id.pgn ≡ Some Fast) ms → WrittenLog w kind ms
+written_log w long kind ms are fast =
     let entries = written_entries kind ms are fast in
     record {
       entries = All-from_recursion IsEntry (as_entries (written kind ms)) (all-map (IsPieceEntry kind) IsEntry _ (λ e is. is.entry) entries);
       mute = All-from_recursion (λ (e : Entry). alone kind e ≡ None) (as_entries (written kind ms)) (all-map (IsPieceEntry kind) _ _ (λ e is. is.mute) entries);
-      scattered = written_scattered kind ms are fast;
+      scattered = written_scattered w long kind ms are fast;
     }

@@ -1,15 +1,16 @@
 -- What becomes of messages whose frames are scattered over a log.
-use Rattle.std.specs.Prelude.{◌≡◌, ℕ, ◌+◌, ◌<◌, true, false, List, [], ◌++◌, map, length, Option, Some, IfSome, option_to_list}
+use Rattle.std.specs.Prelude.{◌≡◌, ℕ, ◌+◌, ◌<◌, min, true, false, List, [], ◌++◌, map, length, Option, Some, IfSome, Contains}
 use Rattle.std.specs.List.{All, AllZip, range_with_len}
 use Rattle.n2k_wire.specs.declared.entry.Entry.{Entry}
 use Rattle.n2k_wire.specs.Packet.{PacketParts}
 use Rattle.n2k_table.specs.declared.definition.Kind.{Kind}
 use Rattle.n2k_join.specs.Frames.{Key, Frame, frames, of_key}
-use Rattle.n2k_join.specs.Groups.{has_number, repeats, complete, cut, first, last_line, open_of, data_of}
+use Rattle.n2k_join.specs.Groups.{has_number, within, complete, cut, first, last_line, open_of, data_of}
 use Rattle.n2k_join.specs.Messages.{message, broken_of, broken}
-use Rattle.n2k_join.specs.Open.{open_groups}
+use Rattle.n2k_join.specs.Open.{open_within}
 use Rattle.n2k_join.specs.Pieces.{last_piece, Sending}
 use Rattle.n2k_join.specs.Scattered.{key_of_sending, IsPieceOf, ArePieces, IsStretchOf, sendings_of}
+use Rattle.n2k_join.specs.Window.{Rule}
 
 -- The pieces of a sending make one group, in whatever order they come: all of them are complete and carry the message's
 -- data, and fewer of them are not complete.
@@ -20,30 +21,33 @@ pub record PiecesJoin (x : Sending) : Type 0 where
 
 -- The group brings the message: its frames are the message's pieces, all of them; it is complete and has the message's
 -- data; and the line of its last frame gives the message, stamp, identifier and data.
-pub record Brings (kind : ℕ → Option Kind) (es : List Entry) (x : Sending) (group : List Frame) : Type 0 where
+pub record Brings (rule : Rule) (kind : ℕ → Option Kind) (es : List Entry) (x : Sending) (group : List Frame) : Type 0 where
   pub stretch : IsStretchOf x group
   pub whole : complete group ≡ true
   pub carries : data_of group ≡ x.message.payload
-  pub given : message kind es (last_line group) ≡ Some x.message
+  pub given : message rule kind es (last_line group) ≡ Some x.message
 
 -- Each message arrives whole: the groups of a key bring that key's messages, one each and in their order; and no group is
 -- broken at any line, and none stays open.
-pub record ArriveWhole (kind : ℕ → Option Kind) (ms : List PacketParts) (es : List Entry) : Type 0 where
-  pub brought : (key : Key) → AllZip (Brings kind es) (sendings_of key ms) (cut repeats (of_key key (frames kind es)))
-  pub none_broken : (line : ℕ) → broken kind es line ≡ []
-  pub none_open : open_groups repeats (length es) (frames kind es) ≡ []
+pub record ArriveWhole (rule : Rule) (kind : ℕ → Option Kind) (ms : List PacketParts) (es : List Entry) : Type 0 where
+  pub brought : (key : Key) → AllZip (Brings rule kind es) (sendings_of key ms) (cut (within rule) (of_key key (frames kind es)))
+  pub none_broken : (line : ℕ) → broken rule kind es line ≡ []
+  pub none_open : open_within rule (length es) (frames kind es) ≡ []
 
 -- After the entries `front` of a log, in the rest of it, `back`, the next frames of a sending's key are its pieces, by
--- rising number: `group`. The key's frames that come later are `after`. What the front leaves open under that key, if
--- anything, has frame 0.
-pub record ComesNext (kind : ℕ → Option Kind) (front back : List Entry) (x : Sending) (group after : List Frame) : Type 0 where
+-- rising number: `group`, within the window. The key's frames that come later are `after`.
+pub record ComesNext (rule : Rule) (kind : ℕ → Option Kind) (front back : List Entry) (x : Sending) (group after : List Frame) : Type 0 where
   pub next : of_key (key_of_sending x) (frames kind (front ++ back)) ≡ of_key (key_of_sending x) (frames kind front) ++ (group ++ after)
   pub each : All (IsPieceOf x) group
   pub rising : map (λ (f : Frame). f.number) group ≡ range_with_len 0 (last_piece x.message + 1)
-  pub left_open : IfSome (open_of repeats (key_of_sending x) (frames kind front)) (λ open_group. has_number 0 open_group ≡ true)
+  pub in_time : All (λ (f : Frame). f.line < first group + rule.window) group
 
--- The key heals: the message is given at the line of its last piece, and what was left open, if anything, is broken at
--- the line of its first.
-pub record Heals (kind : ℕ → Option Kind) (front back : List Entry) (x : Sending) (group : List Frame) : Type 0 where
-  pub given : message kind (front ++ back) (last_line group) ≡ Some x.message
-  pub breaks : broken kind (front ++ back) (first group) ≡ map (broken_of (key_of_sending x)) (option_to_list (open_of repeats (key_of_sending x) (frames kind front)))
+-- What the front leaves open under that key, if anything, has frame 0.
+abbrev pub LeavesZero : Rule → (ℕ → Option Kind) → List Entry → Sending → Type 0
+LeavesZero rule kind front x = IfSome (open_of (within rule) (key_of_sending x) (frames kind front)) (λ last. length front < first last + rule.window → has_number 0 last ≡ true)
+
+-- The key heals: the message is given at the line of its last piece, and what was left open, if anything, is broken: at
+-- the line of its first, or before, where its own window ends before that.
+pub record Heals (rule : Rule) (kind : ℕ → Option Kind) (front back : List Entry) (x : Sending) (group : List Frame) : Type 0 where
+  pub given : message rule kind (front ++ back) (last_line group) ≡ Some x.message
+  pub breaks : IfSome (open_of (within rule) (key_of_sending x) (frames kind front)) (λ left. Contains (broken rule kind (front ++ back) (min (first left + rule.window) (first group))) (broken_of (key_of_sending x) left))

@@ -1,9 +1,11 @@
 -- How the frames of one key fall into groups, and what a group's message holds. A group ends where it is complete, or
 -- where the frame after it can't join it. Whether a frame can't is a test (`Ends`), which every word that cuts takes as an
--- argument; today's says that the frame's number is in the group.
-use Rattle.std.specs.Prelude.{◌≡◌, ◌<◌, ℕ, ◌+◌, length, ◌/◌, ◌==◌, nat_le, slice_index_or, Bool, true, false, not, ◌&&◌, ◌||◌, if◌then◌else◌, List, [], ◌∷◌, ◌++◌, take, drop, flat_map, Option, Some, None, unwrap_or, option_and_then, is_some}
+-- argument. By a rule it can't where its number is in the group, where the group's window has ended, and, in order, where
+-- its number isn't greater than each number in the group.
+use Rattle.std.specs.Prelude.{◌≡◌, ◌<◌, ℕ, ◌+◌, length, ◌/◌, ◌==◌, nat_le, nat_lt, slice_index_or, Bool, true, false, not, ◌&&◌, ◌||◌, if◌then◌else◌, List, [], ◌∷◌, ◌++◌, take, drop, flat_map, Option, Some, None, unwrap_or, option_and_then, is_some}
 use Rattle.std.specs.List.{range_with_len, list_all, last_or}
 use Rattle.n2k_join.specs.Frames.{Key, Frame, frame_bytes, of_key}
+use Rattle.n2k_join.specs.Window.{Rule}
 
 -- the bytes that frames carry under a number
 abbrev pub carried : List Frame → ℕ → Option (List ℕ)
@@ -47,9 +49,41 @@ complete group =
 abbrev pub Ends : Type 0
 Ends = List Frame → Frame → Bool
 
--- it does where the frame's number is in it
+-- the line of a group's first frame, and of its last
+abbrev pub first : List Frame → ℕ
+first [] = 0
+first (f ∷ fs) = f.line
+
+abbrev pub last_line : List Frame → ℕ
+last_line [] = 0
+last_line (f ∷ []) = f.line
+last_line (f ∷ g ∷ fs) = last_line (g ∷ fs)
+
+-- the frame's number is in it
 abbrev pub repeats : Ends
 repeats group f = has_number f.number group
+
+-- some frame's number is this one, or above it
+abbrev pub has_from : ℕ → List Frame → Bool
+has_from number [] = false
+has_from number (f ∷ fs) = nat_le number f.number || has_from number fs
+
+-- The frame's number isn't greater than each number in it. The frames that a state holds of a group stand at its first
+-- line, and end nothing among themselves.
+abbrev pub falls_back : Ends
+falls_back group f = nat_lt (first group) f.line && has_from f.number group
+
+-- the group has no place for the frame: its number is in it, or, in order, it falls back
+abbrev pub misfits : Rule → Ends
+misfits rule group f = repeats group f || (rule.in_order && falls_back group f)
+
+-- the frame stands where the group's window has ended, so many lines after its first
+abbrev pub is_late : Rule → Ends
+is_late rule group f = nat_le (first group + rule.window) f.line
+
+-- what ends a group that isn't complete, by the rule
+abbrev pub within : Rule → Ends
+within rule group f = misfits rule group f || is_late rule group f
 
 -- a group ends before a frame
 abbrev pub closes : Ends → List Frame → Frame → Bool
@@ -77,21 +111,11 @@ pub record IsFirstGroup (ends : Ends) (fs group rest : List Frame) : Type 0 wher
   pub ended : HasEnded ends group rest
   pub shortest : (f g : Frame) (front back : List Frame) → group ≡ (f ∷ front) ++ (g ∷ back) → closes ends (f ∷ front) g ≡ false
 
--- the line of a group's first frame, and of its last
-abbrev pub first : List Frame → ℕ
-first [] = 0
-first (f ∷ fs) = f.line
-
-abbrev pub last_line : List Frame → ℕ
-last_line [] = 0
-last_line (f ∷ []) = f.line
-last_line (f ∷ g ∷ fs) = last_line (g ∷ fs)
-
 -- a group that isn't complete
 abbrev pub incomplete : List Frame → Option (List Frame)
 incomplete group = if complete group then None else Some group
 
--- The open group of a key: the last one, where it isn't complete.
+-- The open group of a key: the last one, where it isn't complete. Its window may have ended since.
 abbrev pub open_of : Ends → Key → List Frame → Option (List Frame)
 open_of ends key fs = option_and_then incomplete (last_or None (cut ends (of_key key fs)))
 

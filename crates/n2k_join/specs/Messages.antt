@@ -1,7 +1,7 @@
 -- What the lines of a log give: messages, bad lines and broken groups. `kind` says how a PGN is sent, as the table has it.
-use Rattle.std.specs.Prelude.{ℕ, zero, suc, ◌==◌, Bool, false, not, ◌&&◌, if◌then◌else◌, List, [], ◌∷◌, map, find, length, sum_by, count_by, slice_get, Option, Some, None, option_map, option_and_then, option_to_list, is_some}
+use Rattle.std.specs.Prelude.{ℕ, zero, suc, ◌+◌, ◌==◌, min, Bool, false, not, ◌&&◌, if◌then◌else◌, List, [], ◌∷◌, find, filter_map, length, sum_by, count_by, slice_get, Option, Some, None, option_map, option_and_then, is_some}
 use Rattle.std.specs.Option.{option_or}
-use Rattle.std.specs.List.{range_with_len, flat_map}
+use Rattle.std.specs.List.{range_with_len}
 use Rattle.n2k_wire.specs.declared.entry.BadCause.{BadCause}
 use Rattle.n2k_wire.specs.declared.entry.BadCause.TheVariants as causes
 use Rattle.n2k_wire.specs.declared.entry.Entry.{Entry}
@@ -12,8 +12,9 @@ use Rattle.n2k_table.specs.declared.definition.Kind.TheVariants.{Single, Fast}
 use Rattle.n2k_join.specs.declared.broken.Broken.{Broken}
 use Rattle.n2k_join.specs.declared.counts.Counts.{Counts}
 use Rattle.n2k_join.specs.Frames.{Key, Frame, is_fast_payload, frames, of_key, frame_at}
-use Rattle.n2k_join.specs.Groups.{Ends, repeats, complete, cut, first, last_line, data_of}
-use Rattle.n2k_join.specs.Open.{open_groups}
+use Rattle.n2k_join.specs.Groups.{Ends, within, complete, cut, first, last_line, data_of}
+use Rattle.n2k_join.specs.Open.{Group, open_within}
+use Rattle.n2k_join.specs.Window.{Rule}
 
 -- a message, and the key of the group that gave it
 pub record Keyed : Type 0 where
@@ -63,8 +64,8 @@ abbrev pub message_with : Ends → (ℕ → Option Kind) → List Entry → ℕ 
 message_with ends kind es line =
     option_or (option_map (λ (m : Keyed). m.message) (gathered ends (frames kind es) line)) (option_and_then (alone kind) (entry_at es line))
 
-abbrev pub message : (ℕ → Option Kind) → List Entry → ℕ → Option PacketParts
-message = message_with repeats
+abbrev pub message : Rule → (ℕ → Option Kind) → List Entry → ℕ → Option PacketParts
+message rule = message_with (within rule)
 
 -- why the line of a frame is bad, by its PGN's kind: under a fast PGN its data may not be those of a fast packet's frame
 abbrev pub fast_cause : Option Kind → PacketParts → Option BadCause
@@ -82,22 +83,35 @@ cause_in kind _ = None
 abbrev pub broken_of : Key → List Frame → Broken
 broken_of key group = record { pgn = key.pgn; src = key.src; dst = key.dst; seq = key.sequence; first = first group }
 
--- the groups that aren't complete and are followed by one that begins at the line
-abbrev pub broken_before : ℕ → List (List Frame) → List (List Frame)
-broken_before line [] = []
-broken_before line (group ∷ []) = []
-broken_before line (group ∷ next ∷ groups) =
-    if not (complete group) && (first next == line) then group ∷ broken_before line (next ∷ groups) else broken_before line (next ∷ groups)
+-- the same of what is kept of it
+abbrev pub told_of : Group → Broken
+told_of group = record { pgn = group.key.pgn; src = group.key.src; dst = group.key.dst; seq = group.key.sequence; first = group.first }
 
-abbrev pub broken_by : Ends → List Frame → Frame → List Broken
-broken_by ends fs f = map (broken_of f.key) (broken_before f.line (cut ends (of_key f.key fs)))
+-- The line at which a group that isn't complete is broken, where these groups come after it: that at which its window
+-- ends, or that of the frame after it, whichever is first.
+abbrev pub broken_line : Rule → List Frame → List (List Frame) → ℕ
+broken_line rule group [] = first group + rule.window
+broken_line rule group (next ∷ groups) = min (first group + rule.window) (first next)
 
--- the groups that are broken at a line: those that end there without being complete
-unfoldable pub broken_with : Ends → List Frame → ℕ → List Broken
-broken_with ends fs line = flat_map (broken_by ends fs) (option_to_list (frame_at line fs))
+-- of the groups of a key the one that begins at line `begun`, where it is broken at line `line`
+abbrev pub broken_among : Rule → ℕ → ℕ → List (List Frame) → Option (List Frame)
+broken_among rule begun line [] = None
+broken_among rule begun line (group ∷ groups) =
+    if not (complete group) && ((first group == begun) && (broken_line rule group groups == line)) then Some group else broken_among rule begun line groups
 
-abbrev pub broken : (ℕ → Option Kind) → List Entry → ℕ → List Broken
-broken kind es line = broken_with repeats (frames kind es) line
+abbrev pub broken_by : Rule → List Frame → ℕ → Frame → Option Broken
+broken_by rule fs line f = option_map (broken_of f.key) (broken_among rule f.line line (cut (within rule) (of_key f.key fs)))
+
+-- the group that the frame at line `begun` opened, where it is broken at line `line`
+abbrev pub broken_begun : Rule → List Frame → ℕ → ℕ → Option Broken
+broken_begun rule fs line begun = option_and_then (broken_by rule fs line) (frame_at begun fs)
+
+-- the groups that are broken at a line of the log, by the lines that opened them
+unfoldable pub broken_with : Rule → List Frame → ℕ → List Broken
+broken_with rule fs line = filter_map (broken_begun rule fs line) (range_with_len 1 line)
+
+abbrev pub broken : Rule → (ℕ → Option Kind) → List Entry → ℕ → List Broken
+broken rule kind es line = broken_with rule (frames kind es) line
 
 -- the PGN of an entry isn't in the table
 abbrev pub is_unknown : (ℕ → Option Kind) → Entry → Bool
@@ -110,12 +124,12 @@ abbrev pub numbers : List Entry → List ℕ
 numbers es = range_with_len 1 (length es)
 
 -- lines, skipped ones too; those that give a message; bad ones; those of an unknown PGN; groups broken, and groups open at the end
-abbrev pub counts : (ℕ → Option Kind) → List Entry → Counts
-counts kind es = record {
+abbrev pub counts : Rule → (ℕ → Option Kind) → List Entry → Counts
+counts rule kind es = record {
   lines = length es;
-  messages = count_by (λ line. is_some (message kind es line)) (numbers es);
+  messages = count_by (λ line. is_some (message rule kind es line)) (numbers es);
   bad = count_by (λ e. is_some (cause_in kind e)) es;
   unknown = count_by (is_unknown kind) es;
-  broken = sum_by (λ line. length (broken kind es line)) (numbers es);
-  held = length (open_groups repeats (length es) (frames kind es));
+  broken = sum_by (λ line. length (broken rule kind es line)) (numbers es);
+  held = length (open_within rule (length es) (frames kind es));
 }

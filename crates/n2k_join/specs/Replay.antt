@@ -4,29 +4,30 @@ use Rattle.n2k_wire.specs.declared.entry.Entry.{Entry}
 use Rattle.n2k_wire.specs.Packet.{PacketParts}
 use Rattle.n2k_table.specs.declared.definition.Kind.{Kind}
 use Rattle.n2k_join.specs.Frames.{Key, same_key, frames}
-use Rattle.n2k_join.specs.Groups.{repeats}
+use Rattle.n2k_join.specs.Groups.{within}
 use Rattle.n2k_join.specs.Messages.{Keyed, gathered, message, numbers}
 use Rattle.n2k_join.specs.Pieces.{Sending}
 use Rattle.n2k_join.specs.Scattered.{sendings_of}
+use Rattle.n2k_join.specs.Window.{Rule}
 
 -- the messages that a log gives, in the order of its lines
-abbrev pub messages : (ℕ → Option Kind) → List Entry → List PacketParts
-messages kind es = filter_map (message kind es) (numbers es)
+abbrev pub messages : Rule → (ℕ → Option Kind) → List Entry → List PacketParts
+messages rule kind es = filter_map (message rule kind es) (numbers es)
 
 -- those that its groups give
-abbrev pub gathered_messages : (ℕ → Option Kind) → List Entry → List Keyed
-gathered_messages kind es = filter_map (gathered repeats (frames kind es)) (numbers es)
+abbrev pub gathered_messages : Rule → (ℕ → Option Kind) → List Entry → List Keyed
+gathered_messages rule kind es = filter_map (gathered (within rule) (frames kind es)) (numbers es)
 
 -- those that the groups of a key give
-abbrev pub given_to : Key → (ℕ → Option Kind) → List Entry → List PacketParts
-given_to key kind es = map (λ (m : Keyed). m.message) (filter (λ (m : Keyed). same_key key m.key) (gathered_messages kind es))
+abbrev pub given_to : Key → Rule → (ℕ → Option Kind) → List Entry → List PacketParts
+given_to key rule kind es = map (λ (m : Keyed). m.message) (filter (λ (m : Keyed). same_key key m.key) (gathered_messages rule kind es))
 
 -- of a list of messages those whose frames have the key
 abbrev pub sent_to : Key → List PacketParts → List PacketParts
 sent_to key ms = map (λ (x : Sending). x.message) (sendings_of key ms)
 
 -- The log gives the messages: as many as they are, each by a group, and each key's in their order.
-pub record Replays (kind : ℕ → Option Kind) (ms : List PacketParts) (es : List Entry) : Type 0 where
-  pub as_many : length (messages kind es) ≡ length ms
-  pub by_groups : messages kind es ≡ map (λ (m : Keyed). m.message) (gathered_messages kind es)
-  pub in_order : (key : Key) → given_to key kind es ≡ sent_to key ms
+pub record Replays (rule : Rule) (kind : ℕ → Option Kind) (ms : List PacketParts) (es : List Entry) : Type 0 where
+  pub as_many : length (messages rule kind es) ≡ length ms
+  pub by_groups : messages rule kind es ≡ map (λ (m : Keyed). m.message) (gathered_messages rule kind es)
+  pub in_order : (key : Key) → given_to key rule kind es ≡ sent_to key ms

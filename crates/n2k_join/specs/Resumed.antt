@@ -1,6 +1,6 @@
 -- What a text says as a saved state: which state it spells, or the first reason why it is refused. Any JSON text is taken
 -- that `serde_json` reads as such an object: spaces, another order of members, digits of either case.
-use Rattle.std.specs.Prelude.{ℕ, ◌+◌, ◌==◌, nat_le, nat_lt, Bool, true, false, not, ◌&&◌, ◌||◌, slice_index_or, codes, List, [], ◌∷◌, length, if◌then◌else◌, Option, Some, None, option_and_then, Result, Ok, Err}
+use Rattle.std.specs.Prelude.{ℕ, ◌+◌, ◌==◌, nat_le, nat_lt, Bool, true, false, not, ◌&&◌, ◌||◌, slice_index_or, codes, List, [], ◌∷◌, ◌++◌, length, if◌then◌else◌, Option, Some, None, option_and_then, Result, Ok, Err}
 use Rattle.std.specs.List.{list_any}
 use Rattle.std.specs.Result.{result_ok}
 use Rattle.std.specs.Str.{bytes_eq, is_utf8}
@@ -14,7 +14,7 @@ use Rattle.n2k_table.specs.declared.definition.Kind.{Kind}
 use Rattle.n2k_table.specs.declared.definition.Kind.TheVariants.{Single, Fast}
 use Rattle.n2k_join.specs.declared.counts.Counts.{Counts}
 use Rattle.n2k_join.specs.declared.state_fault.StateFault.{StateFault}
-use Rattle.n2k_join.specs.declared.state_fault.StateFault.TheVariants.{NotJson, Format, Shape, TableDiffers, Invalid}
+use Rattle.n2k_join.specs.declared.state_fault.StateFault.TheVariants.{NotJson, Format, Shape, TableDiffers, WindowDiffers, Invalid}
 use Rattle.n2k_join.specs.declared.saved.place.Place.{Place}
 use Rattle.n2k_join.specs.declared.saved.place.Place.TheVariants as places
 use Rattle.n2k_join.specs.Counts.{most_lines}
@@ -22,12 +22,18 @@ use Rattle.n2k_join.specs.Frames.{Key, same_key, longest_total, frame_bytes, mos
 use Rattle.n2k_join.specs.Groups.{complete}
 use Rattle.n2k_join.specs.Open.{Piece, Group}
 use Rattle.n2k_join.specs.State.{State, held_of}
-use Rattle.n2k_join.specs.Saved.{saved_format}
+use Rattle.n2k_join.specs.Saved.{saved_format, old_format, are_waiting}
 use Rattle.n2k_wire.specs.Steps.{◌>>=◌, or_cause, holds_or}
+use Rattle.n2k_join.specs.Window.{Rule}
+
+-- the members of a state without a window
+abbrev pub state_names : List (List ℕ)
+state_names = codes "bad" ∷ codes "broken" ∷ codes "format" ∷ codes "groups" ∷ codes "lines" ∷ codes "messages" ∷ codes "table" ∷ codes "unknown" ∷ []
 
 -- the members that an object has, by its place
 abbrev pub names : Place → List (List ℕ)
-names places.State = codes "bad" ∷ codes "broken" ∷ codes "format" ∷ codes "groups" ∷ codes "lines" ∷ codes "messages" ∷ codes "table" ∷ codes "unknown" ∷ []
+names places.State = state_names
+names places.WindowState = state_names ++ codes "window" ∷ []
 names places.Group = codes "dst" ∷ codes "first" ∷ codes "frames" ∷ codes "pgn" ∷ codes "seq" ∷ codes "src" ∷ []
 
 abbrev pub is_name : Place → List ℕ → Bool
@@ -137,30 +143,39 @@ id_at d = do
   digits_of 32 e
 
 -- a state whose count of open groups is their number
-abbrev pub state_of_parts : List ℕ → Counts → List Group → State
-state_of_parts id counts groups = record { id = id; counts = record counts { held = length groups }; groups = groups }
+abbrev pub state_of_parts : List ℕ → Rule → Counts → List Group → State
+state_of_parts id rule counts groups = record { id = id; rule = rule; counts = record counts { held = length groups }; groups = groups }
 
--- the state that a value spells, whatever its numbers
-unfoldable pub state_of : Data → Result State StateFault
-state_of d = do
-  known ← members_at places.State d
+-- The window of a state, by its format: it is that which is handed in, where the state doesn't tell one.
+abbrev pub window_at : Place → ℕ → Data → Result ℕ StateFault
+window_at places.WindowState window d = whole_at (codes "window") d
+window_at _ window d = Ok window
+
+-- The state that a value of a format spells, whatever its numbers. Whether the order of frames is asked for is as handed in.
+unfoldable pub state_of : Place → Rule → Data → Result State StateFault
+state_of format rule d = do
+  known ← members_at format d
   counts ← counts_of d
   id ← id_at d
   groups ← groups_at d
-  Ok (state_of_parts id counts groups)
+  window ← window_at format rule.window d
+  Ok (state_of_parts id (record { window = window; in_order = rule.in_order }) counts groups)
 
--- it is of this format
+-- the format of a value, as the place of its members
 abbrev pub is_whole : ℕ → Option ℕ → Bool
 is_whole n None = false
 is_whole n (Some m) = m == n
 
-abbrev pub has_format : Data → Bool
-has_format d = is_whole saved_format (option_and_then as_whole (get (codes "format") d))
+abbrev pub format_by : Option ℕ → Result Place StateFault
+format_by n = if is_whole old_format n then Ok places.State else if is_whole saved_format n then Ok places.WindowState else Err Format
+
+abbrev pub format_in : Data → Result Place StateFault
+format_in d = format_by (option_and_then as_whole (get (codes "format") d))
 
 -- The rules of a valid state.
--- Each line counts once at most as a message, as bad or as unknown, and breaks one group at most.
+-- Each line counts once at most as a message, as bad or as unknown, and opens one group at most, which is broken or open.
 unfoldable pub counts_hold : Counts → Bool
-counts_hold c = nat_le c.lines most_lines && (nat_le c.broken c.lines && nat_le (c.messages + c.bad + c.unknown) c.lines)
+counts_hold c = nat_le c.lines most_lines && (nat_le (c.broken + c.held) c.lines && nat_le (c.messages + c.bad + c.unknown) c.lines)
 
 -- each group was opened at a line, and no two at the same
 unfoldable pub firsts_rise : ℕ → ℕ → List Group → Bool
@@ -203,6 +218,11 @@ groups_hold kind (g ∷ gs) = group_holds kind g && (not (list_any (λ (other : 
 unfoldable pub is_valid : (ℕ → Option Kind) → State → Bool
 is_valid kind s = counts_hold s.counts && (firsts_rise 1 s.counts.lines s.groups && groups_hold kind s.groups)
 
+-- beside these, a state that tells its window has no group whose window has ended
+abbrev pub waits_hold : Place → State → Bool
+waits_hold places.WindowState s = are_waiting s
+waits_hold _ s = true
+
 -- a value where the test holds, and else Invalid
 abbrev pub valid_if : {A : Type 0} → Bool → A → Result A StateFault
 valid_if true x = Ok x
@@ -212,11 +232,14 @@ valid_if false x = Err Invalid
 abbrev pub parsed : List ℕ → Option Data
 parsed bytes = if is_utf8 bytes then read bytes else None
 
--- The state that the bytes spell under a table, or the first fault that stands in them.
-unfoldable pub judged : (ℕ → Option Kind) → List ℕ → List ℕ → Result State StateFault
-judged kind id bytes = do
+-- The state that the bytes spell under a table and a window, or the first fault that stands in them. A window that the
+-- bytes tell is never taken on in the place of the one that is handed in.
+unfoldable pub judged : (ℕ → Option Kind) → List ℕ → Rule → List ℕ → Result State StateFault
+judged kind id rule bytes = do
   d ← or_cause NotJson (parsed bytes)
-  known ← holds_or Format (has_format d)
-  s ← state_of d
+  format ← format_in d
+  s ← state_of format rule d
   same ← holds_or TableDiffers (bytes_eq s.id id)
+  as_long ← holds_or WindowDiffers (s.rule.window == rule.window)
+  in_time ← holds_or Invalid (waits_hold format s)
   valid_if (is_valid kind s) s

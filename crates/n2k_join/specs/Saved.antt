@@ -1,20 +1,35 @@
 -- The text of a saved state: one JSON object, as `serde_json` writes it. It is compact, and the members of each object stand
--- in the order of their names.
-use Rattle.std.specs.Prelude.{◌≡◌, ℕ, List, length, map, codes}
-use Rattle.serde_json.specs.Data.{Data, number, unsigned, string, array, object, no_items, item, no_members, member}
+-- in the order of their names. It tells the window, but not whether the order of frames is asked for.
+use Rattle.std.specs.Prelude.{◌≡◌, ℕ, Bool, if◌then◌else◌, List, length, map, codes}
+use Rattle.std.specs.List.{list_all}
+use Rattle.serde_json.specs.Data.{Data, Members, number, unsigned, string, array, object, no_items, item, no_members, member}
 use Rattle.serde_json.specs.View.{items_of}
 use Rattle.serde_json.specs.Written.{compact_text}
 use Rattle.hex.specs.Hex.{encode_lower, IsBytes}
-use Rattle.n2k_join.specs.Open.{Piece, Group}
+use Rattle.n2k_join.specs.Open.{Piece, Group, is_waiting}
 use Rattle.n2k_join.specs.State.{State}
-
--- the format of the state
-abbrev pub saved_format : ℕ
-saved_format = 1
 
 -- a whole number
 abbrev pub whole : ℕ → Data
 whole n = number (unsigned n)
+
+-- the format of a state that tells its window, and of one that doesn't
+abbrev pub saved_format : ℕ
+saved_format = 2
+
+abbrev pub old_format : ℕ
+old_format = 1
+
+-- No group's window has ended. Where one has, the state was read in the old format and no line has been taken since.
+abbrev pub are_waiting : State → Bool
+are_waiting s = list_all (is_waiting s.rule s.counts.lines) s.groups
+
+-- the format of a state that tells its window or doesn't, and its last member
+abbrev pub format_by : Bool → ℕ
+format_by tells = if tells then saved_format else old_format
+
+abbrev pub window_member : Bool → ℕ → Members
+window_member tells window = if tells then member (codes "window") (whole window) no_members else no_members
 
 -- a list of values
 abbrev pub list : List Data → Data
@@ -34,17 +49,21 @@ group_tree g = object (
     member (codes "seq") (whole g.key.sequence) (
     member (codes "src") (whole g.key.src) no_members))))))
 
--- the state
-unfoldable pub state_tree : State → Data
-state_tree s = object (
+-- a state that tells its window or doesn't
+unfoldable pub tree_by : Bool → State → Data
+tree_by tells s = object (
     member (codes "bad") (whole s.counts.bad) (
     member (codes "broken") (whole s.counts.broken) (
-    member (codes "format") (whole saved_format) (
+    member (codes "format") (whole (format_by tells)) (
     member (codes "groups") (list (map group_tree s.groups)) (
     member (codes "lines") (whole s.counts.lines) (
     member (codes "messages") (whole s.counts.messages) (
     member (codes "table") (string (encode_lower s.id)) (
-    member (codes "unknown") (whole s.counts.unknown) no_members))))))))
+    member (codes "unknown") (whole s.counts.unknown) (window_member tells s.rule.window)))))))))
+
+-- The state as it is saved. With a group whose window has ended it would not be read if it told its window; so it doesn't.
+abbrev pub state_tree : State → Data
+state_tree s = tree_by (are_waiting s) s
 
 -- its text
 unfoldable pub state_text : State → List ℕ

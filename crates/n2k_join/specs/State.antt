@@ -12,20 +12,23 @@ use Rattle.n2k_join.specs.declared.broken.Broken.{Broken}
 use Rattle.n2k_join.specs.declared.counts.Counts.{Counts}
 use Rattle.n2k_join.specs.Counts.{most_lines}
 use Rattle.n2k_join.specs.Frames.{Key, same_key, Frame, most_frames, most_sequences, frame_bytes, longest_total, frames, frame_in}
-use Rattle.n2k_join.specs.Groups.{repeats, complete}
-use Rattle.n2k_join.specs.Open.{open_groups}
+use Rattle.n2k_join.specs.Groups.{within, complete}
+use Rattle.n2k_join.specs.Open.{ended, waiting, open_within}
 pub use Rattle.n2k_join.specs.Open.{Piece, Group}
-use Rattle.n2k_join.specs.Messages.{Keyed, gathered, alone, cause_in, broken_with, is_unknown, counts}
+use Rattle.n2k_join.specs.Messages.{Keyed, gathered, alone, cause_in, told_of, broken_with, is_unknown, counts}
+use Rattle.n2k_join.specs.Window.{Rule, IsWindow}
 
--- which table the lines were read with, what they count, and the open groups by rising first line
+-- which table the lines were read with, what ends a group, what the lines count, and the open groups by rising
+-- first line
 pub record State : Type 0 where
   pub id : List ℕ
+  pub rule : Rule
   pub counts : Counts
   pub groups : List Group
 
--- the state after a log, with the table of this id
-abbrev pub state : List ℕ → (ℕ → Option Kind) → List Entry → State
-state id kind es = record { id = id; counts = counts kind es; groups = open_groups repeats (length es) (frames kind es) }
+-- the state after a log, under a rule and with the table of this id
+abbrev pub state : List ℕ → Rule → (ℕ → Option Kind) → List Entry → State
+state id rule kind es = record { id = id; rule = rule; counts = counts rule kind es; groups = open_within rule (length es) (frames kind es) }
 
 -- A piece as a frame. It stands at the group's first line; a state holds no stamp, since a message takes that of the line
 -- that completes it.
@@ -57,21 +60,25 @@ pub record Given : Type 0 where
 abbrev pub next_line : State → ℕ
 next_line s = s.counts.lines + 1
 
--- the frames that a state holds, followed by the one of the next entry
+-- the groups whose window ends at the next line, if not before: they are broken there before its frame is taken
+abbrev pub overdue : State → List Group
+overdue s = ended s.rule (next_line s) s.groups
+
+-- the frames that a state holds of the other groups, followed by the one of the next entry
 abbrev pub step_frames : (ℕ → Option Kind) → State → Entry → List Frame
-step_frames kind s e = held s.groups ++ option_to_list (frame_in kind (next_line s) e)
+step_frames kind s e = held (waiting s.rule (next_line s) s.groups) ++ option_to_list (frame_in kind (next_line s) e)
 
 -- what the next entry gives
 unfoldable pub step_given : (ℕ → Option Kind) → State → Entry → Given
 step_given kind s e = record {
-  message = option_or (option_map (λ (m : Keyed). m.message) (gathered repeats (step_frames kind s e) (next_line s))) (alone kind e);
+  message = option_or (option_map (λ (m : Keyed). m.message) (gathered (within s.rule) (step_frames kind s e) (next_line s))) (alone kind e);
   cause = cause_in kind e;
-  broken = broken_with repeats (step_frames kind s e) (next_line s);
+  broken = map told_of (overdue s) ++ broken_with s.rule (step_frames kind s e) (next_line s);
 }
 
 -- the open groups after it
 abbrev pub step_groups : (ℕ → Option Kind) → State → Entry → List Group
-step_groups kind s e = open_groups repeats (next_line s) (step_frames kind s e)
+step_groups kind s e = open_within s.rule (next_line s) (step_frames kind s e)
 
 -- one for a value, none for its absence
 abbrev pub one_if : Bool → ℕ
@@ -93,15 +100,17 @@ counted kind c e given held = record {
 unfoldable pub step_after : (ℕ → Option Kind) → State → Entry → State
 step_after kind s e = record {
   id = s.id;
+  rule = s.rule;
   counts = counted kind s.counts e (step_given kind s e) (length (step_groups kind s e));
   groups = step_groups kind s e;
 }
 
--- what counts can be after lines: each line gives at most one of a message, a cause and an unknown PGN, and breaks at most one group
+-- what counts can be after lines: each line gives at most one of a message, a cause and an unknown PGN, and opens at most
+-- one group, which is broken or open afterwards
 pub record AreCounts (c : Counts) : Type 0 where
   pub lines : c.lines ≤ most_lines
   pub given : c.messages + c.bad + c.unknown ≤ c.lines
-  pub broken : c.broken ≤ c.lines
+  pub broken : c.broken + c.held ≤ c.lines
 
 -- a key's parts are such as packets have
 pub record IsKey (key : Key) : Type 0 where
@@ -148,6 +157,7 @@ pub record AreOpen (lines : ℕ) (groups : List Group) : Type 0 where
 -- A state that a join can have, whether or not a log leads to it. That its id is 32 bytes, the join's type says. That its
 -- groups are of fast PGNs is not asked: the next line may be read with another table.
 pub record IsState (s : State) : Type 0 where
+  pub window : IsWindow s.rule.window
   pub counted : AreCounts s.counts
   pub held : s.counts.held ≡ length s.groups
   pub groups : AreOpen s.counts.lines s.groups
@@ -156,3 +166,7 @@ pub record IsState (s : State) : Type 0 where
 -- the groups are of PGNs that are sent in fast packets
 abbrev pub AreFast : (ℕ → Option Kind) → List Group → Type 0
 AreFast kind groups = AllByRecursion (λ (g : Group). kind g.key.pgn ≡ Some Fast) groups
+
+-- No group's window has ended. So it is of the state of a log, and of each state after a line.
+abbrev pub AreWaiting : State → Type 0
+AreWaiting s = AllByRecursion (λ (g : Group). s.counts.lines < g.first + s.rule.window) s.groups

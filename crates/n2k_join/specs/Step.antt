@@ -1,5 +1,5 @@
 -- What a line answers, as the definitions see it.
-use Rattle.std.specs.Prelude.{ℕ, Bool, false, not, List, Option, Some, None, option_map, option_to_list}
+use Rattle.std.specs.Prelude.{ℕ, ◌+◌, ◌-◌, ◌==◌, Bool, false, not, if◌then◌else◌, List, drop, slice_get, Option, Some, None, option_map, option_to_list}
 use Rattle.std.specs.List.{list_any}
 use Rattle.n2k_wire.specs.declared.entry.Entry.{Entry}
 use Rattle.n2k_table.specs.declared.definition.Kind.{Kind}
@@ -7,9 +7,10 @@ use Rattle.n2k_join.specs.declared.step.LentStep.{LentStep}
 use Rattle.n2k_join.specs.declared.step.Step.{Step}
 use Rattle.n2k_join.specs.Frames.{same_key, Frame, frame_in}
 use Rattle.n2k_join.specs.Open.{Group}
-use Rattle.n2k_join.specs.State.{State, Given, next_line}
+use Rattle.n2k_join.specs.State.{State, Given, next_line, overdue}
+use Rattle.n2k_join.specs.Counts.{most_lines}
 
--- A line breaks at most one group.
+-- A line breaks at most one group beside those whose window ends at it.
 abbrev pub given_of : Step → Given
 given_of step = record { message = step.message; cause = step.bad; broken = option_to_list step.broken }
 
@@ -24,3 +25,16 @@ opens_by groups (Some f) = not (list_any (λ (g : Group). same_key f.key g.key) 
 -- the frame of the next entry opens a group of a key that has none open
 abbrev pub opens : (ℕ → Option Kind) → State → Entry → Bool
 opens kind s e = opens_by s.groups (frame_in kind (next_line s) e)
+
+-- The oldest of the open groups whose window ends at the next line, if not before. After the most lines there is no next.
+abbrev pub due : State → Option Group
+due s = if s.counts.lines == most_lines then None else slice_get (overdue s) 0
+
+-- the state where that one is broken: it is the first of the open groups, since these stand by rising first line
+unfoldable pub expired : State → State
+expired s = record {
+  id = s.id;
+  rule = s.rule;
+  counts = record s.counts { broken = s.counts.broken + 1; held = s.counts.held - 1 };
+  groups = drop 1 s.groups;
+}

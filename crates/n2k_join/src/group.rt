@@ -1,11 +1,11 @@
 //! A group of frames that is open, as bytes and a mask.
-ghost use Rattle.std.specs.Prelude.{◌≡◌, ◌==◌, ◌+◌, ◌-◌, ◌^◌, ◌<◌, ◌≤◌, ◌++◌, [], ◌∷◌, ℕ, Some, None, true, false, option_map, length, IfSome, slice_index, is_some};
+ghost use Rattle.std.specs.Prelude.{◌≡◌, ◌==◌, ◌+◌, ◌-◌, ◌/◌, ◌^◌, ◌<◌, ◌≤◌, ◌++◌, [], ◌∷◌, ℕ, Some, None, true, false, not, option_map, length, IfSome, slice_index, is_some};
 ghost use Rattle.n2k_wire.specs.Packet.{PacketParts};
 ghost use Rattle.n2k_join.specs.Frames.{Key, longest_total, most_frames};
-ghost use Rattle.n2k_join.specs.Groups.{complete, data_of};
+ghost use Rattle.n2k_join.specs.Groups.{has_from, complete, data_of};
 ghost use Rattle.n2k_join.specs.Open.{pieces_of, group_of};
 ghost use Rattle.n2k_join.specs.State.{held_frame, held_of};
-ghost use Rattle.n2k_join.specs.Inner.Stored.{key_of, piece_of, frame_of};
+ghost use Rattle.n2k_join.specs.Inner.Stored.{bars, key_of, piece_of, frame_of};
 ghost use Rattle.n2k_join.specs.Inner.Slots.{slot_of, group_in};
 
 use crate::broken::Broken;
@@ -19,6 +19,15 @@ fn is_ones(mask: u32, last: u8) -> bool
     ensures range { mask < 2 ^ 32 }
 {
     u64::from(mask) == (1 << u32::from(last + 1)) - 1
+}
+
+// Whether a mask has a bit from the one of a number on.
+fn is_any_from(mask: u32, number: u8) -> bool
+    requires { number < most_frames }
+    ensures value { result ≡ not (mask / 2 ^ number == 0) }
+    ensures range { mask < 2 ^ 32 }
+{
+    mask >> u32::from(number) != 0
 }
 
 impl OpenGroup {
@@ -49,6 +58,27 @@ impl OpenGroup {
         ensures { result ≡ is_some (slot_of self.now number) }
     {
         self.mask >> u32::from(number) & 1 == 1
+    }
+
+    // Whether a frame of the number, or of one above it, is there.
+    fn has_from(&self, number: u8) -> bool
+        requires { number < most_frames }
+        ensures { (key : Key) → result ≡ has_from number (held_of (group_in key self.now)) }
+    {
+        is_any_from(self.mask, number)
+    }
+
+    /// Whether it has no place for a frame of the number: that is there, or, where messages are sent in order, it isn't
+    /// greater than each of its own.
+    pub(crate) fn bars(&self, in_order: bool, number: u8) -> bool
+        requires { number < most_frames }
+        ensures { (key : Key) → result ≡ bars in_order number (group_in key self.now) }
+    {
+        if in_order {
+            self.has_from(number)
+        } else {
+            self.has(number)
+        }
     }
 
     /// What its frame of a number carries.

@@ -1,28 +1,34 @@
 //! The join: the open groups and the counts of a log, taken on line by line.
-ghost use Rattle.std.specs.Prelude.{◌≡◌, ◌+◌, ◌*◌, ◌≤◌, ◌<◌, ◌↔◌, ℕ, [], length, IfOk, OnOk, OnErr, IsErrOf, Ok, Option, None, true, is_some};
+ghost use Rattle.std.specs.Prelude.{◌≡◌, ◌+◌, ◌*◌, ◌≤◌, ◌<◌, ◌↔◌, ℕ, [], length, IfOk, OnOk, OnErr, IsErrOf, IsSome, IsNone, Ok, Option, None, Some, true, is_some, option_map};
 ghost use Rattle.n2k_table.specs.declared.definition.Kind.{Kind};
 ghost use Rattle.n2k_table.specs.Table.{kind};
+ghost use Rattle.n2k_wire.specs.declared.entry.Entry.{Entry};
 ghost use Rattle.n2k_wire.specs.Entry.{IsShort, IsEntry};
 ghost use Rattle.n2k_wire.specs.Packet.{IsPacket, IsPacketParts};
 ghost use Rattle.n2k_join.specs.Counts.{most_lines};
-ghost use Rattle.n2k_join.specs.State.{state, step_given, step_after, AreCounts, AreFast, one_if};
+ghost use Rattle.n2k_join.specs.Open.{Group};
+ghost use Rattle.n2k_join.specs.Messages.{told_of};
+ghost use Rattle.n2k_join.specs.State.{state, step_given, step_after, AreCounts, AreFast, AreWaiting, one_if};
 ghost use Rattle.n2k_join.specs.Refusal.{GivesOrMemory};
 ghost use Rattle.n2k_join.specs.Resumed.{is_valid, judged, state_of_parts, valid_if};
 ghost use Rattle.n2k_join.specs.Saved.{IsId, state_text, bare_bytes, group_bytes};
-ghost use Rattle.n2k_join.specs.Step.{given_of, lent_given_of, opens};
+ghost use Rattle.n2k_join.specs.Step.{given_of, lent_given_of, opens, due, expired};
+ghost use Rattle.n2k_join.specs.Laws.{ExpiresFirst};
 ghost use Rattle.n2k_join.specs.Inner.Told.{packet_in, told};
 
+use crate::broken::Broken;
 use crate::counts::{Counts, MOST_LINES};
 use crate::fault::JoinFault;
 use crate::laws;
 use crate::outcome::{Outcome, packet_of, take_entry};
 use crate::piece::{FrameKey, OpenGroup};
 use crate::saved::{
-    SpelledGroup, SpelledState, has_format, parsed, read_state, rules_hold, state_text,
-    stored_groups,
+    SpelledGroup, SpelledState, format_in, parsed, read_state, rules_hold, state_text,
+    stored_groups, waits_hold,
 };
 use crate::state_fault::StateFault;
 use crate::step::{LentStep, Step};
+use crate::window::Window;
 use indexmap::IndexMap;
 use n2k_table::Table;
 use n2k_wire::{Entry, Id, Packet};
@@ -34,6 +40,7 @@ use std::marker::Model;
 #[derive(Drop)]
 pub struct Join {
     id: [u8; 32],
+    window: Window,
     counts: Counts,
     groups: IndexMap<FrameKey, OpenGroup>,
 }
@@ -44,9 +51,9 @@ impl Model for Join {
 
     ghost Value = { State };
 
-    ghost view = { λ j. record { id = j.id; counts = j.counts; groups = groups_in j.groups.entries } };
+    ghost view = { λ j. record { id = j.id; rule = j.window; counts = j.counts; groups = groups_in j.groups.entries } };
 
-    ghost invariant = { λ j. IsState (record { id = j.id; counts = j.counts; groups = groups_in j.groups.entries }) };
+    ghost invariant = { λ j. IsState (record { id = j.id; rule = j.window; counts = j.counts; groups = groups_in j.groups.entries }) };
 }
 
 // What the types say of the parts of a packet.
@@ -96,12 +103,13 @@ fn counted(counts: Counts, outcome: &Outcome, is_message: bool, held: usize) -> 
 }
 
 impl Join {
-    /// Before the first line, with a table. It takes no memory.
-    pub fn new(alloc: Global, table: &Table) -> Join
-        ensures { result ≡ state table.now.id (kind table.now) [] }
+    /// Before the first line, with a table and a window. It takes no memory.
+    pub fn new(alloc: Global, table: &Table, window: Window) -> Join
+        ensures { result ≡ state table.now.id window (kind table.now) [] }
     {
         Join {
             id: table.id(),
+            window,
             counts: Counts::NONE,
             groups: IndexMap::new(alloc),
         }
@@ -115,6 +123,63 @@ impl Join {
         *counts
     }
 
+    /// What ends a group that isn't complete: the window that was handed in. It takes no memory.
+    pub fn window(&self) -> Window
+        ensures { result ≡ self.now.rule }
+    {
+        let Join { window, .. } = self;
+        *window
+    }
+
+    // The oldest open group, as it is told, where its window ends at the next line, if not before.
+    fn oldest_due(&self) -> Option<Broken>
+        ensures { result ≡ option_map told_of (due self.now) }
+    {
+        if self.counts.lines == MOST_LINES {
+            return None;
+        }
+        let (key, group) = self.groups.first()?;
+        if self.counts.lines + 1 < group.first + u64::from(self.window.get()) {
+            return None;
+        }
+        Some(group.broken(key))
+    }
+
+    /// Breaks the oldest of the open groups whose window ends at the next line, if not before, and answers what is told of
+    /// it. `None` where there is none, or where no more lines are counted; the join is then as it was. It takes no memory.
+    ///
+    /// It is called before each line until it answers `None`: each group that it breaks is one of that line.
+    ///
+    /// ```text
+    /// while let Some(group) = join.expire() {
+    ///     told.push(group)?;
+    /// }
+    /// ```
+    pub fn expire(&mut self) -> Option<Broken>
+        ensures told { result ≡ option_map told_of (due self.old) }
+        ensures after { IsSome result → self.new ≡ expired self.old }
+        ensures unchanged { IsNone result → self.new ≡ self.old }
+        ensures one_step { (kind : ℕ → Option Kind) (e : Entry) (group : Group) → due self.old ≡ Some group → ExpiresFirst kind self.old e group }
+        ensures waiting { AreWaiting self.old → AreWaiting self.new }
+        ensures none_due { IsNone result → due self.new ≡ None }
+        ensures fewer { IsSome result → length self.new.groups < length self.old.groups }
+        ensures few { IsSome result → self.old.counts.lines < most_lines }
+    {
+        let broken = self.oldest_due()?;
+        self.groups.shift_remove_index(0);
+        let Counts {
+            broken: before,
+            held,
+            ..
+        } = self.counts;
+        self.counts = Counts {
+            broken: before + 1,
+            held: held - 1,
+            ..self.counts
+        };
+        Some(broken)
+    }
+
     // Takes the next line, as its entry. The message of a group that it completes goes to `joined`.
     fn take(
         &mut self,
@@ -123,9 +188,12 @@ impl Join {
         joined: &mut Option<Packet>,
     ) -> Result<Outcome, JoinFault>
         requires short { IsShort entry.now }
+        requires expired { due self.old ≡ None }
         requires none { joined.old ≡ None }
         ensures given { IfOk result (λ o. told o (packet_in entry.now) joined.new ≡ step_given (kind table.now) self.old entry.now) }
         ensures after { OnOk result (self.new ≡ step_after (kind table.now) self.old entry.now) }
+        ensures waiting { OnOk result (AreWaiting self.new) }
+        ensures few_open { OnOk result (length self.new.groups ≤ self.new.rule.window) }
         ensures unchanged { OnErr result (self.new ≡ self.old) }
         ensures few { OnOk result (self.old.counts.lines < most_lines) }
         ensures full { IsErrOf result JoinFault.TooManyLines ↔ (self.old.counts.lines ≡ most_lines) }
@@ -136,14 +204,22 @@ impl Join {
         }
         know_entry(entry);
         let line = self.counts.lines + 1;
-        let outcome = take_entry(&mut self.groups, line, table, entry, joined)?;
+        let outcome = take_entry(
+            self.window.is_in_order(),
+            &mut self.groups,
+            line,
+            table,
+            entry,
+            joined,
+        )?;
         let is_message = outcome.is_message(entry, joined);
         self.counts = counted(self.counts, &outcome, is_message, self.groups.len());
         Ok(outcome)
     }
 
     /// Takes the next line, as its entry, and answers what it gives: the message that it is or completes, why it is
-    /// bad, and the group that it breaks. The table says how each PGN is sent.
+    /// bad, and the group that its frame breaks. The table says how each PGN is sent. The groups whose window ends at the
+    /// line have been broken before, by `expire`.
     ///
     /// At 999,999,999,999,999 lines it is refused as too many. Memory is taken only where a group is opened of a
     /// key that has none open. After a refusal the join is as it was.
@@ -152,9 +228,12 @@ impl Join {
     /// let step = join.line(&table, read_line(line, Packing::Frames))?;
     /// ```
     pub fn line(&mut self, table: &Table, entry: Entry) -> Result<Step, JoinFault>
-        requires { IsShort entry }
+        requires short { IsShort entry }
+        requires expired { due self.old ≡ None }
         ensures given { IfOk result (λ step. given_of step ≡ step_given (kind table.now) self.old entry) }
         ensures after { OnOk result (self.new ≡ step_after (kind table.now) self.old entry) }
+        ensures waiting { OnOk result (AreWaiting self.new) }
+        ensures few_open { OnOk result (length self.new.groups ≤ self.new.rule.window) }
         ensures unchanged { OnErr result (self.new ≡ self.old) }
         ensures few { OnOk result (self.old.counts.lines < most_lines) }
         ensures full { IsErrOf result JoinFault.TooManyLines ↔ (self.old.counts.lines ≡ most_lines) }
@@ -190,8 +269,11 @@ impl Join {
         joined: &'a mut Option<Packet>,
     ) -> Result<LentStep<'a>, JoinFault>
         requires short { IsShort entry.now }
+        requires expired { due self.old ≡ None }
         ensures given { IfOk result (λ step. lent_given_of step ≡ step_given (kind table.now) self.old entry.now) }
         ensures after { OnOk result (self.new ≡ step_after (kind table.now) self.old entry.now) }
+        ensures waiting { OnOk result (AreWaiting self.new) }
+        ensures few_open { OnOk result (length self.new.groups ≤ self.new.rule.window) }
         ensures unchanged { OnErr result (self.new ≡ self.old) }
         ensures few { OnOk result (self.old.counts.lines < most_lines) }
         ensures full { IsErrOf result JoinFault.TooManyLines ↔ (self.old.counts.lines ≡ most_lines) }
@@ -213,10 +295,11 @@ impl Join {
         alloc: Global,
         table: &Table,
         id: [u8; 32],
+        window: Window,
         counts: Counts,
         groups: &[SpelledGroup],
     ) -> Result<Join, StateFault>
-        ensures { let state = state_of_parts id counts groups.now in
+        ensures { let state = state_of_parts id window counts groups.now in
             GivesOrMemory (λ join. join) result (valid_if (is_valid (kind table.now) state) state) }
     {
         if !rules_hold(&counts, groups) {
@@ -226,46 +309,64 @@ impl Join {
         let held = stored.len() as u64;
         Ok(Join {
             id,
+            window,
             counts: Counts { held, ..counts },
             groups: stored,
         })
     }
 
-    /// The join that a saved state spells, under the table that it was saved with. It goes on where that one stood.
+    /// The join that a saved state spells, under the table and the window that it was saved with. It goes on where that
+    /// one stood. A state of format 1 tells no window: it is read under the one that is handed in. Whether a group ends
+    /// before a lower number is not saved: that is as handed in, too.
     ///
     /// Any JSON text is taken that spells a valid state, whether or not a log leads to it (docs/PROFILE.md has its
-    /// members and rules). Else the first fault is answered that stands, in the order of their numbers, or `Memory`
+    /// members and rules). Else the first fault is answered that stands, in the order of docs/PROFILE.md, or `Memory`
     /// where a growth was refused.
     ///
     /// ```text
-    /// let join = Join::resume(alloc, &table, &state)?;
+    /// let join = Join::resume(alloc, &table, window, &state)?;
     /// ```
     #[tactic(auto, unfolding(crate::specs::Resumed::judged))]
-    pub fn resume(alloc: Global, table: &Table, bytes: &[u8]) -> Result<Join, StateFault>
-        ensures { GivesOrMemory (λ join. join) result (judged (kind table.now) table.now.id bytes.now) }
+    pub fn resume(
+        alloc: Global,
+        table: &Table,
+        window: Window,
+        bytes: &[u8],
+    ) -> Result<Join, StateFault>
+        ensures { GivesOrMemory (λ join. join) result (judged (kind table.now) table.now.id window bytes.now) }
     {
         let value = parsed(alloc, bytes)?;
-        if !has_format(&value) {
-            return Err(StateFault::Format);
-        }
-        let state = read_state(alloc, &value)?;
+        let format = format_in(&value)?;
+        let state = read_state(alloc, format, window, &value)?;
         if state.id != table.id() {
             return Err(StateFault::TableDiffers);
         }
-        let SpelledState { id, counts, groups } = state;
-        Join::of_state(alloc, table, id, counts, &groups)
+        if state.window != u64::from(window.get()) {
+            return Err(StateFault::WindowDiffers);
+        }
+        if !waits_hold(format, &state) {
+            return Err(StateFault::Invalid);
+        }
+        let SpelledState {
+            id,
+            counts,
+            groups,
+            ..
+        } = state;
+        Join::of_state(alloc, table, id, window, counts, &groups)
     }
 
     /// The text of its state, from which `resume` goes on: JSON, as docs/PROFILE.md has it, without an LF.
     ///
-    /// It reads back under a table of the join's id in which the PGNs of its groups are fast ones: so under the table that
-    /// the join was made with, where its lines were taken with that one too.
+    /// It reads back under the join's window and a table of the join's id in which the PGNs of its groups are fast ones: so
+    /// under the table that the join was made with, where its lines were taken with that one too. It is of format 2, but of
+    /// format 1 where a group's window has ended: that state was read in format 1, and has taken no line since.
     pub fn save(&self, alloc: Global) -> Result<Vec<u8>, AllocError>
         ensures text { IfOk result (λ text. text.items ≡ state_text self.now) }
         ensures bounded { IfOk result (λ text. length text.items ≤ bare_bytes + group_bytes * length self.now.groups) }
-        ensures reads_back { (kind : ℕ → Option Kind) → AreFast kind self.now.groups → IsId self.now.id → judged kind self.now.id (state_text self.now) ≡ Ok self.now }
+        ensures reads_back { (kind : ℕ → Option Kind) → AreFast kind self.now.groups → IsId self.now.id → judged kind self.now.id self.now.rule (state_text self.now) ≡ Ok self.now }
     {
         laws::state_reads_back();
-        state_text(alloc, &self.id, &self.counts, &self.groups)
+        state_text(alloc, &self.id, self.window, &self.counts, &self.groups)
     }
 }

@@ -1,5 +1,5 @@
 //! Laws that hold of the definitions: each is the contract of a function that does nothing.
-ghost use Rattle.std.specs.Prelude.{◌≡◌, ◌≤◌, ℕ, All, true, List, [], length, Ok, Option, Some, is_some};
+ghost use Rattle.std.specs.Prelude.{◌≡◌, ◌≤◌, ◌≢◌, ℕ, Bool, All, true, List, [], length, Ok, Err, Option, Some, is_some};
 ghost use Rattle.n2k_wire.specs.declared.entry.Entry.{Entry};
 ghost use Rattle.n2k_wire.specs.Entry.{IsEntry};
 ghost use Rattle.n2k_wire.specs.Packet.{PacketParts, IsPacketParts};
@@ -7,48 +7,55 @@ ghost use Rattle.n2k_table.specs.declared.definition.Kind.{Kind};
 ghost use Rattle.n2k_table.specs.declared.definition.Kind.TheVariants.{Fast};
 ghost use Rattle.n2k_join.specs.Counts.{most_lines};
 ghost use Rattle.n2k_join.specs.Pieces.{Sending, split, written};
-ghost use Rattle.n2k_join.specs.Frames.{Frame};
+ghost use Rattle.n2k_join.specs.Frames.{Key, Frame, frames};
+ghost use Rattle.n2k_join.specs.Groups.{within};
 ghost use Rattle.n2k_join.specs.Scattered.{IsScattered, IsMute, WrittenLog};
 ghost use Rattle.n2k_join.specs.Replay.{Replays};
-ghost use Rattle.n2k_join.specs.Messages.{cause_in};
-ghost use Rattle.n2k_join.specs.Laws.{CutJoins, CutFirst, CutGrows, StepsAgree, LinesStay, BadAlone};
+ghost use Rattle.n2k_join.specs.Messages.{Keyed, cause_in, gathered};
+ghost use Rattle.n2k_join.specs.Laws.{CutJoins, CutFirst, CutGrows, StepsAgree, LinesStay, BadAlone, ExpiresFirst};
+ghost use Rattle.n2k_join.specs.Open.{Group};
+ghost use Rattle.n2k_join.specs.Step.{due};
 ghost use Rattle.n2k_join.specs.Resumed.{judged};
+ghost use Rattle.n2k_join.specs.Rules.{HasShape, RulesAreOne};
+ghost use Rattle.n2k_join.specs.declared.state_fault.StateFault.TheVariants.{WindowDiffers};
 ghost use Rattle.n2k_join.specs.Saved.{IsId, state_text};
-ghost use Rattle.n2k_join.specs.State.{State, IsState, AreFast, state, step_after};
-ghost use Rattle.n2k_join.specs.Arrival.{PiecesJoin, ArriveWhole, ComesNext, Heals};
+ghost use Rattle.n2k_join.specs.State.{State, IsState, AreFast, AreWaiting, state, step_after};
+ghost use Rattle.n2k_join.specs.Window.{Rule, IsWindow};
+ghost use Rattle.n2k_join.specs.Arrival.{PiecesJoin, ArriveWhole, ComesNext, LeavesZero, Heals};
+ghost use Rattle.n2k_join.specs.Transmission.{AreTransmissions, ComesOfOne};
 
 /// The groups that frames are cut into are the frames in their order; none is empty, and none has a number twice.
 pub fn cut_joins()
-    ensures { (fs : List Frame) → CutJoins fs }
+    ensures { (rule : Rule) (fs : List Frame) → CutJoins rule fs }
 {}
 
 /// What the groups are, in other words: no frames have none; of others the first is the shortest front that has ended,
-/// because it is complete, or no frame follows, or the next one's number is in it; and the rest is cut likewise.
+/// because it is complete, or no frame follows, or it ends before the next one; and the rest is cut likewise.
 pub fn cut_first()
-    ensures { (fs : List Frame) → CutFirst fs }
+    ensures { (rule : Rule) (fs : List Frame) → CutFirst rule fs }
 {}
 
 /// One frame more at the end leaves each group that is complete, and each that is broken, as it was, and broken at the
 /// same line.
 pub fn cut_grows()
-    ensures { (fs : List Frame) (x : Frame) → CutGrows fs x }
+    ensures { (rule : Rule) (fs : List Frame) (x : Frame) → CutGrows rule fs x }
 {}
 
 /// The step knows only the state, and yet agrees with the whole log: from the state of a log it leads to the state of the
 /// log with the entry, and gives the message, the cause and the broken groups of that one's last line.
 pub fn steps_agree()
-    ensures { (id : List ℕ) (kind : ℕ → Option Kind) (es : List Entry) (e : Entry) → StepsAgree id kind es e }
+    ensures { (id : List ℕ) (rule : Rule) (kind : ℕ → Option Kind) (es : List Entry) (e : Entry) → IsWindow rule.window → StepsAgree id rule kind es e }
 {}
 
 /// One entry more leaves each earlier line what it gave.
 pub fn lines_stay()
-    ensures { (kind : ℕ → Option Kind) (es : List Entry) (e : Entry) → LinesStay kind es e }
+    ensures { (rule : Rule) (kind : ℕ → Option Kind) (es : List Entry) (e : Entry) → IsWindow rule.window → LinesStay rule kind es e }
 {}
 
 /// A bad line is bad alone: with an empty line in its place every message, every broken group and every open group stays,
 /// and so does every count but that of bad lines, which is one less.
 pub fn bad_alone()
-    ensures { (kind : ℕ → Option Kind) (front : List Entry) (e : Entry) (back : List Entry) → is_some (cause_in kind e) ≡ true → BadAlone kind front e back }
+    ensures { (rule : Rule) (kind : ℕ → Option Kind) (front : List Entry) (e : Entry) (back : List Entry) → is_some (cause_in kind e) ≡ true → BadAlone rule kind front e back }
 {}
 
 /// What a new splitter makes of messages, with one counter a stream, is what the whole list says: each message's
@@ -66,39 +73,75 @@ pub fn pieces_join()
 /// Messages whose frames are scattered over a log arrive whole, each key's in their order: no group is broken, and none
 /// stays open. Where no entry gives a message alone, the log gives these messages and no other.
 pub fn arrives_whole()
-    ensures whole { (kind : ℕ → Option Kind) (ms : List PacketParts) (es : List Entry) → IsScattered kind ms es → ArriveWhole kind ms es }
-    ensures given_back { (kind : ℕ → Option Kind) (ms : List PacketParts) (es : List Entry) → IsScattered kind ms es → IsMute kind es → Replays kind ms es }
+    ensures whole { (rule : Rule) (kind : ℕ → Option Kind) (ms : List PacketParts) (es : List Entry) → IsWindow rule.window → IsScattered rule kind ms es → ArriveWhole rule kind ms es }
+    ensures given_back { (rule : Rule) (kind : ℕ → Option Kind) (ms : List PacketParts) (es : List Entry) → IsWindow rule.window → IsScattered rule kind ms es → IsMute kind es → Replays rule kind ms es }
 {}
 
 /// The frames of fast packets that are written, a line each and in their order, make a log over which the messages are
 /// scattered, and which gives no message alone: so `arrives_whole` speaks of it.
 pub fn written_is_scattered()
-    ensures { (kind : ℕ → Option Kind) (ms : List PacketParts) → All IsPacketParts ms → All (λ (m : PacketParts). kind m.id.pgn ≡ Some Fast) ms → WrittenLog kind ms }
+    ensures { (rule : Rule) (kind : ℕ → Option Kind) (ms : List PacketParts) → IsWindow rule.window → All IsPacketParts ms → All (λ (m : PacketParts). kind m.id.pgn ≡ Some Fast) ms → WrittenLog rule kind ms }
 {}
 
-/// A key heals: where the next frames of a key are the pieces of one message by rising number, and what the key has
-/// open, if anything, has frame 0, the message is given at the line of its last piece, and what was open is broken at the
-/// line of its first. So with a sender in rising order a lost frame other than frame 0 costs its own message alone.
+/// A key heals: where the next frames of a key are the pieces of one message by rising number, within the window, and what
+/// the key has open, if anything, has frame 0, the message is given at the line of its last piece, and what was open is
+/// broken at the line of its first, or where its own window ends before. So with a sender in rising order a lost frame
+/// other than frame 0 costs its own message alone.
 pub fn heals()
-    ensures { (kind : ℕ → Option Kind) (front back : List Entry) (x : Sending) (group after : List Frame) → ComesNext kind front back x group after → Heals kind front back x group }
+    ensures { (rule : Rule) (kind : ℕ → Option Kind) (front back : List Entry) (x : Sending) (group after : List Frame) → IsWindow rule.window → ComesNext rule kind front back x group after → LeavesZero rule kind front x → Heals rule kind front back x group }
 {}
 
-/// The text of a state, read under its own table, gives that state: for every state that a join can have, whose open groups
-/// are of fast PGNs of the table.
+/// In order a key heals whatever was lost: nothing is asked of what it has open.
+pub fn heals_in_order()
+    ensures { (rule : Rule) (kind : ℕ → Option Kind) (front back : List Entry) (x : Sending) (group after : List Frame) → rule.in_order ≡ true → ComesNext rule kind front back x group after → Heals rule kind front back x group }
+{}
+
+/// In order each message of a group is of one transmission: its frames stand in the log in the order of their numbers, 0 to
+/// the last, with no other frame of the key between them.
+pub fn one_transmission()
+    ensures groups { (rule : Rule) (kind : ℕ → Option Kind) (es : List Entry) (key : Key) → rule.in_order ≡ true → AreTransmissions rule kind es key }
+    ensures messages { (rule : Rule) (kind : ℕ → Option Kind) (es : List Entry) (line : ℕ) (m : Keyed) → rule.in_order ≡ true → gathered (within rule) (frames kind es) line ≡ Some m → ComesOfOne kind es line m }
+{}
+
+/// The rules of a valid state are one: those that a text is asked for, and those that the state of each join keeps. So each
+/// text that is read spells a state that a join can have.
+pub fn rules_are_one()
+    ensures one { (kind : ℕ → Option Kind) (s : State) → HasShape s → RulesAreOne kind s }
+    ensures read { (kind : ℕ → Option Kind) (id : List ℕ) (rule : Rule) (bytes : List ℕ) (s : State) → IsWindow rule.window → judged kind id rule bytes ≡ Ok s → IsState s }
+{}
+
+/// The text of a state, read under its own table and window, gives that state, with the order of frames as it is asked for:
+/// for every state that a join can have, whose open groups are of fast PGNs of the table. Under another window it is
+/// refused, where no group's window has ended.
 pub fn state_reads_back()
-    ensures { (kind : ℕ → Option Kind) (s : State) → IsState s → AreFast kind s.groups → IsId s.id → judged kind s.id (state_text s) ≡ Ok s }
+    ensures same { (kind : ℕ → Option Kind) (s : State) → IsState s → AreFast kind s.groups → IsId s.id → judged kind s.id s.rule (state_text s) ≡ Ok s }
+    ensures any_order { (kind : ℕ → Option Kind) (s : State) (order : Bool) → IsState s → AreFast kind s.groups → IsId s.id
+        → judged kind s.id (record { window = s.rule.window; in_order = order }) (state_text s) ≡ Ok (record { id = s.id; rule = record { window = s.rule.window; in_order = order }; counts = s.counts; groups = s.groups }) }
+    ensures other_window { (kind : ℕ → Option Kind) (s : State) (rule : Rule) → IsState s → AreWaiting s → IsId s.id → s.rule.window ≢ rule.window → judged kind s.id rule (state_text s) ≡ Err WindowDiffers }
 {}
 
 /// So a join that goes on under one table is read back: before the first line no group is open; those of a state that was
 /// read are of fast PGNs of the table that it was read with, whose id it has; and each further line leaves them such.
 pub fn groups_stay_fast()
-    ensures new { (kind : ℕ → Option Kind) (id : List ℕ) → AreFast kind (state id kind []).groups }
-    ensures read { (kind : ℕ → Option Kind) (id bytes : List ℕ) (s : State) → judged kind id bytes ≡ Ok s → AreFast kind s.groups }
-    ensures same_table { (kind : ℕ → Option Kind) (id bytes : List ℕ) (s : State) → judged kind id bytes ≡ Ok s → s.id ≡ id }
-    ensures step { (kind : ℕ → Option Kind) (s : State) (e : Entry) → AreFast kind s.groups → AreFast kind (step_after kind s e).groups }
+    ensures new { (kind : ℕ → Option Kind) (id : List ℕ) (rule : Rule) → AreFast kind (state id rule kind []).groups }
+    ensures read { (kind : ℕ → Option Kind) (id : List ℕ) (rule : Rule) (bytes : List ℕ) (s : State) → judged kind id rule bytes ≡ Ok s → AreFast kind s.groups }
+    ensures same_table { (kind : ℕ → Option Kind) (id : List ℕ) (rule : Rule) (bytes : List ℕ) (s : State) → judged kind id rule bytes ≡ Ok s → s.id ≡ id }
+    ensures same_rule { (kind : ℕ → Option Kind) (id : List ℕ) (rule : Rule) (bytes : List ℕ) (s : State) → judged kind id rule bytes ≡ Ok s → s.rule ≡ rule }
+    ensures step { (kind : ℕ → Option Kind) (s : State) (e : Entry) → IsWindow s.rule.window → AreFast kind s.groups → AreFast kind (step_after kind s e).groups }
 {}
 
 /// What is saved after a log reads back: for every log of entries that lines can be, with no more lines than are counted.
 pub fn saved_log_reads_back()
-    ensures { (kind : ℕ → Option Kind) (id : List ℕ) (es : List Entry) → IsId id → All IsEntry es → length es ≤ most_lines → judged kind id (state_text (state id kind es)) ≡ Ok (state id kind es) }
+    ensures { (kind : ℕ → Option Kind) (id : List ℕ) (rule : Rule) (es : List Entry) → IsWindow rule.window → IsId id → All IsEntry es → length es ≤ most_lines → judged kind id rule (state_text (state id rule kind es)) ≡ Ok (state id rule kind es) }
+{}
+
+/// A group whose window ends at the next line is broken before that line is taken, or at it: so `Join::expire` until it
+/// answers `None`, and then `Join::line`, make one step.
+pub fn expires_first()
+    ensures { (kind : ℕ → Option Kind) (s : State) (e : Entry) (group : Group) → IsState s → due s ≡ Some group → ExpiresFirst kind s e group }
+{}
+
+/// Where no group's window has ended, no more groups are open than the window has lines.
+pub fn few_open()
+    ensures { (s : State) → IsState s → AreWaiting s → length s.groups ≤ s.rule.window }
 {}

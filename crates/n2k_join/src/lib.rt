@@ -1,9 +1,10 @@
 //! Groups of frames that make fast packets, and the counts of a log.
 //!
-//! - `Join::new` is the join before the first line, and `Join::line` takes the next line, as its entry: it answers
-//!   the message that the line is or completes, why it is bad, and the group that it breaks (`Step`, `Broken`).
-//!   A line that can't be taken (`JoinFault`) leaves the join as it was. `Join::lend` does the same, and lends the
-//!   message (`LentStep`).
+//! - `Window` says what ends a group that isn't complete: a number of lines, and, where asked, the order of the numbers.
+//! - `Join::new` is the join before the first line. Before each line `Join::expire` breaks the groups whose window ends at
+//!   it, one a call. `Join::line` then takes the line, as its entry: it answers the message that the line is or
+//!   completes, why it is bad, and the group that its frame breaks (`Step`, `Broken`). A line that can't be taken
+//!   (`JoinFault`) leaves the join as it was. `Join::lend` does the same, and lends the message (`LentStep`).
 //! - `Join::counts` are the lines, messages, bad lines, unknown PGNs, broken and open groups so far (`Counts`).
 //! - `Join::save` writes the state of a join as text, and `Join::resume` goes on from one, or says why it is refused
 //!   (`StateFault`).
@@ -32,6 +33,7 @@ mod state_fault;
 mod step;
 mod stream;
 mod taking;
+mod window;
 
 pub use broken::Broken;
 pub use counts::{Counts, MOST_LINES};
@@ -42,6 +44,7 @@ pub use splitter::Splitter;
 pub use state_fault::StateFault;
 pub use step::{LentStep, Step};
 pub use stream::Stream;
+pub use window::Window;
 
 #[cfg(test)]
 mod tests;

@@ -114,6 +114,7 @@ pub(crate) fn packet_of(entry: Entry) -> Option<Packet>
 // A frame of a fast PGN.
 #[tactic(auto, unfolding(crate::specs::Frames::fast_frame))]
 fn take_fast(
+    in_order: bool,
     groups: &mut IndexMap<FrameKey, OpenGroup>,
     line: u64,
     packet: &Packet,
@@ -122,16 +123,16 @@ fn take_fast(
     requires open { AllByRecursion IsOpen (groups_in groups.old.entries) }
     requires apart { AreApart (groups_in groups.old.entries) }
     requires none { joined.old ≡ None }
-    ensures given { IfOk result (λ o. told o (Some packet.now) joined.new ≡ gives_by None (fast_cause (Some Fast) packet.now) (groups_in groups.old.entries) (fast_frame line packet.now)) }
+    ensures given { IfOk result (λ o. told o (Some packet.now) joined.new ≡ gives_by in_order None (fast_cause (Some Fast) packet.now) (groups_in groups.old.entries) (fast_frame line packet.now)) }
     ensures unknown { IfOk result (λ o. o.is_unknown ≡ false) }
-    ensures groups { OnOk result (groups_in groups.new.entries ≡ leaves_by (groups_in groups.old.entries) (fast_frame line packet.now)) }
+    ensures groups { OnOk result (groups_in groups.new.entries ≡ leaves_by in_order (groups_in groups.old.entries) (fast_frame line packet.now)) }
     ensures unchanged { OnErr result (groups.new.entries ≡ groups.old.entries) }
     ensures memory { OnErr result (opens_by (groups_in groups.old.entries) (fast_frame line packet.now) ≡ true) }
 {
     let Some(frame) = fast_frame(packet) else {
         return Ok(Outcome::of_bad(BadCause::Fast));
     };
-    let broken = take_frame(groups, line, &frame, packet, joined)?;
+    let broken = take_frame(in_order, groups, line, &frame, packet, joined)?;
     Ok(Outcome {
         is_own: false,
         bad: None,
@@ -142,6 +143,7 @@ fn take_fast(
 
 // A frame whose PGN is sent as its kind says.
 fn take_packet(
+    in_order: bool,
     groups: &mut IndexMap<FrameKey, OpenGroup>,
     line: u64,
     kind: Option<Kind>,
@@ -151,21 +153,22 @@ fn take_packet(
     requires open { AllByRecursion IsOpen (groups_in groups.old.entries) }
     requires apart { AreApart (groups_in groups.old.entries) }
     requires none { joined.old ≡ None }
-    ensures given { IfOk result (λ o. told o (Some packet.now) joined.new ≡ gives_by (single_by kind packet.now) (fast_cause kind packet.now) (groups_in groups.old.entries) (frame_by kind line packet.now)) }
+    ensures given { IfOk result (λ o. told o (Some packet.now) joined.new ≡ gives_by in_order (single_by kind packet.now) (fast_cause kind packet.now) (groups_in groups.old.entries) (frame_by kind line packet.now)) }
     ensures unknown { IfOk result (λ o. o.is_unknown ≡ not (is_some kind)) }
-    ensures groups { OnOk result (groups_in groups.new.entries ≡ leaves_by (groups_in groups.old.entries) (frame_by kind line packet.now)) }
+    ensures groups { OnOk result (groups_in groups.new.entries ≡ leaves_by in_order (groups_in groups.old.entries) (frame_by kind line packet.now)) }
     ensures unchanged { OnErr result (groups.new.entries ≡ groups.old.entries) }
     ensures memory { OnErr result (opens_by (groups_in groups.old.entries) (frame_by kind line packet.now) ≡ true) }
 {
     match kind {
         None => Ok(Outcome::of_nothing(true)),
         Some(Kind::Single) => Ok(Outcome::of_own()),
-        Some(Kind::Fast) => take_fast(groups, line, packet, joined),
+        Some(Kind::Fast) => take_fast(in_order, groups, line, packet, joined),
     }
 }
 
 /// Takes the entry of a line into the open groups. The message of a group that it completes goes to `joined`.
 pub(crate) fn take_entry(
+    in_order: bool,
     groups: &mut IndexMap<FrameKey, OpenGroup>,
     line: u64,
     table: &Table,
@@ -175,9 +178,9 @@ pub(crate) fn take_entry(
     requires open { AllByRecursion IsOpen (groups_in groups.old.entries) }
     requires apart { AreApart (groups_in groups.old.entries) }
     requires none { joined.old ≡ None }
-    ensures given { let k = kind table.now in IfOk result (λ o. told o (packet_in entry.now) joined.new ≡ gives_by (alone k entry.now) (cause_in k entry.now) (groups_in groups.old.entries) (frame_in k line entry.now)) }
+    ensures given { let k = kind table.now in IfOk result (λ o. told o (packet_in entry.now) joined.new ≡ gives_by in_order (alone k entry.now) (cause_in k entry.now) (groups_in groups.old.entries) (frame_in k line entry.now)) }
     ensures unknown { IfOk result (λ o. o.is_unknown ≡ is_unknown (kind table.now) entry.now) }
-    ensures groups { OnOk result (groups_in groups.new.entries ≡ leaves_by (groups_in groups.old.entries) (frame_in (kind table.now) line entry.now)) }
+    ensures groups { OnOk result (groups_in groups.new.entries ≡ leaves_by in_order (groups_in groups.old.entries) (frame_in (kind table.now) line entry.now)) }
     ensures unchanged { OnErr result (groups.new.entries ≡ groups.old.entries) }
     ensures memory { OnErr result (opens_by (groups_in groups.old.entries) (frame_in (kind table.now) line entry.now) ≡ true) }
 {
@@ -186,7 +189,7 @@ pub(crate) fn take_entry(
         Entry::Bad(cause) => Ok(Outcome::of_bad(*cause)),
         Entry::Frame(packet) => {
             let kind = table.kind(packet.id().pgn);
-            take_packet(groups, line, kind, packet, joined)
+            take_packet(in_order, groups, line, kind, packet, joined)
         }
         Entry::Whole(packet) => match table.kind(packet.id().pgn) {
             None => Ok(Outcome::of_nothing(true)),

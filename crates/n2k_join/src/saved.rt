@@ -9,13 +9,16 @@ mod text;
 mod value;
 
 pub(crate) use reader::read_state;
-pub(crate) use resume::{has_format, parsed, stored_groups};
-pub(crate) use rules::rules_hold;
+pub(crate) use resume::{format_in, parsed, stored_groups};
+pub(crate) use rules::{rules_hold, waits_hold};
 pub(crate) use spelled::{SpelledGroup, SpelledState};
 pub(crate) use text::state_text;
 
-/// The format of the states that are written and read.
-pub(crate) const SAVED_FORMAT: u64 = 1;
+/// The format of a state that tells its window.
+pub(crate) const SAVED_FORMAT: u64 = 2;
+
+/// The format of one that doesn't.
+pub(crate) const OLD_FORMAT: u64 = 1;
 
 #[cfg(test)]
 mod tests;

@@ -5,13 +5,14 @@ ghost use Rattle.n2k_join.specs.declared.state_fault.StateFault.TheVariants.{Mem
 use std::alloc::{AllocError, AllocFailed};
 use thiserror::Error;
 
-/// Why a saved state is refused. The numbers are those that users see; the first that stands is answered.
+/// Why a saved state is refused. The numbers are those that users see. The first that stands is answered, where
+/// `WindowDiffers` goes before `Invalid`.
 #[derive(Clone, Copy, PartialEq, Eq, Debug, Error)]
 pub enum StateFault {
     /// The bytes are not UTF-8, or no JSON text.
     #[error("1 NotJson")]
     NotJson,
-    /// It isn't an object whose `format` is 1.
+    /// It isn't an object whose `format` is 1 or 2.
     #[error("2 Format")]
     Format,
     /// A member is missing, unknown, or of another kind than its name asks.
@@ -26,6 +27,9 @@ pub enum StateFault {
     /// A growth was refused.
     #[error("6 Memory")]
     Memory,
+    /// It was saved under another window.
+    #[error("7 WindowDiffers")]
+    WindowDiffers,
 }
 
 impl From<AllocError> for StateFault {

@@ -2,9 +2,8 @@
 ghost use Rattle.std.specs.Prelude.{◌≡◌, ℕ, Some, None, ◌<◌, ◌≤◌, ◌++◌, [], ◌∷◌, OnOk, OnErr, IfOk, IfSome, position, true, false};
 ghost use Rattle.std.specs.List.{AllByRecursion};
 ghost use Rattle.n2k_join.specs.Frames.{same_key};
-ghost use Rattle.n2k_join.specs.Groups.{has_number};
-ghost use Rattle.n2k_join.specs.State.{held_of, IsOpen, AreApart};
-ghost use Rattle.n2k_join.specs.Inner.Stored.{key_of, frame_of, of_the_key, groups_after, gained, lost};
+ghost use Rattle.n2k_join.specs.State.{IsOpen, AreApart};
+ghost use Rattle.n2k_join.specs.Inner.Stored.{bars, key_of, frame_of, of_the_key, groups_after, gained, lost};
 ghost use Rattle.n2k_join.specs.Inner.Slots.{groups_in};
 
 use crate::broken::Broken;
@@ -22,6 +21,7 @@ fn place_of(groups: &IndexMap<FrameKey, OpenGroup>, key: &FrameKey) -> Option<us
 
 // Begins the group of a frame whose key has none, as the last, or gives its message where the frame completes it alone.
 fn open_last(
+    in_order: bool,
     groups: &mut IndexMap<FrameKey, OpenGroup>,
     line: u64,
     frame: &FastFrame,
@@ -30,8 +30,8 @@ fn open_last(
 ) -> Result<(), AllocError>
     requires place { position (λ g. same_key (key_of frame.now.key) g.key) (groups_in groups.old.entries) ≡ None }
     requires none { joined.old ≡ None }
-    ensures message { let x = frame_of line packet.now frame.now in OnOk result (joined.new ≡ gained x (of_the_key x.key (groups_in groups.old.entries))) }
-    ensures groups { OnOk result (groups_in groups.new.entries ≡ groups_after (groups_in groups.old.entries) (frame_of line packet.now frame.now)) }
+    ensures message { let x = frame_of line packet.now frame.now in OnOk result (joined.new ≡ gained in_order x (of_the_key x.key (groups_in groups.old.entries))) }
+    ensures groups { OnOk result (groups_in groups.new.entries ≡ groups_after in_order (groups_in groups.old.entries) (frame_of line packet.now frame.now)) }
     ensures unchanged { OnErr result (groups.new.entries ≡ groups.old.entries) }
 {
     let group = OpenGroup::open(line, frame);
@@ -43,8 +43,10 @@ fn open_last(
     Ok(())
 }
 
-// Takes a frame into the group of its key, which lacks its number. Where that completes it, it goes and gives its message.
+// Takes a frame into the group of its key, which has a place for it. Where that completes it, it goes and gives its
+// message.
 fn join_at(
+    in_order: bool,
     groups: &mut IndexMap<FrameKey, OpenGroup>,
     at: usize,
     frame: &FastFrame,
@@ -54,10 +56,10 @@ fn join_at(
     requires open { AllByRecursion IsOpen (groups_in groups.old.entries) }
     requires apart { AreApart (groups_in groups.old.entries) }
     requires place { position (λ g. same_key (key_of frame.now.key) g.key) (groups_in groups.old.entries) ≡ Some at }
-    requires missing { IfSome (of_the_key (key_of frame.now.key) (groups_in groups.old.entries)) (λ o. has_number frame.now.piece.number (held_of o) ≡ false) }
+    requires missing { IfSome (of_the_key (key_of frame.now.key) (groups_in groups.old.entries)) (λ o. bars in_order frame.now.piece.number o ≡ false) }
     requires none { joined.old ≡ None }
-    ensures message { (line : ℕ) → let x = frame_of line packet.now frame.now in joined.new ≡ gained x (of_the_key x.key (groups_in groups.old.entries)) }
-    ensures groups { (line : ℕ) → groups_in groups.new.entries ≡ groups_after (groups_in groups.old.entries) (frame_of line packet.now frame.now) }
+    ensures message { (line : ℕ) → let x = frame_of line packet.now frame.now in joined.new ≡ gained in_order x (of_the_key x.key (groups_in groups.old.entries)) }
+    ensures groups { (line : ℕ) → groups_in groups.new.entries ≡ groups_after in_order (groups_in groups.old.entries) (frame_of line packet.now frame.now) }
 {
     let Some(group) = groups.get_index_mut(at) else {
         unreachable!()
@@ -69,9 +71,10 @@ fn join_at(
     }
 }
 
-// Ends the group of a frame's key, which has its number, and begins another with the frame: in the same memory, and as
-// the last. Where the frame completes it alone, it goes and gives its message.
+// Ends the group of a frame's key, which has no place for it, and begins another with the frame: in the same memory, and
+// as the last. Where the frame completes it alone, it goes and gives its message.
 fn reopen_at(
+    in_order: bool,
     groups: &mut IndexMap<FrameKey, OpenGroup>,
     at: usize,
     line: u64,
@@ -82,11 +85,11 @@ fn reopen_at(
     requires open { AllByRecursion IsOpen (groups_in groups.old.entries) }
     requires apart { AreApart (groups_in groups.old.entries) }
     requires place { position (λ g. same_key (key_of frame.now.key) g.key) (groups_in groups.old.entries) ≡ Some at }
-    requires there { IfSome (of_the_key (key_of frame.now.key) (groups_in groups.old.entries)) (λ o. has_number frame.now.piece.number (held_of o) ≡ true) }
+    requires there { IfSome (of_the_key (key_of frame.now.key) (groups_in groups.old.entries)) (λ o. bars in_order frame.now.piece.number o ≡ true) }
     requires none { joined.old ≡ None }
-    ensures message { let x = frame_of line packet.now frame.now in joined.new ≡ gained x (of_the_key x.key (groups_in groups.old.entries)) }
-    ensures broken { let x = frame_of line packet.now frame.now in Some result ≡ lost x (of_the_key x.key (groups_in groups.old.entries)) }
-    ensures groups { groups_in groups.new.entries ≡ groups_after (groups_in groups.old.entries) (frame_of line packet.now frame.now) }
+    ensures message { let x = frame_of line packet.now frame.now in joined.new ≡ gained in_order x (of_the_key x.key (groups_in groups.old.entries)) }
+    ensures broken { let x = frame_of line packet.now frame.now in Some result ≡ lost in_order x (of_the_key x.key (groups_in groups.old.entries)) }
+    ensures groups { groups_in groups.new.entries ≡ groups_after in_order (groups_in groups.old.entries) (frame_of line packet.now frame.now) }
 {
     let Some(group) = groups.get_index_mut(at) else {
         unreachable!()
@@ -106,6 +109,7 @@ fn reopen_at(
 /// Takes a frame into the open groups. The message that it completes goes to `joined`, and the group that it breaks is
 /// the answer. Memory is taken only where its key has none open.
 pub(crate) fn take_frame(
+    in_order: bool,
     groups: &mut IndexMap<FrameKey, OpenGroup>,
     line: u64,
     frame: &FastFrame,
@@ -115,19 +119,19 @@ pub(crate) fn take_frame(
     requires open { AllByRecursion IsOpen (groups_in groups.old.entries) }
     requires apart { AreApart (groups_in groups.old.entries) }
     requires none { joined.old ≡ None }
-    ensures message { let x = frame_of line packet.now frame.now in OnOk result (joined.new ≡ gained x (of_the_key x.key (groups_in groups.old.entries))) }
-    ensures broken { let x = frame_of line packet.now frame.now in IfOk result (λ b. b ≡ lost x (of_the_key x.key (groups_in groups.old.entries))) }
-    ensures groups { OnOk result (groups_in groups.new.entries ≡ groups_after (groups_in groups.old.entries) (frame_of line packet.now frame.now)) }
+    ensures message { let x = frame_of line packet.now frame.now in OnOk result (joined.new ≡ gained in_order x (of_the_key x.key (groups_in groups.old.entries))) }
+    ensures broken { let x = frame_of line packet.now frame.now in IfOk result (λ b. b ≡ lost in_order x (of_the_key x.key (groups_in groups.old.entries))) }
+    ensures groups { OnOk result (groups_in groups.new.entries ≡ groups_after in_order (groups_in groups.old.entries) (frame_of line packet.now frame.now)) }
     ensures unchanged { OnErr result (groups.new.entries ≡ groups.old.entries) }
     ensures memory { OnErr result (of_the_key (key_of frame.now.key) (groups_in groups.old.entries) ≡ None) }
 {
     let Some(at) = place_of(groups, &frame.key) else {
-        open_last(groups, line, frame, packet, joined)?;
+        open_last(in_order, groups, line, frame, packet, joined)?;
         return Ok(None);
     };
-    if groups[at].has(frame.piece.number) {
-        return Ok(Some(reopen_at(groups, at, line, frame, packet, joined)));
+    if groups[at].bars(in_order, frame.piece.number) {
+        return Ok(Some(reopen_at(in_order, groups, at, line, frame, packet, joined)));
     }
-    join_at(groups, at, frame, packet, joined);
+    join_at(in_order, groups, at, frame, packet, joined);
     Ok(None)
 }

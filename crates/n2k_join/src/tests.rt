@@ -1,5 +1,5 @@
 //! The worked examples of groups.
-use crate::{Counts, Join, JoinFault, Step};
+use crate::{Broken, Counts, Join, JoinFault, Step, Window};
 use n2k_table::{Table, TableFault};
 use n2k_wire::{BadCause, Packing, plain_text, read_line};
 use std::alloc::Global;
@@ -27,14 +27,29 @@ fn sample(alloc: Global) -> Result<ManuallyDrop<Table>, TableFault> {
     Ok(ManuallyDrop::new(Table::read(alloc, SAMPLE.as_bytes())?))
 }
 
+// A window that ends no group of the logs below.
+fn long_window() -> Window {
+    Window::new(10_000).unwrap()
+}
+
+fn shortest_window() -> Window {
+    Window::new(Window::SHORTEST).unwrap()
+}
+
+// A group that a line breaks, after the number of the line.
+fn push_broken(alloc: Global, line: u64, group: &Broken, text: &mut Vec<u8>) -> Result<(), Fail> {
+    let told = format!(in alloc;
+        "{line} broken {} {} {} {} {}\n",
+        group.pgn, group.src, group.dst, group.seq, group.first
+    )?;
+    text.extend_from_slice(told.as_bytes())?;
+    Ok(())
+}
+
 // What a line gave, after the number of the line: the group that it breaks, its cause, its message as a plain line.
 fn push_step(alloc: Global, line: u64, step: &Step, text: &mut Vec<u8>) -> Result<(), Fail> {
-    if let Some(broken) = &step.broken {
-        let told = format!(in alloc;
-            "{line} broken {} {} {} {} {}\n",
-            broken.pgn, broken.src, broken.dst, broken.seq, broken.first
-        )?;
-        text.extend_from_slice(told.as_bytes())?;
+    if let Some(group) = &step.broken {
+        push_broken(alloc, line, group, text)?;
     }
     if let Some(cause) = step.bad {
         let told = format!(in alloc; "{line} bad {cause:?}\n")?;
@@ -48,19 +63,47 @@ fn push_step(alloc: Global, line: u64, step: &Step, text: &mut Vec<u8>) -> Resul
     Ok(())
 }
 
-// Takes a line.
+// Takes a line. The groups whose window ends at it are broken before.
 fn take(join: &mut Join, table: &Table, line: &str) -> Result<Step, JoinFault> {
+    while join.expire().is_some() {}
     join.line(table, read_line(line.as_bytes(), Packing::Frames))
 }
 
-// What the lines of a log gave, and the six counts after them.
-fn told(alloc: Global, log: &str) -> Result<Vec<u8>, Fail> {
+// Takes a line, and tells what it gave.
+fn tell(
+    alloc: Global,
+    join: &mut Join,
+    table: &Table,
+    line: &str,
+    text: &mut Vec<u8>,
+) -> Result<(), Fail> {
+    let number = join.counts().lines.saturating_add(1);
+    while let Some(group) = join.expire() {
+        push_broken(alloc, number, &group, text)?;
+    }
+    let step = join.line(table, read_line(line.as_bytes(), Packing::Frames))?;
+    push_step(alloc, number, &step, text)
+}
+
+// What the lines of a log gave, and the six counts after them. So many empty lines stand between its two parts.
+fn told_apart(
+    alloc: Global,
+    window: Window,
+    front: &str,
+    between: u8,
+    back: &str,
+) -> Result<Vec<u8>, Fail> {
     let table = sample(alloc)?;
-    let mut join = Join::new(alloc, &table);
+    let mut join = Join::new(alloc, &table, window);
     let mut text = Vec::new(alloc);
-    for line in log.lines() {
-        let step = take(&mut join, &table, line)?;
-        push_step(alloc, join.counts().lines, &step, &mut text)?;
+    for line in front.lines() {
+        tell(alloc, &mut join, &table, line, &mut text)?;
+    }
+    for _ in 0..between {
+        tell(alloc, &mut join, &table, "", &mut text)?;
+    }
+    for line in back.lines() {
+        tell(alloc, &mut join, &table, line, &mut text)?;
     }
     let Counts {
         lines,
@@ -73,6 +116,10 @@ fn told(alloc: Global, log: &str) -> Result<Vec<u8>, Fail> {
     let counts = format!(in alloc; "{lines} {messages} {bad} {unknown} {broken} {held}")?;
     text.extend_from_slice(counts.as_bytes())?;
     Ok(text)
+}
+
+fn told(alloc: Global, window: Window, log: &str) -> Result<Vec<u8>, Fail> {
+    told_apart(alloc, window, log, 0, "")
 }
 
 const TWO_SOURCES: &str = "(10.000001) can0 1DFF0405#000BA39901414243
@@ -98,6 +145,13 @@ const EXTRA_FRAME: &str = "(1.0) can0 1DFF0405#800DA39906414243
 const MIXED_MESSAGE: &str = "(1.0) can0 1DFF0405#0141414141414141
 (9.0) can0 1DFF0405#000DA39903444546";
 
+// The frame 0 of the first of two messages was lost.
+const FIRST_FRAME_LOST: &str = "(1.0) can0 1DFF0405#0141414141414141
+(2.0) can0 1DFF0405#0242424242424242
+(3.0) can0 1DFF0405#0014A39904474849
+(4.0) can0 1DFF0405#0120202020202020
+(5.0) can0 1DFF0405#0220202020202020";
+
 // A frame without a byte, a frame 0 without a total, a PGN that isn't in the table, a message of a single frame.
 const ODD_FRAMES: &str = "(1.0) can0 1DFF0405#
 (2.0) can0 1DFF0405#00
@@ -118,7 +172,7 @@ const SHORT_TOTALS: &str = "(1.0) can0 1DFF0405#0000FFFFFFFFFFFF
 
 #[test]
 fn groups_as_worked(rt: HostRuntime) -> Result<(), Fail> {
-    let cases: [(&str, &str); 8] = [
+    let cases: [(&str, &str); 9] = [
         (
             TWO_SOURCES,
             "3 1970-01-01T00:00:10.200Z,7,130820,6,255,11,a3,99,02,58,59,20,20,20,20,20,20
@@ -147,6 +201,11 @@ fn groups_as_worked(rt: HostRuntime) -> Result<(), Fail> {
 2 1 0 0 0 0",
         ),
         (
+            FIRST_FRAME_LOST,
+            "3 1970-01-01T00:00:03.000Z,7,130820,5,255,20,a3,99,04,47,48,49,41,41,41,41,41,41,41,42,42,42,42,42,42,42
+5 1 0 0 0 1",
+        ),
+        (
             ODD_FRAMES,
             "1 bad Fast
 2 bad Fast
@@ -168,9 +227,82 @@ fn groups_as_worked(rt: HostRuntime) -> Result<(), Fail> {
         ),
     ];
     for (log, expected) in cases {
-        let text = told(rt.alloc(), log)?;
+        let text = told(rt.alloc(), long_window(), log)?;
         assert_eq!(rt; text.as_slice(), expected.as_bytes());
     }
+    Ok(())
+}
+
+// The same logs in order: a lost frame 0 costs its own message, exchanged frames make none, and after a repeated frame the
+// frame 0 that comes next breaks what that one opened.
+#[test]
+fn groups_in_order(rt: HostRuntime) -> Result<(), Fail> {
+    let cases: [(&str, &str); 4] = [
+        (
+            FIRST_FRAME_LOST,
+            "3 broken 130820 5 255 0 1
+5 1970-01-01T00:00:05.000Z,7,130820,5,255,20,a3,99,04,47,48,49,20,20,20,20,20,20,20,20,20,20,20,20,20,20
+5 1 0 0 1 0",
+        ),
+        (
+            FRAMES_IN_REVERSE,
+            "2 broken 130820 5 255 2 1
+2 0 0 0 1 1",
+        ),
+        (
+            REPEAT_BREAKS,
+            "3 broken 130820 5 255 3 1
+4 broken 130820 5 255 3 3
+5 0 0 0 2 1",
+        ),
+        (
+            MIXED_MESSAGE,
+            "2 broken 130820 5 255 0 1
+2 0 0 0 1 1",
+        ),
+    ];
+    for (log, expected) in cases {
+        let text = told(rt.alloc(), long_window().in_order(), log)?;
+        assert_eq!(rt; text.as_slice(), expected.as_bytes());
+    }
+    Ok(())
+}
+
+// A window of 32 lines ends a group of line 1 at line 33, and not at line 32.
+#[test]
+fn stale_group(rt: HostRuntime) -> Result<(), Fail> {
+    let (front, back) = MIXED_MESSAGE.split_once("\n").ok_or("two lines")?;
+    let cases: [(u8, &str); 2] = [
+        (
+            31,
+            "33 broken 130820 5 255 0 1
+33 0 0 0 1 1",
+        ),
+        (
+            30,
+            "32 1970-01-01T00:00:09.000Z,7,130820,5,255,13,a3,99,03,44,45,46,41,41,41,41,41,41,41
+32 1 0 0 0 0",
+        ),
+    ];
+    for (between, expected) in cases {
+        let text = told_apart(rt.alloc(), shortest_window(), front, between, back)?;
+        assert_eq!(rt; text.as_slice(), expected.as_bytes());
+    }
+    Ok(())
+}
+
+// At line 33 the window of the first group ends, and a frame 0 repeats that of the second.
+const TWO_OPEN: &str = "(10.000001) can0 1DFF0405#000BA39901414243
+(10.100000) can0 1DFF0406#200BA39902585920";
+
+#[test]
+fn two_broken_at_one_line(rt: HostRuntime) -> Result<(), Fail> {
+    let again = "(10.100000) can0 1DFF0406#200BA39902585920";
+    let text = told_apart(rt.alloc(), shortest_window(), TWO_OPEN, 30, again)?;
+    let expected = "33 broken 130820 5 255 0 1
+33 broken 130820 6 255 1 2
+33 0 0 0 2 1";
+    assert_eq!(rt; text.as_slice(), expected.as_bytes());
     Ok(())
 }
 
@@ -179,12 +311,12 @@ fn groups_as_worked(rt: HostRuntime) -> Result<(), Fail> {
 fn longest_message(rt: HostRuntime) -> Result<(), Fail> {
     let alloc = rt.alloc();
     let table = sample(alloc)?;
-    let mut join = Join::new(alloc, &table);
+    let mut join = Join::new(alloc, &table, long_window());
     let first = take(&mut join, &table, "(1.0) can0 1DFF0405#00DFA399054A4B4C")?;
     assert!(rt; first.message.is_none());
     for number in 1..32u8 {
         let line = format!(in alloc; "({number}.0) can0 1DFF0405#{number:02X}20202020202020")?;
-        let step = join.line(&table, read_line(line.as_bytes(), Packing::Frames))?;
+        let step = take(&mut join, &table, &line)?;
         assert_eq!(rt; step.message.is_some(), number == 31);
         if let Some(message) = &step.message {
             assert_eq!(rt; message.data().len(), 223);
@@ -194,10 +326,7 @@ fn longest_message(rt: HostRuntime) -> Result<(), Fail> {
             );
         }
     }
-    let over = join.line(
-        &table,
-        read_line(b"(33.0) can0 1DFF0405#00E0A399054A4B4C", Packing::Frames),
-    )?;
+    let over = take(&mut join, &table, "(33.0) can0 1DFF0405#00E0A399054A4B4C")?;
     assert_eq!(rt; over.bad, Some(BadCause::Fast));
     Ok(())
 }
@@ -224,7 +353,7 @@ const EIGHT_UNDER_WAY: &str = "(1.0) can0 1DFF0405#010000000000FFFF
 fn eight_under_way(rt: HostRuntime) -> Result<(), Fail> {
     let alloc = rt.alloc();
     let table = sample(alloc)?;
-    let mut join = Join::new(alloc, &table);
+    let mut join = Join::new(alloc, &table, long_window());
     let mut kind = 8u8;
     for line in EIGHT_UNDER_WAY.lines() {
         let step = take(&mut join, &table, line)?;
@@ -272,7 +401,7 @@ fn take_though_refused(
 
 // The state after a log, and the counts.
 fn after(alloc: Global, table: &Table, log: &str) -> Result<(Vec<u8>, Counts), Fail> {
-    let mut join = Join::new(alloc, table);
+    let mut join = Join::new(alloc, table, long_window());
     for line in log.lines() {
         take_though_refused(alloc, table, &mut join, line)?;
     }

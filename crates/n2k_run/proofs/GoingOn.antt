@@ -1,17 +1,15 @@
 -- The output and the reports of a log that goes on, after those of its front.
-use Rattle.std.proofs.Common.{◌≡◌, ℕ, zero, suc, ◌+◌, ◌<◌, ◌≤◌, Bool, true, List, [], ◌∷◌, ◌++◌, length, Option, Result, Ok, Err, refl, sym, ap, ◌∙◌, subst, length-append, arith}
+use Rattle.std.proofs.Common.{◌≡◌, ℕ, zero, suc, ◌+◌, ◌<◌, ◌≤◌, List, [], ◌∷◌, ◌++◌, length, Option, Result, Ok, Err, refl, sym, ap, ◌∙◌, subst, length-append, arith}
 use Rattle.std.specs.Prelude.{option_and_then, slice_get}
 use mathlib.Core.Logic.{inl, inr}
 use Rattle.std.specs.List.{flat_map, range_with_len}
 use Rattle.std.specs.Io.{IsEmptyOrEndsWith}
 use Rattle.std.proofs.lemmas.Grind.{flat_map-append}
 use Rattle.n2k_wire.specs.declared.entry.Entry.{Entry}
-use Rattle.n2k_table.specs.declared.definition.Kind.{Kind}
 use Rattle.n2k_table.specs.Table.{TableParts, kind}
 use Rattle.n2k_join.specs.declared.state_fault.StateFault.{StateFault}
 use Rattle.n2k_join.specs.declared.state_fault.StateFault.TheVariants as state_faults
 use Rattle.n2k_join.specs.Counts.{most_lines}
-use Rattle.n2k_join.specs.Laws.{StepsAgree, LinesStay}
 use Rattle.n2k_join.specs.Messages.{broken, cause_in, entry_at, numbers}
 use Rattle.n2k_join.specs.State.{state}
 use Rattle.n2k_run.specs.declared.fault.RunFault.TheVariants as run_faults
@@ -27,7 +25,7 @@ use Rattle.n2k_run.specs.Reports.{line_report}
 use Rattle.n2k_run.specs.Runs.{Devices, Gained, HasFronts}
 use Rattle.n2k_run.proofs.Fronts.{entries-append}
 use Rattle.n2k_run.proofs.LimitLines.{taken_bytes}
-use Rattle.n2k_run.proofs.LogSteps.{broken_stay, messages_stay}
+use Rattle.n2k_run.proofs.LogSteps.{LogLaws, broken_stay, messages_stay}
 use Rattle.n2k_run.proofs.Parting.{line_fronts, told_ok, told_run, told_stopped}
 use Rattle.n2k_run.proofs.Ending.{of_log}
 use Rattle.n2k_run.proofs.Running.{known_more}
@@ -68,39 +66,39 @@ entry_stays : (front es : List Entry) (i : ℕ) → i ≤ length front → entry
 entry_stays front es zero within = refl
 entry_stays front es (suc k) within = get_stays front es k (omega (arith, within))
 
-module _ (agree : (id : List ℕ) (kind : ℕ → Option Kind) (es : List Entry) (e : Entry) → StepsAgree id kind es e) (stay : (kind : ℕ → Option Kind) (es : List Entry) (e : Entry) → LinesStay kind es e) (t : TableParts) where
-  pub out_of-append : (empty : Bool) (front es : List Entry) → out_of t empty (front ++ es) ≡ out_of t empty front ++ flat_map (text_at t empty (front ++ es)) (numbers_after front es)
-  out_of-append empty front es =
-      parts_of (text_at t empty (front ++ es)) (text_at t empty front) front es
-      (λ i low high. ap (message_line t empty) (messages_stay agree stay t empty t.id front es i low high))
+module _ (t : TableParts) (o : Options) (laws : LogLaws o.window) where
+  pub out_of-append : (front es : List Entry) → out_of t o (front ++ es) ≡ out_of t o front ++ flat_map (text_at t o (front ++ es)) (numbers_after front es)
+  out_of-append front es =
+      parts_of (text_at t o (front ++ es)) (text_at t o front) front es
+      (λ i low high. ap (message_line t o.empty) (messages_stay t o laws t.id front es i low high))
 
-  report_stays : (front es : List Entry) (i : ℕ) → i ≤ length front → report_at t (front ++ es) i ≡ report_at t front i
+  report_stays : (front es : List Entry) (i : ℕ) → i ≤ length front → report_at t o (front ++ es) i ≡ report_at t o front i
   report_stays front es i high =
-      ap (λ gs. line_report i gs (cause_at t (front ++ es) i)) (broken_stay agree stay t true t.id front es i high)
-      ∙ ap (λ e. line_report i (broken (kind t) front i) (option_and_then (cause_in (kind t)) e)) (entry_stays front es i high)
+      ap (λ gs. line_report i gs (cause_at t (front ++ es) i)) (broken_stay t o laws t.id front es i high)
+      ∙ ap (λ e. line_report i (broken o.window (kind t) front i) (option_and_then (cause_in (kind t)) e)) (entry_stays front es i high)
 
-  pub reports_of-append : (front es : List Entry) → reports_of t (front ++ es) ≡ reports_of t front ++ flat_map (report_at t (front ++ es)) (numbers_after front es)
-  reports_of-append front es = parts_of (report_at t (front ++ es)) (report_at t front) front es (λ i low high. report_stays front es i high)
+  pub reports_of-append : (front es : List Entry) → reports_of t o (front ++ es) ≡ reports_of t o front ++ flat_map (report_at t o (front ++ es)) (numbers_after front es)
+  reports_of-append front es = parts_of (report_at t o (front ++ es)) (report_at t o front) front es (λ i low high. report_stays front es i high)
 
-  module _ (o : Options) (front : List ℕ) (whole : IsEmptyOrEndsWith front line_feed) where
+  module _ (front : List ℕ) (whole : IsEmptyOrEndsWith front line_feed) where
     both : (more : List ℕ) → entries o.packing (front ++ more) ≡ entries o.packing front ++ entries o.packing more
     both more = entries-append o.packing front more whole
 
     output-on : (more : List ℕ) → out t o (front ++ more) ≡ out t o front ++ (output_after t o (entries o.packing front)).texts (entries o.packing more)
     unfolding out
-    output-on more = ap (out_of t o.empty) (both more) ∙ out_of-append o.empty (entries o.packing front) (entries o.packing more)
+    output-on more = ap (out_of t o) (both more) ∙ out_of-append (entries o.packing front) (entries o.packing more)
 
     reports-on : (more : List ℕ) → reports t o (front ++ more) ≡ reports t o front ++ (output_after t o (entries o.packing front)).reports (entries o.packing more)
     unfolding reports
-    reports-on more = ap (reports_of t) (both more) ∙ reports_of-append (entries o.packing front) (entries o.packing more)
+    reports-on more = ap (reports_of t o) (both more) ∙ reports_of-append (entries o.packing front) (entries o.packing more)
 
-    save-on : (more : List ℕ) (part : Part) → IsPartOf t (state_after t o (front ++ more)) part → part.state.items ≡ save t o (front ++ more)
+    save-on : (more : List ℕ) (part : Part) → IsPartOf t o (state_after t o (front ++ more)) part → part.state.items ≡ save t o (front ++ more)
     unfolding save
     save-on more part is = is.saved
 
-    goes_on : (more : List ℕ) (before after : Devices) (part : Part) → Gained (output_after t o (entries o.packing front)) before after (entries o.packing more) → IsPartOf t (state t.id (kind t) (entries o.packing front ++ entries o.packing more)) part → GoesOn t o front more before after part
+    goes_on : (more : List ℕ) (before after : Devices) (part : Part) → Gained (output_after t o (entries o.packing front)) before after (entries o.packing more) → IsPartOf t o (state t.id o.window (kind t) (entries o.packing front ++ entries o.packing more)) part → GoesOn t o front more before after part
     goes_on more before after part gained is =
-        let stands : IsPartOf t (state_after t o (front ++ more)) part = subst (λ es. IsPartOf t (state t.id (kind t) es) part) (sym (both more)) is in
+        let stands : IsPartOf t o (state_after t o (front ++ more)) part = subst (λ es. IsPartOf t o (state t.id o.window (kind t) es) part) (sym (both more)) is in
         record {
           text = (output_after t o (entries o.packing front)).texts (entries o.packing more);
           printed = gained.printed;
@@ -126,7 +124,7 @@ module _ (agree : (id : List ℕ) (kind : ℕ → Option Kind) (es : List Entry)
     -- where the log has more lines than are counted
     to_limit : (log : List ℕ) (before after : Devices) (part : Part) (es : List Entry) (next : Entry) (more : List Entry) → entries o.packing log ≡ es ++ (next ∷ more)
         → length (entries o.packing front) + length es ≡ most_lines → Gained (output_after t o (entries o.packing front)) before after es
-        → IsPartOf t (state t.id (kind t) (entries o.packing front ++ es)) part → GoesOnToLimit t o front log before after part
+        → IsPartOf t o (state t.id o.window (kind t) (entries o.packing front ++ es)) part → GoesOnToLimit t o front log before after part
     to_limit log before after part es next more is full gained stands =
         let cut = taken_bytes o.packing es log next more is in
         record {
@@ -138,11 +136,11 @@ module _ (agree : (id : List ℕ) (kind : ℕ → Option Kind) (es : List Entry)
           full = ap length (both cut.bytes ∙ ap (λ x. entries o.packing front ++ x) cut.entries_are) ∙ length-append (entries o.packing front) es ∙ full;
           stands = goes_on cut.bytes before after part
               (subst (λ x. Gained (output_after t o (entries o.packing front)) before after x) (sym cut.entries_are) gained)
-              (subst (λ x. IsPartOf t (state t.id (kind t) (entries o.packing front ++ x)) part) (sym cut.entries_are) stands);
+              (subst (λ x. IsPartOf t o (state t.id o.window (kind t) (entries o.packing front ++ x)) part) (sym cut.entries_are) stands);
         }
 
     -- the headline
-    pub continues_of : (before after : Devices) (result : Result Part PartFault) → TellsRun (output_after t o (entries o.packing front)) (λ es. HasPart t result (state t.id (kind t) (entries o.packing front ++ es))) before after result
+    pub continues_of : (before after : Devices) (result : Result Part PartFault) → TellsRun (output_after t o (entries o.packing front)) (λ es. HasPart t o result (state t.id o.window (kind t) (entries o.packing front ++ es))) before after result
         → IsOfKind result → ((fault : StateFault) → result ≡ Err (Refused fault) → fault ≡ state_faults.Memory) → Continues t o front before after result
     continues_of before after (Ok part) told kinds refused =
         let runs = told_ok _ before after _ part told in

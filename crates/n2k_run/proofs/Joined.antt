@@ -11,11 +11,10 @@ use Rattle.std.specs.Io.KnownBytes.{Appends}
 use Rattle.std.proofs.KnownBytes.{Appends-nil, Appends-trans}
 use Rattle.std.proofs.lemmas.Grind.{flat_map-append}
 use Rattle.n2k_wire.specs.declared.entry.Entry.{Entry}
-use Rattle.n2k_table.specs.declared.definition.Kind.{Kind}
 use Rattle.n2k_table.specs.Table.{TableParts, kind}
-use Rattle.n2k_join.specs.Laws.{StepsAgree, LinesStay}
 use Rattle.n2k_join.specs.Saved.{IsId}
 use Rattle.n2k_join.specs.State.{State, state}
+use Rattle.n2k_join.specs.Window.{IsWindow}
 use Rattle.n2k_run.specs.declared.options.Options.{Options}
 use Rattle.n2k_run.specs.declared.part.Part.{Part}
 use Rattle.n2k_run.specs.declared.part.PartFault.{PartFault}
@@ -28,21 +27,22 @@ use Rattle.n2k_run.specs.Runs.{Devices, Gained}
 use Rattle.n2k_run.proofs.Ending.{of_log}
 use Rattle.n2k_run.proofs.Fronts.{entries-append}
 use Rattle.n2k_run.proofs.GoingOn.{out_of-append, reports_of-append}
+use Rattle.n2k_run.proofs.LogSteps.{LogLaws}
 use Rattle.n2k_run.proofs.Parting.{KeepsFast, begun-under, memory_alone, part-of, told_ok}
 
 -- before the first part
-pub empty-of : (laws : KeepsFast) (t : TableParts) (join : State) {E : Type 0} (result : Result Part E) → IsId t.id → join ≡ state t.id (kind t) [] → IfOk result (Saves join) → IfOk result (IsPartOf t (state t.id (kind t) []))
-empty-of laws t join (Ok part) id is saves = part-of laws t (state t.id (kind t) []) part id (begun-under laws t None (state t.id (kind t) []) refl) (subst (λ s. Saves s part) is saves)
-empty-of laws t join (Err e) id is saves = tt
+pub empty-of : (laws : KeepsFast) (t : TableParts) (o : Options) → IsWindow o.window.window → (join : State) {E : Type 0} (result : Result Part E) → IsId t.id → join ≡ state t.id o.window (kind t) [] → IfOk result (Saves join) → IfOk result (IsPartOf t o (state t.id o.window (kind t) []))
+empty-of laws t o window join (Ok part) id is saves = part-of laws t o window (state t.id o.window (kind t) []) part id (begun-under laws t o window None (state t.id o.window (kind t) []) refl) (subst (λ s. Saves s part) is saves)
+empty-of laws t o window join (Err e) id is saves = tt
 
-pub refused_memory : (t : TableParts) (handed : Option (List ℕ)) (s : State) (result : Result Part PartFault) → begun t handed ≡ Ok s → BeginsBy t handed result → RefusedByMemory result
-refused_memory t handed s (Ok part) is begins = tt
-refused_memory t handed s (Err (Stopped fault part)) is begins = tt
-refused_memory t handed s (Err (Run fault)) is begins = tt
-refused_memory t handed s (Err Memory) is begins = tt
-refused_memory t handed s (Err (Refused fault)) is begins = memory_alone fault (begun t handed) s is begins.1
+pub refused_memory : (t : TableParts) (o : Options) (handed : Option (List ℕ)) (s : State) (result : Result Part PartFault) → begun t o handed ≡ Ok s → BeginsBy t o handed result → RefusedByMemory result
+refused_memory t o handed s (Ok part) is begins = tt
+refused_memory t o handed s (Err (Stopped fault part)) is begins = tt
+refused_memory t o handed s (Err (Run fault)) is begins = tt
+refused_memory t o handed s (Err Memory) is begins = tt
+refused_memory t o handed s (Err (Refused fault)) is begins = memory_alone fault (begun t o handed) s is begins.1
 
-pub none_taken : (t : TableParts) (o : Options) (before : Devices) (part : Part) → IsPartOf t (state t.id (kind t) []) part → TakesAll t o [] before before part
+pub none_taken : (t : TableParts) (o : Options) (before : Devices) (part : Part) → IsPartOf t o (state t.id o.window (kind t) []) part → TakesAll t o [] before before part
 none_taken t o before part is = record {
   taken = record { printed = Appends-nil before.written; reported = Appends-nil before.reported; writes = refl; report_writes = refl };
   leads_to = is;
@@ -51,7 +51,7 @@ none_taken t o before part is = record {
 entries_next : (o : Options) (done : List (List ℕ)) (met : List ℕ) → entries_of o (done ++ met ∷ []) ≡ entries_of o done ++ entries o.packing met
 entries_next o done met = flat_map-append (entries o.packing) done (met ∷ []) ∙ ap (λ es. entries_of o done ++ es) (append-nil (entries o.packing met))
 
-module _ (agree : (id : List ℕ) (kind : ℕ → Option Kind) (es : List Entry) (e : Entry) → StepsAgree id kind es e) (stay : (kind : ℕ → Option Kind) (es : List Entry) (e : Entry) → LinesStay kind es e) (t : TableParts) (o : Options) where
+module _ (t : TableParts) (o : Options) (laws : LogLaws o.window) where
   -- one part more was taken whole
   pub next_taken : (done : List (List ℕ)) (met : List ℕ) (before between after : Devices) (last next : Part) → TakesAll t o done before between last → RunsPart t o (entries_of o done) met between after (Ok next) → TakesAll t o (done ++ met ∷ []) before after next
   next_taken done met before between after last next so_far run =
@@ -60,18 +60,18 @@ module _ (agree : (id : List ℕ) (kind : ℕ → Option Kind) (es : List Entry)
       let all : front ++ es ≡ entries_of o (done ++ met ∷ []) = sym (entries_next o done met) in
       let ran = told_ok _ _ _ _ next run.told in
       let gained = of_log _ _ _ _ (λ log. Gained (output_after t o front) (with_source between (Some met) 0 0) (with_source after run.left run.calls run.failed_reads) (entries o.packing log)) ran.ends ran.ends.gained in
-      let text : Appends before.written after.written (out_of t o.empty (front ++ es)) =
-      subst (Appends before.written after.written) (sym (out_of-append agree stay t o.empty front es)) (Appends-trans before.written between.written after.written _ _ so_far.taken.printed gained.printed) in
-      let report : Appends before.reported after.reported (reports_of t (front ++ es)) =
-      subst (Appends before.reported after.reported) (sym (reports_of-append agree stay t front es)) (Appends-trans before.reported between.reported after.reported _ _ so_far.taken.reported gained.reported) in
+      let text : Appends before.written after.written (out_of t o (front ++ es)) =
+      subst (Appends before.written after.written) (sym (out_of-append t o laws front es)) (Appends-trans before.written between.written after.written _ _ so_far.taken.printed gained.printed) in
+      let report : Appends before.reported after.reported (reports_of t o (front ++ es)) =
+      subst (Appends before.reported after.reported) (sym (reports_of-append t o laws front es)) (Appends-trans before.reported between.reported after.reported _ _ so_far.taken.reported gained.reported) in
       record {
         taken = record {
-          printed = subst (λ es. Appends before.written after.written (out_of t o.empty es)) all text;
-          reported = subst (λ es. Appends before.reported after.reported (reports_of t es)) all report;
+          printed = subst (λ es. Appends before.written after.written (out_of t o es)) all text;
+          reported = subst (λ es. Appends before.reported after.reported (reports_of t o es)) all report;
           writes = ran.device.writes ∙ so_far.taken.writes;
           report_writes = ran.device.reports ∙ so_far.taken.report_writes;
         };
-        leads_to = subst (λ es. IsPartOf t (state t.id (kind t) es) next) all (of_log _ _ _ _ (λ log. IsPartOf t (state t.id (kind t) (front ++ entries o.packing log)) next) ran.ends ran.ends.holds);
+        leads_to = subst (λ es. IsPartOf t o (state t.id o.window (kind t) es) next) all (of_log _ _ _ _ (λ log. IsPartOf t o (state t.id o.window (kind t) (front ++ entries o.packing log)) next) ran.ends ran.ends.holds);
       }
 
 -- where the state is refused, both sinks are as they were
@@ -84,12 +84,12 @@ both_untouched (Err (Refused fault)) w w' e e' seen p q = rw (p, q) refl
 
 -- the run of a part reads from its source in memory
 pub runs_part : (t : TableParts) (o : Options) (front : List Entry) (met : List ℕ) (reader : Supply) (at : ℕ) (before after : Devices) (left : Option (List ℕ)) (calls failed_reads : ℕ) (result : Result Part PartFault) → reader ≡ record { left = met; at_once = at; fails_at = 0; calls = 0; failed_calls = 0 }
-    → TellsRun (output_after t o front) (λ es. HasPart t result (state t.id (kind t) (front ++ es))) (with_source before (Some reader.left) reader.calls reader.failed_calls) (with_source after left calls failed_reads) result → OnRefusal result (after ≡ before) → RunsPart t o front met before after result
+    → TellsRun (output_after t o front) (λ es. HasPart t o result (state t.id o.window (kind t) (front ++ es))) (with_source before (Some reader.left) reader.calls reader.failed_calls) (with_source after left calls failed_reads) result → OnRefusal result (after ≡ before) → RunsPart t o front met before after result
 runs_part t o front met reader at before after left calls failed_reads result is told untouched = record {
   left = left;
   calls = calls;
   failed_reads = failed_reads;
-  told = subst (λ (s : Supply). TellsRun (output_after t o front) (λ es. HasPart t result (state t.id (kind t) (front ++ es))) (with_source before (Some s.left) s.calls s.failed_calls) (with_source after left calls failed_reads) result) is told;
+  told = subst (λ (s : Supply). TellsRun (output_after t o front) (λ es. HasPart t o result (state t.id o.window (kind t) (front ++ es))) (with_source before (Some s.left) s.calls s.failed_calls) (with_source after left calls failed_reads) result) is told;
   untouched = untouched;
 }
 
@@ -111,10 +111,10 @@ pub prints_log : (t : TableParts) (o : Options) (parts : List (List ℕ)) (befor
 unfolding out reports save
 prints_log t o parts before after part cut all =
     let same = cut_entries o parts cut in
-    let is : IsPartOf t (state t.id (kind t) (entries o.packing (concat parts))) part = subst (λ es. IsPartOf t (state t.id (kind t) es) part) same all.leads_to in
+    let is : IsPartOf t o (state t.id o.window (kind t) (entries o.packing (concat parts))) part = subst (λ es. IsPartOf t o (state t.id o.window (kind t) es) part) same all.leads_to in
     record {
-      printed = subst (λ es. Appends before.written after.written (out_of t o.empty es)) same all.taken.printed;
-      reported = subst (λ es. Appends before.reported after.reported (reports_of t es)) same all.taken.reported;
+      printed = subst (λ es. Appends before.written after.written (out_of t o es)) same all.taken.printed;
+      reported = subst (λ es. Appends before.reported after.reported (reports_of t o es)) same all.taken.reported;
       saved = is.saved;
       counted = is.counted;
     }

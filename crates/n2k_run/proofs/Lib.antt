@@ -10,6 +10,7 @@ pub mod Joined
 pub mod LimitLines
 pub mod LogSteps
 pub mod OutputLines
+pub mod Overdue
 pub mod Owed
 pub mod Parting
 pub mod PrintedBack

@@ -1,5 +1,5 @@
 -- What the steps of a join give of a log's lines is what the whole log says of them.
-use Rattle.std.proofs.Common.{◌≡◌, ℕ, suc, ◌+◌, ◌<◌, ◌≤◌, Bool, List, [], ◌∷◌, ◌++◌, length, Option, Some, refl, sym, ap, ◌∙◌, append_assoc, append-nil, length-append, arith}
+use Rattle.std.proofs.Common.{◌≡◌, ℕ, suc, ◌+◌, ◌<◌, ◌≤◌, Bool, List, [], ◌∷◌, ◌++◌, length, Option, Some, refl, sym, ap, ◌∙◌, subst, append_assoc, append-nil, length-append, arith}
 use Rattle.std.specs.Prelude.{option_and_then, option_to_list, slice_get}
 use Rattle.std.specs.List.{flat_map, range_with_len}
 use Rattle.n2k_wire.specs.declared.entry.Entry.{Entry}
@@ -15,7 +15,9 @@ use Rattle.n2k_run.specs.declared.options.Options.{Options}
 use Rattle.n2k_run.specs.Decoded.{cause_at, join_making, message_line, numbers_after, output_after, report_at, text_at}
 use Rattle.n2k_run.specs.Making.{after_all, texts_from, reports_from}
 use Rattle.n2k_run.specs.Reports.{broken_text, cause_report, line_report}
+use Rattle.n2k_join.specs.Window.{Rule, IsWindow}
 use Rattle.n2k_run.specs.Inner.Engine.{MovesOn}
+use Rattle.n2k_run.specs.Inner.Overdue.{BreaksOverdue}
 use Rattle.n2k_run.specs.Runs.{output_from}
 use Rattle.n2k_run.proofs.Ending.{output_same}
 
@@ -24,27 +26,33 @@ lines_after : (k : ℕ → Option Kind) (s : State) (e : Entry) → (step_after 
 unfolding step_after
 lines_after k s e = refl
 
--- an entry was taken by the join, and what it gave was made into texts
-pub join_moves : (t : TableParts) (empty : Bool) (s s' : State) (e : Entry) (step : Step) (n : ℕ) (text text' report mid report' : List ℕ) → n ≡ s'.counts.lines → given_of step ≡ step_given (kind t) s e → s' ≡ step_after (kind t) s e → s.counts.lines < most_lines
-    → mid ≡ report ++ flat_map (broken_text n) (option_to_list step.broken) → report' ≡ mid ++ cause_report n step.bad → text' ≡ text ++ message_line t empty step.message
+-- An entry was taken by the join, after the groups were broken whose window ends at its line, and what both gave was made into
+-- texts.
+pub join_moves : (t : TableParts) (empty : Bool) (s mid s' : State) (e : Entry) (step : Step) (n : ℕ) (text text' report due told report' : List ℕ) → n ≡ s'.counts.lines → given_of step ≡ step_given (kind t) mid e → s' ≡ step_after (kind t) mid e → mid.counts.lines < most_lines
+    → BreaksOverdue s mid report due → told ≡ due ++ flat_map (broken_text n) (option_to_list step.broken) → report' ≡ told ++ cause_report n step.bad → text' ≡ text ++ message_line t empty step.message
     → MovesOn (join_making t empty) s s' e text text' report report'
-join_moves t empty s s' e step n text text' report mid report' number given after few broken cause message =
-    let counted : s'.counts.lines ≡ s.counts.lines + 1 = ap (λ (x : State). x.counts.lines) after ∙ lines_after (kind t) s e in
-    let line : n ≡ s.counts.lines + 1 = number ∙ counted in
-    let b : option_to_list step.broken ≡ (step_given (kind t) s e).broken = ap (λ (g : Given). g.broken) given in
-    let c : step.bad ≡ (step_given (kind t) s e).cause = ap (λ (g : Given). g.cause) given in
-    let m : step.message ≡ (step_given (kind t) s e).message = ap (λ (g : Given). g.message) given in
+join_moves t empty s mid s' e step n text text' report due told report' number given after few overdue broken cause message =
+    let counted : s'.counts.lines ≡ mid.counts.lines + 1 = ap (λ (x : State). x.counts.lines) after ∙ lines_after (kind t) mid e in
+    let same : mid.counts.lines ≡ s.counts.lines = overdue.same_lines in
+    let line : n ≡ s.counts.lines + 1 = number ∙ counted ∙ ap (λ l. l + 1) same in
+    let b : option_to_list step.broken ≡ (step_given (kind t) mid e).broken = ap (λ (g : Given). g.broken) given in
+    let c : step.bad ≡ (step_given (kind t) s e).cause = ap (λ (g : Given). g.cause) given ∙ sym (overdue.cause (kind t) e) in
+    let m : step.message ≡ (step_given (kind t) s e).message = ap (λ (g : Given). g.message) given ∙ sym (overdue.message (kind t) e) in
+    let groups : told ≡ report ++ flat_map (broken_text (s.counts.lines + 1)) (step_given (kind t) s e).broken =
+    broken
+    ∙ ap (λ n. due ++ flat_map (broken_text n) (option_to_list step.broken)) line
+    ∙ ap (λ g. due ++ flat_map (broken_text (s.counts.lines + 1)) g) b
+    ∙ sym (overdue.broken (kind t) e) in
     record {
-      state_after = after;
+      state_after = after ∙ sym (overdue.after (kind t) e);
       text_after = message ∙ ap (λ x. text ++ message_line t empty x) m;
       report_after =
-          cause ∙ ap (λ r. r ++ cause_report n step.bad) broken
-          ∙ append_assoc report (flat_map (broken_text n) (option_to_list step.broken)) (cause_report n step.bad)
-          ∙ ap (λ n. report ++ line_report n (option_to_list step.broken) step.bad) line
-          ∙ ap (λ g. report ++ line_report (s.counts.lines + 1) g step.bad) b
+          cause ∙ ap (λ r. r ++ cause_report n step.bad) groups
+          ∙ append_assoc report (flat_map (broken_text (s.counts.lines + 1)) (step_given (kind t) s e).broken) (cause_report n step.bad)
+          ∙ ap (λ n. report ++ (flat_map (broken_text (s.counts.lines + 1)) (step_given (kind t) s e).broken ++ cause_report n step.bad)) line
           ∙ ap (λ g. report ++ line_report (s.counts.lines + 1) (step_given (kind t) s e).broken g) c;
-      counted = counted;
-      few = few;
+      counted = counted ∙ ap (λ l. l + 1) same;
+      few = subst (λ l. l < most_lines) same few;
     }
 
 at_place : (front : List Entry) (e : Entry) (es : List Entry) → slice_get (front ++ e ∷ es) (length front) ≡ Some e
@@ -57,77 +65,85 @@ entry_next front e es =
     let at : length front + 1 ≡ suc (length front) = omega arith in
     ap (entry_at (front ++ e ∷ es)) at ∙ at_place front e es
 
-module _ (agree : (id : List ℕ) (kind : ℕ → Option Kind) (es : List Entry) (e : Entry) → StepsAgree id kind es e) (stay : (kind : ℕ → Option Kind) (es : List Entry) (e : Entry) → LinesStay kind es e) (t : TableParts) (empty : Bool) (id : List ℕ) where
-  pub messages_stay : (es fs : List Entry) (i : ℕ) → 1 ≤ i → i ≤ length es → message (kind t) (es ++ fs) i ≡ message (kind t) es i
-  messages_stay es [] i low high = ap (λ xs. message (kind t) xs i) (append-nil es)
+-- The laws of the join on a log, with what ends its groups.
+pub record LogLaws (rule : Rule) : Type 0 where
+  pub agree : (id : List ℕ) (kind : ℕ → Option Kind) (es : List Entry) (e : Entry) → StepsAgree id rule kind es e
+  pub stay : (kind : ℕ → Option Kind) (es : List Entry) (e : Entry) → LinesStay rule kind es e
+
+pub log_laws : (rule : Rule) → IsWindow rule.window → ((id : List ℕ) (rule : Rule) (kind : ℕ → Option Kind) (es : List Entry) (e : Entry) → IsWindow rule.window → StepsAgree id rule kind es e)
+    → ((rule : Rule) (kind : ℕ → Option Kind) (es : List Entry) (e : Entry) → IsWindow rule.window → LinesStay rule kind es e) → LogLaws rule
+log_laws rule is agree stay = record { agree = λ id kind es e. agree id rule kind es e is; stay = λ kind es e. stay rule kind es e is }
+
+module _ (t : TableParts) (o : Options) (laws : LogLaws o.window) (id : List ℕ) where
+  pub messages_stay : (es fs : List Entry) (i : ℕ) → 1 ≤ i → i ≤ length es → message o.window (kind t) (es ++ fs) i ≡ message o.window (kind t) es i
+  messages_stay es [] i low high = ap (λ xs. message o.window (kind t) xs i) (append-nil es)
   messages_stay es (f ∷ fs) i low high =
-      ap (λ xs. message (kind t) xs i) (sym (append_assoc es (f ∷ []) fs))
+      ap (λ xs. message o.window (kind t) xs i) (sym (append_assoc es (f ∷ []) fs))
       ∙ messages_stay (es ++ f ∷ []) fs i low (omega (arith, high, length-append es (f ∷ [])))
-      ∙ (stay (kind t) es f).messages i low high
+      ∙ (laws.stay (kind t) es f).messages i low high
 
-  pub broken_stay : (es fs : List Entry) (i : ℕ) → i ≤ length es → broken (kind t) (es ++ fs) i ≡ broken (kind t) es i
-  broken_stay es [] i high = ap (λ xs. broken (kind t) xs i) (append-nil es)
+  pub broken_stay : (es fs : List Entry) (i : ℕ) → i ≤ length es → broken o.window (kind t) (es ++ fs) i ≡ broken o.window (kind t) es i
+  broken_stay es [] i high = ap (λ xs. broken o.window (kind t) xs i) (append-nil es)
   broken_stay es (f ∷ fs) i high =
-      ap (λ xs. broken (kind t) xs i) (sym (append_assoc es (f ∷ []) fs))
+      ap (λ xs. broken o.window (kind t) xs i) (sym (append_assoc es (f ∷ []) fs))
       ∙ broken_stay (es ++ f ∷ []) fs i (omega (arith, high, length-append es (f ∷ [])))
-      ∙ (stay (kind t) es f).broken_groups i high
+      ∙ (laws.stay (kind t) es f).broken_groups i high
 
-  pub state_after : (front es : List Entry) → after_all (join_making t empty) (state id (kind t) front) es ≡ state id (kind t) (front ++ es)
-  state_after front [] = ap (state id (kind t)) (sym (append-nil front))
+  pub state_after : (front es : List Entry) → after_all (join_making t o.empty) (state id o.window (kind t) front) es ≡ state id o.window (kind t) (front ++ es)
+  state_after front [] = ap (state id o.window (kind t)) (sym (append-nil front))
   state_after front (e ∷ es) =
-      ap (λ s. after_all (join_making t empty) s es) (agree id (kind t) front e).after
+      ap (λ s. after_all (join_making t o.empty) s es) (laws.agree id (kind t) front e).after
       ∙ state_after (front ++ e ∷ []) es
-      ∙ ap (state id (kind t)) (append_assoc front (e ∷ []) es)
+      ∙ ap (state id o.window (kind t)) (append_assoc front (e ∷ []) es)
 
   -- what the next entry gives is what the log says of its line, however it goes on
-  message_next : (front : List Entry) (e : Entry) (es : List Entry) → (step_given (kind t) (state id (kind t) front) e).message ≡ message (kind t) (front ++ e ∷ es) (length front + 1)
+  message_next : (front : List Entry) (e : Entry) (es : List Entry) → (step_given (kind t) (state id o.window (kind t) front) e).message ≡ message o.window (kind t) (front ++ e ∷ es) (length front + 1)
   message_next front e es =
-      ap (λ (g : Given). g.message) (agree id (kind t) front e).given
+      ap (λ (g : Given). g.message) (laws.agree id (kind t) front e).given
       ∙ sym (messages_stay (front ++ e ∷ []) es (length front + 1) (omega arith) (omega (arith, length-append front (e ∷ []))))
-      ∙ ap (λ xs. message (kind t) xs (length front + 1)) (append_assoc front (e ∷ []) es)
+      ∙ ap (λ xs. message o.window (kind t) xs (length front + 1)) (append_assoc front (e ∷ []) es)
 
-  broken_next : (front : List Entry) (e : Entry) (es : List Entry) → (step_given (kind t) (state id (kind t) front) e).broken ≡ broken (kind t) (front ++ e ∷ es) (length front + 1)
+  broken_next : (front : List Entry) (e : Entry) (es : List Entry) → (step_given (kind t) (state id o.window (kind t) front) e).broken ≡ broken o.window (kind t) (front ++ e ∷ es) (length front + 1)
   broken_next front e es =
-      ap (λ (g : Given). g.broken) (agree id (kind t) front e).given
+      ap (λ (g : Given). g.broken) (laws.agree id (kind t) front e).given
       ∙ sym (broken_stay (front ++ e ∷ []) es (length front + 1) (omega (arith, length-append front (e ∷ []))))
-      ∙ ap (λ xs. broken (kind t) xs (length front + 1)) (append_assoc front (e ∷ []) es)
+      ∙ ap (λ xs. broken o.window (kind t) xs (length front + 1)) (append_assoc front (e ∷ []) es)
 
-  cause_next : (front : List Entry) (e : Entry) (es : List Entry) → (step_given (kind t) (state id (kind t) front) e).cause ≡ cause_at t (front ++ e ∷ es) (length front + 1)
+  cause_next : (front : List Entry) (e : Entry) (es : List Entry) → (step_given (kind t) (state id o.window (kind t) front) e).cause ≡ cause_at t (front ++ e ∷ es) (length front + 1)
   cause_next front e es =
-      ap (λ (g : Given). g.cause) (agree id (kind t) front e).given
+      ap (λ (g : Given). g.cause) (laws.agree id (kind t) front e).given
       ∙ ap (option_and_then (cause_in (kind t))) (sym (entry_next front e es))
 
-  pub texts_after : (front es : List Entry) → texts_from (join_making t empty) (state id (kind t) front) es ≡ flat_map (text_at t empty (front ++ es)) (numbers_after front es)
+  pub texts_after : (front es : List Entry) → texts_from (join_making t o.empty) (state id o.window (kind t) front) es ≡ flat_map (text_at t o (front ++ es)) (numbers_after front es)
   texts_after front [] = refl
   texts_after front (e ∷ es) =
-      let here = ap (message_line t empty) (message_next front e es) in
+      let here = ap (message_line t o.empty) (message_next front e es) in
       let next : length (front ++ e ∷ []) + 1 ≡ length front + 1 + 1 = omega (arith, length-append front (e ∷ [])) in
       let rest =
-      ap (λ s. texts_from (join_making t empty) s es) (agree id (kind t) front e).after
+      ap (λ s. texts_from (join_making t o.empty) s es) (laws.agree id (kind t) front e).after
       ∙ texts_after (front ++ e ∷ []) es
-      ∙ ap (λ xs. flat_map (text_at t empty xs) (range_with_len (length (front ++ e ∷ []) + 1) (length es))) (append_assoc front (e ∷ []) es)
-      ∙ ap (λ n. flat_map (text_at t empty (front ++ e ∷ es)) (range_with_len n (length es))) next in
-      ap (λ x. x ++ texts_from (join_making t empty) (step_after (kind t) (state id (kind t) front) e) es) here
-      ∙ ap (λ r. text_at t empty (front ++ e ∷ es) (length front + 1) ++ r) rest
+      ∙ ap (λ xs. flat_map (text_at t o xs) (range_with_len (length (front ++ e ∷ []) + 1) (length es))) (append_assoc front (e ∷ []) es)
+      ∙ ap (λ n. flat_map (text_at t o (front ++ e ∷ es)) (range_with_len n (length es))) next in
+      ap (λ x. x ++ texts_from (join_making t o.empty) (step_after (kind t) (state id o.window (kind t) front) e) es) here
+      ∙ ap (λ r. text_at t o (front ++ e ∷ es) (length front + 1) ++ r) rest
 
-  report_next : (front : List Entry) (e : Entry) (es : List Entry) → (join_making t empty).report (state id (kind t) front) e ≡ report_at t (front ++ e ∷ es) (length front + 1)
+  report_next : (front : List Entry) (e : Entry) (es : List Entry) → (join_making t o.empty).report (state id o.window (kind t) front) e ≡ report_at t o (front ++ e ∷ es) (length front + 1)
   report_next front e es =
-      ap (λ g. line_report (length front + 1) g (step_given (kind t) (state id (kind t) front) e).cause) (broken_next front e es)
-      ∙ ap (line_report (length front + 1) (broken (kind t) (front ++ e ∷ es) (length front + 1))) (cause_next front e es)
+      ap (λ g. line_report (length front + 1) g (step_given (kind t) (state id o.window (kind t) front) e).cause) (broken_next front e es)
+      ∙ ap (line_report (length front + 1) (broken o.window (kind t) (front ++ e ∷ es) (length front + 1))) (cause_next front e es)
 
-  pub reports_after : (front es : List Entry) → reports_from (join_making t empty) (state id (kind t) front) es ≡ flat_map (report_at t (front ++ es)) (numbers_after front es)
+  pub reports_after : (front es : List Entry) → reports_from (join_making t o.empty) (state id o.window (kind t) front) es ≡ flat_map (report_at t o (front ++ es)) (numbers_after front es)
   reports_after front [] = refl
   reports_after front (e ∷ es) =
       let next : length (front ++ e ∷ []) + 1 ≡ length front + 1 + 1 = omega (arith, length-append front (e ∷ [])) in
       let rest =
-      ap (λ s. reports_from (join_making t empty) s es) (agree id (kind t) front e).after
+      ap (λ s. reports_from (join_making t o.empty) s es) (laws.agree id (kind t) front e).after
       ∙ reports_after (front ++ e ∷ []) es
-      ∙ ap (λ xs. flat_map (report_at t xs) (range_with_len (length (front ++ e ∷ []) + 1) (length es))) (append_assoc front (e ∷ []) es)
-      ∙ ap (λ n. flat_map (report_at t (front ++ e ∷ es)) (range_with_len n (length es))) next in
-      ap (λ x. x ++ reports_from (join_making t empty) (step_after (kind t) (state id (kind t) front) e) es) (report_next front e es)
-      ∙ ap (λ r. report_at t (front ++ e ∷ es) (length front + 1) ++ r) rest
+      ∙ ap (λ xs. flat_map (report_at t o xs) (range_with_len (length (front ++ e ∷ []) + 1) (length es))) (append_assoc front (e ∷ []) es)
+      ∙ ap (λ n. flat_map (report_at t o (front ++ e ∷ es)) (range_with_len n (length es))) next in
+      ap (λ x. x ++ reports_from (join_making t o.empty) (step_after (kind t) (state id o.window (kind t) front) e) es) (report_next front e es)
+      ∙ ap (λ r. report_at t o (front ++ e ∷ es) (length front + 1) ++ r) rest
 
 -- a run from a log's state makes what the whole log says
-pub output_after-is : ((id : List ℕ) (kind : ℕ → Option Kind) (es : List Entry) (e : Entry) → StepsAgree id kind es e) → ((kind : ℕ → Option Kind) (es : List Entry) (e : Entry) → LinesStay kind es e) → (t : TableParts) (o : Options) (id : List ℕ) (front : List Entry)
-    → output_from (join_making t o.empty) o.packing (state id (kind t) front) ≡ output_after t o front
-output_after-is agree stay t o id front = output_same o.packing (length front) _ _ _ _ (texts_after agree stay t o.empty id front) (reports_after agree stay t o.empty id front)
+pub output_after-is : (t : TableParts) (o : Options) → LogLaws o.window → (id : List ℕ) (front : List Entry) → output_from (join_making t o.empty) o.packing (state id o.window (kind t) front) ≡ output_after t o front
+output_after-is t o laws id front = output_same o.packing (length front) _ _ _ _ (texts_after t o laws id front) (reports_after t o laws id front)

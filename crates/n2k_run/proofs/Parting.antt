@@ -1,19 +1,18 @@
 -- A part of a log: what its run promises is what its answer says.
-use Rattle.std.proofs.Common.{◌≡◌, ℕ, Bool, List, [], ◌∷◌, ◌++◌, Option, Some, None, Result, Ok, Err, refl, sym, ap, ◌∙◌, subst, append-nil}
+use Rattle.std.proofs.Common.{◌≡◌, ℕ, List, [], ◌∷◌, ◌++◌, Option, Some, None, Result, Ok, Err, refl, sym, ap, ◌∙◌, subst, append-nil}
 use Rattle.std.specs.Prelude.{◌⊎◌, IfSome}
 use mathlib.Core.Logic.{inl, inr}
 use Rattle.std.specs.Io.KnownBytes.{Appends}
 use Rattle.std.proofs.KnownBytes.{Appends-nil}
 use Rattle.n2k_wire.specs.declared.entry.Entry.{Entry}
-use Rattle.n2k_wire.specs.declared.entry.Packing.{Packing}
 use Rattle.n2k_table.specs.declared.definition.Kind.{Kind}
 use Rattle.n2k_table.specs.Table.{TableParts, kind}
 use Rattle.n2k_join.specs.declared.state_fault.StateFault.{StateFault}
 use Rattle.n2k_join.specs.declared.state_fault.StateFault.TheVariants as state_faults
-use Rattle.n2k_join.specs.Laws.{StepsAgree, LinesStay}
 use Rattle.n2k_join.specs.Resumed.{judged}
 use Rattle.n2k_join.specs.Saved.{IsId, state_text}
 use Rattle.n2k_join.specs.State.{State, state, AreFast, step_after}
+use Rattle.n2k_join.specs.Window.{Rule, IsWindow}
 use Rattle.n2k_run.specs.declared.fault.RunFault.{RunFault}
 use Rattle.n2k_run.specs.declared.fault.RunFault.TheVariants as run_faults
 use Rattle.n2k_run.specs.declared.part.Part.{Part}
@@ -28,7 +27,7 @@ use Rattle.n2k_run.specs.Parts.{HasPart, IsPartOf, Ran, StandsAtLine, TellsRun, 
 use Rattle.n2k_run.specs.Runs.{Devices, HasFronts, Output, Runs, output_from}
 use Rattle.n2k_run.specs.Writing.{AppendsFront}
 use Rattle.n2k_run.proofs.Ending.{of_log, runs_more, runs_same}
-use Rattle.n2k_run.proofs.LogSteps.{output_after-is, state_after}
+use Rattle.n2k_run.proofs.LogSteps.{LogLaws, output_after-is, state_after}
 
 known_any : (known : Option (List ℕ)) (P : List ℕ → Type 0) → ((log : List ℕ) → P log) → IfSome known P
 known_any None P all = tt
@@ -94,49 +93,63 @@ finished (Err (Refused fault)) ran is = absurd is
 
 -- ---- the states that a part goes through
 
--- a state under a table: what is saved of it reads back
-pub record IsUnder (t : TableParts) (s : State) : Type 0 where
+-- a state under a table and a window: what is saved of it reads back
+pub record IsUnder (t : TableParts) (o : Options) (s : State) : Type 0 where
   pub fast : AreFast (kind t) s.groups
   pub same_table : s.id ≡ t.id
+  pub same_window : s.rule ≡ o.window
 
 -- what the join's laws say of states under a table
 pub record KeepsFast : Type 0 where
-  pub new : (kind : ℕ → Option Kind) (id : List ℕ) → AreFast kind (state id kind []).groups
-  pub read : (kind : ℕ → Option Kind) (id bytes : List ℕ) (s : State) → judged kind id bytes ≡ Ok s → AreFast kind s.groups
-  pub same_table : (kind : ℕ → Option Kind) (id bytes : List ℕ) (s : State) → judged kind id bytes ≡ Ok s → s.id ≡ id
-  pub step : (kind : ℕ → Option Kind) (s : State) (e : Entry) → AreFast kind s.groups → AreFast kind (step_after kind s e).groups
+  pub new : (kind : ℕ → Option Kind) (id : List ℕ) (rule : Rule) → AreFast kind (state id rule kind []).groups
+  pub read : (kind : ℕ → Option Kind) (id : List ℕ) (rule : Rule) (bytes : List ℕ) (s : State) → judged kind id rule bytes ≡ Ok s → AreFast kind s.groups
+  pub same_table : (kind : ℕ → Option Kind) (id : List ℕ) (rule : Rule) (bytes : List ℕ) (s : State) → judged kind id rule bytes ≡ Ok s → s.id ≡ id
+  pub same_rule : (kind : ℕ → Option Kind) (id : List ℕ) (rule : Rule) (bytes : List ℕ) (s : State) → judged kind id rule bytes ≡ Ok s → s.rule ≡ rule
+  pub step : (kind : ℕ → Option Kind) (s : State) (e : Entry) → IsWindow s.rule.window → AreFast kind s.groups → AreFast kind (step_after kind s e).groups
 
 same_state : (s s' : State) → (let r : Result State StateFault = Ok s in r) ≡ Ok s' → s ≡ s'
 same_state s s' is = cc
 
-module _ (laws : KeepsFast) (t : TableParts) where
-  pub begun-under : (handed : Option (List ℕ)) (s : State) → begun t handed ≡ Ok s → IsUnder t s
+module _ (laws : KeepsFast) (t : TableParts) (o : Options) (window : IsWindow o.window.window) where
+  pub begun-under : (handed : Option (List ℕ)) (s : State) → begun t o handed ≡ Ok s → IsUnder t o s
   begun-under None s is =
-      let same : state t.id (kind t) [] ≡ s = same_state _ _ is in
-      subst (IsUnder t) same (record { fast = laws.new (kind t) t.id; same_table = refl })
-  begun-under (Some bytes) s is = record { fast = laws.read (kind t) t.id bytes s is; same_table = laws.same_table (kind t) t.id bytes s is }
+      let same : state t.id o.window (kind t) [] ≡ s = same_state _ _ is in
+      subst (IsUnder t o) same (record { fast = laws.new (kind t) t.id o.window; same_table = refl; same_window = refl })
+  begun-under (Some bytes) s is = record {
+    fast = laws.read (kind t) t.id o.window bytes s is;
+    same_table = laws.same_table (kind t) t.id o.window bytes s is;
+    same_window = laws.same_rule (kind t) t.id o.window bytes s is;
+  }
 
   step-id : (s : State) (e : Entry) → (step_after (kind t) s e).id ≡ s.id
   unfolding step_after
   step-id s e = refl
 
-  pub after-under : (empty : Bool) (s : State) (es : List Entry) → IsUnder t s → IsUnder t (after_all (join_making t empty) s es)
-  after-under empty s [] under = under
-  after-under empty s (e ∷ es) under = after-under empty (step_after (kind t) s e) es (record {
-    fast = laws.step (kind t) s e under.fast;
+  step-rule : (s : State) (e : Entry) → (step_after (kind t) s e).rule ≡ s.rule
+  unfolding step_after
+  step-rule s e = refl
+
+  pub after-under : (s : State) (es : List Entry) → IsUnder t o s → IsUnder t o (after_all (join_making t o.empty) s es)
+  after-under s [] under = under
+  after-under s (e ∷ es) under = after-under (step_after (kind t) s e) es (record {
+    fast = laws.step (kind t) s e (subst (λ (r : Rule). IsWindow r.window) (sym under.same_window) window) under.fast;
     same_table = step-id s e ∙ under.same_table;
+    same_window = step-rule s e ∙ under.same_window;
   })
 
-  pub part-of : (s : State) (part : Part) → IsId t.id → IsUnder t s → Saves s part → IsPartOf t s part
+  pub part-of : (s : State) (part : Part) → IsId t.id → IsUnder t o s → Saves s part → IsPartOf t o s part
   part-of s part id under saves = record {
     saved = saves.saved;
     counted = saves.counted;
     reads_back =
         let is_id : IsId s.id = subst IsId (sym under.same_table) id in
-        ap (λ text. judged (kind t) t.id text) saves.saved ∙ ap (λ i. judged (kind t) i (state_text s)) (sym under.same_table) ∙ saves.reads_back (kind t) under.fast is_id;
+        ap (λ text. judged (kind t) t.id o.window text) saves.saved
+        ∙ ap (λ i. judged (kind t) i o.window (state_text s)) (sym under.same_table)
+        ∙ ap (λ r. judged (kind t) s.id r (state_text s)) (sym under.same_window)
+        ∙ saves.reads_back (kind t) under.fast is_id;
   }
 
-  pub has_part : (s : State) (result : Result Part PartFault) → IsId t.id → IsUnder t s → HasSaved result s → HasPart t result s
+  pub has_part : (s : State) (result : Result Part PartFault) → IsId t.id → IsUnder t o s → HasSaved result s → HasPart t o result s
   has_part s (Ok part) id under saves = part-of s part id under saves
   has_part s (Err (Stopped fault part)) id under saves = part-of s part id under saves
   has_part s (Err (Refused fault)) id under saves = tt
@@ -144,33 +157,33 @@ module _ (laws : KeepsFast) (t : TableParts) where
   has_part s (Err Memory) id under saves = tt
 
   -- the steps from the state that the part began with
-  pub steps_of : (packing : Packing) (empty : Bool) (handed : Option (List ℕ)) (join join' : State) (before after : Devices) (ran : Result (Unit {0}) RunFault) (result : Result Part PartFault) → IsId t.id → begun t handed ≡ Ok join
-      → Runs (output_from (join_making t empty) packing join) (λ es. join' ≡ after_all (join_making t empty) join es) before after ran → HasSaved result join' → Finishes result ran
-      → (s : State) → begun t handed ≡ Ok s → TellsRun (output_from (join_making t empty) packing s) (λ es. HasPart t result (after_all (join_making t empty) s es)) before after result
-  steps_of packing empty handed join join' before after ran result id began runs saved finishes s is =
+  pub steps_of : (handed : Option (List ℕ)) (join join' : State) (before after : Devices) (ran : Result (Unit {0}) RunFault) (result : Result Part PartFault) → IsId t.id → begun t o handed ≡ Ok join
+      → Runs (output_from (join_making t o.empty) o.packing join) (λ es. join' ≡ after_all (join_making t o.empty) join es) before after ran → HasSaved result join' → Finishes result ran
+      → (s : State) → begun t o handed ≡ Ok s → TellsRun (output_from (join_making t o.empty) o.packing s) (λ es. HasPart t o result (after_all (join_making t o.empty) s es)) before after result
+  steps_of handed join join' before after ran result id began runs saved finishes s is =
       let same : join ≡ s = same_state _ _ (sym began ∙ is) in
-      let under : IsUnder t join = begun-under handed join began in
-      let o : Output = output_from (join_making t empty) packing join in
-      let stands : List Entry → Type 0 = λ es. HasPart t result (after_all (join_making t empty) join es) in
-      subst (λ (s : State). TellsRun (output_from (join_making t empty) packing s) (λ es. HasPart t result (after_all (join_making t empty) s es)) before after result) same (record {
+      let under : IsUnder t o join = begun-under handed join began in
+      let made : Output = output_from (join_making t o.empty) o.packing join in
+      let stands : List Entry → Type 0 = λ es. HasPart t o result (after_all (join_making t o.empty) join es) in
+      subst (λ (s : State). TellsRun (output_from (join_making t o.empty) o.packing s) (λ es. HasPart t o result (after_all (join_making t o.empty) s es)) before after result) same (record {
         ran = ran;
         ended = finished result ran finishes;
-        runs = runs_more o (λ es. join' ≡ after_all (join_making t empty) join es) stands before after ran runs
-            (λ es at. subst (HasPart t result) at (has_part join' result id (subst (IsUnder t) (sym at) (after-under empty join es under)) saved));
+        runs = runs_more made (λ es. join' ≡ after_all (join_making t o.empty) join es) stands before after ran runs
+            (λ es at. subst (HasPart t o result) at (has_part join' result id (subst (IsUnder t o) (sym at) (after-under join es under)) saved));
       })
 
 -- from the state of a log: what the whole log says
-pub log_of : ((id : List ℕ) (kind : ℕ → Option Kind) (es : List Entry) (e : Entry) → StepsAgree id kind es e) → ((kind : ℕ → Option Kind) (es : List Entry) (e : Entry) → LinesStay kind es e) → (t : TableParts) (o : Options) (before after : Devices) (result : Result Part PartFault) (front : List Entry)
-    → TellsRun (output_from (join_making t o.empty) o.packing (state t.id (kind t) front)) (λ es. HasPart t result (after_all (join_making t o.empty) (state t.id (kind t) front) es)) before after result
-    → TellsRun (output_after t o front) (λ es. HasPart t result (state t.id (kind t) (front ++ es))) before after result
-log_of agree stay t o before after result front steps =
-    let same = output_after-is agree stay t o t.id front in
+pub log_of : (t : TableParts) (o : Options) → LogLaws o.window → (before after : Devices) (result : Result Part PartFault) (front : List Entry)
+    → TellsRun (output_from (join_making t o.empty) o.packing (state t.id o.window (kind t) front)) (λ es. HasPart t o result (after_all (join_making t o.empty) (state t.id o.window (kind t) front) es)) before after result
+    → TellsRun (output_after t o front) (λ es. HasPart t o result (state t.id o.window (kind t) (front ++ es))) before after result
+log_of t o laws before after result front steps =
+    let same = output_after-is t o laws t.id front in
     let runs = runs_same _ (output_after t o front) _ before after steps.ran same steps.runs in
     record {
       ran = steps.ran;
       ended = steps.ended;
-      runs = runs_more (output_after t o front) (λ es. HasPart t result (after_all (join_making t o.empty) (state t.id (kind t) front) es)) (λ es. HasPart t result (state t.id (kind t) (front ++ es))) before after steps.ran runs
-          (λ es has. subst (HasPart t result) (state_after agree stay t o.empty t.id front es) has);
+      runs = runs_more (output_after t o front) (λ es. HasPart t o result (after_all (join_making t o.empty) (state t.id o.window (kind t) front) es)) (λ es. HasPart t o result (state t.id o.window (kind t) (front ++ es))) before after steps.ran runs
+          (λ es has. subst (HasPart t o result) (state_after t o laws t.id front es) has);
     }
 
 -- ---- a refused state
@@ -182,6 +195,7 @@ refused_by state_faults.Shape said h = inr (h (λ e. cc))
 refused_by state_faults.TableDiffers said h = inr (h (λ e. cc))
 refused_by state_faults.Invalid said h = inr (h (λ e. cc))
 refused_by state_faults.Memory said h = inl refl
+refused_by state_faults.WindowDiffers said h = inr (h (λ e. cc))
 
 pub memory_alone : (fault : StateFault) (said : Result State StateFault) (s : State) → said ≡ Ok s → (fault ≡ state_faults.Memory) ⊎ (said ≡ Err fault) → fault ≡ state_faults.Memory
 memory_alone fault said s is (inl memory) = memory

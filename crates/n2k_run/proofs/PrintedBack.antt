@@ -29,18 +29,18 @@ length-map h [] = refl
 length-map h (x ∷ xs) = ap suc (length-map h xs)
 
 -- the lines of the output are the JSON lines of the messages
-out-lines : (t : TableParts) (o : Options) (log : List ℕ) → ((m : PacketParts) (empty : Bool) → IsOneLine (json t m empty)) → with_line_feeds (lines (out t o log)) ≡ json_lines t o (messages (kind t) (entries o.packing log))
+out-lines : (t : TableParts) (o : Options) (log : List ℕ) → ((m : PacketParts) (empty : Bool) → IsOneLine (json t m empty)) → with_line_feeds (lines (out t o log)) ≡ json_lines t o (messages o.window (kind t) (entries o.packing log))
 unfolding out
 out-lines t o log one =
     let es = entries o.packing log in
-    ap (λ l. with_line_feeds (lines l)) (texts_of_messages t o.empty (message (kind t) es) (numbers es))
-    ∙ lines_of_texts (λ m. json t m o.empty) (λ m. one m o.empty) (messages (kind t) es)
+    ap (λ l. with_line_feeds (lines l)) (texts_of_messages t o.empty (message o.window (kind t) es) (numbers es))
+    ∙ lines_of_texts (λ m. json t m o.empty) (λ m. one m o.empty) (messages o.window (kind t) es)
 
-pub prints_back : (t : TableParts) (ms : List PacketParts) (o : Options) (log : List ℕ) → ((m : PacketParts) (empty : Bool) → IsOneLine (json t m empty)) → Replays (kind t) ms (entries o.packing log) → PrintsBack t ms o log
+pub prints_back : (t : TableParts) (ms : List PacketParts) (o : Options) (log : List ℕ) → ((m : PacketParts) (empty : Bool) → IsOneLine (json t m empty)) → Replays o.window (kind t) ms (entries o.packing log) → PrintsBack t ms o log
 prints_back t ms o log one replays =
     let printed = out-lines t o log one in
     record {
-      as_many = sym (length-map (λ text. text ++ 10 ∷ []) (lines (out t o log))) ∙ (ap length printed ∙ (length-map (λ m. json t m o.empty) (messages (kind t) (entries o.packing log)) ∙ replays.as_many));
+      as_many = sym (length-map (λ text. text ++ 10 ∷ []) (lines (out t o log))) ∙ (ap length printed ∙ (length-map (λ m. json t m o.empty) (messages o.window (kind t) (entries o.packing log)) ∙ replays.as_many));
       gathered = printed ∙ ap (json_lines t o) replays.by_groups;
       in_order = λ key. ap (json_lines t o) (replays.in_order key);
     }

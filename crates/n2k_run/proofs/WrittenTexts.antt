@@ -42,8 +42,8 @@ texts_entries laws (p ∷ ps) are =
     ∙ (ap (λ e. e ∷ map (λ line. entry line Frames) (lines (flat_map plain_text ps))) (laws.reads_back p Frames are.0.0 ∙ small p are.0.1)
     ∙ ap (λ es. entries.Frame p ∷ es) (texts_entries laws ps are.1)))
 
-pub written_back : PlainLaws → (t : TableParts) (ms : List PacketParts) (o : Options) → o.packing ≡ Frames → WrittenLog (kind t) ms → ((es : List Entry) → IsScattered (kind t) ms es → IsMute (kind t) es → Replays (kind t) ms es) → ((m : PacketParts) (empty : Bool) → IsOneLine (json t m empty)) → PrintsBack t ms o (flat_map plain_text (written (kind t) ms))
+pub written_back : PlainLaws → (t : TableParts) (ms : List PacketParts) (o : Options) → o.packing ≡ Frames → WrittenLog o.window (kind t) ms → ((es : List Entry) → IsScattered o.window (kind t) ms es → IsMute (kind t) es → Replays o.window (kind t) ms es) → ((m : PacketParts) (empty : Bool) → IsOneLine (json t m empty)) → PrintsBack t ms o (flat_map plain_text (written (kind t) ms))
 written_back laws t ms o frames written_log replays one =
     let es = as_entries (written (kind t) ms) in
     let read : logs.entries o.packing (flat_map plain_text (written (kind t) ms)) ≡ es = ap (λ p. logs.entries p (flat_map plain_text (written (kind t) ms))) frames ∙ texts_entries laws (written (kind t) ms) (recursion_from_All IsEntry es written_log.entries) in
-    prints_back t ms o (flat_map plain_text (written (kind t) ms)) one (subst (Replays (kind t) ms) (sym read) (replays es written_log.scattered written_log.mute))
+    prints_back t ms o (flat_map plain_text (written (kind t) ms)) one (subst (Replays o.window (kind t) ms) (sym read) (replays es written_log.scattered written_log.mute))

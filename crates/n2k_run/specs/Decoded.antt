@@ -21,31 +21,31 @@ message_line t empty None = []
 message_line t empty (Some packet) = json t packet empty
 
 -- what is written of a line of the log
-abbrev pub text_at : TableParts → Bool → List Entry → ℕ → List ℕ
-text_at t empty es i = message_line t empty (message (kind t) es i)
+abbrev pub text_at : TableParts → Options → List Entry → ℕ → List ℕ
+text_at t o es i = message_line t o.empty (message o.window (kind t) es i)
 
 -- why a line of the log is bad
 abbrev pub cause_at : TableParts → List Entry → ℕ → Option BadCause
 cause_at t es i = option_and_then (cause_in (kind t)) (entry_at es i)
 
 -- what is reported of it: the groups that it breaks, then its cause
-abbrev pub report_at : TableParts → List Entry → ℕ → List ℕ
-report_at t es i = line_report i (broken (kind t) es i) (cause_at t es i)
+abbrev pub report_at : TableParts → Options → List Entry → ℕ → List ℕ
+report_at t o es i = line_report i (broken o.window (kind t) es i) (cause_at t es i)
 
 -- the JSON lines of the messages of a log, in the order of the lines that give them
-abbrev pub out_of : TableParts → Bool → List Entry → List ℕ
-out_of t empty es = flat_map (text_at t empty es) (numbers es)
+abbrev pub out_of : TableParts → Options → List Entry → List ℕ
+out_of t o es = flat_map (text_at t o es) (numbers es)
 
 -- the reports of a log, in the order of its lines
-abbrev pub reports_of : TableParts → List Entry → List ℕ
-reports_of t es = flat_map (report_at t es) (numbers es)
+abbrev pub reports_of : TableParts → Options → List Entry → List ℕ
+reports_of t o es = flat_map (report_at t o es) (numbers es)
 
 -- the same of a log's bytes
 unfoldable pub out : TableParts → Options → List ℕ → List ℕ
-out t o log = out_of t o.empty (entries o.packing log)
+out t o log = out_of t o (entries o.packing log)
 
 unfoldable pub reports : TableParts → Options → List ℕ → List ℕ
-reports t o log = reports_of t (entries o.packing log)
+reports t o log = reports_of t o (entries o.packing log)
 
 -- the numbers of the lines that come after these
 abbrev pub numbers_after : List Entry → List Entry → List ℕ
@@ -56,8 +56,8 @@ abbrev pub output_after : TableParts → Options → List Entry → Output
 output_after t o front = record {
   packing = o.packing;
   counted = length front;
-  texts = λ es. flat_map (text_at t o.empty (front ++ es)) (numbers_after front es);
-  reports = λ es. flat_map (report_at t (front ++ es)) (numbers_after front es);
+  texts = λ es. flat_map (text_at t o (front ++ es)) (numbers_after front es);
+  reports = λ es. flat_map (report_at t o (front ++ es)) (numbers_after front es);
 }
 
 -- what a run makes of an entry at a time, on a join of any state

@@ -2,6 +2,7 @@
 pub mod Block
 pub mod Counting
 pub mod Engine
+pub mod Overdue
 pub mod Parts
 pub mod Reading
 pub mod Sending

@@ -28,14 +28,14 @@ use Rattle.n2k_run.specs.Writing.{AppendsFront}
 -- ---- where a part begins
 
 -- The state that a part begins with: without one handed in that before the first line, else the one that the bytes spell
--- under the table, or the reason why they are refused.
-abbrev pub begun : TableParts → Option (List ℕ) → Result State StateFault
-begun t None = Ok (state t.id (kind t) [])
-begun t (Some bytes) = judged (kind t) t.id bytes
+-- under the table and the window, or the reason why they are refused.
+abbrev pub begun : TableParts → Options → Option (List ℕ) → Result State StateFault
+begun t o None = Ok (state t.id o.window (kind t) [])
+begun t o (Some bytes) = judged (kind t) t.id o.window bytes
 
 -- the state that a log leads to
 abbrev pub state_after : TableParts → Options → List ℕ → State
-state_after t o log = state t.id (kind t) (entries o.packing log)
+state_after t o log = state t.id o.window (kind t) (entries o.packing log)
 
 -- what is saved after a log
 unfoldable pub save : TableParts → Options → List ℕ → List ℕ
@@ -44,18 +44,18 @@ save t o log = state_text (state_after t o log)
 -- ---- what a part answers
 
 -- The part that leads to this state: its text is saved, its counts are told, and the next part can go on from it.
-pub record IsPartOf (t : TableParts) (s : State) (part : Part) : Type 0 where
+pub record IsPartOf (t : TableParts) (o : Options) (s : State) (part : Part) : Type 0 where
   pub saved : part.state.items ≡ state_text s
   pub counted : part.counts ≡ s.counts
-  pub reads_back : begun t (Some part.state.items) ≡ Ok s
+  pub reads_back : begun t o (Some part.state.items) ≡ Ok s
 
 -- the Part of an answer, where it has one, leads to this state
-abbrev pub HasPart : TableParts → Result Part PartFault → State → Type 0
-HasPart t (Ok part) s = IsPartOf t s part
-HasPart t (Err (Stopped fault part)) s = IsPartOf t s part
-HasPart t (Err (Refused fault)) s = Unit {0}
-HasPart t (Err (Run fault)) s = Unit {0}
-HasPart t (Err Memory) s = Unit {0}
+abbrev pub HasPart : TableParts → Options → Result Part PartFault → State → Type 0
+HasPart t o (Ok part) s = IsPartOf t o s part
+HasPart t o (Err (Stopped fault part)) s = IsPartOf t o s part
+HasPart t o (Err (Refused fault)) s = Unit {0}
+HasPart t o (Err (Run fault)) s = Unit {0}
+HasPart t o (Err Memory) s = Unit {0}
 
 -- after such a run the join stands at a line, and can be saved
 abbrev pub StandsAtLine : Result (Unit {0}) RunFault → Type 0
@@ -91,12 +91,12 @@ IsOfKind (Err Memory) = Unit {0}
 
 -- A state that was handed in is refused, by the first fault that stands in it or for want of memory; else it is the one that
 -- the part begins with.
-abbrev pub BeginsBy : TableParts → Option (List ℕ) → Result Part PartFault → Type 0
-BeginsBy t handed (Err (Refused fault)) = IsSome handed × ((fault ≡ state_faults.Memory) ⊎ (begun t handed ≡ Err fault))
-BeginsBy t handed (Err (Stopped fault part)) = IsOk (begun t handed)
-BeginsBy t handed (Err (Run fault)) = IsOk (begun t handed)
-BeginsBy t handed (Err Memory) = IsOk (begun t handed)
-BeginsBy t handed (Ok part) = IsOk (begun t handed)
+abbrev pub BeginsBy : TableParts → Options → Option (List ℕ) → Result Part PartFault → Type 0
+BeginsBy t o handed (Err (Refused fault)) = IsSome handed × ((fault ≡ state_faults.Memory) ⊎ (begun t o handed ≡ Err fault))
+BeginsBy t o handed (Err (Stopped fault part)) = IsOk (begun t o handed)
+BeginsBy t o handed (Err (Run fault)) = IsOk (begun t o handed)
+BeginsBy t o handed (Err Memory) = IsOk (begun t o handed)
+BeginsBy t o handed (Ok part) = IsOk (begun t o handed)
 
 -- where a state is refused, it is for want of memory alone
 abbrev pub RefusedByMemory : Result Part PartFault → Type 0
@@ -119,7 +119,7 @@ OnRefusal (Ok part) P = Unit {0}
 -- A log was cut after this front: it is empty or ends with a line, and the state handed in is what it leads to.
 pub record IsFront (t : TableParts) (o : Options) (front : List ℕ) (handed : Option (List ℕ)) : Type 0 where
   pub whole_lines : IsEmptyOrEndsWith front line_feed
-  pub leads_to : begun t handed ≡ Ok (state_after t o front)
+  pub leads_to : begun t o handed ≡ Ok (state_after t o front)
 
 -- After the front and `more` the whole stands: the sinks gained exactly what the output and the reports of both have after
 -- those of the front, and the Part is what is saved, and what is counted, after both.
@@ -131,9 +131,9 @@ pub record GoesOn (t : TableParts) (o : Options) (front more : List ℕ) (before
   pub reported : Appends before.reported after.reported report
   pub told : reports t o (front ++ more) ≡ reports t o front ++ report
   pub saved : part.state.items ≡ save t o (front ++ more)
-  pub counted : part.counts ≡ counts (kind t) (entries o.packing (front ++ more))
+  pub counted : part.counts ≡ counts o.window (kind t) (entries o.packing (front ++ more))
   -- and where both are empty or end with a line, the log can be cut here too
-  pub reads_back : begun t (Some part.state.items) ≡ Ok (state_after t o (front ++ more))
+  pub reads_back : begun t o (Some part.state.items) ≡ Ok (state_after t o (front ++ more))
 
 -- the sinks gained fronts of what the output and the reports of both have after those of the front
 pub record GoesOnPartly (t : TableParts) (o : Options) (front more : List ℕ) (before after : Devices) : Type 0 where
@@ -186,15 +186,15 @@ with_source devices left calls failed_reads = record devices { left = left; call
 
 -- these parts were taken whole: the sinks gained what their entries make, and no call of them failed
 pub record Takes (t : TableParts) (o : Options) (parts : List (List ℕ)) (before after : Devices) : Type 0 where
-  pub printed : Appends before.written after.written (out_of t o.empty (entries_of o parts))
-  pub reported : Appends before.reported after.reported (reports_of t (entries_of o parts))
+  pub printed : Appends before.written after.written (out_of t o (entries_of o parts))
+  pub reported : Appends before.reported after.reported (reports_of t o (entries_of o parts))
   pub writes : after.failed_writes ≡ before.failed_writes
   pub report_writes : after.failed_reports ≡ before.failed_reports
 
 -- and the Part is where these lead to
 pub record TakesAll (t : TableParts) (o : Options) (parts : List (List ℕ)) (before after : Devices) (part : Part) : Type 0 where
   pub taken : Takes t o parts before after
-  pub leads_to : IsPartOf t (state t.id (kind t) (entries_of o parts)) part
+  pub leads_to : IsPartOf t o (state t.id o.window (kind t) (entries_of o parts)) part
 
 -- The run of a part that lies in memory, after these entries. Where the state can't be read for want of memory, nothing of
 -- the part was written.
@@ -202,7 +202,7 @@ pub record RunsPart (t : TableParts) (o : Options) (front : List Entry) (met : L
   pub left : Option (List ℕ)
   pub calls : ℕ
   pub failed_reads : ℕ
-  pub told : TellsRun (output_after t o front) (λ es. HasPart t result (state t.id (kind t) (front ++ es))) (with_source before (Some met) 0 0) (with_source after left calls failed_reads) result
+  pub told : TellsRun (output_after t o front) (λ es. HasPart t o result (state t.id o.window (kind t) (front ++ es))) (with_source before (Some met) 0 0) (with_source after left calls failed_reads) result
   pub untouched : OnRefusal result (after ≡ before)
 
 -- The parts before one of them were taken whole, and at this one the run ended so, as that of a part does.
@@ -225,4 +225,4 @@ pub record PrintsLog (t : TableParts) (o : Options) (log : List ℕ) (before aft
   pub printed : Appends before.written after.written (out t o log)
   pub reported : Appends before.reported after.reported (reports t o log)
   pub saved : part.state.items ≡ save t o log
-  pub counted : part.counts ≡ counts (kind t) (entries o.packing log)
+  pub counted : part.counts ≡ counts o.window (kind t) (entries o.packing log)

@@ -24,5 +24,5 @@ with_line_feeds texts = map (λ text. text ++ 10 ∷ []) texts
 -- key's messages, in their order.
 pub record PrintsBack (t : TableParts) (ms : List PacketParts) (o : Options) (log : List ℕ) : Type 0 where
   pub as_many : length (lines (out t o log)) ≡ length ms
-  pub gathered : with_line_feeds (lines (out t o log)) ≡ json_lines t o (map (λ (m : Keyed). m.message) (gathered_messages (kind t) (entries o.packing log)))
-  pub in_order : (key : Key) → json_lines t o (given_to key (kind t) (entries o.packing log)) ≡ json_lines t o (sent_to key ms)
+  pub gathered : with_line_feeds (lines (out t o log)) ≡ json_lines t o (map (λ (m : Keyed). m.message) (gathered_messages o.window (kind t) (entries o.packing log)))
+  pub in_order : (key : Key) → json_lines t o (given_to key o.window (kind t) (entries o.packing log)) ≡ json_lines t o (sent_to key ms)

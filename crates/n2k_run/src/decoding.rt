@@ -1,10 +1,12 @@
 //! The run of `decode`: the JSON line of each message of a log.
-ghost use Rattle.std.specs.Prelude.{◌≡◌, ◌++◌, List, OnOk, option_map, option_to_list};
+ghost use Rattle.std.specs.Prelude.{◌≡◌, ◌++◌, List, None, OnOk, option_map, option_to_list};
 ghost use Rattle.std.specs.List.{flat_map};
 ghost use Rattle.n2k_wire.specs.declared.entry.Entry.{Entry};
 ghost use Rattle.n2k_table.specs.Table.{kind};
 ghost use Rattle.n2k_join.specs.State.{state};
+ghost use Rattle.n2k_join.specs.Step.{due};
 ghost use Rattle.n2k_run.specs.Decoded.{join_making, message_line, output_after};
+ghost use Rattle.n2k_run.specs.Inner.Overdue.{BreaksOverdue};
 ghost use Rattle.n2k_run.specs.Making.{after_all};
 ghost use Rattle.n2k_run.specs.Reports.{broken_text, cause_report};
 ghost use Rattle.n2k_run.specs.Runs.{Runs, devices, output_from};
@@ -13,14 +15,26 @@ use crate::device::{Sink, Source};
 use crate::engine::run_entries;
 use crate::fault::RunFault;
 use crate::maker::Maker;
-use crate::options::Options;
+use crate::options::{Options, know_window};
 use crate::texts::{bad_text, broken_text};
 use n2k_join::{Broken, Join, laws};
 use n2k_table::{Table, json_line};
 use n2k_wire::{BadCause, Entry, Packet};
 use std::alloc::{AllocError, Global};
 
-// The report of the group that a line breaks.
+// Breaks the groups whose window ends at the next line, the oldest first, and reports them.
+fn break_overdue(alloc: Global, join: &mut Join, report: &mut Vec<u8>) -> Result<(), AllocError>
+    ensures none_due { OnOk result (due join.new ≡ None) }
+    ensures breaks { OnOk result (BreaksOverdue join.old join.new report.old.items report.new.items) }
+{
+    while let Some(group) = join.expire() {
+        let line = join.counts().lines + 1;
+        broken_text(alloc, line, &group, report)?;
+    }
+    Ok(())
+}
+
+// The report of the group that a line's frame breaks.
 fn push_broken(
     alloc: Global,
     line: u64,
@@ -96,6 +110,7 @@ impl<'a> Maker for JsonLines<'a> {
         text: &mut Vec<u8>,
         report: &mut Vec<u8>,
     ) -> Result<(), RunFault> {
+        break_overdue(alloc, join, report)?;
         let mut joined = None;
         let step = join.lend(self.table, entry, &mut joined)?;
         let line = join.counts().lines;
@@ -107,8 +122,8 @@ impl<'a> Maker for JsonLines<'a> {
 }
 
 /// Prints the JSON line of each message of a log to `writer`, in the order of the lines that give them, and to
-/// `reporter` for each line the group that it breaks and why it is bad. The join goes on from where it stands, and
-/// stands after the log at the end. Whole, or until a fault, as `run_plain`: after `Read` the join stands after the
+/// `reporter` for each line the groups that it breaks and why it is bad. The join goes on from where it stands, and
+/// stands after the log at the end; the window of the options has to be its own. Whole, or until a fault, as `run_plain`: after `Read` the join stands after the
 /// last line whose LF was read, and after `TooManyLines` at the last number; after `Write`, `Report` and `Memory` it is
 /// spent.
 pub fn run<R: Source, W: Sink, E: Sink>(
@@ -120,6 +135,8 @@ pub fn run<R: Source, W: Sink, E: Sink>(
     writer: &mut W,
     reporter: &mut E,
 ) -> Result<(), RunFault>
+    requires window { join.old.rule ≡ options.window }
+
     // From any join: the texts and reports of the steps of the log's entries, one after the other.
     ensures steps { let before = devices (R.remaining reader.old) (R.calls reader.old) (R.failed_calls reader.old)
         (W.contents writer.old) (W.failed_calls writer.old) (E.contents reporter.old) (E.failed_calls reporter.old) in
@@ -129,28 +146,19 @@ pub fn run<R: Source, W: Sink, E: Sink>(
         Runs (output_from making options.packing join.old) (λ es. join.new ≡ after_all making join.old es) before after result }
 
     // From a join that stands after these entries, with this table: what the whole log says of the lines after them.
-    ensures log { (front : List Entry) → join.old ≡ state table.now.id (kind table.now) front →
+    ensures log { (front : List Entry) → join.old ≡ state table.now.id options.window (kind table.now) front →
         let before = devices (R.remaining reader.old) (R.calls reader.old) (R.failed_calls reader.old)
         (W.contents writer.old) (W.failed_calls writer.old) (E.contents reporter.old) (E.failed_calls reporter.old) in
         let after = devices (R.remaining reader.new) (R.calls reader.new) (R.failed_calls reader.new)
         (W.contents writer.new) (W.failed_calls writer.new) (E.contents reporter.new) (E.failed_calls reporter.new) in
-        Runs (output_after table.now options front) (λ es. join.new ≡ state table.now.id (kind table.now) (front ++ es)) before after result }
+        Runs (output_after table.now options front) (λ es. join.new ≡ state table.now.id options.window (kind table.now) (front ++ es)) before after result }
 {
     laws::steps_agree();
     laws::lines_stay();
-    let maker = JsonLines {
-        table,
-        empty: options.empty,
-    };
-    run_entries(
-        alloc,
-        &maker,
-        options.packing,
-        join,
-        reader,
-        writer,
-        reporter,
-    )
+    know_window(&options);
+    let Options { packing, empty, .. } = options;
+    let maker = JsonLines { table, empty };
+    run_entries(alloc, &maker, packing, join, reader, writer, reporter)
 }
 
 #[cfg(test)]

@@ -8,6 +8,7 @@ ghost use Rattle.n2k_join.specs.Counts.{most_lines};
 ghost use Rattle.n2k_join.specs.Pieces.{written};
 ghost use Rattle.n2k_join.specs.Saved.{IsId};
 ghost use Rattle.n2k_join.specs.Scattered.{IsScattered, IsMute};
+ghost use Rattle.n2k_join.specs.Window.{IsWindow};
 ghost use Rattle.n2k_run.specs.declared.options.Options.{Options};
 ghost use Rattle.n2k_run.specs.Entries.{entries};
 ghost use Rattle.n2k_run.specs.Parts.{begun, save, state_after};
@@ -18,7 +19,7 @@ use n2k_wire::Packing;
 /// A log over which messages are scattered, and which gives no message alone, prints these messages: as many lines as there
 /// are messages, and each key's in their order. None is lost, none invented.
 pub fn replayed()
-    ensures { (t : TableParts) (ms : List PacketParts) (o : Options) (log : List ℕ) → IsScattered (kind t) ms (entries o.packing log) → IsMute (kind t) (entries o.packing log) → PrintsBack t ms o log }
+    ensures { (t : TableParts) (ms : List PacketParts) (o : Options) (log : List ℕ) → IsWindow o.window.window → IsScattered o.window (kind t) ms (entries o.packing log) → IsMute (kind t) (entries o.packing log) → PrintsBack t ms o log }
 {
     n2k_table::laws::json_is_one_line();
     n2k_join::laws::arrives_whole();
@@ -27,7 +28,7 @@ pub fn replayed()
 /// What is written is read back: fast packets of the table's PGNs, written as plain lines of frames in their order, are a log
 /// that prints these messages.
 pub fn written_then_read()
-    ensures { (t : TableParts) (ms : List PacketParts) (o : Options) → o.packing ≡ Packing.Frames → All IsPacketParts ms → All (λ (m : PacketParts). kind t m.id.pgn ≡ Some Fast) ms → PrintsBack t ms o (flat_map plain_text (written (kind t) ms)) }
+    ensures { (t : TableParts) (ms : List PacketParts) (o : Options) → IsWindow o.window.window → o.packing ≡ Packing.Frames → All IsPacketParts ms → All (λ (m : PacketParts). kind t m.id.pgn ≡ Some Fast) ms → PrintsBack t ms o (flat_map plain_text (written (kind t) ms)) }
 {
     n2k_wire::laws::plain_line_is_one_line();
     n2k_wire::laws::plain_line_reads_back();
@@ -39,7 +40,7 @@ pub fn written_then_read()
 /// What is saved after the front of a log reads back, under the same table: a part begins with the state that the front leads
 /// to, for every front with no more lines than are counted.
 pub fn saved_front_reads_back()
-    ensures { (t : TableParts) (o : Options) (front : List ℕ) → IsId t.id → length (entries o.packing front) ≤ most_lines → begun t (Some (save t o front)) ≡ Ok (state_after t o front) }
+    ensures { (t : TableParts) (o : Options) (front : List ℕ) → IsWindow o.window.window → IsId t.id → length (entries o.packing front) ≤ most_lines → begun t o (Some (save t o front)) ≡ Ok (state_after t o front) }
 {
     n2k_wire::laws::entries_are_entries();
     n2k_join::laws::saved_log_reads_back();

@@ -1,12 +1,24 @@
 //! What a run can be asked for.
+ghost use Rattle.n2k_join.specs.Window.{IsWindow};
 
+use n2k_join::Window;
 use n2k_wire::Packing;
 
-/// How a log's lines are read, and how its messages are printed.
+/// How a log's lines are read, how long a group of them may wait for its frames, and how its messages are printed.
 #[derive(Clone, Copy, Debug, PartialEq, Eq)]
 pub struct Options {
     /// How the data of its lines are packed.
     pub packing: Packing,
     /// Whether an absent field is printed, as `null`.
     pub empty: bool,
+    /// What ends a group that isn't complete: that so many lines have passed since its first, and, where the window asks
+    /// for their order, a frame whose number doesn't rise.
+    pub window: Window,
+}
+
+// What the type says of the window.
+pub(crate) fn know_window(options: &Options)
+    ensures { IsWindow options.now.window.window }
+{
+    let _lines = options.window.get();
 }

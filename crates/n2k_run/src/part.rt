@@ -16,7 +16,7 @@ use crate::decoding::run;
 use crate::device::{Sink, Source};
 use crate::fault::RunFault;
 use crate::memory::MemorySource;
-use crate::options::Options;
+use crate::options::{Options, know_window};
 use n2k_join::{Counts, Join, StateFault, laws};
 use n2k_table::Table;
 use std::alloc::{AllocError, Global};
@@ -61,13 +61,20 @@ impl From<AllocError> for PartFault {
 }
 
 // The join that a part begins with.
-fn begin(alloc: Global, table: &Table, saved: Option<&[u8]>) -> Result<Join, StateFault>
-    ensures state { GivesOrMemory (λ join. join) result (begun table.now (option_map (λ bytes. bytes.now) saved.entry)) }
+fn begin(
+    alloc: Global,
+    table: &Table,
+    options: &Options,
+    saved: Option<&[u8]>,
+) -> Result<Join, StateFault>
+    ensures state { GivesOrMemory (λ join. join) result (begun table.now options.now (option_map (λ bytes. bytes.now) saved.entry)) }
+    ensures window { IfOk result (λ join. join.rule ≡ options.now.window) }
     ensures handed { IsErr result → IsSome (option_map (λ bytes. bytes.now) saved.entry) }
 {
+    laws::groups_stay_fast();
     match saved {
-        None => Ok(Join::new(alloc, table)),
-        Some(bytes) => Join::resume(alloc, table, bytes),
+        None => Ok(Join::new(alloc, table, options.window)),
+        Some(bytes) => Join::resume(alloc, table, options.window, bytes),
     }
 }
 
@@ -109,7 +116,7 @@ fn finish(alloc: Global, join: &Join, ran: Result<(), RunFault>) -> Result<Part,
 /// line), and answers the state and the counts after it. A log that is cut after any of its lines into parts so joined
 /// gives exactly the messages, the reports, the counts and the state of one run over the whole.
 ///
-/// The state has to be of the same table, and the options have to be those of the parts before. A state that can't be
+/// The state has to be of the same table and the same window, and the other options have to be those of the parts before. A state that can't be
 /// taken is refused before anything is read or written. After `Stopped` the log can go on from the Part, which stands
 /// after the last line that was taken: after `Read` the next part begins behind the last LF that was read, and a line that
 /// came in part is handed in again. After `Run` and `Memory` there is none, and a front of the part's texts and
@@ -130,27 +137,27 @@ pub fn run_part<R: Source, W: Sink, E: Sink>(
 ) -> Result<Part, PartFault>
     // Each kind of refusal has its faults. A state is refused for what stands in it, or for want of memory.
     ensures fault_kinds { IsOfKind result }
-    ensures begins { BeginsBy table.now (option_map (λ bytes. bytes.now) saved.entry) result }
+    ensures begins { BeginsBy table.now options (option_map (λ bytes. bytes.now) saved.entry) result }
     ensures unread { OnRefusal result (reader.new ≡ reader.old) }
     ensures unwritten { OnRefusal result (writer.new ≡ writer.old) }
     ensures unreported { OnRefusal result (reporter.new ≡ reporter.old) }
 
     // From any state that reads, whether or not a log leads to it: the texts and reports of the steps of the part's entries.
-    ensures steps { (s : State) → begun table.now (option_map (λ bytes. bytes.now) saved.entry) ≡ Ok s →
+    ensures steps { (s : State) → begun table.now options (option_map (λ bytes. bytes.now) saved.entry) ≡ Ok s →
         let before = devices (R.remaining reader.old) (R.calls reader.old) (R.failed_calls reader.old)
         (W.contents writer.old) (W.failed_calls writer.old) (E.contents reporter.old) (E.failed_calls reporter.old) in
         let after = devices (R.remaining reader.new) (R.calls reader.new) (R.failed_calls reader.new)
         (W.contents writer.new) (W.failed_calls writer.new) (E.contents reporter.new) (E.failed_calls reporter.new) in
         let making = join_making table.now options.empty in
-        TellsRun (output_from making options.packing s) (λ es. HasPart table.now result (after_all making s es)) before after result }
+        TellsRun (output_from making options.packing s) (λ es. HasPart table.now options result (after_all making s es)) before after result }
 
     // From the state that these entries lead to: what the whole log says of the lines after them.
-    ensures log { (front : List Entry) → begun table.now (option_map (λ bytes. bytes.now) saved.entry) ≡ Ok (state table.now.id (kind table.now) front) →
+    ensures log { (front : List Entry) → begun table.now options (option_map (λ bytes. bytes.now) saved.entry) ≡ Ok (state table.now.id options.window (kind table.now) front) →
         let before = devices (R.remaining reader.old) (R.calls reader.old) (R.failed_calls reader.old)
         (W.contents writer.old) (W.failed_calls writer.old) (E.contents reporter.old) (E.failed_calls reporter.old) in
         let after = devices (R.remaining reader.new) (R.calls reader.new) (R.failed_calls reader.new)
         (W.contents writer.new) (W.failed_calls writer.new) (E.contents reporter.new) (E.failed_calls reporter.new) in
-        TellsRun (output_after table.now options front) (λ es. HasPart table.now result (state table.now.id (kind table.now) (front ++ es))) before after result }
+        TellsRun (output_after table.now options front) (λ es. HasPart table.now options result (state table.now.id options.window (kind table.now) (front ++ es))) before after result }
 
     // The headline: after this front of a log, whose saved state was handed in, exactly the rest of the whole log's output
     // is printed, and its state is saved.
@@ -165,7 +172,8 @@ pub fn run_part<R: Source, W: Sink, E: Sink>(
     laws::lines_stay();
     laws::groups_stay_fast();
     know_id(table);
-    let mut join = match begin(alloc, table, saved) {
+    know_window(&options);
+    let mut join = match begin(alloc, table, &options, saved) {
         Ok(join) => join,
         Err(fault) => return Err(PartFault::State(fault)),
     };
@@ -174,12 +182,13 @@ pub fn run_part<R: Source, W: Sink, E: Sink>(
 }
 
 // The Part of the empty log.
-fn empty_part(alloc: Global, table: &Table) -> Result<Part, AllocError>
-    ensures { IfOk result (IsPartOf table.now (state table.now.id (kind table.now) [])) }
+fn empty_part(alloc: Global, table: &Table, options: &Options) -> Result<Part, AllocError>
+    ensures { IfOk result (IsPartOf table.now options.now (state table.now.id options.now.window (kind table.now) [])) }
 {
     laws::groups_stay_fast();
     know_id(table);
-    let join = Join::new(alloc, table);
+    know_window(options);
+    let join = Join::new(alloc, table, options.window);
     part_of(alloc, &join)
 }
 
@@ -188,21 +197,21 @@ fn next_part<W: Sink, E: Sink>(
     alloc: Global,
     table: &Table,
     last: &Part,
-    options: Options,
+    options: &Options,
     part: &[u8],
     writer: &mut W,
     reporter: &mut E,
 ) -> Result<Part, PartFault>
     ensures fault_kinds { IsOfKind result }
-    ensures memory_only { (s : State) → IsPartOf table.now s last.now → RefusedByMemory result }
-    ensures log { (front : List Entry) → IsPartOf table.now (state table.now.id (kind table.now) front) last.now →
+    ensures memory_only { (s : State) → IsPartOf table.now options.now s last.now → RefusedByMemory result }
+    ensures log { (front : List Entry) → IsPartOf table.now options.now (state table.now.id options.now.window (kind table.now) front) last.now →
         let before = devices None 0 0 (W.contents writer.old) (W.failed_calls writer.old) (E.contents reporter.old) (E.failed_calls reporter.old) in
         let after = devices None 0 0 (W.contents writer.new) (W.failed_calls writer.new) (E.contents reporter.new) (E.failed_calls reporter.new) in
-        RunsPart table.now options front part.now before after result }
+        RunsPart table.now options.now front part.now before after result }
 {
     let mut reader = MemorySource::new(part, usize::MAX, 0);
     let state = Some(last.state.as_slice());
-    run_part(alloc, table, state, options, &mut reader, writer, reporter)
+    run_part(alloc, table, state, *options, &mut reader, writer, reporter)
 }
 
 /// Runs the parts of a log that lie in memory, one after the other, each from the bytes that were saved after the one
@@ -238,9 +247,10 @@ pub fn run_parts<W: Sink, E: Sink>(
 {
     laws::steps_agree();
     laws::lines_stay();
-    let mut last = empty_part(alloc, table)?;
+    know_window(&options);
+    let mut last = empty_part(alloc, table, &options)?;
     for part in parts {
-        match next_part(alloc, table, &last, options, part, writer, reporter) {
+        match next_part(alloc, table, &last, &options, part, writer, reporter) {
             Ok(next) => last = next,
             Err(fault) => return Err(fault),
         }

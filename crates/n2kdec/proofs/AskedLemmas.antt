@@ -1,6 +1,6 @@
 -- From what `clap` says of a parse to what the words ask for.
 use Rattle.std.proofs.Common.{◌≡◌, ◌∙◌, ◌⊎◌, List, [], Bool, cond, true, false, Option, Some, None, Result, Ok, Err, IfOk, IsErrOf, ap, sym, subst, refl, inl, inr, codes, true≢false}
-use Rattle.std.specs.Option.{option_map}
+use Rattle.std.specs.Option.{option_and_then, option_map}
 use Rattle.std.specs.Str.{bytes_eq}
 use Rattle.clap.specs.Kinds.{HasKind}
 use Rattle.clap.specs.Words.{App, HasMatchesOf, IsAmong, Row, Text, fault_of, first_of, is_simple, is_simple_and_free, subcommand_of, subcommand_rows_of}
@@ -9,13 +9,14 @@ use Rattle.clap.specs.declared.parser.matches.ArgMatches.{ArgMatches}
 use Rattle.clap.specs.declared.error.kind.ErrorKind.{ErrorKind}
 use Rattle.clap.specs.declared.error.kind.ErrorKind.TheVariants.{DisplayHelp, OutOfMemory}
 use Rattle.clap.proofs.OnLiterals.{clap_on_literals}
+use Rattle.n2k_join.specs.Window.{Rule}
 use Rattle.n2kdec.specs.declared.fault.Fault.{Fault}
 use Rattle.n2kdec.specs.declared.fault.Fault.TheVariants as fault
 use Rattle.n2kdec.specs.declared.word.Words.{Words}
 use Rattle.n2kdec.specs.declared.word.Words.TheVariants.{Help}
 use Rattle.n2kdec.specs.Usage.{program_app}
 use Rattle.n2kdec.specs.Inner.Parse.{AnswersKind}
-use Rattle.n2kdec.specs.Words.{IsAskedBy, IsRefused, Names, decode_words, frames_words, named, plain_words, words_of}
+use Rattle.n2kdec.specs.Words.{IsAskedBy, IsRefused, Names, decode_words, frames_words, named, plain_words, window_of, words_of}
 
 -- the command is one of those whose matches and faults are known
 program_is_simple : is_simple program_app ≡ true
@@ -44,6 +45,12 @@ mapped_is_no_help : (f : Text → Words) → ((t : Text) → is_help (Some (f t)
 mapped_is_no_help f none None = refl
 mapped_is_no_help f none (Some t) = none t
 
+checked_is_no_help : (f : Text → Rule → Words) → ((t : Text) (window : Rule) → is_help (Some (f t window)) ≡ false) → (window : Option Rule) (table : Option Text)
+    → is_help (option_and_then (λ t. option_map (f t) window) table) ≡ false
+checked_is_no_help f none window None = refl
+checked_is_no_help f none None (Some t) = refl
+checked_is_no_help f none (Some window) (Some t) = none t window
+
 -- no subcommand is help
 named_is_no_help : (rows : Option (Text × List Row)) → is_help (named rows) ≡ false
 named_is_no_help None = refl
@@ -51,7 +58,7 @@ named_is_no_help (Some p) = go (bytes_eq p.0 (codes "plain")) (bytes_eq p.0 (cod
   where
     go : (is_plain is_decode is_frames : Bool) → is_help (cond is_plain (plain_words p.1) (cond is_decode (decode_words p.1) (cond is_frames (frames_words p.1) None))) ≡ false
     go true is_decode is_frames = refl
-    go false true is_frames = mapped_is_no_help _ (λ t. refl) (first_of (codes "table") p.1)
+    go false true is_frames = checked_is_no_help _ (λ t window. refl) (window_of p.1) (first_of (codes "table") p.1)
     go false false true = mapped_is_no_help _ (λ t. refl) (first_of (codes "table") p.1)
     go false false false = refl
 

@@ -37,7 +37,7 @@ unless c before after (Err fault) stopped = go fault stopped
     go (State refused) s = absurd s.leaves
     go f s = s
 
-module _ (o : Output) (stands_at : List Entry → StateOf) (t : TableParts) (before after : Devices) (errors keeper kept : Place) where
+module _ (o : Output) (stands_at : List Entry → StateOf) (t : TableParts) (options : Options) (before after : Devices) (errors keeper kept : Place) where
   abbrev c : Command
   c = decode_to o stands_at keeper kept
 
@@ -47,18 +47,18 @@ module _ (o : Output) (stands_at : List Entry → StateOf) (t : TableParts) (bef
   abbrev said : Place
   said = place after.reported after.failed_reports
 
-  summary_of : (part : Part) (es : List Entry) → IsPartOf t (stands_at es) part → IsWrittenUnlessFailed errors said (summary_text part.counts)
+  summary_of : (part : Part) (es : List Entry) → IsPartOf t options (stands_at es) part → IsWrittenUnlessFailed errors said (summary_text part.counts)
       → IsWrittenUnlessFailed errors said (summary_text (c.counts es))
   summary_of part es is written = subst (λ n. IsWrittenUnlessFailed errors said (summary_text n)) is.counted written
 
-  saved_or_not : (part : Part) (es : List Entry) → IsPartOf t (stands_at es) part → Replaces keeper kept part.state.items ⊎ HasFailed keeper.failed kept.failed
+  saved_or_not : (part : Part) (es : List Entry) → IsPartOf t options (stands_at es) part → Replaces keeper kept part.state.items ⊎ HasFailed keeper.failed kept.failed
       → IsSaved c.saving es ⊎ CannotBeSaved c.saving
   saved_or_not part es is (inl keeps) = inl (subst (Replaces keeper kept) is.saved keeps)
   saved_or_not part es is (inr failed) = inr failed
 
   -- what the run of a part and its closing come to
   closed : (ended : Result Part PartFault) (r : Result ℕ Fault) → IsOfKind ended → RefusedByMemory ended
-      → TellsRun o (λ es. HasPart t ended (stands_at es)) before mid ended → ClosesPart keeper kept errors said ended r → EndsUnlessRefused c before after r
+      → TellsRun o (λ es. HasPart t options ended (stands_at es)) before mid ended → ClosesPart keeper kept errors said ended r → EndsUnlessRefused c before after r
   closed (Ok part) r kind memory told closes =
       let ran = told_ok o before mid _ part told in
       unless c before after r
@@ -90,41 +90,41 @@ module _ (o : Output) (stands_at : List Entry → StateOf) (t : TableParts) (bef
       (left_at_line c _ before after errors told.ran told.ended refl told.runs (closes.2, closes.1))
 
 -- a state that spells this one is refused for want of memory alone
-memory_only : (t : TableParts) (handed : Option (List ℕ)) (s : StateOf) (ended : Result Part PartFault) → BeginsBy t handed ended → begun t handed ≡ Ok s → RefusedByMemory ended
-memory_only t handed s (Ok part) begins is = tt
-memory_only t handed s (Err (part_faults.Stopped f part)) begins is = tt
-memory_only t handed s (Err (part_faults.Run f)) begins is = tt
-memory_only t handed s (Err part_faults.Memory) begins is = tt
-memory_only t handed s (Err (part_faults.State fault)) begins is = go begins.1
+memory_only : (t : TableParts) (options : Options) (handed : Option (List ℕ)) (s : StateOf) (ended : Result Part PartFault) → BeginsBy t options handed ended → begun t options handed ≡ Ok s → RefusedByMemory ended
+memory_only t options handed s (Ok part) begins is = tt
+memory_only t options handed s (Err (part_faults.Stopped f part)) begins is = tt
+memory_only t options handed s (Err (part_faults.Run f)) begins is = tt
+memory_only t options handed s (Err part_faults.Memory) begins is = tt
+memory_only t options handed s (Err (part_faults.State fault)) begins is = go begins.1
   where
-    go : (fault ≡ state_faults.Memory) ⊎ (begun t handed ≡ Err fault) → fault ≡ state_faults.Memory
+    go : (fault ≡ state_faults.Memory) ⊎ (begun t options handed ≡ Err fault) → fault ≡ state_faults.Memory
     go (inl memory) = memory
     go (inr refused) = let bad : Ok s ≡ Err fault = sym is ∙ refused in cc
 
 -- from a state, and from the entries that lead to it, past a table that is read as its bytes spell it
 pub decoded_from : (t read : TableParts) (options : Options) (handed : Option (List ℕ)) (s : StateOf) (before after : Devices) (errors keeper kept : Place) (ended : Result Part PartFault) (r : Result ℕ Fault)
-    → read ≡ t → begun t handed ≡ Ok s → IsOfKind ended → BeginsBy read handed ended
-    → (begun read handed ≡ Ok s → TellsRun (output_from (join_making read options.empty) options.packing s) (λ es. HasPart read ended (after_all (join_making read options.empty) s es))
+    → read ≡ t → begun t options handed ≡ Ok s → IsOfKind ended → BeginsBy read options handed ended
+    → (begun read options handed ≡ Ok s → TellsRun (output_from (join_making read options.empty) options.packing s) (λ es. HasPart read options ended (after_all (join_making read options.empty) s es))
     before (record after { reported = errors.text; failed_reports = errors.failed }) ended)
     → ClosesPart keeper kept errors (place after.reported after.failed_reports) ended r
     → EndsUnlessRefused (decode_from t options s keeper kept) before after r
 decoded_from t read options handed s before after errors keeper kept ended r same begins kind by ran closes =
-    let begins_read = subst (λ u. begun u handed ≡ Ok s) (sym same) begins in
+    let begins_read = subst (λ u. begun u options handed ≡ Ok s) (sym same) begins in
     subst (λ u. EndsUnlessRefused (decode_from u options s keeper kept) before after r) same
-    (closed (output_from (join_making read options.empty) options.packing s) (after_all (join_making read options.empty) s) read before after errors keeper kept ended r
-    kind (memory_only read handed s ended by begins_read) (ran begins_read) closes)
+    (closed (output_from (join_making read options.empty) options.packing s) (after_all (join_making read options.empty) s) read options before after errors keeper kept ended r
+    kind (memory_only read options handed s ended by begins_read) (ran begins_read) closes)
 
 pub decoded_after : (t read : TableParts) (options : Options) (handed : Option (List ℕ)) (front : List Entry) (before after : Devices) (errors keeper kept : Place) (ended : Result Part PartFault) (r : Result ℕ Fault)
-    → read ≡ t → begun t handed ≡ Ok (state t.id (kind_of t) front) → IsOfKind ended → BeginsBy read handed ended
-    → (begun read handed ≡ Ok (state read.id (kind_of read) front) → TellsRun (output_after read options front) (λ es. HasPart read ended (state read.id (kind_of read) (front ++ es)))
+    → read ≡ t → begun t options handed ≡ Ok (state t.id options.window (kind_of t) front) → IsOfKind ended → BeginsBy read options handed ended
+    → (begun read options handed ≡ Ok (state read.id options.window (kind_of read) front) → TellsRun (output_after read options front) (λ es. HasPart read options ended (state read.id options.window (kind_of read) (front ++ es)))
     before (record after { reported = errors.text; failed_reports = errors.failed }) ended)
     → ClosesPart keeper kept errors (place after.reported after.failed_reports) ended r
     → EndsUnlessRefused (decode_command t options front keeper kept) before after r
 decoded_after t read options handed front before after errors keeper kept ended r same begins kind by ran closes =
-    let begins_read = subst (λ u. begun u handed ≡ Ok (state u.id (kind_of u) front)) (sym same) begins in
+    let begins_read = subst (λ u. begun u options handed ≡ Ok (state u.id options.window (kind_of u) front)) (sym same) begins in
     subst (λ u. EndsUnlessRefused (decode_command u options front keeper kept) before after r) same
-    (closed (output_after read options front) (λ es. state read.id (kind_of read) (front ++ es)) read before after errors keeper kept ended r
-    kind (memory_only read handed _ ended by begins_read) (ran begins_read) closes)
+    (closed (output_after read options front) (λ es. state read.id options.window (kind_of read) (front ++ es)) read options before after errors keeper kept ended r
+    kind (memory_only read options handed _ ended by begins_read) (ran begins_read) closes)
 
 -- a part that was not run to its end gives a fault
 fault_by_part : (keeper kept errors summary : Place) (fault : PartFault) (r : Result ℕ Fault) → ClosesPart keeper kept errors summary (Err fault) r → (f : Fault) × (r ≡ Err f)
@@ -151,12 +151,12 @@ module _ (o : Options) (front : List ℕ) (before after : Devices) (errors keepe
     printed = on.printed;
     output = on.output;
     report = on.report;
-    reported = Appends-trans before.reported errors.text after.reported on.report (summary_text (counts (kind_of t) (entries o.packing (front ++ log))))
+    reported = Appends-trans before.reported errors.text after.reported on.report (summary_text (counts o.window (kind_of t) (entries o.packing (front ++ log))))
         on.reported (subst (λ n. Appends errors.text after.reported (summary_text n)) on.counted closes.1.0.written);
     told = on.told;
     answered = closes.1.1 ∙ ap exit_status on.counted;
     saved = subst (Replaces keeper kept) on.saved closes.0;
-    reads_back = subst (λ s. begun t (Some s) ≡ Ok (state_after t o (front ++ log))) on.saved on.reads_back;
+    reads_back = subst (λ s. begun t o (Some s) ≡ Ok (state_after t o (front ++ log))) on.saved on.reads_back;
   }) goes.1
   rest_of t (Err fault) r goes closes = subst (Rest t) (sym (fault_by_part keeper kept errors (place after.reported after.failed_reports) fault r closes).1) tt
 

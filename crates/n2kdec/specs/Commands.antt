@@ -111,7 +111,7 @@ decode_to output stands_at before after = record {
 -- after the entries of a log's front, of which the state was handed in: from a log's beginning there are none
 abbrev pub decode_command : TableParts → Options → List Entry → Place → Place → Command
 decode_command t options front before after =
-    decode_to (output_after t options front) (λ es. state t.id (kind t) (front ++ es)) before after
+    decode_to (output_after t options front) (λ es. state t.id options.window (kind t) (front ++ es)) before after
 
 -- from a state on, whether or not a log leads to it
 abbrev pub decode_from : TableParts → Options → StateOf → Place → Place → Command
@@ -274,8 +274,8 @@ pub record PrintsRest (t : TableParts) (o : Options) (front more : List ℕ) (be
   pub printed : Appends before.written after.written text
   pub output : out t o (front ++ more) ≡ out t o front ++ text
   pub report : List ℕ
-  pub reported : Appends before.reported after.reported (report ++ summary_text (counts (kind t) (entries o.packing (front ++ more))))
+  pub reported : Appends before.reported after.reported (report ++ summary_text (counts o.window (kind t) (entries o.packing (front ++ more))))
   pub told : reports t o (front ++ more) ≡ reports t o front ++ report
-  pub answered : status ≡ exit_status (counts (kind t) (entries o.packing (front ++ more)))
+  pub answered : status ≡ exit_status (counts o.window (kind t) (entries o.packing (front ++ more)))
   pub saved : Replaces keeper kept (save t o (front ++ more))
-  pub reads_back : begun t (Some (save t o (front ++ more))) ≡ Ok (state_after t o (front ++ more))
+  pub reads_back : begun t o (Some (save t o (front ++ more))) ≡ Ok (state_after t o (front ++ more))

@@ -35,6 +35,7 @@ state_line state.Shape = codes "n2kdec: state 3 Shape\n"
 state_line state.TableDiffers = codes "n2kdec: state 4 TableDiffers\n"
 state_line state.Invalid = codes "n2kdec: state 5 Invalid\n"
 state_line state.Memory = codes "n2kdec: memory\n"
+state_line state.WindowDiffers = codes "n2kdec: state 7 WindowDiffers\n"
 
 -- the line, with its LF
 abbrev pub fault_line : Fault → List ℕ
@@ -72,6 +73,7 @@ state_status state.Shape = 2
 state_status state.TableDiffers = 2
 state_status state.Invalid = 2
 state_status state.Memory = 3
+state_status state.WindowDiffers = 2
 
 -- 2 where the words, the table or the state are refused, 3 where a file, a device, memory or the limit of lines ended it
 abbrev pub status_of : Fault → ℕ

@@ -1,6 +1,6 @@
 -- The command line of the program, as `clap`'s contracts see a command:
 --     n2kdec plain [LOG]
---     n2kdec decode --table F [--resume F] [--save F] [--empty] [--whole] [LOG]
+--     n2kdec decode --table F [--resume F] [--save F] [--window W] [--in-order] [--empty] [--whole] [LOG]
 --     n2kdec frames --table F [--candump IFACE] [LOG]
 use Rattle.std.specs.Prelude.{List, ℕ, true, Some, codes}
 use Rattle.clap.specs.Words.{App, Rule, new_app, new_rule, with_rule, with_subcommand}
@@ -27,6 +27,12 @@ resume_rule = option_rule (codes "resume")
 abbrev pub save_rule : Rule
 save_rule = option_rule (codes "save")
 
+abbrev pub window_rule : Rule
+window_rule = option_rule (codes "window")
+
+abbrev pub in_order_rule : Rule
+in_order_rule = flag_rule (codes "in-order")
+
 abbrev pub candump_rule : Rule
 candump_rule = option_rule (codes "candump")
 
@@ -42,7 +48,8 @@ plain_app = with_rule (new_app (codes "plain")) log_rule
 abbrev pub decode_app : App
 decode_app =
     let files = with_rule (with_rule (with_rule (new_app (codes "decode")) table_rule) resume_rule) save_rule in
-    with_rule (with_rule (with_rule files empty_rule) whole_rule) log_rule
+    let groups = with_rule (with_rule files window_rule) in_order_rule in
+    with_rule (with_rule (with_rule groups empty_rule) whole_rule) log_rule
 
 abbrev pub frames_app : App
 frames_app = with_rule (with_rule (with_rule (new_app (codes "frames")) table_rule) candump_rule) log_rule

@@ -1,10 +1,14 @@
 -- What the words of a command line ask for, by the command's definition and `clap`'s reading of it.
-use Rattle.std.specs.Prelude.{◌≡◌, ◌≢◌, ◌⊎◌, List, [], Bool, false, Option, Some, None, Result, Ok, Err, if◌then◌else◌, codes, option_map}
+use Rattle.std.specs.Prelude.{◌≡◌, ◌≢◌, ◌⊎◌, ◌&&◌, nat_le, ℕ, List, [], Bool, false, Option, Some, None, Result, Ok, Err, if◌then◌else◌, codes, option_and_then, option_map}
+use Rattle.std.specs.Char.{is_ascii_digit}
+use Rattle.std.specs.List.{list_all}
 use Rattle.std.specs.Option.{option_map_or}
 use Rattle.std.specs.Str.{bytes_eq}
+use Rattle.std.specs.Str.Parse.{digits_value}
 use Rattle.clap.specs.Words.{IsAmong, Row, Text, fault_of, first_of, subcommand_of}
 use Rattle.clap.specs.declared.error.kind.ErrorKind.{ErrorKind}
 use Rattle.clap.specs.declared.error.kind.ErrorKind.TheVariants.{DisplayHelp}
+use Rattle.n2k_join.specs.Window.{Rule, shortest_window, longest_window}
 use Rattle.n2k_run.specs.declared.options.Options.{Options}
 use Rattle.n2k_wire.specs.declared.entry.Packing.TheVariants as packed
 use Rattle.n2kdec.specs.declared.fault.Fault.{Fault}
@@ -17,14 +21,34 @@ use Rattle.n2kdec.specs.Usage.{program_app}
 abbrev pub flag_of : Text → List Row → Bool
 flag_of id rows = option_map_or (λ value. bytes_eq value (codes "true")) (first_of id rows) false
 
+-- the lines of a window, in decimal digits
+abbrev pub lines_in : Text → Option ℕ
+lines_in text =
+    if list_all is_ascii_digit text && (nat_le shortest_window (digits_value 10 text) && nat_le (digits_value 10 text) longest_window)
+    then Some (digits_value 10 text) else None
+
+-- those of a window of which the words don't tell
+abbrev pub usual_window : ℕ
+usual_window = 10_000
+
+abbrev pub lines_by : Option Text → Option ℕ
+lines_by None = Some usual_window
+lines_by (Some text) = lines_in text
+
+-- what ends a group; none where the words tell of a window that can't be one
+abbrev pub window_of : List Row → Option Rule
+window_of rows = option_map (λ lines. record { window = lines; in_order = flag_of (codes "in-order") rows }) (lines_by (first_of (codes "window") rows))
+
 -- the values of a subcommand's words; `decode` and `frames` have a table
 abbrev pub plain_words : List Row → Option Words
 plain_words rows = Some (Plain (first_of (codes "log") rows))
 
 abbrev pub decode_words : List Row → Option Words
-decode_words rows = option_map
-    (λ table. Decode table (first_of (codes "resume") rows) (first_of (codes "save") rows)
-    (flag_of (codes "empty") rows) (flag_of (codes "whole") rows) (first_of (codes "log") rows))
+decode_words rows = option_and_then
+    (λ table. option_map
+    (λ window. Decode table (first_of (codes "resume") rows) (first_of (codes "save") rows)
+    (flag_of (codes "empty") rows) (flag_of (codes "whole") rows) window (first_of (codes "log") rows))
+    (window_of rows))
     (first_of (codes "table") rows)
 
 abbrev pub frames_words : List Row → Option Words
@@ -68,6 +92,6 @@ Names command (Err fault.Words) = command ≡ None
 Names command (Err fault.Memory) = Unit {0}
 Names command (Err _) = ⊥
 
--- the options that the words `--empty` and `--whole` stand for
-abbrev pub options_of : Bool → Bool → Options
-options_of empty whole = record { packing = if whole then packed.Whole else packed.Frames; empty = empty }
+-- the options that the words `--empty`, `--whole`, `--window` and `--in-order` stand for
+abbrev pub options_of : Bool → Bool → Rule → Options
+options_of empty whole window = record { packing = if whole then packed.Whole else packed.Frames; empty = empty; window = window }

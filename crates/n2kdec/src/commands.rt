@@ -128,7 +128,7 @@ pub fn decode<K: Keeper, R: Source, W: Sink, E: Sink>(
 ) -> Result<u8, Fault>
     // The table and the state are taken, or refused for what stands in them or for want of memory.
     ensures judged { let handed = option_map (λ bytes. bytes.now) state.entry in
-        let begins = begun (table_of table.now) handed in
+        let begins = begun (table_of table.now) options handed in
         MatchResult result (λ _. (faults table.now ≡ []) × IsOk begins) (IsJudged (faults table.now) handed begins) }
     ensures untouched { IfErr result (λ fault. IsRefusal fault
         → (log.new ≡ log.old) × (output.new ≡ output.old) × (errors.new ≡ errors.old) × (keeper.new ≡ keeper.old)) }
@@ -136,7 +136,7 @@ pub fn decode<K: Keeper, R: Source, W: Sink, E: Sink>(
     ensures at_most_one { IfOk result (λ status. status ≤ 1) }
 
     // From any state that is taken: what the steps of the log's entries make, one after the other.
-    ensures steps { (s : State) → begun (table_of table.now) (option_map (λ bytes. bytes.now) state.entry) ≡ Ok s →
+    ensures steps { (s : State) → begun (table_of table.now) options (option_map (λ bytes. bytes.now) state.entry) ≡ Ok s →
         let before = devices (R.remaining log.old) (R.calls log.old) (R.failed_calls log.old)
         (W.contents output.old) (W.failed_calls output.old) (E.contents errors.old) (E.failed_calls errors.old) in
         let after = devices (R.remaining log.new) (R.calls log.new) (R.failed_calls log.new)
@@ -147,7 +147,7 @@ pub fn decode<K: Keeper, R: Source, W: Sink, E: Sink>(
     // From the state that these entries lead to, or from a log's beginning, where there are none: what the whole log
     // says of the lines after them.
     ensures log { (front : List Entry)
-        → begun (table_of table.now) (option_map (λ bytes. bytes.now) state.entry) ≡ Ok (state_of (table_of table.now).id (kind (table_of table.now)) front) →
+        → begun (table_of table.now) options (option_map (λ bytes. bytes.now) state.entry) ≡ Ok (state_of (table_of table.now).id options.window (kind (table_of table.now)) front) →
         let before = devices (R.remaining log.old) (R.calls log.old) (R.failed_calls log.old)
         (W.contents output.old) (W.failed_calls output.old) (E.contents errors.old) (E.failed_calls errors.old) in
         let after = devices (R.remaining log.new) (R.calls log.new) (R.failed_calls log.new)

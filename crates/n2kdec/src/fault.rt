@@ -121,6 +121,7 @@ fn state_line(fault: StateFault) -> &'static [u8]
         StateFault::Shape => b"n2kdec: state 3 Shape\n",
         StateFault::TableDiffers => b"n2kdec: state 4 TableDiffers\n",
         StateFault::Invalid => b"n2kdec: state 5 Invalid\n",
+        StateFault::WindowDiffers => b"n2kdec: state 7 WindowDiffers\n",
         StateFault::Memory => b"n2kdec: memory\n",
     }
 }

@@ -2,7 +2,7 @@
 ghost use Rattle.std.specs.Prelude.{◌≡◌, IfOk, false};
 ghost use Rattle.clap.specs.Words.{app_of, rule_of, with_rule};
 ghost use Rattle.clap.specs.declared.builder.command.Command.TheViews.{out-Command as fields_of};
-ghost use Rattle.n2kdec.specs.Usage.{candump_rule, decode_app, empty_rule, frames_app, log_rule, plain_app, program_app, resume_rule, save_rule, table_rule, whole_rule};
+ghost use Rattle.n2kdec.specs.Usage.{candump_rule, decode_app, empty_rule, frames_app, in_order_rule, log_rule, plain_app, program_app, resume_rule, save_rule, table_rule, whole_rule, window_rule};
 
 use clap::{Arg, ArgAction, Command};
 use std::alloc::{AllocError, Global};
@@ -58,6 +58,27 @@ fn candump_argument<'a>(alloc: Global) -> Arg<'a>
         .help("Writes candump lines of this interface in place of plain lines")
 }
 
+fn window_argument<'a>(alloc: Global) -> Arg<'a>
+    ensures rule { rule_of result ≡ window_rule }
+    ensures own { result.global ≡ false }
+{
+    Arg::new(alloc, "window").long("window").value_name("W").help(
+        "Gives up a message whose frames have not all come W lines after its first: 32 to 1000000, without it 10000",
+    )
+}
+
+fn in_order_argument<'a>(alloc: Global) -> Arg<'a>
+    ensures rule { rule_of result ≡ in_order_rule }
+    ensures own { result.global ≡ false }
+{
+    Arg::new(alloc, "in-order")
+        .long("in-order")
+        .action(ArgAction::SetTrue)
+        .help(
+            "For a log taken at the bus: gives up a message whose frames are not in order, so that no two are mixed",
+        )
+}
+
 fn empty_argument<'a>(alloc: Global) -> Arg<'a>
     ensures rule { rule_of result ≡ empty_rule }
     ensures own { result.global ≡ false }
@@ -99,6 +120,17 @@ fn with_files<'a>(alloc: Global, command: Command<'a>) -> Result<Command<'a>, Al
         .arg(save_argument(alloc))
 }
 
+// A command with the words that say what ends a group of frames.
+fn with_window<'a>(alloc: Global, command: Command<'a>) -> Result<Command<'a>, AllocError>
+    requires { (fields_of command).has_globals ≡ false }
+    ensures app { IfOk result (λ added. app_of added ≡ with_rule (with_rule (app_of command.entry) window_rule) in_order_rule) }
+    ensures own { IfOk result (λ added. (fields_of added).has_globals ≡ false) }
+{
+    command
+        .arg(window_argument(alloc))?
+        .arg(in_order_argument(alloc))
+}
+
 // A command with the flags that say how lines are read and printed.
 fn with_flags<'a>(alloc: Global, command: Command<'a>) -> Result<Command<'a>, AllocError>
     requires { (fields_of command).has_globals ≡ false }
@@ -117,7 +149,8 @@ fn decode_command<'a>(alloc: Global) -> Result<Command<'a>, AllocError>
     let command = Command::new(alloc, "decode").about(
         "Prints each message of a log as a line of JSON",
     );
-    with_flags(alloc, with_files(alloc, command)?)?.arg(log_argument(alloc))
+    let command = with_window(alloc, with_files(alloc, command)?)?;
+    with_flags(alloc, command)?.arg(log_argument(alloc))
 }
 
 fn frames_command<'a>(alloc: Global) -> Result<Command<'a>, AllocError>

@@ -1,5 +1,6 @@
 //! What the words of the command line ask for.
 
+use n2k_join::Window;
 use std::alloc::{AllocError, Global};
 use std::marker::Model;
 
@@ -45,7 +46,7 @@ pub enum Words {
         /// The file of the log; none is standard input.
         log: Option<Word>,
     },
-    /// `decode --table F [--resume F] [--save F] [--empty] [--whole] [LOG]`
+    /// `decode --table F [--resume F] [--save F] [--window W] [--in-order] [--empty] [--whole] [LOG]`
     Decode {
         /// The file of the table.
         table: Word,
@@ -57,6 +58,8 @@ pub enum Words {
         empty: bool,
         /// Every plain line is a whole message.
         whole: bool,
+        /// How many lines a group waits for its frames, and whether these have to come in order.
+        window: Window,
         /// The file of the log; none is standard input.
         log: Option<Word>,
     },

@@ -1,17 +1,20 @@
 //! The words of the command line, read with `clap`.
-ghost use Rattle.std.specs.Prelude.{◌≡◌, ◌⊎◌, true, IfOk, IfErr, IsErrOf};
+ghost use Rattle.std.specs.Prelude.{◌≡◌, ◌⊎◌, true, false, IfOk, IfErr, IsErrOf, option_map};
+ghost use Rattle.std.specs.Char.{is_ascii_digit};
+ghost use Rattle.std.specs.List.{list_all};
 ghost use Rattle.clap.specs.Walk.{texts};
 ghost use Rattle.clap.specs.Words.{first_of, found_of, kind_of, rows_of, subcommand_rows_of, takes};
 ghost use Rattle.n2k_run.specs.FramesOut.{IsInterface, interface_of};
 ghost use Rattle.n2kdec.specs.Inner.Parse.{AnswersKind};
 ghost use Rattle.n2kdec.specs.Usage.{program_app};
-ghost use Rattle.n2kdec.specs.Words.{IsAskedBy, IsRefused, Names, decode_words, flag_of, frames_words, named, plain_words, words_of};
+ghost use Rattle.n2kdec.specs.Words.{IsAskedBy, IsRefused, Names, decode_words, flag_of, frames_words, lines_in, named, plain_words, window_of, words_of};
 
 use crate::fault::Fault;
 use crate::usage::program;
 use crate::word::{Word, Words};
 use clap::error::ErrorKind;
 use clap::{ArgMatches, Error};
+use n2k_join::Window;
 use n2k_wire::is_interface;
 use std::alloc::{AllocError, Global};
 
@@ -37,6 +40,41 @@ fn flag_of(matches: &ArgMatches<'_>, id: &str) -> bool
     }
 }
 
+// The lines of a window of which the words don't tell.
+const USUAL_WINDOW: u32 = 10_000;
+
+fn are_digits(text: &[u8]) -> bool
+    ensures { result ≡ list_all is_ascii_digit text.now }
+{
+    text.iter().all(|byte| byte.is_ascii_digit())
+}
+
+// The window of a number of lines in decimal digits, where it can be one.
+fn window_in(text: &str) -> Option<Window>
+    ensures { result ≡ option_map (λ lines. record { window = lines; in_order = false }) (lines_in text.now) }
+{
+    if !are_digits(text.as_bytes()) {
+        return None;
+    }
+    Window::new(text.parse::<u32>().ok()?)
+}
+
+// What the words say of what ends a group.
+#[tactic(auto, using(crate::proofs::Rows::value_of_rows))]
+fn window_of(matches: &ArgMatches<'_>) -> Option<Window>
+    ensures { result ≡ window_of (rows_of (found_of matches.now)) }
+{
+    let window = match matches.get_str("window") {
+        Some(text) => window_in(text)?,
+        None => Window::new(USUAL_WINDOW)?,
+    };
+    if flag_of(matches, "in-order") {
+        Some(window.in_order())
+    } else {
+        Some(window)
+    }
+}
+
 // The values of `plain`.
 fn plain_of(alloc: Global, matches: &ArgMatches<'_>) -> Result<Words, Fault>
     ensures { Names (plain_words (rows_of (found_of matches.now))) result }
@@ -52,12 +90,16 @@ fn decode_of(alloc: Global, matches: &ArgMatches<'_>) -> Result<Words, Fault>
     let Some(table) = value_of(alloc, matches, "table")? else {
         return Err(Fault::Words);
     };
+    let Some(window) = window_of(matches) else {
+        return Err(Fault::Words);
+    };
     Ok(Words::Decode {
         table,
         resume: value_of(alloc, matches, "resume")?,
         save: value_of(alloc, matches, "save")?,
         empty: flag_of(matches, "empty"),
         whole: flag_of(matches, "whole"),
+        window,
         log: value_of(alloc, matches, "log")?,
     })
 }

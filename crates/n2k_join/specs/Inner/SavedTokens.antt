@@ -1,5 +1,5 @@
 -- The text of a saved state, token by token.
-use Rattle.std.specs.Prelude.{◌≡◌, ℕ, List, [], ◌∷◌, ◌++◌, decimal, codes, map, Option, Some, None, OnOk, Result}
+use Rattle.std.specs.Prelude.{◌≡◌, ℕ, Bool, if◌then◌else◌, List, [], ◌∷◌, ◌++◌, decimal, codes, map, Option, Some, None, OnOk, Result}
 use Rattle.std.specs.List.{flat_map}
 use Rattle.json.specs.Token.{Token}
 use Rattle.json.specs.Tree.{json_tokens}
@@ -10,7 +10,7 @@ use Rattle.hex.specs.Hex.{encode_lower}
 use Rattle.n2k_join.specs.declared.counts.Counts.{Counts}
 use Rattle.n2k_join.specs.Frames.{Key}
 use Rattle.n2k_join.specs.Open.{Piece, Group}
-use Rattle.n2k_join.specs.Saved.{saved_format, list, piece_tree, group_tree}
+use Rattle.n2k_join.specs.Saved.{format_by, list, piece_tree, group_tree}
 
 -- the tokens of a value
 abbrev pub tokens_of : Data → List Token
@@ -45,8 +45,8 @@ abbrev pub open_tokens : List Group → List Token
 open_tokens gs = Token.key (codes "groups") ∷ tokens_of (list (map group_tree gs))
 
 -- the members before them, and those behind them
-abbrev pub front_tokens : Counts → List Token
-front_tokens c = count_tokens (codes "bad") c.bad ++ count_tokens (codes "broken") c.broken ++ count_tokens (codes "format") saved_format
+abbrev pub front_tokens : Bool → Counts → List Token
+front_tokens tells c = count_tokens (codes "bad") c.bad ++ count_tokens (codes "broken") c.broken ++ count_tokens (codes "format") (format_by tells)
 
 abbrev pub lines_tokens : Counts → List Token
 lines_tokens c = count_tokens (codes "lines") c.lines ++ count_tokens (codes "messages") c.messages
@@ -54,8 +54,12 @@ lines_tokens c = count_tokens (codes "lines") c.lines ++ count_tokens (codes "me
 abbrev pub table_tokens : List ℕ → List Token
 table_tokens id = Token.key (codes "table") ∷ Token.string (encode_lower id) ∷ []
 
-abbrev pub back_tokens : List ℕ → Counts → List Token
-back_tokens id c = lines_tokens c ++ table_tokens id ++ count_tokens (codes "unknown") c.unknown
+-- the last of them, where the format has it
+abbrev pub window_tokens : Bool → ℕ → List Token
+window_tokens tells window = if tells then count_tokens (codes "window") window else []
+
+abbrev pub back_tokens : Bool → List ℕ → ℕ → Counts → List Token
+back_tokens tells id window c = lines_tokens c ++ table_tokens id ++ count_tokens (codes "unknown") c.unknown ++ window_tokens tells window
 
 -- these tokens were written behind those from before, and nothing else changed
 pub record Appends {E : Type 0} (result : Result (Unit {0}) E) (old new : Written) (added : List Token) : Type 0 where

@@ -8,7 +8,7 @@ use Rattle.n2k_join.specs.declared.piece.FrameKey.{FrameKey}
 use Rattle.n2k_join.specs.declared.piece.StoredPiece.{StoredPiece}
 use Rattle.n2k_join.specs.declared.piece.FastFrame.{FastFrame}
 use Rattle.n2k_join.specs.Frames.{Key, same_key, Frame, most_sequences}
-use Rattle.n2k_join.specs.Groups.{repeats, complete}
+use Rattle.n2k_join.specs.Groups.{has_number, has_from, complete}
 use Rattle.n2k_join.specs.Open.{Piece, Group, pieces_of, group_of}
 use Rattle.n2k_join.specs.Messages.{message_of, broken_of}
 use Rattle.n2k_join.specs.Pieces.{Stream}
@@ -45,13 +45,17 @@ with_frame o x = record { first = o.first; key = o.key; pieces = pieces_of (held
 abbrev pub message_if : Frame → List Frame → Option PacketParts
 message_if x group = if complete group then Some (message_of x group) else None
 
+-- A group has no place for a number: it is in it, or, where messages are sent in order, it isn't greater than each of its own.
+abbrev pub bars : Bool → ℕ → Group → Bool
+bars in_order number o = if in_order then has_from number (held_of o) else has_number number (held_of o)
+
 -- what stays open of a group of the frame's key
-abbrev pub joined : Frame → Group → Option Group
-joined x o = if repeats (held_of o) x then None else (if complete (held_of o ++ x ∷ []) then None else Some (with_frame o x))
+abbrev pub joined : Bool → Frame → Group → Option Group
+joined in_order x o = if bars in_order x.number o then None else (if complete (held_of o ++ x ∷ []) then None else Some (with_frame o x))
 
 -- what stays open of a group
-abbrev pub taken : Frame → Group → Option Group
-taken x o = if same_key x.key o.key then joined x o else Some o
+abbrev pub taken : Bool → Frame → Group → Option Group
+taken in_order x o = if same_key x.key o.key then joined in_order x o else Some o
 
 -- the group that a frame begins, where it doesn't complete it
 abbrev pub begun : Frame → Option Group
@@ -62,30 +66,30 @@ abbrev pub of_the_key : Key → List Group → Option Group
 of_the_key key groups = find (λ (o : Group). same_key key o.key) groups
 
 -- the group that a frame opens, where this is the open one of its key
-abbrev pub opened : Frame → Option Group → Option Group
-opened x None = begun x
-opened x (Some o) = if repeats (held_of o) x then begun x else None
+abbrev pub opened : Bool → Frame → Option Group → Option Group
+opened in_order x None = begun x
+opened in_order x (Some o) = if bars in_order x.number o then begun x else None
 
 -- the open groups after a frame
-unfoldable pub groups_after : List Group → Frame → List Group
-groups_after groups x = filter_map (taken x) groups ++ option_to_list (opened x (of_the_key x.key groups))
+unfoldable pub groups_after : Bool → List Group → Frame → List Group
+groups_after in_order groups x = filter_map (taken in_order x) groups ++ option_to_list (opened in_order x (of_the_key x.key groups))
 
 -- the message that a frame completes, where this is the open group of its key
-abbrev pub gained : Frame → Option Group → Option PacketParts
-gained x None = message_if x (x ∷ [])
-gained x (Some o) = if repeats (held_of o) x then message_if x (x ∷ []) else message_if x (held_of o ++ x ∷ [])
+abbrev pub gained : Bool → Frame → Option Group → Option PacketParts
+gained in_order x None = message_if x (x ∷ [])
+gained in_order x (Some o) = if bars in_order x.number o then message_if x (x ∷ []) else message_if x (held_of o ++ x ∷ [])
 
 -- the group that a frame breaks
-abbrev pub lost : Frame → Option Group → Option Broken
-lost x None = None
-lost x (Some o) = if repeats (held_of o) x then Some (broken_of x.key (held_of o)) else None
+abbrev pub lost : Bool → Frame → Option Group → Option Broken
+lost in_order x None = None
+lost in_order x (Some o) = if bars in_order x.number o then Some (broken_of x.key (held_of o)) else None
 
 -- What a line gives, by its frame. Without one that is a message alone, or a cause.
-abbrev pub gives_by : Option PacketParts → Option BadCause → List Group → Option Frame → Given
-gives_by alone cause groups None = record { message = alone; cause = cause; broken = [] }
-gives_by alone cause groups (Some x) = record { message = gained x (of_the_key x.key groups); cause = None; broken = option_to_list (lost x (of_the_key x.key groups)) }
+abbrev pub gives_by : Bool → Option PacketParts → Option BadCause → List Group → Option Frame → Given
+gives_by in_order alone cause groups None = record { message = alone; cause = cause; broken = [] }
+gives_by in_order alone cause groups (Some x) = record { message = gained in_order x (of_the_key x.key groups); cause = None; broken = option_to_list (lost in_order x (of_the_key x.key groups)) }
 
 -- the open groups that it leaves
-abbrev pub leaves_by : List Group → Option Frame → List Group
-leaves_by groups None = groups
-leaves_by groups (Some x) = groups_after groups x
+abbrev pub leaves_by : Bool → List Group → Option Frame → List Group
+leaves_by in_order groups None = groups
+leaves_by in_order groups (Some x) = groups_after in_order groups x

@@ -1,15 +1,16 @@
 //! The state that a value spells: a reader for each part.
-ghost use Rattle.std.specs.Prelude.{map};
+ghost use Rattle.std.specs.Prelude.{◌≡◌, map, IfOk};
 ghost use Rattle.serde_json.specs.View.{view};
 ghost use Rattle.n2k_wire.specs.Views.{Gives};
 ghost use Rattle.n2k_join.specs.Refusal.{GivesOrMemory};
-ghost use Rattle.n2k_join.specs.Resumed.{each, piece_of, key_of, pieces_at, group_of, groups_at, counts_of, id_at, state_of};
+ghost use Rattle.n2k_join.specs.Resumed.{window_at, each, piece_of, key_of, pieces_at, group_of, groups_at, counts_of, id_at, state_of};
 
 use crate::counts::Counts;
 use crate::saved::place::Place;
 use crate::saved::spelled::{SpelledGroup, SpelledKey, SpelledPiece, SpelledState};
 use crate::saved::value::{as_whole, digits_of, elements_of, members_at, required, whole_at};
 use crate::state_fault::StateFault;
+use crate::window::Window;
 use serde_json::Value;
 use std::alloc::Global;
 
@@ -115,14 +116,37 @@ fn read_id(value: &Value) -> Result<[u8; 32], StateFault>
     digits_of::<32>(required("table", value)?)
 }
 
-/// The state that a value spells, whatever its numbers.
-#[tactic(auto, unfolding(crate::specs::Resumed::state_of))]
-pub(crate) fn read_state(alloc: Global, value: &Value) -> Result<SpelledState, StateFault>
-    ensures { GivesOrMemory (λ state. state) result (state_of (view value.now)) }
+// The window of a state: that which is handed in, where the state doesn't tell one.
+fn read_window(format: Place, window: u32, value: &Value) -> Result<u64, StateFault>
+    ensures { Gives (λ n. n) result (window_at format window (view value.now)) }
 {
-    members_at(Place::State, value)?;
+    match format {
+        Place::WindowState => whole_at("window", value),
+        _ => Ok(u64::from(window)),
+    }
+}
+
+/// The state that a value of a format spells, whatever its numbers.
+#[tactic(auto, unfolding(crate::specs::Resumed::state_of))]
+pub(crate) fn read_state(
+    alloc: Global,
+    format: Place,
+    rule: Window,
+    value: &Value,
+) -> Result<SpelledState, StateFault>
+    ensures value { GivesOrMemory (λ state. state) result (state_of format rule (view value.now)) }
+    ensures order { IfOk result (λ state. state.rule.in_order ≡ rule.in_order) }
+{
+    members_at(format, value)?;
     let counts = read_counts(value)?;
     let id = read_id(value)?;
     let groups = read_groups(alloc, value)?;
-    Ok(SpelledState { id, counts, groups })
+    let window = read_window(format, rule.get(), value)?;
+    Ok(SpelledState {
+        id,
+        window,
+        in_order: rule.is_in_order(),
+        counts,
+        groups,
+    })
 }

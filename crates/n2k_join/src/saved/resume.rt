@@ -8,16 +8,18 @@ ghost use Rattle.n2k_wire.specs.Plain.{greatest_address};
 ghost use Rattle.n2k_join.specs.Frames.{Key, most_sequences};
 ghost use Rattle.n2k_join.specs.Refusal.{GivesOrMemory};
 ghost use Rattle.n2k_wire.specs.Steps.{or_cause};
-ghost use Rattle.n2k_join.specs.Resumed.{pieces_rise, group_holds, groups_hold, valid_if, parsed, has_format};
+ghost use Rattle.n2k_join.specs.Resumed.{pieces_rise, group_holds, groups_hold, valid_if, parsed, format_in};
+ghost use Rattle.n2k_wire.specs.Views.{Gives};
 ghost use Rattle.n2k_join.specs.State.{IsKey, IsPiece, HasParts};
 ghost use Rattle.std.specs.List.{AllByRecursion};
 ghost use Rattle.n2k_join.specs.Inner.Stored.{key_of};
 ghost use Rattle.n2k_join.specs.Inner.Slots.{group_in, group_at, groups_in};
 
 use crate::piece::{FrameKey, OpenGroup};
-use crate::saved::SAVED_FORMAT;
+use crate::saved::place::Place;
 use crate::saved::rules::{key_holds, stored_piece};
 use crate::saved::spelled::{SpelledGroup, SpelledKey, SpelledPiece};
+use crate::saved::{OLD_FORMAT, SAVED_FORMAT};
 use crate::state_fault::StateFault;
 use indexmap::IndexMap;
 use n2k_table::Table;
@@ -104,12 +106,16 @@ pub(crate) fn parsed(alloc: Global, bytes: &[u8]) -> Result<Value, StateFault>
     }
 }
 
-/// Whether it is of the format that is read.
-pub(crate) fn has_format(value: &Value) -> bool
-    ensures { result ≡ has_format (view value.now) }
+/// The format of a value, as the place of its members.
+pub(crate) fn format_in(value: &Value) -> Result<Place, StateFault>
+    ensures { Gives (λ place. place) result (format_in (view value.now)) }
 {
-    match value.get("format") {
-        Some(format) => format.as_u64() == Some(SAVED_FORMAT),
-        None => false,
+    let Some(format) = value.get("format") else {
+        return Err(StateFault::Format);
+    };
+    match format.as_u64() {
+        Some(OLD_FORMAT) => Ok(Place::State),
+        Some(SAVED_FORMAT) => Ok(Place::WindowState),
+        _ => Err(StateFault::Format),
     }
 }

@@ -1,6 +1,8 @@
 //! The rules of a valid state.
-ghost use Rattle.std.specs.Prelude.{◌≡◌, ◌≤◌, ◌<◌, ◌&&◌, true, IfSome};
+ghost use Rattle.std.specs.Prelude.{◌≡◌, ◌≤◌, ◌<◌, true, IfSome};
 ghost use Rattle.std.specs.List.{AllByRecursion};
+ghost use Rattle.n2k_join.specs.Saved.{are_waiting};
+ghost use Rattle.n2k_join.specs.Inner.Apart.{numbers_hold};
 ghost use Rattle.n2k_wire.specs.Packet.{greatest_pgn};
 ghost use Rattle.n2k_table.specs.Table.{kind};
 ghost use Rattle.n2k_join.specs.Counts.{most_lines};
@@ -8,25 +10,27 @@ ghost use Rattle.n2k_join.specs.Frames.{most_frames};
 ghost use Rattle.n2k_join.specs.Inner.Apart.{SomeUnder};
 ghost use Rattle.n2k_join.specs.State.{IsPiece};
 ghost use Rattle.n2k_join.specs.Inner.Stored.{piece_of};
-ghost use Rattle.n2k_join.specs.Resumed.{counts_hold, firsts_rise, is_fast, key_holds, total_holds, piece_holds};
+ghost use Rattle.n2k_join.specs.Resumed.{counts_hold, firsts_rise, waits_hold, is_fast, key_holds, total_holds, piece_holds};
 
 use crate::counts::{Counts, MOST_LINES};
 use crate::frame::{LONGEST_TOTAL, MOST_FRAMES, MOST_SEQUENCES};
 use crate::piece::StoredPiece;
-use crate::saved::spelled::{SpelledGroup, SpelledKey, SpelledPiece};
+use crate::saved::place::Place;
+use crate::saved::spelled::{SpelledGroup, SpelledKey, SpelledPiece, SpelledState};
 use n2k_table::{Kind, Table};
 use n2k_wire::{GREATEST_ADDRESS, GREATEST_PGN};
 
 /// Whether these can be the counts of lines. No sum of them wraps.
 #[tactic(auto, unfolding(crate::specs::Resumed::counts_hold))]
-fn counts_hold(counts: &Counts) -> bool
-    ensures value { result ≡ counts_hold counts.now }
+fn counts_hold(counts: &Counts, held: u64) -> bool
+    ensures value { result ≡ counts_hold (record counts.now { held = held }) }
     ensures few { result ≡ true → counts.now.lines ≤ most_lines }
 {
     let messages = u128::from(counts.messages);
     let given = messages + u128::from(counts.bad) + u128::from(counts.unknown);
+    let opened = u128::from(counts.broken) + u128::from(held);
     counts.lines <= MOST_LINES
-        && (counts.broken <= counts.lines && given <= u128::from(counts.lines))
+        && (opened <= u128::from(counts.lines) && given <= u128::from(counts.lines))
 }
 
 /// Whether the first lines rise strictly from 1, and none is past the last line.
@@ -47,9 +51,33 @@ fn firsts_rise(lines: u64, groups: &[SpelledGroup]) -> bool
 
 /// Whether the counts and the lines that opened the groups can be those of one state.
 pub(crate) fn rules_hold(counts: &Counts, groups: &[SpelledGroup]) -> bool
-    ensures { result ≡ (counts_hold counts.now && firsts_rise 1 counts.now.lines groups.now) }
+    ensures { result ≡ numbers_hold counts.now groups.now }
 {
-    counts_hold(counts) && firsts_rise(counts.lines, groups)
+    counts_hold(counts, groups.len() as u64) && firsts_rise(counts.lines, groups)
+}
+
+// Whether no group's window has ended.
+fn are_waiting(state: &SpelledState) -> bool
+    ensures { result ≡ are_waiting state.now }
+{
+    let line = u128::from(state.counts.lines);
+    let long = u128::from(state.window);
+    for group in &state.groups {
+        if line >= u128::from(group.first) + long {
+            return false;
+        }
+    }
+    true
+}
+
+/// Whether no group's window has ended, where the state tells its window.
+pub(crate) fn waits_hold(format: Place, state: &SpelledState) -> bool
+    ensures { result ≡ waits_hold format state.now }
+{
+    match format {
+        Place::WindowState => are_waiting(state),
+        _ => true,
+    }
 }
 
 fn is_fast(table: &Table, pgn: u64) -> bool

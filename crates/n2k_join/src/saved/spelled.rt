@@ -51,10 +51,13 @@ impl Model for SpelledGroup {
     ghost view = { λ g. record { first = g.first; key = g.key; pieces = g.pieces.items } };
 }
 
-/// A state. The count of open groups is their number.
+/// A state. The count of open groups is their number. Where its text tells no window, that is the one which is handed in,
+/// as the order of frames always is.
 #[derive(Drop)]
 pub(crate) struct SpelledState {
     pub(crate) id: [u8; 32],
+    pub(crate) window: u64,
+    pub(crate) in_order: bool,
     pub(crate) counts: Counts,
     pub(crate) groups: Vec<SpelledGroup>,
 }
@@ -67,6 +70,7 @@ impl Model for SpelledState {
 
     ghost view = { λ s. record {
       id = s.id;
+      rule = record { window = s.window; in_order = s.in_order };
       counts = record s.counts { held = length s.groups.items };
       groups = s.groups.items;
     } };

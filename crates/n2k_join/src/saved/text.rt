@@ -5,7 +5,9 @@ ghost use Rattle.json.specs.Token.{Token};
 ghost use Rattle.n2k_join.specs.Frames.{most_frames};
 ghost use Rattle.n2k_join.specs.Open.{piece_at};
 ghost use Rattle.n2k_join.specs.Saved.{piece_tree, group_tree, state_tree, state_text, IsId};
-ghost use Rattle.n2k_join.specs.Inner.SavedTokens.{Appends, tokens_of, count_tokens, piece_tokens, pieces_tokens, frames_tokens, key_tokens, groups_tokens, open_tokens, front_tokens, lines_tokens, table_tokens, back_tokens};
+ghost use Rattle.n2k_join.specs.Inner.SavedTokens.{Appends, tokens_of, count_tokens, piece_tokens, pieces_tokens, frames_tokens, key_tokens, groups_tokens, open_tokens, front_tokens, lines_tokens, table_tokens, back_tokens, window_tokens};
+ghost use Rattle.std.specs.List.{list_all};
+ghost use Rattle.n2k_join.specs.Open.{is_waiting};
 ghost use Rattle.n2k_join.specs.Inner.Stored.{key_of};
 ghost use Rattle.n2k_join.specs.Inner.Slots.{slot_of, pieces_in, group_in, groups_in};
 ghost use Rattle.std.specs.Str.{IsUtf8};
@@ -13,7 +15,8 @@ ghost use Rattle.std.specs.Str.{IsUtf8};
 use crate::counts::Counts;
 use crate::frame::MOST_FRAMES;
 use crate::piece::{FrameKey, OpenGroup};
-use crate::saved::SAVED_FORMAT;
+use crate::saved::{OLD_FORMAT, SAVED_FORMAT};
+use crate::window::Window;
 use indexmap::IndexMap;
 use json::Writer;
 use std::alloc::{AllocError, Global};
@@ -141,13 +144,14 @@ fn push_open(groups: &IndexMap<FrameKey, OpenGroup>, out: &mut Writer) -> Result
     Ok(())
 }
 
-// Writes the members before `groups`.
-fn push_front(counts: &Counts, out: &mut Writer) -> Result<(), AllocError>
-    ensures { Appends result out.old out.new (front_tokens counts.now) }
+// Writes the members before `groups`, of a state that tells its window or doesn't.
+fn push_front(tells: bool, counts: &Counts, out: &mut Writer) -> Result<(), AllocError>
+    ensures { Appends result out.old out.new (front_tokens tells counts.now) }
 {
+    let format = if tells { SAVED_FORMAT } else { OLD_FORMAT };
     push_count("bad", counts.bad, out)?;
     push_count("broken", counts.broken, out)?;
-    push_count("format", SAVED_FORMAT, out)
+    push_count("format", format, out)
 }
 
 // Writes the member `table`.
@@ -166,29 +170,63 @@ fn push_lines(counts: &Counts, out: &mut Writer) -> Result<(), AllocError>
     push_count("messages", counts.messages, out)
 }
 
+// Writes the member `window`, where the state tells it.
+fn push_window(tells: bool, window: u32, out: &mut Writer) -> Result<(), AllocError>
+    ensures { Appends result out.old out.new (window_tokens tells window) }
+{
+    if tells {
+        push_count("window", u64::from(window), out)
+    } else {
+        Ok(())
+    }
+}
+
 // Writes the members behind `groups`.
-fn push_back(id: &[u8; 32], counts: &Counts, out: &mut Writer) -> Result<(), AllocError>
-    ensures { Appends result out.old out.new (back_tokens id.now counts.now) }
+fn push_back(
+    tells: bool,
+    id: &[u8; 32],
+    window: Window,
+    counts: &Counts,
+    out: &mut Writer,
+) -> Result<(), AllocError>
+    ensures { Appends result out.old out.new (back_tokens tells id.now window.window counts.now) }
 {
     push_lines(counts, out)?;
     push_table(id, out)?;
     push_count("unknown", counts.unknown, out)?;
+    push_window(tells, window.get(), out)?;
     Ok(())
 }
 
-// Writes a state.
+// Whether no group's window has ended.
+fn are_waiting(window: Window, lines: u64, groups: &IndexMap<FrameKey, OpenGroup>) -> bool
+    ensures { result ≡ list_all (is_waiting window lines) (groups_in groups.now.entries) }
+{
+    let line = u128::from(lines);
+    let long = u128::from(window.get());
+    for (_, group) in groups.iter() {
+        if line >= u128::from(group.first) + long {
+            return false;
+        }
+    }
+    true
+}
+
+// Writes a state, which tells its window where no group's has ended.
 fn push_state(
     id: &[u8; 32],
+    window: Window,
     counts: &Counts,
     groups: &IndexMap<FrameKey, OpenGroup>,
     out: &mut Writer,
 ) -> Result<(), AllocError>
-    ensures { Appends result out.old out.new (tokens_of (state_tree (record { id = id.now; counts = counts.now; groups = groups_in groups.now.entries }))) }
+    ensures { Appends result out.old out.new (tokens_of (state_tree (record { id = id.now; rule = window; counts = counts.now; groups = groups_in groups.now.entries }))) }
 {
+    let tells = are_waiting(window, counts.lines, groups);
     out.begin_object()?;
-    push_front(counts, out)?;
+    push_front(tells, counts, out)?;
     push_open(groups, out)?;
-    push_back(id, counts, out)?;
+    push_back(tells, id, window, counts, out)?;
     out.end_object()?;
     Ok(())
 }
@@ -197,13 +235,14 @@ fn push_state(
 pub(crate) fn state_text(
     alloc: Global,
     id: &[u8; 32],
+    window: Window,
     counts: &Counts,
     groups: &IndexMap<FrameKey, OpenGroup>,
 ) -> Result<Vec<u8>, AllocError>
     ensures id { IsId id.now }
-    ensures text { IfOk result (λ text. text.items ≡ state_text (record { id = id.now; counts = counts.now; groups = groups_in groups.now.entries })) }
+    ensures text { IfOk result (λ text. text.items ≡ state_text (record { id = id.now; rule = window; counts = counts.now; groups = groups_in groups.now.entries })) }
 {
     let mut out = Writer::new(Vec::new(alloc));
-    push_state(id, counts, groups, &mut out)?;
+    push_state(id, window, counts, groups, &mut out)?;
     Ok(out.into_inner())
 }

@@ -2,7 +2,7 @@ use Rattle.std.proofs.Common.{◌∙◌, sym, ap, refl}
 use Rattle.n2k_join.specs.Frames.{Frame}
 use Rattle.n2k_join.specs.Inner.Stored.{key_of, frame_of}
 use Rattle.n2k_join.specs.Inner.Slots.{groups_in}
-use Rattle.n2k_join.proofs.IndexedLemmas.{entry_at, lacks, empty, joins-stay, joins-go, gives-there, gives-none}
+use Rattle.n2k_join.proofs.IndexedLemmas.{entry_at, has_place, empty, joins-stay, joins-go, gives-there, gives-none}
 use Rattle.n2k_join.proofs.taking.join_at.Goals as goal
 
 pub take-requires : goal.take-requires
@@ -10,7 +10,7 @@ take-requires c =
     let x : Frame = frame_of 0 c.args.packet.now c.args.frame.now in
     let es = c.args.groups.now.entries in
     let at = entry_at es c.args.at c.in-Some.group.now (sym c.in-Some.ensures.value) in
-    empty x es c.args.at c.in-Some.group.now c.requires.apart c.requires.place at c.args.frame.now.piece.small (lacks x es c.args.at c.in-Some.group.now c.requires.apart c.requires.place at c.requires.missing)
+    empty c.args.in_order x es c.args.at c.in-Some.group.now c.requires.apart c.requires.place at c.args.frame.now.piece.small (has_place c.args.in_order x es c.args.at c.in-Some.group.now c.requires.apart c.requires.place at c.requires.missing)
 
 pub returns-then-is_complete : goal.returns-then-is_complete
 returns-then-is_complete c = record {
@@ -20,16 +20,16 @@ returns-then-is_complete c = record {
       let v = c.in-Some.group.now in
       let at = entry_at es c.args.at v (sym c.in-Some.ensures.value) in
       c.give.ensures (key_of at.key)
-      ∙ gives-there x es c.args.at v c.requires.apart c.requires.place at c.take.new.self c.args.frame.now.piece c.requires.«open» c.args.frame.now.piece.small refl refl
-      (lacks x es c.args.at v c.requires.apart c.requires.place at c.requires.missing) (c.take.ensures.taken (key_of at.key)) (sym (c.is_complete.ensures (key_of at.key)) ∙ c.if-is_complete.true);
+      ∙ gives-there c.args.in_order x es c.args.at v c.requires.apart c.requires.place at c.take.new.self c.args.frame.now.piece c.requires.«open» c.args.frame.now.piece.small refl refl
+      (has_place c.args.in_order x es c.args.at v c.requires.apart c.requires.place at c.requires.missing) (c.take.ensures.taken (key_of at.key)) (sym (c.is_complete.ensures (key_of at.key)) ∙ c.if-is_complete.true);
   groups = λ line.
       let x : Frame = frame_of line c.args.packet.now c.args.frame.now in
       let es = c.args.groups.now.entries in
       let v = c.in-Some.group.now in
       let at = entry_at es c.args.at v (sym c.in-Some.ensures.value) in
       ap groups_in c.shift_remove_index.ensures.entries
-      ∙ joins-go x es c.args.at v c.requires.apart c.requires.place at c.take.new.self c.args.frame.now.piece c.requires.«open» c.args.frame.now.piece.small refl refl
-      (lacks x es c.args.at v c.requires.apart c.requires.place at c.requires.missing) (c.take.ensures.taken (key_of at.key)) (sym (c.is_complete.ensures (key_of at.key)) ∙ c.if-is_complete.true);
+      ∙ joins-go c.args.in_order x es c.args.at v c.requires.apart c.requires.place at c.take.new.self c.args.frame.now.piece c.requires.«open» c.args.frame.now.piece.small refl refl
+      (has_place c.args.in_order x es c.args.at v c.requires.apart c.requires.place at c.requires.missing) (c.take.ensures.taken (key_of at.key)) (sym (c.is_complete.ensures (key_of at.key)) ∙ c.if-is_complete.true);
 }
 
 pub returns-else-is_complete : goal.returns-else-is_complete
@@ -40,13 +40,13 @@ returns-else-is_complete c = record {
       let v = c.in-Some.group.now in
       let at = entry_at es c.args.at v (sym c.in-Some.ensures.value) in
       c.requires.none
-      ∙ gives-none x es c.args.at v c.requires.apart c.requires.place at c.take.new.self c.args.frame.now.piece c.requires.«open» c.args.frame.now.piece.small refl refl
-      (lacks x es c.args.at v c.requires.apart c.requires.place at c.requires.missing) (c.take.ensures.taken (key_of at.key)) (sym (c.is_complete.ensures (key_of at.key)) ∙ c.if-is_complete.false);
+      ∙ gives-none c.args.in_order x es c.args.at v c.requires.apart c.requires.place at c.take.new.self c.args.frame.now.piece c.requires.«open» c.args.frame.now.piece.small refl refl
+      (has_place c.args.in_order x es c.args.at v c.requires.apart c.requires.place at c.requires.missing) (c.take.ensures.taken (key_of at.key)) (sym (c.is_complete.ensures (key_of at.key)) ∙ c.if-is_complete.false);
   groups = λ line.
       let x : Frame = frame_of line c.args.packet.now c.args.frame.now in
       let es = c.args.groups.now.entries in
       let v = c.in-Some.group.now in
       let at = entry_at es c.args.at v (sym c.in-Some.ensures.value) in
-      joins-stay x es c.args.at v c.requires.apart c.requires.place at c.take.new.self c.args.frame.now.piece c.requires.«open» c.args.frame.now.piece.small refl refl
-      (lacks x es c.args.at v c.requires.apart c.requires.place at c.requires.missing) (c.take.ensures.taken (key_of at.key)) (sym (c.is_complete.ensures (key_of at.key)) ∙ c.if-is_complete.false);
+      joins-stay c.args.in_order x es c.args.at v c.requires.apart c.requires.place at c.take.new.self c.args.frame.now.piece c.requires.«open» c.args.frame.now.piece.small refl refl
+      (has_place c.args.in_order x es c.args.at v c.requires.apart c.requires.place at c.requires.missing) (c.take.ensures.taken (key_of at.key)) (sym (c.is_complete.ensures (key_of at.key)) ∙ c.if-is_complete.false);
 }

@@ -15,12 +15,12 @@ returns-then-is_complete-clause-message c =
     c.give.ensures key
     ∙ sym (ap (λ b. cond b (Some (record { stamp = x.stamp; id = x.id; payload = data_of (held_of (group_in key c.open-group.result)) })) None) (sym (c.is_complete.ensures key) ∙ c.if-is_complete.true))
     ∙ message-begun x (group_in key c.open-group.result) c.args.frame.now.piece.small (c.open-group.ensures c.args.packet.now)
-    ∙ sym (ap (gained x) (none_at_all x (groups_in c.args.groups.now.entries) c.requires.place).0)
+    ∙ sym (ap (gained c.args.in_order x) (none_at_all c.args.in_order x (groups_in c.args.groups.now.entries) c.requires.place).0)
 
 pub returns-then-is_complete-clause-groups : goal.returns-then-is_complete-clause-groups
 returns-then-is_complete-clause-groups c =
     let packet = c.args.packet.now in
-    opens-done c.args.frame.now.key c.open-group.result (frame_of c.args.line packet c.args.frame.now) c.args.groups.now.entries c.args.frame.now.piece.small (c.open-group.ensures packet) c.requires.place
+    opens-done c.args.in_order c.args.frame.now.key c.open-group.result (frame_of c.args.line packet c.args.frame.now) c.args.groups.now.entries c.args.frame.now.piece.small (c.open-group.ensures packet) c.requires.place
     (sym (c.is_complete.ensures (key_of c.args.frame.now.key)) ∙ c.if-is_complete.true)
 
 pub returns-clause-message : goal.returns-clause-message
@@ -30,12 +30,12 @@ returns-clause-message c =
     c.requires.none
     ∙ sym (ap (λ b. cond b (Some (record { stamp = x.stamp; id = x.id; payload = data_of (held_of (group_in key c.open-group.result)) })) None) (sym (c.is_complete.ensures key) ∙ c.if-is_complete.false))
     ∙ message-begun x (group_in key c.open-group.result) c.args.frame.now.piece.small (c.open-group.ensures c.args.packet.now)
-    ∙ sym (ap (gained x) (none_at_all x (groups_in c.args.groups.now.entries) c.requires.place).0)
+    ∙ sym (ap (gained c.args.in_order x) (none_at_all c.args.in_order x (groups_in c.args.groups.now.entries) c.requires.place).0)
 
 pub returns-clause-groups : goal.returns-clause-groups
 unfolding same_key
 returns-clause-groups c =
     let packet = c.args.packet.now in
     ap groups_in c.in_ok-insert.ensures.entries
-    ∙ opens-last c.args.frame.now.key c.open-group.result (frame_of c.args.line packet c.args.frame.now) c.args.groups.now.entries refl c.args.frame.now.piece.small (c.open-group.ensures packet) c.requires.place
+    ∙ opens-last c.args.in_order c.args.frame.now.key c.open-group.result (frame_of c.args.line packet c.args.frame.now) c.args.groups.now.entries refl c.args.frame.now.piece.small (c.open-group.ensures packet) c.requires.place
     (sym (c.is_complete.ensures (key_of c.args.frame.now.key)) ∙ c.if-is_complete.false)

@@ -13,12 +13,12 @@ returns-then-is_complete c =
     let v = c.in-Some.group.now in
     let w = c.open-fresh.result in
     let at = entry_at es c.args.at v (sym c.in-Some.ensures.value) in
-    let is = ap (λ (k : Key). group_in k w) (sym (key-there x es c.args.at v c.requires.apart c.requires.place at)) ∙ c.open-fresh.ensures c.args.packet.now in
+    let is = ap (λ (k : Key). group_in k w) (sym (key-there c.args.in_order x es c.args.at v c.requires.apart c.requires.place at)) ∙ c.open-fresh.ensures c.args.packet.now in
     let done = sym (c.is_complete.ensures (key_of at.key)) ∙ c.if-is_complete.true in
     record {
-      message = c.give.ensures (key_of at.key) ∙ begun-gives x es c.args.at v c.requires.apart c.requires.place at w c.requires.there c.args.frame.now.piece.small is done;
-      broken = ap Some c.broken-broken.ensures ∙ breaks x es c.args.at v c.requires.apart c.requires.place at w c.requires.there c.args.frame.now.piece.small is c.requires.«open»;
-      groups = ap groups_in c.shift_remove_index.ensures.entries ∙ ends-written x es c.args.at v c.requires.apart c.requires.place at w c.requires.there c.args.frame.now.piece.small is done;
+      message = c.give.ensures (key_of at.key) ∙ begun-gives c.args.in_order x es c.args.at v c.requires.apart c.requires.place at w c.requires.there c.args.frame.now.piece.small is done;
+      broken = ap Some c.broken-broken.ensures ∙ breaks c.args.in_order x es c.args.at v c.requires.apart c.requires.place at w c.requires.there c.args.frame.now.piece.small is c.requires.«open»;
+      groups = ap groups_in c.shift_remove_index.ensures.entries ∙ ends-written c.args.in_order x es c.args.at v c.requires.apart c.requires.place at w c.requires.there c.args.frame.now.piece.small is done;
     }
 
 pub overflow_sub-len : goal.overflow_sub-len
@@ -26,21 +26,21 @@ overflow_sub-len c =
     let x : Frame = frame_of 0 c.args.packet.now c.args.frame.now in
     let es = c.args.groups.now.entries in
     let at = entry_at es c.args.at c.in-Some.group.now (sym c.in-Some.ensures.value) in
-    omega (arith, c.len.ensures.len, length-written es c.args.at c.open-fresh.result, length-there x es c.args.at c.in-Some.group.now c.requires.apart c.requires.place at)
+    omega (arith, c.len.ensures.len, length-written es c.args.at c.open-fresh.result, length-there c.args.in_order x es c.args.at c.in-Some.group.now c.requires.apart c.requires.place at)
 
 pub move_index-requires-clause-from_in_bounds : goal.move_index-requires-clause-from_in_bounds
 move_index-requires-clause-from_in_bounds c =
     let x : Frame = frame_of 0 c.args.packet.now c.args.frame.now in
     let es = c.args.groups.now.entries in
     let at = entry_at es c.args.at c.in-Some.group.now (sym c.in-Some.ensures.value) in
-    omega (arith, length-written es c.args.at c.open-fresh.result, length-there x es c.args.at c.in-Some.group.now c.requires.apart c.requires.place at)
+    omega (arith, length-written es c.args.at c.open-fresh.result, length-there c.args.in_order x es c.args.at c.in-Some.group.now c.requires.apart c.requires.place at)
 
 pub move_index-requires-clause-to_in_bounds : goal.move_index-requires-clause-to_in_bounds
 move_index-requires-clause-to_in_bounds c =
     let x : Frame = frame_of 0 c.args.packet.now c.args.frame.now in
     let es = c.args.groups.now.entries in
     let at = entry_at es c.args.at c.in-Some.group.now (sym c.in-Some.ensures.value) in
-    omega (arith, c.len.ensures.len, length-written es c.args.at c.open-fresh.result, length-there x es c.args.at c.in-Some.group.now c.requires.apart c.requires.place at)
+    omega (arith, c.len.ensures.len, length-written es c.args.at c.open-fresh.result, length-there c.args.in_order x es c.args.at c.in-Some.group.now c.requires.apart c.requires.place at)
 
 pub returns-else-is_complete : goal.returns-else-is_complete
 returns-else-is_complete c =
@@ -49,13 +49,13 @@ returns-else-is_complete c =
     let v = c.in-Some.group.now in
     let w = c.open-fresh.result in
     let at = entry_at es c.args.at v (sym c.in-Some.ensures.value) in
-    let is = ap (λ (k : Key). group_in k w) (sym (key-there x es c.args.at v c.requires.apart c.requires.place at)) ∙ c.open-fresh.ensures c.args.packet.now in
+    let is = ap (λ (k : Key). group_in k w) (sym (key-there c.args.in_order x es c.args.at v c.requires.apart c.requires.place at)) ∙ c.open-fresh.ensures c.args.packet.now in
     let left = sym (c.is_complete.ensures (key_of at.key)) ∙ c.if-is_complete.false in
     let count : c.len.result - 1 ≡ length es - 1 = ap (λ n. n - 1) (c.len.ensures.len ∙ length-written es c.args.at w) in
     record {
-      message = c.requires.none ∙ begun-none x es c.args.at v c.requires.apart c.requires.place at w c.requires.there c.args.frame.now.piece.small is left;
-      broken = ap Some c.broken-broken.ensures ∙ breaks x es c.args.at v c.requires.apart c.requires.place at w c.requires.there c.args.frame.now.piece.small is c.requires.«open»;
+      message = c.requires.none ∙ begun-none c.args.in_order x es c.args.at v c.requires.apart c.requires.place at w c.requires.there c.args.frame.now.piece.small is left;
+      broken = ap Some c.broken-broken.ensures ∙ breaks c.args.in_order x es c.args.at v c.requires.apart c.requires.place at w c.requires.there c.args.frame.now.piece.small is c.requires.«open»;
       groups =
           ap groups_in (c.move_index.ensures.entries ∙ ap (λ n. move_index (set_value_at es c.args.at w) c.args.at n) count)
-          ∙ ends-last x es c.args.at v c.requires.apart c.requires.place at w c.requires.there c.args.frame.now.piece.small is left;
+          ∙ ends-last c.args.in_order x es c.args.at v c.requires.apart c.requires.place at w c.requires.there c.args.frame.now.piece.small is left;
     }

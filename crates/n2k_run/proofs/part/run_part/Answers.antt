@@ -5,6 +5,7 @@ use Rattle.n2k_join.specs.State.{state}
 use Rattle.n2k_run.specs.Entries.{entries}
 use Rattle.n2k_run.specs.Inner.Parts.{Finishes}
 use Rattle.n2k_run.proofs.GoingOn.{continues_of}
+use Rattle.n2k_run.proofs.LogSteps.{log_laws}
 use Rattle.n2k_run.proofs.Parting.{KeepsFast, log_of, memory_alone, refused_by, steps_of, unbegun}
 use Rattle.n2k_run.proofs.part.run_part.Goals as goal
 
@@ -26,15 +27,18 @@ returns-clause-steps g c =
       new = c.groups_stay_fast.ensures.new;
       read = c.groups_stay_fast.ensures.read;
       same_table = c.groups_stay_fast.ensures.same_table;
+      same_rule = c.groups_stay_fast.ensures.same_rule;
       step = c.groups_stay_fast.ensures.step;
     } in
-    steps_of laws c.args.table.now c.args.options.packing c.args.options.empty (option_map (λ bytes. bytes.now) c.args.saved) c.in-Ok.join c.run-ran.new.join _ _ c.run-ran.result c.finish.result c.know_id.ensures c.in-Ok.ensures.state c.run-ran.ensures.steps c.finish.ensures.part c.finish.ensures.ran
+    steps_of laws c.args.table.now c.args.options c.know_window.ensures (option_map (λ bytes. bytes.now) c.args.saved) c.in-Ok.join c.run-ran.new.join _ _ c.run-ran.result c.finish.result c.know_id.ensures c.in-Ok.ensures.state c.run-ran.ensures.steps c.finish.ensures.part c.finish.ensures.ran
 
 pub returns-clause-log : goal.returns-clause-log
 returns-clause-log g c = λ front is.
-    log_of c.steps_agree.ensures c.lines_stay.ensures c.args.table.now c.args.options _ _ c.finish.result front (returns-clause-steps g c (state c.args.table.now.id (kind c.args.table.now) front) is)
+    let laws = log_laws c.args.options.window c.know_window.ensures c.steps_agree.ensures c.lines_stay.ensures in
+    log_of c.args.table.now c.args.options laws _ _ c.finish.result front (returns-clause-steps g c (state c.args.table.now.id c.args.options.window (kind c.args.table.now) front) is)
 
 pub returns-clause-headline : goal.returns-clause-headline
 returns-clause-headline g c = λ front is.
-    continues_of c.steps_agree.ensures c.lines_stay.ensures c.args.table.now c.args.options front is.whole_lines _ _ c.finish.result (returns-clause-log g c (entries c.args.options.packing front) is.leads_to) c.finish.ensures.fault_kinds
+    let laws = log_laws c.args.options.window c.know_window.ensures c.steps_agree.ensures c.lines_stay.ensures in
+    continues_of c.args.table.now c.args.options laws front is.whole_lines _ _ c.finish.result (returns-clause-log g c (entries c.args.options.packing front) is.leads_to) c.finish.ensures.fault_kinds
     (λ fault at. absurd (subst (λ r. Finishes r c.run-ran.result) at c.finish.ensures.ran))

@@ -4,6 +4,7 @@ use Rattle.std.proofs.lemmas.List.{map_more, take_all}
 use Rattle.n2k_run.specs.Parts.{TakesAll, entries_of}
 use Rattle.n2k_run.specs.Runs.{devices}
 use Rattle.n2k_run.proofs.Joined.{next_taken, prints_log, split_parts}
+use Rattle.n2k_run.proofs.LogSteps.{log_laws}
 use Rattle.n2k_run.proofs.part.run_parts.Goals as goal
 
 pub returns-in-Err-clause-log : goal.returns-in-Err-clause-log
@@ -31,9 +32,10 @@ loop-part-preserved g c =
     let before = devices None 0 0 (g.W.Sink.contents c.args.writer.now) (g.W.Sink.failed_calls c.args.writer.now) (g.E.Sink.contents c.args.reporter.now) (g.E.Sink.failed_calls c.args.reporter.now) in
     let between = devices None 0 0 (g.W.Sink.contents c.loop-part.writer) (g.W.Sink.failed_calls c.loop-part.writer) (g.E.Sink.contents c.loop-part.reporter) (g.E.Sink.failed_calls c.loop-part.reporter) in
     let after = devices None 0 0 (g.W.Sink.contents c.next_part.new.writer) (g.W.Sink.failed_calls c.next_part.new.writer) (g.E.Sink.contents c.next_part.new.reporter) (g.E.Sink.failed_calls c.next_part.new.reporter) in
+    let laws = log_laws c.args.options.window c.know_window.ensures c.steps_agree.ensures c.lines_stay.ensures in
     let run = c.in-Ok.ensures.log (entries_of c.args.options (map now (take i parts))) c.loop-part.invariant.leads_to in
     subst (λ ps. TakesAll c.args.table.now c.args.options ps before after c.in-Ok.next) (sym (map_more now parts i none c.loop-part-test.true))
-    (next_taken c.steps_agree.ensures c.lines_stay.ensures c.args.table.now c.args.options (map now (take i parts)) (get_or parts i none).now before between after c.loop-part.last c.in-Ok.next c.loop-part.invariant run)
+    (next_taken c.args.table.now c.args.options laws (map now (take i parts)) (get_or parts i none).now before between after c.loop-part.last c.in-Ok.next c.loop-part.invariant run)
 
 pub returns-clause-log : goal.returns-clause-log
 returns-clause-log g c =

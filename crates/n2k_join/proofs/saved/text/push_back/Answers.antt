@@ -1,9 +1,11 @@
-use Rattle.std.proofs.Common.{rules}
+use Rattle.std.proofs.Common.{◌∙◌, ap, rules}
+use Rattle.n2k_join.specs.Inner.SavedTokens.{window_tokens}
 use Rattle.n2k_join.proofs.SavedPieces.{back_written}
 use Rattle.n2k_join.proofs.saved.text.push_back.Goals as goal
 
 pub returns : goal.returns
 returns c = record {
-  tokens = back_written c.args.out.now.tokens c.push_lines.new.out.tokens c.push_table.new.out.tokens c.push_count.new.out.tokens c.args.id.now c.args.counts.now c.in_ok-push_lines.ensures.tokens c.in_ok-push_table.ensures.tokens c.in_ok-push_count.ensures.tokens;
+  tokens = back_written c.args.out.now.tokens c.push_lines.new.out.tokens c.push_table.new.out.tokens c.push_count.new.out.tokens c.push_window.new.out.tokens c.args.tells c.args.id.now c.args.window.window c.args.counts.now
+      c.in_ok-push_lines.ensures.tokens c.in_ok-push_table.ensures.tokens c.in_ok-push_count.ensures.tokens (rw c.get.ensures.value at c.in_ok-push_window.ensures.tokens);
   before = search rules;
 }

@@ -1,0 +1,293 @@
+-- Which groups are broken at a line: those of the last line of a log, and that earlier lines keep theirs.
+use Rattle.std.proofs.Common.{◌≡◌, ◌==◌, ◌≤◌, ◌<◌, ◌+◌, ℕ, Bool, true, false, cond, not, ◌||◌, ◌&&◌, nat_le, min, List, [], ◌∷◌, ◌++◌, length, map, refl, sym, ap, ◌∙◌, subst, arith, Option, Some, None, option_map, option_and_then, option_to_list, filter, filter_map}
+use Rattle.std.proofs.Math.Nat.{min-eq_left, min-eq_right, min-le_right}
+use Rattle.std.specs.Prelude.{IfSome}
+use Rattle.std.specs.List.{range_with_len, cons_option, last_or, AllByRecursion}
+use Rattle.std.proofs.lemmas.List.{append-nil}
+use Rattle.std.proofs.lemmas.Bool.{eqb-true, eq-eqb, ne_eqb, or_parts, and_right, lt-leb, le-leb, lt-ltb, ltb-true, ltb-false, leb-true, leb-false, false≢true}
+use Rattle.std.proofs.lemmas.Option.{none-some, same_Some}
+use Rattle.n2k_join.specs.declared.broken.Broken.{Broken}
+use Rattle.n2k_join.specs.Frames.{Key, same_key, Frame, of_key, frame_at}
+use Rattle.n2k_join.specs.Groups.{Ends, closes, repeats, misfits, is_late, within, complete, incomplete, open_of, cut, first}
+use Rattle.n2k_join.specs.Open.{Group, group_of, where_begun, begun_at, open_groups, is_waiting, waiting, open_within}
+use Rattle.n2k_join.specs.Messages.{broken_of, told_of, broken_line, broken_among, broken_by, broken_begun, broken_with}
+use Rattle.n2k_join.specs.State.{held_of, held, Rise, IsOpen, AreOpen}
+use Rattle.n2k_join.proofs.Carried.{same_bool}
+use Rattle.n2k_join.proofs.Cuts.{grown, cut-push, last-cut, so_far, within-ends}
+use Rattle.n2k_join.proofs.Given.{IsUpTo, first-le, first-push, up_to}
+use Rattle.n2k_join.proofs.Keys.{same_key-true, same_key-refl, same_key-sym, of_key-same, of_key-other}
+use Rattle.n2k_join.proofs.Opened.{IsLog, IsFine, key_at, none_at, at_last, at_line, open_at, begun_at-key, begun_at-is, open_of-so_far, so_far-fine, numbers_of_key, ends-kept}
+use Rattle.n2k_join.proofs.Rising.{find-passes, filter_map-range, filter_map-push, filter_map-fused, range-push, rise-least, all-map}
+use Rattle.n2k_join.specs.Window.{Rule}
+
+-- ---- the groups of a key
+
+-- whether a group that isn't complete is broken at a line, where no group comes after it
+abbrev ends_at : Rule → ℕ → ℕ → List Frame → Bool
+ends_at w j line g = not (complete g) && ((first g == j) && (first g + w.window == line))
+
+-- and where the frame is the next of its key
+abbrev ends_by : Rule → ℕ → Frame → List Frame → Bool
+ends_by w j x g = not (complete g) && ((first g == j) && (within w g x && nat_le x.line (first g + w.window)))
+
+-- the last group, where it passes
+abbrev last_if : (List Frame → Bool) → Option (List Frame) → Option (List Frame)
+last_if t None = None
+last_if t (Some g) = cond (t g) (Some g) None
+
+no_and : (a b c : Bool) → c ≡ false → (not a && (b && c)) ≡ false
+no_and true b c e = refl
+no_and false true c e = e
+no_and false false c e = refl
+
+no_first : (a b c : Bool) → b ≡ false → (not a && (b && c)) ≡ false
+no_first true b c e = refl
+no_first false b c e = ap (λ b. b && c) e
+
+-- a group that another follows is broken at that one's line or before
+min-le : (a b : ℕ) → min a b ≤ b
+min-le a b = min-le_right a b
+
+passed : (w : Rule) (j line : ℕ) (g h : List Frame) (gs : List (List Frame)) → first h < line → broken_among w j line (g ∷ h ∷ gs) ≡ broken_among w j line (h ∷ gs)
+passed w j line g h gs l =
+    let most : min (first g + w.window) (first h) ≤ first h = min-le (first g + w.window) (first h) in
+    ap (λ b. cond b (Some g) (broken_among w j line (h ∷ gs))) (no_and (complete g) (first g == j) (min (first g + w.window) (first h) == line) (ne_eqb (min (first g + w.window) (first h)) line (λ e. omega (arith, most, l, e))))
+
+-- with no frame of the key at the line
+among-last : (w : Rule) (n j line : ℕ) (gs : List (List Frame)) → AllByRecursion (IsUpTo n) gs → n < line → broken_among w j line gs ≡ last_if (ends_at w j line) (last_or None gs)
+among-last w n j line [] up l = refl
+among-last w n j line (g ∷ []) up l = refl
+among-last w n j line (g ∷ h ∷ gs) up l = passed w j line g h gs (omega (arith, first-le n h up.1.0, l)) ∙ among-last w n j line (h ∷ gs) up.1 l
+
+-- with one
+among-one : (w : Rule) (j : ℕ) (g : List Frame) (x : Frame) → 0 < w.window → 0 < length g → broken_among w j x.line (grown (within w) (g ∷ []) x) ≡ cond (ends_by w j x g) (Some g) None
+among-one w j g x some nonempty = by (complete g) refl (within w g x) refl
+  where
+    alone : broken_among w j x.line ((x ∷ []) ∷ []) ≡ None
+    alone = ap (λ b. cond b (Some (x ∷ [])) None) (no_and (complete (x ∷ [])) (x.line == j) (x.line + w.window == x.line) (ne_eqb (x.line + w.window) x.line (λ e. omega (arith, e, some))))
+
+    by_line : (b : Bool) → nat_le x.line (first g + w.window) ≡ b → (min (first g + w.window) x.line == x.line) ≡ b
+    by_line true e = eq-eqb (min (first g + w.window) x.line) x.line (min-eq_right (leb-true x.line (first g + w.window) e))
+    by_line false e =
+        let l : first g + w.window < x.line = leb-false x.line (first g + w.window) e in
+        let under : first g + w.window ≤ x.line = omega (arith, l) in
+        let is : min (first g + w.window) x.line ≡ first g + w.window = min-eq_left under in
+        ne_eqb (min (first g + w.window) x.line) x.line (λ f. omega (arith, l, is, f))
+
+    by : (c : Bool) → complete g ≡ c → (e : Bool) → within w g x ≡ e
+        → broken_among w j x.line (cond (c || e) (g ∷ (x ∷ []) ∷ []) ((g ++ x ∷ []) ∷ [])) ≡ cond (not c && ((first g == j) && (e && nat_le x.line (first g + w.window)))) (Some g) None
+    by true t e f = ap (λ c. cond (not c && ((first g == j) && (min (first g + w.window) x.line == x.line))) (Some g) (broken_among w j x.line ((x ∷ []) ∷ []))) t ∙ alone
+    by false t true f =
+        (λ i. cond (not (t i) && ((first g == j) && by_line (nat_le x.line (first g + w.window)) refl i)) (Some g) (alone i))
+    by false t false f =
+        let late : is_late w g x ≡ false = (or_parts (misfits w g x) (is_late w g x) f).1 in
+        let before : x.line < first g + w.window = leb-false (first g + w.window) x.line late in
+        ap (λ b. cond b (Some (g ++ x ∷ [])) None)
+        (no_and (complete (g ++ x ∷ [])) (first (g ++ x ∷ []) == j) (first (g ++ x ∷ []) + w.window == x.line) (ne_eqb (first (g ++ x ∷ []) + w.window) x.line (λ e. omega (arith, first-push g x nonempty, before, e))))
+        ∙ sym (ap (λ b. cond b (Some g) None) (elim (first g == j) as (λ b. (b && false) ≡ false) [ true ↦ refl | false ↦ refl ]))
+
+among-grown : (w : Rule) (n j : ℕ) (gs : List (List Frame)) (x : Frame) → 0 < w.window → AllByRecursion (IsUpTo n) gs → n < x.line → broken_among w j x.line (grown (within w) gs x) ≡ last_if (ends_by w j x) (last_or None gs)
+among-grown w n j [] x some up l = ap (λ b. cond b (Some (x ∷ [])) None) (no_and (complete (x ∷ [])) (x.line == j) (x.line + w.window == x.line) (ne_eqb (x.line + w.window) x.line (λ e. omega (arith, e, some))))
+among-grown w n j (g ∷ []) x some up l = among-one w j g x some up.0.nonempty
+among-grown w n j (g ∷ h ∷ []) x some up l = by (closes (within w) h x) ∙ among-one w j h x some up.1.0.nonempty
+  where
+    by : (b : Bool) → broken_among w j x.line (g ∷ cond b (h ∷ (x ∷ []) ∷ []) ((h ++ x ∷ []) ∷ [])) ≡ broken_among w j x.line (cond b (h ∷ (x ∷ []) ∷ []) ((h ++ x ∷ []) ∷ []))
+    by true = passed w j x.line g h ((x ∷ []) ∷ []) (omega (arith, first-le n h up.1.0, l))
+    by false = passed w j x.line g (h ++ x ∷ []) [] (omega (arith, first-le n h up.1.0, l, first-push h x up.1.0.nonempty))
+among-grown w n j (g ∷ h ∷ k ∷ gs) x some up l = passed w j x.line g h (grown (within w) (k ∷ gs) x) (omega (arith, first-le n h up.1.0, l)) ∙ among-grown w n j (h ∷ k ∷ gs) x some up.1 l
+
+-- what holds of each group holds of the last
+pub last-all : (P : List Frame → Type 0) (o : Option (List Frame)) (gs : List (List Frame)) → IfSome o P → AllByRecursion P gs → IfSome (last_or o gs) P
+last-all P o [] h all = h
+last-all P o (g ∷ gs) h all = last-all P (Some g) gs all.0 all.1
+
+-- the group that a frame begins isn't broken at its line
+among-own : (w : Rule) (n : ℕ) (gs : List (List Frame)) (x : Frame) → 0 < w.window → AllByRecursion (IsUpTo n) gs → n < x.line → broken_among w x.line x.line (grown (within w) gs x) ≡ None
+among-own w n gs x some up l = among-grown w n x.line gs x some up l ∙ by (last_or None gs) (last-all (IsUpTo n) None gs tt up)
+  where
+    by : (o : Option (List Frame)) → IfSome o (IsUpTo n) → last_if (ends_by w x.line x) o ≡ None
+    by None h = refl
+    by (Some g) h = ap (λ b. cond b (Some g) None) (no_first (complete g) (first g == x.line) (within w g x && nat_le x.line (first g + w.window)) (ne_eqb (first g) x.line (λ e. omega (arith, first-le n g h, l, e))))
+
+-- Earlier lines keep what is broken at them.
+among-stays_one : (w : Rule) (j i : ℕ) (g : List Frame) (x : Frame) → 0 < w.window → 0 < length g → i < x.line → broken_among w j i (grown (within w) (g ∷ []) x) ≡ broken_among w j i (g ∷ [])
+among-stays_one w j i g x some nonempty l = by (complete g) refl (within w g x) refl
+  where
+    alone : broken_among w j i ((x ∷ []) ∷ []) ≡ None
+    alone = ap (λ b. cond b (Some (x ∷ [])) None) (no_and (complete (x ∷ [])) (x.line == j) (x.line + w.window == i) (ne_eqb (x.line + w.window) i (λ e. omega (arith, e, l))))
+
+    at_line : (min (first g + w.window) x.line == i) ≡ (first g + w.window == i)
+    at_line = same_bool _ _ there back
+      where
+        there : (min (first g + w.window) x.line == i) ≡ true → (first g + w.window == i) ≡ true
+        there e = by (nat_le (first g + w.window) x.line) refl
+          where
+            is : min (first g + w.window) x.line ≡ i
+            is = eqb-true _ _ e
+
+            by : (b : Bool) → nat_le (first g + w.window) x.line ≡ b → (first g + w.window == i) ≡ true
+            by true f = eq-eqb (first g + w.window) i (sym (min-eq_left (leb-true _ _ f)) ∙ is)
+            by false f =
+                let past : x.line < first g + w.window = leb-false _ _ f in
+                let under : x.line ≤ first g + w.window = omega (arith, past) in
+                let same : x.line ≡ i = sym (min-eq_right under) ∙ is in
+                absurd (omega (arith, l, same))
+
+        back : (first g + w.window == i) ≡ true → (min (first g + w.window) x.line == i) ≡ true
+        back e =
+            let is : first g + w.window ≡ i = eqb-true _ _ e in
+            let under : first g + w.window ≤ x.line = omega (arith, is, l) in
+            eq-eqb (min (first g + w.window) x.line) i (min-eq_left under ∙ is)
+
+    by : (c : Bool) → complete g ≡ c → (e : Bool) → within w g x ≡ e
+        → broken_among w j i (cond (c || e) (g ∷ (x ∷ []) ∷ []) ((g ++ x ∷ []) ∷ [])) ≡ cond (not (complete g) && ((first g == j) && (first g + w.window == i))) (Some g) None
+    by true t e f = λ k. cond (not (complete g) && ((first g == j) && at_line k)) (Some g) (alone k)
+    by false t true f = λ k. cond (not (complete g) && ((first g == j) && at_line k)) (Some g) (alone k)
+    by false t false f =
+        let late : is_late w g x ≡ false = (or_parts (misfits w g x) (is_late w g x) f).1 in
+        let before : x.line < first g + w.window = leb-false (first g + w.window) x.line late in
+        ap (λ b. cond b (Some (g ++ x ∷ [])) None)
+        (no_and (complete (g ++ x ∷ [])) (first (g ++ x ∷ []) == j) (first (g ++ x ∷ []) + w.window == i) (ne_eqb (first (g ++ x ∷ []) + w.window) i (λ e. omega (arith, first-push g x nonempty, before, e, l))))
+        ∙ sym (ap (λ b. cond b (Some g) None) (no_and (complete g) (first g == j) (first g + w.window == i) (ne_eqb (first g + w.window) i (λ e. omega (arith, before, e, l)))))
+
+among-stays : (w : Rule) (n j i : ℕ) (gs : List (List Frame)) (x : Frame) → 0 < w.window → AllByRecursion (IsUpTo n) gs → i < x.line → broken_among w j i (grown (within w) gs x) ≡ broken_among w j i gs
+among-stays w n j i [] x some up l = ap (λ b. cond b (Some (x ∷ [])) None) (no_and (complete (x ∷ [])) (x.line == j) (x.line + w.window == i) (ne_eqb (x.line + w.window) i (λ e. omega (arith, e, l))))
+among-stays w n j i (g ∷ []) x some up l = among-stays_one w j i g x some up.0.nonempty l
+among-stays w n j i (g ∷ h ∷ []) x some up l = by (closes (within w) h x) refl (among-stays_one w j i h x some up.1.0.nonempty l)
+  where
+    by : (b : Bool) → closes (within w) h x ≡ b → broken_among w j i (cond b (h ∷ (x ∷ []) ∷ []) ((h ++ x ∷ []) ∷ [])) ≡ broken_among w j i (h ∷ [])
+        → broken_among w j i (g ∷ cond b (h ∷ (x ∷ []) ∷ []) ((h ++ x ∷ []) ∷ [])) ≡ broken_among w j i (g ∷ h ∷ [])
+    by true e rest = ap (λ o. cond (not (complete g) && ((first g == j) && (min (first g + w.window) (first h) == i))) (Some g) o) rest
+    by false e rest = λ k. cond (not (complete g) && ((first g == j) && (min (first g + w.window) (first-push h x up.1.0.nonempty k) == i))) (Some g) (rest k)
+among-stays w n j i (g ∷ h ∷ k ∷ gs) x some up l =
+    ap (λ o. cond (not (complete g) && ((first g == j) && (min (first g + w.window) (first h) == i))) (Some g) o) (among-stays w n j i (h ∷ k ∷ gs) x some up.1 l)
+
+-- ---- the groups of a log
+
+module _ (w : Rule) (some : 0 < w.window) where
+  cut_of_same : (k : Key) (fs : List Frame) (x : Frame) → same_key k x.key ≡ true → cut (within w) (of_key k (fs ++ x ∷ [])) ≡ grown (within w) (cut (within w) (of_key k fs)) x
+  cut_of_same k fs x e = ap (cut (within w)) (of_key-same k fs x e) ∙ cut-push (within w) (of_key k fs) x
+
+  cut_of_other : (k : Key) (fs : List Frame) (x : Frame) → same_key k x.key ≡ false → cut (within w) (of_key k (fs ++ x ∷ [])) ≡ cut (within w) (of_key k fs)
+  cut_of_other k fs x e = ap (cut (within w)) (of_key-other k fs x e)
+
+  begun-stays : (n : ℕ) (fs : List Frame) (x : Frame) (i j : ℕ) → IsLog n fs → i < x.line → (x.line ≡ j → ⊥) → broken_begun w (fs ++ x ∷ []) i j ≡ broken_begun w fs i j
+  begun-stays n fs x i j log l other = ap (option_and_then (broken_by w (fs ++ x ∷ []) i)) (at_line j fs x other) ∙ by (frame_at j fs)
+    where
+      keyed : (f : Frame) (b : Bool) → same_key f.key x.key ≡ b → broken_by w (fs ++ x ∷ []) i f ≡ broken_by w fs i f
+      keyed f true e = ap (λ gs. option_map (broken_of f.key) (broken_among w f.line i gs)) (cut_of_same f.key fs x e) ∙ ap (option_map (broken_of f.key)) (among-stays w n f.line i (cut (within w) (of_key f.key fs)) x some (up_to (within w) n f.key fs log) l)
+      keyed f false e = ap (λ gs. option_map (broken_of f.key) (broken_among w f.line i gs)) (cut_of_other f.key fs x e)
+
+      by : (o : Option Frame) → option_and_then (broken_by w (fs ++ x ∷ []) i) o ≡ option_and_then (broken_by w fs i) o
+      by None = refl
+      by (Some f) = keyed f (same_key f.key x.key) refl
+
+  -- with a frame more each earlier line has the same groups broken at it
+  pub broken-stays : (n : ℕ) (fs : List Frame) (x : Frame) (i : ℕ) → IsLog n fs → i < x.line → broken_with w (fs ++ x ∷ []) i ≡ broken_with w fs i
+  unfolding broken_with
+  broken-stays n fs x i log l = filter_map-range (broken_begun w (fs ++ x ∷ []) i) (broken_begun w fs i) 1 i (λ j a b. begun-stays n fs x i j log l (λ e. omega (arith, l, b, e)))
+
+  -- ---- what is broken at the line after a log
+
+  -- of an open group, whether it is: with no frame at the line, and with one
+  abbrev pub runs_out : ℕ → Group → Bool
+  runs_out line o = o.first + w.window == line
+
+  abbrev pub breaks : Frame → Group → Bool
+  breaks x o = cond (same_key x.key o.key) (within w (held_of o) x && nat_le x.line (o.first + w.window)) (o.first + w.window == x.line)
+
+  abbrev pub told_if : (Group → Bool) → Group → Option Broken
+  told_if t o = cond (t o) (Some (told_of o)) None
+
+  -- the group of a key that is last and begins at a line, where it passes
+  told_at : (t : List Frame → Bool) (u : Group → Bool) (k : Key) (j : ℕ) → (o : Option (List Frame)) → ((g : List Frame) → o ≡ Some g → complete g ≡ false → first g ≡ j → t g ≡ u (group_of k g))
+      → option_map (broken_of k) (last_if (λ g. not (complete g) && ((first g == j) && t g)) o) ≡ option_and_then (told_if u) (option_and_then (where_begun j k) (option_and_then incomplete o))
+  told_at t u k j None same = refl
+  told_at t u k j (Some g) same = by (complete g) refl (first g == j) refl
+    where
+      by_test : (b : Bool) → option_map (broken_of k) (cond b (Some g) None) ≡ cond b (Some (told_of (group_of k g))) None
+      by_test true = refl
+      by_test false = refl
+
+      by : (c : Bool) → complete g ≡ c → (b : Bool) → (first g == j) ≡ b
+          → option_map (broken_of k) (cond (not c && (b && t g)) (Some g) None) ≡ option_and_then (told_if u) (option_and_then (where_begun j k) (cond c None (Some g)))
+      by true c b e = refl
+      by false c true e =
+          by_test (t g) ∙ ap (λ b. cond b (Some (told_of (group_of k g))) None) (same g refl c (eqb-true (first g) j e))
+          ∙ sym (ap (λ b. option_and_then (told_if u) (cond b (Some (group_of k g)) None)) e)
+      by false c false e = sym (ap (λ b. option_and_then (told_if u) (cond b (Some (group_of k g)) None)) e)
+
+  begun-none : (n line : ℕ) (fs : List Frame) (j : ℕ) → IsLog n fs → n < line → broken_begun w fs line j ≡ option_and_then (told_if (runs_out line)) (begun_at (within w) fs j)
+  begun-none n line fs j log l = by (frame_at j fs) refl ∙ sym (ap (option_and_then (told_if (runs_out line))) (begun_at-key (within w) (within-ends w some) fs j))
+    where
+      by : (o : Option Frame) → frame_at j fs ≡ o → option_and_then (broken_by w fs line) o ≡ option_and_then (told_if (runs_out line)) (option_and_then (λ (k : Key). open_at (within w) (within-ends w some) k fs j) (option_map (λ (f : Frame). f.key) o))
+      by None e = refl
+      by (Some f) e =
+          let at : f.line ≡ j = eqb-true f.line j (find-passes (λ (f : Frame). f.line == j) fs f e) in
+          ap (option_map (broken_of f.key)) (among-last w n f.line line (cut (within w) (of_key f.key fs)) (up_to (within w) n f.key fs log) l)
+          ∙ told_at (λ g. first g + w.window == line) (runs_out line) f.key f.line (last_or None (cut (within w) (of_key f.key fs))) (λ g is c b. refl)
+          ∙ ap (λ i. option_and_then (told_if (runs_out line)) (option_and_then (where_begun i f.key) (option_and_then incomplete (last_or None (cut (within w) (of_key f.key fs)))))) at
+
+  begun-frame : (n : ℕ) (fs : List Frame) (x : Frame) (j : ℕ) → IsLog n fs → n < x.line → (x.line ≡ j → ⊥) → broken_begun w (fs ++ x ∷ []) x.line j ≡ option_and_then (told_if (breaks x)) (begun_at (within w) fs j)
+  begun-frame n fs x j log l other =
+      ap (option_and_then (broken_by w (fs ++ x ∷ []) x.line)) (at_line j fs x other) ∙ by (frame_at j fs) refl
+      ∙ sym (ap (option_and_then (told_if (breaks x))) (begun_at-key (within w) (within-ends w some) fs j))
+    where
+      last_of : Key → Option (List Frame)
+      last_of k = last_or None (cut (within w) (of_key k fs))
+
+      fine : (k : Key) (g : List Frame) → last_or None (cut (within w) (of_key k fs)) ≡ Some g → IsFine g
+      fine k g e = at_some (so_far (within w) (of_key k fs)) (so_far-fine (within w) (within-ends w some) (of_key k fs) (numbers_of_key (within w) (within-ends w some) k fs log.numbers)) (sym (last-cut (within w) (of_key k fs)) ∙ e)
+        where
+          at_some : (o : Option (List Frame)) → IfSome o IsFine → o ≡ Some g → IsFine g
+          at_some None h e = absurd (none-some g e)
+          at_some (Some h) fine e = subst IsFine (same_Some h g e) fine
+
+      keyed : (f : Frame) (b : Bool) → same_key f.key x.key ≡ b → broken_by w (fs ++ x ∷ []) x.line f ≡ option_and_then (told_if (breaks x)) (option_and_then (where_begun f.line f.key) (option_and_then incomplete (last_or None (cut (within w) (of_key f.key fs)))))
+      keyed f true e =
+          ap (λ gs. option_map (broken_of f.key) (broken_among w f.line x.line gs)) (cut_of_same f.key fs x e)
+          ∙ ap (option_map (broken_of f.key)) (among-grown w n f.line (cut (within w) (of_key f.key fs)) x some (up_to (within w) n f.key fs log) l)
+          ∙ told_at (λ g. within w g x && nat_le x.line (first g + w.window)) (breaks x) f.key f.line (last_or None (cut (within w) (of_key f.key fs)))
+          (λ g is c b. ap (λ t. t && nat_le x.line (first g + w.window)) (sym (ends-kept (within w) (within-ends w some) f.key g x (fine f.key g is)))
+          ∙ sym (ap (λ t. cond t (within w (held_of (group_of f.key g)) x && nat_le x.line (first g + w.window)) (first g + w.window == x.line)) (same_key-sym x.key f.key ∙ e)))
+      keyed f false e =
+          ap (λ gs. option_map (broken_of f.key) (broken_among w f.line x.line gs)) (cut_of_other f.key fs x e)
+          ∙ ap (option_map (broken_of f.key)) (among-last w n f.line x.line (cut (within w) (of_key f.key fs)) (up_to (within w) n f.key fs log) l)
+          ∙ told_at (λ g. first g + w.window == x.line) (breaks x) f.key f.line (last_or None (cut (within w) (of_key f.key fs)))
+          (λ g is c b. sym (ap (λ t. cond t (within w (held_of (group_of f.key g)) x && nat_le x.line (first g + w.window)) (first g + w.window == x.line)) (same_key-sym x.key f.key ∙ e)))
+
+      by : (o : Option Frame) → frame_at j fs ≡ o → option_and_then (broken_by w (fs ++ x ∷ []) x.line) o ≡ option_and_then (told_if (breaks x)) (option_and_then (λ (k : Key). open_at (within w) (within-ends w some) k fs j) (option_map (λ (f : Frame). f.key) o))
+      by None e = refl
+      by (Some f) e =
+          let at : f.line ≡ j = eqb-true f.line j (find-passes (λ (f : Frame). f.line == j) fs f e) in
+          keyed f (same_key f.key x.key) refl
+          ∙ ap (λ i. option_and_then (told_if (breaks x)) (option_and_then (where_begun i f.key) (option_and_then incomplete (last_or None (cut (within w) (of_key f.key fs)))))) at
+
+  begun-own : (n : ℕ) (fs : List Frame) (x : Frame) → IsLog n fs → n < x.line → broken_begun w (fs ++ x ∷ []) x.line x.line ≡ None
+  begun-own n fs x log l =
+      ap (option_and_then (broken_by w (fs ++ x ∷ []) x.line)) (at_last n fs x log l)
+      ∙ ap (λ gs. option_map (broken_of x.key) (broken_among w x.line x.line gs)) (cut_of_same x.key fs x (same_key-refl x.key))
+      ∙ ap (option_map (broken_of x.key)) (among-own w n (cut (within w) (of_key x.key fs)) x some (up_to (within w) n x.key fs log) l)
+
+  -- at a line without a frame: those whose window ends there
+  pub broken-none : (n : ℕ) (fs : List Frame) → IsLog n fs → broken_with w fs (n + 1) ≡ filter_map (told_if (runs_out (n + 1))) (open_groups (within w) n fs)
+  unfolding broken_with open_groups
+  broken-none n fs log =
+      ap (filter_map (broken_begun w fs (n + 1))) (range-push 1 n) ∙ filter_map-push (broken_begun w fs (n + 1)) (range_with_len 1 n) (1 + n)
+      ∙ ap (λ o. filter_map (broken_begun w fs (n + 1)) (range_with_len 1 n) ++ option_to_list o) (ap (option_and_then (broken_by w fs (n + 1))) (none_at n (1 + n) fs log (omega arith)))
+      ∙ append-nil (filter_map (broken_begun w fs (n + 1)) (range_with_len 1 n))
+      ∙ filter_map-range (broken_begun w fs (n + 1)) (λ j. option_and_then (told_if (runs_out (n + 1))) (begun_at (within w) fs j)) 1 n (λ j a b. begun-none n (n + 1) fs j log (omega arith))
+      ∙ filter_map-fused (told_if (runs_out (n + 1))) (begun_at (within w) fs) (range_with_len 1 n)
+
+  -- at the line of a frame: those, and the one of its key that it can't join
+  pub broken-last : (n : ℕ) (fs : List Frame) (x : Frame) → IsLog n fs → x.line ≡ n + 1 → broken_with w (fs ++ x ∷ []) (n + 1) ≡ filter_map (told_if (breaks x)) (open_groups (within w) n fs)
+  unfolding broken_with open_groups
+  broken-last n fs x log at =
+      let past : n < x.line = omega (arith, at) in
+      let own : 1 + n ≡ x.line = omega (arith, at) in
+      ap (λ i. filter_map (broken_begun w (fs ++ x ∷ []) i) (range_with_len 1 (n + 1))) (sym at)
+      ∙ ap (filter_map (broken_begun w (fs ++ x ∷ []) x.line)) (range-push 1 n) ∙ filter_map-push (broken_begun w (fs ++ x ∷ []) x.line) (range_with_len 1 n) (1 + n)
+      ∙ ap (λ o. filter_map (broken_begun w (fs ++ x ∷ []) x.line) (range_with_len 1 n) ++ option_to_list o) (ap (broken_begun w (fs ++ x ∷ []) x.line) own ∙ begun-own n fs x log past)
+      ∙ append-nil (filter_map (broken_begun w (fs ++ x ∷ []) x.line) (range_with_len 1 n))
+      ∙ filter_map-range (broken_begun w (fs ++ x ∷ []) x.line) (λ j. option_and_then (told_if (breaks x)) (begun_at (within w) fs j)) 1 n (λ j a b. begun-frame n fs x j log past (λ e. omega (arith, b, e, at)))
+      ∙ filter_map-fused (told_if (breaks x)) (begun_at (within w) fs) (range_with_len 1 n)

@@ -1,0 +1,243 @@
+-- A group whose window ends at the next line is broken before the line is taken, or at it: that is the same.
+use Rattle.std.proofs.Common.{◌≡◌, ◌==◌, ◌≤◌, ◌<◌, ◌+◌, ◌-◌, ℕ, Bool, true, false, cond, not, List, [], ◌∷◌, ◌++◌, length, map, refl, sym, ap, ◌∙◌, subst, arith, Option, Some, None, option_map, drop, slice_get, filter, option_to_list, option_and_then, ltb}
+use Rattle.std.specs.List.{AllByRecursion}
+use Rattle.std.proofs.lemmas.Bool.{eqb-true, eq-eqb, eqb-false, ltb-true, ltb-false, lt-ltb}
+use Rattle.std.proofs.lemmas.Option.{none-some, same_Some}
+use Rattle.std.specs.Prelude.{is_some}
+use Rattle.std.specs.Option.{option_or}
+use Rattle.n2k_wire.specs.declared.entry.BadCause.{BadCause}
+use Rattle.n2k_wire.specs.declared.entry.Entry.{Entry}
+use Rattle.n2k_wire.specs.Packet.{PacketParts}
+use Rattle.n2k_table.specs.declared.definition.Kind.{Kind}
+use Rattle.n2k_join.specs.declared.broken.Broken.{Broken}
+use Rattle.n2k_join.specs.declared.counts.Counts.{Counts}
+use Rattle.n2k_join.specs.Counts.{most_lines}
+use Rattle.n2k_join.specs.Frames.{frame_in}
+use Rattle.n2k_join.specs.Groups.{within}
+use Rattle.n2k_join.specs.Messages.{Keyed, gathered, alone, cause_in, told_of, broken_with, is_unknown}
+use Rattle.n2k_join.specs.Open.{Group, is_waiting, waiting, ended, open_within}
+use Rattle.n2k_join.specs.State.{State, Given, held, next_line, overdue, step_given, step_after, counted, one_if, Rise, HasParts, AreOpen, IsState, AreWaiting}
+use Rattle.n2k_join.specs.Step.{due, expired}
+use Rattle.n2k_join.specs.Laws.{ExpiresFirst}
+use Rattle.n2k_join.proofs.Rising.{rise-less}
+use Rattle.n2k_join.specs.Window.{Rule}
+
+-- what is due stands first among the groups, and the others that have ended follow it
+pub record IsDue (s : State) (g : Group) : Type 0 where
+  pub below : s.counts.lines ≡ most_lines → ⊥
+  pub first : s.groups ≡ g ∷ drop 1 s.groups
+  pub late : is_waiting s.rule (next_line s) g ≡ false
+
+-- groups that begin later than one that waits wait
+later-wait : (w : Rule) (line least : ℕ) (gs : List Group) → Rise (λ (g : Group). g.first) least gs → line < least + w.window → ended w line gs ≡ []
+unfolding ended
+later-wait w line least [] rise l = refl
+later-wait w line least (g ∷ gs) rise l =
+    ap (λ b. cond (not b) (g ∷ filter (λ (g : Group). not (is_waiting w line g)) gs) (filter (λ (g : Group). not (is_waiting w line g)) gs)) (lt-ltb line (g.first + w.window) (omega (arith, rise.0, l)))
+    ∙ later-wait w line (g.first + 1) gs rise.1 (omega (arith, rise.0, l))
+
+first-late : (w : Rule) (line least : ℕ) (gs : List Group) (g : Group) → Rise (λ (g : Group). g.first) least gs → slice_get (ended w line gs) 0 ≡ Some g → (gs ≡ g ∷ drop 1 gs) × (is_waiting w line g ≡ false)
+unfolding ended
+first-late w line least [] g rise e = absurd (none-some g e)
+first-late w line least (h ∷ gs) g rise e = by (is_waiting w line h) refl e
+  where
+    by : (b : Bool) → is_waiting w line h ≡ b → slice_get (cond (not b) (h ∷ filter (λ (g : Group). not (is_waiting w line g)) gs) (filter (λ (g : Group). not (is_waiting w line g)) gs)) 0 ≡ Some g
+        → (h ∷ gs ≡ g ∷ gs) × (is_waiting w line g ≡ false)
+    by true t e =
+        let l : line < h.first + w.window = ltb-true _ _ t in
+        let none : ended w line gs ≡ [] = later-wait w line (h.first + 1) gs rise.1 (omega (arith, l)) in
+        absurd (none-some g (sym (ap (λ (hs : List Group). slice_get hs 0) none) ∙ e))
+    by false t e = let same : h ≡ g = same_Some h g e in (ap (λ k. k ∷ gs) same, ap (is_waiting w line) (sym same) ∙ t)
+
+pub is_due : (s : State) (g : Group) → Rise (λ (g : Group). g.first) 1 s.groups → due s ≡ Some g → IsDue s g
+is_due s g rise e = by (s.counts.lines == most_lines) refl e
+  where
+    by : (b : Bool) → (s.counts.lines == most_lines) ≡ b → cond b None (slice_get (overdue s) 0) ≡ Some g → IsDue s g
+    by true t e = absurd (none-some g e)
+    by false t e =
+        let at = first-late s.rule (next_line s) 1 s.groups g rise e in
+        record { below = λ f. eqb-false _ _ t f; first = at.0; late = at.1 }
+
+-- none is due exactly where none has ended, or no line follows
+none_ended : (gs : List Group) → slice_get gs 0 ≡ None → gs ≡ []
+none_ended [] e = refl
+none_ended (g ∷ gs) e = absurd (none-some g (sym e))
+
+pub none_due : (s : State) → due s ≡ None → s.counts.lines < most_lines → overdue s ≡ []
+none_due s e below = by (s.counts.lines == most_lines) refl e
+  where
+    by : (b : Bool) → (s.counts.lines == most_lines) ≡ b → cond b None (slice_get (overdue s) 0) ≡ None → overdue s ≡ []
+    by true t e = let at : s.counts.lines ≡ most_lines = eqb-true _ _ t in absurd (omega (arith, at, below))
+    by false t e = none_ended (overdue s) e
+
+module _ (s : State) (g : Group) (is : IsDue s g) where
+  pub ended-due : overdue s ≡ g ∷ overdue (expired s)
+  unfolding ended expired
+  ended-due =
+      ap (λ gs. ended s.rule (next_line s) gs) is.first
+      ∙ ap (λ b. cond (not b) (g ∷ ended s.rule (next_line s) (drop 1 s.groups)) (ended s.rule (next_line s) (drop 1 s.groups))) is.late
+
+  kept-due : waiting s.rule (next_line s) s.groups ≡ waiting s.rule (next_line s) (drop 1 s.groups)
+  unfolding waiting
+  kept-due = ap (λ gs. waiting s.rule (next_line s) gs) is.first ∙ ap (λ b. cond b (g ∷ waiting s.rule (next_line s) (drop 1 s.groups)) (waiting s.rule (next_line s) (drop 1 s.groups))) is.late
+
+  pub some-due : length s.groups ≡ length (drop 1 s.groups) + 1
+  some-due = omega (arith, ap length is.first)
+
+  -- without it the state is again one that a join can have
+  pub expired-state : IsState s → IsState (expired s)
+  unfolding expired
+  expired-state state =
+      let gs : AreOpen s.counts.lines (g ∷ drop 1 s.groups) = subst (AreOpen s.counts.lines) is.first state.groups in
+      record {
+        window = state.window;
+        counted = record { lines = state.counted.lines; given = state.counted.given; broken = omega (arith, state.counted.broken, state.held, some-due) };
+        held = omega (arith, state.held, some-due);
+        groups = record { each = gs.each.1; rise = rise-less (λ (g : Group). g.first) 1 (g.first + 1) (drop 1 s.groups) (omega arith) gs.rise.1; begun = gs.begun.1; apart = gs.apart.1 };
+        parts = (subst (AllByRecursion HasParts) is.first state.parts).1;
+      }
+
+  pub expired-waits : AreWaiting s → AreWaiting (expired s)
+  unfolding expired
+  expired-waits wait = (subst (AllByRecursion (λ (h : Group). s.counts.lines < h.first + s.rule.window)) is.first wait).1
+
+  -- what the next line gives where these groups wait and these have ended, and the groups that it leaves
+  gives_with : (kind : ℕ → Option Kind) (e : Entry) → List Group → List Group → Given
+  gives_with kind e waits ends =
+      let fs = held waits ++ option_to_list (frame_in kind (next_line s) e) in
+      record {
+        message = option_or (option_map (λ (m : Keyed). m.message) (gathered (within s.rule) fs (next_line s))) (alone kind e);
+        cause = cause_in kind e;
+        broken = map told_of ends ++ broken_with s.rule fs (next_line s);
+      }
+
+  leaves_with : (kind : ℕ → Option Kind) (e : Entry) → List Group → List Group
+  leaves_with kind e waits = open_within s.rule (next_line s) (held waits ++ option_to_list (frame_in kind (next_line s) e))
+
+  counted-due : (kind : ℕ → Option Kind) (e : Entry) (m : Option PacketParts) (c : Option BadCause) (bs : List Broken) (n : ℕ)
+      → counted kind s.counts e (record { message = m; cause = c; broken = told_of g ∷ bs }) n ≡ counted kind (expired s).counts e (record { message = m; cause = c; broken = bs }) n
+  unfolding expired
+  counted-due kind e m c bs n =
+      let same : s.counts.broken + length (told_of g ∷ bs) ≡ (s.counts.broken + 1) + length bs = omega arith in
+      λ i. record {
+        lines = s.counts.lines + 1;
+        messages = s.counts.messages + one_if (is_some m);
+        bad = s.counts.bad + one_if (is_some c);
+        unknown = s.counts.unknown + one_if (is_unknown kind e);
+        broken = same i;
+        held = n;
+      }
+
+  pub expires_first : (kind : ℕ → Option Kind) (e : Entry) → ExpiresFirst kind s e g
+  unfolding step_given step_after expired gives_with leaves_with
+  expires_first kind e =
+      let given : step_given kind s e ≡ record { message = (step_given kind (expired s) e).message; cause = (step_given kind (expired s) e).cause; broken = told_of g ∷ (step_given kind (expired s) e).broken } = λ i. gives_with kind e (kept-due i) (ended-due i) in
+      record {
+        given = given;
+        after =
+            (λ i. let leaves = leaves_with kind e (kept-due i) in record { id = s.id; rule = s.rule; counts = counted kind s.counts e (given i) (length leaves); groups = leaves })
+            ∙ ap (λ (c : Counts). let leaves = leaves_with kind e (waiting s.rule (next_line s) (drop 1 s.groups)) in record { id = s.id; rule = s.rule; counts = c; groups = leaves })
+            (counted-due kind e (step_given kind (expired s) e).message (step_given kind (expired s) e).cause (step_given kind (expired s) e).broken (length (leaves_with kind e (waiting s.rule (next_line s) (drop 1 s.groups)))));
+      }
+
+-- ---- what a program finds, by the first of the groups
+
+due_by : (s : State) → (s.counts.lines ≡ most_lines → ⊥) → due s ≡ slice_get (overdue s) 0
+due_by s below = by (s.counts.lines == most_lines) refl
+  where
+    by : (b : Bool) → (s.counts.lines == most_lines) ≡ b → cond b None (slice_get (overdue s) 0) ≡ slice_get (overdue s) 0
+    by true e = absurd (below (eqb-true _ _ e))
+    by false e = refl
+
+pub due-full : (s : State) → s.counts.lines ≡ most_lines → due s ≡ None
+due-full s e = ap (λ b. cond b None (slice_get (overdue s) 0)) (eq-eqb s.counts.lines most_lines e)
+
+ended-first : (w : Rule) (line : ℕ) (gs : List Group) → Rise (λ (g : Group). g.first) 1 gs → (o : Option Group) → slice_get gs 0 ≡ o → slice_get (ended w line gs) 0 ≡ option_and_then (λ (g : Group). cond (not (is_waiting w line g)) (Some g) None) o
+unfolding ended
+ended-first w line [] rise o e = ap (option_and_then (λ (g : Group). cond (not (is_waiting w line g)) (Some g) None)) e
+ended-first w line (g ∷ gs) rise o e = by (is_waiting w line g) refl ∙ ap (option_and_then (λ (g : Group). cond (not (is_waiting w line g)) (Some g) None)) e
+  where
+    by : (b : Bool) → is_waiting w line g ≡ b → slice_get (cond (not b) (g ∷ ended w line gs) (ended w line gs)) 0 ≡ cond (not (is_waiting w line g)) (Some g) None
+    by true t =
+        let l : line < g.first + w.window = ltb-true _ _ t in
+        ap (λ (hs : List Group). slice_get hs 0) (later-wait w line (g.first + 1) gs rise.1 (omega (arith, l))) ∙ sym (ap (λ b. cond (not b) (Some g) None) t)
+    by false t = sym (ap (λ b. cond (not b) (Some g) None) t)
+
+-- none is open; the first waits; the first doesn't
+pub due-none : (s : State) → Rise (λ (g : Group). g.first) 1 s.groups → (s.counts.lines ≡ most_lines → ⊥) → slice_get s.groups 0 ≡ None → due s ≡ None
+due-none s rise below e = due_by s below ∙ ended-first s.rule (next_line s) s.groups rise None e
+
+pub due-waits : (s : State) (g : Group) → Rise (λ (g : Group). g.first) 1 s.groups → (s.counts.lines ≡ most_lines → ⊥) → slice_get s.groups 0 ≡ Some g → s.counts.lines + 1 < g.first + s.rule.window → due s ≡ None
+due-waits s g rise below e l = due_by s below ∙ ended-first s.rule (next_line s) s.groups rise (Some g) e ∙ ap (λ b. cond (not b) (Some g) None) (lt-ltb (s.counts.lines + 1) (g.first + s.rule.window) l)
+
+pub due-late : (s : State) (g : Group) → Rise (λ (g : Group). g.first) 1 s.groups → (s.counts.lines ≡ most_lines → ⊥) → slice_get s.groups 0 ≡ Some g → (s.counts.lines + 1 < g.first + s.rule.window → ⊥) → due s ≡ Some g
+due-late s g rise below e l = due_by s below ∙ ended-first s.rule (next_line s) s.groups rise (Some g) e ∙ ap (λ b. cond (not b) (Some g) None) (ltb-no (s.counts.lines + 1) (g.first + s.rule.window) l)
+  where
+    ltb-no : (a b : ℕ) → (a < b → ⊥) → ltb a b ≡ false
+    ltb-no a b never = by (ltb a b) refl
+      where
+        by : (t : Bool) → ltb a b ≡ t → ltb a b ≡ false
+        by true e = absurd (never (ltb-true a b e))
+        by false e = e
+
+-- what holds of each group holds of the first
+pub all-first : (P : Group → Type 0) (gs : List Group) (g : Group) → AllByRecursion P gs → slice_get gs 0 ≡ Some g → P g
+all-first P [] g all e = absurd (none-some g e)
+all-first P (h ∷ gs) g all e = subst P (same_Some h g e) all.0
+
+-- what is told of one that is due
+pub record FoundDue (s : State) : Type 0 where
+  pub group : Group
+  pub due_is : due s ≡ Some group
+
+pub found_due : (s : State) (b : Broken) → option_map told_of (due s) ≡ Some b → FoundDue s
+found_due s b e = by (due s) refl e
+  where
+    by : (o : Option Group) → due s ≡ o → option_map told_of o ≡ Some b → FoundDue s
+    by None is e = absurd (none-some b e)
+    by (Some g) is e = record { group = g; due_is = is }
+
+pub record Expires (s : State) : Type 0 where
+  pub group : Group
+  pub is : IsDue s group
+
+pub expires_by : (s t : State) (b : Broken) → s ≡ t → IsState s → option_map told_of (due t) ≡ Some b → Expires s
+expires_by s t b view state e =
+    let found = found_due s b (ap (λ t. option_map told_of (due t)) view ∙ e) in
+    record { group = found.group; is = is_due s found.group state.groups.rise found.due_is }
+
+-- the state that a program reaches which takes the first group away
+pub expired_by : (s t : State) (gs : List Group) → s ≡ t → gs ≡ drop 1 s.groups
+    → record { id = s.id; rule = s.rule; counts = record s.counts { broken = s.counts.broken + 1; held = s.counts.held - 1 }; groups = gs } ≡ expired t
+unfolding expired
+expired_by s t gs view is =
+    (λ i. record { id = s.id; rule = s.rule; counts = record s.counts { broken = s.counts.broken + 1; held = s.counts.held - 1 }; groups = is i }) ∙ ap expired view
+
+-- what is due goes, so that fewer groups are left
+some-ended : (w : Rule) (line : ℕ) (gs : List Group) (g : Group) → slice_get (ended w line gs) 0 ≡ Some g → length (drop 1 gs) < length gs
+unfolding ended
+some-ended w line [] g e = absurd (none-some g e)
+some-ended w line (h ∷ gs) g e = omega arith
+
+pub fewer : (s t : State) (b : Broken) → option_map told_of (due s) ≡ Some b → t ≡ expired s → length t.groups < length s.groups
+unfolding expired
+fewer s t b e is =
+    let found = found_due s b e in
+    let at : length t.groups ≡ length (drop 1 s.groups) = ap (λ (t : State). length t.groups) is in
+    omega (arith, at, by (s.counts.lines == most_lines) found.group found.due_is)
+  where
+    by : (b : Bool) (g : Group) → cond b None (slice_get (overdue s) 0) ≡ Some g → length (drop 1 s.groups) < length s.groups
+    by true g e = absurd (none-some g e)
+    by false g e = some-ended s.rule (next_line s) s.groups g e
+
+-- where one is due, the next line has a number
+pub due-few : (s : State) (b : Broken) → s.counts.lines ≤ most_lines → option_map told_of (due s) ≡ Some b → s.counts.lines < most_lines
+due-few s b most e = by (s.counts.lines == most_lines) refl (found_due s b e)
+  where
+    by : (t : Bool) → (s.counts.lines == most_lines) ≡ t → FoundDue s → s.counts.lines < most_lines
+    by true t found = absurd (none-some found.group (sym (ap (λ c. cond c None (slice_get (overdue s) 0)) t) ∙ found.due_is))
+    by false t found = below (ltb s.counts.lines most_lines) refl
+      where
+        below : (l : Bool) → ltb s.counts.lines most_lines ≡ l → s.counts.lines < most_lines
+        below true l = ltb-true _ _ l
+        below false l = absurd (eqb-false _ _ t (omega (arith, most, ltb-false _ _ l)))

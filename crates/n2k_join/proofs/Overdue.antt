@@ -1,0 +1,236 @@
+-- What is broken at a line: the groups whose window ends there, and then the one that a frame can't join.
+use Rattle.std.proofs.Common.{◌≡◌, ◌==◌, ◌≤◌, ◌<◌, ◌+◌, ℕ, Bool, true, false, cond, not, ◌||◌, ◌&&◌, nat_le, List, [], ◌∷◌, ◌++◌, length, map, refl, sym, ap, ◌∙◌, subst, arith, Option, Some, None, option_map, option_to_list, filter, filter_map, find}
+use Rattle.std.specs.List.{cons_option, AllByRecursion}
+use Rattle.std.proofs.lemmas.List.{append-nil, length-append}
+use Rattle.std.proofs.lemmas.Bool.{eqb-true, eq-eqb, ne_eqb, lt-leb, le-leb, lt-ltb, ltb-true, ltb-false}
+use Rattle.std.proofs.lemmas.Option.{none-some}
+use Rattle.n2k_join.specs.declared.broken.Broken.{Broken}
+use Rattle.n2k_join.specs.Frames.{Key, same_key, Frame}
+use Rattle.n2k_join.specs.Groups.{Ends, closes, repeats, misfits, is_late, within, complete, first}
+use Rattle.n2k_join.specs.Open.{Group, is_waiting, waiting, ended}
+use Rattle.n2k_join.specs.Messages.{broken_of, told_of}
+use Rattle.n2k_join.specs.State.{held_of, Rise, IsOpen, AreApart}
+use Rattle.n2k_join.specs.Inner.Stored.{lost}
+use Rattle.n2k_join.proofs.Advanced.{with_frame, joined, taken, begun, of_the_key, opened, advanced}
+use Rattle.n2k_join.proofs.BrokenGroups.{runs_out, breaks, told_if}
+use Rattle.n2k_join.proofs.Cuts.{next}
+use Rattle.n2k_join.proofs.Held.{first-held}
+use Rattle.n2k_join.proofs.Keys.{same_key-true}
+use Rattle.n2k_join.proofs.Rising.{find-none, rise-least, all-map, all-zip}
+use Rattle.n2k_join.proofs.Windows.{all-filter, waits-before, ended-ends, waits-ends, misfits-bars}
+use Rattle.n2k_join.specs.Window.{Rule}
+
+module _ (w : Rule) (some : 0 < w.window) where
+  -- ---- the tests on groups
+
+  pub runs_out-later : (line : ℕ) (o : Group) → is_waiting w line o ≡ true → runs_out w some line o ≡ false
+  runs_out-later line o e = let l : line < o.first + w.window = ltb-true _ _ e in ne_eqb (o.first + w.window) line (λ f. omega (arith, l, f))
+
+  pub runs_out-past : (n : ℕ) (o : Group) → is_waiting w n o ≡ false → runs_out w some (n + 1) o ≡ false
+  runs_out-past n o e = let l : o.first + w.window ≤ n = ltb-false _ _ e in ne_eqb (o.first + w.window) (n + 1) (λ f. omega (arith, l, f))
+
+  pub runs_out-now : (n : ℕ) (o : Group) → is_waiting w n o ≡ true → is_waiting w (n + 1) o ≡ false → runs_out w some (n + 1) o ≡ true
+  runs_out-now n o e f = let l : n < o.first + w.window = ltb-true _ _ e in let m : o.first + w.window ≤ n + 1 = ltb-false _ _ f in eq-eqb (o.first + w.window) (n + 1) (omega (arith, l, m))
+
+  pub breaks-past : (n : ℕ) (x : Frame) (o : Group) → x.line ≡ n + 1 → is_waiting w n o ≡ false → breaks w some x o ≡ false
+  breaks-past n x o at e =
+      let l : o.first + w.window ≤ n = ltb-false _ _ e in
+      let none : nat_le x.line (o.first + w.window) ≡ false = lt-leb x.line (o.first + w.window) (omega (arith, l, at)) in
+      let other : (o.first + w.window == x.line) ≡ false = ne_eqb (o.first + w.window) x.line (λ f. omega (arith, l, f, at)) in
+      (λ i. cond (same_key x.key o.key) (within w (held_of o) x && none i) (other i))
+      ∙ by (same_key x.key o.key) (within w (held_of o) x)
+    where
+      by : (a b : Bool) → cond a (b && false) false ≡ false
+      by true true = refl
+      by true false = refl
+      by false b = refl
+
+  pub breaks-now : (n : ℕ) (x : Frame) (o : Group) → x.line ≡ n + 1 → IsOpen o → is_waiting w n o ≡ true → is_waiting w (n + 1) o ≡ false → breaks w some x o ≡ true
+  breaks-now n x o at is e f =
+      let l : n < o.first + w.window = ltb-true _ _ e in
+      let m : o.first + w.window ≤ n + 1 = ltb-false _ _ f in
+      let up_to : nat_le x.line (o.first + w.window) ≡ true = le-leb x.line (o.first + w.window) (omega (arith, l, at)) in
+      let here : (o.first + w.window == x.line) ≡ true = eq-eqb (o.first + w.window) x.line (omega (arith, l, m, at)) in
+      let ends : within w (held_of o) x ≡ true = ended-ends w x o is (ap (λ k. is_waiting w k o) at ∙ f) in
+      (λ i. cond (same_key x.key o.key) (ends i && up_to i) (here i)) ∙ by (same_key x.key o.key)
+    where
+      by : (a : Bool) → cond a (true && true) true ≡ true
+      by true = refl
+      by false = refl
+
+  pub breaks-later : (x : Frame) (o : Group) → IsOpen o → is_waiting w x.line o ≡ true → breaks w some x o ≡ cond (same_key x.key o.key) (misfits w (held_of o) x) false
+  breaks-later x o is e =
+      let l : x.line < o.first + w.window = ltb-true _ _ e in
+      let up_to : nat_le x.line (o.first + w.window) ≡ true = le-leb x.line (o.first + w.window) (omega (arith, l)) in
+      let other : (o.first + w.window == x.line) ≡ false = ne_eqb (o.first + w.window) x.line (λ f. omega (arith, l, f)) in
+      (λ i. cond (same_key x.key o.key) (waits-ends w x o is e i && up_to i) (other i)) ∙ ap (λ b. cond (same_key x.key o.key) b false) (and_true (misfits w (held_of o) x))
+    where
+      and_true : (b : Bool) → (b && true) ≡ b
+      and_true true = refl
+      and_true false = refl
+
+  -- ---- the groups that are told
+
+  told-none : (t : Group → Bool) (gs : List Group) → AllByRecursion (λ o. t o ≡ false) gs → filter_map (told_if w some t) gs ≡ []
+  told-none t [] all = refl
+  told-none t (g ∷ gs) all = ap (λ b. cons_option (cond b (Some (told_of g)) None) (filter_map (told_if w some t) gs)) all.0 ∙ told-none t gs all.1
+
+  -- groups whose window had ended before aren't
+  pub told-waiting : (n : ℕ) (t : Group → Bool) (gs : List Group) → ((o : Group) → is_waiting w n o ≡ false → t o ≡ false) → filter_map (told_if w some t) gs ≡ filter_map (told_if w some t) (waiting w n gs)
+  unfolding waiting
+  told-waiting n t [] past = refl
+  told-waiting n t (g ∷ gs) past = by (is_waiting w n g) refl (told-waiting n t gs past)
+    where
+      by : (b : Bool) → is_waiting w n g ≡ b → filter_map (told_if w some t) gs ≡ filter_map (told_if w some t) (filter (is_waiting w n) gs)
+          → filter_map (told_if w some t) (g ∷ gs) ≡ filter_map (told_if w some t) (cond b (g ∷ filter (is_waiting w n) gs) (filter (is_waiting w n) gs))
+      by true e rest = ap (cons_option (told_if w some t g)) rest
+      by false e rest = ap (λ b. cons_option (cond b (Some (told_of g)) None) (filter_map (told_if w some t) gs)) (past g e) ∙ rest
+
+  -- none has ended among groups that begin where one waits, or later
+  later-wait : (line least : ℕ) (gs : List Group) → Rise (λ (g : Group). g.first) least gs → line < least + w.window → ended w line gs ≡ []
+  unfolding ended
+  later-wait line least [] rise l = refl
+  later-wait line least (g ∷ gs) rise l =
+      ap (λ b. cond (not b) (g ∷ filter (λ (g : Group). not (is_waiting w line g)) gs) (filter (λ (g : Group). not (is_waiting w line g)) gs)) (lt-ltb line (g.first + w.window) (omega (arith, rise.0, l)))
+      ∙ later-wait line (g.first + 1) gs rise.1 (omega (arith, rise.0, l))
+
+  -- Those whose window ends at the line are a front of the groups, since their first lines rise.
+  pub told-front : (n least : ℕ) (t : Group → Bool) (gs : List Group) → AllByRecursion (λ o. is_waiting w (n + 1) o ≡ false → t o ≡ true) gs → Rise (λ (g : Group). g.first) least gs
+      → filter_map (told_if w some t) gs ≡ map told_of (ended w (n + 1) gs) ++ filter_map (told_if w some t) (waiting w (n + 1) gs)
+  unfolding waiting ended
+  told-front n least t [] now rise = refl
+  told-front n least t (g ∷ gs) now rise = by (is_waiting w (n + 1) g) refl (told-front n (g.first + 1) t gs now.1 rise.1)
+    where
+      by : (b : Bool) → is_waiting w (n + 1) g ≡ b
+          → filter_map (told_if w some t) gs ≡ map told_of (ended w (n + 1) gs) ++ filter_map (told_if w some t) (filter (is_waiting w (n + 1)) gs)
+          → filter_map (told_if w some t) (g ∷ gs) ≡ map told_of (cond (not b) (g ∷ ended w (n + 1) gs) (ended w (n + 1) gs)) ++ filter_map (told_if w some t) (cond b (g ∷ filter (is_waiting w (n + 1)) gs) (filter (is_waiting w (n + 1)) gs))
+      by true e rest =
+          let l : n + 1 < g.first + w.window = ltb-true _ _ e in
+          let none : ended w (n + 1) gs ≡ [] = later-wait (n + 1) (g.first + 1) gs rise.1 (omega (arith, l)) in
+          ap (cons_option (told_if w some t g)) (rest ∙ ap (λ hs. map told_of hs ++ filter_map (told_if w some t) (filter (is_waiting w (n + 1)) gs)) none)
+          ∙ sym (ap (λ hs. map told_of hs ++ filter_map (told_if w some t) (g ∷ filter (is_waiting w (n + 1)) gs)) none)
+      by false e rest = ap (λ b. cons_option (cond b (Some (told_of g)) None) (filter_map (told_if w some t) gs)) (now.0 e) ∙ ap (λ bs. told_of g ∷ bs) rest
+
+  -- ---- groups that wait
+
+  pub none-run_out : (line : ℕ) (gs : List Group) → AllByRecursion (λ o. is_waiting w line o ≡ true) gs → filter_map (told_if w some (runs_out w some line)) gs ≡ []
+  none-run_out line gs wait = told-none (runs_out w some line) gs (all-map (λ o. is_waiting w line o ≡ true) (λ o. runs_out w some line o ≡ false) gs (λ o e. runs_out-later line o e) wait)
+
+  others-quiet : (x : Frame) (gs : List Group) → AllByRecursion IsOpen gs → AllByRecursion (λ o. is_waiting w x.line o ≡ true) gs → AllByRecursion (λ (h : Group). same_key x.key h.key ≡ false) gs
+      → AllByRecursion (λ o. breaks w some x o ≡ false) gs
+  others-quiet x [] each wait others = tt
+  others-quiet x (g ∷ gs) each wait others = (breaks-later x g each.0 wait.0 ∙ ap (λ b. cond b (misfits w (held_of g) x) false) others.0, others-quiet x gs each.1 wait.1 others.1)
+
+  -- a frame breaks the one of its key, where it has its number
+  pub one-broken : (x : Frame) (gs : List Group) → AllByRecursion IsOpen gs → AllByRecursion (λ o. is_waiting w x.line o ≡ true) gs → AllByRecursion (λ (o : Group). o.first < x.line) gs → AreApart gs
+      → filter_map (told_if w some (breaks w some x)) gs ≡ option_to_list (lost w.in_order x (of_the_key x.key gs))
+  one-broken x [] each wait begun apart = refl
+  one-broken x (g ∷ gs) each wait begun apart = by (same_key x.key g.key) refl (one-broken x gs each.1 wait.1 begun.1 apart.1)
+    where
+      rest : List Broken
+      rest = filter_map (told_if w some (breaks w some x)) gs
+
+      told_is : same_key x.key g.key ≡ true → told_of g ≡ broken_of x.key (held_of g)
+      told_is e =
+          (λ i. record { pgn = g.key.pgn; src = g.key.src; dst = g.key.dst; seq = g.key.sequence; first = sym (first-held g g.pieces each.0.nonempty) i })
+          ∙ ap (λ (k : Key). broken_of k (held_of g)) (sym (same_key-true x.key g.key e))
+
+      by_test : (r : Bool) → told_of g ≡ broken_of x.key (held_of g) → cons_option (cond r (Some (told_of g)) None) [] ≡ option_to_list (cond r (Some (broken_of x.key (held_of g))) None)
+      by_test true e = ap (λ b. b ∷ []) e
+      by_test false e = refl
+
+      by : (b : Bool) → same_key x.key g.key ≡ b → filter_map (told_if w some (breaks w some x)) gs ≡ option_to_list (lost w.in_order x (of_the_key x.key gs))
+          → filter_map (told_if w some (breaks w some x)) (g ∷ gs) ≡ option_to_list (lost w.in_order x (cond b (Some g) (of_the_key x.key gs)))
+      by true e later =
+          let others = all-map (λ (h : Group). same_key g.key h.key ≡ false) (λ (h : Group). same_key x.key h.key ≡ false) gs (λ h t. ap (λ (k : Key). same_key k h.key) (same_key-true x.key g.key e) ∙ t) apart.0 in
+          ap (cons_option (told_if w some (breaks w some x) g)) (told-none (breaks w some x) gs (others-quiet x gs each.1 wait.1 others))
+          ∙ ap (λ b. cons_option (cond b (Some (told_of g)) None) []) (breaks-later x g each.0 wait.0 ∙ ap (λ b. cond b (misfits w (held_of g) x) false) e)
+          ∙ by_test (misfits w (held_of g) x) (told_is e)
+          ∙ ap (λ r. option_to_list (cond r (Some (broken_of x.key (held_of g))) None)) (misfits-bars w x g each.0 begun.0)
+      by false e later =
+          ap (λ b. cons_option (cond b (Some (told_of g)) None) (filter_map (told_if w some (breaks w some x)) gs)) (breaks-later x g each.0 wait.0 ∙ ap (λ b. cond b (misfits w (held_of g) x) false) e)
+          ∙ later
+
+  -- ---- the group that a frame joins or begins
+
+  pub next-waiting : (x : Frame) (gs : List Group) → AllByRecursion IsOpen gs → AreApart gs
+      → next (within w) (option_map held_of (of_the_key x.key gs)) x ≡ next (within w) (option_map held_of (of_the_key x.key (waiting w x.line gs))) x
+  unfolding waiting
+  next-waiting x [] each apart = refl
+  next-waiting x (g ∷ gs) each apart = by (is_waiting w x.line g) refl (same_key x.key g.key) refl (next-waiting x gs each.1 apart.1)
+    where
+      by : (b : Bool) → is_waiting w x.line g ≡ b → (c : Bool) → same_key x.key g.key ≡ c
+          → next (within w) (option_map held_of (of_the_key x.key gs)) x ≡ next (within w) (option_map held_of (of_the_key x.key (filter (is_waiting w x.line) gs))) x
+          → next (within w) (option_map held_of (cond c (Some g) (of_the_key x.key gs))) x
+          ≡ next (within w) (option_map held_of (of_the_key x.key (cond b (g ∷ filter (is_waiting w x.line) gs) (filter (is_waiting w x.line) gs)))) x
+      by true e true f rest = sym (ap (λ t. next (within w) (option_map held_of (cond t (Some g) (of_the_key x.key (filter (is_waiting w x.line) gs)))) x) f)
+      by true e false f rest = rest ∙ sym (ap (λ t. next (within w) (option_map held_of (cond t (Some g) (of_the_key x.key (filter (is_waiting w x.line) gs)))) x) f)
+      by false e true f rest =
+          let others = all-filter (λ (h : Group). same_key x.key h.key ≡ false) (is_waiting w x.line) gs
+          (all-map (λ (h : Group). same_key g.key h.key ≡ false) (λ (h : Group). same_key x.key h.key ≡ false) gs (λ h t. ap (λ (k : Key). same_key k h.key) (same_key-true x.key g.key f) ∙ t) apart.0) in
+          ap (λ b. cond (complete (held_of g) || b) (x ∷ []) (held_of g ++ x ∷ [])) (ended-ends w x g each.0 e)
+          ∙ or_true (complete (held_of g))
+          ∙ sym (ap (λ o. next (within w) (option_map held_of o) x) (find-none (λ (h : Group). same_key x.key h.key) (filter (is_waiting w x.line) gs) others))
+        where
+          or_true : (b : Bool) → cond (b || true) (x ∷ []) (held_of g ++ x ∷ []) ≡ x ∷ []
+          or_true true = refl
+          or_true false = refl
+      by false e false f rest = rest
+
+  -- ---- how many there are
+
+  pub ended-counted : (line : ℕ) (gs : List Group) → length (ended w line gs) + length (waiting w line gs) ≡ length gs
+  unfolding waiting ended
+  ended-counted line [] = refl
+  ended-counted line (g ∷ gs) = by (is_waiting w line g) (ended-counted line gs)
+    where
+      by : (b : Bool) → length (filter (λ (g : Group). not (is_waiting w line g)) gs) + length (filter (is_waiting w line) gs) ≡ length gs
+          → length (cond (not b) (g ∷ filter (λ (g : Group). not (is_waiting w line g)) gs) (filter (λ (g : Group). not (is_waiting w line g)) gs)) + length (cond b (g ∷ filter (is_waiting w line) gs) (filter (is_waiting w line) gs)) ≡ length (g ∷ gs)
+      by true e = omega (arith, e)
+      by false e = omega (arith, e)
+
+  -- a group that a frame breaks goes
+  broken-go : (x : Frame) (gs : List Group) → AllByRecursion IsOpen gs → AllByRecursion (λ o. is_waiting w x.line o ≡ true) gs
+      → length (filter_map (told_if w some (breaks w some x)) gs) + length (filter_map (taken (within w) x) gs) ≤ length gs
+  broken-go x [] each wait = omega arith
+  broken-go x (g ∷ gs) each wait = by (breaks w some x g) (breaks-later x g each.0 wait.0) (same_key x.key g.key) refl (misfits w (held_of g) x) refl (broken-go x gs each.1 wait.1)
+    where
+      told : List Broken
+      told = filter_map (told_if w some (breaks w some x)) gs
+
+      left : List Group
+      left = filter_map (taken (within w) x) gs
+
+      length-cons : {X : Type 0} (o : Option X) (xs : List X) → length (cons_option o xs) ≤ length xs + 1
+      length-cons None xs = omega arith
+      length-cons (Some y) xs = omega arith
+
+      taken_none : same_key x.key g.key ≡ true → misfits w (held_of g) x ≡ true → taken (within w) x g ≡ None
+      taken_none e r =
+          (λ i. cond (e i) (cond (r i || is_late w (held_of g) x) None (cond (complete (held_of g ++ x ∷ [])) None (Some (with_frame g x)))) (Some g))
+
+      by : (b : Bool) → b ≡ cond (same_key x.key g.key) (misfits w (held_of g) x) false → (s : Bool) → same_key x.key g.key ≡ s → (r : Bool) → misfits w (held_of g) x ≡ r
+          → length (filter_map (told_if w some (breaks w some x)) gs) + length (filter_map (taken (within w) x) gs) ≤ length gs
+          → length (cons_option (cond b (Some (told_of g)) None) (filter_map (told_if w some (breaks w some x)) gs)) + length (cons_option (taken (within w) x g) (filter_map (taken (within w) x) gs)) ≤ length (g ∷ gs)
+      by b is true s true r rest =
+          let go : length (cons_option (taken (within w) x g) (filter_map (taken (within w) x) gs)) ≡ length (filter_map (taken (within w) x) gs) = ap (λ o. length (cons_option o (filter_map (taken (within w) x) gs))) (taken_none s r) in
+          omega (arith, go, rest, length-cons (cond b (Some (told_of g)) None) (filter_map (told_if w some (breaks w some x)) gs))
+      by b is true s false r rest =
+          let no : b ≡ false = is ∙ (λ i. cond (s i) (r i) false) in
+          let none : length (cons_option (cond b (Some (told_of g)) None) (filter_map (told_if w some (breaks w some x)) gs)) ≡ length (filter_map (told_if w some (breaks w some x)) gs) = ap (λ b. length (cons_option (cond b (Some (told_of g)) None) (filter_map (told_if w some (breaks w some x)) gs))) no in
+          omega (arith, none, rest, length-cons (taken (within w) x g) (filter_map (taken (within w) x) gs))
+      by b is false s r t rest =
+          let no : b ≡ false = is ∙ ap (λ s. cond s (misfits w (held_of g) x) false) s in
+          let none : length (cons_option (cond b (Some (told_of g)) None) (filter_map (told_if w some (breaks w some x)) gs)) ≡ length (filter_map (told_if w some (breaks w some x)) gs) = ap (λ b. length (cons_option (cond b (Some (told_of g)) None) (filter_map (told_if w some (breaks w some x)) gs))) no in
+          omega (arith, none, rest, length-cons (taken (within w) x g) (filter_map (taken (within w) x) gs))
+
+  -- so a frame leaves and breaks one more at most than there were
+  pub advanced-counted : (x : Frame) (gs : List Group) → AllByRecursion IsOpen gs → AllByRecursion (λ o. is_waiting w x.line o ≡ true) gs
+      → length (filter_map (told_if w some (breaks w some x)) gs) + length (advanced (within w) gs x) ≤ length gs + 1
+  unfolding advanced
+  advanced-counted x gs each wait =
+      omega (arith, broken-go x gs each wait, length-append (filter_map (taken (within w) x) gs) (option_to_list (opened (within w) x (of_the_key x.key gs))), at_most_one (opened (within w) x (of_the_key x.key gs)))
+    where
+      at_most_one : (o : Option Group) → length (option_to_list o) ≤ 1
+      at_most_one None = omega arith
+      at_most_one (Some g) = omega arith

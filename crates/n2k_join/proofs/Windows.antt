@@ -1,0 +1,233 @@
+-- The open groups under a window: what the window has ended may go before the next frame is taken.
+use Rattle.std.proofs.Common.{◌≡◌, ◌≤◌, ◌<◌, ◌+◌, ◌||◌, ◌&&◌, ℕ, Bool, true, false, cond, nat_le, List, [], ◌∷◌, ◌++◌, length, refl, sym, ap, ◌∙◌, subst, arith, Option, Some, None, option_to_list, filter, filter_map, find, ltb, leb}
+use Rattle.std.specs.Prelude.{nat_lt}
+use Rattle.std.specs.List.{cons_option, AllByRecursion}
+use Rattle.std.proofs.lemmas.List.{append-nil}
+use Rattle.std.proofs.lemmas.List.Elements.{filter-append}
+use Rattle.std.proofs.lemmas.Bool.{ltb-true, ltb-false, lt-ltb, lt-leb, le-leb, or_right}
+use Rattle.std.proofs.lemmas.Option.{none-some, same_Some}
+use Rattle.n2k_join.specs.Frames.{Key, same_key, Frame}
+use Rattle.n2k_join.specs.Groups.{Ends, repeats, has_number, has_from, falls_back, misfits, is_late, within, complete, first}
+use Rattle.n2k_join.specs.Open.{Group, group_of, open_groups, is_waiting, waiting, open_within}
+use Rattle.n2k_join.specs.State.{held_of, held, Rise, IsOpen, AreApart, AreOpen}
+use Rattle.n2k_join.specs.Inner.Stored.{bars}
+use Rattle.n2k_join.proofs.Advanced.{with_frame, joined, taken, begun, of_the_key, opened, advanced}
+use Rattle.n2k_join.proofs.Cuts.{within-ends, has-from}
+use Rattle.n2k_join.proofs.Held.{first-held}
+use Rattle.n2k_join.proofs.Keys.{same_key-true}
+use Rattle.n2k_join.proofs.Opened.{IsLog, open_groups-push, open_groups-none}
+use Rattle.n2k_join.proofs.Resumed.{open_groups-held, open_groups-open, held-log}
+use Rattle.n2k_join.proofs.Rising.{rise-less, find-none, all-map}
+use Rattle.n2k_join.specs.Window.{Rule}
+
+-- ---- a part of some groups that can be open can be open
+
+pub all-filter : {X : Type 0} (P : X → Type 0) (t : X → Bool) (xs : List X) → AllByRecursion P xs → AllByRecursion P (filter t xs)
+all-filter P t [] a = tt
+all-filter P t (x ∷ xs) a = elim (t x) as (λ b. AllByRecursion P (cond b (x ∷ filter t xs) (filter t xs))) [ true ↦ (a.0, all-filter P t xs a.1) | false ↦ all-filter P t xs a.1 ]
+
+-- all that are left pass
+pub all-passed : {X : Type 0} (t : X → Bool) (xs : List X) → AllByRecursion (λ x. t x ≡ true) (filter t xs)
+all-passed t [] = tt
+all-passed t (x ∷ xs) = by (t x) refl (all-passed t xs)
+  where
+    by : (b : Bool) → t x ≡ b → AllByRecursion (λ x. t x ≡ true) (filter t xs) → AllByRecursion (λ x. t x ≡ true) (cond b (x ∷ filter t xs) (filter t xs))
+    by true e rest = (e, rest)
+    by false e rest = rest
+
+-- where all pass, all are left
+pub filter-passed : {X : Type 0} (t : X → Bool) (xs : List X) → AllByRecursion (λ x. t x ≡ true) xs → filter t xs ≡ xs
+filter-passed t [] all = refl
+filter-passed t (x ∷ xs) all = ap (λ b. cond b (x ∷ filter t xs) (filter t xs)) all.0 ∙ ap (λ ys. x ∷ ys) (filter-passed t xs all.1)
+
+abbrev first_of : Group → ℕ
+first_of o = o.first
+
+rise-filter : (least : ℕ) (t : Group → Bool) (gs : List Group) → Rise (λ (g : Group). g.first) least gs → Rise (λ (g : Group). g.first) least (filter t gs)
+rise-filter least t [] r = tt
+rise-filter least t (g ∷ gs) r =
+    let at : least ≤ g.first + 1 = omega (arith, r.0) in
+    elim (t g) as (λ b. Rise (λ (g : Group). g.first) least (cond b (g ∷ filter t gs) (filter t gs)))
+    [ true ↦ (r.0, rise-filter (g.first + 1) t gs r.1) | false ↦ rise-less (λ (g : Group). g.first) least (g.first + 1) (filter t gs) at (rise-filter (g.first + 1) t gs r.1) ]
+
+apart-filter : (t : Group → Bool) (gs : List Group) → AreApart gs → AreApart (filter t gs)
+apart-filter t [] a = tt
+apart-filter t (g ∷ gs) a =
+    elim (t g) as (λ b. AreApart (cond b (g ∷ filter t gs) (filter t gs)))
+    [ true ↦ (all-filter (λ (h : Group). same_key g.key h.key ≡ false) t gs a.0, apart-filter t gs a.1) | false ↦ apart-filter t gs a.1 ]
+
+pub open-filter : (n : ℕ) (t : Group → Bool) (gs : List Group) → AreOpen n gs → AreOpen n (filter t gs)
+open-filter n t gs are = record {
+  each = all-filter IsOpen t gs are.each;
+  rise = rise-filter 1 t gs are.rise;
+  begun = all-filter (λ (g : Group). g.first ≤ n) t gs are.begun;
+  apart = apart-filter t gs are.apart;
+}
+
+pub open-waiting : (w : Rule) (line n : ℕ) (gs : List Group) → AreOpen n gs → AreOpen n (waiting w line gs)
+unfolding waiting
+open-waiting w line n gs are = open-filter n (is_waiting w line) gs are
+
+-- ---- what the window has ended
+
+-- a group that waits at a line waited at those before
+pub waits-before : (w : Rule) (line : ℕ) (g : Group) → is_waiting w (line + 1) g ≡ true → is_waiting w line g ≡ true
+waits-before w line g e = let l : line + 1 < g.first + w.window = ltb-true _ _ e in lt-ltb line (g.first + w.window) (omega (arith, l))
+
+pub waiting-later : (w : Rule) (n : ℕ) (gs : List Group) → waiting w (n + 1) (waiting w n gs) ≡ waiting w (n + 1) gs
+unfolding waiting
+waiting-later w n [] = refl
+waiting-later w n (g ∷ gs) = by (is_waiting w n g) refl (is_waiting w (n + 1) g) refl (waiting-later w n gs)
+  where
+    by : (b : Bool) → is_waiting w n g ≡ b → (c : Bool) → is_waiting w (n + 1) g ≡ c → waiting w (n + 1) (waiting w n gs) ≡ waiting w (n + 1) gs
+        → filter (is_waiting w (n + 1)) (cond b (g ∷ filter (is_waiting w n) gs) (filter (is_waiting w n) gs)) ≡ cond c (g ∷ filter (is_waiting w (n + 1)) gs) (filter (is_waiting w (n + 1)) gs)
+    by true e true f rest = ap (λ t. cond t (g ∷ filter (is_waiting w (n + 1)) (filter (is_waiting w n) gs)) (filter (is_waiting w (n + 1)) (filter (is_waiting w n) gs))) f ∙ ap (λ hs. g ∷ hs) rest
+    by true e false f rest = ap (λ t. cond t (g ∷ filter (is_waiting w (n + 1)) (filter (is_waiting w n) gs)) (filter (is_waiting w (n + 1)) (filter (is_waiting w n) gs))) f ∙ rest
+    by false e true f rest = absurd (let l : n + 1 < g.first + w.window = ltb-true _ _ f in let m : g.first + w.window ≤ n = ltb-false _ _ e in omega (arith, l, m))
+    by false e false f rest = rest
+
+-- groups that all wait
+pub waiting-all : (w : Rule) (line : ℕ) (gs : List Group) → AllByRecursion (λ (g : Group). is_waiting w line g ≡ true) gs → waiting w line gs ≡ gs
+unfolding waiting
+waiting-all w line gs all = filter-passed (is_waiting w line) gs all
+
+pub all-waiting : (w : Rule) (line : ℕ) (gs : List Group) → AllByRecursion (λ (g : Group). is_waiting w line g ≡ true) (waiting w line gs)
+unfolding waiting
+all-waiting w line gs = all-passed (is_waiting w line) gs
+
+-- ---- a frame's step and the window
+
+-- a group that goes on keeps its first line
+taken-first : (ends : Ends) (x : Frame) (g h : Group) → taken ends x g ≡ Some h → h.first ≡ g.first
+taken-first ends x g h e = by (same_key x.key g.key) (ends (held_of g) x) (complete (held_of g ++ x ∷ [])) e
+  where
+    by : (a b c : Bool) → cond a (cond b None (cond c None (Some (with_frame g x)))) (Some g) ≡ Some h → h.first ≡ g.first
+    by true true c e = absurd (none-some h e)
+    by true false true e = absurd (none-some h e)
+    by true false false e = ap first_of (sym (same_Some (with_frame g x) h e))
+    by false b c e = ap first_of (sym (same_Some g h e))
+
+waiting-taken : (ends : Ends) (w : Rule) (line : ℕ) (x : Frame) (gs : List Group) → filter (is_waiting w line) (filter_map (taken ends x) gs) ≡ filter_map (taken ends x) (filter (is_waiting w line) gs)
+waiting-taken ends w line x [] = refl
+waiting-taken ends w line x (g ∷ gs) = by (taken ends x g) refl (is_waiting w line g) refl (waiting-taken ends w line x gs)
+  where
+    rest : List Group
+    rest = filter_map (taken ends x) gs
+
+    by : (o : Option Group) → taken ends x g ≡ o → (b : Bool) → is_waiting w line g ≡ b → filter (is_waiting w line) (filter_map (taken ends x) gs) ≡ filter_map (taken ends x) (filter (is_waiting w line) gs)
+        → filter (is_waiting w line) (cons_option o (filter_map (taken ends x) gs)) ≡ filter_map (taken ends x) (cond b (g ∷ filter (is_waiting w line) gs) (filter (is_waiting w line) gs))
+    by None e true f same = same ∙ sym (ap (λ o. cons_option o (filter_map (taken ends x) (filter (is_waiting w line) gs))) e)
+    by None e false f same = same
+    by (Some h) e b f same =
+        ap (λ t. cond t (h ∷ filter (is_waiting w line) (filter_map (taken ends x) gs)) (filter (is_waiting w line) (filter_map (taken ends x) gs))) (ap (λ n. nat_lt line (n + w.window)) (taken-first ends x g h e) ∙ f)
+        ∙ by_test b
+      where
+        by_test : (b : Bool) → cond b (h ∷ filter (is_waiting w line) (filter_map (taken ends x) gs)) (filter (is_waiting w line) (filter_map (taken ends x) gs)) ≡ filter_map (taken ends x) (cond b (g ∷ filter (is_waiting w line) gs) (filter (is_waiting w line) gs))
+        by_test true = ap (λ hs. h ∷ hs) same ∙ sym (ap (λ o. cons_option o (filter_map (taken ends x) (filter (is_waiting w line) gs))) e)
+        by_test false = same
+
+-- a frame at the line at which a group's window has ended ends it
+pub ended-ends : (w : Rule) (x : Frame) (g : Group) → IsOpen g → is_waiting w x.line g ≡ false → within w (held_of g) x ≡ true
+ended-ends w x g is e =
+    let at : first (held_of g) ≡ g.first = first-held g g.pieces is.nonempty in
+    let past : g.first + w.window ≤ x.line = ltb-false x.line (g.first + w.window) e in
+    or_right (misfits w (held_of g) x) (is_late w (held_of g) x) (le-leb (first (held_of g) + w.window) x.line (omega (arith, at, past)))
+
+-- and one before that ends it where its number is in it
+pub waits-ends : (w : Rule) (x : Frame) (g : Group) → IsOpen g → is_waiting w x.line g ≡ true → within w (held_of g) x ≡ misfits w (held_of g) x
+waits-ends w x g is e =
+    let at : first (held_of g) ≡ g.first = first-held g g.pieces is.nonempty in
+    let before : x.line < g.first + w.window = ltb-true x.line (g.first + w.window) e in
+    ap (λ b. misfits w (held_of g) x || b) (lt-leb (first (held_of g) + w.window) x.line (omega (arith, at, before))) ∙ or_false (misfits w (held_of g) x)
+  where
+    or_false : (b : Bool) → (b || false) ≡ b
+    or_false true = refl
+    or_false false = refl
+
+-- what the code asks of a group of an earlier line
+pub misfits-bars : (w : Rule) (x : Frame) (g : Group) → IsOpen g → g.first < x.line → misfits w (held_of g) x ≡ bars w.in_order x.number g
+misfits-bars w x g is l = by w.in_order
+  where
+    later : nat_lt (first (held_of g)) x.line ≡ true
+    later = let at : first (held_of g) ≡ g.first = first-held g g.pieces is.nonempty in lt-ltb (first (held_of g)) x.line (omega (arith, at, l))
+
+    own : (b : Bool) → has_number x.number (held_of g) ≡ b → (b || has_from x.number (held_of g)) ≡ has_from x.number (held_of g)
+    own true e = sym (has-from x.number x.number (held_of g) (omega arith) e)
+    own false e = refl
+
+    or_false : (b : Bool) → (b || false) ≡ b
+    or_false true = refl
+    or_false false = refl
+
+    by : (b : Bool) → (repeats (held_of g) x || (b && falls_back (held_of g) x)) ≡ cond b (has_from x.number (held_of g)) (has_number x.number (held_of g))
+    by true = ap (λ t. repeats (held_of g) x || (t && has_from x.number (held_of g))) later ∙ own (has_number x.number (held_of g)) refl
+    by false = or_false (repeats (held_of g) x)
+
+opened-waiting : (w : Rule) (x : Frame) (gs : List Group) → AllByRecursion IsOpen gs → AreApart gs
+    → opened (within w) x (of_the_key x.key gs) ≡ opened (within w) x (of_the_key x.key (filter (is_waiting w x.line) gs))
+opened-waiting w x [] each apart = refl
+opened-waiting w x (g ∷ gs) each apart = by (is_waiting w x.line g) refl (same_key x.key g.key) refl (opened-waiting w x gs each.1 apart.1)
+  where
+    left : List Group
+    left = filter (is_waiting w x.line) gs
+
+    by : (b : Bool) → is_waiting w x.line g ≡ b → (c : Bool) → same_key x.key g.key ≡ c
+        → opened (within w) x (of_the_key x.key gs) ≡ opened (within w) x (of_the_key x.key (filter (is_waiting w x.line) gs))
+        → opened (within w) x (cond c (Some g) (of_the_key x.key gs)) ≡ opened (within w) x (of_the_key x.key (cond b (g ∷ filter (is_waiting w x.line) gs) (filter (is_waiting w x.line) gs)))
+    by true e true f rest = sym (ap (λ t. opened (within w) x (cond t (Some g) (of_the_key x.key (filter (is_waiting w x.line) gs)))) f)
+    by true e false f rest = rest ∙ sym (ap (λ t. opened (within w) x (cond t (Some g) (of_the_key x.key (filter (is_waiting w x.line) gs)))) f)
+    by false e true f rest =
+        let others : AllByRecursion (λ (h : Group). same_key x.key h.key ≡ false) (filter (is_waiting w x.line) gs) = all-filter (λ (h : Group). same_key x.key h.key ≡ false) (is_waiting w x.line) gs
+        (all-map (λ (h : Group). same_key g.key h.key ≡ false) (λ (h : Group). same_key x.key h.key ≡ false) gs (λ h t. ap (λ (k : Key). same_key k h.key) (same_key-true x.key g.key f) ∙ t) apart.0) in
+        ap (λ t. cond t (begun x) None) (ended-ends w x g each.0 e)
+        ∙ sym (ap (opened (within w) x) (find-none (λ (h : Group). same_key x.key h.key) (filter (is_waiting w x.line) gs) others))
+    by false e false f rest = rest
+
+-- a group that a frame opens waits
+begun-waits : (ends : Ends) (w : Rule) (x : Frame) (o : Option Group) → 0 < w.window → filter (is_waiting w x.line) (option_to_list (opened ends x o)) ≡ option_to_list (opened ends x o)
+begun-waits ends w x o some = by o
+  where
+    alone : (b : Bool) → filter (is_waiting w x.line) (option_to_list (cond b None (Some (group_of x.key (x ∷ []))))) ≡ option_to_list (cond b None (Some (group_of x.key (x ∷ []))))
+    alone true = refl
+    alone false = ap (λ t. cond t (group_of x.key (x ∷ []) ∷ []) []) (lt-ltb x.line (x.line + w.window) (omega (arith, some)))
+
+    by_test : (g : Group) (b : Bool) → filter (is_waiting w x.line) (option_to_list (cond b (begun x) None)) ≡ option_to_list (cond b (begun x) None)
+    by_test g true = alone (complete (x ∷ []))
+    by_test g false = refl
+
+    by : (o : Option Group) → filter (is_waiting w x.line) (option_to_list (opened ends x o)) ≡ option_to_list (opened ends x o)
+    by None = alone (complete (x ∷ []))
+    by (Some g) = by_test g (ends (held_of g) x)
+
+-- The groups whose window ends at the frame's line go, and then the frame is taken.
+pub advanced-waiting : (w : Rule) (x : Frame) (gs : List Group) → 0 < w.window → AllByRecursion IsOpen gs → AreApart gs → waiting w x.line (advanced (within w) gs x) ≡ advanced (within w) (waiting w x.line gs) x
+unfolding advanced waiting
+advanced-waiting w x gs some each apart =
+    filter-append (is_waiting w x.line) (filter_map (taken (within w) x) gs) (option_to_list (opened (within w) x (of_the_key x.key gs)))
+    ∙ (λ i. waiting-taken (within w) w x.line x gs i ++ begun-waits (within w) w x (of_the_key x.key gs) some i)
+    ∙ ap (λ o. filter_map (taken (within w) x) (filter (is_waiting w x.line) gs) ++ option_to_list o) (opened-waiting w x gs each apart)
+
+-- ---- one line more
+
+module _ (w : Rule) (n : ℕ) (some : 0 < w.window) where
+  -- a log with a frame at its next line
+  pub open_within-push : (fs : List Frame) (x : Frame) → IsLog n fs → x.line ≡ n + 1 → open_within w (n + 1) (fs ++ x ∷ []) ≡ advanced (within w) (waiting w (n + 1) (open_within w n fs)) x
+  open_within-push fs x log at =
+      let are : AreOpen n (open_groups (within w) n fs) = open_groups-open (within w) (within-ends w some) n fs log in
+      ap (waiting w (n + 1)) (open_groups-push (within w) (within-ends w some) n fs x log at)
+      ∙ ap (λ l. waiting w l (advanced (within w) (open_groups (within w) n fs) x)) (sym at)
+      ∙ advanced-waiting w x (open_groups (within w) n fs) some are.each are.apart
+      ∙ ap (λ l. advanced (within w) (waiting w l (open_groups (within w) n fs)) x) at
+      ∙ ap (λ gs. advanced (within w) gs x) (sym (waiting-later w n (open_groups (within w) n fs)))
+
+  -- and without one
+  pub open_within-none : (fs : List Frame) → IsLog n fs → open_within w (n + 1) fs ≡ waiting w (n + 1) (open_within w n fs)
+  open_within-none fs log = ap (waiting w (n + 1)) (open_groups-none (within w) (within-ends w some) n fs log) ∙ sym (waiting-later w n (open_groups (within w) n fs))
+
+  -- the open groups of a log can be open
+  pub open_within-open : (fs : List Frame) → IsLog n fs → AreOpen n (open_within w n fs)
+  open_within-open fs log = open-waiting w n n (open_groups (within w) n fs) (open_groups-open (within w) (within-ends w some) n fs log)
+
+  -- what groups hold has those of them open that wait
+  pub open_within-held : (gs : List Group) → AreOpen n gs → open_within w n (held gs) ≡ waiting w n gs
+  open_within-held gs are = ap (waiting w n) (open_groups-held (within w) (within-ends w some) n gs are)

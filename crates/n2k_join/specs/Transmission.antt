@@ -1,0 +1,28 @@
+-- What a complete group is in order: the frames of one transmission.
+use Rattle.std.specs.Prelude.{◌≡◌, ℕ, ◌+◌, true, List, ◌++◌, map, Option}
+use Rattle.std.specs.List.{All, range_with_len}
+use Rattle.n2k_wire.specs.declared.entry.Entry.{Entry}
+use Rattle.n2k_table.specs.declared.definition.Kind.{Kind}
+use Rattle.n2k_join.specs.Frames.{Key, Frame, frames, of_key}
+use Rattle.n2k_join.specs.Groups.{within, complete, cut, total, last_number, last_line, data_of}
+use Rattle.n2k_join.specs.Messages.{Keyed}
+use Rattle.n2k_join.specs.Window.{Rule}
+
+-- The frames stand one behind the other among the key's frames of a log, and their numbers are 0 to the last, in that order.
+pub record IsTransmission (key : Key) (fs group : List Frame) : Type 0 where
+  pub before : List Frame
+  pub after : List Frame
+  pub together : of_key key fs ≡ before ++ (group ++ after)
+  pub in_order : map (λ (f : Frame). f.number) group ≡ range_with_len 0 (last_number (total group) + 1)
+
+-- so is each complete group of a key
+abbrev pub AreTransmissions : Rule → (ℕ → Option Kind) → List Entry → Key → Type 0
+AreTransmissions rule kind es key = All (λ (group : List Frame). complete group ≡ true → IsTransmission key (frames kind es) group) (cut (within rule) (of_key key (frames kind es)))
+
+-- the message of a line has the data of such a group, whose last frame stands at the line
+pub record ComesOfOne (kind : ℕ → Option Kind) (es : List Entry) (line : ℕ) (m : Keyed) : Type 0 where
+  pub group : List Frame
+  pub transmission : IsTransmission m.key (frames kind es) group
+  pub whole : complete group ≡ true
+  pub ends_there : last_line group ≡ line
+  pub carries : data_of group ≡ m.message.payload

@@ -1,0 +1,20 @@
+-- What ends a group that isn't complete: its window of lines, and the order of its frames' numbers.
+use Rattle.std.specs.Prelude.{◌≤◌, ℕ, Bool}
+
+-- the fewest lines of a window, and the most
+abbrev pub shortest_window : ℕ
+shortest_window = 32
+
+abbrev pub longest_window : ℕ
+longest_window = 1_000_000
+
+-- What ends a group that isn't complete, beside a number that comes twice: so many lines from its first frame's on, that
+-- one counted; and, in order, a frame whose number isn't greater than each number in it.
+pub record Rule : Type 0 where
+  pub window : ℕ
+  pub in_order : Bool
+
+-- a number of lines that a window can have
+pub record IsWindow (window : ℕ) : Type 0 where
+  pub least : shortest_window ≤ window
+  pub most : window ≤ longest_window

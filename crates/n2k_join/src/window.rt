@@ -1,0 +1,83 @@
+//! What ends a group that isn't complete.
+ghost use Rattle.std.specs.Prelude.{◌≡◌, ◌↔◌, true, false, IfSome, IsSome};
+ghost use Rattle.n2k_join.specs.Window.{IsWindow};
+
+use std::marker::Model;
+
+/// What ends a group of frames that isn't complete, beside a number that comes twice: its window, a number of lines from
+/// 32 to 1,000,000, and, where that is asked, the order of its frames' numbers.
+///
+/// A group is broken so many lines after its first frame's line, skipped and bad lines counted. In order, it is broken too
+/// by a frame of its key whose number isn't greater than each number in it.
+#[derive(Clone, Copy, Debug, PartialEq, Eq)]
+pub struct Window {
+    lines: u32,
+    in_order: bool,
+}
+
+impl Model for Window {
+    ghost use Rattle.n2k_join.specs.Window.{IsWindow, Rule};
+
+    ghost Value = { Rule };
+
+    ghost view = { λ w. record { window = w.lines; in_order = w.in_order } };
+
+    ghost invariant = { λ w. IsWindow w.lines };
+
+    ghost inverse = { λ r. record { lines = r.window; in_order = r.in_order } };
+}
+
+impl Window {
+    /// The fewest lines of a window: the frames of the longest message, one behind the other, fit in.
+    pub const SHORTEST: u32 = 32;
+
+    /// The most lines of a window.
+    pub const LONGEST: u32 = 1_000_000;
+
+    /// A window of so many lines, without an order of the numbers; `None` out of range.
+    ///
+    /// ```text
+    /// let window = Window::new(10_000)?;
+    /// ```
+    pub fn new(lines: u32) -> Option<Window>
+        ensures value { IfSome result (λ w. w ≡ record { window = lines; in_order = false }) }
+        ensures range { IsSome result ↔ IsWindow lines }
+    {
+        if lines < Window::SHORTEST || lines > Window::LONGEST {
+            return None;
+        }
+        Some(Window {
+            lines,
+            in_order: false,
+        })
+    }
+
+    /// The number of lines.
+    pub fn get(self) -> u32
+        ensures value { result ≡ self.window }
+        ensures range { IsWindow self.window }
+    {
+        self.lines
+    }
+
+    /// The same, in order: for a log in which the frames of each message stand by rising number, as on a bus.
+    ///
+    /// ```text
+    /// let window = Window::new(10_000)?.in_order();
+    /// ```
+    pub fn in_order(self) -> Window
+        ensures { result ≡ record { window = self.window; in_order = true } }
+    {
+        Window {
+            lines: self.lines,
+            in_order: true,
+        }
+    }
+
+    /// Whether the order of the numbers ends a group.
+    pub fn is_in_order(self) -> bool
+        ensures { result ≡ self.in_order }
+    {
+        self.in_order
+    }
+}
