@@ -1,6 +1,6 @@
 -- A part of a log: what its run promises is what its answer says.
 use Rattle.std.proofs.Common.{◌≡◌, ℕ, List, [], ◌∷◌, ◌++◌, Option, Some, None, Result, Ok, Err, refl, sym, ap, ◌∙◌, subst, append-nil}
-use Rattle.std.specs.Prelude.{◌⊎◌, IfSome}
+use Rattle.std.specs.Prelude.{◌⊎◌, IfSome, IsOk}
 use mathlib.Core.Logic.{inl, inr}
 use Rattle.std.specs.Io.KnownBytes.{Appends}
 use Rattle.std.proofs.KnownBytes.{Appends-nil}
@@ -23,7 +23,7 @@ use Rattle.n2k_run.specs.Decoded.{join_making, output_after}
 use Rattle.n2k_run.specs.Entries.{entries}
 use Rattle.n2k_run.specs.Inner.Parts.{Finishes, HasSaved, Saves}
 use Rattle.n2k_run.specs.Making.{after_all}
-use Rattle.n2k_run.specs.Parts.{HasPart, IsPartOf, Ran, StandsAtLine, TellsRun, begun}
+use Rattle.n2k_run.specs.Parts.{BeginsBy, HasPart, IsPartOf, OnRefusal, Ran, StandsAtLine, TellsRun, begun}
 use Rattle.n2k_run.specs.Runs.{Devices, HasFronts, Output, Runs, output_from}
 use Rattle.n2k_run.specs.Writing.{AppendsFront}
 use Rattle.n2k_run.proofs.Ending.{of_log, runs_more, runs_same}
@@ -90,6 +90,21 @@ finished (Err (Stopped fault part)) ran is = is
 finished (Err (Run fault)) ran is = is
 finished (Err Memory) ran is = is
 finished (Err (Refused fault)) ran is = absurd is
+
+-- after a run no state is refused
+pub begins_by : (t : TableParts) (o : Options) (handed : Option (List ℕ)) (s : State) (result : Result Part PartFault) (ran : Result (Unit {0}) RunFault) → begun t o handed ≡ Ok s → Finishes result ran → BeginsBy t o handed result
+begins_by t o handed s (Ok part) ran is finishes = subst (λ r. IsOk r) (sym is) refl
+begins_by t o handed s (Err (Stopped fault part)) ran is finishes = subst (λ r. IsOk r) (sym is) refl
+begins_by t o handed s (Err (Run fault)) ran is finishes = subst (λ r. IsOk r) (sym is) refl
+begins_by t o handed s (Err Memory) ran is finishes = subst (λ r. IsOk r) (sym is) refl
+begins_by t o handed s (Err (Refused fault)) ran is finishes = absurd finishes
+
+pub not_refused : (result : Result Part PartFault) (ran : Result (Unit {0}) RunFault) (P : Type 0) → Finishes result ran → OnRefusal result P
+not_refused (Ok part) ran P finishes = tt
+not_refused (Err (Stopped fault part)) ran P finishes = tt
+not_refused (Err (Run fault)) ran P finishes = tt
+not_refused (Err Memory) ran P finishes = tt
+not_refused (Err (Refused fault)) ran P finishes = absurd finishes
 
 -- ---- the states that a part goes through
 

@@ -19,10 +19,11 @@ use Rattle.n2k_run.specs.declared.options.Options.{Options}
 use Rattle.n2k_run.specs.declared.part.Part.{Part}
 use Rattle.n2k_run.specs.declared.part.PartFault.{PartFault}
 use Rattle.n2k_run.specs.declared.part.PartFault.TheVariants.{State as Refused, Stopped, Run, Memory}
-use Rattle.n2k_run.specs.Decoded.{out, out_of, output_after, reports, reports_of}
+use Rattle.n2k_run.specs.Decoded.{join_making, out, out_of, output_after, reports, reports_of}
 use Rattle.n2k_run.specs.Entries.{entries}
 use Rattle.n2k_run.specs.Lines.{line_feed, whole_lines}
-use Rattle.n2k_run.specs.Runs.{Devices, Output, Runs}
+use Rattle.n2k_run.specs.Making.{after_all}
+use Rattle.n2k_run.specs.Runs.{Devices, Output, Runs, output_from}
 use Rattle.n2k_run.specs.Writing.{AppendsFront}
 
 -- ---- where a part begins
@@ -167,6 +168,25 @@ Continues t o front before after (Err (Stopped run_faults.Memory part)) = ⊥
 Continues t o front before after (Err (Refused fault)) = fault ≡ state_faults.Memory
 Continues t o front before after (Err (Run fault)) = IfSome before.left (λ log. GoesOnPartly t o front log before after)
 Continues t o front before after (Err Memory) = IfSome before.left (λ log. GoesOnPartly t o front log before after)
+
+-- ---- what the run of a part promises
+
+-- From a state that is handed in, or, where there is none, from a log's beginning.
+pub record RunsFrom (t : TableParts) (o : Options) (handed : Option (List ℕ)) (before after : Devices) (result : Result Part PartFault) : Type 0 where
+  -- Each kind of refusal has its faults. A state is refused for what stands in it, or for want of memory, and then no device
+  -- is touched.
+  pub fault_kinds : IsOfKind result
+  pub begins : BeginsBy t o handed result
+  pub untouched : OnRefusal result (after ≡ before)
+  -- From any state that reads, whether or not a log leads to it: the texts and reports of the steps of the part's entries.
+  pub steps : (s : State) → begun t o handed ≡ Ok s
+      → TellsRun (output_from (join_making t o.empty) o.packing s) (λ es. HasPart t o result (after_all (join_making t o.empty) s es)) before after result
+  -- From the state that these entries lead to: what the whole log says of the lines after them.
+  pub log : (front : List Entry) → begun t o handed ≡ Ok (state t.id o.window (kind t) front)
+      → TellsRun (output_after t o front) (λ es. HasPart t o result (state t.id o.window (kind t) (front ++ es))) before after result
+  -- The headline: after this front of a log, whose saved state was handed in, exactly the rest of the whole log's output
+  -- is printed, and its state is saved.
+  pub headline : (front : List ℕ) → IsFront t o front handed → Continues t o front before after result
 
 -- ---- parts that lie in memory
 

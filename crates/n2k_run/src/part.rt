@@ -6,11 +6,9 @@ ghost use Rattle.n2k_table.specs.Table.{kind};
 ghost use Rattle.n2k_join.specs.Refusal.{GivesOrMemory};
 ghost use Rattle.n2k_join.specs.Saved.{IsId};
 ghost use Rattle.n2k_join.specs.State.{State, state};
-ghost use Rattle.n2k_run.specs.Decoded.{join_making, output_after};
 ghost use Rattle.n2k_run.specs.Inner.Parts.{Finishes, HasSaved, Saves};
-ghost use Rattle.n2k_run.specs.Making.{after_all};
-ghost use Rattle.n2k_run.specs.Parts.{AreCutAtLines, BeginsBy, Continues, EndsParts, HasPart, IsFront, IsOfKind, IsPartOf, OnRefusal, PrintsLog, RefusedByMemory, RunsPart, TellsRun, begun};
-ghost use Rattle.n2k_run.specs.Runs.{devices, output_from};
+ghost use Rattle.n2k_run.specs.Parts.{AreCutAtLines, EndsParts, IsOfKind, IsPartOf, OnRefusal, PrintsLog, RefusedByMemory, RunsFrom, RunsPart, begun};
+ghost use Rattle.n2k_run.specs.Runs.{devices};
 
 use crate::decoding::run;
 use crate::device::{Sink, Source};
@@ -135,38 +133,14 @@ pub fn run_part<R: Source, W: Sink, E: Sink>(
     writer: &mut W,
     reporter: &mut E,
 ) -> Result<Part, PartFault>
-    // Each kind of refusal has its faults. A state is refused for what stands in it, or for want of memory.
-    ensures fault_kinds { IsOfKind result }
-    ensures begins { BeginsBy table.now options (option_map (λ bytes. bytes.now) saved.entry) result }
+    ensures runs { let before = devices (R.remaining reader.old) (R.calls reader.old) (R.failed_calls reader.old)
+        (W.contents writer.old) (W.failed_calls writer.old) (E.contents reporter.old) (E.failed_calls reporter.old) in
+        let after = devices (R.remaining reader.new) (R.calls reader.new) (R.failed_calls reader.new)
+        (W.contents writer.new) (W.failed_calls writer.new) (E.contents reporter.new) (E.failed_calls reporter.new) in
+        RunsFrom table.now options (option_map (λ bytes. bytes.now) saved.entry) before after result }
     ensures unread { OnRefusal result (reader.new ≡ reader.old) }
     ensures unwritten { OnRefusal result (writer.new ≡ writer.old) }
     ensures unreported { OnRefusal result (reporter.new ≡ reporter.old) }
-
-    // From any state that reads, whether or not a log leads to it: the texts and reports of the steps of the part's entries.
-    ensures steps { (s : State) → begun table.now options (option_map (λ bytes. bytes.now) saved.entry) ≡ Ok s →
-        let before = devices (R.remaining reader.old) (R.calls reader.old) (R.failed_calls reader.old)
-        (W.contents writer.old) (W.failed_calls writer.old) (E.contents reporter.old) (E.failed_calls reporter.old) in
-        let after = devices (R.remaining reader.new) (R.calls reader.new) (R.failed_calls reader.new)
-        (W.contents writer.new) (W.failed_calls writer.new) (E.contents reporter.new) (E.failed_calls reporter.new) in
-        let making = join_making table.now options.empty in
-        TellsRun (output_from making options.packing s) (λ es. HasPart table.now options result (after_all making s es)) before after result }
-
-    // From the state that these entries lead to: what the whole log says of the lines after them.
-    ensures log { (front : List Entry) → begun table.now options (option_map (λ bytes. bytes.now) saved.entry) ≡ Ok (state table.now.id options.window (kind table.now) front) →
-        let before = devices (R.remaining reader.old) (R.calls reader.old) (R.failed_calls reader.old)
-        (W.contents writer.old) (W.failed_calls writer.old) (E.contents reporter.old) (E.failed_calls reporter.old) in
-        let after = devices (R.remaining reader.new) (R.calls reader.new) (R.failed_calls reader.new)
-        (W.contents writer.new) (W.failed_calls writer.new) (E.contents reporter.new) (E.failed_calls reporter.new) in
-        TellsRun (output_after table.now options front) (λ es. HasPart table.now options result (state table.now.id options.window (kind table.now) (front ++ es))) before after result }
-
-    // The headline: after this front of a log, whose saved state was handed in, exactly the rest of the whole log's output
-    // is printed, and its state is saved.
-    ensures headline { (front : List ℕ) → IsFront table.now options front (option_map (λ bytes. bytes.now) saved.entry) →
-        let before = devices (R.remaining reader.old) (R.calls reader.old) (R.failed_calls reader.old)
-        (W.contents writer.old) (W.failed_calls writer.old) (E.contents reporter.old) (E.failed_calls reporter.old) in
-        let after = devices (R.remaining reader.new) (R.calls reader.new) (R.failed_calls reader.new)
-        (W.contents writer.new) (W.failed_calls writer.new) (E.contents reporter.new) (E.failed_calls reporter.new) in
-        Continues table.now options front before after result }
 {
     laws::steps_agree();
     laws::lines_stay();

@@ -1,25 +1,27 @@
 -- From what a run, the place of a state and the summary leave to what a command leaves.
-use Rattle.std.proofs.Common.{◌≡◌, ◌⊎◌, ◌≤◌, ◌+◌, length, ◌==◌, ◌++◌, Bool, true, false, cond, arith, MatchResult, ◌∙◌, ℕ, List, [], Option, Some, None, Ok, Err, Result, IfSome, IsErrAnd, ap, sym, subst, refl, inl, inr, append_assoc}
+use Rattle.std.proofs.Common.{◌≡◌, ◌⊎◌, ◌≤◌, ◌+◌, length, ◌==◌, ◌++◌, Bool, true, false, cond, arith, MatchResult, ◌∙◌, ℕ, List, [], Option, Some, None, Ok, Err, Result, IfOk, IfSome, ap, sym, subst, refl, inl, inr, append-nil, append_assoc}
 use Rattle.std.proofs.KnownBytes.{Appends-nil, Appends-trans}
-use Rattle.std.specs.Io.KnownBytes.{Appends}
+use Rattle.std.specs.Io.KnownBytes.{Appends, Consumes, IsAtEnd}
 use Rattle.n2k_wire.specs.declared.entry.Entry.{Entry}
 use Rattle.n2k_join.specs.declared.counts.Counts.{Counts}
 use Rattle.n2k_run.specs.Device.{HasFailed}
 use Rattle.n2k_run.specs.Reports.{summary_text}
 use Rattle.n2k_run.specs.Writing.{AppendsFront}
-use Rattle.n2k_run.specs.Runs.{AreNumbered, Devices, Gained, HasFronts, NoneFailed, ReportsFirst, Runs}
+use Rattle.n2k_run.specs.Runs.{AreNumbered, Devices, Gained, HasFronts, NoneFailed, Output, ReportsFirst, Runs}
 use Rattle.n2k_run.specs.Parts.{StandsAtLine}
 use Rattle.n2k_run.proofs.Parting.{line_fronts}
 use Rattle.n2k_join.specs.Counts.{most_lines}
 use Rattle.n2k_run.specs.declared.fault.RunFault.{RunFault}
 use Rattle.n2k_run.specs.declared.fault.RunFault.TheVariants as run
-use Rattle.n2k_table.specs.Table.{TableParts}
+use Rattle.n2k_run.specs.declared.part.Part.{Part}
 use Rattle.n2k_table.specs.declared.fault.TableFault.{TableFault}
-use Rattle.n2kdec.specs.Inner.Closing.{Closes, SumsUp}
-use Rattle.n2kdec.specs.Commands.{BreaksOff, CannotBeSaved, Command, Ends, HasDevice, HasTaken, HasTakenAll, IsCutOff, IsDone, IsRefusedOrStopped, IsSaved, IsStopped, IsUntouched, IsWritten, IsWrittenUnlessFailed, Replaces, Leaves, Place, SumsUpPart, entries_for, no_saving, place}
+use Rattle.n2kdec.specs.Inner.Closing.{Closes, ClosesWhole, SumsUp}
+use Rattle.n2kdec.specs.Commands.{BreaksOff, CannotBeSaved, Command, Ends, EndsByTable, HasDevice, HasTaken, HasTakenAll, IsCutOff, IsDone, IsRefusedOrStopped, IsSaved, IsStopped, IsUntouched, IsWritten, IsWrittenUnlessFailed, Replaces, Leaves, Place, SumsUpPart, entries_for, no_saving, place}
 use Rattle.n2kdec.specs.Fault.{exit_status, fault_of_run}
 use Rattle.n2kdec.specs.declared.fault.Fault.{Fault}
 use Rattle.n2kdec.specs.declared.fault.Fault.TheVariants.{Memory, Report, Table}
+use Rattle.n2kdec.specs.declared.work.Stop.{Stop}
+use Rattle.n2kdec.specs.Work.{RefusesTable, TellsWhole}
 
 pub if_some : {A : Type 0} (P Q : A → Type 0) (o : Option A) → ((a : A) → P a → Q a) → IfSome o P → IfSome o Q
 if_some P Q None weaker p = tt
@@ -225,38 +227,51 @@ module _ (c : Command) (stands : List Entry → Type 0) (before after : Devices)
       reports_first = first unsaved.2;
     })
 
--- nothing follows a run that a fault ended, where the command sums up whole logs alone and saves nothing
-pub ended_by_run : (c : Command) → c.sums_up_a_part ≡ false → c.saving ≡ no_saving → (before after : Devices) (stands : List Entry → Type 0) {T : Type 0} (f : RunFault) (r : Result ℕ Fault)
-    → IsErrAnd r (λ fault. fault ≡ fault_of_run f) → Runs {T = T} c.output stands before after (Err f) → Ends c before after r
-ended_by_run c no_part no_state before after stands f (Ok status) is ran = absurd is
-ended_by_run c no_part no_state before after stands f (Err fault) is ran = subst (IsStopped c before after) (sym is)
-    (left_by_run c stands before after (place after.reported after.failed_reports) f ran (nothing f) refl)
+-- the run of a whole log, of which an answer tells and which is then closed: no state is saved
+module _ (output : Output) (counts_of : List Entry → Counts) (before after : Devices) (errors : Place) where
+  abbrev whole_command : Command
+  whole_command = record { output = output; counts = counts_of; saving = no_saving; sums_up_a_part = false }
+
+  abbrev said : Place
+  said = place after.reported after.failed_reports
+
+  nothing_follows : (stands : List Entry → Type 0) (f : RunFault) → said ≡ errors → Follows whole_command stands before after errors f
+  nothing_follows stands run.Read same = λ es is. (same, inl (record { kept = tt; none_failed = refl }))
+  nothing_follows stands run.TooManyLines same = λ es is. (same, refl)
+  nothing_follows stands run.Write same = (same, refl)
+  nothing_follows stands run.Report same = (same, refl)
+  nothing_follows stands run.Memory same = (same, refl)
+
+  pub ended_whole : (ended : Result Counts RunFault) (told : Result Part Stop) (r : Result ℕ Fault)
+      → Runs output (λ es. IfOk ended (λ counts. counts ≡ counts_of es)) before (record after { reported = errors.text; failed_reports = errors.failed }) ended
+      → TellsWhole ended told → ClosesWhole errors said told r → Ends whole_command before after r
+  ended_whole (Ok counts) (Ok part) r runs tells closes =
+      ended_by_closing whole_command _ before after errors counts [] part.counts runs (tells.1 ∙ runs.ends.holds, refl) r (closes_unsaved errors said part.counts r closes)
+  ended_whole (Ok counts) (Err stop) r runs tells closes = absurd tells
+  ended_whole (Err fault) told r runs tells closes =
+      let is = subst (λ t. ClosesWhole errors said t r) tells closes in
+      subst (Ends whole_command before after) (sym is.0)
+      (left_by_run whole_command _ before after errors fault runs (nothing_follows _ fault is.1) is.1)
+
+-- a command that has begun ends by no refusal of its table
+pub past_table : (found : List TableFault) (c : Command) (before after : Devices) (r : Result ℕ Fault) → found ≡ [] → Ends c before after r → EndsByTable found c before after r
+past_table found c before after (Ok status) none done = (none, done)
+past_table found c before after (Err fault) none stopped = go fault stopped
   where
-    untouched : IsUntouched c.saving
-    untouched = subst (λ s. IsUntouched s) (sym no_state) refl
+    go : (f : Fault) → IsStopped c before after f → IsRefusedOrStopped found c before after f
+    go (Table refused) s = absurd s.leaves
+    go f s = (none, s)
 
-    saved : (es : List Entry) → IsSaved c.saving es
-    saved es = subst (λ s. IsSaved s es) (sym no_state) (record { kept = tt; none_failed = refl })
+pub refused_table : (found : List TableFault) (c : Command) (before after : Devices) (errors : Place) (stop : Stop) (r : Result ℕ Fault)
+    → RefusesTable found before (record after { reported = errors.text; failed_reports = errors.failed }) stop
+    → r ≡ Err stop.fault → place after.reported after.failed_reports ≡ errors → EndsByTable found c before after r
+refused_table found c before after errors stop r refuses is same =
+    let told : r ≡ Err (Table refuses.fault) = is ∙ ap (λ (s : Stop). let x : Result ℕ Fault = Err s.fault in x) refuses.told in
+    let still : after ≡ before = subst (λ (e : Place). record after { reported = e.text; failed_reports = e.failed } ≡ before) (sym same) refuses.untouched in
+    subst (EndsByTable found c before after) (sym told) (refuses.stands, still)
 
-    unsummed : (text : List ℕ) → SumsUpPart c.sums_up_a_part (place after.reported after.failed_reports) (place after.reported after.failed_reports) text
-    unsummed text = subst (λ b. SumsUpPart b (place after.reported after.failed_reports) (place after.reported after.failed_reports) text) (sym no_part) refl
-
-    nothing : (f : RunFault) → Follows c stands before after (place after.reported after.failed_reports) f
-    nothing run.Read = λ es is. (unsummed _, inl (saved es))
-    nothing run.TooManyLines = λ es is. (unsummed _, untouched)
-    nothing run.Write = (refl, untouched)
-    nothing run.Report = (refl, untouched)
-    nothing run.Memory = (refl, untouched)
-
--- a command whose table is read, and is the one that its bytes spell, ends past it
-pub ended_past_table : (found : List TableFault) (command : TableParts → Command) (t read : TableParts) (before after : Devices) (r : Result ℕ Fault) → (found ≡ []) × (read ≡ t)
-    → Ends (command read) before after r → MatchResult r (λ status. (found ≡ []) × IsDone (command t) before after status) (IsRefusedOrStopped found (command t) before after)
-ended_past_table found command t read before after r sound ends = past r (subst (λ u. Ends (command u) before after r) sound.1 ends)
-  where
-    refused : (f : Fault) → IsStopped (command t) before after f → IsRefusedOrStopped found (command t) before after f
-    refused (Table fault) s = absurd s.leaves
-    refused f s = (sound.0, s)
-
-    past : (r : Result ℕ Fault) → Ends (command t) before after r → MatchResult r (λ status. (found ≡ []) × IsDone (command t) before after status) (IsRefusedOrStopped found (command t) before after)
-    past (Ok status) done = (sound.0, done)
-    past (Err fault) stopped = refused fault stopped
+-- what is told of bytes that came until the log had no more is told of all that it had
+pub all_came : (P : List ℕ → Type 0) (left₀ left : Option (List ℕ)) (came : List ℕ) → Consumes left₀ left came → IsAtEnd left → P came → IfSome left₀ P
+all_came P None left came given end here = tt
+all_came P (Some log) None came given end here = absurd given
+all_came P (Some log) (Some rest) came given end here = subst P (sym (given ∙ ap (λ l. came ++ l) end ∙ append-nil came)) here

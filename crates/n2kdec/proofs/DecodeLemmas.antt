@@ -1,30 +1,37 @@
 -- From what the run of a part and its closing leave to what `decode` leaves.
-use Rattle.std.proofs.Common.{◌≡◌, ◌⊎◌, ◌∙◌, ℕ, List, Option, Some, Ok, Err, Result, IfOk, IfSome, ◌++◌, ap, sym, subst, refl, inl, inr}
+use Rattle.std.proofs.Common.{◌≡◌, ◌⊎◌, ◌∙◌, ℕ, List, [], MatchResult, Option, Some, Ok, Err, Result, IfOk, IfSome, ◌++◌, ap, sym, subst, refl, inl, inr}
+use Rattle.std.specs.Prelude.{◌≢◌, IsOk}
 use Rattle.std.proofs.KnownBytes.{Appends-trans}
 use Rattle.std.specs.Io.KnownBytes.{Appends}
 use Rattle.n2k_wire.specs.declared.entry.Entry.{Entry}
+use Rattle.n2k_join.specs.declared.counts.Counts.{Counts}
 use Rattle.n2k_join.specs.Messages.{counts}
 use Rattle.n2k_join.specs.State.{State as StateOf, state}
+use Rattle.n2k_join.specs.declared.state_fault.StateFault.{StateFault}
 use Rattle.n2k_join.specs.declared.state_fault.StateFault.TheVariants as state_faults
 use Rattle.n2k_run.specs.Decoded.{join_making, output_after}
 use Rattle.n2k_run.specs.Device.{HasFailed}
 use Rattle.n2k_run.specs.Entries.{entries}
 use Rattle.n2k_run.specs.Making.{after_all}
-use Rattle.n2k_run.specs.Parts.{BeginsBy, Continues, HasPart, IsFront, IsOfKind, IsPartOf, RefusedByMemory, TellsRun, begun, state_after}
+use Rattle.n2k_run.specs.Parts.{BeginsBy, Continues, HasPart, IsOfKind, IsPartOf, RefusedByMemory, RunsFrom, TellsRun, begun, state_after}
 use Rattle.n2k_run.specs.Reports.{summary_text}
 use Rattle.n2k_run.specs.Runs.{Devices, Output, output_from}
+use Rattle.n2k_run.specs.declared.fault.RunFault.{RunFault}
 use Rattle.n2k_run.specs.declared.fault.RunFault.TheVariants as run
 use Rattle.n2k_run.specs.declared.part.Part.{Part}
 use Rattle.n2k_run.specs.declared.part.PartFault.{PartFault}
 use Rattle.n2k_run.specs.declared.part.PartFault.TheVariants as part_faults
 use Rattle.n2k_run.specs.declared.options.Options.{Options}
-use Rattle.n2k_table.specs.Table.{TableParts, kind as kind_of}
+use Rattle.n2k_table.specs.Table.{TableParts, faults, kind as kind_of, table as table_of}
+use Rattle.n2k_table.specs.declared.fault.TableFault.{TableFault}
 use Rattle.n2k_run.proofs.Parting.{told_ok, told_run, told_stopped}
-use Rattle.n2kdec.specs.Inner.Closing.{ClosesPart}
-use Rattle.n2kdec.specs.Commands.{CannotBeSaved, Command, Ends, EndsUnlessRefused, IsSaved, IsStopped, IsWrittenUnlessFailed, Replaces, Place, PrintsRest, decode_command, decode_from, decode_to, place}
-use Rattle.n2kdec.specs.Fault.{exit_status}
+use Rattle.n2kdec.specs.Inner.Closing.{Closes, ClosesPart}
+use Rattle.n2kdec.specs.Commands.{CannotBeSaved, Command, Decodes, Ends, EndsUnlessRefused, IsJudged, IsSaved, IsStopped, IsWrittenUnlessFailed, Replaces, Place, PrintsRest, decode_to, place}
+use Rattle.n2kdec.specs.Fault.{exit_status, fault_of_run}
 use Rattle.n2kdec.specs.declared.fault.Fault.{Fault}
 use Rattle.n2kdec.specs.declared.fault.Fault.TheVariants.{Save, State, Table}
+use Rattle.n2kdec.specs.declared.work.Stop.{Stop}
+use Rattle.n2kdec.specs.Work.{RefusesTable, answer_of_part}
 use Rattle.n2kdec.proofs.CommandLemmas.{ended_by_closing, if_some, left_at_line, left_by_run, some_written, stopped_by_run}
 
 -- no command that has begun ends by a refusal
@@ -58,15 +65,15 @@ module _ (o : Output) (stands_at : List Entry → StateOf) (t : TableParts) (opt
 
   -- what the run of a part and its closing come to
   closed : (ended : Result Part PartFault) (r : Result ℕ Fault) → IsOfKind ended → RefusedByMemory ended
-      → TellsRun o (λ es. HasPart t options ended (stands_at es)) before mid ended → ClosesPart keeper kept errors said ended r → EndsUnlessRefused c before after r
+      → TellsRun o (λ es. HasPart t options ended (stands_at es)) before mid ended → ClosesPart keeper kept errors said (answer_of_part ended) r → EndsUnlessRefused c before after r
   closed (Ok part) r kind memory told closes =
       let ran = told_ok o before mid _ part told in
       unless c before after r
       (ended_by_closing c _ before after errors tt part.state.items part.counts ran (ran.ends.holds.counted, ran.ends.holds.saved) r closes)
   closed (Err (part_faults.Stopped run.Read part)) r kind memory told closes = subst (EndsUnlessRefused c before after) (sym closes.0)
-      (stopped_by_run c _ before after errors run.Read (told_stopped o before mid _ run.Read part told) (λ es is. (summary_of part es is closes.2, saved_or_not part es is closes.1)) (some_written errors said (summary_text part.counts) closes.2))
+      (stopped_by_run c _ before after errors run.Read (told_stopped o before mid _ run.Read part told) (λ es is. (summary_of part es is closes.1.1, saved_or_not part es is closes.1.0)) (some_written errors said (summary_text part.counts) closes.1.1))
   closed (Err (part_faults.Stopped run.TooManyLines part)) r kind memory told closes = subst (EndsUnlessRefused c before after) (sym closes.0)
-      (stopped_by_run c _ before after errors run.TooManyLines (told_stopped o before mid _ run.TooManyLines part told) (λ es is. (summary_of part es is closes.2, closes.1)) (some_written errors said (summary_text part.counts) closes.2))
+      (stopped_by_run c _ before after errors run.TooManyLines (told_stopped o before mid _ run.TooManyLines part told) (λ es is. (summary_of part es is closes.1.1, closes.1.0)) (some_written errors said (summary_text part.counts) closes.1.1))
   closed (Err (part_faults.Stopped run.Write part)) r (inl kind) memory ran closes = let bad : run.Write ≡ run.Read = kind in cc
   closed (Err (part_faults.Stopped run.Write part)) r (inr kind) memory ran closes = let bad : run.Write ≡ run.TooManyLines = kind in cc
   closed (Err (part_faults.Stopped run.Report part)) r (inl kind) memory ran closes = let bad : run.Report ≡ run.Read = kind in cc
@@ -74,11 +81,11 @@ module _ (o : Output) (stands_at : List Entry → StateOf) (t : TableParts) (opt
   closed (Err (part_faults.Stopped run.Memory part)) r (inl kind) memory ran closes = let bad : run.Memory ≡ run.Read = kind in cc
   closed (Err (part_faults.Stopped run.Memory part)) r (inr kind) memory ran closes = let bad : run.Memory ≡ run.TooManyLines = kind in cc
   closed (Err (part_faults.Run run.Write)) r kind memory told closes = subst (EndsUnlessRefused c before after) (sym closes.0)
-      (left_by_run c _ before after errors run.Write (told_run o before mid _ run.Write told) (closes.2, closes.1) closes.2)
+      (left_by_run c _ before after errors run.Write (told_run o before mid _ run.Write told) (closes.1.1, closes.1.0) closes.1.1)
   closed (Err (part_faults.Run run.Report)) r kind memory told closes = subst (EndsUnlessRefused c before after) (sym closes.0)
-      (left_by_run c _ before after errors run.Report (told_run o before mid _ run.Report told) (closes.2, closes.1) closes.2)
+      (left_by_run c _ before after errors run.Report (told_run o before mid _ run.Report told) (closes.1.1, closes.1.0) closes.1.1)
   closed (Err (part_faults.Run run.Memory)) r kind memory told closes = subst (EndsUnlessRefused c before after) (sym closes.0)
-      (left_by_run c _ before after errors run.Memory (told_run o before mid _ run.Memory told) (closes.2, closes.1) closes.2)
+      (left_by_run c _ before after errors run.Memory (told_run o before mid _ run.Memory told) (closes.1.1, closes.1.0) closes.1.1)
   closed (Err (part_faults.Run run.Read)) r (inl kind) memory ran closes = let bad : run.Read ≡ run.Write = kind in cc
   closed (Err (part_faults.Run run.Read)) r (inr (inl kind)) memory ran closes = let bad : run.Read ≡ run.Report = kind in cc
   closed (Err (part_faults.Run run.Read)) r (inr (inr kind)) memory ran closes = let bad : run.Read ≡ run.Memory = kind in cc
@@ -87,7 +94,7 @@ module _ (o : Output) (stands_at : List Entry → StateOf) (t : TableParts) (opt
   closed (Err (part_faults.Run run.TooManyLines)) r (inr (inr kind)) memory ran closes = let bad : run.TooManyLines ≡ run.Memory = kind in cc
   closed (Err (part_faults.State fault)) r kind memory ran closes = subst (EndsUnlessRefused c before after) (sym closes.0) memory
   closed (Err part_faults.Memory) r kind memory told closes = subst (EndsUnlessRefused c before after) (sym closes.0)
-      (left_at_line c _ before after errors told.ran told.ended refl told.runs (closes.2, closes.1))
+      (left_at_line c _ before after errors told.ran told.ended refl told.runs (closes.1.1, closes.1.0))
 
 -- a state that spells this one is refused for want of memory alone
 memory_only : (t : TableParts) (options : Options) (handed : Option (List ℕ)) (s : StateOf) (ended : Result Part PartFault) → BeginsBy t options handed ended → begun t options handed ≡ Ok s → RefusedByMemory ended
@@ -101,52 +108,50 @@ memory_only t options handed s (Err (part_faults.State fault)) begins is = go be
     go (inl memory) = memory
     go (inr refused) = let bad : Ok s ≡ Err fault = sym is ∙ refused in cc
 
--- from a state, and from the entries that lead to it, past a table that is read as its bytes spell it
-pub decoded_from : (t read : TableParts) (options : Options) (handed : Option (List ℕ)) (s : StateOf) (before after : Devices) (errors keeper kept : Place) (ended : Result Part PartFault) (r : Result ℕ Fault)
-    → read ≡ t → begun t options handed ≡ Ok s → IsOfKind ended → BeginsBy read options handed ended
-    → (begun read options handed ≡ Ok s → TellsRun (output_from (join_making read options.empty) options.packing s) (λ es. HasPart read options ended (after_all (join_making read options.empty) s es))
-    before (record after { reported = errors.text; failed_reports = errors.failed }) ended)
-    → ClosesPart keeper kept errors (place after.reported after.failed_reports) ended r
-    → EndsUnlessRefused (decode_from t options s keeper kept) before after r
-decoded_from t read options handed s before after errors keeper kept ended r same begins kind by ran closes =
-    let begins_read = subst (λ u. begun u options handed ≡ Ok s) (sym same) begins in
-    subst (λ u. EndsUnlessRefused (decode_from u options s keeper kept) before after r) same
-    (closed (output_from (join_making read options.empty) options.packing s) (after_all (join_making read options.empty) s) read options before after errors keeper kept ended r
-    kind (memory_only read options handed s ended by begins_read) (ran begins_read) closes)
+-- what is judged before a log is read
+module _ (t : TableParts) (o : Options) (found : List TableFault) (none : found ≡ []) (handed : Option (List ℕ)) (errors said keeper kept : Place) where
+  abbrev IsJudgedSo : Result ℕ Fault → Type 0
+  IsJudgedSo r = MatchResult r (λ status. (found ≡ []) × IsOk (begun t o handed)) (IsJudged found handed (begun t o handed))
 
-pub decoded_after : (t read : TableParts) (options : Options) (handed : Option (List ℕ)) (front : List Entry) (before after : Devices) (errors keeper kept : Place) (ended : Result Part PartFault) (r : Result ℕ Fault)
-    → read ≡ t → begun t options handed ≡ Ok (state t.id options.window (kind_of t) front) → IsOfKind ended → BeginsBy read options handed ended
-    → (begun read options handed ≡ Ok (state read.id options.window (kind_of read) front) → TellsRun (output_after read options front) (λ es. HasPart read options ended (state read.id options.window (kind_of read) (front ++ es)))
-    before (record after { reported = errors.text; failed_reports = errors.failed }) ended)
-    → ClosesPart keeper kept errors (place after.reported after.failed_reports) ended r
-    → EndsUnlessRefused (decode_command t options front keeper kept) before after r
-decoded_after t read options handed front before after errors keeper kept ended r same begins kind by ran closes =
-    let begins_read = subst (λ u. begun u options handed ≡ Ok (state u.id options.window (kind_of u) front)) (sym same) begins in
-    subst (λ u. EndsUnlessRefused (decode_command u options front keeper kept) before after r) same
-    (closed (output_after read options front) (λ es. state read.id options.window (kind_of read) (front ++ es)) read options before after errors keeper kept ended r
-    kind (memory_only read options handed _ ended by begins_read) (ran begins_read) closes)
+  by_run : (f : RunFault) → IsOk (begun t o handed) → IsJudged found handed (begun t o handed) (fault_of_run f)
+  by_run run.Read is = (none, is)
+  by_run run.Write is = (none, is)
+  by_run run.Report is = (none, is)
+  by_run run.Memory is = (none, is)
+  by_run run.TooManyLines is = (none, is)
 
--- a part that was not run to its end gives a fault
-fault_by_part : (keeper kept errors summary : Place) (fault : PartFault) (r : Result ℕ Fault) → ClosesPart keeper kept errors summary (Err fault) r → (f : Fault) × (r ≡ Err f)
-fault_by_part keeper kept errors summary (part_faults.Stopped run.Read part) r closes = (_, closes.0)
-fault_by_part keeper kept errors summary (part_faults.Stopped run.Write part) r closes = (_, closes.0)
-fault_by_part keeper kept errors summary (part_faults.Stopped run.Report part) r closes = (_, closes.0)
-fault_by_part keeper kept errors summary (part_faults.Stopped run.Memory part) r closes = (_, closes.0)
-fault_by_part keeper kept errors summary (part_faults.Stopped run.TooManyLines part) r closes = (_, closes.0)
-fault_by_part keeper kept errors summary (part_faults.Run fault) r closes = (_, closes.0)
-fault_by_part keeper kept errors summary (part_faults.State fault) r closes = (_, closes.0)
-fault_by_part keeper kept errors summary part_faults.Memory r closes = (_, closes.0)
+  refused_state : (fault : StateFault) → (fault ≡ state_faults.Memory) ⊎ (begun t o handed ≡ Err fault) → (fault ≢ state_faults.Memory) → begun t o handed ≡ Err fault
+  refused_state fault (inl memory) other = absurd (other memory)
+  refused_state fault (inr is) other = is
 
--- the rest of a log was printed, where its front is what the state handed in leads to
-module _ (o : Options) (front : List ℕ) (before after : Devices) (errors keeper kept : Place) where
-  abbrev Rest : TableParts → Result ℕ Fault → Type 0
-  Rest t r = IfOk r (λ status. IfSome before.left (λ log. PrintsRest t o front log before after keeper kept status))
+  closed_log : (text : List ℕ) (counts : Counts) (r : Result ℕ Fault) → IsOk (begun t o handed) → Closes keeper kept errors said text counts r → IsJudgedSo r
+  closed_log text counts (Ok status) is closes = (none, is)
+  closed_log text counts (Err fault) is (inl closes) = subst (IsJudged found handed (begun t o handed)) (sym closes.1.0) (none, is)
+  closed_log text counts (Err fault) is (inr closes) = subst IsJudgedSo (sym closes.0) (none, is)
 
-  rest_of : (t : TableParts) (ended : Result Part PartFault) (r : Result ℕ Fault) → Continues t o front before (record after { reported = errors.text; failed_reports = errors.failed }) ended
-      → ClosesPart keeper kept errors (place after.reported after.failed_reports) ended r → Rest t r
-  rest_of t (Ok part) (Err fault) goes closes = tt
-  rest_of t (Ok part) (Ok status) goes (inr unsaved) = let bad : Ok status ≡ Err Save = unsaved.0 in cc
-  rest_of t (Ok part) (Ok status) goes (inl closes) = if_some _ _ before.left (λ log on. record {
+  judged_by : (ended : Result Part PartFault) (r : Result ℕ Fault) → BeginsBy t o handed ended → ClosesPart keeper kept errors said (answer_of_part ended) r → IsJudgedSo r
+  judged_by (Ok part) r begins closes = closed_log part.state.items part.counts r begins closes
+  judged_by (Err (part_faults.State fault)) r begins closes = subst IsJudgedSo (sym closes.0) (none, begins.0, refused_state fault begins.1)
+  judged_by (Err (part_faults.Stopped fault part)) r begins closes = subst IsJudgedSo (sym closes.0) (by_run fault begins)
+  judged_by (Err (part_faults.Run fault)) r begins closes = subst IsJudgedSo (sym closes.0) (by_run fault begins)
+  judged_by (Err part_faults.Memory) r begins closes = subst IsJudgedSo (sym closes.0) (none, begins)
+
+-- the run of a part by a table that is taken, which is then closed
+module _ (bytes : List ℕ) (o : Options) (handed : Option (List ℕ)) (before after : Devices) (errors keeper kept : Place) where
+  abbrev t : TableParts
+  t = table_of bytes
+
+  abbrev told : Place
+  told = place after.reported after.failed_reports
+
+  abbrev between : Devices
+  between = record after { reported = errors.text; failed_reports = errors.failed }
+
+  rest_of : (front : List ℕ) (ended : Result Part PartFault) (r : Result ℕ Fault) → Continues t o front before between ended → ClosesPart keeper kept errors told (answer_of_part ended) r
+      → IfOk r (λ status. IfSome before.left (λ log. PrintsRest t o front log before after keeper kept status))
+  rest_of front (Ok part) (Err fault) goes closes = tt
+  rest_of front (Ok part) (Ok status) goes (inr unsaved) = let bad : Ok status ≡ Err Save = unsaved.0 in cc
+  rest_of front (Ok part) (Ok status) goes (inl closes) = if_some _ _ before.left (λ log on. record {
     text = on.text;
     printed = on.printed;
     output = on.output;
@@ -158,10 +163,26 @@ module _ (o : Options) (front : List ℕ) (before after : Devices) (errors keepe
     saved = subst (Replaces keeper kept) on.saved closes.0;
     reads_back = subst (λ s. begun t o (Some s) ≡ Ok (state_after t o (front ++ log))) on.saved on.reads_back;
   }) goes.1
-  rest_of t (Err fault) r goes closes = subst (Rest t) (sym (fault_by_part keeper kept errors (place after.reported after.failed_reports) fault r closes).1) tt
+  rest_of front (Err fault) r goes closes =
+      subst (λ x. IfOk x (λ status. IfSome before.left (λ log. PrintsRest t o front log before after keeper kept status))) (sym closes.0) tt
 
-  pub decoded_rest : (t read : TableParts) (handed : Option (List ℕ)) (ended : Result Part PartFault) (r : Result ℕ Fault) → read ≡ t → IsFront t o front handed
-      → (IsFront read o front handed → Continues read o front before (record after { reported = errors.text; failed_reports = errors.failed }) ended)
-      → ClosesPart keeper kept errors (place after.reported after.failed_reports) ended r → Rest t r
-  decoded_rest t read handed ended r same is goes closes = subst (λ u. Rest u r) same
-      (rest_of read ended r (goes (subst (λ u. IsFront u o front handed) (sym same) is)) closes)
+  pub decoded : (ended : Result Part PartFault) (r : Result ℕ Fault) → faults bytes ≡ [] → RunsFrom t o handed before between ended → ClosesPart keeper kept errors told (answer_of_part ended) r
+      → Decodes bytes o handed before after keeper kept r
+  decoded ended r none runs closes = record {
+    judged = judged_by t o (faults bytes) none handed errors told keeper kept ended r runs.begins closes;
+    steps = λ s is. closed (output_from (join_making t o.empty) o.packing s) (after_all (join_making t o.empty) s) t o before after errors keeper kept ended r
+        runs.fault_kinds (memory_only t o handed s ended runs.begins is) (runs.steps s is) closes;
+    log = λ front is. closed (output_after t o front) (λ es. state t.id o.window (kind_of t) (front ++ es)) t o before after errors keeper kept ended r
+        runs.fault_kinds (memory_only t o handed _ ended runs.begins is) (runs.log front is) closes;
+    headline = λ front is. rest_of front ended r (runs.headline front is) closes;
+  }
+
+  pub undecoded : (stop : Stop) (r : Result ℕ Fault) → RefusesTable (faults bytes) before between stop → r ≡ Err stop.fault → Decodes bytes o handed before after keeper kept r
+  undecoded stop r refuses is =
+      let told : r ≡ Err (Table refuses.fault) = is ∙ ap (λ (s : Stop). let x : Result ℕ Fault = Err s.fault in x) refuses.told in
+      subst (Decodes bytes o handed before after keeper kept) (sym told) (record {
+        judged = refuses.stands;
+        steps = λ s is. tt;
+        log = λ front is. tt;
+        headline = λ front is. tt;
+      })

@@ -1,8 +1,8 @@
 -- What a command leaves on its devices where it comes to its end, and where a fault stops it.
-use Rattle.std.specs.Prelude.{◌≡◌, ◌≢◌, ◌⊎◌, ◌≤◌, ◌+◌, ◌++◌, ℕ, Bool, true, false, List, [], ◌∷◌, length, Option, Some, None, IfSome, IsSome, Result, Ok, Err, IsOk, MatchResult, Contains}
+use Rattle.std.specs.Prelude.{◌≡◌, ◌≢◌, ◌⊎◌, ◌≤◌, ◌+◌, ◌++◌, ℕ, Bool, true, false, List, [], ◌∷◌, length, Option, Some, None, IfOk, IfSome, IsSome, Result, Ok, Err, IsOk, MatchResult, Contains}
 use Rattle.std.specs.Io.KnownBytes.{Appends, Consumes, IsAtEnd}
 use Rattle.n2k_wire.specs.declared.entry.Entry.{Entry}
-use Rattle.n2k_table.specs.Table.{TableParts, kind}
+use Rattle.n2k_table.specs.Table.{TableParts, faults, kind, table as table_of}
 use Rattle.n2k_table.specs.declared.fault.TableFault.{TableFault}
 use Rattle.n2k_table.specs.declared.fault.TableFault.TheVariants as table
 use Rattle.n2k_join.specs.declared.counts.Counts.{Counts}
@@ -15,19 +15,22 @@ use Rattle.n2k_join.specs.State.{State as StateOf, state}
 use Rattle.n2k_run.specs.Decoded.{join_making, out, output_after, reports}
 use Rattle.n2k_run.specs.Device.{HasFailed}
 use Rattle.n2k_run.specs.Entries.{entries}
-use Rattle.n2k_run.specs.FramesOut.{frame_counts_of, frames_output}
+use Rattle.n2k_run.specs.FramesOut.{frame_counts_of, frames_counts, frames_output}
 use Rattle.n2k_run.specs.Lines.{whole_lines}
 use Rattle.n2k_run.specs.Making.{after_all}
-use Rattle.n2k_run.specs.Parts.{begun, save, state_after}
-use Rattle.n2k_run.specs.Plain.{plain_counts_of, plain_output}
+use Rattle.n2k_run.specs.Parts.{IsFront, begun, save, state_after}
+use Rattle.n2k_run.specs.Plain.{plain_counts, plain_counts_of, plain_output}
 use Rattle.n2k_run.specs.Reading.{OutlastsReads}
 use Rattle.n2k_run.specs.Reports.{summary_text}
 use Rattle.n2k_run.specs.Runs.{AreNumbered, Devices, HasFronts, NoneFailed, Output, ReadFails, ReportFails, ReportsFirst, WriteFails, output_from}
 use Rattle.n2k_run.specs.Writing.{AppendsFront}
 use Rattle.n2k_run.specs.declared.options.Options.{Options}
 use Rattle.n2kdec.specs.Fault.{exit_status}
+use Rattle.n2kdec.specs.Words.{options_of}
 use Rattle.n2kdec.specs.declared.fault.Fault.{Fault}
 use Rattle.n2kdec.specs.declared.fault.Fault.TheVariants.{Table, State, Read, Write, Report, Memory, Lines, Save}
+use Rattle.n2kdec.specs.declared.word.Words.{Words}
+use Rattle.n2kdec.specs.declared.word.Words.TheVariants.{Plain, Decode, Frames, Help}
 
 -- ---- what a command does
 
@@ -279,3 +282,43 @@ pub record PrintsRest (t : TableParts) (o : Options) (front more : List ℕ) (be
   pub answered : status ≡ exit_status (counts o.window (kind t) (entries o.packing (front ++ more)))
   pub saved : Replaces keeper kept (save t o (front ++ more))
   pub reads_back : begun t o (Some (save t o (front ++ more))) ≡ Ok (state_after t o (front ++ more))
+
+-- ---- what the words name
+
+-- how a command ends that reads a table and has no state
+abbrev pub EndsByTable : List TableFault → Command → Devices → Devices → Result ℕ Fault → Type 0
+EndsByTable found c before after result = MatchResult result (λ status. (found ≡ []) × IsDone c before after status) (IsRefusedOrStopped found c before after)
+
+-- How `decode` ends, by the bytes of a table, with options, and from a state that is handed in.
+pub record Decodes (bytes : List ℕ) (o : Options) (handed : Option (List ℕ)) (before after : Devices) (keeper kept : Place) (result : Result ℕ Fault) : Type 0 where
+  -- The table and the state are taken, or refused for what stands in them or for want of memory.
+  pub judged : MatchResult result (λ status. (faults bytes ≡ []) × IsOk (begun (table_of bytes) o handed))
+      (IsJudged (faults bytes) handed (begun (table_of bytes) o handed))
+  -- From any state that is taken: what the steps of the log's entries make, one after the other.
+  pub steps : (s : StateOf) → begun (table_of bytes) o handed ≡ Ok s → EndsUnlessRefused (decode_from (table_of bytes) o s keeper kept) before after result
+  -- From the state that these entries lead to, or from a log's beginning, where there are none: what the whole log says of
+  -- the lines after them.
+  pub log : (front : List Entry) → begun (table_of bytes) o handed ≡ Ok (state (table_of bytes).id o.window (kind (table_of bytes)) front)
+      → EndsUnlessRefused (decode_command (table_of bytes) o front keeper kept) before after result
+  -- The headline: after this front of a log, whose state was handed in, exactly the rest of what the whole log gives is
+  -- printed, and the state of the whole is saved.
+  pub headline : (front : List ℕ) → IsFront (table_of bytes) o front handed
+      → IfOk result (λ status. IfSome before.left (λ more. PrintsRest (table_of bytes) o front more before after keeper kept status))
+
+-- How the command ends that the words name, with the place of its state. Where it has none that place is left as it was.
+abbrev pub Performs : Words → List ℕ → Option (List ℕ) → Devices → Devices → Place → Place → Result ℕ Fault → Type 0
+Performs (Plain log) bytes handed before after keeper kept result = (kept ≡ keeper) × Ends plain_command before after result
+Performs (Decode t resume save empty whole window log) bytes handed before after keeper kept result =
+    Decodes bytes (options_of empty whole window) handed before after keeper kept result
+Performs (Frames t candump log) bytes handed before after keeper kept result =
+    (kept ≡ keeper) × EndsByTable (faults bytes) (frames_command (table_of bytes) candump) before after result
+Performs (Help text) bytes handed before after keeper kept result = ⊥
+
+-- the status with which it comes to its end, where all bytes of its log are known
+abbrev pub TellsStatus : Words → List ℕ → Option (List ℕ) → List ℕ → ℕ → Type 0
+TellsStatus (Plain log) bytes handed all status = status ≡ exit_status (plain_counts all)
+TellsStatus (Decode t resume save empty whole window log) bytes handed all status =
+    (front : List Entry) → begun (table_of bytes) (options_of empty whole window) handed ≡ Ok (state (table_of bytes).id window (kind (table_of bytes)) front)
+    → status ≡ exit_status (counts window (kind (table_of bytes)) (front ++ entries (options_of empty whole window).packing all))
+TellsStatus (Frames t candump log) bytes handed all status = status ≡ exit_status (frames_counts (table_of bytes) candump all)
+TellsStatus (Help text) bytes handed all status = ⊥

@@ -3,3 +3,4 @@ pub mod Fault
 pub mod Inner
 pub mod Usage
 pub mod Words
+pub mod Work

@@ -92,6 +92,38 @@ Names command (Err fault.Words) = command ≡ None
 Names command (Err fault.Memory) = Unit {0}
 Names command (Err _) = ⊥
 
+-- ---- the values of a command's words
+
+-- the words name a command
+abbrev pub IsCommand : Words → Type 0
+IsCommand (Help text) = ⊥
+IsCommand _ = Unit {0}
+
+-- the names of the files of the table, of the state to go on from, of the state after the log, and of the log
+abbrev pub table_word : Words → Option Text
+table_word (Decode table resume save empty whole window log) = Some table
+table_word (Frames table candump log) = Some table
+table_word _ = None
+
+abbrev pub resume_word : Words → Option Text
+resume_word (Decode table resume save empty whole window log) = resume
+resume_word _ = None
+
+abbrev pub save_word : Words → Option Text
+save_word (Decode table resume save empty whole window log) = save
+save_word _ = None
+
+abbrev pub log_word : Words → Option Text
+log_word (Plain log) = log
+log_word (Decode table resume save empty whole window log) = log
+log_word (Frames table candump log) = log
+log_word (Help text) = None
+
+-- the interface of candump lines
+abbrev pub interface_word : Words → Option Text
+interface_word (Frames table candump log) = candump
+interface_word _ = None
+
 -- the options that the words `--empty`, `--whole`, `--window` and `--in-order` stand for
 abbrev pub options_of : Bool → Bool → Rule → Options
 options_of empty whole window = record { packing = if whole then packed.Whole else packed.Frames; empty = empty; window = window }

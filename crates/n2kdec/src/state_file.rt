@@ -31,7 +31,7 @@ fn write_file(rt: &HostRuntime, name: &Word, state: &[u8]) -> Result<(), Failed>
 #[derive(Drop)]
 pub struct StateFile<'a> {
     rt: &'a HostRuntime,
-    name: Option<Word>,
+    name: Option<&'a Word>,
     failed_calls: u64,
 }
 
@@ -39,7 +39,7 @@ impl<'a> StateFile<'a> {
     ghost use Rattle.std.specs.Prelude.{◌≡◌};
 
     /// The file of this name, or none. No call of it has failed.
-    pub fn new(rt: &'a HostRuntime, name: Option<Word>) -> Self
+    pub fn new(rt: &'a HostRuntime, name: Option<&'a Word>) -> Self
         ensures { ⟦<StateFile<'a> as Keeper>⟧.failed_calls result ≡ 0 }
     {
         StateFile {
@@ -51,7 +51,7 @@ impl<'a> StateFile<'a> {
 
     // Writes the state, where there is a file.
     fn write(&self, state: &[u8]) -> Result<(), Failed> {
-        match &self.name {
+        match self.name {
             Some(name) => write_file(self.rt, name, state),
             None => Ok(()),
         }

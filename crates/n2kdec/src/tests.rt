@@ -1,9 +1,12 @@
 use crate::fault::{Fault, exit_status, fault_text, status};
-use crate::word::Word;
+use crate::word::{Word, Words};
 use crate::words::{interface, words};
-use n2k_join::StateFault;
-use n2k_run::Counts;
+use crate::work::work;
+use n2k_join::{Counts, StateFault};
+use n2k_run::{MemorySink, MemorySource};
 use n2k_table::TableFault;
+use std::alloc::{AllocError, AllocGlobal, Global};
+use std::process::Abort;
 use std::test::Fail;
 
 #[test]
@@ -210,16 +213,173 @@ fn help_is_no_fault(rt: HostRuntime) -> Result<(), Fail> {
     Ok(())
 }
 
+// The words of `frames` for this interface.
+fn frames_for(alloc: Global, interface: &str) -> Result<Words, AllocError> {
+    Ok(Words::Frames {
+        table: Word::new(alloc, "t")?,
+        candump: Some(Word::new(alloc, interface)?),
+        log: None,
+    })
+}
+
 #[test]
 fn interfaces_are_judged(rt: HostRuntime) -> Result<(), Fail> {
     for name in ["can0", "!", "fifteen-bytes-x"] {
-        let given = Some(Word::new(rt.alloc(), name)?);
-        assert_eq!(rt; interface(&given), Ok(Some(name)));
+        assert_eq!(rt; interface(&frames_for(rt.alloc(), name)?), Ok(()));
     }
     for name in ["", "can 0", "sixteen-bytes-xx", "can\u{7f}", "kan\u{e4}le"] {
-        let given = Some(Word::new(rt.alloc(), name)?);
-        assert_eq!(rt; interface(&given), Err(Fault::Interface));
+        assert_eq!(rt;
+            interface(&frames_for(rt.alloc(), name)?),
+            Err(Fault::Interface)
+        );
     }
-    assert_eq!(rt; interface(&None), Ok(None));
+    assert_eq!(rt; interface(&Words::Plain { log: None }), Ok(()));
+    Ok(())
+}
+
+const TABLE: &str = "format = 1
+
+[[lookup]]
+name = \"Reference\"
+entries = [[0, \"True\"], [1, \"Magnetic\"], [2, \"Error\"]]
+
+[[pgn]]
+number = 129026
+kind = \"single\"
+description = \"COG & SOG, Rapid Update\"
+fields = [
+  { name = \"SID\", kind = \"number\", at = 0, bits = 8 },
+  { name = \"COG Reference\", kind = \"lookup\", at = 8, bits = 2, lookup = \"Reference\" },
+  { name = \"COG\", kind = \"number\", at = 16, bits = 16, resolution = \"0.0001\" },
+  { name = \"SOG\", kind = \"number\", at = 32, bits = 16, resolution = \"0.01\" },
+]
+
+[[pgn]]
+number = 127251
+kind = \"single\"
+description = \"Rate of Turn\"
+fields = [
+  { name = \"SID\", kind = \"number\", at = 0, bits = 8 },
+  { name = \"Rate\", kind = \"number\", at = 8, bits = 32, signed = true, resolution = \"0.00000003125\" },
+]
+
+[[pgn]]
+number = 130820
+kind = \"fast\"
+description = \"Sample: Label\"
+fields = [
+  { name = \"Maker\", kind = \"number\", at = 0, bits = 11, match = 419 },
+  { name = \"Kind\", kind = \"number\", at = 16, bits = 8 },
+  { name = \"Label\", kind = \"text\", at = 24, bits = 64 },
+]
+";
+
+// Words, the state and the log that go with them, what is printed, and the state that is left.
+#[derive(Drop)]
+struct Example {
+    words: &'static [&'static str],
+    state: Option<&'static str>,
+    log: &'static str,
+    text: &'static str,
+    left: &'static str,
+}
+
+const COG_AND_SOG: &str = "(1502979132.106111) can0 09F8027F#00FCFFFF0000FFFF\n";
+
+const ONE_MESSAGE: &str =
+    "{\"bad\":0,\"broken\":0,\"format\":1,\"groups\":[],\"lines\":1,\"messages\":1,\"table\":\"6b85e2b24165c1cf1b657bbddd71b3850cd65dafaf42319db5372fef7b615284\",\"unknown\":0}";
+
+const EXAMPLES: [Example; 6] = [
+    // cog-and-sog
+    Example {
+        words: &["n2kdec", "plain"],
+        state: None,
+        log: COG_AND_SOG,
+        text: "2017-08-17T14:12:12.106Z,2,129026,127,255,8,00,fc,ff,ff,00,00,ff,ff\n",
+        left: "",
+    },
+    Example {
+        words: &["n2kdec", "decode", "--table", "t"],
+        state: None,
+        log: COG_AND_SOG,
+        text: "{\"timestamp\":\"2017-08-17T14:12:12.106Z\",\"prio\":2,\"src\":127,\"dst\":255,\"pgn\":129026,\"description\":\"COG & SOG, Rapid Update\",\"fields\":{\"SID\":0,\"COG Reference\":\"True\",\"SOG\":0.00}}\n",
+        left: ONE_MESSAGE,
+    },
+    Example {
+        words: &["n2kdec", "decode", "--table", "t", "--empty"],
+        state: None,
+        log: COG_AND_SOG,
+        text: "{\"timestamp\":\"2017-08-17T14:12:12.106Z\",\"prio\":2,\"src\":127,\"dst\":255,\"pgn\":129026,\"description\":\"COG & SOG, Rapid Update\",\"fields\":{\"SID\":0,\"COG Reference\":\"True\",\"COG\":null,\"SOG\":0.00}}\n",
+        left: ONE_MESSAGE,
+    },
+    // two-sources-cut, after the second line
+    Example {
+        words: &["n2kdec", "decode", "--table", "t", "--resume", "s"],
+        state: Some(
+            "{\"bad\":0,\"broken\":0,\"format\":1,\"groups\":[{\"dst\":255,\"first\":1,\"frames\":[[0,\"0ba39901414243\"]],\"pgn\":130820,\"seq\":0,\"src\":5},{\"dst\":255,\"first\":2,\"frames\":[[0,\"0ba39902585920\"]],\"pgn\":130820,\"seq\":1,\"src\":6}],\"lines\":2,\"messages\":0,\"table\":\"6b85e2b24165c1cf1b657bbddd71b3850cd65dafaf42319db5372fef7b615284\",\"unknown\":0}",
+        ),
+        log: "(10.200000) can0 1DFF0406#212020202020FFFF
+(10.300000) can0 1DFF0405#010000000000FFFF
+",
+        text: "{\"timestamp\":\"1970-01-01T00:00:10.200Z\",\"prio\":7,\"src\":6,\"dst\":255,\"pgn\":130820,\"description\":\"Sample: Label\",\"fields\":{\"Maker\":419,\"Kind\":2,\"Label\":\"XY\"}}
+{\"timestamp\":\"1970-01-01T00:00:10.300Z\",\"prio\":7,\"src\":5,\"dst\":255,\"pgn\":130820,\"description\":\"Sample: Label\",\"fields\":{\"Maker\":419,\"Kind\":1,\"Label\":\"ABC\"}}
+",
+        left: "{\"bad\":0,\"broken\":0,\"format\":1,\"groups\":[],\"lines\":4,\"messages\":2,\"table\":\"6b85e2b24165c1cf1b657bbddd71b3850cd65dafaf42319db5372fef7b615284\",\"unknown\":0}",
+    },
+    // whole-among-frames, its last line
+    Example {
+        words: &["n2kdec", "decode", "--table", "t", "--whole"],
+        state: None,
+        log: "2020-01-01T00:00:00.000Z,7,130820,5,255,6,a3,99,01,41,42,43\n",
+        text: "{\"timestamp\":\"2020-01-01T00:00:00.000Z\",\"prio\":7,\"src\":5,\"dst\":255,\"pgn\":130820,\"description\":\"Sample: Label\",\"fields\":{\"Maker\":419,\"Kind\":1}}\n",
+        left: ONE_MESSAGE,
+    },
+    // split-and-back
+    Example {
+        words: &["n2kdec", "frames", "--table", "t", "--candump", "can0"],
+        state: None,
+        log: "1970-01-01T00:00:10.300Z,7,130820,5,255,11,a3,99,01,41,42,43,00,00,00,00,00\n",
+        text: "(0000000010.300000) can0 1DFF0405#000BA39901414243
+(0000000010.300000) can0 1DFF0405#010000000000FFFF
+",
+        left: "",
+    },
+];
+
+// The work of an example's words, over devices in memory.
+fn works<R: Abort + AllocGlobal>(rt: &R, table: &[u8], example: &Example) -> Result<(), Fail> {
+    let alloc = rt.alloc();
+    let words = words(alloc, example.words)?;
+    interface(&words)?;
+    if let Words::Help(_) = &words {
+        return Err("a command was named".into());
+    }
+    let state = example.state.map(|text| text.as_bytes());
+    let mut log = MemorySource::new(example.log.as_bytes(), 100, 0);
+    let mut output = MemorySink::new(alloc, 100, 0);
+    let mut errors = MemorySink::new(alloc, 100, 0);
+    let answer = work(
+        alloc,
+        &words,
+        table,
+        state,
+        &mut log,
+        &mut output,
+        &mut errors,
+    );
+    let Ok(part) = answer else {
+        return Err("it stopped".into());
+    };
+    assert_eq!(rt; output.bytes(), example.text.as_bytes());
+    assert_eq!(rt; errors.bytes(), b"".as_slice());
+    assert_eq!(rt; part.state.as_slice(), example.left.as_bytes());
+    Ok(())
+}
+
+#[test]
+fn words_are_worked(rt: HostRuntime) -> Result<(), Fail> {
+    for example in &EXAMPLES {
+        works(&rt, TABLE.as_bytes(), example)?;
+    }
     Ok(())
 }

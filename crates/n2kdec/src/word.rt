@@ -75,3 +75,60 @@ pub enum Words {
     /// `--help`, with the text to print.
     Help(Word),
 }
+
+impl Words {
+    ghost use Rattle.std.specs.Prelude.{◌≡◌, option_map};
+    ghost use Rattle.n2kdec.specs.Words.{interface_word, log_word, resume_word, save_word, table_word};
+
+    /// The file of the table, where the command has one.
+    pub fn table(&self) -> Option<&Word>
+        ensures { option_map (λ word. word.now) result ≡ table_word self.now }
+    {
+        match self {
+            Words::Decode { table, .. } | Words::Frames { table, .. } => Some(table),
+            Words::Plain { .. } | Words::Help(_) => None,
+        }
+    }
+
+    /// The file of the state to go on from, where one is named.
+    pub fn resume(&self) -> Option<&Word>
+        ensures { option_map (λ word. word.now) result ≡ resume_word self.now }
+    {
+        match self {
+            Words::Decode { resume, .. } => resume.as_ref(),
+            Words::Plain { .. } | Words::Frames { .. } | Words::Help(_) => None,
+        }
+    }
+
+    /// The file that gets the state after the log, where one is named.
+    pub fn save(&self) -> Option<&Word>
+        ensures { option_map (λ word. word.now) result ≡ save_word self.now }
+    {
+        match self {
+            Words::Decode { save, .. } => save.as_ref(),
+            Words::Plain { .. } | Words::Frames { .. } | Words::Help(_) => None,
+        }
+    }
+
+    /// The file of the log, where one is named.
+    pub fn log(&self) -> Option<&Word>
+        ensures { option_map (λ word. word.now) result ≡ log_word self.now }
+    {
+        match self {
+            Words::Plain { log } | Words::Decode { log, .. } | Words::Frames { log, .. } => {
+                log.as_ref()
+            }
+            Words::Help(_) => None,
+        }
+    }
+
+    /// The interface of candump lines, where one is named.
+    pub fn interface(&self) -> Option<&Word>
+        ensures { option_map (λ word. word.now) result ≡ interface_word self.now }
+    {
+        match self {
+            Words::Frames { candump, .. } => candump.as_ref(),
+            Words::Plain { .. } | Words::Decode { .. } | Words::Help(_) => None,
+        }
+    }
+}

@@ -1,13 +1,13 @@
 //! The words of the command line, read with `clap`.
-ghost use Rattle.std.specs.Prelude.{◌≡◌, ◌⊎◌, true, false, IfOk, IfErr, IsErrOf, option_map};
+ghost use Rattle.std.specs.Prelude.{◌≡◌, ◌⊎◌, true, false, IfOk, IfErr, IsErrOf, OnOk, option_map};
 ghost use Rattle.std.specs.Char.{is_ascii_digit};
 ghost use Rattle.std.specs.List.{list_all};
 ghost use Rattle.clap.specs.Walk.{texts};
 ghost use Rattle.clap.specs.Words.{first_of, found_of, kind_of, rows_of, subcommand_rows_of, takes};
-ghost use Rattle.n2k_run.specs.FramesOut.{IsInterface, interface_of};
+ghost use Rattle.n2k_run.specs.FramesOut.{IsInterface};
 ghost use Rattle.n2kdec.specs.Inner.Parse.{AnswersKind};
 ghost use Rattle.n2kdec.specs.Usage.{program_app};
-ghost use Rattle.n2kdec.specs.Words.{IsAskedBy, IsRefused, Names, decode_words, flag_of, frames_words, lines_in, named, plain_words, window_of, words_of};
+ghost use Rattle.n2kdec.specs.Words.{IsAskedBy, IsRefused, Names, decode_words, flag_of, frames_words, interface_word, lines_in, named, plain_words, window_of, words_of};
 
 use crate::fault::Fault;
 use crate::usage::program;
@@ -166,17 +166,16 @@ pub fn words(alloc: Global, words: &[&str]) -> Result<Words, Fault>
     }
 }
 
-/// The interface that frames are written for, where one is given. One that isn't the name of an interface is refused.
-pub fn interface(given: &Option<Word>) -> Result<Option<&str>, Fault>
-    ensures taken { IfOk result (λ interface. interface_of interface ≡ given.now) }
-    ensures is_one { IfOk result (λ interface. IsInterface (interface_of interface)) }
-    ensures refused { IfErr result (λ fault. (fault ≡ Fault.Interface) × (IsInterface given.now → ⊥)) }
+/// Judges the interface that the words name, where they name one: it has to have the form of one.
+pub fn interface(words: &Words) -> Result<(), Fault>
+    ensures is_one { OnOk result (IsInterface (interface_word words.now)) }
+    ensures refused { IfErr result (λ fault. (fault ≡ Fault.Interface) × (IsInterface (interface_word words.now) → ⊥)) }
 {
-    match given {
-        None => Ok(None),
+    match words.interface() {
+        None => Ok(()),
         Some(name) => {
             if is_interface(name.as_str().as_bytes()) {
-                Ok(Some(name.as_str()))
+                Ok(())
             } else {
                 Err(Fault::Interface)
             }

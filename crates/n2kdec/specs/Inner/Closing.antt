@@ -1,16 +1,16 @@
--- How a command closes after its run: the state is saved, and then the summary is written.
-use Rattle.std.specs.Prelude.{◌≡◌, ◌⊎◌, ℕ, List, MatchResult, Result, Ok, Err}
+-- How a command closes after its work: the state is saved, and then the summary is written.
+use Rattle.std.specs.Prelude.{◌≡◌, ◌⊎◌, ℕ, List, MatchResult, Option, Some, None, Result, Ok, Err}
 use Rattle.n2k_join.specs.declared.counts.Counts.{Counts}
 use Rattle.n2k_run.specs.Device.{HasFailed}
 use Rattle.n2k_run.specs.Reports.{summary_text}
-use Rattle.n2k_run.specs.declared.fault.RunFault.TheVariants as run
 use Rattle.n2k_run.specs.declared.part.Part.{Part}
-use Rattle.n2k_run.specs.declared.part.PartFault.{PartFault}
-use Rattle.n2k_run.specs.declared.part.PartFault.TheVariants as part_faults
 use Rattle.n2kdec.specs.Commands.{IsWritten, IsWrittenUnlessFailed, IsCutOff, Replaces, Place}
-use Rattle.n2kdec.specs.Fault.{exit_status, fault_of_run}
+use Rattle.n2kdec.specs.Fault.{exit_status}
 use Rattle.n2kdec.specs.declared.fault.Fault.{Fault}
-use Rattle.n2kdec.specs.declared.fault.Fault.TheVariants.{Memory, Read, Report, Save, State}
+use Rattle.n2kdec.specs.declared.fault.Fault.TheVariants.{Read, Report, Save}
+use Rattle.n2kdec.specs.declared.word.Words.{Words}
+use Rattle.n2kdec.specs.declared.word.Words.TheVariants.{Decode}
+use Rattle.n2kdec.specs.declared.work.Stop.{Stop}
 
 -- the summary of these counts is written, and the status is theirs; or the errors failed in it
 abbrev pub SumsUp : Place → Place → Counts → Result ℕ Fault → Type 0
@@ -25,14 +25,25 @@ Closes keeper kept errors summed text counts result =
     (Replaces keeper kept text × SumsUp errors summed counts result)
     ⊎ ((result ≡ Err Save) × HasFailed keeper.failed kept.failed × IsWrittenUnlessFailed errors summed (summary_text counts))
 
--- what is answered at the end of a part's run, what is kept, and what is summed up
-abbrev pub ClosesPart : Place → Place → Place → Place → Result Part PartFault → Result ℕ Fault → Type 0
+-- What follows a stop. Without a Part nothing; after a failed read its state is kept, where it can be, and its counts are
+-- summed up; at the limit of lines they are summed up alone.
+abbrev pub FollowsStop : Place → Place → Place → Place → Option Part → Fault → Type 0
+FollowsStop keeper kept errors summed None fault = (kept ≡ keeper) × (summed ≡ errors)
+FollowsStop keeper kept errors summed (Some part) Read =
+    (Replaces keeper kept part.state.items ⊎ HasFailed keeper.failed kept.failed) × IsWrittenUnlessFailed errors summed (summary_text part.counts)
+FollowsStop keeper kept errors summed (Some part) _ = (kept ≡ keeper) × IsWrittenUnlessFailed errors summed (summary_text part.counts)
+
+-- what follows the work of a command that has a state
+abbrev pub ClosesPart : Place → Place → Place → Place → Result Part Stop → Result ℕ Fault → Type 0
 ClosesPart keeper kept errors summed (Ok part) result = Closes keeper kept errors summed part.state.items part.counts result
-ClosesPart keeper kept errors summed (Err (part_faults.Stopped run.Read part)) result =
-    (result ≡ Err Read) × (Replaces keeper kept part.state.items ⊎ HasFailed keeper.failed kept.failed)
-    × IsWrittenUnlessFailed errors summed (summary_text part.counts)
-ClosesPart keeper kept errors summed (Err (part_faults.Stopped fault part)) result =
-    (result ≡ Err (fault_of_run fault)) × (kept ≡ keeper) × IsWrittenUnlessFailed errors summed (summary_text part.counts)
-ClosesPart keeper kept errors summed (Err (part_faults.Run fault)) result = (result ≡ Err (fault_of_run fault)) × (kept ≡ keeper) × (summed ≡ errors)
-ClosesPart keeper kept errors summed (Err (part_faults.State fault)) result = (result ≡ Err (State fault)) × (kept ≡ keeper) × (summed ≡ errors)
-ClosesPart keeper kept errors summed (Err part_faults.Memory) result = (result ≡ Err Memory) × (kept ≡ keeper) × (summed ≡ errors)
+ClosesPart keeper kept errors summed (Err stop) result = (result ≡ Err stop.fault) × FollowsStop keeper kept errors summed stop.part stop.fault
+
+-- and that of one that has none: a whole log is summed up
+abbrev pub ClosesWhole : Place → Place → Result Part Stop → Result ℕ Fault → Type 0
+ClosesWhole errors summed (Ok part) result = SumsUp errors summed part.counts result
+ClosesWhole errors summed (Err stop) result = (result ≡ Err stop.fault) × (summed ≡ errors)
+
+-- what follows the work that the words name
+abbrev pub ClosesWork : Words → Place → Place → Place → Place → Result Part Stop → Result ℕ Fault → Type 0
+ClosesWork (Decode table resume save empty whole window log) keeper kept errors summed ended result = ClosesPart keeper kept errors summed ended result
+ClosesWork _ keeper kept errors summed ended result = (kept ≡ keeper) × ClosesWhole errors summed ended result

@@ -1,28 +1,37 @@
-use Rattle.std.proofs.Common.{refl, subst}
+use Rattle.std.proofs.Common.{◌≡◌, ◌++◌, List, Ok, refl, subst}
 use Rattle.std.specs.Prelude.{option_map}
+use Rattle.n2k_wire.specs.declared.entry.Entry.{Entry}
 use Rattle.n2k_table.specs.Table.{kind}
 use Rattle.n2k_join.specs.State.{state}
 use Rattle.n2k_run.specs.Entries.{entries}
+use Rattle.n2k_run.specs.Decoded.{output_after}
 use Rattle.n2k_run.specs.Inner.Parts.{Finishes}
+use Rattle.n2k_run.specs.Parts.{HasPart, TellsRun, begun}
+use Rattle.n2k_run.specs.Runs.{devices}
 use Rattle.n2k_run.proofs.GoingOn.{continues_of}
 use Rattle.n2k_run.proofs.LogSteps.{log_laws}
-use Rattle.n2k_run.proofs.Parting.{KeepsFast, log_of, memory_alone, refused_by, steps_of, unbegun}
+use Rattle.n2k_run.proofs.Parting.{KeepsFast, begins_by, log_of, memory_alone, not_refused, refused_by, steps_of, unbegun}
 use Rattle.n2k_run.proofs.part.run_part.Goals as goal
 
-pub returns-in-Err-clause-begins : goal.returns-in-Err-clause-begins
-returns-in-Err-clause-begins g c = (c.begin.ensures.handed cc, refused_by c.in-Err.fault _ c.in-Err.ensures.state)
+pub returns-in-Err-clause-runs : goal.returns-in-Err-clause-runs
+returns-in-Err-clause-runs g c = record {
+  fault_kinds = tt;
+  begins = (c.begin.ensures.handed cc, refused_by c.in-Err.fault _ c.in-Err.ensures.state);
+  untouched = refl;
+  steps = λ s is. unbegun _ _ _ c.in-Err.fault refl;
+  log = λ front is. unbegun _ _ _ c.in-Err.fault refl;
+  headline = λ front is. memory_alone c.in-Err.fault _ _ is.leads_to (refused_by c.in-Err.fault _ c.in-Err.ensures.state);
+}
 
-pub returns-in-Err-clause-steps : goal.returns-in-Err-clause-steps
-returns-in-Err-clause-steps g c = λ s is. unbegun _ _ _ c.in-Err.fault refl
-
-pub returns-in-Err-clause-log : goal.returns-in-Err-clause-log
-returns-in-Err-clause-log g c = λ front is. unbegun _ _ _ c.in-Err.fault refl
-
-pub returns-in-Err-clause-headline : goal.returns-in-Err-clause-headline
-returns-in-Err-clause-headline g c = λ front is. memory_alone c.in-Err.fault _ _ is.leads_to (refused_by c.in-Err.fault _ c.in-Err.ensures.state)
-
-pub returns-clause-steps : goal.returns-clause-steps
-returns-clause-steps g c =
+pub returns-clause-runs : goal.returns-clause-runs
+returns-clause-runs g c =
+    let t = c.args.table.now in
+    let o = c.args.options in
+    let handed = option_map (λ bytes. bytes.now) c.args.saved in
+    let before = devices (g.R.Source.remaining c.args.reader.now) (g.R.Source.calls c.args.reader.now) (g.R.Source.failed_calls c.args.reader.now) (g.W.Sink.contents c.args.writer.now) (g.W.Sink.failed_calls c.args.writer.now) (g.E.Sink.contents c.args.reporter.now) (g.E.Sink.failed_calls c.args.reporter.now) in
+    let after = devices (g.R.Source.remaining c.run-ran.new.reader) (g.R.Source.calls c.run-ran.new.reader) (g.R.Source.failed_calls c.run-ran.new.reader) (g.W.Sink.contents c.run-ran.new.writer) (g.W.Sink.failed_calls c.run-ran.new.writer) (g.E.Sink.contents c.run-ran.new.reporter) (g.E.Sink.failed_calls c.run-ran.new.reporter) in
+    let result = c.finish.result in
+    let finishes = c.finish.ensures.ran in
     let laws : KeepsFast = record {
       new = c.groups_stay_fast.ensures.new;
       read = c.groups_stay_fast.ensures.read;
@@ -30,15 +39,17 @@ returns-clause-steps g c =
       same_rule = c.groups_stay_fast.ensures.same_rule;
       step = c.groups_stay_fast.ensures.step;
     } in
-    steps_of laws c.args.table.now c.args.options c.know_window.ensures (option_map (λ bytes. bytes.now) c.args.saved) c.in-Ok.join c.run-ran.new.join _ _ c.run-ran.result c.finish.result c.know_id.ensures c.in-Ok.ensures.state c.run-ran.ensures.steps c.finish.ensures.part c.finish.ensures.ran
-
-pub returns-clause-log : goal.returns-clause-log
-returns-clause-log g c = λ front is.
-    let laws = log_laws c.args.options.window c.know_window.ensures c.steps_agree.ensures c.lines_stay.ensures in
-    log_of c.args.table.now c.args.options laws _ _ c.finish.result front (returns-clause-steps g c (state c.args.table.now.id c.args.options.window (kind c.args.table.now) front) is)
-
-pub returns-clause-headline : goal.returns-clause-headline
-returns-clause-headline g c = λ front is.
-    let laws = log_laws c.args.options.window c.know_window.ensures c.steps_agree.ensures c.lines_stay.ensures in
-    continues_of c.args.table.now c.args.options laws front is.whole_lines _ _ c.finish.result (returns-clause-log g c (entries c.args.options.packing front) is.leads_to) c.finish.ensures.fault_kinds
-    (λ fault at. absurd (subst (λ r. Finishes r c.run-ran.result) at c.finish.ensures.ran))
+    let window = c.know_window.ensures in
+    let steps = steps_of laws t o window handed c.in-Ok.join c.run-ran.new.join before after c.run-ran.result result c.know_id.ensures c.in-Ok.ensures.state c.run-ran.ensures.steps c.finish.ensures.part finishes in
+    let logs = log_laws o.window window c.steps_agree.ensures c.lines_stay.ensures in
+    let log : (front : List Entry) → begun t o handed ≡ Ok (state t.id o.window (kind t) front) → TellsRun (output_after t o front) (λ es. HasPart t o result (state t.id o.window (kind t) (front ++ es))) before after result = λ front is.
+    log_of t o logs before after result front (steps (state t.id o.window (kind t) front) is) in
+    record {
+      fault_kinds = c.finish.ensures.fault_kinds;
+      begins = begins_by t o handed c.in-Ok.join result c.run-ran.result c.in-Ok.ensures.state finishes;
+      untouched = not_refused result c.run-ran.result (after ≡ before) finishes;
+      steps = steps;
+      log = log;
+      headline = λ front is. continues_of t o logs front is.whole_lines before after result (log (entries o.packing front) is.leads_to) c.finish.ensures.fault_kinds
+          (λ fault at. absurd (subst (λ r. Finishes r c.run-ran.result) at finishes));
+    }

@@ -1,0 +1,201 @@
+//! The run that the words name, from the bytes of a table and of a state, over any devices.
+ghost use Rattle.std.specs.Prelude.{◌≡◌, IfErr, None, option_map};
+ghost use Rattle.n2k_run.specs.FramesOut.{IsInterface, interface_of};
+ghost use Rattle.n2k_run.specs.Runs.{devices};
+ghost use Rattle.n2kdec.specs.Commands.{IsRefusal};
+ghost use Rattle.n2kdec.specs.Words.{IsCommand, interface_word, options_of};
+ghost use Rattle.n2kdec.specs.Work.{DoesDecode, DoesFrames, DoesPlain, TellsWhole, Works, answer_of_part, stop_of, stop_of_part};
+
+use crate::fault::Fault;
+use crate::word::{Word, Words};
+use n2k_join::{Counts, Window};
+use n2k_run::{Options, Part, PartFault, RunFault, Sink, Source, run_frames, run_part, run_plain};
+use n2k_table::Table;
+use n2k_wire::Packing;
+use std::alloc::Global;
+
+/// Why the work stopped.
+#[derive(Debug, Drop)]
+pub struct Stop {
+    /// What the program says.
+    pub fault: Fault,
+    /// Where `decode` stands after its last line, after a failed read and at the limit of lines: the log can go on from
+    /// it.
+    pub part: Option<Part>,
+}
+
+impl Stop {
+    // A stop for a fault, with no Part.
+    fn of(fault: Fault) -> Stop
+        ensures { result ≡ stop_of fault }
+    {
+        Stop { fault, part: None }
+    }
+
+    // A stop for the fault of a part, with the Part that it has.
+    fn of_part(fault: PartFault) -> Stop
+        ensures { result ≡ stop_of_part fault }
+    {
+        match fault {
+            PartFault::State(fault) => Stop::of(Fault::State(fault)),
+            PartFault::Stopped(fault, part) => Stop {
+                fault: Fault::from(fault),
+                part: Some(part),
+            },
+            PartFault::Run(fault) => Stop::of(Fault::from(fault)),
+            PartFault::Memory => Stop::of(Fault::Memory),
+        }
+    }
+}
+
+// What the run of a whole log comes to.
+fn whole(alloc: Global, ended: Result<Counts, RunFault>) -> Result<Part, Stop>
+    ensures { TellsWhole ended result }
+{
+    match ended {
+        Ok(counts) => Ok(Part {
+            state: Vec::new(alloc),
+            counts,
+        }),
+        Err(fault) => Err(Stop::of(Fault::from(fault))),
+    }
+}
+
+// What the run of a part comes to.
+fn part(ended: Result<Part, PartFault>) -> Result<Part, Stop>
+    ensures { result ≡ answer_of_part ended }
+{
+    match ended {
+        Ok(part) => Ok(part),
+        Err(fault) => Err(Stop::of_part(fault)),
+    }
+}
+
+// The options of the words `--empty`, `--whole`, `--window` and `--in-order`.
+fn options_of(empty: bool, whole: bool, window: Window) -> Options
+    ensures { result ≡ options_of empty whole window }
+{
+    let packing = if whole {
+        Packing::Whole
+    } else {
+        Packing::Frames
+    };
+    Options {
+        packing,
+        empty,
+        window,
+    }
+}
+
+// The text of a word that may be missing.
+fn text_of(word: &Option<Word>) -> Option<&str>
+    ensures { interface_of result ≡ word.now }
+{
+    match word {
+        Some(word) => Some(word.as_str()),
+        None => None,
+    }
+}
+
+fn do_plain<R: Source, W: Sink, E: Sink>(
+    alloc: Global,
+    log: &mut R,
+    output: &mut W,
+    errors: &mut E,
+) -> Result<Part, Stop>
+    ensures { let before = devices (R.remaining log.old) (R.calls log.old) (R.failed_calls log.old)
+        (W.contents output.old) (W.failed_calls output.old) (E.contents errors.old) (E.failed_calls errors.old) in
+        let after = devices (R.remaining log.new) (R.calls log.new) (R.failed_calls log.new)
+        (W.contents output.new) (W.failed_calls output.new) (E.contents errors.new) (E.failed_calls errors.new) in
+        DoesPlain before after result }
+{
+    let ended = run_plain(alloc, log, output, errors);
+    whole(alloc, ended)
+}
+
+fn do_decode<R: Source, W: Sink, E: Sink>(
+    alloc: Global,
+    table: &Table,
+    state: Option<&[u8]>,
+    options: Options,
+    log: &mut R,
+    output: &mut W,
+    errors: &mut E,
+) -> Result<Part, Stop>
+    ensures does { let before = devices (R.remaining log.old) (R.calls log.old) (R.failed_calls log.old)
+        (W.contents output.old) (W.failed_calls output.old) (E.contents errors.old) (E.failed_calls errors.old) in
+        let after = devices (R.remaining log.new) (R.calls log.new) (R.failed_calls log.new)
+        (W.contents output.new) (W.failed_calls output.new) (E.contents errors.new) (E.failed_calls errors.new) in
+        DoesDecode table.now options (option_map (λ bytes. bytes.now) state.entry) before after result }
+    ensures untouched { IfErr result (λ stop. IsRefusal stop.fault
+        → (stop.part ≡ None) × ((log.new ≡ log.old) × (output.new ≡ output.old) × (errors.new ≡ errors.old))) }
+{
+    let ended = run_part(alloc, table, state, options, log, output, errors);
+    part(ended)
+}
+
+fn do_frames<R: Source, W: Sink, E: Sink>(
+    alloc: Global,
+    table: &Table,
+    interface: Option<&str>,
+    log: &mut R,
+    output: &mut W,
+    errors: &mut E,
+) -> Result<Part, Stop>
+    requires { IsInterface (interface_of interface) }
+    ensures { let before = devices (R.remaining log.old) (R.calls log.old) (R.failed_calls log.old)
+        (W.contents output.old) (W.failed_calls output.old) (E.contents errors.old) (E.failed_calls errors.old) in
+        let after = devices (R.remaining log.new) (R.calls log.new) (R.failed_calls log.new)
+        (W.contents output.new) (W.failed_calls output.new) (E.contents errors.new) (E.failed_calls errors.new) in
+        DoesFrames table.now (interface_of interface.entry) before after result }
+{
+    let ended = run_frames(alloc, table, interface, log, output, errors);
+    whole(alloc, ended)
+}
+
+/// Does what the words name, from the bytes of a table and of a state as far as their command has them: `plain` and
+/// `frames` over a whole log, `decode` from the state on, or from a log's beginning (`None`). The output gets the texts,
+/// and `errors` the reports.
+///
+/// Answers the state and the counts after the log; the state of `plain` and `frames` is empty. A table or a state with a
+/// fault is refused before the log is read, and leaves each device as it was.
+pub fn work<R: Source, W: Sink, E: Sink>(
+    alloc: Global,
+    words: &Words,
+    table: &[u8],
+    state: Option<&[u8]>,
+    log: &mut R,
+    output: &mut W,
+    errors: &mut E,
+) -> Result<Part, Stop>
+    requires command { IsCommand words.now }
+    requires interface { IsInterface (interface_word words.now) }
+    ensures works { let before = devices (R.remaining log.old) (R.calls log.old) (R.failed_calls log.old)
+        (W.contents output.old) (W.failed_calls output.old) (E.contents errors.old) (E.failed_calls errors.old) in
+        let after = devices (R.remaining log.new) (R.calls log.new) (R.failed_calls log.new)
+        (W.contents output.new) (W.failed_calls output.new) (E.contents errors.new) (E.failed_calls errors.new) in
+        Works words.now table.now (option_map (λ bytes. bytes.now) state.entry) before after result }
+    ensures untouched { IfErr result (λ stop. IsRefusal stop.fault
+        → (stop.part ≡ None) × ((log.new ≡ log.old) × (output.new ≡ output.old) × (errors.new ≡ errors.old))) }
+{
+    match words {
+        Words::Plain { .. } => do_plain(alloc, log, output, errors),
+        Words::Decode {
+            empty,
+            whole,
+            window,
+            ..
+        } => match Table::read(alloc, table) {
+            Ok(table) => {
+                let options = options_of(*empty, *whole, *window);
+                do_decode(alloc, &table, state, options, log, output, errors)
+            }
+            Err(fault) => Err(Stop::of(Fault::Table(fault))),
+        },
+        Words::Frames { candump, .. } => match Table::read(alloc, table) {
+            Ok(table) => do_frames(alloc, &table, text_of(candump), log, output, errors),
+            Err(fault) => Err(Stop::of(Fault::Table(fault))),
+        },
+        Words::Help(_) => Err(Stop::of(Fault::Words)),
+    }
+}
