@@ -62,9 +62,10 @@ fn window_argument<'a>(alloc: Global) -> Arg<'a>
     ensures rule { rule_of result ≡ window_rule }
     ensures own { result.global ≡ false }
 {
-    Arg::new(alloc, "window").long("window").value_name("W").help(
-        "Gives up a message whose frames have not all come W lines after its first: 32 to 1000000, without it 10000",
-    )
+    Arg::new(alloc, "window")
+        .long("window")
+        .value_name("W")
+        .help("Gives a message so many lines to come whole: 32 to 1000000; without it 10000")
 }
 
 fn in_order_argument<'a>(alloc: Global) -> Arg<'a>
@@ -74,9 +75,7 @@ fn in_order_argument<'a>(alloc: Global) -> Arg<'a>
     Arg::new(alloc, "in-order")
         .long("in-order")
         .action(ArgAction::SetTrue)
-        .help(
-            "For a log taken at the bus: gives up a message whose frames are not in order, so that no two are mixed",
-        )
+        .help("Gives up a message at a frame out of order: for a log that was taken at the bus")
 }
 
 fn empty_argument<'a>(alloc: Global) -> Arg<'a>
