@@ -110,7 +110,7 @@ fn one_bad_line_gives_status_one(rt: HostRuntime) {
 
 #[test]
 fn words_name_a_command_and_its_files(rt: HostRuntime) -> Result<(), Fail> {
-    let asked: [(&[&str], &str); 11] = [
+    let asked: [(&[&str], &str); 12] = [
         (&["n2kdec", "plain"], "Plain { log: None }"),
         (
             &["n2kdec", "plain", "trip.log"],
@@ -122,31 +122,37 @@ fn words_name_a_command_and_its_files(rt: HostRuntime) -> Result<(), Fail> {
         ),
         (
             &["n2kdec", "decode", "--table", "boat.toml"],
-            "Decode { table: Word { text: \"boat.toml\" }, resume: None, save: None, empty: false, whole: false, log: None }",
+            "Decode { table: Word { text: \"boat.toml\" }, resume: None, save: None, empty: false, whole: false, window: Window { lines: 10000, in_order: false }, log: None }",
         ),
         (
             &["n2kdec", "decode", "--table=boat.toml", "trip.log"],
-            "Decode { table: Word { text: \"boat.toml\" }, resume: None, save: None, empty: false, whole: false, log: Some(Word { text: \"trip.log\" }) }",
+            "Decode { table: Word { text: \"boat.toml\" }, resume: None, save: None, empty: false, whole: false, window: Window { lines: 10000, in_order: false }, log: Some(Word { text: \"trip.log\" }) }",
         ),
         (
             &["n2kdec", "decode", "trip.log", "--table", "boat.toml"],
-            "Decode { table: Word { text: \"boat.toml\" }, resume: None, save: None, empty: false, whole: false, log: Some(Word { text: \"trip.log\" }) }",
+            "Decode { table: Word { text: \"boat.toml\" }, resume: None, save: None, empty: false, whole: false, window: Window { lines: 10000, in_order: false }, log: Some(Word { text: \"trip.log\" }) }",
         ),
         (
             &[
                 "n2kdec", "decode", "--whole", "--table", "t", "--empty", "l",
             ],
-            "Decode { table: Word { text: \"t\" }, resume: None, save: None, empty: true, whole: true, log: Some(Word { text: \"l\" }) }",
+            "Decode { table: Word { text: \"t\" }, resume: None, save: None, empty: true, whole: true, window: Window { lines: 10000, in_order: false }, log: Some(Word { text: \"l\" }) }",
         ),
         (
             &["n2kdec", "decode", "--table", "t", "--whole"],
-            "Decode { table: Word { text: \"t\" }, resume: None, save: None, empty: false, whole: true, log: None }",
+            "Decode { table: Word { text: \"t\" }, resume: None, save: None, empty: false, whole: true, window: Window { lines: 10000, in_order: false }, log: None }",
         ),
         (
             &[
                 "n2kdec", "decode", "--save", "b", "--table", "t", "--resume", "a", "l",
             ],
-            "Decode { table: Word { text: \"t\" }, resume: Some(Word { text: \"a\" }), save: Some(Word { text: \"b\" }), empty: false, whole: false, log: Some(Word { text: \"l\" }) }",
+            "Decode { table: Word { text: \"t\" }, resume: Some(Word { text: \"a\" }), save: Some(Word { text: \"b\" }), empty: false, whole: false, window: Window { lines: 10000, in_order: false }, log: Some(Word { text: \"l\" }) }",
+        ),
+        (
+            &[
+                "n2kdec", "decode", "--in-order", "--table", "t", "--window", "32",
+            ],
+            "Decode { table: Word { text: \"t\" }, resume: None, save: None, empty: false, whole: false, window: Window { lines: 32, in_order: true }, log: None }",
         ),
         (
             &["n2kdec", "frames", "--table", "t"],
@@ -287,7 +293,7 @@ struct Example {
 const COG_AND_SOG: &str = "(1502979132.106111) can0 09F8027F#00FCFFFF0000FFFF\n";
 
 const ONE_MESSAGE: &str =
-    "{\"bad\":0,\"broken\":0,\"format\":1,\"groups\":[],\"lines\":1,\"messages\":1,\"table\":\"6b85e2b24165c1cf1b657bbddd71b3850cd65dafaf42319db5372fef7b615284\",\"unknown\":0}";
+    "{\"bad\":0,\"broken\":0,\"format\":2,\"groups\":[],\"lines\":1,\"messages\":1,\"table\":\"6b85e2b24165c1cf1b657bbddd71b3850cd65dafaf42319db5372fef7b615284\",\"unknown\":0,\"window\":10000}";
 
 const EXAMPLES: [Example; 6] = [
     // cog-and-sog
@@ -324,7 +330,7 @@ const EXAMPLES: [Example; 6] = [
         text: "{\"timestamp\":\"1970-01-01T00:00:10.200Z\",\"prio\":7,\"src\":6,\"dst\":255,\"pgn\":130820,\"description\":\"Sample: Label\",\"fields\":{\"Maker\":419,\"Kind\":2,\"Label\":\"XY\"}}
 {\"timestamp\":\"1970-01-01T00:00:10.300Z\",\"prio\":7,\"src\":5,\"dst\":255,\"pgn\":130820,\"description\":\"Sample: Label\",\"fields\":{\"Maker\":419,\"Kind\":1,\"Label\":\"ABC\"}}
 ",
-        left: "{\"bad\":0,\"broken\":0,\"format\":1,\"groups\":[],\"lines\":4,\"messages\":2,\"table\":\"6b85e2b24165c1cf1b657bbddd71b3850cd65dafaf42319db5372fef7b615284\",\"unknown\":0}",
+        left: "{\"bad\":0,\"broken\":0,\"format\":2,\"groups\":[],\"lines\":4,\"messages\":2,\"table\":\"6b85e2b24165c1cf1b657bbddd71b3850cd65dafaf42319db5372fef7b615284\",\"unknown\":0,\"window\":10000}",
     },
     // whole-among-frames, its last line
     Example {
