@@ -1,4 +1,5 @@
 pub mod AskedLemmas
 pub mod CommandLemmas
 pub mod DecodeLemmas
+pub mod Lines
 pub mod Rows

@@ -76,6 +76,11 @@ fn each_fault_has_its_line_and_status(rt: HostRuntime) -> Result<(), Fail> {
             "n2kdec: state 5 Invalid\n",
             2,
         ),
+        (
+            Fault::State(StateFault::WindowDiffers),
+            "n2kdec: state 7 WindowDiffers\n",
+            2,
+        ),
         (Fault::State(StateFault::Memory), "n2kdec: memory\n", 3),
         (Fault::TableFile, "n2kdec: table file\n", 3),
         (Fault::StateFile, "n2kdec: state file\n", 3),
@@ -107,7 +112,7 @@ fn one_bad_line_gives_status_one(rt: HostRuntime) {
 
 #[test]
 fn words_name_a_command_and_its_files(rt: HostRuntime) -> Result<(), Fail> {
-    let asked: [(&[&str], &str); 11] = [
+    let asked: [(&[&str], &str); 12] = [
         (&["n2kdec", "plain"], "Plain { log: None }"),
         (
             &["n2kdec", "plain", "trip.log"],
@@ -119,31 +124,43 @@ fn words_name_a_command_and_its_files(rt: HostRuntime) -> Result<(), Fail> {
         ),
         (
             &["n2kdec", "decode", "--table", "boat.toml"],
-            "Decode { table: Word { text: \"boat.toml\" }, resume: None, save: None, empty: false, whole: false, log: None }",
+            "Decode { table: Word { text: \"boat.toml\" }, resume: None, save: None, empty: false, whole: false, window: Window { lines: 10000, in_order: false }, log: None }",
         ),
         (
             &["n2kdec", "decode", "--table=boat.toml", "trip.log"],
-            "Decode { table: Word { text: \"boat.toml\" }, resume: None, save: None, empty: false, whole: false, log: Some(Word { text: \"trip.log\" }) }",
+            "Decode { table: Word { text: \"boat.toml\" }, resume: None, save: None, empty: false, whole: false, window: Window { lines: 10000, in_order: false }, log: Some(Word { text: \"trip.log\" }) }",
         ),
         (
             &["n2kdec", "decode", "trip.log", "--table", "boat.toml"],
-            "Decode { table: Word { text: \"boat.toml\" }, resume: None, save: None, empty: false, whole: false, log: Some(Word { text: \"trip.log\" }) }",
+            "Decode { table: Word { text: \"boat.toml\" }, resume: None, save: None, empty: false, whole: false, window: Window { lines: 10000, in_order: false }, log: Some(Word { text: \"trip.log\" }) }",
         ),
         (
             &[
                 "n2kdec", "decode", "--whole", "--table", "t", "--empty", "l",
             ],
-            "Decode { table: Word { text: \"t\" }, resume: None, save: None, empty: true, whole: true, log: Some(Word { text: \"l\" }) }",
+            "Decode { table: Word { text: \"t\" }, resume: None, save: None, empty: true, whole: true, window: Window { lines: 10000, in_order: false }, log: Some(Word { text: \"l\" }) }",
         ),
         (
             &["n2kdec", "decode", "--table", "t", "--whole"],
-            "Decode { table: Word { text: \"t\" }, resume: None, save: None, empty: false, whole: true, log: None }",
+            "Decode { table: Word { text: \"t\" }, resume: None, save: None, empty: false, whole: true, window: Window { lines: 10000, in_order: false }, log: None }",
         ),
         (
             &[
                 "n2kdec", "decode", "--save", "b", "--table", "t", "--resume", "a", "l",
             ],
-            "Decode { table: Word { text: \"t\" }, resume: Some(Word { text: \"a\" }), save: Some(Word { text: \"b\" }), empty: false, whole: false, log: Some(Word { text: \"l\" }) }",
+            "Decode { table: Word { text: \"t\" }, resume: Some(Word { text: \"a\" }), save: Some(Word { text: \"b\" }), empty: false, whole: false, window: Window { lines: 10000, in_order: false }, log: Some(Word { text: \"l\" }) }",
+        ),
+        (
+            &[
+                "n2kdec",
+                "decode",
+                "--window",
+                "32",
+                "--table",
+                "t",
+                "--in-order",
+            ],
+            "Decode { table: Word { text: \"t\" }, resume: None, save: None, empty: false, whole: false, window: Window { lines: 32, in_order: true }, log: None }",
         ),
         (
             &["n2kdec", "frames", "--table", "t"],
@@ -163,7 +180,7 @@ fn words_name_a_command_and_its_files(rt: HostRuntime) -> Result<(), Fail> {
 
 #[test]
 fn other_words_are_refused(rt: HostRuntime) {
-    let refused: [&[&str]; 21] = [
+    let refused: [&[&str]; 24] = [
         &[],
         &["n2kdec"],
         &["n2kdec", "print"],
@@ -182,6 +199,9 @@ fn other_words_are_refused(rt: HostRuntime) {
         &["n2kdec", "decode", "--table", "a", "--resume"],
         &["n2kdec", "decode", "--resume", "a", "--save", "b"],
         &["n2kdec", "decode", "--table", "a", "--candump", "can0"],
+        &["n2kdec", "decode", "--table", "a", "--window", "31"],
+        &["n2kdec", "decode", "--table", "a", "--window", "1000001"],
+        &["n2kdec", "decode", "--table", "a", "--window", "+32"],
         &["n2kdec", "frames"],
         &["n2kdec", "frames", "--table", "a", "--candump"],
         &["n2kdec", "frames", "--table", "a", "--save", "b"],
