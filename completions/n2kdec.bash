@@ -19,7 +19,7 @@ _n2kdec() {
     esac
     case ${COMP_WORDS[1]} in
     plain) words='--help' ;;
-    decode) words='--table --resume --save --empty --whole --help' ;;
+    decode) words='--table --resume --save --window --in-order --empty --whole --help' ;;
     frames) words='--table --candump --help' ;;
     *) return ;;
     esac

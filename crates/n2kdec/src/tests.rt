@@ -79,6 +79,11 @@ fn each_fault_has_its_line_and_status(rt: HostRuntime) -> Result<(), Fail> {
             "n2kdec: state 5 Invalid\n",
             2,
         ),
+        (
+            Fault::State(StateFault::WindowDiffers),
+            "n2kdec: state 7 WindowDiffers\n",
+            2,
+        ),
         (Fault::State(StateFault::Memory), "n2kdec: memory\n", 3),
         (Fault::TableFile, "n2kdec: table file\n", 3),
         (Fault::StateFile, "n2kdec: state file\n", 3),
@@ -172,7 +177,7 @@ fn words_name_a_command_and_its_files(rt: HostRuntime) -> Result<(), Fail> {
 
 #[test]
 fn other_words_are_refused(rt: HostRuntime) {
-    let refused: [&[&str]; 21] = [
+    let refused: [&[&str]; 24] = [
         &[],
         &["n2kdec"],
         &["n2kdec", "print"],
@@ -191,6 +196,9 @@ fn other_words_are_refused(rt: HostRuntime) {
         &["n2kdec", "decode", "--table", "a", "--resume"],
         &["n2kdec", "decode", "--resume", "a", "--save", "b"],
         &["n2kdec", "decode", "--table", "a", "--candump", "can0"],
+        &["n2kdec", "decode", "--table", "a", "--window", "31"],
+        &["n2kdec", "decode", "--table", "a", "--window", "1000001"],
+        &["n2kdec", "decode", "--table", "a", "--window", "+32"],
         &["n2kdec", "frames"],
         &["n2kdec", "frames", "--table", "a", "--candump"],
         &["n2kdec", "frames", "--table", "a", "--save", "b"],

@@ -1,8 +1,8 @@
-ghost use Rattle.std.specs.Prelude.{◌<◌};
+ghost use Rattle.std.specs.Prelude.{◌≡◌, ◌<◌};
 
 use super::run;
 use crate::{MemorySink, MemorySource, Options, RunFault, summary_text};
-use n2k_join::{Counts, Join};
+use n2k_join::{Counts, Join, Window};
 use n2k_table::{Table, TableFault};
 use n2k_wire::Packing;
 use serde_json::Value;
@@ -40,10 +40,18 @@ fn table(alloc: Global) -> Result<Table, TableFault> {
     Table::read(alloc, TABLE.as_bytes())
 }
 
-const FRAMES: Options = Options {
-    packing: Packing::Frames,
-    empty: false,
-};
+const USUAL_WINDOW: u32 = 10_000;
+
+// Frames are read, under a window.
+fn frames(window: Window) -> Options
+    ensures { result.window ≡ window }
+{
+    Options {
+        packing: Packing::Frames,
+        empty: false,
+        window,
+    }
+}
 
 #[derive(Drop)]
 struct Example {
@@ -202,11 +210,13 @@ fn decodes<R: Abort + AllocGlobal>(
     table: &Table,
     log: &[u8],
     example: &Example,
+    window: u32,
     piece: usize,
 ) -> Result<(), Fail>
     requires { 0 < piece }
 {
-    let mut join = Join::new(rt.alloc(), table);
+    let window = Window::new(window).ok_or("no window")?;
+    let mut join = Join::new(rt.alloc(), table, window);
     let mut reader = MemorySource::new(log, piece, 0);
     let mut writer = MemorySink::new(rt.alloc(), piece, 0);
     let mut reporter = MemorySink::new(rt.alloc(), piece, 0);
@@ -214,7 +224,7 @@ fn decodes<R: Abort + AllocGlobal>(
         rt.alloc(),
         table,
         &mut join,
-        FRAMES,
+        frames(window),
         &mut reader,
         &mut writer,
         &mut reporter,
@@ -236,10 +246,11 @@ fn decodes_in_pieces<R: Abort + AllocGlobal>(
     table: &Table,
     log: &[u8],
     example: &Example,
+    window: u32,
 ) -> Result<(), Fail> {
     for piece in [1, 7, 4095, 4096, 100_000] {
         if piece > 0 {
-            decodes(rt, table, log, example, piece)?;
+            decodes(rt, table, log, example, window, piece)?;
         }
     }
     Ok(())
@@ -249,7 +260,49 @@ fn decodes_in_pieces<R: Abort + AllocGlobal>(
 fn worked_examples_in_pieces(rt: HostRuntime) -> Result<(), Fail> {
     let table = table(rt.alloc())?;
     for example in &EXAMPLES {
-        decodes_in_pieces(&rt, &table, example.log.as_bytes(), example)?;
+        let log = example.log.as_bytes();
+        decodes_in_pieces(&rt, &table, log, example, USUAL_WINDOW)?;
+    }
+    Ok(())
+}
+
+// stale-group, with 31 empty lines and with 30, and two-broken-at-one-line.
+const WAITING: [Example; 3] = [
+    Example {
+        log: "(1.0) can0 1DFF0405#0141414141414141
+\n\n\n\n\n\n\n\n\n\n\n\n\n\n\n\n\n\n\n\n\n\n\n\n\n\n\n\n\n\n\n(9.0) can0 1DFF0405#000DA39903444546
+",
+        text: "",
+        reports: "line 33 broken pgn 130820 src 5 dst 255 seq 0 first 1\n",
+        summary: "lines 33 messages 0 bad 0 unknown 0 broken 1 open 1\n",
+    },
+    Example {
+        log: "(1.0) can0 1DFF0405#0141414141414141
+\n\n\n\n\n\n\n\n\n\n\n\n\n\n\n\n\n\n\n\n\n\n\n\n\n\n\n\n\n\n(9.0) can0 1DFF0405#000DA39903444546
+",
+        text: "{\"timestamp\":\"1970-01-01T00:00:09.000Z\",\"prio\":7,\"src\":5,\"dst\":255,\"pgn\":130820,\"description\":\"Sample: Label\",\"fields\":{\"Maker\":419,\"Kind\":3,\"Label\":\"DEFAAAAA\"}}
+",
+        reports: "",
+        summary: "lines 32 messages 1 bad 0 unknown 0 broken 0 open 0\n",
+    },
+    Example {
+        log: "(10.000001) can0 1DFF0405#000BA39901414243
+(10.100000) can0 1DFF0406#200BA39902585920
+\n\n\n\n\n\n\n\n\n\n\n\n\n\n\n\n\n\n\n\n\n\n\n\n\n\n\n\n\n\n(10.100000) can0 1DFF0406#200BA39902585920
+",
+        text: "",
+        reports: "line 33 broken pgn 130820 src 5 dst 255 seq 0 first 1
+line 33 broken pgn 130820 src 6 dst 255 seq 1 first 2
+",
+        summary: "lines 33 messages 0 bad 0 unknown 0 broken 2 open 1\n",
+    },
+];
+
+#[test]
+fn groups_wait_so_many_lines(rt: HostRuntime) -> Result<(), Fail> {
+    let table = table(rt.alloc())?;
+    for example in &WAITING {
+        decodes_in_pieces(&rt, &table, example.log.as_bytes(), example, 32)?;
     }
     Ok(())
 }
@@ -294,7 +347,7 @@ fn ten_lines(alloc: Global, others: &str) -> Result<Vec<u8>, AllocError> {
 fn ten_lines_eight_bad(rt: HostRuntime) -> Result<(), Fail> {
     let table = table(rt.alloc())?;
     let log = ten_lines(rt.alloc(), TEN_LINES.log)?;
-    decodes_in_pieces(&rt, &table, &log, &TEN_LINES)
+    decodes_in_pieces(&rt, &table, &log, &TEN_LINES, USUAL_WINDOW)
 }
 
 // A stamp may hold what JSON escapes.
@@ -322,7 +375,8 @@ fn stamps_of(alloc: Global, text: &str) -> Result<Vec<String>, Fail> {
 
 // What is printed of a log.
 fn printed<R: AllocGlobal>(rt: &R, table: &Table, log: &[u8]) -> Result<MemorySink, Fail> {
-    let mut join = Join::new(rt.alloc(), table);
+    let window = Window::new(USUAL_WINDOW).ok_or("no window")?;
+    let mut join = Join::new(rt.alloc(), table, window);
     let mut reader = MemorySource::new(log, 1000, 0);
     let mut writer = MemorySink::new(rt.alloc(), 1000, 0);
     let mut reporter = MemorySink::new(rt.alloc(), 1000, 0);
@@ -330,7 +384,7 @@ fn printed<R: AllocGlobal>(rt: &R, table: &Table, log: &[u8]) -> Result<MemorySi
         rt.alloc(),
         table,
         &mut join,
-        FRAMES,
+        frames(window),
         &mut reader,
         &mut writer,
         &mut reporter,
@@ -354,7 +408,8 @@ fn each_line_is_read_by_serde_json(rt: HostRuntime) -> Result<(), Fail> {
 #[test]
 fn a_failed_read_leaves_the_join_at_a_line(rt: HostRuntime) -> Result<(), Fail> {
     let table = table(rt.alloc())?;
-    let mut join = Join::new(rt.alloc(), &table);
+    let window = Window::new(USUAL_WINDOW).ok_or("no window")?;
+    let mut join = Join::new(rt.alloc(), &table, window);
     let log = TWO_SOURCES.as_bytes();
     let mut reader = MemorySource::new(log, 60, 3);
     let mut writer = MemorySink::new(rt.alloc(), 7, 0);
@@ -363,7 +418,7 @@ fn a_failed_read_leaves_the_join_at_a_line(rt: HostRuntime) -> Result<(), Fail> 
         rt.alloc(),
         &table,
         &mut join,
-        FRAMES,
+        frames(window),
         &mut reader,
         &mut writer,
         &mut reporter,
@@ -377,7 +432,7 @@ fn a_failed_read_leaves_the_join_at_a_line(rt: HostRuntime) -> Result<(), Fail> 
         rt.alloc(),
         &table,
         &mut join,
-        FRAMES,
+        frames(window),
         &mut rest,
         &mut writer,
         &mut reporter,

@@ -3,7 +3,7 @@ ghost use Rattle.std.specs.Prelude.{◌<◌};
 
 use super::run_frames;
 use crate::{MemorySink, MemorySource, Options, RunFault, run, summary_text};
-use n2k_join::{Counts, Join};
+use n2k_join::{Counts, Join, Window};
 use n2k_table::{Table, TableFault};
 use n2k_wire::{Packing, is_interface};
 use std::alloc::Global;
@@ -230,11 +230,13 @@ fn decodes<R: Abort + AllocGlobal>(
     log: &[u8],
     messages: u64,
 ) -> Result<MemorySink, Fail> {
+    let window = Window::new(10_000).ok_or("no window")?;
     let options = Options {
         packing: Packing::Frames,
         empty: false,
+        window,
     };
-    let mut join = Join::new(rt.alloc(), table);
+    let mut join = Join::new(rt.alloc(), table, window);
     let mut reader = MemorySource::new(log, 1000, 0);
     let mut writer = MemorySink::new(rt.alloc(), 1000, 0);
     let mut reporter = MemorySink::new(rt.alloc(), 1000, 0);

@@ -3,6 +3,7 @@ ghost use Rattle.std.specs.Prelude.{◌<◌};
 
 use super::{Part, PartFault, run_part, run_parts};
 use crate::{MemorySink, MemorySource, Options, RunFault, summary_text};
+use n2k_join::Window;
 use n2k_table::{Table, TableFault};
 use n2k_wire::Packing;
 use std::alloc::Global;
@@ -51,10 +52,17 @@ fn table(alloc: Global) -> Result<Table, TableFault> {
     Table::read(alloc, TABLE.as_bytes())
 }
 
-const FRAMES: Options = Options {
-    packing: Packing::Frames,
-    empty: false,
-};
+const USUAL_WINDOW: u32 = 10_000;
+
+// Frames are read, under a window of so many lines.
+fn frames(window: u32) -> Result<Options, Fail> {
+    let window = Window::new(window).ok_or("no window")?;
+    Ok(Options {
+        packing: Packing::Frames,
+        empty: false,
+        window,
+    })
+}
 
 // A log, what is printed and reported of it, and the state after it, which holds the id of the table above.
 #[derive(Drop)]
@@ -79,7 +87,7 @@ const EXAMPLES: [Example; 3] = [
         text: "",
         reports: "",
         summary: "lines 0 messages 0 bad 0 unknown 0 broken 0 open 0\n",
-        state: "{\"bad\":0,\"broken\":0,\"format\":1,\"groups\":[],\"lines\":0,\"messages\":0,\"table\":\"6b85e2b24165c1cf1b657bbddd71b3850cd65dafaf42319db5372fef7b615284\",\"unknown\":0}",
+        state: "{\"bad\":0,\"broken\":0,\"format\":2,\"groups\":[],\"lines\":0,\"messages\":0,\"table\":\"6b85e2b24165c1cf1b657bbddd71b3850cd65dafaf42319db5372fef7b615284\",\"unknown\":0,\"window\":10000}",
     },
     // two-sources
     Example {
@@ -89,7 +97,7 @@ const EXAMPLES: [Example; 3] = [
 ",
         reports: "",
         summary: "lines 4 messages 2 bad 0 unknown 0 broken 0 open 0\n",
-        state: "{\"bad\":0,\"broken\":0,\"format\":1,\"groups\":[],\"lines\":4,\"messages\":2,\"table\":\"6b85e2b24165c1cf1b657bbddd71b3850cd65dafaf42319db5372fef7b615284\",\"unknown\":0}",
+        state: "{\"bad\":0,\"broken\":0,\"format\":2,\"groups\":[],\"lines\":4,\"messages\":2,\"table\":\"6b85e2b24165c1cf1b657bbddd71b3850cd65dafaf42319db5372fef7b615284\",\"unknown\":0,\"window\":10000}",
     },
     // Every kind of line: skipped, bad, single, whole, of an unknown PGN, fast packets of three senders, a broken group,
     // and one that stays open.
@@ -120,7 +128,7 @@ line 7 broken pgn 130820 src 5 dst 255 seq 0 first 2
 line 11 bad B7 fast
 ",
         summary: "lines 14 messages 5 bad 2 unknown 1 broken 1 open 1\n",
-        state: "{\"bad\":2,\"broken\":1,\"format\":1,\"groups\":[{\"dst\":255,\"first\":14,\"frames\":[[1,\"20202020202020\"]],\"pgn\":130820,\"seq\":3,\"src\":7}],\"lines\":14,\"messages\":5,\"table\":\"6b85e2b24165c1cf1b657bbddd71b3850cd65dafaf42319db5372fef7b615284\",\"unknown\":1}",
+        state: "{\"bad\":2,\"broken\":1,\"format\":2,\"groups\":[{\"dst\":255,\"first\":14,\"frames\":[[1,\"20202020202020\"]],\"pgn\":130820,\"seq\":3,\"src\":7}],\"lines\":14,\"messages\":5,\"table\":\"6b85e2b24165c1cf1b657bbddd71b3850cd65dafaf42319db5372fef7b615284\",\"unknown\":1,\"window\":10000}",
     },
 ];
 
@@ -133,7 +141,15 @@ fn gives<R: Abort + AllocGlobal>(
 ) -> Result<(), Fail> {
     let mut writer = MemorySink::new(rt.alloc(), 4096, 0);
     let mut reporter = MemorySink::new(rt.alloc(), 4096, 0);
-    let last = run_parts(rt.alloc(), table, FRAMES, parts, &mut writer, &mut reporter)?;
+    let options = frames(USUAL_WINDOW)?;
+    let last = run_parts(
+        rt.alloc(),
+        table,
+        options,
+        parts,
+        &mut writer,
+        &mut reporter,
+    )?;
     assert_eq!(rt; writer.bytes(), example.text.as_bytes());
     assert_eq!(rt; reporter.bytes(), example.reports.as_bytes());
     assert_eq!(rt; last.state.as_slice(), example.state.as_bytes());
@@ -188,25 +204,27 @@ fn cut_after_each_line(rt: HostRuntime) -> Result<(), Fail> {
 
 // The states of two sources' log after its second line and after its third.
 const AFTER_TWO: &str =
-    "{\"bad\":0,\"broken\":0,\"format\":1,\"groups\":[{\"dst\":255,\"first\":1,\"frames\":[[0,\"0ba39901414243\"]],\"pgn\":130820,\"seq\":0,\"src\":5},{\"dst\":255,\"first\":2,\"frames\":[[0,\"0ba39902585920\"]],\"pgn\":130820,\"seq\":1,\"src\":6}],\"lines\":2,\"messages\":0,\"table\":\"6b85e2b24165c1cf1b657bbddd71b3850cd65dafaf42319db5372fef7b615284\",\"unknown\":0}";
+    "{\"bad\":0,\"broken\":0,\"format\":2,\"groups\":[{\"dst\":255,\"first\":1,\"frames\":[[0,\"0ba39901414243\"]],\"pgn\":130820,\"seq\":0,\"src\":5},{\"dst\":255,\"first\":2,\"frames\":[[0,\"0ba39902585920\"]],\"pgn\":130820,\"seq\":1,\"src\":6}],\"lines\":2,\"messages\":0,\"table\":\"6b85e2b24165c1cf1b657bbddd71b3850cd65dafaf42319db5372fef7b615284\",\"unknown\":0,\"window\":10000}";
 
 const AFTER_THREE: &str =
-    "{\"bad\":0,\"broken\":0,\"format\":1,\"groups\":[{\"dst\":255,\"first\":1,\"frames\":[[0,\"0ba39901414243\"]],\"pgn\":130820,\"seq\":0,\"src\":5}],\"lines\":3,\"messages\":1,\"table\":\"6b85e2b24165c1cf1b657bbddd71b3850cd65dafaf42319db5372fef7b615284\",\"unknown\":0}";
+    "{\"bad\":0,\"broken\":0,\"format\":2,\"groups\":[{\"dst\":255,\"first\":1,\"frames\":[[0,\"0ba39901414243\"]],\"pgn\":130820,\"seq\":0,\"src\":5}],\"lines\":3,\"messages\":1,\"table\":\"6b85e2b24165c1cf1b657bbddd71b3850cd65dafaf42319db5372fef7b615284\",\"unknown\":0,\"window\":10000}";
 
 // A state that is handed in, the lines after it, and what is made of them.
 #[derive(Drop)]
 struct Resumed {
     state: &'static str,
+    window: u32,
     log: &'static str,
     text: &'static str,
     reports: &'static str,
     summary: &'static str,
 }
 
-const RESUMED: [Resumed; 4] = [
+const RESUMED: [Resumed; 5] = [
     // two-sources-cut, after the second line
     Resumed {
         state: AFTER_TWO,
+        window: USUAL_WINDOW,
         log: "(10.200000) can0 1DFF0406#212020202020FFFF
 (10.300000) can0 1DFF0405#010000000000FFFF
 ",
@@ -219,6 +237,7 @@ const RESUMED: [Resumed; 4] = [
     // two-sources-cut, after the third line
     Resumed {
         state: AFTER_THREE,
+        window: USUAL_WINDOW,
         log: "(10.300000) can0 1DFF0405#010000000000FFFF
 ",
         text: "{\"timestamp\":\"1970-01-01T00:00:10.300Z\",\"prio\":7,\"src\":5,\"dst\":255,\"pgn\":130820,\"description\":\"Sample: Label\",\"fields\":{\"Maker\":419,\"Kind\":1,\"Label\":\"ABC\"}}
@@ -229,6 +248,7 @@ const RESUMED: [Resumed; 4] = [
     // The group of source 5 waits for its other frames: its frame 3 is broken by another frame 3.
     Resumed {
         state: "{\"bad\":0,\"broken\":0,\"format\":1,\"groups\":[{\"dst\":255,\"first\":1,\"frames\":[[3,\"0ba39901414243\"]],\"pgn\":130820,\"seq\":0,\"src\":5},{\"dst\":255,\"first\":2,\"frames\":[[0,\"0ba39902585920\"]],\"pgn\":130820,\"seq\":1,\"src\":6}],\"lines\":2,\"messages\":0,\"table\":\"6b85e2b24165c1cf1b657bbddd71b3850cd65dafaf42319db5372fef7b615284\",\"unknown\":0}",
+        window: USUAL_WINDOW,
         log: "(10.3) can0 1DFF0405#030000000000FFFF\n",
         text: "",
         reports: "line 3 broken pgn 130820 src 5 dst 255 seq 0 first 1\n",
@@ -237,10 +257,22 @@ const RESUMED: [Resumed; 4] = [
     // The group of source 5 has a frame past its total of 6, so that no frame makes it whole.
     Resumed {
         state: "{\"bad\":0,\"broken\":0,\"format\":1,\"groups\":[{\"dst\":255,\"first\":1,\"frames\":[[0,\"06a39901414243\"],[3,\"20202020202020\"]],\"pgn\":130820,\"seq\":0,\"src\":5},{\"dst\":255,\"first\":2,\"frames\":[[0,\"0ba39902585920\"]],\"pgn\":130820,\"seq\":1,\"src\":6}],\"lines\":2,\"messages\":0,\"table\":\"6b85e2b24165c1cf1b657bbddd71b3850cd65dafaf42319db5372fef7b615284\",\"unknown\":0}",
+        window: USUAL_WINDOW,
         log: "(10.3) can0 1DFF0405#0100000000FFFFFF\n",
         text: "",
         reports: "",
         summary: "lines 3 messages 0 bad 0 unknown 0 broken 0 open 2\n",
+    },
+    // overdue-old-state: a state without a window, whose groups are broken at its next line, the oldest first.
+    Resumed {
+        state: "{\"bad\":0,\"broken\":0,\"format\":1,\"groups\":[{\"dst\":255,\"first\":1,\"frames\":[[0,\"0ba39901414243\"]],\"pgn\":130820,\"seq\":0,\"src\":5},{\"dst\":255,\"first\":2,\"frames\":[[0,\"0ba39902585920\"]],\"pgn\":130820,\"seq\":1,\"src\":6}],\"lines\":50,\"messages\":0,\"table\":\"6b85e2b24165c1cf1b657bbddd71b3850cd65dafaf42319db5372fef7b615284\",\"unknown\":0}",
+        window: 32,
+        log: "\n",
+        text: "",
+        reports: "line 51 broken pgn 130820 src 5 dst 255 seq 0 first 1
+line 51 broken pgn 130820 src 6 dst 255 seq 1 first 2
+",
+        summary: "lines 51 messages 0 bad 0 unknown 0 broken 2 open 0\n",
     },
 ];
 
@@ -248,13 +280,14 @@ const RESUMED: [Resumed; 4] = [
 fn part_of_log(
     alloc: Global,
     table: &Table,
+    options: Options,
     state: Option<&[u8]>,
     log: &[u8],
     writer: &mut MemorySink,
     reporter: &mut MemorySink,
 ) -> Result<Part, PartFault> {
     let mut reader = MemorySource::new(log, 4096, 0);
-    run_part(alloc, table, state, FRAMES, &mut reader, writer, reporter)
+    run_part(alloc, table, state, options, &mut reader, writer, reporter)
 }
 
 fn has_summary<R: Abort + AllocGlobal>(rt: &R, part: &Part, summary: &str) -> Result<(), Fail> {
@@ -271,6 +304,7 @@ fn goes_on<R: Abort + AllocGlobal>(rt: &R, table: &Table, resumed: &Resumed) -> 
     let part = part_of_log(
         rt.alloc(),
         table,
+        frames(resumed.window)?,
         state,
         resumed.log.as_bytes(),
         &mut writer,
@@ -290,6 +324,27 @@ fn goes_on_from_states(rt: HostRuntime) -> Result<(), Fail> {
     Ok(())
 }
 
+// Without a line that state is saved as it was read.
+#[test]
+fn an_overdue_state_stays(rt: HostRuntime) -> Result<(), Fail> {
+    let table = table(rt.alloc())?;
+    let mut writer = MemorySink::new(rt.alloc(), 7, 0);
+    let mut reporter = MemorySink::new(rt.alloc(), 7, 0);
+    let state = RESUMED[4].state.as_bytes();
+    let part = part_of_log(
+        rt.alloc(),
+        &table,
+        frames(32)?,
+        Some(state),
+        b"",
+        &mut writer,
+        &mut reporter,
+    )?;
+    assert_eq!(rt; part.state.as_slice(), state);
+    assert_eq!(rt; reporter.bytes(), b"".as_slice());
+    Ok(())
+}
+
 // Cuts stand after line feeds: here each half of a line is a line.
 #[test]
 fn cut_inside_a_line(rt: HostRuntime) -> Result<(), Fail> {
@@ -299,7 +354,7 @@ fn cut_inside_a_line(rt: HostRuntime) -> Result<(), Fail> {
         text: "{\"timestamp\":\"2017-08-17T14:12:12.106Z\",\"prio\":2,\"src\":127,\"dst\":255,\"pgn\":129026,\"description\":\"COG & SOG, Rapid Update\",\"fields\":{\"SID\":0,\"COG Reference\":\"True\"}}\n",
         reports: "line 2 bad B3 form\n",
         summary: "lines 2 messages 1 bad 1 unknown 0 broken 0 open 0\n",
-        state: "{\"bad\":1,\"broken\":0,\"format\":1,\"groups\":[],\"lines\":2,\"messages\":1,\"table\":\"6b85e2b24165c1cf1b657bbddd71b3850cd65dafaf42319db5372fef7b615284\",\"unknown\":0}",
+        state: "{\"bad\":1,\"broken\":0,\"format\":2,\"groups\":[],\"lines\":2,\"messages\":1,\"table\":\"6b85e2b24165c1cf1b657bbddd71b3850cd65dafaf42319db5372fef7b615284\",\"unknown\":0,\"window\":10000}",
     };
     gives(
         &rt,
@@ -329,7 +384,7 @@ fn stops_with_read<R: Abort + AllocGlobal>(
         rt.alloc(),
         table,
         None,
-        FRAMES,
+        frames(USUAL_WINDOW)?,
         &mut reader,
         &mut writer,
         &mut reporter,
@@ -361,7 +416,7 @@ fn a_failed_read_leaves_a_state(rt: HostRuntime) -> Result<(), Fail> {
 
 // A state of as many lines as are counted.
 const FULL: &str =
-    "{\"bad\":0,\"broken\":0,\"format\":1,\"groups\":[],\"lines\":999999999999999,\"messages\":0,\"table\":\"6b85e2b24165c1cf1b657bbddd71b3850cd65dafaf42319db5372fef7b615284\",\"unknown\":0}";
+    "{\"bad\":0,\"broken\":0,\"format\":2,\"groups\":[],\"lines\":999999999999999,\"messages\":0,\"table\":\"6b85e2b24165c1cf1b657bbddd71b3850cd65dafaf42319db5372fef7b615284\",\"unknown\":0,\"window\":10000}";
 
 #[test]
 fn no_line_past_the_last(rt: HostRuntime) -> Result<(), Fail> {
@@ -371,6 +426,7 @@ fn no_line_past_the_last(rt: HostRuntime) -> Result<(), Fail> {
     let answer = part_of_log(
         rt.alloc(),
         &table,
+        frames(USUAL_WINDOW)?,
         Some(FULL.as_bytes()),
         b"\n",
         &mut writer,
@@ -390,7 +446,15 @@ fn a_failed_write_leaves_a_front(rt: HostRuntime) -> Result<(), Fail> {
     let mut writer = MemorySink::new(rt.alloc(), 10, 3);
     let mut reporter = MemorySink::new(rt.alloc(), 10, 3);
     let log = TWO_SOURCES.as_bytes();
-    let answer = part_of_log(rt.alloc(), &table, None, log, &mut writer, &mut reporter);
+    let answer = part_of_log(
+        rt.alloc(),
+        &table,
+        frames(USUAL_WINDOW)?,
+        None,
+        log,
+        &mut writer,
+        &mut reporter,
+    );
     assert!(rt; matches!(answer, Err(PartFault::Run(RunFault::Write))));
     assert_eq!(rt; writer.bytes(), b"{\"timestamp\":\"1970-0".as_slice());
     let log = b"(1.0) can0 1DFF0405#6014A39904474849
@@ -399,7 +463,15 @@ fn a_failed_write_leaves_a_front(rt: HostRuntime) -> Result<(), Fail> {
 (4.0) can0 1DFF0405#6014A39904474849
 (5.0) can0 1DFF0405#6220202020202020
 ";
-    let answer = part_of_log(rt.alloc(), &table, None, log, &mut writer, &mut reporter);
+    let answer = part_of_log(
+        rt.alloc(),
+        &table,
+        frames(USUAL_WINDOW)?,
+        None,
+        log,
+        &mut writer,
+        &mut reporter,
+    );
     assert!(rt; matches!(answer, Err(PartFault::Run(RunFault::Report))));
     assert_eq!(rt; reporter.bytes(), b"line 3 broken pgn 13".as_slice());
     Ok(())
