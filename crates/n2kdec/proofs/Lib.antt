@@ -4,3 +4,4 @@ pub mod DecodeLemmas
 pub mod Placing
 pub mod Replacing
 pub mod Rows
+pub mod WorkedFolders

@@ -14,11 +14,14 @@ noted before between (Some all) made call so_far (calls, was, is) =
 synced : (a b c d : Option (List Call)) (text : List ℕ) (done : _) → Notes a b (create New true) → Notes b c (write New text true) → Notes c d (sync New done) → Makes a d (sync New done ∷ written text)
 synced a b c d text done creating writing syncing = noted a c d (written text) _ (noted a b c (create New true ∷ []) _ creating writing) syncing
 
-pub stuck_at_create : (a b : Option (List Call)) (text : List ℕ) → Notes a b (create New false) → IsStuck a b text
-stuck_at_create a b text creating = inl creating
+pub stuck_at_create : {T E : Type 0} (a b : Option (List Call)) (text : List ℕ) (result : Result T E) → Notes a b (create New false) → OnErr result (IsStuck a b text)
+stuck_at_create a b text (Ok value) creating = tt
+stuck_at_create a b text (Err error) creating = inl creating
 
-pub stuck_at_write : (a b c : Option (List Call)) (text : List ℕ) → Notes a b (create New true) → Notes b c (write New text false) → IsStuck a c text
-stuck_at_write a b c text creating writing = inr (inl (noted a b c (create New true ∷ []) _ creating writing))
+pub stuck_at_write : {T E : Type 0} (a b c : Option (List Call)) (text : List ℕ) (result : Result T E) → Notes a b (create New true) → Notes b c (write New text false)
+    → OnErr result (IsStuck a c text)
+stuck_at_write a b c text (Ok value) creating writing = tt
+stuck_at_write a b c text (Err error) creating writing = inr (inl (noted a b c (create New true ∷ []) _ creating writing))
 
 pub stuck_at_sync : {T E : Type 0} (a b c d : Option (List Call)) (text : List ℕ) (result : Result T E) → Notes a b (create New true) → Notes b c (write New text true)
     → Notes c d (sync New false) → OnErr result (IsStuck a d text)

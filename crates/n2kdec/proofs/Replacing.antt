@@ -125,16 +125,16 @@ taken_away : {E : Type 0} (old between new : Option (List Call)) (text : List �
     → failures made ≡ 1 → ReplacesAtomically {T = Unit {0}} {E = E} old new text (Err error)
 taken_away old between new text error removed made makes taking safe one =
     known old new text _ (remove New removed ∷ made) (noted old between new made _ makes taking)
-        (λ first before. given_up first before text error removed made (safe first before) one)
+    (λ first before. given_up first before text error removed made (safe first before) one)
 
-pub replaces_stuck : {E : Type 0} (old between new : Option (List Call)) (text : List ℕ) (error : E) (removed : Bool) → IsStuck old between text
-    → Notes between new (remove New removed) → ReplacesAtomically {T = Unit {0}} {E = E} old new text (Err error)
-replaces_stuck old between new text error removed (inl made) taking =
-    taken_away old between new text error removed (create New false ∷ []) made taking (λ first before. creating first before text false) refl
-replaces_stuck old between new text error removed (inr (inl made)) taking =
-    taken_away old between new text error removed (write New text false ∷ create New true ∷ []) made taking (λ first before. writing first before text false) refl
-replaces_stuck old between new text error removed (inr (inr (inl made))) taking =
-    taken_away old between new text error removed (sync New false ∷ written text) made taking (λ first before. syncing first before text false) refl
-replaces_stuck old between new text error removed (inr (inr (inr made))) taking =
-    taken_away old between new text error removed (rename New Own false ∷ sync New true ∷ written text) made taking
-        (λ first before. renaming first before text false) refl
+pub replaces_stuck : {T E F : Type 0} (old between new : Option (List Call)) (text : List ℕ) (error : E) (removed : Result T F)
+    → Notes between new (remove New (is_ok removed)) → IsStuck old between text → ReplacesAtomically {T = Unit {0}} {E = E} old new text (Err error)
+replaces_stuck old between new text error removed taking (inl made) =
+    taken_away old between new text error (is_ok removed) (create New false ∷ []) made taking (λ first before. creating first before text false) refl
+replaces_stuck old between new text error removed taking (inr (inl made)) =
+    taken_away old between new text error (is_ok removed) (write New text false ∷ create New true ∷ []) made taking (λ first before. writing first before text false) refl
+replaces_stuck old between new text error removed taking (inr (inr (inl made))) =
+    taken_away old between new text error (is_ok removed) (sync New false ∷ written text) made taking (λ first before. syncing first before text false) refl
+replaces_stuck old between new text error removed taking (inr (inr (inr made))) =
+    taken_away old between new text error (is_ok removed) (rename New Own false ∷ sync New true ∷ written text) made taking
+    (λ first before. renaming first before text false) refl

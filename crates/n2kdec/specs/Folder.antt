@@ -57,7 +57,7 @@ MayHave first (rename from to true ∷ calls) name c =
     Where name to (MayHave first calls from c) (Where name from (c ≡ None) (MayHave first calls name c))
 MayHave first (rename from to false ∷ calls) name c =
     Where name to (MayHave first calls name c ⊎ MayHave first calls from c)
-        (Where name from (MayHave first calls name c ⊎ (c ≡ None)) (MayHave first calls name c))
+    (Where name from (MayHave first calls name c ⊎ (c ≡ None)) (MayHave first calls name c))
 MayHave first (sync_folder done ∷ calls) name c = MayHave first calls name c
 MayHave first (remove old true ∷ calls) name c = Where name old (c ≡ None) (MayHave first calls name c)
 MayHave first (remove old false ∷ calls) name c = Where name old (MayHave first calls name c ⊎ (c ≡ None)) (MayHave first calls name c)
@@ -85,7 +85,7 @@ MayBeLeft first (sync of done ∷ calls) name c = MayBeLeft first calls name c
 -- until the folder is synced a rename is there or not, and so is what was taken away
 MayBeLeft first (rename from to done ∷ calls) name c =
     Where name to (MayBeLeft first calls name c ⊎ ((text : List ℕ) × FileMayBeLeft first calls from text × (c ≡ Some text)))
-        (Where name from (MayBeLeft first calls name c ⊎ (c ≡ None)) (MayBeLeft first calls name c))
+    (Where name from (MayBeLeft first calls name c ⊎ (c ≡ None)) (MayBeLeft first calls name c))
 MayBeLeft first (sync_folder true ∷ calls) name c =
     ((text : List ℕ) × FileMayBeLeft first calls name text × (c ≡ Some text)) ⊎ (MayHave first calls name None × (c ≡ None))
 MayBeLeft first (sync_folder false ∷ calls) name c = MayBeLeft first calls name c

@@ -7,7 +7,7 @@ use crate::folder::{Folder, Name};
 use n2k_run::Failed;
 
 // Writes the text to a new file, and gives that the name once it is synced.
-#[tactic(auto, using(crate::proofs::Placing::stuck_at_create, crate::proofs::Placing::stuck_at_write))]
+#[tactic(auto, using(crate::proofs::Placing::stuck_at_create, crate::proofs::Placing::stuck_at_write, crate::proofs::Placing::stuck_at_sync, crate::proofs::Placing::stuck_at_rename))]
 fn place<F: Folder>(folder: &mut F, text: &[u8]) -> Result<(), Failed>
     ensures placed { OnOk result (HasPlaced (F.calls folder.old) (F.calls folder.new) text.now) }
     ensures stuck { OnErr result (IsStuck (F.calls folder.old) (F.calls folder.new) text.now) }
@@ -18,9 +18,10 @@ fn place<F: Folder>(folder: &mut F, text: &[u8]) -> Result<(), Failed>
     folder.rename(Name::New, Name::Own)
 }
 
-/// Puts a text in the place of what the folder's own name has, whole. A cut of the power at any moment leaves the old text or
-/// the new one, and after Ok the new one. `Failed` where a call of the folder failed: the name has the old text then, or the
-/// new one where the failed call is that which syncs the folder.
+/// Puts a text in the place of what the folder's own name has. At each moment of the call the name has the old text or
+/// the new one, whole, and so it has where the power is cut then; after Ok it has the new one, and each cut from then on
+/// leaves it. `Failed` where a call of the folder failed. The new file is taken away then, if that can be done.
+#[tactic(auto, using(crate::proofs::Replacing::replaces_placed, crate::proofs::Replacing::replaces_stuck))]
 pub fn replace<F: Folder>(folder: &mut F, text: &[u8]) -> Result<(), Failed>
     ensures { ReplacesAtomically (F.calls folder.old) (F.calls folder.new) text.now result }
 {

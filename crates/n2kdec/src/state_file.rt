@@ -29,10 +29,10 @@ fn write_to(rt: &HostRuntime, name: &str, state: &[u8]) -> Result<(), Failed> {
 }
 
 // Writes a state in the place of what the name has.
-fn write_file(rt: &HostRuntime, name: &str, state: &[u8]) -> Result<(), Failed> {
-    match SystemFolder::of(rt, name)? {
+fn write_file(rt: &HostRuntime, name: &Word, state: &[u8]) -> Result<(), Failed> {
+    match SystemFolder::of(rt, name.as_str())? {
         Some(mut folder) => replace(&mut folder, state),
-        None => write_to(rt, name, state),
+        None => write_to(rt, name.as_str(), state),
     }
 }
 
@@ -62,7 +62,7 @@ impl<'a> StateFile<'a> {
     // Writes the state, where there is a file.
     fn write(&self, state: &[u8]) -> Result<(), Failed> {
         match &self.name {
-            Some(name) => write_file(self.rt, name.as_str(), state),
+            Some(name) => write_file(self.rt, name, state),
             None => Ok(()),
         }
     }

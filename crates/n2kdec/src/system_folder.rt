@@ -176,7 +176,9 @@ impl<'a> Folder for SystemFolder<'a> {
 
     fn rename(&mut self, from: Name, to: Name) -> Result<(), Failed> {
         done(fs::rename(self.rt, self.path(from), self.path(to)))?;
-        if let Some(made) = &mut self.made && made.name == from {
+        if let Some(made) = &mut self.made
+            && made.name == from
+        {
             made.name = to;
         }
         Ok(())
