@@ -1,8 +1,8 @@
 -- What is there at each moment of a replacement.
-use Rattle.std.proofs.Common.{◌≡◌, ◌⊎◌, List, ℕ, Bool, true, false, [], ◌∷◌, ◌++◌, ◌<◌, Option, None, Some, IfSome, Result, Ok, Err, is_ok, refl, inl, inr, subst, sym, ap, ◌∙◌, ⊎_elim, arith}
-use Rattle.n2kdec.specs.Folder.{Call, MayHave, FileMayBeLeft, Content, MayBeLeft, Notes, create, write, sync, rename, sync_folder, remove, failures}
+use Rattle.std.proofs.Common.{◌≡◌, ◌⊎◌, List, ℕ, Bool, true, false, [], ◌∷◌, ◌++◌, Option, None, Some, Result, Ok, Err, is_ok, refl, inl, inr, subst, sym, ap, ◌∙◌, ⊎_elim, arith}
+use Rattle.n2kdec.specs.Folder.{Call, MayHave, Content, MayBeLeft, Notes, create, write, sync, rename, sync_folder, remove, failures}
 use Rattle.n2kdec.specs.Inner.Placing.{HasPlaced, IsStuck, Makes, placed, written}
-use Rattle.n2kdec.specs.Replacement.{AtEachMoment, HasNew, HasOldOrNew, IsGivenUp, AtomicReplacement, ReplacesAtomically}
+use Rattle.n2kdec.specs.Replacement.{AtEachMoment, HasOldOrNew, IsGivenUp, AtomicReplacement, ReplacesAtomically}
 use Rattle.n2kdec.specs.declared.folder.Name.{Name}
 use Rattle.n2kdec.specs.declared.folder.Name.TheVariants.{Own, New}
 use Rattle.n2kdec.proofs.Placing.{noted}

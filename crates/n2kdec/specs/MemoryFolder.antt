@@ -1,5 +1,5 @@
 -- The calls that a folder in memory keeps.
-use Rattle.std.specs.Prelude.{ℕ, List, [], ◌∷◌, Option, Some, None, Vec, map, option_map}
+use Rattle.std.specs.Prelude.{List, Option, Vec, map, option_map}
 use Rattle.std.specs.declared.alloc.Global.{Global}
 use Rattle.n2kdec.specs.Folder.{Call, create, write, sync, rename, sync_folder, remove}
 use Rattle.n2kdec.specs.declared.memory_folder.Noted.{Noted}

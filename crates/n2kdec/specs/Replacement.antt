@@ -1,6 +1,6 @@
 -- Atomic replacement: a text takes the place of another so that at each moment one of the two is there, whole.
-use Rattle.std.specs.Prelude.{◌≡◌, ◌⊎◌, ◌<◌, ◌++◌, ℕ, Bool, true, false, List, [], ◌∷◌, Option, Some, None, IfSome, Result, MatchResult}
-use Rattle.n2kdec.specs.Folder.{Call, create, write, sync, rename, sync_folder, remove, MayHave, Content, MayBeLeft, cut_short, failures}
+use Rattle.std.specs.Prelude.{◌≡◌, ◌⊎◌, ◌<◌, ◌++◌, ℕ, List, [], ◌∷◌, Option, Some, None, IfSome, Result, MatchResult}
+use Rattle.n2kdec.specs.Folder.{Call, MayHave, Content, MayBeLeft, cut_short, failures}
 use Rattle.n2kdec.specs.declared.folder.Name.{Name}
 use Rattle.n2kdec.specs.declared.folder.Name.TheVariants.{Own, New}
 

@@ -4,14 +4,17 @@ ghost use Rattle.n2kdec.specs.Folder.{Call, Notes, create, write, sync, rename, 
 
 use n2k_run::Failed;
 
-/// The names of a folder that a replacement knows: the text's own, and that of the new file beside it.
+/// The names of a folder that a replacement knows.
 #[derive(Clone, Copy, Debug, PartialEq, Eq)]
 pub enum Name {
+    /// The name of the text.
     Own,
+    /// The name of the new file beside it.
     New,
 }
 
-/// A folder with these two names.
+/// A folder with these two names. It tells which calls were made of it; what a name may have after them, and what a cut of the
+/// power may leave under it, `specs/Folder` says. A call that fails may be done, done in part, or not done.
 pub trait Folder {
     /// The calls that were made of it, the last one first, where they are known.
     ghost calls: { Self → Option (List Call) };

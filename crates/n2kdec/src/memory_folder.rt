@@ -7,12 +7,15 @@ use std::alloc::{AllocError, Global};
 /// How much of a call is done where it fails or is cut short, and how much a cut leaves of what is not synced.
 #[derive(Clone, Copy, Debug, PartialEq, Eq)]
 pub enum Extent {
+    /// Nothing of it.
     Nothing,
+    /// Of a text the first half, of other calls what shows that they were begun.
     Part,
+    /// All of it.
     Whole,
 }
 
-/// What comes in between, in the call of this number, counted from 1.
+/// What comes in between, in the call of this number, counted from 1, and how much of that call is done.
 #[derive(Clone, Copy, Debug, PartialEq, Eq)]
 pub enum Trouble {
     /// Nothing does.

@@ -3,6 +3,9 @@ ghost use Rattle.std.specs.Prelude.{OnErr, OnOk};
 ghost use Rattle.n2kdec.specs.Replacement.{ReplacesAtomically};
 ghost use Rattle.n2kdec.specs.Inner.Placing.{HasPlaced, IsStuck};
 
+#[cfg(test)]
+mod tests;
+
 use crate::folder::{Folder, Name};
 use n2k_run::Failed;
 
