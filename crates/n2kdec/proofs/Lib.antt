@@ -2,5 +2,8 @@ pub mod AskedLemmas
 pub mod CommandLemmas
 pub mod DecodeLemmas
 pub mod Lines
+pub mod Placing
+pub mod Replacing
 pub mod Rows
 pub mod WorkLemmas
+pub mod WorkedFolders

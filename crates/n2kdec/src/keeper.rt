@@ -12,7 +12,7 @@ pub trait Keeper {
     /// The text that it has, where that is known.
     ghost kept: { Self → Option (List ℕ) };
 
-    /// Keeps a state in the place of what it had. `Failed` where it can't, and then what it had may be gone.
+    /// Keeps a state in the place of what it had. `Failed` where it can't.
     fn keep(&mut self, state: &[u8]) -> Result<(), Failed>
         ensures bytes { OnOk result (IfSome (kept self.new) (λ text. text ≡ state.now)) }
         ensures counted { CountsFailure (failed_calls self.old) (failed_calls self.new) result };

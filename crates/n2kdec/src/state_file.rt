@@ -3,6 +3,8 @@ ghost use Rattle.std.specs.Prelude.{OnOk};
 ghost use Rattle.std.specs.Io.KnownBytes.{Appends};
 
 use crate::keeper::Keeper;
+use crate::replacement::replace;
+use crate::system_folder::SystemFolder;
 use crate::word::Word;
 use n2k_run::Failed;
 use std::fs;
@@ -18,16 +20,24 @@ fn write_state<W: Write>(file: &mut W, state: &[u8]) -> Result<(), Failed>
     }
 }
 
-// Writes a file whole, over what it had.
-fn write_file(rt: &HostRuntime, name: &Word, state: &[u8]) -> Result<(), Failed> {
-    match fs::create(rt, name.as_str()) {
+// Writes to what can't be replaced: a pipe, a device, an open file.
+fn write_to(rt: &HostRuntime, name: &str, state: &[u8]) -> Result<(), Failed> {
+    match fs::create(rt, name) {
         Ok(mut file) => write_state(&mut file, state),
         Err(_) => Err(Failed),
     }
 }
 
-/// The file of `--save`. It is opened, and what it had is gone, only when there is a state to write: it may be the file
-/// of `--resume`. Without the word nothing is kept.
+// Writes a state in the place of what the name has.
+fn write_file(rt: &HostRuntime, name: &Word, state: &[u8]) -> Result<(), Failed> {
+    match SystemFolder::of(rt, name.as_str())? {
+        Some(mut folder) => replace(&mut folder, state),
+        None => write_to(rt, name.as_str(), state),
+    }
+}
+
+/// The file of `--save`. It is replaced only when there is a state to write, so it may be the file of `--resume`.
+/// Without the word nothing is kept.
 #[derive(Drop)]
 pub struct StateFile<'a> {
     rt: &'a HostRuntime,
