@@ -12,7 +12,7 @@ use crate::device::{Failed, Sink, Source};
 use crate::fault::RunFault;
 use crate::kept::Kept;
 use crate::maker::Maker;
-use n2k_wire::{BadCause, Entry, Packing, read_line_into};
+use n2k_wire::{BadCause, Entry, LineReader, Packing};
 use std::alloc::Global;
 
 // Takes a line that is too long. An entry is large, so that the few of these have a place of their own.
@@ -39,7 +39,7 @@ fn take_next<M: Maker, R: Source>(
     state: &mut M::State,
     blocks: &mut Blocks,
     reader: &mut R,
-    place: &mut Entry,
+    lines: &mut LineReader,
     kept: &mut Kept,
 ) -> Result<(), RunFault>
     requires ready { M.is_ready maker.now state.old }
@@ -52,8 +52,8 @@ fn take_next<M: Maker, R: Source>(
 {
     match blocks.next_line(reader) {
         Ok(Next::Line(line)) => {
-            read_line_into(line, packing, place);
-            maker.take(alloc, state, place, &mut kept.text, &mut kept.report)
+            let entry = lines.read(line, packing);
+            maker.take(alloc, state, entry, &mut kept.text, &mut kept.report)
         }
         Ok(Next::Long) => take_long(alloc, maker, state, kept),
         Ok(Next::End) => Ok(()),
@@ -81,12 +81,21 @@ pub(crate) fn run_entries<M: Maker, R: Source, W: Sink, E: Sink>(
 {
     let mut blocks = Blocks::new();
     let mut kept = Kept::new(alloc);
-    let mut place = Entry::Skip;
+    let mut lines = LineReader::new();
     'lines: while !blocks.has_ended() {
         if !blocks.has_line() {
             kept.write(writer, reporter)?;
         }
-        match take_next(alloc, maker, packing, state, &mut blocks, reader, &mut place, &mut kept) {
+        match take_next(
+            alloc,
+            maker,
+            packing,
+            state,
+            &mut blocks,
+            reader,
+            &mut lines,
+            &mut kept,
+        ) {
             Ok(()) => {}
             Err(fault) => match fault {
                 RunFault::Memory => return Err(fault),

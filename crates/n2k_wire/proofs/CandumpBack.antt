@@ -233,7 +233,7 @@ identifier_read n bits =
     let eight : length (encode_upper (to_be_bytes w32 n)) ≡ 8 = length-encode_with upper_digits (to_be_bytes w32 n) in
     rw (decode_of-encode_upper (to_be_bytes w32 n) (word_bytes n), upper_hexes (to_be_bytes w32 n) (word_bytes n), eight, from_be_bytes-to_be_bytes_4 n (omega arith), small) refl
 
-no_other_frame : (text : List ℕ) → list_all is_ascii_hexdigit text ≡ true → is_other_frame text ≡ false
+pub no_other_frame : (text : List ℕ) → list_all is_ascii_hexdigit text ≡ true → is_other_frame text ≡ false
 unfolding is_other_frame
 no_other_frame [] all = refl
 no_other_frame (b ∷ text) all =
@@ -276,7 +276,7 @@ grouped : (seconds millis name digits behind : List ℕ)
 grouped seconds millis name digits behind = simp append_assoc
 
 -- a line that begins as candump's do
-candump_entry : (rest : List ℕ) (packing : Packing) → length (40 ∷ rest) ≤ 2048 → entry (40 ∷ rest) packing ≡ settled (candump (40 ∷ rest))
+pub candump_entry : (rest : List ℕ) (packing : Packing) → length (40 ∷ rest) ≤ 2048 → entry (40 ∷ rest) packing ≡ settled (candump (40 ∷ rest))
 unfolding entry
 candump_entry rest packing short =
     let fits : ltb 2048 (length (40 ∷ rest)) ≡ false = le-ltb 2048 (length (40 ∷ rest)) short in

@@ -4,7 +4,6 @@ use Rattle.std.specs.Char.{is_ascii_hexdigit}
 use Rattle.std.specs.List.{list_all, position_or_len}
 use Rattle.std.specs.Result.{result_ok}
 use Rattle.std.proofs.lemmas.Bool.{cases_Bool, cases_eq, eqb-true}
-use Rattle.n2k_wire.specs.declared.digits.TheConstants.{HEX_VALUES}
 use Rattle.std.proofs.lemmas.Bool.Decides.{nat_tests}
 use Rattle.std.proofs.Math.Bool.{and-true, and_assoc}
 use Rattle.std.proofs.Math.Numerals.{one-add}
@@ -18,26 +17,6 @@ use Rattle.n2k_wire.specs.Plain.{pair}
 both : (a b : Bool) → (a && b) ≡ true → (a ≡ true) × (b ≡ true)
 both true b e = (refl, e)
 both false b e = absurd cc
-
--- the table of values holds each digit's
-abbrev are_values : ℕ → Bool
-are_values zero = true
-are_values (suc p) = eqb (get_or HEX_VALUES p 0) (hex_value p) && are_values p
-
-value_below : (n p : ℕ) → are_values n ≡ true → p < n → get_or HEX_VALUES p 0 ≡ hex_value p
-value_below zero p all within = absurd (omega arith)
-value_below (suc n) p all within =
-    let parts = both (eqb (get_or HEX_VALUES n 0) (hex_value n)) (are_values n) all in
-    elim (cases_eq p n) [
-      | inl same ↦ rw same (eqb-true (get_or HEX_VALUES n 0) (hex_value n) parts.0)
-      | inr other ↦ value_below n p parts.1 (omega arith)
-    ]
-
-hex_below : (digit : ℕ) → is_ascii_hexdigit digit ≡ true → digit < 103
-hex_below digit hex = grind (arith, nat_tests)
-
-pub value_at : (digit : ℕ) → is_ascii_hexdigit digit ≡ true → (digit < 103) × (get_or HEX_VALUES digit 0 ≡ hex_value digit) × (hex_value digit < 16)
-value_at digit hex = (hex_below digit hex, value_below 103 digit refl (hex_below digit hex), grind (arith, nat_tests))
 
 -- the value that `hex` gives a digit
 pub hex_digit_value-is : (digit : ℕ) → is_ascii_hexdigit digit ≡ true → hex_digit_value digit ≡ Some (hex_value digit)
@@ -66,6 +45,17 @@ decode_of-even n digits all e =
 
 pub decode_of-odd : (digits : List ℕ) → length digits % 2 ≡ 1 → result_ok (decode_of digits) ≡ None
 decode_of-odd digits odd = rw odd refl
+
+-- the byte of each pair
+pub spelled_at : (digits : List ℕ) (i : ℕ) → 2 * i + 1 < length digits → get_or (spelled digits) i 0 ≡ hex_value (get_or digits (2 * i) 0) * 16 + hex_value (get_or digits (2 * i + 1) 0)
+unfolding spelled
+spelled_at [] i within = absurd (omega arith)
+spelled_at (digit ∷ []) i within = absurd (omega arith)
+spelled_at (high ∷ low ∷ rest) zero within = refl
+spelled_at (high ∷ low ∷ rest) (suc i) within =
+    let first : 2 * suc i ≡ suc (suc (2 * i)) = omega arith in
+    let second : suc (suc (2 * i)) + 1 ≡ suc (suc (2 * i + 1)) = omega arith in
+    rw (first, second) (spelled_at rest i (omega arith))
 
 -- one pair more
 pub spells_on : (digits front : List ℕ) (i : ℕ) → 2 * i + 1 < length digits → front ++ spelled (drop (2 * i) digits) ≡ spelled digits

@@ -9,6 +9,7 @@ pub mod PieceLemmas
 pub mod PlainLemmas
 pub mod ReadBack
 pub mod TextLemmas
+pub mod Clocks
 pub mod UsualFrames
 pub mod UsualStamps
 pub mod UtcBack

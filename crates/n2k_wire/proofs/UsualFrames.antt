@@ -1,15 +1,25 @@
 -- What follows the stamp of a line, where it stands as `candump` writes it.
-use Rattle.std.proofs.Common.{◌≡◌, ℕ, ◌<◌, ◌≤◌, true, ltb, leb, not, List, ◌∷◌, ◌++◌, take, drop, length, Some, refl, ap, sym, ◌∙◌, inl, inr, arith}
-use Rattle.std.specs.Prelude.{position}
+use Rattle.std.proofs.Common.{◌≡◌, ℕ, ◌+◌, ◌*◌, ◌<◌, ◌≤◌, true, false, ltb, leb, not, List, [], ◌∷◌, ◌++◌, take, drop, length, Option, Some, None, Ok, refl, ap, sym, ◌∙◌, inl, inr, arith}
+use Rattle.std.specs.Prelude.{◌==◌, position, option_map}
 use Rattle.std.specs.Char.{is_ascii_hexdigit}
+use Rattle.std.specs.Int.{w32, from_be_bytes}
 use Rattle.std.specs.List.{list_all, position_or_len}
-use Rattle.std.proofs.lemmas.Bool.{cases_Bool, le-leb, lt-ltb}
+use Rattle.std.specs.Result.{result_ok}
+use Rattle.std.proofs.lemmas.Bool.{cases_Bool, eqb-true, le-leb, lt-ltb}
 use Rattle.std.proofs.lemmas.List.{take-append-drop}
-use Rattle.n2k_wire.specs.Candump.{framed, is_interface, is_interface_byte}
+use Rattle.std.proofs.Math.Seq.{drop-length, take-length}
+use Rattle.hex.specs.Hex.{decode_of}
+use Rattle.n2k_wire.specs.declared.entry.Entry.TheVariants as entries
+use Rattle.n2k_wire.specs.declared.entry.Packing.{Packing}
+use Rattle.n2k_wire.specs.Candump.{stamped, framed, is_interface, is_interface_byte, identifier, is_other_frame, is_ending, digits_len, payload, frame_of, candump}
+use Rattle.n2k_wire.specs.Entry.{entry, settled}
+use Rattle.n2k_wire.specs.Identifier.{split}
 use Rattle.n2k_wire.specs.Pieces.{after_byte}
-use Rattle.n2k_wire.proofs.CandumpBack.{framed_read}
-use Rattle.n2k_wire.proofs.HexDigits.{all_before}
-use Rattle.n2k_wire.proofs.UsualStamps.{follows}
+use Rattle.n2k_wire.specs.PrivateWords.{seen_behind, stamp_behind, candump_by}
+use Rattle.n2k_wire.specs.Stamp.{Moment, utc_text}
+use Rattle.n2k_wire.proofs.CandumpBack.{candump_entry, framed_read, no_other_frame}
+use Rattle.n2k_wire.proofs.HexDigits.{all_before, all_digits}
+use Rattle.n2k_wire.proofs.UsualStamps.{follows, same_candump}
 
 found_at : (at : ℕ) (named : List ℕ) → position (λ b. not (is_interface_byte b)) named ≡ Some at → position_or_len (λ b. not (is_interface_byte b)) named ≡ at
 found_at at named found =
@@ -37,3 +47,47 @@ by_place text named name rest inner digits behind more at opened found name_is r
     let inner_at : inner ≡ digits ++ (35 ∷ more) = sym (rw (digits_is, sym (follows 35 behind more hashed), behind_is) (take-append-drop 8 inner)) in
     let text_at : text ≡ 32 ∷ (name ++ (32 ∷ (digits ++ (35 ∷ more)))) = follows 32 text named opened ∙ ap (λ (t : List ℕ). 32 ∷ t) (named_at ∙ ap (λ (t : List ℕ). name ++ (32 ∷ t)) inner_at) in
     ap framed text_at ∙ framed_read name digits more ok (omega arith) hex
+
+-- eight digits are an identifier
+pub identifier_of : (digits : List ℕ) (n : ℕ) → list_all is_ascii_hexdigit digits ≡ true → length digits ≡ 8 → option_map (from_be_bytes w32) (result_ok (decode_of digits)) ≡ Some n → n < 0x20000000
+    → identifier digits ≡ Ok (Some n)
+unfolding identifier
+identifier_of digits n hex eight read small =
+    let fits : ltb n 0x20000000 ≡ true = lt-ltb n 0x20000000 small in
+    rw (read, hex, eight, fits) refl
+
+-- sixteen digits are the data of a frame
+pub payload_of : (text bytes : List ℕ) → list_all is_ascii_hexdigit text ≡ true → length text ≡ 16 → result_ok (decode_of text) ≡ Some bytes → payload text ≡ Some bytes
+unfolding payload is_ending
+payload_of text bytes hex sixteen read =
+    let len : digits_len text ≡ length text = sym (all_digits is_ascii_hexdigit text hex) in
+    let few : leb (length text) (2 * 8) ≡ true = le-leb _ _ (omega arith) in
+    rw (len, few, drop-length text, take-length text, read) refl
+
+by_seen : (line : List ℕ) (o : Option (Moment × List ℕ)) (stamp text digits behind bytes : List ℕ) (n : ℕ) → seen_behind line ≡ o → stamp_behind line ≡ Some (stamp, text) → framed text ≡ Some (digits, behind)
+    → identifier digits ≡ Ok (Some n) → is_other_frame behind ≡ false → payload behind ≡ Some bytes → settled (candump_by line) ≡ entries.Frame (record { stamp = stamp; id = split n; payload = bytes })
+unfolding candump_by stamp_behind frame_of
+by_seen line None stamp text digits behind bytes n seen stamped framed_is known other read = absurd (let none = rw seen at stamped in cc)
+by_seen line (Some x) stamp text digits behind bytes n seen stamped framed_is known other read =
+    let both : Some (utc_text x.0, x.1) ≡ Some (stamp, text) = rw seen at stamped in
+    let same : (utc_text x.0, x.1) ≡ (stamp, text) = cc in
+    let stamp_is = ap (λ (p : List ℕ × List ℕ). p.0) same in
+    let text_is = ap (λ (p : List ℕ × List ℕ). p.1) same in
+    rw (seen, text_is, framed_is, known, other, read, stamp_is) refl
+
+-- the entry of a line, by its parts
+pub entry_of : (line stamp text digits behind bytes : List ℕ) (n : ℕ) → stamp_behind line ≡ Some (stamp, text) → framed text ≡ Some (digits, behind) → identifier digits ≡ Ok (Some n)
+    → is_other_frame behind ≡ false → payload behind ≡ Some bytes → settled (candump line) ≡ entries.Frame (record { stamp = stamp; id = split n; payload = bytes })
+entry_of line stamp text digits behind bytes n stamped framed_is known other read = ap settled (sym (same_candump line)) ∙ by_seen line (seen_behind line) stamp text digits behind bytes n refl stamped framed_is known other read
+
+-- such a line is a candump line
+pub entry_line : (line stamp text : List ℕ) (packing : Packing) → stamp_behind line ≡ Some (stamp, text) → length line ≤ 2048 → entry line packing ≡ settled (candump line)
+unfolding stamp_behind seen_behind stamped after_byte
+entry_line [] stamp text packing seen short = absurd cc
+entry_line (b ∷ rest) stamp text packing seen short =
+    elim (cases_Bool (b == 40)) [
+      | inl same ↦
+          let is : b ≡ 40 = eqb-true b 40 same in
+          rw is (candump_entry rest packing short)
+      | inr other ↦ absurd (let none = rw other at seen in cc)
+    ]

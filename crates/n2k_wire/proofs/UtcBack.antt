@@ -78,7 +78,7 @@ two_back n (a ∷ b ∷ []) two e =
     (rw (tens, ones) refl, omega arith)
 two_back n (a ∷ b ∷ c ∷ more) two e = absurd (omega arith)
 
-three_back : (n : ℕ) (text : List ℕ) → length text ≡ 3 → decimal_after 0 text ≡ Some n → (millis_digits n ≡ text) × (n < 1000)
+pub three_back : (n : ℕ) (text : List ℕ) → length text ≡ 3 → decimal_after 0 text ≡ Some n → (millis_digits n ≡ text) × (n < 1000)
 three_back n [] three e = absurd (omega arith)
 three_back n (a ∷ []) three e = absurd (omega arith)
 three_back n (a ∷ b ∷ []) three e = absurd (omega arith)

@@ -1,6 +1,6 @@
 -- Words for the contracts of private functions: what the code holds, as the definitions have it. Nothing that a
 -- caller sees needs them.
-use Rattle.std.specs.Prelude.{◌≤◌, ℕ, ◌+◌, ◌*◌, ◌/◌, ◌%◌, List, [], Option, Some, None, option_map, option_and_then, Result}
+use Rattle.std.specs.Prelude.{◌≡◌, ◌≤◌, ℕ, ◌+◌, ◌*◌, ◌/◌, ◌%◌, List, [], ◌∷◌, ◌++◌, Option, Some, None, option_map, option_and_then, Result}
 use Rattle.std.specs.Borrow.{Bor}
 use Rattle.n2k_wire.specs.declared.candump.CandumpFrame.{CandumpFrame}
 use Rattle.n2k_wire.specs.declared.entry.Entry.{Entry}
@@ -11,7 +11,8 @@ use Rattle.n2k_wire.specs.Plain.{Header, pieces}
 use Rattle.n2k_wire.specs.declared.entry.BadCause.{BadCause}
 use Rattle.n2k_wire.specs.declared.entry.BadCause.TheVariants as causes
 use Rattle.n2k_wire.specs.Candump.{stamped, framed, identifier, frame_of}
-use Rattle.n2k_wire.specs.Stamp.{Moment, last_second, moment}
+use Rattle.n2k_wire.specs.Digits.{decimal_number}
+use Rattle.n2k_wire.specs.Stamp.{Moment, last_second, most_fraction_digits, moment, three_digits, utc_text}
 use Rattle.n2k_wire.specs.Steps.{◌>>=◌, or_cause}
 
 -- The value of a hexadecimal digit, by arithmetic alone: `0` to `9` are 48 to 57, `A` to `F` 65 to 70, `a` to `f` 97
@@ -40,6 +41,16 @@ candump_entry (Some frame) = entries.Frame (record { stamp = frame.stamp; id = f
 -- the moment of a candump line's stamp, and what follows it
 unfoldable pub seen_behind : List ℕ → Option (Moment × List ℕ)
 seen_behind line = option_and_then (λ outer. option_map (λ seen. (seen, outer.1)) (moment outer.0)) (stamped line)
+
+-- the UTC text of a candump line's stamp, and what follows the stamp
+unfoldable pub stamp_behind : List ℕ → Option (List ℕ × List ℕ)
+stamp_behind line = option_map (λ x. (utc_text x.0, x.1)) (seen_behind line)
+
+-- a line that begins with this front, a fraction and the closing parenthesis is of this second
+abbrev pub IsFront : List ℕ → ℕ → Type 0
+IsFront front seconds =
+    (fraction rest : List ℕ) (f m : ℕ) → decimal_number most_fraction_digits fraction ≡ Some f → decimal_number 3 (three_digits fraction) ≡ Some m
+    → seen_behind (front ++ (fraction ++ (41 ∷ rest))) ≡ Some ((record { seconds = seconds; millis = m }), rest)
 
 -- the entry of a candump line, by that
 unfoldable pub candump_by : List ℕ → Result Entry BadCause

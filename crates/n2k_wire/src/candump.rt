@@ -11,12 +11,11 @@ ghost use Rattle.n2k_wire.specs.Views.{Finds, Gives};
 ghost use Rattle.n2k_wire.specs.Entry.{IsEntry, settled};
 ghost use Rattle.n2k_wire.specs.Packet.{IsPacket};
 
-use crate::digits::{are_hex_digits, decimal_number, decode_digits, is_hex_digit};
+use crate::digits::{are_hex_digits, decimal_number, decode_digits, is_hex_digit, spelled_byte};
 use crate::entry::{BadCause, Entry, set_frame};
 use crate::identifier::{Id, split_id};
 use crate::pieces::{after_byte, cut_at, skip_spaces};
 use crate::stamp::{Moment, UTC_LEN, read_moment, three_digits, utc_text};
-use crate::usual::usual_framed;
 use arrayvec::ArrayVec;
 
 /// The most bytes of an interface's name.
@@ -32,7 +31,7 @@ const USUAL_SECONDS: usize = 10;
 const USUAL_STAMP: usize = 17;
 
 /// The first number that isn't a CAN identifier of 29 bits.
-const FIRST_ERROR_FRAME: u32 = 0x2000_0000;
+pub(crate) const FIRST_ERROR_FRAME: u32 = 0x2000_0000;
 
 /// The first number past those of error frames. SocketCAN's flags of remote frames and of extended identifiers
 /// lie here, which `candump -L` doesn't print.
@@ -102,20 +101,18 @@ fn of_number(number: u32) -> Result<Option<u32>, BadCause>
 }
 
 /// The number of eight hexadecimal digits.
-fn read_word(digits: &[u8]) -> u32
-    requires eight { length digits.now ≡ 8 }
+#[inline]
+pub(crate) fn read_word(digits: &[u8; 8]) -> u32
     requires hexadecimal { list_all is_ascii_hexdigit digits.now ≡ true }
     ensures { option_map (from_be_bytes w32) (result_ok (decode_of digits.now)) ≡ Some result }
 {
-    match decode_digits(digits) {
-        Some(bytes) => {
-            let [a, b, c, d] = bytes.as_slice() else {
-                unreachable!()
-            };
-            u32::from_be_bytes([*a, *b, *c, *d])
-        }
-        None => unreachable!(),
-    }
+    let [a, b, c, d, e, f, g, h] = *digits;
+    u32::from_be_bytes([
+        spelled_byte(a, b),
+        spelled_byte(c, d),
+        spelled_byte(e, f),
+        spelled_byte(g, h),
+    ])
 }
 
 /// The 29 bits of an extended identifier, or none where the frame is skipped.
@@ -127,10 +124,12 @@ fn read_identifier(digits: &[u8]) -> Result<Option<u32>, BadCause>
     if !are_hex_digits(digits) {
         return Err(BadCause::Identifier);
     }
-    match digits.len() {
-        3 => Ok(None),
-        8 => of_number(read_word(digits)),
-        _ => Err(BadCause::Identifier),
+    if digits.len() == 3 {
+        return Ok(None);
+    }
+    match digits.as_array::<8>() {
+        Some(eight) => of_number(read_word(eight)),
+        None => Err(BadCause::Identifier),
     }
 }
 
@@ -278,16 +277,6 @@ fn read_seen(line: &[u8]) -> Option<(Moment, &[u8])>
     }
 }
 
-/// The digits of the identifier, and what follows them behind the first `#`.
-fn read_parts(text: &[u8]) -> Option<(&[u8], &[u8])>
-    ensures { Finds (λ x. (x.0.now, x.1.now)) result (framed text.now) }
-{
-    match usual_framed(text) {
-        Some(found) => Some(found),
-        None => read_framed(text),
-    }
-}
-
 /// The frame of a candump line, none where it is skipped, or the first of its causes.
 #[tactic(auto, unfolding(crate::specs::PrivateWords::candump_by))]
 fn read_frame(line: &[u8]) -> Result<Option<CandumpFrame>, BadCause>
@@ -296,7 +285,7 @@ fn read_frame(line: &[u8]) -> Result<Option<CandumpFrame>, BadCause>
     ensures short { IfOk result (λ frame. IfSome frame (λ f. length f.«data».items ≤ frame_payload)) }
 {
     let (seen, text) = read_seen(line).ok_or(BadCause::Stamp)?;
-    let (digits, text) = read_parts(text).ok_or(BadCause::Form)?;
+    let (digits, text) = read_framed(text).ok_or(BadCause::Form)?;
     let known = read_identifier(digits)?;
     frame_of(seen, known, text)
 }

@@ -1,6 +1,6 @@
 //! Numbers as digits.
 ghost use Rattle.std.specs.Prelude.{◌≡◌, ◌+◌, ◌<◌, ◌≤◌, ◌^◌, ◌*◌, ◌%◌, Some, IsSome, true, length, IfSome};
-ghost use Rattle.std.specs.Char.{is_ascii_hexdigit};
+ghost use Rattle.std.specs.Char.{is_ascii_digit, is_ascii_hexdigit};
 ghost use Rattle.std.specs.List.{list_all};
 ghost use Rattle.std.specs.Result.{result_ok};
 ghost use Rattle.hex.specs.Hex.{decode_of};
@@ -50,6 +50,25 @@ fn decimal_digit(byte: u8) -> Option<u64>
     }
 }
 
+/// Whether a byte is a decimal digit.
+fn is_digit(byte: u8) -> bool
+    ensures { result ≡ is_ascii_digit byte }
+{
+    byte.is_ascii_digit()
+}
+
+/// Whether each byte is a decimal digit. It looks at each, without a branch.
+#[inline]
+pub(crate) fn are_digits(digits: &[u8]) -> bool
+    ensures { result ≡ list_all is_ascii_digit digits.now }
+{
+    let mut all = true;
+    for byte in digits {
+        all &= is_digit(*byte);
+    }
+    all
+}
+
 /// Whether a byte is a hexadecimal digit, of either case.
 pub(crate) fn is_hex_digit(byte: u8) -> bool
     ensures { result ≡ is_ascii_hexdigit byte }
@@ -69,24 +88,19 @@ pub(crate) fn are_hex_digits(digits: &[u8]) -> bool
     all
 }
 
-/// The values of the hexadecimal digits `0` to `9`, `A` to `F` and `a` to `f`, by their codes. What stands for other
-/// codes is not asked.
-const HEX_VALUES: [u8; 103] = [
-    0, 1, 2, 3, 4, 5, 6, 7, 8, 9, 10, 11, 12, 13, 14, 15, 0, 1, 2, 3, 4, 5, 6, 7, 8, 9, 10, 11, 12,
-    13, 14, 15, 0, 1, 2, 3, 4, 5, 6, 7, 8, 9, 10, 11, 12, 13, 14, 15, 0, 1, 2, 3, 4, 5, 6, 7, 8, 9,
-    10, 11, 12, 13, 14, 15, 9, 10, 11, 12, 13, 14, 15, 16, 17, 18, 19, 20, 21, 22, 23, 24, 9, 10,
-    11, 12, 13, 14, 15, 16, 17, 18, 19, 20, 21, 22, 23, 24, 9, 10, 11, 12, 13, 14, 15,
-];
-
+/// The value of a hexadecimal digit, by arithmetic alone, so that many digits are taken at once: the letters, at 64 and
+/// above, count from 10.
+#[inline]
 fn hex_value(digit: u8) -> u8
     requires { is_ascii_hexdigit digit ≡ true }
     ensures value { result ≡ hex_value digit }
     ensures bound { result < 16 }
 {
-    HEX_VALUES[usize::from(digit)]
+    digit % 16 + digit / 64 * 9
 }
 
 /// The byte that two hexadecimal digits spell.
+#[inline]
 pub(crate) fn spelled_byte(high: u8, low: u8) -> u8
     requires high { is_ascii_hexdigit high ≡ true }
     requires low { is_ascii_hexdigit low ≡ true }
@@ -96,6 +110,7 @@ pub(crate) fn spelled_byte(high: u8, low: u8) -> u8
 }
 
 /// The eight bytes that sixteen digits spell.
+#[inline]
 pub(crate) fn eight_bytes(digits: &[u8; 16]) -> [u8; 8]
     requires { list_all is_ascii_hexdigit digits.now ≡ true }
     ensures { result_ok (decode_of digits.now) ≡ Some result }

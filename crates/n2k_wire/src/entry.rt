@@ -5,10 +5,12 @@ ghost use Rattle.n2k_wire.specs.Entry.{entry, IsEntry, IsShort};
 ghost use Rattle.n2k_wire.specs.Packet.{IsPacket};
 ghost use Rattle.n2k_wire.specs.declared.entry.Entry.TheVariants as entries;
 
-use crate::candump::read_candump;
+use crate::candump::{FRAME_PAYLOAD, read_candump};
 use crate::identifier::Id;
 use crate::packet::Packet;
 use crate::plain::read_plain;
+use crate::stamp::UTC_LEN;
+use crate::usual::{Clock, read_usual};
 
 /// The most bytes of a line, without its LF and CR. Comments count too.
 pub const LONGEST_LINE: usize = 2048;
@@ -99,6 +101,52 @@ pub fn read_line_into(line: &[u8], packing: Packing, place: &mut Entry)
     }
 }
 
+/// Reads lines one after the other, each into the room of the one before. Lines of one second mostly follow each other,
+/// and the text of the last second is kept, so that its date is worked out once.
+///
+/// ```text
+/// let mut reader = LineReader::new();
+/// let entry = reader.read(line, Packing::Frames);
+/// ```
+#[derive(Drop)]
+pub struct LineReader {
+    clock: Clock,
+    entry: Entry,
+}
+
+impl LineReader {
+    /// Before the first line.
+    pub fn new() -> LineReader {
+        LineReader {
+            clock: Clock::new(),
+            entry: Entry::Skip,
+        }
+    }
+
+    /// The entry of a line, as `read_line` says it. It takes no memory.
+    pub fn read(&mut self, line: &[u8], packing: Packing) -> &Entry
+        ensures entry { result.now ≡ entry line.now packing }
+        ensures valid { IsEntry result.now }
+        ensures short { IsShort result.now }
+    {
+        read_next(&mut self.clock, line, packing, &mut self.entry);
+        &self.entry
+    }
+}
+
+// The entry of the line after those that the clock has seen.
+#[inline]
+fn read_next(clock: &mut Clock, line: &[u8], packing: Packing, place: &mut Entry)
+    ensures entry { place.new ≡ entry line.now packing }
+    ensures valid { IsEntry place.new }
+    ensures short { IsShort place.new }
+{
+    match read_usual(clock, line, place) {
+        Some(()) => {}
+        None => read_line_into(line, packing, place),
+    }
+}
+
 /// Makes an entry the frame of these parts, in the room of the packet that it has, if it is a frame.
 pub(crate) fn set_frame(place: &mut Entry, stamp: &[u8], id: Id, data: &[u8])
     requires parts { IsPacket stamp.now id «data».now }
@@ -109,6 +157,24 @@ pub(crate) fn set_frame(place: &mut Entry, stamp: &[u8], id: Id, data: &[u8])
     match place {
         Entry::Frame(packet) => packet.set_parts(stamp, id, data),
         _ => *place = Entry::Frame(Packet::of_parts(stamp, id, data)),
+    }
+}
+
+/// The same of a stamp and data whose lengths are known, so that they are moved and not copied byte by byte.
+#[inline]
+pub(crate) fn set_usual(
+    place: &mut Entry,
+    stamp: &[u8; UTC_LEN],
+    id: Id,
+    data: &[u8; FRAME_PAYLOAD],
+)
+    requires { IsPacket stamp.now id «data».now }
+    ensures value { place.new ≡ entries.Frame (record { stamp = stamp.now; id = id; payload = «data».now }) }
+    ensures valid { IsEntry place.new }
+{
+    match place {
+        Entry::Frame(packet) => packet.set_parts(stamp, id, data),
+        _ => set_frame(place, stamp, id, data),
     }
 }
 

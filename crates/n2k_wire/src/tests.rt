@@ -1,6 +1,6 @@
 use crate::{
-    BadCause, Entry, Id, LONGEST_LINE, Packet, Packing, candump_text, join_id, plain_text,
-    read_line, split_id,
+    BadCause, Entry, Id, LONGEST_LINE, LineReader, Packet, Packing, candump_text, join_id,
+    plain_text, read_line, split_id,
 };
 use std::alloc::Global;
 use std::test::Fail;
@@ -12,14 +12,18 @@ fn text_behind(alloc: Global, word: &str, packet: &Packet) -> Result<String, Fai
     Ok(String::from_utf8(text)?)
 }
 
-// What a line is: its plain text, with `whole` in front where it is no frame; the cause it is bad for; or `skipped`.
-fn packed(alloc: Global, line: &[u8], packing: Packing) -> Result<String, Fail> {
-    match read_line(line, packing) {
+// An entry: its plain text, with `whole` in front where it is no frame; the cause it is bad for; or `skipped`.
+fn text_of(alloc: Global, entry: &Entry) -> Result<String, Fail> {
+    match entry {
         Entry::Skip => Ok("skipped".to_string(alloc)?),
         Entry::Bad(cause) => Ok(format!(in alloc; "{cause:?}")?),
-        Entry::Frame(packet) => text_behind(alloc, "", &packet),
-        Entry::Whole(packet) => text_behind(alloc, "whole ", &packet),
+        Entry::Frame(packet) => text_behind(alloc, "", packet),
+        Entry::Whole(packet) => text_behind(alloc, "whole ", packet),
     }
+}
+
+fn packed(alloc: Global, line: &[u8], packing: Packing) -> Result<String, Fail> {
+    text_of(alloc, &read_line(line, packing))
 }
 
 fn shown(alloc: Global, line: &[u8]) -> Result<String, Fail> {
@@ -90,6 +94,97 @@ fn candump_lines(rt: HostRuntime) -> Result<(), Fail> {
             wanted,
             "of {line}"
         );
+    }
+    Ok(())
+}
+
+// One reader reads them all, so that each comes after the second and the entry of the one before.
+#[test]
+fn lines_in_a_row(rt: HostRuntime) -> Result<(), Fail> {
+    let cases = [
+        (
+            "(1502979132.106111) can0 09F8027F#00FCFFFF0000FFFF",
+            "2017-08-17T14:12:12.106Z,2,129026,127,255,8,00,fc,ff,ff,00,00,ff,ff\n",
+        ),
+        (
+            "(1502979132.999999) vcan12345678901 18EA2301#14f0010203040506",
+            "2017-08-17T14:12:12.999Z,6,59904,1,35,8,14,f0,01,02,03,04,05,06\n",
+        ),
+        (
+            "(1503014399.000000) c 1FFFFFFF#FFFFFFFFFFFFFFFF",
+            "2017-08-17T23:59:59.000Z,7,262143,255,255,8,ff,ff,ff,ff,ff,ff,ff,ff\n",
+        ),
+        (
+            "(1503014400.010000) can0 00000000#0000000000000000",
+            "2017-08-18T00:00:00.010Z,0,0,0,0,8,00,00,00,00,00,00,00,00\n",
+        ),
+        // a second before the last
+        (
+            "(1502979132.000999) can0 18EAFF01#14F0010203040506",
+            "2017-08-17T14:12:12.000Z,6,59904,1,255,8,14,f0,01,02,03,04,05,06\n",
+        ),
+        // of another form, and what comes after them
+        ("# note", "skipped"),
+        (
+            "(1502979132.5) can0 18EAFF01#14F001",
+            "2017-08-17T14:12:12.500Z,6,59904,1,255,3,14,f0,01\n",
+        ),
+        (
+            "0,6,59904,1,255,9,00,01,02,03,04,05,06,07,08",
+            "whole 0,6,59904,1,255,9,00,01,02,03,04,05,06,07,08\n",
+        ),
+        (
+            "(1502979132.106111) can0 09F8027F#00FCFFFF0000FFFF",
+            "2017-08-17T14:12:12.106Z,2,129026,127,255,8,00,fc,ff,ff,00,00,ff,ff\n",
+        ),
+        // one byte off
+        (
+            "(150297913x.106111) can0 09F8027F#00FCFFFF0000FFFF",
+            "Stamp",
+        ),
+        (
+            "(1502979132,106111) can0 09F8027F#00FCFFFF0000FFFF",
+            "Stamp",
+        ),
+        (
+            "(1502979132.10611:) can0 09F8027F#00FCFFFF0000FFFF",
+            "Stamp",
+        ),
+        (
+            "(1502979132.106111] can0 09F8027F#00FCFFFF0000FFFF",
+            "Stamp",
+        ),
+        ("(1502979132.106111)_can0 09F8027F#00FCFFFF0000FFFF", "Form"),
+        (
+            "(1502979132.106111) abcdefghijklmnop 09F8027F#00FCFFFF0000FFFF",
+            "Form",
+        ),
+        (
+            "(1502979132.106111) can0 09F8027G#00FCFFFF0000FFFF",
+            "Identifier",
+        ),
+        (
+            "(1502979132.106111) can0 40000000#00FCFFFF0000FFFF",
+            "Identifier",
+        ),
+        (
+            "(1502979132.106111) can0 20000000#00FCFFFF0000FFFF",
+            "skipped",
+        ),
+        ("(1502979132.106111) can0 09F8027F#00FCFFFF0000FFF@", "Data"),
+        (
+            "(1502979132.106111) can0 09F8027F#R0FCFFFF0000FFFF",
+            "skipped",
+        ),
+        (
+            "(1502979132.106111)  can0 09F8027F#00FCFFFF0000FFFF",
+            "2017-08-17T14:12:12.106Z,2,129026,127,255,8,00,fc,ff,ff,00,00,ff,ff\n",
+        ),
+    ];
+    let mut reader = LineReader::new();
+    for (line, wanted) in cases {
+        let entry = reader.read(line.as_bytes(), Packing::Frames);
+        assert_eq!(rt; text_of(rt.alloc(), entry)?.as_str(), wanted, "of {line}");
     }
     Ok(())
 }

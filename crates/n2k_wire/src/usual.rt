@@ -1,14 +1,132 @@
-//! A fast path, for candump lines as `candump -L` writes them: what stands where is tested, and nothing is looked for.
-//! It promises only what it answers. Where it answers nothing, `candump.rt` reads on, which knows every line.
-ghost use Rattle.std.specs.Prelude.{◌≡◌, not, position, Some, IfSome};
-ghost use Rattle.n2k_wire.specs.Candump.{framed, is_interface_byte};
+//! A fast path: a candump line of eight bytes as `candump -L` writes it, `(1751608800.114221) can0 09F80103#FF..`, is read
+//! by place, and the text of its second is kept for the lines that follow. It promises only what it answers. Where it
+//! answers nothing `candump.rt` reads the line, as it reads every line.
+ghost use Rattle.std.specs.Prelude.{◌≡◌, ◌≤◌, ◌<◌, ◌^◌, ℕ, not, position, true, false, Some, Ok, IfSome, IsTrue};
+ghost use Rattle.std.specs.Char.{is_ascii_hexdigit};
+ghost use Rattle.std.specs.List.{list_all};
+ghost use Rattle.n2k_wire.specs.Candump.{framed, is_interface_byte, identifier, is_other_frame, payload};
+ghost use Rattle.n2k_wire.specs.Entry.{entry, IsEntry, IsShort};
+ghost use Rattle.n2k_wire.specs.declared.entry.Packing.{Packing};
+ghost use Rattle.n2k_wire.specs.Packet.{is_stamp};
+ghost use Rattle.n2k_wire.specs.PrivateWords.{IsFront, stamp_behind};
+ghost use Rattle.n2k_wire.specs.Stamp.{last_second, millis_digits, three_digits, utc_text};
 
-use crate::candump::{LONGEST_INTERFACE, is_interface_byte};
-use crate::digits::are_hex_digits;
+use crate::candump::{FIRST_ERROR_FRAME, LONGEST_INTERFACE, is_interface_byte, read_word};
+use crate::digits::{are_digits, are_hex_digits, decimal_number, eight_bytes};
+use crate::entry::{Entry, set_usual};
+use crate::identifier::split_id;
 use crate::pieces::after_byte;
+use crate::stamp::{Moment, UTC_LEN, utc_text};
+
+/// The bytes of `(1751608800.`.
+const FRONT: usize = 12;
+
+/// The digits of the seconds.
+const SECONDS: usize = 10;
+
+/// The digits of the fraction.
+const FRACTION: usize = 6;
 
 /// The digits of an extended identifier.
 const WORD_DIGITS: usize = 8;
+
+/// The least bytes of such a line, and the most.
+const SHORTEST: usize = 47;
+
+const LONGEST: usize = 61;
+
+/// The second of the line that was read last.
+#[derive(Drop)]
+pub(crate) struct Clock {
+    /// What a line of that second begins with.
+    front: [u8; FRONT],
+    seconds: u64,
+    /// The UTC text of the second's begin.
+    text: [u8; UTC_LEN],
+    ghost is_front: { IsFront front seconds },
+    ghost seconds_fit: { seconds ≤ last_second },
+    ghost is_text: { text ≡ utc_text (record { seconds = seconds; millis = 0 }) },
+}
+
+impl Clock {
+    pub(crate) fn new() -> Clock {
+        Clock {
+            front: *b"(0000000000.",
+            seconds: 0,
+            text: utc_text(Moment {
+                seconds: 0,
+                millis: 0,
+            }),
+        }
+    }
+
+    /// Turns to the second of the lines with this front, if it is such a front.
+    #[inline(never)]
+    fn turn(&mut self, front: &[u8; FRONT]) -> Option<()>
+        ensures { IfSome result (λ done. self.new.front ≡ front.now) }
+    {
+        let inner = after_byte(b'(', front)?;
+        let (digits, point) = inner.split_at(SECONDS);
+        after_byte(b'.', point)?;
+        let seconds = decimal_number(12, digits)?;
+        self.front = *front;
+        self.seconds = seconds;
+        self.text = utc_text(Moment { seconds, millis: 0 });
+        Some(())
+    }
+
+    /// Goes on to the second of the lines with this front. Mostly it is that of the line before.
+    #[inline]
+    fn go_on(&mut self, front: &[u8; FRONT]) -> Option<()>
+        ensures { IfSome result (λ done. self.new.front ≡ front.now) }
+    {
+        if are_same(front, &self.front) {
+            Some(())
+        } else {
+            self.turn(front)
+        }
+    }
+
+    /// The UTC text of a line's stamp, and what follows the stamp.
+    #[inline]
+    fn stamp_behind<'a>(&mut self, line: &'a [u8]) -> Option<([u8; UTC_LEN], &'a [u8])>
+        ensures value { IfSome result (λ x. stamp_behind line.now ≡ Some (x.0, x.1.now)) }
+        ensures stamp { IfSome result (λ x. IsTrue (is_stamp x.0)) }
+    {
+        let (front, behind) = line.split_first_chunk::<FRONT>()?;
+        let (fraction, behind) = behind.split_first_chunk::<FRACTION>()?;
+        let text = after_byte(b')', behind)?;
+        if !are_digits(fraction) {
+            return None;
+        }
+        self.go_on(front)?;
+        Some((with_millis(&self.text, fraction), text))
+    }
+}
+
+/// Whether two fronts are the same. It looks at each byte, without a branch.
+#[inline]
+fn are_same(front: &[u8; FRONT], other: &[u8; FRONT]) -> bool
+    ensures { IsTrue result → front.now ≡ other.now }
+{
+    let mut same = true;
+    for i in 0..FRONT {
+        same &= front[i] == other[i];
+    }
+    same
+}
+
+/// The text of a second with the milliseconds that a fraction begins with.
+#[inline]
+fn with_millis(text: &[u8; UTC_LEN], fraction: &[u8; FRACTION]) -> [u8; UTC_LEN]
+    ensures { (seconds m : ℕ) → text.now ≡ utc_text (record { seconds = seconds; millis = 0 }) → millis_digits m ≡ three_digits fraction.now → result ≡ utc_text (record { seconds = seconds; millis = m }) }
+{
+    let mut text = *text;
+    text[20] = fraction[0];
+    text[21] = fraction[1];
+    text[22] = fraction[2];
+    text
+}
 
 fn place_of_other(text: &[u8]) -> Option<usize>
     ensures { result ≡ position (λ b. not (is_interface_byte b)) text.now }
@@ -18,8 +136,10 @@ fn place_of_other(text: &[u8]) -> Option<usize>
 
 /// The digits of the identifier and what follows the `#`, where one space stands on each side of the interface, and
 /// eight digits before the `#`.
-pub(crate) fn usual_framed(text: &[u8]) -> Option<(&[u8], &[u8])>
-    ensures { IfSome result (λ x. framed text.now ≡ Some (x.0.now, x.1.now)) }
+#[inline]
+fn usual_framed(text: &[u8]) -> Option<(&[u8; WORD_DIGITS], &[u8])>
+    ensures value { IfSome result (λ x. framed text.now ≡ Some (x.0.now, x.1.now)) }
+    ensures hexadecimal { IfSome result (λ x. list_all is_ascii_hexdigit x.0.now ≡ true) }
 {
     let named = after_byte(b' ', text)?;
     let at = place_of_other(named)?;
@@ -28,13 +148,55 @@ pub(crate) fn usual_framed(text: &[u8]) -> Option<(&[u8], &[u8])>
     }
     let (_, rest) = named.split_at(at);
     let inner = after_byte(b' ', rest)?;
-    if inner.len() <= WORD_DIGITS {
-        return None;
-    }
-    let (digits, behind) = inner.split_at(WORD_DIGITS);
+    let (digits, behind) = inner.split_first_chunk::<WORD_DIGITS>()?;
     if !are_hex_digits(digits) {
         return None;
     }
     let data = after_byte(b'#', behind)?;
     Some((digits, data))
+}
+
+/// The 29 bits of an identifier of eight digits.
+#[inline]
+fn usual_identifier(digits: &[u8; WORD_DIGITS]) -> Option<u32>
+    requires { list_all is_ascii_hexdigit digits.now ≡ true }
+    ensures value { IfSome result (λ n. identifier digits.now ≡ Ok (Some n)) }
+    ensures bits { IfSome result (λ n. n < 2 ^ 29) }
+{
+    let number = read_word(digits);
+    if number < FIRST_ERROR_FRAME {
+        Some(number)
+    } else {
+        None
+    }
+}
+
+/// The eight bytes of a frame's data.
+#[inline]
+fn usual_payload(text: &[u8]) -> Option<[u8; 8]>
+    ensures frame { IfSome result (λ bytes. is_other_frame text.now ≡ false) }
+    ensures value { IfSome result (λ bytes. payload text.now ≡ Some bytes) }
+{
+    let digits = text.as_array::<16>()?;
+    if !are_hex_digits(digits) {
+        return None;
+    }
+    Some(eight_bytes(digits))
+}
+
+/// Puts the entry of such a line where that of an earlier line was. Of another line it answers nothing.
+pub(crate) fn read_usual(clock: &mut Clock, line: &[u8], place: &mut Entry) -> Option<()>
+    ensures entry { IfSome result (λ done. (packing : Packing) → place.new ≡ entry line.now packing) }
+    ensures valid { IfSome result (λ done. IsEntry place.new) }
+    ensures short { IfSome result (λ done. IsShort place.new) }
+{
+    if line.len() < SHORTEST || line.len() > LONGEST {
+        return None;
+    }
+    let (stamp, text) = clock.stamp_behind(line)?;
+    let (digits, text) = usual_framed(text)?;
+    let identifier = usual_identifier(digits)?;
+    let data = usual_payload(text)?;
+    set_usual(place, &stamp, split_id(identifier), &data);
+    Some(())
 }
