@@ -1,4 +1,4 @@
-use crate::folder::Name;
+use crate::folder::{Folder, Name};
 use crate::memory_folder::{Extent, MemoryFolder, Trouble};
 use crate::replacement::replace;
 use std::test::Fail;
@@ -56,5 +56,18 @@ fn a_cut_in_each_call_leaves_the_old_text_or_the_new(rt: HostRuntime) -> Result<
             }
         }
     }
+    Ok(())
+}
+
+// What is not synced may be there in part, and a rename may be there or not.
+#[test]
+fn a_cut_before_the_syncs_may_leave_a_part_or_the_old_text(rt: HostRuntime) -> Result<(), Fail> {
+    let mut folder = MemoryFolder::new(rt.alloc(), Some(OLD), None, Trouble::No)?;
+    assert!(rt; folder.create(Name::New).is_ok());
+    assert!(rt; folder.write(Name::New, NEW).is_ok());
+    assert!(rt; folder.rename(Name::New, Name::Own).is_ok());
+    assert_eq!(rt; folder.left(Name::Own, Extent::Nothing), Some(OLD));
+    assert_eq!(rt; folder.left(Name::Own, Extent::Part), Some(&NEW[..6]));
+    assert_eq!(rt; folder.left(Name::Own, Extent::Whole), Some(NEW));
     Ok(())
 }
