@@ -155,7 +155,13 @@ fn words_name_a_command_and_its_files(rt: HostRuntime) -> Result<(), Fail> {
         ),
         (
             &[
-                "n2kdec", "decode", "--in-order", "--table", "t", "--window", "32",
+                "n2kdec",
+                "decode",
+                "--in-order",
+                "--table",
+                "t",
+                "--window",
+                "32",
             ],
             "Decode { table: Word { text: \"t\" }, resume: None, save: None, empty: false, whole: false, window: Window { lines: 32, in_order: true }, log: None }",
         ),
