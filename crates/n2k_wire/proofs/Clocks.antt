@@ -1,5 +1,5 @@
 -- The second that lines in a row share: what they begin with, and its text with the milliseconds of each.
-use Rattle.std.proofs.Common.{◌≡◌, ℕ, ◌+◌, ◌-◌, ◌*◌, ◌/◌, ◌%◌, ◌≤◌, true, ltb, leb, List, [], ◌∷◌, ◌++◌, length, get_or, set, take, drop, Option, Some, None, refl, ap, sym, ◌∙◌, arith, append_assoc}
+use Rattle.std.proofs.Common.{◌≡◌, ℕ, ◌+◌, ◌-◌, ◌*◌, ◌/◌, ◌%◌, ◌≤◌, true, ltb, leb, List, [], ◌∷◌, ◌++◌, length, get_or, set, take, drop, Some, refl, ap, sym, ◌∙◌, arith, append_assoc}
 use Rattle.std.specs.Prelude.{codes, option_map, IsTrue}
 use Rattle.std.specs.Char.{is_ascii_digit}
 use Rattle.std.specs.List.{list_all}
@@ -8,7 +8,7 @@ use Rattle.std.proofs.lemmas.List.{length-drop, length-take-le, take-append-drop
 use Rattle.n2k_wire.specs.Digits.{decimal_after, decimal_digit, decimal_number}
 use Rattle.n2k_wire.specs.Packet.{is_stamp}
 use Rattle.n2k_wire.specs.Pieces.{after_byte}
-use Rattle.n2k_wire.specs.PrivateWords.{IsFront, IsMoment, seen_behind, stamp_behind}
+use Rattle.n2k_wire.specs.PrivateWords.{IsFront, seen_behind, stamp_behind}
 use Rattle.n2k_wire.specs.Stamp.{Moment, millis_digits, three_digits, utc_text}
 use Rattle.n2k_wire.proofs.UsualStamps.{follows, usual}
 use Rattle.n2k_wire.proofs.UtcBack.{three_back}

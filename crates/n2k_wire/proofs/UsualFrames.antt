@@ -1,5 +1,5 @@
 -- What follows the stamp of a line, where it stands as `candump` writes it.
-use Rattle.std.proofs.Common.{◌≡◌, ℕ, ◌+◌, ◌*◌, ◌<◌, ◌≤◌, true, false, ltb, leb, not, List, [], ◌∷◌, ◌++◌, take, drop, length, Option, Some, None, Ok, refl, ap, sym, ◌∙◌, inl, inr, arith}
+use Rattle.std.proofs.Common.{◌≡◌, ℕ, ◌*◌, ◌<◌, ◌≤◌, true, false, ltb, leb, not, List, [], ◌∷◌, ◌++◌, take, drop, length, Option, Some, None, Ok, refl, ap, sym, ◌∙◌, inl, inr, arith}
 use Rattle.std.specs.Prelude.{◌==◌, position, option_map}
 use Rattle.std.specs.Char.{is_ascii_hexdigit}
 use Rattle.std.specs.Int.{w32, from_be_bytes}
@@ -17,7 +17,7 @@ use Rattle.n2k_wire.specs.Identifier.{split}
 use Rattle.n2k_wire.specs.Pieces.{after_byte}
 use Rattle.n2k_wire.specs.PrivateWords.{seen_behind, stamp_behind, candump_by}
 use Rattle.n2k_wire.specs.Stamp.{Moment, utc_text}
-use Rattle.n2k_wire.proofs.CandumpBack.{candump_entry, framed_read, no_other_frame}
+use Rattle.n2k_wire.proofs.CandumpBack.{candump_entry, framed_read}
 use Rattle.n2k_wire.proofs.HexDigits.{all_before, all_digits}
 use Rattle.n2k_wire.proofs.UsualStamps.{follows, same_candump}
 

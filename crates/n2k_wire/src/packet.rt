@@ -44,13 +44,18 @@ impl Model for Packet {
 fn is_stamp_byte(byte: u8) -> bool
     ensures { result ≡ is_stamp_byte byte }
 {
-    byte >= b' ' && byte <= b'~' && byte != b','
+    (byte >= b' ') & (byte <= b'~') & (byte != b',')
 }
 
+// It looks at each byte, without a branch.
 fn are_stamp_bytes(text: &[u8]) -> bool
     ensures { result ≡ list_all is_stamp_byte text.now }
 {
-    text.iter().all(|byte| is_stamp_byte(*byte))
+    let mut all = true;
+    for byte in text {
+        all &= is_stamp_byte(*byte);
+    }
+    all
 }
 
 // A byte that a stamp may begin with.

@@ -32,9 +32,15 @@ struct Header<'a> {
 fn first_piece(text: &[u8]) -> (&[u8], Option<&[u8]>)
     ensures { pieces text.now ≡ result.0.now ∷ pieces_left result.1 }
 {
-    match cut_at(b',', text) {
-        Some((piece, more)) => (piece, Some(more)),
-        None => (text, None),
+    // Most pieces have two bytes, and then no comma has to be looked for.
+    match text {
+        [first, second, b',', more @ ..] if *first != b',' && *second != b',' => {
+            (&text[..2], Some(more))
+        }
+        _ => match cut_at(b',', text) {
+            Some((piece, more)) => (piece, Some(more)),
+            None => (text, None),
+        },
     }
 }
 

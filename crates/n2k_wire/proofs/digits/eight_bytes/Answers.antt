@@ -1,4 +1,4 @@
-use Rattle.std.proofs.Common.{◌≡◌, ◌*◌, ◌≤◌, take, length, ap, sym, ◌∙◌, arith, Some}
+use Rattle.std.proofs.Common.{◌≡◌, take, ap, sym, ◌∙◌, arith, Some}
 use Rattle.std.proofs.lemmas.List.{take_more_set, take_all, length-set}
 use Rattle.n2k_wire.proofs.HexDigits.{spells_on, spells_none, decode_of-even}
 use Rattle.n2k_wire.proofs.digits.eight_bytes.Goals as goal

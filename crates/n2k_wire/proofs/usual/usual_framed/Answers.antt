@@ -1,4 +1,4 @@
-use Rattle.std.proofs.Common.{◌≡◌, length, sym, ◌∙◌, arith}
+use Rattle.std.proofs.Common.{sym, arith}
 use Rattle.n2k_wire.proofs.Clocks.{first_chunk}
 use Rattle.n2k_wire.proofs.UsualFrames.{by_place}
 use Rattle.n2k_wire.proofs.usual.usual_framed.Goals as goal

@@ -1,4 +1,3 @@
-use Rattle.std.proofs.Common.{arith}
 use Rattle.n2k_wire.proofs.UsualFrames.{identifier_of}
 use Rattle.n2k_wire.proofs.usual.usual_identifier.Goals as goal
 

@@ -1,4 +1,4 @@
-use Rattle.std.proofs.Common.{◌≡◌, ◌<◌, ◌^◌, length, ap, sym, ◌∙◌, arith}
+use Rattle.std.proofs.Common.{◌≡◌, ◌<◌, ◌^◌, length, ap, sym, arith}
 use Rattle.n2k_wire.proofs.Clocks.{front_parts, front_read}
 use Rattle.n2k_wire.proofs.UsualStamps.{follows}
 use Rattle.n2k_wire.proofs.usual.Clock.turn.Goals as goal
