@@ -469,3 +469,7 @@ begin_before (e ∷ es) line all = (all.0, begin_before es line all.1)
 pub before_next : (gs : List Group) (line : ℕ) → AllByRecursion (λ (g : Group). g.first ≤ line) gs → AllByRecursion (λ (g : Group). g.first < line + 1) gs
 before_next [] line all = tt
 before_next (g ∷ gs) line all = ((let here = all.0 in omega (arith, here)), before_next gs line all.1)
+
+pub no-entries : (es : List (FrameKey × OpenGroup)) → length es ≡ 0 → es ≡ []
+no-entries [] none = refl
+no-entries (e ∷ es) none = absurd (omega (arith, none))

@@ -41,4 +41,4 @@ returns-clause-broken c =
     none-lost c.args.in_order x es c.in-Some.at c.in-Some-at.group.now c.requires.apart place at (sym (c.bars.ensures (key_of at.key)) ∙ c.if-bars.false)
 
 pub unreachable-requires : goal.unreachable-requires
-unreachable-requires c = never-none (key_of c.args.frame.now.key) c.args.groups.now c.in-Some.at (sym c.in-Some.ensures) c.in_default.ensures
+unreachable-requires c = never-none (key_of c.args.frame.now.key) c.args.groups.now c.in-Some.at (sym c.in-Some.ensures) c.in_default-at.ensures

@@ -2,12 +2,14 @@ use Rattle.std.proofs.Common.{◌≡◌, ◌∙◌, ◌++◌, ap, sym, refl}
 use Rattle.std.specs.VecDeque.Iter.{deque_iter_rest}
 use Rattle.n2k_join.specs.Inner.SavedTokens.{groups_tokens}
 use Rattle.n2k_join.specs.Inner.Slots.{groups_in}
+use Rattle.n2k_join.proofs.EntryLemmas.{no-entries}
 use Rattle.n2k_join.proofs.SavedPieces.{groups_written, group_more_written}
 use Rattle.n2k_join.proofs.saved.text.push_groups.Goals as goal
 
 pub loop-key-init : goal.loop-key-init
 loop-key-init c =
-    let rest : deque_iter_rest c.into_iter-key-iterator.result ≡ c.args.groups.now = c.into_iter-key-iterator.ensures.into_iter_gives ∙ c.entries-key-items.ensures in
+    let given : deque_iter_rest c.into_iter-key-iterator.result ≡ c.entries-key-items.result.now.items = c.into_iter-key-iterator.ensures.into_iter_gives in
+    let rest : deque_iter_rest c.into_iter-key-iterator.result ≡ c.args.groups.now = given ∙ c.entries-key-items.ensures in
     record { tokens = ap (λ es. c.args.out.now.tokens ++ groups_tokens (groups_in es)) (sym rest); before = refl }
 
 pub loop-key-preserved : goal.loop-key-preserved
@@ -18,6 +20,6 @@ loop-key-preserved c = record {
 
 pub returns : goal.returns
 returns c = record {
-  tokens = groups_written _ c.loop-key.out.tokens (deque_iter_rest c.loop-key.key-iterator) c.in-None.ensures.steps.0 c.loop-key.invariant.tokens;
+  tokens = groups_written _ c.loop-key.out.tokens (deque_iter_rest c.loop-key.key-iterator) (no-entries (deque_iter_rest c.loop-key.key-iterator) c.in-None.ensures.steps.0) c.loop-key.invariant.tokens;
   before = c.loop-key.invariant.before;
 }
