@@ -40,6 +40,7 @@ pub mod SavedGroups
 pub mod SavedLists
 pub mod SavedPieces
 pub mod SlotLemmas
+pub mod Spelled
 pub mod Splitting
 pub mod StateBound
 pub mod StateReads

@@ -1,15 +1,16 @@
 -- The rules of a valid state, as they are asked, are what holds of the state of a join.
-use Rattle.std.proofs.Common.{◌≡◌, ◌≤◌, ◌+◌, ℕ, true, List, [], ◌∷◌, Option, arith}
+use Rattle.std.proofs.Common.{◌≡◌, ◌≤◌, ◌+◌, ℕ, true, List, [], ◌∷◌, Option, Ok, sym, subst, arith}
 use Rattle.std.specs.List.{AllByRecursion}
 use Rattle.std.proofs.lemmas.Bool.{ltb-true}
 use Rattle.n2k_wire.specs.Plain.{greatest_address}
 use Rattle.n2k_table.specs.declared.definition.Kind.{Kind}
 use Rattle.n2k_join.specs.Frames.{Key}
 use Rattle.n2k_join.specs.Open.{Piece, Group}
-use Rattle.n2k_join.specs.Resumed.{counts_hold, firsts_rise, group_holds, groups_hold, is_valid, key_holds, pieces_rise}
+use Rattle.n2k_join.specs.Resumed.{counts_hold, firsts_rise, group_holds, groups_hold, is_valid, judged, key_holds, pieces_rise}
 use Rattle.n2k_join.specs.Rules.{HasSeven, HasShape, RulesAreOne}
 use Rattle.n2k_join.specs.State.{State, IsState, AreFast, HasParts, IsKey, IsPiece}
-use Rattle.n2k_join.proofs.FastGroups.{valid-fast}
+use Rattle.n2k_join.specs.Window.{Rule, IsWindow}
+use Rattle.n2k_join.proofs.FastGroups.{valid-fast, read-spelled}
 use Rattle.n2k_join.proofs.SavedGroups.{total_from}
 use Rattle.n2k_join.proofs.StateTests.{both, at_most, in_time-from, in_time-to}
 use Rattle.n2k_join.proofs.ValidStates.{valid_state, state_valid}
@@ -55,3 +56,10 @@ rules-one kind s is = record {
   passes = λ state fast. state_valid kind s state fast;
   in_time = (in_time-from s, in_time-to s);
 }
+
+-- a text that is read spells a state that a join can have
+pub read-state : (kind : ℕ → Option Kind) (id : List ℕ) (rule : Rule) (bytes : List ℕ) (s : State) → IsWindow rule.window → judged kind id rule bytes ≡ Ok s → IsState s
+read-state kind id rule bytes s window is =
+    let read = read-spelled kind id rule bytes s is in
+    let own : IsWindow s.rule.window = subst (λ (r : Rule). IsWindow r.window) (sym read.same_rule) window in
+    valid-state kind s (record { window = own; held = read.spelled.held; frames = read.spelled.frames }) read.valid

@@ -166,11 +166,11 @@ abbrev pub is_whole : ℕ → Option ℕ → Bool
 is_whole n None = false
 is_whole n (Some m) = m == n
 
-abbrev pub format_by : Option ℕ → Result Place StateFault
-format_by n = if is_whole old_format n then Ok places.State else if is_whole saved_format n then Ok places.WindowState else Err Format
+abbrev pub format_numbered : Option ℕ → Result Place StateFault
+format_numbered n = if is_whole old_format n then Ok places.State else if is_whole saved_format n then Ok places.WindowState else Err Format
 
 abbrev pub format_in : Data → Result Place StateFault
-format_in d = format_by (option_and_then as_whole (get (codes "format") d))
+format_in d = format_numbered (option_and_then as_whole (get (codes "format") d))
 
 -- The rules of a valid state.
 -- Each line counts once at most as a message, as bad or as unknown, and opens one group at most, which is broken or open.

@@ -313,14 +313,16 @@ impl Join {
         })
     }
 
-    /// The join that a saved state spells, under the table that it was saved with. It goes on where that one stood.
+    /// The join that a saved state spells, under the table and the window that it was saved with. It goes on where that
+    /// one stood. A state of format 1 tells no window: it is read under the one that is handed in. Whether a group ends
+    /// before a lower number is not saved: that is as handed in, too.
     ///
     /// Any JSON text is taken that spells a valid state, whether or not a log leads to it (docs/PROFILE.md has its
-    /// members and rules). Else the first fault is answered that stands, in the order of their numbers, or `Memory`
+    /// members and rules). Else the first fault is answered that stands, in the order of docs/PROFILE.md, or `Memory`
     /// where a growth was refused.
     ///
     /// ```text
-    /// let join = Join::resume(alloc, &table, &state)?;
+    /// let join = Join::resume(alloc, &table, window, &state)?;
     /// ```
     #[tactic(auto, unfolding(crate::specs::Resumed::judged))]
     pub fn resume(
@@ -354,8 +356,9 @@ impl Join {
 
     /// The text of its state, from which `resume` goes on: JSON, as docs/PROFILE.md has it, without an LF.
     ///
-    /// It reads back under a table of the join's id in which the PGNs of its groups are fast ones: so under the table that
-    /// the join was made with, where its lines were taken with that one too.
+    /// It reads back under the join's window and a table of the join's id in which the PGNs of its groups are fast ones: so
+    /// under the table that the join was made with, where its lines were taken with that one too. It is of format 2, but of
+    /// format 1 where a group's window has ended: that state was read in format 1, and has taken no line since.
     pub fn save(&self, alloc: Global) -> Result<Vec<u8>, AllocError>
         ensures text { IfOk result (λ text. text.items ≡ state_text self.now) }
         ensures bounded { IfOk result (λ text. length text.items ≤ bare_bytes + group_bytes * length self.now.groups) }

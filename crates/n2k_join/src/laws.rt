@@ -103,9 +103,11 @@ pub fn one_transmission()
     ensures messages { (rule : Rule) (kind : ℕ → Option Kind) (es : List Entry) (line : ℕ) (m : Keyed) → rule.in_order ≡ true → gathered (within rule) (frames kind es) line ≡ Some m → ComesOfOne kind es line m }
 {}
 
-/// The rules of a valid state are one: those that a text is asked for, and those that the state of each join keeps.
+/// The rules of a valid state are one: those that a text is asked for, and those that the state of each join keeps. So each
+/// text that is read spells a state that a join can have.
 pub fn rules_are_one()
-    ensures { (kind : ℕ → Option Kind) (s : State) → HasShape s → RulesAreOne kind s }
+    ensures one { (kind : ℕ → Option Kind) (s : State) → HasShape s → RulesAreOne kind s }
+    ensures read { (kind : ℕ → Option Kind) (id : List ℕ) (rule : Rule) (bytes : List ℕ) (s : State) → IsWindow rule.window → judged kind id rule bytes ≡ Ok s → IsState s }
 {}
 
 /// The text of a state, read under its own table and window, gives that state, with the order of frames as it is asked for:

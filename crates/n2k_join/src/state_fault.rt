@@ -5,7 +5,8 @@ ghost use Rattle.n2k_join.specs.declared.state_fault.StateFault.TheVariants.{Mem
 use std::alloc::{AllocError, AllocFailed};
 use thiserror::Error;
 
-/// Why a saved state is refused. The numbers are those that users see; the first that stands is answered.
+/// Why a saved state is refused. The numbers are those that users see. The first that stands is answered, where
+/// `WindowDiffers` goes before `Invalid`.
 #[derive(Clone, Copy, PartialEq, Eq, Debug, Error)]
 pub enum StateFault {
     /// The bytes are not UTF-8, or no JSON text.

@@ -10,7 +10,7 @@ pub struct Step {
     pub message: Option<Packet>,
     /// Why it is bad.
     pub bad: Option<BadCause>,
-    /// The group that it breaks.
+    /// The group that its frame breaks.
     pub broken: Option<Broken>,
 }
 
@@ -21,6 +21,6 @@ pub struct LentStep<'a> {
     pub message: Option<&'a Packet>,
     /// Why it is bad.
     pub bad: Option<BadCause>,
-    /// The group that it breaks.
+    /// The group that its frame breaks.
     pub broken: Option<Broken>,
 }

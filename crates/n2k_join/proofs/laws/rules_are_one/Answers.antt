@@ -1,5 +1,5 @@
-use Rattle.n2k_join.proofs.OneRules.{rules-one}
+use Rattle.n2k_join.proofs.OneRules.{rules-one, read-state}
 use Rattle.n2k_join.proofs.laws.rules_are_one.Goals as goal
 
 pub returns : goal.returns
-returns c = rules-one
+returns c = record { one = rules-one; read = read-state }
