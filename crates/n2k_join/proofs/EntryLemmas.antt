@@ -290,7 +290,7 @@ place-line a k (e ∷ es) line n r found point = by (are_same k e.0) n refl poin
     by false (suc n) is point rest =
         let next : 1 + n ≡ suc n = omega arith in
         ap (λ m. 1 + m) (rest n (sym (ap (λ b. cond b (Some (line_of e)) (first_of k es)) is) ∙ sym (first-cons k e es) ∙ found)
-          ((λ i d low high. point.0 (suc i) d (omega arith) (omega (arith, high))), (λ i d low high. point.1 (suc i) d (omega (arith, low)) (omega (arith, high)))))
+        ((λ i d low high. point.0 (suc i) d (omega arith) (omega (arith, high))), (λ i d low high. point.1 (suc i) d (omega (arith, low)) (omega (arith, high)))))
         ∙ next
 
 -- lines don't fall

@@ -20,8 +20,8 @@ use crate::broken::Broken;
 use crate::counts::{Counts, MOST_LINES};
 use crate::fault::JoinFault;
 use crate::laws;
-use crate::outcome::{Outcome, packet_of, take_entry};
 use crate::open_groups::OpenGroups;
+use crate::outcome::{Outcome, packet_of, take_entry};
 use crate::saved::{
     SpelledGroup, SpelledState, format_in, parsed, read_state, rules_hold, state_text,
     stored_groups, waits_hold,

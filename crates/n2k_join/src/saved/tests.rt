@@ -26,6 +26,7 @@ fields = []
 // Of no lines, as it is saved, and in format 1. In these texts ' stands for a quotation mark, and ID for the table's id.
 const EMPTY: &str =
     "{'bad':0,'broken':0,'format':2,'groups':[],'lines':0,'messages':0,'table':'ID','unknown':0,'window':10000}";
+
 const OLD_EMPTY: &str =
     "{'bad':0,'broken':0,'format':1,'groups':[],'lines':0,'messages':0,'table':'ID','unknown':0}";
 

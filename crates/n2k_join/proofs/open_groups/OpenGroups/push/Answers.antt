@@ -16,7 +16,7 @@ invariant_of-self-2 c =
     let v = c.args.group in
     let kept = sym c.in_ok-reserve.ensures.items in
     subst (λ xs. IsIndexed xs c.learn.new.index) (sym c.push_back_reserved.ensures.items)
-      (pushed-indexed es k v c.learn.new.index (subst (Rise line_of 0) kept c.self.invariant.rise) (subst (λ xs. IsDistinct are_same (keys_of xs)) kept c.self.invariant.apart)
-        (subst (λ xs. position (λ (e : FrameKey × OpenGroup). are_same k e.0) xs ≡ None) (sym c.self.view_is ∙ kept) c.requires.new)
-        (subst (AllByRecursion (λ e. line_of e < v.first)) (sym c.self.view_is ∙ kept) c.requires.last)
-        c.in_ok-learn.ensures.learnt)
+    (pushed-indexed es k v c.learn.new.index (subst (Rise line_of 0) kept c.self.invariant.rise) (subst (λ xs. IsDistinct are_same (keys_of xs)) kept c.self.invariant.apart)
+    (subst (λ xs. position (λ (e : FrameKey × OpenGroup). are_same k e.0) xs ≡ None) (sym c.self.view_is ∙ kept) c.requires.new)
+    (subst (AllByRecursion (λ e. line_of e < v.first)) (sym c.self.view_is ∙ kept) c.requires.last)
+    c.in_ok-learn.ensures.learnt)

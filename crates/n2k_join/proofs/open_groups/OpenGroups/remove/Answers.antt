@@ -13,4 +13,4 @@ invariant_of-self-2 c =
     let l = c.in-Some.ensures.variant.0 refl in
     let found : slice_get es c.args.at ≡ Some (k, v) = entry-at es c.args.at (k, v) (omega (arith, l, c.self.inside.entries.ok.0)) ∙ sym (c.in-Some.ensures.succeeds (k, v) l) in
     subst (λ xs. IsIndexed xs c.forget.new.index) (sym c.in-Some.ensures.items)
-      (removed-indexed es c.args.at k v found c.self.invariant.rise c.self.invariant.apart c.forget.new.index (c.forget.ensures es c.self.invariant.known))
+    (removed-indexed es c.args.at k v found c.self.invariant.rise c.self.invariant.apart c.forget.new.index (c.forget.ensures es c.self.invariant.known))

@@ -17,9 +17,9 @@ invariant_of-self c =
     let l : c.args.at < length es = subst (λ xs. c.args.at < length xs) (sym c.self.view_is) c.requires.place in
     let found : slice_get es c.args.at ≡ Some (k, v) = entry-at es c.args.at (k, v) l ∙ sym (c.in-Some.ensures.succeeds (k, v) (omega (arith, l, c.self.inside.entries.ok.0))) in
     subst (λ xs. IsIndexed xs c.relearn.new.index) (sym (c.push_back_reserved.ensures.items ∙ ap (λ xs. xs ++ (k, w) ∷ []) c.in-Some.ensures.items))
-      (renewed-indexed es c.args.at k v found c.self.invariant.rise c.self.invariant.apart c.relearn.new.index w
-        (subst (AllByRecursion (λ e. line_of e < w.first)) (sym c.self.view_is) c.requires.last)
-        (c.relearn.ensures es (first-there es c.args.at k v found) c.self.invariant.known))
+    (renewed-indexed es c.args.at k v found c.self.invariant.rise c.self.invariant.apart c.relearn.new.index w
+    (subst (AllByRecursion (λ e. line_of e < w.first)) (sym c.self.view_is) c.requires.last)
+    (c.relearn.ensures es (first-there es c.args.at k v found) c.self.invariant.known))
 
 pub returns : goal.returns
 returns c = λ key ended there.
