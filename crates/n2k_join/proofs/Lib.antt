@@ -8,6 +8,7 @@ pub mod Carried
 pub mod Counting
 pub mod CutLaws
 pub mod Cuts
+pub mod EntryLemmas
 pub mod Expiring
 pub mod Falling
 pub mod FastGroups

@@ -20,8 +20,8 @@ use crate::broken::Broken;
 use crate::counts::{Counts, MOST_LINES};
 use crate::fault::JoinFault;
 use crate::laws;
+use crate::open_groups::OpenGroups;
 use crate::outcome::{Outcome, packet_of, take_entry};
-use crate::piece::{FrameKey, OpenGroup};
 use crate::saved::{
     SpelledGroup, SpelledState, format_in, parsed, read_state, rules_hold, state_text,
     stored_groups, waits_hold,
@@ -29,7 +29,6 @@ use crate::saved::{
 use crate::state_fault::StateFault;
 use crate::step::{LentStep, Step};
 use crate::window::Window;
-use indexmap::IndexMap;
 use n2k_table::Table;
 use n2k_wire::{Entry, Id, Packet};
 use std::alloc::{AllocError, Global};
@@ -42,7 +41,7 @@ pub struct Join {
     id: [u8; 32],
     window: Window,
     counts: Counts,
-    groups: IndexMap<FrameKey, OpenGroup>,
+    groups: OpenGroups,
 }
 
 impl Model for Join {
@@ -51,9 +50,9 @@ impl Model for Join {
 
     ghost Value = { State };
 
-    ghost view = { λ j. record { id = j.id; rule = j.window; counts = j.counts; groups = groups_in j.groups.entries } };
+    ghost view = { λ j. record { id = j.id; rule = j.window; counts = j.counts; groups = groups_in j.groups } };
 
-    ghost invariant = { λ j. IsState (record { id = j.id; rule = j.window; counts = j.counts; groups = groups_in j.groups.entries }) };
+    ghost invariant = { λ j. IsState (record { id = j.id; rule = j.window; counts = j.counts; groups = groups_in j.groups }) };
 }
 
 // What the types say of the parts of a packet.
@@ -111,7 +110,7 @@ impl Join {
             id: table.id(),
             window,
             counts: Counts::NONE,
-            groups: IndexMap::new(alloc),
+            groups: OpenGroups::new(alloc),
         }
     }
 
@@ -166,7 +165,7 @@ impl Join {
         ensures few { IsSome result → self.old.counts.lines < most_lines }
     {
         let broken = self.oldest_due()?;
-        self.groups.shift_remove_index(0);
+        self.groups.remove(0);
         let Counts {
             broken: before,
             held,

@@ -24,6 +24,7 @@ mod frame;
 mod group;
 mod join;
 pub mod laws;
+mod open_groups;
 mod outcome;
 mod piece;
 mod saved;

@@ -6,7 +6,7 @@ ghost use Rattle.std.proofs.Props.{props};
 ghost use Rattle.n2k_join.specs.Frames.{frame_bytes, longest_total, most_frames};
 
 /// The group that a frame belongs to: frames of one sender, receiver and PGN that have one sequence.
-#[derive(Clone, Copy, PartialEq, Eq, Hash)]
+#[derive(Clone, Copy, PartialEq, Eq, PartialOrd, Ord)]
 pub(crate) struct FrameKey {
     pub(crate) src: u8,
     pub(crate) dst: u8,

@@ -368,6 +368,42 @@ fn eight_under_way(rt: HostRuntime) -> Result<(), Fail> {
     Ok(())
 }
 
+// Second frames of 70 senders, one of them twice, and then their first ones, from the first sender on: more groups are
+// open than are looked through, and in the end few are.
+fn seventy_senders(alloc: Global) -> Result<String, Fail> {
+    let mut log = String::new(alloc);
+    for src in 0..70u8 {
+        let line = format!(in alloc; "(1.0) can0 1DFF04{src:02X}#010000000000FFFF\n")?;
+        log.push_str(&line)?;
+    }
+    log.push_str("(1.0) can0 1DFF0403#010000000000FFFF\n")?;
+    for src in 0..70u8 {
+        let line = format!(in alloc; "(2.0) can0 1DFF04{src:02X}#000BA399{src:02X}414243\n")?;
+        log.push_str(&line)?;
+    }
+    Ok(log)
+}
+
+#[test]
+fn seventy_under_way(rt: HostRuntime) -> Result<(), Fail> {
+    let alloc = rt.alloc();
+    let table = sample(alloc)?;
+    let mut join = Join::new(alloc, &table, long_window());
+    let log = seventy_senders(alloc)?;
+    let mut src = 0u8;
+    for line in log.lines() {
+        let step = take(&mut join, &table, line)?;
+        if let Some(message) = &step.message {
+            let data = [0xa3, 0x99, src, 0x41, 0x42, 0x43, 0, 0, 0, 0, 0];
+            assert_eq!(rt; message.data(), data.as_slice());
+            src = src.saturating_add(1);
+        }
+    }
+    let counts = join.counts();
+    assert_eq!(rt; (counts.messages, counts.broken, counts.held), (70, 1, 0));
+    Ok(())
+}
+
 // The text of the join's state. Only one growth is refused, so a second try has memory.
 fn saved(alloc: Global, join: &Join) -> Result<Vec<u8>, Fail> {
     match join.save(alloc) {
@@ -416,7 +452,11 @@ fn refused_growth_changes_nothing(rt: HostRuntime) -> Result<(), Fail> {
     let Ok(table) = sample(alloc) else {
         return Ok(());
     };
+    let Ok(senders) = seventy_senders(alloc) else {
+        return Ok(());
+    };
     let logs = [
+        senders.as_str(),
         TWO_SOURCES,
         FRAMES_IN_REVERSE,
         REPEAT_BREAKS,
