@@ -428,6 +428,7 @@ fn a_failed_read_leaves_the_join_at_a_line(rt: HostRuntime) -> Result<(), Fail> 
     assert_eq!(rt; join.counts().lines, 2);
 
     let mut rest = MemorySource::new(&log[86..], 60, 0);
+    let window = join.window();
     run(
         rt.alloc(),
         &table,
