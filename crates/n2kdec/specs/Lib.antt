@@ -4,6 +4,7 @@ pub mod Folder
 pub mod Inner
 pub mod MemoryFolder
 pub mod Replacement
+pub mod Standing
 pub mod Usage
 pub mod Words
 pub mod Work
