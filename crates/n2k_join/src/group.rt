@@ -152,6 +152,3 @@ impl OpenGroup {
         }
     }
 }
-
-#[cfg(test)]
-mod tests;

@@ -51,6 +51,3 @@ pub use reading::{MOST_READS, read_bytes};
 pub use standard::{StdSink, StdSource};
 pub use texts::{bad_text, broken_text, summary_text, write_summary};
 pub use writing::write_all;
-
-#[cfg(test)]
-mod tests;

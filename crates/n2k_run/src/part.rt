@@ -231,6 +231,3 @@ pub fn run_parts<W: Sink, E: Sink>(
     }
     Ok(last)
 }
-
-#[cfg(test)]
-mod tests;

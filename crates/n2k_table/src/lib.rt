@@ -42,6 +42,3 @@ pub use line::json_line;
 pub use sets::Sets;
 pub use shown::{Fields, Shown};
 pub use table::Table;
-
-#[cfg(test)]
-mod tests;

@@ -31,6 +31,3 @@ pub use identifier::{Id, join_id, split_id};
 pub use packet::{GREATEST_PGN, Packet};
 pub use plain::GREATEST_ADDRESS;
 pub use texts::{candump_text, plain_text};
-
-#[cfg(test)]
-mod tests;
