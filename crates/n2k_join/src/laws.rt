@@ -1,5 +1,5 @@
 //! Laws that hold of the definitions: each is the contract of a function that does nothing.
-ghost use Rattle.std.specs.Prelude.{◌≡◌, ◌≤◌, ◌≢◌, ℕ, Bool, All, true, List, [], length, Ok, Err, Option, Some, is_some};
+ghost use Rattle.std.specs.Prelude.{◌≡◌, ◌≤◌, ◌<◌, ◌≢◌, ℕ, Bool, All, true, List, [], length, Ok, Err, Option, Some, is_some};
 ghost use Rattle.n2k_wire.specs.declared.entry.Entry.{Entry};
 ghost use Rattle.n2k_wire.specs.Entry.{IsEntry};
 ghost use Rattle.n2k_wire.specs.Packet.{PacketParts, IsPacketParts};
@@ -9,7 +9,7 @@ ghost use Rattle.n2k_join.specs.Counts.{most_lines};
 ghost use Rattle.n2k_join.specs.Pieces.{Sending, split, written};
 ghost use Rattle.n2k_join.specs.Frames.{Key, Frame, frames};
 ghost use Rattle.n2k_join.specs.Groups.{within};
-ghost use Rattle.n2k_join.specs.Scattered.{IsScattered, IsMute, WrittenLog};
+ghost use Rattle.n2k_join.specs.Scattered.{IsScattered, IsMute, WrittenLog, key_of_sending};
 ghost use Rattle.n2k_join.specs.Replay.{Replays};
 ghost use Rattle.n2k_join.specs.Messages.{Keyed, cause_in, gathered};
 ghost use Rattle.n2k_join.specs.Laws.{CutJoins, CutFirst, CutGrows, StepsAgree, LinesStay, BadAlone, ExpiresFirst};
@@ -23,6 +23,8 @@ ghost use Rattle.n2k_join.specs.State.{State, IsState, AreFast, AreWaiting, stat
 ghost use Rattle.n2k_join.specs.Window.{Rule, IsWindow};
 ghost use Rattle.n2k_join.specs.Arrival.{PiecesJoin, ArriveWhole, ComesNext, LeavesZero, Heals};
 ghost use Rattle.n2k_join.specs.Transmission.{AreTransmissions, ComesOfOne};
+ghost use Rattle.n2k_join.specs.Bounds.{TellsWindow, HoldsFew};
+ghost use Rattle.n2k_join.specs.UnderWay.{EightUnderWay, AreOfOneStream};
 
 /// The groups that frames are cut into are the frames in their order; none is empty, and none has a number twice.
 pub fn cut_joins()
@@ -62,6 +64,14 @@ pub fn bad_alone()
 /// frames under the number of earlier messages of its stream, modulo 8.
 pub fn splits_written()
     ensures { (kind : ℕ → Option Kind) (ms : List PacketParts) → split kind ms ≡ written kind ms }
+{}
+
+/// A stream's messages are kept apart by their numbers: of those of one sender, PGN and receiver, any eight that follow one
+/// another in a list have different keys, whatever other messages stand between them. Messages that differ in sender, PGN
+/// or receiver never have one key.
+pub fn eight_under_way()
+    ensures apart { (ms : List PacketParts) → EightUnderWay ms }
+    ensures streams { (x y : Sending) → key_of_sending x ≡ key_of_sending y → AreOfOneStream x y }
 {}
 
 /// The frames of a message's pieces make one group, in whatever order they come: together they are complete and carry
@@ -144,4 +154,11 @@ pub fn expires_first()
 /// Where no group's window has ended, no more groups are open than the window has lines.
 pub fn few_open()
     ensures { (s : State) → IsState s → AreWaiting s → length s.groups ≤ s.rule.window }
+{}
+
+/// So it is of a state that was read: where its text tells its window, few groups are open at once, and whatever its format,
+/// few are after a line. What is saved then is short, too.
+pub fn few_resumed()
+    ensures read { (kind : ℕ → Option Kind) (id : List ℕ) (rule : Rule) (bytes : List ℕ) (s : State) → IsWindow rule.window → IsId id → TellsWindow bytes → judged kind id rule bytes ≡ Ok s → HoldsFew s }
+    ensures after_a_line { (kind : ℕ → Option Kind) (id : List ℕ) (rule : Rule) (bytes : List ℕ) (s : State) (e : Entry) → IsWindow rule.window → IsId id → judged kind id rule bytes ≡ Ok s → IsEntry e → s.counts.lines < most_lines → HoldsFew (step_after kind s e) }
 {}
