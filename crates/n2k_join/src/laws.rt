@@ -21,7 +21,7 @@ ghost use Rattle.n2k_join.specs.declared.state_fault.StateFault.TheVariants.{Win
 ghost use Rattle.n2k_join.specs.Saved.{IsId, state_text};
 ghost use Rattle.n2k_join.specs.State.{State, IsState, AreFast, AreWaiting, state, step_after};
 ghost use Rattle.n2k_join.specs.Window.{Rule, IsWindow};
-ghost use Rattle.n2k_join.specs.Arrival.{PiecesJoin, ArriveWhole, ComesNext, LeavesZero, Heals};
+ghost use Rattle.n2k_join.specs.Arrival.{PiecesJoin, FillsAllFrames, ArriveWhole, ComesNext, LeavesZero, Heals};
 ghost use Rattle.n2k_join.specs.Transmission.{AreTransmissions, ComesOfOne};
 ghost use Rattle.n2k_join.specs.Bounds.{TellsWindow, HoldsFew};
 ghost use Rattle.n2k_join.specs.UnderWay.{EightUnderWay, AreOfOneStream};
@@ -75,9 +75,11 @@ pub fn eight_under_way()
 {}
 
 /// The frames of a message's pieces make one group, in whatever order they come: together they are complete and carry
-/// the message's data, and no proper part of them is complete.
+/// the message's data, and no proper part of them is complete. The longest message has a frame of each number, and with a
+/// byte more it would need another.
 pub fn pieces_join()
-    ensures { (x : Sending) → PiecesJoin x }
+    ensures pieces { (x : Sending) → PiecesJoin x }
+    ensures longest { FillsAllFrames }
 {}
 
 /// Messages whose frames are scattered over a log arrive whole, each key's in their order: no group is broken, and none
