@@ -8,11 +8,11 @@ ghost use Rattle.n2k_table.specs.declared.definition.Kind.TheVariants.{Fast};
 ghost use Rattle.n2k_join.specs.Counts.{most_lines};
 ghost use Rattle.n2k_join.specs.Pieces.{Sending, split, written};
 ghost use Rattle.n2k_join.specs.Frames.{Key, Frame, frames};
-ghost use Rattle.n2k_join.specs.Groups.{within};
+ghost use Rattle.n2k_join.specs.Groups.{Ends, EndsRepeats, within};
 ghost use Rattle.n2k_join.specs.Scattered.{IsScattered, IsMute, WrittenLog, key_of_sending};
 ghost use Rattle.n2k_join.specs.Replay.{Replays};
 ghost use Rattle.n2k_join.specs.Messages.{Keyed, cause_in, gathered};
-ghost use Rattle.n2k_join.specs.Laws.{CutJoins, CutFirst, CutGrows, StepsAgree, LinesStay, BadAlone, ExpiresFirst};
+ghost use Rattle.n2k_join.specs.Laws.{CutJoins, CutFirst, CutGrows, HasSettled, StepsAgree, LinesStay, BadAlone, ExpiresFirst};
 ghost use Rattle.n2k_join.specs.Open.{Group};
 ghost use Rattle.n2k_join.specs.Step.{due};
 ghost use Rattle.n2k_join.specs.Resumed.{judged};
@@ -26,21 +26,24 @@ ghost use Rattle.n2k_join.specs.Transmission.{AreTransmissions, ComesOfOne};
 ghost use Rattle.n2k_join.specs.Bounds.{TellsWindow, HoldsFew};
 ghost use Rattle.n2k_join.specs.UnderWay.{EightUnderWay, AreOfOneStream};
 
-/// The groups that frames are cut into are the frames in their order; none is empty, and none has a number twice.
+/// The groups that frames are cut into are the frames in their order; none is empty, and none has a number twice. So it is
+/// of every test that ends a group at a number that comes again, and each rule is one.
 pub fn cut_joins()
-    ensures { (rule : Rule) (fs : List Frame) → CutJoins rule fs }
+    ensures joins { (ends : Ends) (fs : List Frame) → EndsRepeats ends → CutJoins ends fs }
+    ensures rules { (rule : Rule) → EndsRepeats (within rule) }
 {}
 
 /// What the groups are, in other words: no frames have none; of others the first is the shortest front that has ended,
 /// because it is complete, or no frame follows, or it ends before the next one; and the rest is cut likewise.
 pub fn cut_first()
-    ensures { (rule : Rule) (fs : List Frame) → CutFirst rule fs }
+    ensures { (ends : Ends) (fs : List Frame) → CutFirst ends fs }
 {}
 
-/// One frame more at the end leaves each group that is complete, and each that is broken, as it was, and broken at the
-/// same line.
+/// Frames that follow leave each group that is complete, and each that is broken, as it was, and broken at the same line.
+/// So what the lines of a log gave is settled, whatever follows them.
 pub fn cut_grows()
-    ensures { (rule : Rule) (fs : List Frame) (x : Frame) → CutGrows rule fs x }
+    ensures grows { (ends : Ends) (fs back : List Frame) → CutGrows ends fs back }
+    ensures settled { (rule : Rule) (kind : ℕ → Option Kind) (front back : List Entry) → IsWindow rule.window → HasSettled rule kind front back }
 {}
 
 /// The step knows only the state, and yet agrees with the whole log: from the state of a log it leads to the state of the
