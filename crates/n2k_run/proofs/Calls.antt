@@ -20,14 +20,10 @@ ended_once : (b : Bool) → (if b then 1 else 0) ≤ 1
 ended_once true = omega arith
 ended_once false = omega arith
 
--- and one where the end was found
+-- and one does where the end was found
 pub idle_at_end : (ended : Bool) → ended ≡ true → 1 ≤ (if ended then 1 else 0)
 idle_at_end true is = omega arith
 idle_at_end false is = cc
-
-pub idle_once : {T E : Type 0} (ended : Bool) (result : Result T E) → idle_calls ended result ≤ 1
-idle_once ended (Ok x) = ended_once ended
-idle_once ended (Err e) = omega arith
 
 -- no call was made
 pub none_read : (left : Option (List ℕ)) (calls : ℕ) → ReadsBytes 0 left left calls calls

@@ -41,6 +41,7 @@ pub struct Blocks {
     line_end: usize,
     start: usize,
     end: usize,
+    // Where the first LF of what is kept stands, counted from `start`.
     feed: Option<usize>,
     is_passing: bool,
     has_ended: bool,
