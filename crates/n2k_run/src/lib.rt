@@ -31,6 +31,7 @@ mod maker;
 mod memory;
 mod options;
 mod part;
+mod part_source;
 mod plain;
 mod reading;
 mod standard;
