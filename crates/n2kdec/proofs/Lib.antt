@@ -5,5 +5,6 @@ pub mod Lines
 pub mod Placing
 pub mod Replacing
 pub mod Rows
+pub mod Tables
 pub mod WorkLemmas
 pub mod WorkedFolders

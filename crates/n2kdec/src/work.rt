@@ -4,7 +4,7 @@ ghost use Rattle.n2k_run.specs.FramesOut.{IsInterface, interface_of};
 ghost use Rattle.n2k_run.specs.Runs.{devices};
 ghost use Rattle.n2kdec.specs.Commands.{IsRefusal};
 ghost use Rattle.n2kdec.specs.Words.{IsCommand, interface_word, options_of};
-ghost use Rattle.n2kdec.specs.Work.{DoesDecode, DoesFrames, DoesPlain, TellsWhole, Works, answer_of_part, stop_of, stop_of_part};
+ghost use Rattle.n2kdec.specs.Work.{ByTable, DoesDecode, DoesFrames, DoesPlain, TellsWhole, Works, answer_of_part, stop_of, stop_of_part};
 
 use crate::fault::Fault;
 use crate::word::{Word, Words};
@@ -153,6 +153,55 @@ fn do_frames<R: Source, W: Sink, E: Sink>(
     whole(alloc, ended)
 }
 
+// `decode` by the table that the bytes spell, where they have no fault.
+fn decode_by<R: Source, W: Sink, E: Sink>(
+    alloc: Global,
+    table: &[u8],
+    state: Option<&[u8]>,
+    options: Options,
+    log: &mut R,
+    output: &mut W,
+    errors: &mut E,
+) -> Result<Part, Stop>
+    ensures does { let before = devices (R.remaining log.old) (R.calls log.old) (R.failed_calls log.old)
+        (W.contents output.old) (W.failed_calls output.old) (E.contents errors.old) (E.failed_calls errors.old) in
+        let after = devices (R.remaining log.new) (R.calls log.new) (R.failed_calls log.new)
+        (W.contents output.new) (W.failed_calls output.new) (E.contents errors.new) (E.failed_calls errors.new) in
+        ByTable table.now before after result
+        (λ t. DoesDecode t options (option_map (λ bytes. bytes.now) state.entry) before after result) }
+    ensures untouched { IfErr result (λ stop. IsRefusal stop.fault
+        → (stop.part ≡ None) × ((log.new ≡ log.old) × (output.new ≡ output.old) × (errors.new ≡ errors.old))) }
+{
+    match Table::read(alloc, table) {
+        Ok(table) => do_decode(alloc, &table, state, options, log, output, errors),
+        Err(fault) => Err(Stop::of(Fault::Table(fault))),
+    }
+}
+
+// `frames` by the table that the bytes spell, where they have no fault.
+fn frames_by<R: Source, W: Sink, E: Sink>(
+    alloc: Global,
+    table: &[u8],
+    interface: Option<&str>,
+    log: &mut R,
+    output: &mut W,
+    errors: &mut E,
+) -> Result<Part, Stop>
+    requires { IsInterface (interface_of interface) }
+    ensures does { let before = devices (R.remaining log.old) (R.calls log.old) (R.failed_calls log.old)
+        (W.contents output.old) (W.failed_calls output.old) (E.contents errors.old) (E.failed_calls errors.old) in
+        let after = devices (R.remaining log.new) (R.calls log.new) (R.failed_calls log.new)
+        (W.contents output.new) (W.failed_calls output.new) (E.contents errors.new) (E.failed_calls errors.new) in
+        ByTable table.now before after result (λ t. DoesFrames t (interface_of interface.entry) before after result) }
+    ensures untouched { IfErr result (λ stop. IsRefusal stop.fault
+        → (stop.part ≡ None) × ((log.new ≡ log.old) × (output.new ≡ output.old) × (errors.new ≡ errors.old))) }
+{
+    match Table::read(alloc, table) {
+        Ok(table) => do_frames(alloc, &table, interface, log, output, errors),
+        Err(fault) => Err(Stop::of(Fault::Table(fault))),
+    }
+}
+
 /// Does what the words name, from the bytes of a table and of a state as far as their command has them: `plain` and
 /// `frames` over a whole log, `decode` from the state on, or from a log's beginning (`None`). The output gets the texts,
 /// and `errors` the reports.
@@ -185,17 +234,13 @@ pub fn work<R: Source, W: Sink, E: Sink>(
             whole,
             window,
             ..
-        } => match Table::read(alloc, table) {
-            Ok(table) => {
-                let options = options_of(*empty, *whole, *window);
-                do_decode(alloc, &table, state, options, log, output, errors)
-            }
-            Err(fault) => Err(Stop::of(Fault::Table(fault))),
-        },
-        Words::Frames { candump, .. } => match Table::read(alloc, table) {
-            Ok(table) => do_frames(alloc, &table, text_of(candump), log, output, errors),
-            Err(fault) => Err(Stop::of(Fault::Table(fault))),
-        },
+        } => {
+            let options = options_of(*empty, *whole, *window);
+            decode_by(alloc, table, state, options, log, output, errors)
+        }
+        Words::Frames { candump, .. } => {
+            frames_by(alloc, table, text_of(candump), log, output, errors)
+        }
         Words::Help(_) => Err(Stop::of(Fault::Words)),
     }
 }
