@@ -23,6 +23,7 @@ mod plain;
 mod stamp;
 mod texts;
 mod usual;
+mod usual_plain;
 
 pub use candump::{FRAME_PAYLOAD, is_interface};
 pub use entry::{BadCause, Entry, LONGEST_LINE, LineReader, Packing, read_line, read_line_into};
