@@ -1,5 +1,5 @@
 -- What a state that was read holds at the most.
-use Rattle.std.proofs.Common.{◌≡◌, ◌≤◌, ◌<◌, ◌==◌, ◌+◌, ◌*◌, ℕ, true, List, length, Option, Some, None, Result, Ok, IfOk, sym, subst, arith}
+use Rattle.std.proofs.Common.{◌≡◌, ◌<◌, ◌==◌, ℕ, true, List, Option, Some, None, Result, Ok, IfOk, sym, subst, arith}
 use Rattle.std.specs.Prelude.{IfSome}
 use Rattle.std.specs.Str.{bytes_eq}
 use Rattle.serde_json.specs.Data.{Data}
@@ -13,7 +13,7 @@ use Rattle.n2k_join.specs.declared.state_fault.StateFault.TheVariants.{NotJson, 
 use Rattle.n2k_join.specs.Bounds.{TellsWindow, HoldsFew}
 use Rattle.n2k_join.specs.Counts.{most_lines}
 use Rattle.n2k_join.specs.Resumed.{format_in, is_valid, judged, parsed, state_of, waits_hold}
-use Rattle.n2k_join.specs.Saved.{IsId, are_waiting, bare_bytes, group_bytes, state_text}
+use Rattle.n2k_join.specs.Saved.{IsId, are_waiting}
 use Rattle.n2k_join.specs.State.{State, IsState, AreWaiting, step_after}
 use Rattle.n2k_join.specs.Window.{Rule, IsWindow}
 use Rattle.n2k_join.proofs.FastGroups.{read-spelled}
@@ -57,5 +57,4 @@ pub few_after : (kind : ℕ → Option Kind) (id : List ℕ) (rule : Rule) (byte
 unfolding step_after
 few_after kind id rule bytes s e window known is valid below =
     let read = read-spelled kind id rule bytes s is in
-    let state = read-state kind id rule bytes s window is in
-    holds_few (step_after kind s e) (step-keeps kind s e state valid below) (step-waits kind s e) (subst IsId (sym read.same_table) known)
+    holds_few (step_after kind s e) (step-keeps kind s e (read-state kind id rule bytes s window is) valid below) (step-waits kind s e) (subst IsId (sym read.same_table) known)

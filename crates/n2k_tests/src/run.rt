@@ -7,3 +7,4 @@ mod parts;
 mod plain;
 mod sending;
 mod standard;
+mod texts;

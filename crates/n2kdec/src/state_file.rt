@@ -46,7 +46,7 @@ pub struct StateFile<'a> {
 }
 
 impl<'a> StateFile<'a> {
-    ghost use Rattle.std.specs.Prelude.{◌≡◌};
+    ghost use Rattle.std.specs.Prelude.{◌≡◌, None, is_ok, true};
 
     /// The file of this name, or none. No call of it has failed.
     pub fn new(rt: &'a HostRuntime, name: Option<&'a Word>) -> Self
@@ -60,7 +60,9 @@ impl<'a> StateFile<'a> {
     }
 
     // Writes the state, where there is a file.
-    fn write(&self, state: &[u8]) -> Result<(), Failed> {
+    fn write(&self, state: &[u8]) -> Result<(), Failed>
+        ensures { self.now.name ≡ None → is_ok result ≡ true }
+    {
         match self.name {
             Some(name) => write_file(self.rt, name, state),
             None => Ok(()),

@@ -1,4 +1,5 @@
 //! The folder of a file of the system.
+ghost use Rattle.std.specs.Prelude.{◌≡◌, ◌++◌, IfOk, is_ok, string_bytes};
 
 use crate::folder::{Folder, Name};
 use n2k_run::Failed;
@@ -48,7 +49,9 @@ fn behind_links(rt: &HostRuntime, name: &str) -> Result<Option<String>, Failed> 
 }
 
 // One text behind the other.
-fn text(rt: &HostRuntime, front: &str, end: &str) -> Result<String, Failed> {
+fn text(rt: &HostRuntime, front: &str, end: &str) -> Result<String, Failed>
+    ensures { IfOk result (λ text. string_bytes text ≡ front.now ++ end.now) }
+{
     let mut text = String::new(rt.alloc());
     if text.push_str(front).is_err() || text.push_str(end).is_err() {
         return Err(Failed);
@@ -56,7 +59,9 @@ fn text(rt: &HostRuntime, front: &str, end: &str) -> Result<String, Failed> {
     Ok(text)
 }
 
-fn done(answer: io::Result<()>) -> Result<(), Failed> {
+fn done(answer: io::Result<()>) -> Result<(), Failed>
+    ensures { is_ok result ≡ is_ok answer }
+{
     match answer {
         Ok(()) => Ok(()),
         Err(_) => Err(Failed),
@@ -101,6 +106,8 @@ pub struct SystemFolder<'a> {
 }
 
 impl<'a> SystemFolder<'a> {
+    ghost use Rattle.std.specs.Prelude.{◌≡◌, string_bytes};
+
     /// The folder of the file that a name leads to, over links, or would lead to. None where that is no regular file,
     /// or stands for an open one: such is written to directly.
     pub fn of(rt: &'a HostRuntime, name: &str) -> Result<Option<SystemFolder<'a>>, Failed> {
@@ -123,7 +130,10 @@ impl<'a> SystemFolder<'a> {
         }))
     }
 
-    fn path(&self, name: Name) -> &str {
+    fn path(&self, name: Name) -> &str
+        ensures own { name ≡ Name.Own → result.now ≡ string_bytes self.now.own }
+        ensures new { name ≡ Name.New → result.now ≡ string_bytes self.now.new }
+    {
         match name {
             Name::Own => self.own.as_str(),
             Name::New => self.new.as_str(),

@@ -4,7 +4,7 @@ use super::logs::{
     REPEAT_BREAKS, SHORT_LAST_FRAME, SHORT_TOTALS, TWO_SOURCES, seventy_senders,
 };
 use crate::samples::{long_window, sample, shortest_window, take};
-use n2k_join::{Broken, Counts, Join, Step, Window};
+use n2k_join::{Broken, Counts, Join, JoinFault, Step, Window};
 use n2k_table::Table;
 use n2k_wire::{BadCause, Packing, plain_text, read_line};
 use std::alloc::Global;
@@ -331,5 +331,29 @@ fn seventy_under_way(rt: HostRuntime) -> Result<(), Fail> {
     }
     let counts = join.counts();
     assert_eq!(rt; (counts.messages, counts.broken, counts.held), (70, 1, 0));
+    Ok(())
+}
+
+// Whether a line lends a message. The groups whose window ends at it are broken before.
+fn lends(join: &mut Join, table: &Table, line: &str) -> Result<bool, JoinFault> {
+    while join.expire().is_some() {}
+    let entry = read_line(line.as_bytes(), Packing::Frames);
+    let mut joined = None;
+    let step = join.lend(table, &entry, &mut joined)?;
+    Ok(step.message.is_some())
+}
+
+// The last two lines of two sources complete a message each, which is lent.
+#[test]
+fn messages_are_lent(rt: HostRuntime) -> Result<(), Fail> {
+    let table = sample(rt.alloc())?;
+    let mut join = Join::new(rt.alloc(), &table, long_window());
+    let mut lent = 0u32;
+    for line in TWO_SOURCES.lines() {
+        if lends(&mut join, &table, line)? {
+            lent = lent.saturating_add(1);
+        }
+    }
+    assert_eq!(rt; lent, 2);
     Ok(())
 }

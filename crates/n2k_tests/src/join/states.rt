@@ -17,6 +17,10 @@ const OLD_EMPTY: &str =
 const OLD_OPEN: &str =
     "{'bad':0,'broken':0,'format':1,'groups':[{'dst':255,'first':1,'frames':[[0,'0ba39901414243']],'pgn':130820,'seq':0,'src':5},{'dst':255,'first':2,'frames':[[0,'0ba39902585920']],'pgn':130820,'seq':1,'src':6}],'lines':2,'messages':0,'table':'ID','unknown':0}";
 
+// The same in format 2.
+const OPEN: &str =
+    "{'bad':0,'broken':0,'format':2,'groups':[{'dst':255,'first':1,'frames':[[0,'0ba39901414243']],'pgn':130820,'seq':0,'src':5},{'dst':255,'first':2,'frames':[[0,'0ba39902585920']],'pgn':130820,'seq':1,'src':6}],'lines':2,'messages':0,'table':'ID','unknown':0,'window':10000}";
+
 // What is answered to whole texts.
 const WHOLE: &str = "NotJson | {'bad':0
 NotJson | 
@@ -75,14 +79,6 @@ taken | 'lines':2 | 'lines':32
 Invalid | 'lines':2 | 'lines':33
 Invalid | 'lines':2 | 'lines':50
 WindowDiffers | 'lines':2,'messages':0,'table':'ID','unknown':0,'window':32 | 'lines':50,'messages':0,'table':'ID','unknown':0,'window':33";
-
-// A state of format 1 as one that tells its window.
-fn told_window(alloc: Global, state: &str, window: u32) -> Result<String, Fail> {
-    let newer = state.replace(alloc, "'format':1", "'format':2")?;
-    let member = format!(in alloc; ",'window':{window}}}")?;
-    let front = newer.strip_suffix("}").ok_or("an object")?;
-    Ok(format!(in alloc; "{front}{member}")?)
-}
 
 // What the reading of a state answers: `taken`, or the fault.
 fn answer(alloc: Global, table: &Table, window: Window, state: &str) -> Result<String, Fail> {
@@ -148,7 +144,7 @@ fn states_judged(rt: HostRuntime) -> Result<(), Fail> {
     one_change_each(&rt, &table, long_window(), EMPTY, OF_EMPTY)?;
     one_change_each(&rt, &table, long_window(), OLD_EMPTY, OF_OLD_EMPTY)?;
     one_change_each(&rt, &table, long_window(), OLD_OPEN, OF_OLD_OPEN)?;
-    let open = told_window(rt.alloc(), OLD_OPEN, 32)?;
+    let open = OPEN.replace(rt.alloc(), "10000", "32")?;
     one_change_each(&rt, &table, shortest_window(), &open, OF_OPEN)
 }
 
@@ -178,15 +174,13 @@ fn two_lines_saved(rt: HostRuntime) -> Result<(), Fail> {
     let mut join = Join::new(rt.alloc(), &table, long_window());
     take(&mut join, &table, "(10.0) can0 1DFF0405#000BA39901414243")?;
     take(&mut join, &table, "(10.1) can0 1DFF0406#200BA39902585920")?;
-    let open = told_window(rt.alloc(), OLD_OPEN, 10_000)?;
-    saves(&rt, &join, &open)
+    saves(&rt, &join, OPEN)
 }
 
 #[test]
 fn two_lines_resumed(rt: HostRuntime) -> Result<(), Fail> {
     let table = sample(rt.alloc())?;
-    let open = told_window(rt.alloc(), OLD_OPEN, 10_000)?;
-    let mut join = resumed(rt.alloc(), &table, long_window(), &open)?;
+    let mut join = resumed(rt.alloc(), &table, long_window(), OPEN)?;
     let line = "(10.2) can0 1DFF0406#212020202020FFFF";
     let step = take(&mut join, &table, line)?;
     assert!(rt; step.message.is_some());

@@ -1,9 +1,7 @@
 //! Worked examples of logs that are decoded.
-ghost use Rattle.std.specs.Prelude.{◌<◌};
-
 use super::options::{TWO_SOURCES, frames, has_summary};
-use crate::samples::{long_window, sample, shortest_window};
-use n2k_join::{Join, Window};
+use crate::samples::{long_window, sample};
+use n2k_join::Join;
 use n2k_run::{MemorySink, MemorySource, RunFault, run};
 use n2k_table::Table;
 use serde_json::Value;
@@ -162,12 +160,12 @@ fn decodes<R: Abort + AllocGlobal>(
     table: &Table,
     log: &[u8],
     example: &Example,
-    window: Window,
     piece: usize,
 ) -> Result<(), Fail> {
     if piece == 0 {
         return Err("no piece".into());
     }
+    let window = long_window();
     let mut join = Join::new(rt.alloc(), table, window);
     let mut reader = MemorySource::new(log, piece, 0);
     let mut writer = MemorySink::new(rt.alloc(), piece, 0);
@@ -193,10 +191,9 @@ fn decodes_in_pieces<R: Abort + AllocGlobal>(
     table: &Table,
     log: &[u8],
     example: &Example,
-    window: Window,
 ) -> Result<(), Fail> {
     for piece in &PIECES {
-        decodes(rt, table, log, example, window, *piece)?;
+        decodes(rt, table, log, example, *piece)?;
     }
     Ok(())
 }
@@ -206,54 +203,7 @@ fn worked_examples_in_pieces(rt: HostRuntime) -> Result<(), Fail> {
     let table = sample(rt.alloc())?;
     for example in &EXAMPLES {
         let log = example.log.as_bytes();
-        decodes_in_pieces(&rt, &table, log, example, long_window())?;
-    }
-    Ok(())
-}
-
-// stale-group, with 31 empty lines and with 30, and two-broken-at-one-line.
-const WAITING: [Example; 3] = [
-    Example {
-        log: "(1.0) can0 1DFF0405#0141414141414141
-\n\n\n\n\n\n\n\n\n\n\n\n\n\n\n\n\n\n\n\n\n\n\n\n\n\n\n\n\n\n\n(9.0) can0 1DFF0405#000DA39903444546
-",
-        text: "",
-        reports: "line 33 broken pgn 130820 src 5 dst 255 seq 0 first 1\n",
-        summary: "lines 33 messages 0 bad 0 unknown 0 broken 1 open 1\n",
-    },
-    Example {
-        log: "(1.0) can0 1DFF0405#0141414141414141
-\n\n\n\n\n\n\n\n\n\n\n\n\n\n\n\n\n\n\n\n\n\n\n\n\n\n\n\n\n\n(9.0) can0 1DFF0405#000DA39903444546
-",
-        text: "{\"timestamp\":\"1970-01-01T00:00:09.000Z\",\"prio\":7,\"src\":5,\"dst\":255,\"pgn\":130820,\"description\":\"Sample: Label\",\"fields\":{\"Maker\":419,\"Kind\":3,\"Label\":\"DEFAAAAA\"}}
-",
-        reports: "",
-        summary: "lines 32 messages 1 bad 0 unknown 0 broken 0 open 0\n",
-    },
-    Example {
-        log: "(10.000001) can0 1DFF0405#000BA39901414243
-(10.100000) can0 1DFF0406#200BA39902585920
-\n\n\n\n\n\n\n\n\n\n\n\n\n\n\n\n\n\n\n\n\n\n\n\n\n\n\n\n\n\n(10.100000) can0 1DFF0406#200BA39902585920
-",
-        text: "",
-        reports: "line 33 broken pgn 130820 src 5 dst 255 seq 0 first 1
-line 33 broken pgn 130820 src 6 dst 255 seq 1 first 2
-",
-        summary: "lines 33 messages 0 bad 0 unknown 0 broken 2 open 1\n",
-    },
-];
-
-#[test]
-fn groups_wait_so_many_lines(rt: HostRuntime) -> Result<(), Fail> {
-    let table = sample(rt.alloc())?;
-    for example in &WAITING {
-        decodes_in_pieces(
-            &rt,
-            &table,
-            example.log.as_bytes(),
-            example,
-            shortest_window(),
-        )?;
+        decodes_in_pieces(&rt, &table, log, example)?;
     }
     Ok(())
 }
@@ -298,7 +248,7 @@ fn ten_lines(alloc: Global, others: &str) -> Result<Vec<u8>, AllocError> {
 fn ten_lines_eight_bad(rt: HostRuntime) -> Result<(), Fail> {
     let table = sample(rt.alloc())?;
     let log = ten_lines(rt.alloc(), TEN_LINES.log)?;
-    decodes_in_pieces(&rt, &table, &log, &TEN_LINES, long_window())
+    decodes_in_pieces(&rt, &table, &log, &TEN_LINES)
 }
 
 // A stamp may hold what JSON escapes.

@@ -1,11 +1,7 @@
 //! Devices in memory, and what reads and writes them whole.
 ghost use Rattle.std.specs.Prelude.{◌<◌};
 
-use n2k_join::Counts;
-use n2k_run::{
-    Blocks, BytesFault, Failed, MemorySink, MemorySource, Next, read_bytes, write_all,
-    write_summary,
-};
+use n2k_run::{Blocks, BytesFault, Failed, MemorySink, MemorySource, Next, read_bytes, write_all};
 use std::alloc::{AllocError, Global};
 use std::process::Abort;
 use std::test::Fail;
@@ -71,33 +67,6 @@ fn a_write_fails_and_the_next_goes_on(rt: HostRuntime) -> Result<(), Fail> {
     assert_eq!(rt; write_all(&mut sink, b"!"), Ok(()));
     assert_eq!(rt; sink.bytes(), b"0123456789!".as_slice());
     Ok(())
-}
-
-const MOST_COUNTED: Counts = Counts {
-    lines: u64::MAX,
-    messages: u64::MAX,
-    bad: u64::MAX,
-    unknown: u64::MAX,
-    broken: u64::MAX,
-    held: u64::MAX,
-};
-
-const LONGEST_SUMMARY: &str =
-    "lines 18446744073709551615 messages 18446744073709551615 bad 18446744073709551615 \
-    unknown 18446744073709551615 broken 18446744073709551615 open 18446744073709551615\n";
-
-#[test]
-fn the_longest_summary(rt: HostRuntime) {
-    let mut sink = MemorySink::new(rt.alloc(), 7, 0);
-    assert_eq!(rt; write_summary(&MOST_COUNTED, &mut sink), Ok(()));
-    assert_eq!(rt; sink.bytes(), LONGEST_SUMMARY.as_bytes());
-}
-
-#[test]
-fn a_summary_that_fails(rt: HostRuntime) {
-    let mut failing = MemorySink::new(rt.alloc(), 7, 2);
-    assert_eq!(rt; write_summary(&MOST_COUNTED, &mut failing), Err(Failed));
-    assert_eq!(rt; failing.bytes(), b"lines 1".as_slice());
 }
 
 // What the next line of a log is: its length, or 10,000 where it is long, 20,000 at the end and 30,000 where the read

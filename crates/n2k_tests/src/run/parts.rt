@@ -2,7 +2,7 @@
 ghost use Rattle.std.specs.Prelude.{◌<◌};
 
 use super::options::{TWO_SOURCES, frames, has_summary};
-use crate::samples::{long_window, sample, shortest_window, spelled};
+use crate::samples::{long_window, sample, spelled};
 use n2k_join::Window;
 use n2k_run::{MemorySink, MemorySource, Options, Part, PartFault, RunFault, run_part, run_parts};
 use n2k_table::Table;
@@ -270,27 +270,6 @@ fn goes_on_from_states(rt: HostRuntime) -> Result<(), Fail> {
     for resumed in &RESUMED {
         goes_on(&rt, &table, resumed)?;
     }
-    Ok(())
-}
-
-// Without a line that state is saved as it was read.
-#[test]
-fn an_overdue_state_stays(rt: HostRuntime) -> Result<(), Fail> {
-    let table = sample(rt.alloc())?;
-    let mut writer = MemorySink::new(rt.alloc(), 7, 0);
-    let mut reporter = MemorySink::new(rt.alloc(), 7, 0);
-    let state = spelled(rt.alloc(), OVERDUE)?;
-    let part = part_of_log(
-        rt.alloc(),
-        &table,
-        frames(shortest_window()),
-        Some(state.as_bytes()),
-        b"",
-        &mut writer,
-        &mut reporter,
-    )?;
-    assert_eq!(rt; part.state.as_slice(), state.as_bytes());
-    assert_eq!(rt; reporter.bytes(), b"".as_slice());
     Ok(())
 }
 

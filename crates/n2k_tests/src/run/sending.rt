@@ -5,7 +5,7 @@ use n2k_join::{Counts, Join};
 use n2k_run::{MemorySink, MemorySource, RunFault, run, run_frames};
 use n2k_table::Table;
 use n2k_wire::is_interface;
-use std::alloc::Global;
+use std::alloc::{AllocError, Global};
 use std::process::Abort;
 use std::test::Fail;
 
@@ -230,24 +230,15 @@ const NINE: &str = "1970-01-01T00:00:10.300Z,7,130820,5,255,11,a3,99,01,41,42,43
 1970-01-01T00:00:10.300Z,7,130820,5,255,11,a3,99,01,41,42,43,00,00,00,00,00
 ";
 
-// The JSON line of such a message, about its Kind.
-const BEFORE_KIND: &str =
-    "{\"timestamp\":\"1970-01-01T00:00:10.300Z\",\"prio\":7,\"src\":5,\"dst\":255,\"pgn\":130820,\"description\":\"Sample: Label\",\"fields\":{\"Maker\":419,\"Kind\":";
-
-const AFTER_KIND: &str = ",\"Label\":\"ABC\"}}\n";
+// The JSON line of such a message.
+const LABEL: &str =
+    "{\"timestamp\":\"1970-01-01T00:00:10.300Z\",\"prio\":7,\"src\":5,\"dst\":255,\"pgn\":130820,\"description\":\"Sample: Label\",\"fields\":{\"Maker\":419,\"Kind\":1,\"Label\":\"ABC\"}}\n";
 
 const XY: &str =
     "{\"timestamp\":\"1970-01-01T00:00:10.200Z\",\"prio\":7,\"src\":6,\"dst\":255,\"pgn\":130820,\"description\":\"Sample: Label\",\"fields\":{\"Maker\":419,\"Kind\":2,\"Label\":\"XY\"}}\n";
 
-fn push_label(lines: &mut Vec<u8>, kind: &[u8]) -> Result<(), Fail> {
-    lines.extend_from_slice(BEFORE_KIND.as_bytes())?;
-    lines.extend_from_slice(kind)?;
-    lines.extend_from_slice(AFTER_KIND.as_bytes())?;
-    Ok(())
-}
-
 // Frames with those of another source between them: the third line and the eleventh are followed by one of them.
-fn with_another_source(alloc: Global, frames: &[u8]) -> Result<Vec<u8>, Fail> {
+fn with_another_source(alloc: Global, frames: &[u8]) -> Result<Vec<u8>, AllocError> {
     let mut log = Vec::new(alloc);
     for (number, line) in frames.split_inclusive(|byte| *byte == b'\n').enumerate() {
         log.extend_from_slice(line)?;
@@ -261,13 +252,13 @@ fn with_another_source(alloc: Global, frames: &[u8]) -> Result<Vec<u8>, Fail> {
 }
 
 // The JSON lines of nine messages, and that of another source behind the fifth.
-fn nine_and_another(alloc: Global) -> Result<Vec<u8>, Fail> {
+fn nine_and_another(alloc: Global) -> Result<Vec<u8>, AllocError> {
     let mut lines = Vec::new(alloc);
     for number in 0..9 {
         if number == 5 {
             lines.extend_from_slice(XY.as_bytes())?;
         }
-        push_label(&mut lines, b"1")?;
+        lines.extend_from_slice(LABEL.as_bytes())?;
     }
     Ok(lines)
 }
@@ -280,56 +271,6 @@ fn nine_messages_and_another_source(rt: HostRuntime) -> Result<(), Fail> {
     let log = with_another_source(rt.alloc(), frames.bytes())?;
     let wanted = nine_and_another(rt.alloc())?;
     let decoded = decodes(&rt, &table, &log, 10)?;
-    assert_eq!(rt; decoded.bytes(), wanted.as_slice());
-    Ok(())
-}
-
-fn push_message(lines: &mut Vec<u8>, kind: &[u8]) -> Result<(), Fail> {
-    lines.extend_from_slice(b"1970-01-01T00:00:10.300Z,7,130820,5,255,11,a3,99,0")?;
-    lines.extend_from_slice(kind)?;
-    lines.extend_from_slice(b",41,42,43,00,00,00,00,00\n")?;
-    Ok(())
-}
-
-fn eight_messages(alloc: Global) -> Result<Vec<u8>, Fail> {
-    let mut messages = Vec::new(alloc);
-    for kind in [b"1", b"2", b"3", b"4", b"5", b"6", b"7", b"8"] {
-        push_message(&mut messages, kind)?;
-    }
-    Ok(messages)
-}
-
-// The JSON lines of the eight messages, the last one first.
-fn last_to_first(alloc: Global) -> Result<Vec<u8>, Fail> {
-    let mut lines = Vec::new(alloc);
-    for kind in [b"8", b"7", b"6", b"5", b"4", b"3", b"2", b"1"] {
-        push_label(&mut lines, kind)?;
-    }
-    Ok(lines)
-}
-
-// The lines of 16 frames in the order of the test below.
-fn under_way(alloc: Global, frames: &[u8]) -> Result<Vec<u8>, Fail> {
-    let mut log = Vec::new(alloc);
-    for place in [1u8, 3, 5, 7, 9, 11, 13, 15, 14, 12, 10, 8, 6, 4, 2, 0] {
-        // Each line has 66 bytes.
-        let start = 66 * usize::from(place);
-        let line = frames.get(start..start + 66).ok_or("no line")?;
-        log.extend_from_slice(line)?;
-    }
-    Ok(log)
-}
-
-// Eight messages of one stream are under way at once: first comes each one's second frame, in order, then each one's
-// first frame, the last message's first.
-#[test]
-fn eight_under_way(rt: HostRuntime) -> Result<(), Fail> {
-    let table = sample(rt.alloc())?;
-    let messages = eight_messages(rt.alloc())?;
-    let frames = frames_of(&rt, &table, &messages)?;
-    let log = under_way(rt.alloc(), frames.bytes())?;
-    let wanted = last_to_first(rt.alloc())?;
-    let decoded = decodes(&rt, &table, &log, 8)?;
     assert_eq!(rt; decoded.bytes(), wanted.as_slice());
     Ok(())
 }
