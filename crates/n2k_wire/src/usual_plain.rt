@@ -98,35 +98,20 @@ fn id_before(text: &[u8]) -> Option<(Id, &[u8])>
 fn eight_pieces(text: &[u8; EIGHT_PIECES]) -> Option<[u8; FRAME_PAYLOAD]>
     ensures { IfSome result (λ bytes. bytes_of 8 (pieces text.now) ≡ Some bytes) }
 {
-    let [
-        a,
-        b,
-        b',',
-        c,
-        d,
-        b',',
-        e,
-        f,
-        b',',
-        g,
-        h,
-        b',',
-        i,
-        j,
-        b',',
-        k,
-        l,
-        b',',
-        m,
-        n,
-        b',',
-        o,
-        p,
-    ] = *text
-    else {
+    if text[2] != b','
+        || text[5] != b','
+        || text[8] != b','
+        || text[11] != b','
+        || text[14] != b','
+        || text[17] != b','
+        || text[20] != b','
+    {
         return None;
-    };
-    let digits = [a, b, c, d, e, f, g, h, i, j, k, l, m, n, o, p];
+    }
+    let digits = [
+        text[0], text[1], text[3], text[4], text[6], text[7], text[9], text[10], text[12],
+        text[13], text[15], text[16], text[18], text[19], text[21], text[22],
+    ];
     if !are_hex_digits(&digits) {
         return None;
     }
