@@ -29,6 +29,7 @@ mod lookup;
 mod repeat;
 mod resolution;
 mod sets;
+mod short;
 mod shown;
 mod table;
 mod tail;
