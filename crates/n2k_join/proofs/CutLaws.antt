@@ -1,17 +1,21 @@
 -- The laws of what frames are cut into.
-use Rattle.std.proofs.Common.{◌≡◌, ◌≤◌, ◌<◌, ◌+◌, ◌&&◌, ℕ, suc, zero, Bool, true, false, cond, List, [], ◌∷◌, ◌++◌, length, refl, sym, ap, ◌∙◌, subst, arith, append_assoc, Some, slice_get}
+use Rattle.std.proofs.Common.{◌≡◌, ◌≤◌, ◌<◌, ◌+◌, ◌&&◌, ℕ, suc, zero, Bool, true, false, cond, List, [], ◌∷◌, ◌++◌, length, refl, sym, ap, ◌∙◌, subst, arith, append_assoc, Option, Some, None, slice_get}
 use Rattle.std.specs.Prelude.{option_map}
 use Rattle.std.specs.List.{AllByRecursion}
 use mathlib.Core.Logic.{◌⊎◌, inl, inr}
 use Rattle.std.proofs.lemmas.List.{append-nil, length-append, same_from_push}
 use Rattle.std.proofs.lemmas.List.Elements.{All-from_recursion}
-use Rattle.std.proofs.lemmas.Bool.{or_parts, or_left}
+use Rattle.std.proofs.lemmas.Bool.{or_parts, or_left, false≢true}
 use Rattle.std.proofs.lemmas.Option.{none-some, same_Some}
+use Rattle.n2k_wire.specs.declared.entry.Entry.{Entry}
+use Rattle.n2k_table.specs.declared.definition.Kind.{Kind}
 use Rattle.n2k_join.specs.Frames.{Frame}
-use Rattle.n2k_join.specs.Groups.{Ends, closes, complete, repeats, misfits, falls_back, is_late, within, has_twice, cut_from, cut, HasEnded, IsFirstGroup, first}
-use Rattle.n2k_join.specs.Laws.{CutJoins, HasFirstGroup, CutFirst, CutGrows}
+use Rattle.n2k_join.specs.Groups.{Ends, EndsRepeats, closes, complete, repeats, misfits, falls_back, is_late, within, has_twice, cut_from, cut, HasEnded, IsFirstGroup, first}
+use Rattle.n2k_join.specs.Laws.{CutJoins, HasFirstGroup, CutFirst, IsSettled, CutGrows, HasSettled}
 use Rattle.n2k_join.proofs.Carried.{has_twice-push}
 use Rattle.n2k_join.proofs.Cuts.{grown, cut-push, cut-joined, cut-keeps}
+use Rattle.n2k_join.proofs.Logs.{message-before, broken-before}
+use Rattle.n2k_join.specs.Messages.{message, broken}
 use Rattle.n2k_join.specs.Window.{Rule}
 
 -- no group is empty
@@ -21,15 +25,22 @@ AreGroups gs = AllByRecursion (λ (g : List Frame). 0 < length g) gs
 cut-nonempty : (ends : Ends) (fs : List Frame) → AreGroups (cut ends fs)
 cut-nonempty ends fs = cut-keeps ends (λ g. 0 < length g) (λ x. omega arith) (λ g x c h. omega (arith, length-append g (x ∷ []))) fs
 
-pub cut_joins : (rule : Rule) (fs : List Frame) → CutJoins rule fs
-cut_joins rule fs = record {
-  joined = cut-joined (within rule) fs;
-  nonempty = All-from_recursion (λ (g : List Frame). 0 < length g) (cut (within rule) fs) (cut-nonempty (within rule) fs);
-  once = All-from_recursion (λ (g : List Frame). has_twice g ≡ false) (cut (within rule) fs) (cut-keeps (within rule) (λ g. has_twice g ≡ false) (λ x. refl) more fs);
+pub cut_joins : (ends : Ends) (fs : List Frame) → EndsRepeats ends → CutJoins ends fs
+cut_joins ends fs is = record {
+  joined = cut-joined ends fs;
+  nonempty = All-from_recursion (λ (g : List Frame). 0 < length g) (cut ends fs) (cut-nonempty ends fs);
+  once = All-from_recursion (λ (g : List Frame). has_twice g ≡ false) (cut ends fs) (cut-keeps ends (λ g. has_twice g ≡ false) (λ x. refl) more fs);
 }
   where
-    more : (g : List Frame) (x : Frame) → closes (within rule) g x ≡ false → has_twice g ≡ false → has_twice (g ++ x ∷ []) ≡ false
-    more g x c h = has_twice-push g x h ∙ (or_parts (repeats g x) (rule.in_order && falls_back g x) (or_parts (misfits rule g x) (is_late rule g x) (or_parts (complete g) (within rule g x) c).1).0).0
+    unrepeated : (g : List Frame) (x : Frame) (b : Bool) → closes ends g x ≡ false → repeats g x ≡ b → repeats g x ≡ false
+    unrepeated g x false c e = e
+    unrepeated g x true c e = absurd (false≢true (sym (or_parts (complete g) (ends g x) c).1 ∙ is.repeated g x e))
+
+    more : (g : List Frame) (x : Frame) → closes ends g x ≡ false → has_twice g ≡ false → has_twice (g ++ x ∷ []) ≡ false
+    more g x c h = has_twice-push g x h ∙ unrepeated g x (repeats g x) c refl
+
+pub rule_repeats : (rule : Rule) → EndsRepeats (within rule)
+rule_repeats rule = record { repeated = λ g x e. or_left (misfits rule g x) (is_late rule g x) (or_left (repeats g x) (rule.in_order && falls_back g x) e) }
 
 -- ---- the first group
 
@@ -86,25 +97,25 @@ none_more ends f front x none open_still h g before back e = by (last_or_none ba
 none_alone : (ends : Ends) (f : Frame) → NoneEnds ends (f ∷ [])
 none_alone ends f h g before back e = absurd (omega (arith, ap length e, length-append (h ∷ before) (g ∷ back)))
 
-first_from : (rule : Rule) (f : Frame) (front rest : List Frame) → NoneEnds (within rule) (f ∷ front) → HasFirstGroup rule ((f ∷ front) ++ rest)
-first_from rule f front [] none = record { group = f ∷ front; rest = []; is = record { joined = refl; nonempty = omega arith; ended = tt; shortest = none } }
-first_from rule f front (x ∷ rest) none = by (closes (within rule) (f ∷ front) x) refl (first_from rule f (front ++ x ∷ []) rest)
+first_from : (ends : Ends) (f : Frame) (front rest : List Frame) → NoneEnds ends (f ∷ front) → HasFirstGroup ends ((f ∷ front) ++ rest)
+first_from ends f front [] none = record { group = f ∷ front; rest = []; is = record { joined = refl; nonempty = omega arith; ended = tt; shortest = none } }
+first_from ends f front (x ∷ rest) none = by (closes ends (f ∷ front) x) refl (first_from ends f (front ++ x ∷ []) rest)
   where
-    by : (b : Bool) → closes (within rule) (f ∷ front) x ≡ b → (NoneEnds (within rule) ((f ∷ front) ++ x ∷ []) → HasFirstGroup rule (((f ∷ front) ++ x ∷ []) ++ rest)) → HasFirstGroup rule ((f ∷ front) ++ (x ∷ rest))
+    by : (b : Bool) → closes ends (f ∷ front) x ≡ b → (NoneEnds ends ((f ∷ front) ++ x ∷ []) → HasFirstGroup ends (((f ∷ front) ++ x ∷ []) ++ rest)) → HasFirstGroup ends ((f ∷ front) ++ (x ∷ rest))
     by true e later = record { group = f ∷ front; rest = x ∷ rest; is = record { joined = refl; nonempty = omega arith; ended = e; shortest = none } }
-    by false e later = subst (HasFirstGroup rule) (append_assoc (f ∷ front) (x ∷ []) rest) (later (none_more (within rule) f front x none e))
+    by false e later = subst (HasFirstGroup ends) (append_assoc (f ∷ front) (x ∷ []) rest) (later (none_more ends f front x none e))
 
-pub cut_first : (rule : Rule) (fs : List Frame) → CutFirst rule fs
+pub cut_first : (ends : Ends) (fs : List Frame) → CutFirst ends fs
 unfolding cut
-cut_first rule fs = record { none = refl; begins = begins fs; follows = first_follows (within rule) fs }
+cut_first ends fs = record { none = refl; begins = begins fs; follows = first_follows ends fs }
   where
-    begins : (fs : List Frame) → 0 < length fs → HasFirstGroup rule fs
+    begins : (fs : List Frame) → 0 < length fs → HasFirstGroup ends fs
     begins [] some = absurd (omega (arith, some))
-    begins (f ∷ fs) some = first_from rule f [] fs (none_alone (within rule) f)
+    begins (f ∷ fs) some = first_from ends f [] fs (none_alone ends f)
 
 -- ---- with a frame more
 
-grown-stays : (ends : Ends) (gs : List (List Frame)) (x : Frame) (i : ℕ) (g : List Frame) → slice_get gs i ≡ Some g → (complete g ≡ true) ⊎ (i + 1 < length gs) → slice_get (grown ends gs x) i ≡ Some g
+grown-stays : (ends : Ends) (gs : List (List Frame)) (x : Frame) (i : ℕ) (g : List Frame) → slice_get gs i ≡ Some g → IsSettled gs i g → slice_get (grown ends gs x) i ≡ Some g
 grown-stays ends [] x i g e settled = absurd (none-some g e)
 grown-stays ends (h ∷ []) x zero g e settled = by settled
   where
@@ -140,9 +151,51 @@ grown-begins ends ((f ∷ h) ∷ []) x (suc i) g some e = absurd (none-some g e)
 grown-begins ends ((f ∷ h) ∷ k ∷ gs) x zero g some e = ap (option_map first) e
 grown-begins ends ((f ∷ h) ∷ k ∷ gs) x (suc i) g some e = grown-begins ends (k ∷ gs) x i g some.1 e
 
-pub cut_grows : (rule : Rule) (fs : List Frame) (x : Frame) → CutGrows rule fs x
-cut_grows rule fs x = record {
-  stays = λ place group at settled. ap (λ gs. slice_get gs place) (cut-push (within rule) fs x) ∙ grown-stays (within rule) (cut (within rule) fs) x place group at settled;
-  begins = λ place group at. ap (λ gs. option_map first (slice_get gs place)) (cut-push (within rule) fs x) ∙ grown-begins (within rule) (cut (within rule) fs) x place group (cut-nonempty (within rule) fs) at;
-  no_fewer = omega (arith, grown-length (within rule) (cut (within rule) fs) x, ap length (cut-push (within rule) fs x));
+grows-push : (ends : Ends) (fs : List Frame) (x : Frame) → CutGrows ends fs (x ∷ [])
+grows-push ends fs x = record {
+  stays = λ place group at settled. ap (λ gs. slice_get gs place) (cut-push ends fs x) ∙ grown-stays ends (cut ends fs) x place group at settled;
+  begins = λ place group at. ap (λ gs. option_map first (slice_get gs place)) (cut-push ends fs x) ∙ grown-begins ends (cut ends fs) x place group (cut-nonempty ends fs) at;
+  no_fewer = omega (arith, grown-length ends (cut ends fs) x, ap length (cut-push ends fs x));
 }
+
+pub cut_grows : (ends : Ends) (fs back : List Frame) → CutGrows ends fs back
+cut_grows ends fs [] =
+    let same = append-nil fs in
+    record {
+      stays = λ place group at settled. ap (λ all. slice_get (cut ends all) place) same ∙ at;
+      begins = λ place group at. ap (λ all. option_map first (slice_get (cut ends all) place)) same ∙ ap (option_map first) at;
+      no_fewer = omega (arith, ap (λ all. length (cut ends all)) same);
+    }
+cut_grows ends fs (x ∷ back) =
+    let one = grows-push ends fs x in
+    let rest = cut_grows ends (fs ++ x ∷ []) back in
+    let same : fs ++ (x ∷ back) ≡ (fs ++ x ∷ []) ++ back = sym (append_assoc fs (x ∷ []) back) in
+    record {
+      stays = λ place group at settled. ap (λ all. slice_get (cut ends all) place) same ∙ rest.stays place group (one.stays place group at settled) (still place group one settled);
+      begins = λ place group at. ap (λ all. option_map first (slice_get (cut ends all) place)) same ∙ begun place (first group) (slice_get (cut ends (fs ++ x ∷ [])) place) rest refl (one.begins place group at);
+      no_fewer = omega (arith, one.no_fewer, rest.no_fewer, ap (λ all. length (cut ends all)) same);
+    }
+  where
+    still : (place : ℕ) (group : List Frame) → CutGrows ends fs (x ∷ []) → IsSettled (cut ends fs) place group → IsSettled (cut ends (fs ++ x ∷ [])) place group
+    still place group one (inl done) = inl done
+    still place group one (inr l) = inr (omega (arith, l, one.no_fewer))
+
+    begun : (place line : ℕ) (o : Option (List Frame)) → CutGrows ends (fs ++ x ∷ []) back → slice_get (cut ends (fs ++ x ∷ [])) place ≡ o → option_map first o ≡ Some line
+        → option_map first (slice_get (cut ends ((fs ++ x ∷ []) ++ back)) place) ≡ Some line
+    begun place line None rest e f = absurd (none-some line f)
+    begun place line (Some g) rest e f = rest.begins place g e ∙ f
+
+-- ---- what follows a front of a log
+
+pub settles : (rule : Rule) → 0 < rule.window → (kind : ℕ → Option Kind) (front back : List Entry) → HasSettled rule kind front back
+settles rule some kind front [] =
+    let same = append-nil front in
+    record { messages = λ line l u. ap (λ es. message rule kind es line) same; broken_groups = λ line u. ap (λ es. broken rule kind es line) same }
+settles rule some kind front (e ∷ back) =
+    let rest = settles rule some kind (front ++ e ∷ []) back in
+    let same : front ++ (e ∷ back) ≡ (front ++ e ∷ []) ++ back = sym (append_assoc front (e ∷ []) back) in
+    let long = length-append front (e ∷ []) in
+    record {
+      messages = λ line l u. ap (λ es. message rule kind es line) same ∙ rest.messages line l (omega (arith, u, long)) ∙ message-before (within rule) kind front e line l u;
+      broken_groups = λ line u. ap (λ es. broken rule kind es line) same ∙ rest.broken_groups line (omega (arith, u, long)) ∙ broken-before rule some kind front e line u;
+    }

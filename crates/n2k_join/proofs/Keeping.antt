@@ -11,12 +11,12 @@ use Rattle.n2k_wire.specs.declared.entry.BadCause.TheVariants as causes
 use Rattle.n2k_wire.specs.declared.entry.Entry.{Entry}
 use Rattle.n2k_wire.specs.declared.entry.Entry.TheVariants as entries
 use Rattle.n2k_wire.specs.Entry.{IsEntry}
-use Rattle.n2k_wire.specs.Packet.{PacketParts, IsPacketParts}
+use Rattle.n2k_wire.specs.Packet.{PacketParts, IsPacketParts, longest_message}
 use Rattle.n2k_table.specs.declared.definition.Kind.{Kind}
 use Rattle.n2k_table.specs.declared.definition.Kind.TheVariants.{Single, Fast}
 use Rattle.n2k_join.specs.declared.counts.Counts.{Counts}
 use Rattle.n2k_join.specs.Counts.{most_lines}
-use Rattle.n2k_join.specs.Frames.{Key, Frame, most_frames, longest_total, filler, has_total, is_fast_payload, fast_frame, frame_with, frame_by, frame_in, of_key}
+use Rattle.n2k_join.specs.Frames.{Key, Frame, most_frames, filler, has_total, is_fast_payload, fast_frame, frame_with, frame_by, frame_in, of_key}
 use Rattle.n2k_join.specs.Groups.{Ends, within, carried, complete, open_of, incomplete}
 use Rattle.n2k_join.specs.Open.{Piece, Group, piece_at, pieces_of, group_of, begun_at, open_groups, is_waiting, waiting, ended, open_within}
 use Rattle.n2k_join.specs.Messages.{alone, single_by, whole_by, cause_in, fast_cause, told_of, is_unknown}
@@ -51,14 +51,14 @@ filled [] j bytes = omega arith
 filled (x ∷ xs) zero bytes = bytes 0
 filled (x ∷ xs) (suc j) bytes = filled xs j (λ i. bytes (suc i))
 
-total_is : (header : ℕ) (rest : List ℕ) → is_fast_payload (header ∷ rest) ≡ true → header % 32 ≡ 0 → slice_index_or rest 0 filler ≤ longest_total
+total_is : (header : ℕ) (rest : List ℕ) → is_fast_payload (header ∷ rest) ≡ true → header % 32 ≡ 0 → slice_index_or rest 0 filler ≤ longest_message
 total_is header rest fast zero_is = by (or_cases (not (header % 32 == 0)) (has_total rest) fast)
   where
-    of_total : (rest : List ℕ) → has_total rest ≡ true → slice_index_or rest 0 filler ≤ longest_total
+    of_total : (rest : List ℕ) → has_total rest ≡ true → slice_index_or rest 0 filler ≤ longest_message
     of_total [] t = absurd (false≢true t)
-    of_total (total ∷ rest) t = leb-true total longest_total t
+    of_total (total ∷ rest) t = leb-true total longest_message t
 
-    by : (not (header % 32 == 0) ≡ true) ⊎ (has_total rest ≡ true) → slice_index_or rest 0 filler ≤ longest_total
+    by : (not (header % 32 == 0) ≡ true) ⊎ (has_total rest ≡ true) → slice_index_or rest 0 filler ≤ longest_message
     by (inl other) = absurd (false≢true (sym (not-true (header % 32 == 0) other) ∙ eq-eqb (header % 32) 0 zero_is))
     by (inr total) = of_total rest total
 

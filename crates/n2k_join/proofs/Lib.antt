@@ -12,6 +12,7 @@ pub mod EntryLemmas
 pub mod Expiring
 pub mod Falling
 pub mod FastGroups
+pub mod Few
 pub mod Given
 pub mod GroupLines
 pub mod Healing
@@ -47,6 +48,7 @@ pub mod StateReads
 pub mod StateTests
 pub mod Steps
 pub mod Stretches
+pub mod UnderWay
 pub mod ValidStates
 pub mod WholePieces
 pub mod Windows

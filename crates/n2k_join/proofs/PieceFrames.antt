@@ -2,7 +2,8 @@
 use Rattle.std.proofs.Common.{◌≡◌, ℕ, ◌+◌, ◌*◌, ◌%◌, ◌/◌, ◌<◌, ◌≤◌, Bool, true, false, not, ◌||◌, List, ◌∷◌, length, refl, ap, ◌∙◌, sym, arith, Some, None}
 use Rattle.std.specs.Prelude.{◌==◌, if◌then◌else◌}
 use Rattle.std.proofs.lemmas.Bool.{leb-true}
-use Rattle.n2k_join.specs.Frames.{Frame, fast_frame, frame_with, seven_bytes, has_total, is_fast_payload, longest_total}
+use Rattle.n2k_wire.specs.Packet.{longest_message}
+use Rattle.n2k_join.specs.Frames.{Frame, fast_frame, frame_with, seven_bytes, has_total, is_fast_payload}
 use Rattle.n2k_join.specs.Pieces.{piece_bytes, piece, Sending}
 use Rattle.n2k_join.specs.Scattered.{key_of_sending, IsPieceOf}
 
@@ -17,7 +18,7 @@ pub record SaysPiece (x : Sending) (f : Frame) : Type 0 where
   pub stamp : f.stamp ≡ x.message.stamp
   pub id : f.id ≡ x.message.id
   pub small : f.number < 32
-  pub short : f.number ≡ 0 → length x.message.payload ≤ longest_total
+  pub short : f.number ≡ 0 → length x.message.payload ≤ longest_message
 
 some_is : {X : Type 0} (a b : X) → Some a ≡ Some b → a ≡ b
 some_is a b e = cc
@@ -25,7 +26,7 @@ some_is a b e = cc
 none_is : {X : Type 0} (a : X) → None ≡ Some a → ⊥
 none_is a e = cc
 
-total_fits : (payload : List ℕ) (h n : ℕ) → h ≡ 0 → n ≡ 0 → not (h == 0) || has_total (piece_bytes payload n) ≡ true → length payload ≤ longest_total
+total_fits : (payload : List ℕ) (h n : ℕ) → h ≡ 0 → n ≡ 0 → not (h == 0) || has_total (piece_bytes payload n) ≡ true → length payload ≤ longest_message
 unfolding piece_bytes
 total_fits payload h n e f t =
     let at_zero : not (0 == 0) || has_total (piece_bytes payload 0) ≡ true = sym (ap (λ k. not (k == 0) || has_total (piece_bytes payload 0)) e) ∙ (sym (ap (λ k. not (h == 0) || has_total (piece_bytes payload k)) f) ∙ t) in

@@ -7,7 +7,8 @@ use Rattle.std.proofs.lemmas.Bool.{eqb-true, ltb-true, ne_eqb}
 use Rattle.std.proofs.lemmas.List.{map-append, reverse-append, take_more, drop_more, drop_all}
 use Rattle.n2k_table.specs.declared.definition.Kind.{Kind}
 use Rattle.n2k_join.specs.declared.piece.OpenGroup.{OpenGroup}
-use Rattle.n2k_join.specs.Frames.{Key, most_frames, longest_total}
+use Rattle.n2k_wire.specs.Packet.{longest_message}
+use Rattle.n2k_join.specs.Frames.{Key, most_frames}
 use Rattle.n2k_join.specs.Groups.{carried, complete}
 use Rattle.n2k_join.specs.Open.{Piece, Group, piece_at, pieces_of}
 use Rattle.n2k_join.specs.Resumed.{pieces_rise, piece_holds, total_holds, key_holds, is_some_list, group_holds}
@@ -40,8 +41,8 @@ pub small_bytes : (bs : List ℕ) → ((i : ℕ) → get_or bs i 0 < 256) → Al
 small_bytes [] h = tt
 small_bytes (b ∷ bs) h = (h 0, small_bytes bs (λ i. h (suc i)))
 
-pub total_from : (n : ℕ) (bs : List ℕ) → total_holds n bs ≡ true → n ≡ 0 → slice_index_or bs 0 0 ≤ longest_total
-total_from zero bs h e = at_most (slice_index_or bs 0 0) longest_total h
+pub total_from : (n : ℕ) (bs : List ℕ) → total_holds n bs ≡ true → n ≡ 0 → slice_index_or bs 0 0 ≤ longest_message
+total_from zero bs h e = at_most (slice_index_or bs 0 0) longest_message h
 total_from (suc n) bs h e = absurd (omega (arith, e))
 
 -- ---- pieces that join a group by rising number

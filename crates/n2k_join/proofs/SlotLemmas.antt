@@ -14,7 +14,8 @@ use Rattle.std.proofs.lemmas.Option.{none-some, same_Some}
 use Rattle.std.proofs.lemmas.List.{get_or-set_same, get_or-set_other, length-append, take-append-le, take-append-drop}
 use Rattle.std.proofs.lemmas.Grind.{flat_map-append}
 use Rattle.n2k_join.specs.declared.piece.OpenGroup.{OpenGroup}
-use Rattle.n2k_join.specs.Frames.{Key, Frame, most_frames, frame_bytes, longest_total}
+use Rattle.n2k_wire.specs.Packet.{longest_message}
+use Rattle.n2k_join.specs.Frames.{Key, Frame, most_frames, frame_bytes}
 use Rattle.n2k_join.specs.Groups.{complete, carried, has_number, has_from, has_twice, has_all, is_within, total, total_by, last_number, bytes_at, data_of}
 use Rattle.n2k_join.specs.Open.{Piece, Group, piece_at, pieces_of, group_of}
 use Rattle.n2k_join.specs.State.{held_frame, held_of}
@@ -261,17 +262,17 @@ module _ (first mask number : ℕ) (slots : List (List ℕ)) (bytes : List ℕ) 
   other-slot n other = λ i. cond (bit_at_set_other w32 mask number small n other i == 1) (Some (get_or-set_other slots number n bytes [] other i)) None
 
   -- frame 0 keeps a total that isn't too large
-  pub total-slot : (bit_at mask 0 ≡ 1 → slice_index (get_or slots 0 []) 0 ≤ longest_total) → (number ≡ 0 → slice_index bytes 0 ≤ longest_total)
-      → bit_at (bit_or mask (1 * 2 ^ number % 4294967296)) 0 ≡ 1 → slice_index (get_or (set slots number bytes) 0 []) 0 ≤ longest_total
+  pub total-slot : (bit_at mask 0 ≡ 1 → slice_index (get_or slots 0 []) 0 ≤ longest_message) → (number ≡ 0 → slice_index bytes 0 ≤ longest_message)
+      → bit_at (bit_or mask (1 * 2 ^ number % 4294967296)) 0 ≡ 1 → slice_index (get_or (set slots number bytes) 0 []) 0 ≤ longest_message
   total-slot old new e = by (number == 0) refl
     where
-      by : (b : Bool) → (number == 0) ≡ b → slice_index (get_or (set slots number bytes) 0 []) 0 ≤ longest_total
+      by : (b : Bool) → (number == 0) ≡ b → slice_index (get_or (set slots number bytes) 0 []) 0 ≤ longest_message
       by true t =
           let is : number ≡ 0 = eqb-true _ _ t in
-          subst (λ (bs : List ℕ). slice_index bs 0 ≤ longest_total) (sym (ap (λ n. get_or (set slots number bytes) n []) (sym is) ∙ get_or-set_same slots number bytes [] (omega (arith, small, many)))) (new is)
+          subst (λ (bs : List ℕ). slice_index bs 0 ≤ longest_message) (sym (ap (λ n. get_or (set slots number bytes) n []) (sym is) ∙ get_or-set_same slots number bytes [] (omega (arith, small, many)))) (new is)
       by false t =
           let other : 0 ≡ number → ⊥ = λ f. false≢true (sym t ∙ eq-eqb _ _ (sym f)) in
-          subst (λ (bs : List ℕ). slice_index bs 0 ≤ longest_total) (sym (get_or-set_other slots number 0 bytes [] other)) (old (sym (bit_at_set_other w32 mask number small 0 other) ∙ e))
+          subst (λ (bs : List ℕ). slice_index bs 0 ≤ longest_message) (sym (get_or-set_other slots number 0 bytes [] other)) (old (sym (bit_at_set_other w32 mask number small 0 other) ∙ e))
 
   -- the slots with a piece more
   pub taken-slots : (k : Key) (g : OpenGroup) → g.first ≡ first → g.mask ≡ mask → g.slots ≡ slots → slot_of g number ≡ None
@@ -298,7 +299,7 @@ total-none g e = by (slot_of g 0) refl e
     by None is e = is
     by (Some b) is e = absurd (none-some (slice_index b 0) e)
 
-pub complete-slots : (k : Key) (g : OpenGroup) (t : ℕ) → t ≤ longest_total → g.mask < 2 ^ 32 → Some t ≡ option_map (λ (bytes : List ℕ). slice_index bytes 0) (slot_of g 0)
+pub complete-slots : (k : Key) (g : OpenGroup) (t : ℕ) → t ≤ longest_message → g.mask < 2 ^ 32 → Some t ≡ option_map (λ (bytes : List ℕ). slice_index bytes 0) (slot_of g 0)
     → complete (held_of (group_in k g)) ≡ (g.mask == 2 ^ (t / 7 + 1) - 1)
 complete-slots k g t small fits e = by (slot_of g 0) refl e
   where
@@ -358,7 +359,7 @@ module _ (k : Key) (g : OpenGroup) (done : complete (held_of (group_in k g)) ≡
   unfolding complete
   each_there = (and_parts _ _ (and_parts _ _ (and_parts _ _ done).1).1).0
 
-  pub data-slots : slice_index (get_or g.slots 0 []) 0 ≤ longest_total → data_of (held_of (group_in k g)) ≡ take (slice_index (get_or g.slots 0 []) 0) (drop 1 (flat_map (λ (b : List ℕ). b) g.slots))
+  pub data-slots : slice_index (get_or g.slots 0 []) 0 ≤ longest_message → data_of (held_of (group_in k g)) ≡ take (slice_index (get_or g.slots 0 []) 0) (drop 1 (flat_map (λ (b : List ℕ). b) g.slots))
   unfolding data_of
   data-slots small =
       let t : ℕ = slice_index (get_or g.slots 0 []) 0 in

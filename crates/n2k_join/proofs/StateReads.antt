@@ -297,6 +297,9 @@ text-by : (kind : ℕ → Option Kind) (id : List ℕ) (rule : Rule) (s : State)
 unfolding state_text
 text-by kind id rule s tells e = ap (λ d. judged kind id rule (compact_text d)) (ap (λ b. tree_by b s) e)
 
+waits-there : (s : State) → are_waiting s ≡ true → waits_hold places.WindowState s ≡ true
+waits-there s e = cc
+
 -- The text of a valid state, whose groups are of fast PGNs of its table, spells that state under its window, whether the
 -- order of frames is asked for or not.
 pub state_under : (kind : ℕ → Option Kind) (s : State) (order : Bool) → IsState s → AreFast kind s.groups → IsId s.id
@@ -309,7 +312,7 @@ state_under kind s order is fast id = by (are_waiting s) refl
     by true e =
         let rule : Rule = record { window = s.rule.window; in_order = order } in
         text-by kind s.id rule s true e ∙ text-asked true kind s.id rule s is id
-        ∙ asked-all kind s.id rule places.WindowState (read_under true rule s) (bytes_eq-same s.id) (eq-eqb s.rule.window s.rule.window refl) e (state_valid kind s is fast)
+        ∙ asked-all kind s.id rule places.WindowState (read_under true rule s) (bytes_eq-same s.id) (eq-eqb s.rule.window s.rule.window refl) (waits-there s e) (state_valid kind s is fast)
     by false e =
         let rule : Rule = record { window = s.rule.window; in_order = order } in
         text-by kind s.id rule s false e ∙ text-asked false kind s.id rule s is id

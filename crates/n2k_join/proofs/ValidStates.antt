@@ -11,7 +11,8 @@ use Rattle.n2k_join.specs.declared.counts.Counts.{Counts}
 use Rattle.n2k_join.specs.declared.state_fault.StateFault.{StateFault}
 use Rattle.n2k_join.specs.declared.state_fault.StateFault.TheVariants.{NotJson, Invalid}
 use Rattle.n2k_wire.specs.Plain.{greatest_address}
-use Rattle.n2k_join.specs.Frames.{Key, same_key, most_frames, longest_total}
+use Rattle.n2k_wire.specs.Packet.{longest_message}
+use Rattle.n2k_join.specs.Frames.{Key, same_key, most_frames}
 use Rattle.n2k_join.specs.Groups.{complete}
 use Rattle.n2k_join.specs.Open.{Piece, Group}
 use Rattle.n2k_wire.specs.Steps.{or_cause}
@@ -166,9 +167,9 @@ unfolding firsts_rise
 firsts_to least lines [] rise begun = refl
 firsts_to least lines (g ∷ gs) rise begun = and_from _ _ (at_most-true _ _ rise.0) (and_from _ _ (at_most-true _ _ begun.0) (firsts_to (g.first + 1) lines gs rise.1 begun.1))
 
-total_to : (n : ℕ) (bs : List ℕ) → (n ≡ 0 → slice_index_or bs 0 0 ≤ longest_total) → total_holds n bs ≡ true
+total_to : (n : ℕ) (bs : List ℕ) → (n ≡ 0 → slice_index_or bs 0 0 ≤ longest_message) → total_holds n bs ≡ true
 total_to zero bs h = at_most-true _ _ (h refl)
-total_to (suc n) bs h = ap (λ b. not b || nat_le (slice_index_or bs 0 0) longest_total) (ne_eqb (suc n) 0 (λ e. omega (arith, e)))
+total_to (suc n) bs h = ap (λ b. not b || nat_le (slice_index_or bs 0 0) longest_message) (ne_eqb (suc n) 0 (λ e. omega (arith, e)))
 
 pieces_to : (least : ℕ) (ps : List Piece) → Rise (λ (p : Piece). p.number) least ps → AllByRecursion (λ (p : Piece). p.number < most_frames) ps → AllByRecursion IsPiece ps → pieces_rise least ps ≡ true
 unfolding pieces_rise

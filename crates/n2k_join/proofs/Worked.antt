@@ -1,5 +1,6 @@
 -- The definitions computed on worked examples, each entry being that of its line.
-use Rattle.std.proofs.Common.{◌≡◌, ◌==◌, ◌++◌, ◌∙◌, ◌<◌, if◌then◌else◌, ℕ, zero, suc, Bool, true, false, List, [], ◌∷◌, Option, Some, None, refl, sym, ap, arith}
+use Rattle.std.proofs.Common.{◌≡◌, ◌==◌, ◌++◌, ◌∙◌, ◌<◌, ◌*◌, if◌then◌else◌, ℕ, zero, suc, Bool, true, false, List, [], ◌∷◌, Option, Some, None, map, refl, sym, ap, arith}
+use Rattle.std.specs.List.{range_with_len}
 use Rattle.std.proofs.lemmas.List.Elements.{All-from_recursion}
 use Rattle.std.proofs.lemmas.Bool.{false≢true}
 use Rattle.n2k_wire.specs.declared.entry.BadCause.TheVariants as causes
@@ -115,6 +116,18 @@ empty_total = refl
 again : counts rule kind (frame 5 1 (start 0 11 1) ∷ frame 5 2 (start 0 6 1) ∷ []) ≡ lines_only 2 1 0 0 1 0
 unfolding kind fast_frame same_key complete cut data_of gathered broken_with pieces_of begun_at open_groups waiting
 again = refl
+
+-- The longest message takes every number that a frame can have: 223 bytes in 32 frames, of which the first has six.
+abbrev longest : List Entry
+longest = frame 5 1 (0 ∷ 223 ∷ range_with_len 1 6) ∷ map (λ n. frame 5 n (n ∷ range_with_len (7 * n) 7)) (range_with_len 1 31)
+
+longest-message : message rule kind longest 32 ≡ Some (packet 130820 5 31 (range_with_len 1 223))
+unfolding kind fast_frame same_key complete cut data_of gathered
+longest-message = refl
+
+longest-counts : counts rule kind longest ≡ lines_only 32 1 0 0 0 0
+unfolding kind fast_frame same_key complete cut data_of gathered broken_with pieces_of begun_at open_groups waiting
+longest-counts = refl
 
 -- Frame 3 of a total of 13 keeps a group open though 0 and 1 are there.
 abbrev extra_frame : List Entry

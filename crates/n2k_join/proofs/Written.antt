@@ -12,7 +12,7 @@ use Rattle.n2k_wire.specs.Entry.{IsEntry}
 use Rattle.n2k_wire.specs.Packet.{PacketParts, IsPacketParts, longest_message}
 use Rattle.n2k_table.specs.declared.definition.Kind.{Kind}
 use Rattle.n2k_table.specs.declared.definition.Kind.TheVariants.{Fast}
-use Rattle.n2k_join.specs.Frames.{Key, same_key, Frame, has_total, is_fast_payload, fast_frame, frame_by, frame_in, frames_from, of_key, longest_total}
+use Rattle.n2k_join.specs.Frames.{Key, same_key, Frame, has_total, is_fast_payload, fast_frame, frame_by, frame_in, frames_from, of_key}
 use Rattle.n2k_join.specs.Messages.{single_by, alone}
 use Rattle.n2k_join.specs.Pieces.{sent_byte, piece_bytes, piece, last_piece, pieces_as, Sending, sendings, sendings_after, frames_of_sending, written}
 use Rattle.n2k_join.specs.Scattered.{key_of_sending, IsPieceOf, IsStretchOf, IsStretchWithin, FallInto, IsScattered, as_entries, WrittenLog}
@@ -29,20 +29,20 @@ use Rattle.n2k_join.specs.Window.{Rule}
 -- a sending of a fast PGN, whose data a fast packet can hold
 pub record CanSend (kind : ℕ → Option Kind) (x : Sending) : Type 0 where
   pub fast : kind x.message.id.pgn ≡ Some Fast
-  pub fits : length x.message.payload ≤ longest_total
+  pub fits : length x.message.payload ≤ longest_message
 
 -- a piece is a frame's data
-fast_payload : (payload : List ℕ) (s n : ℕ) → length payload ≤ longest_total → n < 32 → is_fast_payload ((32 * s + n) ∷ piece_bytes payload n) ≡ true
+fast_payload : (payload : List ℕ) (s n : ℕ) → length payload ≤ longest_message → n < 32 → is_fast_payload ((32 * s + n) ∷ piece_bytes payload n) ≡ true
 unfolding piece_bytes
 fast_payload payload s n fits small =
     elim (cases_eq n 0) [
       | inl none ↦
-          let zeroth : has_total (piece_bytes payload n) ≡ true = ap (λ k. has_total (piece_bytes payload k)) none ∙ le-leb (length payload) longest_total fits in
+          let zeroth : has_total (piece_bytes payload n) ≡ true = ap (λ k. has_total (piece_bytes payload k)) none ∙ le-leb (length payload) longest_message fits in
           or_right _ _ zeroth
       | inr some ↦ or_left _ _ (ap not (ne_eqb ((32 * s + n) % 32) 0 (λ same. some (omega arith))))
     ]
 
-piece_frame : (x : Sending) (line n : ℕ) → length x.message.payload ≤ longest_total → n < 32 → fast_frame line (piece x.message x.sequence n) ≡ Some (given_frame x line n)
+piece_frame : (x : Sending) (line n : ℕ) → length x.message.payload ≤ longest_message → n < 32 → fast_frame line (piece x.message x.sequence n) ≡ Some (given_frame x line n)
 unfolding fast_frame
 piece_frame x line n fits small = rw (fast_payload x.message.payload x.sequence n fits small) refl
 
@@ -50,7 +50,7 @@ number_is : (x : Sending) (line n : ℕ) → n < 32 → (given_frame x line n).n
 number_is x line n small = let e : (32 * x.sequence + n) % 32 ≡ n = omega arith in e
 
 -- the frame of a piece is that piece
-piece_is : (x : Sending) (line n : ℕ) → length x.message.payload ≤ longest_total → n ≤ last_piece x.message → IsPieceOf x (given_frame x line n)
+piece_is : (x : Sending) (line n : ℕ) → length x.message.payload ≤ longest_message → n ≤ last_piece x.message → IsPieceOf x (given_frame x line n)
 piece_is x line n fits within =
     let small : n < 32 = omega arith in
     record {

@@ -2,10 +2,10 @@
 use Rattle.std.specs.Prelude.{◌≡◌, ℕ, ◌+◌, ◌<◌, min, true, false, List, [], ◌++◌, map, length, Option, Some, IfSome, Contains}
 use Rattle.std.specs.List.{All, AllZip, range_with_len}
 use Rattle.n2k_wire.specs.declared.entry.Entry.{Entry}
-use Rattle.n2k_wire.specs.Packet.{PacketParts}
+use Rattle.n2k_wire.specs.Packet.{PacketParts, longest_message}
 use Rattle.n2k_table.specs.declared.definition.Kind.{Kind}
-use Rattle.n2k_join.specs.Frames.{Key, Frame, frames, of_key}
-use Rattle.n2k_join.specs.Groups.{has_number, within, complete, cut, first, last_line, open_of, data_of}
+use Rattle.n2k_join.specs.Frames.{Key, Frame, most_frames, frames, of_key}
+use Rattle.n2k_join.specs.Groups.{has_number, within, complete, cut, first, last_line, last_number, open_of, data_of}
 use Rattle.n2k_join.specs.Messages.{message, broken_of, broken}
 use Rattle.n2k_join.specs.Open.{open_within}
 use Rattle.n2k_join.specs.Pieces.{last_piece, Sending}
@@ -18,6 +18,11 @@ pub record PiecesJoin (x : Sending) : Type 0 where
   pub complete_together : (fs : List Frame) → IsStretchOf x fs → complete fs ≡ true
   pub carry_data : (fs : List Frame) → IsStretchOf x fs → data_of fs ≡ x.message.payload
   pub no_part : (fs : List Frame) → ArePieces x fs → length fs < last_piece x.message + 1 → complete fs ≡ false
+
+-- The longest message fills the frames of all numbers, and one of a byte more would need a number more.
+pub record FillsAllFrames : Type 0 where
+  pub all : last_number longest_message + 1 ≡ most_frames
+  pub no_more : last_number (longest_message + 1) ≡ most_frames
 
 -- The group brings the message: its frames are the message's pieces, all of them; it is complete and has the message's
 -- data; and the line of its last frame gives the message, stamp, identifier and data.

@@ -6,7 +6,7 @@ use Rattle.std.specs.List.{range_with_len, cons_option}
 use Rattle.n2k_wire.specs.declared.identifier.Id.{Id}
 use Rattle.n2k_wire.specs.declared.entry.Entry.{Entry}
 use Rattle.n2k_wire.specs.declared.entry.Entry.TheVariants as entries
-use Rattle.n2k_wire.specs.Packet.{PacketParts}
+use Rattle.n2k_wire.specs.Packet.{PacketParts, longest_message}
 use Rattle.n2k_table.specs.declared.definition.Kind.{Kind}
 use Rattle.n2k_table.specs.declared.definition.Kind.TheVariants.{Single, Fast}
 
@@ -21,10 +21,6 @@ most_sequences = 8
 -- the data bytes of a frame after its header
 abbrev pub frame_bytes : ℕ
 frame_bytes = 7
-
--- the most bytes of a message
-abbrev pub longest_total : ℕ
-longest_total = 223
 
 -- what the bytes of a frame are filled with
 abbrev pub filler : ℕ
@@ -57,7 +53,7 @@ seven_bytes rest = map (λ j. slice_index_or rest j filler) (range_with_len 0 fr
 -- there is a total, and it isn't too large
 abbrev pub has_total : List ℕ → Bool
 has_total [] = false
-has_total (total ∷ rest) = nat_le total longest_total
+has_total (total ∷ rest) = nat_le total longest_message
 
 -- Data can be those of a frame of a fast packet: there is a header, and where its number is 0, a total that isn't too large.
 abbrev pub is_fast_payload : List ℕ → Bool

@@ -63,6 +63,10 @@ last_line (f ∷ g ∷ fs) = last_line (g ∷ fs)
 abbrev pub repeats : Ends
 repeats group f = has_number f.number group
 
+-- a number that comes again ends a group
+pub record EndsRepeats (ends : Ends) : Type 0 where
+  pub repeated : (group : List Frame) (f : Frame) → repeats group f ≡ true → ends group f ≡ true
+
 -- some frame's number is this one, or above it
 abbrev pub has_from : ℕ → List Frame → Bool
 has_from number [] = false

@@ -4,7 +4,7 @@ use Rattle.n2k_wire.specs.declared.entry.Entry.{Entry}
 use Rattle.n2k_wire.specs.declared.entry.Entry.TheVariants as entries
 use Rattle.n2k_table.specs.declared.definition.Kind.{Kind}
 use Rattle.n2k_join.specs.Frames.{Frame, frames}
-use Rattle.n2k_join.specs.Groups.{has_twice, complete, within, cut, IsFirstGroup, first}
+use Rattle.n2k_join.specs.Groups.{Ends, has_twice, complete, cut, IsFirstGroup, first}
 use Rattle.n2k_join.specs.Messages.{message, cause_in, told_of, broken, counts}
 use Rattle.n2k_join.specs.Open.{Group, open_within}
 use Rattle.n2k_join.specs.State.{State, state, step_given, step_after}
@@ -12,30 +12,39 @@ use Rattle.n2k_join.specs.Step.{expired}
 use Rattle.n2k_join.specs.Window.{Rule}
 
 -- The groups that frames are cut into are the frames in their order; none is empty, and none has a number twice.
-pub record CutJoins (rule : Rule) (fs : List Frame) : Type 0 where
-  pub joined : flat_map (λ (group : List Frame). group) (cut (within rule) fs) ≡ fs
-  pub nonempty : All (λ (group : List Frame). 0 < length group) (cut (within rule) fs)
-  pub once : All (λ (group : List Frame). has_twice group ≡ false) (cut (within rule) fs)
+pub record CutJoins (ends : Ends) (fs : List Frame) : Type 0 where
+  pub joined : flat_map (λ (group : List Frame). group) (cut ends fs) ≡ fs
+  pub nonempty : All (λ (group : List Frame). 0 < length group) (cut ends fs)
+  pub once : All (λ (group : List Frame). has_twice group ≡ false) (cut ends fs)
 
 -- frames begin with a first group
-pub record HasFirstGroup (rule : Rule) (fs : List Frame) : Type 0 where
+pub record HasFirstGroup (ends : Ends) (fs : List Frame) : Type 0 where
   pub group : List Frame
   pub rest : List Frame
-  pub is : IsFirstGroup (within rule) fs group rest
+  pub is : IsFirstGroup ends fs group rest
 
 -- No frames have no groups; the first group of others is the shortest front that has ended, and the rest is cut likewise.
 -- So this says what the groups are.
-pub record CutFirst (rule : Rule) (fs : List Frame) : Type 0 where
-  pub none : cut (within rule) [] ≡ []
-  pub begins : 0 < length fs → HasFirstGroup rule fs
-  pub follows : (group rest : List Frame) → IsFirstGroup (within rule) fs group rest → cut (within rule) fs ≡ group ∷ cut (within rule) rest
+pub record CutFirst (ends : Ends) (fs : List Frame) : Type 0 where
+  pub none : cut ends [] ≡ []
+  pub begins : 0 < length fs → HasFirstGroup ends fs
+  pub follows : (group rest : List Frame) → IsFirstGroup ends fs group rest → cut ends fs ≡ group ∷ cut ends rest
 
--- One frame more leaves each complete group, and each group that another follows, in its place, and each group begins
--- where it began, so that what was broken is broken at the same line. The number of groups never falls.
-pub record CutGrows (rule : Rule) (fs : List Frame) (x : Frame) : Type 0 where
-  pub stays : (place : ℕ) (group : List Frame) → slice_get (cut (within rule) fs) place ≡ Some group → (complete group ≡ true) ⊎ (place + 1 < length (cut (within rule) fs)) → slice_get (cut (within rule) (fs ++ x ∷ [])) place ≡ Some group
-  pub begins : (place : ℕ) (group : List Frame) → slice_get (cut (within rule) fs) place ≡ Some group → option_map first (slice_get (cut (within rule) (fs ++ x ∷ [])) place) ≡ Some (first group)
-  pub no_fewer : length (cut (within rule) fs) ≤ length (cut (within rule) (fs ++ x ∷ []))
+-- Of some groups the one at a place is settled: it is complete, or another follows.
+abbrev pub IsSettled : List (List Frame) → ℕ → List Frame → Type 0
+IsSettled groups place group = (complete group ≡ true) ⊎ (place + 1 < length groups)
+
+-- Frames that follow leave each settled group in its place, and each group begins where it began, so that what was broken
+-- is broken at the same line. The number of groups never falls.
+pub record CutGrows (ends : Ends) (fs back : List Frame) : Type 0 where
+  pub stays : (place : ℕ) (group : List Frame) → slice_get (cut ends fs) place ≡ Some group → IsSettled (cut ends fs) place group → slice_get (cut ends (fs ++ back)) place ≡ Some group
+  pub begins : (place : ℕ) (group : List Frame) → slice_get (cut ends fs) place ≡ Some group → option_map first (slice_get (cut ends (fs ++ back)) place) ≡ Some (first group)
+  pub no_fewer : length (cut ends fs) ≤ length (cut ends (fs ++ back))
+
+-- What the lines of a front of a log gave is settled: whatever follows, they give the same messages and the same broken groups.
+pub record HasSettled (rule : Rule) (kind : ℕ → Option Kind) (front back : List Entry) : Type 0 where
+  pub messages : (line : ℕ) → 1 ≤ line → line ≤ length front → message rule kind (front ++ back) line ≡ message rule kind front line
+  pub broken_groups : (line : ℕ) → line ≤ length front → broken rule kind (front ++ back) line ≡ broken rule kind front line
 
 -- The step from the state of a log is the state of the log with the entry, and gives what that one's last line gives.
 pub record StepsAgree (id : List ℕ) (rule : Rule) (kind : ℕ → Option Kind) (es : List Entry) (e : Entry) : Type 0 where

@@ -8,7 +8,7 @@ use Rattle.hex.specs.Hex.{decode_sized}
 use Rattle.serde_json.specs.Data.{Data, Items, no_items, item, Members, no_members, member}
 use Rattle.serde_json.specs.Find.{get, as_number, as_u64, as_str, as_array, as_object}
 use Rattle.serde_json.specs.Read.{read}
-use Rattle.n2k_wire.specs.Packet.{greatest_pgn}
+use Rattle.n2k_wire.specs.Packet.{greatest_pgn, longest_message}
 use Rattle.n2k_wire.specs.Plain.{greatest_address}
 use Rattle.n2k_table.specs.declared.definition.Kind.{Kind}
 use Rattle.n2k_table.specs.declared.definition.Kind.TheVariants.{Single, Fast}
@@ -18,7 +18,7 @@ use Rattle.n2k_join.specs.declared.state_fault.StateFault.TheVariants.{NotJson, 
 use Rattle.n2k_join.specs.declared.saved.place.Place.{Place}
 use Rattle.n2k_join.specs.declared.saved.place.Place.TheVariants as places
 use Rattle.n2k_join.specs.Counts.{most_lines}
-use Rattle.n2k_join.specs.Frames.{Key, same_key, longest_total, frame_bytes, most_frames, most_sequences}
+use Rattle.n2k_join.specs.Frames.{Key, same_key, frame_bytes, most_frames, most_sequences}
 use Rattle.n2k_join.specs.Groups.{complete}
 use Rattle.n2k_join.specs.Open.{Piece, Group}
 use Rattle.n2k_join.specs.State.{State, held_of}
@@ -193,7 +193,7 @@ key_holds kind k = nat_le k.pgn greatest_pgn && (is_fast (kind k.pgn) && (nat_le
 
 -- a frame 0 has a total that isn't too large
 abbrev pub total_holds : ℕ → List ℕ → Bool
-total_holds number bytes = not (number == 0) || nat_le (slice_index_or bytes 0 0) longest_total
+total_holds number bytes = not (number == 0) || nat_le (slice_index_or bytes 0 0) longest_message
 
 abbrev pub piece_holds : ℕ → Piece → Bool
 piece_holds least p = nat_le least p.number && (nat_lt p.number most_frames && total_holds p.number p.bytes)

@@ -5,13 +5,13 @@ use Rattle.std.specs.Option.{option_or}
 use Rattle.std.specs.List.{AllByRecursion}
 use Rattle.n2k_wire.specs.declared.entry.BadCause.{BadCause}
 use Rattle.n2k_wire.specs.declared.entry.Entry.{Entry}
-use Rattle.n2k_wire.specs.Packet.{PacketParts, greatest_pgn}
+use Rattle.n2k_wire.specs.Packet.{PacketParts, greatest_pgn, longest_message}
 use Rattle.n2k_table.specs.declared.definition.Kind.{Kind}
 use Rattle.n2k_table.specs.declared.definition.Kind.TheVariants.{Fast}
 use Rattle.n2k_join.specs.declared.broken.Broken.{Broken}
 use Rattle.n2k_join.specs.declared.counts.Counts.{Counts}
 use Rattle.n2k_join.specs.Counts.{most_lines}
-use Rattle.n2k_join.specs.Frames.{Key, same_key, Frame, most_frames, most_sequences, frame_bytes, longest_total, frames, frame_in}
+use Rattle.n2k_join.specs.Frames.{Key, same_key, Frame, most_frames, most_sequences, frame_bytes, frames, frame_in}
 use Rattle.n2k_join.specs.Groups.{within, complete}
 use Rattle.n2k_join.specs.Open.{ended, waiting, open_within}
 pub use Rattle.n2k_join.specs.Open.{Piece, Group}
@@ -123,7 +123,7 @@ pub record IsKey (key : Key) : Type 0 where
 pub record IsPiece (piece : Piece) : Type 0 where
   pub seven : length piece.bytes ≡ frame_bytes
   pub are_bytes : AllByRecursion (λ byte. byte < 256) piece.bytes
-  pub total : piece.number ≡ 0 → slice_index_or piece.bytes 0 0 ≤ longest_total
+  pub total : piece.number ≡ 0 → slice_index_or piece.bytes 0 0 ≤ longest_message
 
 -- the parts of a group are such as frames have
 pub record HasParts (group : Group) : Type 0 where

@@ -13,7 +13,7 @@ pub(crate) const MOST_FRAMES: u8 = 32;
 pub(crate) const MOST_SEQUENCES: u8 = 8;
 
 /// The most bytes of a message.
-pub(crate) const LONGEST_TOTAL: u8 = 223;
+pub(crate) const LONGEST_MESSAGE: u8 = 223;
 
 /// What the bytes of a frame are filled with.
 pub(crate) const FILLER: u8 = 0xff;
@@ -47,7 +47,7 @@ pub(crate) fn fast_frame(packet: &Packet) -> Option<FastFrame>
     let (header, rest) = packet.data().split_first()?;
     let number = *header % MOST_FRAMES;
     let bytes = seven_bytes(rest);
-    if number == 0 && (rest.is_empty() || bytes[0] > LONGEST_TOTAL) {
+    if number == 0 && (rest.is_empty() || bytes[0] > LONGEST_MESSAGE) {
         return None;
     }
     let id = packet.id();

@@ -1,7 +1,7 @@
 //! A group of frames that is open, as bytes and a mask.
 ghost use Rattle.std.specs.Prelude.{◌≡◌, ◌==◌, ◌+◌, ◌-◌, ◌/◌, ◌^◌, ◌<◌, ◌≤◌, ◌++◌, [], ◌∷◌, ℕ, Some, None, true, false, not, option_map, length, IfSome, slice_index, is_some};
-ghost use Rattle.n2k_wire.specs.Packet.{PacketParts};
-ghost use Rattle.n2k_join.specs.Frames.{Key, longest_total, most_frames};
+ghost use Rattle.n2k_wire.specs.Packet.{PacketParts, longest_message};
+ghost use Rattle.n2k_join.specs.Frames.{Key, most_frames};
 ghost use Rattle.n2k_join.specs.Groups.{has_from, complete, data_of};
 ghost use Rattle.n2k_join.specs.Open.{pieces_of, group_of};
 ghost use Rattle.n2k_join.specs.State.{held_frame, held_of};
@@ -109,7 +109,7 @@ impl OpenGroup {
     // The total of the message, if frame 0 is there.
     fn total(&self) -> Option<u8>
         ensures value { result ≡ option_map (λ bytes. slice_index bytes 0) (slot_of self.now 0) }
-        ensures small { IfSome result (λ total. total ≤ longest_total) }
+        ensures small { IfSome result (λ total. total ≤ longest_message) }
     {
         if self.has(0) {
             Some(self.slots[0][0])
@@ -152,6 +152,3 @@ impl OpenGroup {
         }
     }
 }
-
-#[cfg(test)]
-mod tests;

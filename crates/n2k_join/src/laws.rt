@@ -1,5 +1,5 @@
 //! Laws that hold of the definitions: each is the contract of a function that does nothing.
-ghost use Rattle.std.specs.Prelude.{◌≡◌, ◌≤◌, ◌≢◌, ℕ, Bool, All, true, List, [], length, Ok, Err, Option, Some, is_some};
+ghost use Rattle.std.specs.Prelude.{◌≡◌, ◌≤◌, ◌<◌, ◌≢◌, ℕ, Bool, All, true, List, [], length, Ok, Err, Option, Some, is_some};
 ghost use Rattle.n2k_wire.specs.declared.entry.Entry.{Entry};
 ghost use Rattle.n2k_wire.specs.Entry.{IsEntry};
 ghost use Rattle.n2k_wire.specs.Packet.{PacketParts, IsPacketParts};
@@ -8,11 +8,11 @@ ghost use Rattle.n2k_table.specs.declared.definition.Kind.TheVariants.{Fast};
 ghost use Rattle.n2k_join.specs.Counts.{most_lines};
 ghost use Rattle.n2k_join.specs.Pieces.{Sending, split, written};
 ghost use Rattle.n2k_join.specs.Frames.{Key, Frame, frames};
-ghost use Rattle.n2k_join.specs.Groups.{within};
-ghost use Rattle.n2k_join.specs.Scattered.{IsScattered, IsMute, WrittenLog};
+ghost use Rattle.n2k_join.specs.Groups.{Ends, EndsRepeats, within};
+ghost use Rattle.n2k_join.specs.Scattered.{IsScattered, IsMute, WrittenLog, key_of_sending};
 ghost use Rattle.n2k_join.specs.Replay.{Replays};
 ghost use Rattle.n2k_join.specs.Messages.{Keyed, cause_in, gathered};
-ghost use Rattle.n2k_join.specs.Laws.{CutJoins, CutFirst, CutGrows, StepsAgree, LinesStay, BadAlone, ExpiresFirst};
+ghost use Rattle.n2k_join.specs.Laws.{CutJoins, CutFirst, CutGrows, HasSettled, StepsAgree, LinesStay, BadAlone, ExpiresFirst};
 ghost use Rattle.n2k_join.specs.Open.{Group};
 ghost use Rattle.n2k_join.specs.Step.{due};
 ghost use Rattle.n2k_join.specs.Resumed.{judged};
@@ -21,24 +21,29 @@ ghost use Rattle.n2k_join.specs.declared.state_fault.StateFault.TheVariants.{Win
 ghost use Rattle.n2k_join.specs.Saved.{IsId, state_text};
 ghost use Rattle.n2k_join.specs.State.{State, IsState, AreFast, AreWaiting, state, step_after};
 ghost use Rattle.n2k_join.specs.Window.{Rule, IsWindow};
-ghost use Rattle.n2k_join.specs.Arrival.{PiecesJoin, ArriveWhole, ComesNext, LeavesZero, Heals};
+ghost use Rattle.n2k_join.specs.Arrival.{PiecesJoin, FillsAllFrames, ArriveWhole, ComesNext, LeavesZero, Heals};
 ghost use Rattle.n2k_join.specs.Transmission.{AreTransmissions, ComesOfOne};
+ghost use Rattle.n2k_join.specs.Bounds.{TellsWindow, HoldsFew};
+ghost use Rattle.n2k_join.specs.UnderWay.{EightUnderWay, AreOfOneStream};
 
-/// The groups that frames are cut into are the frames in their order; none is empty, and none has a number twice.
+/// The groups that frames are cut into are the frames in their order; none is empty, and none has a number twice. So it is
+/// of every test that ends a group at a number that comes again, and each rule is one.
 pub fn cut_joins()
-    ensures { (rule : Rule) (fs : List Frame) → CutJoins rule fs }
+    ensures joins { (ends : Ends) (fs : List Frame) → EndsRepeats ends → CutJoins ends fs }
+    ensures rules { (rule : Rule) → EndsRepeats (within rule) }
 {}
 
 /// What the groups are, in other words: no frames have none; of others the first is the shortest front that has ended,
 /// because it is complete, or no frame follows, or it ends before the next one; and the rest is cut likewise.
 pub fn cut_first()
-    ensures { (rule : Rule) (fs : List Frame) → CutFirst rule fs }
+    ensures { (ends : Ends) (fs : List Frame) → CutFirst ends fs }
 {}
 
-/// One frame more at the end leaves each group that is complete, and each that is broken, as it was, and broken at the
-/// same line.
+/// Frames that follow leave each group that is complete, and each that is broken, as it was, and broken at the same line.
+/// So what the lines of a log gave is settled, whatever follows them.
 pub fn cut_grows()
-    ensures { (rule : Rule) (fs : List Frame) (x : Frame) → CutGrows rule fs x }
+    ensures grows { (ends : Ends) (fs back : List Frame) → CutGrows ends fs back }
+    ensures settled { (rule : Rule) (kind : ℕ → Option Kind) (front back : List Entry) → IsWindow rule.window → HasSettled rule kind front back }
 {}
 
 /// The step knows only the state, and yet agrees with the whole log: from the state of a log it leads to the state of the
@@ -64,10 +69,20 @@ pub fn splits_written()
     ensures { (kind : ℕ → Option Kind) (ms : List PacketParts) → split kind ms ≡ written kind ms }
 {}
 
+/// A stream's messages are kept apart by their numbers: of those of one sender, PGN and receiver, any eight that follow one
+/// another in a list have different keys, whatever other messages stand between them. Messages that differ in sender, PGN
+/// or receiver never have one key.
+pub fn eight_under_way()
+    ensures apart { (ms : List PacketParts) → EightUnderWay ms }
+    ensures streams { (x y : Sending) → key_of_sending x ≡ key_of_sending y → AreOfOneStream x y }
+{}
+
 /// The frames of a message's pieces make one group, in whatever order they come: together they are complete and carry
-/// the message's data, and no proper part of them is complete.
+/// the message's data, and no proper part of them is complete. The longest message has a frame of each number, and with a
+/// byte more it would need another.
 pub fn pieces_join()
-    ensures { (x : Sending) → PiecesJoin x }
+    ensures pieces { (x : Sending) → PiecesJoin x }
+    ensures longest { FillsAllFrames }
 {}
 
 /// Messages whose frames are scattered over a log arrive whole, each key's in their order: no group is broken, and none
@@ -144,4 +159,11 @@ pub fn expires_first()
 /// Where no group's window has ended, no more groups are open than the window has lines.
 pub fn few_open()
     ensures { (s : State) → IsState s → AreWaiting s → length s.groups ≤ s.rule.window }
+{}
+
+/// So it is of a state that was read: where its text tells its window, few groups are open at once, and whatever its format,
+/// few are after a line. What is saved then is short, too.
+pub fn few_resumed()
+    ensures read { (kind : ℕ → Option Kind) (id : List ℕ) (rule : Rule) (bytes : List ℕ) (s : State) → IsWindow rule.window → IsId id → TellsWindow bytes → judged kind id rule bytes ≡ Ok s → HoldsFew s }
+    ensures after_a_line { (kind : ℕ → Option Kind) (id : List ℕ) (rule : Rule) (bytes : List ℕ) (s : State) (e : Entry) → IsWindow rule.window → IsId id → judged kind id rule bytes ≡ Ok s → IsEntry e → s.counts.lines < most_lines → HoldsFew (step_after kind s e) }
 {}

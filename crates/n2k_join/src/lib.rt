@@ -46,6 +46,3 @@ pub use state_fault::StateFault;
 pub use step::{LentStep, Step};
 pub use stream::Stream;
 pub use window::Window;
-
-#[cfg(test)]
-mod tests;

@@ -3,7 +3,8 @@ ghost use Rattle.std.specs.Prelude.{◌≡◌, ◌<◌, ◌≤◌, [], length, g
 ghost use Rattle.std.specs.Int.{bit_at};
 ghost use Rattle.std.specs.List.{AllByRecursion};
 ghost use Rattle.std.proofs.Props.{props};
-ghost use Rattle.n2k_join.specs.Frames.{frame_bytes, longest_total, most_frames};
+ghost use Rattle.n2k_wire.specs.Packet.{longest_message};
+ghost use Rattle.n2k_join.specs.Frames.{frame_bytes, most_frames};
 
 /// The group that a frame belongs to: frames of one sender, receiver and PGN that have one sequence.
 #[derive(Clone, Copy, PartialEq, Eq, PartialOrd, Ord)]
@@ -21,7 +22,7 @@ pub(crate) struct StoredPiece {
     pub(crate) bytes: [u8; 7],
     pub(crate) ghost seven: { length bytes ≡ frame_bytes },
     pub(crate) ghost small: { number < most_frames },
-    pub(crate) ghost total: { number ≡ 0 → slice_index bytes 0 ≤ longest_total },
+    pub(crate) ghost total: { number ≡ 0 → slice_index bytes 0 ≤ longest_message },
 }
 
 /// What the data of a fast packet's frame say.
@@ -40,5 +41,5 @@ pub(crate) struct OpenGroup {
     pub(crate) slots: [[u8; 7]; 32],
     pub(crate) ghost many: { length slots ≡ most_frames },
     pub(crate) ghost seven: { AllByRecursion (λ bytes. length bytes ≡ frame_bytes) slots } by { Prim.hlevel props },
-    pub(crate) ghost total: { bit_at mask 0 ≡ 1 → slice_index (get_or slots 0 []) 0 ≤ longest_total },
+    pub(crate) ghost total: { bit_at mask 0 ≡ 1 → slice_index (get_or slots 0 []) 0 ≤ longest_message },
 }

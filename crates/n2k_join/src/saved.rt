@@ -19,6 +19,3 @@ pub(crate) const SAVED_FORMAT: u64 = 2;
 
 /// The format of one that doesn't.
 pub(crate) const OLD_FORMAT: u64 = 1;
-
-#[cfg(test)]
-mod tests;

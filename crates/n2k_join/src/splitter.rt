@@ -196,6 +196,3 @@ impl Splitter {
         }
     }
 }
-
-#[cfg(test)]
-mod tests;

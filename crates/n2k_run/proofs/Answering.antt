@@ -48,10 +48,11 @@ answers_line old new left₀ left calls₀ calls line a is = record {
   given = a.given;
   answer = subst (λ (l : List ℕ). FirstLine (unanswered old ++ a.came) l (unanswered new) new.has_ended left × (length l ≤ 2048)) (sym is) a.answer;
   called = a.called;
+  few = a.few;
 }
 
 pub answers_long : (old new : Held) (left₀ left : Option (List ℕ)) (calls₀ calls : ℕ) → AnswersFound old new left₀ left calls₀ calls (Ok found.Long) → Answers old new left₀ left calls₀ calls (Ok Long)
-answers_long old new left₀ left calls₀ calls a = record { came = a.came; given = a.given; answer = a.answer; called = a.called }
+answers_long old new left₀ left calls₀ calls a = record { came = a.came; given = a.given; answer = a.answer; called = a.called; few = a.few }
 
 pub answers_failed : (old new : Held) (left₀ left : Option (List ℕ)) (calls₀ calls : ℕ) (failed : Failed) → AnswersFound old new left₀ left calls₀ calls (Err failed) → Answers old new left₀ left calls₀ calls (Err failed)
-answers_failed old new left₀ left calls₀ calls failed a = record { came = a.came; given = a.given; answer = a.answer; called = a.called }
+answers_failed old new left₀ left calls₀ calls failed a = record { came = a.came; given = a.given; answer = a.answer; called = a.called; few = a.few }

@@ -38,6 +38,7 @@ module _ (o : Output) (stands stands' : List Entry → Type 0) (before after : D
     fronts = tt;
     reports_first = runs.reports_first;
     device = runs.device;
+    reads = runs.reads;
   }
 
   ends_more : (T U : Type 0) (fault : RunFault) → ((es : List Entry) → stands es → stands' es) → Ends {T = T} o stands before after (Err fault) → Ends {T = U} o stands' before after (Err fault)
@@ -60,6 +61,7 @@ module _ (o : Output) (stands stands' : List Entry → Type 0) (before after : D
     fronts = runs.fronts;
     reports_first = runs.reports_first;
     device = device_same T U fault runs.device;
+    reads = runs.reads;
   }
 
   -- the same answer, by what follows where the run stands

@@ -1,5 +1,5 @@
 -- The first line of bytes, where a front of them stands for a part of a long line.
-use Rattle.std.proofs.Common.{◌≡◌, ◌⊎◌, inl, inr, ℕ, ◌+◌, ◌-◌, ◌<◌, ◌≤◌, Bool, true, false, cond, List, [], ◌∷◌, ◌++◌, length, take, drop, get_or, refl, sym, ap, ◌∙◌, subst, append_assoc, arith, length-append, length-take, Option}
+use Rattle.std.proofs.Common.{◌≡◌, ◌⊎◌, inl, inr, ℕ, ◌+◌, ◌-◌, ◌<◌, ◌≤◌, Bool, true, false, cond, List, [], ◌∷◌, ◌++◌, length, take, drop, get_or, refl, sym, ap, ◌∙◌, subst, append_assoc, arith, length-append, length-take, Option, Some}
 use Rattle.std.specs.Prelude.{if◌then◌else◌, slice_index, ◌==◌}
 use Rattle.std.specs.Io.KnownBytes.{IsAtEnd}
 use Rattle.std.proofs.lemmas.List.{append-nil, length-replicate, get_or-replicate, get_or_at}
@@ -8,7 +8,7 @@ use Rattle.n2k_wire.specs.Entry.{longest_line}
 use Rattle.n2k_run.specs.declared.blocks.Found.{Found}
 use Rattle.n2k_run.specs.declared.blocks.Found.TheVariants.{Line, Long, End}
 use Rattle.n2k_run.specs.Blocks.{Held, HasFeed, HasNoFeed, passed, unanswered}
-use Rattle.n2k_run.specs.Inner.Block.{EndsAt, Finds, Judges, MakesRoom}
+use Rattle.n2k_run.specs.Inner.Block.{EndsAt, Finds, FindsEnd, Judges, MakesRoom}
 use Rattle.n2k_run.specs.Lines.{is_line_feed, without_return}
 
 -- a byte that ends no line
@@ -77,6 +77,10 @@ feed_or_none bytes feed none =
     let is : get_or (feed.0 ++ (10 ∷ feed.1)) (length feed.0) 0 ≡ 10 = get_or_at feed.0 10 feed.1 0 (length feed.0) refl in
     let no : is_line_feed 10 ≡ false = subst is_plain is bad in
     cc
+
+-- the place that was found
+pub feed_at : (bytes : List ℕ) (feed : Option ℕ) (size : ℕ) → FindsEnd bytes feed → feed ≡ Some size → EndsAt bytes size
+feed_at bytes feed size finds is = subst (FindsEnd bytes) is finds
 
 -- the line that is answered is the first of all that is unanswered
 pub finds_line : (passing : Bool) (kept : List ℕ) (new : Held) (size : ℕ) (found : Found) (left : Option (List ℕ)) → EndsAt kept size → Judges passing (without_return (take size kept)) new.line found → unanswered new ≡ drop (size + 1) kept → new.has_ended ≡ false

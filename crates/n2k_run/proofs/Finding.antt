@@ -16,6 +16,7 @@ use Rattle.n2k_run.specs.Inner.Block.{Finds, MakesRoom, Reads, AnswersFound}
 use Rattle.n2k_run.specs.Lines.{without_return}
 use Rattle.n2k_run.specs.Reading.{OutlastsReads, most_reads}
 use Rattle.n2k_run.specs.Inner.Reading.{Gains}
+use Rattle.n2k_run.proofs.Calls.{one_more_at_most}
 use Rattle.n2k_run.proofs.Feeds.{is_plain, long_piece, long_after, length-passed, passed-no_feed, split_past, unanswered-no_feed}
 
 -- no line ends in all of it where none ends in what stands for it
@@ -78,10 +79,10 @@ calls_end calls₀ calls reads (rise, inl same) all = inl (omega (arith, same, a
 calls_end calls₀ calls reads (rise, inr full) all = inr full
 
 -- nothing came yet
-pub reads_none : (held : Held) (left : Option (List ℕ)) (calls : ℕ) → Reads held held left left calls calls
-reads_none held left calls = record { came = []; given = Consumes-nil left; stays = inl (sym (append-nil (unanswered held))); called = (omega arith, inl refl) }
+pub reads_none : (held : Held) (left : Option (List ℕ)) (calls : ℕ) → Reads 0 held held left left calls calls
+reads_none held left calls = record { came = []; given = Consumes-nil left; stays = inl (sym (append-nil (unanswered held))); called = (omega arith, inl refl); few = omega arith }
 
-pub reads_room : (old mid new : Held) (left₀ left : Option (List ℕ)) (calls₀ calls : ℕ) → Reads old mid left₀ left calls₀ calls → HasNoFeed mid.kept → MakesRoom (unanswered mid) (unanswered new) → new.reads ≡ mid.reads → Reads old new left₀ left calls₀ calls
+pub reads_room : (old mid new : Held) (left₀ left : Option (List ℕ)) (calls₀ calls : ℕ) → Reads 0 old mid left₀ left calls₀ calls → HasNoFeed mid.kept → MakesRoom (unanswered mid) (unanswered new) → new.reads ≡ mid.reads → Reads 0 old new left₀ left calls₀ calls
 reads_room old mid new left₀ left calls₀ calls so_far none room reads =
     let whole : HasNoFeed (unanswered old ++ so_far.came) = no_feed_whole _ _ so_far.stays (unanswered-no_feed mid none) in
     record {
@@ -89,6 +90,7 @@ reads_room old mid new left₀ left calls₀ calls so_far none room reads =
       given = so_far.given;
       stays = stays_room _ _ _ whole so_far.stays room;
       called = subst (λ r. CallsAre calls₀ calls old.reads r) (sym reads) so_far.called;
+      few = so_far.few;
     }
 
 unanswered_gained : (mid new : Held) (gained : List ℕ) → new.is_passing ≡ mid.is_passing → new.kept ≡ mid.kept ++ gained → unanswered new ≡ unanswered mid ++ gained
@@ -96,9 +98,10 @@ unanswered_gained mid new gained passing kept =
     let front : List ℕ = if mid.is_passing then passed else [] in
     rw (passing, kept) (sym (append_assoc front mid.kept gained))
 
-pub reads_more : (old mid new : Held) (left₀ left left' : Option (List ℕ)) (calls₀ calls calls' : ℕ) → Reads old mid left₀ left calls₀ calls → Gains mid.kept new.kept left left' → new.is_passing ≡ mid.is_passing → new.reads ≡ mid.reads + 1 → calls' ≡ one_more calls
-    → Reads old new left₀ left' calls₀ calls'
-reads_more old mid new left₀ left left' calls₀ calls calls' so_far gains passing reads called =
+-- one call more, which gave a byte or is counted as one that gave none
+pub reads_more : (idle : ℕ) (old mid new : Held) (left₀ left left' : Option (List ℕ)) (calls₀ calls calls' : ℕ) → Reads 0 old mid left₀ left calls₀ calls → Gains mid.kept new.kept left left' → length mid.kept < length new.kept + idle → new.is_passing ≡ mid.is_passing → new.reads ≡ mid.reads + 1 → calls' ≡ one_more calls
+    → Reads idle old new left₀ left' calls₀ calls'
+reads_more idle old mid new left₀ left left' calls₀ calls calls' so_far gains gave passing reads called =
     let whole : List ℕ = unanswered old ++ so_far.came in
     let more : Stays (whole ++ gains.gained) (unanswered mid ++ gains.gained) = stays_more whole (unanswered mid) gains.gained so_far.stays in
     record {
@@ -106,16 +109,17 @@ reads_more old mid new left₀ left left' calls₀ calls calls' so_far gains pas
       given = Consumes-trans left₀ left left' so_far.came gains.gained so_far.given gains.given;
       stays = rw (← append_assoc (unanswered old) so_far.came gains.gained, unanswered_gained mid new gains.gained passing gains.appended) more;
       called = calls_more calls₀ calls calls' old.reads mid.reads new.reads so_far.called called reads;
+      few = omega (arith, called, one_more_at_most calls, so_far.few, gave, ap length gains.appended, length-append mid.kept gains.gained, length-append so_far.came gains.gained);
     }
 
 -- one round: nothing was found, room was made, and a read followed
-pub reads_round : (old loop taken made new : Held) (left₀ left left' : Option (List ℕ)) (calls₀ calls calls' : ℕ) → Reads old loop left₀ left calls₀ calls → taken ≡ loop → HasNoFeed loop.kept
+pub reads_round : (idle : ℕ) (old loop taken made new : Held) (left₀ left left' : Option (List ℕ)) (calls₀ calls calls' : ℕ) → Reads 0 old loop left₀ left calls₀ calls → taken ≡ loop → HasNoFeed loop.kept
     → MakesRoom (unanswered taken) (unanswered made) → made.reads ≡ taken.reads
-    → Gains made.kept new.kept left left' → new.is_passing ≡ made.is_passing → new.reads ≡ made.reads + 1 → calls' ≡ one_more calls → Reads old new left₀ left' calls₀ calls'
-reads_round old loop taken made new left₀ left left' calls₀ calls calls' so_far same none room room_reads gains passing reads called =
-    let here : Reads old taken left₀ left calls₀ calls = subst (λ (h : Held). Reads old h left₀ left calls₀ calls) (sym same) so_far in
+    → Gains made.kept new.kept left left' → length made.kept < length new.kept + idle → new.is_passing ≡ made.is_passing → new.reads ≡ made.reads + 1 → calls' ≡ one_more calls → Reads idle old new left₀ left' calls₀ calls'
+reads_round idle old loop taken made new left₀ left left' calls₀ calls calls' so_far same none room room_reads gains gave passing reads called =
+    let here : Reads 0 old taken left₀ left calls₀ calls = subst (λ (h : Held). Reads 0 old h left₀ left calls₀ calls) (sym same) so_far in
     let no_feed : HasNoFeed taken.kept = subst (λ (h : Held). HasNoFeed h.kept) (sym same) none in
-    reads_more old made new left₀ left left' calls₀ calls calls' (reads_room old taken made left₀ left calls₀ calls here no_feed room room_reads) gains passing reads called
+    reads_more idle old made new left₀ left left' calls₀ calls calls' (reads_room old taken made left₀ left calls₀ calls here no_feed room room_reads) gains gave passing reads called
 
 -- a first line of what stands for the bytes is one of the bytes
 long_first : (whole bytes line rest : List ℕ) (ended : Bool) (left : Option (List ℕ)) (r : Replaces whole bytes) → FirstLine bytes line rest ended left → FirstLong whole rest ended left × (longest_line < length line)
@@ -147,20 +151,22 @@ finds_whole whole bytes new left found (inl same) f = subst (λ b. Finds b new l
 finds_whole whole bytes new left found (inr r) f = finds_replaced whole bytes new left found r f
 
 -- the line is there
-pub found_line : (old mid new : Held) (left₀ left : Option (List ℕ)) (calls₀ calls : ℕ) (found : Found) → Reads old mid left₀ left calls₀ calls → Finds (unanswered mid) new left found → new.reads ≡ mid.reads
+pub found_line : (idle : ℕ) (old mid new : Held) (left₀ left : Option (List ℕ)) (calls₀ calls : ℕ) (found : Found) → Reads idle old mid left₀ left calls₀ calls → Finds (unanswered mid) new left found → new.reads ≡ mid.reads → idle ≤ (if new.has_ended then 1 else 0)
     → AnswersFound old new left₀ left calls₀ calls (Ok found)
-found_line old mid new left₀ left calls₀ calls found so_far finds reads = record {
+found_line idle old mid new left₀ left calls₀ calls found so_far finds reads ended = record {
   came = so_far.came;
   given = so_far.given;
   answer = finds_whole _ _ new left found so_far.stays finds;
   called = subst (λ r. CallsAre calls₀ calls old.reads r) (sym reads) so_far.called;
+  few = omega (arith, so_far.few, ended);
 }
 
 -- the source failed, or no more is read of it
-pub found_none : (old new : Held) (left₀ left : Option (List ℕ)) (calls₀ calls : ℕ) (failed : Failed) → Reads old new left₀ left calls₀ calls → HasNoFeed new.kept → AnswersFound old new left₀ left calls₀ calls (Err failed)
-found_none old new left₀ left calls₀ calls failed so_far none = record {
+pub found_none : (idle : ℕ) (old new : Held) (left₀ left : Option (List ℕ)) (calls₀ calls : ℕ) (failed : Failed) → Reads idle old new left₀ left calls₀ calls → idle ≤ 1 → HasNoFeed new.kept → AnswersFound old new left₀ left calls₀ calls (Err failed)
+found_none idle old new left₀ left calls₀ calls failed so_far once none = record {
   came = so_far.came;
   given = so_far.given;
   answer = (no_feed_whole _ _ so_far.stays (unanswered-no_feed new none), so_far.stays);
   called = so_far.called;
+  few = omega (arith, so_far.few, once);
 }

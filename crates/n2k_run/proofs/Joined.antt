@@ -1,12 +1,12 @@
 -- Parts that lie in memory, taken one after the other.
-use Rattle.std.proofs.Common.{◌≡◌, ℕ, List, [], ◌∷◌, ◌++◌, length, map, Option, Some, None, Result, Ok, Err, refl, sym, ap, ◌∙◌, subst, append-nil}
-use Rattle.std.specs.Prelude.{IfOk}
-use Rattle.std.specs.List.{concat}
+use Rattle.std.proofs.Common.{◌≡◌, ℕ, List, [], ◌∷◌, ◌++◌, arith, length, length-append, map, Option, Some, None, Result, Ok, Err, refl, sym, ap, ◌∙◌, subst, append-nil}
+use Rattle.std.specs.Prelude.{◌⊎◌, ◌+◌, IfOk}
+use Rattle.std.specs.List.{All, concat}
+use mathlib.Core.Logic.{inl, inr}
 use Rattle.std.specs.Prelude.{◌<◌, get_or, take, drop, suc}
 use Rattle.std.specs.Borrow.{Bor}
-use Rattle.std.proofs.lemmas.List.{map-append, take-append-drop}
+use Rattle.std.proofs.lemmas.List.{get_or_at, map-append, take-append-drop}
 use Rattle.std.proofs.Math.Seq.{drop-cons}
-use Rattle.n2k_run.specs.Memory.{Supply}
 use Rattle.std.specs.Io.KnownBytes.{Appends}
 use Rattle.std.proofs.KnownBytes.{Appends-nil, Appends-trans}
 use Rattle.std.proofs.lemmas.Grind.{flat_map-append}
@@ -21,14 +21,19 @@ use Rattle.n2k_run.specs.declared.part.PartFault.{PartFault}
 use Rattle.n2k_run.specs.declared.part.PartFault.TheVariants.{State as Refused, Stopped, Run, Memory}
 use Rattle.n2k_run.specs.Decoded.{out, out_of, output_after, reports, reports_of}
 use Rattle.n2k_run.specs.Entries.{entries}
-use Rattle.n2k_run.specs.Inner.Parts.{Saves}
-use Rattle.n2k_run.specs.Parts.{AreCutAtLines, BeginsBy, IsPartOf, OnRefusal, PrintsLog, RefusedByMemory, RunsPart, TakesAll, TellsRun, begun, entries_of, save, with_source, HasPart}
-use Rattle.n2k_run.specs.Runs.{Devices, Gained}
+use Rattle.n2k_run.specs.Inner.Parts.{PartLeft, Saves}
+use Rattle.n2k_run.specs.Parts.{AreCutAtLines, AreWithinReads, BeginsBy, EndsParts, IsNotRead, IsPartOf, OnRefusal, PrintsLog, RefusedByMemory, RunsPart, TakesAll, TellsRun, begun, entries_of, save, with_source, HasPart}
+use Rattle.n2k_run.specs.declared.fault.RunFault.{RunFault}
+use Rattle.n2k_run.specs.declared.fault.RunFault.TheVariants.{Read}
+use Rattle.n2k_run.specs.Device.{HasFailed}
+use Rattle.n2k_run.specs.Reading.{OutlastsReads, most_reads}
+use Rattle.n2k_run.specs.Runs.{Devices, Gained, Output, ReadFails, Runs}
+use Rattle.n2k_run.proofs.Calls.{end_found}
 use Rattle.n2k_run.proofs.Ending.{of_log}
 use Rattle.n2k_run.proofs.Fronts.{entries-append}
 use Rattle.n2k_run.proofs.GoingOn.{out_of-append, reports_of-append}
 use Rattle.n2k_run.proofs.LogSteps.{LogLaws}
-use Rattle.n2k_run.proofs.Parting.{KeepsFast, begun-under, memory_alone, part-of, told_ok}
+use Rattle.n2k_run.proofs.Parting.{KeepsFast, begun-under, memory_alone, part-of, told_ok, told_stopped}
 
 -- before the first part
 pub empty-of : (laws : KeepsFast) (t : TableParts) (o : Options) → IsWindow o.window.window → (join : State) {E : Type 0} (result : Result Part E) → IsId t.id → join ≡ state t.id o.window (kind t) [] → IfOk result (Saves join) → IfOk result (IsPartOf t o (state t.id o.window (kind t) []))
@@ -59,7 +64,7 @@ module _ (t : TableParts) (o : Options) (laws : LogLaws o.window) where
       let es = entries o.packing met in
       let all : front ++ es ≡ entries_of o (done ++ met ∷ []) = sym (entries_next o done met) in
       let ran = told_ok _ _ _ _ next run.told in
-      let gained = of_log _ _ _ _ (λ log. Gained (output_after t o front) (with_source between (Some met) 0 0) (with_source after run.left run.calls run.failed_reads) (entries o.packing log)) ran.ends ran.ends.gained in
+      let gained = of_log _ _ _ _ (λ log. Gained (output_after t o front) (with_source between (Some met) 0 0) (with_source after run.left run.calls 0) (entries o.packing log)) ran.ends ran.ends.gained in
       let text : Appends before.written after.written (out_of t o (front ++ es)) =
       subst (Appends before.written after.written) (sym (out_of-append t o laws front es)) (Appends-trans before.written between.written after.written _ _ so_far.taken.printed gained.printed) in
       let report : Appends before.reported after.reported (reports_of t o (front ++ es)) =
@@ -83,15 +88,41 @@ both_untouched (Err Memory) w w' e e' seen p q = tt
 both_untouched (Err (Refused fault)) w w' e e' seen p q = rw (p, q) refl
 
 -- the run of a part reads from its source in memory
-pub runs_part : (t : TableParts) (o : Options) (front : List Entry) (met : List ℕ) (reader : Supply) (at : ℕ) (before after : Devices) (left : Option (List ℕ)) (calls failed_reads : ℕ) (result : Result Part PartFault) → reader ≡ record { left = met; at_once = at; fails_at = 0; calls = 0; failed_calls = 0 }
-    → TellsRun (output_after t o front) (λ es. HasPart t o result (state t.id o.window (kind t) (front ++ es))) (with_source before (Some reader.left) reader.calls reader.failed_calls) (with_source after left calls failed_reads) result → OnRefusal result (after ≡ before) → RunsPart t o front met before after result
-runs_part t o front met reader at before after left calls failed_reads result is told untouched = record {
+pub runs_part : (t : TableParts) (o : Options) (front : List Entry) (met : List ℕ) (reader : PartLeft) (before after : Devices) (left : Option (List ℕ)) (calls : ℕ) (result : Result Part PartFault) → reader ≡ record { left = met; calls = 0 }
+    → TellsRun (output_after t o front) (λ es. HasPart t o result (state t.id o.window (kind t) (front ++ es))) (with_source before (Some reader.left) reader.calls 0) (with_source after left calls 0) result → OnRefusal result (after ≡ before) → RunsPart t o front met before after result
+runs_part t o front met reader before after left calls result is told untouched = record {
   left = left;
   calls = calls;
-  failed_reads = failed_reads;
-  told = subst (λ (s : Supply). TellsRun (output_after t o front) (λ es. HasPart t o result (state t.id o.window (kind t) (front ++ es))) (with_source before (Some s.left) s.calls s.failed_calls) (with_source after left calls failed_reads) result) is told;
+  told = subst (λ (s : PartLeft). TellsRun (output_after t o front) (λ es. HasPart t o result (state t.id o.window (kind t) (front ++ es))) (with_source before (Some s.left) s.calls 0) (with_source after left calls 0) result) is told;
   untouched = untouched;
 }
+
+-- a part that is one of these
+part_met : (P : List ℕ → Type 0) (parts done : List (List ℕ)) (met : List ℕ) (later : List (List ℕ)) → All P parts → parts ≡ done ++ met ∷ later → P met
+part_met P parts done met later all is =
+    subst P (get_or_at done met later [] (length done) refl) (subst (All P) is all (length done) [] (omega (arith, length-append done (met ∷ later))))
+
+-- the source of a part never fails, and its end is found
+not_stopped : (o : Output) (stands : List Entry → Type 0) (met : List ℕ) (before after : Devices) (left : Option (List ℕ)) (calls : ℕ) → length met + 1 < most_reads → Runs {T = Unit {0}} o stands (with_source before (Some met) 0 0) (with_source after left calls 0) (Err Read) → ⊥
+not_stopped o stands met before after left calls few runs =
+    let device : ReadFails (with_source before (Some met) 0 0) (with_source after left calls 0) = runs.device in
+    end_found met left calls few runs.reads (elim device.reads as (λ _. HasFailed 0 0 ⊎ OutlastsReads 0 calls) [ inl failed ↦ inl failed | inr outlasts ↦ inr outlasts.0 ])
+
+pub not_read : (t : TableParts) (o : Options) (parts : List (List ℕ)) (before after : Devices) (result : Result Part PartFault) → AreWithinReads parts → EndsParts t o parts before after result → IsNotRead result
+not_read t o parts before after (Err (Stopped fault part)) few (inl end) = cc
+not_read t o parts before after (Err (Stopped fault part)) few (inr end) = λ is.
+    let front : List Entry = entries_of o end.done in
+    let stands : List Entry → Type 0 = λ es. HasPart t o (Err (Stopped fault part)) (state t.id o.window (kind t) (front ++ es)) in
+    let source : Devices = with_source end.between (Some end.met) 0 0 in
+    let read : Devices = with_source after end.runs.left end.runs.calls 0 in
+    let runs : Runs {T = Unit {0}} (output_after t o front) stands source read (Err Read) =
+    subst (λ (f : RunFault). Runs {T = Unit {0}} (output_after t o front) stands source read (Err f)) is (told_stopped (output_after t o front) source read stands fault part end.runs.told) in
+    let few_bytes : length end.met + 1 < most_reads = part_met (λ met. length met + 1 < most_reads) parts end.done end.met end.later few end.parts_are in
+    not_stopped (output_after t o front) stands end.met end.between after end.runs.left end.runs.calls few_bytes runs
+not_read t o parts before after (Err (Refused fault)) few end = tt
+not_read t o parts before after (Err (Run fault)) few end = tt
+not_read t o parts before after (Err Memory) few end = tt
+not_read t o parts before after (Ok part) few end = tt
 
 -- the parts before one, that one, and those after it
 pub split_parts : (parts : List (Bor (List ℕ))) (i : ℕ) (d : Bor (List ℕ)) → i < length parts → map (λ (p : Bor (List ℕ)). p.now) parts ≡ map (λ (p : Bor (List ℕ)). p.now) (take i parts) ++ (get_or parts i d).now ∷ map (λ (p : Bor (List ℕ)). p.now) (drop (suc i) parts)

@@ -1,4 +1,5 @@
 pub mod Answering
+pub mod Calls
 pub mod Counting
 pub mod Ending
 pub mod Feeds

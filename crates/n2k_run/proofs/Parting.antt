@@ -1,5 +1,5 @@
 -- A part of a log: what its run promises is what its answer says.
-use Rattle.std.proofs.Common.{◌≡◌, ℕ, List, [], ◌∷◌, ◌++◌, Option, Some, None, Result, Ok, Err, refl, sym, ap, ◌∙◌, subst, append-nil}
+use Rattle.std.proofs.Common.{◌≡◌, ℕ, List, [], ◌∷◌, ◌++◌, arith, Option, Some, None, Result, Ok, Err, refl, sym, ap, ◌∙◌, subst, append-nil}
 use Rattle.std.specs.Prelude.{◌⊎◌, IfSome, IsOk}
 use mathlib.Core.Logic.{inl, inr}
 use Rattle.std.specs.Io.KnownBytes.{Appends}
@@ -26,6 +26,7 @@ use Rattle.n2k_run.specs.Making.{after_all}
 use Rattle.n2k_run.specs.Parts.{BeginsBy, HasPart, IsPartOf, OnRefusal, Ran, StandsAtLine, TellsRun, begun}
 use Rattle.n2k_run.specs.Runs.{Devices, HasFronts, Output, Runs, output_from}
 use Rattle.n2k_run.specs.Writing.{AppendsFront}
+use Rattle.n2k_run.proofs.Calls.{none_read, within_one}
 use Rattle.n2k_run.proofs.Ending.{of_log, runs_more, runs_same}
 use Rattle.n2k_run.proofs.LogSteps.{LogLaws, output_after-is, state_after}
 
@@ -58,6 +59,7 @@ unbegun o stands before fault none = record {
       reported = ([], subst (Appends before.reported before.reported) (sym (append-nil (o.reports []) ∙ none)) (Appends-nil before.reported));
     });
     device = record { reads = refl; writes = refl; reports = refl };
+    reads = within_one 0 before.left before.left before.calls before.calls (omega arith) (none_read before.left before.calls);
   };
 }
 

@@ -1,6 +1,6 @@
 -- The engine of the runs: what stands after each step, and what each end leaves.
 use Rattle.std.proofs.Common.{◌≡◌, inl, inr, ℕ, true, false, List, [], ◌∷◌, ◌++◌, length, refl, sym, ap, ◌∙◌, subst, append_assoc, arith, length-append, Option, Some, None, Result, Ok, Err}
-use Rattle.std.specs.Prelude.{IfSome}
+use Rattle.std.specs.Prelude.{IfSome, if◌then◌else◌}
 use Rattle.std.specs.Io.KnownBytes.{Appends, Consumes}
 use Rattle.std.proofs.KnownBytes.{Appends-nil, Appends-trans, Consumes-nil, Consumes-trans}
 use Rattle.std.proofs.lemmas.List.{append-nil}
@@ -13,9 +13,11 @@ use Rattle.n2k_run.specs.Device.{HasFailed}
 use Rattle.n2k_run.specs.Entries.{entries}
 use Rattle.n2k_run.specs.Lines.{whole_lines}
 use Rattle.n2k_run.specs.Making.{Making, after_all, texts_from, reports_from}
+use Rattle.n2k_run.specs.Reading.{ReadsBytes}
 use Rattle.n2k_run.specs.Runs.{AreNumbered, Devices, Ends, Gained, HasDevice, HasFronts, IsCut, IsFull, NoneFailed, Output, ReportsFirst, Runs, output_from}
 use Rattle.n2k_run.specs.Writing.{AppendsFront}
 use Rattle.n2k_run.specs.Inner.Engine.{FailsKept, Made, MovesOn, ReadsNext, Stands, StandsStill, TakesNext, WritesKept}
+use Rattle.n2k_run.proofs.Calls.{ended_within_one, none_read as no_calls, reads_on}
 use Rattle.n2k_run.proofs.Finding.{calls_end}
 use Rattle.n2k_run.proofs.Folds.{after-append, texts-append, reports-append}
 use Rattle.n2k_run.proofs.Fronts.{Leads, leads, takes_more, whole_front}
@@ -95,6 +97,7 @@ module _ {S : Type 0} (m : Making S) (packing : Packing) (s₀ : S) (before : De
           numbered = λ some. absurd (omega (arith, some));
         };
         called = (omega arith, inl (omega (arith, ap (λ (h : Held). h.reads) is)));
+        reads = rw is (no_calls before.left before.calls);
         none_failed = record { reads = refl; writes = refl; reports = refl };
       }
 
@@ -126,6 +129,7 @@ module _ {S : Type 0} (m : Making S) (packing : Packing) (s₀ : S) (before : De
         end = stands.end;
         made = rw (none_kept.0, none_kept.1) made;
         called = stands.called;
+        reads = stands.reads;
         none_failed = record { reads = stands.none_failed.reads; writes = none_failed.0 ∙ stands.none_failed.writes; reports = none_failed.1 ∙ stands.none_failed.reports };
       }
 
@@ -187,10 +191,11 @@ module _ {S : Type 0} (m : Making S) (packing : Packing) (s₀ : S) (before : De
   calls_trans c₀ c c' r₀ r r' (rise, inr p) (rises, inr q) = (omega (arith, rise, rises), inr q)
 
   pub takes : (s s' : S) (held held' : Held) (text text' report report' : List ℕ) (now : Devices) (left : Option (List ℕ)) (calls failed : ℕ) → Stands m packing s₀ s held text report before now → held.has_ended ≡ false
-      → TakesNext {T = Unit {0}} m packing s s' held held' now.left left text text' report report' (Ok tt) → failed ≡ now.failed_reads → CallsAre now.calls calls held.reads held'.reads
+      → TakesNext {T = Unit {0}} m packing s s' held held' now.left left text text' report report' (Ok tt) → failed ≡ now.failed_reads → CallsAre now.calls calls held.reads held'.reads → ReadsBytes (if held'.has_ended then 1 else 0) now.left left now.calls calls
       → Stands m packing s₀ s' held' text' report' before (read_on now left calls failed)
-  takes s s' held held' text text' report report' now left calls failed stands on next none_failed called =
+  takes s s' held held' text text' report report' now left calls failed stands on next none_failed called calls_more =
       let calls_are = calls_trans before.calls now.calls calls 0 held.reads held'.reads stands.called called in
+      let reads = reads_on held.has_ended _ before.left now.left left before.calls now.calls calls on stands.reads calls_more in
       let none : NoneFailed before (read_on now left calls failed) = record { reads = none_failed ∙ stands.none_failed.reads; writes = stands.none_failed.writes; reports = stands.none_failed.reports } in
       elim next [
         | inl one ↦
@@ -203,6 +208,7 @@ module _ {S : Type 0} (m : Making S) (packing : Packing) (s₀ : S) (before : De
               end = more.end;
               made = subst (λ es. Made m s₀ s' es text' report' before (read_on now left calls failed)) (sym more.entries_are) moved;
               called = calls_are;
+              reads = reads;
               none_failed = none;
             }
         | inr last ↦
@@ -215,6 +221,7 @@ module _ {S : Type 0} (m : Making S) (packing : Packing) (s₀ : S) (before : De
               end = λ _. (last.0.none_held, last.0.at_end);
               made = made_read s' _ text' report' now left calls failed (made_still s s' (entries packing stands.front) text text' report report' now stands.made last.1);
               called = calls_are;
+              reads = reads;
               none_failed = none;
             }
       ]
@@ -294,29 +301,39 @@ module _ {S : Type 0} (m : Making S) (packing : Packing) (s₀ : S) (before : De
   -- a sink failed
   pub sink_end : (stands : List Entry → Type 0) (s : S) (es : List Entry) (text report : List ℕ) (now after : Devices) (fault : RunFault) → Made m s₀ s es text report before now → Leads packing before.left es → after.failed_reads ≡ before.failed_reads → now.failed_writes ≡ before.failed_writes → now.failed_reports ≡ before.failed_reports
       → WritesKept {T = Unit {0}} text report now.written after.written now.reported after.reported (Err fault) → FailsKept {T = Unit {0}} now.failed_writes after.failed_writes now.failed_reports after.failed_reports (Err fault)
+      → ReadsBytes 1 before.left after.left before.calls after.calls
       → Runs {T = Unit {0}} o stands before after (Err fault)
-  sink_end stands s es text report now after Write made lead reads writes reports out fails = record {
+  sink_end stands s es text report now after Write made lead reads writes reports out fails calls = record {
     ends = tt;
     fronts = write_fronts s es text report now after made (out.0, out.1) lead;
     reports_first = write_first s es text report now after made (out.0, out.1) lead;
     device = record { reads = reads; writes = subst (λ n. HasFailed n after.failed_writes) writes fails.0; reports = fails.1 ∙ reports };
+    reads = calls;
   }
-  sink_end stands s es text report now after Report made lead reads writes reports out fails = record {
+  sink_end stands s es text report now after Report made lead reads writes reports out fails calls = record {
     ends = tt;
     fronts = report_fronts s es text report now after made (out.0, out.1) lead;
     reports_first = report_first s es text report now after made (out.0, out.1) lead;
     device = record { reads = reads; writes = fails.1 ∙ writes; reports = subst (λ n. HasFailed n after.failed_reports) reports fails.0 };
+    reads = calls;
   }
-  sink_end stands s es text report now after Read made lead reads writes reports out fails = absurd out
-  sink_end stands s es text report now after Memory made lead reads writes reports out fails = absurd out
-  sink_end stands s es text report now after TooManyLines made lead reads writes reports out fails = absurd out
+  sink_end stands s es text report now after Read made lead reads writes reports out fails calls = absurd out
+  sink_end stands s es text report now after Memory made lead reads writes reports out fails calls = absurd out
+  sink_end stands s es text report now after TooManyLines made lead reads writes reports out fails calls = absurd out
 
   pub lead_of : (s : S) (held : Held) (text report : List ℕ) (now : Devices) (stands : Stands m packing s₀ s held text report before now) → Leads packing before.left (entries packing stands.front)
   lead_of s held text report now stands = leads packing before.left now.left stands.front (unanswered held) held.has_ended stands.came stands.whole stands.end
 
+  -- the calls up to here, and with those for the next line
+  pub calls_here : (s : S) (held : Held) (text report : List ℕ) (now : Devices) → Stands m packing s₀ s held text report before now → ReadsBytes 1 before.left now.left before.calls now.calls
+  calls_here s held text report now stands = ended_within_one held.has_ended before.left now.left before.calls now.calls stands.reads
+
+  pub calls_next : (s : S) (held : Held) (text report : List ℕ) (now : Devices) (left : Option (List ℕ)) (calls : ℕ) → Stands m packing s₀ s held text report before now → held.has_ended ≡ false → ReadsBytes 1 now.left left now.calls calls → ReadsBytes 1 before.left left before.calls calls
+  calls_next s held text report now left calls stands on next = reads_on held.has_ended 1 before.left now.left left before.calls now.calls calls on stands.reads next
+
   -- memory was refused: nothing more is written
-  pub memory_end : (stands : List Entry → Type 0) (s : S) (held : Held) (text report : List ℕ) (now : Devices) (left : Option (List ℕ)) (calls failed : ℕ) → Stands m packing s₀ s held text report before now → failed ≡ now.failed_reads → Runs {T = Unit {0}} o stands before (read_on now left calls failed) (Err Memory)
-  memory_end stands s held text report now left calls failed stood none_failed =
+  pub memory_end : (stands : List Entry → Type 0) (s : S) (held : Held) (text report : List ℕ) (now : Devices) (left : Option (List ℕ)) (calls failed : ℕ) → Stands m packing s₀ s held text report before now → held.has_ended ≡ false → ReadsBytes 1 now.left left now.calls calls → failed ≡ now.failed_reads → Runs {T = Unit {0}} o stands before (read_on now left calls failed) (Err Memory)
+  memory_end stands s held text report now left calls failed stood on next none_failed =
       let made = made_read s (entries packing stood.front) text report now left calls failed stood.made in
       let lead = lead_of s held text report now stood in
       record {
@@ -324,6 +341,7 @@ module _ {S : Type 0} (m : Making S) (packing : Packing) (s₀ : S) (before : De
         fronts = kept_fronts s (entries packing stood.front) text report (read_on now left calls failed) made lead;
         reports_first = kept_first s (entries packing stood.front) text report (read_on now left calls failed) made lead;
         device = record { reads = none_failed ∙ stood.none_failed.reads; writes = stood.none_failed.writes; reports = stood.none_failed.reports };
+        reads = calls_next s held text report now left calls stood on next;
       }
 
   -- the end of the log
@@ -349,6 +367,7 @@ module _ {S : Type 0} (m : Making S) (packing : Packing) (s₀ : S) (before : De
         fronts = tt;
         reports_first = gained_first es after all lead;
         device = record { reads = stands.none_failed.reads; writes = none_failed.0 ∙ stands.none_failed.writes; reports = none_failed.1 ∙ stands.none_failed.reports };
+        reads = calls_here s held text report now stands;
       }
 
   pub last_end : (s : S) (held : Held) (text report : List ℕ) (now : Devices) (w' e' : Option (List ℕ)) (fw' fe' : ℕ) (result : Result (Unit {0}) RunFault) → Stands m packing s₀ s held text report before now → held.has_ended ≡ true
@@ -357,7 +376,7 @@ module _ {S : Type 0} (m : Making S) (packing : Packing) (s₀ : S) (before : De
   last_end s held text report now w' e' fw' fe' (Ok x) stands ended out fails = whole_end s held text report now w' e' fw' fe' stands ended out fails
   last_end s held text report now w' e' fw' fe' (Err fault) stands ended out fails =
       let after : Devices = record now { written = w'; failed_writes = fw'; reported = e'; failed_reports = fe' } in
-      sink_end (λ es. s ≡ after_all m s₀ es) s (entries packing stands.front) text report now after fault stands.made (lead_of s held text report now stands) stands.none_failed.reads stands.none_failed.writes stands.none_failed.reports out fails
+      sink_end (λ es. s ≡ after_all m s₀ es) s (entries packing stands.front) text report now after fault stands.made (lead_of s held text report now stands) stands.none_failed.reads stands.none_failed.writes stands.none_failed.reports out fails (calls_here s held text report now stands)
 
   -- a fault of the next line, where nothing moved
   pub still_made : (s s' : S) (held held' : Held) (text text' report report' : List ℕ) (now : Devices) (left : Option (List ℕ)) (calls failed : ℕ) (fault : RunFault) → Stands m packing s₀ s held text report before now → TakesNext {T = Unit {0}} m packing s s' held held' now.left left text text' report report' (Err fault) → (fault ≡ Memory → ⊥)
@@ -426,10 +445,10 @@ module _ {S : Type 0} (m : Making S) (packing : Packing) (s₀ : S) (before : De
   fault_device now after s s' held held' text text' report report' TooManyLines none hold called next reads = record { reads = reads ∙ none.reads; writes = hold.0 ∙ none.writes; reports = hold.1 ∙ none.reports }
 
   pub fault_end : (s s' : S) (held held' : Held) (text text' report report' : List ℕ) (now : Devices) (left : Option (List ℕ)) (calls failed : ℕ) (w' e' : Option (List ℕ)) (fw' fe' : ℕ) (fault : RunFault) → Stands m packing s₀ s held text report before now → held.has_ended ≡ false
-      → TakesNext {T = Unit {0}} m packing s s' held held' now.left left text text' report report' (Err fault) → (fault ≡ Memory → ⊥) → ReadsNext {T = Unit {0}} held' now.failed_reads failed (Err fault) → CallsAre now.calls calls held.reads held'.reads
+      → TakesNext {T = Unit {0}} m packing s s' held held' now.left left text text' report report' (Err fault) → (fault ≡ Memory → ⊥) → ReadsNext {T = Unit {0}} held' now.failed_reads failed (Err fault) → CallsAre now.calls calls held.reads held'.reads → ReadsBytes 1 now.left left now.calls calls
       → Appends now.written w' text' × Appends now.reported e' report' → (fw' ≡ now.failed_writes) × (fe' ≡ now.failed_reports)
       → Runs {T = Unit {0}} o (λ es. s' ≡ after_all m s₀ es) before (record now { left = left; calls = calls; failed_reads = failed; written = w'; failed_writes = fw'; reported = e'; failed_reports = fe' }) (Err fault)
-  fault_end s s' held held' text text' report report' now left calls failed w' e' fw' fe' fault stands on next not_memory reads called out hold =
+  fault_end s s' held held' text text' report report' now left calls failed w' e' fw' fe' fault stands on next not_memory reads called calls_more out hold =
       let mid : Devices = read_on now left calls failed in
       let after : Devices = record now { left = left; calls = calls; failed_reads = failed; written = w'; failed_writes = fw'; reported = e'; failed_reports = fe' } in
       let es = entries packing stands.front in
@@ -442,4 +461,5 @@ module _ {S : Type 0} (m : Making S) (packing : Packing) (s₀ : S) (before : De
         fronts = gained_fronts es after all lead;
         reports_first = gained_first es after all lead;
         device = fault_device now after s s' held held' text text' report report' fault stands.none_failed hold (calls_trans before.calls now.calls calls 0 held.reads held'.reads stands.called called) next reads;
+        reads = calls_next s held text report now left calls stands on calls_more;
       }

@@ -7,6 +7,7 @@ use Rattle.n2k_run.specs.declared.blocks.Next.{Next}
 use Rattle.n2k_run.specs.declared.blocks.Next.TheVariants.{Line, Long, End}
 use Rattle.n2k_run.specs.declared.device.Failed.{Failed}
 use Rattle.n2k_run.specs.Lines.{line_feed, is_line_feed, lines, without_return}
+use Rattle.n2k_run.specs.Reading.{idle_calls}
 
 -- what contracts see of `Blocks`
 pub record Held : Type 0 where
@@ -82,6 +83,8 @@ pub record Answers (old new : Held) (left₀ left : Option (List ℕ)) (calls₀
   pub given : Consumes left₀ left came
   pub answer : GivesNext (unanswered old ++ came) (unanswered new) new.has_ended left result
   pub called : CallsAre calls₀ calls old.reads new.reads
+  -- each call gave at least one of them, but for the one that found the end or failed
+  pub few : calls ≤ calls₀ + length came + idle_calls new.has_ended result
 
 -- an answer, by the lines of the bytes that are unanswered and those that the source has left
 abbrev pub AnswersLine : List ℕ → List ℕ → Result Next Failed → Type 0

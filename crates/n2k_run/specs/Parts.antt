@@ -1,7 +1,7 @@
 -- A log in parts: each part goes on from the state that was saved after the one before it, and together they print what
 -- one run over the whole log prints.
-use Rattle.std.specs.Prelude.{◌≡◌, ◌⊎◌, ◌<◌, ℕ, List, [], ◌∷◌, ◌++◌, length, Option, Some, None, Result, Ok, Err, IfSome, IsOk, IsSome}
-use Rattle.std.specs.List.{flat_map}
+use Rattle.std.specs.Prelude.{◌≡◌, ◌⊎◌, ◌<◌, ◌+◌, ℕ, List, [], ◌∷◌, ◌++◌, length, Option, Some, None, Result, Ok, Err, IfSome, IsOk, IsSome}
+use Rattle.std.specs.List.{All, flat_map}
 use Rattle.std.specs.Io.{IsEmptyOrEndsWith}
 use Rattle.std.specs.Io.KnownBytes.{Appends, Consumes, IsAtEnd}
 use Rattle.n2k_wire.specs.declared.entry.Entry.{Entry}
@@ -23,6 +23,7 @@ use Rattle.n2k_run.specs.Decoded.{join_making, out, out_of, output_after, report
 use Rattle.n2k_run.specs.Entries.{entries}
 use Rattle.n2k_run.specs.Lines.{line_feed, whole_lines}
 use Rattle.n2k_run.specs.Making.{after_all}
+use Rattle.n2k_run.specs.Reading.{most_reads}
 use Rattle.n2k_run.specs.Runs.{Devices, Output, Runs, output_from}
 use Rattle.n2k_run.specs.Writing.{AppendsFront}
 
@@ -216,13 +217,12 @@ pub record TakesAll (t : TableParts) (o : Options) (parts : List (List ℕ)) (be
   pub taken : Takes t o parts before after
   pub leads_to : IsPartOf t o (state t.id o.window (kind t) (entries_of o parts)) part
 
--- The run of a part that lies in memory, after these entries. Where the state can't be read for want of memory, nothing of
--- the part was written.
+-- The run of a part that lies in memory, after these entries: no call of its source failed. Where the state can't be read for
+-- want of memory, nothing of the part was written.
 pub record RunsPart (t : TableParts) (o : Options) (front : List Entry) (met : List ℕ) (before after : Devices) (result : Result Part PartFault) : Type 0 where
   pub left : Option (List ℕ)
   pub calls : ℕ
-  pub failed_reads : ℕ
-  pub told : TellsRun (output_after t o front) (λ es. HasPart t o result (state t.id o.window (kind t) (front ++ es))) (with_source before (Some met) 0 0) (with_source after left calls failed_reads) result
+  pub told : TellsRun (output_after t o front) (λ es. HasPart t o result (state t.id o.window (kind t) (front ++ es))) (with_source before (Some met) 0 0) (with_source after left calls 0) result
   pub untouched : OnRefusal result (after ≡ before)
 
 -- The parts before one of them were taken whole, and at this one the run ended so, as that of a part does.
@@ -239,6 +239,18 @@ pub record EndsAtPart (t : TableParts) (o : Options) (parts : List (List ℕ)) (
 abbrev pub EndsParts : TableParts → Options → List (List ℕ) → Devices → Devices → Result Part PartFault → Type 0
 EndsParts t o parts before after (Ok part) = TakesAll t o parts before after part
 EndsParts t o parts before after (Err fault) = ((fault ≡ Memory) × (after ≡ before)) ⊎ EndsAtPart t o parts before after (Err fault)
+
+-- each part has fewer bytes than a run makes reads, so that its end is found however few of them a read gives
+abbrev pub AreWithinReads : List (List ℕ) → Type 0
+AreWithinReads parts = All (λ part. length part + 1 < most_reads) parts
+
+-- a run was not stopped for Read
+abbrev pub IsNotRead : Result Part PartFault → Type 0
+IsNotRead (Err (Stopped fault part)) = fault ≡ run_faults.Read → ⊥
+IsNotRead (Err (Refused fault)) = Unit {0}
+IsNotRead (Err (Run fault)) = Unit {0}
+IsNotRead (Err Memory) = Unit {0}
+IsNotRead (Ok part) = Unit {0}
 
 -- the whole log was printed: the sinks gained its output and its reports, and the Part is what is saved and counted after it
 pub record PrintsLog (t : TableParts) (o : Options) (log : List ℕ) (before after : Devices) (part : Part) : Type 0 where

@@ -1,5 +1,6 @@
--- Why reading may end before the source does.
-use Rattle.std.specs.Prelude.{◌⊎◌, ◌≤◌, ◌+◌, ◌-◌, ◌^◌, ℕ}
+-- How many calls of a source a reading makes, and why it may end before the source does.
+use Rattle.std.specs.Prelude.{◌⊎◌, ◌≤◌, ◌+◌, ◌-◌, ◌^◌, ℕ, Bool, if◌then◌else◌, List, length, Option, Result, Ok, Err}
+use Rattle.std.specs.Io.KnownBytes.{Consumes}
 
 -- the most calls of a source that a run makes
 abbrev pub most_reads : ℕ
@@ -8,3 +9,14 @@ most_reads = 1_000_000_000_000
 -- as many calls were made of a source as a run makes at most, or their number stands at its greatest
 abbrev pub OutlastsReads : ℕ → ℕ → Type 0
 OutlastsReads calls₀ calls = (calls₀ + most_reads ≤ calls) ⊎ (2 ^ 64 - 1 ≤ calls)
+
+-- These bytes came of a source, and each call gave at least one of them, but for so many calls that gave none.
+pub record ReadsBytes (idle : ℕ) (left₀ left : Option (List ℕ)) (calls₀ calls : ℕ) : Type 0 where
+  pub came : List ℕ
+  pub given : Consumes left₀ left came
+  pub few : calls ≤ calls₀ + length came + idle
+
+-- the calls for an answer that give no byte: one that finds the end, or one that fails
+abbrev pub idle_calls : {T E : Type 0} → Bool → Result T E → ℕ
+idle_calls has_ended (Ok x) = if has_ended then 1 else 0
+idle_calls has_ended (Err fault) = 1

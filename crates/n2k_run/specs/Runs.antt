@@ -10,7 +10,7 @@ use Rattle.n2k_run.specs.Device.{HasFailed}
 use Rattle.n2k_run.specs.Entries.{entries}
 use Rattle.n2k_run.specs.Lines.{whole_lines}
 use Rattle.n2k_run.specs.Making.{Making, texts_from, reports_from}
-use Rattle.n2k_run.specs.Reading.{OutlastsReads}
+use Rattle.n2k_run.specs.Reading.{OutlastsReads, ReadsBytes}
 use Rattle.n2k_run.specs.Writing.{AppendsFront}
 
 -- what a run makes of the entries of its log
@@ -156,3 +156,5 @@ pub record Runs {T : Type 0} (o : Output) (stands : List Entry → Type 0) (befo
   pub fronts : OnErr result (IfSome before.left (λ log. HasFronts o before after log))
   pub reports_first : IfSome before.left (λ log. ReportsFirst o before after log)
   pub device : HasDevice before after result
+  -- no more calls were made of the source than bytes came of it, and one
+  pub reads : ReadsBytes 1 before.left after.left before.calls after.calls

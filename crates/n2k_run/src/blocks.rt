@@ -41,6 +41,8 @@ pub struct Blocks {
     line_end: usize,
     start: usize,
     end: usize,
+    // Where the first LF of what is kept stands, counted from `start`.
+    feed: Option<usize>,
     is_passing: bool,
     has_ended: bool,
     reads: u64,
@@ -96,6 +98,7 @@ impl Blocks {
             line_end: 0,
             start: 0,
             end: 0,
+            feed: None,
             is_passing: false,
             has_ended: false,
             reads: 0,
@@ -114,7 +117,7 @@ impl Blocks {
         ensures line { result ≡ true → HasFeed self.now.kept }
         ensures none { result ≡ false → HasNoFeed self.now.kept }
     {
-        line_end(&self.block[self.start..self.end]).is_some()
+        self.feed.is_some()
     }
 
     /// The next line of the bytes that are unanswered, and then of those that the source has. It is read where no
@@ -172,7 +175,7 @@ impl Blocks {
         ensures found { IfSome result (λ found. (left : Option (List ℕ)) → Finds (unanswered self.old) self.new left found) }
         ensures reads { self.new.reads ≡ self.old.reads }
     {
-        let size = line_end(&self.block[self.start..self.end])?;
+        let size = self.feed?;
         self.has_ended = false;
         Some(self.answer(size, 1))
     }
@@ -181,6 +184,7 @@ impl Blocks {
     fn take_rest(&mut self) -> Found
         requires { HasNoFeed self.old.kept }
         ensures found { (left : Option (List ℕ)) → IsAtEnd left → Finds (unanswered self.old) self.new left result }
+        ensures ended { self.new.has_ended ≡ true }
         ensures reads { self.new.reads ≡ self.old.reads }
     {
         self.has_ended = true;
@@ -205,6 +209,7 @@ impl Blocks {
         self.line_start = self.start;
         self.line_end = self.start + line;
         self.start += size + past;
+        self.feed = line_end(&self.block[self.start..self.end]);
         self.is_passing = false;
         if is_long { Found::Long } else { Found::Line }
     }
@@ -221,6 +226,7 @@ impl Blocks {
             self.is_passing = true;
             self.start = 0;
             self.end = 0;
+            self.feed = None;
         } else {
             self.shift();
         }
@@ -246,6 +252,7 @@ impl Blocks {
         requires few { self.old.reads < most_reads }
         ensures gains { Gains self.old.kept self.new.kept (R.remaining reader.old) (R.remaining reader.new) }
         ensures end { IfOk result (λ count. count ≡ 0 → (self.new.kept ≡ self.old.kept) × IsAtEnd (R.remaining reader.new)) }
+        ensures count { IfOk result (λ count. length self.new.kept ≡ length self.old.kept + count) }
         ensures failed { OnErr result (self.new.kept ≡ self.old.kept) }
         ensures passing { self.new.is_passing ≡ self.old.is_passing }
         ensures reads { self.new.reads ≡ self.old.reads + 1 }
@@ -255,6 +262,7 @@ impl Blocks {
         self.reads += 1;
         let count = reader.read(&mut self.block[self.end..])?;
         self.end += count;
+        self.feed = line_end(&self.block[self.start..self.end]);
         Ok(count)
     }
 }

@@ -160,6 +160,3 @@ pub fn run<R: Source, W: Sink, E: Sink>(
     let maker = JsonLines { table, empty };
     run_entries(alloc, &maker, packing, join, reader, writer, reporter)
 }
-
-#[cfg(test)]
-mod tests;

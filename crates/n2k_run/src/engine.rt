@@ -2,6 +2,7 @@
 ghost use Rattle.std.specs.Prelude.{◌≡◌, ◌⊎◌, [], OnOk};
 ghost use Rattle.n2k_run.specs.Blocks.{CallsAre, HasFeed};
 ghost use Rattle.n2k_run.specs.Making.{after_all};
+ghost use Rattle.n2k_run.specs.Reading.{ReadsBytes, idle_calls};
 ghost use Rattle.n2k_run.specs.Runs.{Runs, devices, output_from};
 ghost use Rattle.n2k_wire.specs.declared.entry.BadCause.TheVariants.{Long};
 ghost use Rattle.n2k_wire.specs.declared.entry.Entry.TheVariants.{Bad};
@@ -48,6 +49,7 @@ fn take_next<M: Maker, R: Source>(
         kept.old.text.items kept.new.text.items kept.old.report.items kept.new.report.items result }
     ensures ready { OnOk result (M.is_ready maker.now state.new) }
     ensures device { ReadsNext blocks.new (R.failed_calls reader.old) (R.failed_calls reader.new) result }
+    ensures reads { ReadsBytes (idle_calls blocks.new.has_ended result) (R.remaining reader.old) (R.remaining reader.new) (R.calls reader.old) (R.calls reader.new) }
     ensures called { CallsAre (R.calls reader.old) (R.calls reader.new) blocks.old.reads blocks.new.reads }
 {
     match blocks.next_line(reader) {

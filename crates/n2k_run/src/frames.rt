@@ -238,6 +238,3 @@ pub fn run_frames<R: Source, W: Sink, E: Sink>(
         Err(fault) => Err(fault),
     }
 }
-
-#[cfg(test)]
-mod tests;

@@ -31,6 +31,7 @@ mod maker;
 mod memory;
 mod options;
 mod part;
+mod part_source;
 mod plain;
 mod reading;
 mod standard;
@@ -51,6 +52,3 @@ pub use reading::{MOST_READS, read_bytes};
 pub use standard::{StdSink, StdSource};
 pub use texts::{bad_text, broken_text, summary_text, write_summary};
 pub use writing::write_all;
-
-#[cfg(test)]
-mod tests;

@@ -7,14 +7,14 @@ ghost use Rattle.n2k_join.specs.Refusal.{GivesOrMemory};
 ghost use Rattle.n2k_join.specs.Saved.{IsId};
 ghost use Rattle.n2k_join.specs.State.{State, state};
 ghost use Rattle.n2k_run.specs.Inner.Parts.{Finishes, HasSaved, Saves};
-ghost use Rattle.n2k_run.specs.Parts.{AreCutAtLines, EndsParts, IsOfKind, IsPartOf, OnRefusal, PrintsLog, RefusedByMemory, RunsFrom, RunsPart, begun};
+ghost use Rattle.n2k_run.specs.Parts.{AreCutAtLines, AreWithinReads, EndsParts, IsNotRead, IsOfKind, IsPartOf, OnRefusal, PrintsLog, RefusedByMemory, RunsFrom, RunsPart, begun};
 ghost use Rattle.n2k_run.specs.Runs.{devices};
 
 use crate::decoding::run;
 use crate::device::{Sink, Source};
 use crate::fault::RunFault;
-use crate::memory::MemorySource;
 use crate::options::{Options, know_window};
+use crate::part_source::PartSource;
 use n2k_join::{Counts, Join, StateFault, laws};
 use n2k_table::Table;
 use std::alloc::{AllocError, Global};
@@ -183,7 +183,7 @@ fn next_part<W: Sink, E: Sink>(
         let after = devices None 0 0 (W.contents writer.new) (W.failed_calls writer.new) (E.contents reporter.new) (E.failed_calls reporter.new) in
         RunsPart table.now options.now front part.now before after result }
 {
-    let mut reader = MemorySource::new(part, usize::MAX, 0);
+    let mut reader = PartSource::new(part);
     let state = Some(last.state.as_slice());
     run_part(alloc, table, state, *options, &mut reader, writer, reporter)
 }
@@ -193,6 +193,8 @@ fn next_part<W: Sink, E: Sink>(
 /// part gives the state of the empty log.
 ///
 /// After a refusal the parts before the one that met it have been printed whole, and of that one what `run_part` says.
+/// `RunFault::Read` is no answer where each part has fewer than 10^12 - 1 bytes: a part in memory does not fail, and its
+/// end is found.
 ///
 /// ```text
 /// let part = run_parts(alloc, &table, options, &[monday, tuesday], &mut out, &mut err)?;
@@ -207,6 +209,7 @@ pub fn run_parts<W: Sink, E: Sink>(
 ) -> Result<Part, PartFault>
     ensures fault_kinds { IsOfKind result }
     ensures memory_only { RefusedByMemory result }
+    ensures never_read { AreWithinReads (map (λ part. part.now) parts.now) → IsNotRead result }
 
     // What the entries of all parts make, one part after the other; or a part was met at which the run ended.
     ensures log { let before = devices None 0 0 (W.contents writer.old) (W.failed_calls writer.old) (E.contents reporter.old) (E.failed_calls reporter.old) in
@@ -231,6 +234,3 @@ pub fn run_parts<W: Sink, E: Sink>(
     }
     Ok(last)
 }
-
-#[cfg(test)]
-mod tests;

@@ -98,6 +98,3 @@ pub fn run_plain<R: Source, W: Sink, E: Sink>(
         Err(fault) => Err(fault),
     }
 }
-
-#[cfg(test)]
-mod tests;

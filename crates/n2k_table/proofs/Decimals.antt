@@ -186,11 +186,10 @@ pub size_lt : (x : ℤ) → FitsSigned w128 x → unsigned_abs x < 10 ^ 64
 size_lt x fits = omega (arith, ints, fits)
 
 -- as the code appends it: digits that are more than the decimals
-pub dec_dotted : (x : ℤ) (e : ℕ) → e < length (decimal (unsigned_abs x)) → dec x e ≡ sign_of x ++ dotted e (decimal (unsigned_abs x))
-unfolding dec
-dec_dotted x e more =
-    let none : e + 1 - length (decimal (unsigned_abs x)) ≡ 0 = omega arith in
-    ap (λ k. sign_of x ++ dotted e (replicate k 48 ++ decimal (unsigned_abs x))) none
+pub dotted_padded : (n e : ℕ) → e < length (decimal n) → dotted e (decimal n) ≡ dotted e (padded_digits n e)
+dotted_padded n e more =
+    let none : e + 1 - length (decimal n) ≡ 0 = omega arith in
+    ap (λ k. dotted e (replicate k 48 ++ decimal n)) (sym none)
 
 -- a zero before e digits
 dotted_after : (e : ℕ) (ds : List ℕ) → length ds ≡ e → 0 < e → dotted e (48 ∷ ds) ≡ 48 ∷ 46 ∷ ds
@@ -200,27 +199,17 @@ dotted_after e (d ∷ ds) len some =
     rw place refl
 
 -- and digits that are not
-pub dec_filled : (x : ℤ) (e : ℕ) → unsigned_abs x < 10 ^ 64 → length (decimal (unsigned_abs x)) ≤ e → dec x e ≡ sign_of x ++ filled e (decimal (unsigned_abs x))
-unfolding dec
-dec_filled x e small less =
-    let ds = decimal (unsigned_abs x) in
-    let some = (has_first (unsigned_abs x) small).some in
+pub filled_padded : (n e : ℕ) → n < 10 ^ 64 → length (decimal n) ≤ e → filled e (decimal n) ≡ dotted e (padded_digits n e)
+filled_padded n e small less =
+    let ds = decimal n in
+    let some = (has_first n small).some in
     let zeros : e + 1 - length ds ≡ suc (e - length ds) = omega arith in
     let len : length (replicate (e - length ds) 48 ++ ds) ≡ e = omega (arith, length-append (replicate (e - length ds) 48) ds, length-replicate {A = ℕ} (e - length ds) 48) in
-    ap (λ (r : List ℕ). sign_of x ++ r)
-    (ap (λ k. dotted e (replicate k 48 ++ ds)) zeros ∙ dotted_after e (replicate (e - length ds) 48 ++ ds) len (omega arith))
+    sym (ap (λ k. dotted e (replicate k 48 ++ ds)) zeros ∙ dotted_after e (replicate (e - length ds) 48 ++ ds) len (omega arith))
 
 -- the sign and then the digits
-onto : (x : ℤ) (e : ℕ) (text l0 l1 l2 : List ℕ) → dec x e ≡ sign_of x ++ text → l1 ≡ l0 ++ sign_of x → l2 ≡ l1 ++ text → l2 ≡ l0 ++ dec x e
-onto x e text l0 l1 l2 is sign rest =
-    rest ∙ ap (λ (l : List ℕ). l ++ text) sign ∙ append_assoc l0 (sign_of x) text ∙ ap (λ (t : List ℕ). l0 ++ t) (sym is)
-
-pub onto_dotted : (x : ℤ) (e : ℕ) (ds l0 l1 l2 : List ℕ) → ds ≡ decimal (unsigned_abs x) → e < length ds
-    → l1 ≡ l0 ++ sign_of x → l2 ≡ l1 ++ dotted e ds → l2 ≡ l0 ++ dec x e
-onto_dotted x e ds l0 l1 l2 is more sign rest =
-    onto x e (dotted e ds) l0 l1 l2 (rw is (dec_dotted x e (omega (arith, ap length is)))) sign rest
-
-pub onto_filled : (x : ℤ) (e : ℕ) (ds l0 l1 l2 : List ℕ) → unsigned_abs x < 10 ^ 64 → ds ≡ decimal (unsigned_abs x) → length ds ≤ e
-    → l1 ≡ l0 ++ sign_of x → l2 ≡ l1 ++ filled e ds → l2 ≡ l0 ++ dec x e
-onto_filled x e ds l0 l1 l2 small is less sign rest =
-    onto x e (filled e ds) l0 l1 l2 (rw is (dec_filled x e small (omega (arith, ap length is)))) sign rest
+pub onto : (x : ℤ) (e n : ℕ) (l0 l1 l2 : List ℕ) → n ≡ unsigned_abs x → l1 ≡ l0 ++ sign_of x → l2 ≡ l1 ++ dotted e (padded_digits n e) → l2 ≡ l0 ++ dec x e
+unfolding dec
+onto x e n l0 l1 l2 is sign rest =
+    rest ∙ ap (λ (l : List ℕ). l ++ dotted e (padded_digits n e)) sign ∙ append_assoc l0 (sign_of x) (dotted e (padded_digits n e))
+    ∙ ap (λ m. l0 ++ (sign_of x ++ dotted e (padded_digits m e))) is

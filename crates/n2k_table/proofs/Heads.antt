@@ -84,3 +84,15 @@ found_number pgn payload (d ∷ ds) =
 -- a definition that is chosen for a message describes its PGN
 pub choice_number : (t : TableParts) (pgn : ℕ) (payload : List ℕ) → IfSome (choice t pgn payload) (λ (d : DefinitionParts). d.number ≡ pgn)
 choice_number t pgn payload = found_number pgn payload t.definitions
+
+-- three parts of two are appended in turn
+pub sender_parts : (line a b c d e f l1 l2 l3 : List ℕ) → l1 ≡ line ++ (a ++ b) → l2 ≡ l1 ++ (c ++ d) → l3 ≡ l2 ++ (e ++ f) → l3 ≡ line ++ (((((a ++ b) ++ c) ++ d) ++ e) ++ f)
+sender_parts line a b c d e f l1 l2 l3 p1 p2 p3 = rw (p3, p2, p1) (simp append_assoc)
+
+-- a stamp that stands for itself, between its quotes
+pub plain_time : (line stamp l1 l2 l3 : List ℕ) → list_all is_plain stamp ≡ true → l1 ≡ line ++ codes "{\"timestamp\":\"" → l2 ≡ l1 ++ stamp → l3 ≡ l2 ++ 34 ∷ []
+    → l3 ≡ line ++ (codes "{\"timestamp\":" ++ text_json stamp)
+plain_time line stamp l1 l2 l3 plain p1 p2 p3 = rw (p3, p2, p1, text_json-plain stamp plain) (simp append_assoc)
+
+pub two_parts : (line a b l1 l2 : List ℕ) → l1 ≡ line ++ a → l2 ≡ l1 ++ b → l2 ≡ line ++ (a ++ b)
+two_parts line a b l1 l2 p1 p2 = rw (p2, p1) (append_assoc line a b)

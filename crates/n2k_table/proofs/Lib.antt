@@ -14,8 +14,10 @@ pub mod Heads
 pub mod Names
 pub mod OneKind
 pub mod OneLine
+pub mod Placed
 pub mod Places
 pub mod RawBits
+pub mod Rooms
 pub mod Scaled
 pub mod SetPlaces
 pub mod Tops

@@ -1,8 +1,9 @@
 //! The decimal text of a whole number over a power of ten.
 ghost use Rattle.std.specs.Prelude.{◌≡◌, ◌++◌, ◌≤◌, ℕ, List, length, decimal, OnOk, OnErr};
-ghost use Rattle.n2k_table.specs.Decimal.{IsDecimal, dec, dotted, sign_of};
+ghost use Rattle.n2k_table.specs.Decimal.{IsDecimal, dec, dotted, padded_digits, sign_of};
 ghost use Rattle.n2k_table.specs.Inner.Digits.{filled};
 
+use crate::short::{MOST_DECIMALS, push_short};
 use crate::tail::Tail;
 use itoa::Buffer;
 use std::alloc::{AllocError, Global};
@@ -48,31 +49,34 @@ fn push_sign(value: i128, line: &mut Tail) -> Result<(), AllocError>
     Ok(())
 }
 
-// The digits of a number. Most have 64 bits, which cost less than 128.
-fn digits_of(size: u128, buffer: &mut Buffer) -> &str
-    ensures { result.now ≡ decimal size }
+// Appends the decimal text of `size / 10^decimals`.
+#[inline(never)]
+fn push_size(size: u128, decimals: usize, line: &mut Tail) -> Result<(), AllocError>
+    ensures appends { OnOk result (line.new.items ≡ line.old.items ++ dotted decimals (padded_digits size decimals)) }
+    ensures before { line.new.before ≡ line.old.before }
 {
-    match u64::try_from(size) {
-        Ok(short) => buffer.format(short),
-        Err(_) => buffer.format(size),
+    let mut buffer = Buffer::new();
+    let digits = buffer.format(size).as_bytes();
+    if decimals < digits.len() {
+        push_dotted(digits, decimals, line)
+    } else {
+        push_filled(digits, decimals, line)
     }
 }
 
 /// Appends the decimal text of `value / 10^decimals`.
+#[inline(always)]
 pub(crate) fn push_decimal(value: i128, decimals: u8, line: &mut Tail) -> Result<(), AllocError>
     ensures appends { OnOk result (line.new.items ≡ line.old.items ++ dec value decimals) }
     ensures before { line.new.before ≡ line.old.before }
 {
-    let mut buffer = Buffer::new();
-    let digits = digits_of(value.unsigned_abs(), &mut buffer).as_bytes();
+    let size = value.unsigned_abs();
     let decimals = usize::from(decimals);
     push_sign(value, line)?;
-    if decimals < digits.len() {
-        push_dotted(digits, decimals, line)?;
-    } else {
-        push_filled(digits, decimals, line)?;
+    match u64::try_from(size) {
+        Ok(short) if decimals <= MOST_DECIMALS => push_short(short, decimals, line),
+        _ => push_size(size, decimals, line),
     }
-    Ok(())
 }
 
 /// Appends the decimal text of `value / 10^decimals`, with exactly that many digits after the dot: a minus
@@ -96,6 +100,5 @@ pub fn decimal_text(
 {
     let mut line = Tail::after(mem::replace(out, Vec::new(alloc)));
     let written = push_decimal(value, decimals, &mut line);
-    *out = line.end(written.is_ok());
-    written
+    line.end(written, out)
 }

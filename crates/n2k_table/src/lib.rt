@@ -29,6 +29,7 @@ mod lookup;
 mod repeat;
 mod resolution;
 mod sets;
+mod short;
 mod shown;
 mod table;
 mod tail;
@@ -42,6 +43,3 @@ pub use line::json_line;
 pub use sets::Sets;
 pub use shown::{Fields, Shown};
 pub use table::Table;
-
-#[cfg(test)]
-mod tests;

@@ -239,6 +239,5 @@ pub fn json_line(
     let definition = table.choose(packet.id().pgn, packet.data());
     let mut line = Tail::after(mem::replace(out, Vec::new(alloc)));
     let written = push_line(definition, packet, empty, &mut line);
-    *out = line.end(written.is_ok());
-    written
+    line.end(written, out)
 }

@@ -1,5 +1,6 @@
 //! Names of values.
-ghost use Rattle.std.specs.Prelude.{◌≡◌, map, flat_map, option_map, IfOk, find};
+ghost use Rattle.std.specs.Prelude.{◌≡◌, map, flat_map, nat_eq, option_map, IfOk, find};
+ghost use Rattle.std.specs.Map.{lookup as value_at};
 ghost use Rattle.std.specs.List.{list_any};
 ghost use Rattle.std.specs.Str.{bytes_eq};
 ghost use Rattle.toml.specs.View.{view, table_view, array_view};
@@ -146,8 +147,20 @@ impl Lookup {
     pub(crate) fn name_of(&self, value: u64) -> Option<&Name>
         ensures { option_map (λ name. name.now) result ≡ name_of_value self.now.entries value }
     {
-        self.names.get(&value)
+        match self.names.get_index(value as usize) {
+            Some((found, name)) if *found == value => Some(name),
+            _ => name_by_hash(&self.names, value),
+        }
     }
+}
+
+// The name of a value, found by its hash. It is not inlined: most lookups name the values from 0 on in their order, and then
+// a name stands at the place of its value.
+#[inline(never)]
+fn name_by_hash(names: &IndexMap<u64, Name>, value: u64) -> Option<&Name>
+    ensures { option_map (λ name. name.now) result ≡ value_at (nat_eq value) names.now.entries }
+{
+    names.get(&value)
 }
 
 // The integer and the text of an entry.

@@ -1,63 +1,163 @@
 //! A vector that is appended to, and can be put back as it was.
-ghost use Rattle.std.specs.Prelude.{◌≡◌, ◌∷◌, [], ◌++◌, if◌then◌else◌, OnOk};
+ghost use Rattle.std.specs.Prelude.{◌≡◌, ◌∷◌, [], ◌++◌, ◌+◌, ◌≤◌, length, take, OnOk, OnErr, is_ok, true};
 
 use std::alloc::AllocError;
 use std::marker::Model;
 
+/// How many bytes of a line are put together before they are appended.
+const ROOM: usize = 256;
+
 /// A vector to which a line is appended in parts. Where one of them is refused the vector can be had back as
-/// it was.
+/// it was. The parts are put together in a room: copying a few bytes at a constant length into an array costs a third of
+/// appending them to a vector.
 #[derive(Drop)]
 pub(crate) struct Tail {
     out: Vec<u8>,
     // How many bytes stood before.
     start: usize,
+    room: [u8; ROOM],
+    // How many bytes of the room count. They stand behind the vector's.
+    at: usize,
 }
 
 impl Model for Tail {
-    ghost use Rattle.std.specs.Prelude.{◌≤◌, take, length};
+    ghost use Rattle.std.specs.Prelude.{◌≤◌, ◌++◌, take, length};
     ghost use Rattle.n2k_table.specs.Inner.Tail.{TailParts};
 
     ghost Value = { TailParts };
 
-    ghost view = { λ l. record { before = take l.start l.out.items; items = l.out.items } };
+    ghost view = { λ l. record { before = take l.start l.out.items; items = l.out.items ++ take l.at l.room; held = l.at } };
 
-    ghost invariant = { λ l. l.start ≤ length l.out.items };
+    ghost invariant = { λ l. (l.start ≤ length l.out.items) × (l.at ≤ 256) };
+}
+
+// Appends what the room holds. It is not inlined: a line does so once or twice.
+#[inline(never)]
+fn empty_room(out: &mut Vec<u8>, room: &[u8; ROOM], at: usize) -> Result<(), AllocError>
+    requires { at ≤ 256 }
+    ensures ok { OnOk result (out.new.items ≡ out.old.items ++ take at room.now) }
+    ensures err { OnErr result (out.new.items ≡ out.old.items) }
+{
+    out.extend_from_slice(&room[..at])
+}
+
+// Writes bytes to a place of the room.
+#[inline(always)]
+fn write_at<const N: usize>(room: &mut [u8; ROOM], at: usize, bytes: &[u8; N])
+    requires { at + N ≤ 256 }
+    ensures { take (at + N) room.new ≡ take at room.old ++ bytes.now }
+{
+    room[at..at + N].copy_from_slice(bytes);
 }
 
 impl Tail {
     /// A line behind what the vector holds.
+    #[inline(always)]
     pub(crate) fn after(out: Vec<u8>) -> Tail
-        ensures { result ≡ record { before = out.items; items = out.items } }
+        ensures { result ≡ record { before = out.items; items = out.items; held = 0 } }
     {
         let start = out.len();
-        Tail { out, start }
+        Tail {
+            out,
+            start,
+            room: [0; ROOM],
+            at: 0,
+        }
     }
 
     /// Appends a byte.
+    #[inline(always)]
     pub(crate) fn push(&mut self, byte: u8) -> Result<(), AllocError>
         ensures items { OnOk result (self.new.items ≡ self.old.items ++ byte ∷ []) }
         ensures before { self.new.before ≡ self.old.before }
     {
-        self.out.push(byte)?;
+        self.put(&[byte], 1)
+    }
+
+    // Sees to it that the room has a place for so many bytes.
+    #[inline(always)]
+    fn make_place(&mut self, count: usize) -> Result<(), AllocError>
+        requires { count ≤ 256 }
+        ensures items { OnOk result (self.new.items ≡ self.old.items) }
+        ensures before { self.new.before ≡ self.old.before }
+        ensures place { OnOk result (self.new.held + count ≤ 256) }
+    {
+        if self.at > ROOM - count {
+            empty_room(&mut self.out, &self.room, self.at)?;
+            self.at = 0;
+        }
+        Ok(())
+    }
+
+    /// Appends the first bytes of some. It copies all of them, which costs less than so many.
+    #[inline(always)]
+    pub(crate) fn put<const N: usize>(
+        &mut self,
+        bytes: &[u8; N],
+        count: usize,
+    ) -> Result<(), AllocError>
+        requires few { count ≤ N }
+        requires room { N ≤ 256 }
+        ensures items { OnOk result (self.new.items ≡ self.old.items ++ take count bytes.now) }
+        ensures before { self.new.before ≡ self.old.before }
+    {
+        self.make_place(N)?;
+        write_at(&mut self.room, self.at, bytes);
+        self.at += count;
         Ok(())
     }
 
     /// Appends bytes.
+    #[inline(always)]
     pub(crate) fn extend_from_slice(&mut self, bytes: &[u8]) -> Result<(), AllocError>
         ensures items { OnOk result (self.new.items ≡ self.old.items ++ bytes.now) }
         ensures before { self.new.before ≡ self.old.before }
     {
+        if bytes.len() <= ROOM - self.at {
+            let end = self.at + bytes.len();
+            self.room[self.at..end].copy_from_slice(bytes);
+            self.at = end;
+            return Ok(());
+        }
+        self.extend_past(bytes)
+    }
+
+    // Appends bytes that the room has no place for.
+    #[inline(never)]
+    fn extend_past(&mut self, bytes: &[u8]) -> Result<(), AllocError>
+        ensures items { OnOk result (self.new.items ≡ self.old.items ++ bytes.now) }
+        ensures before { self.new.before ≡ self.old.before }
+    {
+        empty_room(&mut self.out, &self.room, self.at)?;
+        self.at = 0;
         self.out.extend_from_slice(bytes)
     }
 
     /// The vector, with the line where it was written and else as it was.
-    pub(crate) fn end(self, written: bool) -> Vec<u8>
-        ensures { result.items ≡ (if written then self.items else self.before) }
+    #[inline(always)]
+    pub(crate) fn end(
+        self,
+        written: Result<(), AllocError>,
+        out: &mut Vec<u8>,
+    ) -> Result<(), AllocError>
+        ensures ok { OnOk result (out.new.items ≡ self.items) }
+        ensures err { OnErr result (out.new.items ≡ self.before) }
+        ensures written { OnOk result (is_ok written ≡ true) }
     {
-        let Tail { mut out, start } = self;
-        if !written {
-            out.truncate(start);
+        let Tail {
+            out: mut kept,
+            start,
+            room,
+            at,
+        } = self;
+        let mut ended = written;
+        if ended.is_ok() {
+            ended = kept.extend_from_slice(&room[..at]);
         }
-        out
+        if ended.is_err() {
+            kept.truncate(start);
+        }
+        *out = kept;
+        ended
     }
 }

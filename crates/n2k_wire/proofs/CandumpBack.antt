@@ -193,7 +193,7 @@ upper_hexes (b ∷ bytes) ok =
     let low : is_ascii_hexdigit (slice_index upper_digits (b % 16)) ≡ true = upper_hex (b % 16) (omega arith) in
     rw (high, low) (upper_hexes bytes (λ i. ok (suc i)))
 
-no_hex : (c : ℕ) → is_ascii_hexdigit c ≡ false → (b : ℕ) → is_ascii_hexdigit b ≡ true → (b == c) ≡ false
+pub no_hex : (c : ℕ) → is_ascii_hexdigit c ≡ false → (b : ℕ) → is_ascii_hexdigit b ≡ true → (b == c) ≡ false
 no_hex c other b hex = elim (cases_Bool (b == c)) [ inl same ↦ absurd (let e : b ≡ c = eqb-true b c same in let both = rw e at hex in cc) | inr differs ↦ differs ]
 
 no_hex_in : (c : ℕ) → is_ascii_hexdigit c ≡ false → (text : List ℕ) → list_all is_ascii_hexdigit text ≡ true → HasNone (λ b. b == c) text

@@ -23,7 +23,7 @@ pub hex_digit_value-is : (digit : ℕ) → is_ascii_hexdigit digit ≡ true → 
 hex_digit_value-is digit e = grind (arith, nat_tests)
 
 -- the bytes of pairs of digits
-pub spelled : List ℕ → List ℕ
+unfoldable pub spelled : List ℕ → List ℕ
 spelled [] = []
 spelled (digit ∷ []) = []
 spelled (high ∷ low ∷ rest) = (hex_value high * 16 + hex_value low) ∷ spelled rest

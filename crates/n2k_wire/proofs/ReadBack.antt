@@ -22,18 +22,18 @@ use Rattle.n2k_wire.proofs.PlainLemmas.{bytes_of-pairs}
 -- ---- pieces
 
 -- a text without a comma
-abbrev HasNoComma : List ℕ → Type 0
+abbrev pub HasNoComma : List ℕ → Type 0
 HasNoComma text = All (λ b. (b == 44) ≡ false) text
 
 no_comma : (b : ℕ) → (b ≡ 44 → ⊥) → (b == 44) ≡ false
 no_comma b other = ne_eqb b 44 other
 
 -- a piece and a comma, and what stands behind them
-next_piece : (text more : List ℕ) → HasNoComma text → pieces (text ++ (44 ∷ more)) ≡ text ∷ pieces more
+pub next_piece : (text more : List ℕ) → HasNoComma text → pieces (text ++ (44 ∷ more)) ≡ text ∷ pieces more
 next_piece text more h = slice_split_at (λ b. b == 44) text 44 more h refl
 
 -- the last piece
-last_piece : (text : List ℕ) → HasNoComma text → pieces text ≡ text ∷ []
+pub last_piece : (text : List ℕ) → HasNoComma text → pieces text ≡ text ∷ []
 last_piece text h = slice_split_none (λ b. b == 44) text h
 
 -- ---- bytes
@@ -146,7 +146,7 @@ length-number_piece n h = omega (arith, length-decimal-le 10 n (omega arith) h (
 -- ---- the stamp
 
 -- a stamp begins as none of the other lines do, is short, and is one piece
-stamp_parts : (stamp : List ℕ) → IsTrue (is_stamp stamp) → (starts_stamp stamp ≡ true) × (length stamp ≤ 32) × HasNoComma stamp
+pub stamp_parts : (stamp : List ℕ) → IsTrue (is_stamp stamp) → (starts_stamp stamp ≡ true) × (length stamp ≤ 32) × HasNoComma stamp
 stamp_parts stamp ok =
     let outer = and_parts (starts_stamp stamp && leb (length stamp) 32) (list_all is_stamp_byte stamp) ok in
     let inner = and_parts (starts_stamp stamp) (leb (length stamp) 32) outer.0 in (
@@ -155,11 +155,11 @@ stamp_parts stamp ok =
       All-weaker (λ b. is_stamp_byte b ≡ true) (λ b. (b == 44) ≡ false) (λ b h. not-true (b == 44) (and_parts (is_printable b) (not (b == 44)) h).1) stamp (AllPass-from_list_all is_stamp_byte stamp outer.1),
     )
 
-not_skipped : (stamp more : List ℕ) → starts_stamp stamp ≡ true → is_skipped (stamp ++ more) ≡ false
+pub not_skipped : (stamp more : List ℕ) → starts_stamp stamp ≡ true → is_skipped (stamp ++ more) ≡ false
 not_skipped [] more h = cc
 not_skipped (b ∷ stamp) more h = not-true (b == 35) (and_parts (not (b == 40)) (not (b == 35)) h).1
 
-not_candump : (stamp more : List ℕ) → starts_stamp stamp ≡ true → is_candump (stamp ++ more) ≡ false
+pub not_candump : (stamp more : List ℕ) → starts_stamp stamp ≡ true → is_candump (stamp ++ more) ≡ false
 not_candump [] more h = cc
 not_candump (b ∷ stamp) more h = not-true (b == 40) (and_parts (not (b == 40)) (not (b == 35)) h).0
 
@@ -173,7 +173,7 @@ lengths : (s a b c d e f : List ℕ) → length ((((((s ++ a) ++ b) ++ c) ++ d) 
 lengths s a b c d e f = simp length-append
 
 -- a line that is neither too long, nor skipped, nor of the other format
-plain_entry : (line : List ℕ) (packing : Packing) → length line ≤ 2048 → is_skipped line ≡ false → is_candump line ≡ false → entry line packing ≡ settled (plain packing line)
+pub plain_entry : (line : List ℕ) (packing : Packing) → length line ≤ 2048 → is_skipped line ≡ false → is_candump line ≡ false → entry line packing ≡ settled (plain packing line)
 unfolding entry
 plain_entry line packing short kept other =
     let fits : ltb 2048 (length line) ≡ false = le-ltb 2048 (length line) short in

@@ -16,7 +16,7 @@ use Rattle.n2k_wire.specs.Stamp.{Moment, moment, three_digits}
 use Rattle.n2k_wire.specs.Steps.{◌>>=◌, or_cause}
 use Rattle.n2k_wire.proofs.CandumpBack.{cut_behind, digits_alone, no_digit, none_of}
 
-number_digits : (most n : ℕ) (text : List ℕ) → decimal_number most text ≡ Some n → list_all is_ascii_digit text ≡ true
+pub number_digits : (most n : ℕ) (text : List ℕ) → decimal_number most text ≡ Some n → list_all is_ascii_digit text ≡ true
 unfolding decimal_number
 number_digits most n text e =
     elim (cases_Bool (ltb 0 (length text) && leb (length text) most)) [

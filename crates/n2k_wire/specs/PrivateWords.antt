@@ -7,7 +7,9 @@ use Rattle.n2k_wire.specs.declared.entry.Entry.{Entry}
 use Rattle.n2k_wire.specs.declared.entry.Entry.TheVariants as entries
 use Rattle.n2k_wire.specs.declared.plain.Header as pieces_of_code
 use Rattle.n2k_wire.specs.declared.stamp.Moment as moments_of_code
-use Rattle.n2k_wire.specs.Plain.{Header, pieces}
+use Rattle.n2k_wire.specs.Plain.{Header, greatest_address, number_to, pieces}
+use Rattle.n2k_wire.specs.Packet.{greatest_pgn, greatest_priority}
+use Rattle.n2k_wire.specs.declared.identifier.Id.{Id}
 use Rattle.n2k_wire.specs.declared.entry.BadCause.{BadCause}
 use Rattle.n2k_wire.specs.declared.entry.BadCause.TheVariants as causes
 use Rattle.n2k_wire.specs.Candump.{stamped, framed, identifier, frame_of}
@@ -69,3 +71,12 @@ pieces_left (Some text) = pieces text.now
 abbrev pub plain_header : pieces_of_code.Header → Header
 plain_header h =
     record { prio = h.prio.now; pgn = h.pgn.now; src = h.src.now; dst = h.dst.now; len = h.len.now; more = pieces_left h.more }
+
+-- the first piece of a text is this number, up to a limit, and the pieces behind it are those of the rest
+abbrev pub IsNumberBefore : ℕ → List ℕ → ℕ → List ℕ → Type 0
+IsNumberBefore limit text n rest = (piece : List ℕ) × (pieces text ≡ piece ∷ pieces rest) × (number_to limit piece ≡ Some n)
+
+-- the first four pieces of a text are the numbers of an identifier, and the pieces behind them are those of the rest
+abbrev pub IsIdBefore : List ℕ → Id → List ℕ → Type 0
+IsIdBefore text id rest =
+    (pgn src dst : List ℕ) × IsNumberBefore greatest_priority text id.prio pgn × IsNumberBefore greatest_pgn pgn id.pgn src × IsNumberBefore greatest_address src id.src dst × IsNumberBefore greatest_address dst id.dst rest

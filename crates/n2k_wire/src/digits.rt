@@ -12,6 +12,7 @@ use arrayvec::ArrayVec;
 
 /// The number that 1 to `most` decimal digits make.
 #[tactic(auto, unfolding(crate::specs::Digits::decimal_number))]
+#[inline]
 pub(crate) fn decimal_number(most: usize, digits: &[u8]) -> Option<u64>
     requires { most ≤ 18 }
     ensures value { result ≡ decimal_number most digits.now }
@@ -23,6 +24,7 @@ pub(crate) fn decimal_number(most: usize, digits: &[u8]) -> Option<u64>
     decimal_digits(digits)
 }
 
+#[inline]
 fn decimal_digits(digits: &[u8]) -> Option<u64>
     requires { length digits.now ≤ 18 }
     ensures value { result ≡ decimal_after 0 digits.now }

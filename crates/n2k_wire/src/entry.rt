@@ -1,5 +1,5 @@
 //! What a line of a log is.
-ghost use Rattle.std.specs.Prelude.{◌≡◌, ◌≤◌, length};
+ghost use Rattle.std.specs.Prelude.{◌≡◌, ◌≤◌, length, IfSome};
 ghost use Rattle.n2k_wire.specs.Candump.{frame_payload};
 ghost use Rattle.n2k_wire.specs.Entry.{entry, IsEntry, IsShort};
 ghost use Rattle.n2k_wire.specs.Packet.{IsPacket};
@@ -11,6 +11,7 @@ use crate::packet::Packet;
 use crate::plain::read_plain;
 use crate::stamp::UTC_LEN;
 use crate::usual::{Clock, read_usual};
+use crate::usual_plain::read_usual_plain;
 
 /// The most bytes of a line, without its LF and CR. Comments count too.
 pub const LONGEST_LINE: usize = 2048;
@@ -141,9 +142,23 @@ fn read_next(clock: &mut Clock, line: &[u8], packing: Packing, place: &mut Entry
     ensures valid { IsEntry place.new }
     ensures short { IsShort place.new }
 {
-    match read_usual(clock, line, place) {
+    match read_by_place(clock, line, packing, place) {
         Some(()) => {}
         None => read_line_into(line, packing, place),
+    }
+}
+
+// The entry of a line of the usual form, of a candump line or of a frame's plain line. Of another line it answers nothing.
+#[inline]
+fn read_by_place(clock: &mut Clock, line: &[u8], packing: Packing, place: &mut Entry) -> Option<()>
+    ensures entry { IfSome result (λ done. place.new ≡ entry line.now packing) }
+    ensures valid { IfSome result (λ done. IsEntry place.new) }
+    ensures short { IfSome result (λ done. IsShort place.new) }
+{
+    match (line, packing) {
+        ([b'(', ..], _) => read_usual(clock, line, place),
+        (_, Packing::Frames) => read_usual_plain(line, place),
+        _ => None,
     }
 }
 

@@ -23,6 +23,7 @@ mod plain;
 mod stamp;
 mod texts;
 mod usual;
+mod usual_plain;
 
 pub use candump::{FRAME_PAYLOAD, is_interface};
 pub use entry::{BadCause, Entry, LONGEST_LINE, LineReader, Packing, read_line, read_line_into};
@@ -31,6 +32,3 @@ pub use identifier::{Id, join_id, split_id};
 pub use packet::{GREATEST_PGN, Packet};
 pub use plain::GREATEST_ADDRESS;
 pub use texts::{candump_text, plain_text};
-
-#[cfg(test)]
-mod tests;

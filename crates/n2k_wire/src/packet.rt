@@ -48,6 +48,7 @@ fn is_stamp_byte(byte: u8) -> bool
 }
 
 // It looks at each byte, without a branch.
+#[inline]
 fn are_stamp_bytes(text: &[u8]) -> bool
     ensures { result ≡ list_all is_stamp_byte text.now }
 {
@@ -66,6 +67,7 @@ fn is_stamp_start(byte: u8) -> bool
 }
 
 /// Whether a text is a stamp: 1 to 32 printable ASCII bytes, none of them a comma, the first neither `(` nor `#`.
+#[inline]
 pub(crate) fn is_stamp(text: &[u8]) -> bool
     ensures { result ≡ is_stamp text.now }
 {

@@ -46,7 +46,8 @@ fn first_piece(text: &[u8]) -> (&[u8], Option<&[u8]>)
 
 /// A piece as a number up to a limit.
 #[tactic(auto, unfolding(crate::specs::Plain::number_to))]
-fn number_to(limit: u64, piece: &[u8]) -> Option<u64>
+#[inline]
+pub(crate) fn number_to(limit: u64, piece: &[u8]) -> Option<u64>
     ensures value { result ≡ number_to limit piece.now }
     ensures bound { IfSome result (λ n. n ≤ limit) }
 {

@@ -13,7 +13,7 @@ ghost use Rattle.n2k_join.specs.Inner.Stored.{piece_of};
 ghost use Rattle.n2k_join.specs.Resumed.{counts_hold, firsts_rise, waits_hold, is_fast, key_holds, total_holds, piece_holds};
 
 use crate::counts::{Counts, MOST_LINES};
-use crate::frame::{LONGEST_TOTAL, MOST_FRAMES, MOST_SEQUENCES};
+use crate::frame::{LONGEST_MESSAGE, MOST_FRAMES, MOST_SEQUENCES};
 use crate::piece::StoredPiece;
 use crate::saved::place::Place;
 use crate::saved::spelled::{SpelledGroup, SpelledKey, SpelledPiece, SpelledState};
@@ -105,7 +105,7 @@ pub(crate) fn key_holds(table: &Table, key: &SpelledKey) -> bool
 fn total_holds(number: u64, bytes: &[u8; 7]) -> bool
     ensures { result ≡ total_holds number bytes.now }
 {
-    number != 0 || bytes[0] <= LONGEST_TOTAL
+    number != 0 || bytes[0] <= LONGEST_MESSAGE
 }
 
 // What the type says of bytes.

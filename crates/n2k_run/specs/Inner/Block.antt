@@ -8,18 +8,28 @@ use Rattle.n2k_run.specs.declared.blocks.Found.TheVariants.{Line, Long, End}
 use Rattle.n2k_run.specs.declared.device.Failed.{Failed}
 use Rattle.n2k_run.specs.Blocks.{Held, HasNoFeed, FirstLine, FirstLong, Stays, CallsAre, passed, unanswered}
 use Rattle.n2k_run.specs.Lines.{line_feed}
-use Rattle.n2k_run.specs.Reading.{most_reads}
+use Rattle.n2k_run.specs.Reading.{idle_calls, most_reads}
 
 -- the bytes of a block
 abbrev pub block_bytes : ℕ
 block_bytes = 4096
 
--- the places of a block: the line that was answered last, and the bytes that weren't yet
+-- the first line feed stands at that place
+pub record EndsAt (bytes : List ℕ) (end : ℕ) : Type 0 where
+  pub within : end < length bytes
+  pub no_feed : HasNoFeed (take end bytes)
+  pub split : bytes ≡ take end bytes ++ line_feed ∷ drop (end + 1) bytes
+
+abbrev pub FindsEnd : List ℕ → Option ℕ → Type 0
+FindsEnd bytes found = MatchOption found (HasNoFeed bytes) (EndsAt bytes)
+
+-- the places of a block: the line that was answered last, the bytes that weren't yet, and the first line feed in these
 pub record HasPlaces (block : Inside) : Type 0 where
   pub line_ends : block.line_start ≤ block.line_end
   pub line_within : block.line_end ≤ block_bytes
   pub kept_ends : block.start ≤ block.end
   pub kept_within : block.end ≤ block_bytes
+  pub finds : FindsEnd (slice_range block.block block.start block.end) block.feed
   pub few_reads : block.reads ≤ most_reads
 
 abbrev pub held_of : Inside → Held
@@ -31,15 +41,6 @@ held_of block = record {
   line = slice_range block.block block.line_start block.line_end;
   room = block_bytes - block.end;
 }
-
--- the first line feed stands at that place
-pub record EndsAt (bytes : List ℕ) (end : ℕ) : Type 0 where
-  pub within : end < length bytes
-  pub no_feed : HasNoFeed (take end bytes)
-  pub split : bytes ≡ take end bytes ++ line_feed ∷ drop (end + 1) bytes
-
-abbrev pub FindsEnd : List ℕ → Option ℕ → Type 0
-FindsEnd bytes found = MatchOption found (HasNoFeed bytes) (EndsAt bytes)
 
 -- some of the unanswered bytes became the line that is answered
 abbrev pub Judges : Bool → List ℕ → List ℕ → Found → Type 0
@@ -67,10 +68,12 @@ pub record AnswersFound (old new : Held) (left₀ left : Option (List ℕ)) (cal
   pub given : Consumes left₀ left came
   pub answer : GivesFound (unanswered old ++ came) new left result
   pub called : CallsAre calls₀ calls old.reads new.reads
+  pub few : calls ≤ calls₀ + length came + idle_calls new.has_ended result
 
--- what came while no answer was found
-pub record Reads (old new : Held) (left₀ left : Option (List ℕ)) (calls₀ calls : ℕ) : Type 0 where
+-- what came while no answer was found, by calls of which so many gave nothing
+pub record Reads (idle : ℕ) (old new : Held) (left₀ left : Option (List ℕ)) (calls₀ calls : ℕ) : Type 0 where
   pub came : List ℕ
   pub given : Consumes left₀ left came
   pub stays : Stays (unanswered old ++ came) (unanswered new)
   pub called : CallsAre calls₀ calls old.reads new.reads
+  pub few : calls ≤ calls₀ + length came + idle

@@ -1,5 +1,5 @@
 -- How the engine of the runs stands between two lines, and what each step of it does.
-use Rattle.std.specs.Prelude.{◌≡◌, ◌⊎◌, ◌<◌, ◌+◌, ℕ, true, false, List, [], ◌++◌, length, Option, Result, Ok, Err}
+use Rattle.std.specs.Prelude.{◌≡◌, ◌⊎◌, ◌<◌, ◌+◌, ℕ, true, false, if◌then◌else◌, List, [], ◌++◌, length, Option, Result, Ok, Err}
 use Rattle.std.specs.Io.{IsEmptyOrEndsWith}
 use Rattle.std.specs.Io.KnownBytes.{Appends, Consumes, IsAtEnd}
 use Rattle.n2k_wire.specs.declared.entry.Entry.{Entry}
@@ -13,7 +13,7 @@ use Rattle.n2k_run.specs.Device.{HasFailed}
 use Rattle.n2k_run.specs.Entries.{entries}
 use Rattle.n2k_run.specs.Lines.{line_feed}
 use Rattle.n2k_run.specs.Making.{Making, after_all, texts_from, reports_from}
-use Rattle.n2k_run.specs.Reading.{most_reads}
+use Rattle.n2k_run.specs.Reading.{ReadsBytes, most_reads}
 use Rattle.n2k_run.specs.Runs.{AreNumbered, Devices, NoneFailed}
 use Rattle.n2k_run.specs.Writing.{AppendsFront}
 
@@ -121,4 +121,6 @@ pub record Stands {S : Type 0} (m : Making S) (packing : Packing) (s₀ s : S) (
   pub end : held.has_ended ≡ true → (unanswered held ≡ []) × IsAtEnd now.left
   pub made : Made m s₀ s (entries packing front) text report before now
   pub called : CallsAre before.calls now.calls 0 held.reads
+  -- each call but the one that found the end gave bytes
+  pub reads : ReadsBytes (if held.has_ended then 1 else 0) before.left now.left before.calls now.calls
   pub none_failed : NoneFailed before now

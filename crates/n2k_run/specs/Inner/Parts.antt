@@ -1,5 +1,5 @@
--- What the steps of a run of a part answer.
-use Rattle.std.specs.Prelude.{◌≡◌, ℕ, Option, Result, Ok, Err}
+-- What the steps of a run of a part answer, and the source of a part that lies in memory.
+use Rattle.std.specs.Prelude.{◌≡◌, ℕ, List, Option, Result, Ok, Err}
 use Rattle.n2k_table.specs.declared.definition.Kind.{Kind}
 use Rattle.n2k_join.specs.Resumed.{judged}
 use Rattle.n2k_join.specs.Saved.{IsId, state_text}
@@ -9,6 +9,11 @@ use Rattle.n2k_run.specs.declared.part.Part.{Part}
 use Rattle.n2k_run.specs.declared.part.PartFault.{PartFault}
 use Rattle.n2k_run.specs.declared.part.PartFault.TheVariants.{State as Refused, Stopped, Run, Memory}
 use Rattle.n2k_run.specs.Parts.{StandsAtLine}
+
+-- a part that lies in memory: the bytes that are left of it, and the calls that were made of its source
+pub record PartLeft : Type 0 where
+  pub left : List ℕ
+  pub calls : ℕ
 
 -- the text and the counts of a state, and the text reads back under each table that it can be of
 pub record Saves (s : State) (part : Part) : Type 0 where

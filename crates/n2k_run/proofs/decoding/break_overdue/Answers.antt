@@ -1,6 +1,5 @@
 use Rattle.std.proofs.Common.{◌∙◌, ap, sym, refl, arith}
 use Rattle.n2k_join.specs.declared.counts.Counts.{Counts}
-use Rattle.n2k_join.specs.Step.{expired}
 use Rattle.n2k_run.proofs.Overdue.{lines_stay, one_broken}
 use Rattle.n2k_run.proofs.decoding.break_overdue.Goals as goal
 

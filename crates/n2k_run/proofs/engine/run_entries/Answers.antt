@@ -2,7 +2,7 @@ use Rattle.std.proofs.Common.{sym, ◌∙◌}
 use Rattle.std.proofs.lemmas.Result.{err_from_is_err_and}
 use Rattle.n2k_run.specs.Runs.{Devices}
 use Rattle.n2k_run.specs.Inner.Engine.{Stands}
-use Rattle.n2k_run.proofs.Running.{begins, writes, takes, none_read, sink_end, memory_end, last_end, still_made, fault_end, lead_of}
+use Rattle.n2k_run.proofs.Running.{begins, writes, takes, none_read, sink_end, memory_end, last_end, still_made, fault_end, lead_of, calls_here, calls_next}
 use Rattle.n2k_run.proofs.engine.run_entries.Given.{Over}
 use Rattle.n2k_run.proofs.engine.run_entries.Goals as goal
 use Rattle.n2k_run.proofs.engine.run_entries.Goals.{After-take_next, then-not-has_line+in_ok-write, else-not-has_line}
@@ -35,18 +35,18 @@ returns-in_err-write-clause-runs g c =
     let p = err_from_is_err_and c.from_residual.result c.from_residual.ensures.1 in
     let e = c.in_err-write.ensures in
     let stands = c.lines.invariant.stands in
-    rw (p.1, p.2) (sink_end _ _ _ _ _ _ _ _ _ _ (devices g c.lines.reader c.write.new.writer c.write.new.reporter) _ stands.made (lead_of _ _ _ _ _ _ _ _ _ stands) stands.none_failed.reads stands.none_failed.writes stands.none_failed.reports e.written e.device)
+    rw (p.1, p.2) (sink_end _ _ _ _ _ _ _ _ _ _ (devices g c.lines.reader c.write.new.writer c.write.new.reporter) _ stands.made (lead_of _ _ _ _ _ _ _ _ _ stands) stands.none_failed.reads stands.none_failed.writes stands.none_failed.reports e.written e.device (calls_here _ _ _ _ _ _ _ _ _ stands))
 
 pub lines-preserved : goal.lines-preserved
 lines-preserved g c =
     let e = c.in-Ok.ensures in
     let here = stood g (goal.at.lines-preserved g c).After-take_next in
-    record { stands = takes _ _ _ _ _ _ _ _ _ _ _ _ _ _ _ _ here (sym c.has_ended.ensures ∙ c.lines-test.true) e.taken e.device e.called; ready = e.ready }
+    record { stands = takes _ _ _ _ _ _ _ _ _ _ _ _ _ _ _ _ here (sym c.has_ended.ensures ∙ c.lines-test.true) e.taken e.device e.called e.reads; ready = e.ready }
 
 pub returns-in-Memory-clause-runs : goal.returns-in-Memory-clause-runs
 returns-in-Memory-clause-runs g c =
     let here = stood g (goal.at.returns-in-Memory-clause-runs g c).After-take_next in
-    rw c.in-Memory.is (memory_end _ _ _ _ _ _ _ _ _ _ _ _ _ here (rw c.in-Memory.is at c.in-Err.ensures.device))
+    rw c.in-Memory.is (memory_end _ _ _ _ _ _ _ _ _ _ _ _ _ here (sym c.has_ended.ensures ∙ c.lines-test.true) c.in-Err.ensures.reads (rw c.in-Memory.is at c.in-Err.ensures.device))
 
 pub returns-in_err-write-in_default : goal.returns-in_err-write-in_default
 returns-in_err-write-in_default g c =
@@ -56,7 +56,7 @@ returns-in_err-write-in_default g c =
     let sound = none_read (g.M.Maker.making c.args.maker.now) c.args.packing _ _ _ _ _ _ _ _ _ _ _ _ _ _ _ _ c.in-Err.fault _ c.in-Err.ensures.taken c.in_default.not-Memory c.in-Err.ensures.device w.written in
     let made = still_made _ _ _ _ _ _ _ _ _ _ _ _ _ _ (g.R.Source.calls c.take_next.new.reader) (g.R.Source.failed_calls c.take_next.new.reader) c.in-Err.fault here c.in-Err.ensures.taken c.in_default.not-Memory _ here.made in
     record {
-      runs = rw (p.1, p.2) (sink_end _ _ _ _ _ _ _ _ _ _ (devices g c.take_next.new.reader c.write-in_default.new.writer c.write-in_default.new.reporter) _ made (lead_of _ _ _ _ _ _ _ _ _ here) (sound ∙ here.none_failed.reads) here.none_failed.writes here.none_failed.reports w.written w.device);
+      runs = rw (p.1, p.2) (sink_end _ _ _ _ _ _ _ _ _ _ (devices g c.take_next.new.reader c.write-in_default.new.writer c.write-in_default.new.reporter) _ made (lead_of _ _ _ _ _ _ _ _ _ here) (sound ∙ here.none_failed.reads) here.none_failed.writes here.none_failed.reports w.written w.device (calls_next _ _ _ _ _ _ _ _ _ _ _ here (sym c.has_ended.ensures ∙ c.lines-test.true) c.in-Err.ensures.reads));
       ready = rw p.1 tt;
     }
 
@@ -65,7 +65,7 @@ returns-in_default g c =
     let here = stood g (goal.at.returns-in_default g c).After-take_next in
     let e = c.in-Err.ensures in
     record {
-      runs = fault_end _ _ _ _ _ _ _ _ _ _ _ _ _ _ _ _ _ _ _ _ c.in-Err.fault here (sym c.has_ended.ensures ∙ c.lines-test.true) e.taken c.in_default.not-Memory e.device e.called c.in_ok-write-in_default.ensures.written c.in_ok-write-in_default.ensures.device;
+      runs = fault_end _ _ _ _ _ _ _ _ _ _ _ _ _ _ _ _ _ _ _ _ c.in-Err.fault here (sym c.has_ended.ensures ∙ c.lines-test.true) e.taken c.in_default.not-Memory e.device e.called e.reads c.in_ok-write-in_default.ensures.written c.in_ok-write-in_default.ensures.device;
       ready = tt;
     }
 

@@ -1,9 +1,9 @@
-use Rattle.std.proofs.Common.{ℕ, List, [], None, map, take, drop, suc, get_or, Bor, sym, subst, arith}
+use Rattle.std.proofs.Common.{Err, ℕ, List, [], None, map, take, drop, suc, get_or, Bor, sym, subst, arith}
 use mathlib.Core.Logic.{inr}
 use Rattle.std.proofs.lemmas.List.{map_more, take_all}
 use Rattle.n2k_run.specs.Parts.{TakesAll, entries_of}
 use Rattle.n2k_run.specs.Runs.{devices}
-use Rattle.n2k_run.proofs.Joined.{next_taken, prints_log, split_parts}
+use Rattle.n2k_run.proofs.Joined.{next_taken, not_read, prints_log, split_parts}
 use Rattle.n2k_run.proofs.LogSteps.{log_laws}
 use Rattle.n2k_run.proofs.part.run_parts.Goals as goal
 
@@ -22,6 +22,12 @@ returns-in-Err-clause-log g c =
       taken = c.loop-part.invariant.taken;
       runs = c.in-Err.ensures.log (entries_of c.args.options (map now (take i parts))) c.loop-part.invariant.leads_to;
     })
+
+pub returns-in-Err-clause-never_read : goal.returns-in-Err-clause-never_read
+returns-in-Err-clause-never_read g c = λ few.
+    let before = devices None 0 0 (g.W.Sink.contents c.args.writer.now) (g.W.Sink.failed_calls c.args.writer.now) (g.E.Sink.contents c.args.reporter.now) (g.E.Sink.failed_calls c.args.reporter.now) in
+    let after = devices None 0 0 (g.W.Sink.contents c.next_part.new.writer) (g.W.Sink.failed_calls c.next_part.new.writer) (g.E.Sink.contents c.next_part.new.reporter) (g.E.Sink.failed_calls c.next_part.new.reporter) in
+    not_read c.args.table.now c.args.options (map (λ part. part.now) c.args.parts.now) before after (Err c.in-Err.fault) few (returns-in-Err-clause-log g c)
 
 pub loop-part-preserved : goal.loop-part-preserved
 loop-part-preserved g c =

@@ -1,23 +1,23 @@
-use Rattle.std.proofs.Common.{◌≡◌, ◌++◌, ap, ◌∙◌, arith}
+use Rattle.std.proofs.Common.{◌≡◌, ◌++◌, ap, ◌∙◌, rules}
 use Rattle.std.specs.Int.{w128}
-use Rattle.std.specs.Prelude.{decimal, unsigned_abs}
+use Rattle.std.specs.Prelude.{unsigned_abs}
 use Rattle.std.proofs.lemmas.Int.{to_z-of_z}
 use Rattle.n2k_table.specs.Decimal.{sign_of}
-use Rattle.n2k_table.proofs.Decimals.{onto_dotted, onto_filled, size_lt}
+use Rattle.n2k_table.proofs.Members.{on_ok}
+use Rattle.n2k_table.proofs.Decimals.{onto}
 use Rattle.n2k_table.proofs.decimal.push_decimal.Goals as goal
 
-pub returns-in_ok-push_dotted-clause-appends : goal.returns-in_ok-push_dotted-clause-appends
-returns-in_ok-push_dotted-clause-appends c =
+pub returns-in-Ok-clause-appends : goal.returns-in-Ok-clause-appends
+returns-in-Ok-clause-appends c =
     let same = to_z-of_z w128 c.args.value c.ranges.value in
-    let digits : c.as_bytes-digits.result.now ≡ decimal (unsigned_abs c.args.value) =
-    c.as_bytes-digits.ensures.value ∙ c.digits_of.ensures ∙ ap decimal c.unsigned_abs.ensures.value ∙ ap (λ z. decimal (unsigned_abs z)) same in
-    onto_dotted c.args.value c.args.decimals c.as_bytes-digits.result.now _ _ _ digits (omega arith)
-    (c.in_ok-push_sign.ensures.appends ∙ ap (λ z. c.args.line.now.items ++ sign_of z) same) (rw (← c.from-decimals.ensures) c.in_ok-push_dotted.ensures.appends)
+    let size = c.unsigned_abs-size.ensures.value ∙ ap unsigned_abs same in
+    let sign = c.in_ok-push_sign.ensures.appends ∙ ap (λ z. c.args.line.now.items ++ sign_of z) same in
+    let is : c.in-Ok.short ≡ c.unsigned_abs-size.result = search rules in
+    on_ok c.push_short.result (λ pushed. onto c.args.value c.args.decimals c.in-Ok.short _ _ _ (is ∙ size) sign (rw (← c.from-decimals.ensures) pushed)) c.push_short.ensures.appends
 
-pub returns-in_ok-push_filled-clause-appends : goal.returns-in_ok-push_filled-clause-appends
-returns-in_ok-push_filled-clause-appends c =
+pub returns-in_default-clause-appends : goal.returns-in_default-clause-appends
+returns-in_default-clause-appends c =
     let same = to_z-of_z w128 c.args.value c.ranges.value in
-    let digits : c.as_bytes-digits.result.now ≡ decimal (unsigned_abs c.args.value) =
-    c.as_bytes-digits.ensures.value ∙ c.digits_of.ensures ∙ ap decimal c.unsigned_abs.ensures.value ∙ ap (λ z. decimal (unsigned_abs z)) same in
-    onto_filled c.args.value c.args.decimals c.as_bytes-digits.result.now _ _ _ (size_lt c.args.value c.ranges.value) digits (omega arith)
-    (c.in_ok-push_sign.ensures.appends ∙ ap (λ z. c.args.line.now.items ++ sign_of z) same) (rw (← c.from-decimals.ensures) c.in_ok-push_filled.ensures.appends)
+    let size = c.unsigned_abs-size.ensures.value ∙ ap unsigned_abs same in
+    let sign = c.in_ok-push_sign.ensures.appends ∙ ap (λ z. c.args.line.now.items ++ sign_of z) same in
+    on_ok c.push_size.result (λ pushed. onto c.args.value c.args.decimals c.unsigned_abs-size.result _ _ _ size sign (rw (← c.from-decimals.ensures) pushed)) c.push_size.ensures.appends

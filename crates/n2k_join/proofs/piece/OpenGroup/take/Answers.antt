@@ -1,7 +1,7 @@
 use Rattle.std.proofs.Common.{◌≡◌, ◌∙◌, sym, subst, refl, ℕ, ◌^◌, ◌%◌, ◌*◌, bit_or, slice_set, slice_index_or, slice_index, ◌≤◌, []}
 use Rattle.std.specs.Int.{bit_at}
 use Rattle.std.proofs.lemmas.List.{length-set}
-use Rattle.n2k_join.specs.Frames.{longest_total}
+use Rattle.n2k_wire.specs.Packet.{longest_message}
 use Rattle.n2k_join.specs.Inner.Slots.{group_by}
 use Rattle.n2k_join.proofs.SlotLemmas.{total-slot, taken-slots, seven-slots}
 use Rattle.n2k_join.proofs.piece.OpenGroup.take.Goals as goal
@@ -11,8 +11,8 @@ invariant_of-self c = record {
   many = length-set c.args.self.now.slots c.from.result c.args.piece.bytes ∙ c.args.self.now.many;
   seven = seven-slots c.args.self.now.first c.args.self.now.mask c.from.result c.args.self.now.slots c.args.piece.bytes (rw c.from.ensures c.args.piece.small) c.args.self.now.many c.args.self.now.seven c.args.piece.seven;
   total =
-      subst (λ (n : ℕ). bit_at (bit_or c.args.self.now.mask (1 * 2 ^ n % 4294967296)) 0 ≡ 1 → slice_index (slice_index_or (slice_set c.args.self.now.slots c.from.result c.args.piece.bytes) 0 []) 0 ≤ longest_total) (sym c.from-2.ensures)
-      (subst (λ (n : ℕ). bit_at (bit_or c.args.self.now.mask (1 * 2 ^ c.args.piece.number % 4294967296)) 0 ≡ 1 → slice_index (slice_index_or (slice_set c.args.self.now.slots n c.args.piece.bytes) 0 []) 0 ≤ longest_total) (sym c.from.ensures)
+      subst (λ (n : ℕ). bit_at (bit_or c.args.self.now.mask (1 * 2 ^ n % 4294967296)) 0 ≡ 1 → slice_index (slice_index_or (slice_set c.args.self.now.slots c.from.result c.args.piece.bytes) 0 []) 0 ≤ longest_message) (sym c.from-2.ensures)
+      (subst (λ (n : ℕ). bit_at (bit_or c.args.self.now.mask (1 * 2 ^ c.args.piece.number % 4294967296)) 0 ≡ 1 → slice_index (slice_index_or (slice_set c.args.self.now.slots n c.args.piece.bytes) 0 []) 0 ≤ longest_message) (sym c.from.ensures)
       (total-slot c.args.self.now.first c.args.self.now.mask c.args.piece.number c.args.self.now.slots c.args.piece.bytes c.args.piece.small c.args.self.now.many c.args.self.now.total c.args.piece.total));
 }
 

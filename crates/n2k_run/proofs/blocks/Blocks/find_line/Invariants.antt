@@ -6,7 +6,7 @@ use Rattle.n2k_run.proofs.blocks.Blocks.find_line.Given as goal
 
 abbrev pub invariant-loop-found : goal.invariant-loop-found
 invariant-loop-found g l = record {
-  reads : Reads l.fn.self l.self (g.R.Source.remaining l.fn.reader) (g.R.Source.remaining l.reader) (g.R.Source.calls l.fn.reader) (g.R.Source.calls l.reader);
+  reads : Reads 0 l.fn.self l.self (g.R.Source.remaining l.fn.reader) (g.R.Source.remaining l.reader) (g.R.Source.calls l.fn.reader) (g.R.Source.calls l.reader);
   quiet : HasFeed l.fn.self.kept → (l.reader ≡ l.fn.reader) × (l.self ≡ l.fn.self);
   none_failed : g.R.Source.failed_calls l.reader ≡ g.R.Source.failed_calls l.fn.reader;
 }

@@ -1,0 +1,16 @@
+-- What a state holds at the most, one that was read among them.
+use Rattle.std.specs.Prelude.{◌≡◌, ◌≤◌, ℕ, ◌+◌, ◌*◌, List, length, Ok, IfSome}
+use Rattle.n2k_join.specs.declared.saved.place.Place.TheVariants as places
+use Rattle.n2k_join.specs.Resumed.{format_in, parsed}
+use Rattle.n2k_join.specs.Saved.{state_text, bare_bytes, group_bytes}
+use Rattle.n2k_join.specs.State.{State, AreWaiting}
+
+-- the text is of the format that tells its window
+abbrev pub TellsWindow : List ℕ → Type 0
+TellsWindow bytes = IfSome (parsed bytes) (λ d. format_in d ≡ Ok places.WindowState)
+
+-- Few groups are open: none whose window has ended, so no more than the window has lines; and what is saved of them is short.
+pub record HoldsFew (s : State) : Type 0 where
+  pub waiting : AreWaiting s
+  pub groups : length s.groups ≤ s.rule.window
+  pub saved : length (state_text s) ≤ bare_bytes + group_bytes * s.rule.window

@@ -1,0 +1,24 @@
+-- What a room holds of a line, as bytes are written to it.
+use Rattle.std.proofs.Common.{◌≡◌, ℕ, suc, ◌+◌, ◌-◌, ◌≤◌, List, [], ◌∷◌, ◌++◌, length, take, drop, refl, sym, ap, ◌∙◌, append_assoc, arith}
+use Rattle.std.proofs.lemmas.List.{length-take-le, take-take}
+
+take_past : (p q : List ℕ) (k : ℕ) → take (length p + k) (p ++ q) ≡ p ++ take k q
+take_past [] q k =
+    let none : length {A = ℕ} [] + k ≡ k = omega arith in
+    ap (λ j. take j q) none
+take_past (x ∷ p) q k =
+    let one : length (x ∷ p) + k ≡ suc (length p + k) = omega arith in
+    rw one (ap (λ (t : List ℕ). x ∷ t) (take_past p q k))
+
+-- the first of some bytes that were written behind others
+pub partly : (room old bytes : List ℕ) (at count n : ℕ) → take (at + n) room ≡ take at old ++ bytes → count ≤ n → at ≤ length old
+    → take (at + count) room ≡ take at old ++ take count bytes
+partly room old bytes at count n is few inside =
+    let len : length (take at old) ≡ at = length-take-le at old inside in
+    let place : length (take at old) + count ≡ at + count = omega (arith, len) in
+    sym (take-take (at + count) (at + n) room (omega arith)) ∙ ap (take (at + count)) is
+    ∙ ap (λ k. take k (take at old ++ bytes)) (sym place) ∙ take_past (take at old) bytes count
+
+-- bytes behind what a room holds stand behind the whole
+pub appended : (items out held bytes text : List ℕ) → items ≡ out ++ held → text ≡ held ++ bytes → out ++ text ≡ items ++ bytes
+appended items out held bytes text is more = rw (is, more) (sym (append_assoc out held bytes))

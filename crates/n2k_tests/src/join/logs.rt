@@ -1,0 +1,84 @@
+//! The logs of the worked groups.
+use std::alloc::Global;
+
+pub(crate) const TWO_SOURCES: &str = "(10.000001) can0 1DFF0405#000BA39901414243
+(10.100000) can0 1DFF0406#200BA39902585920
+(10.200000) can0 1DFF0406#212020202020FFFF
+(10.300000) can0 1DFF0405#010000000000FFFF";
+
+pub(crate) const FRAMES_IN_REVERSE: &str = "(11.0) can0 1DFF0405#4120202020202020
+(12.0) can0 1DFF0405#400DA39903444546";
+
+pub(crate) const REPEAT_BREAKS: &str = "(1.0) can0 1DFF0405#6014A39904474849
+(2.0) can0 1DFF0405#6120202020202020
+(3.0) can0 1DFF0405#6120202020202020
+(4.0) can0 1DFF0405#6014A39904474849
+(5.0) can0 1DFF0405#6220202020202020";
+
+pub(crate) const EXTRA_FRAME: &str = "(1.0) can0 1DFF0405#800DA39906414243
+(2.0) can0 1DFF0405#8320202020202020
+(3.0) can0 1DFF0405#8120202020202020
+(4.0) can0 1DFF0405#800DA39906414243";
+
+// The frame 0 of the first message was lost.
+pub(crate) const MIXED_MESSAGE: &str = "(1.0) can0 1DFF0405#0141414141414141
+(9.0) can0 1DFF0405#000DA39903444546";
+
+// The frame 0 of the first of two messages was lost.
+pub(crate) const FIRST_FRAME_LOST: &str = "(1.0) can0 1DFF0405#0141414141414141
+(2.0) can0 1DFF0405#0242424242424242
+(3.0) can0 1DFF0405#0014A39904474849
+(4.0) can0 1DFF0405#0120202020202020
+(5.0) can0 1DFF0405#0220202020202020";
+
+// A frame without a byte, a frame 0 without a total, a PGN that isn't in the table, a message of a single frame.
+pub(crate) const ODD_FRAMES: &str = "(1.0) can0 1DFF0405#
+(2.0) can0 1DFF0405#00
+(3.0) can0 18EAFF01#00
+(4.0) can0 09F11324#7D0B";
+
+// The last frame of a message, with its one byte alone.
+pub(crate) const SHORT_LAST_FRAME: &str = "(1.0) can0 1DFF0405#0007010203040506
+(2.0) can0 1DFF0405#0107";
+
+// Totals of 0, of 6 where a group of a greater total was open, and of 14.
+pub(crate) const SHORT_TOTALS: &str = "(1.0) can0 1DFF0405#0000FFFFFFFFFFFF
+(2.0) can0 1DFF0405#000BA39901414243
+(3.0) can0 1DFF0405#0006A39901414243
+(4.0) can0 1DFF0405#200E010203040506
+(5.0) can0 1DFF0405#220E
+(6.0) can0 1DFF0405#210708090A0B0C0D";
+
+// The second frames of eight messages of one stream, and then the first ones in reverse.
+pub(crate) const EIGHT_UNDER_WAY: &str = "(1.0) can0 1DFF0405#010000000000FFFF
+(1.0) can0 1DFF0405#210000000000FFFF
+(1.0) can0 1DFF0405#410000000000FFFF
+(1.0) can0 1DFF0405#610000000000FFFF
+(1.0) can0 1DFF0405#810000000000FFFF
+(1.0) can0 1DFF0405#A10000000000FFFF
+(1.0) can0 1DFF0405#C10000000000FFFF
+(1.0) can0 1DFF0405#E10000000000FFFF
+(2.0) can0 1DFF0405#E00BA39908414243
+(2.0) can0 1DFF0405#C00BA39907414243
+(2.0) can0 1DFF0405#A00BA39906414243
+(2.0) can0 1DFF0405#800BA39905414243
+(2.0) can0 1DFF0405#600BA39904414243
+(2.0) can0 1DFF0405#400BA39903414243
+(2.0) can0 1DFF0405#200BA39902414243
+(2.0) can0 1DFF0405#000BA39901414243";
+
+// Second frames of 70 senders, one of them twice, and then their first ones, from the first sender on: more groups are
+// open than are looked through, and in the end few are.
+pub(crate) fn seventy_senders(alloc: Global) -> Option<String> {
+    let mut log = String::new(alloc);
+    for src in 0..70u8 {
+        let line = format!(in alloc; "(1.0) can0 1DFF04{src:02X}#010000000000FFFF\n").ok()?;
+        log.push_str(&line).ok()?;
+    }
+    log.push_str("(1.0) can0 1DFF0403#010000000000FFFF\n").ok()?;
+    for src in 0..70u8 {
+        let line = format!(in alloc; "(2.0) can0 1DFF04{src:02X}#000BA399{src:02X}414243\n").ok()?;
+        log.push_str(&line).ok()?;
+    }
+    Some(log)
+}

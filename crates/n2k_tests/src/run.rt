@@ -1,0 +1,10 @@
+//! Tests of n2k_run.
+
+mod decoding;
+mod devices;
+mod options;
+mod parts;
+mod plain;
+mod sending;
+mod standard;
+mod texts;

@@ -1,0 +1,346 @@
+//! Worked examples of logs that are decoded.
+use super::options::{TWO_SOURCES, frames, has_summary};
+use crate::samples::{long_window, sample};
+use n2k_join::Join;
+use n2k_run::{MemorySink, MemorySource, RunFault, run};
+use n2k_table::Table;
+use serde_json::Value;
+use std::alloc::{AllocError, Global};
+use std::process::Abort;
+use std::test::Fail;
+
+#[derive(Drop)]
+struct Example {
+    log: &'static str,
+    text: &'static str,
+    reports: &'static str,
+    summary: &'static str,
+}
+
+const TWO_SOURCES_TEXT: &str =
+    "{\"timestamp\":\"1970-01-01T00:00:10.200Z\",\"prio\":7,\"src\":6,\"dst\":255,\"pgn\":130820,\"description\":\"Sample: Label\",\"fields\":{\"Maker\":419,\"Kind\":2,\"Label\":\"XY\"}}
+{\"timestamp\":\"1970-01-01T00:00:10.300Z\",\"prio\":7,\"src\":5,\"dst\":255,\"pgn\":130820,\"description\":\"Sample: Label\",\"fields\":{\"Maker\":419,\"Kind\":1,\"Label\":\"ABC\"}}
+";
+
+const EXAMPLES: [Example; 10] = [
+    // empty-log
+    Example {
+        log: "",
+        text: "",
+        reports: "",
+        summary: "lines 0 messages 0 bad 0 unknown 0 broken 0 open 0\n",
+    },
+    // two-sources
+    Example {
+        log: TWO_SOURCES,
+        text: TWO_SOURCES_TEXT,
+        reports: "",
+        summary: "lines 4 messages 2 bad 0 unknown 0 broken 0 open 0\n",
+    },
+    // repeat-breaks
+    Example {
+        log: "(1.0) can0 1DFF0405#6014A39904474849
+(2.0) can0 1DFF0405#6120202020202020
+(3.0) can0 1DFF0405#6120202020202020
+(4.0) can0 1DFF0405#6014A39904474849
+(5.0) can0 1DFF0405#6220202020202020
+",
+        text: "{\"timestamp\":\"1970-01-01T00:00:05.000Z\",\"prio\":7,\"src\":5,\"dst\":255,\"pgn\":130820,\"description\":\"Sample: Label\",\"fields\":{\"Maker\":419,\"Kind\":4,\"Label\":\"GHI\"}}\n",
+        reports: "line 3 broken pgn 130820 src 5 dst 255 seq 3 first 1\n",
+        summary: "lines 5 messages 1 bad 0 unknown 0 broken 1 open 0\n",
+    },
+    // frames-in-reverse
+    Example {
+        log: "(11.0) can0 1DFF0405#4120202020202020
+(12.0) can0 1DFF0405#400DA39903444546
+",
+        text: "{\"timestamp\":\"1970-01-01T00:00:12.000Z\",\"prio\":7,\"src\":5,\"dst\":255,\"pgn\":130820,\"description\":\"Sample: Label\",\"fields\":{\"Maker\":419,\"Kind\":3,\"Label\":\"DEF\"}}
+",
+        reports: "",
+        summary: "lines 2 messages 1 bad 0 unknown 0 broken 0 open 0\n",
+    },
+    // longest-message
+    Example {
+        log: "(1.0) can0 1DFF0405#00DFA399054A4B4C
+(2.0) can0 1DFF0405#0120202020202020
+(3.0) can0 1DFF0405#0220202020202020
+(4.0) can0 1DFF0405#0320202020202020
+(5.0) can0 1DFF0405#0420202020202020
+(6.0) can0 1DFF0405#0520202020202020
+(7.0) can0 1DFF0405#0620202020202020
+(8.0) can0 1DFF0405#0720202020202020
+(9.0) can0 1DFF0405#0820202020202020
+(10.0) can0 1DFF0405#0920202020202020
+(11.0) can0 1DFF0405#0A20202020202020
+(12.0) can0 1DFF0405#0B20202020202020
+(13.0) can0 1DFF0405#0C20202020202020
+(14.0) can0 1DFF0405#0D20202020202020
+(15.0) can0 1DFF0405#0E20202020202020
+(16.0) can0 1DFF0405#0F20202020202020
+(17.0) can0 1DFF0405#1020202020202020
+(18.0) can0 1DFF0405#1120202020202020
+(19.0) can0 1DFF0405#1220202020202020
+(20.0) can0 1DFF0405#1320202020202020
+(21.0) can0 1DFF0405#1420202020202020
+(22.0) can0 1DFF0405#1520202020202020
+(23.0) can0 1DFF0405#1620202020202020
+(24.0) can0 1DFF0405#1720202020202020
+(25.0) can0 1DFF0405#1820202020202020
+(26.0) can0 1DFF0405#1920202020202020
+(27.0) can0 1DFF0405#1A20202020202020
+(28.0) can0 1DFF0405#1B20202020202020
+(29.0) can0 1DFF0405#1C20202020202020
+(30.0) can0 1DFF0405#1D20202020202020
+(31.0) can0 1DFF0405#1E20202020202020
+(32.0) can0 1DFF0405#1F20202020202020
+(33.0) can0 1DFF0405#00E0A399054A4B4C
+",
+        text: "{\"timestamp\":\"1970-01-01T00:00:32.000Z\",\"prio\":7,\"src\":5,\"dst\":255,\"pgn\":130820,\"description\":\"Sample: Label\",\"fields\":{\"Maker\":419,\"Kind\":5,\"Label\":\"JKL\"}}
+",
+        reports: "line 33 bad B7 fast
+",
+        summary: "lines 33 messages 1 bad 1 unknown 0 broken 0 open 0\n",
+    },
+    // short-totals
+    Example {
+        log: "(1.0) can0 1DFF0405#000BA39901414243
+(2.0) can0 1DFF0405#0006A39901414243
+",
+        text: "{\"timestamp\":\"1970-01-01T00:00:02.000Z\",\"prio\":7,\"src\":5,\"dst\":255,\"pgn\":130820,\"description\":\"Sample: Label\",\"fields\":{\"Maker\":419,\"Kind\":1}}
+",
+        reports: "line 2 broken pgn 130820 src 5 dst 255 seq 0 first 1
+",
+        summary: "lines 2 messages 1 bad 0 unknown 0 broken 1 open 0\n",
+    },
+    // extra-frame
+    Example {
+        log: "(1.0) can0 1DFF0405#800DA39906414243
+(2.0) can0 1DFF0405#8320202020202020
+(3.0) can0 1DFF0405#8120202020202020
+(4.0) can0 1DFF0405#800DA39906414243
+",
+        text: "",
+        reports: "line 4 broken pgn 130820 src 5 dst 255 seq 4 first 1
+",
+        summary: "lines 4 messages 0 bad 0 unknown 0 broken 1 open 1\n",
+    },
+    // whole-among-frames
+    Example {
+        log: "(10.000001) can0 1DFF0405#000BA39901414243
+2020-01-01T00:00:00.000Z,7,130820,5,255,9,07,98,01,41,42,43,44,45,46
+(10.300000) can0 1DFF0405#010000000000FFFF
+",
+        text: "{\"timestamp\":\"2020-01-01T00:00:00.000Z\",\"prio\":7,\"src\":5,\"dst\":255,\"pgn\":130820,\"description\":\"Unmatched\",\"fields\":{\"Data\":\"07 98 01 41 42 43 44 45 46\"}}
+{\"timestamp\":\"1970-01-01T00:00:10.300Z\",\"prio\":7,\"src\":5,\"dst\":255,\"pgn\":130820,\"description\":\"Sample: Label\",\"fields\":{\"Maker\":419,\"Kind\":1,\"Label\":\"ABC\"}}
+",
+        reports: "",
+        summary: "lines 3 messages 2 bad 0 unknown 0 broken 0 open 0\n",
+    },
+    // mixed-message
+    Example {
+        log: "(1.0) can0 1DFF0405#0141414141414141
+(9.0) can0 1DFF0405#000DA39903444546
+",
+        text: "{\"timestamp\":\"1970-01-01T00:00:09.000Z\",\"prio\":7,\"src\":5,\"dst\":255,\"pgn\":130820,\"description\":\"Sample: Label\",\"fields\":{\"Maker\":419,\"Kind\":3,\"Label\":\"DEFAAAAA\"}}
+",
+        reports: "",
+        summary: "lines 2 messages 1 bad 0 unknown 0 broken 0 open 0\n",
+    },
+    // an unknown PGN, and a frame of a fast packet without a byte
+    Example {
+        log: "(1.0) can0 18EAFF01#14F001\n(10.3) can0 1DFF0405#\n",
+        text: "",
+        reports: "line 2 bad B7 fast\n",
+        summary: "lines 2 messages 0 bad 1 unknown 1 broken 0 open 0\n",
+    },
+];
+
+fn decodes<R: Abort + AllocGlobal>(
+    rt: &R,
+    table: &Table,
+    log: &[u8],
+    example: &Example,
+    piece: usize,
+) -> Result<(), Fail> {
+    if piece == 0 {
+        return Err("no piece".into());
+    }
+    let window = long_window();
+    let mut join = Join::new(rt.alloc(), table, window);
+    let mut reader = MemorySource::new(log, piece, 0);
+    let mut writer = MemorySink::new(rt.alloc(), piece, 0);
+    let mut reporter = MemorySink::new(rt.alloc(), piece, 0);
+    run(
+        rt.alloc(),
+        table,
+        &mut join,
+        frames(window),
+        &mut reader,
+        &mut writer,
+        &mut reporter,
+    )?;
+    assert_eq!(rt; writer.bytes(), example.text.as_bytes());
+    assert_eq!(rt; reporter.bytes(), example.reports.as_bytes());
+    has_summary(rt, &join.counts(), example.summary)
+}
+
+const PIECES: [usize; 5] = [1, 7, 4095, 4096, 100_000];
+
+fn decodes_in_pieces<R: Abort + AllocGlobal>(
+    rt: &R,
+    table: &Table,
+    log: &[u8],
+    example: &Example,
+) -> Result<(), Fail> {
+    for piece in &PIECES {
+        decodes(rt, table, log, example, *piece)?;
+    }
+    Ok(())
+}
+
+#[test]
+fn worked_examples_in_pieces(rt: HostRuntime) -> Result<(), Fail> {
+    let table = sample(rt.alloc())?;
+    for example in &EXAMPLES {
+        let log = example.log.as_bytes();
+        decodes_in_pieces(&rt, &table, log, example)?;
+    }
+    Ok(())
+}
+
+// Ten lines, of which one gives a message; the second has 2,049 bytes.
+const TEN_LINES: Example = Example {
+    log: "
+(10.1) can0 1DFF0405#010
+(10.2) can0 40000000#00
+2011-11-24-22:42:04.388,2,127251,36,255,3,7d,0b
+(10.3) can0 1DFF0405#
+(10.4) can0 1DFF0405#010000000000FFFF
+(10) can0 1DFF0405#00
+x,8,127251,36,255,0
+hello
+",
+    text: "{\"timestamp\":\"1970-01-01T00:00:10.400Z\",\"prio\":7,\"src\":5,\"dst\":255,\"pgn\":130820,\"description\":\"Sample: Label\",\"fields\":{\"Maker\":419,\"Kind\":1,\"Label\":\"ABC\"}}
+",
+    reports: "line 2 bad B1 long
+line 3 bad B6 data
+line 4 bad B4 identifier
+line 5 bad B6 data
+line 6 bad B7 fast
+line 8 bad B2 stamp
+line 9 bad B5 number
+line 10 bad B3 form
+",
+    summary: "lines 10 messages 1 bad 8 unknown 0 broken 0 open 0\n",
+};
+
+// A frame's line, and x's in front of the other lines.
+fn ten_lines(alloc: Global, others: &str) -> Result<Vec<u8>, AllocError> {
+    let mut log = Vec::new(alloc);
+    log.extend_from_slice(b"(10.0) can0 1DFF0405#000BA39901414243\n")?;
+    let long = vec![in alloc; b'x'; 2049]?;
+    log.extend_from_slice(&long)?;
+    log.extend_from_slice(others.as_bytes())?;
+    Ok(log)
+}
+
+#[test]
+fn ten_lines_eight_bad(rt: HostRuntime) -> Result<(), Fail> {
+    let table = sample(rt.alloc())?;
+    let log = ten_lines(rt.alloc(), TEN_LINES.log)?;
+    decodes_in_pieces(&rt, &table, &log, &TEN_LINES)
+}
+
+// A stamp may hold what JSON escapes.
+const STAMPS: &str = "\"\\,2,129026,36,255,8,7d,0b,7d,02,00,ff,ff,ff
+(1502979132.106111) can0 09F8027F#00FCFFFF0000FFFF
+";
+
+// The stamp of a JSON line.
+fn stamp_of(alloc: Global, line: &str) -> Result<String, Fail> {
+    let value = Value::from_str(alloc, line)?;
+    let stamp = value
+        .get("timestamp")
+        .and_then(|stamp| stamp.as_str())
+        .ok_or("no stamp")?;
+    Ok(stamp.to_string(alloc)?)
+}
+
+fn stamps_of(alloc: Global, text: &str) -> Result<Vec<String>, Fail> {
+    let mut stamps = Vec::new(alloc);
+    for line in text.lines() {
+        stamps.push(stamp_of(alloc, line)?)?;
+    }
+    Ok(stamps)
+}
+
+// What is printed of a log.
+fn printed<R: AllocGlobal>(rt: &R, table: &Table, log: &[u8]) -> Result<MemorySink, Fail> {
+    let window = long_window();
+    let mut join = Join::new(rt.alloc(), table, window);
+    let mut reader = MemorySource::new(log, 1000, 0);
+    let mut writer = MemorySink::new(rt.alloc(), 1000, 0);
+    let mut reporter = MemorySink::new(rt.alloc(), 1000, 0);
+    run(
+        rt.alloc(),
+        table,
+        &mut join,
+        frames(window),
+        &mut reader,
+        &mut writer,
+        &mut reporter,
+    )?;
+    Ok(writer)
+}
+
+// Each printed line is one JSON text. That its members stand in their order the texts above show.
+#[test]
+fn each_line_is_read_by_serde_json(rt: HostRuntime) -> Result<(), Fail> {
+    let table = sample(rt.alloc())?;
+    let writer = printed(&rt, &table, STAMPS.as_bytes())?;
+    let stamps = stamps_of(rt.alloc(), std::str::from_utf8(writer.bytes())?)?;
+    assert_eq!(rt; stamps.len(), 2);
+    assert_eq!(rt; stamps[0].as_str(), "\"\\");
+    assert_eq!(rt; stamps[1].as_str(), "2017-08-17T14:12:12.106Z");
+    Ok(())
+}
+
+// One run on a join, under its own window.
+fn goes_on<R: AllocGlobal>(
+    rt: &R,
+    table: &Table,
+    join: &mut Join,
+    reader: &mut MemorySource,
+    writer: &mut MemorySink,
+) -> Result<(), RunFault> {
+    let options = frames(join.window());
+    let mut reporter = MemorySink::new(rt.alloc(), 7, 0);
+    run(
+        rt.alloc(),
+        table,
+        join,
+        options,
+        reader,
+        writer,
+        &mut reporter,
+    )
+}
+
+// After a failed read the join stands after the lines that came, and a later run goes on from there.
+#[test]
+fn a_failed_read_leaves_the_join_at_a_line(rt: HostRuntime) -> Result<(), Fail> {
+    let table = sample(rt.alloc())?;
+    let mut join = Join::new(rt.alloc(), &table, long_window());
+    let mut writer = MemorySink::new(rt.alloc(), 7, 0);
+    let mut reader = MemorySource::new(TWO_SOURCES.as_bytes(), 60, 3);
+    let answer = goes_on(&rt, &table, &mut join, &mut reader, &mut writer);
+    assert_eq!(rt; answer, Err(RunFault::Read));
+    assert_eq!(rt; writer.bytes(), b"".as_slice());
+    assert_eq!(rt; join.counts().lines, 2);
+
+    let rest = TWO_SOURCES.as_bytes().get(86..).ok_or("no rest")?;
+    let mut reader = MemorySource::new(rest, 60, 0);
+    goes_on(&rt, &table, &mut join, &mut reader, &mut writer)?;
+    assert_eq!(rt; writer.bytes(), TWO_SOURCES_TEXT.as_bytes());
+    Ok(())
+}

@@ -1,0 +1,426 @@
+//! Worked examples of logs in parts.
+ghost use Rattle.std.specs.Prelude.{◌<◌};
+
+use super::options::{TWO_SOURCES, frames, has_summary};
+use crate::samples::{long_window, sample, spelled};
+use n2k_join::Window;
+use n2k_run::{MemorySink, MemorySource, Options, Part, PartFault, RunFault, run_part, run_parts};
+use n2k_table::Table;
+use std::alloc::Global;
+use std::process::Abort;
+use std::test::Fail;
+
+// A log, what is printed and reported of it, and the state after it. In states ' stands for a
+// quotation mark, and ID for the table's id.
+#[derive(Drop)]
+struct Example {
+    log: &'static str,
+    text: &'static str,
+    reports: &'static str,
+    summary: &'static str,
+    state: &'static str,
+}
+
+const EXAMPLES: [Example; 3] = [
+    // empty-log
+    Example {
+        log: "",
+        text: "",
+        reports: "",
+        summary: "lines 0 messages 0 bad 0 unknown 0 broken 0 open 0\n",
+        state: "{'bad':0,'broken':0,'format':2,'groups':[],'lines':0,'messages':0,'table':'ID','unknown':0,'window':10000}",
+    },
+    // two-sources
+    Example {
+        log: TWO_SOURCES,
+        text: "{\"timestamp\":\"1970-01-01T00:00:10.200Z\",\"prio\":7,\"src\":6,\"dst\":255,\"pgn\":130820,\"description\":\"Sample: Label\",\"fields\":{\"Maker\":419,\"Kind\":2,\"Label\":\"XY\"}}
+{\"timestamp\":\"1970-01-01T00:00:10.300Z\",\"prio\":7,\"src\":5,\"dst\":255,\"pgn\":130820,\"description\":\"Sample: Label\",\"fields\":{\"Maker\":419,\"Kind\":1,\"Label\":\"ABC\"}}
+",
+        reports: "",
+        summary: "lines 4 messages 2 bad 0 unknown 0 broken 0 open 0\n",
+        state: "{'bad':0,'broken':0,'format':2,'groups':[],'lines':4,'messages':2,'table':'ID','unknown':0,'window':10000}",
+    },
+    // Every kind of line: skipped, bad, single, whole, of an unknown PGN, fast packets of three senders, a broken group,
+    // and one that stays open.
+    Example {
+        log: "# a comment
+(1.0) can0 1DFF0405#000BA39901414243
+(2.0) can0 1DFF0406#200BA39902585920
+hello
+(3.0) can0 1DFF0407#4120202020202020
+(4.0) can0 09F8027F#00FCFFFF0000FFFF
+(5.0) can0 1DFF0405#000BA39904444546
+2020-01-01T00:00:00.000Z,7,130820,5,255,9,07,98,01,41,42,43,44,45,46
+(6.0) can0 18EAFF01#14F001
+(7.0) can0 1DFF0406#212020202020FFFF
+(8.0) can0 1DFF0405#
+(9.0) can0 1DFF0407#400DA39903444546
+(10.0) can0 1DFF0405#010000000000FFFF
+(11.0) can0 1DFF0407#6120202020202020
+",
+        text: "{\"timestamp\":\"1970-01-01T00:00:04.000Z\",\"prio\":2,\"src\":127,\"dst\":255,\"pgn\":129026,\"description\":\"COG & SOG, Rapid Update\",\"fields\":{\"SID\":0,\"COG Reference\":\"True\",\"SOG\":0.00}}
+{\"timestamp\":\"2020-01-01T00:00:00.000Z\",\"prio\":7,\"src\":5,\"dst\":255,\"pgn\":130820,\"description\":\"Unmatched\",\"fields\":{\"Data\":\"07 98 01 41 42 43 44 45 46\"}}
+{\"timestamp\":\"1970-01-01T00:00:07.000Z\",\"prio\":7,\"src\":6,\"dst\":255,\"pgn\":130820,\"description\":\"Sample: Label\",\"fields\":{\"Maker\":419,\"Kind\":2,\"Label\":\"XY\"}}
+{\"timestamp\":\"1970-01-01T00:00:09.000Z\",\"prio\":7,\"src\":7,\"dst\":255,\"pgn\":130820,\"description\":\"Sample: Label\",\"fields\":{\"Maker\":419,\"Kind\":3,\"Label\":\"DEF\"}}
+{\"timestamp\":\"1970-01-01T00:00:10.000Z\",\"prio\":7,\"src\":5,\"dst\":255,\"pgn\":130820,\"description\":\"Sample: Label\",\"fields\":{\"Maker\":419,\"Kind\":4,\"Label\":\"DEF\"}}
+",
+        reports: "line 4 bad B3 form
+line 7 broken pgn 130820 src 5 dst 255 seq 0 first 2
+line 11 bad B7 fast
+",
+        summary: "lines 14 messages 5 bad 2 unknown 1 broken 1 open 1\n",
+        state: "{'bad':2,'broken':1,'format':2,'groups':[{'dst':255,'first':14,'frames':[[1,'20202020202020']],'pgn':130820,'seq':3,'src':7}],'lines':14,'messages':5,'table':'ID','unknown':1,'window':10000}",
+    },
+];
+
+// A part has left this state, and sums up as this.
+fn is_left<R: Abort + AllocGlobal>(
+    rt: &R,
+    part: &Part,
+    state: &str,
+    summary: &str,
+) -> Result<(), Fail> {
+    let wanted = spelled(rt.alloc(), state)?;
+    assert_eq!(rt; part.state.as_slice(), wanted.as_bytes());
+    has_summary(rt, &part.counts, summary)
+}
+
+// The parts of a log, run in turn, give what the log gives.
+fn gives<R: Abort + AllocGlobal>(
+    rt: &R,
+    table: &Table,
+    parts: &[&[u8]],
+    example: &Example,
+) -> Result<(), Fail> {
+    let mut writer = MemorySink::new(rt.alloc(), 4096, 0);
+    let mut reporter = MemorySink::new(rt.alloc(), 4096, 0);
+    let last = run_parts(
+        rt.alloc(),
+        table,
+        frames(long_window()),
+        parts,
+        &mut writer,
+        &mut reporter,
+    )?;
+    assert_eq!(rt; writer.bytes(), example.text.as_bytes());
+    assert_eq!(rt; reporter.bytes(), example.reports.as_bytes());
+    is_left(rt, &last, example.state, example.summary)
+}
+
+// A log gives the same whole, and cut in two after each of its lines.
+fn gives_in_two<R: Abort + AllocGlobal>(
+    rt: &R,
+    table: &Table,
+    example: &Example,
+) -> Result<(), Fail> {
+    gives(rt, table, &[example.log.as_bytes()], example)?;
+    let log = example.log.as_bytes();
+    for (at, byte) in log.iter().enumerate() {
+        if *byte == b'\n' {
+            let front = log.get(..=at).ok_or("no front")?;
+            let back = log.get(front.len()..).ok_or("no back")?;
+            gives(rt, table, &[front, back], example)?;
+        }
+    }
+    Ok(())
+}
+
+// A log gives the same where each of its lines is a part, after an empty part.
+fn gives_by_lines<R: Abort + AllocGlobal>(
+    rt: &R,
+    table: &Table,
+    example: &Example,
+) -> Result<(), Fail> {
+    let mut lines = Vec::new(rt.alloc());
+    lines.push(b"".as_slice())?;
+    for line in example
+        .log
+        .as_bytes()
+        .split_inclusive(|byte| *byte == b'\n')
+    {
+        lines.push(line)?;
+    }
+    gives(rt, table, &lines, example)
+}
+
+#[test]
+fn cut_after_each_line(rt: HostRuntime) -> Result<(), Fail> {
+    let table = sample(rt.alloc())?;
+    for example in &EXAMPLES {
+        gives_in_two(&rt, &table, example)?;
+        gives_by_lines(&rt, &table, example)?;
+    }
+    gives(&rt, &table, &[], &EXAMPLES[0])
+}
+
+// The states of two sources' log after its second line and after its third.
+const AFTER_TWO: &str =
+    "{'bad':0,'broken':0,'format':2,'groups':[{'dst':255,'first':1,'frames':[[0,'0ba39901414243']],'pgn':130820,'seq':0,'src':5},{'dst':255,'first':2,'frames':[[0,'0ba39902585920']],'pgn':130820,'seq':1,'src':6}],'lines':2,'messages':0,'table':'ID','unknown':0,'window':10000}";
+
+const AFTER_THREE: &str =
+    "{'bad':0,'broken':0,'format':2,'groups':[{'dst':255,'first':1,'frames':[[0,'0ba39901414243']],'pgn':130820,'seq':0,'src':5}],'lines':3,'messages':1,'table':'ID','unknown':0,'window':10000}";
+
+// A state without a window, whose groups wait too long under the shortest one.
+const OVERDUE: &str =
+    "{'bad':0,'broken':0,'format':1,'groups':[{'dst':255,'first':1,'frames':[[0,'0ba39901414243']],'pgn':130820,'seq':0,'src':5},{'dst':255,'first':2,'frames':[[0,'0ba39902585920']],'pgn':130820,'seq':1,'src':6}],'lines':50,'messages':0,'table':'ID','unknown':0}";
+
+// A state that is handed in, the lines after it, and what is made of them.
+#[derive(Drop)]
+struct Resumed {
+    state: &'static str,
+    window: u32,
+    log: &'static str,
+    text: &'static str,
+    reports: &'static str,
+    summary: &'static str,
+}
+
+const RESUMED: [Resumed; 5] = [
+    // two-sources-cut, after the second line
+    Resumed {
+        state: AFTER_TWO,
+        window: 10_000,
+        log: "(10.200000) can0 1DFF0406#212020202020FFFF
+(10.300000) can0 1DFF0405#010000000000FFFF
+",
+        text: "{\"timestamp\":\"1970-01-01T00:00:10.200Z\",\"prio\":7,\"src\":6,\"dst\":255,\"pgn\":130820,\"description\":\"Sample: Label\",\"fields\":{\"Maker\":419,\"Kind\":2,\"Label\":\"XY\"}}
+{\"timestamp\":\"1970-01-01T00:00:10.300Z\",\"prio\":7,\"src\":5,\"dst\":255,\"pgn\":130820,\"description\":\"Sample: Label\",\"fields\":{\"Maker\":419,\"Kind\":1,\"Label\":\"ABC\"}}
+",
+        reports: "",
+        summary: "lines 4 messages 2 bad 0 unknown 0 broken 0 open 0\n",
+    },
+    // two-sources-cut, after the third line
+    Resumed {
+        state: AFTER_THREE,
+        window: 10_000,
+        log: "(10.300000) can0 1DFF0405#010000000000FFFF
+",
+        text: "{\"timestamp\":\"1970-01-01T00:00:10.300Z\",\"prio\":7,\"src\":5,\"dst\":255,\"pgn\":130820,\"description\":\"Sample: Label\",\"fields\":{\"Maker\":419,\"Kind\":1,\"Label\":\"ABC\"}}
+",
+        reports: "",
+        summary: "lines 4 messages 2 bad 0 unknown 0 broken 0 open 0\n",
+    },
+    // The group of source 5 waits for its other frames: its frame 3 is broken by another frame 3.
+    Resumed {
+        state: "{'bad':0,'broken':0,'format':1,'groups':[{'dst':255,'first':1,'frames':[[3,'0ba39901414243']],'pgn':130820,'seq':0,'src':5},{'dst':255,'first':2,'frames':[[0,'0ba39902585920']],'pgn':130820,'seq':1,'src':6}],'lines':2,'messages':0,'table':'ID','unknown':0}",
+        window: 10_000,
+        log: "(10.3) can0 1DFF0405#030000000000FFFF\n",
+        text: "",
+        reports: "line 3 broken pgn 130820 src 5 dst 255 seq 0 first 1\n",
+        summary: "lines 3 messages 0 bad 0 unknown 0 broken 1 open 2\n",
+    },
+    // The group of source 5 has a frame past its total of 6, so that no frame makes it whole.
+    Resumed {
+        state: "{'bad':0,'broken':0,'format':1,'groups':[{'dst':255,'first':1,'frames':[[0,'06a39901414243'],[3,'20202020202020']],'pgn':130820,'seq':0,'src':5},{'dst':255,'first':2,'frames':[[0,'0ba39902585920']],'pgn':130820,'seq':1,'src':6}],'lines':2,'messages':0,'table':'ID','unknown':0}",
+        window: 10_000,
+        log: "(10.3) can0 1DFF0405#0100000000FFFFFF\n",
+        text: "",
+        reports: "",
+        summary: "lines 3 messages 0 bad 0 unknown 0 broken 0 open 2\n",
+    },
+    // overdue-old-state: a state without a window, whose groups are broken at its next line, the oldest first.
+    Resumed {
+        state: OVERDUE,
+        window: 32,
+        log: "\n",
+        text: "",
+        reports: "line 51 broken pgn 130820 src 5 dst 255 seq 0 first 1
+line 51 broken pgn 130820 src 6 dst 255 seq 1 first 2
+",
+        summary: "lines 51 messages 0 bad 0 unknown 0 broken 2 open 0\n",
+    },
+];
+
+// A part that is read and written without a failure.
+fn part_of_log(
+    alloc: Global,
+    table: &Table,
+    options: Options,
+    state: Option<&[u8]>,
+    log: &[u8],
+    writer: &mut MemorySink,
+    reporter: &mut MemorySink,
+) -> Result<Part, PartFault> {
+    let mut reader = MemorySource::new(log, 4096, 0);
+    run_part(alloc, table, state, options, &mut reader, writer, reporter)
+}
+
+fn goes_on<R: Abort + AllocGlobal>(rt: &R, table: &Table, resumed: &Resumed) -> Result<(), Fail> {
+    let mut writer = MemorySink::new(rt.alloc(), 7, 0);
+    let mut reporter = MemorySink::new(rt.alloc(), 7, 0);
+    let window = Window::new(resumed.window).ok_or("no window")?;
+    let state = spelled(rt.alloc(), resumed.state)?;
+    let part = part_of_log(
+        rt.alloc(),
+        table,
+        frames(window),
+        Some(state.as_bytes()),
+        resumed.log.as_bytes(),
+        &mut writer,
+        &mut reporter,
+    )?;
+    assert_eq!(rt; writer.bytes(), resumed.text.as_bytes());
+    assert_eq!(rt; reporter.bytes(), resumed.reports.as_bytes());
+    has_summary(rt, &part.counts, resumed.summary)
+}
+
+#[test]
+fn goes_on_from_states(rt: HostRuntime) -> Result<(), Fail> {
+    let table = sample(rt.alloc())?;
+    for resumed in &RESUMED {
+        goes_on(&rt, &table, resumed)?;
+    }
+    Ok(())
+}
+
+const FRONT_HALF: &str = "(1502979132.106111) can0 09F8027F#00FC";
+
+const BACK_HALF: &str = "FFFF0000FFFF\n";
+
+const HALVES: Example = Example {
+    log: "",
+    text: "{\"timestamp\":\"2017-08-17T14:12:12.106Z\",\"prio\":2,\"src\":127,\"dst\":255,\"pgn\":129026,\"description\":\"COG & SOG, Rapid Update\",\"fields\":{\"SID\":0,\"COG Reference\":\"True\"}}\n",
+    reports: "line 2 bad B3 form\n",
+    summary: "lines 2 messages 1 bad 1 unknown 0 broken 0 open 0\n",
+    state: "{'bad':1,'broken':0,'format':2,'groups':[],'lines':2,'messages':1,'table':'ID','unknown':0,'window':10000}",
+};
+
+// Cuts stand after line feeds: here each half of a line is a line.
+#[test]
+fn cut_inside_a_line(rt: HostRuntime) -> Result<(), Fail> {
+    let table = sample(rt.alloc())?;
+    gives(
+        &rt,
+        &table,
+        &[FRONT_HALF.as_bytes(), BACK_HALF.as_bytes()],
+        &HALVES,
+    )
+}
+
+// The log of two sources in pieces of this size, where this read fails: what is printed, and the state that is left.
+fn stops_with_read<R: Abort + AllocGlobal>(
+    rt: &R,
+    table: &Table,
+    piece: usize,
+    failing_read: u64,
+    text: &str,
+    left: &str,
+    summary: &str,
+) -> Result<(), Fail>
+    requires { 0 < piece }
+{
+    let mut reader = MemorySource::new(TWO_SOURCES.as_bytes(), piece, failing_read);
+    let mut writer = MemorySink::new(rt.alloc(), 7, 0);
+    let mut reporter = MemorySink::new(rt.alloc(), 7, 0);
+    let answer = run_part(
+        rt.alloc(),
+        table,
+        None,
+        frames(long_window()),
+        &mut reader,
+        &mut writer,
+        &mut reporter,
+    );
+    let Err(PartFault::Stopped(RunFault::Read, part)) = answer else {
+        return Err("the read was taken".into());
+    };
+    assert_eq!(rt; writer.bytes(), text.as_bytes());
+    is_left(rt, &part, left, summary)
+}
+
+const XY: &str =
+    "{\"timestamp\":\"1970-01-01T00:00:10.200Z\",\"prio\":7,\"src\":6,\"dst\":255,\"pgn\":130820,\"description\":\"Sample: Label\",\"fields\":{\"Maker\":419,\"Kind\":2,\"Label\":\"XY\"}}
+";
+
+const TWO_OPEN: &str = "lines 2 messages 0 bad 0 unknown 0 broken 0 open 2\n";
+
+const ONE_OPEN: &str = "lines 3 messages 1 bad 0 unknown 0 broken 0 open 1\n";
+
+// read-fails: two lines came, and the third in part; and where each piece is a line, three came.
+#[test]
+fn a_failed_read_leaves_a_state(rt: HostRuntime) -> Result<(), Fail> {
+    let table = sample(rt.alloc())?;
+    stops_with_read(&rt, &table, 60, 3, "", AFTER_TWO, TWO_OPEN)?;
+    stops_with_read(&rt, &table, 43, 4, XY, AFTER_THREE, ONE_OPEN)
+}
+
+// A state of as many lines as are counted.
+const FULL: &str =
+    "{'bad':0,'broken':0,'format':2,'groups':[],'lines':999999999999999,'messages':0,'table':'ID','unknown':0,'window':10000}";
+
+#[test]
+fn no_line_past_the_last(rt: HostRuntime) -> Result<(), Fail> {
+    let table = sample(rt.alloc())?;
+    let mut writer = MemorySink::new(rt.alloc(), 7, 0);
+    let mut reporter = MemorySink::new(rt.alloc(), 7, 0);
+    let full = spelled(rt.alloc(), FULL)?;
+    let answer = part_of_log(
+        rt.alloc(),
+        &table,
+        frames(long_window()),
+        Some(full.as_bytes()),
+        b"\n",
+        &mut writer,
+        &mut reporter,
+    );
+    let Err(PartFault::Stopped(RunFault::TooManyLines, part)) = answer else {
+        return Err("one line more was taken".into());
+    };
+    assert_eq!(rt; part.state.as_slice(), full.as_bytes());
+    Ok(())
+}
+
+// What a log's run answers where the third write of a device fails.
+fn fails<R: AllocGlobal>(
+    rt: &R,
+    table: &Table,
+    log: &[u8],
+    writer: &mut MemorySink,
+    reporter: &mut MemorySink,
+) -> Option<RunFault> {
+    match part_of_log(
+        rt.alloc(),
+        table,
+        frames(long_window()),
+        None,
+        log,
+        writer,
+        reporter,
+    ) {
+        Err(PartFault::Run(fault)) => Some(fault),
+        _ => None,
+    }
+}
+
+// write-fails: a front is written.
+#[test]
+fn a_failed_write_leaves_a_front(rt: HostRuntime) -> Result<(), Fail> {
+    let table = sample(rt.alloc())?;
+    let mut writer = MemorySink::new(rt.alloc(), 10, 3);
+    let mut reporter = MemorySink::new(rt.alloc(), 10, 0);
+    let log = TWO_SOURCES.as_bytes();
+    let fault = fails(&rt, &table, log, &mut writer, &mut reporter);
+    assert_eq!(rt; fault, Some(RunFault::Write));
+    assert_eq!(rt; writer.bytes(), b"{\"timestamp\":\"1970-0".as_slice());
+    Ok(())
+}
+
+const REPEAT_BREAKS: &str = "(1.0) can0 1DFF0405#6014A39904474849
+(2.0) can0 1DFF0405#6120202020202020
+(3.0) can0 1DFF0405#6120202020202020
+(4.0) can0 1DFF0405#6014A39904474849
+(5.0) can0 1DFF0405#6220202020202020
+";
+
+// A report that can't be written, that of repeat-breaks.
+#[test]
+fn a_failed_report_leaves_a_front(rt: HostRuntime) -> Result<(), Fail> {
+    let table = sample(rt.alloc())?;
+    let mut writer = MemorySink::new(rt.alloc(), 10, 0);
+    let mut reporter = MemorySink::new(rt.alloc(), 10, 3);
+    let log = REPEAT_BREAKS.as_bytes();
+    let fault = fails(&rt, &table, log, &mut writer, &mut reporter);
+    assert_eq!(rt; fault, Some(RunFault::Report));
+    assert_eq!(rt; reporter.bytes(), b"line 3 broken pgn 13".as_slice());
+    Ok(())
+}

@@ -1,0 +1,310 @@
+//! Worked examples of messages that are written as frames, and read again.
+use super::options::{frames, has_summary};
+use crate::samples::{long_window, sample};
+use n2k_join::{Counts, Join};
+use n2k_run::{MemorySink, MemorySource, RunFault, run, run_frames};
+use n2k_table::Table;
+use n2k_wire::is_interface;
+use std::alloc::{AllocError, Global};
+use std::process::Abort;
+use std::test::Fail;
+
+// A log, the interface at which its frames are seen, or none for plain lines, and what is made of it.
+#[derive(Drop)]
+struct Example {
+    log: &'static str,
+    interface: Option<&'static str>,
+    text: &'static str,
+    reports: &'static str,
+    summary: &'static str,
+}
+
+const EXAMPLES: [Example; 6] = [
+    // empty-log
+    Example {
+        log: "",
+        interface: None,
+        text: "",
+        reports: "",
+        summary: "lines 0 messages 0 bad 0 unknown 0 broken 0 open 0\n",
+    },
+    // split-and-back, as plain lines
+    Example {
+        log: "1970-01-01T00:00:10.300Z,7,130820,5,255,11,a3,99,01,41,42,43,00,00,00,00,00\n",
+        interface: None,
+        text: "1970-01-01T00:00:10.300Z,7,130820,5,255,8,00,0b,a3,99,01,41,42,43
+1970-01-01T00:00:10.300Z,7,130820,5,255,8,01,00,00,00,00,00,ff,ff
+",
+        reports: "",
+        summary: "lines 1 messages 1 bad 0 unknown 0 broken 0 open 0\n",
+    },
+    // split-and-back, as candump writes it
+    Example {
+        log: "1970-01-01T00:00:10.300Z,7,130820,5,255,11,a3,99,01,41,42,43,00,00,00,00,00\n",
+        interface: Some("can0"),
+        text: "(0000000010.300000) can0 1DFF0405#000BA39901414243
+(0000000010.300000) can0 1DFF0405#010000000000FFFF
+",
+        reports: "",
+        summary: "lines 1 messages 1 bad 0 unknown 0 broken 0 open 0\n",
+    },
+    // refused-message-uses-its-number
+    Example {
+        log: "1970-01-01T00:00:10.300Z,7,130820,5,255,11,a3,99,01,41,42,43,00,00,00,00,00
+x,7,130820,5,255,11,a3,99,01,41,42,43,00,00,00,00,00
+1970-01-01T00:00:10.300Z,7,130820,5,255,11,a3,99,01,41,42,43,00,00,00,00,00
+",
+        interface: Some("can0"),
+        text: "(0000000010.300000) can0 1DFF0405#000BA39901414243
+(0000000010.300000) can0 1DFF0405#010000000000FFFF
+(0000000010.300000) can0 1DFF0405#400BA39901414243
+(0000000010.300000) can0 1DFF0405#410000000000FFFF
+",
+        reports: "line 2 bad B11 time\n",
+        summary: "lines 3 messages 2 bad 1 unknown 0 broken 0 open 0\n",
+    },
+    // Bad lines, and a message of a single PGN, which is its own frame and needs no stamp of a form.
+    Example {
+        log: "1970-01-01T00:00:10.300Z,2,129026,36,255,9,00,01,02,03,04,05,06,07,08
+# skipped
+1970-01-01T00:00:10.300Z,6,59904,1,255,3,14,f0,01
+(1502979132.106111) can0 09F8027F#00FCFFFF0000FFFF
+2011-11-24-22:42:04.388,2,127251,36,255,8,7d,0b,7d,02,00,ff,ff,ff
+(1.0) can0 18EAFF01#14F001
+hello
+",
+        interface: None,
+        text: "2011-11-24-22:42:04.388,2,127251,36,255,8,7d,0b,7d,02,00,ff,ff,ff\n",
+        reports: "line 1 bad B9 size
+line 3 bad B8 unknown
+line 4 bad B10 frame
+line 6 bad B10 frame
+line 7 bad B3 form
+",
+        summary: "lines 7 messages 1 bad 5 unknown 0 broken 0 open 0\n",
+    },
+    // Bad lines at an interface; what can't be split is judged first.
+    Example {
+        log: "2011-11-24-22:42:04.388,2,127251,36,255,8,7d,0b,7d,02,00,ff,ff,ff
+1970-01-01T00:00:10.300Z,7,130820,5,9,0
+x,7,130820,5,9,0
+x,6,59904,1,9,0
+x,2,129026,36,9,9,00,01,02,03,04,05,06,07,08
+",
+        interface: Some("can0"),
+        text: "",
+        reports: "line 1 bad B11 time
+line 2 bad B12 address
+line 3 bad B11 time
+line 4 bad B8 unknown
+line 5 bad B9 size
+",
+        summary: "lines 5 messages 0 bad 5 unknown 0 broken 0 open 0\n",
+    },
+];
+
+// As candump writes them, or as plain lines.
+fn frames_at(
+    alloc: Global,
+    table: &Table,
+    interface: Option<&str>,
+    reader: &mut MemorySource,
+    writer: &mut MemorySink,
+    reporter: &mut MemorySink,
+) -> Result<Counts, RunFault> {
+    match interface {
+        Some(name) if is_interface(name.as_bytes()) => {
+            run_frames(alloc, table, Some(name), reader, writer, reporter)
+        }
+        _ => run_frames(alloc, table, None, reader, writer, reporter),
+    }
+}
+
+fn makes<R: Abort + AllocGlobal>(
+    rt: &R,
+    table: &Table,
+    example: &Example,
+    piece: usize,
+) -> Result<(), Fail> {
+    if piece == 0 {
+        return Err("no piece".into());
+    }
+    let mut reader = MemorySource::new(example.log.as_bytes(), piece, 0);
+    let mut writer = MemorySink::new(rt.alloc(), piece, 0);
+    let mut reporter = MemorySink::new(rt.alloc(), piece, 0);
+    let counts = frames_at(
+        rt.alloc(),
+        table,
+        example.interface,
+        &mut reader,
+        &mut writer,
+        &mut reporter,
+    )?;
+    assert_eq!(rt; writer.bytes(), example.text.as_bytes());
+    assert_eq!(rt; reporter.bytes(), example.reports.as_bytes());
+    has_summary(rt, &counts, example.summary)
+}
+
+const PIECES: [usize; 5] = [1, 7, 4095, 4096, 100_000];
+
+fn makes_in_pieces<R: Abort + AllocGlobal>(
+    rt: &R,
+    table: &Table,
+    example: &Example,
+) -> Result<(), Fail> {
+    for piece in &PIECES {
+        makes(rt, table, example, *piece)?;
+    }
+    Ok(())
+}
+
+#[test]
+fn worked_examples_in_pieces(rt: HostRuntime) -> Result<(), Fail> {
+    let table = sample(rt.alloc())?;
+    for example in &EXAMPLES {
+        makes_in_pieces(&rt, &table, example)?;
+    }
+    Ok(())
+}
+
+// The plain lines of the frames of a log's messages.
+fn frames_of<R: Abort + AllocGlobal>(
+    rt: &R,
+    table: &Table,
+    log: &[u8],
+) -> Result<MemorySink, Fail> {
+    let mut reader = MemorySource::new(log, 1000, 0);
+    let mut writer = MemorySink::new(rt.alloc(), 1000, 0);
+    let mut reporter = MemorySink::new(rt.alloc(), 1000, 0);
+    run_frames(
+        rt.alloc(),
+        table,
+        None,
+        &mut reader,
+        &mut writer,
+        &mut reporter,
+    )?;
+    assert_eq!(rt; reporter.bytes(), b"".as_slice());
+    Ok(writer)
+}
+
+// A log decodes to this text, and gives that many messages; no group is broken or open.
+fn decodes<R: Abort + AllocGlobal>(
+    rt: &R,
+    table: &Table,
+    log: &[u8],
+    messages: u64,
+) -> Result<MemorySink, Fail> {
+    let window = long_window();
+    let mut join = Join::new(rt.alloc(), table, window);
+    let mut reader = MemorySource::new(log, 1000, 0);
+    let mut writer = MemorySink::new(rt.alloc(), 1000, 0);
+    let mut reporter = MemorySink::new(rt.alloc(), 1000, 0);
+    run(
+        rt.alloc(),
+        table,
+        &mut join,
+        frames(window),
+        &mut reader,
+        &mut writer,
+        &mut reporter,
+    )?;
+    assert_eq!(rt; reporter.bytes(), b"".as_slice());
+    let wanted = Counts {
+        lines: join.counts().lines,
+        messages,
+        ..Counts::NONE
+    };
+    assert_eq!(rt; join.counts(), wanted);
+    Ok(writer)
+}
+
+const NINE: &str = "1970-01-01T00:00:10.300Z,7,130820,5,255,11,a3,99,01,41,42,43,00,00,00,00,00
+1970-01-01T00:00:10.300Z,7,130820,5,255,11,a3,99,01,41,42,43,00,00,00,00,00
+1970-01-01T00:00:10.300Z,7,130820,5,255,11,a3,99,01,41,42,43,00,00,00,00,00
+1970-01-01T00:00:10.300Z,7,130820,5,255,11,a3,99,01,41,42,43,00,00,00,00,00
+1970-01-01T00:00:10.300Z,7,130820,5,255,11,a3,99,01,41,42,43,00,00,00,00,00
+1970-01-01T00:00:10.300Z,7,130820,5,255,11,a3,99,01,41,42,43,00,00,00,00,00
+1970-01-01T00:00:10.300Z,7,130820,5,255,11,a3,99,01,41,42,43,00,00,00,00,00
+1970-01-01T00:00:10.300Z,7,130820,5,255,11,a3,99,01,41,42,43,00,00,00,00,00
+1970-01-01T00:00:10.300Z,7,130820,5,255,11,a3,99,01,41,42,43,00,00,00,00,00
+";
+
+// The JSON line of such a message.
+const LABEL: &str =
+    "{\"timestamp\":\"1970-01-01T00:00:10.300Z\",\"prio\":7,\"src\":5,\"dst\":255,\"pgn\":130820,\"description\":\"Sample: Label\",\"fields\":{\"Maker\":419,\"Kind\":1,\"Label\":\"ABC\"}}\n";
+
+const XY: &str =
+    "{\"timestamp\":\"1970-01-01T00:00:10.200Z\",\"prio\":7,\"src\":6,\"dst\":255,\"pgn\":130820,\"description\":\"Sample: Label\",\"fields\":{\"Maker\":419,\"Kind\":2,\"Label\":\"XY\"}}\n";
+
+// Frames with those of another source between them: the third line and the eleventh are followed by one of them.
+fn with_another_source(alloc: Global, frames: &[u8]) -> Result<Vec<u8>, AllocError> {
+    let mut log = Vec::new(alloc);
+    for (number, line) in frames.split_inclusive(|byte| *byte == b'\n').enumerate() {
+        log.extend_from_slice(line)?;
+        match number {
+            2 => log.extend_from_slice(b"(10.100000) can0 1DFF0406#200BA39902585920\n")?,
+            10 => log.extend_from_slice(b"(10.200000) can0 1DFF0406#212020202020FFFF\n")?,
+            _ => {}
+        }
+    }
+    Ok(log)
+}
+
+// The JSON lines of nine messages, and that of another source behind the fifth.
+fn nine_and_another(alloc: Global) -> Result<Vec<u8>, AllocError> {
+    let mut lines = Vec::new(alloc);
+    for number in 0..9 {
+        if number == 5 {
+            lines.extend_from_slice(XY.as_bytes())?;
+        }
+        lines.extend_from_slice(LABEL.as_bytes())?;
+    }
+    Ok(lines)
+}
+
+// The frames of nine messages give them back, also with the two frames of another source between them.
+#[test]
+fn nine_messages_and_another_source(rt: HostRuntime) -> Result<(), Fail> {
+    let table = sample(rt.alloc())?;
+    let frames = frames_of(&rt, &table, NINE.as_bytes())?;
+    let log = with_another_source(rt.alloc(), frames.bytes())?;
+    let wanted = nine_and_another(rt.alloc())?;
+    let decoded = decodes(&rt, &table, &log, 10)?;
+    assert_eq!(rt; decoded.bytes(), wanted.as_slice());
+    Ok(())
+}
+
+// The frames of nine messages where a read or a write fails: the fault, and how many bytes of them are written.
+fn stops<R: Abort + AllocGlobal>(
+    rt: &R,
+    table: &Table,
+    read_fails: u64,
+    write_fails: u64,
+    fault: RunFault,
+    written: usize,
+) -> Result<(), Fail> {
+    let frames = frames_of(rt, table, NINE.as_bytes())?;
+    let mut reader = MemorySource::new(NINE.as_bytes(), 60, read_fails);
+    let mut writer = MemorySink::new(rt.alloc(), 10, write_fails);
+    let mut reporter = MemorySink::new(rt.alloc(), 10, 0);
+    let answer = frames_at(
+        rt.alloc(),
+        table,
+        None,
+        &mut reader,
+        &mut writer,
+        &mut reporter,
+    );
+    assert_eq!(rt; answer, Err(fault));
+    assert_eq!(rt; Some(writer.bytes()), frames.bytes().get(..written));
+    Ok(())
+}
+
+// After a fault of a device a front is written. Before the fourth read two lines of 76 bytes came, and the third in part.
+#[test]
+fn a_failed_device_leaves_a_front(rt: HostRuntime) -> Result<(), Fail> {
+    let table = sample(rt.alloc())?;
+    stops(&rt, &table, 0, 3, RunFault::Write, 20)?;
+    stops(&rt, &table, 4, 0, RunFault::Read, 264)
+}

@@ -1,0 +1,160 @@
+//! How much a table may have.
+use super::tables::answers;
+use std::alloc::{AllocError, Global};
+use std::process::Abort;
+use std::test::Fail;
+
+// A part of a text, where `{}` stands for its number.
+fn push_part(
+    alloc: Global,
+    number: usize,
+    part: &str,
+    text: &mut String,
+) -> Result<(), AllocError> {
+    match part.split_once("{}") {
+        None => text.push_str(part),
+        Some((front, back)) => {
+            let one = format!(in alloc; "{front}{number}{back}")?;
+            text.push_str(&one)
+        }
+    }
+}
+
+// A text of so many parts.
+fn many(alloc: Global, count: usize, part: &str) -> Result<String, AllocError> {
+    let mut text = String::new(alloc);
+    for number in 0..count {
+        push_part(alloc, number, part, &mut text)?;
+    }
+    Ok(text)
+}
+
+const FIELD: &str = "{ name = '{}', kind = 'number', at = 0, bits = 8 }, ";
+
+const DEFINITION: &str = "{ number = {}, kind = 'fast', description = 'D', fields = [] }, ";
+
+const ONE: &str = "pgn = [{ number = 1, kind = 'fast', description = 'D', fields = [";
+
+const SET: &str = "pgn = [{ number = 1, kind = 'fast', description = 'D', fields = [], \
+    repeat = { at = 0, bits = 8, fields = [";
+
+// What is answered where so many parts stand in a text: its front, the count, the part, its end, the answer.
+const LIMITS: [(&str, usize, &str, &str, &str); 13] = [
+    ("pgn = [", 4096, DEFINITION, "]", "reads"),
+    ("pgn = [", 4097, DEFINITION, "]", "9 TooMany"),
+    (ONE, 256, FIELD, "] }]", "reads"),
+    (ONE, 257, FIELD, "] }]", "9 TooMany"),
+    (
+        "lookup = [",
+        1024,
+        "{ name = '{}', entries = [] }, ",
+        "]",
+        "reads",
+    ),
+    (
+        "lookup = [",
+        1025,
+        "{ name = '{}', entries = [] }, ",
+        "]",
+        "9 TooMany",
+    ),
+    (
+        "lookup = [{ name = 'L', entries = [",
+        4096,
+        "[{}, 'N'], ",
+        "] }]",
+        "reads",
+    ),
+    (
+        "lookup = [{ name = 'L', entries = [",
+        4097,
+        "[{}, 'N'], ",
+        "] }]",
+        "9 TooMany",
+    ),
+    (
+        "lookup = [{ entries = [], name = '",
+        255,
+        "N",
+        "' }]",
+        "reads",
+    ),
+    (
+        "lookup = [{ entries = [], name = '",
+        256,
+        "N",
+        "' }]",
+        "5 Text",
+    ),
+    (
+        "lookup = [{ entries = [], name = '",
+        128,
+        "\u{e9}",
+        "' }]",
+        "5 Text",
+    ),
+    (
+        "pgn = [",
+        1,
+        "{ number = 1, kind = 'fast', description = 'D', fields = [], repeat = 1 }",
+        "]",
+        "3 Key",
+    ),
+    (
+        "lookup = [",
+        2,
+        "{ name = 'L', entries = [] }, ",
+        "]",
+        "6 Twice",
+    ),
+];
+
+// The same in a table of format 2.
+const SET_LIMITS: [(&str, usize, &str, &str, &str); 6] = [
+    (SET, 0, FIELD, "] } }]", "reads"),
+    (SET, 256, FIELD, "] } }]", "reads"),
+    (SET, 257, FIELD, "] } }]", "9 TooMany"),
+    (
+        "pgn = [",
+        1,
+        "{ number = 1, kind = 'fast', description = 'D', fields = [], repeat = 1 }",
+        "]",
+        "3 Key",
+    ),
+    (
+        "pgn = [",
+        1,
+        "{ number = 1, kind = 'fast', description = 'D', fields = [], repeat = [] }",
+        "]",
+        "3 Key",
+    ),
+    (
+        ONE,
+        1,
+        "{ name = 'list', kind = 'number', at = 0, bits = 8 }",
+        "] }]",
+        "reads",
+    ),
+];
+
+fn limit_answers<R: Abort + AllocGlobal>(
+    rt: &R,
+    format: u32,
+    case: &(&str, usize, &str, &str, &str),
+) -> Result<(), Fail> {
+    let (front, count, part, back, wanted) = *case;
+    let middle = many(rt.alloc(), count, part)?;
+    let text = format!(in rt.alloc(); "format = {format}\n{front}{middle}{back}\n")?;
+    answers(rt, &text, wanted, part)
+}
+
+#[test]
+fn limits(rt: HostRuntime) -> Result<(), Fail> {
+    for case in &LIMITS {
+        limit_answers(&rt, 1, case)?;
+    }
+    for case in &SET_LIMITS {
+        limit_answers(&rt, 2, case)?;
+    }
+    Ok(())
+}

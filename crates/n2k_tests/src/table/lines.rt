@@ -1,0 +1,241 @@
+//! JSON lines.
+use super::tables::{pairs_table, replaced, sample_2};
+use crate::samples::{SAMPLE, read, sample};
+use n2k_table::{Table, json_line};
+use n2k_wire::{Id, Packet};
+use std::alloc::Global;
+use std::process::Abort;
+use std::test::Fail;
+
+// The line that a table prints of these data, after a line that stands before it.
+fn line_of(
+    alloc: Global,
+    table: &Table,
+    pgn: u32,
+    data: &[u8],
+    empty: bool,
+) -> Result<String, Fail> {
+    let id = Id {
+        prio: 2,
+        pgn,
+        src: 36,
+        dst: 255,
+    };
+    let packet = Packet::new(b"a \"b\\c", id, data).ok_or("a packet")?;
+    let mut out = Vec::from_slice(alloc, b"before\n")?;
+    json_line(alloc, table, &packet, empty, &mut out)?;
+    Ok(String::from_utf8(out)?)
+}
+
+// The object of the fields that a table prints of these data.
+pub(crate) fn printed(
+    alloc: Global,
+    table: &Table,
+    pgn: u32,
+    data: &[u8],
+    empty: bool,
+) -> Result<String, Fail> {
+    let head = format!(in alloc;
+        "before\n{{\"timestamp\":\"a \\\"b\\\\c\",\"prio\":2,\"src\":36,\"dst\":255,\"pgn\":{pgn},\"description\":"
+    )?;
+    let text = line_of(alloc, table, pgn, data, empty)?;
+    let rest = text.strip_prefix(head.as_str()).ok_or("another head")?;
+    let rest = rest.strip_suffix("}\n").ok_or("another end")?;
+    Ok(String::from_str(alloc, rest)?)
+}
+
+// A PGN, data, whether absent fields are printed, and the fields that are.
+const LINES: [(u32, &[u8], bool, &str); 18] = [
+    // cog-and-sog, lookup-and-short-data
+    (
+        129026,
+        &[0x00, 0xfc, 0xff, 0xff, 0, 0, 0xff, 0xff],
+        false,
+        "\"SID\":0,\"COG Reference\":\"True\",\"SOG\":0.00",
+    ),
+    (
+        129026,
+        &[0x00, 0xfc, 0xff, 0xff, 0, 0, 0xff, 0xff],
+        true,
+        "\"SID\":0,\"COG Reference\":\"True\",\"COG\":null,\"SOG\":0.00",
+    ),
+    (
+        129026,
+        &[0x00, 0xff, 0, 0, 0xfe, 0xff, 0xff, 0xff],
+        false,
+        "\"SID\":0,\"COG\":0.0000",
+    ),
+    (
+        129026,
+        &[0x05, 0x00],
+        false,
+        "\"SID\":5,\"COG Reference\":\"True\"",
+    ),
+    // rate-of-turn, negative-and-absent
+    (
+        127251,
+        &[0x7d, 0x0b, 0x7d, 0x02, 0, 0xff, 0xff, 0xff],
+        false,
+        "\"SID\":125,\"Rate\":0.00509634375",
+    ),
+    (
+        127251,
+        &[0x7d, 0xff, 0xff, 0xff, 0xff, 0xff, 0xff, 0xff],
+        false,
+        "\"SID\":125,\"Rate\":-0.00000003125",
+    ),
+    (
+        127251,
+        &[0x7d, 0xff, 0xff, 0xff, 0x7f, 0xff, 0xff, 0xff],
+        false,
+        "\"SID\":125",
+    ),
+    (
+        127251,
+        &[0x7d, 0xfe, 0xff, 0xff, 0x7f, 0xff, 0xff, 0xff],
+        false,
+        "\"SID\":125",
+    ),
+    (
+        127251,
+        &[0x7d, 0xfe, 0xff, 0xff, 0x7f, 0xff, 0xff, 0xff],
+        true,
+        "\"SID\":125,\"Rate\":null",
+    ),
+    (127251, &[], true, "\"SID\":null,\"Rate\":null"),
+    (127251, &[], false, ""),
+    // whole-among-frames, two-sources, short-totals
+    (
+        130820,
+        &[0xa3, 0x99, 1, 0x41, 0x42, 0x43, 0, 0, 0, 0, 0],
+        false,
+        "\"Maker\":419,\"Kind\":1,\"Label\":\"ABC\"",
+    ),
+    (
+        130820,
+        &[
+            0xa3, 0x99, 2, 0x58, 0x59, 0x20, 0x20, 0x20, 0x20, 0x20, 0xff,
+        ],
+        false,
+        "\"Maker\":419,\"Kind\":2,\"Label\":\"XY\"",
+    ),
+    (
+        130820,
+        &[0xa3, 0x99, 1, 0x41, 0x42, 0x43],
+        false,
+        "\"Maker\":419,\"Kind\":1",
+    ),
+    (
+        130820,
+        &[7, 0x98, 1, 0x41, 0x42, 0x43, 0x44, 0x45, 0x46],
+        true,
+        "\"Data\":\"07 98 01 41 42 43 44 45 46\"",
+    ),
+    (130820, &[0xa3], false, "\"Data\":\"A3\""),
+    (130820, &[], false, "\"Data\":\"\""),
+    (59904, &[0x14, 0xf0, 0x01], false, "\"Data\":\"14 F0 01\""),
+];
+
+// The description that is printed of data under the sample table.
+fn description_of(pgn: u32, data: &[u8]) -> &'static str {
+    match pgn {
+        129026 => "COG & SOG, Rapid Update",
+        127251 => "Rate of Turn",
+        _ if data.len() > 1 && data[0] == 0xa3 => "Sample: Label",
+        _ => "Unmatched",
+    }
+}
+
+fn line_shows<R: Abort + AllocGlobal>(
+    rt: &R,
+    table: &Table,
+    case: &(u32, &[u8], bool, &str),
+) -> Result<(), Fail> {
+    let (pgn, data, empty, fields) = *case;
+    let line = printed(rt.alloc(), table, pgn, data, empty)?;
+    let description = description_of(pgn, data);
+    let wanted = format!(in rt.alloc(); "\"{description}\",\"fields\":{{{fields}}}")?;
+    assert_eq!(rt; line.as_str(), wanted.as_str(), "{fields}");
+    Ok(())
+}
+
+#[test]
+fn lines(rt: HostRuntime) -> Result<(), Fail> {
+    let table = sample(rt.alloc())?;
+    for case in &LINES {
+        line_shows(&rt, &table, case)?;
+    }
+    Ok(())
+}
+
+// Data, whether absent fields are printed, and the fields of the pairs that are.
+const PAIRS_LINES: [(&[u8], bool, &str); 8] = [
+    (
+        &[0x01, 0x0a, 0x64, 0x00, 0x0b, 0x9c, 0xff, 0x0c, 0x00],
+        false,
+        "\"SID\":1,\"list\":[{\"Id\":10,\"Value\":10.0},{\"Id\":11,\"Value\":-10.0}]",
+    ),
+    (
+        &[0x01, 0x0a, 0x64, 0x00, 0x0b, 0x9c, 0xff, 0x0c, 0x00],
+        true,
+        "\"SID\":1,\"list\":[{\"Id\":10,\"Value\":10.0},{\"Id\":11,\"Value\":-10.0}]",
+    ),
+    (&[0x01, 0xff, 0xff, 0x7f], false, "\"SID\":1,\"list\":[{}]"),
+    (
+        &[0x01, 0xff, 0xff, 0x7f],
+        true,
+        "\"SID\":1,\"list\":[{\"Id\":null,\"Value\":null}]",
+    ),
+    (&[0x01], false, "\"SID\":1,\"list\":[]"),
+    (&[0x01], true, "\"SID\":1,\"list\":[]"),
+    (&[], false, "\"list\":[]"),
+    (&[], true, "\"SID\":null,\"list\":[]"),
+];
+
+fn pairs_show<R: Abort + AllocGlobal>(
+    rt: &R,
+    table: &Table,
+    case: &(&[u8], bool, &str),
+) -> Result<(), Fail> {
+    let (data, empty, fields) = *case;
+    let line = printed(rt.alloc(), table, 130822, data, empty)?;
+    let wanted = format!(in rt.alloc(); "\"Sample: Pairs\",\"fields\":{{{fields}}}")?;
+    assert_eq!(rt; line.as_str(), wanted.as_str(), "{fields}");
+    Ok(())
+}
+
+#[test]
+fn pairs(rt: HostRuntime) -> Result<(), Fail> {
+    let table = pairs_table(rt.alloc())?;
+    for case in &PAIRS_LINES {
+        pairs_show(&rt, &table, case)?;
+    }
+    Ok(())
+}
+
+// The lines of a table without sets are the same in both formats.
+#[test]
+fn lines_in_format_2(rt: HostRuntime) -> Result<(), Fail> {
+    let text = sample_2(rt.alloc(), "")?;
+    let table = read(rt.alloc(), &text)?;
+    for case in &LINES {
+        line_shows(&rt, &table, case)?;
+    }
+    Ok(())
+}
+
+// lookup-and-short-data with the entries 0 and 3: a name before an absent value
+#[test]
+fn a_name_before_an_absent_value(rt: HostRuntime) -> Result<(), Fail> {
+    let text = replaced(
+        rt.alloc(),
+        SAMPLE,
+        "[1, \"Magnetic\"], [2, \"Error\"]",
+        "[3, \"None\"]",
+    )?;
+    let table = read(rt.alloc(), &text)?;
+    let data = [0x00, 0xff, 0, 0, 0xfe, 0xff, 0xff, 0xff];
+    let line = printed(rt.alloc(), &table, 129026, &data, false)?;
+    assert!(rt; line.ends_with("{\"SID\":0,\"COG Reference\":\"None\",\"COG\":0.0000}"));
+    Ok(())
+}

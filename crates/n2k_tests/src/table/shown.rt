@@ -1,0 +1,251 @@
+//! What numbers, fields and sets show.
+use super::lines::printed;
+use super::tables::{pairs_table, with_fields};
+use crate::samples::{read, sample};
+use n2k_table::{Fields, Shown, Table, decimal_text};
+use std::alloc::Global;
+use std::mem::ManuallyDrop;
+use std::process::Abort;
+use std::test::Fail;
+
+// A value, its decimals, and its text.
+const DECIMALS: [(i128, u8, &str); 9] = [
+    (-1, 2, "-0.01"),
+    (0, 2, "0.00"),
+    (5, 0, "5"),
+    (-123456, 3, "-123.456"),
+    (1, 18, "0.000000000000000001"),
+    (i128::MIN, 0, "-170141183460469231731687303715884105728"),
+    (i128::MIN, 18, "-170141183460469231731.687303715884105728"),
+    (i128::MAX, 0, "170141183460469231731687303715884105727"),
+    (18446744073709551616, 1, "1844674407370955161.6"),
+];
+
+fn decimal_is<R: Abort + AllocGlobal>(
+    rt: &R,
+    value: i128,
+    decimals: u8,
+    text: &str,
+) -> Result<(), Fail> {
+    let mut out = Vec::from_slice(rt.alloc(), b"x=")?;
+    decimal_text(rt.alloc(), value, decimals, &mut out)?;
+    let wanted = format!(in rt.alloc(); "x={text}")?;
+    assert_eq!(rt; out.as_slice(), wanted.as_bytes(), "{text}");
+    Ok(())
+}
+
+#[test]
+fn decimals(rt: HostRuntime) -> Result<(), Fail> {
+    for (value, decimals, text) in &DECIMALS {
+        decimal_is(&rt, *value, *decimals, text)?;
+    }
+    Ok(())
+}
+
+// A field, data, and what is shown.
+const SHOWN: [(&str, &[u8], &str); 36] = [
+    // bits that cross bytes, the low ones first
+    ("kind = 'number', at = 4, bits = 8", &[0xa5, 0x5b], "186"),
+    ("kind = 'number', at = 3, bits = 11", &[0xf8, 0x07], "255"),
+    ("kind = 'number', at = 0, bits = 16", &[0x02, 0x01], "258"),
+    // 64 bits at an odd bit: -2, and the least
+    (
+        "kind = 'number', at = 1, bits = 64, signed = true",
+        &[0xfc, 0xff, 0xff, 0xff, 0xff, 0xff, 0xff, 0xff, 0x01],
+        "-2",
+    ),
+    (
+        "kind = 'number', at = 1, bits = 64, signed = true",
+        &[0, 0, 0, 0, 0, 0, 0, 0, 1],
+        "-9223372036854775808",
+    ),
+    // the greatest product
+    (
+        "kind = 'number', at = 0, bits = 64, resolution = '42949672.95'",
+        &[0xfd, 0xff, 0xff, 0xff, 0xff, 0xff, 0xff, 0xff],
+        "792281624958175935069494968.35",
+    ),
+    // data that end before the field does
+    ("kind = 'number', at = 8, bits = 16", &[1, 2], "null"),
+    ("kind = 'number', at = 8, bits = 9", &[1, 2], "null"),
+    // the greatest value from two bits on, the greatest but one from four bits on
+    ("kind = 'number', at = 0, bits = 1", &[1], "1"),
+    ("kind = 'number', at = 0, bits = 2", &[3], "null"),
+    ("kind = 'number', at = 0, bits = 2", &[2], "2"),
+    ("kind = 'number', at = 0, bits = 3", &[6], "6"),
+    ("kind = 'number', at = 0, bits = 4", &[15], "null"),
+    ("kind = 'number', at = 0, bits = 4", &[14], "null"),
+    ("kind = 'number', at = 0, bits = 4", &[13], "13"),
+    (
+        "kind = 'number', at = 0, bits = 4, signed = true",
+        &[7],
+        "null",
+    ),
+    (
+        "kind = 'number', at = 0, bits = 4, signed = true",
+        &[6],
+        "null",
+    ),
+    (
+        "kind = 'number', at = 0, bits = 4, signed = true",
+        &[15],
+        "-1",
+    ),
+    // a match is the raw value, also of a signed field, and is printed like any other
+    (
+        "kind = 'number', at = 0, bits = 8, match = 255, signed = true",
+        &[255],
+        "-1",
+    ),
+    (
+        "kind = 'number', at = 0, bits = 8, match = 255",
+        &[255],
+        "null",
+    ),
+    // names, asked before a greatest value is absent
+    (
+        "kind = 'lookup', at = 0, bits = 2, lookup = 'L'",
+        &[3],
+        "\"Three\"",
+    ),
+    (
+        "kind = 'lookup', at = 0, bits = 2, lookup = 'L'",
+        &[0],
+        "\"z\u{e9}ro \\\"0\\\"\"",
+    ),
+    ("kind = 'lookup', at = 0, bits = 2, lookup = 'L'", &[2], "2"),
+    ("kind = 'lookup', at = 0, bits = 1, lookup = 'L'", &[1], "1"),
+    (
+        "kind = 'lookup', at = 0, bits = 4, lookup = 'L'",
+        &[14],
+        "14",
+    ),
+    (
+        "kind = 'lookup', at = 0, bits = 4, lookup = 'L'",
+        &[15],
+        "null",
+    ),
+    (
+        "kind = 'lookup', at = 8, bits = 4, lookup = 'L'",
+        &[0],
+        "null",
+    ),
+    // texts: what fills them up is cut, each byte is the character of its number
+    (
+        "kind = 'text', at = 8, bits = 32",
+        &[1, 65, 64, 32, 0],
+        "\"A\"",
+    ),
+    (
+        "kind = 'text', at = 0, bits = 32",
+        &[64, 65, 255, 66],
+        "\"@A\u{ff}B\"",
+    ),
+    ("kind = 'text', at = 0, bits = 16", &[0, 255], "null"),
+    (
+        "kind = 'text', at = 0, bits = 40",
+        &[10, 34, 92, 1, 127],
+        "\"\\n\\\"\\\\\\u0001\u{7f}\"",
+    ),
+    (
+        "kind = 'text', at = 0, bits = 16",
+        &[0xe9, 0x9f],
+        "\"\u{e9}\u{9f}\"",
+    ),
+    ("kind = 'text', at = 0, bits = 24", &[65, 66], "null"),
+    // bytes as they are
+    (
+        "kind = 'bytes', at = 8, bits = 24",
+        &[1, 0xff, 0x0a, 0],
+        "\"FF 0A 00\"",
+    ),
+    ("kind = 'bytes', at = 0, bits = 8", &[0xff, 1], "\"FF\""),
+    ("kind = 'bytes', at = 0, bits = 16", &[1], "null"),
+];
+
+// A table of this one field.
+fn with_field(alloc: Global, field: &str) -> Result<ManuallyDrop<Table>, Fail> {
+    let fields = format!(in alloc; "{{ name = 'F \"', {field} }}")?;
+    let text = with_fields(alloc, &fields)?;
+    Ok(read(alloc, &text)?)
+}
+
+fn field_shows<R: Abort + AllocGlobal>(
+    rt: &R,
+    field: &str,
+    data: &[u8],
+    value: &str,
+) -> Result<(), Fail> {
+    let table = with_field(rt.alloc(), field)?;
+    let line = printed(rt.alloc(), &table, 65280, data, true)?;
+    let wanted = format!(in rt.alloc(); "\"D\",\"fields\":{{\"F \\\"\":{value}}}")?;
+    assert_eq!(rt; line.as_str(), wanted.as_str(), "{field}");
+    Ok(())
+}
+
+#[test]
+fn single_fields(rt: HostRuntime) -> Result<(), Fail> {
+    for (field, data, value) in &SHOWN {
+        field_shows(&rt, field, data, value)?;
+    }
+    Ok(())
+}
+
+fn next_is<R: Abort>(
+    rt: &R,
+    fields: &mut Fields<'_>,
+    name: &str,
+    shown: Shown<'_>,
+) -> Result<(), Fail> {
+    let field = fields.next().ok_or("a field")?;
+    assert_eq!(rt; field.0, name);
+    assert_eq!(rt; field.1, shown, "{name}");
+    Ok(())
+}
+
+#[test]
+fn each_field_is_shown(rt: HostRuntime) -> Result<(), Fail> {
+    let table = sample(rt.alloc())?;
+    let data = [
+        0xa3, 0x99, 0xff, 0x41, 0x20, 0x20, 0x20, 0x20, 0x20, 0x20, 0x20,
+    ];
+    let definition = table.choose(130820, &data).ok_or("a definition")?;
+    let mut fields = definition.fields(&data);
+    let maker = Shown::Number {
+        value: 419,
+        decimals: 0,
+    };
+    next_is(&rt, &mut fields, "Maker", maker)?;
+    next_is(&rt, &mut fields, "Kind", Shown::Absent)?;
+    next_is(&rt, &mut fields, "Label", Shown::Text(b"A"))?;
+    assert!(rt; fields.next().is_none());
+    assert!(rt; fields.next().is_none());
+    Ok(())
+}
+
+// Of the second pair, the number: a set's fields are shown in the set's own bytes.
+#[test]
+fn each_set_is_shown(rt: HostRuntime) -> Result<(), Fail> {
+    let table = pairs_table(rt.alloc())?;
+    let data = [0x01, 0x0a, 0x64, 0x00, 0x0b, 0x9c, 0xff, 0x0c, 0x00];
+    let definition = table.choose(130822, &data).ok_or("a definition")?;
+    let mut sets = definition.repeat(&data).ok_or("sets")?;
+    assert!(rt; sets.next().is_some());
+    let mut second = sets.next().ok_or("a second set")?;
+    let id = Shown::Number {
+        value: 11,
+        decimals: 0,
+    };
+    let value = Shown::Number {
+        value: -100,
+        decimals: 1,
+    };
+    next_is(&rt, &mut second, "Id", id)?;
+    next_is(&rt, &mut second, "Value", value)?;
+    assert!(rt; second.next().is_none());
+    assert!(rt; sets.next().is_none());
+    assert!(rt; sets.next().is_none());
+    let cog = table.choose(129026, &data).ok_or("another")?;
+    assert!(rt; cog.repeat(&data).is_none());
+    Ok(())
+}

@@ -1,0 +1,4 @@
+//! Tests of n2k_wire.
+
+mod lines;
+mod texts;

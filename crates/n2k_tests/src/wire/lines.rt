@@ -1,0 +1,425 @@
+//! Lines of a log, each at its first and its last byte.
+use n2k_wire::{
+    BadCause, Entry, LONGEST_LINE, LineReader, Packet, Packing, plain_text, read_line, split_id,
+};
+use std::alloc::Global;
+use std::process::Abort;
+use std::test::Fail;
+
+// A packet's plain text behind a word.
+fn text_behind(alloc: Global, word: &str, packet: &Packet) -> Result<String, Fail> {
+    let mut text = word.as_bytes().to_vec(alloc)?;
+    plain_text(alloc, packet, &mut text)?;
+    Ok(String::from_utf8(text)?)
+}
+
+// An entry: its plain text, with `whole` in front where it is no frame; the cause it is bad for; or `skipped`.
+fn text_of(alloc: Global, entry: &Entry) -> Result<String, Fail> {
+    match entry {
+        Entry::Skip => Ok("skipped".to_string(alloc)?),
+        Entry::Bad(cause) => Ok(format!(in alloc; "{cause:?}")?),
+        Entry::Frame(packet) => text_behind(alloc, "", packet),
+        Entry::Whole(packet) => text_behind(alloc, "whole ", packet),
+    }
+}
+
+// A line is read as the case says.
+fn reads<R: Abort + AllocGlobal>(
+    rt: &R,
+    line: &str,
+    packing: Packing,
+    wanted: &str,
+) -> Result<(), Fail> {
+    let text = text_of(rt.alloc(), &read_line(line.as_bytes(), packing))?;
+    assert_eq!(rt; text.as_str(), wanted, "of {line}");
+    Ok(())
+}
+
+// A candump line, and what it is read as.
+const CANDUMP_LINES: [(&str, &str); 22] = [
+    // cog-and-sog, unknown-pgn
+    (
+        "(1502979132.106111) can0 09F8027F#00FCFFFF0000FFFF",
+        "2017-08-17T14:12:12.106Z,2,129026,127,255,8,00,fc,ff,ff,00,00,ff,ff\n",
+    ),
+    (
+        "(1.0) can0 18EAFF01#14F001",
+        "1970-01-01T00:00:01.000Z,6,59904,1,255,3,14,f0,01\n",
+    ),
+    // candump-forms
+    (
+        "(1.0)  can0  09f8027f#00fcffff0000ffff R",
+        "1970-01-01T00:00:01.000Z,2,129026,127,255,8,00,fc,ff,ff,00,00,ff,ff\n",
+    ),
+    (
+        "(1.0) can0 09F8027F#00FCFFFF0000FFFF_9",
+        "1970-01-01T00:00:01.000Z,2,129026,127,255,8,00,fc,ff,ff,00,00,ff,ff\n",
+    ),
+    ("(1.0) can0 123#00", "skipped"),
+    ("(1.0) can0 09F8027F#R8", "skipped"),
+    ("(1.0) can0 09F8027F##100", "skipped"),
+    ("(1.0) can0 20000080#0000000000000000", "skipped"),
+    ("# note", "skipped"),
+    ("", "skipped"),
+    (
+        "(253402300799.999999999) can0 18EAFF01#",
+        "9999-12-31T23:59:59.999Z,6,59904,1,255,0\n",
+    ),
+    ("(253402300800.0) can0 18EAFF01#", "Stamp"),
+    // ten-lines-eight-bad, and a line cut in its data
+    ("(10.1) can0 1DFF0405#010", "Data"),
+    ("(10.2) can0 40000000#00", "Identifier"),
+    (
+        "(10.3) can0 1DFF0405#",
+        "1970-01-01T00:00:10.300Z,7,130820,5,255,0\n",
+    ),
+    ("(10) can0 1DFF0405#00", "Stamp"),
+    // a destination: two-sources' PGN has none, an ISO request has one
+    (
+        "(1.0) can0 18EA2301#14F001",
+        "1970-01-01T00:00:01.000Z,6,59904,1,35,3,14,f0,01\n",
+    ),
+    // skipped whatever follows the `#`
+    ("(1.0) can0 7ff#zz", "skipped"),
+    ("(1.0) can0 3FFFFFFF#x", "skipped"),
+    ("(1.0) can0 1FFFFFFF#r", "skipped"),
+    (
+        "(1.0) can0 1FFFFFFF#00 x",
+        "1970-01-01T00:00:01.000Z,7,262143,255,255,1,00\n",
+    ),
+    (
+        "(1.0) can0 00000000#",
+        "1970-01-01T00:00:01.000Z,0,0,0,0,0\n",
+    ),
+];
+
+#[test]
+fn candump_lines(rt: HostRuntime) -> Result<(), Fail> {
+    for (line, wanted) in &CANDUMP_LINES {
+        reads(&rt, line, Packing::Frames, wanted)?;
+    }
+    Ok(())
+}
+
+// A candump line, and the cause for which it is bad.
+const BAD_CANDUMP_LINES: [(&str, &str); 42] = [
+    // the stamp, from its first byte to its last
+    ("(", "Stamp"),
+    ("()", "Stamp"),
+    ("(.0) can0 123#", "Stamp"),
+    ("(1.) can0 123#", "Stamp"),
+    ("(1.0 can0 123#", "Stamp"),
+    ("( 1.0) can0 123#", "Stamp"),
+    ("(1.0123456789) can0 123#", "Stamp"),
+    ("(0000000000001.0) can0 123#", "Stamp"),
+    ("(1.0.0) can0 123#", "Stamp"),
+    ("(-1.0) can0 123#", "Stamp"),
+    ("(1.0)) can0 123#", "Form"),
+    // what follows it
+    ("(1.0)", "Form"),
+    ("(1.0) ", "Form"),
+    ("(1.0)can0 123#", "Form"),
+    ("(1.0)\tcan0 123#", "Form"),
+    ("(1.0) can0", "Form"),
+    ("(1.0) can0 ", "Form"),
+    ("(1.0) can0 123", "Form"),
+    ("(1.0) can0#123 45", "Form"),
+    ("(1.0) abcdefghijklmnop 123#", "Form"),
+    ("(1.0) ca\tn0 123#", "Form"),
+    ("(1.0) abcdefghijklmno 123#", "skipped"),
+    // the identifier
+    ("(1.0) can0 #00", "Identifier"),
+    ("(1.0) can0 12#00", "Identifier"),
+    ("(1.0) can0 12g#00", "Identifier"),
+    ("(1.0) can0 1234#00", "Identifier"),
+    ("(1.0) can0 123456789#00", "Identifier"),
+    ("(1.0) can0 G2345678#00", "Identifier"),
+    ("(1.0) can0 1234567G#00", "Identifier"),
+    ("(1.0) can0 FFFFFFFF#00", "Identifier"),
+    ("(1.0) can0 \t123#00", "Identifier"),
+    // the data, from their first byte to their last
+    ("(1.0) can0 09F8027F#g0", "Data"),
+    ("(1.0) can0 09F8027F#00112233445566778", "Data"),
+    ("(1.0) can0 09F8027F#001122334455667788", "Data"),
+    ("(1.0) can0 09F8027F#001122334455667g", "Data"),
+    ("(1.0) can0 09F8027F#0011223344556677_", "Data"),
+    ("(1.0) can0 09F8027F#0011223344556677_g", "Data"),
+    ("(1.0) can0 09F8027F#0011223344556677_9x", "Data"),
+    ("(1.0) can0 09F8027F#00.11", "Data"),
+    // of two causes the first row counts
+    ("(x) can0", "Stamp"),
+    ("(1.0) can0 12", "Form"),
+    ("(1.0) can0 12#g", "Identifier"),
+];
+
+#[test]
+fn bad_candump_lines(rt: HostRuntime) -> Result<(), Fail> {
+    for (line, wanted) in &BAD_CANDUMP_LINES {
+        reads(&rt, line, Packing::Frames, wanted)?;
+    }
+    Ok(())
+}
+
+// A plain line, and what it is read as.
+const PLAIN_LINES: [(&str, &str); 37] = [
+    // rate-of-turn, and the two of ten-lines-eight-bad
+    (
+        "2011-11-24-22:42:04.388,2,127251,36,255,8,7d,0b,7d,02,00,ff,ff,ff",
+        "2011-11-24-22:42:04.388,2,127251,36,255,8,7d,0b,7d,02,00,ff,ff,ff\n",
+    ),
+    ("2011-11-24-22:42:04.388,2,127251,36,255,3,7d,0b", "Data"),
+    ("x,8,127251,36,255,0", "Number"),
+    ("hello", "Form"),
+    // zeros in front, upper case, the limits
+    (
+        "x,0007,0016777215,000,255,1,AB",
+        "x,7,16777215,0,255,1,ab\n",
+    ),
+    (
+        "12345678901234567890123456789012,0,0,0,0,0",
+        "12345678901234567890123456789012,0,0,0,0,0\n",
+    ),
+    (" ~,0,0,0,0,0", " ~,0,0,0,0,0\n"),
+    // whole-among-frames: more bytes than a frame holds
+    (
+        "2020-01-01T00:00:00.000Z,7,130820,5,255,9,07,98,01,41,42,43,44,45,46",
+        "whole 2020-01-01T00:00:00.000Z,7,130820,5,255,9,07,98,01,41,42,43,44,45,46\n",
+    ),
+    // the stamp
+    ("123456789012345678901234567890123,0,0,0,0,0", "Stamp"),
+    (",0,0,0,0,0", "Stamp"),
+    ("a\tb,0,0,0,0,0", "Stamp"),
+    ("é,0,0,0,0,0", "Stamp"),
+    // the form
+    ("x", "Form"),
+    ("x,0,0,0,0", "Form"),
+    // the numbers
+    ("x,,0,0,0,0", "Number"),
+    ("x,8,0,0,0,0", "Number"),
+    ("x,0,16777216,0,0,0", "Number"),
+    ("x,0,0,256,0,0", "Number"),
+    ("x,0,0,0,256,0", "Number"),
+    ("x,0,0,0,0,224", "Number"),
+    ("x,00000000001,0,0,0,0", "Number"),
+    ("x,0,0,0,0,-0", "Number"),
+    ("x,0,0,0,0, 0", "Number"),
+    // the data
+    ("x,0,0,0,0,0,", "Data"),
+    ("x,0,0,0,0,0,00", "Data"),
+    ("x,0,0,0,0,1", "Data"),
+    ("x,0,0,0,0,1,0", "Data"),
+    ("x,0,0,0,0,1,000", "Data"),
+    ("x,0,0,0,0,1,0g", "Data"),
+    ("x,0,0,0,0,1,g0", "Data"),
+    ("x,0,0,0,0,2,00,0", "Data"),
+    ("x,0,0,0,0,1,00,", "Data"),
+    ("x,0,0,0,0,223,00", "Data"),
+    // of two causes the first row counts
+    ("(x,9,0,0,0", "Stamp"),
+    ("\u{7f},9", "Stamp"),
+    ("x,9,0,0,0", "Form"),
+    ("x,9,0,0,0,1", "Number"),
+];
+
+#[test]
+fn plain_lines(rt: HostRuntime) -> Result<(), Fail> {
+    for (line, wanted) in &PLAIN_LINES {
+        reads(&rt, line, Packing::Frames, wanted)?;
+    }
+    Ok(())
+}
+
+// Lines, and what one reader reads them as: each comes after the second and the entry of the one before.
+const IN_A_ROW: [(&str, &str); 21] = [
+    (
+        "(1502979132.106111) can0 09F8027F#00FCFFFF0000FFFF",
+        "2017-08-17T14:12:12.106Z,2,129026,127,255,8,00,fc,ff,ff,00,00,ff,ff\n",
+    ),
+    (
+        "(1502979132.999999) vcan12345678901 18EA2301#14f0010203040506",
+        "2017-08-17T14:12:12.999Z,6,59904,1,35,8,14,f0,01,02,03,04,05,06\n",
+    ),
+    (
+        "(1503014399.000000) c 1FFFFFFF#FFFFFFFFFFFFFFFF",
+        "2017-08-17T23:59:59.000Z,7,262143,255,255,8,ff,ff,ff,ff,ff,ff,ff,ff\n",
+    ),
+    (
+        "(1503014400.010000) can0 00000000#0000000000000000",
+        "2017-08-18T00:00:00.010Z,0,0,0,0,8,00,00,00,00,00,00,00,00\n",
+    ),
+    // a second before the last
+    (
+        "(1502979132.000999) can0 18EAFF01#14F0010203040506",
+        "2017-08-17T14:12:12.000Z,6,59904,1,255,8,14,f0,01,02,03,04,05,06\n",
+    ),
+    // of another form, and what comes after them
+    ("# note", "skipped"),
+    (
+        "(1502979132.5) can0 18EAFF01#14F001",
+        "2017-08-17T14:12:12.500Z,6,59904,1,255,3,14,f0,01\n",
+    ),
+    (
+        "0,6,59904,1,255,9,00,01,02,03,04,05,06,07,08",
+        "whole 0,6,59904,1,255,9,00,01,02,03,04,05,06,07,08\n",
+    ),
+    (
+        "(1502979132.106111) can0 09F8027F#00FCFFFF0000FFFF",
+        "2017-08-17T14:12:12.106Z,2,129026,127,255,8,00,fc,ff,ff,00,00,ff,ff\n",
+    ),
+    // one byte off
+    (
+        "(150297913x.106111) can0 09F8027F#00FCFFFF0000FFFF",
+        "Stamp",
+    ),
+    (
+        "(1502979132,106111) can0 09F8027F#00FCFFFF0000FFFF",
+        "Stamp",
+    ),
+    (
+        "(1502979132.10611:) can0 09F8027F#00FCFFFF0000FFFF",
+        "Stamp",
+    ),
+    (
+        "(1502979132.106111] can0 09F8027F#00FCFFFF0000FFFF",
+        "Stamp",
+    ),
+    ("(1502979132.106111)_can0 09F8027F#00FCFFFF0000FFFF", "Form"),
+    (
+        "(1502979132.106111) abcdefghijklmnop 09F8027F#00FCFFFF0000FFFF",
+        "Form",
+    ),
+    (
+        "(1502979132.106111) can0 09F8027G#00FCFFFF0000FFFF",
+        "Identifier",
+    ),
+    (
+        "(1502979132.106111) can0 40000000#00FCFFFF0000FFFF",
+        "Identifier",
+    ),
+    (
+        "(1502979132.106111) can0 20000000#00FCFFFF0000FFFF",
+        "skipped",
+    ),
+    ("(1502979132.106111) can0 09F8027F#00FCFFFF0000FFF@", "Data"),
+    (
+        "(1502979132.106111) can0 09F8027F#R0FCFFFF0000FFFF",
+        "skipped",
+    ),
+    (
+        "(1502979132.106111)  can0 09F8027F#00FCFFFF0000FFFF",
+        "2017-08-17T14:12:12.106Z,2,129026,127,255,8,00,fc,ff,ff,00,00,ff,ff\n",
+    ),
+];
+
+fn reads_next<R: Abort + AllocGlobal>(
+    rt: &R,
+    reader: &mut LineReader,
+    line: &str,
+    wanted: &str,
+) -> Result<(), Fail> {
+    let entry = reader.read(line.as_bytes(), Packing::Frames);
+    let text = text_of(rt.alloc(), entry)?;
+    assert_eq!(rt; text.as_str(), wanted, "of {line}");
+    Ok(())
+}
+
+#[test]
+fn lines_in_a_row(rt: HostRuntime) -> Result<(), Fail> {
+    let mut reader = LineReader::new();
+    for (line, wanted) in &IN_A_ROW {
+        reads_next(&rt, &mut reader, line, wanted)?;
+    }
+    Ok(())
+}
+
+// A line whose data are whole messages, and what it is read as.
+const WHOLE_LINES: [(&str, &str); 4] = [
+    // whole-among-frames, and a candump line, which is a frame always
+    (
+        "2020-01-01T00:00:00.000Z,7,130820,5,255,6,a3,99,01,41,42,43",
+        "whole 2020-01-01T00:00:00.000Z,7,130820,5,255,6,a3,99,01,41,42,43\n",
+    ),
+    ("x,0,0,0,0,0", "whole x,0,0,0,0,0\n"),
+    ("x,0,0,0,0,224", "Number"),
+    (
+        "(1.0) can0 18EAFF01#14F001",
+        "1970-01-01T00:00:01.000Z,6,59904,1,255,3,14,f0,01\n",
+    ),
+];
+
+#[test]
+fn whole_lines(rt: HostRuntime) -> Result<(), Fail> {
+    for (line, wanted) in &WHOLE_LINES {
+        reads(&rt, line, Packing::Whole, wanted)?;
+    }
+    Ok(())
+}
+
+#[test]
+fn the_longest_message(rt: HostRuntime) -> Result<(), Fail> {
+    let packet = Packet::new(b"x", split_id(0), &[0xab; 223]).ok_or("refused")?;
+    let text = text_behind(rt.alloc(), "", &packet)?;
+    let line = text.strip_suffix("\n").ok_or("no line")?;
+    let wanted = text_behind(rt.alloc(), "whole ", &packet)?;
+    reads(&rt, line, Packing::Frames, &wanted)
+}
+
+// Lines of so many bytes, and what they are read as.
+const LONG_LINES: [(u8, usize, &str); 6] = [
+    (b'x', LONGEST_LINE, "Stamp"),
+    (b'x', LONGEST_LINE + 1, "Long"),
+    (b'#', LONGEST_LINE, "skipped"),
+    (b'#', LONGEST_LINE + 1, "Long"),
+    (b'(', LONGEST_LINE, "Stamp"),
+    (b'(', LONGEST_LINE + 1, "Long"),
+];
+
+fn long_reads<R: Abort + AllocGlobal>(
+    rt: &R,
+    byte: u8,
+    len: usize,
+    wanted: &str,
+) -> Result<(), Fail> {
+    let line = vec![in rt.alloc(); byte; len]?;
+    let text = text_of(rt.alloc(), &read_line(&line, Packing::Frames))?;
+    assert_eq!(rt; text.as_str(), wanted, "{len} of {byte}");
+    Ok(())
+}
+
+#[test]
+fn long_lines(rt: HostRuntime) -> Result<(), Fail> {
+    for (byte, len, wanted) in &LONG_LINES {
+        long_reads(&rt, *byte, *len, wanted)?;
+    }
+    Ok(())
+}
+
+// A candump stamp, and its text by Python's datetime.
+const CALENDAR: [(&str, &str); 12] = [
+    ("0.0", "1970-01-01T00:00:00.000Z"),
+    ("31535999.9", "1970-12-31T23:59:59.900Z"),
+    ("31536000.09", "1971-01-01T00:00:00.090Z"),
+    ("68255999.0099", "1972-02-29T23:59:59.009Z"),
+    ("68256000.0009", "1972-03-01T00:00:00.000Z"),
+    ("951782399.999", "2000-02-28T23:59:59.999Z"),
+    ("951782400.9999", "2000-02-29T00:00:00.999Z"),
+    ("951868800.5", "2000-03-01T00:00:00.500Z"),
+    ("1709251199.120", "2024-02-29T23:59:59.120Z"),
+    ("2147483648.12", "2038-01-19T03:14:08.120Z"),
+    ("4107542399.123456789", "2100-02-28T23:59:59.123Z"),
+    ("4107542400.1", "2100-03-01T00:00:00.100Z"),
+];
+
+fn stamp_reads<R: Abort + AllocGlobal>(rt: &R, stamp: &str, wanted: &str) -> Result<(), Fail> {
+    let line = format!(in rt.alloc(); "({stamp}) can0 00000000#")?;
+    let text = format!(in rt.alloc(); "{wanted},0,0,0,0,0\n")?;
+    reads(rt, &line, Packing::Frames, &text)
+}
+
+#[test]
+fn calendar(rt: HostRuntime) -> Result<(), Fail> {
+    for (stamp, wanted) in &CALENDAR {
+        stamp_reads(&rt, stamp, wanted)?;
+    }
+    Ok(())
+}

@@ -1,0 +1,120 @@
+//! Texts of packets, packets, and identifiers.
+use n2k_wire::{
+    Entry, Id, Packet, Packing, candump_text, is_interface, join_id, read_line, split_id,
+};
+use std::alloc::Global;
+use std::process::Abort;
+use std::test::Fail;
+
+// A packet's line as candump writes it at an interface.
+fn push_candump(
+    alloc: Global,
+    packet: &Packet,
+    interface: &str,
+    text: &mut Vec<u8>,
+) -> Result<(), Fail> {
+    if packet.data().len() > 8 || !is_interface(interface.as_bytes()) {
+        return Err("no frame at an interface".into());
+    }
+    if let Err(fault) = candump_text(alloc, packet, interface, text) {
+        let told = format!(in alloc; "{fault:?}")?;
+        text.extend_from_slice(told.as_bytes())?;
+    }
+    Ok(())
+}
+
+// The candump line of a plain line's frame, or the fault's name.
+fn replays<R: Abort + AllocGlobal>(rt: &R, line: &str, wanted: &str) -> Result<(), Fail> {
+    let Entry::Frame(packet) = read_line(line.as_bytes(), Packing::Frames) else {
+        return Err("no frame".into());
+    };
+    let mut text = Vec::new(rt.alloc());
+    push_candump(rt.alloc(), &packet, "can0", &mut text)?;
+    assert_eq!(rt; text.as_slice(), wanted.as_bytes(), "of {line}");
+    Ok(())
+}
+
+// A plain line, and what is made of it: a candump line, or a fault.
+const CANDUMP_TEXTS: [(&str, &str); 21] = [
+    // split-and-back, cog-and-sog, the last moment, and a leap day by Python's datetime
+    (
+        "1970-01-01T00:00:10.300Z,7,130820,5,255,8,00,0b,a3,99,01,41,42,43",
+        "(0000000010.300000) can0 1DFF0405#000BA39901414243\n",
+    ),
+    (
+        "2017-08-17T14:12:12.106Z,2,129026,127,255,8,00,fc,ff,ff,00,00,ff,ff",
+        "(1502979132.106000) can0 09F8027F#00FCFFFF0000FFFF\n",
+    ),
+    (
+        "9999-12-31T23:59:59.999Z,6,59904,1,35,0",
+        "(253402300799.999000) can0 18EA2301#\n",
+    ),
+    (
+        "2024-02-29T23:59:59.120Z,0,0,0,0,1,ab",
+        "(1709251199.120000) can0 00000000#AB\n",
+    ),
+    // no such stamp
+    ("2011-11-24-22:42:04.388,2,127251,36,255,1,7d", "NoStamp"),
+    ("1969-12-31T23:59:59.999Z,0,0,0,0,0", "NoStamp"),
+    ("2023-02-29T00:00:00.000Z,0,0,0,0,0", "NoStamp"),
+    ("2023-04-31T00:00:00.000Z,0,0,0,0,0", "NoStamp"),
+    ("2023-00-10T00:00:00.000Z,0,0,0,0,0", "NoStamp"),
+    ("2023-13-10T00:00:00.000Z,0,0,0,0,0", "NoStamp"),
+    ("2023-12-00T00:00:00.000Z,0,0,0,0,0", "NoStamp"),
+    ("2023-12-10T24:00:00.000Z,0,0,0,0,0", "NoStamp"),
+    ("2023-12-10T23:60:00.000Z,0,0,0,0,0", "NoStamp"),
+    ("2023-12-10T23:59:60.000Z,0,0,0,0,0", "NoStamp"),
+    ("2023-12-10T23:59:59.000z,0,0,0,0,0", "NoStamp"),
+    ("2023-12-10T23:59:59.0000,0,0,0,0,0", "NoStamp"),
+    ("2023-12-10T23:59:5+.000Z,0,0,0,0,0", "NoStamp"),
+    // no such identifier, and both
+    ("1970-01-01T00:00:10.300Z,7,130820,5,9,0", "NoId"),
+    ("1970-01-01T00:00:10.300Z,6,59905,1,255,0", "NoId"),
+    ("1970-01-01T00:00:10.300Z,6,262144,1,255,0", "NoId"),
+    ("x,7,130820,5,9,0", "NoStamp"),
+];
+
+#[test]
+fn candump_texts(rt: HostRuntime) -> Result<(), Fail> {
+    for (line, wanted) in &CANDUMP_TEXTS {
+        replays(&rt, line, wanted)?;
+    }
+    Ok(())
+}
+
+#[test]
+fn identifiers(rt: HostRuntime) {
+    let id = split_id(0x09f8_027f);
+    assert_eq!(rt; id.pgn, 129_026);
+    assert_eq!(rt; join_id(&id), Some(0x09f8_027f));
+}
+
+const ID: Id = Id {
+    prio: 7,
+    pgn: 16_777_215,
+    src: 255,
+    dst: 0,
+};
+
+#[test]
+fn the_longest_packet(rt: HostRuntime) -> Result<(), Fail> {
+    let longest = [0xab; 223];
+    let packet = Packet::new(b"now", ID, &longest).ok_or("refused")?;
+    assert_eq!(rt; packet.stamp(), b"now".as_slice());
+    assert_eq!(rt; packet.id(), ID);
+    assert_eq!(rt; packet.data(), longest.as_slice());
+    Ok(())
+}
+
+#[test]
+fn packets_that_are_none(rt: HostRuntime) {
+    assert!(rt; Packet::new(b"now", ID, &[0; 224]).is_none());
+    assert!(rt; Packet::new(b"", ID, &[]).is_none());
+    assert!(rt; Packet::new(b"#", ID, &[]).is_none());
+    assert!(rt; Packet::new(b"now", Id { prio: 8, ..ID }, &[]).is_none());
+    let wide = Id {
+        pgn: 16_777_216,
+        ..ID
+    };
+    assert!(rt; Packet::new(b"now", wide, &[]).is_none());
+}
