@@ -1,5 +1,8 @@
 -- Raw values, from the top bit down.
-use Rattle.std.proofs.Common.{◌≡◌, ℕ, zero, suc, ◌+◌, ◌-◌, ◌*◌, ◌/◌, ◌%◌, ◌^◌, ◌<◌, ◌≤◌, Bool, true, false, List, slice_index, ap, arith}
+use Rattle.std.proofs.Common.{◌≡◌, ℕ, zero, suc, ◌+◌, ◌-◌, ◌*◌, ◌/◌, ◌%◌, ◌^◌, ◌<◌, ◌≤◌, Bool, true, false, List, slice_index, take, drop, refl, sym, ap, ◌∙◌, arith, lit<}
+use Rattle.std.specs.Int.{w64, from_le_bytes}
+use Rattle.std.proofs.lemmas.List.{get_or-take, get_or-drop}
+use Rattle.std.proofs.lemmas.Nat.{pow-add, shr_high, mod_low}
 use Rattle.std.proofs.Math.Nat.{pow-suc, mul-le-mul_left, pow-le-pow_right}
 use Rattle.n2k_table.specs.Bits.{bit, raw, greatest}
 
@@ -94,3 +97,57 @@ pow_le m n le = pow-le-pow_right (omega arith) le
 pub greatest_some : (signed : Bool) (n : ℕ) → 4 ≤ n → 1 ≤ greatest signed n
 greatest_some true n le = omega (arith, pow_le 3 (n - 1) (omega arith))
 greatest_some false n le = omega (arith, pow_le 4 n le)
+
+-- bits in two parts, those above and those below
+pub raw_split : (d : List ℕ) (a s n : ℕ) → raw d a (s + n) ≡ raw d (a + s) n * 2 ^ s + raw d a s
+unfolding raw
+raw_split d a s zero =
+    let none : s + 0 ≡ s = omega arith in
+    omega (arith, ap (raw d a) none)
+raw_split d a s (suc n) =
+    let more : s + suc n ≡ suc (s + n) = omega arith in
+    let place : a + (s + n) ≡ a + s + n = omega arith in
+    let top : bit d (a + (s + n)) * 2 ^ (s + n) ≡ bit d (a + s + n) * 2 ^ n * 2 ^ s = rw (place, pow-add 2 s n) (grind arith) in
+    let spread : (raw d (a + s) n + bit d (a + s + n) * 2 ^ n) * 2 ^ s ≡ raw d (a + s) n * 2 ^ s + bit d (a + s + n) * 2 ^ n * 2 ^ s = grind arith in
+    rw more (omega (arith, raw_split d a s n, top, spread))
+
+-- bits out of more, by a shift and a remainder
+pub raw_out_of : (d : List ℕ) (p s n whole : ℕ) → s + n ≤ whole → raw d p whole / 2 ^ s % 2 ^ n ≡ raw d (p + s) n
+raw_out_of d p s n whole within =
+    let m = whole - (s + n) in
+    let count : whole ≡ s + (n + m) = omega arith in
+    let low = raw d p s in
+    let here = raw d (p + s) n in
+    let high = raw d (p + s + n) m in
+    let parts : raw d p whole ≡ (high * 2 ^ n + here) * 2 ^ s + low =
+    ap (raw d p) count ∙ raw_split d p s (n + m) ∙ ap (λ r. r * 2 ^ s + low) (raw_split d (p + s) n m) in
+    ap (λ r. r / 2 ^ s % 2 ^ n) parts ∙ ap (λ r. r % 2 ^ n) (shr_high (high * 2 ^ n + here) s low (raw_lt d p s)) ∙ mod_low high n here (raw_lt d (p + s) n)
+
+-- a byte at whose first bit p lies, and the bits above it
+next_byte : (d : List ℕ) (f k m : ℕ) → slice_index d (f + k) < 256 → raw d (8 * f + 8 * k) (m + 8) ≡ slice_index d (f + k) + 256 * raw d (8 * f + 8 * (k + 1)) m
+next_byte d f k m small =
+    let byte : (8 * f + 8 * k) / 8 ≡ f + k = omega arith in
+    let place : 8 * f + 8 * k + 8 ≡ 8 * f + 8 * (k + 1) = omega arith in
+    rw (byte, place) at (raw_byte d (8 * f + 8 * k) m (omega arith) (rw byte small))
+
+index_taken : (d : List ℕ) (f k : ℕ) → k < 8 → slice_index (take 8 (drop f d)) k ≡ slice_index d (f + k)
+index_taken d f k lt = get_or-take 8 (drop f d) k 0 lt ∙ get_or-drop f d k 0
+
+-- a number's eight bytes, each worth 256 times the one before
+worth : (a b c d e f g h : ℕ)
+    → a + b * 256 + c * 65536 + d * 16777216 + e * 4294967296 + f * 1099511627776 + g * 281474976710656 + h * 72057594037927936
+    ≡ a + 256 * (b + 256 * (c + 256 * (d + 256 * (e + 256 * (f + 256 * (g + 256 * (h + 256 * 0)))))))
+worth a b c d e f g h = omega arith
+
+-- eight bytes as one number
+pub raw_eight_bytes : (d eight : List ℕ) (f : ℕ) → ((k : ℕ) → slice_index d k < 256) → eight ≡ take 8 (drop f d) → from_le_bytes w64 eight ≡ raw d (8 * f) 64
+unfolding raw
+raw_eight_bytes d eight f small is =
+    let at = λ (k : ℕ) (lt : k < 8). ap (λ (bs : List ℕ). slice_index bs k) is ∙ index_taken d f k lt in
+    let b = λ (k : ℕ). slice_index d (f + k) in
+    let next = λ (k m : ℕ). next_byte d f k m (small (f + k)) in
+    let start : 8 * f ≡ 8 * f + 8 * 0 = omega arith in
+    rw (at 0 (lit< tt), at 1 (lit< tt), at 2 (lit< tt), at 3 (lit< tt), at 4 (lit< tt), at 5 (lit< tt), at 6 (lit< tt), at 7 (lit< tt))
+    (worth (b 0) (b 1) (b 2) (b 3) (b 4) (b 5) (b 6) (b 7)
+    ∙ sym (ap (λ p. raw d p 64) start ∙ next 0 56 ∙ ap (λ r. b 0 + 256 * r) (next 1 48 ∙ ap (λ r. b 1 + 256 * r) (next 2 40 ∙ ap (λ r. b 2 + 256 * r) (next 3 32
+    ∙ ap (λ r. b 3 + 256 * r) (next 4 24 ∙ ap (λ r. b 4 + 256 * r) (next 5 16 ∙ ap (λ r. b 5 + 256 * r) (next 6 8 ∙ ap (λ r. b 6 + 256 * r) (next 7 0)))))))))

@@ -1,6 +1,10 @@
-//! The bits of a message: raw values, unsigned and signed.
-ghost use Rattle.std.specs.Prelude.{◌≡◌, ◌+◌, ◌*◌, ◌-◌, ◌^◌, ◌<◌, ◌≤◌, length, unsigned_abs};
+//! The bits of a message: raw values, unsigned and signed. `raw_at_once` is a fast path; `raw_by_bits` reads any bits, and is
+//! the function to read first.
+ghost use Rattle.std.specs.Prelude.{◌≡◌, ◌+◌, ◌*◌, ◌-◌, ◌^◌, ◌<◌, ◌≤◌, length, unsigned_abs, IfSome};
 ghost use Rattle.n2k_table.specs.Bits.{bit, raw, signed_value, greatest};
+
+/// The most bits that lie in the eight bytes from the byte of their first bit on.
+const MOST_AT_ONCE: u32 = 56;
 
 // Bit `i` of the data: bit `i mod 8` of byte `i div 8`, the least significant first.
 fn bit(data: &[u8], i: usize) -> u8
@@ -11,9 +15,10 @@ fn bit(data: &[u8], i: usize) -> u8
     (data[i / 8] >> (i % 8)) % 2
 }
 
-/// The raw value of some bits, the sum of bit `at + j` times `2^j`. It is read from the top, by whole bytes
-/// where they lie wholly inside.
-pub(crate) fn raw(data: &[u8], at: u32, bits: u32) -> u64
+// The same bit by bit, of any bits, from the top; by whole bytes where they lie wholly inside. It is not inlined: few fields
+// are read so.
+#[inline(never)]
+fn raw_by_bits(data: &[u8], at: u32, bits: u32) -> u64
     requires within { at + bits ≤ 8 * length «data».now }
     requires room { bits ≤ 64 }
     ensures value { result ≡ raw «data».now at bits }
@@ -32,6 +37,36 @@ pub(crate) fn raw(data: &[u8], at: u32, bits: u32) -> u64
         }
     }
     value
+}
+
+// A fast path: the raw value of bits that lie in one number of eight bytes. It promises only what it answers.
+#[inline(always)]
+fn raw_at_once(data: &[u8], at: u32, bits: u32) -> Option<u64>
+    requires within { at + bits ≤ 8 * length «data».now }
+    ensures value { IfSome result (λ value. value ≡ raw «data».now at bits) }
+{
+    if bits == 0 || bits > MOST_AT_ONCE {
+        return None;
+    }
+    let last = data.len().checked_sub(8)?;
+    let from = last.min(at as usize / 8);
+    let eight = data[from..].first_chunk::<8>()?;
+    let shift = at as usize - 8 * from;
+    Some((u64::from_le_bytes(*eight) >> shift) % (1 << bits))
+}
+
+/// The raw value of some bits, the sum of bit `at + j` times `2^j`.
+#[inline(always)]
+pub(crate) fn raw(data: &[u8], at: u32, bits: u32) -> u64
+    requires within { at + bits ≤ 8 * length «data».now }
+    requires room { bits ≤ 64 }
+    ensures value { result ≡ raw «data».now at bits }
+    ensures range { result < 2 ^ bits }
+{
+    match raw_at_once(data, at, bits) {
+        Some(value) => value,
+        None => raw_by_bits(data, at, bits),
+    }
 }
 
 // Half of the values of some bits.

@@ -1,0 +1,27 @@
+use Rattle.std.proofs.Common.{◌≡◌, ◌+◌, ◌-◌, ◌*◌, ◌/◌, ◌%◌, ◌^◌, ◌<◌, ◌≤◌, length, drop, ap, ◌∙◌, arith}
+use Rattle.std.proofs.lemmas.List.{take-take}
+use Rattle.std.proofs.lemmas.Nat.{one_shl}
+use Rattle.n2k_table.specs.Bits.{raw}
+use Rattle.n2k_table.proofs.RawBits.{raw_eight_bytes, raw_out_of}
+use Rattle.n2k_table.proofs.bits.raw_at_once.Goals as goal
+
+pub overflow_shr-result : goal.overflow_shr-result
+overflow_shr-result c = omega (arith, c.min-from.ensures, c.in_ok-last.ensures, c.requires, c.if-bits-gt-MOST_AT_ONCE.false, c.if-bits-eq0.false)
+
+pub returns : goal.returns
+returns c =
+    let payload = c.args.«data».now in
+    let from = c.min-from.result in
+    let shift = c.args.at - 8 * from in
+    let few : shift + c.args.bits ≤ 64 = omega (arith, c.min-from.ensures, c.in_ok-last.ensures, c.requires, c.if-bits-gt-MOST_AT_ONCE.false, c.if-bits-eq0.false) in
+    let place : 8 * from + shift ≡ c.args.at = omega (arith, c.min-from.ensures) in
+    let power = one_shl c.args.bits 64 (omega (arith, c.if-bits-gt-MOST_AT_ONCE.false)) in
+    let inside : 8 ≤ length payload - from = omega (arith, c.min-from.ensures, c.in_ok-last.ensures) in
+    let eight = c.in_ok-eight.ensures.cases.same ∙ take-take 8 (length payload - from) (drop from payload) inside in
+    let word = c.from_le_bytes.ensures ∙ raw_eight_bytes payload c.in_ok-eight.eight.now from (λ k. (c.type_inv.«data» k).fits) eight in
+    record {
+      value = ap (λ n. c.from_le_bytes.result / 2 ^ shift % n) power
+          ∙ ap (λ n. n / 2 ^ shift % 2 ^ c.args.bits) word
+          ∙ raw_out_of payload (8 * from) shift c.args.bits 64 few
+          ∙ ap (λ p. raw payload p c.args.bits) place;
+    }
