@@ -40,29 +40,40 @@ fn append_plain(alloc: Global, frames: &[Packet], text: &mut Vec<u8>) -> Result<
     Ok(())
 }
 
-// Appends the lines that candump writes of frames: of all, or of none.
+// Appends the lines that candump writes of frames: of all, or of none. They are put together in `lines`, whose room is kept.
 fn append_candump(
     alloc: Global,
     frames: &[Packet],
     interface: &str,
+    lines: &mut Vec<u8>,
     text: &mut Vec<u8>,
 ) -> Result<(), WireFault>
     requires short { All (λ (frame : PacketParts). length frame.payload ≤ frame_payload) frames.now }
     requires interface { IsTrue (is_interface interface.now) }
     ensures { AppendsLines (candump_texts interface.now frames.now) result text.old.items text.new.items }
 {
-    let mut lines = Vec::new(alloc);
+    lines.clear();
     for frame in frames {
-        candump_text(alloc, frame, interface, &mut lines)?;
+        candump_text(alloc, frame, interface, lines)?;
     }
-    text.extend_from_slice(&lines)
-        .map_err(|_| WireFault::Memory)
+    match text.extend_from_slice(lines) {
+        Ok(()) => Ok(()),
+        Err(_) => Err(WireFault::Memory),
+    }
 }
 
-// What a run has sent so far.
+// Room for the frames of one message, and for their lines.
+#[derive(Drop)]
+struct Room {
+    frames: Vec<Packet>,
+    lines: Vec<u8>,
+}
+
+// What a run has sent so far, and the room that each message takes in turn.
 #[derive(Drop)]
 struct Sending {
     splitter: Splitter,
+    room: Room,
     counts: Counts,
 }
 
@@ -79,6 +90,7 @@ impl<'a> FrameLines<'a> {
         &self,
         alloc: Global,
         frames: &[Packet],
+        lines: &mut Vec<u8>,
         text: &mut Vec<u8>,
     ) -> Result<Outcome, AllocError>
         requires short { All (λ (frame : PacketParts). length frame.payload ≤ frame_payload) frames.now }
@@ -89,7 +101,7 @@ impl<'a> FrameLines<'a> {
             append_plain(alloc, frames, text)?;
             return Ok(Outcome::Written);
         };
-        match append_candump(alloc, frames, interface, text) {
+        match append_candump(alloc, frames, interface, lines, text) {
             Ok(()) => Ok(Outcome::Written),
             Err(WireFault::NoStamp) => Ok(Outcome::Bad(BadCause::Time)),
             Err(WireFault::NoId) => Ok(Outcome::Bad(BadCause::Address)),
@@ -102,15 +114,16 @@ impl<'a> FrameLines<'a> {
         &self,
         alloc: Global,
         splitter: &mut Splitter,
+        room: &mut Room,
         message: &Packet,
         text: &mut Vec<u8>,
     ) -> Result<Outcome, AllocError>
         requires { IsInterface (interface_of self.now.interface) }
         ensures { IfOk result (SentMessage (kind self.now.table.now) (interface_of self.now.interface) message.now (sequences splitter.old) (sequences splitter.new) text.old.items text.new.items) }
     {
-        let mut frames = Vec::new(alloc);
-        match splitter.message(self.table, message, &mut frames) {
-            Ok(_) => self.write(alloc, &frames, text),
+        room.frames.clear();
+        match splitter.message(self.table, message, &mut room.frames) {
+            Ok(_) => self.write(alloc, &room.frames, &mut room.lines, text),
             Err(SplitFault::Unknown) => Ok(Outcome::Bad(BadCause::Unknown)),
             Err(SplitFault::TooLong) => Ok(Outcome::Bad(BadCause::Size)),
             Err(SplitFault::Memory) => Err(AllocError),
@@ -122,6 +135,7 @@ impl<'a> FrameLines<'a> {
         &self,
         alloc: Global,
         splitter: &mut Splitter,
+        room: &mut Room,
         entry: &Entry,
         text: &mut Vec<u8>,
     ) -> Result<Outcome, AllocError>
@@ -132,7 +146,7 @@ impl<'a> FrameLines<'a> {
             Entry::Skip => Ok(Outcome::Skipped),
             Entry::Bad(cause) => Ok(Outcome::Bad(*cause)),
             Entry::Frame(_) => Ok(Outcome::Bad(BadCause::Frame)),
-            Entry::Whole(message) => self.send(alloc, splitter, message, text),
+            Entry::Whole(message) => self.send(alloc, splitter, room, message, text),
         }
     }
 }
@@ -165,7 +179,7 @@ impl<'a> Maker for FrameLines<'a> {
             return Err(RunFault::TooManyLines);
         }
         state.counts.lines += 1;
-        match self.outcome(alloc, &mut state.splitter, entry, text)? {
+        match self.outcome(alloc, &mut state.splitter, &mut state.room, entry, text)? {
             Outcome::Skipped => {}
             Outcome::Written => state.counts.messages += 1,
             Outcome::Bad(cause) => {
@@ -223,6 +237,10 @@ pub fn run_frames<R: Source, W: Sink, E: Sink>(
     let maker = FrameLines { table, interface };
     let mut state = Sending {
         splitter: Splitter::new(alloc),
+        room: Room {
+            frames: Vec::new(alloc),
+            lines: Vec::new(alloc),
+        },
         counts: Counts::NONE,
     };
     match run_entries(

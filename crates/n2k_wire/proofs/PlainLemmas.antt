@@ -9,7 +9,7 @@ use Rattle.n2k_wire.specs.Plain.{pair, pairs, bytes_of}
 abbrev pub with_front : List ℕ → Option (List ℕ) → Option (List ℕ)
 with_front front read = option_map (λ bytes. front ++ bytes) read
 
-regroup : (front byte : List ℕ) (read : Option (List ℕ)) → with_front front (option_map (λ bytes. byte ++ bytes) read) ≡ with_front (front ++ byte) read
+pub regroup : (front byte : List ℕ) (read : Option (List ℕ)) → with_front front (option_map (λ bytes. byte ++ bytes) read) ≡ with_front (front ++ byte) read
 regroup front byte None = refl
 regroup front byte (Some bytes) = simp append_assoc
 

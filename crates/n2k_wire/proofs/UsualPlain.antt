@@ -1,6 +1,6 @@
 -- A plain line in which everything stands where canboat puts it.
-use Rattle.std.proofs.Common.{◌≡◌, ℕ, zero, suc, ◌+◌, ◌-◌, ◌*◌, ◌≤◌, ◌&&◌, true, false, ltb, List, [], ◌∷◌, ◌++◌, length, get_or, drop, Option, Some, None, Ok, refl, ap, sym, ◌∙◌, arith}
-use Rattle.std.specs.Prelude.{◌==◌, IsTrue, option_and_then}
+use Rattle.std.proofs.Common.{◌≡◌, ℕ, zero, suc, ◌+◌, ◌-◌, ◌*◌, ◌≤◌, true, false, List, [], ◌∷◌, ◌++◌, length, get_or, drop, Option, Some, None, Ok, refl, ap, sym, ◌∙◌, arith}
+use Rattle.std.specs.Prelude.{◌==◌, IsTrue}
 use Rattle.std.specs.Char.{is_ascii_digit, is_ascii_hexdigit}
 use Rattle.std.specs.List.{list_all}
 use Rattle.std.specs.Result.{result_ok}
@@ -17,7 +17,7 @@ use Rattle.n2k_wire.specs.Digits.{decimal_number}
 use Rattle.n2k_wire.specs.Entry.{entry, is_candump, is_skipped, settled}
 use Rattle.n2k_wire.specs.Packet.{is_stamp}
 use Rattle.n2k_wire.specs.Pieces.{after_byte}
-use Rattle.n2k_wire.specs.Plain.{Header, bytes_of, header, id_of, number_to, packed, packet_of, packet_of_pieces, pair, pairs, pieces, plain_packet}
+use Rattle.n2k_wire.specs.Plain.{bytes_of, header, id_of, number_to, packed, packet_of, pairs, pieces, plain_packet}
 use Rattle.n2k_wire.specs.PrivateWords.{IsNumberBefore, IsIdBefore}
 use Rattle.n2k_wire.specs.Steps.{◌>>=◌}
 use Rattle.n2k_wire.proofs.CandumpBack.{no_digit, no_hex}
@@ -43,13 +43,13 @@ numbered limit n text piece behind rest whole comma found =
     (piece, ap (λ (t : List ℕ). pieces t) text_is ∙ next_piece piece rest alone, found)
 
 -- pairs of digits with commas between them
-pub with_commas : List ℕ → List ℕ
+unfoldable pub with_commas : List ℕ → List ℕ
 with_commas [] = []
 with_commas (a ∷ []) = a ∷ []
 with_commas (a ∷ b ∷ []) = a ∷ b ∷ []
 with_commas (a ∷ b ∷ c ∷ more) = a ∷ b ∷ 44 ∷ with_commas (c ∷ more)
 
-two_no_comma : (a b : ℕ) → is_ascii_hexdigit a ≡ true → is_ascii_hexdigit b ≡ true → HasNoComma (a ∷ b ∷ [])
+pub two_no_comma : (a b : ℕ) → is_ascii_hexdigit a ≡ true → is_ascii_hexdigit b ≡ true → HasNoComma (a ∷ b ∷ [])
 two_no_comma a b ea eb =
     All-cons (λ x. (x == 44) ≡ false) a (b ∷ []) (no_hex 44 refl a ea)
     (All-cons (λ x. (x == 44) ≡ false) b [] (no_hex 44 refl b eb) (All-nil (λ x. (x == 44) ≡ false)))
@@ -81,11 +81,11 @@ eight_read digits bytes hex sixteen read =
     bytes_of-pairs 8 (pieces (with_commas digits)) both.0 ∙ both.1 ∙ sym (decode_of-even 8 digits hex sixteen) ∙ read
 
 -- the bytes of a text from a place on, one by one
-listed : ℕ → ℕ → List ℕ → List ℕ
+unfoldable pub listed : ℕ → ℕ → List ℕ → List ℕ
 listed zero i text = []
 listed (suc n) i text = get_or text i 0 ∷ listed n (suc i) text
 
-listed_all : (n i : ℕ) (text : List ℕ) → length text ≡ i + n → drop i text ≡ listed n i text
+pub listed_all : (n i : ℕ) (text : List ℕ) → length text ≡ i + n → drop i text ≡ listed n i text
 unfolding listed
 listed_all zero i text long = drop_of_length-le text {i = i} (omega arith)
 listed_all (suc n) i text long = drop-cons text i 0 (omega arith) ∙ ap (λ (t : List ℕ). get_or text i 0 ∷ t) (listed_all n (suc i) text (omega arith))
@@ -102,10 +102,10 @@ unfolding listed with_commas
 comma_places text long c2 c5 c8 c11 c14 c17 c20 = listed_all 23 0 text long ∙ (rw (c2, c5, c8, c11, c14, c17, c20) refl)
 
 -- the packet of a line, by its parts
-packet_read : (line stamp text behind rest payload : List ℕ) (id : Id) → line ≡ stamp ++ (44 ∷ text) → IsTrue (is_stamp stamp) → IsIdBefore text id behind → IsNumberBefore 223 behind 8 rest → bytes_of 8 (pieces rest) ≡ Some payload
+pub packet_read : (line stamp text behind rest payload : List ℕ) (id : Id) (n : ℕ) → line ≡ stamp ++ (44 ∷ text) → IsTrue (is_stamp stamp) → IsIdBefore text id behind → IsNumberBefore 223 behind n rest → bytes_of n (pieces rest) ≡ Some payload
     → plain_packet line ≡ Ok (record { stamp = stamp; id = id; payload = payload })
 unfolding packet_of header id_of
-packet_read line stamp text behind rest payload id line_is ok (pgn, src, dst, first, second, third, fourth) len bytes =
+packet_read line stamp text behind rest payload id n line_is ok (pgn, src, dst, first, second, third, fourth) len bytes =
     let cut = ap (λ (t : List ℕ). pieces t) line_is ∙ next_piece stamp text (stamp_parts stamp ok).2 in
     rw (cut, first.1, second.1, third.1, fourth.1, len.1, ok, first.2, second.2, third.2, fourth.2, len.2, bytes) refl
 
@@ -118,7 +118,7 @@ plain_frame line stamp behind text tail rest payload id whole comma short ok is 
     let parts = stamp_parts stamp ok in
     let kept : is_skipped line ≡ false = rw line_is (not_skipped stamp (44 ∷ text) parts.0) in
     let other : is_candump line ≡ false = rw line_is (not_candump stamp (44 ∷ text) parts.0) in
-    let read = packet_read line stamp text tail rest payload id line_is ok is len bytes in
+    let read = packet_read line stamp text tail rest payload id 8 line_is ok is len bytes in
     plain_entry line packings.Frames short kept other
     ∙ ap (λ r. settled (r >>= (λ q. Ok (packed packings.Frames q)))) read
     ∙ (rw eight refl)

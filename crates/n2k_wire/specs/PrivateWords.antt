@@ -1,13 +1,14 @@
 -- Words for the contracts of private functions: what the code holds, as the definitions have it. Nothing that a
 -- caller sees needs them.
-use Rattle.std.specs.Prelude.{◌≡◌, ◌≤◌, ℕ, ◌+◌, ◌*◌, ◌/◌, ◌%◌, List, [], ◌∷◌, ◌++◌, Option, Some, None, option_map, option_and_then, Result}
+use Rattle.std.specs.Prelude.{◌≡◌, ◌≤◌, ℕ, ◌+◌, ◌*◌, ◌/◌, ◌%◌, true, List, [], ◌∷◌, ◌++◌, length, Option, Some, None, option_map, option_and_then, Result}
 use Rattle.std.specs.Borrow.{Bor}
+use Rattle.std.specs.Char.{is_ascii_hexdigit}
 use Rattle.n2k_wire.specs.declared.candump.CandumpFrame.{CandumpFrame}
 use Rattle.n2k_wire.specs.declared.entry.Entry.{Entry}
 use Rattle.n2k_wire.specs.declared.entry.Entry.TheVariants as entries
 use Rattle.n2k_wire.specs.declared.plain.Header as pieces_of_code
 use Rattle.n2k_wire.specs.declared.stamp.Moment as moments_of_code
-use Rattle.n2k_wire.specs.Plain.{Header, greatest_address, number_to, pieces}
+use Rattle.n2k_wire.specs.Plain.{Header, bytes_of, greatest_address, number_to, pairs, pieces}
 use Rattle.n2k_wire.specs.Packet.{greatest_pgn, greatest_priority}
 use Rattle.n2k_wire.specs.declared.identifier.Id.{Id}
 use Rattle.n2k_wire.specs.declared.entry.BadCause.{BadCause}
@@ -80,3 +81,18 @@ IsNumberBefore limit text n rest = (piece : List ℕ) × (pieces text ≡ piece 
 abbrev pub IsIdBefore : List ℕ → Id → List ℕ → Type 0
 IsIdBefore text id rest =
     (pgn src dst : List ℕ) × IsNumberBefore greatest_priority text id.prio pgn × IsNumberBefore greatest_pgn pgn id.pgn src × IsNumberBefore greatest_address src id.src dst × IsNumberBefore greatest_address dst id.dst rest
+
+-- two hexadecimal digits spell this byte
+pub record IsByte (high low byte : ℕ) : Type 0 where
+  pub high_is : is_ascii_hexdigit high ≡ true
+  pub low_is : is_ascii_hexdigit low ≡ true
+  pub byte_is : byte ≡ hex_value high * 16 + hex_value low
+
+-- the first pieces of a text are these bytes, and the pieces behind them are those of the rest
+pub record AreBytesBefore (text bytes rest : List ℕ) : Type 0 where
+  pub count : length (pieces text) ≡ length bytes + length (pieces rest)
+  pub read : pairs (pieces text) ≡ option_map (λ more. bytes ++ more) (pairs (pieces rest))
+
+-- all pieces of a text are these bytes
+abbrev pub AreBytes : List ℕ → List ℕ → Type 0
+AreBytes text bytes = bytes_of (length bytes) (pieces text) ≡ Some bytes

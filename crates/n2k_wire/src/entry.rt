@@ -12,6 +12,7 @@ use crate::plain::read_plain;
 use crate::stamp::UTC_LEN;
 use crate::usual::{Clock, read_usual};
 use crate::usual_plain::read_usual_plain;
+use crate::usual_whole::read_usual_whole;
 
 /// The most bytes of a line, without its LF and CR. Comments count too.
 pub const LONGEST_LINE: usize = 2048;
@@ -148,7 +149,7 @@ fn read_next(clock: &mut Clock, line: &[u8], packing: Packing, place: &mut Entry
     }
 }
 
-// The entry of a line of the usual form, of a candump line or of a frame's plain line. Of another line it answers nothing.
+// The entry of a line of the usual form, of a candump line or of a plain line. Of another line it answers nothing.
 #[inline]
 fn read_by_place(clock: &mut Clock, line: &[u8], packing: Packing, place: &mut Entry) -> Option<()>
     ensures entry { IfSome result (λ done. place.new ≡ entry line.now packing) }
@@ -157,8 +158,11 @@ fn read_by_place(clock: &mut Clock, line: &[u8], packing: Packing, place: &mut E
 {
     match (line, packing) {
         ([b'(', ..], _) => read_usual(clock, line, place),
-        (_, Packing::Frames) => read_usual_plain(line, place),
-        _ => None,
+        (_, Packing::Frames) => match read_usual_plain(line, place) {
+            Some(()) => Some(()),
+            None => read_usual_whole(line, packing, place),
+        },
+        _ => read_usual_whole(line, packing, place),
     }
 }
 

@@ -139,7 +139,7 @@ fn read_bytes(
 }
 
 /// Whether a plain line with so many bytes is a frame.
-fn is_frame(packing: Packing, len: usize) -> bool
+pub(crate) fn is_frame(packing: Packing, len: usize) -> bool
     ensures { result ≡ is_frame packing len }
 {
     match packing {

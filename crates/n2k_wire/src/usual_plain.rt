@@ -27,7 +27,7 @@ const LONGEST: usize = 67;
 
 /// The number of so many digits before a comma, and what follows the comma.
 #[inline]
-fn number_before(digits: usize, limit: u64, text: &[u8]) -> Option<(u64, &[u8])>
+pub(crate) fn number_before(digits: usize, limit: u64, text: &[u8]) -> Option<(u64, &[u8])>
     ensures value { IfSome result (λ x. IsNumberBefore limit text.now x.0 x.1.now) }
     ensures bound { IfSome result (λ x. x.0 ≤ limit) }
 {
@@ -72,7 +72,7 @@ fn pgn_before(text: &[u8]) -> Option<(u32, &[u8])>
 
 /// The identifier of four numbers before commas, and what follows the last.
 #[inline]
-fn id_before(text: &[u8]) -> Option<(Id, &[u8])>
+pub(crate) fn id_before(text: &[u8]) -> Option<(Id, &[u8])>
     ensures value { IfSome result (λ x. IsIdBefore text.now x.0 x.1.now) }
     ensures prio { IfSome result (λ x. x.0.prio ≤ greatest_priority) }
     ensures pgn { IfSome result (λ x. x.0.pgn ≤ greatest_pgn) }
