@@ -1,6 +1,6 @@
 -- A plain line in which everything stands where canboat puts it.
-use Rattle.std.proofs.Common.{◌≡◌, ℕ, zero, suc, ◌+◌, ◌-◌, ◌*◌, ◌≤◌, ◌&&◌, true, false, ltb, List, [], ◌∷◌, ◌++◌, length, get_or, drop, Option, Some, None, Ok, refl, ap, sym, ◌∙◌, arith}
-use Rattle.std.specs.Prelude.{◌==◌, IsTrue, option_and_then}
+use Rattle.std.proofs.Common.{◌≡◌, ℕ, zero, suc, ◌+◌, ◌-◌, ◌*◌, ◌≤◌, true, false, List, [], ◌∷◌, ◌++◌, length, get_or, drop, Option, Some, None, Ok, refl, ap, sym, ◌∙◌, arith}
+use Rattle.std.specs.Prelude.{◌==◌, IsTrue}
 use Rattle.std.specs.Char.{is_ascii_digit, is_ascii_hexdigit}
 use Rattle.std.specs.List.{list_all}
 use Rattle.std.specs.Result.{result_ok}
@@ -17,7 +17,7 @@ use Rattle.n2k_wire.specs.Digits.{decimal_number}
 use Rattle.n2k_wire.specs.Entry.{entry, is_candump, is_skipped, settled}
 use Rattle.n2k_wire.specs.Packet.{is_stamp}
 use Rattle.n2k_wire.specs.Pieces.{after_byte}
-use Rattle.n2k_wire.specs.Plain.{Header, bytes_of, header, id_of, number_to, packed, packet_of, packet_of_pieces, pair, pairs, pieces, plain_packet}
+use Rattle.n2k_wire.specs.Plain.{bytes_of, header, id_of, number_to, packed, packet_of, pairs, pieces, plain_packet}
 use Rattle.n2k_wire.specs.PrivateWords.{IsNumberBefore, IsIdBefore}
 use Rattle.n2k_wire.specs.Steps.{◌>>=◌}
 use Rattle.n2k_wire.proofs.CandumpBack.{no_digit, no_hex}

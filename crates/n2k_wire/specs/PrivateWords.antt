@@ -1,6 +1,6 @@
 -- Words for the contracts of private functions: what the code holds, as the definitions have it. Nothing that a
 -- caller sees needs them.
-use Rattle.std.specs.Prelude.{◌≡◌, ◌≤◌, ℕ, ◌+◌, ◌*◌, ◌/◌, ◌%◌, List, [], ◌∷◌, ◌++◌, Option, Some, None, option_map, option_and_then, Result}
+use Rattle.std.specs.Prelude.{◌≡◌, ◌≤◌, ℕ, ◌+◌, ◌*◌, ◌/◌, ◌%◌, if◌then◌else◌, nat_lt, List, [], ◌∷◌, ◌++◌, Option, Some, None, option_map, option_and_then, Result}
 use Rattle.std.specs.Borrow.{Bor}
 use Rattle.n2k_wire.specs.declared.candump.CandumpFrame.{CandumpFrame}
 use Rattle.n2k_wire.specs.declared.entry.Entry.{Entry}
@@ -21,6 +21,11 @@ use Rattle.n2k_wire.specs.Steps.{◌>>=◌, or_cause}
 -- to 102, so the letters, at 64 and above, count from 10.
 abbrev pub hex_value : ℕ → ℕ
 hex_value digit = digit % 16 + digit / 64 * 9
+
+-- The digit of a number below 16 in lower case, by arithmetic alone: figures below 10, letters from there on. It is a lane
+-- of eight bits.
+abbrev pub lower_lane : ℕ → ℕ
+lower_lane n = (n + (if nat_lt 9 n then 87 else 48)) % 256
 
 -- the day number of 31 December 9999
 abbrev pub last_day : ℕ

@@ -24,6 +24,7 @@ mod stamp;
 mod texts;
 mod usual;
 mod usual_plain;
+mod usual_text;
 
 pub use candump::{FRAME_PAYLOAD, is_interface};
 pub use entry::{BadCause, Entry, LONGEST_LINE, LineReader, Packing, read_line, read_line_into};

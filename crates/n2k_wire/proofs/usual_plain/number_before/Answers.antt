@@ -1,4 +1,4 @@
-use Rattle.std.proofs.Common.{sym, arith}
+use Rattle.std.proofs.Common.{sym}
 use Rattle.std.proofs.lemmas.List.{take-append-drop}
 use Rattle.n2k_wire.proofs.UsualPlain.{numbered}
 use Rattle.n2k_wire.proofs.usual_plain.number_before.Goals as goal
