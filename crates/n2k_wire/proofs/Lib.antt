@@ -13,6 +13,7 @@ pub mod Clocks
 pub mod UsualFrames
 pub mod UsualPlain
 pub mod UsualStamps
+pub mod UsualTexts
 pub mod UsualWhole
 pub mod UtcBack
 pub mod CleanTexts

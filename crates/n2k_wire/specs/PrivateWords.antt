@@ -1,6 +1,6 @@
 -- Words for the contracts of private functions: what the code holds, as the definitions have it. Nothing that a
 -- caller sees needs them.
-use Rattle.std.specs.Prelude.{◌≡◌, ◌≤◌, ℕ, ◌+◌, ◌*◌, ◌/◌, ◌%◌, true, List, [], ◌∷◌, ◌++◌, length, Option, Some, None, option_map, option_and_then, Result}
+use Rattle.std.specs.Prelude.{◌≡◌, ◌≤◌, ℕ, ◌+◌, ◌*◌, ◌/◌, ◌%◌, true, if◌then◌else◌, nat_lt, List, [], ◌∷◌, ◌++◌, length, Option, Some, None, option_map, option_and_then, Result}
 use Rattle.std.specs.Borrow.{Bor}
 use Rattle.std.specs.Char.{is_ascii_hexdigit}
 use Rattle.n2k_wire.specs.declared.candump.CandumpFrame.{CandumpFrame}
@@ -22,6 +22,11 @@ use Rattle.n2k_wire.specs.Steps.{◌>>=◌, or_cause}
 -- to 102, so the letters, at 64 and above, count from 10.
 abbrev pub hex_value : ℕ → ℕ
 hex_value digit = digit % 16 + digit / 64 * 9
+
+-- The digit of a number below 16 in lower case, by arithmetic alone: figures below 10, letters from there on. It is a lane
+-- of eight bits.
+abbrev pub lower_lane : ℕ → ℕ
+lower_lane n = (n + (if nat_lt 9 n then 87 else 48)) % 256
 
 -- the day number of 31 December 9999
 abbrev pub last_day : ℕ

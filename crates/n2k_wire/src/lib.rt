@@ -24,6 +24,7 @@ mod stamp;
 mod texts;
 mod usual;
 mod usual_plain;
+mod usual_text;
 mod usual_whole;
 
 pub use candump::{FRAME_PAYLOAD, is_interface};

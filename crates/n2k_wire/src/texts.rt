@@ -14,6 +14,7 @@ use crate::fault::WireFault;
 use crate::identifier::join_id;
 use crate::packet::Packet;
 use crate::stamp::{Moment, read_utc};
+use crate::usual_text::{FIRST_PGN, PGN_LIMIT, append_usual};
 use arrayvec::ArrayVec;
 use std::alloc::{AllocError, Global};
 
@@ -156,6 +157,12 @@ pub fn plain_text(_alloc: Global, packet: &Packet, out: &mut Vec<u8>) -> Result<
     ensures ok { OnOk result (out.new.items ≡ out.old.items ++ plain_text packet.now) }
     ensures unchanged { OnErr result (out.new.items ≡ out.old.items) }
 {
+    let id = packet.id();
+    if let (Some(stamp), Some(data)) = (packet.stamp().as_array(), packet.data().as_array()) {
+        if id.pgn >= FIRST_PGN && id.pgn < PGN_LIMIT {
+            return append_usual(stamp, id, data, out);
+        }
+    }
     if packet.data().len() <= FRAME_PAYLOAD {
         append_line::<FRAME_ROOM>(packet, out)
     } else {
