@@ -1,11 +1,10 @@
 -- The frames of one message, and their lines.
-use Rattle.std.proofs.Common.{◌≡◌, ◌≤◌, ◌<◌, ◌+◌, ◌*◌, ℕ, zero, suc, Bool, true, false, cond, List, [], ◌∷◌, ◌++◌, length, drop, map, All, refl, sym, ap, ◌∙◌, subst, arith, Option, Some, None, Result, Ok, Err}
+use Rattle.std.proofs.Common.{◌≡◌, ◌≤◌, ◌<◌, ◌+◌, ◌*◌, ℕ, zero, suc, Bool, true, false, cond, List, [], ◌∷◌, ◌++◌, length, map, All, refl, sym, ap, ◌∙◌, subst, arith, Option, Some, None, Result, Ok, Err}
 use Rattle.std.specs.Prelude.{IfOk, IsOkUnless, MatchOption, nat_le, unwrap_or}
 use Rattle.std.specs.List.{AllByRecursion, range_with_len}
 use Rattle.std.specs.Option.{is_none, option_or}
 use Rattle.std.specs.Result.{result_ok}
 use Rattle.std.proofs.lemmas.Bool.{leb-true}
-use Rattle.std.proofs.Math.ListN.{drop_of_length-le}
 use Rattle.std.proofs.lemmas.List.{append-nil}
 use Rattle.std.proofs.lemmas.List.Elements.{All-from_recursion, All-same}
 use Rattle.std.proofs.lemmas.List.FromFn.{length-map-range_with_len}
@@ -74,11 +73,6 @@ all_short m (p ∷ ps) are = (are.0.short, all_short m ps are.1)
 pub frames_short : (k : Option Kind) (m : PacketParts) (s : ℕ) (ps : List PacketParts) → ps ≡ pieces_as k m s → refusal k m ≡ None → All (λ (p : PacketParts). length p.payload ≤ frame_payload) ps
 frames_short k m s ps is split =
     All-same (λ (p : PacketParts). length p.payload ≤ frame_payload) ps (pieces_as k m s) is (All-from_recursion (λ (p : PacketParts). length p.payload ≤ frame_payload) (pieces_as k m s) (all_short m (pieces_as k m s) (frames_are k m s split)))
-
--- the lines of all frames, where no frame is left
-pub all_made : (interface : List ℕ) (frames : List PacketParts) (count : ℕ) (lines : List ℕ) → length frames ≤ count → candump_texts interface frames ≡ (candump_texts interface (drop count frames) >>= (λ more. Ok (lines ++ more))) → candump_texts interface frames ≡ Ok lines
-all_made interface frames count lines end made =
-    (rw (drop_of_length-le frames {i = count} end) at made) ∙ ap Ok (append-nil lines)
 
 -- what was appended to nothing
 pub appended_alone : {A : Type 0} (xs none more : List A) → xs ≡ none ++ more → none ≡ [] → xs ≡ more

@@ -40,40 +40,35 @@ fn append_plain(alloc: Global, frames: &[Packet], text: &mut Vec<u8>) -> Result<
     Ok(())
 }
 
-// Appends the lines that candump writes of frames: of all, or of none. They are put together in `lines`, whose room is kept.
+// Appends the lines that candump writes of frames: of all, or of none, since those before a fault are taken back.
 fn append_candump(
     alloc: Global,
     frames: &[Packet],
     interface: &str,
-    lines: &mut Vec<u8>,
     text: &mut Vec<u8>,
 ) -> Result<(), WireFault>
     requires short { All (λ (frame : PacketParts). length frame.payload ≤ frame_payload) frames.now }
     requires interface { IsTrue (is_interface interface.now) }
     ensures { AppendsLines (candump_texts interface.now frames.now) result text.old.items text.new.items }
 {
-    lines.clear();
+    let before = text.len();
     for frame in frames {
-        candump_text(alloc, frame, interface, lines)?;
+        match candump_text(alloc, frame, interface, text) {
+            Ok(()) => {}
+            Err(fault) => {
+                text.truncate(before);
+                return Err(fault);
+            }
+        }
     }
-    match text.extend_from_slice(lines) {
-        Ok(()) => Ok(()),
-        Err(_) => Err(WireFault::Memory),
-    }
+    Ok(())
 }
 
-// Room for the frames of one message, and for their lines.
-#[derive(Drop)]
-struct Room {
-    frames: Vec<Packet>,
-    lines: Vec<u8>,
-}
-
-// What a run has sent so far, and the room that each message takes in turn.
+// What a run has sent so far, and the room that each message's frames take in turn.
 #[derive(Drop)]
 struct Sending {
     splitter: Splitter,
-    room: Room,
+    frames: Vec<Packet>,
     counts: Counts,
 }
 
@@ -90,7 +85,6 @@ impl<'a> FrameLines<'a> {
         &self,
         alloc: Global,
         frames: &[Packet],
-        lines: &mut Vec<u8>,
         text: &mut Vec<u8>,
     ) -> Result<Outcome, AllocError>
         requires short { All (λ (frame : PacketParts). length frame.payload ≤ frame_payload) frames.now }
@@ -101,7 +95,7 @@ impl<'a> FrameLines<'a> {
             append_plain(alloc, frames, text)?;
             return Ok(Outcome::Written);
         };
-        match append_candump(alloc, frames, interface, lines, text) {
+        match append_candump(alloc, frames, interface, text) {
             Ok(()) => Ok(Outcome::Written),
             Err(WireFault::NoStamp) => Ok(Outcome::Bad(BadCause::Time)),
             Err(WireFault::NoId) => Ok(Outcome::Bad(BadCause::Address)),
@@ -114,16 +108,16 @@ impl<'a> FrameLines<'a> {
         &self,
         alloc: Global,
         splitter: &mut Splitter,
-        room: &mut Room,
+        frames: &mut Vec<Packet>,
         message: &Packet,
         text: &mut Vec<u8>,
     ) -> Result<Outcome, AllocError>
         requires { IsInterface (interface_of self.now.interface) }
         ensures { IfOk result (SentMessage (kind self.now.table.now) (interface_of self.now.interface) message.now (sequences splitter.old) (sequences splitter.new) text.old.items text.new.items) }
     {
-        room.frames.clear();
-        match splitter.message(self.table, message, &mut room.frames) {
-            Ok(_) => self.write(alloc, &room.frames, &mut room.lines, text),
+        frames.clear();
+        match splitter.message(self.table, message, frames) {
+            Ok(_) => self.write(alloc, frames, text),
             Err(SplitFault::Unknown) => Ok(Outcome::Bad(BadCause::Unknown)),
             Err(SplitFault::TooLong) => Ok(Outcome::Bad(BadCause::Size)),
             Err(SplitFault::Memory) => Err(AllocError),
@@ -135,7 +129,7 @@ impl<'a> FrameLines<'a> {
         &self,
         alloc: Global,
         splitter: &mut Splitter,
-        room: &mut Room,
+        frames: &mut Vec<Packet>,
         entry: &Entry,
         text: &mut Vec<u8>,
     ) -> Result<Outcome, AllocError>
@@ -146,7 +140,7 @@ impl<'a> FrameLines<'a> {
             Entry::Skip => Ok(Outcome::Skipped),
             Entry::Bad(cause) => Ok(Outcome::Bad(*cause)),
             Entry::Frame(_) => Ok(Outcome::Bad(BadCause::Frame)),
-            Entry::Whole(message) => self.send(alloc, splitter, room, message, text),
+            Entry::Whole(message) => self.send(alloc, splitter, frames, message, text),
         }
     }
 }
@@ -179,7 +173,7 @@ impl<'a> Maker for FrameLines<'a> {
             return Err(RunFault::TooManyLines);
         }
         state.counts.lines += 1;
-        match self.outcome(alloc, &mut state.splitter, &mut state.room, entry, text)? {
+        match self.outcome(alloc, &mut state.splitter, &mut state.frames, entry, text)? {
             Outcome::Skipped => {}
             Outcome::Written => state.counts.messages += 1,
             Outcome::Bad(cause) => {
@@ -237,10 +231,7 @@ pub fn run_frames<R: Source, W: Sink, E: Sink>(
     let maker = FrameLines { table, interface };
     let mut state = Sending {
         splitter: Splitter::new(alloc),
-        room: Room {
-            frames: Vec::new(alloc),
-            lines: Vec::new(alloc),
-        },
+        frames: Vec::new(alloc),
         counts: Counts::NONE,
     };
     match run_entries(

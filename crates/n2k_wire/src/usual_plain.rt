@@ -1,6 +1,6 @@
 //! A fast path; read `plain.rt` first. A plain line of a frame of eight bytes with a stamp of 24,
 //! `2016-02-28T19:57:02.364Z,2,127250,67,255,8,ff,10,3b,ff,7f,ce,f5,fc`, is read by place. It promises only what it
-//! answers. Where it answers nothing `plain.rt` reads the line, as it reads every plain line.
+//! answers. Where it answers nothing `usual_whole.rt` is asked, and then `plain.rt`, which reads every plain line.
 ghost use Rattle.std.specs.Prelude.{◌≡◌, ◌≤◌, ℕ, Some, IfSome};
 ghost use Rattle.n2k_wire.specs.Entry.{entry, IsEntry, IsShort};
 ghost use Rattle.n2k_wire.specs.Packet.{greatest_pgn, greatest_priority};
