@@ -18,9 +18,10 @@ use crate::maker::Maker;
 use crate::options::{Options, know_window};
 use crate::texts::{bad_text, broken_text};
 use n2k_join::{Broken, Join, laws};
-use n2k_table::{Table, json_line};
+use n2k_table::{LineRoom, Table, json_line_in};
 use n2k_wire::{BadCause, Entry, Packet};
 use std::alloc::{AllocError, Global};
+use std::mem;
 
 // Breaks the groups whose window ends at the next line, the oldest first, and reports them.
 fn break_overdue(alloc: Global, join: &mut Join, report: &mut Vec<u8>) -> Result<(), AllocError>
@@ -38,14 +39,14 @@ fn break_overdue(alloc: Global, join: &mut Join, report: &mut Vec<u8>) -> Result
 fn push_broken(
     alloc: Global,
     line: u64,
-    broken: &Option<Broken>,
+    broken: Option<Broken>,
     report: &mut Vec<u8>,
 ) -> Result<(), AllocError>
-    ensures { OnOk result (report.new.items ≡ report.old.items ++ flat_map (broken_text line) (option_to_list broken.now)) }
+    ensures { OnOk result (report.new.items ≡ report.old.items ++ flat_map (broken_text line) (option_to_list broken)) }
 {
     match broken {
         None => Ok(()),
-        Some(group) => broken_text(alloc, line, group, report),
+        Some(group) => broken_text(alloc, line, &group, report),
     }
 }
 
@@ -70,14 +71,24 @@ fn push_message(
     table: &Table,
     message: Option<&Packet>,
     empty: bool,
+    room: &mut LineRoom,
     text: &mut Vec<u8>,
 ) -> Result<(), AllocError>
     ensures { OnOk result (text.new.items ≡ text.old.items ++ message_line table.now empty (option_map (λ p. p.now) message.entry)) }
 {
     match message {
         None => Ok(()),
-        Some(packet) => json_line(alloc, table, packet, empty, text),
+        Some(packet) => json_line_in(alloc, table, packet, empty, room, text),
     }
+}
+
+// A join, and what is kept from line to line: the message of a group is written to the place of the one before, and each line
+// is put together in the same room. Both are large, and new ones would be zeroed for each line.
+#[derive(Drop)]
+struct Joining {
+    join: Join,
+    joined: Option<Packet>,
+    room: LineRoom,
 }
 
 // Makes the JSON lines of the messages that a join gives.
@@ -92,11 +103,11 @@ impl<'a> Maker for JsonLines<'a> {
     ghost use Rattle.n2k_join.specs.State.{State};
     ghost use Rattle.n2k_run.specs.Decoded.{join_making};
 
-    type State = Join;
+    type State = Joining;
 
     ghost Known = { State };
 
-    ghost known = { λ join. join };
+    ghost known = { λ joining. joining.join };
 
     ghost making = { λ s. join_making s.table.now s.empty };
 
@@ -105,18 +116,18 @@ impl<'a> Maker for JsonLines<'a> {
     fn take(
         &self,
         alloc: Global,
-        join: &mut Join,
+        joining: &mut Joining,
         entry: &Entry,
         text: &mut Vec<u8>,
         report: &mut Vec<u8>,
     ) -> Result<(), RunFault> {
+        let Joining { join, joined, room } = joining;
         break_overdue(alloc, join, report)?;
-        let mut joined = None;
-        let step = join.lend(self.table, entry, &mut joined)?;
+        let step = join.lend(self.table, entry, joined)?;
         let line = join.counts().lines;
-        push_broken(alloc, line, &step.broken, report)?;
+        push_broken(alloc, line, step.broken, report)?;
         push_cause(alloc, line, step.bad, report)?;
-        push_message(alloc, self.table, step.message, self.empty, text)?;
+        push_message(alloc, self.table, step.message, self.empty, room, text)?;
         Ok(())
     }
 }
@@ -156,7 +167,26 @@ pub fn run<R: Source, W: Sink, E: Sink>(
     laws::steps_agree();
     laws::lines_stay();
     know_window(&options);
-    let Options { packing, empty, .. } = options;
+    let Options {
+        packing,
+        empty,
+        window,
+    } = options;
     let maker = JsonLines { table, empty };
-    run_entries(alloc, &maker, packing, join, reader, writer, reporter)
+    let mut joining = Joining {
+        join: mem::replace(join, Join::new(alloc, table, window)),
+        joined: None,
+        room: LineRoom::new(alloc),
+    };
+    let ran = run_entries(
+        alloc,
+        &maker,
+        packing,
+        &mut joining,
+        reader,
+        writer,
+        reporter,
+    );
+    *join = joining.join;
+    ran
 }

@@ -1,3 +1,4 @@
+pub mod Asking
 pub mod Decimals
 pub mod DefinitionFaults
 pub mod Digits

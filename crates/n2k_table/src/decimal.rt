@@ -98,7 +98,8 @@ pub fn decimal_text(
     ensures decimal { IsDecimal value decimals (dec value decimals) }
     ensures only { (text : List ℕ) → IsDecimal value decimals text → text ≡ dec value decimals }
 {
-    let mut line = Tail::after(mem::replace(out, Vec::new(alloc)));
+    let mut line = Tail::new(alloc);
+    line.begin(mem::replace(out, Vec::new(alloc)));
     let written = push_decimal(value, decimals, &mut line);
-    line.end(written, out)
+    line.end(alloc, written, out)
 }

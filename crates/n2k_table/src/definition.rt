@@ -1,6 +1,6 @@
 //! What a table says of one message.
-ghost use Rattle.std.specs.Prelude.{◌≡◌, IfOk, map, option_map};
-ghost use Rattle.std.specs.List.{list_any};
+ghost use Rattle.std.specs.Prelude.{◌≡◌, IfOk, is_some, map, option_map};
+ghost use Rattle.std.specs.List.{list_all, list_any};
 ghost use Rattle.toml.specs.View.{view, table_view};
 ghost use Rattle.n2k_wire.specs.Views.{Gives};
 ghost use Rattle.n2k_table.specs.Inner.Reading.{GivesOrMemory, judged};
@@ -8,7 +8,7 @@ ghost use Rattle.n2k_table.specs.Lookup.{LookupParts};
 ghost use Rattle.n2k_table.specs.Inner.Line.{label_json};
 ghost use Rattle.n2k_table.specs.Field.{FieldParts, field};
 ghost use Rattle.n2k_table.specs.Repeat.{repeat};
-ghost use Rattle.n2k_table.specs.Table.{are_mixed, has_mixed};
+ghost use Rattle.n2k_table.specs.Table.{are_mixed, field_matches, has_mixed};
 ghost use Rattle.n2k_table.specs.Definition.{named_kind, repeat_of, repeat_beside_faults, layout_faults, layout, members_faults, members_definition, definition_faults, definition};
 ghost use Rattle.n2k_table.specs.Inner.Kinds.{pgn_kind};
 
@@ -56,12 +56,15 @@ pub(crate) struct StoredDefinition {
     description: String,
     // What stands in a line between who sent the message and the members, kept since each line needs it.
     label: Vec<u8>,
+    // Whether a field asks for a value; most messages of most PGNs have none that does.
+    asks: bool,
     fields: Vec<Field>,
     repeat: Option<Repeat>,
 }
 
 impl Model for StoredDefinition {
-    ghost use Rattle.std.specs.Prelude.{◌≡◌, string_bytes};
+    ghost use Rattle.std.specs.Prelude.{◌≡◌, string_bytes, is_some};
+    ghost use Rattle.std.specs.List.{list_any};
     ghost use Rattle.n2k_table.specs.Inner.Line.{label_json};
     ghost use Rattle.n2k_table.specs.Definition.{DefinitionParts};
 
@@ -75,7 +78,22 @@ impl Model for StoredDefinition {
       repeat = d.repeat;
     } };
 
-    ghost invariant = { λ d. d.label.items ≡ label_json d.number (string_bytes d.description) };
+    ghost invariant = { λ d. (d.label.items ≡ label_json d.number (string_bytes d.description))
+        × (d.asks ≡ list_any (λ f. is_some f.wanted) d.fields.items) };
+}
+
+// Whether a field asks for a value.
+fn any_asks(fields: &[Field]) -> bool
+    ensures { result ≡ list_any (λ f. is_some f.wanted) fields.now }
+{
+    fields.iter().any(|field| field.asks())
+}
+
+// Whether the data have what the fields ask for.
+fn all_match(fields: &[Field], data: &[u8]) -> bool
+    ensures { result ≡ list_all (field_matches «data».now) fields.now }
+{
+    fields.iter().all(|field| field.matches(data))
 }
 
 impl StoredDefinition {
@@ -124,10 +142,11 @@ impl StoredDefinition {
     }
 
     /// Whether the data have what the fields ask for.
+    #[inline(always)]
     pub(crate) fn matches(&self, data: &[u8]) -> bool
         ensures { result ≡ matches «data».now self.now }
     {
-        self.fields.iter().all(|field| field.matches(data))
+        !self.asks || all_match(&self.fields, data)
     }
 
     // Whether both describe one PGN, and name different kinds.
@@ -321,6 +340,7 @@ fn read_members(
         kind,
         description: String::from_str(alloc, description)?,
         label: label_of(alloc, number, description)?,
+        asks: any_asks(&fields),
         fields,
         repeat,
     })

@@ -300,6 +300,7 @@ pub(crate) fn read_field(
 }
 
 impl Field {
+    ghost use Rattle.std.specs.Prelude.{is_some};
     ghost use Rattle.n2k_table.specs.Inner.Line.{key_json};
     ghost use Rattle.n2k_table.specs.Inner.Seen.{seen_parts};
     ghost use Rattle.n2k_table.specs.Shown.{shown_parts, lies_inside, field_bytes, shown};
@@ -318,6 +319,13 @@ impl Field {
     {
         let from = if later { 0 } else { 1 };
         &self.key[from..]
+    }
+
+    /// Whether it asks for a raw value.
+    pub(crate) fn asks(&self) -> bool
+        ensures { result ≡ is_some self.now.wanted }
+    {
+        self.wanted.is_some()
     }
 
     fn lies_inside(&self, data: &[u8]) -> bool

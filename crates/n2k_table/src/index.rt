@@ -1,5 +1,5 @@
 //! Where the definitions of a PGN stand, found without walking all of them.
-ghost use Rattle.std.specs.Prelude.{◌≡◌, length, IfOk};
+ghost use Rattle.std.specs.Prelude.{◌≡◌, ◌<◌, length, IfOk};
 ghost use Rattle.n2k_table.specs.Inner.Index.{numbers, places, places_in, IsIndex};
 
 use crate::definition::StoredDefinition;
@@ -7,8 +7,8 @@ use indexmap::IndexMap;
 use std::alloc::{AllocError, Global};
 use std::marker::Model;
 
-/// How many PGNs are told apart by their remainder. By this prime PGNs whose lower 16 bits are the same have different ones.
-const QUICK: usize = 8191;
+/// How many PGNs are told apart without a hash.
+const QUICK: usize = 8192;
 
 // For each PGN the places of its definitions, in file order.
 type PlacesByPgn = IndexMap<u32, Vec<usize>>;
@@ -17,7 +17,7 @@ type PlacesByPgn = IndexMap<u32, Vec<usize>>;
 #[derive(Drop)]
 pub(crate) struct Index {
     places: PlacesByPgn,
-    // For the remainder of a PGN where it may stand in the map. Whoever goes by it compares the PGN; that costs less than a
+    // For the mixed bits of a PGN where it may stand in the map. Whoever goes by it compares the PGN; that costs less than a
     // hash.
     quick: Vec<u16>,
 }
@@ -30,7 +30,7 @@ impl Model for Index {
 
     ghost view = { λ i. i.places.entries };
 
-    ghost invariant = { λ i. length i.quick.items ≡ 8191 };
+    ghost invariant = { λ i. length i.quick.items ≡ 8192 };
 }
 
 // The places of the definitions of a PGN.
@@ -65,14 +65,23 @@ fn all_places(alloc: Global, definitions: &[StoredDefinition]) -> Result<PlacesB
     Ok(index)
 }
 
-// Where each PGN stands in the map, by its remainder; the last of those that have the same.
+// The bits of a PGN by which it is told apart: its lowest 13, changed by those above them. By the lowest alone PGNs whose
+// lower 16 bits are the same would be one.
+#[inline(always)]
+fn mixed(pgn: u32) -> usize
+    ensures { result < 8192 }
+{
+    (pgn ^ (pgn >> 13)) as usize % QUICK
+}
+
+// Where each PGN stands in the map, by its mixed bits; the last of those that have the same.
 fn quick_of(alloc: Global, places: &PlacesByPgn) -> Result<Vec<u16>, AllocError>
-    ensures { IfOk result (λ quick. length quick.items ≡ 8191) }
+    ensures { IfOk result (λ quick. length quick.items ≡ 8192) }
 {
     let mut quick = vec![in alloc; 0u16; QUICK]?;
     for (at, pgn) in places.keys().enumerate() {
         if let Ok(at) = u16::try_from(at) {
-            quick[*pgn as usize % QUICK] = at;
+            quick[mixed(*pgn)] = at;
         }
     }
     Ok(quick)
@@ -102,7 +111,7 @@ fn places_by_hash(places: &PlacesByPgn, pgn: u32) -> &[usize]
 pub(crate) fn places_at(index: &Index, pgn: u32) -> &[usize]
     ensures { result.now ≡ places_in index.now pgn }
 {
-    let at = index.quick[pgn as usize % QUICK];
+    let at = index.quick[mixed(pgn)];
     match index.places.get_index(usize::from(at)) {
         Some((found, places)) if *found == pgn => places.as_slice(),
         _ => places_by_hash(&index.places, pgn),

@@ -39,7 +39,7 @@ fn push_value(seen: Seen<'_>, line: &mut Tail) -> Result<(), AllocError>
     ensures before { line.new.before ≡ line.old.before }
 {
     match seen {
-        Seen::Name(name) => line.extend_from_slice(name.json()),
+        Seen::Name(name) => name.push_json(line),
         Seen::Other(shown) => match shown {
             Shown::Absent => line.extend_from_slice(b"null"),
             Shown::Number { value, decimals } => push_decimal(value, decimals, line),
@@ -215,6 +215,21 @@ fn push_line(
     }
 }
 
+/// Room in which lines are put together, one after the other. It holds nothing that counts between two of them.
+#[derive(Drop)]
+pub struct LineRoom {
+    line: Tail,
+}
+
+impl LineRoom {
+    /// Room for lines.
+    pub fn new(alloc: Global) -> LineRoom {
+        LineRoom {
+            line: Tail::new(alloc),
+        }
+    }
+}
+
 /// Appends the JSON line of a packet, with its LF: when it was seen, its priority, source, destination and
 /// PGN, and the fields of its definition in their order, without spaces. A field that shows nothing is left
 /// out, and with `empty` it is `null`. Where sets repeat behind the fields, the last member is `list`, an array of one
@@ -225,7 +240,6 @@ fn push_line(
 /// {"timestamp":"2011-11-24-22:42:04.388","prio":2,"src":36,"dst":255,"pgn":127251,"description":"Rate of Turn","fields":{"SID":125,"Rate":0.00509634375}}
 /// {"timestamp":"2020-01-01T00:00:00.000Z","prio":7,"src":5,"dst":255,"pgn":130820,"description":"Unmatched","fields":{"Data":"07 98 01 41"}}
 /// ```
-#[tactic(auto, unfolding(crate::specs::Json::json))]
 pub fn json_line(
     alloc: Global,
     table: &Table,
@@ -236,8 +250,33 @@ pub fn json_line(
     ensures appends { OnOk result (out.new.items ≡ out.old.items ++ json table.now packet.now empty) }
     ensures unchanged { OnErr result (out.new.items ≡ out.old.items) }
 {
+    let mut room = LineRoom::new(alloc);
+    json_line_in(alloc, table, packet, empty, &mut room, out)
+}
+
+/// The same, put together in room that the caller keeps from line to line: that costs less than new room for each.
+///
+/// ```text
+/// let mut room = LineRoom::new(alloc);
+/// for packet in &packets {
+///     json_line_in(alloc, &table, packet, false, &mut room, &mut text)?;
+/// }
+/// ```
+#[tactic(auto, unfolding(crate::specs::Json::json))]
+pub fn json_line_in(
+    alloc: Global,
+    table: &Table,
+    packet: &Packet,
+    empty: bool,
+    room: &mut LineRoom,
+    out: &mut Vec<u8>,
+) -> Result<(), AllocError>
+    ensures appends { OnOk result (out.new.items ≡ out.old.items ++ json table.now packet.now empty) }
+    ensures unchanged { OnErr result (out.new.items ≡ out.old.items) }
+{
     let definition = table.choose(packet.id().pgn, packet.data());
-    let mut line = Tail::after(mem::replace(out, Vec::new(alloc)));
-    let written = push_line(definition, packet, empty, &mut line);
-    line.end(written, out)
+    let line = &mut room.line;
+    line.begin(mem::replace(out, Vec::new(alloc)));
+    let written = push_line(definition, packet, empty, line);
+    line.end(alloc, written, out)
 }

@@ -12,6 +12,8 @@ ghost use Rattle.n2k_table.specs.Inner.Entries.{seen_entries, once};
 ghost use Rattle.n2k_table.specs.Lookup.{pair_of, entry_faults, entry, entries_faults, lookup_members_faults, members_lookup, lookup_faults, lookup, lookups_faults};
 
 use crate::fault::TableFault;
+use crate::piece::Piece;
+use crate::tail::Tail;
 use crate::text::text_json;
 use crate::tree::{Place, as_elements, as_members, elements_at, has_only_keys, sized, text_at};
 use indexmap::IndexMap;
@@ -35,7 +37,7 @@ pub(crate) const GREATEST_VALUE: u32 = 4_294_967_295;
 pub(crate) struct Name {
     text: String,
     // As JSON, kept since each line that shows it needs it.
-    json: Vec<u8>,
+    json: Piece,
 }
 
 impl Model for Name {
@@ -46,10 +48,11 @@ impl Model for Name {
 
     ghost view = { λ n. string_bytes n.text };
 
-    ghost invariant = { λ n. n.json.items ≡ text_json (string_bytes n.text) };
+    ghost invariant = { λ n. n.json ≡ text_json (string_bytes n.text) };
 }
 
 impl Name {
+    ghost use Rattle.std.specs.Prelude.{◌++◌, OnOk};
     ghost use Rattle.n2k_table.specs.Text.{text_json};
 
     fn of(alloc: Global, text: &str) -> Result<Name, AllocError>
@@ -57,7 +60,7 @@ impl Name {
     {
         Ok(Name {
             text: String::from_str(alloc, text)?,
-            json: text_json(alloc, text)?,
+            json: Piece::of(text_json(alloc, text)?),
         })
     }
 
@@ -68,11 +71,13 @@ impl Name {
         self.text.as_str()
     }
 
-    /// The text as JSON.
-    pub(crate) fn json(&self) -> &[u8]
-        ensures { result.now ≡ text_json self.now }
+    /// Appends the text as JSON.
+    #[inline(always)]
+    pub(crate) fn push_json(&self, line: &mut Tail) -> Result<(), AllocError>
+        ensures items { OnOk result (line.new.items ≡ line.old.items ++ text_json self.now) }
+        ensures before { line.new.before ≡ line.old.before }
     {
-        self.json.as_slice()
+        self.json.push(line)
     }
 }
 

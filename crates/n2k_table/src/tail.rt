@@ -1,8 +1,10 @@
-//! A vector that is appended to, and can be put back as it was.
+//! A vector that is appended to, and can be put back as it was. It has room in which a line is put together, and is kept from
+//! line to line, since room for each line would be zeroed each time.
 ghost use Rattle.std.specs.Prelude.{◌≡◌, ◌∷◌, [], ◌++◌, ◌+◌, ◌≤◌, length, take, OnOk, OnErr, is_ok, true};
 
-use std::alloc::AllocError;
+use std::alloc::{AllocError, Global};
 use std::marker::Model;
+use std::mem;
 
 /// How many bytes of a line are put together before they are appended.
 const ROOM: usize = 256;
@@ -51,18 +53,26 @@ fn write_at<const N: usize>(room: &mut [u8; ROOM], at: usize, bytes: &[u8; N])
 }
 
 impl Tail {
-    /// A line behind what the vector holds.
-    #[inline(always)]
-    pub(crate) fn after(out: Vec<u8>) -> Tail
-        ensures { result ≡ record { before = out.items; items = out.items; held = 0 } }
+    /// Room for a line.
+    pub(crate) fn new(alloc: Global) -> Tail
+        ensures { result ≡ record { before = []; items = []; held = 0 } }
     {
-        let start = out.len();
         Tail {
-            out,
-            start,
+            out: Vec::new(alloc),
+            start: 0,
             room: [0; ROOM],
             at: 0,
         }
+    }
+
+    /// Begins a line behind what the vector holds.
+    #[inline(always)]
+    pub(crate) fn begin(&mut self, out: Vec<u8>)
+        ensures { self.new ≡ record { before = out.items; items = out.items; held = 0 } }
+    {
+        self.start = out.len();
+        self.out = out;
+        self.at = 0;
     }
 
     /// Appends a byte.
@@ -133,30 +143,28 @@ impl Tail {
         self.out.extend_from_slice(bytes)
     }
 
-    /// The vector, with the line where it was written and else as it was.
+    /// Ends the line. The vector is had back, with the line where it was written and else as it was.
     #[inline(always)]
     pub(crate) fn end(
-        self,
+        &mut self,
+        alloc: Global,
         written: Result<(), AllocError>,
         out: &mut Vec<u8>,
     ) -> Result<(), AllocError>
-        ensures ok { OnOk result (out.new.items ≡ self.items) }
-        ensures err { OnErr result (out.new.items ≡ self.before) }
+        ensures ok { OnOk result (out.new.items ≡ self.old.items) }
+        ensures err { OnErr result (out.new.items ≡ self.old.before) }
         ensures written { OnOk result (is_ok written ≡ true) }
     {
-        let Tail {
-            out: mut kept,
-            start,
-            room,
-            at,
-        } = self;
+        let mut kept = mem::replace(&mut self.out, Vec::new(alloc));
         let mut ended = written;
         if ended.is_ok() {
-            ended = kept.extend_from_slice(&room[..at]);
+            ended = kept.extend_from_slice(&self.room[..self.at]);
         }
         if ended.is_err() {
-            kept.truncate(start);
+            kept.truncate(self.start);
         }
+        self.start = 0;
+        self.at = 0;
         *out = kept;
         ended
     }

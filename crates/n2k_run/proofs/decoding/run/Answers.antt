@@ -12,6 +12,7 @@ returns-clause-log g c = λ front is.
     let t = c.args.table.now in
     let o = c.args.options in
     let laws = log_laws o.window c.know_window.ensures c.steps_agree.ensures c.lines_stay.ensures in
-    let same = ap (output_from (join_making t o.empty) o.packing) is ∙ output_after-is t o laws t.id front in
-    let runs = runs_same _ _ _ _ _ _ same c.run_entries.ensures.runs in
-    runs_more (output_after t o front) _ _ _ _ c.run_entries.result runs (λ es stands. stands ∙ ap (λ (s : State). after_all (join_making t o.empty) s es) is ∙ state_after t o laws t.id front es)
+    let was = c.replace.ensures.value ∙ is in
+    let same = ap (output_from (join_making t o.empty) o.packing) was ∙ output_after-is t o laws t.id front in
+    let runs = runs_same _ _ _ _ _ _ same c.run_entries-ran.ensures.runs in
+    runs_more (output_after t o front) _ _ _ _ c.run_entries-ran.result runs (λ es stands. stands ∙ ap (λ (s : State). after_all (join_making t o.empty) s es) was ∙ state_after t o laws t.id front es)

@@ -6,4 +6,4 @@ abbrev pub invariant-loop-at : goal.invariant-loop-at
 invariant-loop-at l =
     (goal.iterator-loop-at).can_next l.at-iterator ×
     (goal.iterator-loop-at).is_finite l.at-iterator ×
-    (length l.quick.items ≡ 8191)
+    (length l.quick.items ≡ 8192)

@@ -1,5 +1,5 @@
 use Rattle.n2k_table.proofs.Heads.{choice_number}
-use Rattle.n2k_table.proofs.line.json_line.Goals as goal
+use Rattle.n2k_table.proofs.line.json_line_in.Goals as goal
 
 pub push_line-written-requires : goal.push_line-written-requires
 push_line-written-requires c =

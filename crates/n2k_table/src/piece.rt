@@ -1,0 +1,56 @@
+//! A fast path: a text that many lines hold, with its front at a constant length as well. A copy of a constant length is a few
+//! instructions; one of a length that varies is a call. `Tail::extend_from_slice` appends any bytes.
+ghost use Rattle.std.specs.Prelude.{◌≡◌};
+
+use crate::tail::Tail;
+use std::alloc::AllocError;
+use std::marker::Model;
+
+/// How many bytes are copied at once.
+const WIDE: usize = 32;
+
+/// A text that is appended to many lines.
+#[derive(Drop)]
+pub(crate) struct Piece {
+    bytes: Vec<u8>,
+    // The same bytes and zeros behind them, where they have room.
+    front: [u8; WIDE],
+}
+
+impl Model for Piece {
+    ghost use Rattle.std.specs.Prelude.{◌≡◌, ◌≤◌, List, ℕ, take, length};
+
+    ghost Value = { List ℕ };
+
+    ghost view = { λ p. p.bytes.items };
+
+    ghost invariant = { λ p. length p.bytes.items ≤ 32 → take (length p.bytes.items) p.front ≡ p.bytes.items };
+}
+
+impl Piece {
+    ghost use Rattle.std.specs.Prelude.{◌++◌, OnOk};
+
+    /// A piece of that text.
+    pub(crate) fn of(bytes: Vec<u8>) -> Piece
+        ensures { result ≡ bytes.items }
+    {
+        let mut front = [0; WIDE];
+        if bytes.len() <= WIDE {
+            front[..bytes.len()].copy_from_slice(&bytes);
+        }
+        Piece { bytes, front }
+    }
+
+    /// Appends the text.
+    #[inline(always)]
+    pub(crate) fn push(&self, line: &mut Tail) -> Result<(), AllocError>
+        ensures items { OnOk result (line.new.items ≡ line.old.items ++ self.now) }
+        ensures before { line.new.before ≡ line.old.before }
+    {
+        if self.bytes.len() <= WIDE {
+            line.put(&self.front, self.bytes.len())
+        } else {
+            line.extend_from_slice(&self.bytes)
+        }
+    }
+}
