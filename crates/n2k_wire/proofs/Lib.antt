@@ -11,6 +11,7 @@ pub mod ReadBack
 pub mod TextLemmas
 pub mod Clocks
 pub mod UsualFrames
+pub mod UsualLanes
 pub mod UsualPlain
 pub mod UsualStamps
 pub mod UsualTexts

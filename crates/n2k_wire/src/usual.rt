@@ -1,9 +1,11 @@
 //! A fast path: a candump line of eight bytes as `candump -L` writes it, `(1751608800.114221) can0 09F80103#FF..`, is read
 //! by place, and the text of its second is kept for the lines that follow. It promises only what it answers. Where it
 //! answers nothing `candump.rt` reads the line, as it reads every line.
-ghost use Rattle.std.specs.Prelude.{◌≡◌, ◌≤◌, ◌<◌, ◌^◌, ℕ, not, position, true, false, Some, Ok, IfSome, IsTrue};
+ghost use Rattle.std.specs.Prelude.{◌≡◌, ◌≤◌, ◌<◌, ◌^◌, ◌++◌, ℕ, map, not, position, true, false, Some, Ok, IfSome, IsTrue};
 ghost use Rattle.std.specs.Char.{is_ascii_hexdigit};
+ghost use Rattle.std.specs.Int.{w32, w64, to_le_bytes};
 ghost use Rattle.std.specs.List.{list_all};
+ghost use Rattle.std.specs.Simd.Lanes.{mask_l};
 ghost use Rattle.n2k_wire.specs.Candump.{framed, is_interface_byte, identifier, is_other_frame, payload};
 ghost use Rattle.n2k_wire.specs.Entry.{entry, IsEntry, IsShort};
 ghost use Rattle.n2k_wire.specs.declared.entry.Packing.{Packing};
@@ -11,12 +13,13 @@ ghost use Rattle.n2k_wire.specs.Packet.{is_stamp};
 ghost use Rattle.n2k_wire.specs.PrivateWords.{IsFront, stamp_behind};
 ghost use Rattle.n2k_wire.specs.Stamp.{last_second, millis_digits, three_digits, utc_text};
 
-use crate::candump::{FIRST_ERROR_FRAME, LONGEST_INTERFACE, is_interface_byte, read_word};
+use crate::candump::{FIRST_ERROR_FRAME, LONGEST_INTERFACE, read_word};
 use crate::digits::{are_digits, are_hex_digits, decimal_number, eight_bytes};
 use crate::entry::{Entry, set_usual};
 use crate::identifier::split_id;
 use crate::pieces::after_byte;
 use crate::stamp::{Moment, UTC_LEN, utc_text};
+use std::simd::prelude::*;
 
 /// The bytes of `(1751608800.`.
 const FRONT: usize = 12;
@@ -34,6 +37,9 @@ const WORD_DIGITS: usize = 8;
 const SHORTEST: usize = 47;
 
 const LONGEST: usize = 61;
+
+/// The bytes in which the end of an interface's name is looked for.
+const LANES: usize = 16;
 
 /// The second of the line that was read last.
 #[derive(Drop)]
@@ -104,16 +110,26 @@ impl Clock {
     }
 }
 
-/// Whether two fronts are the same. It looks at each byte, without a branch.
-#[inline]
+/// A front as two words.
+#[inline(always)]
+fn front_words(front: &[u8; FRONT]) -> (u64, u32)
+    ensures { front.now ≡ to_le_bytes w64 result.0 ++ to_le_bytes w32 result.1 }
+{
+    let [a, b, c, d, e, f, g, h, i, j, k, l] = *front;
+    (
+        u64::from_le_bytes([a, b, c, d, e, f, g, h]),
+        u32::from_le_bytes([i, j, k, l]),
+    )
+}
+
+/// Whether two fronts are the same.
+#[inline(always)]
 fn are_same(front: &[u8; FRONT], other: &[u8; FRONT]) -> bool
     ensures { IsTrue result → front.now ≡ other.now }
 {
-    let mut same = true;
-    for i in 0..FRONT {
-        same &= front[i] == other[i];
-    }
-    same
+    let (start, end) = front_words(front);
+    let (other_start, other_end) = front_words(other);
+    start == other_start && end == other_end
 }
 
 /// The text of a second with the milliseconds that a fraction begins with.
@@ -128,10 +144,26 @@ fn with_millis(text: &[u8; UTC_LEN], fraction: &[u8; FRACTION]) -> [u8; UTC_LEN]
     text
 }
 
-fn place_of_other(text: &[u8]) -> Option<usize>
-    ensures { result ≡ position (λ b. not (is_interface_byte b)) text.now }
+/// A bit for each byte that an interface's name can't have.
+#[inline(always)]
+fn mask_of_others(lanes: u8x16) -> u64
+    ensures { result ≡ mask_l (map (λ b. not (is_interface_byte b)) lanes) }
 {
-    text.iter().position(|byte| !is_interface_byte(*byte))
+    let shifted = lanes - u8x16::splat(b'!');
+    shifted.simd_gt(u8x16::splat(b'~' - b'!')).to_bitmask()
+}
+
+/// Where the first such byte stands, if it is among the first sixteen of a text. They are looked at all at once.
+#[inline(always)]
+fn place_of_other(text: &[u8]) -> Option<usize>
+    ensures { IfSome result (λ at. position (λ b. not (is_interface_byte b)) text.now ≡ Some at) }
+{
+    if text.len() < LANES {
+        return None;
+    }
+    let mask = mask_of_others(u8x16::from_slice(text));
+    let at = mask.trailing_zeros() as usize;
+    if at < LANES { Some(at) } else { None }
 }
 
 /// The digits of the identifier and what follows the `#`, where one space stands on each side of the interface, and

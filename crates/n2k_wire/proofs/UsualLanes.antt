@@ -1,0 +1,52 @@
+-- Bytes that are looked at all at once.
+use Rattle.std.proofs.Common.{◌≡◌, ℕ, zero, suc, ◌+◌, ◌-◌, ◌%◌, ◌^◌, ◌<◌, ◌≤◌, Bool, true, false, not, cond, ltb, List, [], ◌∷◌, length, get_or, map, take, replicate, Fits, w8, Some, refl, sym, ap, ◌∙◌, arith, inl, inr, eq-zero-or-pos}
+use Rattle.std.specs.Prelude.{position}
+use Rattle.std.specs.List.{position_or_len, prefix_len}
+use Rattle.std.proofs.lemmas.Bool.{agree_below_at, lt-ltb, not-false, not-true}
+use Rattle.std.proofs.lemmas.List.{get_or-take, length-map, length-take-le}
+use Rattle.std.proofs.lemmas.List.Sums.{position_or_len_is, prefix_len_passes, prefix_len_stops}
+use Rattle.std.proofs.lemmas.Simd.{mask_l-mod, trailing_mask_l}
+use lib.Count.{count_trailing_zeros}
+use lib.Lanes.{Each1, mask_l, top, zip2}
+use Rattle.n2k_wire.specs.Candump.{is_interface_byte}
+
+abbrev pub other : ℕ → Bool
+other b = not (is_interface_byte b)
+
+abbrev lane : ℕ → Bool
+lane b = top 7 (cond (ltb 93 ((b + (256 - 33)) % 256)) 255 0)
+
+pub others : (n : ℕ) (bytes : List ℕ) → length bytes ≡ n → Each1 (Fits w8) bytes
+    → map (top 7) (zip2 (λ a b. cond (ltb a b) 255 0) (replicate n 93) (zip2 (λ a b. (a + (256 - b)) % 256) bytes (replicate n 33))) ≡ map other bytes
+others zero [] long small = refl
+others zero (b ∷ bytes) long small = absurd (omega arith)
+others (suc n) [] long small = absurd (omega arith)
+others (suc n) (b ∷ bytes) long small =
+    let one : lane b ≡ other b = agree_below_at lane other 256 b refl small.0.fits in
+    λ i. one i ∷ others n bytes (omega arith) small.1 i
+
+-- the bits of these lanes
+pub mask_is : (bytes : List ℕ) → length bytes ≡ 16 → Each1 (Fits w8) bytes
+    → mask_l (map (top 7) (zip2 (λ a b. cond (ltb a b) 255 0) (replicate 16 93) (zip2 (λ a b. (a + (256 - b)) % 256) bytes (replicate 16 33)))) % 2 ^ 64 ≡ mask_l (map other bytes)
+mask_is bytes long small =
+    ap (λ ms. mask_l ms % 2 ^ 64) (others 16 bytes long small) ∙ mask_l-mod (map other bytes) 64 (omega (arith, length-map bytes other, long))
+
+-- the first of sixteen bytes whose bit is set
+pub place_is : (text : List ℕ) (mask : ℕ) → 16 ≤ length text → count_trailing_zeros 64 mask < 16 → mask ≡ mask_l (map other (take 16 text)) → position other text ≡ Some (count_trailing_zeros 64 mask)
+unfolding count_trailing_zeros
+place_is text mask long few is =
+    let bytes = take 16 text in
+    let at = count_trailing_zeros 64 mask in
+    let sixteen : length bytes ≡ 16 = length-take-le 16 text long in
+    elim (eq-zero-or-pos mask) [
+      | inl none ↦ absurd (let far : at ≡ 64 = ap (count_trailing_zeros 64) none in omega arith)
+      | inr some ↦
+          let place : at ≡ prefix_len (λ b. not (other b)) bytes = ap (count_trailing_zeros 64) is ∙ trailing_mask_l other 64 bytes (omega (arith, sixteen)) (omega (arith, is)) in
+          let before : (k : ℕ) → k < at → other (get_or text k 0) ≡ false = λ k early.
+          ap other (sym (get_or-take 16 text k 0 (omega arith))) ∙ not-true _ (prefix_len_passes (λ b. not (other b)) bytes k 0 (omega (arith, place))) in
+          let found : other (get_or text at 0) ≡ true =
+          ap other (sym (get_or-take 16 text at 0 few)) ∙ ap (λ k. other (get_or bytes k 0)) place ∙ not-false _ (prefix_len_stops (λ b. not (other b)) bytes 0 (omega (arith, place, sixteen))) in
+          let end = position_or_len_is other text at 0 (omega arith) before (λ _. found) in
+          let inside : ltb (position_or_len other text) (length text) ≡ true = lt-ltb _ _ (omega (arith, end)) in
+          rw (inside, end) refl
+    ]
