@@ -124,6 +124,7 @@ impl Blocks {
     /// line's end is held, by calls that each ask for as much as the block takes: at most 10^12 over all answers.
     /// `Failed` where the source failed in this call, or where these reads are used up. No line is lost by it: a
     /// later call goes on where this one stood. It takes no memory.
+    #[inline(always)]
     pub fn next_line<R: Source>(&mut self, reader: &mut R) -> Result<Next<'_>, Failed>
         ensures* answers { sem 𝓛 (Rests the_row self.entry (λ new.
             Answers self.old new (R.remaining reader.old) (R.remaining reader.new) (R.calls reader.old) (R.calls reader.new) result
@@ -147,8 +148,24 @@ impl Blocks {
         &self.block[self.line_start..self.line_end]
     }
 
-    // Finds the next line, and reads until it is found.
+    // Finds the next line, which mostly is held, and reads where it isn't.
+    #[inline(always)]
     fn find_line<R: Source>(&mut self, reader: &mut R) -> Result<Found, Failed>
+        ensures found { AnswersFound self.old self.new (R.remaining reader.old) (R.remaining reader.new) (R.calls reader.old) (R.calls reader.new) result }
+        ensures quiet { HasFeed self.old.kept → reader.new ≡ reader.old }
+        ensures none_failed { OnOk result (R.failed_calls reader.new ≡ R.failed_calls reader.old) }
+        ensures failed { OnErr result (HasFailed (R.failed_calls reader.old) (R.failed_calls reader.new)
+            ⊎ ((self.new.reads ≡ most_reads) × (R.failed_calls reader.new ≡ R.failed_calls reader.old))) }
+    {
+        match self.take_line() {
+            Some(found) => Ok(found),
+            None => self.read_line(reader),
+        }
+    }
+
+    // The same, apart from it, since few lines come this way: it reads until a line is found.
+    #[inline(never)]
+    fn read_line<R: Source>(&mut self, reader: &mut R) -> Result<Found, Failed>
         ensures found { AnswersFound self.old self.new (R.remaining reader.old) (R.remaining reader.new) (R.calls reader.old) (R.calls reader.new) result }
         ensures quiet { HasFeed self.old.kept → reader.new ≡ reader.old }
         ensures none_failed { OnOk result (R.failed_calls reader.new ≡ R.failed_calls reader.old) }

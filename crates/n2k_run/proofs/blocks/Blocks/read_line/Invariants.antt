@@ -2,7 +2,7 @@ use Rattle.std.proofs.Common.{◌≡◌, ◌-◌}
 use Rattle.n2k_run.specs.Blocks.{HasFeed}
 use Rattle.n2k_run.specs.Inner.Block.{Reads}
 use Rattle.n2k_run.specs.Reading.{most_reads}
-use Rattle.n2k_run.proofs.blocks.Blocks.find_line.Given as goal
+use Rattle.n2k_run.proofs.blocks.Blocks.read_line.Given as goal
 
 abbrev pub invariant-loop-found : goal.invariant-loop-found
 invariant-loop-found g l = record {
