@@ -16,7 +16,7 @@ use crate::maker::Maker;
 use crate::texts::bad_text;
 use n2k_join::{Counts, MOST_LINES, SplitFault, Splitter, laws};
 use n2k_table::Table;
-use n2k_wire::{BadCause, Entry, Packet, Packing, WireFault, candump_text, plain_text};
+use n2k_wire::{BadCause, CandumpLines, Entry, Packet, Packing, WireFault, plain_text};
 use std::alloc::{AllocError, Global};
 
 // What becomes of a line.
@@ -52,8 +52,9 @@ fn append_candump(
     ensures { AppendsLines (candump_texts interface.now frames.now) result text.old.items text.new.items }
 {
     let before = text.len();
+    let mut lines = CandumpLines::new(interface);
     for frame in frames {
-        match candump_text(alloc, frame, interface, text) {
+        match lines.append(alloc, frame, text) {
             Ok(()) => {}
             Err(fault) => {
                 text.truncate(before);

@@ -1,11 +1,19 @@
 -- Writing the parts of a candump line.
-use Rattle.std.proofs.Common.{◌≡◌, ℕ, suc, ◌+◌, ◌<◌, ◌≤◌, List, [], ◌∷◌, ◌++◌, length, get_or, drop, sym, ap, ◌∙◌, arith}
-use Rattle.std.specs.Prelude.{decimal, IsTrue}
+use Rattle.std.proofs.Common.{◌≡◌, ℕ, suc, ◌+◌, ◌<◌, ◌≤◌, List, [], ◌∷◌, ◌++◌, length, get_or, drop, refl, sym, ap, ◌∙◌, append_assoc, arith, rules, Result, Ok, Err, codes}
+use Rattle.std.specs.Prelude.{decimal, IfErr, IsTrue, OnOk}
 use Rattle.std.proofs.lemmas.Bool.{and_parts, leb-true}
 use Rattle.std.proofs.lemmas.Fmt.{length-decimal-le}
 use Rattle.std.proofs.Math.Seq.{drop-cons}
 use Rattle.hex.specs.Hex.{encode_with, encode_upper}
 use Rattle.n2k_wire.specs.Candump.{is_interface}
+use Rattle.n2k_wire.specs.declared.fault.WireFault.{WireFault}
+use Rattle.n2k_wire.specs.declared.fault.WireFault.TheVariants.{Memory}
+use Rattle.n2k_wire.specs.declared.identifier.Id.{Id}
+use Rattle.n2k_wire.specs.Packet.{PacketParts}
+use Rattle.n2k_wire.specs.PrivateWords.{candump_front, IsCandumpFront}
+use Rattle.n2k_wire.specs.Stamp.{Moment}
+use Rattle.n2k_wire.specs.Steps.{◌>>=◌}
+use Rattle.n2k_wire.specs.Texts.{Appends, candump_line, candump_parts, candump_text}
 
 -- the name of an interface is short
 pub interface_short : (name : List ℕ) → IsTrue (is_interface name) → length name ≤ 15
@@ -26,3 +34,39 @@ upper_next bytes i within =
 -- the seconds of every moment have at most twelve digits, and with their zeros at least ten
 pub seconds_short : (n : ℕ) → n ≤ 253402300799 → length (decimal n) ≤ 12
 seconds_short n few = length-decimal-le 12 n (omega arith) (omega arith) (omega arith)
+
+-- a candump line is what stands in front of its data, and the data
+line_behind : (interface : List ℕ) (seen : Moment) (identifier : ℕ) (payload : List ℕ) → candump_line interface seen identifier payload ≡ candump_front interface seen identifier ++ encode_upper payload
+unfolding candump_line candump_front
+line_behind interface seen identifier payload = search rules
+
+-- what stands in front of the data is the same for all packets of one stamp and identifier
+pub front_is : (interface : List ℕ) (p : PacketParts) (seen : Moment) (identifier : ℕ) → candump_parts p ≡ Ok (seen, identifier) → IsCandumpFront interface p.stamp p.id (candump_front interface seen identifier)
+unfolding candump_parts
+front_is interface p seen identifier is payload = ap (λ r. r >>= (λ parts. Ok (candump_front interface parts.0 parts.1))) is
+
+-- it is that of a packet with the same stamp and identifier
+pub front_kept : (interface stamp : List ℕ) (id : Id) (text : List ℕ) (p : PacketParts) → IsCandumpFront interface stamp id text → p.stamp ≡ stamp → p.id ≡ id → IsCandumpFront interface p.stamp p.id text
+front_kept interface stamp id text p front same_stamp same_id = rw (same_stamp, same_id) front
+
+ok_same : (x y : List ℕ) (r : Result (List ℕ) WireFault) → r ≡ Ok x → r ≡ Ok y → x ≡ y
+ok_same x y r e f = cc
+
+err_ok : (fault : WireFault) (x : List ℕ) → Err fault ≡ Ok x → ⊥
+err_ok fault x e = cc
+
+line_of : (interface text payload : List ℕ) (r : Result (Moment × ℕ) WireFault) → (r >>= (λ parts. Ok (candump_front interface parts.0 parts.1))) ≡ Ok text
+    → (r >>= (λ parts. Ok (candump_line interface parts.0 parts.1 payload ++ codes "\n"))) ≡ Ok (text ++ (encode_upper payload ++ codes "\n"))
+line_of interface text payload (Ok parts) is =
+    let front = ok_same _ _ _ refl is in
+    ap Ok (ap (λ line. line ++ codes "\n") (line_behind interface parts.0 parts.1 payload ∙ ap (λ t. t ++ encode_upper payload) front) ∙ append_assoc text (encode_upper payload) (codes "\n"))
+line_of interface text payload (Err fault) is = absurd (err_ok fault text is)
+
+-- a packet's line is what stands in front of its data, and its data
+text_behind : (interface text : List ℕ) (p : PacketParts) → IsCandumpFront interface p.stamp p.id text → candump_text interface p ≡ Ok (text ++ (encode_upper p.payload ++ codes "\n"))
+unfolding candump_parts
+text_behind interface text p front = line_of interface text p.payload (candump_parts p) (front p.payload)
+
+pub appended : (interface text : List ℕ) (p : PacketParts) (result : Result (Unit {0}) WireFault) (old new : List ℕ) → IsCandumpFront interface p.stamp p.id text
+    → OnOk result (new ≡ old ++ (text ++ (encode_upper p.payload ++ codes "\n"))) → IfErr result (λ fault. fault ≡ Memory) → Appends (candump_text interface p) result old new
+appended interface text p result old new front ok err = rw (text_behind interface text p front) (ok, err)

@@ -1,8 +1,10 @@
 -- Words for the contracts of private functions: what the code holds, as the definitions have it. Nothing that a
 -- caller sees needs them.
-use Rattle.std.specs.Prelude.{◌≡◌, ◌≤◌, ℕ, ◌+◌, ◌*◌, ◌/◌, ◌%◌, true, if◌then◌else◌, nat_lt, List, [], ◌∷◌, ◌++◌, length, Option, Some, None, option_map, option_and_then, Result}
+use Rattle.std.specs.Prelude.{◌≡◌, ◌≤◌, ℕ, ◌+◌, ◌*◌, ◌/◌, ◌%◌, true, if◌then◌else◌, nat_lt, List, [], ◌∷◌, ◌++◌, length, Option, Some, None, option_map, option_and_then, Result, Ok, codes}
 use Rattle.std.specs.Borrow.{Bor}
 use Rattle.std.specs.Char.{is_ascii_hexdigit}
+use Rattle.std.specs.Int.{w32, to_be_bytes}
+use Rattle.hex.specs.Hex.{encode_upper}
 use Rattle.n2k_wire.specs.declared.candump.CandumpFrame.{CandumpFrame}
 use Rattle.n2k_wire.specs.declared.entry.Entry.{Entry}
 use Rattle.n2k_wire.specs.declared.entry.Entry.TheVariants as entries
@@ -15,8 +17,9 @@ use Rattle.n2k_wire.specs.declared.entry.BadCause.{BadCause}
 use Rattle.n2k_wire.specs.declared.entry.BadCause.TheVariants as causes
 use Rattle.n2k_wire.specs.Candump.{stamped, framed, identifier, frame_of}
 use Rattle.n2k_wire.specs.Digits.{decimal_number}
-use Rattle.n2k_wire.specs.Stamp.{Moment, last_second, most_fraction_digits, moment, three_digits, utc_text}
+use Rattle.n2k_wire.specs.Stamp.{Moment, last_second, millis_digits, most_fraction_digits, moment, three_digits, utc_text}
 use Rattle.n2k_wire.specs.Steps.{◌>>=◌, or_cause}
+use Rattle.n2k_wire.specs.Texts.{candump_parts, second_digits}
 
 -- The value of a hexadecimal digit, by arithmetic alone: `0` to `9` are 48 to 57, `A` to `F` 65 to 70, `a` to `f` 97
 -- to 102, so the letters, at 64 and above, count from 10.
@@ -59,6 +62,16 @@ abbrev pub IsFront : List ℕ → ℕ → Type 0
 IsFront front seconds =
     (fraction rest : List ℕ) (f m : ℕ) → decimal_number most_fraction_digits fraction ≡ Some f → decimal_number 3 (three_digits fraction) ≡ Some m
     → seen_behind (front ++ (fraction ++ (41 ∷ rest))) ≡ Some ((record { seconds = seconds; millis = m }), rest)
+
+-- what stands in front of the data in a candump line, of an interface, a moment and the 29 bits of an identifier
+unfoldable pub candump_front : List ℕ → Moment → ℕ → List ℕ
+candump_front interface seen identifier =
+    codes "(" ++ second_digits seen.seconds ++ codes "." ++ millis_digits seen.millis ++ codes "000) " ++ interface ++ codes " " ++ encode_upper (to_be_bytes w32 identifier) ++ codes "#"
+
+-- a text is what stands so at an interface in front of the data of each packet of this stamp and identifier
+abbrev pub IsCandumpFront : List ℕ → List ℕ → Id → List ℕ → Type 0
+IsCandumpFront interface stamp id text =
+    (payload : List ℕ) → (candump_parts (record { stamp = stamp; id = id; payload = payload }) >>= (λ parts. Ok (candump_front interface parts.0 parts.1))) ≡ Ok text
 
 -- the entry of a candump line, by that
 unfoldable pub candump_by : List ℕ → Result Entry BadCause

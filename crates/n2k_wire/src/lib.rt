@@ -5,13 +5,14 @@
 //!   same where an earlier entry was, and a `LineReader` answers the same for lines in a row, at less cost.
 //! - `split_id` splits a CAN identifier into priority, PGN, source and destination (`Id`), and `join_id` joins them.
 //! - `Packet` holds a message or a frame: its stamp, its `Id`, and up to 223 bytes.
-//! - `plain_text` and `candump_text` append a packet as a line; `is_interface` is the test of an interface's name.
-//!   `laws` has what ties these calls together.
+//! - `plain_text` and `candump_text` append a packet as a line, and `CandumpLines` packets in a row, at less cost;
+//!   `is_interface` is the test of an interface's name. `laws` has what ties these calls together.
 //!
 //! No other call takes memory. Each answer is a stated function of the bytes that were given.
 #![tactic(auto)]
 
 mod candump;
+mod candump_lines;
 mod digits;
 mod entry;
 mod fault;
@@ -28,6 +29,7 @@ mod usual_text;
 mod usual_whole;
 
 pub use candump::{FRAME_PAYLOAD, is_interface};
+pub use candump_lines::CandumpLines;
 pub use entry::{BadCause, Entry, LONGEST_LINE, LineReader, Packing, read_line, read_line_into};
 pub use fault::WireFault;
 pub use identifier::{Id, join_id, split_id};

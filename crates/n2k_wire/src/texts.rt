@@ -1,12 +1,13 @@
 //! Packets as texts.
-ghost use Rattle.std.specs.Prelude.{◌≡◌, ◌+◌, ◌-◌, ◌*◌, ◌<◌, ◌≤◌, ◌++◌, [], ◌∷◌, codes, drop, length, slice_index, IfOk, IsTrue, OnOk, OnErr};
+ghost use Rattle.std.specs.Prelude.{◌≡◌, ◌+◌, ◌-◌, ◌*◌, ◌<◌, ◌≤◌, ◌++◌, [], ◌∷◌, codes, drop, length, slice_index, IfErr, IfOk, IsTrue, OnOk, OnErr};
 ghost use Rattle.std.specs.List.{flat_map};
 ghost use Rattle.arrayvec.specs.ArrayVec.{array_vec_len};
 ghost use Rattle.hex.specs.Hex.{encode_upper, lower_digits};
+ghost use Rattle.n2k_wire.specs.declared.fault.WireFault.TheVariants.{Memory};
 ghost use Rattle.n2k_wire.specs.Candump.{frame_payload, is_interface, longest_interface};
-ghost use Rattle.n2k_wire.specs.PrivateWords.{plain_moment, IsMoment};
+ghost use Rattle.n2k_wire.specs.PrivateWords.{candump_front, plain_moment, IsMoment};
 ghost use Rattle.n2k_wire.specs.Stamp.{last_second, millis_digits};
-ghost use Rattle.n2k_wire.specs.Texts.{Appends, byte_piece, number_piece, plain_text, second_digits, candump_line, candump_parts, candump_text};
+ghost use Rattle.n2k_wire.specs.Texts.{Appends, byte_piece, number_piece, plain_text, second_digits, candump_parts, candump_text};
 ghost use Rattle.n2k_wire.specs.Views.{Gives};
 
 use crate::candump::FRAME_PAYLOAD;
@@ -27,7 +28,8 @@ const LINE_ROOM: usize = 768;
 /// Room for any candump line of a frame, with twelve digits of seconds, an interface of 15 bytes, and the LF.
 const CANDUMP_ROOM: usize = 64;
 
-type CandumpLine = ArrayVec<u8, CANDUMP_ROOM>;
+/// A candump line, or what of it is written so far.
+pub(crate) type CandumpLine = ArrayVec<u8, CANDUMP_ROOM>;
 
 const UPPER_DIGITS: [u8; 16] = *b"0123456789ABCDEF";
 
@@ -232,13 +234,13 @@ fn push_upper(line: &mut CandumpLine, bytes: &[u8])
     }
 }
 
-/// A candump line, with its LF.
-#[tactic(auto, unfolding(crate::specs::Texts::candump_line))]
-fn candump_line(seen: Moment, identifier: u32, payload: &[u8], interface: &[u8]) -> CandumpLine
+/// What stands in front of the data in a candump line.
+#[tactic(auto, unfolding(crate::specs::PrivateWords::candump_front))]
+pub(crate) fn front_of(seen: Moment, identifier: u32, interface: &[u8]) -> CandumpLine
     requires moment { IsMoment (plain_moment seen) }
-    requires short { length payload.now ≤ frame_payload }
     requires interface { length interface.now ≤ longest_interface }
-    ensures { result.items ≡ candump_line interface.now (plain_moment seen) identifier payload.now ++ codes "\n" }
+    ensures items { result.items ≡ candump_front interface.now (plain_moment seen) identifier }
+    ensures len { array_vec_len result ≤ 47 }
 {
     let mut line = ArrayVec::new();
     line.push(b'(');
@@ -250,14 +252,32 @@ fn candump_line(seen: Moment, identifier: u32, payload: &[u8], interface: &[u8])
     line.push(b' ');
     push_upper(&mut line, &identifier.to_be_bytes());
     line.push(b'#');
-    push_upper(&mut line, payload);
-    line.push(b'\n');
     line
 }
 
-/// What candump writes of a packet in front of its data.
+/// Appends a candump line of that front and these data, with its LF.
+pub(crate) fn append_behind(
+    front: &[u8],
+    payload: &[u8],
+    out: &mut Vec<u8>,
+) -> Result<(), WireFault>
+    requires front { length front.now ≤ 47 }
+    requires short { length payload.now ≤ frame_payload }
+    ensures text { OnOk result (out.new.items ≡ out.old.items ++ (front.now ++ (encode_upper payload.now ++ codes "\n"))) }
+    ensures unchanged { OnErr result (out.new.items ≡ out.old.items) }
+    ensures memory { IfErr result (λ fault. fault ≡ Memory) }
+{
+    let mut text: CandumpLine = ArrayVec::new();
+    push_text(&mut text, front);
+    push_upper(&mut text, payload);
+    text.push(b'\n');
+    out.extend_from_slice(text.as_slice())
+        .map_err(|_| WireFault::Memory)
+}
+
+/// What candump writes of a packet besides its data.
 #[tactic(auto, unfolding(crate::specs::Texts::candump_parts))]
-fn candump_parts(packet: &Packet) -> Result<(Moment, u32), WireFault>
+pub(crate) fn candump_parts(packet: &Packet) -> Result<(Moment, u32), WireFault>
     ensures value { Gives (λ parts. (plain_moment parts.0, parts.1)) result (candump_parts packet.now) }
     ensures moment { IfOk result (λ parts. IsMoment (plain_moment parts.0)) }
 {
@@ -270,7 +290,7 @@ fn candump_parts(packet: &Packet) -> Result<(Moment, u32), WireFault>
 /// from `!` to `~`: `(0000000010.300000) can0 1DFF0405#000BA39901414243` with its LF, digits in upper case.
 /// `NoStamp` where its stamp isn't `YYYY-MM-DDTHH:MM:SS.mmmZ` of a day that the calendar has from 1970 on, else
 /// `NoId` where `join_id` has no identifier for it. `out` is as it was where the answer is a fault.
-#[tactic(auto, using(crate::proofs::CandumpLemmas::interface_short))]
+#[tactic(auto, using(crate::proofs::CandumpLemmas::interface_short, crate::proofs::CandumpLemmas::front_is, crate::proofs::CandumpLemmas::appended))]
 pub fn candump_text(
     _alloc: Global,
     packet: &Packet,
@@ -283,7 +303,6 @@ pub fn candump_text(
     ensures unchanged { OnErr result (out.new.items ≡ out.old.items) }
 {
     let (seen, identifier) = candump_parts(packet)?;
-    let text = candump_line(seen, identifier, packet.data(), interface.as_bytes());
-    out.extend_from_slice(text.as_slice())
-        .map_err(|_| WireFault::Memory)
+    let front = front_of(seen, identifier, interface.as_bytes());
+    append_behind(front.as_slice(), packet.data(), out)
 }
