@@ -12,8 +12,10 @@ ghost use Rattle.n2k_table.specs.Field.{in_bytes, byte_at_of, byte_bits_of, raw_
 use crate::bits::{greatest, raw};
 use crate::fault::TableFault;
 use crate::lookup::{Lookup, Lookups};
+use crate::piece::Piece;
 use crate::resolution::{Resolution, resolution_at};
 use crate::shown::{Seen, Shown, shown_name, shown_number, shown_text};
+use crate::tail::Tail;
 use crate::text::text_json;
 use crate::tree::{
     FieldKind, Holder, Place, any_text_at, as_members, found, has_only_keys, text_at, truth_at,
@@ -67,7 +69,7 @@ pub(crate) enum Meaning {
 pub(crate) struct Field {
     name: String,
     // What stands before the value in a line, with a comma, kept since each line needs it.
-    key: Vec<u8>,
+    key: Piece,
     at: u32,
     bits: u32,
     meaning: Meaning,
@@ -89,7 +91,36 @@ impl Model for Field {
       wanted = f.wanted;
     } };
 
-    ghost invariant = { λ f. IsKept (string_bytes f.name) f.key.items f.at f.bits (seen_meaning f.meaning) f.wanted };
+    ghost invariant = { λ f. IsKept (string_bytes f.name) f.key f.at f.bits (seen_meaning f.meaning) f.wanted };
+}
+
+// A field as it is described: its key is not yet kept as it is copied.
+#[derive(Drop)]
+struct Described {
+    name: String,
+    key: Vec<u8>,
+    at: u32,
+    bits: u32,
+    meaning: Meaning,
+    wanted: Option<u64>,
+}
+
+impl Model for Described {
+    ghost use Rattle.std.specs.Prelude.{string_bytes};
+    ghost use Rattle.n2k_table.specs.Field.{FieldParts};
+    ghost use Rattle.n2k_table.specs.Inner.Kept.{meaning as seen_meaning, IsKept};
+
+    ghost Value = { FieldParts };
+
+    ghost view = { λ d. record {
+      name = string_bytes d.name;
+      at = d.at;
+      bits = d.bits;
+      meaning = seen_meaning d.meaning;
+      wanted = d.wanted;
+    } };
+
+    ghost invariant = { λ d. IsKept (string_bytes d.name) d.key.items d.at d.bits (seen_meaning d.meaning) d.wanted };
 }
 
 // The raw value that a field asks for, if it asks for one.
@@ -170,7 +201,7 @@ fn key_of(alloc: Global, name: &str) -> Result<Vec<u8>, AllocError>
     Ok(key)
 }
 
-fn number_field(alloc: Global, room: Room, table: &Table) -> Result<Field, TableFault>
+fn number_field(alloc: Global, room: Room, table: &Table) -> Result<Described, TableFault>
     requires { room.bits ≤ 1784 }
     ensures { let f = table_view table.now in
         GivesOrMemory (λ field. field) result
@@ -188,7 +219,7 @@ fn number_field(alloc: Global, room: Room, table: &Table) -> Result<Field, Table
     if at + bits > room.bits || (signed && bits < 2) || !is_of_bits(wanted, bits) {
         return Err(TableFault::Range);
     }
-    Ok(Field {
+    Ok(Described {
         name: String::from_str(alloc, name)?,
         key: key_of(alloc, name)?,
         at,
@@ -203,7 +234,7 @@ fn lookup_field(
     lookups: &Lookups,
     room: Room,
     table: &Table,
-) -> Result<Field, TableFault>
+) -> Result<Described, TableFault>
     requires { room.bits ≤ 1784 }
     ensures { let names = map (λ (lookup : LookupParts). lookup.name) lookups.now in
         let f = table_view table.now in
@@ -224,7 +255,7 @@ fn lookup_field(
     let Some(lookup) = lookups.find(lookup_name) else {
         return Err(TableFault::Lookup);
     };
-    Ok(Field {
+    Ok(Described {
         name: String::from_str(alloc, name)?,
         key: key_of(alloc, name)?,
         at,
@@ -239,7 +270,7 @@ fn byte_field(
     meaning: Meaning,
     room: Room,
     table: &Table,
-) -> Result<Field, TableFault>
+) -> Result<Described, TableFault>
     requires meaning { IsByteMeaning (seen_meaning meaning) }
     requires room { room.bits ≤ 1784 }
     ensures { let f = table_view table.now in
@@ -255,7 +286,7 @@ fn byte_field(
     if at + bits > room.bits {
         return Err(TableFault::Range);
     }
-    Ok(Field {
+    Ok(Described {
         name: String::from_str(alloc, name)?,
         key: key_of(alloc, name)?,
         at,
@@ -277,13 +308,13 @@ fn named_kind(name: &str) -> Result<FieldKind, TableFault>
     }
 }
 
-/// Reads a field of a message or of a set, by its kind, in a table of these lookups.
-pub(crate) fn read_field(
+// Reads a field by its kind.
+fn read_described(
     alloc: Global,
     lookups: &Lookups,
     room: Room,
     value: &Value,
-) -> Result<Field, TableFault>
+) -> Result<Described, TableFault>
     requires { room.bits ≤ 1784 }
     ensures { let names = map (λ (lookup : LookupParts). lookup.name) lookups.now in
         let d = view value.now in
@@ -299,8 +330,38 @@ pub(crate) fn read_field(
     }
 }
 
+// The field, with its key as it is copied.
+fn kept(described: Described) -> Field
+    ensures { result ≡ described }
+{
+    Field {
+        name: described.name,
+        key: Piece::of(described.key),
+        at: described.at,
+        bits: described.bits,
+        meaning: described.meaning,
+        wanted: described.wanted,
+    }
+}
+
+/// Reads a field of a message or of a set, by its kind, in a table of these lookups.
+pub(crate) fn read_field(
+    alloc: Global,
+    lookups: &Lookups,
+    room: Room,
+    value: &Value,
+) -> Result<Field, TableFault>
+    requires { room.bits ≤ 1784 }
+    ensures { let names = map (λ (lookup : LookupParts). lookup.name) lookups.now in
+        let d = view value.now in
+        GivesOrMemory (λ field. field) result
+        (judged (field_faults room.holder (Ok room.bits) names d) (field room.holder lookups.now d)) }
+{
+    Ok(kept(read_described(alloc, lookups, room, value)?))
+}
+
 impl Field {
-    ghost use Rattle.std.specs.Prelude.{is_some};
+    ghost use Rattle.std.specs.Prelude.{◌++◌, is_some, OnOk};
     ghost use Rattle.n2k_table.specs.Inner.Line.{key_json};
     ghost use Rattle.n2k_table.specs.Inner.Seen.{seen_parts};
     ghost use Rattle.n2k_table.specs.Shown.{shown_parts, lies_inside, field_bytes, shown};
@@ -313,12 +374,14 @@ impl Field {
         self.name.as_str()
     }
 
-    /// What stands before the value in a line, with a comma where a member stands before.
-    pub(crate) fn key(&self, later: bool) -> &[u8]
-        ensures { result.now ≡ key_json later self.now.name }
+    /// Appends what stands before the value in a line, with a comma where a member stands before.
+    #[inline(always)]
+    pub(crate) fn push_key(&self, later: bool, line: &mut Tail) -> Result<(), AllocError>
+        ensures items { OnOk result (line.new.items ≡ line.old.items ++ key_json later self.now.name) }
+        ensures before { line.new.before ≡ line.old.before }
     {
         let from = if later { 0 } else { 1 };
-        &self.key[from..]
+        self.key.push_from(from, line)
     }
 
     /// Whether it asks for a raw value.

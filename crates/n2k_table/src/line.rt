@@ -69,7 +69,7 @@ fn push_member(
     if matches!(seen, Seen::Other(Shown::Absent)) && !empty {
         return Ok(later);
     }
-    line.extend_from_slice(field.key(later))?;
+    field.push_key(later, line)?;
     push_value(seen, line)?;
     Ok(true)
 }

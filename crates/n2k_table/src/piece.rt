@@ -9,12 +9,15 @@ use std::marker::Model;
 /// How many bytes are copied at once.
 const WIDE: usize = 32;
 
+/// How many bytes a front has: one more, since a text may be appended without its first byte.
+const FRONT: usize = WIDE + 1;
+
 /// A text that is appended to many lines.
 #[derive(Drop)]
 pub(crate) struct Piece {
     bytes: Vec<u8>,
     // The same bytes and zeros behind them, where they have room.
-    front: [u8; WIDE],
+    front: [u8; FRONT],
 }
 
 impl Model for Piece {
@@ -24,18 +27,18 @@ impl Model for Piece {
 
     ghost view = { λ p. p.bytes.items };
 
-    ghost invariant = { λ p. length p.bytes.items ≤ 32 → take (length p.bytes.items) p.front ≡ p.bytes.items };
+    ghost invariant = { λ p. length p.bytes.items ≤ 33 → take (length p.bytes.items) p.front ≡ p.bytes.items };
 }
 
 impl Piece {
-    ghost use Rattle.std.specs.Prelude.{◌++◌, OnOk};
+    ghost use Rattle.std.specs.Prelude.{◌++◌, ◌<◌, ◌≤◌, drop, length, OnOk};
 
     /// A piece of that text.
     pub(crate) fn of(bytes: Vec<u8>) -> Piece
         ensures { result ≡ bytes.items }
     {
-        let mut front = [0; WIDE];
-        if bytes.len() <= WIDE {
+        let mut front = [0; FRONT];
+        if bytes.len() <= FRONT {
             front[..bytes.len()].copy_from_slice(&bytes);
         }
         Piece { bytes, front }
@@ -47,10 +50,24 @@ impl Piece {
         ensures items { OnOk result (line.new.items ≡ line.old.items ++ self.now) }
         ensures before { line.new.before ≡ line.old.before }
     {
-        if self.bytes.len() <= WIDE {
-            line.put(&self.front, self.bytes.len())
-        } else {
-            line.extend_from_slice(&self.bytes)
+        self.push_from(0, line)
+    }
+
+    /// Appends the text from its first byte on, or from its second.
+    #[inline(always)]
+    pub(crate) fn push_from(&self, from: usize, line: &mut Tail) -> Result<(), AllocError>
+        requires few { from < 2 }
+        requires inside { from ≤ length self.now }
+        ensures items { OnOk result (line.new.items ≡ line.old.items ++ drop from self.now) }
+        ensures before { line.new.before ≡ line.old.before }
+    {
+        let count = self.bytes.len() - from;
+        if count > WIDE {
+            return line.extend_from_slice(&self.bytes[from..]);
+        }
+        match self.front[from..].first_chunk::<WIDE>() {
+            Some(wide) => line.put(wide, count),
+            None => Ok(()),
         }
     }
 }
