@@ -1,6 +1,7 @@
 //! Texts of packets, packets, and identifiers.
 use n2k_wire::{
-    Entry, Id, Packet, Packing, candump_text, is_interface, join_id, read_line, split_id,
+    CandumpLines, Entry, Id, Packet, Packing, candump_text, is_interface, join_id, read_line,
+    split_id,
 };
 use std::alloc::Global;
 use std::process::Abort;
@@ -23,14 +24,41 @@ fn push_candump(
     Ok(())
 }
 
-// The candump line of a plain line's frame, or the fault's name.
-fn replays<R: Abort + AllocGlobal>(rt: &R, line: &str, wanted: &str) -> Result<(), Fail> {
+// The same behind the packets before it.
+fn push_behind(
+    alloc: Global,
+    packet: &Packet,
+    lines: &mut CandumpLines,
+    text: &mut Vec<u8>,
+) -> Result<(), Fail> {
+    if packet.data().len() > 8 {
+        return Err("no frame".into());
+    }
+    if let Err(fault) = lines.append(alloc, packet, text) {
+        let told = format!(in alloc; "{fault:?}")?;
+        text.extend_from_slice(told.as_bytes())?;
+    }
+    Ok(())
+}
+
+// The candump line of a plain line's frame, or the fault's name: by itself, and twice behind those before it.
+fn replays<R: Abort + AllocGlobal>(
+    rt: &R,
+    lines: &mut CandumpLines,
+    line: &str,
+    wanted: &str,
+) -> Result<(), Fail> {
     let Entry::Frame(packet) = read_line(line.as_bytes(), Packing::Frames) else {
         return Err("no frame".into());
     };
     let mut text = Vec::new(rt.alloc());
     push_candump(rt.alloc(), &packet, "can0", &mut text)?;
     assert_eq!(rt; text.as_slice(), wanted.as_bytes(), "of {line}");
+    for _ in 0..2 {
+        text.clear();
+        push_behind(rt.alloc(), &packet, lines, &mut text)?;
+        assert_eq!(rt; text.as_slice(), wanted.as_bytes(), "of {line}, in a row");
+    }
     Ok(())
 }
 
@@ -76,8 +104,12 @@ const CANDUMP_TEXTS: [(&str, &str); 21] = [
 
 #[test]
 fn candump_texts(rt: HostRuntime) -> Result<(), Fail> {
+    if !is_interface(b"can0") {
+        return Err("no interface".into());
+    }
+    let mut lines = CandumpLines::new("can0");
     for (line, wanted) in &CANDUMP_TEXTS {
-        replays(&rt, line, wanted)?;
+        replays(&rt, &mut lines, line, wanted)?;
     }
     Ok(())
 }
