@@ -1,4 +1,4 @@
-use Rattle.std.proofs.Common.{◌≡◌, ◌^◌, ◌<◌, ap, arith}
+use Rattle.std.proofs.Common.{arith}
 use Rattle.n2k_table.proofs.RawBits.{raw_lt}
 use Rattle.n2k_table.proofs.bits.raw.Goals as goal
 

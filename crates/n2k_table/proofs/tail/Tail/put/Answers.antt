@@ -1,4 +1,4 @@
-use Rattle.std.proofs.Common.{◌≡◌, ◌+◌, ◌++◌, ℕ, List, length, take, ap, sym, ◌∙◌, arith}
+use Rattle.std.proofs.Common.{take, ap, sym, ◌∙◌, arith}
 use Rattle.n2k_table.specs.Inner.Tail.{TailParts}
 use Rattle.n2k_table.proofs.Rooms.{partly, appended}
 use Rattle.n2k_table.proofs.tail.Tail.put.Goals as goal
