@@ -1,12 +1,13 @@
 //! The worked examples of groups.
 use super::logs::{
-    EIGHT_UNDER_WAY, EXTRA_FRAME, FIRST_FRAME_LOST, FRAMES_IN_REVERSE, MIXED_MESSAGE, ODD_FRAMES,
-    REPEAT_BREAKS, SHORT_LAST_FRAME, SHORT_TOTALS, TWO_SOURCES, seventy_senders,
+    EIGHT_UNDER_WAY, EXTRA_FRAME, FIRST_FRAME_LOST, FRAMES_IN_REVERSE, LONGEST_MESSAGE,
+    MIXED_MESSAGE, ODD_FRAMES, REPEAT_BREAKS, SHORT_LAST_FRAME, SHORT_TOTALS, TWO_SOURCES,
+    seventy_senders,
 };
 use crate::samples::{long_window, sample, shortest_window, take};
 use n2k_join::{Broken, Counts, Join, JoinFault, Step, Window};
 use n2k_table::Table;
-use n2k_wire::{BadCause, Packing, plain_text, read_line};
+use n2k_wire::{Packing, plain_text, read_line};
 use std::alloc::Global;
 use std::process::Abort;
 use std::test::Fail;
@@ -113,7 +114,7 @@ fn tells<R: Abort + AllocGlobal>(
 }
 
 // A log, and what its lines give, each after its number; at the end the six counts.
-const WORKED: [(&str, &str); 9] = [
+const WORKED: [(&str, &str); 10] = [
     (
         TWO_SOURCES,
         "3 1970-01-01T00:00:10.200Z,7,130820,6,255,11,a3,99,02,58,59,20,20,20,20,20,20
@@ -165,6 +166,12 @@ const WORKED: [(&str, &str); 9] = [
         SHORT_LAST_FRAME,
         "2 1970-01-01T00:00:02.000Z,7,130820,5,255,7,01,02,03,04,05,06,07
 2 1 0 0 0 0",
+    ),
+    (
+        LONGEST_MESSAGE,
+        "32 1970-01-01T00:00:32.000Z,7,130820,5,255,223,a3,99,05,4a,4b,4c,20,20,20,20,20,20,20,20,20,20,20,20,20,20,20,20,20,20,20,20,20,20,20,20,20,20,20,20,20,20,20,20,20,20,20,20,20,20,20,20,20,20,20,20,20,20,20,20,20,20,20,20,20,20,20,20,20,20,20,20,20,20,20,20,20,20,20,20,20,20,20,20,20,20,20,20,20,20,20,20,20,20,20,20,20,20,20,20,20,20,20,20,20,20,20,20,20,20,20,20,20,20,20,20,20,20,20,20,20,20,20,20,20,20,20,20,20,20,20,20,20,20,20,20,20,20,20,20,20,20,20,20,20,20,20,20,20,20,20,20,20,20,20,20,20,20,20,20,20,20,20,20,20,20,20,20,20,20,20,20,20,20,20,20,20,20,20,20,20,20,20,20,20,20,20,20,20,20,20,20,20,20,20,20,20,20,20,20,20,20,20,20,20,20,20,20,20,20,20,20,20,20,20,20,20,20,20,20,20,20,20,20,20,20,20,20,20
+33 bad Fast
+33 1 1 0 0 0",
     ),
 ];
 
@@ -252,42 +259,6 @@ const BOTH_BROKEN: &str = "33 broken 130820 5 255 0 1
 #[test]
 fn two_broken_at_one_line(rt: HostRuntime) -> Result<(), Fail> {
     tells_apart(&rt, TWO_OPEN, 30, AGAIN, BOTH_BROKEN)
-}
-
-// Frame `number` of the longest message: it completes it where it is the last, frame 31.
-fn takes_frame<R: Abort + AllocGlobal>(
-    rt: &R,
-    join: &mut Join,
-    table: &Table,
-    number: u8,
-) -> Result<(), Fail> {
-    let line = format!(in rt.alloc(); "({number}.0) can0 1DFF0405#{number:02X}20202020202020")?;
-    let step = take(join, table, &line)?;
-    assert_eq!(rt; step.message.is_some(), number == 31);
-    if let Some(message) = &step.message {
-        assert_eq!(rt; message.data().len(), 223);
-        assert!(rt;
-            message
-                .data()
-                .starts_with(&[0xa3, 0x99, 0x05, 0x4a, 0x4b, 0x4c, 0x20])
-        );
-    }
-    Ok(())
-}
-
-// 32 frames of 223 bytes, and a frame 0 of 224.
-#[test]
-fn longest_message(rt: HostRuntime) -> Result<(), Fail> {
-    let table = sample(rt.alloc())?;
-    let mut join = Join::new(rt.alloc(), &table, long_window());
-    let first = take(&mut join, &table, "(1.0) can0 1DFF0405#00DFA399054A4B4C")?;
-    assert!(rt; first.message.is_none());
-    for number in 1..32u8 {
-        takes_frame(&rt, &mut join, &table, number)?;
-    }
-    let over = take(&mut join, &table, "(33.0) can0 1DFF0405#00E0A399054A4B4C")?;
-    assert_eq!(rt; over.bad, Some(BadCause::Fast));
-    Ok(())
 }
 
 // The data of the n-th message of the logs below.

@@ -66,7 +66,10 @@ fn nine_messages_have_eight_sequences(rt: HostRuntime) -> Result<(), Fail> {
         sends(&rt, &table, &mut splitter, LABEL, 2, &wanted)?;
     }
     let wanted = "x,7,130820,5,9,8,00,00,ff,ff,ff,ff,ff,ff\n";
-    sends(&rt, &table, &mut splitter, "x,7,130820,5,9,0", 1, wanted)
+    sends(&rt, &table, &mut splitter, "x,7,130820,5,9,0", 1, wanted)?;
+    // A message of a single frame is its own.
+    let single = "x,2,129026,127,255,2,01,02\n";
+    sends(&rt, &table, &mut splitter, single.trim_end(), 1, single)
 }
 
 fn fast(data: &[u8]) -> Option<Packet> {
@@ -142,21 +145,6 @@ fn messages_that_are_not_sent(rt: HostRuntime) -> Result<(), Fail> {
     let long = "x,2,129026,127,255,9,01,02,03,04,05,06,07,08,09";
     refuses(&rt, &table, long, SplitFault::TooLong)?;
     refuses(&rt, &table, "x,6,59904,1,255,0", SplitFault::Unknown)
-}
-
-#[test]
-fn a_message_of_a_single_frame_is_its_own(rt: HostRuntime) -> Result<(), Fail> {
-    let table = sample(rt.alloc())?;
-    let mut splitter = Splitter::new(rt.alloc());
-    let line = "x,2,129026,127,255,2,01,02";
-    sends(
-        &rt,
-        &table,
-        &mut splitter,
-        line,
-        1,
-        "x,2,129026,127,255,2,01,02\n",
-    )
 }
 
 // `examples/refused-growth` lets each growth fail in turn: then nothing is changed, and the message sent again has the

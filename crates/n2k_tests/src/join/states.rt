@@ -162,16 +162,10 @@ fn resumed(alloc: Global, table: &Table, window: Window, state: &str) -> Result<
 }
 
 #[test]
-fn no_line_saved(rt: HostRuntime) -> Result<(), Fail> {
-    let table = sample(rt.alloc())?;
-    let join = Join::new(rt.alloc(), &table, long_window());
-    saves(&rt, &join, EMPTY)
-}
-
-#[test]
 fn two_lines_saved(rt: HostRuntime) -> Result<(), Fail> {
     let table = sample(rt.alloc())?;
     let mut join = Join::new(rt.alloc(), &table, long_window());
+    saves(&rt, &join, EMPTY)?;
     take(&mut join, &table, "(10.0) can0 1DFF0405#000BA39901414243")?;
     take(&mut join, &table, "(10.1) can0 1DFF0406#200BA39902585920")?;
     saves(&rt, &join, OPEN)

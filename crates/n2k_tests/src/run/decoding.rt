@@ -2,7 +2,7 @@
 use super::options::{TWO_SOURCES, frames, has_summary};
 use crate::samples::{long_window, sample};
 use n2k_join::Join;
-use n2k_run::{MemorySink, MemorySource, RunFault, run};
+use n2k_run::{MemorySink, MemorySource, run};
 use n2k_table::Table;
 use serde_json::Value;
 use std::alloc::{AllocError, Global};
@@ -302,45 +302,5 @@ fn each_line_is_read_by_serde_json(rt: HostRuntime) -> Result<(), Fail> {
     assert_eq!(rt; stamps.len(), 2);
     assert_eq!(rt; stamps[0].as_str(), "\"\\");
     assert_eq!(rt; stamps[1].as_str(), "2017-08-17T14:12:12.106Z");
-    Ok(())
-}
-
-// One run on a join, under its own window.
-fn goes_on<R: AllocGlobal>(
-    rt: &R,
-    table: &Table,
-    join: &mut Join,
-    reader: &mut MemorySource,
-    writer: &mut MemorySink,
-) -> Result<(), RunFault> {
-    let options = frames(join.window());
-    let mut reporter = MemorySink::new(rt.alloc(), 7, 0);
-    run(
-        rt.alloc(),
-        table,
-        join,
-        options,
-        reader,
-        writer,
-        &mut reporter,
-    )
-}
-
-// After a failed read the join stands after the lines that came, and a later run goes on from there.
-#[test]
-fn a_failed_read_leaves_the_join_at_a_line(rt: HostRuntime) -> Result<(), Fail> {
-    let table = sample(rt.alloc())?;
-    let mut join = Join::new(rt.alloc(), &table, long_window());
-    let mut writer = MemorySink::new(rt.alloc(), 7, 0);
-    let mut reader = MemorySource::new(TWO_SOURCES.as_bytes(), 60, 3);
-    let answer = goes_on(&rt, &table, &mut join, &mut reader, &mut writer);
-    assert_eq!(rt; answer, Err(RunFault::Read));
-    assert_eq!(rt; writer.bytes(), b"".as_slice());
-    assert_eq!(rt; join.counts().lines, 2);
-
-    let rest = TWO_SOURCES.as_bytes().get(86..).ok_or("no rest")?;
-    let mut reader = MemorySource::new(rest, 60, 0);
-    goes_on(&rt, &table, &mut join, &mut reader, &mut writer)?;
-    assert_eq!(rt; writer.bytes(), TWO_SOURCES_TEXT.as_bytes());
     Ok(())
 }

@@ -224,55 +224,6 @@ fn a_block_is_written_before_the_next_is_read(rt: HostRuntime) -> Result<(), Fai
     Ok(())
 }
 
-// How many bytes of the text are written before this read fails.
-fn writes_before_a_failed_read<R: Abort + AllocGlobal>(
-    rt: &R,
-    piece: usize,
-    fail_at: u64,
-    written: usize,
-) -> Result<(), Fail>
-    requires { 0 < piece }
-{
-    let mut reader = MemorySource::new(TWO_SOURCES.as_bytes(), piece, fail_at);
-    let mut writer = MemorySink::new(rt.alloc(), 7, 0);
-    let mut reports = MemorySink::new(rt.alloc(), 7, 0);
-    let answer = run_plain(rt.alloc(), &mut reader, &mut writer, &mut reports);
-    assert_eq!(rt; answer, Err(RunFault::Read));
-    assert_eq!(rt;
-        Some(writer.bytes()),
-        TWO_SOURCES_TEXT.as_bytes().get(..written)
-    );
-    Ok(())
-}
-
-#[test]
-fn a_failed_read_keeps_the_lines_that_came(rt: HostRuntime) -> Result<(), Fail> {
-    writes_before_a_failed_read(&rt, 60, 3, 132)?;
-    writes_before_a_failed_read(&rt, 43, 4, 198)?;
-    writes_before_a_failed_read(&rt, 43, 1, 0)?;
-    writes_before_a_failed_read(&rt, 171, 2, 198)
-}
-
-#[test]
-fn a_failed_write_leaves_a_front(rt: HostRuntime) {
-    let mut reader = MemorySource::new(TWO_SOURCES.as_bytes(), 60, 0);
-    let mut writer = MemorySink::new(rt.alloc(), 10, 3);
-    let mut reports = MemorySink::new(rt.alloc(), 10, 0);
-    let answer = run_plain(rt.alloc(), &mut reader, &mut writer, &mut reports);
-    assert_eq!(rt; answer, Err(RunFault::Write));
-    assert_eq!(rt; writer.bytes(), b"1970-01-01T00:00:10.".as_slice());
-}
-
-#[test]
-fn a_failed_report_leaves_a_front(rt: HostRuntime) {
-    let mut reader = MemorySource::new(b"hello\n", 60, 0);
-    let mut writer = MemorySink::new(rt.alloc(), 10, 0);
-    let mut reports = MemorySink::new(rt.alloc(), 10, 2);
-    let answer = run_plain(rt.alloc(), &mut reader, &mut writer, &mut reports);
-    assert_eq!(rt; answer, Err(RunFault::Report));
-    assert_eq!(rt; reports.bytes(), b"line 1 bad".as_slice());
-}
-
 // `examples/refused-growth` lets each growth of the run fail in turn: the answer is that with ample memory or a refusal,
 // and what was written is a front.
 #[test]

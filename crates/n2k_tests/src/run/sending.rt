@@ -274,37 +274,3 @@ fn nine_messages_and_another_source(rt: HostRuntime) -> Result<(), Fail> {
     assert_eq!(rt; decoded.bytes(), wanted.as_slice());
     Ok(())
 }
-
-// The frames of nine messages where a read or a write fails: the fault, and how many bytes of them are written.
-fn stops<R: Abort + AllocGlobal>(
-    rt: &R,
-    table: &Table,
-    read_fails: u64,
-    write_fails: u64,
-    fault: RunFault,
-    written: usize,
-) -> Result<(), Fail> {
-    let frames = frames_of(rt, table, NINE.as_bytes())?;
-    let mut reader = MemorySource::new(NINE.as_bytes(), 60, read_fails);
-    let mut writer = MemorySink::new(rt.alloc(), 10, write_fails);
-    let mut reporter = MemorySink::new(rt.alloc(), 10, 0);
-    let answer = frames_at(
-        rt.alloc(),
-        table,
-        None,
-        &mut reader,
-        &mut writer,
-        &mut reporter,
-    );
-    assert_eq!(rt; answer, Err(fault));
-    assert_eq!(rt; Some(writer.bytes()), frames.bytes().get(..written));
-    Ok(())
-}
-
-// After a fault of a device a front is written. Before the fourth read two lines of 76 bytes came, and the third in part.
-#[test]
-fn a_failed_device_leaves_a_front(rt: HostRuntime) -> Result<(), Fail> {
-    let table = sample(rt.alloc())?;
-    stops(&rt, &table, 0, 3, RunFault::Write, 20)?;
-    stops(&rt, &table, 4, 0, RunFault::Read, 264)
-}

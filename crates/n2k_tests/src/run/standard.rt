@@ -5,25 +5,6 @@ use std::io;
 use std::io::{ErrorKind, Read, Write};
 use std::test::Fail;
 
-const TEXT: &str = "0123456789abcdef";
-
-#[test]
-fn a_slice_is_read(rt: HostRuntime) -> Result<(), Fail> {
-    let mut source = StdSource::new(TEXT.as_bytes());
-    let bytes = read_bytes(rt.alloc(), &mut source, 16)?;
-    assert_eq!(rt; bytes.as_slice(), TEXT.as_bytes());
-    Ok(())
-}
-
-#[test]
-fn a_vector_is_written(rt: HostRuntime) {
-    let mut held = Vec::new(rt.alloc());
-    let mut sink = StdSink::new(&mut held);
-    assert_eq!(rt; write_all(&mut sink, TEXT.as_bytes()), Ok(()));
-    drop(sink);
-    assert_eq!(rt; held.as_slice(), TEXT.as_bytes());
-}
-
 // A device whose first call a signal interrupts, and which then gives a dot, or takes nothing.
 #[derive(Drop)]
 struct Interrupted {

@@ -1,21 +1,10 @@
 //! Which definition of a PGN is chosen.
-use crate::samples::{read, sample};
+use crate::samples::read;
 use n2k_table::Table;
 use std::alloc::Global;
 use std::mem::ManuallyDrop;
 use std::process::Abort;
 use std::test::Fail;
-
-#[test]
-fn sample_chooses(rt: HostRuntime) -> Result<(), Fail> {
-    let table = sample(rt.alloc())?;
-    let definition = table.choose(127251, &[]).ok_or("a definition")?;
-    assert_eq!(rt; definition.description(), "Rate of Turn");
-    assert!(rt; table.choose(130821, &[]).is_none());
-    assert!(rt; table.choose(130820, &[0xa3]).is_none());
-    assert!(rt; table.choose(130820, &[0xa3, 0x99]).is_some());
-    Ok(())
-}
 
 const WIDE: &str = "{ number = 1, kind = 'fast', description = 'Wide', fields = [] }";
 

@@ -1,7 +1,7 @@
 //! What numbers, fields and sets show.
 use super::lines::printed;
 use super::tables::{pairs_table, with_fields};
-use crate::samples::{read, sample};
+use crate::samples::read;
 use n2k_table::{Fields, Shown, Table, decimal_text};
 use std::alloc::Global;
 use std::mem::ManuallyDrop;
@@ -200,26 +200,6 @@ fn next_is<R: Abort>(
     let field = fields.next().ok_or("a field")?;
     assert_eq!(rt; field.0, name);
     assert_eq!(rt; field.1, shown, "{name}");
-    Ok(())
-}
-
-#[test]
-fn each_field_is_shown(rt: HostRuntime) -> Result<(), Fail> {
-    let table = sample(rt.alloc())?;
-    let data = [
-        0xa3, 0x99, 0xff, 0x41, 0x20, 0x20, 0x20, 0x20, 0x20, 0x20, 0x20,
-    ];
-    let definition = table.choose(130820, &data).ok_or("a definition")?;
-    let mut fields = definition.fields(&data);
-    let maker = Shown::Number {
-        value: 419,
-        decimals: 0,
-    };
-    next_is(&rt, &mut fields, "Maker", maker)?;
-    next_is(&rt, &mut fields, "Kind", Shown::Absent)?;
-    next_is(&rt, &mut fields, "Label", Shown::Text(b"A"))?;
-    assert!(rt; fields.next().is_none());
-    assert!(rt; fields.next().is_none());
     Ok(())
 }
 

@@ -1,8 +1,5 @@
-//! Texts of packets, packets, and identifiers.
-use n2k_wire::{
-    CandumpLines, Entry, Id, Packet, Packing, candump_text, is_interface, join_id, read_line,
-    split_id,
-};
+//! Texts of packets.
+use n2k_wire::{CandumpLines, Entry, Packet, Packing, candump_text, is_interface, read_line};
 use std::alloc::Global;
 use std::process::Abort;
 use std::test::Fail;
@@ -112,41 +109,4 @@ fn candump_texts(rt: HostRuntime) -> Result<(), Fail> {
         replays(&rt, &mut lines, line, wanted)?;
     }
     Ok(())
-}
-
-#[test]
-fn identifiers(rt: HostRuntime) {
-    let id = split_id(0x09f8_027f);
-    assert_eq!(rt; id.pgn, 129_026);
-    assert_eq!(rt; join_id(&id), Some(0x09f8_027f));
-}
-
-const ID: Id = Id {
-    prio: 7,
-    pgn: 16_777_215,
-    src: 255,
-    dst: 0,
-};
-
-#[test]
-fn the_longest_packet(rt: HostRuntime) -> Result<(), Fail> {
-    let longest = [0xab; 223];
-    let packet = Packet::new(b"now", ID, &longest).ok_or("refused")?;
-    assert_eq!(rt; packet.stamp(), b"now".as_slice());
-    assert_eq!(rt; packet.id(), ID);
-    assert_eq!(rt; packet.data(), longest.as_slice());
-    Ok(())
-}
-
-#[test]
-fn packets_that_are_none(rt: HostRuntime) {
-    assert!(rt; Packet::new(b"now", ID, &[0; 224]).is_none());
-    assert!(rt; Packet::new(b"", ID, &[]).is_none());
-    assert!(rt; Packet::new(b"#", ID, &[]).is_none());
-    assert!(rt; Packet::new(b"now", Id { prio: 8, ..ID }, &[]).is_none());
-    let wide = Id {
-        pgn: 16_777_216,
-        ..ID
-    };
-    assert!(rt; Packet::new(b"now", wide, &[]).is_none());
 }
