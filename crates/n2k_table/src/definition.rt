@@ -16,11 +16,9 @@ use crate::fault::TableFault;
 use crate::field::{Field, MESSAGE_BITS, Room};
 use crate::fields::{is_named, read_fields};
 use crate::lookup::Lookups;
-use crate::piece::LongPiece;
 use crate::repeat::{Repeat, read_repeat};
 use crate::sets::Sets;
 use crate::shown::Fields;
-use crate::tail::Tail;
 use crate::text::text_json;
 use crate::tree::{
     Holder, Place, TableFormat, any_text_at, as_members, elements_at, found, has_only_keys,
@@ -57,7 +55,7 @@ pub(crate) struct StoredDefinition {
     kind: Kind,
     description: String,
     // What stands in a line between who sent the message and the members, kept since each line needs it.
-    label: LongPiece,
+    label: Vec<u8>,
     // Whether a field asks for a value; most messages of most PGNs have none that does.
     asks: bool,
     fields: Vec<Field>,
@@ -80,7 +78,7 @@ impl Model for StoredDefinition {
       repeat = d.repeat;
     } };
 
-    ghost invariant = { λ d. (d.label ≡ label_json d.number (string_bytes d.description))
+    ghost invariant = { λ d. (d.label.items ≡ label_json d.number (string_bytes d.description))
         × (d.asks ≡ list_any (λ f. is_some f.wanted) d.fields.items) };
 }
 
@@ -99,7 +97,6 @@ fn all_match(fields: &[Field], data: &[u8]) -> bool
 }
 
 impl StoredDefinition {
-    ghost use Rattle.std.specs.Prelude.{◌++◌, OnOk};
     ghost use Rattle.n2k_table.specs.Inner.Line.{label_json};
     ghost use Rattle.n2k_table.specs.Table.{matches};
 
@@ -124,12 +121,10 @@ impl StoredDefinition {
         self.description.as_str()
     }
 
-    #[inline(always)]
-    fn push_label(&self, line: &mut Tail) -> Result<(), AllocError>
-        ensures items { OnOk result (line.new.items ≡ line.old.items ++ label_json self.now.number self.now.description) }
-        ensures before { line.new.before ≡ line.old.before }
+    fn label(&self) -> &[u8]
+        ensures { result.now ≡ label_json self.now.number self.now.description }
     {
-        self.label.push(line)
+        self.label.as_slice()
     }
 
     /// The fields in printing order.
@@ -177,7 +172,6 @@ impl<'a> Model for Definition<'a> {
 }
 
 impl<'a> Definition<'a> {
-    ghost use Rattle.std.specs.Prelude.{◌++◌, OnOk};
     ghost use Rattle.n2k_table.specs.Inner.Line.{label_json};
     ghost use Rattle.n2k_table.specs.Shown.{all_shown};
     ghost use Rattle.n2k_table.specs.Repeat.{all_sets};
@@ -196,13 +190,11 @@ impl<'a> Definition<'a> {
         self.stored.description()
     }
 
-    /// Appends what stands in a line between who sent the message and the members.
-    #[inline(always)]
-    pub(crate) fn push_label(&self, line: &mut Tail) -> Result<(), AllocError>
-        ensures items { OnOk result (line.new.items ≡ line.old.items ++ label_json self.now.number self.now.description) }
-        ensures before { line.new.before ≡ line.old.before }
+    /// What stands in a line between who sent the message and the members.
+    pub(crate) fn label(&self) -> &[u8]
+        ensures { result.now ≡ label_json self.now.number self.now.description }
     {
-        self.stored.push_label(line)
+        self.stored.label()
     }
 
     /// The fields, as the table keeps them.
@@ -347,7 +339,7 @@ fn read_members(
         number,
         kind,
         description: String::from_str(alloc, description)?,
-        label: LongPiece::of(label_of(alloc, number, description)?),
+        label: label_of(alloc, number, description)?,
         asks: any_asks(&fields),
         fields,
         repeat,

@@ -180,7 +180,7 @@ fn push_matched(
     ensures before { line.new.before ≡ line.old.before }
 {
     push_seen(packet, line)?;
-    definition.push_label(line)?;
+    line.extend_from_slice(definition.label())?;
     push_fields(definition, packet.data(), empty, line)?;
     line.extend_from_slice(b"}}\n")?;
     Ok(())

@@ -12,9 +12,6 @@ const WIDE: usize = 32;
 /// How many bytes a front has: one more, since a text may be appended without its first byte.
 const FRONT: usize = WIDE + 1;
 
-/// How many bytes of a longer text are copied at once.
-const LONG: usize = 96;
-
 /// A text that is appended to many lines.
 #[derive(Drop)]
 pub(crate) struct Piece {
@@ -71,52 +68,6 @@ impl Piece {
         match self.front[from..].first_chunk::<WIDE>() {
             Some(wide) => line.put(wide, count),
             None => Ok(()),
-        }
-    }
-}
-
-/// A longer text, of which a line has one.
-#[derive(Drop)]
-pub(crate) struct LongPiece {
-    bytes: Vec<u8>,
-    // The same bytes and zeros behind them, where they have room.
-    front: [u8; LONG],
-}
-
-impl Model for LongPiece {
-    ghost use Rattle.std.specs.Prelude.{◌≡◌, ◌≤◌, List, ℕ, take, length};
-
-    ghost Value = { List ℕ };
-
-    ghost view = { λ p. p.bytes.items };
-
-    ghost invariant = { λ p. length p.bytes.items ≤ 96 → take (length p.bytes.items) p.front ≡ p.bytes.items };
-}
-
-impl LongPiece {
-    ghost use Rattle.std.specs.Prelude.{◌++◌, OnOk};
-
-    /// A piece of that text.
-    pub(crate) fn of(bytes: Vec<u8>) -> LongPiece
-        ensures { result ≡ bytes.items }
-    {
-        let mut front = [0; LONG];
-        if bytes.len() <= LONG {
-            front[..bytes.len()].copy_from_slice(&bytes);
-        }
-        LongPiece { bytes, front }
-    }
-
-    /// Appends the text.
-    #[inline(always)]
-    pub(crate) fn push(&self, line: &mut Tail) -> Result<(), AllocError>
-        ensures items { OnOk result (line.new.items ≡ line.old.items ++ self.now) }
-        ensures before { line.new.before ≡ line.old.before }
-    {
-        if self.bytes.len() <= LONG {
-            line.put(&self.front, self.bytes.len())
-        } else {
-            line.extend_from_slice(&self.bytes)
         }
     }
 }

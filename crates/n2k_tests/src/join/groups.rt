@@ -12,14 +12,24 @@ use std::alloc::Global;
 use std::process::Abort;
 use std::test::Fail;
 
-// A group that a line breaks, after the number of the line.
-fn push_broken(alloc: Global, line: u64, group: &Broken, text: &mut Vec<u8>) -> Result<(), Fail> {
-    let told = format!(in alloc;
-        "{line} broken {} {} {} {} {}\n",
-        group.pgn, group.src, group.dst, group.seq, group.first
-    )?;
+fn push_told(told: &str, text: &mut Vec<u8>) -> Result<(), Fail> {
     text.extend_from_slice(told.as_bytes())?;
     Ok(())
+}
+
+// Whose message a group is of, and the line where it begins.
+fn push_group(alloc: Global, group: &Broken, text: &mut Vec<u8>) -> Result<(), Fail> {
+    let sender = format!(in alloc; "{} {} {}", group.pgn, group.src, group.dst)?;
+    push_told(&sender, text)?;
+    let rest = format!(in alloc; " {} {}\n", group.seq, group.first)?;
+    push_told(&rest, text)
+}
+
+// A group that a line breaks, after the number of the line.
+fn push_broken(alloc: Global, line: u64, group: &Broken, text: &mut Vec<u8>) -> Result<(), Fail> {
+    let front = format!(in alloc; "{line} broken ")?;
+    push_told(&front, text)?;
+    push_group(alloc, group, text)
 }
 
 // What a line gave, after the number of the line: the group that it breaks, its cause, its message as a plain line.
@@ -314,17 +324,22 @@ fn lends(join: &mut Join, table: &Table, line: &str) -> Result<bool, JoinFault> 
     Ok(step.message.is_some())
 }
 
+// How many messages the lines of a log lend.
+fn lent_by(join: &mut Join, table: &Table, log: &str) -> Result<u32, JoinFault> {
+    let mut lent = 0u32;
+    for line in log.lines() {
+        let lends = lends(join, table, line)?;
+        lent = lent.saturating_add(u32::from(lends));
+    }
+    Ok(lent)
+}
+
 // The last two lines of two sources complete a message each, which is lent.
 #[test]
 fn messages_are_lent(rt: HostRuntime) -> Result<(), Fail> {
     let table = sample(rt.alloc())?;
     let mut join = Join::new(rt.alloc(), &table, long_window());
-    let mut lent = 0u32;
-    for line in TWO_SOURCES.lines() {
-        if lends(&mut join, &table, line)? {
-            lent = lent.saturating_add(1);
-        }
-    }
+    let lent = lent_by(&mut join, &table, TWO_SOURCES)?;
     assert_eq!(rt; lent, 2);
     Ok(())
 }

@@ -102,18 +102,28 @@ pub(crate) const EIGHT_UNDER_WAY: &str = "(1.0) can0 1DFF0405#010000000000FFFF
 (2.0) can0 1DFF0405#200BA39902414243
 (2.0) can0 1DFF0405#000BA39901414243";
 
+// The second frame of a sender's message.
+fn push_second(alloc: Global, src: u8, log: &mut String) -> Option<()> {
+    let line = format!(in alloc; "(1.0) can0 1DFF04{src:02X}#010000000000FFFF\n").ok()?;
+    log.push_str(&line).ok()
+}
+
+// The first one, which has the sender's number in it.
+fn push_first(alloc: Global, src: u8, log: &mut String) -> Option<()> {
+    let line = format!(in alloc; "(2.0) can0 1DFF04{src:02X}#000BA399{src:02X}414243\n").ok()?;
+    log.push_str(&line).ok()
+}
+
 // Second frames of 70 senders, one of them twice, and then their first ones, from the first sender on: more groups are
 // open than are looked through, and in the end few are.
 pub(crate) fn seventy_senders(alloc: Global) -> Option<String> {
     let mut log = String::new(alloc);
     for src in 0..70u8 {
-        let line = format!(in alloc; "(1.0) can0 1DFF04{src:02X}#010000000000FFFF\n").ok()?;
-        log.push_str(&line).ok()?;
+        push_second(alloc, src, &mut log)?;
     }
-    log.push_str("(1.0) can0 1DFF0403#010000000000FFFF\n").ok()?;
+    push_second(alloc, 3, &mut log)?;
     for src in 0..70u8 {
-        let line = format!(in alloc; "(2.0) can0 1DFF04{src:02X}#000BA399{src:02X}414243\n").ok()?;
-        log.push_str(&line).ok()?;
+        push_first(alloc, src, &mut log)?;
     }
     Some(log)
 }

@@ -12,6 +12,6 @@ returns-clause-appends c =
     let d = c.args.definition.now in
     let members = message_members c.args.empty d m.payload in
     four_parts c.args.line.now.items (seen_json m) (label_json m.id.pgn d.description) (join_with_byte 44 members) (codes "}}\n") _ _ _ _
-    c.in_ok-push_seen.ensures.appends (rw c.requires at c.in_ok-push_label.ensures.items)
-    (rw c.«data».ensures.value at c.in_ok-push_fields.ensures.appends) c.in_ok-extend_from_slice.ensures.items
+    c.in_ok-push_seen.ensures.appends (rw (c.label.ensures, c.requires) at c.in_ok-extend_from_slice.ensures.items)
+    (rw c.«data».ensures.value at c.in_ok-push_fields.ensures.appends) c.in_ok-extend_from_slice-2.ensures.items
     ∙ ap (λ (t : List ℕ). c.args.line.now.items ++ t) (matched_parts d.description members m)
