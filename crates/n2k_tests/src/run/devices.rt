@@ -28,18 +28,6 @@ fn pieces_of_1_of_7_and_all_bytes(rt: HostRuntime) -> Result<(), Fail> {
     moved_in_pieces(&rt, 100)
 }
 
-#[test]
-fn a_limit_of_bytes(rt: HostRuntime) -> Result<(), Fail> {
-    let mut fits = MemorySource::new(b"abc", 100, 0);
-    let read = read_bytes(rt.alloc(), &mut fits, 3)?;
-    assert_eq!(rt; read.as_slice(), b"abc".as_slice());
-
-    let mut past = MemorySource::new(b"abc", 100, 0);
-    let refused = read_bytes(rt.alloc(), &mut past, 2);
-    assert!(rt; matches!(refused, Err(BytesFault::TooLong)));
-    Ok(())
-}
-
 // One byte more than the limit is asked for.
 #[test]
 fn past_a_limit_of_bytes(rt: HostRuntime) -> Result<(), Fail> {
@@ -48,14 +36,6 @@ fn past_a_limit_of_bytes(rt: HostRuntime) -> Result<(), Fail> {
     assert!(rt; matches!(refused, Err(BytesFault::TooLong)));
     let rest = read_bytes(rt.alloc(), &mut long, 2)?;
     assert_eq!(rt; rest.as_slice(), b"de".as_slice());
-    Ok(())
-}
-
-#[test]
-fn a_failed_read_is_a_fault(rt: HostRuntime) -> Result<(), Fail> {
-    let mut source = MemorySource::new(TEXT, 5, 3);
-    let refused = read_bytes(rt.alloc(), &mut source, 100);
-    assert!(rt; matches!(refused, Err(BytesFault::Read)));
     Ok(())
 }
 
