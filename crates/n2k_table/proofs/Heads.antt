@@ -1,5 +1,5 @@
 -- What stands in a line before the members, as the code appends it.
-use Rattle.std.proofs.Common.{◌≡◌, ℕ, ◌+◌, ◌/◌, ◌%◌, ◌<◌, ◌≤◌, true, ◌&&◌, List, [], ◌∷◌, ◌++◌, IfSome, refl, codes, append_assoc, arith, inl, inr}
+use Rattle.std.proofs.Common.{◌≡◌, ℕ, ◌+◌, ◌/◌, ◌%◌, ◌<◌, ◌≤◌, true, ◌&&◌, List, [], ◌∷◌, ◌++◌, IfSome, length, get_or, refl, codes, append_assoc, arith, inl, inr}
 use Rattle.std.specs.Prelude.{decimal}
 use Rattle.std.specs.List.{list_all, find, join_with_byte}
 use Rattle.std.proofs.lemmas.Bool.{cases_Bool, eqb-true, and_parts}
@@ -29,6 +29,19 @@ three_digits n large small =
     let tens : n % 100 / 10 ≡ n / 10 % 10 = omega arith in
     let ones : n % 100 % 10 ≡ n % 10 = omega arith in
     rw (decimal_pair n large (omega arith), decimal_digit (n / 100) (omega arith), tens, ones) refl
+
+-- seven bytes, one by one
+pub seven_of : (bytes : List ℕ) → length bytes ≡ 7
+    → bytes ≡ get_or bytes 0 0 ∷ get_or bytes 1 0 ∷ get_or bytes 2 0 ∷ get_or bytes 3 0 ∷ get_or bytes 4 0 ∷ get_or bytes 5 0 ∷ get_or bytes 6 0 ∷ []
+seven_of [] is = absurd (omega arith)
+seven_of (a ∷ []) is = absurd (omega arith)
+seven_of (a ∷ b ∷ []) is = absurd (omega arith)
+seven_of (a ∷ b ∷ c ∷ []) is = absurd (omega arith)
+seven_of (a ∷ b ∷ c ∷ d ∷ []) is = absurd (omega arith)
+seven_of (a ∷ b ∷ c ∷ d ∷ e ∷ []) is = absurd (omega arith)
+seven_of (a ∷ b ∷ c ∷ d ∷ e ∷ f ∷ []) is = absurd (omega arith)
+seven_of (a ∷ b ∷ c ∷ d ∷ e ∷ f ∷ g ∷ []) is = refl
+seven_of (a ∷ b ∷ c ∷ d ∷ e ∷ f ∷ g ∷ h ∷ more) is = absurd (omega arith)
 
 -- a line to which three parts are appended in turn
 pub three_parts : (line a b c l1 l2 l3 : List ℕ) → l1 ≡ line ++ a → l2 ≡ l1 ++ b → l3 ≡ l2 ++ c → l3 ≡ line ++ ((a ++ b) ++ c)

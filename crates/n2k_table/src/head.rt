@@ -1,5 +1,5 @@
 //! What stands in a line before the PGN: when a message was seen, and who sent it to whom.
-ghost use Rattle.std.specs.Prelude.{◌≡◌, ◌++◌, true, codes, decimal, OnOk};
+ghost use Rattle.std.specs.Prelude.{◌≡◌, ◌++◌, ◌≤◌, true, codes, decimal, take, OnOk};
 ghost use Rattle.std.specs.List.{list_all};
 ghost use Rattle.n2k_table.specs.Text.{text_json};
 ghost use Rattle.n2k_table.specs.Inner.Line.{is_plain, sender_json, seen_json};
@@ -12,39 +12,60 @@ use std::alloc::AllocError;
 /// The bytes of `YYYY-MM-DDTHH:MM:SS.mmmZ`.
 const USUAL_STAMP: usize = 24;
 
-// Appends a number, digit by digit, since that costs less than a copy.
+/// The bytes of `,"src":`.
+const LABEL: usize = 7;
+
+/// Room for them and a number of up to three digits.
+const PART: usize = LABEL + 3;
+
+// A label and a number behind it, as a piece of which a part counts. Copying one costs less than two.
 #[inline(always)]
-fn push_small(number: u8, line: &mut Tail) -> Result<(), AllocError>
-    ensures appends { OnOk result (line.new.items ≡ line.old.items ++ decimal number) }
-    ensures before { line.new.before ≡ line.old.before }
+fn part_piece(label: &[u8; LABEL], number: u8) -> ([u8; PART], usize)
+    ensures piece { take result.1 result.0 ≡ label.now ++ decimal number }
+    ensures few { result.1 ≤ 10 }
 {
+    let [a, b, c, d, e, f, g] = *label;
     let ones = b'0' + number % 10;
     let tens = b'0' + number / 10 % 10;
     let hundreds = b'0' + number / 100;
     match number {
-        0..=9 => line.push(ones),
-        10..=99 => line.extend_from_slice(&[tens, ones]),
-        _ => line.extend_from_slice(&[hundreds, tens, ones]),
+        0..=9 => ([a, b, c, d, e, f, g, ones, 0, 0], 8),
+        10..=99 => ([a, b, c, d, e, f, g, tens, ones, 0], 9),
+        _ => ([a, b, c, d, e, f, g, hundreds, tens, ones], 10),
     }
 }
 
 // Appends a label, and a number behind it.
 #[inline(always)]
-fn push_part(label: &[u8], number: u8, line: &mut Tail) -> Result<(), AllocError>
+fn push_part(label: &[u8; LABEL], number: u8, line: &mut Tail) -> Result<(), AllocError>
     ensures appends { OnOk result (line.new.items ≡ line.old.items ++ (label.now ++ decimal number)) }
     ensures before { line.new.before ≡ line.old.before }
 {
-    line.extend_from_slice(label)?;
-    push_small(number, line)
+    let (piece, count) = part_piece(label, number);
+    line.put(&piece, count)
+}
+
+// The same of a priority, which has one digit.
+#[inline(always)]
+fn push_priority(prio: u8, line: &mut Tail) -> Result<(), AllocError>
+    requires { prio ≤ 7 }
+    ensures appends { OnOk result (line.new.items ≡ line.old.items ++ (codes ",\"prio\":" ++ decimal prio)) }
+    ensures before { line.new.before ≡ line.old.before }
+{
+    line.put(
+        &[b',', b'"', b'p', b'r', b'i', b'o', b'"', b':', b'0' + prio],
+        9,
+    )
 }
 
 // Appends who sent what to whom, up to the PGN.
 #[inline(always)]
 fn push_sender(id: Id, line: &mut Tail) -> Result<(), AllocError>
+    requires { id.prio ≤ 7 }
     ensures appends { OnOk result (line.new.items ≡ line.old.items ++ sender_json id) }
     ensures before { line.new.before ≡ line.old.before }
 {
-    push_part(b",\"prio\":", id.prio, line)?;
+    push_priority(id.prio, line)?;
     push_part(b",\"src\":", id.src, line)?;
     push_part(b",\"dst\":", id.dst, line)
 }

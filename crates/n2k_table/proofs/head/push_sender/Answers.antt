@@ -9,5 +9,5 @@ pub returns-clause-appends : goal.returns-clause-appends
 unfolding sender_json
 returns-clause-appends c =
     let id = c.args.id in
-    on_ok c.push_part-3.result (λ last. sender_parts c.args.line.now.items (codes ",\"prio\":") (decimal id.prio) (codes ",\"src\":") (decimal id.src) (codes ",\"dst\":") (decimal id.dst) _ _ _
-    c.in_ok-push_part.ensures.appends c.in_ok-push_part-2.ensures.appends last) c.push_part-3.ensures.appends
+    on_ok c.push_part-2.result (λ last. sender_parts c.args.line.now.items (codes ",\"prio\":") (decimal id.prio) (codes ",\"src\":") (decimal id.src) (codes ",\"dst\":") (decimal id.dst) _ _ _
+    c.in_ok-push_priority.ensures.appends c.in_ok-push_part.ensures.appends last) c.push_part-2.ensures.appends
