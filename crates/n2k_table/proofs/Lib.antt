@@ -13,6 +13,7 @@ pub mod LookupFaults
 pub mod Members
 pub mod Heads
 pub mod Names
+pub mod NoneByRaw
 pub mod OneKind
 pub mod OneLine
 pub mod Placed
