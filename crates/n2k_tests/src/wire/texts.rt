@@ -60,7 +60,7 @@ fn replays<R: Abort + AllocGlobal>(
 }
 
 // A plain line, and what is made of it: a candump line, or a fault.
-const CANDUMP_TEXTS: [(&str, &str); 21] = [
+const CANDUMP_TEXTS: [(&str, &str); 24] = [
     // split-and-back, cog-and-sog, the last moment, and a leap day by Python's datetime
     (
         "1970-01-01T00:00:10.300Z,7,130820,5,255,8,00,0b,a3,99,01,41,42,43",
@@ -97,6 +97,19 @@ const CANDUMP_TEXTS: [(&str, &str); 21] = [
     ("1970-01-01T00:00:10.300Z,6,59905,1,255,0", "NoId"),
     ("1970-01-01T00:00:10.300Z,6,262144,1,255,0", "NoId"),
     ("x,7,130820,5,9,0", "NoStamp"),
+    // behind those faults, the last sender at its stamp with other data; another sender at it; and another stamp
+    (
+        "2024-02-29T23:59:59.120Z,0,0,0,0,2,cd,ef",
+        "(1709251199.120000) can0 00000000#CDEF\n",
+    ),
+    (
+        "2024-02-29T23:59:59.120Z,0,0,7,0,0",
+        "(1709251199.120000) can0 00000007#\n",
+    ),
+    (
+        "2024-02-29T23:59:59.121Z,0,0,7,0,0",
+        "(1709251199.121000) can0 00000007#\n",
+    ),
 ];
 
 #[test]
