@@ -344,6 +344,32 @@ fn a_failed_read_leaves_a_state(rt: HostRuntime) -> Result<(), Fail> {
     stops_with_read(&rt, &table, 43, 4, XY, AFTER_THREE, ONE_OPEN)
 }
 
+// A state of as many lines as are counted.
+const FULL: &str =
+    "{'bad':0,'broken':0,'format':2,'groups':[],'lines':999999999999999,'messages':0,'table':'ID','unknown':0,'window':10000}";
+
+#[test]
+fn no_line_past_the_last(rt: HostRuntime) -> Result<(), Fail> {
+    let table = sample(rt.alloc())?;
+    let mut writer = MemorySink::new(rt.alloc(), 7, 0);
+    let mut reporter = MemorySink::new(rt.alloc(), 7, 0);
+    let full = spelled(rt.alloc(), FULL)?;
+    let answer = part_of_log(
+        rt.alloc(),
+        &table,
+        frames(long_window()),
+        Some(full.as_bytes()),
+        b"\n",
+        &mut writer,
+        &mut reporter,
+    );
+    let Err(PartFault::Stopped(RunFault::TooManyLines, part)) = answer else {
+        return Err("one line more was taken".into());
+    };
+    assert_eq!(rt; part.state.as_slice(), full.as_bytes());
+    Ok(())
+}
+
 // What a log's run answers where the third write of a device fails.
 fn fails<R: AllocGlobal>(
     rt: &R,
