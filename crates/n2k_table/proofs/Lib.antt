@@ -13,7 +13,6 @@ pub mod LookupFaults
 pub mod Members
 pub mod Heads
 pub mod Names
-pub mod NoneByRaw
 pub mod OneKind
 pub mod OneLine
 pub mod Placed

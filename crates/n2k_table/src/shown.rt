@@ -1,6 +1,5 @@
 //! What a field shows of a message.
 ghost use Rattle.std.specs.Prelude.{◌≡◌, ◌≤◌, ◌^◌, ◌<◌, option_map};
-ghost use Rattle.n2k_table.specs.Bits.{signed_value};
 ghost use Rattle.n2k_table.specs.Inner.Seen.{seen_parts};
 ghost use Rattle.n2k_table.specs.Shown.{shown_parts, shown_number, shown_unnamed, shown_name, shown_text, says_none, is_filling, trimmed};
 
@@ -30,17 +29,14 @@ pub enum Shown<'a> {
     Bytes(&'a [u8]),
 }
 
-// The greatest value says that none is there, from two bits on, and the greatest but one too, from four bits on. Both are
-// what they are as raw values, in two's complement too.
-#[tactic(auto, using(crate::proofs::NoneByRaw::none_by_raw))]
-fn says_none(signed: bool, bits: u32, raw: u64) -> bool
+// The greatest value says that none is there, from two bits on, and the greatest but one too, from four bits on.
+fn says_none(signed: bool, bits: u32, value: i128) -> bool
     requires some { 1 ≤ bits }
     requires room { bits ≤ 64 }
-    requires range { raw < 2 ^ bits }
-    ensures { result ≡ says_none signed bits (signed_value signed bits raw) }
+    ensures { result ≡ says_none signed bits value }
 {
     let greatest = greatest(signed, bits);
-    (bits >= 2 && raw == greatest) || (bits >= 4 && raw == greatest - 1)
+    (bits >= 2 && value == i128::from(greatest)) || (bits >= 4 && value == i128::from(greatest - 1))
 }
 
 /// What bits of that raw value show as a number: the value times the mantissa of its resolution.
@@ -55,10 +51,10 @@ pub(crate) fn shown_number<'a>(
     requires range { raw < 2 ^ bits }
     ensures { shown_parts result ≡ shown_number signed resolution bits raw }
 {
-    if says_none(signed, bits, raw) {
+    let value = signed_value(signed, bits, raw);
+    if says_none(signed, bits, value) {
         return Shown::Absent;
     }
-    let value = signed_value(signed, bits, raw);
     Shown::Number {
         value: value * i128::from(resolution.mantissa),
         decimals: resolution.decimals,
