@@ -94,7 +94,8 @@ impl Model for Field {
     ghost invariant = { λ f. IsKept (string_bytes f.name) f.key f.at f.bits (seen_meaning f.meaning) f.wanted };
 }
 
-// A field as it is described: its key is not yet kept as it is copied.
+// A field as it is read. Its key is still a plain text: the readers of the four kinds speak of its bytes alone, and `kept` makes
+// the padded piece of it in one place.
 #[derive(Drop)]
 struct Described {
     name: String,

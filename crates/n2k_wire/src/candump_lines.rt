@@ -21,7 +21,7 @@ struct Front {
 }
 
 /// Appends packets in a row as `candump -L` writes frames that came in at one interface, as `candump_text` does, at less
-/// cost where a packet has the stamp and the identifier of the one before.
+/// cost where a packet has the stamp and the identifier of the last one that had a line.
 #[derive(Drop)]
 pub struct CandumpLines<'a> {
     interface: &'a str,
@@ -56,7 +56,7 @@ impl Front {
 }
 
 impl<'a> CandumpLines<'a> {
-    /// Lines at an interface of 1 to 15 bytes from `!` to `~`.
+    /// Lines at an interface of 1 to 15 bytes from `!` to `~`; `is_interface` is the test.
     pub fn new(interface: &'a str) -> CandumpLines<'a>
         requires { IsTrue (is_interface interface.now) }
         ensures { result ≡ interface.now }
@@ -67,8 +67,8 @@ impl<'a> CandumpLines<'a> {
         }
     }
 
-    /// Appends a packet of at most 8 bytes, as `candump_text` does, with the same faults. `out` is as it was where the
-    /// answer is a fault.
+    /// Appends a packet of at most 8 bytes, as `candump_text` does: `NoStamp` or `NoId` where that says so, or `Memory`.
+    /// `out` is as it was where the answer is a fault, and what follows is appended as if that packet had not come.
     #[tactic(auto, using(crate::proofs::CandumpLemmas::front_kept, crate::proofs::CandumpLemmas::appended))]
     pub fn append(
         &mut self,
