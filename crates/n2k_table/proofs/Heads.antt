@@ -1,8 +1,8 @@
 -- What stands in a line before the members, as the code appends it.
-use Rattle.std.proofs.Common.{◌≡◌, ℕ, ◌+◌, ◌/◌, ◌%◌, ◌<◌, ◌≤◌, true, ◌&&◌, List, [], ◌∷◌, ◌++◌, IfSome, length, get_or, refl, codes, append_assoc, arith, inl, inr}
+use Rattle.std.proofs.Common.{◌≡◌, ℕ, zero, suc, ◌+◌, ◌/◌, ◌%◌, ◌<◌, ◌≤◌, Bool, true, ◌&&◌, List, [], ◌∷◌, ◌++◌, IfSome, length, get_or, take, drop, nat_le, refl, sym, ap, ◌∙◌, codes, append_assoc, arith, inl, inr}
 use Rattle.std.specs.Prelude.{decimal}
 use Rattle.std.specs.List.{list_all, find, join_with_byte}
-use Rattle.std.proofs.lemmas.Bool.{cases_Bool, eqb-true, and_parts}
+use Rattle.std.proofs.lemmas.Bool.{cases_Bool, eqb-true, and_parts, leb-true, le-leb, ne_eqb}
 use Rattle.std.proofs.lemmas.Fmt.{decimal_digit}
 use Rattle.itoa.proofs.Decimal.{decimal_two, decimal_pair}
 use Rattle.n2k_wire.specs.Packet.{PacketParts}
@@ -10,7 +10,7 @@ use Rattle.n2k_table.specs.Definition.{DefinitionParts}
 use Rattle.n2k_table.specs.Table.{TableParts, is_of, matches, choice}
 use Rattle.n2k_table.specs.Text.{text_json, pairs}
 use Rattle.n2k_table.specs.Json.{comma, id_json, head_json, line_json, unmatched_json}
-use Rattle.n2k_table.specs.Inner.Line.{is_plain, sender_json, seen_json, label_json}
+use Rattle.n2k_table.specs.Inner.Line.{is_plain, is_usual, sender_json, seen_json, label_json}
 use Rattle.n2k_table.proofs.Escapes.{text_json-plain}
 
 -- numbers of up to three digits
@@ -109,3 +109,33 @@ plain_time line stamp l1 l2 l3 plain p1 p2 p3 = rw (p3, p2, p1, text_json-plain 
 
 pub two_parts : (line a b l1 l2 : List ℕ) → l1 ≡ line ++ a → l2 ≡ l1 ++ b → l2 ≡ line ++ (a ++ b)
 two_parts line a b l1 l2 p1 p2 = rw (p2, p1) (append_assoc line a b)
+
+-- what holds of the first k and more bytes, and of those behind the first k, holds of all
+all_overlap : (p : ℕ → Bool) (k n : ℕ) (xs : List ℕ) → k ≤ n → list_all p (take n xs) ≡ true → list_all p (drop k xs) ≡ true → list_all p xs ≡ true
+all_overlap p zero n xs le first last = last
+all_overlap p (suc k) n [] le first last = refl
+all_overlap p (suc k) zero (x ∷ xs) le first last = absurd (omega arith)
+all_overlap p (suc k) (suc n) (x ∷ xs) le first last =
+    let both = and_parts (p x) (list_all p (take n xs)) first in
+    rw both.0 (all_overlap p k n xs (omega arith) both.1 last)
+
+usual_is_plain : (b : ℕ) → is_usual b ≡ true → is_plain b ≡ true
+usual_is_plain b is =
+    let both = and_parts (nat_le 45 b) (nat_le b 90) is in
+    let low = leb-true 45 b both.0 in
+    let high = leb-true b 90 both.1 in
+    rw (le-leb 32 b (omega (arith, low)), ne_eqb b 34 (omega (arith, low)), ne_eqb b 92 (omega (arith, high))) refl
+
+all_usual_plain : (xs : List ℕ) → list_all is_usual xs ≡ true → list_all is_plain xs ≡ true
+all_usual_plain [] all = refl
+all_usual_plain (x ∷ xs) all =
+    let both = and_parts (is_usual x) (list_all is_usual xs) all in
+    rw (usual_is_plain x both.0) (all_usual_plain xs both.1)
+
+-- a stamp of usual bytes stands for itself
+pub usual_stamp : (stamp first last : List ℕ) → first ≡ take 16 stamp → last ≡ drop 8 stamp → (list_all is_usual first && list_all is_usual last) ≡ true
+    → list_all is_plain stamp ≡ true
+usual_stamp stamp first last is_first is_last all =
+    let both = and_parts (list_all is_usual first) (list_all is_usual last) all in
+    all_usual_plain stamp (all_overlap is_usual 8 16 stamp (omega arith)
+    (ap (list_all is_usual) (sym is_first) ∙ both.0) (ap (list_all is_usual) (sym is_last) ∙ both.1))

@@ -39,9 +39,9 @@ fn raw_by_bits(data: &[u8], at: u32, bits: u32) -> u64
     value
 }
 
-// A fast path: the raw value of bits that lie in one number of eight bytes. It promises only what it answers.
+/// A fast path: the raw value of bits that lie in one number of eight bytes. It promises only what it answers.
 #[inline(always)]
-fn raw_at_once(data: &[u8], at: u32, bits: u32) -> Option<u64>
+pub(crate) fn raw_at_once(data: &[u8], at: u32, bits: u32) -> Option<u64>
     requires within { at + bits ≤ 8 * length «data».now }
     ensures value { IfSome result (λ value. value ≡ raw «data».now at bits) }
 {
@@ -50,7 +50,7 @@ fn raw_at_once(data: &[u8], at: u32, bits: u32) -> Option<u64>
     }
     let last = data.len().checked_sub(8)?;
     let from = last.min(at as usize / 8);
-    let eight = data[from..].first_chunk::<8>()?;
+    let eight = data[from..from + 8].as_array::<8>()?;
     let shift = at as usize - 8 * from;
     Some((u64::from_le_bytes(*eight) >> shift) % (1 << bits))
 }

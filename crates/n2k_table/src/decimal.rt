@@ -7,13 +7,11 @@ use crate::short::{MOST_DECIMALS, push_short};
 use crate::tail::Tail;
 use itoa::Buffer;
 use std::alloc::{AllocError, Global};
-use std::mem;
 
 // Appends digits with the dot before the last `decimals` of them.
 fn push_dotted(digits: &[u8], decimals: usize, line: &mut Tail) -> Result<(), AllocError>
     requires { decimals ≤ length digits.now }
-    ensures appends { OnOk result (line.new.items ≡ line.old.items ++ dotted decimals digits.now) }
-    ensures before { line.new.before ≡ line.old.before }
+    ensures { OnOk result (line.new.items ≡ line.old.items ++ dotted decimals digits.now) }
 {
     let (whole, fraction) = digits.split_at(digits.len() - decimals);
     line.extend_from_slice(whole)?;
@@ -27,8 +25,7 @@ fn push_dotted(digits: &[u8], decimals: usize, line: &mut Tail) -> Result<(), Al
 // Appends digits that all stand after the dot, behind a zero before it and zeros to fill the decimals.
 fn push_filled(digits: &[u8], decimals: usize, line: &mut Tail) -> Result<(), AllocError>
     requires { length digits.now ≤ decimals }
-    ensures appends { OnOk result (line.new.items ≡ line.old.items ++ filled decimals digits.now) }
-    ensures before { line.new.before ≡ line.old.before }
+    ensures { OnOk result (line.new.items ≡ line.old.items ++ filled decimals digits.now) }
 {
     line.extend_from_slice(b"0.")?;
     for _ in 0..decimals - digits.len() {
@@ -40,8 +37,7 @@ fn push_filled(digits: &[u8], decimals: usize, line: &mut Tail) -> Result<(), Al
 
 // Appends a minus sign where the value is below zero.
 fn push_sign(value: i128, line: &mut Tail) -> Result<(), AllocError>
-    ensures appends { OnOk result (line.new.items ≡ line.old.items ++ sign_of value) }
-    ensures before { line.new.before ≡ line.old.before }
+    ensures { OnOk result (line.new.items ≡ line.old.items ++ sign_of value) }
 {
     if value < 0 {
         line.push(b'-')?;
@@ -52,8 +48,7 @@ fn push_sign(value: i128, line: &mut Tail) -> Result<(), AllocError>
 // Appends the decimal text of `size / 10^decimals`.
 #[inline(never)]
 fn push_size(size: u128, decimals: usize, line: &mut Tail) -> Result<(), AllocError>
-    ensures appends { OnOk result (line.new.items ≡ line.old.items ++ dotted decimals (padded_digits size decimals)) }
-    ensures before { line.new.before ≡ line.old.before }
+    ensures { OnOk result (line.new.items ≡ line.old.items ++ dotted decimals (padded_digits size decimals)) }
 {
     let mut buffer = Buffer::new();
     let digits = buffer.format(size).as_bytes();
@@ -67,8 +62,7 @@ fn push_size(size: u128, decimals: usize, line: &mut Tail) -> Result<(), AllocEr
 /// Appends the decimal text of `value / 10^decimals`.
 #[inline(always)]
 pub(crate) fn push_decimal(value: i128, decimals: u8, line: &mut Tail) -> Result<(), AllocError>
-    ensures appends { OnOk result (line.new.items ≡ line.old.items ++ dec value decimals) }
-    ensures before { line.new.before ≡ line.old.before }
+    ensures { OnOk result (line.new.items ≡ line.old.items ++ dec value decimals) }
 {
     let size = value.unsigned_abs();
     let decimals = usize::from(decimals);
@@ -99,7 +93,6 @@ pub fn decimal_text(
     ensures only { (text : List ℕ) → IsDecimal value decimals text → text ≡ dec value decimals }
 {
     let mut line = Tail::new(alloc);
-    line.begin(mem::replace(out, Vec::new(alloc)));
     let written = push_decimal(value, decimals, &mut line);
-    line.end(alloc, written, out)
+    line.end(written, out)
 }

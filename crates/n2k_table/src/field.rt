@@ -9,10 +9,11 @@ ghost use Rattle.n2k_table.specs.Lookup.{LookupParts};
 ghost use Rattle.n2k_table.specs.Inner.Kept.{meaning as seen_meaning, IsByteMeaning};
 ghost use Rattle.n2k_table.specs.Field.{in_bytes, byte_at_of, byte_bits_of, raw_or_none, wanted_of, is_of_bits, named_field_kind, number_faults, number_field, lookup_field_faults, lookup_field, byte_field_faults, byte_field, field_faults, field};
 
-use crate::bits::{greatest, raw};
+use crate::bits::{greatest, raw, raw_at_once};
 use crate::fault::TableFault;
 use crate::lookup::{Lookup, Lookups};
 use crate::piece::Piece;
+use crate::quick::{Quick, Scale, quick_name, quick_number, scale_of};
 use crate::resolution::{Resolution, resolution_at};
 use crate::shown::{Seen, Shown, shown_name, shown_number, shown_text};
 use crate::tail::Tail;
@@ -73,6 +74,8 @@ pub(crate) struct Field {
     at: u32,
     bits: u32,
     meaning: Meaning,
+    // What a fast path needs of a number.
+    scale: Option<Scale>,
     wanted: Option<u64>,
 }
 
@@ -80,6 +83,7 @@ impl Model for Field {
     ghost use Rattle.std.specs.Prelude.{string_bytes};
     ghost use Rattle.n2k_table.specs.Field.{FieldParts};
     ghost use Rattle.n2k_table.specs.Inner.Kept.{meaning as seen_meaning, IsKept};
+    ghost use Rattle.n2k_table.specs.Inner.Quick.{IsScaleOf};
 
     ghost Value = { FieldParts };
 
@@ -91,7 +95,8 @@ impl Model for Field {
       wanted = f.wanted;
     } };
 
-    ghost invariant = { λ f. IsKept (string_bytes f.name) f.key f.at f.bits (seen_meaning f.meaning) f.wanted };
+    ghost invariant = { λ f. IsKept (string_bytes f.name) f.key f.at f.bits (seen_meaning f.meaning) f.wanted
+        × IsScaleOf (seen_meaning f.meaning) f.bits f.scale };
 }
 
 // A field as it is read. Its key is still a plain text: the readers of the four kinds speak of its bytes alone, and `kept` makes
@@ -335,12 +340,14 @@ fn read_described(
 fn kept(described: Described) -> Field
     ensures { result ≡ described }
 {
+    let scale = scale_of(&described.meaning, described.bits);
     Field {
         name: described.name,
         key: Piece::of(described.key),
         at: described.at,
         bits: described.bits,
         meaning: described.meaning,
+        scale,
         wanted: described.wanted,
     }
 }
@@ -362,8 +369,9 @@ pub(crate) fn read_field(
 }
 
 impl Field {
-    ghost use Rattle.std.specs.Prelude.{◌++◌, is_some, OnOk};
+    ghost use Rattle.std.specs.Prelude.{◌++◌, is_some, IfSome, OnOk};
     ghost use Rattle.n2k_table.specs.Inner.Line.{key_json};
+    ghost use Rattle.n2k_table.specs.Inner.Quick.{quick_parts, HasFewPlaces};
     ghost use Rattle.n2k_table.specs.Inner.Seen.{seen_parts};
     ghost use Rattle.n2k_table.specs.Shown.{shown_parts, lies_inside, field_bytes, shown};
     ghost use Rattle.n2k_table.specs.Table.{field_matches};
@@ -378,8 +386,7 @@ impl Field {
     /// Appends what stands before the value in a line, with a comma where a member stands before.
     #[inline(always)]
     pub(crate) fn push_key(&self, later: bool, line: &mut Tail) -> Result<(), AllocError>
-        ensures items { OnOk result (line.new.items ≡ line.old.items ++ key_json later self.now.name) }
-        ensures before { line.new.before ≡ line.old.before }
+        ensures { OnOk result (line.new.items ≡ line.old.items ++ key_json later self.now.name) }
     {
         let from = if later { 0 } else { 1 };
         self.key.push_from(from, line)
@@ -418,8 +425,27 @@ impl Field {
         &data[from..to]
     }
 
-    /// What the field shows of the data of a message or of a set: nothing where it does not lie wholly inside.
+    /// A fast path: what a field shows that ends past the data, and one of few bits where the data have eight bytes.
     #[inline(always)]
+    pub(crate) fn quick<'a>(&'a self, data: &'a [u8]) -> Option<Quick<'a>>
+        ensures value { IfSome result (λ quick. quick_parts quick ≡ shown self.now «data».now) }
+        ensures places { IfSome result HasFewPlaces }
+    {
+        if !self.lies_inside(data) {
+            return Some(Quick::Absent);
+        }
+        if let Some(scale) = self.scale {
+            let raw = raw_at_once(data, self.at, self.bits)?;
+            return Some(quick_number(scale, raw));
+        }
+        if let Meaning::Named(lookup) = &self.meaning {
+            let raw = raw_at_once(data, self.at, self.bits)?;
+            return Some(quick_name(lookup.name_of(raw), self.bits, raw));
+        }
+        None
+    }
+
+    /// What the field shows of the data of a message or of a set: nothing where it does not lie wholly inside.
     pub(crate) fn seen<'a>(&'a self, data: &'a [u8]) -> Seen<'a>
         ensures { seen_parts result ≡ shown self.now «data».now }
     {

@@ -28,6 +28,7 @@ pub mod laws;
 mod line;
 mod lookup;
 mod piece;
+mod quick;
 mod repeat;
 mod resolution;
 mod sets;

@@ -11,7 +11,9 @@ use crate::decimal::push_decimal;
 use crate::definition::Definition;
 use crate::field::Field;
 use crate::head::push_seen;
+use crate::quick::Quick;
 use crate::repeat::Repeat;
+use crate::short::push_signed;
 use crate::shown::{Seen, Shown};
 use crate::table::Table;
 use crate::tail::Tail;
@@ -19,12 +21,10 @@ use crate::text::{push_characters, push_pairs, push_text};
 use itoa::Buffer;
 use n2k_wire::Packet;
 use std::alloc::{AllocError, Global};
-use std::mem;
 
 // Appends a label, and a number behind it.
 fn push_number(label: &[u8], number: u32, line: &mut Tail) -> Result<(), AllocError>
-    ensures appends { OnOk result (line.new.items ≡ line.old.items ++ label.now ++ decimal number) }
-    ensures before { line.new.before ≡ line.old.before }
+    ensures { OnOk result (line.new.items ≡ line.old.items ++ label.now ++ decimal number) }
 {
     let mut buffer = Buffer::new();
     line.extend_from_slice(label)?;
@@ -34,9 +34,8 @@ fn push_number(label: &[u8], number: u32, line: &mut Tail) -> Result<(), AllocEr
 // Appends what a field shows as a value.
 #[inline(always)]
 fn push_value(seen: Seen<'_>, line: &mut Tail) -> Result<(), AllocError>
-    ensures appends { OnOk result (IfSome (value_json true (seen_parts seen.entry))
+    ensures { OnOk result (IfSome (value_json true (seen_parts seen.entry))
         (λ value. line.new.items ≡ line.old.items ++ value)) }
-    ensures before { line.new.before ≡ line.old.before }
 {
     match seen {
         Seen::Name(name) => name.push_json(line),
@@ -51,7 +50,29 @@ fn push_value(seen: Seen<'_>, line: &mut Tail) -> Result<(), AllocError>
 }
 
 // Appends a field as a member of an object, after a comma where a member stands before, and answers
-// whether one stands before the next.
+// whether one stands before the next. It is not inlined: most fields have few bits.
+#[inline(never)]
+fn push_any_member(
+    field: &Field,
+    data: &[u8],
+    empty: bool,
+    later: bool,
+    line: &mut Tail,
+) -> Result<bool, AllocError>
+    ensures { let member = member_json empty (field.now.name, shown field.now «data».now) in
+        IfOk result (λ more. (line.new.items ≡ line.old.items ++ member_text later member)
+        × (more ≡ (later || is_some member))) }
+{
+    let seen = field.seen(data);
+    if matches!(seen, Seen::Other(Shown::Absent)) && !empty {
+        return Ok(later);
+    }
+    field.push_key(later, line)?;
+    push_value(seen, line)?;
+    Ok(true)
+}
+
+// The same, with a fast path for fields of few bits. Nulls go the longer way too: few runs print them.
 #[inline(always)]
 fn push_member(
     field: &Field,
@@ -60,17 +81,22 @@ fn push_member(
     later: bool,
     line: &mut Tail,
 ) -> Result<bool, AllocError>
-    ensures appends { let member = member_json empty (field.now.name, shown field.now «data».now) in
+    ensures { let member = member_json empty (field.now.name, shown field.now «data».now) in
         IfOk result (λ more. (line.new.items ≡ line.old.items ++ member_text later member)
         × (more ≡ (later || is_some member))) }
-    ensures before { line.new.before ≡ line.old.before }
 {
-    let seen = field.seen(data);
-    if matches!(seen, Seen::Other(Shown::Absent)) && !empty {
-        return Ok(later);
+    match field.quick(data) {
+        Some(Quick::Absent) if !empty => return Ok(later),
+        Some(Quick::Number(number)) => {
+            field.push_key(later, line)?;
+            push_signed(number, line)?;
+        }
+        Some(Quick::Name(name)) => {
+            field.push_key(later, line)?;
+            name.push_json(line)?;
+        }
+        _ => return push_any_member(field, data, empty, later, line),
     }
-    field.push_key(later, line)?;
-    push_value(seen, line)?;
     Ok(true)
 }
 
@@ -83,9 +109,8 @@ fn push_members(
     empty: bool,
     line: &mut Tail,
 ) -> Result<bool, AllocError>
-    ensures appends { let ms = members empty (all_shown fields.now «data».now) in
+    ensures { let ms = members empty (all_shown fields.now «data».now) in
         IfOk result (λ later. (line.new.items ≡ line.old.items ++ join_with_byte comma ms) × (later ≡ has_members ms)) }
-    ensures before { line.new.before ≡ line.old.before }
 {
     let mut later = false;
     for field in fields {
@@ -103,9 +128,8 @@ fn push_set(
     line: &mut Tail,
 ) -> Result<(), AllocError>
     requires { repeat.now.at + number * repeat.now.bits + repeat.now.bits ≤ 8 * length «data».now }
-    ensures appends { let set = set_json empty (set_shown repeat.now «data».now number) in
+    ensures { let set = set_json empty (set_shown repeat.now «data».now number) in
         OnOk result (line.new.items ≡ line.old.items ++ member_text (nat_lt 0 number) (Some set)) }
-    ensures before { line.new.before ≡ line.old.before }
 {
     line.extend_from_slice(if number > 0 { b",{" } else { b"{" })?;
     push_members(repeat.fields(), repeat.set(data, number), empty, line)?;
@@ -114,9 +138,8 @@ fn push_set(
 
 // Appends the sets, a comma between each.
 fn push_sets(repeat: &Repeat, data: &[u8], empty: bool, line: &mut Tail) -> Result<(), AllocError>
-    ensures appends { let sets = map (set_json empty) (all_sets repeat.now «data».now) in
+    ensures { let sets = map (set_json empty) (all_sets repeat.now «data».now) in
         OnOk result (line.new.items ≡ line.old.items ++ join_with_byte comma sets) }
-    ensures before { line.new.before ≡ line.old.before }
 {
     let count = repeat.count(data);
     for number in 0..count {
@@ -141,9 +164,8 @@ fn push_list(
     later: bool,
     line: &mut Tail,
 ) -> Result<(), AllocError>
-    ensures appends { let list = list_json empty (all_sets repeat.now «data».now) in
+    ensures { let list = list_json empty (all_sets repeat.now «data».now) in
         OnOk result (line.new.items ≡ line.old.items ++ member_text later (Some list)) }
-    ensures before { line.new.before ≡ line.old.before }
 {
     line.extend_from_slice(list_key(later))?;
     push_sets(repeat, data, empty, line)?;
@@ -157,9 +179,8 @@ fn push_fields(
     empty: bool,
     line: &mut Tail,
 ) -> Result<(), AllocError>
-    ensures appends { let ms = message_members empty definition.now «data».now in
+    ensures { let ms = message_members empty definition.now «data».now in
         OnOk result (line.new.items ≡ line.old.items ++ join_with_byte comma ms) }
-    ensures before { line.new.before ≡ line.old.before }
 {
     let later = push_members(definition.stored_fields(), data, empty, line)?;
     match definition.stored_repeat() {
@@ -176,27 +197,23 @@ fn push_matched(
     line: &mut Tail,
 ) -> Result<(), AllocError>
     requires { definition.now.number ≡ packet.now.id.pgn }
-    ensures appends { OnOk result (line.new.items ≡ line.old.items ++ chosen_json (Some definition.now) packet.now empty) }
-    ensures before { line.new.before ≡ line.old.before }
+    ensures { OnOk result (line.new.items ≡ line.old.items ++ chosen_json (Some definition.now) packet.now empty) }
 {
     push_seen(packet, line)?;
     line.extend_from_slice(definition.label())?;
     push_fields(definition, packet.data(), empty, line)?;
-    line.extend_from_slice(b"}}\n")?;
-    Ok(())
+    line.put(b"}}\n", 3)
 }
 
 // Appends the line of a message that no definition matches: its data as they are.
 fn push_unmatched(packet: &Packet, line: &mut Tail) -> Result<(), AllocError>
-    ensures appends { OnOk result (line.new.items ≡ line.old.items ++ unmatched_json packet.now) }
-    ensures before { line.new.before ≡ line.old.before }
+    ensures { OnOk result (line.new.items ≡ line.old.items ++ unmatched_json packet.now) }
 {
     push_seen(packet, line)?;
     push_number(b",\"pgn\":", packet.id().pgn, line)?;
     line.extend_from_slice(b",\"description\":\"Unmatched\",\"fields\":{\"Data\":")?;
     push_pairs(packet.data(), line)?;
-    line.extend_from_slice(b"}}\n")?;
-    Ok(())
+    line.put(b"}}\n", 3)
 }
 
 fn push_line(
@@ -206,8 +223,7 @@ fn push_line(
     line: &mut Tail,
 ) -> Result<(), AllocError>
     requires { IfSome definition (λ d. d.number ≡ packet.now.id.pgn) }
-    ensures appends { OnOk result (line.new.items ≡ line.old.items ++ chosen_json definition.entry packet.now empty) }
-    ensures before { line.new.before ≡ line.old.before }
+    ensures { OnOk result (line.new.items ≡ line.old.items ++ chosen_json definition.entry packet.now empty) }
 {
     match definition {
         Some(definition) => push_matched(&definition, packet, empty, line),
@@ -276,7 +292,7 @@ pub fn json_line_in(
 {
     let definition = table.choose(packet.id().pgn, packet.data());
     let line = &mut room.line;
-    line.begin(mem::replace(out, Vec::new(alloc)));
+    line.begin(alloc);
     let written = push_line(definition, packet, empty, line);
-    line.end(alloc, written, out)
+    line.end(written, out)
 }

@@ -74,8 +74,7 @@ impl Name {
     /// Appends the text as JSON.
     #[inline(always)]
     pub(crate) fn push_json(&self, line: &mut Tail) -> Result<(), AllocError>
-        ensures items { OnOk result (line.new.items ≡ line.old.items ++ text_json self.now) }
-        ensures before { line.new.before ≡ line.old.before }
+        ensures { OnOk result (line.new.items ≡ line.old.items ++ text_json self.now) }
     {
         self.json.push(line)
     }

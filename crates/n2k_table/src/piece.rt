@@ -47,8 +47,7 @@ impl Piece {
     /// Appends the text.
     #[inline(always)]
     pub(crate) fn push(&self, line: &mut Tail) -> Result<(), AllocError>
-        ensures items { OnOk result (line.new.items ≡ line.old.items ++ self.now) }
-        ensures before { line.new.before ≡ line.old.before }
+        ensures { OnOk result (line.new.items ≡ line.old.items ++ self.now) }
     {
         self.push_from(0, line)
     }
@@ -58,8 +57,7 @@ impl Piece {
     pub(crate) fn push_from(&self, from: usize, line: &mut Tail) -> Result<(), AllocError>
         requires few { from < 2 }
         requires inside { from ≤ length self.now }
-        ensures items { OnOk result (line.new.items ≡ line.old.items ++ drop from self.now) }
-        ensures before { line.new.before ≡ line.old.before }
+        ensures { OnOk result (line.new.items ≡ line.old.items ++ drop from self.now) }
     {
         let count = self.bytes.len() - from;
         if count > WIDE {

@@ -1,7 +1,8 @@
 //! A fast path: a number of 64 bits with at most 18 decimals is appended in one piece or two, its digits and the zeros before
 //! them as they stand in an array. `decimal.rt` appends any number; that is the file to read first.
-ghost use Rattle.std.specs.Prelude.{◌≡◌, ◌++◌, ◌+◌, ◌-◌, ◌≤◌, take, drop, OnOk};
-ghost use Rattle.n2k_table.specs.Decimal.{dotted, padded_digits};
+ghost use Rattle.std.specs.Prelude.{◌≡◌, ◌∷◌, [], ◌++◌, ◌+◌, ◌-◌, ◌≤◌, take, drop, if◌then◌else◌, OnOk};
+ghost use Rattle.n2k_table.specs.Decimal.{dec, dotted, minus, padded_digits};
+ghost use Rattle.n2k_table.specs.Inner.Quick.{short_value};
 
 use crate::tail::Tail;
 use itoa::write_digits;
@@ -30,8 +31,7 @@ fn push_digits(
     requires order { from ≤ to }
     requires few { to ≤ from + 24 }
     requires room { from ≤ 40 }
-    ensures appends { OnOk result (line.new.items ≡ line.old.items ++ take (to - from) (take 24 (drop from digits.now))) }
-    ensures before { line.new.before ≡ line.old.before }
+    ensures { OnOk result (line.new.items ≡ line.old.items ++ take (to - from) (take 24 (drop from digits.now))) }
 {
     match digits[from..].first_chunk::<WIDE>() {
         Some(wide) => line.put(wide, to - from),
@@ -39,12 +39,22 @@ fn push_digits(
     }
 }
 
+/// A number that has room in 64 bits, its sign apart: `size / 10^decimals`, or as far below zero.
+#[derive(Clone, Copy)]
+pub(crate) struct Short {
+    /// Whether it is below zero, where it is not zero.
+    pub(crate) below: bool,
+    /// How far it is from zero, without its dot.
+    pub(crate) size: u64,
+    /// How many of its digits stand after the dot.
+    pub(crate) decimals: u8,
+}
+
 /// Appends the decimal text of `size / 10^decimals`.
 #[inline(always)]
 pub(crate) fn push_short(size: u64, decimals: usize, line: &mut Tail) -> Result<(), AllocError>
     requires { decimals ≤ 18 }
-    ensures appends { OnOk result (line.new.items ≡ line.old.items ++ dotted decimals (padded_digits size decimals)) }
-    ensures before { line.new.before ≡ line.old.before }
+    ensures { OnOk result (line.new.items ≡ line.old.items ++ dotted decimals (padded_digits size decimals)) }
 {
     let mut digits = [b'0'; ROOM];
     let first = write_digits(size, &mut digits, END);
@@ -56,4 +66,25 @@ pub(crate) fn push_short(size: u64, decimals: usize, line: &mut Tail) -> Result<
         push_digits(&digits, dot - 1, END, line)?;
     }
     Ok(())
+}
+
+// Appends a minus sign, or nothing.
+#[inline(always)]
+fn push_minus(below: bool, line: &mut Tail) -> Result<(), AllocError>
+    ensures { OnOk result (line.new.items ≡ line.old.items ++ (if below then minus ∷ [] else [])) }
+{
+    if below {
+        line.push(b'-')?;
+    }
+    Ok(())
+}
+
+/// Appends the decimal text of a number.
+#[inline(always)]
+pub(crate) fn push_signed(number: Short, line: &mut Tail) -> Result<(), AllocError>
+    requires { number.decimals ≤ 18 }
+    ensures { OnOk result (line.new.items ≡ line.old.items ++ dec (short_value number) number.decimals) }
+{
+    push_minus(number.below & (number.size > 0), line)?;
+    push_short(number.size, usize::from(number.decimals), line)
 }

@@ -1,102 +1,96 @@
-//! A vector that is appended to, and can be put back as it was. It has room in which a line is put together, and is kept from
-//! line to line, since room for each line would be zeroed each time.
-ghost use Rattle.std.specs.Prelude.{◌≡◌, ◌∷◌, [], ◌++◌, ◌+◌, ◌≤◌, length, take, OnOk, OnErr, is_ok, true};
+//! Room in which a line is put together before it is appended to a vector. It is kept from line to line, since new room for
+//! each would be zeroed each time.
+ghost use Rattle.std.specs.Prelude.{◌≡◌, ◌∷◌, [], ◌++◌, ◌+◌, ◌≤◌, take, IfOk, OnOk, OnErr, is_ok, true};
 
 use std::alloc::{AllocError, Global};
 use std::marker::Model;
-use std::mem;
 
 /// How many bytes of a line are put together before they are appended.
-const ROOM: usize = 256;
+const ROOM: usize = 1024;
 
-/// A vector to which a line is appended in parts. Where one of them is refused the vector can be had back as
-/// it was. The parts are put together in a room: copying a few bytes at a constant length into an array costs a third of
-/// appending them to a vector.
+/// A line that is appended to in parts. They are put together in a room: copying a few bytes at a constant length into an
+/// array costs a third of appending them to a vector.
 #[derive(Drop)]
 pub(crate) struct Tail {
-    out: Vec<u8>,
-    // How many bytes stood before.
-    start: usize,
+    // The front of a line that is longer than the room. Most lines have none.
+    front: Vec<u8>,
     room: [u8; ROOM],
-    // How many bytes of the room count. They stand behind the vector's.
+    // How many bytes of the room count. They stand behind the front.
     at: usize,
 }
 
 impl Model for Tail {
-    ghost use Rattle.std.specs.Prelude.{◌≤◌, ◌++◌, take, length};
+    ghost use Rattle.std.specs.Prelude.{◌≤◌, ◌++◌, take};
     ghost use Rattle.n2k_table.specs.Inner.Tail.{TailParts};
 
     ghost Value = { TailParts };
 
-    ghost view = { λ l. record { before = take l.start l.out.items; items = l.out.items ++ take l.at l.room; held = l.at } };
+    ghost view = { λ l. record { items = l.front.items ++ take l.at l.room; held = l.at } };
 
-    ghost invariant = { λ l. (l.start ≤ length l.out.items) × (l.at ≤ 256) };
+    ghost invariant = { λ l. l.at ≤ 1024 };
 }
 
-// Appends what the room holds. It is not inlined: a line does so once or twice.
+// Appends what the room holds. It is not inlined: few lines do so.
 #[inline(never)]
-fn empty_room(out: &mut Vec<u8>, room: &[u8; ROOM], at: usize) -> Result<(), AllocError>
-    requires { at ≤ 256 }
-    ensures ok { OnOk result (out.new.items ≡ out.old.items ++ take at room.now) }
-    ensures err { OnErr result (out.new.items ≡ out.old.items) }
+fn empty_room(front: &mut Vec<u8>, room: &[u8; ROOM], at: usize) -> Result<(), AllocError>
+    requires { at ≤ 1024 }
+    ensures ok { OnOk result (front.new.items ≡ front.old.items ++ take at room.now) }
 {
-    out.extend_from_slice(&room[..at])
+    front.extend_from_slice(&room[..at])
 }
 
-// Writes bytes to a place of the room.
+// Writes bytes to a place of the room. They are given by value: of two references the copy would test whether they overlap.
 #[inline(always)]
-fn write_at<const N: usize>(room: &mut [u8; ROOM], at: usize, bytes: &[u8; N])
-    requires { at + N ≤ 256 }
-    ensures { take (at + N) room.new ≡ take at room.old ++ bytes.now }
+fn write_at<const N: usize>(room: &mut [u8; ROOM], at: usize, bytes: [u8; N])
+    requires { at + N ≤ 1024 }
+    ensures { take (at + N) room.new ≡ take at room.old ++ bytes.entry }
 {
-    room[at..at + N].copy_from_slice(bytes);
+    room[at..at + N].copy_from_slice(&bytes);
 }
 
 impl Tail {
-    /// Room for a line.
+    /// Room for lines.
     pub(crate) fn new(alloc: Global) -> Tail
-        ensures { result ≡ record { before = []; items = []; held = 0 } }
+        ensures { result ≡ record { items = []; held = 0 } }
     {
         Tail {
-            out: Vec::new(alloc),
-            start: 0,
+            front: Vec::new(alloc),
             room: [0; ROOM],
             at: 0,
         }
     }
 
-    /// Begins a line behind what the vector holds.
+    /// Begins a line. The memory that a long one took before it is given back.
     #[inline(always)]
-    pub(crate) fn begin(&mut self, out: Vec<u8>)
-        ensures { self.new ≡ record { before = out.items; items = out.items; held = 0 } }
+    pub(crate) fn begin(&mut self, alloc: Global)
+        ensures { self.new ≡ record { items = []; held = 0 } }
     {
-        self.start = out.len();
-        self.out = out;
+        if !self.front.is_empty() {
+            self.front = Vec::new(alloc);
+        }
         self.at = 0;
     }
 
     /// Appends a byte.
     #[inline(always)]
     pub(crate) fn push(&mut self, byte: u8) -> Result<(), AllocError>
-        ensures items { OnOk result (self.new.items ≡ self.old.items ++ byte ∷ []) }
-        ensures before { self.new.before ≡ self.old.before }
+        ensures { OnOk result (self.new.items ≡ self.old.items ++ byte ∷ []) }
     {
         self.put(&[byte], 1)
     }
 
-    // Sees to it that the room has a place for so many bytes.
+    // The place of the room that has so many bytes behind it.
     #[inline(always)]
-    fn make_place(&mut self, count: usize) -> Result<(), AllocError>
-        requires { count ≤ 256 }
+    fn place(&mut self, count: usize) -> Result<usize, AllocError>
+        requires { count ≤ 1024 }
         ensures items { OnOk result (self.new.items ≡ self.old.items) }
-        ensures before { self.new.before ≡ self.old.before }
-        ensures place { OnOk result (self.new.held + count ≤ 256) }
+        ensures place { IfOk result (λ at. (at ≡ self.new.held) × (at + count ≤ 1024)) }
     {
         if self.at > ROOM - count {
-            empty_room(&mut self.out, &self.room, self.at)?;
+            empty_room(&mut self.front, &self.room, self.at)?;
             self.at = 0;
         }
-        Ok(())
+        Ok(self.at)
     }
 
     /// Appends the first bytes of some. It copies all of them, which costs less than so many.
@@ -107,21 +101,19 @@ impl Tail {
         count: usize,
     ) -> Result<(), AllocError>
         requires few { count ≤ N }
-        requires room { N ≤ 256 }
-        ensures items { OnOk result (self.new.items ≡ self.old.items ++ take count bytes.now) }
-        ensures before { self.new.before ≡ self.old.before }
+        requires room { N ≤ 1024 }
+        ensures { OnOk result (self.new.items ≡ self.old.items ++ take count bytes.now) }
     {
-        self.make_place(N)?;
-        write_at(&mut self.room, self.at, bytes);
-        self.at += count;
+        let at = self.place(N)?;
+        write_at(&mut self.room, at, *bytes);
+        self.at = at + count;
         Ok(())
     }
 
     /// Appends bytes.
     #[inline(always)]
     pub(crate) fn extend_from_slice(&mut self, bytes: &[u8]) -> Result<(), AllocError>
-        ensures items { OnOk result (self.new.items ≡ self.old.items ++ bytes.now) }
-        ensures before { self.new.before ≡ self.old.before }
+        ensures { OnOk result (self.new.items ≡ self.old.items ++ bytes.now) }
     {
         if bytes.len() <= ROOM - self.at {
             let end = self.at + bytes.len();
@@ -135,37 +127,38 @@ impl Tail {
     // Appends bytes that the room has no place for.
     #[inline(never)]
     fn extend_past(&mut self, bytes: &[u8]) -> Result<(), AllocError>
-        ensures items { OnOk result (self.new.items ≡ self.old.items ++ bytes.now) }
-        ensures before { self.new.before ≡ self.old.before }
+        ensures { OnOk result (self.new.items ≡ self.old.items ++ bytes.now) }
     {
-        empty_room(&mut self.out, &self.room, self.at)?;
+        empty_room(&mut self.front, &self.room, self.at)?;
         self.at = 0;
-        self.out.extend_from_slice(bytes)
+        self.front.extend_from_slice(bytes)
     }
 
-    /// Ends the line. The vector is had back, with the line where it was written and else as it was.
+    /// Appends the line to a vector, unless a part of it was refused. A refusal leaves the vector as it was.
     #[inline(always)]
     pub(crate) fn end(
         &mut self,
-        alloc: Global,
         written: Result<(), AllocError>,
         out: &mut Vec<u8>,
     ) -> Result<(), AllocError>
-        ensures ok { OnOk result (out.new.items ≡ self.old.items) }
-        ensures err { OnErr result (out.new.items ≡ self.old.before) }
+        ensures ok { OnOk result (out.new.items ≡ out.old.items ++ self.old.items) }
+        ensures err { OnErr result (out.new.items ≡ out.old.items) }
         ensures written { OnOk result (is_ok written ≡ true) }
     {
-        let mut kept = mem::replace(&mut self.out, Vec::new(alloc));
-        let mut ended = written;
-        if ended.is_ok() {
-            ended = kept.extend_from_slice(&self.room[..self.at]);
+        written?;
+        if self.front.is_empty() {
+            return out.extend_from_slice(&self.room[..self.at]);
         }
-        if ended.is_err() {
-            kept.truncate(self.start);
-        }
-        self.start = 0;
-        self.at = 0;
-        *out = kept;
-        ended
+        self.end_long(out)
+    }
+
+    // The same of a line that is longer than the room.
+    #[inline(never)]
+    fn end_long(&mut self, out: &mut Vec<u8>) -> Result<(), AllocError>
+        ensures ok { OnOk result (out.new.items ≡ out.old.items ++ self.old.items) }
+        ensures err { OnErr result (out.new.items ≡ out.old.items) }
+    {
+        empty_room(&mut self.front, &self.room, self.at)?;
+        out.extend_from_slice(&self.front)
     }
 }

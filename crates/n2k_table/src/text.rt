@@ -29,8 +29,8 @@ fn is_plain(byte: u8) -> bool
     (byte >= b' ') & (byte != b'"') & (byte != b'\\')
 }
 
-/// Whether each byte stands for itself. It looks at each, so that several are compared at once.
-pub(crate) fn are_plain(text: &[u8]) -> bool
+// Whether each byte stands for itself. It looks at each, so that several are compared at once.
+fn are_plain(text: &[u8]) -> bool
     ensures { result ≡ list_all is_plain text.now }
 {
     let mut all = true;
@@ -72,8 +72,7 @@ fn escape_digit(byte: u8) -> u8
 // Appends what stands in a text for a byte.
 #[tactic(auto, unfolding(json::specs::Print::escape_byte))]
 fn push_escaped(byte: u8, line: &mut Tail) -> Result<(), AllocError>
-    ensures appends { OnOk result (line.new.items ≡ line.old.items ++ escape_byte byte) }
-    ensures before { line.new.before ≡ line.old.before }
+    ensures { OnOk result (line.new.items ≡ line.old.items ++ escape_byte byte) }
 {
     match escape_letter(byte) {
         Some(letter) => line.extend_from_slice(&[b'\\', letter]),
@@ -86,8 +85,7 @@ fn push_escaped(byte: u8, line: &mut Tail) -> Result<(), AllocError>
 }
 
 fn push_each(text: &[u8], line: &mut Tail) -> Result<(), AllocError>
-    ensures appends { OnOk result (line.new.items ≡ line.old.items ++ flat_map escape_byte text.now) }
-    ensures before { line.new.before ≡ line.old.before }
+    ensures { OnOk result (line.new.items ≡ line.old.items ++ flat_map escape_byte text.now) }
 {
     for byte in text {
         push_escaped(*byte, line)?;
@@ -97,8 +95,7 @@ fn push_each(text: &[u8], line: &mut Tail) -> Result<(), AllocError>
 
 // Appends what stands between the quotes of a text.
 fn push_inner(text: &[u8], line: &mut Tail) -> Result<(), AllocError>
-    ensures appends { OnOk result (line.new.items ≡ line.old.items ++ flat_map escape_byte text.now) }
-    ensures before { line.new.before ≡ line.old.before }
+    ensures { OnOk result (line.new.items ≡ line.old.items ++ flat_map escape_byte text.now) }
 {
     if are_plain(text) {
         line.extend_from_slice(text)
@@ -110,8 +107,7 @@ fn push_inner(text: &[u8], line: &mut Tail) -> Result<(), AllocError>
 /// Appends a text.
 #[tactic(auto, using(std::proofs::Common::append_assoc), unfolding(crate::specs::Text::text_json))]
 pub(crate) fn push_text(text: &[u8], line: &mut Tail) -> Result<(), AllocError>
-    ensures appends { OnOk result (line.new.items ≡ line.old.items ++ text_json text.now) }
-    ensures before { line.new.before ≡ line.old.before }
+    ensures { OnOk result (line.new.items ≡ line.old.items ++ text_json text.now) }
 {
     line.push(b'"')?;
     push_inner(text, line)?;
@@ -120,8 +116,7 @@ pub(crate) fn push_text(text: &[u8], line: &mut Tail) -> Result<(), AllocError>
 
 // Appends what stands in a text for the character of a number.
 fn push_character(byte: u8, line: &mut Tail) -> Result<(), AllocError>
-    ensures appends { OnOk result (line.new.items ≡ line.old.items ++ flat_map escape_byte (character byte)) }
-    ensures before { line.new.before ≡ line.old.before }
+    ensures { OnOk result (line.new.items ≡ line.old.items ++ flat_map escape_byte (character byte)) }
 {
     if byte < 0x80 {
         push_escaped(byte, line)
@@ -131,8 +126,7 @@ fn push_character(byte: u8, line: &mut Tail) -> Result<(), AllocError>
 }
 
 fn push_inner_characters(numbers: &[u8], line: &mut Tail) -> Result<(), AllocError>
-    ensures appends { OnOk result (line.new.items ≡ line.old.items ++ flat_map escape_byte (flat_map character numbers.now)) }
-    ensures before { line.new.before ≡ line.old.before }
+    ensures { OnOk result (line.new.items ≡ line.old.items ++ flat_map escape_byte (flat_map character numbers.now)) }
 {
     for number in numbers {
         push_character(*number, line)?;
@@ -143,8 +137,7 @@ fn push_inner_characters(numbers: &[u8], line: &mut Tail) -> Result<(), AllocErr
 /// Appends the text of the characters that have these numbers.
 #[tactic(auto, using(std::proofs::Common::append_assoc), unfolding(crate::specs::Text::text_json))]
 pub(crate) fn push_characters(numbers: &[u8], line: &mut Tail) -> Result<(), AllocError>
-    ensures appends { OnOk result (line.new.items ≡ line.old.items ++ text_json (flat_map character numbers.now)) }
-    ensures before { line.new.before ≡ line.old.before }
+    ensures { OnOk result (line.new.items ≡ line.old.items ++ text_json (flat_map character numbers.now)) }
 {
     line.push(b'"')?;
     push_inner_characters(numbers, line)?;
@@ -153,8 +146,7 @@ pub(crate) fn push_characters(numbers: &[u8], line: &mut Tail) -> Result<(), All
 
 // Appends a byte as two digits.
 fn push_pair(byte: u8, line: &mut Tail) -> Result<(), AllocError>
-    ensures appends { OnOk result (line.new.items ≡ line.old.items ++ pair byte) }
-    ensures before { line.new.before ≡ line.old.before }
+    ensures { OnOk result (line.new.items ≡ line.old.items ++ pair byte) }
 {
     let high = DIGITS[usize::from(byte / 16)];
     let low = DIGITS[usize::from(byte % 16)];
@@ -162,8 +154,7 @@ fn push_pair(byte: u8, line: &mut Tail) -> Result<(), AllocError>
 }
 
 fn push_inner_pairs(bytes: &[u8], line: &mut Tail) -> Result<(), AllocError>
-    ensures appends { OnOk result (line.new.items ≡ line.old.items ++ pairs bytes.now) }
-    ensures before { line.new.before ≡ line.old.before }
+    ensures { OnOk result (line.new.items ≡ line.old.items ++ pairs bytes.now) }
 {
     let Some((first, rest)) = bytes.split_first() else {
         return Ok(());
@@ -179,8 +170,7 @@ fn push_inner_pairs(bytes: &[u8], line: &mut Tail) -> Result<(), AllocError>
 /// Appends the text of bytes: two digits each, and a space between.
 #[tactic(auto, using(std::proofs::Common::append_assoc))]
 pub(crate) fn push_pairs(bytes: &[u8], line: &mut Tail) -> Result<(), AllocError>
-    ensures appends { OnOk result (line.new.items ≡ line.old.items ++ text_json (pairs bytes.now)) }
-    ensures before { line.new.before ≡ line.old.before }
+    ensures { OnOk result (line.new.items ≡ line.old.items ++ text_json (pairs bytes.now)) }
 {
     line.push(b'"')?;
     push_inner_pairs(bytes, line)?;

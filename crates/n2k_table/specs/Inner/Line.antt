@@ -9,6 +9,10 @@ use Rattle.n2k_table.specs.Json.{comma, colon}
 abbrev pub is_plain : ℕ → Bool
 is_plain b = nat_le 32 b && not (b == 34) && not (b == 92)
 
+-- a byte from `-` to `Z`, as digits and upper letters are: each is plain
+abbrev pub is_usual : ℕ → Bool
+is_usual b = nat_le 45 b && nat_le b 90
+
 -- who sent what to whom, up to the PGN
 unfoldable pub sender_json : Id → List ℕ
 sender_json id = codes ",\"prio\":" ++ decimal id.prio ++ codes ",\"src\":" ++ decimal id.src ++ codes ",\"dst\":" ++ decimal id.dst

@@ -1,5 +1,4 @@
-use Rattle.std.proofs.Common.{◌≡◌, ◌+◌, ◌-◌, ◌*◌, ◌/◌, ◌%◌, ◌^◌, ◌≤◌, length, drop, ap, ◌∙◌, arith}
-use Rattle.std.proofs.lemmas.List.{take-take}
+use Rattle.std.proofs.Common.{◌≡◌, ◌+◌, ◌-◌, ◌*◌, ◌/◌, ◌%◌, ◌^◌, ◌≤◌, length, take, drop, ap, ◌∙◌, arith}
 use Rattle.std.proofs.lemmas.Nat.{one_shl}
 use Rattle.n2k_table.specs.Bits.{raw}
 use Rattle.n2k_table.proofs.RawBits.{raw_eight_bytes, raw_out_of}
@@ -16,8 +15,7 @@ returns c =
     let few : shift + c.args.bits ≤ 64 = omega (arith, c.min-from.ensures, c.in_ok-last.ensures, c.requires, c.if-bits-gt-MOST_AT_ONCE.false, c.if-bits-eq0.false) in
     let place : 8 * from + shift ≡ c.args.at = omega (arith, c.min-from.ensures) in
     let power = one_shl c.args.bits 64 (omega (arith, c.if-bits-gt-MOST_AT_ONCE.false)) in
-    let inside : 8 ≤ length payload - from = omega (arith, c.min-from.ensures, c.in_ok-last.ensures) in
-    let eight = c.in_ok-eight.ensures.cases.same ∙ take-take 8 (length payload - from) (drop from payload) inside in
+    let eight = c.in_ok-eight.ensures.cases.same ∙ ap (λ k. take k (drop from payload)) (let e : from + 8 - from ≡ 8 = omega arith in e) in
     let word = c.from_le_bytes.ensures ∙ raw_eight_bytes payload c.in_ok-eight.eight.now from (λ k. (c.type_inv.«data» k).fits) eight in
     record {
       value = ap (λ n. c.from_le_bytes.result / 2 ^ shift % n) power

@@ -4,6 +4,6 @@ use Rattle.n2k_table.proofs.Members.{on_ok}
 use Rattle.n2k_table.proofs.Heads.{two_parts}
 use Rattle.n2k_table.proofs.head.push_other_stamp.Goals as goal
 
-pub returns-clause-appends : goal.returns-clause-appends
-returns-clause-appends c =
-    on_ok c.push_text.result (λ pushed. two_parts c.args.line.now.items (codes "{\"timestamp\":") (text_json c.args.stamp.now) _ _ c.in_ok-extend_from_slice.ensures.items pushed) c.push_text.ensures.appends
+pub returns : goal.returns
+returns c =
+    on_ok c.push_text.result (λ pushed. two_parts c.args.line.now.items (codes "{\"timestamp\":") (text_json c.args.stamp.now) _ _ c.in_ok-extend_from_slice.ensures pushed) c.push_text.ensures

@@ -5,9 +5,9 @@ use Rattle.n2k_table.proofs.Members.{on_ok}
 use Rattle.n2k_table.proofs.Heads.{sender_parts}
 use Rattle.n2k_table.proofs.head.push_sender.Goals as goal
 
-pub returns-clause-appends : goal.returns-clause-appends
+pub returns : goal.returns
 unfolding sender_json
-returns-clause-appends c =
+returns c =
     let id = c.args.id in
     on_ok c.push_part-2.result (λ last. sender_parts c.args.line.now.items (codes ",\"prio\":") (decimal id.prio) (codes ",\"src\":") (decimal id.src) (codes ",\"dst\":") (decimal id.dst) _ _ _
-    c.in_ok-push_priority.ensures.appends c.in_ok-push_part.ensures.appends last) c.push_part-2.ensures.appends
+    c.in_ok-push_priority.ensures c.in_ok-push_part.ensures last) c.push_part-2.ensures

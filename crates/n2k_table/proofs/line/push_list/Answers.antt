@@ -5,7 +5,7 @@ use Rattle.n2k_table.specs.Json.{set_json}
 use Rattle.n2k_table.proofs.Members.{on_ok, last_parts}
 use Rattle.n2k_table.proofs.line.push_list.Goals as goal
 
-pub returns-clause-appends : goal.returns-clause-appends
-returns-clause-appends c =
+pub returns : goal.returns
+returns c =
     let sets = join_with_byte 44 (map (set_json c.args.empty) (all_sets c.args.repeat.now c.args.«data».now)) in
-    on_ok c.push.result (λ closed. last_parts c.args.line.now.items sets _ _ _ c.args.later (rw c.list_key.ensures at c.in_ok-extend_from_slice.ensures.items) c.in_ok-push_sets.ensures.appends closed) c.push.ensures.items
+    on_ok c.push.result (λ closed. last_parts c.args.line.now.items sets _ _ _ c.args.later (rw c.list_key.ensures at c.in_ok-extend_from_slice.ensures) c.in_ok-push_sets.ensures closed) c.push.ensures

@@ -11,5 +11,4 @@ abbrev pub invariant-loop-field : goal.invariant-loop-field
 invariant-loop-field l =
     (l.line.items ++ members_from l.later (filter_map (member_json l.empty) (all_shown (drop l.field-index l.fields) l.«data»))
     ≡ l.fn.line.items ++ members_from false (filter_map (member_json l.empty) (all_shown l.fields l.«data»)))
-    × (l.line.before ≡ l.fn.line.before)
     × ((l.later || has_members (filter_map (member_json l.empty) (all_shown (drop l.field-index l.fields) l.«data»))) ≡ has_members (filter_map (member_json l.empty) (all_shown l.fields l.«data»)))

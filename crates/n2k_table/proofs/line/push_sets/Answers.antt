@@ -5,11 +5,9 @@ use Rattle.n2k_table.proofs.Members.{sets_more, sets_done}
 use Rattle.n2k_table.proofs.line.push_sets.Goals as goal
 
 pub loop-number-preserved : goal.loop-number-preserved
-loop-number-preserved c = (
-  sets_more (λ j. set_json c.args.empty (set_shown c.args.repeat.now c.args.«data».now j)) c.loop-number.number _ _ _ c.loop-number.invariant.0 c.in_ok-push_set.ensures.appends,
-  c.in_ok-push_set.ensures.before ∙ c.loop-number.invariant.1,
-)
+loop-number-preserved c =
+    sets_more (λ j. set_json c.args.empty (set_shown c.args.repeat.now c.args.«data».now j)) c.loop-number.number _ _ _ c.loop-number.invariant c.in_ok-push_set.ensures
 
-pub returns-clause-appends : goal.returns-clause-appends
-returns-clause-appends c =
-    sets_done (set_json c.args.empty) (set_shown c.args.repeat.now c.args.«data».now) c.loop-number.number _ _ _ _ (omega (arith, c.loop-number-test.false, c.loop-number.auto.number-end)) c.count-count.ensures.value c.loop-number.invariant.0
+pub returns : goal.returns
+returns c =
+    sets_done (set_json c.args.empty) (set_shown c.args.repeat.now c.args.«data».now) c.loop-number.number _ _ _ _ (omega (arith, c.loop-number-test.false, c.loop-number.auto.number-end)) c.count-count.ensures.value c.loop-number.invariant

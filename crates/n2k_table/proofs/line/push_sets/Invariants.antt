@@ -7,5 +7,4 @@ use Rattle.n2k_table.proofs.line.push_sets.Given as goal
 
 abbrev pub invariant-loop-number : goal.invariant-loop-number
 invariant-loop-number l =
-    (l.line.items ≡ l.fn.line.items ++ join_with_byte 44 (map (λ j. set_json l.empty (set_shown l.repeat l.«data» j)) (range_with_len 0 l.number)))
-    × (l.line.before ≡ l.fn.line.before)
+    l.line.items ≡ l.fn.line.items ++ join_with_byte 44 (map (λ j. set_json l.empty (set_shown l.repeat l.«data» j)) (range_with_len 0 l.number))

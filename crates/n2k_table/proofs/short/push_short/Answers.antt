@@ -16,8 +16,8 @@ push_digits-requires-clause-few c =
     let short : length (decimal c.args.size) ≤ 20 = length-decimal-le 20 c.args.size (omega arith) (omega (arith, c.ranges.size.fits)) (omega (arith, c.ranges.size.fits)) in
     omega (arith, short, c.write_digits-first.ensures.start, c.min-from.ensures, c.requires)
 
-pub returns-in_ok-push_digits-2-clause-appends : goal.returns-in_ok-push_digits-2-clause-appends
-returns-in_ok-push_digits-2-clause-appends c =
+pub returns-in_ok-push_digits-2 : goal.returns-in_ok-push_digits-2
+returns-in_ok-push_digits-2 c =
     let n = c.args.size in
     let e = c.args.decimals in
     let digits = c.write_digits-first.new.buf in
@@ -39,10 +39,10 @@ returns-in_ok-push_digits-2-clause-appends c =
     onto_parts (padded_digits n e) (drop 40 (replicate 64 48)) (drop from digits) (drop (40 - e - 1) (set digits (40 - e - 1) 46)) c.args.line.now.items _ _ (40 - e - from) e front
     (omega (arith, length_padded n e, c.write_digits-first.ensures.start, c.min-from.ensures, c.requires, short))
     (omega (arith, short, c.write_digits-first.ensures.start, c.min-from.ensures, c.requires)) (omega (arith, c.if-decimals-gt0.true)) (omega (arith, c.requires))
-    c.in_ok-push_digits.ensures.appends here (rw count at c.in_ok-push_digits-2.ensures.appends)
+    c.in_ok-push_digits.ensures here (rw count at c.in_ok-push_digits-2.ensures)
 
-pub returns-else-decimals-gt0-clause-appends : goal.returns-else-decimals-gt0-clause-appends
-returns-else-decimals-gt0-clause-appends c =
+pub returns-else-decimals-gt0 : goal.returns-else-decimals-gt0
+returns-else-decimals-gt0 c =
     let n = c.args.size in
     let e = c.args.decimals in
     let digits = c.write_digits-first.new.buf in
@@ -56,4 +56,4 @@ returns-else-decimals-gt0-clause-appends c =
     let front : drop from digits ≡ padded_digits n e ++ drop 40 (replicate 64 48) = is ∙ ap (λ k. (replicate k 48 ++ decimal n) ++ drop 40 (replicate 64 48)) fill in
     onto_whole (padded_digits n e) (drop 40 (replicate 64 48)) (drop from digits) c.args.line.now.items _ (40 - e - from) e none front
     (omega (arith, none, length_padded n e, c.write_digits-first.ensures.start, c.min-from.ensures, short))
-    (omega (arith, short, c.write_digits-first.ensures.start, c.min-from.ensures, c.requires)) c.in_ok-push_digits.ensures.appends
+    (omega (arith, short, c.write_digits-first.ensures.start, c.min-from.ensures, c.requires)) c.in_ok-push_digits.ensures

@@ -2,6 +2,6 @@ use Rattle.std.proofs.Common.{arith}
 use Rattle.n2k_table.proofs.Escapes.{escape-character}
 use Rattle.n2k_table.proofs.text.push_character.Goals as goal
 
-pub returns-else-byte-lt128-clause-appends : goal.returns-else-byte-lt128-clause-appends
-returns-else-byte-lt128-clause-appends c =
-    rw (escape-character c.args.byte c.if-byte-lt128.false (omega arith)) c.extend_from_slice.ensures.items
+pub returns-else-byte-lt128 : goal.returns-else-byte-lt128
+returns-else-byte-lt128 c =
+    rw (escape-character c.args.byte c.if-byte-lt128.false (omega arith)) c.extend_from_slice.ensures

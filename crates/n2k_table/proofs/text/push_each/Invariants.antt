@@ -6,5 +6,4 @@ use Rattle.n2k_table.proofs.text.push_each.Given as goal
 
 abbrev pub invariant-loop-byte : goal.invariant-loop-byte
 invariant-loop-byte l =
-    (l.line.items ++ flat_map escape_byte (drop l.byte-index l.text) ≡ l.fn.line.items ++ flat_map escape_byte l.text)
-    × (l.line.before ≡ l.fn.line.before)
+    l.line.items ++ flat_map escape_byte (drop l.byte-index l.text) ≡ l.fn.line.items ++ flat_map escape_byte l.text

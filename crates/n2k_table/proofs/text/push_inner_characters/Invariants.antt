@@ -7,5 +7,4 @@ use Rattle.n2k_table.proofs.text.push_inner_characters.Given as goal
 
 abbrev pub invariant-loop-number : goal.invariant-loop-number
 invariant-loop-number l =
-    (l.line.items ++ flat_map escape_byte (flat_map character (drop l.number-index l.numbers)) ≡ l.fn.line.items ++ flat_map escape_byte (flat_map character l.numbers))
-    × (l.line.before ≡ l.fn.line.before)
+    l.line.items ++ flat_map escape_byte (flat_map character (drop l.number-index l.numbers)) ≡ l.fn.line.items ++ flat_map escape_byte (flat_map character l.numbers)

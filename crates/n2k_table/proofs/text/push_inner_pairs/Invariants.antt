@@ -6,5 +6,4 @@ use Rattle.n2k_table.proofs.text.push_inner_pairs.Given as goal
 
 abbrev pub invariant-loop-byte : goal.invariant-loop-byte
 invariant-loop-byte l =
-    (l.line.items ++ later_pairs (drop l.byte-index l.rest) ≡ l.fn.line.items ++ pairs l.bytes)
-    × (l.line.before ≡ l.fn.line.before)
+    l.line.items ++ later_pairs (drop l.byte-index l.rest) ≡ l.fn.line.items ++ pairs l.bytes

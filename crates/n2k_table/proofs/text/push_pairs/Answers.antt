@@ -2,5 +2,5 @@ use Rattle.std.proofs.Common.{append_assoc, rules, arith}
 use Rattle.n2k_table.proofs.Escapes.{text_json-pairs}
 use Rattle.n2k_table.proofs.text.push_pairs.Goals as goal
 
-pub returns-clause-appends : goal.returns-clause-appends
-returns-clause-appends c = rw (text_json-pairs c.args.bytes.now (λ i. omega (arith, c.type_inv.bytes i))) (search (rules, append_assoc))
+pub returns : goal.returns
+returns c = rw (text_json-pairs c.args.bytes.now (λ i. omega (arith, c.type_inv.bytes i))) (search (rules, append_assoc))

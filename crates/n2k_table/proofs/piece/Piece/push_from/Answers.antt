@@ -3,8 +3,8 @@ use Rattle.std.proofs.lemmas.List.{take-take, drop-take}
 use Rattle.n2k_table.proofs.Members.{on_ok}
 use Rattle.n2k_table.proofs.piece.Piece.push_from.Goals as goal
 
-pub returns-in-Some-clause-items : goal.returns-in-Some-clause-items
-returns-in-Some-clause-items c =
+pub returns-in-Some : goal.returns-in-Some
+returns-in-Some c =
     let bytes = c.self.inside.bytes.items in
     let front = c.self.inside.front in
     let from = c.args.from in
@@ -20,4 +20,4 @@ returns-in-Some-clause-items c =
     ∙ sym (drop-take from count front)
     ∙ ap (λ k. drop from (take k front)) end
     ∙ ap (drop from) (whole ∙ c.self.view_is) in
-    on_ok c.put.result (λ put. put ∙ ap (λ (t : List ℕ). c.args.line.now.items ++ t) text) c.put.ensures.items
+    on_ok c.put.result (λ put. put ∙ ap (λ (t : List ℕ). c.args.line.now.items ++ t) text) c.put.ensures
