@@ -163,6 +163,111 @@ const SHOWN: [(&str, &[u8], &str); 36] = [
     ("kind = 'bytes', at = 0, bits = 16", &[1], "null"),
 ];
 
+// The same of data of eight bytes, which numbers and named values of up to 32 bits are cut out of at once.
+const SHOWN_OF_EIGHT: [(&str, [u8; 8], &str); 20] = [
+    (
+        "kind = 'number', at = 4, bits = 8",
+        [0xa5, 0x5b, 0, 0, 0, 0, 0, 0],
+        "186",
+    ),
+    (
+        "kind = 'number', at = 50, bits = 14",
+        [0, 0, 0, 0, 0, 0, 0xfc, 0xfc],
+        "16191",
+    ),
+    (
+        "kind = 'number', at = 0, bits = 1",
+        [1, 0, 0, 0, 0, 0, 0, 0],
+        "1",
+    ),
+    (
+        "kind = 'number', at = 0, bits = 2",
+        [3, 0, 0, 0, 0, 0, 0, 0],
+        "null",
+    ),
+    (
+        "kind = 'number', at = 0, bits = 2",
+        [2, 0, 0, 0, 0, 0, 0, 0],
+        "2",
+    ),
+    (
+        "kind = 'number', at = 0, bits = 3",
+        [6, 0, 0, 0, 0, 0, 0, 0],
+        "6",
+    ),
+    (
+        "kind = 'number', at = 0, bits = 4",
+        [15, 0, 0, 0, 0, 0, 0, 0],
+        "null",
+    ),
+    (
+        "kind = 'number', at = 0, bits = 4",
+        [14, 0, 0, 0, 0, 0, 0, 0],
+        "null",
+    ),
+    (
+        "kind = 'number', at = 0, bits = 4",
+        [13, 0, 0, 0, 0, 0, 0, 0],
+        "13",
+    ),
+    (
+        "kind = 'number', at = 60, bits = 4, signed = true",
+        [0, 0, 0, 0, 0, 0, 0, 0x7f],
+        "null",
+    ),
+    (
+        "kind = 'number', at = 60, bits = 4, signed = true",
+        [0, 0, 0, 0, 0, 0, 0, 0x6f],
+        "null",
+    ),
+    (
+        "kind = 'number', at = 60, bits = 4, signed = true",
+        [0, 0, 0, 0, 0, 0, 0, 0x8f],
+        "-8",
+    ),
+    (
+        "kind = 'number', at = 0, bits = 8, signed = true, resolution = '0.01'",
+        [0xff, 0, 0, 0, 0, 0, 0, 0],
+        "-0.01",
+    ),
+    // the greatest product of 32 bits, and the least
+    (
+        "kind = 'number', at = 32, bits = 32, resolution = '4294967295'",
+        [0, 0, 0, 0, 0xfd, 0xff, 0xff, 0xff],
+        "18446744056529682435",
+    ),
+    (
+        "kind = 'number', at = 0, bits = 32, signed = true, resolution = '4294967295'",
+        [0, 0, 0, 0x80, 0, 0, 0, 0],
+        "-9223372034707292160",
+    ),
+    (
+        "kind = 'number', at = 0, bits = 8, match = 255, signed = true",
+        [255, 0, 0, 0, 0, 0, 0, 0],
+        "-1",
+    ),
+    (
+        "kind = 'lookup', at = 0, bits = 2, lookup = 'L'",
+        [3, 0, 0, 0, 0, 0, 0, 0],
+        "\"Three\"",
+    ),
+    (
+        "kind = 'lookup', at = 0, bits = 2, lookup = 'L'",
+        [2, 0, 0, 0, 0, 0, 0, 0],
+        "2",
+    ),
+    (
+        "kind = 'lookup', at = 0, bits = 4, lookup = 'L'",
+        [14, 0, 0, 0, 0, 0, 0, 0],
+        "14",
+    ),
+    (
+        "kind = 'lookup', at = 0, bits = 4, lookup = 'L'",
+        [15, 0, 0, 0, 0, 0, 0, 0],
+        "null",
+    ),
+];
+
 // A table of this one field.
 fn with_field(alloc: Global, field: &str) -> Result<ManuallyDrop<Table>, Fail> {
     let fields = format!(in alloc; "{{ name = 'F \"', {field} }}")?;
@@ -188,7 +293,26 @@ fn single_fields(rt: HostRuntime) -> Result<(), Fail> {
     for (field, data, value) in &SHOWN {
         field_shows(&rt, field, data, value)?;
     }
+    for (field, data, value) in &SHOWN_OF_EIGHT {
+        field_shows(&rt, field, data, value)?;
+    }
     Ok(())
+}
+
+// A line is put together in a room, and this one is longer: each of its bytes is shown by six.
+#[test]
+fn a_line_longer_than_its_room(rt: HostRuntime) -> Result<(), Fail> {
+    let mut value = String::from_str(rt.alloc(), "\"")?;
+    for _ in 0..223 {
+        value.push_str("\\u0001")?;
+    }
+    value.push_str("\"")?;
+    field_shows(
+        &rt,
+        "kind = 'text', at = 0, bits = 1784",
+        &[1; 223],
+        value.as_str(),
+    )
 }
 
 fn next_is<R: Abort>(
