@@ -3,7 +3,7 @@ _n2kdec() {
     local now=${COMP_WORDS[COMP_CWORD]} before=${COMP_WORDS[COMP_CWORD - 1]} words
     COMPREPLY=()
     if [ "$COMP_CWORD" -eq 1 ]; then
-        mapfile -t COMPREPLY < <(compgen -W 'plain decode frames --help' -- "$now")
+        mapfile -t COMPREPLY < <(compgen -W 'plain decode frames --help --version' -- "$now")
         return
     fi
     case $before in

@@ -1,9 +1,11 @@
 -- Groups hold where each does and none has a key that was seen before it.
 use Rattle.std.proofs.Common.{◌≡◌, ℕ, ◌+◌, ◌<◌, Bool, true, false, not, ◌&&◌, ◌||◌, cond, List, [], ◌∷◌, ◌++◌, length, get_or, take, drop, map, Option, Some, None, refl, sym, ap, subst, ◌∙◌}
-use Rattle.std.specs.Prelude.{is_some, position}
+use Rattle.std.specs.Prelude.{is_some}
 use Rattle.std.specs.List.{list_any, AllByRecursion}
+use Rattle.std.specs.Map.{lookup}
 use Rattle.std.proofs.lemmas.Bool.{or_parts}
 use Rattle.std.proofs.lemmas.List.{drop_more, take_more, map-append}
+use Rattle.indexmap.specs.IndexMap.{insert_entry}
 use Rattle.n2k_table.specs.declared.definition.Kind.{Kind}
 use Rattle.n2k_join.specs.declared.piece.FrameKey.{FrameKey}
 use Rattle.n2k_join.specs.declared.piece.OpenGroup.{OpenGroup}
@@ -14,7 +16,7 @@ use Rattle.n2k_join.specs.State.{HasParts}
 use Rattle.n2k_join.specs.Inner.Apart.{each_new}
 use Rattle.n2k_join.specs.Inner.Stored.{key_of}
 use Rattle.n2k_join.specs.Inner.Slots.{group_at, groups_in}
-use Rattle.n2k_join.proofs.EntryLemmas.{HasNone, place-none, all-none}
+use Rattle.n2k_join.proofs.IndexedLemmas.{insert-last}
 use Rattle.n2k_join.proofs.Keys.{same_key-sym}
 use Rattle.n2k_join.proofs.Rising.{all-append}
 
@@ -97,39 +99,30 @@ module _ (kind : ℕ → Option Kind) (ks : List Key) (gs : List Group) (i : ℕ
   pub key_new : group_holds kind g ≡ true → list_any (same_key g.key) ks ≡ false → each_new kind (ks ++ g.key ∷ []) (drop (i + 1) gs) ≡ groups_hold kind gs
   key_new good new = (λ j. sym good j && (not (sym new j) && each_new kind (ks ++ g.key ∷ []) (drop (i + 1) gs))) ∙ opened
 
+-- the map has a key where a group has it
+pub key_listed : (k : FrameKey) (es : List (FrameKey × OpenGroup)) → list_any (same_key (key_of k)) (keys_in (groups_in es)) ≡ is_some (lookup (λ (j : FrameKey). same_key (key_of k) (key_of j)) es)
+key_listed k [] = refl
+key_listed k (e ∷ es) =
+    ap (λ b. same_key (key_of k) (key_of e.0) || b) (key_listed k es)
+    ∙ elim (same_key (key_of k) (key_of e.0)) as (λ b. (b || is_some (lookup (λ (j : FrameKey). same_key (key_of k) (key_of j)) es)) ≡ is_some (cond b (Some e.1) (lookup (λ (j : FrameKey). same_key (key_of k) (key_of j)) es))) [ true ↦ refl | false ↦ refl ]
+
 none_listed : (k : Key) (gs : List Group) → list_any (same_key k) (keys_in gs) ≡ false → AllByRecursion (λ (g : Group). same_key k g.key ≡ false) gs
 none_listed k [] none = tt
 none_listed k (g ∷ gs) none = let parts = or_parts _ _ none in (parts.0, none_listed k gs parts.1)
 
--- a key has a place where a group has it
-pub key_listed : (k : FrameKey) (es : List (FrameKey × OpenGroup)) → list_any (same_key (key_of k)) (keys_in (groups_in es)) ≡ is_some (position (λ (e : FrameKey × OpenGroup). same_key (key_of k) (key_of e.0)) es)
-key_listed k es = by (list_any (same_key (key_of k)) (keys_in (groups_in es))) (position (λ (e : FrameKey × OpenGroup). same_key (key_of k) (key_of e.0)) es) refl refl
-  where
-    entries_none : (es : List (FrameKey × OpenGroup)) → AllByRecursion (λ (g : Group). same_key (key_of k) g.key ≡ false) (groups_in es) → HasNone k es
-    entries_none [] none = tt
-    entries_none (e ∷ es) none = (none.0, entries_none es none.1)
-
-    any_none : (es : List (FrameKey × OpenGroup)) → HasNone k es → list_any (same_key (key_of k)) (keys_in (groups_in es)) ≡ false
-    any_none [] none = refl
-    any_none (e ∷ es) none = ap (λ b. b || list_any (same_key (key_of k)) (keys_in (groups_in es))) none.0 ∙ any_none es none.1
-
-    by : (b : Bool) (o : Option ℕ) → list_any (same_key (key_of k)) (keys_in (groups_in es)) ≡ b → position (λ (e : FrameKey × OpenGroup). same_key (key_of k) (key_of e.0)) es ≡ o → b ≡ is_some o
-    by true (Some i) t p = refl
-    by true None t p = sym t ∙ any_none es (all-none k es p)
-    by false o t p = ap is_some (sym (place-none (λ e. same_key (key_of k) (key_of e.0)) es (entries_none es (none_listed (key_of k) (groups_in es) t))) ∙ p)
-
 -- a group of a new key is the last
-pub grown : (k : FrameKey) (v : OpenGroup) (es : List (FrameKey × OpenGroup)) → groups_in (es ++ (k, v) ∷ []) ≡ groups_in es ++ group_at (k, v) ∷ []
-grown k v es = map-append group_at es ((k, v) ∷ [])
+pub grown : (k : FrameKey) (v : OpenGroup) (es : List (FrameKey × OpenGroup)) → list_any (same_key (key_of k)) (keys_in (groups_in es)) ≡ false
+    → groups_in (insert_entry (λ (a b : FrameKey). same_key (key_of a) (key_of b)) es k v) ≡ groups_in es ++ group_at (k, v) ∷ []
+grown k v es new = ap groups_in (insert-last k v es (none_listed (key_of k) (groups_in es) new)) ∙ map-append group_at es ((k, v) ∷ [])
 
 -- What is stored is one group more of those that are read.
 module _ (kind : ℕ → Option Kind) (gs : List Group) (i : ℕ) (g : Group) (lt : i < length gs) (at : g ≡ get_or gs i g) (k : FrameKey) (v : OpenGroup) (es next : List (FrameKey × OpenGroup))
-    (is : group_at (k, v) ≡ g) (new : position (λ (e : FrameKey × OpenGroup). same_key (key_of k) (key_of e.0)) es ≡ None) (pushed : next ≡ es ++ (k, v) ∷ []) where
+    (is : group_at (k, v) ≡ g) (new : lookup (λ (j : FrameKey). same_key (key_of k) (key_of j)) es ≡ None) (inserted : next ≡ insert_entry (λ (a b : FrameKey). same_key (key_of a) (key_of b)) es k v) where
   unseen : list_any (same_key (key_of k)) (keys_in (groups_in es)) ≡ false
   unseen = key_listed k es ∙ ap is_some new
 
   last : groups_in next ≡ groups_in es ++ g ∷ []
-  last = ap groups_in pushed ∙ grown k v es ∙ ap (λ h. groups_in es ++ h ∷ []) is
+  last = ap groups_in inserted ∙ grown k v es unseen ∙ ap (λ h. groups_in es ++ h ∷ []) is
 
   pub stored_kept : groups_in es ≡ take i gs → groups_in next ≡ take (i + 1) gs
   stored_kept kept = last ∙ ap (λ hs. hs ++ g ∷ []) kept ∙ sym (take_more gs i g lt ∙ ap (λ h. take i gs ++ h ∷ []) (sym at))

@@ -167,23 +167,8 @@ ended-first w line (g ∷ gs) rise o e = by (is_waiting w line g) refl ∙ ap (o
 pub due-none : (s : State) → Rise (λ (g : Group). g.first) 1 s.groups → (s.counts.lines ≡ most_lines → ⊥) → slice_get s.groups 0 ≡ None → due s ≡ None
 due-none s rise below e = due_by s below ∙ ended-first s.rule (next_line s) s.groups rise None e
 
-pub due-waits : (s : State) (g : Group) → Rise (λ (g : Group). g.first) 1 s.groups → (s.counts.lines ≡ most_lines → ⊥) → slice_get s.groups 0 ≡ Some g → s.counts.lines + 1 < g.first + s.rule.window → due s ≡ None
-due-waits s g rise below e l = due_by s below ∙ ended-first s.rule (next_line s) s.groups rise (Some g) e ∙ ap (λ b. cond (not b) (Some g) None) (lt-ltb (s.counts.lines + 1) (g.first + s.rule.window) l)
-
-pub due-late : (s : State) (g : Group) → Rise (λ (g : Group). g.first) 1 s.groups → (s.counts.lines ≡ most_lines → ⊥) → slice_get s.groups 0 ≡ Some g → (s.counts.lines + 1 < g.first + s.rule.window → ⊥) → due s ≡ Some g
-due-late s g rise below e l = due_by s below ∙ ended-first s.rule (next_line s) s.groups rise (Some g) e ∙ ap (λ b. cond (not b) (Some g) None) (ltb-no (s.counts.lines + 1) (g.first + s.rule.window) l)
-  where
-    ltb-no : (a b : ℕ) → (a < b → ⊥) → ltb a b ≡ false
-    ltb-no a b never = by (ltb a b) refl
-      where
-        by : (t : Bool) → ltb a b ≡ t → ltb a b ≡ false
-        by true e = absurd (never (ltb-true a b e))
-        by false e = e
-
--- what holds of each group holds of the first
-pub all-first : (P : Group → Type 0) (gs : List Group) (g : Group) → AllByRecursion P gs → slice_get gs 0 ≡ Some g → P g
-all-first P [] g all e = absurd (none-some g e)
-all-first P (h ∷ gs) g all e = subst P (same_Some h g e) all.0
+pub due-first : (s : State) (g : Group) (waits : Bool) → Rise (λ (g : Group). g.first) 1 s.groups → (s.counts.lines ≡ most_lines → ⊥) → slice_get s.groups 0 ≡ Some g → ltb (s.counts.lines + 1) (g.first + s.rule.window) ≡ waits → due s ≡ cond (not waits) (Some g) None
+due-first s g waits rise below e is = due_by s below ∙ ended-first s.rule (next_line s) s.groups rise (Some g) e ∙ ap (λ b. cond (not b) (Some g) None) is
 
 -- what is told of one that is due
 pub record FoundDue (s : State) : Type 0 where

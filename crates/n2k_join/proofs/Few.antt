@@ -1,6 +1,7 @@
 -- What a state that was read holds at the most.
-use Rattle.std.proofs.Common.{◌≡◌, ◌<◌, ◌==◌, ℕ, true, List, Option, Some, None, Result, Ok, IfOk, sym, subst, arith}
+use Rattle.std.proofs.Common.{◌≡◌, ◌<◌, ◌≤◌, ◌==◌, ℕ, true, List, length, Option, Some, None, Result, Ok, IfOk, sym, subst, arith}
 use Rattle.std.specs.Prelude.{IfSome}
+use Rattle.std.specs.List.{AllByRecursion}
 use Rattle.std.specs.Str.{bytes_eq}
 use Rattle.serde_json.specs.Data.{Data}
 use Rattle.n2k_wire.specs.declared.entry.Entry.{Entry}
@@ -12,15 +13,18 @@ use Rattle.n2k_join.specs.declared.saved.place.Place.TheVariants as places
 use Rattle.n2k_join.specs.declared.state_fault.StateFault.TheVariants.{NotJson, TableDiffers, WindowDiffers, Invalid}
 use Rattle.n2k_join.specs.Bounds.{TellsWindow, HoldsFew}
 use Rattle.n2k_join.specs.Counts.{most_lines}
+use Rattle.n2k_join.specs.Frames.{most_frames}
+use Rattle.n2k_join.specs.Open.{Group}
 use Rattle.n2k_join.specs.Resumed.{format_in, is_valid, judged, parsed, state_of, waits_hold}
 use Rattle.n2k_join.specs.Saved.{IsId, are_waiting}
-use Rattle.n2k_join.specs.State.{State, IsState, AreWaiting, step_after}
+use Rattle.n2k_join.specs.State.{State, IsOpen, IsState, AreWaiting, step_after}
 use Rattle.n2k_join.specs.Window.{Rule, IsWindow}
 use Rattle.n2k_join.proofs.FastGroups.{read-spelled}
 use Rattle.n2k_join.proofs.Keeping.{few-open, step-keeps, step-waits}
 use Rattle.n2k_join.proofs.OneRules.{read-state}
+use Rattle.n2k_join.proofs.Rising.{all-map}
 use Rattle.n2k_join.proofs.Spelled.{if_ok-then, if_ok-held, if_ok-valid, if_ok-of}
-use Rattle.n2k_join.proofs.StateBound.{state-short}
+use Rattle.n2k_join.proofs.StateBound.{few_pieces, state-short}
 use Rattle.n2k_join.proofs.StateTests.{in_time-from}
 
 told_format : (o : Option Data) (d : Data) (format : Place) → or_cause NotJson o ≡ Ok d → format_in d ≡ Ok format → IfSome o (λ d. format_in d ≡ Ok places.WindowState) → format ≡ places.WindowState
@@ -40,11 +44,14 @@ read-waits kind id rule bytes tells =
     if_ok-held Waits Invalid (waits_hold format s) _ (λ in_time.
     if_ok-valid Waits (is_valid kind s) s (λ valid. subst (λ (f : Place). waits_hold f s ≡ true) (told_format (parsed bytes) d format read is tells) in_time)))))))
 
+few-frames : (gs : List Group) → AllByRecursion IsOpen gs → AllByRecursion (λ (g : Group). length g.pieces ≤ most_frames) gs
+few-frames gs each = all-map IsOpen (λ (g : Group). length g.pieces ≤ most_frames) gs (λ g is. let few = few_pieces 0 g.pieces is.rise is.numbers (omega arith) in omega (arith, few)) each
+
 holds_few : (s : State) → IsState s → AreWaiting s → IsId s.id → HoldsFew s
 holds_few s is waits id =
     let few = few-open s is waits in
     let short = state-short s is id in
-    record { waiting = waits; groups = few; saved = omega (arith, few, short) }
+    record { waiting = waits; groups = few; frames = few-frames s.groups is.groups.each; saved = omega (arith, few, short) }
 
 pub few_resumed : (kind : ℕ → Option Kind) (id : List ℕ) (rule : Rule) (bytes : List ℕ) (s : State) → IsWindow rule.window → IsId id → TellsWindow bytes → judged kind id rule bytes ≡ Ok s → HoldsFew s
 unfolding Waits

@@ -16,6 +16,7 @@ use Rattle.n2k_join.specs.State.{Rise}
 use Rattle.n2k_join.specs.Transmission.{IsTransmission, AreTransmissions, ComesOfOne}
 use Rattle.n2k_join.specs.Window.{Rule}
 use Rattle.n2k_join.proofs.Arriving.{key-rise}
+use Rattle.n2k_join.proofs.LastFrames.{EndsWith, ends-at, whole-group}
 use Rattle.n2k_join.proofs.SlotLemmas.{all_to}
 use Rattle.n2k_join.proofs.Healing.{cut_joined}
 use Rattle.n2k_join.proofs.Lines.{RiseFrom, rise-all, all_with}
@@ -152,20 +153,27 @@ pub comes_of_one : (rule : Rule) → rule.in_order ≡ true → (kind : ℕ → 
 unfolding gathered
 comes_of_one rule order kind es line m e = by_frame (frame_at line (frames kind es)) refl e
   where
-    by_group : (f : Frame) → f.line ≡ line → (o : Option (List Frame)) → find (is_done_at f.line) (cut (within rule) (of_key f.key (frames kind es))) ≡ o → option_map (λ group. record { key = f.key; message = message_of f group }) o ≡ Some m → ComesOfOne kind es line m
-    by_group f at None found e = absurd (none-some m e)
-    by_group f at (Some g) found e =
+    by_group : (f : Frame) → frame_at line (frames kind es) ≡ Some f → f.line ≡ line → (o : Option (List Frame)) → find (is_done_at f.line) (cut (within rule) (of_key f.key (frames kind es))) ≡ o → option_map (λ group. record { key = f.key; message = message_of f group }) o ≡ Some m → ComesOfOne kind es line m
+    by_group f stands at None found e = absurd (none-some m e)
+    by_group f stands at (Some g) found e =
         let gs = cut (within rule) (of_key f.key (frames kind es)) in
         let is : record { key = f.key; message = message_of f g } ≡ m = same_Some _ m e in
         let done = and_parts (complete g) (last_line g == f.line) (find-passes (is_done_at f.line) gs g found) in
+        let one : IsTransmission f.key (frames kind es) g = find-all (Whole f.key (frames kind es)) (is_done_at f.line) gs g (all_whole rule order kind es f.key) found done.0 in
+        let there : last_line g ≡ line = eqb-true (last_line g) f.line done.1 ∙ at in
+        let ends : EndsWith g f = ends-at kind es f.key g f one (whole-group g done.0) (ap (λ l. frame_at l (frames kind es)) there ∙ stands) in
         record {
           group = g;
-          transmission = subst (λ (k : Keyed). IsTransmission k.key (frames kind es) g) is (find-all (Whole f.key (frames kind es)) (is_done_at f.line) gs g (all_whole rule order kind es f.key) found done.0);
+          transmission = subst (λ (k : Keyed). IsTransmission k.key (frames kind es) g) is one;
           whole = done.0;
-          ends_there = eqb-true (last_line g) f.line done.1 ∙ at;
+          ends_there = there;
           carries = ap (λ (k : Keyed). k.message.payload) is;
+          before_last = ends.before;
+          last = f;
+          ends_with = ends.is;
+          told_by_last = ap (λ (k : Keyed). k.message) (sym is);
         }
 
     by_frame : (o : Option Frame) → frame_at line (frames kind es) ≡ o → option_and_then (gathered_by (within rule) (frames kind es)) o ≡ Some m → ComesOfOne kind es line m
     by_frame None found e = absurd (none-some m e)
-    by_frame (Some f) found e = by_group f (eqb-true f.line line (find-passes (λ (g : Frame). g.line == line) (frames kind es) f found)) (find (is_done_at f.line) (cut (within rule) (of_key f.key (frames kind es)))) refl e
+    by_frame (Some f) found e = by_group f found (eqb-true f.line line (find-passes (λ (g : Frame). g.line == line) (frames kind es) f found)) (find (is_done_at f.line) (cut (within rule) (of_key f.key (frames kind es)))) refl e

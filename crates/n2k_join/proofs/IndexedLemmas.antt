@@ -7,6 +7,7 @@ use Rattle.std.specs.List.{position_or_len, AllByRecursion}
 use Rattle.std.proofs.lemmas.List.{map-append, append-nil, length-map}
 use Rattle.std.proofs.lemmas.Bool.{ltb-true}
 use Rattle.std.proofs.lemmas.Option.{none-some, same_Some}
+use Rattle.indexmap.specs.IndexMap.{insert_entry, set_value_at, move_index}
 use Rattle.n2k_join.specs.declared.piece.FrameKey.{FrameKey}
 use Rattle.n2k_join.specs.declared.piece.OpenGroup.{OpenGroup}
 use Rattle.n2k_join.specs.declared.piece.StoredPiece.{StoredPiece}
@@ -17,34 +18,40 @@ use Rattle.n2k_join.specs.Open.{Group, pieces_of, group_of}
 use Rattle.n2k_join.specs.State.{held_frame, held_of, IsOpen, AreApart}
 use Rattle.n2k_join.specs.Inner.Stored.{bars, key_of, piece_of, with_frame, of_the_key, begun, groups_after, gained, lost}
 use Rattle.n2k_join.specs.Inner.Slots.{slot_of, group_in, group_at, groups_in}
-use Rattle.n2k_join.specs.Inner.Indexed.{Takes, Rewrites}
 use Rattle.n2k_join.proofs.SlotLemmas.{carried-slots}
 use Rattle.n2k_join.proofs.JoinLemmas.{position-None, none_at_all, groups-begun, at_place, found-place, key-place, with_piece, complete-with_frame, joins-done, joins-left, after-repeats, all-at, data_of-with_frame, gained-joins, gained-repeats, lost-joins, lost-repeats, bars-missing, broken-held, message-begun}
 
 -- ---- places
 
 module _ (k : FrameKey) where
-  place_or_len : (es : List (FrameKey × OpenGroup)) → position_or_len (λ (e : FrameKey × OpenGroup). same_key (key_of k) (key_of e.0)) es ≡ position_or_len (λ (g : Group). same_key (key_of k) g.key) (groups_in es)
+  place_or_len : (es : List (FrameKey × OpenGroup)) → position_or_len (λ (j : FrameKey). same_key (key_of k) (key_of j)) (keys_of es) ≡ position_or_len (λ (g : Group). same_key (key_of k) g.key) (groups_in es)
   place_or_len [] = refl
   place_or_len (e ∷ es) = ap (λ (n : ℕ). cond (not (same_key (key_of k) (key_of e.0))) (1 + n) 0) (place_or_len es)
 
-  keys-groups : (es : List (FrameKey × OpenGroup)) → length es ≡ length (groups_in es)
+  keys-groups : (es : List (FrameKey × OpenGroup)) → length (keys_of es) ≡ length (groups_in es)
   keys-groups [] = refl
   keys-groups (e ∷ es) = ap suc (keys-groups es)
 
   -- the place of a key is that of its group
-  pub place-key : (es : List (FrameKey × OpenGroup)) → position (λ (e : FrameKey × OpenGroup). same_key (key_of k) (key_of e.0)) es ≡ position (λ (g : Group). same_key (key_of k) g.key) (groups_in es)
+  pub place-key : (es : List (FrameKey × OpenGroup)) → position (λ (j : FrameKey). same_key (key_of k) (key_of j)) (keys_of es) ≡ position (λ (g : Group). same_key (key_of k) g.key) (groups_in es)
   place-key es = λ i. cond (nat_lt (place_or_len es i) (keys-groups es i)) (Some (place_or_len es i)) None
 
 -- ---- a new group
 
+module _ (k : FrameKey) (v : OpenGroup) where
+  pub insert-last : (es : List (FrameKey × OpenGroup)) → AllByRecursion (λ (g : Group). same_key (key_of k) g.key ≡ false) (groups_in es) → insert_entry (λ (a b : FrameKey). same_key (key_of a) (key_of b)) es k v ≡ es ++ (k, v) ∷ []
+  insert-last [] others = refl
+  insert-last (e ∷ es) others = ap (λ b. cond b ((e.0, v) ∷ es) (e ∷ insert_entry (λ (a b : FrameKey). same_key (key_of a) (key_of b)) es k v)) others.0 ∙ ap (λ t. e ∷ t) (insert-last es others.1)
+
 module _ (order : Bool) (k : FrameKey) (v : OpenGroup) where
   -- the group of a frame whose key has none goes last
-  pub opens-last : (x : Frame) (es : List (FrameKey × OpenGroup)) → x.number < most_frames → group_in (key_of k) v ≡ group_of x.key (x ∷ []) → position (λ (g : Group). same_key x.key g.key) (groups_in es) ≡ None
+  pub opens-last : (x : Frame) (es : List (FrameKey × OpenGroup)) → key_of k ≡ x.key → x.number < most_frames → group_in (key_of k) v ≡ group_of x.key (x ∷ []) → position (λ (g : Group). same_key x.key g.key) (groups_in es) ≡ None
       → complete (held_of (group_in (key_of k) v)) ≡ false
-      → groups_in (es ++ (k, v) ∷ []) ≡ groups_after order (groups_in es) x
-  opens-last x es small is none left =
-      map-append group_at es ((k, v) ∷ [])
+      → groups_in (insert_entry (λ (a b : FrameKey). same_key (key_of a) (key_of b)) es k v) ≡ groups_after order (groups_in es) x
+  opens-last x es of small is none left =
+      let none_k = ap (λ (j : Key). position (λ (g : Group). same_key j g.key) (groups_in es)) of ∙ none in
+      ap groups_in (insert-last k v es (position-None (λ (g : Group). same_key (key_of k) g.key) (groups_in es) none_k))
+      ∙ map-append group_at es ((k, v) ∷ [])
       ∙ ap (λ gs. groups_in es ++ gs) (sym (ap (λ b. cond b [] (group_in (key_of k) v ∷ [])) left) ∙ groups-begun x (group_in (key_of k) v) small is)
       ∙ sym (none_at_all order x (groups_in es) none).1
 
@@ -64,7 +71,7 @@ pub record IsEntryAt (es : List (FrameKey × OpenGroup)) (i : ℕ) (v : OpenGrou
   pub key : FrameKey
   pub found : slice_get es i ≡ Some (key, v)
   pub is : (d : Group) → get_or (groups_in es) i d ≡ group_at (key, v)
-  pub written : (w : OpenGroup) → groups_in (set es i (key, w)) ≡ set (groups_in es) i (group_at (key, w))
+  pub written : (w : OpenGroup) → groups_in (set_value_at es i w) ≡ set (groups_in es) i (group_at (key, w))
 
 pub entry_at : (es : List (FrameKey × OpenGroup)) (i : ℕ) (v : OpenGroup) → slice_get (values_of es) i ≡ Some v → IsEntryAt es i v
 entry_at [] i v e = absurd (none-some v e)
@@ -117,43 +124,39 @@ pub removed-first : (es : List (FrameKey × OpenGroup)) → groups_in (remove es
 removed-first [] = refl
 removed-first (e ∷ es) = refl
 
--- the entry at a place that is written
-pub slot-written : (es : List (FrameKey × OpenGroup)) (i : ℕ) (e : FrameKey × OpenGroup) → i < length es → slice_get (set es i e) i ≡ Some e
-slot-written [] i e l = absurd (omega (arith, l))
-slot-written (x ∷ es) zero e l = refl
-slot-written (x ∷ es) (suc i) e l = slot-written es i e (omega (arith, l))
+-- ---- an entry written and moved last
 
--- the group at a place, and its entry
-pub value-at : (es : List (FrameKey × OpenGroup)) (i : ℕ) → option_map (λ (e : FrameKey × OpenGroup). e.1) (slice_get es i) ≡ slice_get (values_of es) i
-value-at [] i = refl
-value-at (e ∷ es) zero = refl
-value-at (e ∷ es) (suc i) = value-at es i
+slot-written : (es : List (FrameKey × OpenGroup)) (i : ℕ) (w : OpenGroup) (k : FrameKey) (v : OpenGroup) → slice_get es i ≡ Some (k, v) → slice_get (set_value_at es i w) i ≡ Some (k, w)
+slot-written [] i w k v e = absurd (none-some (k, v) e)
+slot-written (e ∷ es) zero w k v h = ap (λ (p : FrameKey × OpenGroup). Some (p.0, w)) (same_Some e (k, v) h)
+slot-written (e ∷ es) (suc i) w k v h = slot-written es i w k v h
 
--- a place of a key has an entry
-pub entry-there : (k : Key) (es : List (FrameKey × OpenGroup)) (i : ℕ) → position (λ (g : Group). same_key k g.key) (groups_in es) ≡ Some i → Placed es i
-entry-there k es i place = placed es i (position-below (λ (g : Group). same_key k g.key) (groups_in es) i place)
+removed-written : (es : List (FrameKey × OpenGroup)) (i : ℕ) (w : OpenGroup) → remove (set_value_at es i w) i ≡ remove es i
+removed-written [] i w = refl
+removed-written (e ∷ es) zero w = refl
+removed-written (e ∷ es) (suc i) w = ap (λ t. e ∷ t) (removed-written es i w)
 
--- so a group stands there
-pub never-none : (k : Key) (es : List (FrameKey × OpenGroup)) (i : ℕ) → position (λ (g : Group). same_key k g.key) (groups_in es) ≡ Some i → None ≡ option_map (λ (e : FrameKey × OpenGroup). e.1) (slice_get es i) → ⊥
-never-none k es i place none =
-    let here = entry-there k es i place in
-    none-some here.value (none ∙ ap (option_map (λ (e : FrameKey × OpenGroup). e.1)) here.at.found)
+pub length-written : (es : List (FrameKey × OpenGroup)) (i : ℕ) (w : OpenGroup) → length (set_value_at es i w) ≡ length es
+length-written [] i w = refl
+length-written (e ∷ es) zero w = refl
+length-written (e ∷ es) (suc i) w = ap suc (length-written es i w)
 
--- what a group is that took a piece
-pub taken-at : (piece : StoredPiece) (es after : List (FrameKey × OpenGroup)) (i : ℕ) (v u : OpenGroup) (at : IsEntryAt es i v) → i < length es → Rewrites (Takes piece) i es after
-    → Some u ≡ option_map (λ (e : FrameKey × OpenGroup). e.1) (slice_get after i) → (after ≡ set es i (at.key, u)) × Takes piece v u
-taken-at piece es after i v u at l rewrites found =
-    let w = rewrites at.key v at.found in
-    let same : u ≡ w.0 = same_Some u w.0 (found ∙ ap (λ xs. option_map (λ (e : FrameKey × OpenGroup). e.1) (slice_get xs i)) w.1 ∙ ap (option_map (λ (e : FrameKey × OpenGroup). e.1)) (slot-written es i (at.key, w.0) l)) in
-    (w.1 ∙ ap (λ (g : OpenGroup). set es i (at.key, g)) (sym same), subst (Takes piece v) (sym same) w.2)
+removed-length : {X : Type 0} (xs : List X) (i : ℕ) (x : X) → slice_get xs i ≡ Some x → length (remove xs i) + 1 ≡ length xs
+removed-length [] i x e = absurd (none-some x e)
+removed-length (y ∷ ys) zero x e = omega arith
+removed-length (y ∷ ys) (suc i) x e = omega (arith, removed-length ys i x e)
 
-pub taken-there : (piece : StoredPiece) (k : Key) (es after : List (FrameKey × OpenGroup)) (i : ℕ) → position (λ (g : Group). same_key k g.key) (groups_in es) ≡ Some i → Rewrites (Takes piece) i es after
-    → None ≡ option_map (λ (e : FrameKey × OpenGroup). e.1) (slice_get after i) → ⊥
-taken-there piece k es after i place rewrites none =
-    let here = entry-there k es i place in
-    let w = rewrites here.at.key here.value here.at.found in
-    let l : i < length es = omega (arith, position-below (λ (g : Group). same_key k g.key) (groups_in es) i place, length-map es group_at) in
-    none-some w.0 (none ∙ ap (λ xs. option_map (λ (e : FrameKey × OpenGroup). e.1) (slice_get xs i)) w.1 ∙ ap (option_map (λ (e : FrameKey × OpenGroup). e.1)) (slot-written es i (here.at.key, w.0) l))
+insert-end : {X : Type 0} (xs : List X) (n : ℕ) (x : X) → n ≡ length xs → insert xs n x ≡ xs ++ x ∷ []
+insert-end [] zero x e = refl
+insert-end [] (suc n) x e = absurd (omega (arith, e))
+insert-end (y ∷ ys) zero x e = absurd (omega (arith, e))
+insert-end (y ∷ ys) (suc n) x e = ap (λ t. y ∷ t) (insert-end ys n x (omega (arith, e)))
+
+pub moved : (es : List (FrameKey × OpenGroup)) (i : ℕ) (w : OpenGroup) (k : FrameKey) (v : OpenGroup) → slice_get es i ≡ Some (k, v) → move_index (set_value_at es i w) i (length es - 1) ≡ remove es i ++ (k, w) ∷ []
+moved es i w k v found =
+    ap (λ o. option_map_or (λ (e : FrameKey × OpenGroup). insert (remove (set_value_at es i w) i) (length es - 1) e) o (set_value_at es i w)) (slot-written es i w k v found)
+    ∙ ap (λ r. insert r (length es - 1) (k, w)) (removed-written es i w)
+    ∙ insert-end (remove es i) (length es - 1) (k, w) (omega (arith, removed-length es i (k, v) found))
 
 -- where the group of a frame's key stands at a place
 module _ (order : Bool) (x : Frame) (es : List (FrameKey × OpenGroup)) (i : ℕ) (v : OpenGroup) (apart : AreApart (groups_in es)) (place : position (λ (g : Group). same_key x.key g.key) (groups_in es) ≡ Some i) (at : IsEntryAt es i v) where
@@ -212,6 +215,10 @@ module _ (order : Bool) (x : Frame) (es : List (FrameKey × OpenGroup)) (i : ℕ
         ∙ ap (λ gs. (take i (groups_in es) ++ drop (i + 1) (groups_in es)) ++ gs) (ap (λ b. cond b [] (group_at (at.key, w) ∷ [])) (sym done) ∙ begins)
         ∙ sym after
 
+    -- where it was written before it goes
+    pub ends-written : complete (held_of (group_at (at.key, w))) ≡ true → groups_in (remove (set_value_at es i w) i) ≡ groups_after order (groups_in es) x
+    ends-written done = ap groups_in (removed-written es i w) ∙ ends-go done
+
     pub begun-gives : complete (held_of (group_at (at.key, w))) ≡ true → Some (record { stamp = x.stamp; id = x.id; payload = data_of (held_of (group_at (at.key, w))) }) ≡ gained order x (of_the_key x.key (groups_in es))
     begun-gives done = sym (ap (λ b. cond b (Some (record { stamp = x.stamp; id = x.id; payload = data_of (held_of (group_at (at.key, w))) })) None) done) ∙ message-begun x (group_at (at.key, w)) small is ∙ sym (gained-repeats order x (groups_in es) i there apart place stands ends_it)
 
@@ -224,9 +231,10 @@ module _ (order : Bool) (x : Frame) (es : List (FrameKey × OpenGroup)) (i : ℕ
         ∙ ap Some (broken-held there x.key (open-there all) key-there)
         ∙ sym (lost-repeats order x (groups_in es) i there apart place stands ends_it)
 
-    pub ends-last : complete (held_of (group_at (at.key, w))) ≡ false → groups_in (remove es i ++ (at.key, w) ∷ []) ≡ groups_after order (groups_in es) x
+    pub ends-last : complete (held_of (group_at (at.key, w))) ≡ false → groups_in (move_index (set_value_at es i w) i (length es - 1)) ≡ groups_after order (groups_in es) x
     ends-last left =
-        map-append group_at (remove es i) ((at.key, w) ∷ [])
+        ap groups_in (moved es i w at.key v (at.found))
+        ∙ map-append group_at (remove es i) ((at.key, w) ∷ [])
         ∙ ap (λ gs. gs ++ group_at (at.key, w) ∷ []) (removed-groups es i)
         ∙ ap (λ gs. (take i (groups_in es) ++ drop (i + 1) (groups_in es)) ++ gs) (ap (λ b. cond b [] (group_at (at.key, w) ∷ [])) (sym left) ∙ begins)
         ∙ sym after
@@ -244,13 +252,13 @@ module _ (order : Bool) (x : Frame) (es : List (FrameKey × OpenGroup)) (i : ℕ
     complete-grown = ap (λ (g : Group). complete (held_of g)) grown ∙ complete-with_frame there x (open-there fit) missing small
 
     -- it stays with the frame
-    pub joins-stay : complete (held_of (group_at (at.key, w))) ≡ false → groups_in (set es i (at.key, w)) ≡ groups_after order (groups_in es) x
+    pub joins-stay : complete (held_of (group_at (at.key, w))) ≡ false → groups_in (set_value_at es i w) ≡ groups_after order (groups_in es) x
     joins-stay left = at.written w ∙ joins-left order x (groups_in es) i there apart place stands free (group_at (at.key, w)) (sym complete-grown ∙ left) grown
 
     -- or goes
-    pub joins-go : complete (held_of (group_at (at.key, w))) ≡ true → groups_in (remove (set es i (at.key, w)) i) ≡ groups_after order (groups_in es) x
+    pub joins-go : complete (held_of (group_at (at.key, w))) ≡ true → groups_in (remove (set_value_at es i w) i) ≡ groups_after order (groups_in es) x
     joins-go done =
-        removed-groups (set es i (at.key, w)) i
+        removed-groups (set_value_at es i w) i
         ∙ ap (λ gs. take i gs ++ drop (i + 1) gs) (at.written w)
         ∙ joins-done order x (groups_in es) i there apart place stands free (group_at (at.key, w)) (sym complete-grown ∙ done)
 

@@ -8,7 +8,6 @@ pub mod Carried
 pub mod Counting
 pub mod CutLaws
 pub mod Cuts
-pub mod EntryLemmas
 pub mod Expiring
 pub mod Falling
 pub mod FastGroups
@@ -23,6 +22,7 @@ pub mod JoinLemmas
 pub mod Keeping
 pub mod KeyCounts
 pub mod Keys
+pub mod LastFrames
 pub mod LineLemmas
 pub mod LineTaken
 pub mod Lines

@@ -6,14 +6,15 @@ use Rattle.n2k_wire.specs.declared.entry.Entry.{Entry}
 use Rattle.n2k_table.specs.declared.definition.Kind.{Kind}
 use Rattle.n2k_join.specs.declared.broken.Broken.{Broken}
 use Rattle.n2k_join.specs.declared.counts.Counts.{Counts}
+use Rattle.n2k_wire.specs.Packet.{PacketParts}
 use Rattle.n2k_join.specs.declared.step.Step.{Step}
 use Rattle.n2k_join.specs.Step.{given_of}
-use Rattle.n2k_join.specs.Frames.{Key, same_key, Frame, frame_in}
-use Rattle.n2k_join.specs.Groups.{repeats, within, complete}
+use Rattle.n2k_join.specs.Frames.{same_key, Frame, frame_in}
+use Rattle.n2k_join.specs.Groups.{within, complete}
 use Rattle.n2k_join.specs.Messages.{message_of, told_of, alone, cause_in, is_unknown}
 use Rattle.n2k_join.specs.Open.{Group, is_waiting, ended}
 use Rattle.n2k_join.specs.State.{State, Given, held_of, next_line, overdue, one_if, counted, step_after, IsOpen, AreOpen}
-use Rattle.n2k_join.specs.Inner.Stored.{bars, with_frame, taken, begun, opened, of_the_key, groups_after, message_if, gained, lost, gives_by, leaves_by}
+use Rattle.n2k_join.specs.Inner.Stored.{bars, with_frame, taken, begun, opened, of_the_key, groups_after, message_if, gained, gives_by, leaves_by}
 use Rattle.n2k_join.proofs.Advanced.{advanced, taken as advanced-taken, opened as advanced-opened}
 use Rattle.n2k_join.proofs.BrokenGroups.{told_if, breaks}
 use Rattle.n2k_join.proofs.Given.{completed}
@@ -126,7 +127,7 @@ length-told None = refl
 length-told (Some b) = refl
 
 -- the counts after a line
-pub counts-after : (kind : ℕ → Option Kind) (c : Counts) (e : Entry) (step : Step) (unknown : Bool) (n held : ℕ) (r : Counts) → unknown ≡ is_unknown kind e → n ≡ held
+pub counts-after : (kind : ℕ → Option Kind) (c : Counts) (e : Entry) (step : Step PacketParts) (unknown : Bool) (n held : ℕ) (r : Counts) → unknown ≡ is_unknown kind e → n ≡ held
     → r ≡ record { lines = c.lines + 1; messages = c.messages + one_if (is_some step.message); bad = c.bad + one_if (is_some step.bad); unknown = c.unknown + one_if unknown; broken = c.broken + one_if (is_some step.broken); held = n }
     → r ≡ counted kind c e (given_of step) held
 counts-after kind c e step unknown n held r known count is =
@@ -140,7 +141,7 @@ counts-after kind c e step unknown n held r known count is =
     })
 
 -- the state after a line
-pub line-after : (kind : ℕ → Option Kind) (s : State) (e : Entry) (step : Step) (gives : Given) (leaves gs : List Group) (r : Counts) → StepsTo kind s e gives leaves
+pub line-after : (kind : ℕ → Option Kind) (s : State) (e : Entry) (step : Step PacketParts) (gives : Given) (leaves gs : List Group) (r : Counts) → StepsTo kind s e gives leaves
     → given_of step ≡ gives → gs ≡ leaves → r ≡ counted kind s.counts e (given_of step) (length gs)
     → record { id = s.id; rule = s.rule; counts = r; groups = gs } ≡ step_after kind s e
 line-after kind s e step gives leaves gs r steps given groups counts =
@@ -149,7 +150,7 @@ line-after kind s e step gives leaves gs r steps given groups counts =
     ∙ sym steps.after
 
 -- the state that the code reaches, by its parts
-pub line-reached : (kind : ℕ → Option Kind) (s : State) (e : Entry) (step : Step) (unknown : Bool) (n : ℕ) (gs : List Group) (r : Counts) → 0 < s.rule.window → AreOpen s.counts.lines s.groups → overdue s ≡ []
+pub line-reached : (kind : ℕ → Option Kind) (s : State) (e : Entry) (step : Step PacketParts) (unknown : Bool) (n : ℕ) (gs : List Group) (r : Counts) → 0 < s.rule.window → AreOpen s.counts.lines s.groups → overdue s ≡ []
     → given_of step ≡ gives_by s.rule.in_order (alone kind e) (cause_in kind e) s.groups (frame_in kind (next_line s) e)
     → unknown ≡ is_unknown kind e
     → gs ≡ leaves_by s.rule.in_order s.groups (frame_in kind (next_line s) e)

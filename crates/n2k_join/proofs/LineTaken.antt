@@ -1,10 +1,11 @@
 -- What a line gives and leaves, by what the code knows before it: the state is one that a join can have, and no group is
 -- due.
-use Rattle.std.proofs.Common.{◌≡◌, ◌<◌, ◌+◌, ℕ, Bool, List, [], length, sym, ap, ◌∙◌, arith, Option, None}
+use Rattle.std.proofs.Common.{◌≡◌, ◌+◌, ℕ, Bool, List, [], length, sym, ap, ◌∙◌, arith, Option, None}
 use Rattle.std.specs.Prelude.{is_some}
 use Rattle.n2k_wire.specs.declared.entry.Entry.{Entry}
 use Rattle.n2k_table.specs.declared.definition.Kind.{Kind}
 use Rattle.n2k_join.specs.declared.counts.Counts.{Counts}
+use Rattle.n2k_wire.specs.Packet.{PacketParts}
 use Rattle.n2k_join.specs.declared.step.Step.{Step}
 use Rattle.n2k_join.specs.Counts.{most_lines}
 use Rattle.n2k_join.specs.Frames.{frame_in}
@@ -29,7 +30,7 @@ module _ (kind : ℕ → Option Kind) (s t : State) (e : Entry) (order : Bool) w
       ∙ sym (line-steps kind s e (omega (arith, state.window.least)) state.groups (none_over state is ready below)).given
       ∙ ap (λ u. step_given kind u e) is
 
-  pub line-leads : (step : Step) (unknown : Bool) (n : ℕ) (gs : List Group) (r : Counts) → IsState s → s ≡ t → due t ≡ None → (s.counts.lines ≡ most_lines → ⊥) → order ≡ s.rule.in_order
+  pub line-leads : (step : Step PacketParts) (unknown : Bool) (n : ℕ) (gs : List Group) (r : Counts) → IsState s → s ≡ t → due t ≡ None → (s.counts.lines ≡ most_lines → ⊥) → order ≡ s.rule.in_order
       → given_of step ≡ gives_by order (alone kind e) (cause_in kind e) s.groups (frame_in kind (next_line s) e)
       → unknown ≡ is_unknown kind e
       → gs ≡ leaves_by order s.groups (frame_in kind (next_line s) e)

@@ -110,7 +110,7 @@ pieces_each [] are small = tt
 pieces_each (p ∷ ps) are small = (piece_short p are.0 small.0, pieces_each ps are.1 small.1)
 
 -- what rises from a number on and stays below 32 has no more members than there are numbers
-few_pieces : (least : ℕ) (ps : List Piece) → Rise (λ (p : Piece). p.number) least ps → AllByRecursion (λ (p : Piece). p.number < most_frames) ps → least ≤ most_frames → length ps + least ≤ most_frames
+pub few_pieces : (least : ℕ) (ps : List Piece) → Rise (λ (p : Piece). p.number) least ps → AllByRecursion (λ (p : Piece). p.number < most_frames) ps → least ≤ most_frames → length ps + least ≤ most_frames
 few_pieces least [] rise small within = omega (arith, within)
 few_pieces least (p ∷ ps) rise small within =
     let below : p.number < most_frames = small.0 in

@@ -57,10 +57,6 @@ firsts_from least lines (g ∷ gs) h =
     let rest = firsts_from (g.first + 1) lines gs more.1 in
     ((at_most _ _ hs.0, rest.0), (at_most _ _ more.0, rest.1))
 
--- groups that pass begin at lines that rise
-pub rising-groups : (c : Counts) (gs : List Group) (r : Bool) → r ≡ numbers_hold c gs → r ≡ true → Rise (λ (g : Group). g.first) 1 gs
-rising-groups c gs r is holds = (firsts_from 1 c.lines gs (both _ _ (sym is ∙ holds)).1).0
-
 not_true : (b : Bool) → not b ≡ true → b ≡ false
 not_true true h = cc
 not_true false h = refl

@@ -1,6 +1,5 @@
 -- Words that only private clauses, invariants and proofs of this crate use.
 pub mod Apart
-pub mod Indexed
 pub mod SavedTokens
 pub mod Slots
 pub mod Stored

@@ -1,22 +1,24 @@
 -- What a line answers, as the definitions see it.
-use Rattle.std.specs.Prelude.{ℕ, ◌+◌, ◌-◌, ◌==◌, Bool, false, not, if◌then◌else◌, List, drop, slice_get, Option, Some, None, option_map, option_to_list}
+use Rattle.std.specs.Prelude.{◌≡◌, ◌≤◌, ◌<◌, ◌↔◌, ℕ, ◌+◌, ◌-◌, ◌==◌, Bool, true, false, not, if◌then◌else◌, List, drop, length, slice_get, Option, Some, None, option_map, option_to_list, Result, IfOk, OnOk, OnErr, IsErrOf}
 use Rattle.std.specs.List.{list_any}
+use Rattle.n2k_wire.specs.Packet.{PacketParts}
 use Rattle.n2k_wire.specs.declared.entry.Entry.{Entry}
 use Rattle.n2k_table.specs.declared.definition.Kind.{Kind}
-use Rattle.n2k_join.specs.declared.step.LentStep.{LentStep}
+use Rattle.n2k_join.specs.declared.fault.JoinFault.{JoinFault}
+use Rattle.n2k_join.specs.declared.fault.JoinFault.TheVariants.{Memory, TooManyLines}
 use Rattle.n2k_join.specs.declared.step.Step.{Step}
 use Rattle.n2k_join.specs.Frames.{same_key, Frame, frame_in}
 use Rattle.n2k_join.specs.Open.{Group}
-use Rattle.n2k_join.specs.State.{State, Given, next_line, overdue}
+use Rattle.n2k_join.specs.State.{State, Given, next_line, overdue, step_given, step_after, AreWaiting}
 use Rattle.n2k_join.specs.Counts.{most_lines}
 
 -- A line breaks at most one group beside those whose window ends at it.
-abbrev pub given_of : Step → Given
+abbrev pub given_of : Step PacketParts → Given
 given_of step = record { message = step.message; cause = step.bad; broken = option_to_list step.broken }
 
--- The same where the message stays where it is.
-abbrev pub lent_given_of : LentStep → Given
-lent_given_of step = record { message = option_map (λ p. p.now) step.message; cause = step.bad; broken = option_to_list step.broken }
+-- what a line gives, its message being what `seen` says of it
+abbrev pub with_message : {M : Type 0} → (M → PacketParts) → Step M → Step PacketParts
+with_message seen step = record { message = option_map seen step.message; bad = step.bad; broken = step.broken }
 
 abbrev pub opens_by : List Group → Option Frame → Bool
 opens_by groups None = false
@@ -38,3 +40,15 @@ expired s = record {
   counts = record s.counts { broken = s.counts.broken + 1; held = s.counts.held - 1 };
   groups = drop 1 s.groups;
 }
+
+-- What an answer tells of a line that a join takes in the state `old`, and which state it leaves. Taken, the line is a step of
+-- the definition. It is refused exactly at the most lines, or for want of memory where it opens a group; then nothing changes.
+pub record TakesLine {Answer : Type 0} (gives : Answer → Given) (kind : ℕ → Option Kind) (old new : State) (e : Entry) (result : Result Answer JoinFault) : Type 0 where
+  pub given : IfOk result (λ answer. gives answer ≡ step_given kind old e)
+  pub after : OnOk result (new ≡ step_after kind old e)
+  pub waiting : OnOk result (AreWaiting new)
+  pub few_open : OnOk result (length new.groups ≤ new.rule.window)
+  pub unchanged : OnErr result (new ≡ old)
+  pub few : OnOk result (old.counts.lines < most_lines)
+  pub full : IsErrOf result TooManyLines ↔ (old.counts.lines ≡ most_lines)
+  pub memory : IsErrOf result Memory → opens kind old e ≡ true

@@ -1,11 +1,11 @@
 -- What a complete group is in order: the frames of one transmission.
-use Rattle.std.specs.Prelude.{◌≡◌, ℕ, ◌+◌, true, List, ◌++◌, map, Option}
+use Rattle.std.specs.Prelude.{◌≡◌, ℕ, ◌+◌, true, List, [], ◌∷◌, ◌++◌, map, Option}
 use Rattle.std.specs.List.{All, range_with_len}
 use Rattle.n2k_wire.specs.declared.entry.Entry.{Entry}
 use Rattle.n2k_table.specs.declared.definition.Kind.{Kind}
 use Rattle.n2k_join.specs.Frames.{Key, Frame, frames, of_key}
 use Rattle.n2k_join.specs.Groups.{within, complete, cut, total, last_number, last_line, data_of}
-use Rattle.n2k_join.specs.Messages.{Keyed}
+use Rattle.n2k_join.specs.Messages.{Keyed, message_of}
 use Rattle.n2k_join.specs.Window.{Rule}
 
 -- The frames stand one behind the other among the key's frames of a log, and their numbers are 0 to the last, in that order.
@@ -19,10 +19,15 @@ pub record IsTransmission (key : Key) (fs group : List Frame) : Type 0 where
 abbrev pub AreTransmissions : Rule → (ℕ → Option Kind) → List Entry → Key → Type 0
 AreTransmissions rule kind es key = All (λ (group : List Frame). complete group ≡ true → IsTransmission key (frames kind es) group) (cut (within rule) (of_key key (frames kind es)))
 
--- the message of a line has the data of such a group, whose last frame stands at the line
+-- The message of a line has the data of such a group, and the stamp, the priority and the identifier of its last frame,
+-- which stands at the line.
 pub record ComesOfOne (kind : ℕ → Option Kind) (es : List Entry) (line : ℕ) (m : Keyed) : Type 0 where
   pub group : List Frame
   pub transmission : IsTransmission m.key (frames kind es) group
   pub whole : complete group ≡ true
   pub ends_there : last_line group ≡ line
   pub carries : data_of group ≡ m.message.payload
+  pub before_last : List Frame
+  pub last : Frame
+  pub ends_with : group ≡ before_last ++ last ∷ []
+  pub told_by_last : m.message ≡ message_of last group

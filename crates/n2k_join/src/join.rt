@@ -12,7 +12,7 @@ ghost use Rattle.n2k_join.specs.State.{state, step_given, step_after, AreCounts,
 ghost use Rattle.n2k_join.specs.Refusal.{GivesOrMemory};
 ghost use Rattle.n2k_join.specs.Resumed.{is_valid, judged, state_of_parts, valid_if};
 ghost use Rattle.n2k_join.specs.Saved.{IsId, state_text, bare_bytes, group_bytes};
-ghost use Rattle.n2k_join.specs.Step.{given_of, lent_given_of, opens, due, expired};
+ghost use Rattle.n2k_join.specs.Step.{given_of, with_message, opens, due, expired, TakesLine};
 ghost use Rattle.n2k_join.specs.Laws.{ExpiresFirst};
 ghost use Rattle.n2k_join.specs.Inner.Told.{packet_in, told};
 
@@ -20,15 +20,16 @@ use crate::broken::Broken;
 use crate::counts::{Counts, MOST_LINES};
 use crate::fault::JoinFault;
 use crate::laws;
-use crate::open_groups::OpenGroups;
 use crate::outcome::{Outcome, packet_of, take_entry};
+use crate::piece::{FrameKey, OpenGroup};
 use crate::saved::{
     SpelledGroup, SpelledState, format_in, parsed, read_state, rules_hold, state_text,
     stored_groups, waits_hold,
 };
 use crate::state_fault::StateFault;
 use crate::step::{LentStep, Step};
-use crate::window::Window;
+use crate::window::{Window, is_waiting};
+use indexmap::IndexMap;
 use n2k_table::Table;
 use n2k_wire::{Entry, Id, Packet};
 use std::alloc::{AllocError, Global};
@@ -41,7 +42,7 @@ pub struct Join {
     id: [u8; 32],
     window: Window,
     counts: Counts,
-    groups: OpenGroups,
+    groups: IndexMap<FrameKey, OpenGroup>,
 }
 
 impl Model for Join {
@@ -50,9 +51,9 @@ impl Model for Join {
 
     ghost Value = { State };
 
-    ghost view = { λ j. record { id = j.id; rule = j.window; counts = j.counts; groups = groups_in j.groups } };
+    ghost view = { λ j. record { id = j.id; rule = j.window; counts = j.counts; groups = groups_in j.groups.entries } };
 
-    ghost invariant = { λ j. IsState (record { id = j.id; rule = j.window; counts = j.counts; groups = groups_in j.groups }) };
+    ghost invariant = { λ j. IsState (record { id = j.id; rule = j.window; counts = j.counts; groups = groups_in j.groups.entries }) };
 }
 
 // What the types say of the parts of a packet.
@@ -110,7 +111,7 @@ impl Join {
             id: table.id(),
             window,
             counts: Counts::NONE,
-            groups: OpenGroups::new(alloc),
+            groups: IndexMap::new(alloc),
         }
     }
 
@@ -138,7 +139,11 @@ impl Join {
             return None;
         }
         let (key, group) = self.groups.first()?;
-        if self.counts.lines + 1 < group.first + u64::from(self.window.get()) {
+        if is_waiting(
+            group.first,
+            u64::from(self.window.get()),
+            self.counts.lines + 1,
+        ) {
             return None;
         }
         Some(group.broken(key))
@@ -165,7 +170,7 @@ impl Join {
         ensures few { IsSome result → self.old.counts.lines < most_lines }
     {
         let broken = self.oldest_due()?;
-        self.groups.remove(0);
+        self.groups.shift_remove_index(0);
         let Counts {
             broken: before,
             held,
@@ -189,14 +194,7 @@ impl Join {
         requires short { IsShort entry.now }
         requires expired { due self.old ≡ None }
         requires none { joined.old ≡ None }
-        ensures given { IfOk result (λ o. told o (packet_in entry.now) joined.new ≡ step_given (kind table.now) self.old entry.now) }
-        ensures after { OnOk result (self.new ≡ step_after (kind table.now) self.old entry.now) }
-        ensures waiting { OnOk result (AreWaiting self.new) }
-        ensures few_open { OnOk result (length self.new.groups ≤ self.new.rule.window) }
-        ensures unchanged { OnErr result (self.new ≡ self.old) }
-        ensures few { OnOk result (self.old.counts.lines < most_lines) }
-        ensures full { IsErrOf result JoinFault.TooManyLines ↔ (self.old.counts.lines ≡ most_lines) }
-        ensures memory { IsErrOf result JoinFault.Memory → opens (kind table.now) self.old entry.now ≡ true }
+        ensures { TakesLine (λ o. told o (packet_in entry.now) joined.new) (kind table.now) self.old self.new entry.now result }
     {
         if self.counts.lines == MOST_LINES {
             return Err(JoinFault::TooManyLines);
@@ -229,14 +227,7 @@ impl Join {
     pub fn line(&mut self, table: &Table, entry: Entry) -> Result<Step, JoinFault>
         requires short { IsShort entry }
         requires expired { due self.old ≡ None }
-        ensures given { IfOk result (λ step. given_of step ≡ step_given (kind table.now) self.old entry) }
-        ensures after { OnOk result (self.new ≡ step_after (kind table.now) self.old entry) }
-        ensures waiting { OnOk result (AreWaiting self.new) }
-        ensures few_open { OnOk result (length self.new.groups ≤ self.new.rule.window) }
-        ensures unchanged { OnErr result (self.new ≡ self.old) }
-        ensures few { OnOk result (self.old.counts.lines < most_lines) }
-        ensures full { IsErrOf result JoinFault.TooManyLines ↔ (self.old.counts.lines ≡ most_lines) }
-        ensures memory { IsErrOf result JoinFault.Memory → opens (kind table.now) self.old entry ≡ true }
+        ensures { TakesLine given_of (kind table.now) self.old self.new entry result }
     {
         let mut joined = None;
         let outcome = self.take(table, &entry, &mut joined)?;
@@ -269,20 +260,13 @@ impl Join {
     ) -> Result<LentStep<'a>, JoinFault>
         requires short { IsShort entry.now }
         requires expired { due self.old ≡ None }
-        ensures given { IfOk result (λ step. lent_given_of step ≡ step_given (kind table.now) self.old entry.now) }
-        ensures after { OnOk result (self.new ≡ step_after (kind table.now) self.old entry.now) }
-        ensures waiting { OnOk result (AreWaiting self.new) }
-        ensures few_open { OnOk result (length self.new.groups ≤ self.new.rule.window) }
-        ensures unchanged { OnErr result (self.new ≡ self.old) }
-        ensures few { OnOk result (self.old.counts.lines < most_lines) }
-        ensures full { IsErrOf result JoinFault.TooManyLines ↔ (self.old.counts.lines ≡ most_lines) }
-        ensures memory { IsErrOf result JoinFault.Memory → opens (kind table.now) self.old entry.now ≡ true }
+        ensures { TakesLine (λ step. given_of (with_message (λ p. p.now) step)) (kind table.now) self.old self.new entry.now result }
     {
         if joined.is_some() {
             *joined = None;
         }
         let outcome = self.take(table, entry, joined)?;
-        Ok(LentStep {
+        Ok(Step {
             message: outcome.message(entry, joined),
             bad: outcome.bad,
             broken: outcome.broken,

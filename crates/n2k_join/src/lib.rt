@@ -24,7 +24,6 @@ mod frame;
 mod group;
 mod join;
 pub mod laws;
-mod open_groups;
 mod outcome;
 mod piece;
 mod saved;

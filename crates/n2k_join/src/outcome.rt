@@ -1,5 +1,5 @@
 //! What an entry gives, and the open groups that it leaves.
-ghost use Rattle.std.specs.Prelude.{◌≡◌, ◌<◌, Some, None, true, false, not, IfOk, OnOk, OnErr, is_some, option_map};
+ghost use Rattle.std.specs.Prelude.{◌≡◌, Some, None, true, false, not, IfOk, OnOk, OnErr, is_some, option_map};
 ghost use Rattle.std.specs.List.{AllByRecursion};
 ghost use Rattle.n2k_table.specs.declared.definition.Kind.TheVariants.{Fast};
 ghost use Rattle.n2k_table.specs.Table.{kind};
@@ -13,8 +13,9 @@ ghost use Rattle.n2k_join.specs.Inner.Told.{packet_in, told, told_message};
 
 use crate::broken::Broken;
 use crate::frame::fast_frame;
-use crate::open_groups::OpenGroups;
+use crate::piece::{FrameKey, OpenGroup};
 use crate::taking::take_frame;
+use indexmap::IndexMap;
 use n2k_table::{Kind, Table};
 use n2k_wire::{BadCause, Entry, Packet};
 use std::alloc::AllocError;
@@ -114,20 +115,19 @@ pub(crate) fn packet_of(entry: Entry) -> Option<Packet>
 #[tactic(auto, unfolding(crate::specs::Frames::fast_frame))]
 fn take_fast(
     in_order: bool,
-    groups: &mut OpenGroups,
+    groups: &mut IndexMap<FrameKey, OpenGroup>,
     line: u64,
     packet: &Packet,
     joined: &mut Option<Packet>,
 ) -> Result<Outcome, AllocError>
-    requires begun { AllByRecursion (λ g. g.first < line) (groups_in groups.old) }
-    requires open { AllByRecursion IsOpen (groups_in groups.old) }
-    requires apart { AreApart (groups_in groups.old) }
+    requires open { AllByRecursion IsOpen (groups_in groups.old.entries) }
+    requires apart { AreApart (groups_in groups.old.entries) }
     requires none { joined.old ≡ None }
-    ensures given { IfOk result (λ o. told o (Some packet.now) joined.new ≡ gives_by in_order None (fast_cause (Some Fast) packet.now) (groups_in groups.old) (fast_frame line packet.now)) }
+    ensures given { IfOk result (λ o. told o (Some packet.now) joined.new ≡ gives_by in_order None (fast_cause (Some Fast) packet.now) (groups_in groups.old.entries) (fast_frame line packet.now)) }
     ensures unknown { IfOk result (λ o. o.is_unknown ≡ false) }
-    ensures groups { OnOk result (groups_in groups.new ≡ leaves_by in_order (groups_in groups.old) (fast_frame line packet.now)) }
-    ensures unchanged { OnErr result (groups.new ≡ groups.old) }
-    ensures memory { OnErr result (opens_by (groups_in groups.old) (fast_frame line packet.now) ≡ true) }
+    ensures groups { OnOk result (groups_in groups.new.entries ≡ leaves_by in_order (groups_in groups.old.entries) (fast_frame line packet.now)) }
+    ensures unchanged { OnErr result (groups.new.entries ≡ groups.old.entries) }
+    ensures memory { OnErr result (opens_by (groups_in groups.old.entries) (fast_frame line packet.now) ≡ true) }
 {
     let Some(frame) = fast_frame(packet) else {
         return Ok(Outcome::of_bad(BadCause::Fast));
@@ -144,21 +144,20 @@ fn take_fast(
 // A frame whose PGN is sent as its kind says.
 fn take_packet(
     in_order: bool,
-    groups: &mut OpenGroups,
+    groups: &mut IndexMap<FrameKey, OpenGroup>,
     line: u64,
     kind: Option<Kind>,
     packet: &Packet,
     joined: &mut Option<Packet>,
 ) -> Result<Outcome, AllocError>
-    requires begun { AllByRecursion (λ g. g.first < line) (groups_in groups.old) }
-    requires open { AllByRecursion IsOpen (groups_in groups.old) }
-    requires apart { AreApart (groups_in groups.old) }
+    requires open { AllByRecursion IsOpen (groups_in groups.old.entries) }
+    requires apart { AreApart (groups_in groups.old.entries) }
     requires none { joined.old ≡ None }
-    ensures given { IfOk result (λ o. told o (Some packet.now) joined.new ≡ gives_by in_order (single_by kind packet.now) (fast_cause kind packet.now) (groups_in groups.old) (frame_by kind line packet.now)) }
+    ensures given { IfOk result (λ o. told o (Some packet.now) joined.new ≡ gives_by in_order (single_by kind packet.now) (fast_cause kind packet.now) (groups_in groups.old.entries) (frame_by kind line packet.now)) }
     ensures unknown { IfOk result (λ o. o.is_unknown ≡ not (is_some kind)) }
-    ensures groups { OnOk result (groups_in groups.new ≡ leaves_by in_order (groups_in groups.old) (frame_by kind line packet.now)) }
-    ensures unchanged { OnErr result (groups.new ≡ groups.old) }
-    ensures memory { OnErr result (opens_by (groups_in groups.old) (frame_by kind line packet.now) ≡ true) }
+    ensures groups { OnOk result (groups_in groups.new.entries ≡ leaves_by in_order (groups_in groups.old.entries) (frame_by kind line packet.now)) }
+    ensures unchanged { OnErr result (groups.new.entries ≡ groups.old.entries) }
+    ensures memory { OnErr result (opens_by (groups_in groups.old.entries) (frame_by kind line packet.now) ≡ true) }
 {
     match kind {
         None => Ok(Outcome::of_nothing(true)),
@@ -170,21 +169,20 @@ fn take_packet(
 /// Takes the entry of a line into the open groups. The message of a group that it completes goes to `joined`.
 pub(crate) fn take_entry(
     in_order: bool,
-    groups: &mut OpenGroups,
+    groups: &mut IndexMap<FrameKey, OpenGroup>,
     line: u64,
     table: &Table,
     entry: &Entry,
     joined: &mut Option<Packet>,
 ) -> Result<Outcome, AllocError>
-    requires begun { AllByRecursion (λ g. g.first < line) (groups_in groups.old) }
-    requires open { AllByRecursion IsOpen (groups_in groups.old) }
-    requires apart { AreApart (groups_in groups.old) }
+    requires open { AllByRecursion IsOpen (groups_in groups.old.entries) }
+    requires apart { AreApart (groups_in groups.old.entries) }
     requires none { joined.old ≡ None }
-    ensures given { let k = kind table.now in IfOk result (λ o. told o (packet_in entry.now) joined.new ≡ gives_by in_order (alone k entry.now) (cause_in k entry.now) (groups_in groups.old) (frame_in k line entry.now)) }
+    ensures given { let k = kind table.now in IfOk result (λ o. told o (packet_in entry.now) joined.new ≡ gives_by in_order (alone k entry.now) (cause_in k entry.now) (groups_in groups.old.entries) (frame_in k line entry.now)) }
     ensures unknown { IfOk result (λ o. o.is_unknown ≡ is_unknown (kind table.now) entry.now) }
-    ensures groups { OnOk result (groups_in groups.new ≡ leaves_by in_order (groups_in groups.old) (frame_in (kind table.now) line entry.now)) }
-    ensures unchanged { OnErr result (groups.new ≡ groups.old) }
-    ensures memory { OnErr result (opens_by (groups_in groups.old) (frame_in (kind table.now) line entry.now) ≡ true) }
+    ensures groups { OnOk result (groups_in groups.new.entries ≡ leaves_by in_order (groups_in groups.old.entries) (frame_in (kind table.now) line entry.now)) }
+    ensures unchanged { OnErr result (groups.new.entries ≡ groups.old.entries) }
+    ensures memory { OnErr result (opens_by (groups_in groups.old.entries) (frame_in (kind table.now) line entry.now) ≡ true) }
 {
     match entry {
         Entry::Skip => Ok(Outcome::of_nothing(false)),

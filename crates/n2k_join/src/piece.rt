@@ -7,7 +7,7 @@ ghost use Rattle.n2k_wire.specs.Packet.{longest_message};
 ghost use Rattle.n2k_join.specs.Frames.{frame_bytes, most_frames};
 
 /// The group that a frame belongs to: frames of one sender, receiver and PGN that have one sequence.
-#[derive(Clone, Copy, PartialEq, Eq, PartialOrd, Ord)]
+#[derive(Clone, Copy, PartialEq, Eq, Hash)]
 pub(crate) struct FrameKey {
     pub(crate) src: u8,
     pub(crate) dst: u8,

@@ -7,40 +7,39 @@ ghost use Rattle.n2k_join.specs.Inner.Stored.{bars, key_of, frame_of, of_the_key
 ghost use Rattle.n2k_join.specs.Inner.Slots.{groups_in};
 
 use crate::broken::Broken;
-use crate::open_groups::OpenGroups;
 use crate::piece::{FastFrame, FrameKey, OpenGroup};
+use indexmap::IndexMap;
 use n2k_wire::Packet;
 use std::alloc::AllocError;
 
 // The place of the group of a key.
-fn place_of(groups: &OpenGroups, key: &FrameKey) -> Option<usize>
-    ensures { result ≡ position (λ g. same_key (key_of key.now) g.key) (groups_in groups.now) }
+fn place_of(groups: &IndexMap<FrameKey, OpenGroup>, key: &FrameKey) -> Option<usize>
+    ensures { result ≡ position (λ g. same_key (key_of key.now) g.key) (groups_in groups.now.entries) }
 {
-    groups.place_of(key)
+    groups.get_index_of(key)
 }
 
 // Begins the group of a frame whose key has none, as the last, or gives its message where the frame completes it alone.
 fn open_last(
     in_order: bool,
-    groups: &mut OpenGroups,
+    groups: &mut IndexMap<FrameKey, OpenGroup>,
     line: u64,
     frame: &FastFrame,
     packet: &Packet,
     joined: &mut Option<Packet>,
 ) -> Result<(), AllocError>
-    requires begun { AllByRecursion (λ g. g.first < line) (groups_in groups.old) }
-    requires place { position (λ g. same_key (key_of frame.now.key) g.key) (groups_in groups.old) ≡ None }
+    requires place { position (λ g. same_key (key_of frame.now.key) g.key) (groups_in groups.old.entries) ≡ None }
     requires none { joined.old ≡ None }
-    ensures message { let x = frame_of line packet.now frame.now in OnOk result (joined.new ≡ gained in_order x (of_the_key x.key (groups_in groups.old))) }
-    ensures groups { OnOk result (groups_in groups.new ≡ groups_after in_order (groups_in groups.old) (frame_of line packet.now frame.now)) }
-    ensures unchanged { OnErr result (groups.new ≡ groups.old) }
+    ensures message { let x = frame_of line packet.now frame.now in OnOk result (joined.new ≡ gained in_order x (of_the_key x.key (groups_in groups.old.entries))) }
+    ensures groups { OnOk result (groups_in groups.new.entries ≡ groups_after in_order (groups_in groups.old.entries) (frame_of line packet.now frame.now)) }
+    ensures unchanged { OnErr result (groups.new.entries ≡ groups.old.entries) }
 {
-    let group = OpenGroup::open(line, frame);
-    if group.is_complete() {
-        group.give(packet, joined);
+    let begun = OpenGroup::open(line, frame);
+    if begun.is_complete() {
+        begun.give(packet, joined);
         return Ok(());
     }
-    groups.push(frame.key, group)?;
+    groups.insert(frame.key, begun)?;
     Ok(())
 }
 
@@ -48,27 +47,27 @@ fn open_last(
 // message.
 fn join_at(
     in_order: bool,
-    groups: &mut OpenGroups,
+    groups: &mut IndexMap<FrameKey, OpenGroup>,
     at: usize,
     frame: &FastFrame,
     packet: &Packet,
     joined: &mut Option<Packet>,
 )
-    requires open { AllByRecursion IsOpen (groups_in groups.old) }
-    requires apart { AreApart (groups_in groups.old) }
-    requires place { position (λ g. same_key (key_of frame.now.key) g.key) (groups_in groups.old) ≡ Some at }
-    requires missing { IfSome (of_the_key (key_of frame.now.key) (groups_in groups.old)) (λ o. bars in_order frame.now.piece.number o ≡ false) }
+    requires open { AllByRecursion IsOpen (groups_in groups.old.entries) }
+    requires apart { AreApart (groups_in groups.old.entries) }
+    requires place { position (λ g. same_key (key_of frame.now.key) g.key) (groups_in groups.old.entries) ≡ Some at }
+    requires missing { IfSome (of_the_key (key_of frame.now.key) (groups_in groups.old.entries)) (λ o. bars in_order frame.now.piece.number o ≡ false) }
     requires none { joined.old ≡ None }
-    ensures message { (line : ℕ) → let x = frame_of line packet.now frame.now in joined.new ≡ gained in_order x (of_the_key x.key (groups_in groups.old)) }
-    ensures groups { (line : ℕ) → groups_in groups.new ≡ groups_after in_order (groups_in groups.old) (frame_of line packet.now frame.now) }
+    ensures message { (line : ℕ) → let x = frame_of line packet.now frame.now in joined.new ≡ gained in_order x (of_the_key x.key (groups_in groups.old.entries)) }
+    ensures groups { (line : ℕ) → groups_in groups.new.entries ≡ groups_after in_order (groups_in groups.old.entries) (frame_of line packet.now frame.now) }
 {
-    groups.take(at, frame.piece);
-    let Some(group) = groups.at(at) else {
+    let Some(group) = groups.get_index_mut(at) else {
         unreachable!()
     };
+    group.take(frame.piece);
     if group.is_complete() {
         group.give(packet, joined);
-        groups.remove(at);
+        groups.shift_remove_index(at);
     }
 }
 
@@ -76,33 +75,33 @@ fn join_at(
 // as the last. Where the frame completes it alone, it goes and gives its message.
 fn reopen_at(
     in_order: bool,
-    groups: &mut OpenGroups,
+    groups: &mut IndexMap<FrameKey, OpenGroup>,
     at: usize,
     line: u64,
     frame: &FastFrame,
     packet: &Packet,
     joined: &mut Option<Packet>,
 ) -> Broken
-    requires begun { AllByRecursion (λ g. g.first < line) (groups_in groups.old) }
-    requires open { AllByRecursion IsOpen (groups_in groups.old) }
-    requires apart { AreApart (groups_in groups.old) }
-    requires place { position (λ g. same_key (key_of frame.now.key) g.key) (groups_in groups.old) ≡ Some at }
-    requires there { IfSome (of_the_key (key_of frame.now.key) (groups_in groups.old)) (λ o. bars in_order frame.now.piece.number o ≡ true) }
+    requires open { AllByRecursion IsOpen (groups_in groups.old.entries) }
+    requires apart { AreApart (groups_in groups.old.entries) }
+    requires place { position (λ g. same_key (key_of frame.now.key) g.key) (groups_in groups.old.entries) ≡ Some at }
+    requires there { IfSome (of_the_key (key_of frame.now.key) (groups_in groups.old.entries)) (λ o. bars in_order frame.now.piece.number o ≡ true) }
     requires none { joined.old ≡ None }
-    ensures message { let x = frame_of line packet.now frame.now in joined.new ≡ gained in_order x (of_the_key x.key (groups_in groups.old)) }
-    ensures broken { let x = frame_of line packet.now frame.now in Some result ≡ lost in_order x (of_the_key x.key (groups_in groups.old)) }
-    ensures groups { groups_in groups.new ≡ groups_after in_order (groups_in groups.old) (frame_of line packet.now frame.now) }
+    ensures message { let x = frame_of line packet.now frame.now in joined.new ≡ gained in_order x (of_the_key x.key (groups_in groups.old.entries)) }
+    ensures broken { let x = frame_of line packet.now frame.now in Some result ≡ lost in_order x (of_the_key x.key (groups_in groups.old.entries)) }
+    ensures groups { groups_in groups.new.entries ≡ groups_after in_order (groups_in groups.old.entries) (frame_of line packet.now frame.now) }
 {
-    let Some(group) = groups.at(at) else {
+    let Some(group) = groups.get_index_mut(at) else {
         unreachable!()
     };
     let broken = group.broken(&frame.key);
     let fresh = OpenGroup::open(line, frame);
+    *group = fresh;
     if fresh.is_complete() {
         fresh.give(packet, joined);
-        groups.remove(at);
+        groups.shift_remove_index(at);
     } else {
-        groups.renew(at, fresh);
+        groups.move_index(at, groups.len() - 1);
     }
     broken
 }
@@ -111,30 +110,26 @@ fn reopen_at(
 /// the answer. Memory is taken only where its key has none open.
 pub(crate) fn take_frame(
     in_order: bool,
-    groups: &mut OpenGroups,
+    groups: &mut IndexMap<FrameKey, OpenGroup>,
     line: u64,
     frame: &FastFrame,
     packet: &Packet,
     joined: &mut Option<Packet>,
 ) -> Result<Option<Broken>, AllocError>
-    requires begun { AllByRecursion (λ g. g.first < line) (groups_in groups.old) }
-    requires open { AllByRecursion IsOpen (groups_in groups.old) }
-    requires apart { AreApart (groups_in groups.old) }
+    requires open { AllByRecursion IsOpen (groups_in groups.old.entries) }
+    requires apart { AreApart (groups_in groups.old.entries) }
     requires none { joined.old ≡ None }
-    ensures message { let x = frame_of line packet.now frame.now in OnOk result (joined.new ≡ gained in_order x (of_the_key x.key (groups_in groups.old))) }
-    ensures broken { let x = frame_of line packet.now frame.now in IfOk result (λ b. b ≡ lost in_order x (of_the_key x.key (groups_in groups.old))) }
-    ensures groups { OnOk result (groups_in groups.new ≡ groups_after in_order (groups_in groups.old) (frame_of line packet.now frame.now)) }
-    ensures unchanged { OnErr result (groups.new ≡ groups.old) }
-    ensures memory { OnErr result (of_the_key (key_of frame.now.key) (groups_in groups.old) ≡ None) }
+    ensures message { let x = frame_of line packet.now frame.now in OnOk result (joined.new ≡ gained in_order x (of_the_key x.key (groups_in groups.old.entries))) }
+    ensures broken { let x = frame_of line packet.now frame.now in IfOk result (λ b. b ≡ lost in_order x (of_the_key x.key (groups_in groups.old.entries))) }
+    ensures groups { OnOk result (groups_in groups.new.entries ≡ groups_after in_order (groups_in groups.old.entries) (frame_of line packet.now frame.now)) }
+    ensures unchanged { OnErr result (groups.new.entries ≡ groups.old.entries) }
+    ensures memory { OnErr result (of_the_key (key_of frame.now.key) (groups_in groups.old.entries) ≡ None) }
 {
     let Some(at) = place_of(groups, &frame.key) else {
         open_last(in_order, groups, line, frame, packet, joined)?;
         return Ok(None);
     };
-    let Some(group) = groups.at(at) else {
-        unreachable!()
-    };
-    if group.bars(in_order, frame.piece.number) {
+    if groups[at].bars(in_order, frame.piece.number) {
         return Ok(Some(reopen_at(in_order, groups, at, line, frame, packet, joined)));
     }
     join_at(in_order, groups, at, frame, packet, joined);

@@ -1,5 +1,5 @@
 //! What ends a group that isn't complete.
-ghost use Rattle.std.specs.Prelude.{◌≡◌, ◌↔◌, true, false, IfSome, IsSome};
+ghost use Rattle.std.specs.Prelude.{◌≡◌, ◌↔◌, ◌+◌, nat_lt, true, false, IfSome, IsSome};
 ghost use Rattle.n2k_join.specs.Window.{IsWindow};
 
 use std::marker::Model;
@@ -80,4 +80,11 @@ impl Window {
     {
         self.in_order
     }
+}
+
+/// Whether a window of so many lines, counted from line `first` on, ends after a line. No sum of them wraps.
+pub(crate) fn is_waiting(first: u64, window: u64, line: u64) -> bool
+    ensures { result ≡ nat_lt line (first + window) }
+{
+    u128::from(line) < u128::from(first) + u128::from(window)
 }

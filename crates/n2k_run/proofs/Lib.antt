@@ -15,6 +15,7 @@ pub mod Overdue
 pub mod Owed
 pub mod Parting
 pub mod PrintedBack
+pub mod PrintedInOrder
 pub mod Ranges
 pub mod Running
 pub mod SavedFronts

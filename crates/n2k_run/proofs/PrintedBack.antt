@@ -2,6 +2,7 @@
 use Rattle.std.proofs.Common.{◌≡◌, ℕ, Bool, List, [], ◌∷◌, ◌++◌, map, length, refl, ap, ◌∙◌, sym, suc, Option, Some, None}
 use Rattle.std.specs.Prelude.{flat_map, filter_map}
 use Rattle.std.specs.List.{cons_option}
+use Rattle.n2k_wire.specs.declared.entry.Entry.{Entry}
 use Rattle.n2k_wire.specs.Packet.{PacketParts}
 use Rattle.n2k_table.specs.Json.{json}
 use Rattle.n2k_table.specs.OneLine.{IsOneLine}
@@ -9,7 +10,7 @@ use Rattle.n2k_table.specs.Table.{TableParts, kind}
 use Rattle.n2k_join.specs.Messages.{message, numbers}
 use Rattle.n2k_join.specs.Replay.{messages, Replays}
 use Rattle.n2k_run.specs.declared.options.Options.{Options}
-use Rattle.n2k_run.specs.Decoded.{message_line, out}
+use Rattle.n2k_run.specs.Decoded.{message_line, out, out_of}
 use Rattle.n2k_run.specs.Entries.{entries}
 use Rattle.n2k_run.specs.Lines.{lines}
 use Rattle.n2k_run.specs.Replayed.{json_lines, with_line_feeds, PrintsBack}
@@ -28,13 +29,15 @@ length-map : {X Y : Type 0} (h : X → Y) (xs : List X) → length (map h xs) �
 length-map h [] = refl
 length-map h (x ∷ xs) = ap suc (length-map h xs)
 
--- the lines of the output are the JSON lines of the messages
-out-lines : (t : TableParts) (o : Options) (log : List ℕ) → ((m : PacketParts) (empty : Bool) → IsOneLine (json t m empty)) → with_line_feeds (lines (out t o log)) ≡ json_lines t o (messages o.window (kind t) (entries o.packing log))
-unfolding out
-out-lines t o log one =
-    let es = entries o.packing log in
+-- the lines of what is printed of entries are the JSON lines of their messages
+pub out_of-lines : (t : TableParts) (o : Options) (es : List Entry) → ((m : PacketParts) (empty : Bool) → IsOneLine (json t m empty)) → with_line_feeds (lines (out_of t o es)) ≡ json_lines t o (messages o.window (kind t) es)
+out_of-lines t o es one =
     ap (λ l. with_line_feeds (lines l)) (texts_of_messages t o.empty (message o.window (kind t) es) (numbers es))
     ∙ lines_of_texts (λ m. json t m o.empty) (λ m. one m o.empty) (messages o.window (kind t) es)
+
+out-lines : (t : TableParts) (o : Options) (log : List ℕ) → ((m : PacketParts) (empty : Bool) → IsOneLine (json t m empty)) → with_line_feeds (lines (out t o log)) ≡ json_lines t o (messages o.window (kind t) (entries o.packing log))
+unfolding out
+out-lines t o log one = out_of-lines t o (entries o.packing log) one
 
 pub prints_back : (t : TableParts) (ms : List PacketParts) (o : Options) (log : List ℕ) → ((m : PacketParts) (empty : Bool) → IsOneLine (json t m empty)) → Replays o.window (kind t) ms (entries o.packing log) → PrintsBack t ms o log
 prints_back t ms o log one replays =

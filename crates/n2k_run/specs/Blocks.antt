@@ -46,11 +46,13 @@ pub record FirstLine (bytes line rest : List ℕ) (has_ended : Bool) (left : Opt
   pub piece : List ℕ
   pub line_is : line ≡ without_return piece
   pub no_feed : HasNoFeed piece
-  pub ends : ((has_ended ≡ false) × (bytes ≡ piece ++ line_feed ∷ rest)) ⊎ (IsAtEnd left × (has_ended ≡ true) × (bytes ≡ piece) × (0 < length piece) × (rest ≡ []))
+  pub ends : ((has_ended ≡ false) × (bytes ≡ piece ++ line_feed ∷ rest))
+      ⊎ (IsAtEnd left × (has_ended ≡ true) × (bytes ≡ piece) × (0 < length piece) × (rest ≡ []))
 
--- the same, for a line over the limit
+-- such a line that is over the limit
 abbrev pub FirstLong : List ℕ → List ℕ → Bool → Option (List ℕ) → Type 0
-FirstLong bytes rest has_ended left = (line : List ℕ) × FirstLine bytes line rest has_ended left × (longest_line < length line)
+FirstLong bytes rest has_ended left =
+    (line : List ℕ) × FirstLine bytes line rest has_ended left × (longest_line < length line)
 
 -- Nothing was answered: the bytes are what they were, or a front of them that no line of the limit can have was
 -- replaced by what stands for it.
@@ -67,7 +69,8 @@ Stays whole bytes = (bytes ≡ whole) ⊎ Replaces whole bytes
 
 -- What an answer says of all the bytes that it was given of: those unanswered before, and those that came.
 abbrev pub GivesNext : List ℕ → List ℕ → Bool → Option (List ℕ) → Result Next Failed → Type 0
-GivesNext whole rest has_ended left (Ok (Line line)) = FirstLine whole line.now rest has_ended left × (length line.now ≤ longest_line)
+GivesNext whole rest has_ended left (Ok (Line line)) =
+    FirstLine whole line.now rest has_ended left × (length line.now ≤ longest_line)
 GivesNext whole rest has_ended left (Ok Long) = FirstLong whole rest has_ended left
 GivesNext whole rest has_ended left (Ok End) = IsAtEnd left × (has_ended ≡ true) × (whole ≡ []) × (rest ≡ [])
 GivesNext whole rest has_ended left (Err failed) = HasNoFeed whole × Stays whole rest
@@ -77,7 +80,8 @@ abbrev pub CallsAre : ℕ → ℕ → ℕ → ℕ → Type 0
 CallsAre calls₀ calls reads₀ reads = (reads₀ ≤ reads) × ((calls + reads₀ ≡ calls₀ + reads) ⊎ (2 ^ 64 - 1 ≤ calls))
 
 -- an answer, what it took of the source, and what is held after it
-pub record Answers (old new : Held) (left₀ left : Option (List ℕ)) (calls₀ calls : ℕ) (result : Result Next Failed) : Type 0 where
+pub record Answers (old new : Held) (left₀ left : Option (List ℕ)) (calls₀ calls : ℕ)
+    (result : Result Next Failed) : Type 0 where
   -- the bytes that came of the source
   pub came : List ℕ
   pub given : Consumes left₀ left came
@@ -95,4 +99,6 @@ AnswersLine bytes rest (Err failed) = Stays bytes rest
 
 -- that, where the source's bytes are known
 abbrev pub AnswersKnown : Held → Held → Option (List ℕ) → Option (List ℕ) → Result Next Failed → Type 0
-AnswersKnown old new left₀ left result = IfSome left₀ (λ bytes. (rest : List ℕ) × (left ≡ Some rest) × AnswersLine (unanswered old ++ bytes) (unanswered new ++ rest) result)
+AnswersKnown old new left₀ left result =
+    IfSome left₀ (λ bytes. (rest : List ℕ) × (left ≡ Some rest)
+    × AnswersLine (unanswered old ++ bytes) (unanswered new ++ rest) result)

@@ -1,5 +1,5 @@
--- What `decode` writes and reports of a log: the JSON lines of its messages, its broken groups and its bad lines, each at
--- the line that gives it.
+-- What `decode` writes and reports of a log: the JSON lines of its messages, its broken groups and its bad lines,
+-- each at the line that gives it.
 use Rattle.std.specs.Prelude.{ℕ, ◌+◌, Bool, List, [], ◌++◌, length, Option, Some, None, option_and_then}
 use Rattle.std.specs.List.{flat_map, range_with_len}
 use Rattle.n2k_table.specs.Json.{json}
@@ -40,7 +40,7 @@ out_of t o es = flat_map (text_at t o es) (numbers es)
 abbrev pub reports_of : TableParts → Options → List Entry → List ℕ
 reports_of t o es = flat_map (report_at t o es) (numbers es)
 
--- the same of a log's bytes
+-- the JSON lines, and the reports, of a log's bytes
 unfoldable pub out : TableParts → Options → List ℕ → List ℕ
 out t o log = out_of t o (entries o.packing log)
 

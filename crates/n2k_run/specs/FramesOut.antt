@@ -50,8 +50,8 @@ abbrev pub candump_cause : {A : Type 0} → Result A WireFault → Option BadCau
 candump_cause (Ok parts) = None
 candump_cause (Err fault) = fault_cause fault
 
--- why a message isn't seen at an interface: all its frames have its stamp and its identifier. A plain line needs no more
--- than a message has.
+-- why a message isn't seen at an interface: all its frames have its stamp and its identifier. A plain line needs no
+-- more than a message has.
 abbrev pub interface_cause : Option (List ℕ) → PacketParts → Option BadCause
 interface_cause None m = None
 interface_cause (Some interface) m = candump_cause (candump_parts m)

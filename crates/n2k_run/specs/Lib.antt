@@ -4,6 +4,7 @@ pub mod Device
 pub mod Entries
 pub mod Fault
 pub mod FramesOut
+pub mod InOrder
 pub mod Inner
 pub mod Lines
 pub mod Making

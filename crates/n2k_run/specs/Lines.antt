@@ -22,7 +22,8 @@ without_last_empty (piece ∷ pieces) = piece ∷ without_last_empty pieces
 
 -- the piece, without one carriage return at its end
 abbrev pub without_return : List ℕ → List ℕ
-without_return piece = if slice_index piece (length piece - 1) == carriage_return then take (length piece - 1) piece else piece
+without_return piece =
+    if slice_index piece (length piece - 1) == carriage_return then take (length piece - 1) piece else piece
 
 -- the pieces between line feeds, a last empty one left out, each without one carriage return at its end
 abbrev pub lines : List ℕ → List (List ℕ)

@@ -28,11 +28,17 @@ pub record Store : Type 0 where
 
 -- the source after a call that gave its first n bytes
 abbrev pub after_read : Supply → ℕ → Supply
-after_read source n = record source { left = drop n source.left; fails_at = source.fails_at - 1; calls = one_more source.calls }
+after_read source n =
+    record source { left = drop n source.left; fails_at = source.fails_at - 1; calls = one_more source.calls }
 
 -- the source after a call that failed
 abbrev pub after_failed_read : Supply → Supply
-after_failed_read source = record source { fails_at = source.fails_at - 1; calls = one_more source.calls; failed_calls = one_more source.failed_calls }
+after_failed_read source =
+    record source {
+      fails_at = source.fails_at - 1;
+      calls = one_more source.calls;
+      failed_calls = one_more source.failed_calls;
+    }
 
 -- the sink after a call that took these bytes
 abbrev pub after_write : Store → List ℕ → Store

@@ -29,8 +29,8 @@ use Rattle.n2k_run.specs.Writing.{AppendsFront}
 
 -- ---- where a part begins
 
--- The state that a part begins with: without one handed in that before the first line, else the one that the bytes spell
--- under the table and the window, or the reason why they are refused.
+-- The state that a part begins with: without one handed in that before the first line, else the one that the bytes
+-- spell under the table and the window, or the reason why they are refused.
 abbrev pub begun : TableParts → Options → Option (List ℕ) → Result State StateFault
 begun t o None = Ok (state t.id o.window (kind t) [])
 begun t o (Some bytes) = judged (kind t) t.id o.window bytes
@@ -68,8 +68,8 @@ StandsAtLine (Err run_faults.Write) = ⊥
 StandsAtLine (Err run_faults.Report) = ⊥
 StandsAtLine (Err run_faults.Memory) = ⊥
 
--- How the run ended of which an answer tells: so as the answer says, or at a line where its state could not be saved. Where
--- the state that was handed in is refused, nothing was run, and this is as after want of memory.
+-- How the run ended of which an answer tells: so as the answer says, or at a line where its state could not be saved.
+-- Where the state that was handed in is refused, nothing was run, and this is as after want of memory.
 abbrev pub Ran : Result Part PartFault → Result (Unit {0}) RunFault → Type 0
 Ran (Ok part) ran = ran ≡ Ok tt
 Ran (Err (Stopped fault part)) ran = ran ≡ Err fault
@@ -78,7 +78,8 @@ Ran (Err (Refused fault)) ran = ran ≡ Err run_faults.Memory
 Ran (Err Memory) ran = StandsAtLine ran
 
 -- what every run promises holds of the run of which an answer tells
-pub record TellsRun (o : Output) (stands : List Entry → Type 0) (before after : Devices) (result : Result Part PartFault) : Type 0 where
+pub record TellsRun (o : Output) (stands : List Entry → Type 0) (before after : Devices)
+    (result : Result Part PartFault) : Type 0 where
   pub ran : Result (Unit {0}) RunFault
   pub ended : Ran result ran
   pub runs : Runs o stands before after ran
@@ -91,10 +92,11 @@ IsOfKind (Err (Stopped fault part)) = (fault ≡ run_faults.Read) ⊎ (fault ≡
 IsOfKind (Err (Run fault)) = (fault ≡ run_faults.Write) ⊎ ((fault ≡ run_faults.Report) ⊎ (fault ≡ run_faults.Memory))
 IsOfKind (Err Memory) = Unit {0}
 
--- A state that was handed in is refused, by the first fault that stands in it or for want of memory; else it is the one that
--- the part begins with.
+-- A state that was handed in is refused, by the first fault that stands in it or for want of memory; else it is the
+-- one that the part begins with.
 abbrev pub BeginsBy : TableParts → Options → Option (List ℕ) → Result Part PartFault → Type 0
-BeginsBy t o handed (Err (Refused fault)) = IsSome handed × ((fault ≡ state_faults.Memory) ⊎ (begun t o handed ≡ Err fault))
+BeginsBy t o handed (Err (Refused fault)) =
+    IsSome handed × ((fault ≡ state_faults.Memory) ⊎ (begun t o handed ≡ Err fault))
 BeginsBy t o handed (Err (Stopped fault part)) = IsOk (begun t o handed)
 BeginsBy t o handed (Err (Run fault)) = IsOk (begun t o handed)
 BeginsBy t o handed (Err Memory) = IsOk (begun t o handed)
@@ -123,9 +125,10 @@ pub record IsFront (t : TableParts) (o : Options) (front : List ℕ) (handed : O
   pub whole_lines : IsEmptyOrEndsWith front line_feed
   pub leads_to : begun t o handed ≡ Ok (state_after t o front)
 
--- After the front and `more` the whole stands: the sinks gained exactly what the output and the reports of both have after
--- those of the front, and the Part is what is saved, and what is counted, after both.
-pub record GoesOn (t : TableParts) (o : Options) (front more : List ℕ) (before after : Devices) (part : Part) : Type 0 where
+-- After the front and `more` the whole stands: the sinks gained exactly what the output and the reports of both have
+-- after those of the front, and the Part is what is saved, and what is counted, after both.
+pub record GoesOn (t : TableParts) (o : Options) (front more : List ℕ) (before after : Devices)
+    (part : Part) : Type 0 where
   pub text : List ℕ
   pub printed : Appends before.written after.written text
   pub output : out t o (front ++ more) ≡ out t o front ++ text
@@ -146,9 +149,10 @@ pub record GoesOnPartly (t : TableParts) (o : Options) (front more : List ℕ) (
   pub reported : AppendsFront before.reported after.reported report
   pub told : reports t o (front ++ more) ≡ reports t o front ++ report
 
--- After TooManyLines: the front and the lines that were taken of the log are as many as are counted, the log has more, and
--- what stands is whole up to the last of them.
-pub record GoesOnToLimit (t : TableParts) (o : Options) (front log : List ℕ) (before after : Devices) (part : Part) : Type 0 where
+-- After TooManyLines: the front and the lines that were taken of the log are as many as are counted, the log has
+-- more, and what stands is whole up to the last of them.
+pub record GoesOnToLimit (t : TableParts) (o : Options) (front log : List ℕ) (before after : Devices)
+    (part : Part) : Type 0 where
   pub taken : List ℕ
   pub rest : List ℕ
   pub log_is : log ≡ taken ++ rest
@@ -157,12 +161,15 @@ pub record GoesOnToLimit (t : TableParts) (o : Options) (front log : List ℕ) (
   pub full : length (entries o.packing (front ++ taken)) ≡ most_lines
   pub stands : GoesOn t o front taken before after part
 
--- What a part answers after this front of a log. With Ok the whole stands; after Read what stands is whole up to the last
--- line that came, and after TooManyLines up to the last that is counted.
+-- What a part answers after this front of a log. With Ok the whole stands; after Read what stands is whole up to the
+-- last line that came, and after TooManyLines up to the last that is counted.
 abbrev pub Continues : TableParts → Options → List ℕ → Devices → Devices → Result Part PartFault → Type 0
-Continues t o front before after (Ok part) = IsAtEnd after.left × IfSome before.left (λ log. GoesOn t o front log before after part)
-Continues t o front before after (Err (Stopped run_faults.Read part)) = (came : List ℕ) × Consumes before.left after.left came × GoesOn t o front (whole_lines came) before after part
-Continues t o front before after (Err (Stopped run_faults.TooManyLines part)) = IfSome before.left (λ log. GoesOnToLimit t o front log before after part)
+Continues t o front before after (Ok part) =
+    IsAtEnd after.left × IfSome before.left (λ log. GoesOn t o front log before after part)
+Continues t o front before after (Err (Stopped run_faults.Read part)) =
+    (came : List ℕ) × Consumes before.left after.left came × GoesOn t o front (whole_lines came) before after part
+Continues t o front before after (Err (Stopped run_faults.TooManyLines part)) =
+    IfSome before.left (λ log. GoesOnToLimit t o front log before after part)
 Continues t o front before after (Err (Stopped run_faults.Write part)) = ⊥
 Continues t o front before after (Err (Stopped run_faults.Report part)) = ⊥
 Continues t o front before after (Err (Stopped run_faults.Memory part)) = ⊥
@@ -173,20 +180,24 @@ Continues t o front before after (Err Memory) = IfSome before.left (λ log. Goes
 -- ---- what the run of a part promises
 
 -- From a state that is handed in, or, where there is none, from a log's beginning.
-pub record RunsFrom (t : TableParts) (o : Options) (handed : Option (List ℕ)) (before after : Devices) (result : Result Part PartFault) : Type 0 where
-  -- Each kind of refusal has its faults. A state is refused for what stands in it, or for want of memory, and then no device
-  -- is touched.
+pub record RunsFrom (t : TableParts) (o : Options) (handed : Option (List ℕ)) (before after : Devices)
+    (result : Result Part PartFault) : Type 0 where
+  -- Each kind of refusal has its faults. A state is refused for what stands in it, or for want of memory, and then no
+  -- device is touched.
   pub fault_kinds : IsOfKind result
   pub begins : BeginsBy t o handed result
   pub untouched : OnRefusal result (after ≡ before)
-  -- From any state that reads, whether or not a log leads to it: the texts and reports of the steps of the part's entries.
+  -- From any state that reads, whether or not a log leads to it: the texts and reports of the steps of the part's
+  -- entries.
   pub steps : (s : State) → begun t o handed ≡ Ok s
-      → TellsRun (output_from (join_making t o.empty) o.packing s) (λ es. HasPart t o result (after_all (join_making t o.empty) s es)) before after result
+      → TellsRun (output_from (join_making t o.empty) o.packing s)
+      (λ es. HasPart t o result (after_all (join_making t o.empty) s es)) before after result
   -- From the state that these entries lead to: what the whole log says of the lines after them.
   pub log : (front : List Entry) → begun t o handed ≡ Ok (state t.id o.window (kind t) front)
-      → TellsRun (output_after t o front) (λ es. HasPart t o result (state t.id o.window (kind t) (front ++ es))) before after result
-  -- The headline: after this front of a log, whose saved state was handed in, exactly the rest of the whole log's output
-  -- is printed, and its state is saved.
+      → TellsRun (output_after t o front) (λ es. HasPart t o result (state t.id o.window (kind t) (front ++ es)))
+      before after result
+  -- The headline: after this front of a log, whose saved state was handed in, exactly the rest of the whole log's
+  -- output is printed, and its state is saved.
   pub headline : (front : List ℕ) → IsFront t o front handed → Continues t o front before after result
 
 -- ---- parts that lie in memory
@@ -213,20 +224,24 @@ pub record Takes (t : TableParts) (o : Options) (parts : List (List ℕ)) (befor
   pub report_writes : after.failed_reports ≡ before.failed_reports
 
 -- and the Part is where these lead to
-pub record TakesAll (t : TableParts) (o : Options) (parts : List (List ℕ)) (before after : Devices) (part : Part) : Type 0 where
+pub record TakesAll (t : TableParts) (o : Options) (parts : List (List ℕ)) (before after : Devices)
+    (part : Part) : Type 0 where
   pub taken : Takes t o parts before after
   pub leads_to : IsPartOf t o (state t.id o.window (kind t) (entries_of o parts)) part
 
--- The run of a part that lies in memory, after these entries: no call of its source failed. Where the state can't be read for
--- want of memory, nothing of the part was written.
-pub record RunsPart (t : TableParts) (o : Options) (front : List Entry) (met : List ℕ) (before after : Devices) (result : Result Part PartFault) : Type 0 where
+-- The run of a part that lies in memory, after these entries: no call of its source failed. Where the state can't be
+-- read for want of memory, nothing of the part was written.
+pub record RunsPart (t : TableParts) (o : Options) (front : List Entry) (met : List ℕ) (before after : Devices)
+    (result : Result Part PartFault) : Type 0 where
   pub left : Option (List ℕ)
   pub calls : ℕ
-  pub told : TellsRun (output_after t o front) (λ es. HasPart t o result (state t.id o.window (kind t) (front ++ es))) (with_source before (Some met) 0 0) (with_source after left calls 0) result
+  pub told : TellsRun (output_after t o front) (λ es. HasPart t o result (state t.id o.window (kind t) (front ++ es)))
+      (with_source before (Some met) 0 0) (with_source after left calls 0) result
   pub untouched : OnRefusal result (after ≡ before)
 
 -- The parts before one of them were taken whole, and at this one the run ended so, as that of a part does.
-pub record EndsAtPart (t : TableParts) (o : Options) (parts : List (List ℕ)) (before after : Devices) (result : Result Part PartFault) : Type 0 where
+pub record EndsAtPart (t : TableParts) (o : Options) (parts : List (List ℕ)) (before after : Devices)
+    (result : Result Part PartFault) : Type 0 where
   pub done : List (List ℕ)
   pub met : List ℕ
   pub later : List (List ℕ)
@@ -238,7 +253,8 @@ pub record EndsAtPart (t : TableParts) (o : Options) (parts : List (List ℕ)) (
 -- how a run over parts ends; before the first part memory may be refused
 abbrev pub EndsParts : TableParts → Options → List (List ℕ) → Devices → Devices → Result Part PartFault → Type 0
 EndsParts t o parts before after (Ok part) = TakesAll t o parts before after part
-EndsParts t o parts before after (Err fault) = ((fault ≡ Memory) × (after ≡ before)) ⊎ EndsAtPart t o parts before after (Err fault)
+EndsParts t o parts before after (Err fault) =
+    ((fault ≡ Memory) × (after ≡ before)) ⊎ EndsAtPart t o parts before after (Err fault)
 
 -- each part has fewer bytes than a run makes reads, so that its end is found however few of them a read gives
 abbrev pub AreWithinReads : List (List ℕ) → Type 0
@@ -252,7 +268,8 @@ IsNotRead (Err (Run fault)) = Unit {0}
 IsNotRead (Err Memory) = Unit {0}
 IsNotRead (Ok part) = Unit {0}
 
--- the whole log was printed: the sinks gained its output and its reports, and the Part is what is saved and counted after it
+-- the whole log was printed: the sinks gained its output and its reports, and the Part is what is saved and counted
+-- after it
 pub record PrintsLog (t : TableParts) (o : Options) (log : List ℕ) (before after : Devices) (part : Part) : Type 0 where
   pub printed : Appends before.written after.written (out t o log)
   pub reported : Appends before.reported after.reported (reports t o log)

@@ -20,9 +20,11 @@ abbrev pub with_line_feeds : List (List ℕ) → List (List ℕ)
 with_line_feeds texts = map (λ text. text ++ 10 ∷ []) texts
 
 -- The messages are printed back: the output has as many lines as there are messages; these are the JSON lines of the
--- messages that the log's groups give, in the order of the log's lines; and those of each key are the JSON lines of that
--- key's messages, in their order.
+-- messages that the log's groups give, in the order of the log's lines; and those of each key are the JSON lines of
+-- that key's messages, in their order.
 pub record PrintsBack (t : TableParts) (ms : List PacketParts) (o : Options) (log : List ℕ) : Type 0 where
   pub as_many : length (lines (out t o log)) ≡ length ms
-  pub gathered : with_line_feeds (lines (out t o log)) ≡ json_lines t o (map (λ (m : Keyed). m.message) (gathered_messages o.window (kind t) (entries o.packing log)))
-  pub in_order : (key : Key) → json_lines t o (given_to key o.window (kind t) (entries o.packing log)) ≡ json_lines t o (sent_to key ms)
+  pub gathered : with_line_feeds (lines (out t o log)) ≡ json_lines t o
+      (map (λ (m : Keyed). m.message) (gathered_messages o.window (kind t) (entries o.packing log)))
+  pub in_order : (key : Key) → json_lines t o (given_to key o.window (kind t) (entries o.packing log))
+      ≡ json_lines t o (sent_to key ms)

@@ -30,7 +30,9 @@ bad_text number cause = codes "line " ++ decimal number ++ codes " bad " ++ caus
 -- `line 3 broken pgn 130820 src 5 dst 255 seq 3 first 1`, of the number of a line and the group that it breaks
 unfoldable pub broken_text : ℕ → Broken → List ℕ
 broken_text number group =
-    codes "line " ++ decimal number ++ codes " broken pgn " ++ decimal group.pgn ++ codes " src " ++ decimal group.src ++ codes " dst " ++ decimal group.dst ++ codes " seq " ++ decimal group.seq ++ codes " first " ++ decimal group.first ++ codes "\n"
+    codes "line " ++ decimal number ++ codes " broken pgn " ++ decimal group.pgn ++ codes " src " ++ decimal group.src
+    ++ codes " dst " ++ decimal group.dst ++ codes " seq " ++ decimal group.seq ++ codes " first "
+    ++ decimal group.first ++ codes "\n"
 
 -- what is reported of a line: first the groups that it breaks, then its cause
 abbrev pub cause_report : ℕ → Option BadCause → List ℕ
@@ -43,7 +45,9 @@ line_report number groups cause = flat_map (broken_text number) groups ++ cause_
 -- `lines 3 messages 1 bad 0 unknown 0 broken 0 open 0`
 unfoldable pub summary_text : Counts → List ℕ
 summary_text counts =
-    codes "lines " ++ decimal counts.lines ++ codes " messages " ++ decimal counts.messages ++ codes " bad " ++ decimal counts.bad ++ codes " unknown " ++ decimal counts.unknown ++ codes " broken " ++ decimal counts.broken ++ codes " open " ++ decimal counts.held ++ codes "\n"
+    codes "lines " ++ decimal counts.lines ++ codes " messages " ++ decimal counts.messages ++ codes " bad "
+    ++ decimal counts.bad ++ codes " unknown " ++ decimal counts.unknown ++ codes " broken "
+    ++ decimal counts.broken ++ codes " open " ++ decimal counts.held ++ codes "\n"
 
 -- what is reported of the entry of that line by itself
 abbrev pub bad_report : ℕ → Entry → List ℕ

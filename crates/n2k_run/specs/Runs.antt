@@ -1,9 +1,11 @@
 -- What every run promises, by the texts and the reports that it makes of the entries of its log.
-use Rattle.std.specs.Prelude.{◌≡◌, ◌⊎◌, ◌<◌, ◌≤◌, ◌+◌, ℕ, List, ◌∷◌, ◌++◌, length, Option, Result, Ok, Err, OnErr, IfSome}
+use Rattle.std.specs.Prelude.{◌≡◌, ◌⊎◌, ◌<◌, ◌≤◌, ◌+◌, ℕ, List, ◌∷◌, ◌++◌, length, Option, None, Result, Ok, Err, OnErr, IfSome}
 use Rattle.std.specs.Io.KnownBytes.{Appends, Consumes, IsAtEnd}
 use Rattle.n2k_wire.specs.declared.entry.Entry.{Entry}
 use Rattle.n2k_wire.specs.declared.entry.Packing.{Packing}
 use Rattle.n2k_join.specs.Counts.{most_lines}
+use Rattle.n2k_run.specs.declared.device.Sink.{Ghosts as OfSink}
+use Rattle.n2k_run.specs.declared.device.Source.{Ghosts as OfSource}
 use Rattle.n2k_run.specs.declared.fault.RunFault.{RunFault}
 use Rattle.n2k_run.specs.declared.fault.RunFault.TheVariants.{Read, Write, Report, Memory, TooManyLines}
 use Rattle.n2k_run.specs.Device.{HasFailed}
@@ -57,6 +59,18 @@ devices left calls failed_reads written failed_writes reported failed_reports = 
   failed_reports = failed_reports;
 }
 
+-- The devices of a run, by what contracts know of a source and of a sink: in a clause `R.Source` and `W.Sink` say it of
+-- the types that a run is made for.
+abbrev pub seen : {R W E : Type 0} → OfSource R → OfSink W → OfSink E → R → W → E → Devices
+seen r w e reader writer reporter =
+    devices (r.remaining reader) (r.calls reader) (r.failed_calls reader) (w.contents writer) (w.failed_calls writer)
+    (e.contents reporter) (e.failed_calls reporter)
+
+-- those of runs over parts in memory, of which each has a source of its own: the sinks alone
+abbrev pub sinks_seen : {W E : Type 0} → OfSink W → OfSink E → W → E → Devices
+sinks_seen w e writer reporter =
+    devices None 0 0 (w.contents writer) (w.failed_calls writer) (e.contents reporter) (e.failed_calls reporter)
+
 -- the sinks gained exactly the texts and the reports of these entries
 pub record Gained (o : Output) (before after : Devices) (es : List Entry) : Type 0 where
   pub printed : Appends before.written after.written (o.texts es)
@@ -89,7 +103,8 @@ pub record IsCut (o : Output) (stands : List Entry → Type 0) (before after : D
 pub record IsFull (o : Output) (stands : List Entry → Type 0) (before after : Devices) : Type 0 where
   pub taken : List Entry
   pub full : o.counted + length taken ≡ most_lines
-  pub left : IfSome before.left (λ log. (next : Entry) × (more : List Entry) × (entries o.packing log ≡ taken ++ next ∷ more))
+  pub left : IfSome before.left (λ log. (next : Entry) × (more : List Entry)
+      × (entries o.packing log ≡ taken ++ next ∷ more))
   pub gained : Gained o before after taken
   pub holds : stands taken
 
@@ -124,7 +139,8 @@ pub record NoneFailed (before after : Devices) : Type 0 where
 
 -- a call of the source failed, or none did and 10^12 reads found no end; no call of a sink failed
 pub record ReadFails (before after : Devices) : Type 0 where
-  pub reads : HasFailed before.failed_reads after.failed_reads ⊎ (OutlastsReads before.calls after.calls × (after.failed_reads ≡ before.failed_reads))
+  pub reads : HasFailed before.failed_reads after.failed_reads
+      ⊎ (OutlastsReads before.calls after.calls × (after.failed_reads ≡ before.failed_reads))
   pub writes : after.failed_writes ≡ before.failed_writes
   pub reports : after.failed_reports ≡ before.failed_reports
 
@@ -140,8 +156,8 @@ pub record ReportFails (before after : Devices) : Type 0 where
   pub writes : after.failed_writes ≡ before.failed_writes
   pub reports : HasFailed before.failed_reports after.failed_reports
 
--- A fault of a device is that device's own, or for Read that no end was found by 10^12 reads, and no other device failed.
--- No failure of a device is told as another fault, or as none.
+-- A fault of a device is that device's own, or for Read that no end was found by 10^12 reads, and no other device
+-- failed. No failure of a device is told as another fault, or as none.
 abbrev pub HasDevice : {T : Type 0} → Devices → Devices → Result T RunFault → Type 0
 HasDevice before after (Ok x) = NoneFailed before after
 HasDevice before after (Err Read) = ReadFails before after
@@ -151,7 +167,8 @@ HasDevice before after (Err Memory) = NoneFailed before after
 HasDevice before after (Err TooManyLines) = NoneFailed before after
 
 -- what every run promises
-pub record Runs {T : Type 0} (o : Output) (stands : List Entry → Type 0) (before after : Devices) (result : Result T RunFault) : Type 0 where
+pub record Runs {T : Type 0} (o : Output) (stands : List Entry → Type 0) (before after : Devices)
+    (result : Result T RunFault) : Type 0 where
   pub ends : Ends o stands before after result
   pub fronts : OnErr result (IfSome before.left (λ log. HasFronts o before after log))
   pub reports_first : IfSome before.left (λ log. ReportsFirst o before after log)

@@ -90,7 +90,14 @@ impl Blocks {
 
     /// Before the first read.
     pub fn new() -> Self
-        ensures { result ≡ record { kept = []; is_passing = false; has_ended = false; reads = 0; line = []; room = BLOCK } }
+        ensures { result ≡ record {
+          kept = [];
+          is_passing = false;
+          has_ended = false;
+          reads = 0;
+          line = [];
+          room = BLOCK;
+        } }
     {
         Blocks {
             block: [0; BLOCK],
@@ -127,7 +134,8 @@ impl Blocks {
     #[inline(always)]
     pub fn next_line<R: Source>(&mut self, reader: &mut R) -> Result<Next<'_>, Failed>
         ensures* answers { sem 𝓛 (Rests the_row self.entry (λ new.
-            Answers self.old new (R.remaining reader.old) (R.remaining reader.new) (R.calls reader.old) (R.calls reader.new) result
+            Answers self.old new (R.remaining reader.old) (R.remaining reader.new) (R.calls reader.old)
+            (R.calls reader.new) result
             × AnswersKnown self.old new (R.remaining reader.old) (R.remaining reader.new) result
             × OnErr result (HasFailed (R.failed_calls reader.old) (R.failed_calls reader.new)
             ⊎ ((new.reads ≡ most_reads) × (R.failed_calls reader.new ≡ R.failed_calls reader.old))))) }
@@ -151,7 +159,8 @@ impl Blocks {
     // Finds the next line, which mostly is held, and reads where it isn't.
     #[inline(always)]
     fn find_line<R: Source>(&mut self, reader: &mut R) -> Result<Found, Failed>
-        ensures found { AnswersFound self.old self.new (R.remaining reader.old) (R.remaining reader.new) (R.calls reader.old) (R.calls reader.new) result }
+        ensures found { AnswersFound self.old self.new (R.remaining reader.old) (R.remaining reader.new)
+            (R.calls reader.old) (R.calls reader.new) result }
         ensures quiet { HasFeed self.old.kept → reader.new ≡ reader.old }
         ensures none_failed { OnOk result (R.failed_calls reader.new ≡ R.failed_calls reader.old) }
         ensures failed { OnErr result (HasFailed (R.failed_calls reader.old) (R.failed_calls reader.new)
@@ -166,7 +175,8 @@ impl Blocks {
     // The same, apart from it, since few lines come this way: it reads until a line is found.
     #[inline(never)]
     fn read_line<R: Source>(&mut self, reader: &mut R) -> Result<Found, Failed>
-        ensures found { AnswersFound self.old self.new (R.remaining reader.old) (R.remaining reader.new) (R.calls reader.old) (R.calls reader.new) result }
+        ensures found { AnswersFound self.old self.new (R.remaining reader.old) (R.remaining reader.new)
+            (R.calls reader.old) (R.calls reader.new) result }
         ensures quiet { HasFeed self.old.kept → reader.new ≡ reader.old }
         ensures none_failed { OnOk result (R.failed_calls reader.new ≡ R.failed_calls reader.old) }
         ensures failed { OnErr result (HasFailed (R.failed_calls reader.old) (R.failed_calls reader.new)
@@ -189,7 +199,8 @@ impl Blocks {
     // Takes the first line, where its end is held.
     fn take_line(&mut self) -> Option<Found>
         ensures none { IfNone result ((self.new ≡ self.old) × HasNoFeed self.old.kept) }
-        ensures found { IfSome result (λ found. (left : Option (List ℕ)) → Finds (unanswered self.old) self.new left found) }
+        ensures found { IfSome result (λ found. (left : Option (List ℕ))
+            → Finds (unanswered self.old) self.new left found) }
         ensures reads { self.new.reads ≡ self.old.reads }
     {
         let size = self.feed?;
@@ -268,7 +279,8 @@ impl Blocks {
         requires room { 0 < self.old.room }
         requires few { self.old.reads < most_reads }
         ensures gains { Gains self.old.kept self.new.kept (R.remaining reader.old) (R.remaining reader.new) }
-        ensures end { IfOk result (λ count. count ≡ 0 → (self.new.kept ≡ self.old.kept) × IsAtEnd (R.remaining reader.new)) }
+        ensures end { IfOk result (λ count. count ≡ 0 → (self.new.kept ≡ self.old.kept)
+            × IsAtEnd (R.remaining reader.new)) }
         ensures count { IfOk result (λ count. length self.new.kept ≡ length self.old.kept + count) }
         ensures failed { OnErr result (self.new.kept ≡ self.old.kept) }
         ensures passing { self.new.is_passing ≡ self.old.is_passing }

@@ -9,7 +9,7 @@ ghost use Rattle.n2k_run.specs.Decoded.{join_making, message_line, output_after}
 ghost use Rattle.n2k_run.specs.Inner.Overdue.{BreaksOverdue};
 ghost use Rattle.n2k_run.specs.Making.{after_all};
 ghost use Rattle.n2k_run.specs.Reports.{broken_text, cause_report};
-ghost use Rattle.n2k_run.specs.Runs.{Runs, devices, output_from};
+ghost use Rattle.n2k_run.specs.Runs.{Runs, output_from, seen};
 
 use crate::device::{Sink, Source};
 use crate::engine::run_entries;
@@ -74,7 +74,8 @@ fn push_message(
     room: &mut LineRoom,
     text: &mut Vec<u8>,
 ) -> Result<(), AllocError>
-    ensures { OnOk result (text.new.items ≡ text.old.items ++ message_line table.now empty (option_map (λ p. p.now) message.entry)) }
+    ensures { OnOk result (text.new.items ≡ text.old.items ++ message_line table.now empty
+        (option_map (λ p. p.now) message.entry)) }
 {
     match message {
         None => Ok(()),
@@ -82,8 +83,8 @@ fn push_message(
     }
 }
 
-// A join, and what is kept from line to line: the message of a group is written to the place of the one before, and each line
-// is put together in the same room. Both are large, and new ones would be zeroed for each line.
+// A join, and what is kept from line to line: the message of a group is written to the place of the one before, and
+// each line is put together in the same room. Both are large, and new ones would be zeroed for each line.
 #[derive(Drop)]
 struct Joining {
     join: Join,
@@ -134,9 +135,9 @@ impl<'a> Maker for JsonLines<'a> {
 
 /// Prints the JSON line of each message of a log to `writer`, in the order of the lines that give them, and to
 /// `reporter` for each line the groups that it breaks and why it is bad. The join goes on from where it stands, and
-/// stands after the log at the end; the window of the options has to be its own. Whole, or until a fault, as `run_plain`: after `Read` the join stands after the
-/// last line whose LF was read, and after `TooManyLines` at the last number; after `Write`, `Report` and `Memory` it is
-/// spent.
+/// stands after the log at the end; the window of the options has to be its own. Whole, or until a fault, as
+/// `run_plain`: after `Read` the join stands after the last line whose LF was read, and after `TooManyLines` at the
+/// last number; after `Write`, `Report` and `Memory` it is spent.
 pub fn run<R: Source, W: Sink, E: Sink>(
     alloc: Global,
     table: &Table,
@@ -149,20 +150,18 @@ pub fn run<R: Source, W: Sink, E: Sink>(
     requires window { join.old.rule ≡ options.window }
 
     // From any join: the texts and reports of the steps of the log's entries, one after the other.
-    ensures steps { let before = devices (R.remaining reader.old) (R.calls reader.old) (R.failed_calls reader.old)
-        (W.contents writer.old) (W.failed_calls writer.old) (E.contents reporter.old) (E.failed_calls reporter.old) in
-        let after = devices (R.remaining reader.new) (R.calls reader.new) (R.failed_calls reader.new)
-        (W.contents writer.new) (W.failed_calls writer.new) (E.contents reporter.new) (E.failed_calls reporter.new) in
+    ensures steps { let before = seen R.Source W.Sink E.Sink reader.old writer.old reporter.old in
+        let after = seen R.Source W.Sink E.Sink reader.new writer.new reporter.new in
         let making = join_making table.now options.empty in
-        Runs (output_from making options.packing join.old) (λ es. join.new ≡ after_all making join.old es) before after result }
+        Runs (output_from making options.packing join.old)
+        (λ es. join.new ≡ after_all making join.old es) before after result }
 
     // From a join that stands after these entries, with this table: what the whole log says of the lines after them.
     ensures log { (front : List Entry) → join.old ≡ state table.now.id options.window (kind table.now) front →
-        let before = devices (R.remaining reader.old) (R.calls reader.old) (R.failed_calls reader.old)
-        (W.contents writer.old) (W.failed_calls writer.old) (E.contents reporter.old) (E.failed_calls reporter.old) in
-        let after = devices (R.remaining reader.new) (R.calls reader.new) (R.failed_calls reader.new)
-        (W.contents writer.new) (W.failed_calls writer.new) (E.contents reporter.new) (E.failed_calls reporter.new) in
-        Runs (output_after table.now options front) (λ es. join.new ≡ state table.now.id options.window (kind table.now) (front ++ es)) before after result }
+        let before = seen R.Source W.Sink E.Sink reader.old writer.old reporter.old in
+        let after = seen R.Source W.Sink E.Sink reader.new writer.new reporter.new in
+        Runs (output_after table.now options front)
+        (λ es. join.new ≡ state table.now.id options.window (kind table.now) (front ++ es)) before after result }
 {
     laws::steps_agree();
     laws::lines_stay();

@@ -3,7 +3,7 @@ ghost use Rattle.std.specs.Prelude.{◌≡◌, ◌⊎◌, [], OnOk};
 ghost use Rattle.n2k_run.specs.Blocks.{CallsAre, HasFeed};
 ghost use Rattle.n2k_run.specs.Making.{after_all};
 ghost use Rattle.n2k_run.specs.Reading.{ReadsBytes, idle_calls};
-ghost use Rattle.n2k_run.specs.Runs.{Runs, devices, output_from};
+ghost use Rattle.n2k_run.specs.Runs.{Runs, output_from, seen};
 ghost use Rattle.n2k_wire.specs.declared.entry.BadCause.TheVariants.{Long};
 ghost use Rattle.n2k_wire.specs.declared.entry.Entry.TheVariants.{Bad};
 ghost use Rattle.n2k_run.specs.Inner.Engine.{Takes, TakesNext, ReadsNext};
@@ -24,7 +24,8 @@ fn take_long<M: Maker>(
     kept: &mut Kept,
 ) -> Result<(), RunFault>
     requires { M.is_ready maker.now state.old }
-    ensures taken { Takes (M.making maker.now) (M.known state.old) (M.known state.new) (Bad Long) kept.old.text.items kept.new.text.items kept.old.report.items kept.new.report.items result }
+    ensures taken { Takes (M.making maker.now) (M.known state.old) (M.known state.new) (Bad Long) kept.old.text.items
+        kept.new.text.items kept.old.report.items kept.new.report.items result }
     ensures ready { OnOk result (M.is_ready maker.now state.new) }
 {
     let entry = Entry::Bad(BadCause::Long);
@@ -45,11 +46,13 @@ fn take_next<M: Maker, R: Source>(
 ) -> Result<(), RunFault>
     requires ready { M.is_ready maker.now state.old }
     requires written { HasFeed blocks.old.kept ⊎ ((kept.old.text.items ≡ []) × (kept.old.report.items ≡ [])) }
-    ensures taken { TakesNext (M.making maker.now) packing (M.known state.old) (M.known state.new) blocks.old blocks.new (R.remaining reader.old) (R.remaining reader.new)
+    ensures taken { TakesNext (M.making maker.now) packing (M.known state.old) (M.known state.new) blocks.old
+        blocks.new (R.remaining reader.old) (R.remaining reader.new)
         kept.old.text.items kept.new.text.items kept.old.report.items kept.new.report.items result }
     ensures ready { OnOk result (M.is_ready maker.now state.new) }
     ensures device { ReadsNext blocks.new (R.failed_calls reader.old) (R.failed_calls reader.new) result }
-    ensures reads { ReadsBytes (idle_calls blocks.new.has_ended result) (R.remaining reader.old) (R.remaining reader.new) (R.calls reader.old) (R.calls reader.new) }
+    ensures reads { ReadsBytes (idle_calls blocks.new.has_ended result) (R.remaining reader.old)
+        (R.remaining reader.new) (R.calls reader.old) (R.calls reader.new) }
     ensures called { CallsAre (R.calls reader.old) (R.calls reader.new) blocks.old.reads blocks.new.reads }
 {
     match blocks.next_line(reader) {
@@ -74,11 +77,10 @@ pub(crate) fn run_entries<M: Maker, R: Source, W: Sink, E: Sink>(
     reporter: &mut E,
 ) -> Result<(), RunFault>
     requires { M.is_ready maker.now state.old }
-    ensures runs { let before = devices (R.remaining reader.old) (R.calls reader.old) (R.failed_calls reader.old)
-        (W.contents writer.old) (W.failed_calls writer.old) (E.contents reporter.old) (E.failed_calls reporter.old) in
-        let after = devices (R.remaining reader.new) (R.calls reader.new) (R.failed_calls reader.new)
-        (W.contents writer.new) (W.failed_calls writer.new) (E.contents reporter.new) (E.failed_calls reporter.new) in
-        Runs (output_from (M.making maker.now) packing (M.known state.old)) (λ es. M.known state.new ≡ after_all (M.making maker.now) (M.known state.old) es) before after result }
+    ensures runs { let before = seen R.Source W.Sink E.Sink reader.old writer.old reporter.old in
+        let after = seen R.Source W.Sink E.Sink reader.new writer.new reporter.new in
+        Runs (output_from (M.making maker.now) packing (M.known state.old))
+        (λ es. M.known state.new ≡ after_all (M.making maker.now) (M.known state.old) es) before after result }
     ensures ready { OnOk result (M.is_ready maker.now state.new) }
 {
     let mut blocks = Blocks::new();

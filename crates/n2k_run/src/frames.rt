@@ -6,7 +6,7 @@ ghost use Rattle.n2k_wire.specs.Packet.{PacketParts};
 ghost use Rattle.n2k_table.specs.Table.{kind};
 ghost use Rattle.n2k_join.specs.Splitter.{sequences};
 ghost use Rattle.n2k_run.specs.FramesOut.{IsInterface, interface_of, frame_texts, frames_counts, frames_out, frames_output, frames_reports, frame_counts_of};
-ghost use Rattle.n2k_run.specs.Runs.{Runs, devices};
+ghost use Rattle.n2k_run.specs.Runs.{Runs, seen};
 ghost use Rattle.n2k_run.specs.Inner.Sending.{AppendsLines, SentLine, SentMessage, WritesFrames, candump_texts};
 
 use crate::device::{Sink, Source};
@@ -114,7 +114,8 @@ impl<'a> FrameLines<'a> {
         text: &mut Vec<u8>,
     ) -> Result<Outcome, AllocError>
         requires { IsInterface (interface_of self.now.interface) }
-        ensures { IfOk result (SentMessage (kind self.now.table.now) (interface_of self.now.interface) message.now (sequences splitter.old) (sequences splitter.new) text.old.items text.new.items) }
+        ensures { IfOk result (SentMessage (kind self.now.table.now) (interface_of self.now.interface) message.now
+            (sequences splitter.old) (sequences splitter.new) text.old.items text.new.items) }
     {
         frames.clear();
         match splitter.message(self.table, message, frames) {
@@ -135,7 +136,8 @@ impl<'a> FrameLines<'a> {
         text: &mut Vec<u8>,
     ) -> Result<Outcome, AllocError>
         requires { IsInterface (interface_of self.now.interface) }
-        ensures { IfOk result (SentLine (kind self.now.table.now) (interface_of self.now.interface) entry.now (sequences splitter.old) (sequences splitter.new) text.old.items text.new.items) }
+        ensures { IfOk result (SentLine (kind self.now.table.now) (interface_of self.now.interface) entry.now
+            (sequences splitter.old) (sequences splitter.new) text.old.items text.new.items) }
     {
         match entry {
             Entry::Skip => Ok(Outcome::Skipped),
@@ -186,19 +188,20 @@ impl<'a> Maker for FrameLines<'a> {
     }
 }
 
-/// Writes each whole message of a log, a plain line of 0 to 223 bytes, as the lines of the frames in which it is sent:
-/// plain lines, or with an interface those that `candump -L` writes at it. The messages of each stream, a sender's
-/// messages of one fast PGN to one receiver, are numbered in turn from 0 to 7. `reporter` gets the report of each bad line:
-/// besides those that can't be read these are, in this order,
+/// Writes each whole message of a log, a plain line of 0 to 223 bytes, as the lines of the frames in which it is
+/// sent: plain lines, or with an interface those that `candump -L` writes at it. The messages of each stream, a
+/// sender's messages of one fast PGN to one receiver, are numbered in turn from 0 to 7. `reporter` gets the report of
+/// each bad line: besides those that can't be read these are, in this order,
 ///
 /// - `B10 frame`: a candump line, which is a frame and no message;
 /// - `B8 unknown`: a message of a PGN that the table doesn't have;
 /// - `B9 size`: one of over 8 bytes whose PGN is sent in single frames;
-/// - `B11 time` and `B12 address`, with an interface alone: its stamp isn't `YYYY-MM-DDTHH:MM:SS.mmmZ` of a day of the
-///   calendar from 1970 on, or the bus has no identifier for it. Such a message of a fast PGN has used its number.
+/// - `B11 time` and `B12 address`, with an interface alone: its stamp isn't `YYYY-MM-DDTHH:MM:SS.mmmZ` of a day of
+///   the calendar from 1970 on, or the bus has no identifier for it. Such a message of a fast PGN has used its
+///   number.
 ///
-/// A bad line is written in no part. The counts are those of lines, of messages written, and of bad lines. Faults as for
-/// `run_plain`.
+/// A bad line is written in no part. The counts are those of lines, of messages written, and of bad lines. Faults as
+/// for `run_plain`.
 ///
 /// With a table in which 130820 is of kind `fast`, and the interface `can0`, the line
 /// `1970-01-01T00:00:10.300Z,7,130820,5,255,11,a3,99,01,41,42,43,00,00,00,00,00` gives
@@ -216,16 +219,18 @@ pub fn run_frames<R: Source, W: Sink, E: Sink>(
     reporter: &mut E,
 ) -> Result<Counts, RunFault>
     requires { IsInterface (interface_of interface) }
-    ensures runs { let before = devices (R.remaining reader.old) (R.calls reader.old) (R.failed_calls reader.old)
-        (W.contents writer.old) (W.failed_calls writer.old) (E.contents reporter.old) (E.failed_calls reporter.old) in
-        let after = devices (R.remaining reader.new) (R.calls reader.new) (R.failed_calls reader.new)
-        (W.contents writer.new) (W.failed_calls writer.new) (E.contents reporter.new) (E.failed_calls reporter.new) in
-        Runs (frames_output table.now (interface_of interface.entry)) (λ es. IfOk result (λ counts. counts ≡ frame_counts_of (kind table.now) (interface_of interface.entry) es)) before after result }
+    ensures runs { let before = seen R.Source W.Sink E.Sink reader.old writer.old reporter.old in
+        let after = seen R.Source W.Sink E.Sink reader.new writer.new reporter.new in
+        Runs (frames_output table.now (interface_of interface.entry))
+        (λ es. IfOk result (λ counts. counts ≡ frame_counts_of (kind table.now) (interface_of interface.entry) es))
+        before after result }
 
     // Ok, where the bytes of the log are known: what `frames` makes of them.
     ensures out { IfOk result (λ counts. IfSome (R.remaining reader.old) (λ log.
-        Appends (W.contents writer.old) (W.contents writer.new) (frames_out table.now (interface_of interface.entry) log)
-        × Appends (E.contents reporter.old) (E.contents reporter.new) (frames_reports table.now (interface_of interface.entry) log)
+        Appends (W.contents writer.old) (W.contents writer.new)
+        (frames_out table.now (interface_of interface.entry) log)
+        × Appends (E.contents reporter.old) (E.contents reporter.new)
+        (frames_reports table.now (interface_of interface.entry) log)
         × (counts ≡ frames_counts table.now (interface_of interface.entry) log))) }
 {
     laws::splits_written();

@@ -32,8 +32,10 @@ impl Kept {
         writer: &mut W,
         reporter: &mut E,
     ) -> Result<(), RunFault>
-        ensures written { WritesKept self.old.text.items self.old.report.items (W.contents writer.old) (W.contents writer.new) (E.contents reporter.old) (E.contents reporter.new) result }
-        ensures device { FailsKept (W.failed_calls writer.old) (W.failed_calls writer.new) (E.failed_calls reporter.old) (E.failed_calls reporter.new) result }
+        ensures written { WritesKept self.old.text.items self.old.report.items (W.contents writer.old)
+            (W.contents writer.new) (E.contents reporter.old) (E.contents reporter.new) result }
+        ensures device { FailsKept (W.failed_calls writer.old) (W.failed_calls writer.new)
+            (E.failed_calls reporter.old) (E.failed_calls reporter.new) result }
         ensures none_kept { OnOk result ((self.new.text.items ≡ []) × (self.new.report.items ≡ [])) }
     {
         if write_all(reporter, &self.report).is_err() {

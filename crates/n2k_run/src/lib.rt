@@ -1,18 +1,22 @@
 //! Runs over devices: a log is read, its lines are taken one by one, and texts and reports are written.
 //!
-//! - `run` prints the JSON line of each message that a log gives on a join, `run_plain` each frame and each whole
-//!   message as its plain line, `run_frames` each whole message as the lines of the frames in which it is sent. All
-//!   report each bad line by its number, and `run` each broken group.
-//! - `run_part` runs a part of a log from the state that was saved before it, and gives the state and the counts after
-//!   it; `run_parts` runs parts that lie in memory, one after the other.
+//! To decode a log use `run_part`: it begins the log or goes on from a saved state, and answers the state to save;
+//! `run_parts` does so for parts that lie in memory, `run` for a join that is at hand. To write a summary use
+//! `write_summary`, which takes no memory; `summary_text` appends one to a text. The theorem stands at `run_parts`,
+//! clause `headline`: a log that was cut after lines prints in parts what one run over it prints.
+//!
+//! - `run` prints the JSON line of each message that a log gives, `run_plain` each frame and each whole message as its
+//!   plain line, `run_frames` each whole message as the lines of the frames in which it is sent. All report each bad
+//!   line by its number, and `run` each broken group.
 //! - `Options` say how the data of lines are packed, and whether absent fields are printed.
 //! - `Blocks` lends the lines of a log from a block of 4,096 bytes. A run holds no more of its log, and writes what
 //!   its lines gave before it reads on: so a live pipe shows each message when its line came.
 //! - `Source` and `Sink` are devices: `StdSource` and `StdSink` over the standard library's, `MemorySource` and
 //!   `MemorySink` for tests, whose calls can be short and can fail.
-//! - `read_bytes` reads a source whole, up to a limit. `bad_text` and `broken_text` are the reports of a line,
-//!   `summary_text` the summary of a run, and `write_summary` writes it without memory. `write_all` writes any text.
-//! - `laws` say what is printed of messages that were scattered over a log, or written and then read.
+//! - `read_bytes` reads a source whole, up to a limit; `write_all` writes a text whole. `bad_text` and `broken_text`
+//!   are the reports of a line.
+//! - `laws` say what is printed of messages that were scattered over a log, or written and then read, and what each
+//!   line printed tells where the order of frames is asked for.
 //!
 //! A run that answers Ok has written exactly the texts and reports of the log's lines, in their order. One that answers
 //! a fault has written a front of them, the reports first: the fault is that of the one device whose call failed, of

@@ -37,6 +37,7 @@ pub(crate) trait Maker {
     ) -> Result<(), RunFault>
         requires short { IsShort entry.now }
         requires ready { is_ready self.now state.old }
-        ensures taken { Takes (making self.now) (known state.old) (known state.new) entry.now text.old.items text.new.items report.old.items report.new.items result }
+        ensures taken { Takes (making self.now) (known state.old) (known state.new) entry.now text.old.items
+            text.new.items report.old.items report.new.items result }
         ensures ready { OnOk result (is_ready self.now state.new) };
 }

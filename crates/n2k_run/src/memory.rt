@@ -20,7 +20,13 @@ impl<'a> Model for MemorySource<'a> {
 
     ghost Value = { Supply };
 
-    ghost view = { λ s. record { left = s.left.now; at_once = s.at_once; fails_at = s.fails_at; calls = s.calls; failed_calls = s.failed_calls } };
+    ghost view = { λ s. record {
+      left = s.left.now;
+      at_once = s.at_once;
+      fails_at = s.fails_at;
+      calls = s.calls;
+      failed_calls = s.failed_calls;
+    } };
 
     ghost invariant = { λ s. 0 < s.at_once };
 }
@@ -32,7 +38,13 @@ impl<'a> MemorySource<'a> {
     /// less; call number `fail_at`, counted from 1, fails (0: none does).
     pub fn new(bytes: &'a [u8], piece: usize, fail_at: u64) -> Self
         requires { 0 < piece }
-        ensures { result ≡ record { left = bytes.now; at_once = piece; fails_at = fail_at; calls = 0; failed_calls = 0 } }
+        ensures { result ≡ record {
+          left = bytes.now;
+          at_once = piece;
+          fails_at = fail_at;
+          calls = 0;
+          failed_calls = 0;
+        } }
     {
         MemorySource {
             left: bytes,
@@ -98,7 +110,12 @@ impl Model for MemorySink {
 
     ghost Value = { Store };
 
-    ghost view = { λ s. record { held = s.held.items; at_once = s.at_once; fails_at = s.fails_at; failed_calls = s.failed_calls } };
+    ghost view = { λ s. record {
+      held = s.held.items;
+      at_once = s.at_once;
+      fails_at = s.fails_at;
+      failed_calls = s.failed_calls;
+    } };
 
     ghost invariant = { λ s. 0 < s.at_once };
 }

@@ -11,8 +11,8 @@ pub struct Options {
     pub packing: Packing,
     /// Whether an absent field is printed, as `null`.
     pub empty: bool,
-    /// What ends a group that isn't complete: that so many lines have passed since its first, and, where the window asks
-    /// for their order, a frame whose number doesn't rise.
+    /// What ends a group that isn't complete: that so many lines have passed since its first, and, where the window
+    /// asks for their order, a frame whose number doesn't rise.
     pub window: Window,
 }
 

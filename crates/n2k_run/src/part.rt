@@ -1,18 +1,20 @@
 //! Runs of a log in parts, each from the state that was saved after the one before.
-ghost use Rattle.std.specs.Prelude.{◌≡◌, ℕ, List, [], map, ◌++◌, IfOk, IsErr, IsSome, None, Ok, option_map};
+ghost use Rattle.std.specs.Prelude.{◌≡◌, ℕ, List, [], map, ◌++◌, IfOk, IsErr, IsSome, None, Ok, option_map, true};
 ghost use Rattle.std.specs.List.{concat};
 ghost use Rattle.n2k_wire.specs.declared.entry.Entry.{Entry};
 ghost use Rattle.n2k_table.specs.Table.{kind};
 ghost use Rattle.n2k_join.specs.Refusal.{GivesOrMemory};
 ghost use Rattle.n2k_join.specs.Saved.{IsId};
 ghost use Rattle.n2k_join.specs.State.{State, state};
+ghost use Rattle.n2k_run.specs.InOrder.{PrintsInOrder};
 ghost use Rattle.n2k_run.specs.Inner.Parts.{Finishes, HasSaved, Saves};
-ghost use Rattle.n2k_run.specs.Parts.{AreCutAtLines, AreWithinReads, EndsParts, IsNotRead, IsOfKind, IsPartOf, OnRefusal, PrintsLog, RefusedByMemory, RunsFrom, RunsPart, begun};
-ghost use Rattle.n2k_run.specs.Runs.{devices};
+ghost use Rattle.n2k_run.specs.Parts.{AreCutAtLines, AreWithinReads, EndsParts, IsNotRead, IsOfKind, IsPartOf, OnRefusal, PrintsLog, RefusedByMemory, RunsFrom, RunsPart, begun, entries_of};
+ghost use Rattle.n2k_run.specs.Runs.{seen, sinks_seen};
 
 use crate::decoding::run;
 use crate::device::{Sink, Source};
 use crate::fault::RunFault;
+use crate::laws::printed_in_order;
 use crate::options::{Options, know_window};
 use crate::part_source::PartSource;
 use n2k_join::{Counts, Join, StateFault, laws};
@@ -39,7 +41,8 @@ pub enum PartFault {
     /// The run stopped after a line, for `RunFault::Read` or `RunFault::TooManyLines`; the log can go on from its Part.
     #[error("{0}")]
     Stopped(RunFault, Part),
-    /// The run ended for `RunFault::Write`, `RunFault::Report` or `RunFault::Memory`, and there is no state to go on from.
+    /// The run ended for `RunFault::Write`, `RunFault::Report` or `RunFault::Memory`, and there is no state to go on
+    /// from.
     #[error("{0}")]
     Run(RunFault),
     /// An allocation was refused while the state was saved.
@@ -65,7 +68,8 @@ fn begin(
     options: &Options,
     saved: Option<&[u8]>,
 ) -> Result<Join, StateFault>
-    ensures state { GivesOrMemory (λ join. join) result (begun table.now options.now (option_map (λ bytes. bytes.now) saved.entry)) }
+    ensures state { GivesOrMemory (λ join. join) result (begun table.now options.now
+        (option_map (λ bytes. bytes.now) saved.entry)) }
     ensures window { IfOk result (λ join. join.rule ≡ options.now.window) }
     ensures handed { IsErr result → IsSome (option_map (λ bytes. bytes.now) saved.entry) }
 {
@@ -111,14 +115,14 @@ fn finish(alloc: Global, join: &Join, ran: Result<(), RunFault>) -> Result<Part,
 }
 
 /// Runs a part of a log as `run` does, from the state that was saved after the part before it (`None`: from the first
-/// line), and answers the state and the counts after it. A log that is cut after any of its lines into parts so joined
-/// gives exactly the messages, the reports, the counts and the state of one run over the whole.
+/// line), and answers the state and the counts after it. A log that is cut after any of its lines into parts so
+/// joined gives exactly the messages, the reports, the counts and the state of one run over the whole.
 ///
-/// The state has to be of the same table and the same window, and the other options have to be those of the parts before. A state that can't be
-/// taken is refused before anything is read or written. After `Stopped` the log can go on from the Part, which stands
-/// after the last line that was taken: after `Read` the next part begins behind the last LF that was read, and a line that
-/// came in part is handed in again. After `Run` and `Memory` there is none, and a front of the part's texts and
-/// reports has been written.
+/// The state has to be of the same table and the same window, and the other options have to be those of the parts
+/// before. A state that can't be taken is refused before anything is read or written. After `Stopped` the log can go
+/// on from the Part, which stands after the last line that was taken: after `Read` the next part begins behind the
+/// last LF that was read, and a line that came in part is handed in again. After `Run` and `Memory` there is none,
+/// and a front of the part's texts and reports has been written.
 ///
 /// ```text
 /// let first = run_part(alloc, &table, None, options, &mut monday, &mut out, &mut err)?;
@@ -133,10 +137,8 @@ pub fn run_part<R: Source, W: Sink, E: Sink>(
     writer: &mut W,
     reporter: &mut E,
 ) -> Result<Part, PartFault>
-    ensures runs { let before = devices (R.remaining reader.old) (R.calls reader.old) (R.failed_calls reader.old)
-        (W.contents writer.old) (W.failed_calls writer.old) (E.contents reporter.old) (E.failed_calls reporter.old) in
-        let after = devices (R.remaining reader.new) (R.calls reader.new) (R.failed_calls reader.new)
-        (W.contents writer.new) (W.failed_calls writer.new) (E.contents reporter.new) (E.failed_calls reporter.new) in
+    ensures runs { let before = seen R.Source W.Sink E.Sink reader.old writer.old reporter.old in
+        let after = seen R.Source W.Sink E.Sink reader.new writer.new reporter.new in
         RunsFrom table.now options (option_map (λ bytes. bytes.now) saved.entry) before after result }
     ensures unread { OnRefusal result (reader.new ≡ reader.old) }
     ensures unwritten { OnRefusal result (writer.new ≡ writer.old) }
@@ -178,9 +180,10 @@ fn next_part<W: Sink, E: Sink>(
 ) -> Result<Part, PartFault>
     ensures fault_kinds { IsOfKind result }
     ensures memory_only { (s : State) → IsPartOf table.now options.now s last.now → RefusedByMemory result }
-    ensures log { (front : List Entry) → IsPartOf table.now options.now (state table.now.id options.now.window (kind table.now) front) last.now →
-        let before = devices None 0 0 (W.contents writer.old) (W.failed_calls writer.old) (E.contents reporter.old) (E.failed_calls reporter.old) in
-        let after = devices None 0 0 (W.contents writer.new) (W.failed_calls writer.new) (E.contents reporter.new) (E.failed_calls reporter.new) in
+    ensures log { (front : List Entry) → IsPartOf table.now options.now
+        (state table.now.id options.now.window (kind table.now) front) last.now →
+        let before = sinks_seen W.Sink E.Sink writer.old reporter.old in
+        let after = sinks_seen W.Sink E.Sink writer.new reporter.new in
         RunsPart table.now options.now front part.now before after result }
 {
     let mut reader = PartSource::new(part);
@@ -192,9 +195,9 @@ fn next_part<W: Sink, E: Sink>(
 /// before it: as one run over the log that they make, where each part but the last is empty or ends with a line. No
 /// part gives the state of the empty log.
 ///
-/// After a refusal the parts before the one that met it have been printed whole, and of that one what `run_part` says.
-/// `RunFault::Read` is no answer where each part has fewer than 10^12 - 1 bytes: a part in memory does not fail, and its
-/// end is found.
+/// After a refusal the parts before the one that met it have been printed whole, and of that one what `run_part`
+/// says. `RunFault::Read` is no answer where each part has fewer than 10^12 - 1 bytes: a part in memory does not
+/// fail, and its end is found.
 ///
 /// ```text
 /// let part = run_parts(alloc, &table, options, &[monday, tuesday], &mut out, &mut err)?;
@@ -212,18 +215,26 @@ pub fn run_parts<W: Sink, E: Sink>(
     ensures never_read { AreWithinReads (map (λ part. part.now) parts.now) → IsNotRead result }
 
     // What the entries of all parts make, one part after the other; or a part was met at which the run ended.
-    ensures log { let before = devices None 0 0 (W.contents writer.old) (W.failed_calls writer.old) (E.contents reporter.old) (E.failed_calls reporter.old) in
-        let after = devices None 0 0 (W.contents writer.new) (W.failed_calls writer.new) (E.contents reporter.new) (E.failed_calls reporter.new) in
+    ensures log { let before = sinks_seen W.Sink E.Sink writer.old reporter.old in
+        let after = sinks_seen W.Sink E.Sink writer.new reporter.new in
         EndsParts table.now options (map (λ part. part.now) parts.now) before after result }
 
     // The headline: a log that was cut after lines is printed as by one run.
     ensures headline { AreCutAtLines (map (λ part. part.now) parts.now) →
-        let before = devices None 0 0 (W.contents writer.old) (W.failed_calls writer.old) (E.contents reporter.old) (E.failed_calls reporter.old) in
-        let after = devices None 0 0 (W.contents writer.new) (W.failed_calls writer.new) (E.contents reporter.new) (E.failed_calls reporter.new) in
+        let before = sinks_seen W.Sink E.Sink writer.old reporter.old in
+        let after = sinks_seen W.Sink E.Sink writer.new reporter.new in
         IfOk result (PrintsLog table.now options (concat (map (λ part. part.now) parts.now)) before after) }
+
+    // In order each line that was printed tells one message: one that is a line by itself, or one transmission.
+    ensures in_order { options.window.in_order ≡ true →
+        let before = sinks_seen W.Sink E.Sink writer.old reporter.old in
+        let after = sinks_seen W.Sink E.Sink writer.new reporter.new in
+        IfOk result (λ _. PrintsInOrder table.now options (entries_of options (map (λ part. part.now) parts.now))
+        before after) }
 {
     laws::steps_agree();
     laws::lines_stay();
+    printed_in_order();
     know_window(&options);
     let mut last = empty_part(alloc, table, &options)?;
     for part in parts {

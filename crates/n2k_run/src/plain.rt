@@ -2,7 +2,7 @@
 ghost use Rattle.std.specs.Prelude.{◌≡◌, IfOk, IfSome};
 ghost use Rattle.std.specs.Io.KnownBytes.{Appends};
 ghost use Rattle.n2k_run.specs.Plain.{plain_counts, plain_counts_of, plain_out, plain_output, plain_reports};
-ghost use Rattle.n2k_run.specs.Runs.{Runs, devices};
+ghost use Rattle.n2k_run.specs.Runs.{Runs, seen};
 
 use crate::device::{Sink, Source};
 use crate::engine::run_entries;
@@ -72,10 +72,8 @@ pub fn run_plain<R: Source, W: Sink, E: Sink>(
     writer: &mut W,
     reporter: &mut E,
 ) -> Result<Counts, RunFault>
-    ensures runs { let before = devices (R.remaining reader.old) (R.calls reader.old) (R.failed_calls reader.old)
-        (W.contents writer.old) (W.failed_calls writer.old) (E.contents reporter.old) (E.failed_calls reporter.old) in
-        let after = devices (R.remaining reader.new) (R.calls reader.new) (R.failed_calls reader.new)
-        (W.contents writer.new) (W.failed_calls writer.new) (E.contents reporter.new) (E.failed_calls reporter.new) in
+    ensures runs { let before = seen R.Source W.Sink E.Sink reader.old writer.old reporter.old in
+        let after = seen R.Source W.Sink E.Sink reader.new writer.new reporter.new in
         Runs plain_output (λ es. IfOk result (λ counts. counts ≡ plain_counts_of es)) before after result }
 
     // Ok, where the bytes of the log are known: what `plain` makes of them.

@@ -26,7 +26,8 @@ fn read_more<R: Source>(
     ensures few { vec_len input.new ≤ vec_len input.old + length block.old }
     ensures end { IfOk result (λ n. n ≡ 0 → IsAtEnd (R.remaining reader.new)) }
     ensures no_failure { (IsErrOf result BytesFault.Read → ⊥) → R.failed_calls reader.new ≡ R.failed_calls reader.old }
-    ensures read_fails { IsErrOf result BytesFault.Read → HasFailed (R.failed_calls reader.old) (R.failed_calls reader.new) }
+    ensures read_fails { IsErrOf result BytesFault.Read → HasFailed (R.failed_calls reader.old)
+        (R.failed_calls reader.new) }
     ensures called { OnOk result (R.calls reader.new ≡ one_more (R.calls reader.old)) }
     ensures short { IsErrOf result BytesFault.TooLong → ⊥ }
 {
@@ -54,7 +55,8 @@ pub fn read_bytes<R: Source>(
         → IfSome (R.remaining reader.old) (λ left. limit < length left) }
     ensures read_fails { IsErrOf result BytesFault.Read
         → HasFailed (R.failed_calls reader.old) (R.failed_calls reader.new)
-        ⊎ (OutlastsReads (R.calls reader.old) (R.calls reader.new) × (R.failed_calls reader.new ≡ R.failed_calls reader.old) × (most_reads ≤ limit)) }
+        ⊎ (OutlastsReads (R.calls reader.old) (R.calls reader.new) × (R.failed_calls reader.new ≡ R.failed_calls
+        reader.old) × (most_reads ≤ limit)) }
     ensures consumed { (taken : List ℕ)
         × Consumes (R.remaining reader.old) (R.remaining reader.new) taken × (length taken ≤ limit + 1) }
 {

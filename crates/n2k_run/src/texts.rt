@@ -138,7 +138,8 @@ pub fn summary_text(_alloc: Global, counts: &Counts, out: &mut Vec<u8>) -> Resul
 /// front of it has been written.
 pub fn write_summary<E: Sink>(counts: &Counts, errors: &mut E) -> Result<(), Failed>
     ensures written { OnOk result (Appends (E.contents errors.old) (E.contents errors.new) (summary_text counts.now)) }
-    ensures front { OnErr result (AppendsFront (E.contents errors.old) (E.contents errors.new) (summary_text counts.now)) }
+    ensures front { OnErr result (AppendsFront (E.contents errors.old) (E.contents errors.new)
+        (summary_text counts.now)) }
     ensures counted { CountsFailure (E.failed_calls errors.old) (E.failed_calls errors.new) result }
 {
     write_all(errors, summary(counts).as_slice())

@@ -133,9 +133,9 @@ all_usual_plain (x ∷ xs) all =
     rw (usual_is_plain x both.0) (all_usual_plain xs both.1)
 
 -- a stamp of usual bytes stands for itself
-pub usual_stamp : (stamp first last : List ℕ) → first ≡ take 16 stamp → last ≡ drop 8 stamp → (list_all is_usual first && list_all is_usual last) ≡ true
-    → list_all is_plain stamp ≡ true
-usual_stamp stamp first last is_first is_last all =
+pub usual_stamp : (stamp first last : List ℕ) (k : ℕ) → k ≤ 16 → first ≡ take 16 stamp → last ≡ drop k stamp
+    → (list_all is_usual first && list_all is_usual last) ≡ true → list_all is_plain stamp ≡ true
+usual_stamp stamp first last k few is_first is_last all =
     let both = and_parts (list_all is_usual first) (list_all is_usual last) all in
-    all_usual_plain stamp (all_overlap is_usual 8 16 stamp (omega arith)
+    all_usual_plain stamp (all_overlap is_usual k 16 stamp few
     (ap (list_all is_usual) (sym is_first) ∙ both.0) (ap (list_all is_usual) (sym is_last) ∙ both.1))

@@ -1,5 +1,5 @@
 -- What a number of few bits shows, by what is kept of its field.
-use Rattle.std.proofs.Common.{◌≡◌, ◌≢◌, ℕ, zero, suc, ◌+◌, ◌-◌, ◌*◌, ◌^◌, ◌<◌, ◌≤◌, Bool, true, false, ◌&&◌, ◌||◌, ℤ, pos, negsuc, neg_ℤ, ◌-ℤ◌, ◌*ℤ◌, List, [], ◌∷◌, ◌++◌, Some, if◌then◌else◌, nat_le, nat_lt, unsigned_abs, refl, sym, ap, ◌∙◌, arith, inl, inr}
+use Rattle.std.proofs.Common.{◌≡◌, ◌≢◌, ℕ, zero, suc, ◌+◌, ◌-◌, ◌*◌, ◌^◌, ◌<◌, ◌≤◌, Bool, true, false, ◌&&◌, ◌||◌, ℤ, pos, negsuc, neg_ℤ, ◌*ℤ◌, List, [], ◌∷◌, Some, if◌then◌else◌, nat_le, nat_lt, unsigned_abs, refl, sym, ap, ◌∙◌, arith, inl, inr}
 use Rattle.std.proofs.Math.IntN.{pos-*ℤ-pos, negsuc-*ℤ-pos}
 use Rattle.std.proofs.lemmas.Int.{ints}
 use Rattle.std.proofs.lemmas.Bool.{le-leb, lt-leb, lt-ltb, le-ltb, cases_Bool, cases_lt}
@@ -12,7 +12,7 @@ use Rattle.n2k_table.specs.Bits.{raw, greatest, signed_value}
 use Rattle.n2k_table.specs.Decimal.{minus, sign_of}
 use Rattle.n2k_table.specs.Field.{FieldParts, Meaning}
 use Rattle.n2k_table.specs.Field as means
-use Rattle.n2k_table.specs.Shown.{ShownParts, absent, number, says_none, shown_number, lies_inside, shown, shown_inside}
+use Rattle.n2k_table.specs.Shown.{absent, number, says_none, shown_number, lies_inside, shown, shown_inside}
 use Rattle.n2k_table.specs.Inner.Quick.{IsScale, IsScaleOf, IsSmall, nones, scaled, short_value}
 use Rattle.n2k_table.proofs.RawBits.{pow_le, raw_lt, twice_half}
 

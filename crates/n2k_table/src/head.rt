@@ -10,7 +10,7 @@ use n2k_wire::{Id, Packet};
 use std::alloc::AllocError;
 
 /// The bytes of `YYYY-MM-DDTHH:MM:SS.mmmZ`.
-const USUAL_STAMP: usize = 24;
+const UTC_STAMP: usize = 24;
 
 /// How many bytes of a stamp are tested at once.
 const AT_ONCE: usize = 16;
@@ -70,14 +70,25 @@ fn push_sender(id: Id, line: &mut Tail) -> Result<(), AllocError>
     push_part(b",\"dst\":", id.dst, line)
 }
 
-// Appends a stamp of the usual length as a text, where each byte of it stands for itself.
+// Appends a stamp's bytes, those of a candump line's at once.
 #[inline(always)]
-fn push_usual_stamp(stamp: &[u8; USUAL_STAMP], line: &mut Tail) -> Result<(), AllocError>
+fn push_stamp(stamp: &[u8], line: &mut Tail) -> Result<(), AllocError>
+    ensures { OnOk result (line.new.items ≡ line.old.items ++ stamp.now) }
+{
+    match stamp.as_array::<UTC_STAMP>() {
+        Some(utc) => line.put(utc, UTC_STAMP),
+        None => line.extend_from_slice(stamp),
+    }
+}
+
+// Appends a stamp as a text, where each byte of it stands for itself.
+#[inline(always)]
+fn push_usual_stamp(stamp: &[u8], line: &mut Tail) -> Result<(), AllocError>
     requires { list_all is_plain stamp.now ≡ true }
     ensures { OnOk result (line.new.items ≡ line.old.items ++ (codes "{\"timestamp\":" ++ text_json stamp.now)) }
 {
     line.put(b"{\"timestamp\":\"", 14)?;
-    line.put(stamp, USUAL_STAMP)?;
+    push_stamp(stamp, line)?;
     line.push(b'"')
 }
 
@@ -100,21 +111,22 @@ fn are_usual(bytes: &[u8; AT_ONCE]) -> bool
     all
 }
 
-// Whether a stamp has such bytes alone. Its first sixteen and its last sixteen are all of it.
+// Whether a stamp has such bytes alone, sixteen to thirty-two of them: its first sixteen and its last sixteen are all of it.
 #[inline(always)]
-fn is_usual_stamp(stamp: &[u8; USUAL_STAMP]) -> bool
+fn is_usual_stamp(stamp: &[u8]) -> bool
     ensures { result ≡ true → list_all is_plain stamp.now ≡ true }
 {
     match (
         stamp.first_chunk::<AT_ONCE>(),
         stamp.last_chunk::<AT_ONCE>(),
     ) {
-        (Some(first), Some(last)) => are_usual(first) & are_usual(last),
+        (Some(first), Some(last)) if stamp.len() <= 2 * AT_ONCE => are_usual(first)
+            & are_usual(last),
         _ => false,
     }
 }
 
-// The same of any stamp.
+// Appends any stamp as a text.
 #[inline(never)]
 fn push_other_stamp(stamp: &[u8], line: &mut Tail) -> Result<(), AllocError>
     ensures { OnOk result (line.new.items ≡ line.old.items ++ (codes "{\"timestamp\":" ++ text_json stamp.now)) }
@@ -123,13 +135,14 @@ fn push_other_stamp(stamp: &[u8], line: &mut Tail) -> Result<(), AllocError>
     push_text(stamp, line)
 }
 
-// Appends when a message was seen. Most stamps have the length of a candump line's: then a comparison takes many bytes.
+// Appends when a message was seen. Of most stamps a comparison takes sixteen bytes.
 fn push_time(stamp: &[u8], line: &mut Tail) -> Result<(), AllocError>
     ensures { OnOk result (line.new.items ≡ line.old.items ++ (codes "{\"timestamp\":" ++ text_json stamp.now)) }
 {
-    match stamp.as_array::<USUAL_STAMP>() {
-        Some(usual) if is_usual_stamp(usual) => push_usual_stamp(usual, line),
-        _ => push_other_stamp(stamp, line),
+    if is_usual_stamp(stamp) {
+        push_usual_stamp(stamp, line)
+    } else {
+        push_other_stamp(stamp, line)
     }
 }
 

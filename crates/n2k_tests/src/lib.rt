@@ -1,9 +1,12 @@
 //! The tests of the four libraries, over their public calls: lines and texts (`wire`), tables, values and JSON lines
-//! (`table`), groups, states and frames (`join`), devices and runs (`run`). `samples` has what several of them take.
+//! (`table`), groups, states and frames (`join`), devices and runs (`run`). `appending` holds
+//! what calls that append leave, `samples` has what several of them take.
 //!
 //! They stand in a crate of their own so that each library is proved once; a crate with tests is proved twice.
 #![tactic(auto)]
 
+#[cfg(test)]
+mod appending;
 #[cfg(test)]
 mod join;
 #[cfg(test)]

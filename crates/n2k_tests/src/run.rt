@@ -2,6 +2,7 @@
 
 mod decoding;
 mod devices;
+mod growth;
 mod options;
 mod parts;
 mod plain;

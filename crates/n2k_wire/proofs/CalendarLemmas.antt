@@ -1,5 +1,5 @@
 -- The date that jiff gives for a day number is the one of the definitions.
-use Rattle.std.proofs.Common.{◌≡◌, ℕ, zero, suc, ◌+◌, ◌<◌, ◌≤◌, sym, ap, arith, ℤ, pos, negsuc, ◌+ℤ◌, ◌-◌, true, leb, refl, inl, inr}
+use Rattle.std.proofs.Common.{◌≡◌, ℕ, zero, suc, ◌+◌, ◌<◌, ◌≤◌, sym, ap, arith, ℤ, pos, negsuc, true, leb, refl, inl, inr}
 use Rattle.std.proofs.lemmas.Bool.{le-leb, lt-leb, cases_lt}
 use Rattle.jiff_core.specs.Calendar.{day_count, days_from_civil, days_in_month, IsYear, IsCivilDate}
 use Rattle.jiff_core.proofs.SignedLemmas.{signed_arith}
@@ -88,7 +88,7 @@ module _ (day year m d : ℕ) (civil : IsCivilDate (pos year) m d) (count : day_
   date_of = record { year_is = ap pos (sym year_is); month_is = sym month_is; day_is = sym day_is; year_fits = rw year_is to_9999 }
 
 -- no date before 1970 has a day number from 0 on
-pub is_date_of : (day : ℕ) (y : ℤ) (m d : ℕ) → IsCivilDate y m d → days_from_civil y m d +ℤ pos 4_371_587 ≡ pos (day + 4_371_587) → IsDateOf day y m d
+pub is_date_of : (day : ℕ) (y : ℤ) (m d : ℕ) → IsCivilDate y m d → days_from_civil y m d ≡ pos day → IsDateOf day y m d
 is_date_of day (pos year) m d civil e =
     date_of day year m d civil (omega (arith, signed_arith, days_from_civil-day_count (pos year) m d))
 is_date_of day (negsuc n) m d civil e =
@@ -123,12 +123,11 @@ module _ (y m d : ℕ) (late : 1970 ≤ y) (civil : IsCivilDate (pos y) m d) whe
   pub date_of_number : IsDateOf (day_number y m d) (pos y) m d
   date_of_number = date_of (day_number y m d) y m d civil (omega (arith, day_count-epoch, from_epoch))
 
--- the day number by jiff's first day
-pub day_number-is : (y m d n : ℕ) (year : ℤ) (month day : ℕ) → 1970 ≤ y → year ≡ pos y → month ≡ m → day ≡ d → IsCivilDate year month day
-    → days_from_civil year month day +ℤ pos 4_371_587 ≡ pos n → (4_371_587 ≤ n) × (n - 4_371_587 ≡ day_number y m d) × (is_date y m d ≡ true)
-day_number-is y m d n year month day late ey em ed civil e =
+-- the day number of a date that the calendar has
+pub day_number-is : (y m d : ℕ) (year : ℤ) (month day : ℕ) → 1970 ≤ y → year ≡ pos y → month ≡ m → day ≡ d → IsCivilDate year month day
+    → (days_from_civil year month day ≡ pos (day_number y m d)) × (day_number y m d ≤ 2_932_896) × (is_date y m d ≡ true)
+day_number-is y m d year month day late ey em ed civil =
     let c : IsCivilDate (pos y) m d = rw (ey, em, ed) at civil in
-    let s = rw (ey, em, ed) at e in
     let low = from_epoch y m d late c in
     let counted = days_from_civil-day_count (pos y) m d in
-    (omega (arith, signed_arith), omega (arith, signed_arith, day_count-epoch), date_is y m d late c)
+    (rw (ey, em, ed) (omega (arith, signed_arith, day_count-epoch)), to_last_day y m d late c, date_is y m d late c)

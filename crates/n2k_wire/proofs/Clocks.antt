@@ -1,6 +1,6 @@
 -- The second that lines in a row share: what they begin with, and its text with the milliseconds of each.
 use Rattle.std.proofs.Common.{◌≡◌, ℕ, ◌+◌, ◌-◌, ◌*◌, ◌/◌, ◌%◌, ◌≤◌, true, ltb, leb, List, [], ◌∷◌, ◌++◌, length, get_or, set, take, drop, Some, refl, ap, sym, ◌∙◌, arith, append_assoc}
-use Rattle.std.specs.Prelude.{codes, option_map, IsTrue}
+use Rattle.std.specs.Prelude.{codes, IsTrue}
 use Rattle.std.specs.Char.{is_ascii_digit}
 use Rattle.std.specs.List.{list_all}
 use Rattle.std.proofs.lemmas.Bool.{and_parts, eq-eqb, le-leb, lt-ltb}
@@ -8,8 +8,8 @@ use Rattle.std.proofs.lemmas.List.{length-drop, length-take-le, take-append-drop
 use Rattle.n2k_wire.specs.Digits.{decimal_after, decimal_digit, decimal_number}
 use Rattle.n2k_wire.specs.Packet.{is_stamp}
 use Rattle.n2k_wire.specs.Pieces.{after_byte}
-use Rattle.n2k_wire.specs.PrivateWords.{IsFront, seen_behind, stamp_behind}
-use Rattle.n2k_wire.specs.Stamp.{Moment, millis_digits, three_digits, utc_text}
+use Rattle.n2k_wire.specs.PrivateWords.{IsFront, stamp_behind}
+use Rattle.n2k_wire.specs.Stamp.{millis_digits, three_digits, utc_text}
 use Rattle.n2k_wire.proofs.UsualStamps.{follows, usual}
 use Rattle.n2k_wire.proofs.UtcBack.{three_back}
 use Rattle.n2k_wire.proofs.UtcStamps.{utc_is_stamp}
@@ -39,7 +39,7 @@ pub front_read : (front seconds : List ℕ) (s : ℕ) → front ≡ 40 ∷ (seco
 front_read front seconds s is read small fraction rest f m part third =
     let stamp = seconds ++ (46 ∷ fraction) in
     let line_is : front ++ (fraction ++ (41 ∷ rest)) ≡ 40 ∷ (stamp ++ (41 ∷ rest)) = rw is (simp append_assoc) in
-    ap seen_behind line_is
+    ap stamp_behind line_is
     ∙ usual (40 ∷ (stamp ++ (41 ∷ rest))) (stamp ++ (41 ∷ rest)) stamp (41 ∷ rest) rest seconds (46 ∷ fraction) fraction s f m
     (opens 40 (stamp ++ (41 ∷ rest))) refl (opens 41 rest) refl (opens 46 fraction) read part third small
 
@@ -68,7 +68,7 @@ first_chunk n text front rest front_is rest_is long =
 -- a line of that front, by the text of its stamp
 pub stamped_on : (front fraction rest : List ℕ) (seconds : ℕ) → IsFront front seconds → seconds ≤ 253402300799 → list_all is_ascii_digit fraction ≡ true → length fraction ≡ 6
     → (m : ℕ) × (stamp_behind (front ++ (fraction ++ (41 ∷ rest))) ≡ Some (utc_text (record { seconds = seconds; millis = m }), rest)) × (millis_digits m ≡ three_digits fraction) × (m ≤ 999)
-unfolding stamp_behind three_digits
+unfolding three_digits
 stamped_on front [] rest seconds is small all six = absurd (omega arith)
 stamped_on front (a ∷ []) rest seconds is small all six = absurd (omega arith)
 stamped_on front (a ∷ b ∷ []) rest seconds is small all six = absurd (omega arith)
@@ -80,7 +80,7 @@ stamped_on front (a ∷ b ∷ c ∷ more) rest seconds is small all six =
     let whole = number_read 9 (a ∷ b ∷ c ∷ more) all (omega arith) (omega arith) in
     let millis = number_read 3 (a ∷ b ∷ c ∷ []) three (omega arith) (omega arith) in
     let back = three_back millis.0 (a ∷ b ∷ c ∷ []) refl millis.2 in
-    (millis.0, ap (option_map (λ (x : Moment × List ℕ). (utc_text x.0, x.1))) (is (a ∷ b ∷ c ∷ more) rest whole.0 millis.0 whole.1 millis.1), back.0, omega (arith, back.1))
+    (millis.0, is (a ∷ b ∷ c ∷ more) rest whole.0 millis.0 whole.1 millis.1, back.0, omega (arith, back.1))
 
 -- a text of a second with other milliseconds
 pub millis_put : (text fraction : List ℕ) (seconds m : ℕ) → text ≡ utc_text (record { seconds = seconds; millis = 0 }) → length fraction ≡ 6 → millis_digits m ≡ three_digits fraction

@@ -43,9 +43,6 @@ decode_of-even n digits all e =
     let even : length digits % 2 ≡ 0 = omega arith in
     rw (even, decode_pairs-spelled 0 n digits all e) refl
 
-pub decode_of-odd : (digits : List ℕ) → length digits % 2 ≡ 1 → result_ok (decode_of digits) ≡ None
-decode_of-odd digits odd = rw odd refl
-
 -- the byte of each pair
 pub spelled_at : (digits : List ℕ) (i : ℕ) → 2 * i + 1 < length digits → get_or (spelled digits) i 0 ≡ hex_value (get_or digits (2 * i) 0) * 16 + hex_value (get_or digits (2 * i + 1) 0)
 unfolding spelled
@@ -120,19 +117,3 @@ pair_spelled (high ∷ low ∷ []) two digits =
     let each : (is_ascii_hexdigit high ≡ true) × (is_ascii_hexdigit low ≡ true) = both _ _ digits in
     rw (hex_digit_value-is high each.0, hex_digit_value-is low each.1) refl
 pair_spelled (high ∷ low ∷ other ∷ more) two digits = absurd (omega arith)
-
--- two bytes of which one is no digit spell none
-pub pair_none : (piece : List ℕ) → length piece ≡ 2 → (is_ascii_hexdigit (get_or piece 0 0) && is_ascii_hexdigit (get_or piece 1 0)) ≡ false → pair piece ≡ None
-unfolding pair decode_pairs
-pair_none [] two others = absurd (omega arith)
-pair_none (high ∷ []) two others = absurd (omega arith)
-pair_none (high ∷ low ∷ []) two others =
-    elim (cases_Bool (is_ascii_hexdigit high)) [
-      | inl digit ↦
-          elim (cases_Bool (is_ascii_hexdigit low)) [
-            | inl too ↦ absurd (let all : (is_ascii_hexdigit high && is_ascii_hexdigit low) ≡ true = rw (digit, too) refl in cc)
-            | inr other ↦ rw (hex_digit_value-is high digit, hex_digit_value-none low other) refl
-          ]
-      | inr other ↦ rw (hex_digit_value-none high other) refl
-    ]
-pair_none (high ∷ low ∷ other ∷ more) two others = absurd (omega arith)

@@ -12,10 +12,9 @@ pub mod TextLemmas
 pub mod Clocks
 pub mod UsualFrames
 pub mod UsualLanes
-pub mod UsualPlain
+pub mod PlainByPlace
 pub mod UsualStamps
 pub mod UsualTexts
-pub mod UsualWhole
 pub mod UtcBack
 pub mod CleanTexts
 pub mod UtcStamps

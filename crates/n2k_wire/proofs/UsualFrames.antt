@@ -1,5 +1,5 @@
 -- What follows the stamp of a line, where it stands as `candump` writes it.
-use Rattle.std.proofs.Common.{◌≡◌, ℕ, ◌*◌, ◌<◌, ◌≤◌, true, false, ltb, leb, not, List, [], ◌∷◌, ◌++◌, take, drop, length, Option, Some, None, Ok, refl, ap, sym, ◌∙◌, inl, inr, arith}
+use Rattle.std.proofs.Common.{◌≡◌, ℕ, ◌*◌, ◌<◌, ◌≤◌, true, false, ltb, leb, not, List, [], ◌∷◌, ◌++◌, take, drop, length, Some, Ok, refl, ap, sym, ◌∙◌, inl, inr, arith}
 use Rattle.std.specs.Prelude.{◌==◌, position, option_map}
 use Rattle.std.specs.Char.{is_ascii_hexdigit}
 use Rattle.std.specs.Int.{w32, from_be_bytes}
@@ -15,11 +15,12 @@ use Rattle.n2k_wire.specs.Candump.{stamped, framed, is_interface, is_interface_b
 use Rattle.n2k_wire.specs.Entry.{entry, settled}
 use Rattle.n2k_wire.specs.Identifier.{split}
 use Rattle.n2k_wire.specs.Pieces.{after_byte}
-use Rattle.n2k_wire.specs.PrivateWords.{seen_behind, stamp_behind, candump_by}
-use Rattle.n2k_wire.specs.Stamp.{Moment, utc_text}
+use Rattle.n2k_wire.specs.PrivateWords.{stamp_behind}
+use Rattle.n2k_wire.specs.Stamp.{moment, utc_text}
 use Rattle.n2k_wire.proofs.CandumpBack.{candump_entry, framed_read}
 use Rattle.n2k_wire.proofs.HexDigits.{all_before, all_digits}
-use Rattle.n2k_wire.proofs.UsualStamps.{follows, same_candump}
+use Rattle.n2k_wire.proofs.UsualStamps.{follows}
+use Rattle.n2k_wire.proofs.UtcBack.{with_some}
 
 found_at : (at : ℕ) (named : List ℕ) → position (λ b. not (is_interface_byte b)) named ≡ Some at → position_or_len (λ b. not (is_interface_byte b)) named ≡ at
 found_at at named found =
@@ -64,25 +65,21 @@ payload_of text bytes hex sixteen read =
     let few : leb (length text) (2 * 8) ≡ true = le-leb _ _ (omega arith) in
     rw (len, few, drop-length text, take-length text, read) refl
 
-by_seen : (line : List ℕ) (o : Option (Moment × List ℕ)) (stamp text digits behind bytes : List ℕ) (n : ℕ) → seen_behind line ≡ o → stamp_behind line ≡ Some (stamp, text) → framed text ≡ Some (digits, behind)
-    → identifier digits ≡ Ok (Some n) → is_other_frame behind ≡ false → payload behind ≡ Some bytes → settled (candump_by line) ≡ entries.Frame (record { stamp = stamp; id = split n; payload = bytes })
-unfolding candump_by stamp_behind frame_of
-by_seen line None stamp text digits behind bytes n seen stamped framed_is known other read = absurd (let none = rw seen at stamped in cc)
-by_seen line (Some x) stamp text digits behind bytes n seen stamped framed_is known other read =
-    let both : Some (utc_text x.0, x.1) ≡ Some (stamp, text) = rw seen at stamped in
-    let same : (utc_text x.0, x.1) ≡ (stamp, text) = cc in
-    let stamp_is = ap (λ (p : List ℕ × List ℕ). p.0) same in
-    let text_is = ap (λ (p : List ℕ × List ℕ). p.1) same in
-    rw (seen, text_is, framed_is, known, other, read, stamp_is) refl
-
 -- the entry of a line, by its parts
 pub entry_of : (line stamp text digits behind bytes : List ℕ) (n : ℕ) → stamp_behind line ≡ Some (stamp, text) → framed text ≡ Some (digits, behind) → identifier digits ≡ Ok (Some n)
     → is_other_frame behind ≡ false → payload behind ≡ Some bytes → settled (candump line) ≡ entries.Frame (record { stamp = stamp; id = split n; payload = bytes })
-entry_of line stamp text digits behind bytes n stamped framed_is known other read = ap settled (sym (same_candump line)) ∙ by_seen line (seen_behind line) stamp text digits behind bytes n refl stamped framed_is known other read
+unfolding stamp_behind candump frame_of
+entry_of line stamp text digits behind bytes n is framed_is known other read =
+    with_some (stamped line) _ (stamp, text) is (λ outer es more.
+    with_some (moment outer.0) _ (stamp, text) more (λ seen em last.
+    let same : (utc_text seen, outer.1) ≡ (stamp, text) = cc in
+    let stamp_is = ap (λ (p : List ℕ × List ℕ). p.0) same in
+    let text_is = ap (λ (p : List ℕ × List ℕ). p.1) same in
+    rw (es, em, text_is, framed_is, known, other, read, stamp_is) refl))
 
 -- such a line is a candump line
 pub entry_line : (line stamp text : List ℕ) (packing : Packing) → stamp_behind line ≡ Some (stamp, text) → length line ≤ 2048 → entry line packing ≡ settled (candump line)
-unfolding stamp_behind seen_behind stamped after_byte
+unfolding stamp_behind stamped after_byte
 entry_line [] stamp text packing seen short = absurd cc
 entry_line (b ∷ rest) stamp text packing seen short =
     elim (cases_Bool (b == 40)) [

@@ -1,14 +1,18 @@
 -- Bytes that are looked at all at once.
-use Rattle.std.proofs.Common.{◌≡◌, ℕ, zero, suc, ◌+◌, ◌-◌, ◌%◌, ◌^◌, ◌<◌, ◌≤◌, Bool, true, false, not, cond, ltb, List, [], ◌∷◌, length, get_or, map, take, replicate, Fits, w8, Some, refl, sym, ap, ◌∙◌, arith, inl, inr, eq-zero-or-pos}
+use Rattle.std.proofs.Common.{◌≡◌, ℕ, zero, suc, ◌+◌, ◌-◌, ◌%◌, ◌^◌, ◌<◌, ◌≤◌, Bool, true, false, not, cond, eqb, ltb, List, [], ◌∷◌, length, get_or, map, take, replicate, Fits, w8, Some, refl, sym, ap, ◌∙◌, arith, inl, inr, eq-zero-or-pos}
 use Rattle.std.specs.Prelude.{position}
 use Rattle.std.specs.List.{position_or_len, prefix_len}
 use Rattle.std.proofs.lemmas.Bool.{agree_below_at, lt-ltb, not-false, not-true}
 use Rattle.std.proofs.lemmas.List.{get_or-take, length-map, length-take-le}
-use Rattle.std.proofs.lemmas.List.Sums.{position_or_len_is, prefix_len_passes, prefix_len_stops}
-use Rattle.std.proofs.lemmas.Simd.{mask_l-mod, trailing_mask_l}
+use Rattle.std.proofs.lemmas.List.Sums.{position_or_len_is, prefix_len-le-length, prefix_len_passes, prefix_len_stops}
+use Rattle.std.proofs.lemmas.Simd.{leading_from_mask_l, mask_l-mod, trailing_mask_l}
+use lib.Bits.{bit_or}
 use lib.Count.{count_trailing_zeros}
 use lib.Lanes.{Each1, mask_l, top, zip2}
+use Rattle.std.specs.List.{list_all}
 use Rattle.n2k_wire.specs.Candump.{is_interface_byte}
+use Rattle.n2k_wire.specs.Packet.{is_stamp_byte}
+use Rattle.n2k_wire.proofs.HexDigits.{all_before}
 
 abbrev pub other : ℕ → Bool
 other b = not (is_interface_byte b)
@@ -50,3 +54,37 @@ place_is text mask long few is =
           let inside : ltb (position_or_len other text) (length text) ≡ true = lt-ltb _ _ (omega (arith, end)) in
           rw (inside, end) refl
     ]
+
+-- ---- the bytes of a stamp
+
+abbrev no_stamp : ℕ → Bool
+no_stamp b = not (is_stamp_byte b)
+
+abbrev stamp_lane : ℕ → Bool
+stamp_lane b = top 7 (bit_or (cond (ltb 94 ((b + (256 - 32)) % 256)) 255 0) (cond (eqb b 44) 255 0))
+
+stamp_lanes : (n : ℕ) (bytes : List ℕ) → length bytes ≡ n → Each1 (Fits w8) bytes
+    → map (top 7) (zip2 bit_or (zip2 (λ a b. cond (ltb a b) 255 0) (replicate n 94) (zip2 (λ a b. (a + (256 - b)) % 256) bytes (replicate n 32))) (zip2 (λ a b. cond (eqb a b) 255 0) bytes (replicate n 44))) ≡ map no_stamp bytes
+stamp_lanes zero [] long small = refl
+stamp_lanes zero (b ∷ bytes) long small = absurd (omega arith)
+stamp_lanes (suc n) [] long small = absurd (omega arith)
+stamp_lanes (suc n) (b ∷ bytes) long small =
+    let one : stamp_lane b ≡ no_stamp b = agree_below_at stamp_lane no_stamp 256 b refl small.0.fits in
+    λ i. one i ∷ stamp_lanes n bytes (omega arith) small.1 i
+
+pub stamp_mask : (bytes : List ℕ) → length bytes ≡ 32 → Each1 (Fits w8) bytes
+    → mask_l (map (top 7) (zip2 bit_or (zip2 (λ a b. cond (ltb a b) 255 0) (replicate 32 94) (zip2 (λ a b. (a + (256 - b)) % 256) bytes (replicate 32 32))) (zip2 (λ a b. cond (eqb a b) 255 0) bytes (replicate 32 44)))) % 2 ^ 64 ≡ mask_l (map no_stamp bytes)
+stamp_mask bytes long small =
+    ap (λ ms. mask_l ms % 2 ^ 64) (stamp_lanes 32 bytes long small) ∙ mask_l-mod (map no_stamp bytes) 64 (omega (arith, length-map bytes no_stamp, long))
+
+-- all bytes are those of a stamp
+pub none_stops : (text : List ℕ) (n : ℕ) → length text ≡ n → mask_l (map no_stamp text) ≡ 0 → list_all is_stamp_byte (take n text) ≡ true
+none_stops text n long none =
+    let whole : position_or_len no_stamp text ≡ n = leading_from_mask_l no_stamp text none ∙ long in
+    rw whole at (all_before is_stamp_byte text)
+
+-- or those before the first whose bit is set
+pub one_stops : (text : List ℕ) (mask : ℕ) → length text ≤ 64 → mask ≡ mask_l (map no_stamp text) → 0 < mask → (list_all is_stamp_byte (take (count_trailing_zeros 64 mask) text) ≡ true) × (count_trailing_zeros 64 mask ≤ length text)
+one_stops text mask long is some =
+    let place : count_trailing_zeros 64 mask ≡ position_or_len no_stamp text = ap (count_trailing_zeros 64) is ∙ trailing_mask_l no_stamp 64 text long (omega (arith, is)) in
+    rw place (all_before is_stamp_byte text, prefix_len-le-length (λ b. not (no_stamp b)) text)

@@ -1,19 +1,15 @@
 -- A stamp in which the separators stand where `candump` puts them.
-use Rattle.std.proofs.Common.{◌≡◌, ℕ, ◌≤◌, true, ltb, leb, not, List, [], ◌∷◌, ◌++◌, length, Option, Some, None, Result, option_map, refl, ap, ◌∙◌, inl, inr}
-use Rattle.std.specs.Prelude.{◌==◌, ◌&&◌, option_and_then}
+use Rattle.std.proofs.Common.{◌≡◌, ℕ, ◌≤◌, true, ltb, leb, not, List, [], ◌∷◌, ◌++◌, length, Some, refl, ap, ◌∙◌, inl, inr}
+use Rattle.std.specs.Prelude.{◌==◌, ◌&&◌}
 use Rattle.std.specs.Char.{is_ascii_digit}
 use Rattle.std.specs.List.{list_all}
 use Rattle.std.proofs.lemmas.Bool.{cases_Bool, le-leb, eqb-true}
 use Rattle.std.proofs.lemmas.List.Folds.{list_all-append}
-use Rattle.n2k_wire.specs.declared.entry.BadCause.{BadCause}
-use Rattle.n2k_wire.specs.declared.entry.BadCause.TheVariants as causes
-use Rattle.n2k_wire.specs.declared.entry.Entry.{Entry}
-use Rattle.n2k_wire.specs.Candump.{stamped, framed, identifier, frame_of, candump}
+use Rattle.n2k_wire.specs.Candump.{stamped}
 use Rattle.n2k_wire.specs.Digits.{decimal_number}
 use Rattle.n2k_wire.specs.Pieces.{cut_at, after_byte}
-use Rattle.n2k_wire.specs.PrivateWords.{seen_behind, candump_by}
-use Rattle.n2k_wire.specs.Stamp.{Moment, moment, three_digits}
-use Rattle.n2k_wire.specs.Steps.{◌>>=◌, or_cause}
+use Rattle.n2k_wire.specs.PrivateWords.{stamp_behind}
+use Rattle.n2k_wire.specs.Stamp.{moment, three_digits, utc_text}
 use Rattle.n2k_wire.proofs.CandumpBack.{cut_behind, digits_alone, no_digit, none_of}
 
 pub number_digits : (most n : ℕ) (text : List ℕ) → decimal_number most text ≡ Some n → list_all is_ascii_digit text ≡ true
@@ -38,8 +34,8 @@ pub usual : (line inner stamp behind text seconds point fraction : List ℕ) (s 
     → after_byte 40 line ≡ Some inner → inner ≡ stamp ++ behind → after_byte 41 behind ≡ Some text
     → stamp ≡ seconds ++ point → after_byte 46 point ≡ Some fraction
     → decimal_number 12 seconds ≡ Some s → decimal_number 9 fraction ≡ Some f → decimal_number 3 (three_digits fraction) ≡ Some m → s ≤ 253402300799
-    → seen_behind line ≡ Some ((record { seconds = s; millis = m }), text)
-unfolding seen_behind stamped moment
+    → stamp_behind line ≡ Some (utc_text (record { seconds = s; millis = m }), text)
+unfolding stamp_behind stamped moment
 usual line inner stamp behind text seconds point fraction s f m opened inner_is closed stamp_is pointed whole part third small =
     let ds = number_digits 12 s seconds whole in
     let fs = number_digits 9 f fraction part in
@@ -53,27 +49,3 @@ usual line inner stamp behind text seconds point fraction s f m opened inner_is 
     let parts : cut_at 46 stamp ≡ Some (seconds, fraction) = ap (cut_at 46) stamp_at ∙ cut_behind 46 seconds fraction none_dot in
     let last : leb s 253402300799 ≡ true = le-leb _ _ small in
     rw (opened, outer, parts, whole, part, third, last) refl
-
-with_text : List ℕ → Moment → Moment × List ℕ
-with_text text seen = (seen, text)
-
--- what follows the stamp
-rest_by : Moment → List ℕ → Result Entry BadCause
-rest_by seen text = or_cause causes.Form (framed text) >>= (λ (inner : List ℕ × List ℕ). identifier inner.0 >>= (λ (known : Option ℕ). frame_of seen known inner.1))
-
-by_moment : (text : List ℕ) (m : Option Moment)
-    → (or_cause causes.Stamp (option_map (with_text text) m) >>= (λ (seen : Moment × List ℕ). rest_by seen.0 seen.1)) ≡ (or_cause causes.Stamp m >>= (λ (seen : Moment). rest_by seen text))
-unfolding with_text
-by_moment text None = refl
-by_moment text (Some seen) = refl
-
-by_stamp : (outer : Option (List ℕ × List ℕ))
-    → (or_cause causes.Stamp (option_and_then (λ (o : List ℕ × List ℕ). option_map (with_text o.1) (moment o.0)) outer) >>= (λ (seen : Moment × List ℕ). rest_by seen.0 seen.1))
-    ≡ (or_cause causes.Stamp outer >>= (λ (o : List ℕ × List ℕ). or_cause causes.Stamp (moment o.0) >>= (λ (seen : Moment). rest_by seen o.1)))
-by_stamp None = refl
-by_stamp (Some o) = by_moment o.1 (moment o.0)
-
--- the entry of a line, by the moment and what follows it
-pub same_candump : (line : List ℕ) → candump_by line ≡ candump line
-unfolding candump candump_by seen_behind with_text rest_by
-same_candump line = by_stamp (stamped line)

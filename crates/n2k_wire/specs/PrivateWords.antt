@@ -1,24 +1,25 @@
 -- Words for the contracts of private functions: what the code holds, as the definitions have it. Nothing that a
 -- caller sees needs them.
-use Rattle.std.specs.Prelude.{◌≡◌, ◌≤◌, ℕ, ◌+◌, ◌*◌, ◌/◌, ◌%◌, true, if◌then◌else◌, nat_lt, List, [], ◌∷◌, ◌++◌, length, Option, Some, None, option_map, option_and_then, Result, Ok, codes}
+use Rattle.std.specs.Prelude.{◌≡◌, ◌≤◌, ◌<◌, ℕ, ◌+◌, ◌*◌, ◌/◌, ◌%◌, true, if◌then◌else◌, nat_lt, List, [], ◌∷◌, ◌++◌, length, Option, Some, None, option_map, option_and_then, Ok, codes}
 use Rattle.std.specs.Borrow.{Bor}
 use Rattle.std.specs.Char.{is_ascii_hexdigit}
 use Rattle.std.specs.Int.{w32, to_be_bytes}
-use Rattle.hex.specs.Hex.{encode_upper}
+use Rattle.std.specs.List.{list_all}
+use Rattle.std.specs.Result.{result_ok}
+use Rattle.hex.specs.Hex.{decode_of, encode_upper}
 use Rattle.n2k_wire.specs.declared.candump.CandumpFrame.{CandumpFrame}
 use Rattle.n2k_wire.specs.declared.entry.Entry.{Entry}
 use Rattle.n2k_wire.specs.declared.entry.Entry.TheVariants as entries
+use Rattle.n2k_wire.specs.declared.entry.Packing.{Packing}
 use Rattle.n2k_wire.specs.declared.plain.Header as pieces_of_code
 use Rattle.n2k_wire.specs.declared.stamp.Moment as moments_of_code
-use Rattle.n2k_wire.specs.Plain.{Header, bytes_of, greatest_address, number_to, pairs, pieces}
+use Rattle.n2k_wire.specs.Plain.{Header, greatest_address, number_to, packed, pairs, pieces}
 use Rattle.n2k_wire.specs.Packet.{greatest_pgn, greatest_priority}
 use Rattle.n2k_wire.specs.declared.identifier.Id.{Id}
-use Rattle.n2k_wire.specs.declared.entry.BadCause.{BadCause}
-use Rattle.n2k_wire.specs.declared.entry.BadCause.TheVariants as causes
-use Rattle.n2k_wire.specs.Candump.{stamped, framed, identifier, frame_of}
+use Rattle.n2k_wire.specs.Candump.{stamped, identifier}
 use Rattle.n2k_wire.specs.Digits.{decimal_number}
 use Rattle.n2k_wire.specs.Stamp.{Moment, last_second, millis_digits, most_fraction_digits, moment, three_digits, utc_text}
-use Rattle.n2k_wire.specs.Steps.{◌>>=◌, or_cause}
+use Rattle.n2k_wire.specs.Steps.{◌>>=◌}
 use Rattle.n2k_wire.specs.Texts.{candump_parts, second_digits}
 
 -- The value of a hexadecimal digit, by arithmetic alone: `0` to `9` are 48 to 57, `A` to `F` 65 to 70, `a` to `f` 97
@@ -49,19 +50,16 @@ abbrev pub candump_entry : Option CandumpFrame → Entry
 candump_entry None = entries.Skip
 candump_entry (Some frame) = entries.Frame (record { stamp = frame.stamp; id = frame.id; payload = frame.«data».items })
 
--- the moment of a candump line's stamp, and what follows it
-unfoldable pub seen_behind : List ℕ → Option (Moment × List ℕ)
-seen_behind line = option_and_then (λ outer. option_map (λ seen. (seen, outer.1)) (moment outer.0)) (stamped line)
-
 -- the UTC text of a candump line's stamp, and what follows the stamp
 unfoldable pub stamp_behind : List ℕ → Option (List ℕ × List ℕ)
-stamp_behind line = option_map (λ x. (utc_text x.0, x.1)) (seen_behind line)
+stamp_behind line =
+    option_and_then (λ outer. option_and_then (λ seen. Some (utc_text seen, outer.1)) (moment outer.0)) (stamped line)
 
 -- a line that begins with this front, a fraction and the closing parenthesis is of this second
 abbrev pub IsFront : List ℕ → ℕ → Type 0
 IsFront front seconds =
     (fraction rest : List ℕ) (f m : ℕ) → decimal_number most_fraction_digits fraction ≡ Some f → decimal_number 3 (three_digits fraction) ≡ Some m
-    → seen_behind (front ++ (fraction ++ (41 ∷ rest))) ≡ Some ((record { seconds = seconds; millis = m }), rest)
+    → stamp_behind (front ++ (fraction ++ (41 ∷ rest))) ≡ Some (utc_text (record { seconds = seconds; millis = m }), rest)
 
 -- what stands in front of the data in a candump line, of an interface, a moment and the 29 bits of an identifier
 unfoldable pub candump_front : List ℕ → Moment → ℕ → List ℕ
@@ -72,14 +70,6 @@ candump_front interface seen identifier =
 abbrev pub IsCandumpFront : List ℕ → List ℕ → Id → List ℕ → Type 0
 IsCandumpFront interface stamp id text =
     (payload : List ℕ) → (candump_parts (record { stamp = stamp; id = id; payload = payload }) >>= (λ parts. Ok (candump_front interface parts.0 parts.1))) ≡ Ok text
-
--- the entry of a candump line, by that
-unfoldable pub candump_by : List ℕ → Result Entry BadCause
-candump_by line = do
-  seen ← or_cause causes.Stamp (seen_behind line)
-  inner ← or_cause causes.Form (framed seen.1)
-  known ← identifier inner.0
-  frame_of seen.0 known inner.1
 
 -- the pieces of the text that is left of a plain line, if there is any
 abbrev pub pieces_left : Option (Bor (List ℕ)) → List (List ℕ)
@@ -100,17 +90,32 @@ abbrev pub IsIdBefore : List ℕ → Id → List ℕ → Type 0
 IsIdBefore text id rest =
     (pgn src dst : List ℕ) × IsNumberBefore greatest_priority text id.prio pgn × IsNumberBefore greatest_pgn pgn id.pgn src × IsNumberBefore greatest_address src id.src dst × IsNumberBefore greatest_address dst id.dst rest
 
--- two hexadecimal digits spell this byte
-pub record IsByte (high low byte : ℕ) : Type 0 where
-  pub high_is : is_ascii_hexdigit high ≡ true
-  pub low_is : is_ascii_hexdigit low ≡ true
-  pub byte_is : byte ≡ hex_value high * 16 + hex_value low
+-- pairs of digits with a comma between each two pairs
+unfoldable pub with_commas : List ℕ → List ℕ
+with_commas [] = []
+with_commas (a ∷ []) = a ∷ []
+with_commas (a ∷ b ∷ []) = a ∷ b ∷ []
+with_commas (a ∷ b ∷ c ∷ more) = a ∷ b ∷ 44 ∷ with_commas (c ∷ more)
 
--- the first pieces of a text are these bytes, and the pieces behind them are those of the rest
-pub record AreBytesBefore (text bytes rest : List ℕ) : Type 0 where
-  pub count : length (pieces text) ≡ length bytes + length (pieces rest)
-  pub read : pairs (pieces text) ≡ option_map (λ more. bytes ++ more) (pairs (pieces rest))
+-- a text begins with pieces of hexadecimal digits that spell these bytes, of which there are some, and the rest follows
+pub record AreSpelled (text bytes rest : List ℕ) : Type 0 where
+  pub digits : List ℕ
+  pub text_is : text ≡ with_commas digits ++ rest
+  pub hexadecimal : list_all is_ascii_hexdigit digits ≡ true
+  pub count : length digits ≡ 2 * length bytes
+  pub some : 0 < length bytes
+  pub bytes_are : result_ok (decode_of digits) ≡ Some bytes
 
--- all pieces of a text are these bytes
-abbrev pub AreBytes : List ℕ → List ℕ → Type 0
-AreBytes text bytes = bytes_of (length bytes) (pieces text) ≡ Some bytes
+-- these pieces begin with those of these bytes, and more follow
+pub record AreRead (all : List (List ℕ)) (bytes : List ℕ) (more : List (List ℕ)) : Type 0 where
+  pub count : length all ≡ length bytes + length more
+  pub read : pairs all ≡ option_map (λ others. bytes ++ others) (pairs more)
+
+-- pieces that were read up to the first of these are read up to the second, with what they hold by then
+abbrev pub IsReadOn : List ℕ → List (List ℕ) → List ℕ → List (List ℕ) → Type 0
+IsReadOn before from bytes to = (all : List (List ℕ)) → AreRead all before from → AreRead all bytes to
+
+-- an entry is that of a plain line with these parts and this data, which could be read
+abbrev pub IsPackedOf : Packing → List ℕ → Id → Option (List ℕ) → Entry → Type 0
+IsPackedOf packing stamp id bytes e =
+    option_map (λ payload. packed packing (record { stamp = stamp; id = id; payload = payload })) bytes ≡ Some e

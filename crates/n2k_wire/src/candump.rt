@@ -1,34 +1,29 @@
 //! Lines of can-utils' `candump -L`: `(seconds.fraction) interface ID#DATA`.
-ghost use Rattle.std.specs.Prelude.{◌≡◌, ◌≤◌, ◌<◌, ◌^◌, IfSome, IfOk, length, not, position, option_map, Some, true};
+ghost use Rattle.std.specs.Prelude.{◌≡◌, ◌≤◌, ◌<◌, ◌^◌, IfSome, IfOk, length, not, position, option_map};
 ghost use Rattle.std.specs.Char.{is_ascii_hexdigit};
 ghost use Rattle.std.specs.List.{list_all};
 ghost use Rattle.n2k_wire.specs.Candump.{candump, frame_payload, is_interface_byte, is_interface, stamped, framed, of_number, identifier, is_end, is_ending, digits_len, payload, is_other_frame, frame_of};
 ghost use Rattle.std.specs.Int.{w32, from_be_bytes};
 ghost use Rattle.std.specs.Result.{result_ok};
 ghost use Rattle.hex.specs.Hex.{decode_of};
-ghost use Rattle.n2k_wire.specs.PrivateWords.{candump_by, candump_entry, plain_moment, seen_behind, IsMoment};
+ghost use Rattle.n2k_wire.specs.PrivateWords.{candump_entry, plain_moment, IsMoment};
 ghost use Rattle.n2k_wire.specs.Views.{Finds, Gives};
 ghost use Rattle.n2k_wire.specs.Entry.{IsEntry, settled};
 ghost use Rattle.n2k_wire.specs.Packet.{IsPacket};
 
-use crate::digits::{are_hex_digits, decimal_number, decode_digits, is_hex_digit, spelled_byte};
+use crate::digits::{are_hex_digits, is_hex_digit};
 use crate::entry::{BadCause, Entry, set_frame};
 use crate::identifier::{Id, split_id};
 use crate::pieces::{after_byte, cut_at, skip_spaces};
-use crate::stamp::{Moment, UTC_LEN, read_moment, three_digits, utc_text};
+use crate::stamp::{Moment, UTC_LEN, read_moment, utc_text};
 use arrayvec::ArrayVec;
+use hex::FromHex;
 
 /// The most bytes of an interface's name.
 pub(crate) const LONGEST_INTERFACE: usize = 15;
 
 /// The most data bytes of a frame.
 pub const FRAME_PAYLOAD: usize = 8;
-
-/// The bytes of the seconds that `candump` writes, from 2001 to 2286.
-const USUAL_SECONDS: usize = 10;
-
-/// The bytes of its stamp: the seconds, a dot and six digits.
-const USUAL_STAMP: usize = 17;
 
 /// The first number that isn't a CAN identifier of 29 bits.
 pub(crate) const FIRST_ERROR_FRAME: u32 = 0x2000_0000;
@@ -101,18 +96,12 @@ fn of_number(number: u32) -> Result<Option<u32>, BadCause>
 }
 
 /// The number of eight hexadecimal digits.
-#[inline]
-pub(crate) fn read_word(digits: &[u8; 8]) -> u32
-    requires hexadecimal { list_all is_ascii_hexdigit digits.now ≡ true }
-    ensures { option_map (from_be_bytes w32) (result_ok (decode_of digits.now)) ≡ Some result }
+fn read_word(digits: &[u8]) -> Option<u32>
+    requires { length digits.now ≡ 8 }
+    ensures { result ≡ option_map (from_be_bytes w32) (result_ok (decode_of digits.now)) }
 {
-    let [a, b, c, d, e, f, g, h] = *digits;
-    u32::from_be_bytes([
-        spelled_byte(a, b),
-        spelled_byte(c, d),
-        spelled_byte(e, f),
-        spelled_byte(g, h),
-    ])
+    let bytes = <[u8; 4]>::from_hex(digits).ok()?;
+    Some(u32::from_be_bytes(bytes))
 }
 
 /// The 29 bits of an extended identifier, or none where the frame is skipped.
@@ -124,12 +113,10 @@ fn read_identifier(digits: &[u8]) -> Result<Option<u32>, BadCause>
     if !are_hex_digits(digits) {
         return Err(BadCause::Identifier);
     }
-    if digits.len() == 3 {
-        return Ok(None);
-    }
-    match digits.as_array::<8>() {
-        Some(eight) => of_number(read_word(eight)),
-        None => Err(BadCause::Identifier),
+    match digits.len() {
+        3 => Ok(None),
+        8 => of_number(read_word(digits).ok_or(BadCause::Identifier)?),
+        _ => Err(BadCause::Identifier),
     }
 }
 
@@ -163,26 +150,11 @@ fn place_of_other(text: &[u8]) -> Option<usize>
     text.iter().position(|byte| !is_hex_digit(*byte))
 }
 
-/// Whether each byte is a hexadecimal digit. Most frames have eight bytes, and then one comparison takes all digits.
-fn is_hexadecimal(text: &[u8]) -> bool
-    ensures { result ≡ list_all is_ascii_hexdigit text.now }
-{
-    if text.len() == 2 * FRAME_PAYLOAD {
-        are_hex_digits(&text[..2 * FRAME_PAYLOAD])
-    } else {
-        are_hex_digits(text)
-    }
-}
-
 /// How many hexadecimal digits a text begins with.
 fn digits_len(text: &[u8]) -> usize
     ensures value { result ≡ digits_len text.now }
     ensures within { result ≤ length text.now }
 {
-    // Mostly the data end the line, and then one pass without branches tells it.
-    if is_hexadecimal(text) {
-        return text.len();
-    }
     match place_of_other(text) {
         Some(at) => at,
         None => text.len(),
@@ -210,7 +182,10 @@ fn read_payload(text: &[u8]) -> Option<ArrayVec<u8, FRAME_PAYLOAD>>
     if digits.len() > 2 * FRAME_PAYLOAD || !is_ending(rest) {
         return None;
     }
-    decode_digits(digits)
+    let mut bytes = [0; FRAME_PAYLOAD];
+    let data = &mut bytes[..digits.len() / 2];
+    hex::decode_to_slice(digits, data).ok()?;
+    ArrayVec::try_from(&*data).ok()
 }
 
 /// The frame of these parts, or none where it is skipped.
@@ -237,61 +212,21 @@ fn frame_of(seen: Moment, known: Option<u32>, text: &[u8]) -> Result<Option<Cand
     }))
 }
 
-/// The moment and what follows it, of a stamp of ten digits, a dot and six more, as `candump` writes them: where these
-/// are digits, no separator stands among them, and none has to be looked for.
-fn usual_seen(line: &[u8]) -> Option<(Moment, &[u8])>
-    ensures value { IfSome result (λ x. seen_behind line.now ≡ Some (plain_moment x.0, x.1.now)) }
-    ensures range { IfSome result (λ x. IsMoment (plain_moment x.0)) }
-{
-    let inner = after_byte(b'(', line)?;
-    if inner.len() < USUAL_STAMP {
-        return None;
-    }
-    let (stamp, behind) = inner.split_at(USUAL_STAMP);
-    let text = after_byte(b')', behind)?;
-    let (seconds, behind) = stamp.split_at(USUAL_SECONDS);
-    let fraction = after_byte(b'.', behind)?;
-    let seconds = decimal_number(12, seconds)?;
-    decimal_number(9, fraction)?;
-    let millis = decimal_number(3, &three_digits(fraction))? as u32;
-    Some((Moment { seconds, millis }, text))
-}
-
-#[tactic(auto, unfolding(crate::specs::PrivateWords::seen_behind))]
-fn other_seen(line: &[u8]) -> Option<(Moment, &[u8])>
-    ensures value { Finds (λ x. (plain_moment x.0, x.1.now)) result (seen_behind line.now) }
-    ensures range { IfSome result (λ x. IsMoment (plain_moment x.0)) }
-{
-    let (stamp, text) = read_stamped(line)?;
-    Some((read_moment(stamp)?, text))
-}
-
-/// The moment of a line's stamp, and what follows it.
-fn read_seen(line: &[u8]) -> Option<(Moment, &[u8])>
-    ensures value { Finds (λ x. (plain_moment x.0, x.1.now)) result (seen_behind line.now) }
-    ensures range { IfSome result (λ x. IsMoment (plain_moment x.0)) }
-{
-    match usual_seen(line) {
-        Some(found) => Some(found),
-        None => other_seen(line),
-    }
-}
-
 /// The frame of a candump line, none where it is skipped, or the first of its causes.
-#[tactic(auto, unfolding(crate::specs::PrivateWords::candump_by))]
+#[tactic(auto, unfolding(crate::specs::Candump::candump))]
 fn read_frame(line: &[u8]) -> Result<Option<CandumpFrame>, BadCause>
-    ensures entry { Gives candump_entry result (candump_by line.now) }
+    ensures entry { Gives candump_entry result (candump line.now) }
     ensures valid { IfOk result (λ frame. IfSome frame (λ f. IsPacket f.stamp f.id f.«data».items)) }
     ensures short { IfOk result (λ frame. IfSome frame (λ f. length f.«data».items ≤ frame_payload)) }
 {
-    let (seen, text) = read_seen(line).ok_or(BadCause::Stamp)?;
+    let (stamp, text) = read_stamped(line).ok_or(BadCause::Stamp)?;
+    let seen = read_moment(stamp).ok_or(BadCause::Stamp)?;
     let (digits, text) = read_framed(text).ok_or(BadCause::Form)?;
     let known = read_identifier(digits)?;
     frame_of(seen, known, text)
 }
 
 /// The entry of a candump line, put where that of an earlier line was.
-#[tactic(auto, using(crate::proofs::UsualStamps::same_candump))]
 pub(crate) fn read_candump(line: &[u8], place: &mut Entry)
     ensures entry { place.new ≡ settled (candump line.now) }
     ensures valid { IsEntry place.new }

@@ -1,14 +1,12 @@
 //! Numbers as digits.
-ghost use Rattle.std.specs.Prelude.{◌≡◌, ◌+◌, ◌<◌, ◌≤◌, ◌^◌, ◌*◌, ◌%◌, Some, IsSome, true, length, IfSome};
+ghost use Rattle.std.specs.Prelude.{◌≡◌, ◌+◌, ◌<◌, ◌≤◌, ◌^◌, ◌*◌, Some, true, length, option_map, IfSome};
 ghost use Rattle.std.specs.Char.{is_ascii_digit, is_ascii_hexdigit};
+ghost use Rattle.std.specs.Int.{w32, from_be_bytes};
 ghost use Rattle.std.specs.List.{list_all};
 ghost use Rattle.std.specs.Result.{result_ok};
 ghost use Rattle.hex.specs.Hex.{decode_of};
 ghost use Rattle.n2k_wire.specs.PrivateWords.{hex_value};
 ghost use Rattle.n2k_wire.specs.Digits.{decimal_after, decimal_digit, decimal_number};
-ghost use Rattle.n2k_wire.specs.Views.{Finds};
-
-use arrayvec::ArrayVec;
 
 /// The number that 1 to `most` decimal digits make.
 #[tactic(auto, unfolding(crate::specs::Digits::decimal_number))]
@@ -111,6 +109,21 @@ pub(crate) fn spelled_byte(high: u8, low: u8) -> u8
     hex_value(high) * 16 + hex_value(low)
 }
 
+/// The number that eight hexadecimal digits spell.
+#[inline]
+pub(crate) fn spelled_word(digits: &[u8; 8]) -> u32
+    requires { list_all is_ascii_hexdigit digits.now ≡ true }
+    ensures { option_map (from_be_bytes w32) (result_ok (decode_of digits.now)) ≡ Some result }
+{
+    let [a, b, c, d, e, f, g, h] = *digits;
+    u32::from_be_bytes([
+        spelled_byte(a, b),
+        spelled_byte(c, d),
+        spelled_byte(e, f),
+        spelled_byte(g, h),
+    ])
+}
+
 /// The eight bytes that sixteen digits spell.
 #[inline]
 pub(crate) fn eight_bytes(digits: &[u8; 16]) -> [u8; 8]
@@ -122,25 +135,4 @@ pub(crate) fn eight_bytes(digits: &[u8; 16]) -> [u8; 8]
         bytes[i] = spelled_byte(digits[2 * i], digits[2 * i + 1]);
     }
     bytes
-}
-
-/// The bytes that up to eight pairs of hexadecimal digits spell, as `hex` decodes them.
-pub(crate) fn decode_digits(digits: &[u8]) -> Option<ArrayVec<u8, 8>>
-    requires short { length digits.now ≤ 16 }
-    requires hexadecimal { list_all is_ascii_hexdigit digits.now ≡ true }
-    ensures value { Finds (λ bytes. bytes.items) result (result_ok (decode_of digits.now)) }
-    ensures len { IfSome result (λ bytes. length digits.now ≡ 2 * length bytes.items) }
-    ensures even { length digits.now % 2 ≡ 0 → IsSome result }
-{
-    if let Some(sixteen) = digits.as_array::<16>() {
-        return Some(ArrayVec::from(eight_bytes(sixteen)));
-    }
-    if digits.len() % 2 == 1 {
-        return None;
-    }
-    let mut bytes = ArrayVec::new();
-    for i in 0..digits.len() / 2 {
-        bytes.push(spelled_byte(digits[2 * i], digits[2 * i + 1]));
-    }
-    Some(bytes)
 }

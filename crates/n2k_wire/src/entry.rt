@@ -9,10 +9,8 @@ use crate::candump::{FRAME_PAYLOAD, read_candump};
 use crate::identifier::Id;
 use crate::packet::Packet;
 use crate::plain::read_plain;
-use crate::stamp::UTC_LEN;
+use crate::plain_by_place::read_plain_by_place;
 use crate::usual::{Clock, read_usual};
-use crate::usual_plain::read_usual_plain;
-use crate::usual_whole::read_usual_whole;
 
 /// The most bytes of a line, without its LF and CR. Comments count too.
 pub const LONGEST_LINE: usize = 2048;
@@ -69,7 +67,8 @@ pub enum Entry {
     Whole(Packet),
 }
 
-/// The entry of a line, which is handed in without its LF and CR. It takes no memory.
+/// The entry of a line, which is handed in without its LF and CR. It takes no memory. For lines in a row a
+/// `LineReader` gives it at less cost.
 pub fn read_line(line: &[u8], packing: Packing) -> Entry
     ensures entry { result ≡ entry line.now packing }
     ensures valid { IsEntry result }
@@ -80,14 +79,9 @@ pub fn read_line(line: &[u8], packing: Packing) -> Entry
     place
 }
 
-/// The same, put where the entry of an earlier line was, which saves that an entry is moved. It takes no memory.
-///
-/// ```text
-/// let mut entry = Entry::Skip;
-/// read_line_into(line, Packing::Frames, &mut entry);
-/// ```
+// The entry of a line, put where that of an earlier line was, so that no entry is moved.
 #[tactic(auto, unfolding(crate::specs::Entry::entry))]
-pub fn read_line_into(line: &[u8], packing: Packing, place: &mut Entry)
+fn read_line_into(line: &[u8], packing: Packing, place: &mut Entry)
     ensures entry { place.new ≡ entry line.now packing }
     ensures valid { IsEntry place.new }
     ensures short { IsShort place.new }
@@ -156,13 +150,9 @@ fn read_by_place(clock: &mut Clock, line: &[u8], packing: Packing, place: &mut E
     ensures valid { IfSome result (λ done. IsEntry place.new) }
     ensures short { IfSome result (λ done. IsShort place.new) }
 {
-    match (line, packing) {
-        ([b'(', ..], _) => read_usual(clock, line, place),
-        (_, Packing::Frames) => match read_usual_plain(line, place) {
-            Some(()) => Some(()),
-            None => read_usual_whole(line, packing, place),
-        },
-        _ => read_usual_whole(line, packing, place),
+    match line {
+        [b'(', ..] => read_usual(clock, line, place),
+        _ => read_plain_by_place(line, packing, place),
     }
 }
 
@@ -179,11 +169,11 @@ pub(crate) fn set_frame(place: &mut Entry, stamp: &[u8], id: Id, data: &[u8])
     }
 }
 
-/// The same of a stamp and data whose lengths are known, so that they are moved and not copied byte by byte.
+/// `set_frame` of a stamp and data whose lengths are known, so that they are moved and not copied byte by byte.
 #[inline]
-pub(crate) fn set_usual(
+pub(crate) fn set_usual<const N: usize>(
     place: &mut Entry,
-    stamp: &[u8; UTC_LEN],
+    stamp: &[u8; N],
     id: Id,
     data: &[u8; FRAME_PAYLOAD],
 )

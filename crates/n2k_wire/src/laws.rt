@@ -13,7 +13,8 @@ use crate::identifier::Id;
 /// The plain line of a packet is read as that packet, with the same stamp, identifier and data: as a whole message
 /// under `Packing::Whole` or with more than 8 bytes, else as a frame.
 pub fn plain_line_reads_back()
-    ensures { (p : PacketParts) (packing : Packing) → IsPacketParts p → entry (plain_line p) packing ≡ packed packing p }
+    ensures { (p : PacketParts) (packing : Packing) → IsPacketParts p
+        → entry (plain_line p) packing ≡ packed packing p }
 {}
 
 /// An identifier is split into what it says, and what it says is joined to that identifier, both ways.
@@ -24,7 +25,9 @@ pub fn identifiers_round_trip()
 
 /// The candump line of a packet of at most 8 bytes is read as the frame of that packet, under each packing.
 pub fn candump_line_reads_back()
-    ensures { (p : PacketParts) (interface line : List ℕ) (packing : Packing) → IsPacketParts p → length p.payload ≤ frame_payload → IsTrue (is_interface interface) → candump_text interface p ≡ Ok (line ++ codes "\n") → entry line packing ≡ Entry.Frame p }
+    ensures { (p : PacketParts) (interface line : List ℕ) (packing : Packing) → IsPacketParts p
+        → length p.payload ≤ frame_payload → IsTrue (is_interface interface)
+        → candump_text interface p ≡ Ok (line ++ codes "\n") → entry line packing ≡ Entry.Frame p }
 {}
 
 /// A plain line is one line: no byte of it is below the space.

@@ -1,8 +1,8 @@
 //! Lines of a log, CAN identifiers, packets, and the texts of packets.
 //!
-//! - `read_line` says what a line of a log is (`Entry`): a frame or a whole message as a `Packet`, a line to skip, or
-//!   a bad line with its cause (`BadCause`). A line is one of `candump -L` or a plain line. `read_line_into` puts the
-//!   same where an earlier entry was, and a `LineReader` answers the same for lines in a row, at less cost.
+//! - `read_line` says what one line of a log is (`Entry`): a frame or a whole message as a `Packet`, a line to skip,
+//!   or a bad line with its cause (`BadCause`). A line is one of `candump -L` or a plain line. For the lines of a log,
+//!   one after the other, use a `LineReader`: it answers the same, and moves no packet.
 //! - `split_id` splits a CAN identifier into priority, PGN, source and destination (`Id`), and `join_id` joins them.
 //! - `Packet` holds a message or a frame: its stamp, its `Id`, and up to 223 bytes.
 //! - `plain_text` and `candump_text` append a packet as a line, and `CandumpLines` packets in a row, at less cost;
@@ -21,16 +21,15 @@ pub mod laws;
 mod packet;
 mod pieces;
 mod plain;
+mod plain_by_place;
 mod stamp;
 mod texts;
 mod usual;
-mod usual_plain;
 mod usual_text;
-mod usual_whole;
 
 pub use candump::{FRAME_PAYLOAD, is_interface};
 pub use candump_lines::CandumpLines;
-pub use entry::{BadCause, Entry, LONGEST_LINE, LineReader, Packing, read_line, read_line_into};
+pub use entry::{BadCause, Entry, LONGEST_LINE, LineReader, Packing, read_line};
 pub use fault::WireFault;
 pub use identifier::{Id, join_id, split_id};
 pub use packet::{GREATEST_PGN, Packet};

@@ -1,18 +1,19 @@
 //! Plain lines: `stamp,prio,pgn,src,dst,len,b0,b1,..`, the format that canboat's programs read and write.
 ghost use Rattle.std.specs.Prelude.{◌≡◌, ◌≤◌, [], ◌∷◌, length, IfSome, IfOk};
-ghost use Rattle.n2k_wire.specs.Plain.{plain, plain_packet, pieces, number_to, pair, header, id_of, bytes_of, is_frame};
+ghost use Rattle.n2k_wire.specs.Plain.{plain, plain_packet, pieces, number_to, pair, header, id_of, bytes_of, is_frame, packed};
 ghost use Rattle.n2k_wire.specs.PrivateWords.{pieces_left, plain_header};
 ghost use Rattle.n2k_wire.specs.Views.{Finds, Gives};
 ghost use Rattle.n2k_wire.specs.Entry.{IsEntry, settled};
 ghost use Rattle.n2k_wire.specs.Packet.{IsPacket, greatest_pgn, greatest_priority, longest_message};
 
 use crate::candump::FRAME_PAYLOAD;
-use crate::digits::{decimal_number, is_hex_digit, spelled_byte};
+use crate::digits::decimal_number;
 use crate::entry::{BadCause, Entry, Packing, set_frame, set_whole};
 use crate::identifier::Id;
 use crate::packet::{GREATEST_PGN, GREATEST_PRIORITY, LONGEST_MESSAGE, is_stamp};
 use crate::pieces::cut_at;
 use arrayvec::ArrayVec;
+use hex::FromHex;
 
 /// The greatest address of a packet and of a saved state.
 pub const GREATEST_ADDRESS: u64 = 255;
@@ -32,15 +33,9 @@ struct Header<'a> {
 fn first_piece(text: &[u8]) -> (&[u8], Option<&[u8]>)
     ensures { pieces text.now ≡ result.0.now ∷ pieces_left result.1 }
 {
-    // Most pieces have two bytes, and then no comma has to be looked for.
-    match text {
-        [first, second, b',', more @ ..] if *first != b',' && *second != b',' => {
-            (&text[..2], Some(more))
-        }
-        _ => match cut_at(b',', text) {
-            Some((piece, more)) => (piece, Some(more)),
-            None => (text, None),
-        },
+    match cut_at(b',', text) {
+        Some((piece, more)) => (piece, Some(more)),
+        None => (text, None),
     }
 }
 
@@ -96,17 +91,13 @@ fn read_id(header: &Header<'_>) -> Result<Id, BadCause>
     })
 }
 
-/// A piece of two hexadecimal digits, as the one byte that they spell. No branch goes by the kind of a digit.
+/// A piece of two hexadecimal digits, as the one byte that they spell.
 #[tactic(auto, unfolding(crate::specs::Plain::pair))]
 fn read_pair(piece: &[u8]) -> Option<u8>
     ensures { Finds (λ byte. byte ∷ []) result (pair piece.now) }
 {
-    match piece {
-        [high, low] if is_hex_digit(*high) & is_hex_digit(*low) => {
-            Some(spelled_byte(*high, *low))
-        }
-        _ => None,
-    }
+    let [byte] = <[u8; 1]>::from_hex(piece).ok()?;
+    Some(byte)
 }
 
 /// Exactly so many pieces, each as a byte, which `bytes` holds then.
@@ -139,7 +130,7 @@ fn read_bytes(
 }
 
 /// Whether a plain line with so many bytes is a frame.
-pub(crate) fn is_frame(packing: Packing, len: usize) -> bool
+fn is_frame(packing: Packing, len: usize) -> bool
     ensures { result ≡ is_frame packing len }
 {
     match packing {
@@ -155,7 +146,8 @@ fn read_packet<'a>(
     bytes: &mut ArrayVec<u8, LONGEST_MESSAGE>,
 ) -> Result<(&'a [u8], Id), BadCause>
     requires empty { bytes.old.items ≡ [] }
-    ensures packet { Gives (λ r. record { stamp = r.0.now; id = r.1; payload = bytes.new.items }) result (plain_packet line.now) }
+    ensures packet { Gives (λ r. record { stamp = r.0.now; id = r.1; payload = bytes.new.items }) result
+        (plain_packet line.now) }
     ensures valid { IfOk result (λ r. IsPacket r.0.now r.1 bytes.new.items) }
 {
     let (stamp, more) = first_piece(line);
@@ -169,6 +161,19 @@ fn read_packet<'a>(
     Ok((stamp, id))
 }
 
+/// Makes an entry that of a plain line with these parts, in the room of the packet that it has, if it is of its kind.
+pub(crate) fn set_packed(place: &mut Entry, packing: Packing, stamp: &[u8], id: Id, data: &[u8])
+    requires { IsPacket stamp.now id «data».now }
+    ensures value { place.new ≡ packed packing (record { stamp = stamp.now; id = id; payload = «data».now }) }
+    ensures valid { IsEntry place.new }
+{
+    if is_frame(packing, data.len()) {
+        set_frame(place, stamp, id, data);
+    } else {
+        set_whole(place, stamp, id, data);
+    }
+}
+
 /// The entry of a plain line, put where that of an earlier line was.
 pub(crate) fn read_plain(line: &[u8], packing: Packing, place: &mut Entry)
     ensures entry { place.new ≡ settled (plain packing line.now) }
@@ -176,10 +181,7 @@ pub(crate) fn read_plain(line: &[u8], packing: Packing, place: &mut Entry)
 {
     let mut data = ArrayVec::new();
     match read_packet(line, &mut data) {
-        Ok((stamp, id)) if is_frame(packing, data.len()) => {
-            set_frame(place, stamp, id, data.as_slice())
-        }
-        Ok((stamp, id)) => set_whole(place, stamp, id, data.as_slice()),
+        Ok((stamp, id)) => set_packed(place, packing, stamp, id, data.as_slice()),
         Err(cause) => *place = Entry::Bad(cause),
     }
 }

@@ -1,6 +1,7 @@
 //! Stamps of candump lines, and the UTC text that packets keep of them.
 ghost use Rattle.std.specs.Prelude.{◌≡◌, ◌+◌, ◌^◌, ◌≤◌, ◌<◌, ◌↔◌, IfSome, IsSome, IsTrue, true, length, pos};
 ghost use Rattle.jiff_core.specs.Calendar.{IsCivilDate};
+ghost use Rattle.jiff_core.specs.Date.{epoch_day};
 ghost use Rattle.n2k_wire.specs.Steps.{some_if};
 ghost use Rattle.std.specs.List.{list_all};
 ghost use Rattle.n2k_wire.specs.Packet.{is_stamp, is_stamp_byte};
@@ -11,7 +12,8 @@ ghost use Rattle.n2k_wire.specs.Views.{Finds};
 
 use crate::digits::decimal_number;
 use crate::pieces::cut_at;
-use jiff_core::civil::Date;
+use jiff::ToSpan;
+use jiff::civil::{Date, date};
 
 /// A moment of a candump stamp.
 #[derive(Clone, Copy)]
@@ -58,10 +60,29 @@ pub(crate) fn read_moment(text: &[u8]) -> Option<Moment>
     Some(Moment { seconds, millis })
 }
 
-/// The days from jiff's first date, -9999-01-01, to 1970-01-01.
-const DAYS_BEFORE_1970: u32 = 4_371_587;
+/// Day 0 of the day numbers.
+fn first_day() -> Date
+    ensures { epoch_day result ≡ pos 0 }
+{
+    date(1970, 1, 1)
+}
 
-/// The year, the month and the day of the month of a day number, 0 being 1970-01-01.
+/// The date of a day number.
+fn date_of_day(day: u32) -> Date
+    requires { day ≤ last_day }
+    ensures { epoch_day result ≡ pos day }
+{
+    first_day().checked_add(i64::from(day).days()).unwrap()
+}
+
+/// The day number of a date, below 0 before 1970.
+fn day_of_date(date: Date) -> i64
+    ensures { result ≡ epoch_day date }
+{
+    date.duration_since(first_day()).as_hours() / 24
+}
+
+/// The year, the month and the day of the month of a day number.
 fn civil_date(day: u32) -> (u16, u8, u8)
     requires { day ≤ last_day }
     ensures year { result.0 ≡ year_of day }
@@ -71,8 +92,8 @@ fn civil_date(day: u32) -> (u16, u8, u8)
     ensures month_short { result.1 ≤ 12 }
     ensures day_short { result.2 ≤ 31 }
 {
-    let date = Date::from_days_since_min(day + DAYS_BEFORE_1970);
-    (date.year as u16, date.month, date.day)
+    let date = date_of_day(day);
+    (date.year() as u16, date.month() as u8, date.day() as u8)
 }
 
 fn two_digits(n: u32) -> [u8; 2]
@@ -137,8 +158,8 @@ fn date_of(year: u32, month: u32, day: u32) -> Option<Date>
     Date::new(year as i16, month as i8, day as i8).ok()
 }
 
-/// The day number of a date, where the calendar has it and it is no earlier than 1970.
-fn day_of_date(year: u32, month: u32, day: u32) -> Option<u32>
+/// The day number of a year, a month and a day, where the calendar has them and they are no earlier than 1970.
+fn civil_day(year: u32, month: u32, day: u32) -> Option<u32>
     requires year { year ≤ 9999 }
     requires month { month ≤ 99 }
     requires day { day ≤ 99 }
@@ -149,7 +170,7 @@ fn day_of_date(year: u32, month: u32, day: u32) -> Option<u32>
         return None;
     }
     let date = date_of(year, month, day)?;
-    Some(date.days_since_min() - DAYS_BEFORE_1970)
+    Some(day_of_date(date) as u32)
 }
 
 /// The number of so many decimal digits from a place on.
@@ -186,7 +207,7 @@ fn day_at_start(text: &[u8]) -> Option<u32>
     let year = number_at(0, 4, text)?;
     let month = number_at(5, 2, text)?;
     let day = number_at(8, 2, text)?;
-    day_of_date(year, month, day)
+    civil_day(year, month, day)
 }
 
 /// The second of the day of `HH:MM:SS` behind `YYYY-MM-DDT`.

@@ -2,7 +2,7 @@
 ghost use Rattle.std.specs.Prelude.{◌≡◌, ◌+◌, ◌-◌, ◌*◌, ◌<◌, ◌≤◌, ◌++◌, [], ◌∷◌, codes, drop, length, slice_index, IfErr, IfOk, IsTrue, OnOk, OnErr};
 ghost use Rattle.std.specs.List.{flat_map};
 ghost use Rattle.arrayvec.specs.ArrayVec.{array_vec_len};
-ghost use Rattle.hex.specs.Hex.{encode_upper, lower_digits};
+ghost use Rattle.hex.specs.Hex.{encode_upper};
 ghost use Rattle.n2k_wire.specs.declared.fault.WireFault.TheVariants.{Memory};
 ghost use Rattle.n2k_wire.specs.Candump.{frame_payload, is_interface, longest_interface};
 ghost use Rattle.n2k_wire.specs.PrivateWords.{candump_front, plain_moment, IsMoment};
@@ -63,47 +63,15 @@ fn push_small<const ROOM: usize>(line: &mut ArrayVec<u8, ROOM>, number: u8)
     };
 }
 
-// The lower case digit of a number below 16, by arithmetic alone, so that many are taken at once.
-#[inline]
-#[tactic(auto, using(crate::proofs::TextLemmas::figure_at, crate::proofs::TextLemmas::letter_at))]
-fn lower_digit(number: u8) -> u8
-    requires { number < 16 }
-    ensures { result ≡ slice_index lower_digits number }
-{
-    if number > 9 {
-        b'a' - 10 + number
-    } else {
-        b'0' + number
-    }
-}
-
 // A byte as a piece of a plain line.
 #[inline]
-#[tactic(auto, unfolding(hex::specs::Hex::encode_with))]
 fn byte_piece(byte: u8) -> [u8; 3]
     ensures { result ≡ byte_piece byte }
 {
-    [b',', lower_digit(byte / 16), lower_digit(byte % 16)]
-}
-
-// Eight bytes as pieces of a plain line, all at once.
-#[inline]
-fn eight_pieces(bytes: &[u8; 8]) -> [u8; 24]
-    ensures { result ≡ flat_map byte_piece bytes.now }
-{
-    let [a, b, c, d, e, f, g, h] = *bytes;
-    let [a0, a1, a2] = byte_piece(a);
-    let [b0, b1, b2] = byte_piece(b);
-    let [c0, c1, c2] = byte_piece(c);
-    let [d0, d1, d2] = byte_piece(d);
-    let [e0, e1, e2] = byte_piece(e);
-    let [f0, f1, f2] = byte_piece(f);
-    let [g0, g1, g2] = byte_piece(g);
-    let [h0, h1, h2] = byte_piece(h);
-    [
-        a0, a1, a2, b0, b1, b2, c0, c1, c2, d0, d1, d2, e0, e1, e2, f0, f1, f2, g0, g1, g2, h0, h1,
-        h2,
-    ]
+    let mut pair = [0; 2];
+    let _ = hex::encode_to_slice([byte], &mut pair);
+    let [high, low] = pair;
+    [b',', high, low]
 }
 
 #[inline]
@@ -121,10 +89,6 @@ fn push_bytes<const ROOM: usize>(line: &mut ArrayVec<u8, ROOM>, bytes: &[u8])
     ensures items { line.new.items ≡ line.old.items ++ flat_map byte_piece bytes.now }
     ensures len { array_vec_len line.new ≡ array_vec_len line.old + 3 * length bytes.now }
 {
-    if let Some(eight) = bytes.as_array::<8>() {
-        let _ = line.try_extend_from_slice(&eight_pieces(eight));
-        return;
-    }
     for byte in bytes {
         push_byte(line, *byte);
     }

@@ -1,6 +1,7 @@
-//! A fast path: a candump line of eight bytes as `candump -L` writes it, `(1751608800.114221) can0 09F80103#FF..`, is read
-//! by place, and the text of its second is kept for the lines that follow. It promises only what it answers. Where it
-//! answers nothing `candump.rt` reads the line, as it reads every line.
+//! A fast path; read `candump.rt` first. A candump line of eight bytes as `candump -L` writes it,
+//! `(1751608800.114221) can0 09F80103#FF..`, is read by place, and the text of its second is kept for the lines that
+//! follow. It promises only what it answers. Where it answers nothing, `candump.rt` reads the line, as it reads every
+//! candump line.
 ghost use Rattle.std.specs.Prelude.{◌≡◌, ◌≤◌, ◌<◌, ◌^◌, ◌++◌, ℕ, map, not, position, true, false, Some, Ok, IfSome, IsTrue};
 ghost use Rattle.std.specs.Char.{is_ascii_hexdigit};
 ghost use Rattle.std.specs.Int.{w32, w64, to_le_bytes};
@@ -13,8 +14,8 @@ ghost use Rattle.n2k_wire.specs.Packet.{is_stamp};
 ghost use Rattle.n2k_wire.specs.PrivateWords.{IsFront, stamp_behind};
 ghost use Rattle.n2k_wire.specs.Stamp.{last_second, millis_digits, three_digits, utc_text};
 
-use crate::candump::{FIRST_ERROR_FRAME, LONGEST_INTERFACE, read_word};
-use crate::digits::{are_digits, are_hex_digits, decimal_number, eight_bytes};
+use crate::candump::{FIRST_ERROR_FRAME, LONGEST_INTERFACE};
+use crate::digits::{are_digits, are_hex_digits, decimal_number, eight_bytes, spelled_word};
 use crate::entry::{Entry, set_usual};
 use crate::identifier::split_id;
 use crate::pieces::after_byte;
@@ -135,7 +136,9 @@ fn are_same(front: &[u8; FRONT], other: &[u8; FRONT]) -> bool
 /// The text of a second with the milliseconds that a fraction begins with.
 #[inline]
 fn with_millis(text: &[u8; UTC_LEN], fraction: &[u8; FRACTION]) -> [u8; UTC_LEN]
-    ensures { (seconds m : ℕ) → text.now ≡ utc_text (record { seconds = seconds; millis = 0 }) → millis_digits m ≡ three_digits fraction.now → result ≡ utc_text (record { seconds = seconds; millis = m }) }
+    ensures { (seconds m : ℕ) → text.now ≡ utc_text (record { seconds = seconds; millis = 0 })
+        → millis_digits m ≡ three_digits fraction.now
+        → result ≡ utc_text (record { seconds = seconds; millis = m }) }
 {
     let mut text = *text;
     text[20] = fraction[0];
@@ -195,7 +198,7 @@ fn usual_identifier(digits: &[u8; WORD_DIGITS]) -> Option<u32>
     ensures value { IfSome result (λ n. identifier digits.now ≡ Ok (Some n)) }
     ensures bits { IfSome result (λ n. n < 2 ^ 29) }
 {
-    let number = read_word(digits);
+    let number = spelled_word(digits);
     if number < FIRST_ERROR_FRAME {
         Some(number)
     } else {
@@ -204,6 +207,7 @@ fn usual_identifier(digits: &[u8; WORD_DIGITS]) -> Option<u32>
 }
 
 /// The eight bytes of a frame's data.
+#[tactic(auto, using(crate::proofs::CandumpBack::no_other_frame, crate::proofs::UsualFrames::payload_of))]
 #[inline]
 fn usual_payload(text: &[u8]) -> Option<[u8; 8]>
     ensures frame { IfSome result (λ bytes. is_other_frame text.now ≡ false) }

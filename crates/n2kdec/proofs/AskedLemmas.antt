@@ -1,5 +1,5 @@
 -- From what `clap` says of a parse to what the words ask for.
-use Rattle.std.proofs.Common.{◌≡◌, ◌∙◌, ◌⊎◌, List, [], Bool, cond, true, false, Option, Some, None, Result, Ok, Err, IfOk, IsErrOf, ap, sym, subst, refl, inl, inr, codes, true≢false}
+use Rattle.std.proofs.Common.{◌≡◌, ◌∙◌, ◌⊎◌, List, [], ◌∷◌, Bool, cond, true, false, Option, Some, None, Result, Ok, Err, IfOk, IsErrOf, ap, sym, subst, refl, inl, inr, codes, true≢false}
 use Rattle.std.specs.Option.{option_and_then, option_map}
 use Rattle.std.specs.Str.{bytes_eq}
 use Rattle.clap.specs.Kinds.{HasKind}
@@ -7,7 +7,7 @@ use Rattle.clap.specs.Words.{App, HasMatchesOf, IsAmong, Row, Text, fault_of, fi
 use Rattle.clap.specs.declared.error.Error.{Error}
 use Rattle.clap.specs.declared.parser.matches.ArgMatches.{ArgMatches}
 use Rattle.clap.specs.declared.error.kind.ErrorKind.{ErrorKind}
-use Rattle.clap.specs.declared.error.kind.ErrorKind.TheVariants.{DisplayHelp, OutOfMemory}
+use Rattle.clap.specs.declared.error.kind.ErrorKind.TheVariants.{DisplayHelp, DisplayVersion, OutOfMemory}
 use Rattle.clap.proofs.OnLiterals.{clap_on_literals}
 use Rattle.n2k_join.specs.Window.{Rule}
 use Rattle.n2kdec.specs.declared.fault.Fault.{Fault}
@@ -26,6 +26,15 @@ program_is_simple = refl
 program_is_free : is_simple_and_free program_app ≡ true
 unfolding program_app clap_on_literals
 program_is_free = refl
+
+-- it has one request for each of these words, and nothing else at them; so neither is refused
+help_is_a_request : fault_of program_app (codes "n2kdec" ∷ codes "--help" ∷ []) ≡ DisplayHelp ∷ []
+unfolding program_app clap_on_literals
+help_is_a_request = refl
+
+version_is_a_request : fault_of program_app (codes "n2kdec" ∷ codes "--version" ∷ []) ≡ DisplayVersion ∷ []
+unfolding program_app clap_on_literals
+version_is_a_request = refl
 
 pub rows_as_defined : (app : App) (words : List Text) (matches : ArgMatches) → app ≡ program_app → HasMatchesOf app words matches → subcommand_rows_of matches ≡ subcommand_of program_app words
 rows_as_defined app words matches is found = (found (ap is_simple is ∙ program_is_simple)).1 ∙ ap (λ (a : App). subcommand_of a words) is
@@ -69,9 +78,9 @@ asked_by_matches words rows (Ok (Help text)) same none names = absurd (true≢fa
 asked_by_matches words rows (Ok command) same none names = (none, sym (ap named same) ∙ names)
 asked_by_matches words rows (Err e) same none names = tt
 
-pub refused_by_matches : (words : List Text) (rows : Option (Text × List Row)) (r : Result Words Fault) → rows ≡ subcommand_of program_app words → Names (named rows) r → IsErrOf r fault.Words → IsRefused words
+pub refused_by_matches : (words : List Text) (rows : Option (Text × List Row)) (r : Result Words Fault) → rows ≡ subcommand_of program_app words → fault_of program_app words ≡ [] → Names (named rows) r → IsErrOf r fault.Words → IsRefused words
 unfolding words_of
-refused_by_matches words rows r same names is = inr (sym (ap named same) ∙ subst (λ x. Names (named rows) x) is names)
+refused_by_matches words rows r same none names is = inr (none, sym (ap named same) ∙ subst (λ x. Names (named rows) x) is names)
 
 pub named_by_matches : (words : List Text) (rows : Option (Text × List Row)) (r : Result Words Fault) → rows ≡ subcommand_of program_app words → Names (named rows) r → Names (words_of words) r
 unfolding words_of
@@ -79,14 +88,16 @@ named_by_matches words rows r same names = subst (λ x. Names (named x) r) same 
 
 -- the parse failed, by a kind among those of the definition, or for want of memory
 pub asked_by_kind : (words : List Text) (kind : ErrorKind) (r : Result Words Fault) → (kind ≡ OutOfMemory) ⊎ IsAmong kind (fault_of program_app words) → AnswersKind kind r → IfOk r (IsAskedBy words)
-asked_by_kind words kind (Ok (Help text)) (inl memory) answers = let bad : DisplayHelp ≡ OutOfMemory = sym answers ∙ memory in cc
-asked_by_kind words kind (Ok (Help text)) (inr among) answers = subst (λ k. IsAmong k (fault_of program_app words)) answers among
+asked_by_kind words kind (Ok (Help text)) (inl memory) (inl is) = let bad : DisplayHelp ≡ OutOfMemory = sym is ∙ memory in cc
+asked_by_kind words kind (Ok (Help text)) (inl memory) (inr is) = let bad : DisplayVersion ≡ OutOfMemory = sym is.0 ∙ memory in cc
+asked_by_kind words kind (Ok (Help text)) (inr among) (inl is) = inl (subst (λ k. IsAmong k (fault_of program_app words)) is among)
+asked_by_kind words kind (Ok (Help text)) (inr among) (inr is) = inr (subst (λ k. IsAmong k (fault_of program_app words)) is.0 among, is.1)
 asked_by_kind words kind (Ok command) fails answers = absurd answers
 asked_by_kind words kind (Err e) fails answers = tt
 
 refusal_kind : (words : List Text) (kind : ErrorKind) → (kind ≡ OutOfMemory) ⊎ IsAmong kind (fault_of program_app words) → AnswersKind kind (Err fault.Words) → IsRefused words
-refusal_kind words kind (inl memory) answers = absurd (answers.1 memory)
-refusal_kind words kind (inr among) answers = inl (kind, among, answers.0)
+refusal_kind words kind (inl memory) answers = absurd (answers.2 memory)
+refusal_kind words kind (inr among) answers = inl (kind, among, answers.0, answers.1)
 
 pub refused_by_kind : (words : List Text) (kind : ErrorKind) (r : Result Words Fault) → (kind ≡ OutOfMemory) ⊎ IsAmong kind (fault_of program_app words) → AnswersKind kind r → IsErrOf r fault.Words → IsRefused words
 refused_by_kind words kind r fails answers is = refusal_kind words kind fails (subst (AnswersKind kind) is answers)

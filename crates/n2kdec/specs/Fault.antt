@@ -1,5 +1,5 @@
 -- The line that a fault prints, and the status that the program ends with.
-use Rattle.std.specs.Prelude.{ℕ, List, codes, ◌==◌, if◌then◌else◌}
+use Rattle.std.specs.Prelude.{◌≡◌, ◌⊎◌, ◌++◌, ℕ, List, [], Bool, true, codes, ◌==◌, if◌then◌else◌}
 use Rattle.n2k_join.specs.declared.counts.Counts.{Counts}
 use Rattle.n2k_join.specs.declared.state_fault.StateFault.{StateFault}
 use Rattle.n2k_join.specs.declared.state_fault.StateFault.TheVariants as state
@@ -53,6 +53,16 @@ fault_line Report = codes "n2kdec: report\n"
 fault_line Memory = codes "n2kdec: memory\n"
 fault_line Lines = codes "n2kdec: lines\n"
 fault_line Save = codes "n2kdec: save\n"
+
+-- What may stand before the line of a fault: nothing; or, on a terminal, lines that say what is wrong with refused words.
+abbrev pub StandsBefore : Bool → Fault → List ℕ → Type 0
+StandsBefore is_terminal fault text =
+    (text ≡ [])
+    ⊎ ((is_terminal ≡ true) × (fault ≡ Words) × ((said : List ℕ) × (text ≡ said ++ codes "\n")))
+
+-- What is written on standard error at a fault: its line comes last.
+abbrev pub TellsFault : Bool → Fault → List ℕ → Type 0
+TellsFault is_terminal fault text = (before : List ℕ) × StandsBefore is_terminal fault before × (text ≡ before ++ fault_line fault)
 
 abbrev pub table_status : TableFault → ℕ
 table_status table.NotToml = 2

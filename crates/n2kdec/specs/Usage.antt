@@ -2,6 +2,7 @@
 --     n2kdec plain [LOG]
 --     n2kdec decode --table F [--resume F] [--save F] [--window W] [--in-order] [--empty] [--whole] [LOG]
 --     n2kdec frames --table F [--candump IFACE] [LOG]
+--     n2kdec --version
 use Rattle.std.specs.Prelude.{List, ℕ, true, Some, codes}
 use Rattle.clap.specs.Words.{App, Rule, new_app, new_rule, with_rule, with_subcommand}
 use Rattle.clap.specs.declared.builder.action.ArgAction.TheVariants.{SetTrue}
@@ -54,10 +55,16 @@ decode_app =
 abbrev pub frames_app : App
 frames_app = with_rule (with_rule (with_rule (new_app (codes "frames")) table_rule) candump_rule) log_rule
 
--- a command without its subcommands: one of them is required, and `help` is none
+-- a command without its subcommands: one of them is required, and `help` is none; it has a version, and without any word
+-- it shows its help
 abbrev pub program_top : App
 program_top = let app = new_app (codes "n2kdec") in record app {
-  top = record app.top { subcommand_required = true; disable_help_subcommand = true };
+  top = record app.top {
+    has_version = true;
+    subcommand_required = true;
+    arg_required_else_help = true;
+    disable_help_subcommand = true;
+  };
 }
 
 unfoldable pub program_app : App

@@ -1,5 +1,5 @@
 -- What the words of a command line ask for, by the command's definition and `clap`'s reading of it.
-use Rattle.std.specs.Prelude.{◌≡◌, ◌≢◌, ◌⊎◌, ◌&&◌, nat_le, ℕ, List, [], Bool, false, Option, Some, None, Result, Ok, Err, if◌then◌else◌, codes, option_and_then, option_map}
+use Rattle.std.specs.Prelude.{◌≡◌, ◌≢◌, ◌⊎◌, ◌&&◌, ◌++◌, nat_le, ℕ, List, [], Bool, false, Option, Some, None, Result, Ok, Err, if◌then◌else◌, codes, option_and_then, option_map}
 use Rattle.std.specs.Char.{is_ascii_digit}
 use Rattle.std.specs.List.{list_all}
 use Rattle.std.specs.Option.{option_map_or}
@@ -7,10 +7,11 @@ use Rattle.std.specs.Str.{bytes_eq}
 use Rattle.std.specs.Str.Parse.{digits_value}
 use Rattle.clap.specs.Words.{IsAmong, Row, Text, fault_of, first_of, subcommand_of}
 use Rattle.clap.specs.declared.error.kind.ErrorKind.{ErrorKind}
-use Rattle.clap.specs.declared.error.kind.ErrorKind.TheVariants.{DisplayHelp}
+use Rattle.clap.specs.declared.error.kind.ErrorKind.TheVariants.{DisplayHelp, DisplayVersion}
 use Rattle.n2k_join.specs.Window.{Rule, shortest_window, longest_window}
 use Rattle.n2k_run.specs.declared.options.Options.{Options}
 use Rattle.n2k_wire.specs.declared.entry.Packing.TheVariants as packed
+use Rattle.n2kdec.specs.declared.usage.TheConstants.{VERSION}
 use Rattle.n2kdec.specs.declared.fault.Fault.{Fault}
 use Rattle.n2kdec.specs.declared.fault.Fault.TheVariants as fault
 use Rattle.n2kdec.specs.declared.word.Words.{Words}
@@ -68,21 +69,27 @@ named (Some p) =
 unfoldable pub words_of : List Text → Option Words
 words_of words = named (subcommand_of program_app words)
 
--- `clap` has a fault at the words that is no request for help
+-- `clap` has a fault at the words that is no request for help or for the version
 abbrev pub HasFault : List Text → Type 0
-HasFault words = (kind : ErrorKind) × IsAmong kind (fault_of program_app words) × (kind ≢ DisplayHelp)
+HasFault words = (kind : ErrorKind) × IsAmong kind (fault_of program_app words) × (kind ≢ DisplayHelp) × (kind ≢ DisplayVersion)
 
--- the words are not those of a command
+-- the words are not those of a command: such a fault, or no fault at all and no command that is named
 abbrev pub IsRefused : List Text → Type 0
-IsRefused words = HasFault words ⊎ (words_of words ≡ None)
+IsRefused words = HasFault words ⊎ ((fault_of program_app words ≡ []) × (words_of words ≡ None))
 
 -- the words name this command, and `clap` has no fault at them
 abbrev pub IsNamedBy : List Text → Words → Type 0
 IsNamedBy words command = (fault_of program_app words ≡ []) × (words_of words ≡ Some command)
 
--- a command that is named without a fault, or the help that is asked for
+-- the text of the version, as `n2kdec 1.0.0` with an LF
+abbrev pub version_text : Text
+version_text = codes "n2kdec " ++ VERSION.now ++ codes "\n"
+
+-- a command that is named without a fault, or the help or the version that is asked for
 abbrev pub IsAskedBy : List Text → Words → Type 0
-IsAskedBy words (Help text) = IsAmong DisplayHelp (fault_of program_app words)
+IsAskedBy words (Help text) =
+    IsAmong DisplayHelp (fault_of program_app words)
+    ⊎ (IsAmong DisplayVersion (fault_of program_app words) × (text ≡ version_text))
 IsAskedBy words command = IsNamedBy words command
 
 -- an answer on the command that was named, or on none

@@ -2,7 +2,7 @@
 ghost use Rattle.std.specs.Prelude.{◌≡◌, ◌≤◌, IfErr, IfOk, IfSome, None, OnErr, OnOk, option_map};
 ghost use Rattle.n2k_run.specs.Device.{HasFailed};
 ghost use Rattle.n2k_run.specs.FramesOut.{IsInterface};
-ghost use Rattle.n2k_run.specs.Runs.{devices};
+ghost use Rattle.n2k_run.specs.Runs.{seen};
 ghost use Rattle.n2kdec.specs.Commands.{IsRefusal, Performs, TellsStatus, place};
 ghost use Rattle.n2kdec.specs.Inner.Closing.{ClosesPart, ClosesWhole, ClosesWork, SumsUp};
 ghost use Rattle.n2kdec.specs.Words.{IsCommand, interface_word};
@@ -145,10 +145,8 @@ pub fn perform<K: Keeper, R: Source, W: Sink, E: Sink>(
 ) -> Result<u8, Fault>
     requires command { IsCommand words.now }
     requires interface { IsInterface (interface_word words.now) }
-    ensures performs { let before = devices (R.remaining log.old) (R.calls log.old) (R.failed_calls log.old)
-        (W.contents output.old) (W.failed_calls output.old) (E.contents errors.old) (E.failed_calls errors.old) in
-        let after = devices (R.remaining log.new) (R.calls log.new) (R.failed_calls log.new)
-        (W.contents output.new) (W.failed_calls output.new) (E.contents errors.new) (E.failed_calls errors.new) in
+    ensures performs { let before = seen R.Source W.Sink E.Sink log.old output.old errors.old in
+        let after = seen R.Source W.Sink E.Sink log.new output.new errors.new in
         Performs words.now table.now (option_map (λ bytes. bytes.now) state.entry) before after
         (place (K.kept keeper.old) (K.failed_calls keeper.old)) (place (K.kept keeper.new) (K.failed_calls keeper.new)) result }
     ensures status { IfOk result (λ status. IfSome (R.remaining log.old)

@@ -185,12 +185,13 @@ fn words_name_a_command_and_its_files(rt: HostRuntime) -> Result<(), Fail> {
     Ok(())
 }
 
-const REFUSED: [&[&str]; 24] = [
+const REFUSED: [&[&str]; 25] = [
     &[],
     &["n2kdec"],
     &["n2kdec", "print"],
     &["n2kdec", "help"],
-    &["n2kdec", "--version"],
+    &["n2kdec", "plain", "--version"],
+    &["n2kdec", "--version=1"],
     &["n2kdec", "plain", "-x"],
     &["n2kdec", "plain", "--lines"],
     &["n2kdec", "plain", "--table", "boat.toml"],
@@ -235,6 +236,21 @@ fn help_is_no_fault(rt: HostRuntime) -> Result<(), Fail> {
         let text = format!(in rt.alloc(); "{:?}", words(rt.alloc(), given)?)?;
         assert!(rt; text.as_str().starts_with("Help("));
         assert!(rt; text.as_str().contains("Usage: n2kdec"));
+    }
+    Ok(())
+}
+
+const ASKING_FOR_THE_VERSION: [&[&str]; 3] = [
+    &["n2kdec", "--version"],
+    &["n2kdec", "-V"],
+    &["n2kdec", "--version", "plain"],
+];
+
+#[test]
+fn the_version_is_no_fault(rt: HostRuntime) -> Result<(), Fail> {
+    for given in &ASKING_FOR_THE_VERSION {
+        let text = format!(in rt.alloc(); "{:?}", words(rt.alloc(), given)?)?;
+        assert_eq!(rt; text.as_str(), "Help(Word { text: \"n2kdec 1.0.0\\n\" })");
     }
     Ok(())
 }

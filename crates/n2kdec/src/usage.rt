@@ -7,6 +7,9 @@ ghost use Rattle.n2kdec.specs.Usage.{candump_rule, decode_app, empty_rule, frame
 use clap::{Arg, ArgAction, Command};
 use std::alloc::{AllocError, Global};
 
+/// The version of the program: the one place that has it.
+pub const VERSION: &str = "1.0.0";
+
 // The log that a command reads.
 fn log_argument<'a>(alloc: Global) -> Arg<'a>
     ensures rule { rule_of result ≡ log_rule }
@@ -169,7 +172,9 @@ pub fn program<'a>(alloc: Global) -> Result<Command<'a>, AllocError>
 {
     Command::new(alloc, "n2kdec")
         .about("Decodes recorded NMEA 2000 traffic")
+        .version(VERSION)
         .subcommand_required(true)
+        .arg_required_else_help(true)
         .disable_help_subcommand(true)
         .subcommand(plain_command(alloc)?)?
         .subcommand(decode_command(alloc)?)?

@@ -38,7 +38,7 @@ impl Word {
     }
 }
 
-/// A command with the values of its words, or the request for help.
+/// A command with the values of its words, or the request for help or for the version.
 #[derive(Debug, Drop)]
 pub enum Words {
     /// `plain [LOG]`
@@ -72,7 +72,7 @@ pub enum Words {
         /// The file of the log; none is standard input.
         log: Option<Word>,
     },
-    /// `--help`, with the text to print.
+    /// `--help` or `--version`, with the text to print.
     Help(Word),
 }
 

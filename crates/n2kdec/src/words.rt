@@ -7,10 +7,10 @@ ghost use Rattle.clap.specs.Words.{first_of, found_of, kind_of, rows_of, subcomm
 ghost use Rattle.n2k_run.specs.FramesOut.{IsInterface};
 ghost use Rattle.n2kdec.specs.Inner.Parse.{AnswersKind};
 ghost use Rattle.n2kdec.specs.Usage.{program_app};
-ghost use Rattle.n2kdec.specs.Words.{IsAskedBy, IsRefused, Names, decode_words, flag_of, frames_words, interface_word, lines_in, named, plain_words, window_of, words_of};
+ghost use Rattle.n2kdec.specs.Words.{IsAskedBy, IsRefused, Names, decode_words, flag_of, frames_words, interface_word, lines_in, named, plain_words, version_text, window_of, words_of};
 
 use crate::fault::Fault;
-use crate::usage::program;
+use crate::usage::{VERSION, program};
 use crate::word::{Word, Words};
 use clap::error::ErrorKind;
 use clap::{ArgMatches, Error};
@@ -136,7 +136,17 @@ fn command_of(alloc: Global, matches: &ArgMatches<'_>) -> Result<Words, Fault>
     }
 }
 
-// What a parse that gave no matches comes to: a request for help is no fault.
+// The text of the version.
+fn version(alloc: Global) -> Result<Word, AllocError>
+    ensures { IfOk result (λ word. word ≡ version_text) }
+{
+    let mut text = String::from_str(alloc, "n2kdec ")?;
+    text.push_str(VERSION)?;
+    text.push_str("\n")?;
+    Word::new(alloc, text.as_str())
+}
+
+// What a parse that gave no matches comes to: a request for help or for the version is no fault.
 fn help_of(alloc: Global, error: &Error) -> Result<Words, Fault>
     ensures answers { AnswersKind (kind_of error.now) result }
     ensures memory { kind_of error.now ≡ ErrorKind.OutOfMemory → IsErrOf result Fault.Memory }
@@ -146,6 +156,7 @@ fn help_of(alloc: Global, error: &Error) -> Result<Words, Fault>
             let text = error.to_string(alloc)?;
             Ok(Words::Help(Word::new(alloc, text.as_str())?))
         }
+        ErrorKind::DisplayVersion => Ok(Words::Help(version(alloc)?)),
         ErrorKind::OutOfMemory => Err(Fault::Memory),
         _ => Err(Fault::Words),
     }
@@ -153,7 +164,8 @@ fn help_of(alloc: Global, error: &Error) -> Result<Words, Fault>
 
 /// The command that the words of a command line name, the program's name first, as `clap` reads them by the
 /// command's definition: `["n2kdec", "plain", "trip.log"]` gives `Plain` with that log. `Help` where they ask for
-/// help. Words that are refused for any other cause are `Fault::Words`; want of memory is `Fault::Memory`.
+/// help, with `clap`'s text, or for the version, with `n2kdec`, the version and an LF. Words that are refused for any
+/// other cause are `Fault::Words`; want of memory is `Fault::Memory`.
 pub fn words(alloc: Global, words: &[&str]) -> Result<Words, Fault>
     ensures asked { IfOk result (IsAskedBy (texts words.now)) }
     ensures refused { IsErrOf result Fault.Words → IsRefused (texts words.now) }

@@ -1,7 +1,7 @@
 //! The run that the words name, from the bytes of a table and of a state, over any devices.
 ghost use Rattle.std.specs.Prelude.{◌≡◌, IfErr, None, option_map};
 ghost use Rattle.n2k_run.specs.FramesOut.{IsInterface, interface_of};
-ghost use Rattle.n2k_run.specs.Runs.{devices};
+ghost use Rattle.n2k_run.specs.Runs.{seen};
 ghost use Rattle.n2kdec.specs.Commands.{IsRefusal};
 ghost use Rattle.n2kdec.specs.Words.{IsCommand, interface_word, options_of};
 ghost use Rattle.n2kdec.specs.Work.{ByTable, DoesDecode, DoesFrames, DoesPlain, TellsWhole, Works, answer_of_part, stop_of, stop_of_part};
@@ -97,59 +97,18 @@ fn text_of(word: &Option<Word>) -> Option<&str>
     }
 }
 
-fn do_plain<R: Source, W: Sink, E: Sink>(
+// `plain`, which reads no table.
+fn plain_by<R: Source, W: Sink, E: Sink>(
     alloc: Global,
     log: &mut R,
     output: &mut W,
     errors: &mut E,
 ) -> Result<Part, Stop>
-    ensures { let before = devices (R.remaining log.old) (R.calls log.old) (R.failed_calls log.old)
-        (W.contents output.old) (W.failed_calls output.old) (E.contents errors.old) (E.failed_calls errors.old) in
-        let after = devices (R.remaining log.new) (R.calls log.new) (R.failed_calls log.new)
-        (W.contents output.new) (W.failed_calls output.new) (E.contents errors.new) (E.failed_calls errors.new) in
+    ensures { let before = seen R.Source W.Sink E.Sink log.old output.old errors.old in
+        let after = seen R.Source W.Sink E.Sink log.new output.new errors.new in
         DoesPlain before after result }
 {
     let ended = run_plain(alloc, log, output, errors);
-    whole(alloc, ended)
-}
-
-fn do_decode<R: Source, W: Sink, E: Sink>(
-    alloc: Global,
-    table: &Table,
-    state: Option<&[u8]>,
-    options: Options,
-    log: &mut R,
-    output: &mut W,
-    errors: &mut E,
-) -> Result<Part, Stop>
-    ensures does { let before = devices (R.remaining log.old) (R.calls log.old) (R.failed_calls log.old)
-        (W.contents output.old) (W.failed_calls output.old) (E.contents errors.old) (E.failed_calls errors.old) in
-        let after = devices (R.remaining log.new) (R.calls log.new) (R.failed_calls log.new)
-        (W.contents output.new) (W.failed_calls output.new) (E.contents errors.new) (E.failed_calls errors.new) in
-        DoesDecode table.now options (option_map (λ bytes. bytes.now) state.entry) before after result }
-    ensures untouched { IfErr result (λ stop. IsRefusal stop.fault
-        → (stop.part ≡ None) × ((log.new ≡ log.old) × (output.new ≡ output.old) × (errors.new ≡ errors.old))) }
-{
-    let ended = run_part(alloc, table, state, options, log, output, errors);
-    part(ended)
-}
-
-fn do_frames<R: Source, W: Sink, E: Sink>(
-    alloc: Global,
-    table: &Table,
-    interface: Option<&str>,
-    log: &mut R,
-    output: &mut W,
-    errors: &mut E,
-) -> Result<Part, Stop>
-    requires { IsInterface (interface_of interface) }
-    ensures { let before = devices (R.remaining log.old) (R.calls log.old) (R.failed_calls log.old)
-        (W.contents output.old) (W.failed_calls output.old) (E.contents errors.old) (E.failed_calls errors.old) in
-        let after = devices (R.remaining log.new) (R.calls log.new) (R.failed_calls log.new)
-        (W.contents output.new) (W.failed_calls output.new) (E.contents errors.new) (E.failed_calls errors.new) in
-        DoesFrames table.now (interface_of interface.entry) before after result }
-{
-    let ended = run_frames(alloc, table, interface, log, output, errors);
     whole(alloc, ended)
 }
 
@@ -163,17 +122,18 @@ fn decode_by<R: Source, W: Sink, E: Sink>(
     output: &mut W,
     errors: &mut E,
 ) -> Result<Part, Stop>
-    ensures does { let before = devices (R.remaining log.old) (R.calls log.old) (R.failed_calls log.old)
-        (W.contents output.old) (W.failed_calls output.old) (E.contents errors.old) (E.failed_calls errors.old) in
-        let after = devices (R.remaining log.new) (R.calls log.new) (R.failed_calls log.new)
-        (W.contents output.new) (W.failed_calls output.new) (E.contents errors.new) (E.failed_calls errors.new) in
+    ensures does { let before = seen R.Source W.Sink E.Sink log.old output.old errors.old in
+        let after = seen R.Source W.Sink E.Sink log.new output.new errors.new in
         ByTable table.now before after result
         (λ t. DoesDecode t options (option_map (λ bytes. bytes.now) state.entry) before after result) }
     ensures untouched { IfErr result (λ stop. IsRefusal stop.fault
         → (stop.part ≡ None) × ((log.new ≡ log.old) × (output.new ≡ output.old) × (errors.new ≡ errors.old))) }
 {
     match Table::read(alloc, table) {
-        Ok(table) => do_decode(alloc, &table, state, options, log, output, errors),
+        Ok(table) => {
+            let ended = run_part(alloc, &table, state, options, log, output, errors);
+            part(ended)
+        }
         Err(fault) => Err(Stop::of(Fault::Table(fault))),
     }
 }
@@ -188,26 +148,27 @@ fn frames_by<R: Source, W: Sink, E: Sink>(
     errors: &mut E,
 ) -> Result<Part, Stop>
     requires { IsInterface (interface_of interface) }
-    ensures does { let before = devices (R.remaining log.old) (R.calls log.old) (R.failed_calls log.old)
-        (W.contents output.old) (W.failed_calls output.old) (E.contents errors.old) (E.failed_calls errors.old) in
-        let after = devices (R.remaining log.new) (R.calls log.new) (R.failed_calls log.new)
-        (W.contents output.new) (W.failed_calls output.new) (E.contents errors.new) (E.failed_calls errors.new) in
+    ensures does { let before = seen R.Source W.Sink E.Sink log.old output.old errors.old in
+        let after = seen R.Source W.Sink E.Sink log.new output.new errors.new in
         ByTable table.now before after result (λ t. DoesFrames t (interface_of interface.entry) before after result) }
     ensures untouched { IfErr result (λ stop. IsRefusal stop.fault
         → (stop.part ≡ None) × ((log.new ≡ log.old) × (output.new ≡ output.old) × (errors.new ≡ errors.old))) }
 {
     match Table::read(alloc, table) {
-        Ok(table) => do_frames(alloc, &table, interface, log, output, errors),
+        Ok(table) => {
+            let ended = run_frames(alloc, &table, interface, log, output, errors);
+            whole(alloc, ended)
+        }
         Err(fault) => Err(Stop::of(Fault::Table(fault))),
     }
 }
 
 /// Does what the words name, from the bytes of a table and of a state as far as their command has them: `plain` and
-/// `frames` over a whole log, `decode` from the state on, or from a log's beginning (`None`). The output gets the texts,
-/// and `errors` the reports.
+/// `frames` over a whole log, `decode` from the state on, or from a log's beginning (`None`). The output gets the
+/// texts, and `errors` the reports.
 ///
-/// Answers the state and the counts after the log; the state of `plain` and `frames` is empty. A table or a state with a
-/// fault is refused before the log is read, and leaves each device as it was.
+/// Answers the state and the counts after the log; the state of `plain` and `frames` is empty. A table or a state
+/// with a fault is refused before the log is read, and leaves each device as it was.
 pub fn work<R: Source, W: Sink, E: Sink>(
     alloc: Global,
     words: &Words,
@@ -219,16 +180,14 @@ pub fn work<R: Source, W: Sink, E: Sink>(
 ) -> Result<Part, Stop>
     requires command { IsCommand words.now }
     requires interface { IsInterface (interface_word words.now) }
-    ensures works { let before = devices (R.remaining log.old) (R.calls log.old) (R.failed_calls log.old)
-        (W.contents output.old) (W.failed_calls output.old) (E.contents errors.old) (E.failed_calls errors.old) in
-        let after = devices (R.remaining log.new) (R.calls log.new) (R.failed_calls log.new)
-        (W.contents output.new) (W.failed_calls output.new) (E.contents errors.new) (E.failed_calls errors.new) in
+    ensures works { let before = seen R.Source W.Sink E.Sink log.old output.old errors.old in
+        let after = seen R.Source W.Sink E.Sink log.new output.new errors.new in
         Works words.now table.now (option_map (λ bytes. bytes.now) state.entry) before after result }
     ensures untouched { IfErr result (λ stop. IsRefusal stop.fault
         → (stop.part ≡ None) × ((log.new ≡ log.old) × (output.new ≡ output.old) × (errors.new ≡ errors.old))) }
 {
     match words {
-        Words::Plain { .. } => do_plain(alloc, log, output, errors),
+        Words::Plain { .. } => plain_by(alloc, log, output, errors),
         Words::Decode {
             empty,
             whole,

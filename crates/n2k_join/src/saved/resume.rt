@@ -6,23 +6,22 @@ ghost use Rattle.n2k_table.specs.Table.{kind};
 ghost use Rattle.n2k_wire.specs.Packet.{greatest_pgn};
 ghost use Rattle.n2k_wire.specs.Plain.{greatest_address};
 ghost use Rattle.n2k_join.specs.Frames.{Key, most_sequences};
-ghost use Rattle.n2k_join.specs.Open.{Group};
 ghost use Rattle.n2k_join.specs.Refusal.{GivesOrMemory};
 ghost use Rattle.n2k_wire.specs.Steps.{or_cause};
 ghost use Rattle.n2k_join.specs.Resumed.{pieces_rise, group_holds, groups_hold, valid_if, parsed, format_in};
 ghost use Rattle.n2k_wire.specs.Views.{Gives};
-ghost use Rattle.n2k_join.specs.State.{IsKey, IsPiece, HasParts, Rise};
+ghost use Rattle.n2k_join.specs.State.{IsKey, IsPiece, HasParts};
 ghost use Rattle.std.specs.List.{AllByRecursion};
 ghost use Rattle.n2k_join.specs.Inner.Stored.{key_of};
 ghost use Rattle.n2k_join.specs.Inner.Slots.{group_in, group_at, groups_in};
 
-use crate::open_groups::OpenGroups;
 use crate::piece::{FrameKey, OpenGroup};
 use crate::saved::place::Place;
 use crate::saved::rules::{key_holds, stored_piece};
 use crate::saved::spelled::{SpelledGroup, SpelledKey, SpelledPiece};
 use crate::saved::{OLD_FORMAT, SAVED_FORMAT};
 use crate::state_fault::StateFault;
+use indexmap::IndexMap;
 use n2k_table::Table;
 use serde_json::Value;
 use std::alloc::Global;
@@ -82,18 +81,16 @@ pub(crate) fn stored_groups(
     alloc: Global,
     table: &Table,
     groups: &[SpelledGroup],
-) -> Result<OpenGroups, StateFault>
-    requires { Rise (λ (g : Group). g.first) 1 groups.now }
-    ensures value { GivesOrMemory (λ stored. groups_in stored) result (valid_if (groups_hold (kind table.now) groups.now) groups.now) }
-    ensures parts { IfOk result (λ stored. AllByRecursion HasParts (groups_in stored)) }
+) -> Result<IndexMap<FrameKey, OpenGroup>, StateFault>
+    ensures value { GivesOrMemory (λ stored. groups_in stored.entries) result (valid_if (groups_hold (kind table.now) groups.now) groups.now) }
+    ensures parts { IfOk result (λ stored. AllByRecursion HasParts (groups_in stored.entries)) }
 {
-    let mut stored = OpenGroups::new(alloc);
+    let mut stored = IndexMap::new(alloc);
     for group in groups {
         let (key, open) = stored_group(table, group).ok_or(StateFault::Invalid)?;
-        if stored.place_of(&key).is_some() {
+        if stored.insert(key, open)?.is_some() {
             return Err(StateFault::Invalid);
         }
-        stored.push(key, open)?;
     }
     Ok(stored)
 }

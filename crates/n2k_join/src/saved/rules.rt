@@ -17,6 +17,7 @@ use crate::frame::{LONGEST_MESSAGE, MOST_FRAMES, MOST_SEQUENCES};
 use crate::piece::StoredPiece;
 use crate::saved::place::Place;
 use crate::saved::spelled::{SpelledGroup, SpelledKey, SpelledPiece, SpelledState};
+use crate::window::is_waiting;
 use n2k_table::{Kind, Table};
 use n2k_wire::{GREATEST_ADDRESS, GREATEST_PGN};
 
@@ -60,10 +61,8 @@ pub(crate) fn rules_hold(counts: &Counts, groups: &[SpelledGroup]) -> bool
 fn are_waiting(state: &SpelledState) -> bool
     ensures { result ≡ are_waiting state.now }
 {
-    let line = u128::from(state.counts.lines);
-    let long = u128::from(state.window);
     for group in &state.groups {
-        if line >= u128::from(group.first) + long {
+        if !is_waiting(group.first, state.window, state.counts.lines) {
             return false;
         }
     }

@@ -14,10 +14,10 @@ ghost use Rattle.std.specs.Str.{IsUtf8};
 
 use crate::counts::Counts;
 use crate::frame::MOST_FRAMES;
-use crate::open_groups::OpenGroups;
 use crate::piece::{FrameKey, OpenGroup};
 use crate::saved::{OLD_FORMAT, SAVED_FORMAT};
-use crate::window::Window;
+use crate::window::{Window, is_waiting};
+use indexmap::IndexMap;
 use json::Writer;
 use std::alloc::{AllocError, Global};
 use std::str;
@@ -124,18 +124,18 @@ fn push_group(key: &FrameKey, group: &OpenGroup, out: &mut Writer) -> Result<(),
 }
 
 // Writes the open groups as a member.
-fn push_groups(groups: &OpenGroups, out: &mut Writer) -> Result<(), AllocError>
-    ensures { Appends result out.old out.new (groups_tokens (groups_in groups.now)) }
+fn push_groups(groups: &IndexMap<FrameKey, OpenGroup>, out: &mut Writer) -> Result<(), AllocError>
+    ensures { Appends result out.old out.new (groups_tokens (groups_in groups.now.entries)) }
 {
-    for (key, group) in groups.entries() {
+    for (key, group) in groups.iter() {
         push_group(key, group, out)?;
     }
     Ok(())
 }
 
 // Writes the member `groups`.
-fn push_open(groups: &OpenGroups, out: &mut Writer) -> Result<(), AllocError>
-    ensures { Appends result out.old out.new (open_tokens (groups_in groups.now)) }
+fn push_open(groups: &IndexMap<FrameKey, OpenGroup>, out: &mut Writer) -> Result<(), AllocError>
+    ensures { Appends result out.old out.new (open_tokens (groups_in groups.now.entries)) }
 {
     out.key("groups")?;
     out.begin_array()?;
@@ -199,13 +199,12 @@ fn push_back(
 }
 
 // Whether no group's window has ended.
-fn are_waiting(window: Window, lines: u64, groups: &OpenGroups) -> bool
-    ensures { result ≡ list_all (is_waiting window lines) (groups_in groups.now) }
+fn are_waiting(window: Window, lines: u64, groups: &IndexMap<FrameKey, OpenGroup>) -> bool
+    ensures { result ≡ list_all (is_waiting window lines) (groups_in groups.now.entries) }
 {
-    let line = u128::from(lines);
-    let long = u128::from(window.get());
-    for (_, group) in groups.entries() {
-        if line >= u128::from(group.first) + long {
+    let long = u64::from(window.get());
+    for (_, group) in groups.iter() {
+        if !is_waiting(group.first, long, lines) {
             return false;
         }
     }
@@ -217,10 +216,10 @@ fn push_state(
     id: &[u8; 32],
     window: Window,
     counts: &Counts,
-    groups: &OpenGroups,
+    groups: &IndexMap<FrameKey, OpenGroup>,
     out: &mut Writer,
 ) -> Result<(), AllocError>
-    ensures { Appends result out.old out.new (tokens_of (state_tree (record { id = id.now; rule = window; counts = counts.now; groups = groups_in groups.now }))) }
+    ensures { Appends result out.old out.new (tokens_of (state_tree (record { id = id.now; rule = window; counts = counts.now; groups = groups_in groups.now.entries }))) }
 {
     let tells = are_waiting(window, counts.lines, groups);
     out.begin_object()?;
@@ -237,10 +236,10 @@ pub(crate) fn state_text(
     id: &[u8; 32],
     window: Window,
     counts: &Counts,
-    groups: &OpenGroups,
+    groups: &IndexMap<FrameKey, OpenGroup>,
 ) -> Result<Vec<u8>, AllocError>
     ensures id { IsId id.now }
-    ensures text { IfOk result (λ text. text.items ≡ state_text (record { id = id.now; rule = window; counts = counts.now; groups = groups_in groups.now })) }
+    ensures text { IfOk result (λ text. text.items ≡ state_text (record { id = id.now; rule = window; counts = counts.now; groups = groups_in groups.now.entries })) }
 {
     let mut out = Writer::new(Vec::new(alloc));
     push_state(id, window, counts, groups, &mut out)?;

@@ -54,7 +54,8 @@ MakesRoom old new = (new ≡ old) ⊎ ((longest_line + 1 < length old) × (new �
 
 -- what an answer is, where the line that it lends stands beside it
 abbrev pub Finds : List ℕ → Held → Option (List ℕ) → Found → Type 0
-Finds whole new left Line = FirstLine whole new.line (unanswered new) new.has_ended left × (length new.line ≤ longest_line)
+Finds whole new left Line =
+    FirstLine whole new.line (unanswered new) new.has_ended left × (length new.line ≤ longest_line)
 Finds whole new left Long = FirstLong whole (unanswered new) new.has_ended left
 Finds whole new left End = IsAtEnd left × (new.has_ended ≡ true) × (whole ≡ []) × (unanswered new ≡ [])
 
@@ -63,7 +64,8 @@ abbrev pub GivesFound : List ℕ → Held → Option (List ℕ) → Result Found
 GivesFound whole new left (Ok found) = Finds whole new left found
 GivesFound whole new left (Err failed) = HasNoFeed whole × Stays whole (unanswered new)
 
-pub record AnswersFound (old new : Held) (left₀ left : Option (List ℕ)) (calls₀ calls : ℕ) (result : Result Found Failed) : Type 0 where
+pub record AnswersFound (old new : Held) (left₀ left : Option (List ℕ)) (calls₀ calls : ℕ)
+    (result : Result Found Failed) : Type 0 where
   pub came : List ℕ
   pub given : Consumes left₀ left came
   pub answer : GivesFound (unanswered old ++ came) new left result

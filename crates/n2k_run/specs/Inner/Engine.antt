@@ -18,7 +18,8 @@ use Rattle.n2k_run.specs.Runs.{AreNumbered, Devices, NoneFailed}
 use Rattle.n2k_run.specs.Writing.{AppendsFront}
 
 -- a maker took an entry: the state, the text and the report moved on
-pub record MovesOn {S : Type 0} (m : Making S) (s s' : S) (x : Entry) (text text' report report' : List ℕ) : Type 0 where
+pub record MovesOn {S : Type 0} (m : Making S) (s s' : S) (x : Entry)
+    (text text' report report' : List ℕ) : Type 0 where
   pub state_after : s' ≡ m.after s x
   pub text_after : text' ≡ text ++ m.text s x
   pub report_after : report' ≡ report ++ m.report s x
@@ -32,9 +33,11 @@ pub record StandsStill {S : Type 0} (s s' : S) (text text' report report' : List
   pub same_report : report' ≡ report
 
 -- what a maker answers on an entry
-abbrev pub Takes : {S T : Type 0} → Making S → S → S → Entry → List ℕ → List ℕ → List ℕ → List ℕ → Result T RunFault → Type 0
+abbrev pub Takes : {S T : Type 0} → Making S → S → S → Entry → List ℕ → List ℕ → List ℕ → List ℕ → Result T RunFault
+    → Type 0
 Takes m s s' x text text' report report' (Ok y) = MovesOn m s s' x text text' report report'
-Takes m s s' x text text' report report' (Err TooManyLines) = StandsStill s s' text text' report report' × (m.lines s ≡ most_lines)
+Takes m s s' x text text' report report' (Err TooManyLines) =
+    StandsStill s s' text text' report report' × (m.lines s ≡ most_lines)
 Takes m s s' x text text' report report' (Err Memory) = Unit {0}
 Takes m s s' x text text' report report' (Err Read) = ⊥
 Takes m s s' x text text' report report' (Err Write) = ⊥
@@ -64,10 +67,16 @@ pub record FailsNext (old : Held) (left₀ left : Option (List ℕ)) : Type 0 wh
   pub none : HasNoFeed (unanswered old ++ came)
 
 -- what is done at the next line
-abbrev pub TakesNext : {S T : Type 0} → Making S → Packing → S → S → Held → Held → Option (List ℕ) → Option (List ℕ) → List ℕ → List ℕ → List ℕ → List ℕ → Result T RunFault → Type 0
-TakesNext m packing s s' old new left₀ left text text' report report' (Ok y) = ((x : Entry) × NextEntry packing old new left₀ left x × MovesOn m s s' x text text' report report') ⊎ (NoneNext old new left₀ left × StandsStill s s' text text' report report')
-TakesNext m packing s s' old new left₀ left text text' report report' (Err TooManyLines) = (x : Entry) × NextEntry packing old new left₀ left x × StandsStill s s' text text' report report' × (m.lines s ≡ most_lines)
-TakesNext m packing s s' old new left₀ left text text' report report' (Err Read) = FailsNext old left₀ left × StandsStill s s' text text' report report' × (text' ≡ []) × (report' ≡ [])
+abbrev pub TakesNext : {S T : Type 0} → Making S → Packing → S → S → Held → Held → Option (List ℕ) → Option (List ℕ)
+    → List ℕ → List ℕ → List ℕ → List ℕ → Result T RunFault → Type 0
+TakesNext m packing s s' old new left₀ left text text' report report' (Ok y) =
+    ((x : Entry) × NextEntry packing old new left₀ left x × MovesOn m s s' x text text' report report')
+    ⊎ (NoneNext old new left₀ left × StandsStill s s' text text' report report')
+TakesNext m packing s s' old new left₀ left text text' report report' (Err TooManyLines) =
+    (x : Entry) × NextEntry packing old new left₀ left x × StandsStill s s' text text' report report'
+    × (m.lines s ≡ most_lines)
+TakesNext m packing s s' old new left₀ left text text' report report' (Err Read) =
+    FailsNext old left₀ left × StandsStill s s' text text' report report' × (text' ≡ []) × (report' ≡ [])
 TakesNext m packing s s' old new left₀ left text text' report report' (Err Memory) = Unit {0}
 TakesNext m packing s s' old new left₀ left text text' report report' (Err Write) = ⊥
 TakesNext m packing s s' old new left₀ left text text' report report' (Err Report) = ⊥
@@ -82,7 +91,8 @@ ReadsNext new failed₀ failed (Err TooManyLines) = failed ≡ failed₀
 ReadsNext new failed₀ failed (Ok x) = failed ≡ failed₀
 
 -- what is kept is written, the reports first; a sink that fails had something to write
-abbrev pub WritesKept : {T : Type 0} → List ℕ → List ℕ → Option (List ℕ) → Option (List ℕ) → Option (List ℕ) → Option (List ℕ) → Result T RunFault → Type 0
+abbrev pub WritesKept : {T : Type 0} → List ℕ → List ℕ → Option (List ℕ) → Option (List ℕ) → Option (List ℕ)
+    → Option (List ℕ) → Result T RunFault → Type 0
 WritesKept text report w w' e e' (Ok x) = Appends w w' text × Appends e e' report
 WritesKept text report w w' e e' (Err Report) = (w' ≡ w) × AppendsFront e e' report × (0 < length report)
 WritesKept text report w w' e e' (Err Write) = AppendsFront w w' text × Appends e e' report × (0 < length text)
@@ -100,7 +110,8 @@ FailsKept writes₀ writes reports₀ reports (Err Memory) = ⊥
 FailsKept writes₀ writes reports₀ reports (Err TooManyLines) = ⊥
 
 -- What was made of these entries: of the first of them the texts and reports are written, of the others they are kept.
-pub record Made {S : Type 0} (m : Making S) (s₀ s : S) (es : List Entry) (text report : List ℕ) (before now : Devices) : Type 0 where
+pub record Made {S : Type 0} (m : Making S) (s₀ s : S) (es : List Entry) (text report : List ℕ)
+    (before now : Devices) : Type 0 where
   pub written : List Entry
   pub kept : List Entry
   pub entries_are : es ≡ written ++ kept
@@ -113,7 +124,8 @@ pub record Made {S : Type 0} (m : Making S) (s₀ s : S) (es : List Entry) (text
   pub numbered : AreNumbered (m.lines s₀) es
 
 -- The engine between two lines: what came of the log is what was taken and what the block holds.
-pub record Stands {S : Type 0} (m : Making S) (packing : Packing) (s₀ s : S) (held : Held) (text report : List ℕ) (before now : Devices) : Type 0 where
+pub record Stands {S : Type 0} (m : Making S) (packing : Packing) (s₀ s : S) (held : Held) (text report : List ℕ)
+    (before now : Devices) : Type 0 where
   pub front : List ℕ
   pub came : Consumes before.left now.left (front ++ unanswered held)
   -- it ends with a line, unless the log has ended

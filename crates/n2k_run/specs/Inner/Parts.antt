@@ -19,7 +19,8 @@ pub record PartLeft : Type 0 where
 pub record Saves (s : State) (part : Part) : Type 0 where
   pub saved : part.state.items ≡ state_text s
   pub counted : part.counts ≡ s.counts
-  pub reads_back : (kind : ℕ → Option Kind) → AreFast kind s.groups → IsId s.id → judged kind s.id s.rule (state_text s) ≡ Ok s
+  pub reads_back : (kind : ℕ → Option Kind) → AreFast kind s.groups → IsId s.id
+      → judged kind s.id s.rule (state_text s) ≡ Ok s
 
 abbrev pub HasSaved : Result Part PartFault → State → Type 0
 HasSaved (Ok part) s = Saves s part

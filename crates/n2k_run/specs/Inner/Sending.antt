@@ -63,19 +63,22 @@ abbrev pub MadeOf : Result (List ℕ) WireFault → List ℕ → List ℕ → Ou
 MadeOf (Ok lines) text text' made = (text' ≡ text ++ lines) × (made ≡ Written)
 MadeOf (Err fault) text text' made = (text' ≡ text) × (made ≡ outcome_by (fault_cause fault))
 
-abbrev pub WritesFrames : {E : Type 0} → Option (List ℕ) → List PacketParts → List ℕ → List ℕ → Result Outcome E → Type 0
+abbrev pub WritesFrames : {E : Type 0} → Option (List ℕ) → List PacketParts → List ℕ → List ℕ → Result Outcome E
+    → Type 0
 WritesFrames interface frames text text' result = IfOk result (MadeOf (lines_of interface frames) text text')
 
 -- what is written of a message
 abbrev pub message_text : (ℕ → Option Kind) → Option (List ℕ) → Sequences → PacketParts → List ℕ
 message_text kind interface held m =
-    if is_none (message_cause kind interface m) then frame_texts interface (pieces_by kind m (held (stream_of m.id))) else []
+    if is_none (message_cause kind interface m)
+    then frame_texts interface (pieces_by kind m (held (stream_of m.id)))
+    else []
 
 -- the sequences after it: it takes one where it is split
 abbrev pub held_after_message : (ℕ → Option Kind) → Sequences → PacketParts → Sequences
 held_after_message kind held m = if is_none (refusal (kind m.id.pgn) m) then raised kind held (stream_of m.id) else held
 
--- the same of a line
+-- what is written of a line
 abbrev pub line_text : (ℕ → Option Kind) → Option (List ℕ) → Sequences → Entry → List ℕ
 line_text kind interface held lines.Skip = []
 line_text kind interface held (lines.Bad cause) = []
@@ -89,13 +92,15 @@ held_after kind held (lines.Frame packet) = held
 held_after kind held (lines.Whole packet) = held_after_message kind held packet
 
 -- a message was sent
-pub record SentMessage (kind : ℕ → Option Kind) (interface : Option (List ℕ)) (m : PacketParts) (held held' : Sequences) (text text' : List ℕ) (made : Outcome) : Type 0 where
+pub record SentMessage (kind : ℕ → Option Kind) (interface : Option (List ℕ)) (m : PacketParts)
+    (held held' : Sequences) (text text' : List ℕ) (made : Outcome) : Type 0 where
   pub made_is : made ≡ outcome_by (message_cause kind interface m)
   pub held_is : held' ≡ held_after_message kind held m
   pub text_is : text' ≡ text ++ message_text kind interface held m
 
 -- a line was taken
-pub record SentLine (kind : ℕ → Option Kind) (interface : Option (List ℕ)) (e : Entry) (held held' : Sequences) (text text' : List ℕ) (made : Outcome) : Type 0 where
+pub record SentLine (kind : ℕ → Option Kind) (interface : Option (List ℕ)) (e : Entry) (held held' : Sequences)
+    (text text' : List ℕ) (made : Outcome) : Type 0 where
   pub made_is : made ≡ outcome kind interface e
   pub held_is : held' ≡ held_after kind held e
   pub text_is : text' ≡ text ++ line_text kind interface held e

@@ -1,7 +1,10 @@
 //! Worked examples of logs that are decoded.
-use super::options::{TWO_SOURCES, frames, has_summary};
-use crate::samples::{long_window, sample};
-use n2k_join::Join;
+use super::options::{
+    REPEAT_BREAKS, REPEAT_BREAKS_REPORT, REPEAT_BREAKS_TEXT, TWO_SOURCES, TWO_SOURCES_TEXT, frames,
+    has_summary,
+};
+use crate::samples::{long_window, sample, shortest_window};
+use n2k_join::{Join, Window};
 use n2k_run::{MemorySink, MemorySource, run};
 use n2k_table::Table;
 use serde_json::Value;
@@ -16,11 +19,6 @@ struct Example {
     reports: &'static str,
     summary: &'static str,
 }
-
-const TWO_SOURCES_TEXT: &str =
-    "{\"timestamp\":\"1970-01-01T00:00:10.200Z\",\"prio\":7,\"src\":6,\"dst\":255,\"pgn\":130820,\"description\":\"Sample: Label\",\"fields\":{\"Maker\":419,\"Kind\":2,\"Label\":\"XY\"}}
-{\"timestamp\":\"1970-01-01T00:00:10.300Z\",\"prio\":7,\"src\":5,\"dst\":255,\"pgn\":130820,\"description\":\"Sample: Label\",\"fields\":{\"Maker\":419,\"Kind\":1,\"Label\":\"ABC\"}}
-";
 
 const EXAMPLES: [Example; 10] = [
     // empty-log
@@ -39,14 +37,9 @@ const EXAMPLES: [Example; 10] = [
     },
     // repeat-breaks
     Example {
-        log: "(1.0) can0 1DFF0405#6014A39904474849
-(2.0) can0 1DFF0405#6120202020202020
-(3.0) can0 1DFF0405#6120202020202020
-(4.0) can0 1DFF0405#6014A39904474849
-(5.0) can0 1DFF0405#6220202020202020
-",
-        text: "{\"timestamp\":\"1970-01-01T00:00:05.000Z\",\"prio\":7,\"src\":5,\"dst\":255,\"pgn\":130820,\"description\":\"Sample: Label\",\"fields\":{\"Maker\":419,\"Kind\":4,\"Label\":\"GHI\"}}\n",
-        reports: "line 3 broken pgn 130820 src 5 dst 255 seq 3 first 1\n",
+        log: REPEAT_BREAKS,
+        text: REPEAT_BREAKS_TEXT,
+        reports: REPEAT_BREAKS_REPORT,
         summary: "lines 5 messages 1 bad 0 unknown 0 broken 1 open 0\n",
     },
     // frames-in-reverse
@@ -160,12 +153,12 @@ fn decodes<R: Abort + AllocGlobal>(
     table: &Table,
     log: &[u8],
     example: &Example,
+    window: Window,
     piece: usize,
 ) -> Result<(), Fail> {
     if piece == 0 {
         return Err("no piece".into());
     }
-    let window = long_window();
     let mut join = Join::new(rt.alloc(), table, window);
     let mut reader = MemorySource::new(log, piece, 0);
     let mut writer = MemorySink::new(rt.alloc(), piece, 0);
@@ -193,7 +186,7 @@ fn decodes_in_pieces<R: Abort + AllocGlobal>(
     example: &Example,
 ) -> Result<(), Fail> {
     for piece in &PIECES {
-        decodes(rt, table, log, example, *piece)?;
+        decodes(rt, table, log, example, long_window(), *piece)?;
     }
     Ok(())
 }
@@ -204,6 +197,67 @@ fn worked_examples_in_pieces(rt: HostRuntime) -> Result<(), Fail> {
     for example in &EXAMPLES {
         let log = example.log.as_bytes();
         decodes_in_pieces(&rt, &table, log, example)?;
+    }
+    Ok(())
+}
+
+// Logs under the shortest window. Before the last line stand so many empty ones.
+const UNDER_32: [(usize, Example); 3] = [
+    // stale-group, and a line less
+    (
+        31,
+        Example {
+            log: "(1.0) can0 1DFF0405#0141414141414141\n(9.0) can0 1DFF0405#000DA39903444546\n",
+            text: "",
+            reports: "line 33 broken pgn 130820 src 5 dst 255 seq 0 first 1\n",
+            summary: "lines 33 messages 0 bad 0 unknown 0 broken 1 open 1\n",
+        },
+    ),
+    (
+        30,
+        Example {
+            log: "(1.0) can0 1DFF0405#0141414141414141\n(9.0) can0 1DFF0405#000DA39903444546\n",
+            text: "{\"timestamp\":\"1970-01-01T00:00:09.000Z\",\"prio\":7,\"src\":5,\"dst\":255,\"pgn\":130820,\"description\":\"Sample: Label\",\"fields\":{\"Maker\":419,\"Kind\":3,\"Label\":\"DEFAAAAA\"}}\n",
+            reports: "",
+            summary: "lines 32 messages 1 bad 0 unknown 0 broken 0 open 0\n",
+        },
+    ),
+    // two-broken-at-one-line
+    (
+        30,
+        Example {
+            log: "(10.000001) can0 1DFF0405#000BA39901414243
+(10.100000) can0 1DFF0406#200BA39902585920
+(10.100000) can0 1DFF0406#200BA39902585920
+",
+            text: "",
+            reports: "line 33 broken pgn 130820 src 5 dst 255 seq 0 first 1
+line 33 broken pgn 130820 src 6 dst 255 seq 1 first 2
+",
+            summary: "lines 33 messages 0 bad 0 unknown 0 broken 2 open 1\n",
+        },
+    ),
+];
+
+// A log with so many empty lines before its last one.
+fn with_empty_lines(alloc: Global, log: &str, empty: usize) -> Result<Vec<u8>, Fail> {
+    let front = log.trim_end().rfind('\n').ok_or("one line")?;
+    let (front, last) = log.split_at(front);
+    let mut text = Vec::new(alloc);
+    text.extend_from_slice(front.as_bytes())?;
+    for _ in 0..empty {
+        text.push(b'\n')?;
+    }
+    text.extend_from_slice(last.as_bytes())?;
+    Ok(text)
+}
+
+#[test]
+fn windows_that_end(rt: HostRuntime) -> Result<(), Fail> {
+    let table = sample(rt.alloc())?;
+    for (empty, example) in &UNDER_32 {
+        let log = with_empty_lines(rt.alloc(), example.log, *empty)?;
+        decodes(&rt, &table, &log, example, shortest_window(), 7)?;
     }
     Ok(())
 }

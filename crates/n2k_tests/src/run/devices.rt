@@ -28,6 +28,14 @@ fn pieces_of_1_of_7_and_all_bytes(rt: HostRuntime) -> Result<(), Fail> {
     moved_in_pieces(&rt, 100)
 }
 
+#[test]
+fn bytes_up_to_a_limit(rt: HostRuntime) -> Result<(), Fail> {
+    let mut short = MemorySource::new(b"abc", 100, 0);
+    let taken = read_bytes(rt.alloc(), &mut short, 3)?;
+    assert_eq!(rt; taken.as_slice(), b"abc".as_slice());
+    Ok(())
+}
+
 // One byte more than the limit is asked for.
 #[test]
 fn past_a_limit_of_bytes(rt: HostRuntime) -> Result<(), Fail> {

@@ -14,6 +14,26 @@ pub(crate) const TWO_SOURCES: &str = "(10.000001) can0 1DFF0405#000BA39901414243
 (10.300000) can0 1DFF0405#010000000000FFFF
 ";
 
+// What is printed of it.
+pub(crate) const TWO_SOURCES_TEXT: &str =
+    "{\"timestamp\":\"1970-01-01T00:00:10.200Z\",\"prio\":7,\"src\":6,\"dst\":255,\"pgn\":130820,\"description\":\"Sample: Label\",\"fields\":{\"Maker\":419,\"Kind\":2,\"Label\":\"XY\"}}
+{\"timestamp\":\"1970-01-01T00:00:10.300Z\",\"prio\":7,\"src\":5,\"dst\":255,\"pgn\":130820,\"description\":\"Sample: Label\",\"fields\":{\"Maker\":419,\"Kind\":1,\"Label\":\"ABC\"}}
+";
+
+// A frame that comes again breaks its group.
+pub(crate) const REPEAT_BREAKS: &str = "(1.0) can0 1DFF0405#6014A39904474849
+(2.0) can0 1DFF0405#6120202020202020
+(3.0) can0 1DFF0405#6120202020202020
+(4.0) can0 1DFF0405#6014A39904474849
+(5.0) can0 1DFF0405#6220202020202020
+";
+
+pub(crate) const REPEAT_BREAKS_TEXT: &str =
+    "{\"timestamp\":\"1970-01-01T00:00:05.000Z\",\"prio\":7,\"src\":5,\"dst\":255,\"pgn\":130820,\"description\":\"Sample: Label\",\"fields\":{\"Maker\":419,\"Kind\":4,\"Label\":\"GHI\"}}\n";
+
+pub(crate) const REPEAT_BREAKS_REPORT: &str =
+    "line 3 broken pgn 130820 src 5 dst 255 seq 3 first 1\n";
+
 // Frames are read, under a window.
 pub(crate) fn frames(window: Window) -> Options
     ensures { result.window ≡ window }

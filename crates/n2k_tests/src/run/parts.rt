@@ -1,7 +1,7 @@
 //! Worked examples of logs in parts.
 ghost use Rattle.std.specs.Prelude.{◌<◌};
 
-use super::options::{TWO_SOURCES, frames, has_summary};
+use super::options::{REPEAT_BREAKS, TWO_SOURCES, TWO_SOURCES_TEXT, frames, has_summary};
 use crate::samples::{long_window, sample, spelled};
 use n2k_join::Window;
 use n2k_run::{MemorySink, MemorySource, Options, Part, PartFault, RunFault, run_part, run_parts};
@@ -33,9 +33,7 @@ const EXAMPLES: [Example; 3] = [
     // two-sources
     Example {
         log: TWO_SOURCES,
-        text: "{\"timestamp\":\"1970-01-01T00:00:10.200Z\",\"prio\":7,\"src\":6,\"dst\":255,\"pgn\":130820,\"description\":\"Sample: Label\",\"fields\":{\"Maker\":419,\"Kind\":2,\"Label\":\"XY\"}}
-{\"timestamp\":\"1970-01-01T00:00:10.300Z\",\"prio\":7,\"src\":5,\"dst\":255,\"pgn\":130820,\"description\":\"Sample: Label\",\"fields\":{\"Maker\":419,\"Kind\":1,\"Label\":\"ABC\"}}
-",
+        text: TWO_SOURCES_TEXT,
         reports: "",
         summary: "lines 4 messages 2 bad 0 unknown 0 broken 0 open 0\n",
         state: "{'bad':0,'broken':0,'format':2,'groups':[],'lines':4,'messages':2,'table':'ID','unknown':0,'window':10000}",
@@ -161,8 +159,12 @@ const AFTER_THREE: &str =
     "{'bad':0,'broken':0,'format':2,'groups':[{'dst':255,'first':1,'frames':[[0,'0ba39901414243']],'pgn':130820,'seq':0,'src':5}],'lines':3,'messages':1,'table':'ID','unknown':0,'window':10000}";
 
 // A state without a window, whose groups wait too long under the shortest one.
-const OVERDUE: &str =
+pub(crate) const OVERDUE: &str =
     "{'bad':0,'broken':0,'format':1,'groups':[{'dst':255,'first':1,'frames':[[0,'0ba39901414243']],'pgn':130820,'seq':0,'src':5},{'dst':255,'first':2,'frames':[[0,'0ba39902585920']],'pgn':130820,'seq':1,'src':6}],'lines':50,'messages':0,'table':'ID','unknown':0}";
+
+pub(crate) const OVERDUE_REPORTS: &str = "line 51 broken pgn 130820 src 5 dst 255 seq 0 first 1
+line 51 broken pgn 130820 src 6 dst 255 seq 1 first 2
+";
 
 // A state that is handed in, the lines after it, and what is made of them.
 #[derive(Drop)]
@@ -183,9 +185,7 @@ const RESUMED: [Resumed; 5] = [
         log: "(10.200000) can0 1DFF0406#212020202020FFFF
 (10.300000) can0 1DFF0405#010000000000FFFF
 ",
-        text: "{\"timestamp\":\"1970-01-01T00:00:10.200Z\",\"prio\":7,\"src\":6,\"dst\":255,\"pgn\":130820,\"description\":\"Sample: Label\",\"fields\":{\"Maker\":419,\"Kind\":2,\"Label\":\"XY\"}}
-{\"timestamp\":\"1970-01-01T00:00:10.300Z\",\"prio\":7,\"src\":5,\"dst\":255,\"pgn\":130820,\"description\":\"Sample: Label\",\"fields\":{\"Maker\":419,\"Kind\":1,\"Label\":\"ABC\"}}
-",
+        text: TWO_SOURCES_TEXT,
         reports: "",
         summary: "lines 4 messages 2 bad 0 unknown 0 broken 0 open 0\n",
     },
@@ -224,9 +224,7 @@ const RESUMED: [Resumed; 5] = [
         window: 32,
         log: "\n",
         text: "",
-        reports: "line 51 broken pgn 130820 src 5 dst 255 seq 0 first 1
-line 51 broken pgn 130820 src 6 dst 255 seq 1 first 2
-",
+        reports: OVERDUE_REPORTS,
         summary: "lines 51 messages 0 bad 0 unknown 0 broken 2 open 0\n",
     },
 ];
@@ -243,6 +241,26 @@ fn part_of_log(
 ) -> Result<Part, PartFault> {
     let mut reader = MemorySource::new(log, 4096, 0);
     run_part(alloc, table, state, options, &mut reader, writer, reporter)
+}
+
+// two-sources, as one part without a state
+#[test]
+fn one_part_from_the_beginning(rt: HostRuntime) -> Result<(), Fail> {
+    let table = sample(rt.alloc())?;
+    let mut writer = MemorySink::new(rt.alloc(), 7, 0);
+    let mut reporter = MemorySink::new(rt.alloc(), 7, 0);
+    let part = part_of_log(
+        rt.alloc(),
+        &table,
+        frames(long_window()),
+        None,
+        TWO_SOURCES.as_bytes(),
+        &mut writer,
+        &mut reporter,
+    )?;
+    assert_eq!(rt; writer.bytes(), TWO_SOURCES_TEXT.as_bytes());
+    assert_eq!(rt; reporter.bytes(), b"".as_slice());
+    is_left(&rt, &part, EXAMPLES[1].state, EXAMPLES[1].summary)
 }
 
 fn goes_on<R: Abort + AllocGlobal>(rt: &R, table: &Table, resumed: &Resumed) -> Result<(), Fail> {
@@ -270,6 +288,70 @@ fn goes_on_from_states(rt: HostRuntime) -> Result<(), Fail> {
     for resumed in &RESUMED {
         goes_on(&rt, &table, resumed)?;
     }
+    Ok(())
+}
+
+// The frames of a message of 18 bytes, as 1 and 0, and then 2.
+const ONE_THEN_ZERO: &str = "(1.0) can0 1DFF0405#0144454647482020
+(2.0) can0 1DFF0405#0012A39901414243
+";
+
+const TWO: &str = "(3.0) can0 1DFF0405#022020202020FFFF\n";
+
+const OUT_OF_ORDER: &str =
+    "{\"timestamp\":\"1970-01-01T00:00:03.000Z\",\"prio\":7,\"src\":5,\"dst\":255,\"pgn\":130820,\"description\":\"Sample: Label\",\"fields\":{\"Maker\":419,\"Kind\":1,\"Label\":\"ABCDEFGH\"}}
+";
+
+// order-in-parts: what a part took out of order stays in its state, and a part in order completes it.
+#[test]
+fn a_part_without_the_order_is_completed_in_order(rt: HostRuntime) -> Result<(), Fail> {
+    let table = sample(rt.alloc())?;
+    let any_order = frames(long_window());
+    let in_order = frames(long_window().in_order());
+    let mut writer = MemorySink::new(rt.alloc(), 7, 0);
+    let mut reporter = MemorySink::new(rt.alloc(), 7, 0);
+    let front = part_of_log(
+        rt.alloc(),
+        &table,
+        any_order,
+        None,
+        ONE_THEN_ZERO.as_bytes(),
+        &mut writer,
+        &mut reporter,
+    )?;
+    part_of_log(
+        rt.alloc(),
+        &table,
+        in_order,
+        Some(front.state.as_slice()),
+        TWO.as_bytes(),
+        &mut writer,
+        &mut reporter,
+    )?;
+    assert_eq!(rt; writer.bytes(), OUT_OF_ORDER.as_bytes());
+    assert_eq!(rt; reporter.bytes(), b"".as_slice());
+    Ok(())
+}
+
+// In order in each part, the message is broken, and none is printed.
+#[test]
+fn parts_in_order_print_no_message_out_of_order(rt: HostRuntime) -> Result<(), Fail> {
+    let table = sample(rt.alloc())?;
+    let mut writer = MemorySink::new(rt.alloc(), 7, 0);
+    let mut reporter = MemorySink::new(rt.alloc(), 7, 0);
+    run_parts(
+        rt.alloc(),
+        &table,
+        frames(long_window().in_order()),
+        &[ONE_THEN_ZERO.as_bytes(), TWO.as_bytes()],
+        &mut writer,
+        &mut reporter,
+    )?;
+    assert_eq!(rt; writer.bytes(), b"".as_slice());
+    assert_eq!(rt;
+        reporter.bytes(),
+        b"line 2 broken pgn 130820 src 5 dst 255 seq 0 first 1\n".as_slice()
+    );
     Ok(())
 }
 
@@ -404,13 +486,6 @@ fn a_failed_write_leaves_a_front(rt: HostRuntime) -> Result<(), Fail> {
     assert_eq!(rt; writer.bytes(), b"{\"timestamp\":\"1970-0".as_slice());
     Ok(())
 }
-
-const REPEAT_BREAKS: &str = "(1.0) can0 1DFF0405#6014A39904474849
-(2.0) can0 1DFF0405#6120202020202020
-(3.0) can0 1DFF0405#6120202020202020
-(4.0) can0 1DFF0405#6014A39904474849
-(5.0) can0 1DFF0405#6220202020202020
-";
 
 // A report that can't be written, that of repeat-breaks.
 #[test]

@@ -19,6 +19,19 @@ struct Example {
     summary: &'static str,
 }
 
+// A message of 11 bytes, and its frames.
+pub(crate) const SPLIT_AND_BACK: &str =
+    "1970-01-01T00:00:10.300Z,7,130820,5,255,11,a3,99,01,41,42,43,00,00,00,00,00\n";
+
+pub(crate) const SPLIT_AND_BACK_PLAIN: &str =
+    "1970-01-01T00:00:10.300Z,7,130820,5,255,8,00,0b,a3,99,01,41,42,43
+1970-01-01T00:00:10.300Z,7,130820,5,255,8,01,00,00,00,00,00,ff,ff
+";
+
+pub(crate) const SPLIT_AND_BACK_CANDUMP: &str = "(0000000010.300000) can0 1DFF0405#000BA39901414243
+(0000000010.300000) can0 1DFF0405#010000000000FFFF
+";
+
 const EXAMPLES: [Example; 6] = [
     // empty-log
     Example {
@@ -30,21 +43,17 @@ const EXAMPLES: [Example; 6] = [
     },
     // split-and-back, as plain lines
     Example {
-        log: "1970-01-01T00:00:10.300Z,7,130820,5,255,11,a3,99,01,41,42,43,00,00,00,00,00\n",
+        log: SPLIT_AND_BACK,
         interface: None,
-        text: "1970-01-01T00:00:10.300Z,7,130820,5,255,8,00,0b,a3,99,01,41,42,43
-1970-01-01T00:00:10.300Z,7,130820,5,255,8,01,00,00,00,00,00,ff,ff
-",
+        text: SPLIT_AND_BACK_PLAIN,
         reports: "",
         summary: "lines 1 messages 1 bad 0 unknown 0 broken 0 open 0\n",
     },
     // split-and-back, as candump writes it
     Example {
-        log: "1970-01-01T00:00:10.300Z,7,130820,5,255,11,a3,99,01,41,42,43,00,00,00,00,00\n",
+        log: SPLIT_AND_BACK,
         interface: Some("can0"),
-        text: "(0000000010.300000) can0 1DFF0405#000BA39901414243
-(0000000010.300000) can0 1DFF0405#010000000000FFFF
-",
+        text: SPLIT_AND_BACK_CANDUMP,
         reports: "",
         summary: "lines 1 messages 1 bad 0 unknown 0 broken 0 open 0\n",
     },
@@ -104,7 +113,7 @@ line 5 bad B9 size
 ];
 
 // As candump writes them, or as plain lines.
-fn frames_at(
+pub(crate) fn frames_at(
     alloc: Global,
     table: &Table,
     interface: Option<&str>,
@@ -188,12 +197,14 @@ fn frames_of<R: Abort + AllocGlobal>(
     Ok(writer)
 }
 
-// A log decodes to this text, and gives that many messages; no group is broken or open.
+// What a log decodes to, with these reports, that many messages and broken groups; no group is open.
 fn decodes<R: Abort + AllocGlobal>(
     rt: &R,
     table: &Table,
     log: &[u8],
+    reports: &str,
     messages: u64,
+    broken: u64,
 ) -> Result<MemorySink, Fail> {
     let window = long_window();
     let mut join = Join::new(rt.alloc(), table, window);
@@ -209,10 +220,11 @@ fn decodes<R: Abort + AllocGlobal>(
         &mut writer,
         &mut reporter,
     )?;
-    assert_eq!(rt; reporter.bytes(), b"".as_slice());
+    assert_eq!(rt; reporter.bytes(), reports.as_bytes());
     let wanted = Counts {
         lines: join.counts().lines,
         messages,
+        broken,
         ..Counts::NONE
     };
     assert_eq!(rt; join.counts(), wanted);
@@ -270,7 +282,89 @@ fn nine_messages_and_another_source(rt: HostRuntime) -> Result<(), Fail> {
     let frames = frames_of(&rt, &table, NINE.as_bytes())?;
     let log = with_another_source(rt.alloc(), frames.bytes())?;
     let wanted = nine_and_another(rt.alloc())?;
-    let decoded = decodes(&rt, &table, &log, 10)?;
+    let decoded = decodes(&rt, &table, &log, "", 10, 0)?;
+    assert_eq!(rt; decoded.bytes(), wanted.as_slice());
+    Ok(())
+}
+
+// The frames of nine messages without the second: the first message is lost, its group is broken by the ninth, which has
+// its number.
+#[test]
+fn nine_messages_without_the_second_frame(rt: HostRuntime) -> Result<(), Fail> {
+    let table = sample(rt.alloc())?;
+    let frames = frames_of(&rt, &table, NINE.as_bytes())?;
+    let mut log = Vec::new(rt.alloc());
+    let mut wanted = Vec::new(rt.alloc());
+    for (number, line) in frames
+        .bytes()
+        .split_inclusive(|byte| *byte == b'\n')
+        .enumerate()
+    {
+        if number != 1 {
+            log.extend_from_slice(line)?;
+        }
+    }
+    for _ in 0..8 {
+        wanted.extend_from_slice(LABEL.as_bytes())?;
+    }
+    let report = "line 16 broken pgn 130820 src 5 dst 255 seq 0 first 1\n";
+    let decoded = decodes(&rt, &table, &log, report, 8, 1)?;
+    assert_eq!(rt; decoded.bytes(), wanted.as_slice());
+    Ok(())
+}
+
+// Eight messages of one stream, of the kinds 1 to 8.
+const EIGHT: &str = "1970-01-01T00:00:10.300Z,7,130820,5,255,11,a3,99,01,41,42,43,00,00,00,00,00
+1970-01-01T00:00:10.300Z,7,130820,5,255,11,a3,99,02,41,42,43,00,00,00,00,00
+1970-01-01T00:00:10.300Z,7,130820,5,255,11,a3,99,03,41,42,43,00,00,00,00,00
+1970-01-01T00:00:10.300Z,7,130820,5,255,11,a3,99,04,41,42,43,00,00,00,00,00
+1970-01-01T00:00:10.300Z,7,130820,5,255,11,a3,99,05,41,42,43,00,00,00,00,00
+1970-01-01T00:00:10.300Z,7,130820,5,255,11,a3,99,06,41,42,43,00,00,00,00,00
+1970-01-01T00:00:10.300Z,7,130820,5,255,11,a3,99,07,41,42,43,00,00,00,00,00
+1970-01-01T00:00:10.300Z,7,130820,5,255,11,a3,99,08,41,42,43,00,00,00,00,00
+";
+
+// The second frame of each message in order, and then the first ones in reverse.
+fn under_way(alloc: Global, frames: &[u8]) -> Result<Vec<u8>, AllocError> {
+    let mut firsts = Vec::new(alloc);
+    let mut log = Vec::new(alloc);
+    for (number, line) in frames.split_inclusive(|byte| *byte == b'\n').enumerate() {
+        if number % 2 == 0 {
+            firsts.push(line)?;
+        } else {
+            log.extend_from_slice(line)?;
+        }
+    }
+    for line in firsts.iter().rev() {
+        log.extend_from_slice(*line)?;
+    }
+    Ok(log)
+}
+
+// The member of their kind, in the order in which they come whole.
+const KINDS: [&str; 8] = [
+    "\"Kind\":8",
+    "\"Kind\":7",
+    "\"Kind\":6",
+    "\"Kind\":5",
+    "\"Kind\":4",
+    "\"Kind\":3",
+    "\"Kind\":2",
+    "\"Kind\":1",
+];
+
+// eight-under-way, from the messages on: eight groups are open at once.
+#[test]
+fn eight_under_way(rt: HostRuntime) -> Result<(), Fail> {
+    let table = sample(rt.alloc())?;
+    let frames = frames_of(&rt, &table, EIGHT.as_bytes())?;
+    let log = under_way(rt.alloc(), frames.bytes())?;
+    let mut wanted = Vec::new(rt.alloc());
+    for kind in &KINDS {
+        let label = LABEL.replace(rt.alloc(), KINDS[7], kind)?;
+        wanted.extend_from_slice(label.as_bytes())?;
+    }
+    let decoded = decodes(&rt, &table, &log, "", 8, 0)?;
     assert_eq!(rt; decoded.bytes(), wanted.as_slice());
     Ok(())
 }

@@ -4,12 +4,25 @@ use n2k_run::{Failed, MemorySink, bad_text, broken_text, write_summary};
 use n2k_wire::BadCause;
 use std::test::Fail;
 
-// That of line 10 of candump-forms.
+// Those of ten-lines-eight-bad.
+const BAD: [(u64, BadCause, &str); 8] = [
+    (2, BadCause::Long, "line 2 bad B1 long\n"),
+    (3, BadCause::Data, "line 3 bad B6 data\n"),
+    (4, BadCause::Identifier, "line 4 bad B4 identifier\n"),
+    (5, BadCause::Data, "line 5 bad B6 data\n"),
+    (6, BadCause::Fast, "line 6 bad B7 fast\n"),
+    (8, BadCause::Stamp, "line 8 bad B2 stamp\n"),
+    (9, BadCause::Number, "line 9 bad B5 number\n"),
+    (10, BadCause::Form, "line 10 bad B3 form\n"),
+];
+
 #[test]
-fn a_bad_line_is_reported(rt: HostRuntime) -> Result<(), Fail> {
-    let mut text = Vec::new(rt.alloc());
-    bad_text(rt.alloc(), 10, BadCause::Stamp, &mut text)?;
-    assert_eq!(rt; text.as_slice(), b"line 10 bad B2 stamp\n".as_slice());
+fn bad_lines_are_reported(rt: HostRuntime) -> Result<(), Fail> {
+    for (line, cause, report) in &BAD {
+        let mut text = Vec::new(rt.alloc());
+        bad_text(rt.alloc(), *line, *cause, &mut text)?;
+        assert_eq!(rt; text.as_slice(), report.as_bytes());
+    }
     Ok(())
 }
 

@@ -175,12 +175,15 @@ fn pairs_in_format_1_key(rt: HostRuntime) -> Result<(), Fail> {
     answers(&rt, &text, "3 Key", "format 1")
 }
 
-// The byte FF stands before the document.
+// The byte FF stands before the sample.
 #[test]
-fn no_utf8(rt: HostRuntime) {
-    let bytes = b"\xffformat = 1\n";
+fn no_utf8(rt: HostRuntime) -> Result<(), Fail> {
+    let mut bytes = Vec::new(rt.alloc());
+    bytes.push(0xFF)?;
+    bytes.extend_from_slice(SAMPLE.as_bytes())?;
     assert_eq!(rt;
-        Table::read(rt.alloc(), bytes).err(),
+        Table::read(rt.alloc(), &bytes).err(),
         Some(TableFault::NotToml)
     );
+    Ok(())
 }

@@ -123,3 +123,22 @@ fn candump_texts(rt: HostRuntime) -> Result<(), Fail> {
     }
     Ok(())
 }
+
+// The first frame of split-and-back.
+#[test]
+fn a_frame_at_an_interface(rt: HostRuntime) -> Result<(), Fail> {
+    let line = b"1970-01-01T00:00:10.300Z,7,130820,5,255,8,00,0b,a3,99,01,41,42,43";
+    let Entry::Frame(packet) = read_line(line, Packing::Frames) else {
+        return Err("no frame".into());
+    };
+    if packet.data().len() > 8 || !is_interface(b"can0") {
+        return Err("no frame at an interface".into());
+    }
+    let mut text = Vec::new(rt.alloc());
+    candump_text(rt.alloc(), &packet, "can0", &mut text)?;
+    assert_eq!(rt;
+        text.as_slice(),
+        b"(0000000010.300000) can0 1DFF0405#000BA39901414243\n".as_slice()
+    );
+    Ok(())
+}

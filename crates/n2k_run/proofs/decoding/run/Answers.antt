@@ -16,3 +16,11 @@ returns-clause-log g c = λ front is.
     let same = ap (output_from (join_making t o.empty) o.packing) was ∙ output_after-is t o laws t.id front in
     let runs = runs_same _ _ _ _ _ _ same c.run_entries-ran.ensures.runs in
     runs_more (output_after t o front) _ _ _ _ c.run_entries-ran.result runs (λ es stands. stands ∙ ap (λ (s : State). after_all (join_making t o.empty) s es) was ∙ state_after t o laws t.id front es)
+
+pub returns-clause-steps : goal.returns-clause-steps
+returns-clause-steps g c =
+    let t = c.args.table.now in
+    let o = c.args.options in
+    let was = c.replace.ensures.value in
+    let runs = runs_same _ _ _ _ _ _ (ap (output_from (join_making t o.empty) o.packing) was) c.run_entries-ran.ensures.runs in
+    runs_more (output_from (join_making t o.empty) o.packing c.args.join.now) _ _ _ _ c.run_entries-ran.result runs (λ es stands. stands ∙ ap (λ (s : State). after_all (join_making t o.empty) s es) was)

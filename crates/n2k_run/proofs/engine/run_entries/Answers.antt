@@ -1,6 +1,6 @@
 use Rattle.std.proofs.Common.{sym, ◌∙◌}
 use Rattle.std.proofs.lemmas.Result.{err_from_is_err_and}
-use Rattle.n2k_run.specs.Runs.{Devices}
+use Rattle.n2k_run.specs.Runs.{Devices, seen}
 use Rattle.n2k_run.specs.Inner.Engine.{Stands}
 use Rattle.n2k_run.proofs.Running.{begins, writes, takes, none_read, sink_end, memory_end, last_end, still_made, fault_end, lead_of, calls_here, calls_next}
 use Rattle.n2k_run.proofs.engine.run_entries.Given.{Over}
@@ -8,15 +8,7 @@ use Rattle.n2k_run.proofs.engine.run_entries.Goals as goal
 use Rattle.n2k_run.proofs.engine.run_entries.Goals.{After-take_next, then-not-has_line+in_ok-write, else-not-has_line}
 
 abbrev devices : (g : Over) → g.row.R.Denot → g.row.W.Denot → g.row.E.Denot → Devices
-devices g reader writer reporter = record {
-  left = g.R.Source.remaining reader;
-  calls = g.R.Source.calls reader;
-  failed_reads = g.R.Source.failed_calls reader;
-  written = g.W.Sink.contents writer;
-  failed_writes = g.W.Sink.failed_calls writer;
-  reported = g.E.Sink.contents reporter;
-  failed_reports = g.E.Sink.failed_calls reporter;
-}
+devices g = seen g.R.Source g.W.Sink g.E.Sink
 
 -- where the next line is taken
 stood : (g : Over) (c : After-take_next g) → Stands (g.M.Maker.making c.args.maker.now) c.args.packing (g.M.Maker.known c.args.state.now) (g.M.Maker.known c.lines.state) c.lines.blocks c.if-not-has_line.kept.text.items c.if-not-has_line.kept.report.items (devices g c.args.reader.now c.args.writer.now c.args.reporter.now) (devices g c.lines.reader c.if-not-has_line.writer c.if-not-has_line.reporter)

@@ -7,7 +7,7 @@ use Rattle.n2k_run.specs.Entries.{entries}
 use Rattle.n2k_run.specs.Decoded.{output_after}
 use Rattle.n2k_run.specs.Inner.Parts.{Finishes}
 use Rattle.n2k_run.specs.Parts.{HasPart, TellsRun, begun}
-use Rattle.n2k_run.specs.Runs.{devices}
+use Rattle.n2k_run.specs.Runs.{seen}
 use Rattle.n2k_run.proofs.GoingOn.{continues_of}
 use Rattle.n2k_run.proofs.LogSteps.{log_laws}
 use Rattle.n2k_run.proofs.Parting.{KeepsFast, begins_by, log_of, memory_alone, not_refused, refused_by, steps_of, unbegun}
@@ -28,8 +28,8 @@ returns-clause-runs g c =
     let t = c.args.table.now in
     let o = c.args.options in
     let handed = option_map (λ bytes. bytes.now) c.args.saved in
-    let before = devices (g.R.Source.remaining c.args.reader.now) (g.R.Source.calls c.args.reader.now) (g.R.Source.failed_calls c.args.reader.now) (g.W.Sink.contents c.args.writer.now) (g.W.Sink.failed_calls c.args.writer.now) (g.E.Sink.contents c.args.reporter.now) (g.E.Sink.failed_calls c.args.reporter.now) in
-    let after = devices (g.R.Source.remaining c.run-ran.new.reader) (g.R.Source.calls c.run-ran.new.reader) (g.R.Source.failed_calls c.run-ran.new.reader) (g.W.Sink.contents c.run-ran.new.writer) (g.W.Sink.failed_calls c.run-ran.new.writer) (g.E.Sink.contents c.run-ran.new.reporter) (g.E.Sink.failed_calls c.run-ran.new.reporter) in
+    let before = seen g.R.Source g.W.Sink g.E.Sink c.args.reader.now c.args.writer.now c.args.reporter.now in
+    let after = seen g.R.Source g.W.Sink g.E.Sink c.run-ran.new.reader c.run-ran.new.writer c.run-ran.new.reporter in
     let result = c.finish.result in
     let finishes = c.finish.ensures.ran in
     let laws : KeepsFast = record {

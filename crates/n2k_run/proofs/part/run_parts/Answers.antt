@@ -1,8 +1,9 @@
-use Rattle.std.proofs.Common.{Err, ℕ, List, [], None, map, take, drop, suc, get_or, Bor, sym, subst, arith}
+use Rattle.std.proofs.Common.{Err, ℕ, List, [], map, take, drop, suc, get_or, Bor, sym, subst, arith}
 use mathlib.Core.Logic.{inr}
 use Rattle.std.proofs.lemmas.List.{map_more, take_all}
+use Rattle.n2k_run.specs.Decoded.{out_of}
 use Rattle.n2k_run.specs.Parts.{TakesAll, entries_of}
-use Rattle.n2k_run.specs.Runs.{devices}
+use Rattle.n2k_run.specs.Runs.{sinks_seen}
 use Rattle.n2k_run.proofs.Joined.{next_taken, not_read, prints_log, split_parts}
 use Rattle.n2k_run.proofs.LogSteps.{log_laws}
 use Rattle.n2k_run.proofs.part.run_parts.Goals as goal
@@ -18,15 +19,15 @@ returns-in-Err-clause-log g c =
       met = (get_or parts i none).now;
       later = map now (drop (suc i) parts);
       parts_are = split_parts parts i none c.loop-part-test.true;
-      between = devices None 0 0 (g.W.Sink.contents c.loop-part.writer) (g.W.Sink.failed_calls c.loop-part.writer) (g.E.Sink.contents c.loop-part.reporter) (g.E.Sink.failed_calls c.loop-part.reporter);
+      between = sinks_seen g.W.Sink g.E.Sink c.loop-part.writer c.loop-part.reporter;
       taken = c.loop-part.invariant.taken;
       runs = c.in-Err.ensures.log (entries_of c.args.options (map now (take i parts))) c.loop-part.invariant.leads_to;
     })
 
 pub returns-in-Err-clause-never_read : goal.returns-in-Err-clause-never_read
 returns-in-Err-clause-never_read g c = λ few.
-    let before = devices None 0 0 (g.W.Sink.contents c.args.writer.now) (g.W.Sink.failed_calls c.args.writer.now) (g.E.Sink.contents c.args.reporter.now) (g.E.Sink.failed_calls c.args.reporter.now) in
-    let after = devices None 0 0 (g.W.Sink.contents c.next_part.new.writer) (g.W.Sink.failed_calls c.next_part.new.writer) (g.E.Sink.contents c.next_part.new.reporter) (g.E.Sink.failed_calls c.next_part.new.reporter) in
+    let before = sinks_seen g.W.Sink g.E.Sink c.args.writer.now c.args.reporter.now in
+    let after = sinks_seen g.W.Sink g.E.Sink c.next_part.new.writer c.next_part.new.reporter in
     not_read c.args.table.now c.args.options (map (λ part. part.now) c.args.parts.now) before after (Err c.in-Err.fault) few (returns-in-Err-clause-log g c)
 
 pub loop-part-preserved : goal.loop-part-preserved
@@ -35,9 +36,9 @@ loop-part-preserved g c =
     let now : Bor (List ℕ) → List ℕ = λ part. part.now in
     let parts = c.args.parts.now in
     let i = c.loop-part.part-index in
-    let before = devices None 0 0 (g.W.Sink.contents c.args.writer.now) (g.W.Sink.failed_calls c.args.writer.now) (g.E.Sink.contents c.args.reporter.now) (g.E.Sink.failed_calls c.args.reporter.now) in
-    let between = devices None 0 0 (g.W.Sink.contents c.loop-part.writer) (g.W.Sink.failed_calls c.loop-part.writer) (g.E.Sink.contents c.loop-part.reporter) (g.E.Sink.failed_calls c.loop-part.reporter) in
-    let after = devices None 0 0 (g.W.Sink.contents c.next_part.new.writer) (g.W.Sink.failed_calls c.next_part.new.writer) (g.E.Sink.contents c.next_part.new.reporter) (g.E.Sink.failed_calls c.next_part.new.reporter) in
+    let before = sinks_seen g.W.Sink g.E.Sink c.args.writer.now c.args.reporter.now in
+    let between = sinks_seen g.W.Sink g.E.Sink c.loop-part.writer c.loop-part.reporter in
+    let after = sinks_seen g.W.Sink g.E.Sink c.next_part.new.writer c.next_part.new.reporter in
     let laws = log_laws c.args.options.window c.know_window.ensures c.steps_agree.ensures c.lines_stay.ensures in
     let run = c.in-Ok.ensures.log (entries_of c.args.options (map now (take i parts))) c.loop-part.invariant.leads_to in
     subst (λ ps. TakesAll c.args.table.now c.args.options ps before after c.in-Ok.next) (sym (map_more now parts i none c.loop-part-test.true))
@@ -47,13 +48,22 @@ pub returns-clause-log : goal.returns-clause-log
 returns-clause-log g c =
     let now : Bor (List ℕ) → List ℕ = λ part. part.now in
     let parts = c.args.parts.now in
-    let before = devices None 0 0 (g.W.Sink.contents c.args.writer.now) (g.W.Sink.failed_calls c.args.writer.now) (g.E.Sink.contents c.args.reporter.now) (g.E.Sink.failed_calls c.args.reporter.now) in
-    let after = devices None 0 0 (g.W.Sink.contents c.loop-part.writer) (g.W.Sink.failed_calls c.loop-part.writer) (g.E.Sink.contents c.loop-part.reporter) (g.E.Sink.failed_calls c.loop-part.reporter) in
+    let before = sinks_seen g.W.Sink g.E.Sink c.args.writer.now c.args.reporter.now in
+    let after = sinks_seen g.W.Sink g.E.Sink c.loop-part.writer c.loop-part.reporter in
     subst (λ ps. TakesAll c.args.table.now c.args.options (map now ps) before after c.loop-part.last) (take_all c.loop-part.part-index parts (omega (arith, c.loop-part-test.false))) c.loop-part.invariant
 
 pub returns-clause-headline : goal.returns-clause-headline
 returns-clause-headline g c = λ cut.
     let now : Bor (List ℕ) → List ℕ = λ part. part.now in
-    let before = devices None 0 0 (g.W.Sink.contents c.args.writer.now) (g.W.Sink.failed_calls c.args.writer.now) (g.E.Sink.contents c.args.reporter.now) (g.E.Sink.failed_calls c.args.reporter.now) in
-    let after = devices None 0 0 (g.W.Sink.contents c.loop-part.writer) (g.W.Sink.failed_calls c.loop-part.writer) (g.E.Sink.contents c.loop-part.reporter) (g.E.Sink.failed_calls c.loop-part.reporter) in
+    let before = sinks_seen g.W.Sink g.E.Sink c.args.writer.now c.args.reporter.now in
+    let after = sinks_seen g.W.Sink g.E.Sink c.loop-part.writer c.loop-part.reporter in
     prints_log c.args.table.now c.args.options (map now c.args.parts.now) before after c.loop-part.last cut (returns-clause-log g c)
+
+pub returns-clause-in_order : goal.returns-clause-in_order
+returns-clause-in_order g c = λ order.
+    let parts = map (λ (part : Bor (List ℕ)). part.now) c.args.parts.now in
+    record {
+      text = out_of c.args.table.now c.args.options (entries_of c.args.options parts);
+      gained = (returns-clause-log g c).taken.printed;
+      each_line = c.printed_in_order.ensures.parts c.args.table.now c.args.options parts order;
+    }

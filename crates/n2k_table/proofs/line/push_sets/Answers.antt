@@ -1,4 +1,4 @@
-use Rattle.std.proofs.Common.{◌∙◌, arith}
+use Rattle.std.proofs.Common.{arith}
 use Rattle.n2k_table.specs.Json.{set_json}
 use Rattle.n2k_table.specs.Repeat.{set_shown}
 use Rattle.n2k_table.proofs.Members.{sets_more, sets_done}

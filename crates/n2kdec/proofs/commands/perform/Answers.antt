@@ -1,11 +1,18 @@
 use Rattle.std.proofs.Common.{◌≡◌, ◌∙◌}
+use Rattle.n2k_run.specs.Runs.{seen}
 use Rattle.n2kdec.specs.Commands.{place}
 use Rattle.n2kdec.proofs.WorkLemmas.{performs, tells_status, unless_refused}
 use Rattle.n2kdec.proofs.commands.perform.Goals as goal
 
+-- Each place is written out, so that a body which leaves another one is refused at once.
 pub returns-clause-performs : goal.returns-clause-performs
 returns-clause-performs g c =
-    performs _ _ (place _ _) (place _ _) (place _ _) c.args.words.now c.args.table.now _ c.work-ended.result c.close.result c.work-ended.ensures.works c.close.ensures.closes
+    let before = seen g.R.Source g.W.Sink g.E.Sink c.args.log.now c.args.output.now c.args.errors.now in
+    let after = seen g.R.Source g.W.Sink g.E.Sink c.work-ended.new.log c.work-ended.new.output c.close.new.errors in
+    let told = place (g.E.Sink.contents c.work-ended.new.errors) (g.E.Sink.failed_calls c.work-ended.new.errors) in
+    let keeper = place (g.K.Keeper.kept c.args.keeper.now) (g.K.Keeper.failed_calls c.args.keeper.now) in
+    let kept = place (g.K.Keeper.kept c.close.new.keeper) (g.K.Keeper.failed_calls c.close.new.keeper) in
+    performs before after told keeper kept c.args.words.now c.args.table.now _ c.work-ended.result c.close.result c.work-ended.ensures.works c.close.ensures.closes
 
 pub returns-clause-status : goal.returns-clause-status
 returns-clause-status g c = tells_status c.args.words.now c.args.table.now _ _ _ (place _ _) (place _ _) c.close.result (returns-clause-performs g c)

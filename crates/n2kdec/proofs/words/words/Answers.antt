@@ -10,7 +10,8 @@ returns-in-Ok-clause-asked c =
 
 pub returns-in-Ok-clause-refused : goal.returns-in-Ok-clause-refused
 returns-in-Ok-clause-refused c =
-    refused_by_matches _ _ c.command_of.result (rows_as_defined _ _ c.in-Ok.matches c.in_ok-program.ensures c.in-Ok.ensures.matches) c.command_of.ensures
+    refused_by_matches _ _ c.command_of.result (rows_as_defined _ _ c.in-Ok.matches c.in_ok-program.ensures c.in-Ok.ensures.matches)
+    (takes_as_defined _ _ c.in_ok-program.ensures c.in-Ok.ensures.kinds) c.command_of.ensures
 
 pub returns-in-Ok-clause-taken : goal.returns-in-Ok-clause-taken
 returns-in-Ok-clause-taken c takes =

@@ -1,9 +1,9 @@
-use Rattle.std.proofs.Common.{◌≡◌, ◌<◌, take, true, false, Some, None, Option, IfSome, refl, sym, ap, subst, ◌∙◌, arith}
-use Rattle.std.specs.Prelude.{is_some, position}
+use Rattle.std.proofs.Common.{◌≡◌, true, false, Some, None, Option, IfSome, refl, sym, ap, subst, ◌∙◌, arith}
+use Rattle.std.specs.Prelude.{is_some}
 use Rattle.std.specs.List.{list_any, AllByRecursion}
+use Rattle.std.specs.Map.{lookup}
 use Rattle.n2k_table.specs.Table.{kind}
 use Rattle.n2k_join.specs.declared.piece.FrameKey.{FrameKey}
-use Rattle.n2k_join.specs.declared.piece.OpenGroup.{OpenGroup}
 use Rattle.n2k_join.specs.Frames.{same_key}
 use Rattle.n2k_join.specs.Open.{Group}
 use Rattle.n2k_join.specs.Resumed.{group_holds, valid_if}
@@ -12,7 +12,6 @@ use Rattle.n2k_join.specs.Inner.Apart.{each_new, SomeUnder}
 use Rattle.n2k_join.specs.Inner.Slots.{group_at, groups_in}
 use Rattle.n2k_join.specs.Inner.Stored.{key_of}
 use Rattle.n2k_join.proofs.Apart.{keys_in, hold-each_new, key_again, key_listed, stored_kept, stored_left, stored_parts}
-use Rattle.n2k_join.proofs.EntryLemmas.{firsts-before, begin_before}
 use Rattle.n2k_join.proofs.saved.resume.stored_groups.Goals as goal
 
 none_is : {T : Type 0} (o : Option T) → is_some o ≡ false → o ≡ None
@@ -21,18 +20,18 @@ none_is (Some x) e = absurd cc
 
 pub loop-group-init : goal.loop-group-init
 loop-group-init c = record {
-  left = ap (λ es. each_new (kind c.args.table.now) (keys_in (groups_in es)) c.args.groups.now) c.new-stored.ensures ∙ hold-each_new (kind c.args.table.now) c.args.groups.now;
-  kept = ap groups_in c.new-stored.ensures;
-  parts = subst (λ es. AllByRecursion HasParts (groups_in es)) (sym c.new-stored.ensures) tt;
+  left = ap (λ es. each_new (kind c.args.table.now) (keys_in (groups_in es)) c.args.groups.now) c.new-stored.ensures.empty ∙ hold-each_new (kind c.args.table.now) c.args.groups.now;
+  kept = ap groups_in c.new-stored.ensures.empty;
+  parts = subst (λ es. AllByRecursion HasParts (groups_in es)) (sym c.new-stored.ensures.empty) tt;
 }
 
 pub returns-then-is_some-clause-value : goal.returns-then-is_some-clause-value
 unfolding same_key
 returns-then-is_some-clause-value c = λ _.
     let k = c.in_ok-key.key in
-    let es = c.loop-group.stored in
+    let es = c.loop-group.stored.entries in
     let taken = subst (λ o. SomeUnder group_at o (group_holds (kind c.args.table.now) c.group-item.result) c.group-item.result) c.in_ok-key.ensures.ok_part c.stored_group.ensures.value in
-    let there : is_some (position (λ (e : FrameKey × OpenGroup). same_key (key_of k) (key_of e.0)) es) ≡ true = ap is_some (sym c.place_of.ensures) ∙ sym c.is_some.ensures ∙ c.if-is_some.true in
+    let there : is_some (lookup (λ (j : FrameKey). same_key (key_of k) (key_of j)) es) ≡ true = ap is_some (sym c.in_ok-insert.ensures.old) ∙ sym c.is_some.ensures ∙ c.if-is_some.true in
     let again = ap (λ (g : Group). list_any (same_key g.key) (keys_in (groups_in es))) (sym taken.1) ∙ key_listed k es ∙ there in
     ap (λ b. valid_if b c.args.groups.now) (key_again (kind c.args.table.now) (keys_in (groups_in es)) c.args.groups.now c.loop-group.group-index c.group-item.result (omega arith) c.group-item.is c.loop-group.invariant.left taken.0 again)
 
@@ -41,30 +40,15 @@ unfolding same_key
 loop-group-preserved c =
     let k = c.in_ok-key.key in
     let v = c.in_ok-key.open in
-    let es = c.loop-group.stored in
+    let es = c.loop-group.stored.entries in
     let gs = c.args.groups.now in
     let g = c.group-item.result in
     let i = c.loop-group.group-index in
     let taken = subst (λ o. SomeUnder group_at o (group_holds (kind c.args.table.now) g) g) c.in_ok-key.ensures.ok_part c.stored_group.ensures.value in
     let parts = subst (λ o. IfSome o (λ e. HasParts (group_at e))) c.in_ok-key.ensures.ok_part c.stored_group.ensures.parts in
-    let none : position (λ (e : FrameKey × OpenGroup). same_key (key_of k) (key_of e.0)) es ≡ None = sym c.place_of.ensures ∙ none_is c.place_of.result (sym c.is_some.ensures ∙ c.if-is_some.false) in
+    let none : lookup (λ (j : FrameKey). same_key (key_of k) (key_of j)) es ≡ None = sym c.in_ok-insert.ensures.old ∙ none_is c.in_ok-insert.field-0 (sym c.is_some.ensures ∙ c.if-is_some.false) in
     record {
-      left = stored_left (kind c.args.table.now) gs i g (omega arith) c.group-item.is k v es c.push.new.self taken.1 none c.in_ok-push.ensures.pushed taken.0 c.loop-group.invariant.left;
-      kept = stored_kept (kind c.args.table.now) gs i g (omega arith) c.group-item.is k v es c.push.new.self taken.1 none c.in_ok-push.ensures.pushed c.loop-group.invariant.kept;
-      parts = stored_parts (kind c.args.table.now) gs i g (omega arith) c.group-item.is k v es c.push.new.self taken.1 none c.in_ok-push.ensures.pushed c.loop-group.invariant.parts parts;
+      left = stored_left (kind c.args.table.now) gs i g (omega arith) c.group-item.is k v es c.insert.new.self.entries taken.1 none c.in_ok-insert.ensures.entries taken.0 c.loop-group.invariant.left;
+      kept = stored_kept (kind c.args.table.now) gs i g (omega arith) c.group-item.is k v es c.insert.new.self.entries taken.1 none c.in_ok-insert.ensures.entries c.loop-group.invariant.kept;
+      parts = stored_parts (kind c.args.table.now) gs i g (omega arith) c.group-item.is k v es c.insert.new.self.entries taken.1 none c.in_ok-insert.ensures.entries c.loop-group.invariant.parts parts;
     }
-
-pub push-requires-clause-new : goal.push-requires-clause-new
-unfolding same_key
-push-requires-clause-new c = sym c.place_of.ensures ∙ none_is c.place_of.result (sym c.is_some.ensures ∙ c.if-is_some.false)
-
--- a group begins behind those before it
-pub push-requires-clause-last : goal.push-requires-clause-last
-push-requires-clause-last c =
-    let gs = c.args.groups.now in
-    let i = c.loop-group.group-index in
-    let g = c.group-item.result in
-    let taken = subst (λ o. SomeUnder group_at o (group_holds (kind c.args.table.now) g) g) c.in_ok-key.ensures.ok_part c.stored_group.ensures.value in
-    let before = firsts-before 1 gs i g (omega arith) c.group-item.is c.requires in
-    let line : g.first ≡ c.in_ok-key.open.first = sym (ap (λ (h : Group). h.first) taken.1) in
-    begin_before c.loop-group.stored c.in_ok-key.open.first (subst (AllByRecursion (λ (h : Group). h.first < c.in_ok-key.open.first)) (sym c.loop-group.invariant.kept) (subst (λ n. AllByRecursion (λ (h : Group). h.first < n) (take i gs)) line before))

@@ -11,7 +11,7 @@ use Rattle.n2k_join.proofs.saved.resume.stored_groups.Given as goal
 
 abbrev pub invariant-loop-group : goal.invariant-loop-group
 invariant-loop-group l = record {
-  left : each_new (kind l.table) (keys_in (groups_in l.stored)) (drop l.group-index l.groups) ≡ groups_hold (kind l.table) l.groups;
-  kept : groups_in l.stored ≡ take l.group-index l.groups;
-  parts : AllByRecursion HasParts (groups_in l.stored);
+  left : each_new (kind l.table) (keys_in (groups_in l.stored.entries)) (drop l.group-index l.groups) ≡ groups_hold (kind l.table) l.groups;
+  kept : groups_in l.stored.entries ≡ take l.group-index l.groups;
+  parts : AllByRecursion HasParts (groups_in l.stored.entries);
 }

@@ -1,0 +1,81 @@
+-- In order each line that is printed tells a message that is one by itself, or one transmission.
+use Rattle.std.proofs.Common.{◌≡◌, ℕ, Bool, true, List, [], ◌∷◌, ◌++◌, refl, sym, ap, ◌∙◌, subst, Option, Some, None}
+use Rattle.std.specs.Prelude.{◌⊎◌, filter_map, option_map, option_and_then}
+use Rattle.std.specs.List.{AllByRecursion, cons_option}
+use Rattle.std.specs.Option.{option_or}
+use Rattle.std.proofs.lemmas.List.Elements.{All-from_recursion}
+use Rattle.std.proofs.lemmas.Option.{none-some, same_Some}
+use mathlib.Core.Logic.{inl, inr}
+use Rattle.n2k_wire.specs.declared.entry.Entry.{Entry}
+use Rattle.n2k_wire.specs.Packet.{PacketParts}
+use Rattle.n2k_table.specs.Json.{json}
+use Rattle.n2k_table.specs.OneLine.{IsOneLine}
+use Rattle.n2k_table.specs.Table.{TableParts, kind}
+use Rattle.n2k_join.specs.Frames.{Frame, frames}
+use Rattle.n2k_join.specs.Groups.{within, complete}
+use Rattle.n2k_join.specs.Messages.{Keyed, alone, entry_at, gathered, message, message_of, numbers}
+use Rattle.n2k_join.specs.Replay.{messages}
+use Rattle.n2k_join.specs.Transmission.{ComesOfOne, IsTransmission}
+use Rattle.n2k_run.specs.declared.options.Options.{Options}
+use Rattle.n2k_run.specs.Decoded.{out, out_of}
+use Rattle.n2k_run.specs.Entries.{entries}
+use Rattle.n2k_run.specs.InOrder.{ComesAlone, ComesInOrder, EachTellsOne, TellsOne}
+use Rattle.n2k_run.specs.Lines.{lines}
+use Rattle.n2k_run.specs.Replayed.{json_lines, with_line_feeds}
+use Rattle.n2k_run.proofs.PrintedBack.{out_of-lines}
+
+-- what the laws below say, under a rule in order
+pub record OrderLaws (t : TableParts) (o : Options) : Type 0 where
+  pub one_line : (m : PacketParts) (empty : Bool) → IsOneLine (json t m empty)
+  pub one_transmission : (es : List Entry) (line : ℕ) (m : Keyed) → gathered (within o.window) (frames (kind t) es) line ≡ Some m → ComesOfOne (kind t) es line m
+
+abbrev Comes : TableParts → List Entry → PacketParts → Type 0
+Comes t es m = ComesAlone t es m ⊎ ComesInOrder t es m
+
+-- what each line gives
+all_given : {Y : Type 0} (P : Y → Type 0) (gives : ℕ → Option Y) → ((n : ℕ) (y : Y) → gives n ≡ Some y → P y) → (ns : List ℕ) → AllByRecursion P (filter_map gives ns)
+all_given P gives each [] = tt
+all_given {Y} P gives each (n ∷ ns) = by (gives n) refl (all_given P gives each ns)
+  where
+    by : (o : Option Y) → gives n ≡ o → AllByRecursion P (filter_map gives ns) → AllByRecursion P (cons_option o (filter_map gives ns))
+    by None is rest = rest
+    by (Some y) is rest = (each n y is, rest)
+
+-- texts that are the JSON lines of messages tell them
+told : (t : TableParts) (o : Options) (es : List Entry) (ls : List (List ℕ)) (ms : List PacketParts) → with_line_feeds ls ≡ json_lines t o ms → AllByRecursion (Comes t es) ms → AllByRecursion (TellsOne t o es) ls
+told t o es [] ms is each = tt
+told t o es (l ∷ ls) [] is each = absurd (cc)
+told t o es (l ∷ ls) (m ∷ ms) is each =
+    let first : l ++ 10 ∷ [] ≡ json t m o.empty = cc in
+    let rest : with_line_feeds ls ≡ json_lines t o ms = cc in
+    (record { message = m; printed = first; comes = each.0 }, told t o es ls ms rest each.1)
+
+module _ (t : TableParts) (o : Options) (laws : OrderLaws t o) (es : List Entry) where
+  of_group : (k : Keyed) (m : PacketParts) (line : ℕ) → k.message ≡ m → ComesOfOne (kind t) es line k → ComesInOrder t es m
+  of_group k m line is one = record {
+    key = k.key;
+    before_last = one.before_last;
+    last = one.last;
+    in_order = subst (IsTransmission k.key (frames (kind t) es)) one.ends_with one.transmission;
+    whole = subst (λ (g : List Frame). complete g ≡ true) one.ends_with one.whole;
+    is = sym is ∙ one.told_by_last ∙ ap (message_of one.last) one.ends_with;
+  }
+
+  -- the message of a line
+  comes : (line : ℕ) (m : PacketParts) → message o.window (kind t) es line ≡ Some m → Comes t es m
+  comes line m given = by (gathered (within o.window) (frames (kind t) es) line) refl (entry_at es line) refl given
+    where
+      by : (g : Option Keyed) → gathered (within o.window) (frames (kind t) es) line ≡ g → (x : Option Entry) → entry_at es line ≡ x
+          → option_or (option_map (λ (k : Keyed). k.message) g) (option_and_then (alone (kind t)) x) ≡ Some m → Comes t es m
+      by (Some k) gathers x stands is = inr (of_group k m line (same_Some _ _ is) (laws.one_transmission es line k gathers))
+      by None gathers (Some entry) stands is = inl (record { line = line; entry = entry; stands = stands; is = is })
+      by None gathers None stands is = absurd (none-some m is)
+
+  pub each_tells_one : EachTellsOne t o es (out_of t o es)
+  each_tells_one = All-from_recursion (TellsOne t o es) (lines (out_of t o es))
+      (told t o es (lines (out_of t o es)) (messages o.window (kind t) es) (out_of-lines t o es laws.one_line) (all_given (Comes t es) (message o.window (kind t) es) comes (numbers es)))
+
+-- so does each line of what a log prints
+pub log_in_order : (t : TableParts) (o : Options) (log : List ℕ) → OrderLaws t o → EachTellsOne t o (entries o.packing log) (out t o log)
+unfolding out
+log_in_order t o log laws = each_tells_one t o laws (entries o.packing log)

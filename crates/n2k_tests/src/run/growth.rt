@@ -1,0 +1,208 @@
+//! What refused memory leaves of runs. `examples/refused-growth` lets each growth fail in turn: the answer is that with
+//! ample memory or a refusal, and what was written is a front of what ample memory gives.
+use super::options::{
+    REPEAT_BREAKS, REPEAT_BREAKS_REPORT, REPEAT_BREAKS_TEXT, TWO_SOURCES, TWO_SOURCES_TEXT, frames,
+};
+use super::parts::{OVERDUE, OVERDUE_REPORTS};
+use super::sending::{SPLIT_AND_BACK, SPLIT_AND_BACK_CANDUMP, SPLIT_AND_BACK_PLAIN, frames_at};
+use crate::samples::{long_window, sample, shortest_window, spelled};
+use n2k_join::{Join, StateFault};
+use n2k_run::{MemorySink, MemorySource, Options, PartFault, RunFault, run, run_part, run_parts};
+use n2k_table::Table;
+use std::process::Abort;
+use std::test::Fail;
+
+// All of a text was written, or a front of it.
+fn holds<R: Abort>(rt: &R, whole: bool, sink: &MemorySink, text: &str) {
+    if whole {
+        assert_eq!(rt; sink.bytes(), text.as_bytes());
+    } else {
+        assert!(rt; text.as_bytes().starts_with(sink.bytes()));
+    }
+}
+
+// Whether a run met a refusal: its own, or that of a sink in memory, which fails as a device does.
+fn is_refused(fault: RunFault) -> bool {
+    matches!(fault, RunFault::Memory | RunFault::Write | RunFault::Report)
+}
+
+fn run_leaves_a_front<R: Abort + AllocGlobal>(
+    rt: &R,
+    table: &Table,
+    log: &str,
+    text: &str,
+    reports: &str,
+) {
+    let window = long_window();
+    let mut join = Join::new(rt.alloc(), table, window);
+    let mut reader = MemorySource::new(log.as_bytes(), 60, 0);
+    let mut writer = MemorySink::new(rt.alloc(), 10, 0);
+    let mut reporter = MemorySink::new(rt.alloc(), 10, 0);
+    let answer = run(
+        rt.alloc(),
+        table,
+        &mut join,
+        frames(window),
+        &mut reader,
+        &mut writer,
+        &mut reporter,
+    );
+    holds(rt, answer.is_ok(), &writer, text);
+    holds(rt, answer.is_ok(), &reporter, reports);
+    if let Err(fault) = answer {
+        assert!(rt; is_refused(fault));
+    }
+}
+
+#[test]
+fn refused_memory_in_a_run(rt: HostRuntime) {
+    let Ok(table) = sample(rt.alloc()) else {
+        return;
+    };
+    run_leaves_a_front(&rt, &table, TWO_SOURCES, TWO_SOURCES_TEXT, "");
+    run_leaves_a_front(
+        &rt,
+        &table,
+        REPEAT_BREAKS,
+        REPEAT_BREAKS_TEXT,
+        REPEAT_BREAKS_REPORT,
+    );
+}
+
+// Of a part: where its state is refused, nothing was written; where its own state can't be saved, all may stand.
+fn part_leaves_a_front<R: Abort + AllocGlobal>(
+    rt: &R,
+    table: &Table,
+    options: Options,
+    state: Option<&[u8]>,
+    log: &str,
+    text: &str,
+    reports: &str,
+) {
+    let mut reader = MemorySource::new(log.as_bytes(), 60, 0);
+    let mut writer = MemorySink::new(rt.alloc(), 10, 0);
+    let mut reporter = MemorySink::new(rt.alloc(), 10, 0);
+    let answer = run_part(
+        rt.alloc(),
+        table,
+        state,
+        options,
+        &mut reader,
+        &mut writer,
+        &mut reporter,
+    );
+    holds(rt, answer.is_ok(), &writer, text);
+    holds(rt, answer.is_ok(), &reporter, reports);
+    match answer {
+        Ok(_) | Err(PartFault::Memory) => {}
+        Err(PartFault::State(fault)) => {
+            assert!(rt; fault == StateFault::Memory);
+            assert!(rt; writer.bytes().is_empty() && reporter.bytes().is_empty());
+        }
+        Err(PartFault::Run(fault)) => assert!(rt; is_refused(fault)),
+        Err(PartFault::Stopped(_, _)) => assert!(rt; false, "stopped"),
+    }
+}
+
+#[test]
+fn refused_memory_in_a_part(rt: HostRuntime) {
+    let Ok(table) = sample(rt.alloc()) else {
+        return;
+    };
+    let options = frames(long_window());
+    part_leaves_a_front(
+        &rt,
+        &table,
+        options,
+        None,
+        TWO_SOURCES,
+        TWO_SOURCES_TEXT,
+        "",
+    );
+}
+
+// overdue-old-state: a state of the old format is read, and its groups are broken at the next line.
+#[test]
+fn an_old_state_goes_on_or_is_refused(rt: HostRuntime) -> Result<(), Fail> {
+    let table = sample(rt.alloc())?;
+    let state = spelled(rt.alloc(), OVERDUE)?;
+    let options = frames(shortest_window());
+    part_leaves_a_front(
+        &rt,
+        &table,
+        options,
+        Some(state.as_bytes()),
+        "\n",
+        "",
+        OVERDUE_REPORTS,
+    );
+    Ok(())
+}
+
+// two-sources-cut, after each line
+#[test]
+fn refused_memory_in_parts(rt: HostRuntime) {
+    let Ok(table) = sample(rt.alloc()) else {
+        return;
+    };
+    let mut lines = Vec::new(rt.alloc());
+    for line in TWO_SOURCES
+        .as_bytes()
+        .split_inclusive(|byte| *byte == b'\n')
+    {
+        if lines.push(line).is_err() {
+            return;
+        }
+    }
+    let mut writer = MemorySink::new(rt.alloc(), 10, 0);
+    let mut reporter = MemorySink::new(rt.alloc(), 10, 0);
+    let answer = run_parts(
+        rt.alloc(),
+        &table,
+        frames(long_window()),
+        &lines,
+        &mut writer,
+        &mut reporter,
+    );
+    holds(&rt, answer.is_ok(), &writer, TWO_SOURCES_TEXT);
+    holds(&rt, answer.is_ok(), &reporter, "");
+    match answer {
+        Ok(_) | Err(PartFault::Memory) => {}
+        Err(PartFault::State(fault)) => assert!(rt; fault == StateFault::Memory),
+        Err(PartFault::Run(fault)) => assert!(rt; is_refused(fault)),
+        Err(PartFault::Stopped(_, _)) => assert!(rt; false, "stopped"),
+    }
+}
+
+fn frames_leave_a_front<R: Abort + AllocGlobal>(
+    rt: &R,
+    table: &Table,
+    interface: Option<&str>,
+    text: &str,
+) {
+    let mut reader = MemorySource::new(SPLIT_AND_BACK.as_bytes(), 60, 0);
+    let mut writer = MemorySink::new(rt.alloc(), 10, 0);
+    let mut reporter = MemorySink::new(rt.alloc(), 10, 0);
+    let answer = frames_at(
+        rt.alloc(),
+        table,
+        interface,
+        &mut reader,
+        &mut writer,
+        &mut reporter,
+    );
+    holds(rt, answer.is_ok(), &writer, text);
+    holds(rt, answer.is_ok(), &reporter, "");
+    if let Err(fault) = answer {
+        assert!(rt; is_refused(fault));
+    }
+}
+
+#[test]
+fn refused_memory_in_frames(rt: HostRuntime) {
+    let Ok(table) = sample(rt.alloc()) else {
+        return;
+    };
+    frames_leave_a_front(&rt, &table, None, SPLIT_AND_BACK_PLAIN);
+    frames_leave_a_front(&rt, &table, Some("can0"), SPLIT_AND_BACK_CANDUMP);
+}

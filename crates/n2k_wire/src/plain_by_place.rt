@@ -1,0 +1,278 @@
+//! A fast path; read `plain.rt` first. A plain line with data,
+//! `2011-11-24-22:42:04.388,2,127251,36,255,8,7d,0b,7d,02,00,ff,ff,ff`, is read by place: the end of its stamp is
+//! looked for among 32 bytes at once, that of a number at few places, and data are taken eight bytes at once. It
+//! promises only what it answers. Where it answers nothing, `plain.rt` reads the line, as it reads every plain line.
+ghost use Rattle.std.specs.Prelude.{◌≡◌, ◌≤◌, ◌*◌, ◌+◌, ◌++◌, ℕ, List, [], ◌∷◌, length, map, not, take, true, IfSome, IsTrue};
+ghost use Rattle.std.specs.List.{list_all};
+ghost use Rattle.std.specs.Simd.Lanes.{mask_l};
+ghost use Rattle.n2k_wire.specs.Entry.{entry, IsEntry, IsShort};
+ghost use Rattle.n2k_wire.specs.Packet.{greatest_pgn, greatest_priority, is_stamp, is_stamp_byte, longest_message, longest_stamp, starts_stamp};
+ghost use Rattle.n2k_wire.specs.Plain.{bytes_of, greatest_address, pieces};
+ghost use Rattle.n2k_wire.specs.PrivateWords.{AreRead, AreSpelled, IsIdBefore, IsNumberBefore, IsPackedOf, IsReadOn};
+ghost use Rattle.n2k_wire.specs.declared.entry.Packing.TheVariants as packings;
+
+use crate::candump::FRAME_PAYLOAD;
+use crate::digits::{are_hex_digits, eight_bytes, is_hex_digit, spelled_byte};
+use crate::entry::{Entry, LONGEST_LINE, Packing, set_frame, set_usual};
+use crate::identifier::Id;
+use crate::packet::{GREATEST_PGN, GREATEST_PRIORITY, LONGEST_MESSAGE, LONGEST_STAMP};
+use crate::pieces::after_byte;
+use crate::plain::{GREATEST_ADDRESS, number_to, set_packed};
+use crate::stamp::UTC_LEN;
+use arrayvec::ArrayVec;
+use std::simd::prelude::*;
+
+/// The bytes of eight pieces of two digits with commas between them.
+const EIGHT_PIECES: usize = 23;
+
+/// The bytes of `YYYY-MM-DD-HH:MM:SS.mmm`, as canboat stamps its lines. Stamps of known length are moved at once.
+const CANBOAT_LEN: usize = 23;
+
+/// The data of a message.
+type Data = ArrayVec<u8, LONGEST_MESSAGE>;
+
+/// A bit for each byte that a stamp can't have.
+#[inline(always)]
+fn mask_of_others(lanes: u8x32) -> u64
+    ensures { result ≡ mask_l (map (λ b. not (is_stamp_byte b)) lanes) }
+{
+    let others = (lanes - u8x32::splat(b' ')).simd_gt(u8x32::splat(b'~' - b' '));
+    (others | lanes.simd_eq(u8x32::splat(b','))).to_bitmask()
+}
+
+/// How many bytes a text begins with that a stamp may have. They are looked at all at once.
+#[inline(always)]
+fn stamp_len(text: &[u8; LONGEST_STAMP]) -> usize
+    ensures front { list_all is_stamp_byte (take result text.now) ≡ true }
+    ensures within { result ≤ longest_stamp }
+{
+    let mask = mask_of_others(u8x32::from_array(*text));
+    if mask == 0 {
+        LONGEST_STAMP
+    } else {
+        mask.trailing_zeros() as usize
+    }
+}
+
+/// Whether a text begins as a stamp may.
+#[inline]
+fn starts_stamp(text: &[u8]) -> bool
+    ensures { result ≡ starts_stamp text.now }
+{
+    match text {
+        [] => false,
+        [first, ..] => *first != b'(' && *first != b'#',
+    }
+}
+
+/// The stamp before a line's first comma, and what follows the comma.
+#[inline]
+fn stamp_before(line: &[u8]) -> Option<(&[u8], &[u8])>
+    ensures line { IfSome result (λ x. line.now ≡ x.0.now ++ (44 ∷ x.1.now)) }
+    ensures stamp { IfSome result (λ x. IsTrue (is_stamp x.0.now)) }
+{
+    let len = stamp_len(line.first_chunk::<LONGEST_STAMP>()?);
+    let (stamp, behind) = line.split_at(len);
+    let text = after_byte(b',', behind)?;
+    if !starts_stamp(stamp) {
+        return None;
+    }
+    Some((stamp, text))
+}
+
+/// The number of so many digits before a comma, and what follows the comma.
+#[inline]
+fn number_before(digits: usize, limit: u64, text: &[u8]) -> Option<(u64, &[u8])>
+    ensures value { IfSome result (λ x. IsNumberBefore limit text.now x.0 x.1.now) }
+    ensures bound { IfSome result (λ x. x.0 ≤ limit) }
+{
+    if text.len() < digits {
+        return None;
+    }
+    let (piece, behind) = text.split_at(digits);
+    let rest = after_byte(b',', behind)?;
+    let number = number_to(limit, piece)?;
+    Some((number, rest))
+}
+
+/// A number of one to three digits before a comma, and what follows the comma.
+#[inline]
+fn short_number_before(limit: u64, text: &[u8]) -> Option<(u64, &[u8])>
+    ensures value { IfSome result (λ x. IsNumberBefore limit text.now x.0 x.1.now) }
+    ensures bound { IfSome result (λ x. x.0 ≤ limit) }
+{
+    match number_before(3, limit, text) {
+        Some(found) => Some(found),
+        None => match number_before(2, limit, text) {
+            Some(found) => Some(found),
+            None => number_before(1, limit, text),
+        },
+    }
+}
+
+/// A PGN of six digits or five before a comma, and what follows the comma.
+#[inline]
+fn pgn_before(text: &[u8]) -> Option<(u64, &[u8])>
+    ensures value { IfSome result (λ x. IsNumberBefore greatest_pgn text.now x.0 x.1.now) }
+    ensures bound { IfSome result (λ x. x.0 ≤ greatest_pgn) }
+{
+    match number_before(6, u64::from(GREATEST_PGN), text) {
+        Some(found) => Some(found),
+        None => number_before(5, u64::from(GREATEST_PGN), text),
+    }
+}
+
+/// The identifier of four numbers before commas, and what follows the last.
+#[inline]
+fn id_before(text: &[u8]) -> Option<(Id, &[u8])>
+    ensures value { IfSome result (λ x. IsIdBefore text.now x.0 x.1.now) }
+    ensures prio { IfSome result (λ x. x.0.prio ≤ greatest_priority) }
+    ensures pgn { IfSome result (λ x. x.0.pgn ≤ greatest_pgn) }
+{
+    let (prio, text) = number_before(1, u64::from(GREATEST_PRIORITY), text)?;
+    let (pgn, text) = pgn_before(text)?;
+    let (src, text) = short_number_before(GREATEST_ADDRESS, text)?;
+    let (dst, text) = short_number_before(GREATEST_ADDRESS, text)?;
+    let (prio, pgn) = (prio as u8, pgn as u32);
+    let (src, dst) = (src as u8, dst as u8);
+    Some((
+        Id {
+            prio,
+            pgn,
+            src,
+            dst,
+        },
+        text,
+    ))
+}
+
+/// The bytes of eight pieces. No branch goes by the kind of a digit.
+#[inline]
+fn eight_pieces(text: &[u8; EIGHT_PIECES]) -> Option<[u8; FRAME_PAYLOAD]>
+    ensures { IfSome result (λ bytes. AreSpelled text.now bytes []) }
+{
+    if text[2] != b','
+        || text[5] != b','
+        || text[8] != b','
+        || text[11] != b','
+        || text[14] != b','
+        || text[17] != b','
+        || text[20] != b','
+    {
+        return None;
+    }
+    let digits = [
+        text[0], text[1], text[3], text[4], text[6], text[7], text[9], text[10], text[12],
+        text[13], text[15], text[16], text[18], text[19], text[21], text[22],
+    ];
+    if !are_hex_digits(&digits) {
+        return None;
+    }
+    Some(eight_bytes(&digits))
+}
+
+/// So many times eight bytes, and what follows them and a comma.
+#[inline]
+fn read_eights<'a>(text: &'a [u8], eights: usize, bytes: &mut Data) -> Option<&'a [u8]>
+    requires few { 8 * eights ≤ longest_message }
+    requires empty { bytes.old.items ≡ [] }
+    ensures value { IfSome result (λ rest. AreRead (pieces text.now) bytes.new.items (pieces rest.now)) }
+    ensures len { IfSome result (λ rest. length bytes.new.items ≡ 8 * eights) }
+{
+    let mut rest = text;
+    for _ in 0..eights {
+        let (chunk, more) = rest.split_first_chunk::<EIGHT_PIECES>()?;
+        let eight = eight_pieces(chunk)?;
+        let _ = bytes.try_extend_from_slice(&eight);
+        rest = after_byte(b',', more)?;
+    }
+    Some(rest)
+}
+
+/// The byte of a piece that a text begins with, and what follows its two digits.
+#[inline]
+fn byte_before(text: &[u8]) -> Option<(u8, &[u8])>
+    ensures { IfSome result (λ x. AreSpelled text.now (x.0 ∷ []) x.1.now) }
+{
+    let ([high, low], rest) = text.split_first_chunk::<2>()?;
+    if is_hex_digit(*high) & is_hex_digit(*low) {
+        Some((spelled_byte(*high, *low), rest))
+    } else {
+        None
+    }
+}
+
+/// The bytes of the last pieces, one by one, behind those that were read before: one more than `count`.
+#[inline]
+fn read_ones(text: &[u8], count: usize, bytes: &mut Data) -> Option<()>
+    requires few { length bytes.old.items + count + 1 ≤ longest_message }
+    ensures value { IfSome result (λ done. IsReadOn bytes.old.items (pieces text.now) bytes.new.items []) }
+    ensures len { IfSome result (λ done. length bytes.new.items ≡ length bytes.old.items + count + 1) }
+{
+    let mut rest = text;
+    for _ in 0..count {
+        let (byte, behind) = byte_before(rest)?;
+        bytes.push(byte);
+        rest = after_byte(b',', behind)?;
+    }
+    let (byte, behind) = byte_before(rest)?;
+    if !behind.is_empty() {
+        return None;
+    }
+    bytes.push(byte);
+    Some(())
+}
+
+/// Puts the entry of a line with these parts and the data of so many pieces where that of an earlier line was.
+#[inline(never)]
+fn set_read(
+    place: &mut Entry,
+    packing: Packing,
+    stamp: &[u8],
+    id: Id,
+    text: &[u8],
+    len: usize,
+) -> Option<()>
+    requires stamp { IsTrue (is_stamp stamp.now) }
+    requires prio { id.prio ≤ greatest_priority }
+    requires pgn { id.pgn ≤ greatest_pgn }
+    requires few { len ≤ longest_message }
+    ensures value { IfSome result (λ done. IsPackedOf packing stamp.now id (bytes_of len (pieces text.now)) place.new) }
+    ensures valid { IfSome result (λ done. IsEntry place.new) }
+{
+    if len == 0 {
+        return None;
+    }
+    let mut data = ArrayVec::new();
+    let eights = (len - 1) / FRAME_PAYLOAD;
+    let rest = read_eights(text, eights, &mut data)?;
+    read_ones(rest, len - 1 - FRAME_PAYLOAD * eights, &mut data)?;
+    set_packed(place, packing, stamp, id, data.as_slice());
+    Some(())
+}
+
+/// Puts the entry of such a line where that of an earlier line was. Of another line it answers nothing.
+pub(crate) fn read_plain_by_place(line: &[u8], packing: Packing, place: &mut Entry) -> Option<()>
+    ensures entry { IfSome result (λ done. place.new ≡ entry line.now packing) }
+    ensures valid { IfSome result (λ done. IsEntry place.new) }
+    ensures short { IfSome result (λ done. IsShort place.new) }
+{
+    if line.len() > LONGEST_LINE {
+        return None;
+    }
+    let (stamp, text) = stamp_before(line)?;
+    let (id, text) = id_before(text)?;
+    let (len, text) = short_number_before(LONGEST_MESSAGE as u64, text)?;
+    match (packing, text.as_array::<EIGHT_PIECES>()) {
+        (Packing::Frames, Some(eight)) if len == FRAME_PAYLOAD as u64 => {
+            let data = eight_pieces(eight)?;
+            match (stamp.as_array::<UTC_LEN>(), stamp.as_array::<CANBOAT_LEN>()) {
+                (Some(ours), _) => set_usual(place, ours, id, &data),
+                (_, Some(canboats)) => set_usual(place, canboats, id, &data),
+                _ => set_frame(place, stamp, id, &data),
+            }
+            Some(())
+        }
+        _ => set_read(place, packing, stamp, id, text, len as usize),
+    }
+}

@@ -1,0 +1,432 @@
+#!/usr/bin/env python3
+"""The script `logger` where days change, senders end, processes are killed, a disk is full and Ctrl-C comes.
+
+    logger_trials.py PROGRAM days|holes|killed|stopped|full|full_raw|terminal [COUNT [SEED]]
+
+Each trial has a boat's log by a seed: the messages of `lossy.py`, of 2 to 32 frames, none lost, stamped over some days. What
+the logger prints is judged by what was sent. Where frames are missing, the messages that miss one are those that are not
+printed, and no message has frames of two. `days` and `holes` ask for exactly these messages, and for a raw log that gives
+them again in one run. The others ask that each line which can be read as JSON is a message that was sent, each once.
+
+The last line is `N faults`, after a line for each. Status 77 says that the trial can't be made here, and why.
+"""
+
+import json
+import os
+import pty
+import random
+import re
+import shutil
+import signal
+import subprocess
+import sys
+import tempfile
+import time
+
+import lossy
+
+HERE = os.path.dirname(os.path.abspath(__file__))
+LOGGER, TABLE = f"{HERE}/logger", f"{HERE}/sample.toml"
+lossy.ROUNDS = 120
+ROUND = sum(lossy.FRAMES)
+
+
+class Log:
+    """A log by a seed: its lines, and each message with the places of its frames."""
+
+    def __init__(self, chance, days):
+        messages = lossy.messages(random.Random(seed := chance.random()))
+        self.data = {(sender, number): data for sender, number, data in messages}
+        frames = [*lossy.transmissions(random.Random(seed))]
+        begin, step = 1751608800 + chance.randrange(86400), days * 86400 / len(frames)
+        self.lines, self.places = [], {}
+        for place, frame in enumerate(frames):
+            stamp = f"({begin + place * step:.6f})"
+            self.lines.append(lossy.line_of(0, frame).replace("(0.0)", stamp).encode())
+            self.places.setdefault(frame[:2], []).append(place)
+
+    def whole(self, begin, end):
+        """The messages all of whose frames stand at these places, in the order in which they are complete."""
+        whole = [(its[-1], key) for key, its in self.places.items() if begin <= its[0] and its[-1] < end]
+        return [(key[0], self.data[key]) for _, key in sorted(whole)]
+
+    def cut(self, begin, end):
+        """How many messages have some of their frames at these places, and not all."""
+        return sum(any(begin <= it < end for it in its) for its in self.places.values()) - len(self.whole(begin, end))
+
+
+def message(line):
+    """A line of JSON as (sender, bytes), or None where it can't be read."""
+    try:
+        it = json.loads(line)
+        return it["src"], bytes.fromhex(it["fields"]["Data"])
+    except ValueError:
+        return None
+
+
+class Boat:
+    """A folder of a logger, and what is in it."""
+
+    logger = None
+
+    def __init__(self, program, room):
+        self.folder = tempfile.mkdtemp(dir=room)
+        self.environment = {**os.environ, "N2KDEC": program}
+        self.program = program
+
+    def start(self, *sender, words=("--raw",), **options):
+        command = [LOGGER, *words, self.folder, TABLE, *sender]
+        Boat.logger = subprocess.Popen(command, env=self.environment, stderr=subprocess.PIPE, text=True, **options)
+        return Boat.logger
+
+    def names(self, pattern):
+        return sorted(it for it in os.listdir(self.folder) if re.fullmatch(pattern, it))
+
+    def text(self, kind):
+        return b"".join(open(f"{self.folder}/{it}", "rb").read() for it in self.names(rf"\d{{4}}-\d\d-\d\d\.{kind}"))
+
+    def printed(self):
+        """The messages of all days, without the lines that can't be read."""
+        return [it for it in map(message, self.text("json").splitlines()) if it]
+
+    def raw(self):
+        """The raw log, of all days."""
+        names = [it for it in sorted(os.listdir(f"{self.folder}/raw")) if it[0] != "."]
+        return subprocess.run(["zcat", "-f", *names], cwd=f"{self.folder}/raw", capture_output=True, check=True).stdout
+
+    def decoded(self, log):
+        """What one n2kdec prints of a log."""
+        command = [self.program, "decode", "--in-order", "--table", TABLE]
+        return subprocess.run(command, input=log, capture_output=True, check=False).stdout
+
+    def received(self, line):
+        """Waits until the raw log ends in this line."""
+        for _ in range(1000):
+            if os.path.isdir(f"{self.folder}/raw") and self.raw().endswith(line):
+                return
+            time.sleep(0.01)
+        raise TimeoutError("the raw log does not grow")
+
+
+def send(path, seconds, seed):
+    """A sender: writes the file in pieces of any length within these seconds, and then, after a second, comments."""
+    chance, text = random.Random(seed), open(path, "rb").read()
+    pieces = 1 + len(text) // 700
+    while text:
+        length = chance.randrange(1, 1400)
+        os.write(1, text[:length])
+        text = text[length:]
+        time.sleep(float(seconds) / pieces)
+    time.sleep(1)
+    while True:
+        os.write(1, b"# quiet\n")
+        time.sleep(0.1)
+
+
+def sender(path, seconds, chance):
+    return [sys.executable, __file__, "send", path, str(seconds), str(chance.random())]
+
+
+def put(room, lines):
+    path = f"{room}/sent"
+    with open(path, "wb") as file:
+        file.writelines(lines)
+    return path
+
+
+def days(program, room, chance):
+    """A sender that goes on over some days."""
+    boat, log = Boat(program, room), Log(chance, chance.randrange(2, 7))
+    text = b"".join(log.lines)
+    logger = boat.start(*sender(put(room, log.lines), 0.3, chance))
+    boat.received(log.lines[-1])
+    logger.terminate()
+    said = logger.communicate()[1]
+    one = boat.decoded(text)
+    names = boat.names(r".*\.json")
+    for name in names:
+        stamps = {it["timestamp"][:10] for it in map(json.loads, open(f"{boat.folder}/{name}"))}
+        if stamps - {name[:10]}:
+            yield f"{name} has messages of {stamps}"
+    if boat.text("json") != one or boat.printed() != log.whole(0, len(log.lines)):
+        yield "the days are not one decode"
+    if boat.raw() != text:
+        yield "the raw log is not what was sent"
+    if logger.returncode or len(said.splitlines()) != len(names) or len(boat.names(r".*\.state")) != len(names) - 1:
+        yield f"status {logger.returncode}, {len(names)} days, said: {said}"
+
+
+def ended(boat, chance, path, last):
+    """A logger whose sender sends the file and ends in one of three ways."""
+    way = chance.choice(["alone", "alone", "script", "sender"])
+    if way == "alone":
+        logger = boat.start("cat", path)
+    else:
+        logger = boat.start("sh", "-c", 'cat "$0"; echo $$ >"$0.pid"; exec sleep 100', path)
+        boat.received(last)
+        while not os.path.exists(f"{path}.pid") or not (pid := open(f"{path}.pid").read()):
+            time.sleep(0.01)
+        os.remove(f"{path}.pid")
+        os.kill(logger.pid if way == "script" else int(pid), signal.SIGTERM if way == "script" else signal.SIGKILL)
+    said = logger.communicate()[1]
+    return logger.returncode, said
+
+
+def holes(program, room, chance):
+    """Ten holes at random places, many of them of some eight messages of each sender."""
+    boat, log = Boat(program, room), Log(chance, 3)
+    wanted, place, sent = [], 0, []
+    for left in range(10, -1, -1):
+        rest = len(log.lines) - place
+        end = place + (rest if left == 0 else chance.randrange(1, max(2, min(rest, 2 * rest // (left + 1)) - 9 * ROUND)))
+        lines = log.lines[place:end]
+        status, said = ended(boat, chance, put(room, lines), lines[-1])
+        given_up = sum(map(int, re.findall(r"(?:broken|open) (\d+)", said.splitlines()[-1])))
+        if status or given_up != log.cut(place, end):
+            yield f"status {status}, {log.cut(place, end)} messages cut, said: {said}"
+        if os.path.exists(f"{boat.folder}/boat.state"):
+            yield "a state is left"
+        wanted, sent = wanted + log.whole(place, end), sent + lines
+        gap = chance.choice([0, chance.randrange(ROUND), *[8 * ROUND + chance.randrange(-4, 5)] * 2])
+        place = min(end + gap, len(log.lines) - 1)
+    if boat.printed() != wanted:
+        yield "not the messages that are whole between the holes"
+    if boat.decoded(boat.raw()) != boat.text("json"):
+        yield "the raw log gives other messages"
+    holes.mixed += sum(message(it)[1] not in log.data.values() for it in boat.decoded(b"".join(sent)).splitlines())
+
+
+holes.mixed = 0
+
+
+def tree(pid):
+    """A process and those that it has started, the senders too."""
+    found, parents = [pid], {}
+    for it in filter(str.isdigit, os.listdir("/proc")):
+        try:
+            parents[int(it)] = int(open(f"/proc/{it}/stat").read().rpartition(")")[2].split()[1])
+        except OSError:
+            pass
+    for it in found:
+        found += [child for child, parent in parents.items() if parent == it]
+    return found
+
+
+def named(pids, name):
+    """Those of the processes that run this program; the names of the system have at most 15 bytes."""
+
+    def of(pid):
+        try:
+            return open(f"/proc/{pid}/comm").read().strip()
+        except OSError:
+            return ""
+
+    return [it for it in pids if of(it) == name[:15]]
+
+
+def kill(pids):
+    """Kills all of them at one moment: each is stopped before the first is killed, so none sees the end of another."""
+    for it in (signal.SIGSTOP, signal.SIGKILL):
+        for pid in pids:
+            try:
+                os.kill(pid, it)
+            except ProcessLookupError:
+                pass
+
+
+def tear(boat, chance):
+    """What a cut of the power may do to the last of what was written."""
+    for folder in (boat.folder, f"{boat.folder}/raw"):
+        for name in [it for it in sorted(os.listdir(folder)) if it.endswith((".json", ".reports", ".log"))]:
+            path = f"{folder}/{name}"
+            if time.time() - os.stat(path).st_mtime < 0.3:
+                os.truncate(path, max(0, os.stat(path).st_size - chance.randrange(200)))
+
+
+def killed(program, room, chance):
+    """Ten runs on one folder; in each the script and its n2kdec are killed at a random moment, or n2kdec, or all, or the sender."""
+    boat, log = Boat(program, room), Log(chance, 3)
+    each, torn = len(log.lines) // 11, False
+    for run in range(11):
+        logger = boat.start(*sender(put(room, log.lines[run * each : (run + 1) * each]), 0.3, chance), start_new_session=True)
+        time.sleep(0.1 + 0.4 * chance.random())
+        pids, name = tree(logger.pid), os.path.basename(program)
+        way = chance.choice(["both", "n2kdec", "sender", "all"]) if run < 10 else "none"
+        victims = {
+            "both": [logger.pid, *named(pids, name)],
+            "n2kdec": named(pids, name),
+            "sender": named(pids, os.path.basename(sys.executable)),
+            "all": chance.sample(pids, len(pids)),
+            "none": [],
+        }[way]
+        kill(victims)
+        if way == "all" and chance.randrange(2):
+            tear(boat, chance)
+            torn = True
+        # A script that lives ends where n2kdec or the sender was killed. What is left of a script that was killed ends at
+        # the sender's next line where n2kdec was killed too, and else with the sender.
+        if not victims:
+            time.sleep(1)
+            logger.terminate()
+        if subprocess.run(["flock", "-w", "3", boat.folder, "true"], check=False).returncode:
+            kill(named(pids, os.path.basename(sys.executable)))
+        said = logger.communicate()[1]
+        if way == "sender" and victims and logger.returncode not in (0, 1, 3) or way == "n2kdec" and victims and logger.returncode != 137:
+            yield f"{way} killed: status {logger.returncode}, {said}"
+    yield from judged(boat, log, torn)
+    last = log.whole(run * each, (run + 1) * each)
+    if boat.printed()[-len(last) :] != last:
+        yield "the last run misses messages"
+
+
+def judged(boat, log, torn):
+    """Each message printed was sent, none twice, the raw log gives it too, and the raw log gives no other."""
+    sent = {(key[0], data) for key, data in log.data.items()}
+    printed, again = boat.printed(), [*map(message, boat.decoded(boat.raw()).splitlines())]
+    if wrong := [it for it in printed if it not in sent]:
+        yield f"{len(wrong)} messages that were not sent"
+    if len({*printed}) != len(printed):
+        yield "a message twice"
+    if {*again} - sent or len({*again}) != len(again):
+        yield "the raw log gives a message that was not sent, or one twice"
+    if not torn and {*printed} - {*again}:
+        yield "the raw log lacks a message"
+    if not printed or not boat.text("json").endswith(b"\n"):
+        yield "the last day has no whole line"
+
+
+def left(boat):
+    """The processes that work for this boat: its folder stands in what they inherit."""
+    mark, found = f"BOAT={boat.folder}".encode(), []
+    for it in filter(str.isdigit, os.listdir("/proc")):
+        try:
+            if mark in open(f"/proc/{it}/environ", "rb").read().split(b"\0"):
+                found.append(int(it))
+        except OSError:
+            pass
+    return found
+
+
+def stopped(program, room, chance):
+    """SIGTERM while the logger starts: the sender, which has processes of its own, ends, and all else."""
+    boat, log = Boat(program, room), Log(chance, 3)
+    boat.environment["BOAT"] = boat.folder
+    logger = boat.start("sh", "-c", 'cat "$0"; sleep 100; cat "$0"', put(room, log.lines[:ROUND]), start_new_session=True)
+    time.sleep(0.15 * chance.random())
+    logger.terminate()
+    try:
+        said = logger.communicate(timeout=10)[1]
+    except subprocess.TimeoutExpired:
+        said = "it did not end"
+    if pids := left(boat):
+        yield f"{len(pids)} processes are left; {said}"
+        kill(pids)
+        logger.communicate()
+    # bash begins with the default for each signal. Until its trap stands nothing has begun.
+    begun = bool(os.listdir(boat.folder))
+    if logger.returncode != 0 and (logger.returncode != -signal.SIGTERM or begun):
+        yield f"status {logger.returncode}, said: {said}"
+    if begun and (boat.decoded(boat.raw()) != boat.text("json") or boat.names("boat.state")):
+        yield "the raw log gives other messages, or a state is left"
+
+
+def full_raw(program, room, chance):
+    """A folder of 300 kB that fills up with a raw log too."""
+    return full(program, room, chance, ["--raw"])
+
+
+def full(program, room, chance, words=()):
+    """A folder of 300 kB that fills up, and has room again."""
+    disk = f"{room}/disk"
+    os.mkdir(disk)
+    if subprocess.run(["mount", "-t", "tmpfs", "-o", "size=300k", "none", disk], check=False, capture_output=True).returncode:
+        print("no file system can be mounted here")
+        sys.exit(77)
+    boat, log = Boat(program, disk), Log(chance, 3)
+    try:
+        with open(f"{disk}/other", "wb") as file:
+            file.write(bytes(chance.randrange(200_000, 250_000)))
+        logger = boat.start(*sender(put(room, log.lines), 1.5, chance), words=words)
+        said = iter(logger.stderr.readline, "")
+        before = []
+        for line in said:
+            before.append(line)
+            if "has no room" in line:
+                break
+        printed = boat.printed()
+        time.sleep(2)
+        if boat.printed() != printed or logger.poll() is not None:
+            yield "it does not wait"
+        os.remove(f"{disk}/other")
+        size = len(boat.text("json"))
+        for _ in range(1000):
+            if len(boat.text("json")) > size + 2000:
+                break
+            time.sleep(0.01)
+        else:
+            yield "it does not go on"
+        logger.terminate()
+        after = logger.communicate()[1]
+        text = "".join(before) + after
+        if logger.returncode not in (0, 1) or text.count("has no room") != 1:
+            yield f"status {logger.returncode}, said: {text}"
+        # What is sent after the pause begins the log again.
+        sent = {(key[0], data) for key, data in log.data.items()}
+        lines = boat.text("json").splitlines()
+        if {it for it in map(message, lines) if it} - sent or sum(message(it) is None for it in lines) > 1:
+            yield "a message that was not sent"
+        if words and {*map(message, boat.decoded(boat.raw()).splitlines())} - sent:
+            yield "the raw log gives a message that was not sent"
+    finally:
+        subprocess.run(["umount", "-l", disk], check=True)
+
+
+def terminal(program, room, chance):
+    """Ctrl-C in a terminal, to the script and all that it has started."""
+    boat, log = Boat(program, room), Log(chance, 3)
+    path = put(room, log.lines)
+    pid, screen = pty.fork()
+    if pid == 0:
+        os.execve(LOGGER, [LOGGER, "--raw", boat.folder, TABLE, *sender(path, 1, chance)], boat.environment)
+    time.sleep(0.3 + 0.7 * chance.random())
+    os.write(screen, b"\x03")
+    said = b""
+    try:
+        while it := os.read(screen, 4096):
+            said += it
+    except OSError:
+        pass
+    status = os.waitstatus_to_exitcode(os.waitpid(pid, 0)[1])
+    summary = re.findall(rb"lines \d+ messages \d+ bad \d+ unknown \d+ broken \d+ open \d+", said)
+    if status not in (0, 1) or not summary or not boat.text("reports").endswith(summary[-1] + b"\n"):
+        yield f"status {status}, said: {said}"
+    if boat.decoded(boat.raw()) != boat.text("json"):
+        yield "the raw log gives other messages"
+    yield from judged(boat, log, False)
+
+
+def main():
+    if sys.argv[1] == "send":
+        return send(*sys.argv[2:])
+    program, trial = os.path.realpath(sys.argv[1]), globals()[sys.argv[2]]
+    count, seed = int([*sys.argv, 1, 1][3]), int([*sys.argv, 1, 1, 1][4])
+    faults = 0
+    for number in range(seed, seed + count):
+        room = tempfile.mkdtemp()
+        try:
+            for fault in trial(program, room, random.Random(number)):
+                faults += 1
+                print(f"{sys.argv[2]}, seed {number}: {fault}", flush=True)
+        finally:
+            if Boat.logger and Boat.logger.poll() is None:
+                kill(tree(Boat.logger.pid))
+            shutil.rmtree(room)
+    if trial is holes and not holes.mixed:
+        faults += 1
+        print("no hole would have mixed a message, so this trial shows nothing")
+    print(f"{faults} faults")
+    return bool(faults)
+
+
+if __name__ == "__main__":
+    sys.exit(main())

@@ -1,0 +1,27 @@
+# Takes JSON lines, gives the last value of everything as a table: watch -n 1 'tail -n 2000 boat.json | jq -rf last.jq'
+#
+# Of each sender, PGN and thing (n2k.jq lists what tells these apart) the last message counts: what it lacks is not
+# available now. The values of a list are not shown. Units are those of units.json; behind degrees.jq, --arg units degrees
+# names its units, and --arg units knots those with knots.
+include "n2k" {search: "./"};
+import "units" as $known {search: ["../tables", ".."]};
+
+def padded($width): . + (" " * ($width - length) // "");
+def shown: if type == "number" then tostring elif type == "string" then . else tojson end;
+def unit_names:
+    {date: "days", time: "s"}
+    + if . == null then {} else {rad: "deg", "rad/s": "deg/s", K: "°C", Pa: "hPa", date: null, time: null} end
+    + if . == "knots" then {"m/s": "knots"} else {} end;
+
+things as $things | ($things | keys) as $names | $known::known[0] as $units | ($ARGS.named.units | unit_names) as $called
+| reduce lines as $m ({}; setpath([$m | [.pgn, .src, .description, (.fields[$names[]] | values)] | tojson]; $m))
+| [.[]] | sort_by(.pgn, .src, .description)
+| [.[] as $m | ($units[$m.pgn | tostring][$m.description] // {}) as $mine
+    | ([$m.fields[$names[]] | values | shown] | join(", ")) as $thing
+    | $m.fields | to_entries[] | select(.key != "list" and .value != null and $things[.key] == null)
+    | $mine[.key] as $unit
+    | [($m.timestamp | iso | .[11:19]), "\($m.src)", $m.description, $thing, .key,
+       (.value | shown) + (if $unit and (.value | type) == "number" then
+           ($called | if has($unit) then .[$unit] else $unit end) as $name | if $name then " " + $name else "" end else "" end)]]
+| [["time", "src", "message", "of", "field", "value"]] + . | (transpose | map(map(length) | max)) as $widths
+| .[] | .[-1] as $value | [range(length - 1) as $at | .[$at] | padded($widths[$at])] + [$value] | join("  ")

@@ -1,0 +1,33 @@
+# What the recipes share. It takes and gives nothing by itself: they include it.
+
+# The lines of a run, whether jq was called with -n or not.
+def lines: values, inputs;
+
+# A name as an id, as canboat's -camel makes it: letters and digits alone, small, and great where a word begins.
+def camel:
+    def in_ids: . >= 48 and . <= 57 or . >= 65 and . <= 90 or . >= 97 and . <= 122;
+    explode as $signs
+    | [range($signs | length) as $at | $signs[$at] | select(in_ids)
+        | if $at == 0 or ($signs[$at - 1] | in_ids) then
+              if . <= 90 and . >= 65 then . + 32 else . end
+          elif . >= 97 then . - 32
+          else . end]
+    | implode;
+
+# A stamp as ISO text. canboat's older forms, with a dash, a space or Z between date and time, or without Z at the end,
+# are taken for UTC. Another text stays as it is.
+def iso:
+    if .[10:11] == "T" and endswith("Z") then .
+    elif .[13:14] == ":" and .[16:17] == ":" and (.[11:] | contains("+") or contains("-") | not) then
+        .[:10] + "T" + (.[11:] | rtrimstr("Z")) + "Z"
+    else . end;
+
+# The seconds since 1970 of an ISO text, without their fraction; null where it is no time.
+def seconds: .[:19] + "Z" | try fromdate catch null;
+
+# The fields that say which of several things a message speaks of, and what they are called here.
+def things: {
+    "Instance": "instance", "Battery Instance": "instance", "Bank Instance": "instance", "Identifier": "instance",
+    "Connection Number": "instance", "Windlass ID": "instance", "Source": "source", "Temperature Source": "source",
+    "Type": "type", "DC Type": "type", "Reference": "reference", "COG Reference": "reference",
+    "Set Reference": "reference", "User ID": "mmsi"};

@@ -1,0 +1,717 @@
+"""A table of n2kdec read with its places: TOML 1.1 as the program reads it, and the rules of docs/PROFILE.md.
+
+`tree(bytes)` is the document, `faults(bytes)` every fault with its line. tables/check prints them,
+examples/table_faults.py their names (Python 3.11 or newer).
+"""
+import bisect
+import dataclasses
+import datetime
+import difflib
+import re
+
+NUMBERS = {name: number for number, name in enumerate(
+    ("NotToml", "Format", "Key", "Range", "Text", "Twice", "Lookup", "Mixed", "TooMany"), 1)}
+
+LONGEST_TEXT = 255  # bytes
+LONGEST_MESSAGE = 1784  # bits
+MOST_DEFINITIONS, MOST_FIELDS, MOST_LOOKUPS, MOST_ENTRIES = 4096, 256, 1024, 4096
+GREATEST_PGN, GREATEST_VALUE, GREATEST_MANTISSA = 2**24 - 1, 2**32 - 1, 2**32 - 1
+DEEPEST = 80  # arrays and inline tables in one another, and parts of a key
+
+
+# ---- TOML ----
+
+class NotToml(Exception):
+    """Why a text is no TOML: what was expected, and at which offset."""
+
+    def __init__(self, what, at):
+        super().__init__(what)
+        self.what, self.at = what, at
+
+
+class Table(dict):
+    """A table, with the offset at which it begins (`at`) and those of its keys (`keys_at`). `origin` says what made it,
+    as the rules on defining a key twice ask: a header that passed through it, a dotted key, its own header, or braces."""
+
+    def __init__(self, at, origin):
+        super().__init__()
+        self.at, self.origin, self.keys_at = at, origin, {}
+
+    def put(self, key, at, value):
+        self[key], self.keys_at[key] = value, at
+        return value
+
+
+class Array(list):
+    """An array, with the offsets of its elements. Where headers make it, each element is a table of its own header."""
+
+    def __init__(self, by_headers):
+        super().__init__()
+        self.by_headers, self.items_at = by_headers, []
+
+    def add(self, at, value):
+        self.append(value)
+        self.items_at.append(at)
+        return value
+
+
+class Moment(str):
+    """A date, a time or both, as it is spelled."""
+
+
+SPACES = re.compile(r"[ \t]*")
+BLANK = re.compile(r"(?:[ \t\n]|\r\n|#[^\x00-\x08\x0a-\x1f\x7f]*)*")
+LINES = re.compile(r"(?:[ \t\n]|\r\n)*")
+LINE_END = re.compile(r"[ \t]*\r?\n")
+BARE = re.compile(r"[A-Za-z0-9_-]+")
+# A space before a digit joins a date and a time.
+WORD = re.compile(r"[A-Za-z0-9_+.:-]*(?: (?=[0-9])[A-Za-z0-9_+.:-]*)?")
+PLAIN = {delimiter: re.compile(rf"[^\x00-\x08\x0a-\x1f\x7f{delimiter}]*") for delimiter in ('"\\\\', "'")}
+PLAIN_LINES = {delimiter: re.compile(rf"[^\x00-\x08\x0b-\x1f\x7f{delimiter}]*") for delimiter in ('"\\\\', "'")}
+ESCAPES = {"b": "\b", "e": "\x1b", "f": "\f", "n": "\n", "r": "\r", "t": "\t", '"': '"', "\\": "\\"}
+HEXADECIMAL = {"x": 2, "u": 4, "U": 8}
+DECIMAL = re.compile(r"[+-]?(?:(0|[1-9][0-9]*)(\.[0-9]+)?([eE][+-]?[0-9]+)?|inf|nan)")
+PREFIXED = {"0x": re.compile("[0-9A-Fa-f]+"), "0o": re.compile("[0-7]+"), "0b": re.compile("[01]+")}
+LOOSE_UNDERSCORE = {True: re.compile("(?<![0-9A-Fa-f])_|_(?![0-9A-Fa-f])"), False: re.compile("(?<![0-9])_|_(?![0-9])")}
+TIME = r"([01][0-9]|2[0-3]):[0-5][0-9](:([0-5][0-9]|60)(\.[0-9]+)?)?"
+DATE_TIME = re.compile(rf"([0-9]{{4}}-[0-9]{{2}}-[0-9]{{2}})([Tt ]{TIME}([Zz]|[+-]([01][0-9]|2[0-3]):[0-5][0-9])?)?")
+ONLY_TIME = re.compile(TIME)
+
+A_KEY = "invalid key, expected letters, numbers, `-`, `_` or a quoted key"
+A_VALUE = "expected a string, number, boolean, date-time, array or inline table"
+
+
+def number(word):
+    """The number that a word spells, or why it spells none."""
+    hexadecimal = word[:2] == "0x"
+    if LOOSE_UNDERSCORE[hexadecimal].search(word):
+        return None, "`_` may only go between digits"
+    plain = word.replace("_", "")
+    if plain[:2] in PREFIXED:
+        digits = plain[2:].lstrip("0") or plain[2:]
+        if PREFIXED[plain[:2]].fullmatch(digits) and len(digits) <= 64:
+            value = int(digits, {"x": 16, "o": 8, "b": 2}[plain[1]])
+            if value < 2**63:
+                return value, None
+        return None, f"invalid value `{word}`, expected digits of a number of up to 63 bits"
+    parts = DECIMAL.fullmatch(plain)
+    if parts is None:
+        return None, f"invalid value `{word}`, {A_VALUE}"
+    if parts[2] or parts[3] or parts[1] is None:
+        value = float(plain)
+        infinite = abs(value) == float("inf") and parts[1] is not None
+        return (None, "number out of range, expected a float of 64 bits") if infinite else (value, None)
+    if len(parts[1]) > 19 or not -2**63 <= int(plain) < 2**63:
+        return None, "number out of range, expected an integer of 64 bits with its sign"
+    return int(plain), None
+
+
+def is_moment(word):
+    if ONLY_TIME.fullmatch(word):
+        return True
+    parts = DATE_TIME.fullmatch(word)
+    if parts is None:
+        return False
+    year, month, day = map(int, parts[1].split("-"))
+    try:
+        datetime.date(year or 2000, month, day)  # the year 0 is a leap year, as 2000 is
+    except ValueError:
+        return False
+    return True
+
+
+class Reader:
+    """Reads a text as the crate `toml` does, by the same steps, and keeps where things stand."""
+
+    def __init__(self, text):
+        self.text = text
+        self.open = [0]  # the offsets of the pair or header, and of the brackets, braces and quotes, that are open
+        self.before = 0  # that of the pair or header before
+        self.lines_of_text = 0, 0  # where the last text of many lines begins and ends
+
+    def first(self, at):
+        return self.text[at:at + 1]
+
+    def line(self, at):
+        return self.text.count("\n", 0, at) + 1
+
+    def fail(self, what, at):
+        line = self.line(at)
+        begins = [begin for begin in map(self.line, reversed(self.open)) if begin < line]
+        first, last = map(self.line, self.lines_of_text)
+        if begins:
+            what += f"; within what begins in line {begins[0]}"
+        elif first < last >= line - 1:
+            what += f"; behind the text that begins in line {first}"
+        elif at == self.open[0] and self.first(at) and self.first(at) in "]},":
+            what += f"; behind what begins in line {self.line(self.before)}"
+        raise NotToml(what, at)
+
+    def blank(self, at):
+        """After spaces, newlines and comments."""
+        return BLANK.match(self.text, at).end()
+
+    def spaces(self, at):
+        return SPACES.match(self.text, at).end()
+
+    def document(self):
+        root = section = Table(0, "header")
+        at = self.blank(1 if self.text.startswith("\ufeff") else 0)
+        while at < len(self.text):
+            start, self.open = at, [at]
+            define, at = self.header(at) if self.first(at) == "[" else self.pair(at, DEEPEST)
+            end = self.spaces(at)
+            if end < len(self.text) and self.first(end) not in "#\n\r":
+                self.fail("unexpected key or value, expected newline, `#`", end)
+            section = define(root, section, start)
+            self.before, at = start, self.blank(at)
+        return root
+
+    def header(self, at):
+        """What defines the table of a header and answers it, and the offset behind it."""
+        doubled = self.text.startswith("[[", at)
+        path, end = self.key(self.spaces(at + 1 + doubled))
+        if self.first(end) != "]":
+            self.fail("unclosed table, expected `]`", end)
+        if doubled and self.first(end + 1) != "]":
+            self.fail("unclosed array table, expected `]]`", end + 1)
+
+        def define(root, _section, start):
+            holder = self.along_header(root, path[:-1])
+            key, key_at = path[-1]
+            there = holder.get(key)
+            if doubled and isinstance(there, Array) and there.by_headers:
+                return there.add(start, Table(start, "header"))
+            if not doubled and isinstance(there, Table) and there.origin == "passed":
+                there.at, there.origin = start, "header"
+                return there
+            if key in holder:
+                self.twice(holder, key, key_at)
+            if doubled:
+                return holder.put(key, key_at, Array(True)).add(start, Table(start, "header"))
+            return holder.put(key, key_at, Table(start, "header"))
+
+        return define, end + 1 + doubled
+
+    def along_header(self, table, path):
+        """The table to which a header's path leads; what is missing is made."""
+        for key, at in path:
+            there = table.get(key)
+            if isinstance(there, Array) and there.by_headers:
+                table = there[-1]
+            elif isinstance(there, Table) and there.origin != "braces":
+                table = there
+            elif key in table:
+                self.fail(f"cannot extend the value of {quoted(key)}, expected another key; it is defined in line "
+                          f"{self.line(table.keys_at[key])}", at)
+            else:
+                table = table.put(key, at, Table(at, "passed"))
+        return table
+
+    def pair(self, at, depth):
+        """What defines a key with its value and answers the section, and the offset behind them."""
+        path, end = self.key(at)
+        if self.first(end) != "=":
+            self.fail("key with no value, expected `=`", end)
+        value, end = self.value(self.spaces(end + 1), depth)
+
+        def define(_root, section, _start):
+            table = section
+            for key, key_at in path[:-1]:
+                there = table.get(key)
+                if isinstance(there, Table) and there.origin in ("passed", "dotted"):
+                    there.origin = "dotted"
+                    table = there
+                elif key in table:
+                    self.twice(table, key, key_at)
+                else:
+                    table = table.put(key, key_at, Table(key_at, "dotted"))
+            key, key_at = path[-1]
+            if key in table:
+                self.twice(table, key, key_at)
+            table.put(key, key_at, value)
+            return section
+
+        return define, end
+
+    def twice(self, table, key, at):
+        self.fail(f"duplicate key {quoted(key)}, expected one that is not there; it is defined in line "
+                  f"{self.line(table.keys_at[key])}", at)
+
+    def key(self, at):
+        """The parts of a key, each with its offset, and the offset behind the key and spaces."""
+        path, start = [], at
+        for _ in range(DEEPEST):
+            if self.first(at) in ('"', "'"):
+                part, end = self.one_line(at)
+            elif match := BARE.match(self.text, at):
+                part, end = match[0], match.end()
+            else:
+                self.fail(A_KEY, at)
+            path.append((part, at))
+            end = self.spaces(end)
+            if self.first(end) != ".":
+                return path, end
+            at = self.spaces(end + 1)
+        self.fail(f"a key of more than {DEEPEST} parts, expected fewer", start)
+
+    def value(self, at, depth):
+        """A value with arrays and inline tables at most `depth` deep, and the offset behind it."""
+        front = self.first(at)
+        if front and front in "[{":
+            if depth == 0:
+                self.fail(f"more than {DEEPEST} arrays or inline tables in one another, expected fewer", at)
+            self.open.append(at)
+            read = (self.array if front == "[" else self.inline_table)(at, depth - 1)
+            self.open.pop()
+            return read
+        if front and front in "\"'":
+            return self.quoted(at)
+        return self.word(at)
+
+    def array(self, at, depth):
+        found, at = Array(False), self.blank(at + 1)
+        while self.first(at) != "]":
+            value, end = self.value(at, depth)
+            found.add(at, value)
+            at = self.after_element(end, "]", "missing comma between array elements, expected `,` or `]`")
+        return found, at + 1
+
+    def inline_table(self, at, depth):
+        found, at = Table(at, "braces"), self.blank(at + 1)
+        while self.first(at) != "}":
+            define, end = self.pair(at, depth)
+            define(None, found, at)
+            at = self.after_element(end, "}", "missing comma between key-value pairs, expected `,` or `}`")
+        return found, at + 1
+
+    def after_element(self, at, closing, missing):
+        at = self.blank(at)
+        if self.first(at) == ",":
+            return self.blank(at + 1)
+        if self.first(at) != closing:
+            self.fail(missing, at)
+        return at
+
+    def word(self, at):
+        end = WORD.match(self.text, at).end()
+        word = self.text[at:end]
+        if not word:
+            self.fail(f"invalid value, {A_VALUE}", at)
+        if word in ("true", "false"):
+            return word == "true", end
+        if re.match("[0-9]+[-:]", word):
+            if not is_moment(word):
+                self.fail(f"invalid date-time `{word}`, expected YYYY-MM-DD, HH:MM:SS or both", at)
+            return Moment(word), end
+        value, why = number(word)
+        if why:
+            self.fail(why, at)
+        return value, end
+
+    # ---- Texts ----
+
+    def quoted(self, at):
+        delimiter = self.first(at)
+        if not self.text.startswith(delimiter * 3, at):
+            return self.one_line(at)
+        self.open.append(at)
+        at += 3
+        # A newline right behind the quotes is left out.
+        at += 1 if self.first(at) == "\n" else 2 if self.text.startswith("\r\n", at) else 0
+        read = self.body(at, delimiter, PLAIN_LINES, self.at_delimiters)
+        self.lines_of_text = self.open.pop(), read[1]
+        return read
+
+    def one_line(self, at):
+        return self.body(at + 1, self.first(at), PLAIN, lambda end, _: (None, end + 1))
+
+    def body(self, at, delimiter, plain, at_delimiter):
+        """A text up to the quotes that end it, and the offset behind them."""
+        many = plain is PLAIN_LINES
+        pieces, run = [], plain['"\\\\' if delimiter == '"' else delimiter]
+        while True:
+            end = run.match(self.text, at).end()
+            pieces.append(self.text[at:end])
+            front = self.first(end)
+            if front == delimiter:
+                piece, at = at_delimiter(end, delimiter)
+                if piece is None:
+                    return "".join(pieces), at
+            elif front == "\\":
+                piece, at = self.escape(end + 1, many)
+            elif many and self.text.startswith("\r\n", end):
+                piece, at = "\r", end + 1
+            else:
+                closing = delimiter * 3 if many else delimiter
+                ends = not front or front in "\r\n"
+                self.fail("invalid string, expected " + (f"its closing `{closing}`" if ends else "no control character"),
+                          end)
+            pieces.append(piece)
+
+    def at_delimiters(self, at, delimiter):
+        """Three quotes end a text of many lines; one or two are text, also before the last three."""
+        end = at
+        while self.first(end) == delimiter:
+            end += 1
+        if end - at == 3:
+            return None, end
+        if end - at > 5:
+            self.fail("invalid string, expected three to five quotes at its end", at)
+        return delimiter, at + 1
+
+    def escape(self, at, many):
+        """What stands for the letters behind a backslash, and the offset behind them."""
+        if many and LINE_END.match(self.text, at):
+            return "", LINES.match(self.text, at).end()
+        letter = self.first(at)
+        if letter in HEXADECIMAL:
+            digits = self.text[at + 1:at + 1 + HEXADECIMAL[letter]]
+            if re.fullmatch(f"[0-9A-Fa-f]{{{HEXADECIMAL[letter]}}}", digits):
+                code = int(digits, 16)
+                if code <= 0x10FFFF and not 0xD800 <= code < 0xE000:
+                    return chr(code), at + 1 + len(digits)
+        elif letter in ESCAPES:
+            return ESCAPES[letter], at + 1
+        self.fail("invalid escape sequence, expected b, e, f, n, r, t, `\"` or `\\` behind `\\`, or x, u or U and the 2, 4 "
+                  "or 8 hexadecimal digits of a character", at)
+
+
+def text_of(data):
+    try:
+        return data.decode()
+    except UnicodeDecodeError as error:
+        before = data[:error.start].decode()
+        raise NotToml("invalid UTF-8", len(before)) from None
+
+
+def tree(data):
+    """The document that the bytes spell, a Table; else NotToml is raised."""
+    return Reader(text_of(data)).document()
+
+
+# ---- Rules ----
+
+KIND_NAMES = {bool: "a truth value", int: "an integer", float: "a float", str: "a text", Moment: "a date or time",
+              Array: "an array", Table: "a table"}
+FIELD_KEYS = {
+    "number": (("name", "kind", "at", "bits"), ("signed", "resolution", "match")),
+    "lookup": (("name", "kind", "at", "bits", "lookup"), ("match",)),
+    "text": (("name", "kind", "at", "bits"), ()),
+    "bytes": (("name", "kind", "at", "bits"), ()),
+}
+ALL_FIELD_KEYS = ("name", "kind", "at", "bits", "signed", "resolution", "match", "lookup")
+MOST_BITS = {"number": 64, "lookup": 32, "text": LONGEST_MESSAGE, "bytes": LONGEST_MESSAGE}
+
+
+@dataclasses.dataclass(frozen=True)
+class Fault:
+    """A fault: its line and, where the text is no TOML, its column; the name of its class; and what is wrong."""
+    line: int
+    column: int | None
+    name: str
+    what: str
+
+    def __str__(self):
+        place = self.line if self.column is None else f"{self.line}:{self.column}"
+        return f"{place}: {NUMBERS[self.name]} {self.name}: {self.what}"
+
+
+class Lines:
+    """The lines of a text by offset."""
+
+    def __init__(self, text):
+        self.starts = [0, *(match.end() for match in re.finditer("\n", text))]
+
+    def line(self, at):
+        return bisect.bisect_right(self.starts, at)
+
+    def column(self, at):
+        return at - self.starts[self.line(at) - 1] + 1
+
+
+def quoted(text):
+    """A text in quotes on one line; of a long one the front."""
+    text = text if len(text) <= 60 else f"{text[:60]}.."
+    return '"' + "".join(letter if letter.isprintable() and letter not in '"\\' else
+                         letter.encode("unicode_escape").decode() if letter != '"' else '\\"' for letter in text) + '"'
+
+
+def shown(value):
+    """A value in a fault: a text in quotes, a number as it is, else its kind."""
+    if type(value) is str:
+        return quoted(value)
+    return str(value) if type(value) is int else KIND_NAMES[type(value)]
+
+
+def of_definition(definition, ordinal):
+    """What a fault calls a definition."""
+    number, description = definition.get("number"), definition.get("description")
+    parts = [str(number)] if type(number) is int else []
+    parts += [quoted(description)] if type(description) is str else []
+    return f"pgn {' '.join(parts)}" if parts else f"the definition {ordinal} of the table"
+
+
+def of_named(word, holder, ordinal):
+    """What a fault calls a field or a lookup."""
+    name = holder.get("name")
+    return f"{word} {quoted(name)}" if type(name) is str and name else f"{word} {ordinal}"
+
+
+class Rules:
+    """Judges a document. A value that has a fault by itself is None in what is judged further."""
+
+    def __init__(self, top, lines):
+        self.top, self.lines, self.faults = top, lines, []
+        self.near = {}  # the lookup that is most like a name that none has
+
+    def fault(self, name, at, where, what, *others):
+        """Keeps a fault that shows at an offset, and with it the lines of other values that it is about."""
+        line = self.lines.line(at)
+        others = sorted({self.lines.line(other) for other in others} - {line})
+        see = f"; see line{'s' * (len(others) > 1)} {', '.join(map(str, others))}" if others else ""
+        self.faults.append(Fault(line, None, name, (f"{where}: {what}" if where else what) + see))
+
+    # ---- One value ----
+
+    def asked(self, table, key, kind, where, others=()):
+        """The value at a key that has to be there."""
+        if key not in table:
+            self.fault("Key", table.at, where, f"{key} is missing", *others)
+        elif type(table[key]) is not kind:
+            self.fault("Key", table.keys_at[key], where,
+                       f"{key} is {KIND_NAMES[type(table[key])]}, and not {KIND_NAMES[kind]}")
+        else:
+            return table[key]
+        return None
+
+    def text(self, table, key, where, others=()):
+        text = self.asked(table, key, str, where, others)
+        return None if text is None else self.sized(text, table.keys_at[key], where, key)
+
+    def sized(self, text, at, where, word):
+        size = len(text.encode())
+        if 1 <= size <= LONGEST_TEXT:
+            return text
+        self.fault("Text", at, where, f"{word} is empty" if size == 0 else
+                   f"{word} has {size} bytes, over {LONGEST_TEXT}")
+        return None
+
+    def choice(self, table, key, names, where):
+        text = self.asked(table, key, str, where)
+        if text is None or text in names:
+            return text
+        self.fault("Text", table.keys_at[key], where,
+                   f"{key} is {quoted(text)}, and not {', '.join(names[:-1])} or {names[-1]}")
+        return None
+
+    def whole(self, table, key, least, most, where, step=1, others=()):
+        value = self.asked(table, key, int, where)
+        return None if value is None else self.ranged(value, least, most, table.keys_at[key], where, key, step, others)
+
+    def ranged(self, value, least, most, at, where, word, step=1, others=()):
+        if value < least:
+            self.fault("Range", at, where, f"{word} is {value}, below {least}", *others)
+        elif value > most:
+            self.fault("Range", at, where, f"{word} is {value}, over {most}", *others)
+        elif value % step:
+            self.fault("Range", at, where, f"{word} is {value}, and no multiple of {step}", *others)
+        else:
+            return value
+        return None
+
+    def only_keys(self, table, keys, where, what, others=()):
+        for key in [key for key in table if key not in keys]:
+            near = difflib.get_close_matches(key, set(keys) - table.keys(), 1)
+            hint = f"perhaps {near[0]}" if near else f"its keys are {', '.join(keys)}"
+            self.fault("Key", table.keys_at[key], where, f"{what} has no key {quoted(key)}; {hint}", *others)
+
+    def tables(self, holder, key, where, most, word):
+        """The tables of an array that has to be there, each with its ordinal, and how many elements it has."""
+        array = self.asked(holder, key, Array, where)
+        if array is None:
+            return []
+        if len(array) > most:
+            # Of elements with headers of their own the first too many is told.
+            at = array.items_at[most] if array.by_headers else holder.keys_at[key]
+            self.fault("TooMany", at, where, f"{len(array)} {word}, over {most}")
+        for ordinal, (item, at) in enumerate(zip(array, array.items_at), 1):
+            if type(item) is not Table:
+                self.fault("Key", at, where, f"element {ordinal} of {key} is {KIND_NAMES[type(item)]}, and not a table")
+        return [(ordinal, item) for ordinal, item in enumerate(array, 1) if type(item) is Table]
+
+    def once(self, seen, value, at, where, what, name="Twice"):
+        """Whether a value of which each may come once comes for the first time."""
+        if value in seen:
+            self.fault(name, at, where, f"{what} comes again, first in line {self.lines.line(seen[value])}")
+        else:
+            seen[value] = at
+
+    # ---- The top level and lookups ----
+
+    def judge(self):
+        version = self.top.get("format")
+        if type(version) is not int or version not in (1, 2):
+            at = self.top.keys_at.get("format", 0)
+            is_there = "format" in self.top
+            self.fault("Format", at, "", f"format is {shown(version)}, and not 1 or 2" if is_there else
+                       "format is missing; it is 1, or 2 for a table with sets that repeat")
+            return
+        self.only_keys(self.top, ("format", "lookup", "pgn"), "", "the top level")
+        names = {}
+        if "lookup" in self.top:
+            for ordinal, lookup in self.tables(self.top, "lookup", "", MOST_LOOKUPS, "lookups"):
+                self.lookup(lookup, ordinal, names)
+        kinds = {}
+        if "pgn" in self.top:
+            for ordinal, definition in self.tables(self.top, "pgn", "", MOST_DEFINITIONS, "definitions"):
+                self.definition(definition, of_definition(definition, ordinal), version, names, kinds)
+
+    def lookup(self, lookup, ordinal, names):
+        where = of_named("lookup", lookup, ordinal)
+        self.only_keys(lookup, ("name", "entries"), where, "a lookup")
+        name = self.text(lookup, "name", where)
+        if name is not None:
+            self.once(names, name, lookup.keys_at["name"], where, f"name {quoted(name)}")
+        entries = self.asked(lookup, "entries", Array, where)
+        if entries is None:
+            return
+        if len(entries) > MOST_ENTRIES:
+            self.fault("TooMany", lookup.keys_at["entries"], where, f"{len(entries)} entries, over {MOST_ENTRIES}")
+        values = {}
+        for ordinal, (entry, at) in enumerate(zip(entries, entries.items_at), 1):
+            self.entry(entry, at, f"{where}, entry {ordinal}", values)
+
+    def entry(self, entry, at, where, values):
+        kinds = [type(part) for part in entry] if type(entry) is Array else None
+        if kinds != [int, str]:
+            if kinds is not None and len(kinds) == 2:
+                at = entry.items_at[kinds[0] is int]
+            said = shown(entry) if kinds is None else f"an array of {', '.join(map(shown, entry)) or 'nothing'}"
+            self.fault("Key", at, where, f"it is {said}, and not an array of an integer and a text")
+            return
+        value_at, name_at = entry.items_at
+        value = self.ranged(entry[0], 0, GREATEST_VALUE, value_at, where, "the value")
+        self.sized(entry[1], name_at, where, "the name")
+        if value is not None:
+            self.once(values, value, value_at, where, f"value {value}")
+
+    # ---- Definitions ----
+
+    def definition(self, definition, where, version, lookups, kinds):
+        self.only_keys(definition, ("number", "kind", "description", "fields", "repeat"), where, "a definition")
+        if version == 1 and "repeat" in definition:
+            self.fault("Key", definition.keys_at["repeat"], where, "repeat stands in tables of format 2, and this is one of "
+                       "format 1", self.top.keys_at["format"])
+        number = self.whole(definition, "number", 0, GREATEST_PGN, where)
+        kind = self.choice(definition, "kind", ("single", "fast"), where)
+        self.text(definition, "description", where)
+        names = self.fields(definition, where, LONGEST_MESSAGE, None, lookups)
+        if version == 2 and "repeat" in definition:
+            repeat = self.asked(definition, "repeat", Table, where)
+            if repeat is not None:
+                self.repeat(repeat, f"{where}, the set", lookups)
+                if "list" in names:
+                    self.fault("Twice", names["list"], where, 'a field is named "list", as the sets are in a JSON line',
+                               definition.keys_at["repeat"])
+        if number is not None and kind is not None:
+            first = kinds.setdefault(number, definition)
+            if first["kind"] != kind:
+                line = self.lines.line(first.keys_at["kind"])
+                self.fault("Mixed", definition.keys_at["kind"], where, f'kind is "{kind}", and "{first["kind"]}" in line {line}',
+                           definition.keys_at["number"], first.keys_at["number"])
+
+    def repeat(self, repeat, where, lookups):
+        self.only_keys(repeat, ("at", "bits", "fields"), where, "a repeat")
+        at = self.whole(repeat, "at", 0, LONGEST_MESSAGE - 1, where, 8)
+        bits = self.whole(repeat, "bits", 8, LONGEST_MESSAGE, where, 8)
+        self.ends(repeat, at, bits, LONGEST_MESSAGE, where, None)
+        self.fields(repeat, where, bits, repeat, lookups)
+
+    def ends(self, table, at, bits, end, where, repeat):
+        """That bits end in a message, or in a set of this repeat."""
+        if None not in (at, bits, end) and at + bits > end:
+            what = f"at + bits is {at + bits}, over {end}" + (", the bits of the set" if repeat is not None else "")
+            self.fault("Range", table.keys_at["bits"], where, what, table.keys_at["at"],
+                       *([repeat.keys_at["bits"]] if repeat is not None else []))
+
+    def fields(self, holder, where, end, repeat, lookups):
+        """The names of the fields of a message, or of a set of this repeat, each with where it first stands."""
+        names = {}
+        for ordinal, field in self.tables(holder, "fields", where, MOST_FIELDS, "fields"):
+            of_field = f"{where}, {of_named('field', field, ordinal)}"
+            kind = self.choice(field, "kind", tuple(FIELD_KEYS), of_field)
+            if kind is not None:
+                self.field(field, kind, of_field, end, repeat, lookups)
+                name = self.text(field, "name", of_field)
+                if name is not None:
+                    self.once(names, name, field.keys_at["name"], of_field, f"name {quoted(name)}")
+            else:
+                self.only_keys(field, ALL_FIELD_KEYS, of_field, "a field")
+        return names
+
+    def field(self, field, kind, where, end, repeat, lookups):
+        """A field but for its name."""
+        required, optional = FIELD_KEYS[kind]
+        by_kind = (field.keys_at["kind"],)
+        if repeat is not None:
+            optional = tuple(key for key in optional if key != "match")
+        what = f"a {kind} field" + (" of a set" if repeat is not None else "")
+        self.only_keys(field, required + optional, where, what, by_kind)
+        step = 8 if kind in ("text", "bytes") else 1
+        at = self.whole(field, "at", 0, LONGEST_MESSAGE - 1, where, step, by_kind)
+        bits = self.whole(field, "bits", step, MOST_BITS[kind], where, step, by_kind)
+        self.ends(field, at, bits, end, where, repeat)
+        if "signed" in field and "signed" in optional:
+            signed = self.asked(field, "signed", bool, where)
+            if signed and bits == 1:
+                self.fault("Range", field.keys_at["signed"], where, "signed is true with 1 bit", field.keys_at["bits"])
+        if "resolution" in field and "resolution" in optional:
+            self.resolution(field, where)
+        if "match" in field and "match" in optional:
+            match = self.asked(field, "match", int, where)
+            if match is not None:
+                most, others = (2**63 - 1, ()) if bits is None else (2**bits - 1, (field.keys_at["bits"],))
+                self.ranged(match, 0, most, field.keys_at["match"], where, "match", others=others)
+        if kind == "lookup":
+            self.named_lookup(field, lookups, where)
+
+    def resolution(self, field, where):
+        text = self.asked(field, "resolution", str, where)
+        if text is None:
+            return
+        at, said = field.keys_at["resolution"], f"resolution {quoted(text)}"
+        if not re.fullmatch(r"[0-9]{1,10}(\.[0-9]{1,18})?", text):
+            self.fault("Text", at, where, f"{said} is not 1 to 10 digits, and then nothing, or a dot and 1 to 18 digits")
+            return
+        self.ranged(int(text.replace(".", "")), 1, GREATEST_MANTISSA, at, where, f"the number of all digits of {said}")
+
+    def named_lookup(self, field, lookups, where):
+        name = self.text(field, "lookup", where, (field.keys_at["kind"],))
+        if name is not None and name not in lookups:
+            if name not in self.near:
+                self.near[name] = difflib.get_close_matches(name, lookups, 1)
+            hint = "".join(f"; perhaps {quoted(near)} of line {self.lines.line(lookups[near])}" for near in self.near[name])
+            self.fault("Lookup", field.keys_at["lookup"], where, f"no lookup is named {quoted(name)}{hint}")
+
+
+def not_toml(error, data):
+    lines = Lines(data.decode(errors="replace"))
+    return Fault(lines.line(error.at), lines.column(error.at), "NotToml", error.what)
+
+
+def judged(data):
+    """The document of a table's bytes, None where it is no TOML; its lines; and all its faults by line."""
+    try:
+        text = text_of(data)
+        top = Reader(text).document()
+    except NotToml as error:
+        return None, None, [not_toml(error, data)]
+    rules = Rules(top, Lines(text))
+    rules.judge()
+    return top, rules.lines, sorted(rules.faults, key=lambda fault: fault.line)
+
+
+def faults(data):
+    """All faults of a table's bytes, by line."""
+    return judged(data)[2]
