@@ -11,11 +11,14 @@ them again in one run. The others ask that each line which can be read as JSON i
 The last line is `N faults`, after a line for each. Status 77 says that the trial can't be made here, and why.
 """
 
+import fcntl
+import gzip
 import json
 import os
 import pty
 import random
 import re
+import select
 import shutil
 import signal
 import subprocess
@@ -90,9 +93,14 @@ class Boat:
         return [it for it in map(message, self.text("json").splitlines()) if it]
 
     def raw(self):
-        """The raw log, of all days."""
-        names = [it for it in sorted(os.listdir(f"{self.folder}/raw")) if it[0] != "."]
-        return subprocess.run(["zcat", "-f", *names], cwd=f"{self.folder}/raw", capture_output=True, check=True).stdout
+        """The raw log, of all days, when none is being compressed."""
+        folder = os.open(f"{self.folder}/raw", os.O_RDONLY)
+        try:
+            fcntl.flock(folder, fcntl.LOCK_EX)
+            names = [it for it in sorted(os.listdir(folder)) if it[0] != "."]
+            return b"".join((gzip.open if it.endswith(".gz") else open)(f"{self.folder}/raw/{it}", "rb").read() for it in names)
+        finally:
+            os.close(folder)
 
     def decoded(self, log):
         """What one n2kdec prints of a log."""
@@ -100,10 +108,16 @@ class Boat:
         return subprocess.run(command, input=log, capture_output=True, check=False).stdout
 
     def received(self, line):
-        """Waits until the raw log ends in this line."""
-        for _ in range(1000):
-            if os.path.isdir(f"{self.folder}/raw") and self.raw().endswith(line):
-                return
+        """Waits until the raw log of the newest day ends in this line."""
+        until = time.time() + 60
+        while time.time() < until:
+            if names := self.names(r".*\.json"):
+                try:
+                    with open(f"{self.folder}/raw/{names[-1][:-5]}.log", "rb") as file:
+                        if file.read().endswith(line):
+                            return
+                except FileNotFoundError:
+                    pass
             time.sleep(0.01)
         raise TimeoutError("the raw log does not grow")
 
@@ -388,14 +402,19 @@ def terminal(program, room, chance):
     pid, screen = pty.fork()
     if pid == 0:
         os.execve(LOGGER, [LOGGER, "--raw", boat.folder, TABLE, *sender(path, 1, chance)], boat.environment)
-    time.sleep(0.3 + 0.7 * chance.random())
+    boat.received(b"\n")
+    time.sleep(0.7 * chance.random())
     os.write(screen, b"\x03")
     said = b""
     try:
-        while it := os.read(screen, 4096):
+        while select.select([screen], [], [], 30)[0] and (it := os.read(screen, 4096)):
             said += it
     except OSError:
+        # A terminal that nobody has open any more.
         pass
+    else:
+        kill(tree(pid))
+        yield "it does not end"
     status = os.waitstatus_to_exitcode(os.waitpid(pid, 0)[1])
     summary = re.findall(rb"lines \d+ messages \d+ bad \d+ unknown \d+ broken \d+ open \d+", said)
     if status not in (0, 1) or not summary or not boat.text("reports").endswith(summary[-1] + b"\n"):
@@ -408,6 +427,11 @@ def terminal(program, room, chance):
 def main():
     if sys.argv[1] == "send":
         return send(*sys.argv[2:])
+    # Who runs in the background of a script finds these two ignored, and would hand that on: no Ctrl-C would end a logger.
+    for it in (signal.SIGINT, signal.SIGQUIT):
+        signal.signal(it, signal.SIG_DFL)
+    # At the end of its time a trial lets nothing go on.
+    signal.signal(signal.SIGTERM, lambda *_: sys.exit("it was ended"))
     program, trial = os.path.realpath(sys.argv[1]), globals()[sys.argv[2]]
     count, seed = int([*sys.argv, 1, 1][3]), int([*sys.argv, 1, 1, 1][4])
     faults = 0
