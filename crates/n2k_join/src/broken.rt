@@ -1,7 +1,7 @@
 //! Groups that ended without a message.
 
-/// A group of frames that ended without a message: one of its frame numbers came again, its window ended, or, in order, a
-/// number came that isn't greater than each of its own.
+/// A group of frames that ended without a message: one of its frame numbers came again, its window ended, or, in
+/// order, a number came that isn't greater than each of its own.
 #[derive(Clone, Copy, Debug, PartialEq, Eq)]
 pub struct Broken {
     /// The PGN of its frames.

@@ -45,7 +45,8 @@ impl OpenGroup {
 
     /// The group that a frame opens at a line.
     pub(crate) fn open(first: u64, frame: &FastFrame) -> OpenGroup
-        ensures { (packet : PacketParts) → group_in (key_of frame.now.key) result ≡ group_of (key_of frame.now.key) (frame_of first packet frame.now ∷ []) }
+        ensures { (packet : PacketParts) → group_in (key_of frame.now.key) result
+            ≡ group_of (key_of frame.now.key) (frame_of first packet frame.now ∷ []) }
     {
         let mut group = OpenGroup::new(first);
         group.take(frame.piece);
@@ -98,7 +99,8 @@ impl OpenGroup {
         requires { slot_of self.old piece.number ≡ None }
         ensures first { self.new.first ≡ self.old.first }
         ensures taken { (key : Key) → group_in key self.new ≡ record (group_in key self.old) {
-          pieces = pieces_of (held_of (group_in key self.old) ++ held_frame (group_in key self.old) (piece_of piece) ∷ []);
+          pieces = pieces_of
+              (held_of (group_in key self.old) ++ held_frame (group_in key self.old) (piece_of piece) ∷ []);
         } }
     {
         let StoredPiece { number, bytes, .. } = piece;
@@ -128,11 +130,15 @@ impl OpenGroup {
         }
     }
 
-    /// Writes the message of the group, which is complete, to `joined`, with the stamp and identifier of the packet that
-    /// completed it.
+    /// Writes the message of the group, which is complete, to `joined`, with the stamp and identifier of the packet
+    /// that completed it.
     pub(crate) fn give(&self, packet: &Packet, joined: &mut Option<Packet>)
         requires { (key : Key) → complete (held_of (group_in key self.now)) ≡ true }
-        ensures { (key : Key) → joined.new ≡ Some (record { stamp = packet.now.stamp; id = packet.now.id; payload = data_of (held_of (group_in key self.now)) }) }
+        ensures { (key : Key) → joined.new ≡ Some (record {
+          stamp = packet.now.stamp;
+          id = packet.now.id;
+          payload = data_of (held_of (group_in key self.now));
+        }) }
     {
         let total = usize::from(self.slots[0][0]);
         let sent = self.slots.as_flattened();
@@ -141,7 +147,13 @@ impl OpenGroup {
 
     /// What is told of it, whose key this is, where it ends without a message.
     pub(crate) fn broken(&self, key: &FrameKey) -> Broken
-        ensures { result ≡ record { pgn = key.now.pgn; src = key.now.src; dst = key.now.dst; seq = key.now.sequence; first = self.now.first } }
+        ensures { result ≡ record {
+          pgn = key.now.pgn;
+          src = key.now.src;
+          dst = key.now.dst;
+          seq = key.now.sequence;
+          first = self.now.first;
+        } }
     {
         Broken {
             pgn: key.pgn,

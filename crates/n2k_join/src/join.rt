@@ -53,7 +53,12 @@ impl Model for Join {
 
     ghost view = { λ j. record { id = j.id; rule = j.window; counts = j.counts; groups = groups_in j.groups.entries } };
 
-    ghost invariant = { λ j. IsState (record { id = j.id; rule = j.window; counts = j.counts; groups = groups_in j.groups.entries }) };
+    ghost invariant = { λ j. IsState (record {
+      id = j.id;
+      rule = j.window;
+      counts = j.counts;
+      groups = groups_in j.groups.entries;
+    }) };
 }
 
 // What the types say of the parts of a packet.
@@ -149,8 +154,9 @@ impl Join {
         Some(group.broken(key))
     }
 
-    /// Breaks the oldest of the open groups whose window ends at the next line, if not before, and answers what is told of
-    /// it. `None` where there is none, or where no more lines are counted; the join is then as it was. It takes no memory.
+    /// Breaks the oldest of the open groups whose window ends at the next line, if not before, and answers what is
+    /// told of it. `None` where there is none, or where no more lines are counted; the join is then as it was. It
+    /// takes no memory.
     ///
     /// It is called before each line until it answers `None`: each group that it breaks is one of that line.
     ///
@@ -163,7 +169,8 @@ impl Join {
         ensures told { result ≡ option_map told_of (due self.old) }
         ensures after { IsSome result → self.new ≡ expired self.old }
         ensures unchanged { IsNone result → self.new ≡ self.old }
-        ensures one_step { (kind : ℕ → Option Kind) (e : Entry) (group : Group) → due self.old ≡ Some group → ExpiresFirst kind self.old e group }
+        ensures one_step { (kind : ℕ → Option Kind) (e : Entry) (group : Group) → due self.old ≡ Some group
+            → ExpiresFirst kind self.old e group }
         ensures waiting { AreWaiting self.old → AreWaiting self.new }
         ensures none_due { IsNone result → due self.new ≡ None }
         ensures fewer { IsSome result → length self.new.groups < length self.old.groups }
@@ -194,7 +201,8 @@ impl Join {
         requires short { IsShort entry.now }
         requires expired { due self.old ≡ None }
         requires none { joined.old ≡ None }
-        ensures { TakesLine (λ o. told o (packet_in entry.now) joined.new) (kind table.now) self.old self.new entry.now result }
+        ensures { TakesLine (λ o. told o (packet_in entry.now) joined.new)
+            (kind table.now) self.old self.new entry.now result }
     {
         if self.counts.lines == MOST_LINES {
             return Err(JoinFault::TooManyLines);
@@ -215,8 +223,8 @@ impl Join {
     }
 
     /// Takes the next line, as its entry, and answers what it gives: the message that it is or completes, why it is
-    /// bad, and the group that its frame breaks. The table says how each PGN is sent. The groups whose window ends at the
-    /// line have been broken before, by `expire`.
+    /// bad, and the group that its frame breaks. The table says how each PGN is sent. The groups whose window ends at
+    /// the line have been broken before, by `expire`.
     ///
     /// At 999,999,999,999,999 lines it is refused as too many. Memory is taken only where a group is opened of a
     /// key that has none open. After a refusal the join is as it was.
@@ -260,7 +268,8 @@ impl Join {
     ) -> Result<LentStep<'a>, JoinFault>
         requires short { IsShort entry.now }
         requires expired { due self.old ≡ None }
-        ensures { TakesLine (λ step. given_of (with_message (λ p. p.now) step)) (kind table.now) self.old self.new entry.now result }
+        ensures { TakesLine (λ step. given_of (with_message (λ p. p.now) step))
+            (kind table.now) self.old self.new entry.now result }
     {
         if joined.is_some() {
             *joined = None;
@@ -341,13 +350,15 @@ impl Join {
 
     /// The text of its state, from which `resume` goes on: JSON, as docs/PROFILE.md has it, without an LF.
     ///
-    /// It reads back under the join's window and a table of the join's id in which the PGNs of its groups are fast ones: so
-    /// under the table that the join was made with, where its lines were taken with that one too. It is of format 2, but of
-    /// format 1 where a group's window has ended: that state was read in format 1, and has taken no line since.
+    /// It reads back under the join's window and a table of the join's id in which the PGNs of its groups are fast
+    /// ones: so under the table that the join was made with, where its lines were taken with that one too. It is of
+    /// format 2, but of format 1 where a group's window has ended: that state was read in format 1, and has taken no
+    /// line since.
     pub fn save(&self, alloc: Global) -> Result<Vec<u8>, AllocError>
         ensures text { IfOk result (λ text. text.items ≡ state_text self.now) }
         ensures bounded { IfOk result (λ text. length text.items ≤ bare_bytes + group_bytes * length self.now.groups) }
-        ensures reads_back { (kind : ℕ → Option Kind) → AreFast kind self.now.groups → IsId self.now.id → judged kind self.now.id self.now.rule (state_text self.now) ≡ Ok self.now }
+        ensures reads_back { (kind : ℕ → Option Kind) → AreFast kind self.now.groups → IsId self.now.id
+            → judged kind self.now.id self.now.rule (state_text self.now) ≡ Ok self.now }
     {
         laws::state_reads_back();
         state_text(alloc, &self.id, self.window, &self.counts, &self.groups)

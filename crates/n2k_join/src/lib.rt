@@ -1,8 +1,9 @@
 //! Groups of frames that make fast packets, and the counts of a log.
 //!
-//! - `Window` says what ends a group that isn't complete: a number of lines, and, where asked, the order of the numbers.
-//! - `Join::new` is the join before the first line. Before each line `Join::expire` breaks the groups whose window ends at
-//!   it, one a call. `Join::line` then takes the line, as its entry: it answers the message that the line is or
+//! - `Window` says what ends a group that isn't complete: a number of lines, and, where asked, the order of the
+//!   numbers.
+//! - `Join::new` is the join before the first line. Before each line `Join::expire` breaks the groups whose window
+//!   ends at it, one a call. `Join::line` then takes the line, as its entry: it answers the message that the line is or
 //!   completes, why it is bad, and the group that its frame breaks (`Step`, `Broken`). A line that can't be taken
 //!   (`JoinFault`) leaves the join as it was. `Join::lend` does the same, and lends the message (`LentStep`).
 //! - `Join::counts` are the lines, messages, bad lines, unknown PGNs, broken and open groups so far (`Counts`).

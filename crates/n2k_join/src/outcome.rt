@@ -123,9 +123,12 @@ fn take_fast(
     requires open { AllByRecursion IsOpen (groups_in groups.old.entries) }
     requires apart { AreApart (groups_in groups.old.entries) }
     requires none { joined.old ≡ None }
-    ensures given { IfOk result (λ o. told o (Some packet.now) joined.new ≡ gives_by in_order None (fast_cause (Some Fast) packet.now) (groups_in groups.old.entries) (fast_frame line packet.now)) }
+    ensures given { IfOk result (λ o. told o (Some packet.now) joined.new
+        ≡ gives_by in_order None (fast_cause (Some Fast) packet.now) (groups_in groups.old.entries)
+        (fast_frame line packet.now)) }
     ensures unknown { IfOk result (λ o. o.is_unknown ≡ false) }
-    ensures groups { OnOk result (groups_in groups.new.entries ≡ leaves_by in_order (groups_in groups.old.entries) (fast_frame line packet.now)) }
+    ensures groups { OnOk result (groups_in groups.new.entries
+        ≡ leaves_by in_order (groups_in groups.old.entries) (fast_frame line packet.now)) }
     ensures unchanged { OnErr result (groups.new.entries ≡ groups.old.entries) }
     ensures memory { OnErr result (opens_by (groups_in groups.old.entries) (fast_frame line packet.now) ≡ true) }
 {
@@ -153,9 +156,12 @@ fn take_packet(
     requires open { AllByRecursion IsOpen (groups_in groups.old.entries) }
     requires apart { AreApart (groups_in groups.old.entries) }
     requires none { joined.old ≡ None }
-    ensures given { IfOk result (λ o. told o (Some packet.now) joined.new ≡ gives_by in_order (single_by kind packet.now) (fast_cause kind packet.now) (groups_in groups.old.entries) (frame_by kind line packet.now)) }
+    ensures given { IfOk result (λ o. told o (Some packet.now) joined.new
+        ≡ gives_by in_order (single_by kind packet.now) (fast_cause kind packet.now) (groups_in groups.old.entries)
+        (frame_by kind line packet.now)) }
     ensures unknown { IfOk result (λ o. o.is_unknown ≡ not (is_some kind)) }
-    ensures groups { OnOk result (groups_in groups.new.entries ≡ leaves_by in_order (groups_in groups.old.entries) (frame_by kind line packet.now)) }
+    ensures groups { OnOk result (groups_in groups.new.entries
+        ≡ leaves_by in_order (groups_in groups.old.entries) (frame_by kind line packet.now)) }
     ensures unchanged { OnErr result (groups.new.entries ≡ groups.old.entries) }
     ensures memory { OnErr result (opens_by (groups_in groups.old.entries) (frame_by kind line packet.now) ≡ true) }
 {
@@ -178,11 +184,16 @@ pub(crate) fn take_entry(
     requires open { AllByRecursion IsOpen (groups_in groups.old.entries) }
     requires apart { AreApart (groups_in groups.old.entries) }
     requires none { joined.old ≡ None }
-    ensures given { let k = kind table.now in IfOk result (λ o. told o (packet_in entry.now) joined.new ≡ gives_by in_order (alone k entry.now) (cause_in k entry.now) (groups_in groups.old.entries) (frame_in k line entry.now)) }
+    ensures given { let k = kind table.now in
+        IfOk result (λ o. told o (packet_in entry.now) joined.new
+        ≡ gives_by in_order (alone k entry.now) (cause_in k entry.now) (groups_in groups.old.entries)
+        (frame_in k line entry.now)) }
     ensures unknown { IfOk result (λ o. o.is_unknown ≡ is_unknown (kind table.now) entry.now) }
-    ensures groups { OnOk result (groups_in groups.new.entries ≡ leaves_by in_order (groups_in groups.old.entries) (frame_in (kind table.now) line entry.now)) }
+    ensures groups { OnOk result (groups_in groups.new.entries
+        ≡ leaves_by in_order (groups_in groups.old.entries) (frame_in (kind table.now) line entry.now)) }
     ensures unchanged { OnErr result (groups.new.entries ≡ groups.old.entries) }
-    ensures memory { OnErr result (opens_by (groups_in groups.old.entries) (frame_in (kind table.now) line entry.now) ≡ true) }
+    ensures memory { OnErr result (opens_by (groups_in groups.old.entries) (frame_in (kind table.now) line entry.now)
+        ≡ true) }
 {
     match entry {
         Entry::Skip => Ok(Outcome::of_nothing(false)),

@@ -130,7 +130,8 @@ fn append_pieces(packets: &mut Vec<Packet>, message: &Packet, sequence: u8, coun
     requires sequence { sequence < most_sequences }
     requires count { count ≤ most_frames }
     requires room { vec_len packets.old + count ≤ vec_capacity packets.old }
-    ensures frames { packets.new.items ≡ packets.old.items ++ map (piece message.now sequence) (range_with_len 0 count) }
+    ensures frames { packets.new.items ≡ packets.old.items
+        ++ map (piece message.now sequence) (range_with_len 0 count) }
 {
     for number in 0..count {
         packets.push(piece(message, sequence, number)).unwrap();
@@ -140,7 +141,8 @@ fn append_pieces(packets: &mut Vec<Packet>, message: &Packet, sequence: u8, coun
 // Appends a message of a single PGN, which is its own frame.
 fn append_single(packets: &mut Vec<Packet>, message: &Packet) -> Result<usize, SplitFault>
     ensures sent { IfOk result (λ count. (count ≡ 1) × (packets.new.items ≡ packets.old.items ++ message.now ∷ [])) }
-    ensures refused { MatchOption (refusal (Some Single) message.now) (IsOkUnless result Memory) (λ fault. result ≡ Err fault) }
+    ensures refused { MatchOption (refusal (Some Single) message.now) (IsOkUnless result Memory)
+        (λ fault. result ≡ Err fault) }
     ensures unchanged { OnErr result (packets.new.items ≡ packets.old.items) }
 {
     if message.data().len() > FRAME_PAYLOAD {
@@ -176,7 +178,9 @@ impl Splitter {
     fn raise(&mut self, stream: Stream, sequence: u8) -> Result<(), SplitFault>
         requires current { sequence ≡ sequences self.old stream }
         requires small { sequence < most_sequences }
-        ensures raised { OnOk result ((s : Stream) → sequences self.new s ≡ (if same_stream stream s then (sequences self.old s + 1) % most_sequences else sequences self.old s)) }
+        ensures raised { OnOk result ((s : Stream)
+            → sequences self.new s ≡ (if same_stream stream s then
+            (sequences self.old s + 1) % most_sequences else sequences self.old s)) }
         ensures memory { IsOkUnless result Memory }
         ensures unchanged { OnErr result (self.new ≡ self.old) }
     {
@@ -190,8 +194,12 @@ impl Splitter {
         packets: &mut Vec<Packet>,
         message: &Packet,
     ) -> Result<usize, SplitFault>
-        ensures sent { IfOk result (λ count. (count ≡ last_piece message.now + 1) × (packets.new.items ≡ packets.old.items ++ map (piece message.now (sequences self.old (stream_of message.now.id))) (range_with_len 0 count))) }
-        ensures raised { OnOk result ((s : Stream) → sequences self.new s ≡ (if same_stream (stream_of message.now.id) s then (sequences self.old s + 1) % most_sequences else sequences self.old s)) }
+        ensures sent { IfOk result (λ count. (count ≡ last_piece message.now + 1)
+            × (packets.new.items ≡ packets.old.items
+            ++ map (piece message.now (sequences self.old (stream_of message.now.id))) (range_with_len 0 count))) }
+        ensures raised { OnOk result ((s : Stream)
+            → sequences self.new s ≡ (if same_stream (stream_of message.now.id) s then
+            (sequences self.old s + 1) % most_sequences else sequences self.old s)) }
         ensures memory { IsOkUnless result Memory }
         ensures splitter_unchanged { OnErr result (self.new ≡ self.old) }
         ensures packets_unchanged { OnErr result (packets.new.items ≡ packets.old.items) }
@@ -217,12 +225,15 @@ impl Splitter {
         message: &Packet,
         packets: &mut Vec<Packet>,
     ) -> Result<usize, SplitFault>
-        ensures sent { let frames = pieces_by (kind table.now) message.now (sequences self.old (stream_of message.now.id)) in
+        ensures sent { let frames = pieces_by (kind table.now) message.now
+            (sequences self.old (stream_of message.now.id)) in
             IfOk result (λ count. (count ≡ length frames) × (packets.new.items ≡ packets.old.items ++ frames)) }
-        ensures raised { OnOk result (sequences self.new ≡ raised (kind table.now) (sequences self.old) (stream_of message.now.id)) }
+        ensures raised { OnOk result (sequences self.new
+            ≡ raised (kind table.now) (sequences self.old) (stream_of message.now.id)) }
 
         // A message is refused where its PGN or its length asks for it, else only for want of memory.
-        ensures refused { MatchOption (refusal (kind table.now message.now.id.pgn) message.now) (IsOkUnless result Memory) (λ fault. result ≡ Err fault) }
+        ensures refused { MatchOption (refusal (kind table.now message.now.id.pgn) message.now)
+            (IsOkUnless result Memory) (λ fault. result ≡ Err fault) }
         ensures unchanged { OnErr result (self.new ≡ self.old) }
         ensures vector_unchanged { OnErr result (packets.new.items ≡ packets.old.items) }
     {

@@ -30,8 +30,10 @@ fn open_last(
 ) -> Result<(), AllocError>
     requires place { position (λ g. same_key (key_of frame.now.key) g.key) (groups_in groups.old.entries) ≡ None }
     requires none { joined.old ≡ None }
-    ensures message { let x = frame_of line packet.now frame.now in OnOk result (joined.new ≡ gained in_order x (of_the_key x.key (groups_in groups.old.entries))) }
-    ensures groups { OnOk result (groups_in groups.new.entries ≡ groups_after in_order (groups_in groups.old.entries) (frame_of line packet.now frame.now)) }
+    ensures message { let x = frame_of line packet.now frame.now in
+        OnOk result (joined.new ≡ gained in_order x (of_the_key x.key (groups_in groups.old.entries))) }
+    ensures groups { OnOk result (groups_in groups.new.entries
+        ≡ groups_after in_order (groups_in groups.old.entries) (frame_of line packet.now frame.now)) }
     ensures unchanged { OnErr result (groups.new.entries ≡ groups.old.entries) }
 {
     let begun = OpenGroup::open(line, frame);
@@ -56,10 +58,13 @@ fn join_at(
     requires open { AllByRecursion IsOpen (groups_in groups.old.entries) }
     requires apart { AreApart (groups_in groups.old.entries) }
     requires place { position (λ g. same_key (key_of frame.now.key) g.key) (groups_in groups.old.entries) ≡ Some at }
-    requires missing { IfSome (of_the_key (key_of frame.now.key) (groups_in groups.old.entries)) (λ o. bars in_order frame.now.piece.number o ≡ false) }
+    requires missing { IfSome (of_the_key (key_of frame.now.key) (groups_in groups.old.entries))
+        (λ o. bars in_order frame.now.piece.number o ≡ false) }
     requires none { joined.old ≡ None }
-    ensures message { (line : ℕ) → let x = frame_of line packet.now frame.now in joined.new ≡ gained in_order x (of_the_key x.key (groups_in groups.old.entries)) }
-    ensures groups { (line : ℕ) → groups_in groups.new.entries ≡ groups_after in_order (groups_in groups.old.entries) (frame_of line packet.now frame.now) }
+    ensures message { (line : ℕ) → let x = frame_of line packet.now frame.now in
+        joined.new ≡ gained in_order x (of_the_key x.key (groups_in groups.old.entries)) }
+    ensures groups { (line : ℕ) → groups_in groups.new.entries
+        ≡ groups_after in_order (groups_in groups.old.entries) (frame_of line packet.now frame.now) }
 {
     let Some(group) = groups.get_index_mut(at) else {
         unreachable!()
@@ -71,8 +76,8 @@ fn join_at(
     }
 }
 
-// Ends the group of a frame's key, which has no place for it, and begins another with the frame: in the same memory, and
-// as the last. Where the frame completes it alone, it goes and gives its message.
+// Ends the group of a frame's key, which has no place for it, and begins another with the frame: in the same memory,
+// and as the last. Where the frame completes it alone, it goes and gives its message.
 fn reopen_at(
     in_order: bool,
     groups: &mut IndexMap<FrameKey, OpenGroup>,
@@ -85,11 +90,15 @@ fn reopen_at(
     requires open { AllByRecursion IsOpen (groups_in groups.old.entries) }
     requires apart { AreApart (groups_in groups.old.entries) }
     requires place { position (λ g. same_key (key_of frame.now.key) g.key) (groups_in groups.old.entries) ≡ Some at }
-    requires there { IfSome (of_the_key (key_of frame.now.key) (groups_in groups.old.entries)) (λ o. bars in_order frame.now.piece.number o ≡ true) }
+    requires there { IfSome (of_the_key (key_of frame.now.key) (groups_in groups.old.entries))
+        (λ o. bars in_order frame.now.piece.number o ≡ true) }
     requires none { joined.old ≡ None }
-    ensures message { let x = frame_of line packet.now frame.now in joined.new ≡ gained in_order x (of_the_key x.key (groups_in groups.old.entries)) }
-    ensures broken { let x = frame_of line packet.now frame.now in Some result ≡ lost in_order x (of_the_key x.key (groups_in groups.old.entries)) }
-    ensures groups { groups_in groups.new.entries ≡ groups_after in_order (groups_in groups.old.entries) (frame_of line packet.now frame.now) }
+    ensures message { let x = frame_of line packet.now frame.now in
+        joined.new ≡ gained in_order x (of_the_key x.key (groups_in groups.old.entries)) }
+    ensures broken { let x = frame_of line packet.now frame.now in
+        Some result ≡ lost in_order x (of_the_key x.key (groups_in groups.old.entries)) }
+    ensures groups { groups_in groups.new.entries
+        ≡ groups_after in_order (groups_in groups.old.entries) (frame_of line packet.now frame.now) }
 {
     let Some(group) = groups.get_index_mut(at) else {
         unreachable!()
@@ -119,9 +128,12 @@ pub(crate) fn take_frame(
     requires open { AllByRecursion IsOpen (groups_in groups.old.entries) }
     requires apart { AreApart (groups_in groups.old.entries) }
     requires none { joined.old ≡ None }
-    ensures message { let x = frame_of line packet.now frame.now in OnOk result (joined.new ≡ gained in_order x (of_the_key x.key (groups_in groups.old.entries))) }
-    ensures broken { let x = frame_of line packet.now frame.now in IfOk result (λ b. b ≡ lost in_order x (of_the_key x.key (groups_in groups.old.entries))) }
-    ensures groups { OnOk result (groups_in groups.new.entries ≡ groups_after in_order (groups_in groups.old.entries) (frame_of line packet.now frame.now)) }
+    ensures message { let x = frame_of line packet.now frame.now in
+        OnOk result (joined.new ≡ gained in_order x (of_the_key x.key (groups_in groups.old.entries))) }
+    ensures broken { let x = frame_of line packet.now frame.now in
+        IfOk result (λ b. b ≡ lost in_order x (of_the_key x.key (groups_in groups.old.entries))) }
+    ensures groups { OnOk result (groups_in groups.new.entries
+        ≡ groups_after in_order (groups_in groups.old.entries) (frame_of line packet.now frame.now)) }
     ensures unchanged { OnErr result (groups.new.entries ≡ groups.old.entries) }
     ensures memory { OnErr result (of_the_key (key_of frame.now.key) (groups_in groups.old.entries) ≡ None) }
 {

@@ -4,11 +4,11 @@ ghost use Rattle.n2k_join.specs.Window.{IsWindow};
 
 use std::marker::Model;
 
-/// What ends a group of frames that isn't complete, beside a number that comes twice: its window, a number of lines from
-/// 32 to 1,000,000, and, where that is asked, the order of its frames' numbers.
+/// What ends a group of frames that isn't complete, beside a number that comes twice: its window, a number of lines
+/// from 32 to 1,000,000, and, where that is asked, the order of its frames' numbers.
 ///
-/// A group is broken so many lines after its first frame's line, skipped and bad lines counted. In order, it is broken too
-/// by a frame of its key whose number isn't greater than each number in it.
+/// A group is broken so many lines after its first frame's line, skipped and bad lines counted. In order, it is
+/// broken too by a frame of its key whose number isn't greater than each number in it.
 #[derive(Clone, Copy, Debug, PartialEq, Eq)]
 pub struct Window {
     lines: u32,

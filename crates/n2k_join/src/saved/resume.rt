@@ -29,7 +29,8 @@ use std::alloc::Global;
 // The group of these frames, where they can be a group's.
 #[tactic(auto, unfolding(crate::specs::Resumed::pieces_rise))]
 fn stored_pieces(first: u64, pieces: &[SpelledPiece]) -> Option<OpenGroup>
-    ensures value { (key : Key) → SomeUnder (group_in key) result (pieces_rise 0 pieces.now) (record { first = first; key = key; pieces = pieces.now }) }
+    ensures value { (key : Key) → SomeUnder (group_in key) result (pieces_rise 0 pieces.now)
+        (record { first = first; key = key; pieces = pieces.now }) }
     ensures parts { IfSome result (λ _. AllByRecursion IsPiece pieces.now) }
 {
     let mut group = OpenGroup::new(first);
@@ -82,7 +83,8 @@ pub(crate) fn stored_groups(
     table: &Table,
     groups: &[SpelledGroup],
 ) -> Result<IndexMap<FrameKey, OpenGroup>, StateFault>
-    ensures value { GivesOrMemory (λ stored. groups_in stored.entries) result (valid_if (groups_hold (kind table.now) groups.now) groups.now) }
+    ensures value { GivesOrMemory (λ stored. groups_in stored.entries) result
+        (valid_if (groups_hold (kind table.now) groups.now) groups.now) }
     ensures parts { IfOk result (λ stored. AllByRecursion HasParts (groups_in stored.entries)) }
 {
     let mut stored = IndexMap::new(alloc);

@@ -51,8 +51,8 @@ impl Model for SpelledGroup {
     ghost view = { λ g. record { first = g.first; key = g.key; pieces = g.pieces.items } };
 }
 
-/// A state. The count of open groups is their number. Where its text tells no window, that is the one which is handed in,
-/// as the order of frames always is.
+/// A state. The count of open groups is their number. Where its text tells no window, that is the one which is handed
+/// in, as the order of frames always is.
 #[derive(Drop)]
 pub(crate) struct SpelledState {
     pub(crate) id: [u8; 32],

@@ -219,7 +219,12 @@ fn push_state(
     groups: &IndexMap<FrameKey, OpenGroup>,
     out: &mut Writer,
 ) -> Result<(), AllocError>
-    ensures { Appends result out.old out.new (tokens_of (state_tree (record { id = id.now; rule = window; counts = counts.now; groups = groups_in groups.now.entries }))) }
+    ensures { Appends result out.old out.new (tokens_of (state_tree (record {
+      id = id.now;
+      rule = window;
+      counts = counts.now;
+      groups = groups_in groups.now.entries;
+    }))) }
 {
     let tells = are_waiting(window, counts.lines, groups);
     out.begin_object()?;
@@ -239,7 +244,12 @@ pub(crate) fn state_text(
     groups: &IndexMap<FrameKey, OpenGroup>,
 ) -> Result<Vec<u8>, AllocError>
     ensures id { IsId id.now }
-    ensures text { IfOk result (λ text. text.items ≡ state_text (record { id = id.now; rule = window; counts = counts.now; groups = groups_in groups.now.entries })) }
+    ensures text { IfOk result (λ text. text.items ≡ state_text (record {
+      id = id.now;
+      rule = window;
+      counts = counts.now;
+      groups = groups_in groups.now.entries;
+    })) }
 {
     let mut out = Writer::new(Vec::new(alloc));
     push_state(id, window, counts, groups, &mut out)?;
