@@ -23,10 +23,6 @@ use Rattle.n2k_join.proofs.Rising.{all-append}
 abbrev has : Key → List Group → Bool
 has k gs = list_any (λ (other : Group). same_key k other.key) gs
 
-abbrev apart : List Group → Bool
-apart [] = true
-apart (g ∷ gs) = not (has g.key gs) && apart gs
-
 abbrev none_of : List Key → List Group → Bool
 none_of ks [] = true
 none_of ks (g ∷ gs) = not (list_any (same_key g.key) ks) && none_of ks gs
@@ -89,9 +85,6 @@ module _ (kind : ℕ → Option Kind) (ks : List Key) (gs : List Group) (i : ℕ
   opened : (group_holds kind g && (not (list_any (same_key g.key) ks) && each_new kind (ks ++ g.key ∷ []) (drop (i + 1) gs))) ≡ groups_hold kind gs
   unfolding each_new
   opened = sym (ap (each_new kind ks) (drop_more gs i g lt ∙ ap (λ h. h ∷ drop (i + 1) gs) (sym at))) ∙ left
-
-  pub group_refused : group_holds kind g ≡ false → groups_hold kind gs ≡ false
-  group_refused bad = sym opened ∙ ap (λ b. b && (not (list_any (same_key g.key) ks) && each_new kind (ks ++ g.key ∷ []) (drop (i + 1) gs))) bad
 
   pub key_again : group_holds kind g ≡ true → list_any (same_key g.key) ks ≡ true → groups_hold kind gs ≡ false
   key_again good again = sym opened ∙ (λ j. good j && (not (again j) && each_new kind (ks ++ g.key ∷ []) (drop (i + 1) gs)))

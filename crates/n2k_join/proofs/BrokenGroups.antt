@@ -14,9 +14,9 @@ use Rattle.n2k_join.specs.Messages.{broken_of, told_of, broken_line, broken_amon
 use Rattle.n2k_join.specs.State.{held_of, held, Rise, IsOpen, AreOpen}
 use Rattle.n2k_join.proofs.Carried.{same_bool}
 use Rattle.n2k_join.proofs.Cuts.{grown, cut-push, last-cut, so_far, within-ends}
-use Rattle.n2k_join.proofs.Given.{IsUpTo, first-le, first-push, up_to}
+use Rattle.n2k_join.proofs.Given.{IsUpTo, first-le, up_to}
 use Rattle.n2k_join.proofs.Keys.{same_key-true, same_key-refl, same_key-sym, of_key-same, of_key-other}
-use Rattle.n2k_join.proofs.Opened.{IsLog, IsFine, key_at, none_at, at_last, at_line, open_at, begun_at-key, begun_at-is, open_of-so_far, so_far-fine, numbers_of_key, ends-kept}
+use Rattle.n2k_join.proofs.Opened.{IsLog, IsFine, key_at, none_at, at_last, at_line, open_at, begun_at-key, begun_at-is, open_of-so_far, so_far-fine, numbers_of_key, ends-kept, first-push}
 use Rattle.n2k_join.proofs.Rising.{find-passes, filter_map-range, filter_map-push, filter_map-fused, range-push, rise-least, all-map}
 use Rattle.n2k_join.specs.Window.{Rule}
 

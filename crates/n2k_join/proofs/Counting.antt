@@ -4,6 +4,7 @@ use Rattle.std.specs.Prelude.{◌==◌, is_some, count_by, if◌then◌else◌}
 use Rattle.std.specs.List.{range_with_len, list_all, AllByRecursion}
 use Rattle.std.proofs.lemmas.Bool.{false≢true, eqb-true, eq-eqb, ne_eqb, or_parts, cases_eq}
 use Rattle.std.proofs.lemmas.List.Sums.{sum_by-cons, count_by-le-length}
+use Rattle.std.proofs.lemmas.List.FromFn.{length-range_with_len}
 use Rattle.n2k_join.specs.Frames.{Frame}
 use Rattle.n2k_join.specs.Groups.{carried, has_number, has_twice}
 
@@ -81,10 +82,6 @@ all_by_count p (n ∷ ns) = rw (count_cons p n ns) (one (p n) (all_by_count p ns
     one true ih = ih ∙ eqb_suc _ _
     one false ih = sym (ne_eqb _ _ (λ e. omega (arith, count_by-le-length p ns)))
 
-pub length-range : (a n : ℕ) → length (range_with_len a n) ≡ n
-length-range a zero = refl
-length-range a (suc n) = ap suc (length-range (a + 1) n)
-
 -- frames without a number twice, all below m: they have every number below m where they are m
 pub has_all_numbers : (m : ℕ) (fs : List Frame) → AllByRecursion (λ (f : Frame). f.number < m) fs → has_twice fs ≡ false → list_all (λ n. has_number n fs) (range_with_len 0 m) ≡ (length fs == m)
-has_all_numbers m fs below apart = rw (all_by_count (λ n. has_number n fs) (range_with_len 0 m), count_numbers m fs below apart, length-range 0 m) refl
+has_all_numbers m fs below apart = rw (all_by_count (λ n. has_number n fs) (range_with_len 0 m), count_numbers m fs below apart, length-range_with_len 0 m) refl

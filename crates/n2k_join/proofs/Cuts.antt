@@ -6,7 +6,7 @@ use Rattle.std.proofs.lemmas.List.Sums.{fold_push}
 use Rattle.n2k_join.specs.Frames.{Frame}
 use Rattle.n2k_join.specs.Window.{Rule}
 use Rattle.n2k_join.proofs.Carried.{same_bool}
-use Rattle.std.proofs.lemmas.Bool.{or_left, or_right, or_from, lt-leb, le-leb, leb-true, le-ltb, eqb-true, eq-eqb, false≢true}
+use Rattle.std.proofs.lemmas.Bool.{or_left, or_right, or_from, lt-leb, le-leb, leb-true, le-ltb, eqb-true, eq-eqb, false≢true, and_right}
 use Rattle.n2k_join.specs.Groups.{Ends, closes, repeats, has_from, falls_back, misfits, is_late, within, cut_from, cut, carried, has_number, first}
 
 pub all-push : {A : Type 0} (P : A → Type 0) (xs : List A) (x : A) → AllByRecursion P xs → P x → AllByRecursion P (xs ++ x ∷ [])
@@ -19,13 +19,6 @@ pub record IsEnding (ends : Ends) : Type 0 where
   pub repeated : (g : List Frame) (x : Frame) → has_number x.number g ≡ true → ends g x ≡ true
   pub alike : (g h : List Frame) (x : Frame) → carried g ≡ carried h → first g ≡ first h → ends g x ≡ ends h x
   pub own_line : (g : List Frame) (x : Frame) → first g ≡ x.line → has_number x.number g ≡ false → ends g x ≡ false
-
-pub repeats-ends : IsEnding repeats
-repeats-ends = record {
-  repeated = λ g x e. e;
-  alike = λ g h x e f. ap (λ (c : ℕ → Option (List ℕ)). is_some (c x.number)) e;
-  own_line = λ g x e h. h;
-}
 
 -- a number that is in a group, and not below another
 pub record HasFrom (n : ℕ) (g : List Frame) : Type 0 where
@@ -58,10 +51,6 @@ has_from-same n g h same = same_bool (has_from n g) (has_from n h) (there g h sa
     there : (g h : List Frame) → carried g ≡ carried h → has_from n g ≡ true → has_from n h ≡ true
     there g h same e = let a = from_has n g e in has-from n a.number h a.least (ap (λ c. is_some (c a.number)) (sym same) ∙ a.has)
 
-and_false : (b c : Bool) → c ≡ false → (b && c) ≡ false
-and_false true c e = e
-and_false false c e = refl
-
 -- A rule with a window of at least one line is such a test, too.
 pub within-ends : (rule : Rule) → 0 < rule.window → IsEnding (within rule)
 within-ends rule some = record {
@@ -71,7 +60,7 @@ within-ends rule some = record {
 }
   where
     fits : (g : List Frame) (x : Frame) → first g ≡ x.line → has_number x.number g ≡ false → misfits rule g x ≡ false
-    fits g x e h = or_from (repeats g x) (rule.in_order && falls_back g x) h (and_false rule.in_order (falls_back g x) (ap (λ b. b && has_from x.number g) (le-ltb (first g) x.line (omega (arith, e)))))
+    fits g x e h = or_from (repeats g x) (rule.in_order && falls_back g x) h (and_right rule.in_order (falls_back g x) (ap (λ b. b && has_from x.number g) (le-ltb (first g) x.line (omega (arith, e)))))
 
 -- the group that a frame joins or begins, where this is the group so far
 abbrev pub next : Ends → Option (List Frame) → Frame → List Frame

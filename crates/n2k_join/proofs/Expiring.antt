@@ -149,9 +149,6 @@ due_by s below = by (s.counts.lines == most_lines) refl
     by true e = absurd (below (eqb-true _ _ e))
     by false e = refl
 
-pub due-full : (s : State) → s.counts.lines ≡ most_lines → due s ≡ None
-due-full s e = ap (λ b. cond b None (slice_get (overdue s) 0)) (eq-eqb s.counts.lines most_lines e)
-
 ended-first : (w : Rule) (line : ℕ) (gs : List Group) → Rise (λ (g : Group). g.first) 1 gs → (o : Option Group) → slice_get gs 0 ≡ o → slice_get (ended w line gs) 0 ≡ option_and_then (λ (g : Group). cond (not (is_waiting w line g)) (Some g) None) o
 unfolding ended
 ended-first w line [] rise o e = ap (option_and_then (λ (g : Group). cond (not (is_waiting w line g)) (Some g) None)) e

@@ -30,10 +30,6 @@ last_line-push [] x = refl
 last_line-push (f ∷ []) x = refl
 last_line-push (f ∷ h ∷ g) x = last_line-push (h ∷ g) x
 
-pub first-push : (g : List Frame) (x : Frame) → 0 < length g → first (g ++ x ∷ []) ≡ first g
-first-push [] x some = absurd (omega (arith, some))
-first-push (f ∷ g) x some = refl
-
 done-not : (i : ℕ) (g : List Frame) → (last_line g ≡ i → ⊥) → is_done_at i g ≡ false
 done-not i g other = ap (λ b. complete g && b) (ne_eqb (last_line g) i other) ∙ elim (complete g) as (λ b. (b && false) ≡ false) [ true ↦ refl | false ↦ refl ]
 

@@ -55,9 +55,6 @@ first_above n (f ∷ g) some each = each.0
 pub lasts_above : (n : ℕ) (gs : List (List Frame)) → AllByRecursion IsGroup gs → RiseFrom n (joined gs) → AllByRecursion (λ g. n ≤ last_line g) gs
 lasts_above n gs some rise = all_with IsGroup (λ g. AllByRecursion (λ (f : Frame). n ≤ f.line) g) (λ g. n ≤ last_line g) (λ g here each. last_above n g here each) gs some (all-joined _ gs (rise-all n (joined gs) rise))
 
-pub firsts_above : (n : ℕ) (gs : List (List Frame)) → AllByRecursion IsGroup gs → RiseFrom n (joined gs) → AllByRecursion (λ g. n ≤ first g) gs
-firsts_above n gs some rise = all_with IsGroup (λ g. AllByRecursion (λ (f : Frame). n ≤ f.line) g) (λ g. n ≤ first g) (λ g here each. first_above n g here each) gs some (all-joined _ gs (rise-all n (joined gs) rise))
-
 -- a complete group is the one that is done at its last line
 abbrev pub IsDone : List (List Frame) → List Frame → Type 0
 IsDone gs g = complete g ≡ true → find (is_done_at (last_line g)) gs ≡ Some g

@@ -23,9 +23,6 @@ use Rattle.n2k_join.proofs.Lines.{RiseFrom, rise-all, all_with}
 use Rattle.n2k_join.proofs.GroupLines.{IsGroup, all-back}
 use Rattle.n2k_join.proofs.Rising.{find-all, find-passes, rise-less}
 
-abbrev number_of : Frame → ℕ
-number_of f = f.number
-
 -- the numbers of frames rise, from one on
 abbrev Numbers : ℕ → List Frame → Type 0
 Numbers least g = Rise (λ (f : Frame). f.number) least g

@@ -92,13 +92,6 @@ placed (e ∷ es) (suc i) l =
     let rest = placed es i (omega (arith, l)) in
     record { value = rest.value; at = record { key = rest.at.key; found = rest.at.found; is = rest.at.is; written = λ w. ap (λ gs. group_at e ∷ gs) (rest.at.written w) } }
 
-pub position-below : (P : Group → Bool) (gs : List Group) (i : ℕ) → position P gs ≡ Some i → i < length gs
-position-below P gs i e = by (nat_lt (position_or_len P gs) (length gs)) refl e
-  where
-    by : (b : Bool) → nat_lt (position_or_len P gs) (length gs) ≡ b → cond b (Some (position_or_len P gs)) None ≡ Some i → i < length gs
-    by true t e = let is : position_or_len P gs ≡ i = same_Some _ _ e in let l : position_or_len P gs < length gs = ltb-true _ _ t in omega (arith, is, l)
-    by false t e = absurd (none-some i e)
-
 take-groups : (i : ℕ) (es : List (FrameKey × OpenGroup)) → groups_in (take i es) ≡ take i (groups_in es)
 take-groups zero es = refl
 take-groups (suc i) [] = refl

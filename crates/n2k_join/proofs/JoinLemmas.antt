@@ -17,7 +17,7 @@ use Rattle.n2k_join.proofs.Carried.{carried-append, has_twice-push, complete-sam
 use Rattle.n2k_join.proofs.Cuts.{has-from}
 use Rattle.n2k_join.proofs.Held.{carried-kept, has_twice-kept, has_twice-held, length-held, all-held, all-reverse, first-held}
 use Rattle.n2k_join.proofs.Keys.{same_key-true}
-use Rattle.n2k_join.proofs.Opened.{IsFine}
+use Rattle.n2k_join.proofs.Opened.{IsFine, first-push}
 use Rattle.n2k_join.proofs.Rising.{all-append, all-map, find-none}
 
 -- ---- one group
@@ -51,13 +51,9 @@ complete-group_of k g fine = complete-same (held_of (group_of k g)) g (carried-k
 pub data_of-group_of : (k : Key) (g : List Frame) → IsFine g → data_of (held_of (group_of k g)) ≡ data_of g
 data_of-group_of k g fine = data_of-same (held_of (group_of k g)) g (carried-kept k g fine.numbers)
 
-first_push : (g : List Frame) (x : Frame) → 0 < length g → first (g ++ x ∷ []) ≡ first g
-first_push [] x some = absurd (omega (arith, some))
-first_push (f ∷ g) x some = refl
-
 pub with_frame-group_of : (o : Group) (x : Frame) → IsOpen o → with_frame o x ≡ group_of o.key (held_of o ++ x ∷ [])
 with_frame-group_of o x fit =
-    let at : first (held_of o ++ x ∷ []) ≡ o.first = first_push (held_of o) x (fine-held o fit).nonempty ∙ first-held o o.pieces fit.nonempty in
+    let at : first (held_of o ++ x ∷ []) ≡ o.first = first-push (held_of o) x (fine-held o fit).nonempty ∙ first-held o o.pieces fit.nonempty in
     λ i. record { first = sym at i; key = o.key; pieces = pieces_of (held_of o ++ x ∷ []) }
 
 -- an fit group with a piece more is that with the frame

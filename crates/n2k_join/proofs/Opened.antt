@@ -33,13 +33,9 @@ pub record IsFine (g : List Frame) : Type 0 where
   pub once : has_twice g ≡ false
   pub nonempty : 0 < length g
 
-first-push : (g : List Frame) (x : Frame) → 0 < length g → first (g ++ x ∷ []) ≡ first g
+pub first-push : (g : List Frame) (x : Frame) → 0 < length g → first (g ++ x ∷ []) ≡ first g
 first-push [] x some = absurd (omega (arith, some))
 first-push (f ∷ g) x some = refl
-
-at_some : {X : Type 0} (P : X → Type 0) (o : Option X) (x : X) → IfSome o P → o ≡ Some x → P x
-at_some P None x h e = absurd (none-some x e)
-at_some P (Some y) x h e = subst P (same_Some y x e) h
 
 both : {X : Type 0} (P Q : X → Type 0) (o : Option X) → IfSome o P → IfSome o Q → IfSome o (λ x. P x × Q x)
 both P Q None p q = tt

@@ -5,6 +5,8 @@ use Rattle.std.specs.Option.{option_or}
 use Rattle.std.specs.List.{AllByRecursion, AllZip, range_with_len, cons_option}
 use Rattle.std.proofs.lemmas.Bool.{eq-eqb, ne_eqb, eqb-true, and_right, cases_eq}
 use Rattle.std.proofs.lemmas.List.Elements.{recursion_from_All}
+use Rattle.std.proofs.lemmas.List.{length-map}
+use Rattle.n2k_join.proofs.Logs.{frames-below}
 use Rattle.n2k_wire.specs.Packet.{PacketParts}
 use Rattle.n2k_wire.specs.declared.entry.Entry.{Entry}
 use Rattle.n2k_table.specs.declared.definition.Kind.{Kind}
@@ -141,18 +143,10 @@ lasts_rise n (g ∷ gs) some rise =
     let above = lasts_above n (g ∷ gs) some rise in
     (above.0, lasts_rise (last_line g + 1) gs some.1 (rise-after n g (joined gs) some.0 rise))
 
-frames-within : (kind : ℕ → Option Kind) (n : ℕ) (es : List Entry) → AllByRecursion (λ (f : Frame). f.line < n + length es) (frames_from kind n es)
-frames-within kind n [] = tt
-frames-within kind n (e ∷ es) = by_frame (frame_in kind n e) (frame_in-line kind n e) (all-map _ (λ (f : Frame). f.line < n + suc (length es)) (frames_from kind (n + 1) es) (λ f l. omega arith) (frames-within kind (n + 1) es))
-  where
-    by_frame : (o : Option Frame) → ((f : Frame) → o ≡ Some f → f.line ≡ n) → AllByRecursion (λ (f : Frame). f.line < n + suc (length es)) (frames_from kind (n + 1) es) → AllByRecursion (λ (f : Frame). f.line < n + suc (length es)) (cons_option o (frames_from kind (n + 1) es))
-    by_frame None line rest = rest
-    by_frame (Some f) line rest = (omega (arith, line f refl), rest)
-
 comes-within : (ends : Ends) (kind : ℕ → Option Kind) (es : List Entry) (k : Key) (x : Sending) (g : List Frame) → Comes ends kind es k x g → last_line g < 1 + length es
 comes-within ends kind es k x g comes =
     let last = last_frame (StandsAt (frames kind es) k) g (as_stretch ends x g comes.stretch comes.goes_on).nonempty comes.stands in
-    subst (λ l. l < 1 + length es) (sym last.at) (find-all (λ (f : Frame). f.line < 1 + length es) (λ (f : Frame). f.line == last.frame.line) (frames kind es) last.frame (frames-within kind 1 es) last.holds.0)
+    subst (λ l. l < 1 + length es) (sym last.at) (find-all (λ (f : Frame). f.line < 1 + length es) (λ (f : Frame). f.line == last.frame.line) (frames kind es) last.frame (frames-below kind 1 es) last.holds.0)
 
 -- of a key a line gathers what is sent under the key and ends there
 line_of_key : (ends : Ends) (kind : ℕ → Option Kind) (ms : List PacketParts) (es : List Entry) (k : Key) (at : Settled ends kind ms es k) (i : ℕ) → kept k (gathered ends (frames kind es) i) ≡ option_map (keyed k) (at_line (sendings_of k ms) at.groups i)
@@ -204,10 +198,6 @@ by_groups w kind es mute =
     filter_map-agree (message w kind es) (λ i. option_map (λ (m : Keyed). m.message) (gathered (within w) (frames kind es) i)) (λ i. line-mute w kind es i (recursion_from_All _ es mute)) (numbers es)
     ∙ sym (map-filter_map (λ (m : Keyed). m.message) (gathered (within w) (frames kind es)) (numbers es))
 
-length-map : {X Y : Type 0} (h : X → Y) (xs : List X) → length (map h xs) ≡ length xs
-length-map h [] = refl
-length-map h (x ∷ xs) = ap suc (length-map h xs)
-
 length-sendings : (earlier ms : List PacketParts) → length (sendings_after earlier ms) ≡ length ms
 length-sendings earlier [] = refl
 length-sendings earlier (m ∷ ms) = ap suc (length-sendings (earlier ++ m ∷ []) ms)
@@ -216,12 +206,12 @@ length-sendings earlier (m ∷ ms) = ap suc (length-sendings (earlier ++ m ∷ [
 pub gathers_all : (w : Rule) (kind : ℕ → Option Kind) (ms : List PacketParts) (es : List Entry) → IsScattered w kind ms es → length (gathered_messages w kind es) ≡ length ms
 gathers_all w kind ms es scattered =
     same_length (λ (m : Keyed). m.key) key_of_sending (length (gathered_messages w kind es)) (gathered_messages w kind es) (sendings ms) (omega arith)
-    (λ k. ap length (gathered_of_key (within w) kind ms es k (settles w kind ms es scattered k)) ∙ length-map (keyed k) (sendings_of k ms))
+    (λ k. ap length (gathered_of_key (within w) kind ms es k (settles w kind ms es scattered k)) ∙ length-map (sendings_of k ms) (keyed k))
     ∙ length-sendings [] ms
 
 pub replays : (w : Rule) (kind : ℕ → Option Kind) (ms : List PacketParts) (es : List Entry) → IsScattered w kind ms es → IsMute kind es → Replays w kind ms es
 replays w kind ms es scattered mute = record {
-  as_many = ap length (by_groups w kind es mute) ∙ (length-map (λ (m : Keyed). m.message) (gathered_messages w kind es) ∙ gathers_all w kind ms es scattered);
+  as_many = ap length (by_groups w kind es mute) ∙ (length-map (gathered_messages w kind es) (λ (m : Keyed). m.message) ∙ gathers_all w kind ms es scattered);
   by_groups = by_groups w kind es mute;
   in_order = gives_in_order w kind ms es scattered;
 }

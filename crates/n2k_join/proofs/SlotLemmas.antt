@@ -8,7 +8,7 @@ use Rattle.std.specs.Option.{option_or}
 use Rattle.std.specs.List.{range_with_len, list_all, AllByRecursion}
 use Rattle.std.proofs.lemmas.Bool.{cases_lt, eqb-true, eq-eqb, and_parts, and_from, le-leb, leb-true, false≢true}
 use Rattle.std.proofs.Math.Nat.{pow-suc}
-use Rattle.std.proofs.lemmas.Nat.Bits.{bit_at_lowest, bit_at-suc, bit_at-zero, bit_at_ones, bit_at_above, bit_at_set_same, bit_at_set_other, same_from_bits}
+use Rattle.std.proofs.lemmas.Nat.Bits.{bit_at_lowest, bit_at-suc, bit_at-zero, bit_at_ones, bit_at_above, bit_at_set_same, bit_at_set_other, same_from_bits, bit_at_ones_above}
 use Rattle.std.proofs.lemmas.Nat.{shr-shr}
 use Rattle.std.proofs.lemmas.Option.{none-some, same_Some}
 use Rattle.std.proofs.lemmas.List.{get_or-set_same, get_or-set_other, length-append, take-append-le, take-append-drop}
@@ -63,13 +63,6 @@ mask_is (suc w) (suc k) n l b ones zeros =
     some : (k : ℕ) → 1 ≤ 2 ^ k
     some zero = omega arith
     some (suc k) = omega (arith, some k, pow-suc 2 k)
-
-pub ones_past : (k i : ℕ) → k ≤ i → bit_at (2 ^ k - 1) i ≡ 0
-ones_past zero i l = bit_at-zero i
-ones_past (suc k) zero l = absurd (omega (arith, l))
-ones_past (suc k) (suc i) l =
-    let half : (2 ^ suc k - 1) / 2 ≡ 2 ^ k - 1 = omega (arith, pow-suc 2 k) in
-    bit_at-suc (2 ^ suc k - 1) i ∙ ap (λ n. bit_at n i) half ∙ ones_past k i (omega (arith, l))
 
 -- ---- completeness
 
@@ -134,7 +127,7 @@ module _ (k : Key) (g : OpenGroup) (last : ℕ) (small : last < most_frames) (fi
       by n (inl l) (inr le) there = le-leb n last le
       by n (inl l) (inl gt) there =
           let one : bit_at g.mask n ≡ 1 = eqb-true _ _ (sym (has-slot k g n l) ∙ there) in
-          let none : bit_at g.mask n ≡ 0 = ap (λ m. bit_at m n) e ∙ ones_past (last + 1) n (omega (arith, gt)) in
+          let none : bit_at g.mask n ≡ 0 = ap (λ m. bit_at m n) e ∙ bit_at_ones_above (last + 1) n (omega (arith, gt)) in
           absurd (omega (arith, one, none))
 
       each : (n : ℕ) → has_number n (held_of (group_in k g)) ≡ true → nat_le n last ≡ true

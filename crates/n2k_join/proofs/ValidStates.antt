@@ -20,7 +20,7 @@ use Rattle.n2k_join.specs.Resumed.{parsed, counts_hold, firsts_rise, group_holds
 use Rattle.n2k_join.specs.Inner.Apart.{numbers_hold}
 use Rattle.n2k_join.specs.State.{State, IsState, AreCounts, AreApart, AreFast, IsOpen, IsKey, IsPiece, HasParts, Rise, held_of}
 use Rattle.n2k_join.specs.Window.{Rule, IsWindow}
-use Rattle.std.proofs.lemmas.Bool.{le-leb, lt-ltb, and_from, ne_eqb}
+use Rattle.std.proofs.lemmas.Bool.{le-leb, lt-ltb, and_from, ne_eqb, or_parts}
 use Rattle.n2k_join.proofs.StateTests.{both, at_most}
 use Rattle.n2k_join.proofs.SavedGroups.{rise_from, small_from}
 
@@ -72,13 +72,9 @@ open_from kind g h =
     let more = both _ _ hs.1 in
     record { nonempty = some_list g.pieces hs.0; rise = rise_from 0 g.pieces more.0; numbers = small_from 0 g.pieces more.0; incomplete = not_true (complete (held_of g)) more.1 }
 
-either_false : (a b : Bool) → (a || b) ≡ false → (a ≡ false) × (b ≡ false)
-either_false true b h = cc
-either_false false b h = (refl, h)
-
 none_any : (k : Group) (gs : List Group) → list_any (λ (other : Group). same_key k.key other.key) gs ≡ false → AllByRecursion (λ (h : Group). same_key k.key h.key ≡ false) gs
 none_any k [] h = tt
-none_any k (g ∷ gs) h = let parts = either_false _ _ h in (parts.0, none_any k gs parts.1)
+none_any k (g ∷ gs) h = let parts = or_parts _ _ h in (parts.0, none_any k gs parts.1)
 
 groups_from : (kind : ℕ → Option Kind) (gs : List Group) → groups_hold kind gs ≡ true → AllByRecursion IsOpen gs × AreApart gs
 unfolding groups_hold

@@ -133,16 +133,16 @@ ended-ends w x g is e =
     let past : g.first + w.window ≤ x.line = ltb-false x.line (g.first + w.window) e in
     or_right (misfits w (held_of g) x) (is_late w (held_of g) x) (le-leb (first (held_of g) + w.window) x.line (omega (arith, at, past)))
 
+or_false : (b : Bool) → (b || false) ≡ b
+or_false true = refl
+or_false false = refl
+
 -- and one before that ends it where its number is in it
 pub waits-ends : (w : Rule) (x : Frame) (g : Group) → IsOpen g → is_waiting w x.line g ≡ true → within w (held_of g) x ≡ misfits w (held_of g) x
 waits-ends w x g is e =
     let at : first (held_of g) ≡ g.first = first-held g g.pieces is.nonempty in
     let before : x.line < g.first + w.window = ltb-true x.line (g.first + w.window) e in
     ap (λ b. misfits w (held_of g) x || b) (lt-leb (first (held_of g) + w.window) x.line (omega (arith, at, before))) ∙ or_false (misfits w (held_of g) x)
-  where
-    or_false : (b : Bool) → (b || false) ≡ b
-    or_false true = refl
-    or_false false = refl
 
 -- what the code asks of a group of an earlier line
 pub misfits-bars : (w : Rule) (x : Frame) (g : Group) → IsOpen g → g.first < x.line → misfits w (held_of g) x ≡ bars w.in_order x.number g
@@ -154,10 +154,6 @@ misfits-bars w x g is l = by w.in_order
     own : (b : Bool) → has_number x.number (held_of g) ≡ b → (b || has_from x.number (held_of g)) ≡ has_from x.number (held_of g)
     own true e = sym (has-from x.number x.number (held_of g) (omega arith) e)
     own false e = refl
-
-    or_false : (b : Bool) → (b || false) ≡ b
-    or_false true = refl
-    or_false false = refl
 
     by : (b : Bool) → (repeats (held_of g) x || (b && falls_back (held_of g) x)) ≡ cond b (has_from x.number (held_of g)) (has_number x.number (held_of g))
     by true = ap (λ t. repeats (held_of g) x || (t && has_from x.number (held_of g))) later ∙ own (has_number x.number (held_of g)) refl

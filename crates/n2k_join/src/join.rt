@@ -253,8 +253,8 @@ impl Join {
         })
     }
 
-    /// The same of an entry that stays where it is: the message is lent from it, or from `joined`, to which the message
-    /// of a group is written. What `joined` held is let go.
+    /// Takes the next line as `line` does, as an entry that stays where it is: the message is lent from it, or from
+    /// `joined`, to which the message of a group is written. What `joined` held is let go.
     ///
     /// ```text
     /// let mut joined = None;

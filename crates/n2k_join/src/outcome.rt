@@ -101,7 +101,7 @@ fn packet_in(entry: &Entry) -> Option<&Packet>
     }
 }
 
-/// The same where the entry is let go.
+/// The packet of an entry, which is let go.
 pub(crate) fn packet_of(entry: Entry) -> Option<Packet>
     ensures { result ≡ packet_in entry }
 {

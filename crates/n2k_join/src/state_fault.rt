@@ -5,30 +5,30 @@ ghost use Rattle.n2k_join.specs.declared.state_fault.StateFault.TheVariants.{Mem
 use std::alloc::{AllocError, AllocFailed};
 use thiserror::Error;
 
-/// Why a saved state is refused. The numbers are those that users see. The first that stands is answered, where
-/// `WindowDiffers` goes before `Invalid`.
+/// Why a saved state is refused. The fault lines of `n2kdec` number the causes in this order, from 1. The first that
+/// stands is answered, where `WindowDiffers` goes before `Invalid`.
 #[derive(Clone, Copy, PartialEq, Eq, Debug, Error)]
 pub enum StateFault {
     /// The bytes are not UTF-8, or no JSON text.
-    #[error("1 NotJson")]
+    #[error("the state isn't JSON")]
     NotJson,
     /// It isn't an object whose `format` is 1 or 2.
-    #[error("2 Format")]
+    #[error("the state's format is neither 1 nor 2")]
     Format,
     /// A member is missing, unknown, or of another kind than its name asks.
-    #[error("3 Shape")]
+    #[error("a member is missing or unknown, or its value is of another kind")]
     Shape,
     /// It was saved under another table.
-    #[error("4 TableDiffers")]
+    #[error("the state was saved under another table")]
     TableDiffers,
     /// Its numbers or its groups are such as no state has.
-    #[error("5 Invalid")]
+    #[error("no state has such numbers or groups")]
     Invalid,
     /// A growth was refused.
-    #[error("6 Memory")]
+    #[error("out of memory")]
     Memory,
     /// It was saved under another window.
-    #[error("7 WindowDiffers")]
+    #[error("the state was saved under another window")]
     WindowDiffers,
 }
 

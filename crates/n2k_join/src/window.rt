@@ -60,7 +60,7 @@ impl Window {
         self.lines
     }
 
-    /// The same, in order: for a log in which the frames of each message stand by rising number, as on a bus.
+    /// This window, in order: for a log in which the frames of each message stand by rising number, as on a bus.
     ///
     /// ```text
     /// let window = Window::new(10_000)?.in_order();

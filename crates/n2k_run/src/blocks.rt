@@ -172,7 +172,7 @@ impl Blocks {
         }
     }
 
-    // The same, apart from it, since few lines come this way: it reads until a line is found.
+    // Reads until a line is found. It stands apart from `find_line`, since few lines come this way.
     #[inline(never)]
     fn read_line<R: Source>(&mut self, reader: &mut R) -> Result<Found, Failed>
         ensures found { AnswersFound self.old self.new (R.remaining reader.old) (R.remaining reader.new)

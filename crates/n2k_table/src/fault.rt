@@ -5,41 +5,41 @@ ghost use Rattle.n2k_table.specs.declared.fault.TableFault.TheVariants.{Memory};
 use std::alloc::{AllocError, AllocFailed};
 use thiserror::Error;
 
-/// Why a table is refused. The numbers are those that users see.
+/// Why a table is refused. The fault lines of `n2kdec` number the causes in this order, from 1.
 #[derive(Clone, Copy, PartialEq, Eq, Debug, Error)]
 pub enum TableFault {
     /// The bytes are not UTF-8, or no TOML 1.1 document.
-    #[error("1 NotToml")]
+    #[error("the table isn't TOML")]
     NotToml,
     /// The top level has no `format`, or it is neither the integer 1 nor 2.
-    #[error("2 Format")]
+    #[error("the table's format is neither 1 nor 2")]
     Format,
     /// A key is missing or unknown, a value is of another TOML kind than its key asks, or an entry of a lookup
     /// isn't an array of an integer and a text.
-    #[error("3 Key")]
+    #[error("a key is missing or unknown, or its value is of another kind")]
     Key,
     /// An integer or a mantissa is out of its range, a field of text or bytes or a set doesn't begin and end with a
     /// byte, or a field ends past the longest message or past its set.
-    #[error("4 Range")]
+    #[error("a number is out of range, or a field or set stands where it can't")]
     Range,
     /// A text is empty or too long, or isn't one of those that its key asks.
-    #[error("5 Text")]
+    #[error("a text is empty, too long or unknown")]
     Text,
     /// Two lookups, or two fields of a definition or of a set, have one name, a field beside sets is named `list`, or a
     /// lookup has a value twice.
-    #[error("6 Twice")]
+    #[error("a name or a value stands twice")]
     Twice,
     /// A field names a lookup that isn't there.
-    #[error("7 Lookup")]
+    #[error("a field names a lookup that isn't there")]
     Lookup,
     /// Two definitions of one PGN have different kinds.
-    #[error("8 Mixed")]
+    #[error("definitions of one PGN have different kinds")]
     Mixed,
     /// There are too many definitions, fields in one or in a set, lookups, or entries in one.
-    #[error("9 TooMany")]
+    #[error("too many definitions, fields, lookups or entries")]
     TooMany,
     /// A growth was refused.
-    #[error("10 Memory")]
+    #[error("out of memory")]
     Memory,
 }
 

@@ -466,7 +466,7 @@ impl Field {
         }
     }
 
-    /// The same, with the text of a name.
+    /// What `seen` answers, with the text of a name.
     pub(crate) fn shown<'a>(&'a self, data: &'a [u8]) -> Shown<'a>
         ensures { shown_parts result ≡ shown self.now «data».now }
     {

@@ -270,7 +270,8 @@ pub fn json_line(
     json_line_in(alloc, table, packet, empty, &mut room, out)
 }
 
-/// The same, put together in room that the caller keeps from line to line: that costs less than new room for each.
+/// Appends what `json_line` does. It is put together in room that the caller keeps from line to line, which costs less
+/// than new room for each.
 ///
 /// ```text
 /// let mut room = LineRoom::new(alloc);

@@ -1,16 +1,16 @@
 //! Why a packet has no text.
 use thiserror::Error;
 
-/// Why a packet has no candump line. The numbers are those that users see.
+/// Why a packet has no candump line.
 #[derive(Clone, Copy, PartialEq, Eq, Debug, Error)]
 pub enum WireFault {
     /// The stamp isn't `YYYY-MM-DDTHH:MM:SS.mmmZ` of a day that the calendar has from 1970 on.
-    #[error("1 NoStamp")]
+    #[error("the stamp isn't a time of UTC")]
     NoStamp,
     /// No identifier of 29 bits says who sent what to whom.
-    #[error("2 NoId")]
+    #[error("no CAN identifier has this PGN, priority and addresses")]
     NoId,
     /// A growth was refused.
-    #[error("3 Memory")]
+    #[error("out of memory")]
     Memory,
 }

@@ -20,7 +20,7 @@ fn mistake(alloc: Global, words: &[&str]) -> Result<String, AllocError> {
     }
 }
 
-// The same in whole lines.
+// What `clap` says of them, in whole lines.
 fn mistake_lines(alloc: Global, words: &[&str]) -> Result<Vec<u8>, AllocError>
     ensures { IfOk result (λ text. (said : List ℕ) × (text.items ≡ said ++ codes "\n")) }
 {
@@ -45,8 +45,8 @@ fn text_before(alloc: Global, fault: &Fault, is_terminal: bool, words: &[&str]) 
 }
 
 /// What is written on standard error at a fault of the words of a command line, or of what they name: the line of the
-/// fault, as `fault_text` gives it, and where that is a terminal and the words are refused, before it what `clap` says of
-/// them. `words` is empty where they can't be read.
+/// fault, as `fault_text` gives it, and where that is a terminal and the words are refused, before it what `clap`
+/// says of them. `words` is empty where they can't be read.
 pub fn told(
     alloc: Global,
     fault: &Fault,

@@ -41,9 +41,9 @@ const SET: &str = "pgn = [{ number = 1, kind = 'fast', description = 'D', fields
 // What is answered where so many parts stand in a text: its front, the count, the part, its end, the answer.
 const LIMITS: [(&str, usize, &str, &str, &str); 13] = [
     ("pgn = [", 4096, DEFINITION, "]", "reads"),
-    ("pgn = [", 4097, DEFINITION, "]", "9 TooMany"),
+    ("pgn = [", 4097, DEFINITION, "]", "TooMany"),
     (ONE, 256, FIELD, "] }]", "reads"),
-    (ONE, 257, FIELD, "] }]", "9 TooMany"),
+    (ONE, 257, FIELD, "] }]", "TooMany"),
     (
         "lookup = [",
         1024,
@@ -56,7 +56,7 @@ const LIMITS: [(&str, usize, &str, &str, &str); 13] = [
         1025,
         "{ name = '{}', entries = [] }, ",
         "]",
-        "9 TooMany",
+        "TooMany",
     ),
     (
         "lookup = [{ name = 'L', entries = [",
@@ -70,7 +70,7 @@ const LIMITS: [(&str, usize, &str, &str, &str); 13] = [
         4097,
         "[{}, 'N'], ",
         "] }]",
-        "9 TooMany",
+        "TooMany",
     ),
     (
         "lookup = [{ entries = [], name = '",
@@ -84,28 +84,28 @@ const LIMITS: [(&str, usize, &str, &str, &str); 13] = [
         256,
         "N",
         "' }]",
-        "5 Text",
+        "Text",
     ),
     (
         "lookup = [{ entries = [], name = '",
         128,
         "\u{e9}",
         "' }]",
-        "5 Text",
+        "Text",
     ),
     (
         "pgn = [",
         1,
         "{ number = 1, kind = 'fast', description = 'D', fields = [], repeat = 1 }",
         "]",
-        "3 Key",
+        "Key",
     ),
     (
         "lookup = [",
         2,
         "{ name = 'L', entries = [] }, ",
         "]",
-        "6 Twice",
+        "Twice",
     ),
 ];
 
@@ -113,20 +113,20 @@ const LIMITS: [(&str, usize, &str, &str, &str); 13] = [
 const SET_LIMITS: [(&str, usize, &str, &str, &str); 6] = [
     (SET, 0, FIELD, "] } }]", "reads"),
     (SET, 256, FIELD, "] } }]", "reads"),
-    (SET, 257, FIELD, "] } }]", "9 TooMany"),
+    (SET, 257, FIELD, "] } }]", "TooMany"),
     (
         "pgn = [",
         1,
         "{ number = 1, kind = 'fast', description = 'D', fields = [], repeat = 1 }",
         "]",
-        "3 Key",
+        "Key",
     ),
     (
         "pgn = [",
         1,
         "{ number = 1, kind = 'fast', description = 'D', fields = [], repeat = [] }",
         "]",
-        "3 Key",
+        "Key",
     ),
     (
         ONE,

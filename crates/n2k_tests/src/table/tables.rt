@@ -19,11 +19,11 @@ repeat = { at = 8, bits = 24, fields = [
 ] }
 ";
 
-// What reading a table answers: `reads`, or the fault with its number.
+// What reading a table answers: `reads`, or the name of the fault.
 pub(crate) fn answer(alloc: Global, text: &str) -> Result<String, AllocError> {
     match read(alloc, text) {
         Ok(_) => String::from_str(alloc, "reads"),
-        Err(fault) => format!(in alloc; "{fault}"),
+        Err(fault) => format!(in alloc; "{fault:?}"),
     }
 }
 
