@@ -266,7 +266,8 @@ fn label_of(alloc: Global, number: u32, description: &str) -> Result<Vec<u8>, Al
 
 // The repeat of a definition, if it has one.
 fn repeat_at(format: TableFormat, table: &Table) -> Result<Option<&Table>, TableFault>
-    ensures { Gives (λ repeat. option_map (λ t. table_view t.now) repeat) result (repeat_of format (table_view table.now)) }
+    ensures { Gives (λ repeat. option_map (λ t. table_view t.now) repeat) result
+        (repeat_of format (table_view table.now)) }
 {
     match format {
         TableFormat::One => Ok(None),

@@ -57,7 +57,8 @@ fn each_field(
     ensures { let names = map (λ (lookup : LookupParts). lookup.name) lookups.now in
         let ds = elements (array_view values.now) in
         GivesOrMemory (λ fields. fields.items) result
-        (judged (flat_map (field_faults room.holder (Ok room.bits) names) ds) (map (field room.holder lookups.now) ds)) }
+        (judged (flat_map (field_faults room.holder (Ok room.bits) names) ds)
+        (map (field room.holder lookups.now) ds)) }
 {
     let mut fields = Vec::new(alloc);
     for value in values {

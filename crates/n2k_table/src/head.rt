@@ -92,7 +92,8 @@ fn push_usual_stamp(stamp: &[u8], line: &mut Tail) -> Result<(), AllocError>
     line.push(b'"')
 }
 
-// A digit, an upper letter or one of few other bytes. Each stands for itself, and one range is tested faster than all that do.
+// A digit, an upper letter or one of few other bytes. Each stands for itself, and one range is tested faster than all
+// that do.
 fn is_usual_byte(byte: u8) -> bool
     ensures { result ≡ is_usual byte }
 {
@@ -111,7 +112,8 @@ fn are_usual(bytes: &[u8; AT_ONCE]) -> bool
     all
 }
 
-// Whether a stamp has such bytes alone, sixteen to thirty-two of them: its first sixteen and its last sixteen are all of it.
+// Whether a stamp has such bytes alone, sixteen to thirty-two of them: its first sixteen and its last sixteen are all
+// of it.
 #[inline(always)]
 fn is_usual_stamp(stamp: &[u8]) -> bool
     ensures { result ≡ true → list_all is_plain stamp.now ≡ true }

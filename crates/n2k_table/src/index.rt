@@ -17,8 +17,8 @@ type PlacesByPgn = IndexMap<u32, Vec<usize>>;
 #[derive(Drop)]
 pub(crate) struct Index {
     places: PlacesByPgn,
-    // For the mixed bits of a PGN where it may stand in the map. Whoever goes by it compares the PGN; that costs less than a
-    // hash.
+    // For the mixed bits of a PGN where it may stand in the map. Whoever goes by it compares the PGN; that costs less
+    // than a hash.
     quick: Vec<u16>,
 }
 
@@ -65,8 +65,8 @@ fn all_places(alloc: Global, definitions: &[StoredDefinition]) -> Result<PlacesB
     Ok(index)
 }
 
-// The bits of a PGN by which it is told apart: its lowest 13, changed by those above them. By the lowest alone PGNs whose
-// lower 16 bits are the same would be one.
+// The bits of a PGN by which it is told apart: its lowest 13, changed by those above them. By the lowest alone PGNs
+// whose lower 16 bits are the same would be one.
 #[inline(always)]
 fn mixed(pgn: u32) -> usize
     ensures { result < 8192 }

@@ -5,8 +5,8 @@ ghost use Rattle.n2k_table.specs.Table.{TableParts};
 ghost use Rattle.n2k_table.specs.Json.{json};
 ghost use Rattle.n2k_table.specs.OneLine.{IsOneLine};
 
-/// The JSON line of a message is one line, whatever the table's names and texts and the message's data are: it ends in a
-/// line feed, and no byte below the space stands before that.
+/// The JSON line of a message is one line, whatever the table's names and texts and the message's data are: it ends
+/// in a line feed, and no byte below the space stands before that.
 pub fn json_is_one_line()
     ensures { (t : TableParts) (m : PacketParts) (empty : Bool) → IsOneLine (json t m empty) }
 {}

@@ -158,8 +158,8 @@ impl Lookup {
     }
 }
 
-// The name of a value, found by its hash. It is not inlined: most lookups name the values from 0 on in their order, and then
-// a name stands at the place of its value.
+// The name of a value, found by its hash. It is not inlined: most lookups name the values from 0 on in their order,
+// and then a name stands at the place of its value.
 #[inline(never)]
 fn name_by_hash(names: &IndexMap<u64, Name>, value: u64) -> Option<&Name>
     ensures { option_map (λ name. name.now) result ≡ value_at (nat_eq value) names.now.entries }
@@ -335,7 +335,8 @@ impl Lookups {
 
     /// The lookup of that name, if there is one.
     pub(crate) fn find(&self, name: &str) -> Option<&Rc<Lookup>>
-        ensures { option_map (λ lookup. lookup.now.value) result ≡ find (λ lookup. bytes_eq name.now lookup.name) self.now }
+        ensures { option_map (λ lookup. lookup.now.value) result
+            ≡ find (λ lookup. bytes_eq name.now lookup.name) self.now }
     {
         for lookup in &self.list {
             if name == lookup.name() {

@@ -1,5 +1,5 @@
-//! A fast path: a text that many lines hold, with its front at a constant length as well. A copy of a constant length is a few
-//! instructions; one of a length that varies is a call. `Tail::extend_from_slice` appends any bytes.
+//! A fast path: a text that many lines hold, with its front at a constant length as well. A copy of a constant length
+//! is a few instructions; one of a length that varies is a call. `Tail::extend_from_slice` appends any bytes.
 ghost use Rattle.std.specs.Prelude.{◌≡◌};
 
 use crate::tail::Tail;

@@ -46,7 +46,8 @@ impl Repeat {
     pub(crate) fn count(&self, data: &[u8]) -> usize
         ensures value { result ≡ set_count self.now (length «data».now) }
         ensures few { result ≤ length «data».now }
-        ensures inside { (j : ℕ) → j < result → self.now.at + j * self.now.bits + self.now.bits ≤ 8 * length «data».now }
+        ensures inside { (j : ℕ) → j < result
+            → self.now.at + j * self.now.bits + self.now.bits ≤ 8 * length «data».now }
     {
         data.len().saturating_sub(self.first as usize) / self.size as usize
     }

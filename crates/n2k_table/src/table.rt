@@ -107,7 +107,8 @@ fn top_definitions(
     ensures { let names = map (λ (lookup : LookupParts). lookup.name) lookups.now in
         let m = table_view top.now in
         GivesOrMemory (λ v. v.items) result
-        (judged (faults_in (definitions_of m) (definitions_faults format names)) (definitions_in format lookups.now m)) }
+        (judged (faults_in (definitions_of m) (definitions_faults format names))
+        (definitions_in format lookups.now m)) }
 {
     match elements_if_there(top, "pgn")? {
         None => Ok(Vec::new(alloc)),

@@ -1,5 +1,5 @@
-//! Room in which a line is put together before it is appended to a vector. It is kept from line to line, since new room for
-//! each would be zeroed each time.
+//! Room in which a line is put together before it is appended to a vector. It is kept from line to line, since new
+//! room for each would be zeroed each time.
 ghost use Rattle.std.specs.Prelude.{◌≡◌, ◌∷◌, [], ◌++◌, ◌+◌, ◌≤◌, take, IfOk, OnOk, OnErr, is_ok, true};
 
 use std::alloc::{AllocError, Global};
@@ -8,8 +8,8 @@ use std::marker::Model;
 /// How many bytes of a line are put together before they are appended.
 const ROOM: usize = 1024;
 
-/// A line that is appended to in parts. They are put together in a room: copying a few bytes at a constant length into an
-/// array costs a third of appending them to a vector.
+/// A line that is appended to in parts. They are put together in a room: copying a few bytes at a constant length
+/// into an array costs a third of appending them to a vector.
 #[derive(Drop)]
 pub(crate) struct Tail {
     // The front of a line that is longer than the room. Most lines have none.
@@ -39,7 +39,8 @@ fn empty_room(front: &mut Vec<u8>, room: &[u8; ROOM], at: usize) -> Result<(), A
     front.extend_from_slice(&room[..at])
 }
 
-// Writes bytes to a place of the room. They are given by value: of two references the copy would test whether they overlap.
+// Writes bytes to a place of the room. They are given by value: of two references the copy would test whether they
+// overlap.
 #[inline(always)]
 fn write_at<const N: usize>(room: &mut [u8; ROOM], at: usize, bytes: [u8; N])
     requires { at + N ≤ 1024 }

@@ -14,7 +14,7 @@ pub mod UsualFrames
 pub mod UsualLanes
 pub mod PlainByPlace
 pub mod UsualStamps
-pub mod UsualTexts
+pub mod PlainTexts
 pub mod UtcBack
 pub mod CleanTexts
 pub mod UtcStamps

@@ -22,10 +22,10 @@ mod packet;
 mod pieces;
 mod plain;
 mod plain_by_place;
+mod plain_line;
 mod stamp;
 mod texts;
 mod usual;
-mod usual_text;
 
 pub use candump::{FRAME_PAYLOAD, is_interface};
 pub use candump_lines::CandumpLines;
@@ -34,4 +34,5 @@ pub use fault::WireFault;
 pub use identifier::{Id, join_id, split_id};
 pub use packet::{GREATEST_PGN, Packet};
 pub use plain::GREATEST_ADDRESS;
-pub use texts::{candump_text, plain_text};
+pub use plain_line::plain_text;
+pub use texts::candump_text;

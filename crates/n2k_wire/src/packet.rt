@@ -1,8 +1,8 @@
 //! A packet: a frame or a whole message, with its stamp.
-ghost use Rattle.std.specs.Prelude.{◌≡◌};
+ghost use Rattle.std.specs.Prelude.{◌≡◌, ◌≤◌, take};
 ghost use Rattle.std.specs.List.{list_all};
 ghost use Rattle.std.specs.Option.{SomeIff};
-ghost use Rattle.n2k_wire.specs.Packet.{IsPacket, IsPacketParts, is_stamp, is_stamp_byte, is_stamp_start};
+ghost use Rattle.n2k_wire.specs.Packet.{IsPacket, IsPacketParts, is_stamp, is_stamp_byte, is_stamp_start, longest_stamp};
 
 use crate::identifier::Id;
 use std::marker::Model;
@@ -134,6 +134,15 @@ impl Packet {
         ensures valid { IsPacket self.now.stamp self.now.id self.now.payload }
     {
         &self.stamp[..self.stamp_len]
+    }
+
+    /// The stamp in its room, and how many bytes it has.
+    #[inline]
+    pub(crate) fn stamp_in_room(&self) -> (&[u8; LONGEST_STAMP], usize)
+        ensures value { take result.1 result.0.now ≡ self.now.stamp }
+        ensures len { result.1 ≤ longest_stamp }
+    {
+        (&self.stamp, self.stamp_len)
     }
 
     /// The identifier.

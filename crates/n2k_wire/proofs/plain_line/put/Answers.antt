@@ -1,7 +1,7 @@
 use Rattle.std.proofs.Common.{◌+◌, arith}
 use Rattle.std.proofs.lemmas.Simd.{take_more_put_chunk}
-use Rattle.n2k_wire.proofs.UsualTexts.{partly}
-use Rattle.n2k_wire.proofs.usual_text.put.Goals as goal
+use Rattle.n2k_wire.proofs.PlainTexts.{partly}
+use Rattle.n2k_wire.proofs.plain_line.put.Goals as goal
 
 pub returns-clause-bytes : goal.returns-clause-bytes
 returns-clause-bytes g c =

@@ -1,4 +1,4 @@
--- Plain lines of frames of eight bytes, written in pieces of constant length.
+-- Plain lines, written in pieces of constant length.
 use Rattle.std.proofs.Common.{◌≡◌, ℕ, zero, suc, ◌+◌, ◌-◌, ◌*◌, ◌/◌, ◌%◌, ◌^◌, ◌<◌, ◌≤◌, true, false, cond, ltb, List, [], ◌∷◌, ◌++◌, length, get_or, map, take, drop, replicate, bit_and, refl, sym, ap, ◌∙◌, append_assoc, arith, inl, inr}
 use Rattle.std.specs.Prelude.{codes, decimal}
 use Rattle.std.specs.List.{flat_map}
@@ -115,25 +115,6 @@ piece_of_five n large small =
     (omega arith) (omega arith) (omega arith) (omega arith) (omega arith) (omega arith) (omega arith) (omega arith) (omega arith))
     ∙ sym (rw (decimal_four n (omega arith) (omega arith), decimal_digit (n / 10000) (omega arith), b, c, d, e, f) refl)
 
--- ---- stamps
-
--- a stamp in two pieces
-pub stamp_put : (text stamp : List ℕ) (at : ℕ) → length stamp ≡ 24 → at + 24 ≤ length text
-    → take (at + 24) (put_chunk (at + 16) (put_chunk at text (take 16 (take 16 stamp))) (take 8 (take 8 (drop 16 stamp)))) ≡ take at text ++ stamp
-stamp_put text stamp at long room =
-    let sixteen = length-take-le 16 stamp (omega arith) in
-    let front = take 16 (take 16 stamp) in
-    let back = take 8 (take 8 (drop 16 stamp)) in
-    let front_is : front ≡ take 16 stamp = take_all 16 (take 16 stamp) (omega (arith, sixteen)) in
-    let rest : take 8 (drop 16 stamp) ≡ drop 16 stamp = take_all 8 (drop 16 stamp) (omega (arith, length-drop 16 stamp)) in
-    let whole : back ≡ drop 16 stamp = ap (take 8) rest ∙ rest in
-    let a : length front ≡ 16 = ap length front_is ∙ sixteen in
-    let b : length back ≡ 8 = ap length whole ∙ length-drop 16 stamp ∙ omega arith in
-    let first = take_more_put_chunk at text front (at + 16) (omega arith) (omega arith) in
-    let second = take_more_put_chunk (at + 16) (put_chunk at text front) back (at + 24) (omega arith) (omega (arith, length-put_chunk at text front)) in
-    second ∙ ap (λ (t : List ℕ). t ++ back) first ∙ append_assoc (take at text) front back
-    ∙ ap (λ (t : List ℕ). take at text ++ t) ((λ i. front_is i ++ whole i) ∙ take-append-drop 16 stamp)
-
 pub word_is_large : (n free : ℕ) → free ≤ 2 → 4 ≤ digits_of n / 2 ^ (8 * free)
 word_is_large n free few =
     elim (cases_lt free 1) [
@@ -202,10 +183,11 @@ end_is bytes long small =
 -- ---- the line
 
 -- what was written in order is the line
-pub line_is : (p : PacketParts) (t0 t1 t2 t3 t4 t5 t6 prio pgn src dst end : List ℕ) → length p.payload ≡ 8
-    → t1 ≡ t0 ++ p.stamp → t2 ≡ t1 ++ prio → t3 ≡ t2 ++ pgn → t4 ≡ t3 ++ src → t5 ≡ t4 ++ dst → t6 ≡ t5 ++ end
-    → prio ≡ number_piece p.id.prio → pgn ≡ number_piece p.id.pgn → src ≡ number_piece p.id.src → dst ≡ number_piece p.id.dst → end ≡ pieces_of p.payload
-    → t6 ≡ t0 ++ plain_text p
+pub line_is : (p : PacketParts) (t0 t1 t2 t3 t4 t5 t6 stamp prio pgn src dst bytes : List ℕ)
+    → t1 ≡ t0 ++ stamp → t2 ≡ t1 ++ prio → t3 ≡ t2 ++ pgn → t4 ≡ t3 ++ src → t5 ≡ t4 ++ dst
+    → t6 ≡ t5 ++ number_piece (length bytes) ++ flat_map byte_piece bytes ++ codes "\n"
+    → stamp ≡ p.stamp → prio ≡ number_piece p.id.prio → pgn ≡ number_piece p.id.pgn → src ≡ number_piece p.id.src → dst ≡ number_piece p.id.dst
+    → bytes ≡ p.payload → t6 ≡ t0 ++ plain_text p
 unfolding plain_line
-line_is p t0 t1 t2 t3 t4 t5 t6 prio pgn src dst end long a b c d e f prio_is pgn_is src_is dst_is end_is =
-    rw (f, e, d, c, b, a, prio_is, pgn_is, src_is, dst_is, end_is, long) (simp append_assoc)
+line_is p t0 t1 t2 t3 t4 t5 t6 stamp prio pgn src dst bytes a b c d e f stamp_is prio_is pgn_is src_is dst_is bytes_are =
+    rw (f, e, d, c, b, a, stamp_is, prio_is, pgn_is, src_is, dst_is, bytes_are) (simp append_assoc)

@@ -1,6 +1,6 @@
 use Rattle.std.proofs.Common.{take, ap, ◌∙◌, arith}
-use Rattle.n2k_wire.proofs.UsualTexts.{piece_of_five, piece_of_six}
-use Rattle.n2k_wire.proofs.usual_text.pgn_piece.Goals as goal
+use Rattle.n2k_wire.proofs.PlainTexts.{piece_of_five, piece_of_six}
+use Rattle.n2k_wire.proofs.plain_line.pgn_piece.Goals as goal
 
 pub returns-then-pgn-lt100000-clause-piece : goal.returns-then-pgn-lt100000-clause-piece
 returns-then-pgn-lt100000-clause-piece c =

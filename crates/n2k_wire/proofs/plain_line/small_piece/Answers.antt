@@ -1,6 +1,6 @@
 use Rattle.std.proofs.Common.{◌-◌, take, ap, ◌∙◌, arith}
-use Rattle.n2k_wire.proofs.UsualTexts.{piece_of_small, word_is_large}
-use Rattle.n2k_wire.proofs.usual_text.small_piece.Goals as goal
+use Rattle.n2k_wire.proofs.PlainTexts.{piece_of_small, word_is_large}
+use Rattle.n2k_wire.proofs.plain_line.small_piece.Goals as goal
 
 pub overflow_sub-digits : goal.overflow_sub-digits
 overflow_sub-digits c = rw (c.digits_word.ensures, c.from.ensures) (word_is_large c.args.number c.leading_zeros-zeros.result (omega (arith, c.leading_zeros-zeros.ensures.few)))

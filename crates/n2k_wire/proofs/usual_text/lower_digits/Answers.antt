@@ -1,5 +1,0 @@
-use Rattle.n2k_wire.proofs.UsualTexts.{lanes_lower}
-use Rattle.n2k_wire.proofs.usual_text.lower_digits.Goals as goal
-
-pub returns : goal.returns
-returns c = lanes_lower 16 c.args.numbers c.fits-numbers.0
