@@ -31,8 +31,6 @@ const CANDUMP_ROOM: usize = 64;
 /// A candump line, or what of it is written so far.
 pub(crate) type CandumpLine = ArrayVec<u8, CANDUMP_ROOM>;
 
-const UPPER_DIGITS: [u8; 16] = *b"0123456789ABCDEF";
-
 /// As many zeros as the seconds of a candump line have digits at least.
 const ZEROS: [u8; 10] = *b"0000000000";
 
@@ -177,25 +175,26 @@ fn push_millis(line: &mut CandumpLine, millis: u32)
     push_text(line, &[hundreds, tens, ones]);
 }
 
-// A byte as two digits in upper case.
-#[tactic(auto, unfolding(hex::specs::Hex::encode_with))]
-fn upper_pair(byte: u8) -> [u8; 2]
-    ensures { result ≡ encode_upper (byte ∷ []) }
+// Writes bytes as digits in upper case. `hex` writes lower case without memory.
+#[tactic(auto, using(crate::proofs::CandumpLemmas::upper_of_lower))]
+fn write_upper(bytes: &[u8], digits: &mut [u8])
+    requires { length digits.old ≡ 2 * length bytes.now }
+    ensures { digits.new ≡ encode_upper bytes.now }
 {
-    [
-        UPPER_DIGITS[usize::from(byte / 16)],
-        UPPER_DIGITS[usize::from(byte % 16)],
-    ]
+    let _ = hex::encode_to_slice(bytes, digits);
+    digits.make_ascii_uppercase();
 }
 
 fn push_upper(line: &mut CandumpLine, bytes: &[u8])
-    requires { array_vec_len line.old + 2 * length bytes.now ≤ 64 }
+    requires few { length bytes.now ≤ frame_payload }
+    requires room { array_vec_len line.old + 2 * length bytes.now ≤ 64 }
     ensures items { line.new.items ≡ line.old.items ++ encode_upper bytes.now }
     ensures len { array_vec_len line.new ≡ array_vec_len line.old + 2 * length bytes.now }
 {
-    for byte in bytes {
-        push_text(line, &upper_pair(*byte));
-    }
+    let mut room = [0; 2 * FRAME_PAYLOAD];
+    let digits = &mut room[..2 * bytes.len()];
+    write_upper(bytes, digits);
+    push_text(line, digits);
 }
 
 /// What stands in front of the data in a candump line.
