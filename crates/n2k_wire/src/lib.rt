@@ -28,10 +28,10 @@ mod usual;
 mod usual_text;
 
 pub use candump::{FRAME_PAYLOAD, is_interface};
-pub use candump_lines::CandumpLines;
+pub use candump_lines::{CandumpLines, candump_text};
 pub use entry::{BadCause, Entry, LONGEST_LINE, LineReader, Packing, read_line};
 pub use fault::WireFault;
 pub use identifier::{Id, join_id, split_id};
 pub use packet::{GREATEST_PGN, Packet};
 pub use plain::GREATEST_ADDRESS;
-pub use texts::{candump_text, plain_text};
+pub use texts::plain_text;
