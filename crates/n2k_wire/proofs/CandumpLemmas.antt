@@ -1,10 +1,10 @@
 -- Writing the parts of a candump line.
-use Rattle.std.proofs.Common.{◌≡◌, ℕ, suc, ◌+◌, ◌<◌, ◌≤◌, List, [], ◌∷◌, ◌++◌, length, get_or, drop, refl, sym, ap, ◌∙◌, append_assoc, arith, rules, Result, Ok, Err, codes}
+use Rattle.std.proofs.Common.{◌≡◌, ℕ, zero, suc, ◌/◌, ◌%◌, ◌≤◌, List, [], ◌∷◌, ◌++◌, length, map, slice_index, refl, sym, ap, ◌∙◌, append_assoc, arith, rules, Result, Ok, Err, codes}
 use Rattle.std.specs.Prelude.{decimal, IfErr, IsTrue, OnOk}
 use Rattle.std.proofs.lemmas.Bool.{and_parts, leb-true}
 use Rattle.std.proofs.lemmas.Fmt.{length-decimal-le}
-use Rattle.std.proofs.Math.Seq.{drop-cons}
-use Rattle.hex.specs.Hex.{encode_with, encode_upper}
+use Rattle.std.specs.Char.{to_ascii_uppercase}
+use Rattle.hex.specs.Hex.{encode_with, encode_lower, encode_upper, lower_digits}
 use Rattle.n2k_wire.specs.Candump.{is_interface}
 use Rattle.n2k_wire.specs.declared.fault.WireFault.{WireFault}
 use Rattle.n2k_wire.specs.declared.fault.WireFault.TheVariants.{Memory}
@@ -23,13 +23,17 @@ interface_short name ok =
     let inner = and_parts _ _ outer.0 in
     leb-true (length name) 15 inner.1
 
--- one byte more as two digits
-pub upper_next : (bytes : List ℕ) (i : ℕ) → i < length bytes → encode_upper (get_or bytes i 0 ∷ []) ++ encode_upper (drop (i + 1) bytes) ≡ encode_upper (drop i bytes)
+-- the digit of the other table is its upper case
+indexed : (f : ℕ → ℕ) (digits : List ℕ) (i : ℕ) → f 0 ≡ 0 → slice_index (map f digits) i ≡ f (slice_index digits i)
+indexed f [] i none = sym none
+indexed f (digit ∷ digits) zero none = refl
+indexed f (digit ∷ digits) (suc i) none = indexed f digits i none
+
+-- digits in upper case are the upper case of those in lower case
+pub upper_of_lower : (bytes : List ℕ) → map to_ascii_uppercase (encode_lower bytes) ≡ encode_upper bytes
 unfolding encode_with
-upper_next bytes i within =
-    let next : suc i ≡ i + 1 = omega arith in
-    let cut : drop i bytes ≡ get_or bytes i 0 ∷ drop (i + 1) bytes = drop-cons bytes i 0 within ∙ ap (λ k. get_or bytes i 0 ∷ drop k bytes) next in
-    sym (ap encode_upper cut)
+upper_of_lower [] = refl
+upper_of_lower (b ∷ bytes) = rw (indexed to_ascii_uppercase lower_digits (b / 16) refl, indexed to_ascii_uppercase lower_digits (b % 16) refl, upper_of_lower bytes) refl
 
 -- the seconds of every moment have at most twelve digits, and with their zeros at least ten
 pub seconds_short : (n : ℕ) → n ≤ 253402300799 → length (decimal n) ≤ 12

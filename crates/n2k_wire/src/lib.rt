@@ -24,15 +24,13 @@ mod plain;
 mod plain_by_place;
 mod plain_line;
 mod stamp;
-mod texts;
 mod usual;
 
 pub use candump::{FRAME_PAYLOAD, is_interface};
-pub use candump_lines::CandumpLines;
+pub use candump_lines::{CandumpLines, candump_text};
 pub use entry::{BadCause, Entry, LONGEST_LINE, LineReader, Packing, read_line};
 pub use fault::WireFault;
 pub use identifier::{Id, join_id, split_id};
 pub use packet::{GREATEST_PGN, Packet};
 pub use plain::GREATEST_ADDRESS;
 pub use plain_line::plain_text;
-pub use texts::candump_text;
