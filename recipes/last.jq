@@ -8,13 +8,15 @@ import "units" as $known {search: ["../tables", ".."]};
 
 def padded($width): . + (" " * ($width - length) // "");
 def shown: if type == "number" then tostring elif type == "string" then . else tojson end;
+# A text may hold a line's end, or what a terminal obeys: each such sign is a space.
+def plain: if test("[[:cntrl:]]") then gsub("[[:cntrl:]]"; " ") else . end;
 def unit_names:
     {date: "days", time: "s"}
     + if . == null then {} else {rad: "deg", "rad/s": "deg/s", K: "°C", Pa: "hPa", date: null, time: null} end
     + if . == "knots" then {"m/s": "knots"} else {} end;
 
 things as $things | ($things | keys) as $names | $known::known[0] as $units | ($ARGS.named.units | unit_names) as $called
-| reduce lines as $m ({}; setpath([$m | [.pgn, .src, .description, (.fields[$names[]] | values)] | tojson]; $m))
+| reduce lines as $m ({}; setpath([$m | [.pgn, .src, .description, (.fields | .[keys_unsorted[] | select($things[.])])] | tojson]; $m))
 | [.[]] | sort_by(.pgn, .src, .description)
 | [.[] as $m | ($units[$m.pgn | tostring][$m.description] // {}) as $mine
     | ([$m.fields[$names[]] | values | shown] | join(", ")) as $thing
@@ -24,4 +26,4 @@ things as $things | ($things | keys) as $names | $known::known[0] as $units | ($
        (.value | shown) + (if $unit and (.value | type) == "number" then
            ($called | if has($unit) then .[$unit] else $unit end) as $name | if $name then " " + $name else "" end else "" end)]]
 | [["time", "src", "message", "of", "field", "value"]] + . | (transpose | map(map(length) | max)) as $widths
-| .[] | .[-1] as $value | [range(length - 1) as $at | .[$at] | padded($widths[$at])] + [$value] | join("  ")
+| .[] | .[-1] as $value | [range(length - 1) as $at | .[$at] | padded($widths[$at])] + [$value] | join("  ") | plain

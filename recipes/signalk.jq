@@ -3,10 +3,12 @@
 # Position, COG, SOG, heading, rate of turn, attitude, speed, depth, wind, rudder, engine, gear, battery, tank,
 # temperature, humidity and pressure; other messages, and AIS targets, give nothing. Engine 0 is `port`, 1 is `starboard`.
 # Wind whose reference is the boat or the water is angleTrueWater and speedTrue, as Signal K's own reader has it.
-# Numbers are those of the line but for rpm (Hz), percent (ratio), litres (m3) and wind angles (from -pi to pi).
+# Numbers are those of the line but for rpm (Hz), percent (ratio), litres (m3) and wind angles (from -pi to pi). A stamp
+# that is no time is left out: Signal K then takes the time at which the delta comes.
 include "n2k" {search: "./"};
 
-def at($path; $value): if $value == null then empty else {path: $path, value: $value} end;
+# No value is false, so null alone counts as no here and below: a test by `==` is a call, which jq is slow at.
+def at($path; $value): if $path and $value then {path: $path, value: $value} else empty end;
 def ratio: if type == "number" then . * 10000 | round / 1000000 else null end;
 def pi: 3.141592653589793;
 def by_reference($reference; $true; $magnetic):
@@ -33,10 +35,10 @@ def temperature($source; $instance; $value):
     at(if $source == "Exhaust Gas Temperature" then ($instance | engine) + ".exhaustTemperature" else temperatures[$source | tostring] end; $value);
 def humidity($source; $value):
     at({"Inside": "environment.inside.relativeHumidity", "Outside": "environment.outside.relativeHumidity"}[$source | tostring]; $value | ratio);
-def place: if .Latitude == null or .Longitude == null then null else {latitude: .Latitude, longitude: .Longitude} end;
+def place: if .Latitude and .Longitude then {latitude: .Latitude, longitude: .Longitude} else null end;
 
 def wind:
-    (."Wind Angle" | if . != null and . > pi then (. - 2 * pi) * 10000 | round / 10000 else . end) as $angle
+    (."Wind Angle" | if . and . > pi then (. - 2 * pi) * 10000 | round / 10000 else . end) as $angle
     | if .Reference == "Apparent" then
           at("environment.wind.speedApparent"; ."Wind Speed"), at("environment.wind.angleApparent"; $angle)
       elif .Reference == "True (boat referenced)" or .Reference == "True (water referenced)" then
@@ -49,9 +51,9 @@ def wind:
 
 # The offset is the way from the transducer to the water line (above 0) or to the keel (below it).
 def depth:
-    (if .Depth == null or .Offset == null then null else (.Depth + .Offset) * 1000 | round / 1000 end) as $sum
+    (if .Depth and .Offset then (.Depth + .Offset) * 1000 | round / 1000 else null end) as $sum
     | at("environment.depth.belowTransducer"; .Depth),
-      if .Offset == null or .Offset == 0 then empty
+      if (.Offset // 0) == 0 then empty
       elif .Offset > 0 then at("environment.depth.surfaceToTransducer"; .Offset), at("environment.depth.belowSurface"; $sum)
       else at("environment.depth.transducerToKeel"; -.Offset), at("environment.depth.belowKeel"; $sum) end;
 
@@ -59,7 +61,7 @@ def engine_values:
     (.Instance | engine) as $engine
     | at($engine + ".oilPressure"; ."Oil pressure"), at($engine + ".oilTemperature"; ."Oil temperature"),
       at($engine + ".temperature"; .Temperature), at($engine + ".alternatorVoltage"; ."Alternator Potential"),
-      at($engine + ".fuel.rate"; ."Fuel Rate" | if . == null then . else . / 3600000 end),
+      at($engine + ".fuel.rate"; ."Fuel Rate" | if . then . / 3600000 else . end),
       at($engine + ".runTime"; ."Total Engine hours"), at($engine + ".coolantPressure"; ."Coolant Pressure"),
       at($engine + ".fuel.pressure"; ."Fuel Pressure"), at($engine + ".engineLoad"; ."Engine Load" | ratio),
       at($engine + ".engineTorque"; ."Engine Torque" | ratio);
@@ -78,53 +80,67 @@ def charge:
     else empty end;
 def tank:
     tanks[.Type | tostring] as $tank
-    | if $tank == null then empty else
+    | if $tank then
           "tanks.\($tank).\(.Instance // 0)" as $tank
-          | at($tank + ".currentLevel"; .Level | ratio), at($tank + ".capacity"; .Capacity | if . == null then . else . / 1000 end)
-      end;
+          | at($tank + ".currentLevel"; .Level | ratio), at($tank + ".capacity"; .Capacity | if . then . / 1000 else . end)
+      else empty end;
 
-# What a message says, from its PGN and its fields.
+# What a message says, from its PGN and its fields. The PGNs stand in three parts, so that few are compared.
 def values_of($pgn):
-    if $pgn == 129025 or $pgn == 129029 then at("navigation.position"; place)
-    elif $pgn == 129026 then
-        at(by_reference(."COG Reference"; "navigation.courseOverGroundTrue"; "navigation.courseOverGroundMagnetic"); .COG),
-        at("navigation.speedOverGround"; .SOG)
-    elif $pgn == 127250 then
-        at(by_reference(.Reference; "navigation.headingTrue"; "navigation.headingMagnetic"); .Heading),
-        at("navigation.magneticVariation"; .Variation), at("navigation.magneticDeviation"; .Deviation)
-    elif $pgn == 130306 then wind
-    elif $pgn == 128267 then depth
-    elif $pgn == 127488 then
-        (.Instance | engine) as $engine
-        | at($engine + ".revolutions"; .Speed | if . == null then . else . / 60 end), at($engine + ".boostPressure"; ."Boost Pressure")
-    elif $pgn == 127245 then if (.Instance // 0) == 0 then at("steering.rudderAngle"; .Position) else empty end
-    elif $pgn == 127251 then at("navigation.rateOfTurn"; .Rate)
-    elif $pgn == 127257 then
-        if .Roll == null or .Pitch == null then empty
-        else at("navigation.attitude"; {roll: .Roll, pitch: .Pitch, yaw: .Yaw}) end
-    elif $pgn == 127258 then at("navigation.magneticVariation"; .Variation)
-    elif $pgn == 128259 then at("navigation.speedThroughWater"; ."Speed Water Referenced")
-    elif $pgn == 127489 then engine_values
-    elif $pgn == 127493 then gear
-    elif $pgn == 127505 then tank
-    elif $pgn == 127506 then charge
-    elif $pgn == 127508 then battery
-    elif $pgn == 130310 then
-        at("environment.water.temperature"; ."Water Temperature"),
-        at("environment.outside.temperature"; ."Outside Ambient Air Temperature"),
-        at("environment.outside.pressure"; ."Atmospheric Pressure")
-    elif $pgn == 130311 then
-        temperature(."Temperature Source"; null; .Temperature), humidity(."Humidity Source"; .Humidity),
-        at("environment.outside.pressure"; ."Atmospheric Pressure")
-    elif $pgn == 130312 then temperature(.Source; .Instance; ."Actual Temperature")
-    elif $pgn == 130313 then humidity(.Source; ."Actual Humidity")
-    elif $pgn == 130314 then if .Source == "Atmospheric" then at("environment.outside.pressure"; .Pressure) else empty end
-    elif $pgn == 130316 then temperature(.Source; .Instance; .Temperature)
-    else empty end;
+    if $pgn < 128000 then
+        if $pgn == 127245 then if (.Instance // 0) == 0 then at("steering.rudderAngle"; .Position) else empty end
+        elif $pgn == 127250 then
+            at(by_reference(.Reference; "navigation.headingTrue"; "navigation.headingMagnetic"); .Heading),
+            at("navigation.magneticVariation"; .Variation), at("navigation.magneticDeviation"; .Deviation)
+        elif $pgn == 127251 then at("navigation.rateOfTurn"; .Rate)
+        elif $pgn == 127257 then
+            if .Roll and .Pitch then at("navigation.attitude"; {roll: .Roll, pitch: .Pitch, yaw: .Yaw}) else empty end
+        elif $pgn == 127258 then at("navigation.magneticVariation"; .Variation)
+        elif $pgn == 127488 then
+            (.Instance | engine) as $engine
+            | at($engine + ".revolutions"; .Speed | if . then . / 60 else . end), at($engine + ".boostPressure"; ."Boost Pressure")
+        elif $pgn == 127489 then engine_values
+        elif $pgn == 127493 then gear
+        elif $pgn == 127505 then tank
+        elif $pgn == 127506 then charge
+        elif $pgn == 127508 then battery
+        else empty end
+    elif $pgn < 130000 then
+        if $pgn == 129025 or $pgn == 129029 then at("navigation.position"; place)
+        elif $pgn == 129026 then
+            at(by_reference(."COG Reference"; "navigation.courseOverGroundTrue"; "navigation.courseOverGroundMagnetic"); .COG),
+            at("navigation.speedOverGround"; .SOG)
+        elif $pgn == 128267 then depth
+        elif $pgn == 128259 then at("navigation.speedThroughWater"; ."Speed Water Referenced")
+        else empty end
+    else
+        if $pgn == 130306 then wind
+        elif $pgn == 130310 then
+            at("environment.water.temperature"; ."Water Temperature"),
+            at("environment.outside.temperature"; ."Outside Ambient Air Temperature"),
+            at("environment.outside.pressure"; ."Atmospheric Pressure")
+        elif $pgn == 130311 then
+            temperature(."Temperature Source"; null; .Temperature), humidity(."Humidity Source"; .Humidity),
+            at("environment.outside.pressure"; ."Atmospheric Pressure")
+        elif $pgn == 130312 then temperature(.Source; .Instance; ."Actual Temperature")
+        elif $pgn == 130313 then humidity(.Source; ."Actual Humidity")
+        elif $pgn == 130314 then if .Source == "Atmospheric" then at("environment.outside.pressure"; .Pressure) else empty end
+        elif $pgn == 130316 then temperature(.Source; .Instance; .Temperature)
+        else empty end
+    end;
 
-lines
-| .pgn as $pgn | [.fields | values_of($pgn) | select(.path)] as $values
-| if $values == [] then empty else
-      "{\"context\":\"vessels.self\",\"updates\":[{\"$source\":\"n2kdec.", .src, "\",\"source\":{\"label\":\"n2kdec\",\"type\":\"NMEA2000\",\"src\":\"",
-      .src, "\",\"pgn\":", $pgn, "},\"timestamp\":", (.timestamp | iso | tojson), ",\"values\":", $values, "}]}\n"
-  end
+# The state is a stamp up to its second, and the same as ISO text, null where it is no time: each second is looked at once.
+foreach lines as $m ({};
+    ($m.timestamp / ".")[0] as $text
+    | if .text == $text then . else
+          {text: $text, second: ($m.timestamp | iso | if seconds then (. / ".")[0] | rtrimstr("Z") else null end)}
+      end;
+    . as $stamp | [$m.fields | values_of($m.pgn)] as $values
+    | if $values[0] then
+          "{\"context\":\"vessels.self\",\"updates\":[{\"$source\":\"n2kdec.", $m.src,
+          "\",\"source\":{\"label\":\"n2kdec\",\"type\":\"NMEA2000\",\"src\":\"", $m.src, "\",\"pgn\":", $m.pgn,
+          if $stamp.second then
+              "},\"timestamp\":\"" + $stamp.second + ($m.timestamp | ltrimstr($stamp.text) | rtrimstr("Z")) + "Z\",\"values\":"
+          else "},\"values\":" end,
+          $values, "}]}\n"
+      else empty end)

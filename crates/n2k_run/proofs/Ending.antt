@@ -22,7 +22,7 @@ pub runs_same : {T : Type 0} (o o' : Output) (stands : List Entry → Type 0) (b
 runs_same o o' stands before after result same runs = subst (λ (p : Output). Runs p stands before after result) same runs
 
 -- what came until the source had no more is all that it had
-all_came : (P : List ℕ → Type 0) (left₀ left : Option (List ℕ)) (came : List ℕ) → Consumes left₀ left came → IsAtEnd left → P came → IfSome left₀ P
+pub all_came : (P : List ℕ → Type 0) (left₀ left : Option (List ℕ)) (came : List ℕ) → Consumes left₀ left came → IsAtEnd left → P came → IfSome left₀ P
 all_came P None left came given end here = tt
 all_came P (Some log) None came given end here = absurd given
 all_came P (Some log) (Some rest) came given end here = subst P (sym (given ∙ ap (λ l. came ++ l) end ∙ append-nil came)) here

@@ -2,6 +2,7 @@
 use Rattle.std.proofs.Common.{◌≡◌, ℕ, Bool, List, [], ◌∷◌, ◌++◌, map, length, refl, ap, ◌∙◌, sym, suc, Option, Some, None}
 use Rattle.std.specs.Prelude.{flat_map, filter_map}
 use Rattle.std.specs.List.{cons_option}
+use Rattle.std.proofs.lemmas.List.{length-map}
 use Rattle.n2k_wire.specs.declared.entry.Entry.{Entry}
 use Rattle.n2k_wire.specs.Packet.{PacketParts}
 use Rattle.n2k_table.specs.Json.{json}
@@ -25,10 +26,6 @@ texts_of_messages t empty gives (n ∷ ns) = by_given (gives n) (texts_of_messag
     by_given None ih = ih
     by_given (Some m) ih = ap (λ l. json t m empty ++ l) ih
 
-length-map : {X Y : Type 0} (h : X → Y) (xs : List X) → length (map h xs) ≡ length xs
-length-map h [] = refl
-length-map h (x ∷ xs) = ap suc (length-map h xs)
-
 -- the lines of what is printed of entries are the JSON lines of their messages
 pub out_of-lines : (t : TableParts) (o : Options) (es : List Entry) → ((m : PacketParts) (empty : Bool) → IsOneLine (json t m empty)) → with_line_feeds (lines (out_of t o es)) ≡ json_lines t o (messages o.window (kind t) es)
 out_of-lines t o es one =
@@ -43,7 +40,7 @@ pub prints_back : (t : TableParts) (ms : List PacketParts) (o : Options) (log : 
 prints_back t ms o log one replays =
     let printed = out-lines t o log one in
     record {
-      as_many = sym (length-map (λ text. text ++ 10 ∷ []) (lines (out t o log))) ∙ (ap length printed ∙ (length-map (λ m. json t m o.empty) (messages o.window (kind t) (entries o.packing log)) ∙ replays.as_many));
+      as_many = sym (length-map (lines (out t o log)) (λ text. text ++ 10 ∷ [])) ∙ (ap length printed ∙ (length-map (messages o.window (kind t) (entries o.packing log)) (λ m. json t m o.empty) ∙ replays.as_many));
       gathered = printed ∙ ap (json_lines t o) replays.by_groups;
       in_order = λ key. ap (json_lines t o) (replays.in_order key);
     }

@@ -2,7 +2,7 @@
 //! it goes: zeros are appended, and pieces of constant length are written over them, of which a part may count.
 ghost use Rattle.std.specs.Prelude.{◌≡◌, ◌+◌, ◌*◌, ◌/◌, ◌%◌, ◌^◌, ◌<◌, ◌≤◌, ◌++◌, ◌∷◌, [], codes, length, map, take, OnOk, OnErr};
 ghost use Rattle.std.specs.List.{flat_map};
-ghost use Rattle.n2k_wire.specs.Packet.{greatest_pgn, greatest_priority};
+ghost use Rattle.n2k_wire.specs.Packet.{longest_message};
 ghost use Rattle.n2k_wire.specs.PrivateWords.{lower_lane};
 ghost use Rattle.n2k_wire.specs.Texts.{byte_piece, number_piece, plain_text};
 
@@ -209,20 +209,20 @@ fn write_line(text: &mut [u8], at: usize, packet: &Packet) -> usize
     put_end(text, at, packet.data())
 }
 
-// Appends the line of a packet, for which there is so much room.
-#[inline(never)]
-fn append_in_room<const ROOM: usize>(packet: &Packet, out: &mut Vec<u8>) -> Result<(), AllocError>
-    requires room { 85 ≤ ROOM }
-    requires bytes { 58 + 3 * length packet.now.payload ≤ ROOM }
-    requires small { ROOM ≤ 736 }
-    ensures ok { OnOk result (out.new.items ≡ out.old.items ++ plain_text packet.now) }
+// Appends zeros, as many as the line of so many bytes and what is written behind it can take.
+#[inline(always)]
+fn append_room(bytes: usize, out: &mut Vec<u8>) -> Result<(), AllocError>
+    requires { bytes ≤ longest_message }
+    ensures before { OnOk result (take (length out.old.items) out.new.items ≡ out.old.items) }
+    ensures room { OnOk result (length out.old.items + 85 ≤ length out.new.items) }
+    ensures bytes { OnOk result (length out.old.items + 58 + 3 * bytes ≤ length out.new.items) }
     ensures unchanged { OnErr result (out.new.items ≡ out.old.items) }
 {
-    let start = out.len();
-    out.extend_from_slice(&[0; ROOM])?;
-    let end = write_line(out.as_mut_slice(), start, packet);
-    out.truncate(end);
-    Ok(())
+    if bytes <= FRAME_PAYLOAD {
+        out.extend_from_slice(&[0; FRAME_ROOM])
+    } else {
+        out.extend_from_slice(&[0; LINE_ROOM])
+    }
 }
 
 /// Appends the plain line of a packet, `stamp,prio,pgn,src,dst,len,b0,b1,..` with its LF: numbers without
@@ -231,9 +231,9 @@ pub fn plain_text(_alloc: Global, packet: &Packet, out: &mut Vec<u8>) -> Result<
     ensures ok { OnOk result (out.new.items ≡ out.old.items ++ plain_text packet.now) }
     ensures unchanged { OnErr result (out.new.items ≡ out.old.items) }
 {
-    if packet.data().len() <= FRAME_PAYLOAD {
-        append_in_room::<FRAME_ROOM>(packet, out)
-    } else {
-        append_in_room::<LINE_ROOM>(packet, out)
-    }
+    let start = out.len();
+    append_room(packet.data().len(), out)?;
+    let end = write_line(out.as_mut_slice(), start, packet);
+    out.truncate(end);
+    Ok(())
 }

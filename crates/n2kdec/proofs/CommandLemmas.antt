@@ -269,9 +269,3 @@ refused_table found c before after errors stop r refuses is same =
     let told : r ≡ Err (Table refuses.fault) = is ∙ ap (λ (s : Stop). let x : Result ℕ Fault = Err s.fault in x) refuses.told in
     let still : after ≡ before = subst (λ (e : Place). record after { reported = e.text; failed_reports = e.failed } ≡ before) (sym same) refuses.untouched in
     subst (EndsByTable found c before after) (sym told) (refuses.stands, still)
-
--- what is told of bytes that came until the log had no more is told of all that it had
-pub all_came : (P : List ℕ → Type 0) (left₀ left : Option (List ℕ)) (came : List ℕ) → Consumes left₀ left came → IsAtEnd left → P came → IfSome left₀ P
-all_came P None left came given end here = tt
-all_came P (Some log) None came given end here = absurd given
-all_came P (Some log) (Some rest) came given end here = subst P (sym (given ∙ ap (λ l. came ++ l) end ∙ append-nil came)) here

@@ -1,6 +1,7 @@
 -- From what the work that the words name and its closing leave to what their command leaves.
 use Rattle.std.proofs.Common.{◌≡◌, ◌⊎◌, ℕ, List, [], ◌++◌, Option, Some, Ok, Err, Result, IfOk, IfSome, ap, sym, subst, refl, inl, inr}
 use Rattle.std.specs.Prelude.{None, IfErr}
+use Rattle.n2k_run.proofs.Ending.{all_came}
 use Rattle.n2k_wire.specs.declared.entry.Entry.{Entry}
 use Rattle.n2k_join.specs.Messages.{counts}
 use Rattle.n2k_join.specs.State.{state}
@@ -23,16 +24,8 @@ use Rattle.n2kdec.specs.declared.fault.Fault.TheVariants as fault
 use Rattle.n2kdec.specs.declared.word.Words.{Words}
 use Rattle.n2kdec.specs.declared.word.Words.TheVariants.{Plain, Decode, Frames, Help}
 use Rattle.n2kdec.specs.declared.work.Stop.{Stop}
-use Rattle.n2kdec.proofs.CommandLemmas.{all_came, ended_whole, past_table, refused_table}
+use Rattle.n2kdec.proofs.CommandLemmas.{ended_whole, past_table, refused_table}
 use Rattle.n2kdec.proofs.DecodeLemmas.{decoded, undecoded}
-
--- a run's fault refuses no table and no state
-pub no_refusal : (f : RunFault) → IsRefusal (fault_of_run f) → ⊥
-no_refusal run.Read is = is
-no_refusal run.Write is = is
-no_refusal run.Report is = is
-no_refusal run.Memory is = is
-no_refusal run.TooManyLines is = is
 
 module _ (before after : Devices) (errors keeper kept : Place) where
   abbrev between : Devices

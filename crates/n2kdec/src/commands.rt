@@ -127,10 +127,11 @@ fn close<K: Keeper, E: Sink>(
 /// go the texts: plain lines, JSON lines, or the lines of frames. To `errors` go the reports of bad lines and of broken
 /// groups, and then the summary. Answers the status: 0, or 1 where a line was bad.
 ///
-/// `decode` goes on from the state, or begins a log (`None`), and its status is that of all lines so far. The state after
-/// it goes to `keeper`, and the summary is written after that, also where the state can't be saved. After a failed read
-/// what was read is saved and summed up; at the limit of lines it is summed up alone. After any other fault, and after
-/// each fault of `plain` and `frames`, there is no summary, but for a part of it where `errors` fails in it.
+/// `decode` goes on from the state, or begins a log (`None`), and its status is that of all lines so far. The state
+/// after it goes to `keeper`, and the summary is written after that, also where the state can't be saved. After a
+/// failed read what was read is saved and summed up; at the limit of lines it is summed up alone. After any other
+/// fault, and after each fault of `plain` and `frames`, there is no summary, but for a part of it where `errors`
+/// fails in it.
 ///
 /// A table or a state with a fault is refused before the log is read, and leaves each device as it was.
 pub fn perform<K: Keeper, R: Source, W: Sink, E: Sink>(
@@ -148,7 +149,8 @@ pub fn perform<K: Keeper, R: Source, W: Sink, E: Sink>(
     ensures performs { let before = seen R.Source W.Sink E.Sink log.old output.old errors.old in
         let after = seen R.Source W.Sink E.Sink log.new output.new errors.new in
         Performs words.now table.now (option_map (λ bytes. bytes.now) state.entry) before after
-        (place (K.kept keeper.old) (K.failed_calls keeper.old)) (place (K.kept keeper.new) (K.failed_calls keeper.new)) result }
+        (place (K.kept keeper.old) (K.failed_calls keeper.old))
+        (place (K.kept keeper.new) (K.failed_calls keeper.new)) result }
     ensures status { IfOk result (λ status. IfSome (R.remaining log.old)
         (λ all. TellsStatus words.now table.now (option_map (λ bytes. bytes.now) state.entry) all status)) }
     ensures at_most_one { IfOk result (λ status. status ≤ 1) }

@@ -155,8 +155,8 @@ pub fn fault_text(_alloc: Global, fault: &Fault, out: &mut Vec<u8>) -> Result<()
     out.extend_from_slice(line_of(*fault))
 }
 
-/// The status that the program ends with after a fault: 2 where the words, the table or the state are refused, 3 where a
-/// file, a device, memory or the limit of lines ended it. It takes no memory.
+/// The status that the program ends with after a fault: 2 where the words, the table or the state are refused, 3
+/// where a file, a device, memory or the limit of lines ended it. It takes no memory.
 pub fn status(fault: &Fault) -> u8
     ensures { result ≡ status_of fault.now }
 {

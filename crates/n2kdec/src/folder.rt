@@ -13,8 +13,8 @@ pub enum Name {
     New,
 }
 
-/// A folder with these two names. It tells which calls were made of it; what a name may have after them, and what a cut of the
-/// power may leave under it, `specs/Folder` says. A call that fails may be done, done in part, or not done.
+/// A folder with these two names. It tells which calls were made of it; what a name may have after them, and what a
+/// cut of the power may leave under it, `specs/Folder` says. A call that fails may be done, done in part, or not done.
 pub trait Folder {
     /// The calls that were made of it, the last one first, where they are known.
     ghost calls: { Self → Option (List Call) };

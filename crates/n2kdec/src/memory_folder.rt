@@ -488,7 +488,8 @@ impl Folder for MemoryFolder {
 
     fn write(&mut self, name: Name, text: &[u8]) -> Result<(), Failed>
         ensures noted { Notes self.old.calls self.new.calls (write name text.now (is_ok result)) }
-        ensures done { DoneOrRefused self.old.names (on_name name (written text.now) self.old.names) self.new.names result }
+        ensures done { DoneOrRefused self.old.names
+            (on_name name (written text.now) self.old.names) self.new.names result }
     {
         let answer = match self.names.write(name, text) {
             Ok(()) => self.names.answer(),

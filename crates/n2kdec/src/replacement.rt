@@ -22,8 +22,8 @@ fn place<F: Folder>(folder: &mut F, text: &[u8]) -> Result<(), Failed>
 }
 
 /// Puts a text in the place of what the folder's own name has. At each moment of the call the name has the old text or
-/// the new one, whole, and so it has where the power is cut then; after Ok it has the new one, and each cut from then on
-/// leaves it. `Failed` where a call of the folder failed. The new file is taken away then, if that can be done.
+/// the new one, whole, and so it has where the power is cut then; after Ok it has the new one, and each cut from then
+/// on leaves it. `Failed` where a call of the folder failed. The new file is taken away then, if that can be done.
 #[tactic(auto, using(crate::proofs::Replacing::replaces_placed, crate::proofs::Replacing::replaces_stuck))]
 pub fn replace<F: Folder>(folder: &mut F, text: &[u8]) -> Result<(), Failed>
     ensures { ReplacesAtomically (F.calls folder.old) (F.calls folder.new) text.now result }

@@ -128,31 +128,38 @@ const ASKED: [(&[&str], &str); 12] = [
     ),
     (
         &["n2kdec", "decode", "--table", "boat.toml"],
-        "Decode { table: Word { text: \"boat.toml\" }, resume: None, save: None, empty: false, whole: false, window: Window { lines: 10000, in_order: false }, log: None }",
+        "Decode { table: Word { text: \"boat.toml\" }, resume: None, save: None, empty: false, whole: false, \
+            window: Window { lines: 10000, in_order: false }, log: None }",
     ),
     (
         &["n2kdec", "decode", "--table=boat.toml", "trip.log"],
-        "Decode { table: Word { text: \"boat.toml\" }, resume: None, save: None, empty: false, whole: false, window: Window { lines: 10000, in_order: false }, log: Some(Word { text: \"trip.log\" }) }",
+        "Decode { table: Word { text: \"boat.toml\" }, resume: None, save: None, empty: false, whole: false, \
+            window: Window { lines: 10000, in_order: false }, log: Some(Word { text: \"trip.log\" }) }",
     ),
     (
         &["n2kdec", "decode", "trip.log", "--table", "boat.toml"],
-        "Decode { table: Word { text: \"boat.toml\" }, resume: None, save: None, empty: false, whole: false, window: Window { lines: 10000, in_order: false }, log: Some(Word { text: \"trip.log\" }) }",
+        "Decode { table: Word { text: \"boat.toml\" }, resume: None, save: None, empty: false, whole: false, \
+            window: Window { lines: 10000, in_order: false }, log: Some(Word { text: \"trip.log\" }) }",
     ),
     (
         &[
             "n2kdec", "decode", "--whole", "--table", "t", "--empty", "l",
         ],
-        "Decode { table: Word { text: \"t\" }, resume: None, save: None, empty: true, whole: true, window: Window { lines: 10000, in_order: false }, log: Some(Word { text: \"l\" }) }",
+        "Decode { table: Word { text: \"t\" }, resume: None, save: None, empty: true, whole: true, \
+            window: Window { lines: 10000, in_order: false }, log: Some(Word { text: \"l\" }) }",
     ),
     (
         &["n2kdec", "decode", "--table", "t", "--whole"],
-        "Decode { table: Word { text: \"t\" }, resume: None, save: None, empty: false, whole: true, window: Window { lines: 10000, in_order: false }, log: None }",
+        "Decode { table: Word { text: \"t\" }, resume: None, save: None, empty: false, whole: true, \
+            window: Window { lines: 10000, in_order: false }, log: None }",
     ),
     (
         &[
             "n2kdec", "decode", "--save", "b", "--table", "t", "--resume", "a", "l",
         ],
-        "Decode { table: Word { text: \"t\" }, resume: Some(Word { text: \"a\" }), save: Some(Word { text: \"b\" }), empty: false, whole: false, window: Window { lines: 10000, in_order: false }, log: Some(Word { text: \"l\" }) }",
+        "Decode { table: Word { text: \"t\" }, resume: Some(Word { text: \"a\" }), \
+            save: Some(Word { text: \"b\" }), empty: false, whole: false, window: Window { lines: 10000, \
+            in_order: false }, log: Some(Word { text: \"l\" }) }",
     ),
     (
         &[
@@ -164,7 +171,8 @@ const ASKED: [(&[&str], &str); 12] = [
             "--window",
             "32",
         ],
-        "Decode { table: Word { text: \"t\" }, resume: None, save: None, empty: false, whole: false, window: Window { lines: 32, in_order: true }, log: None }",
+        "Decode { table: Word { text: \"t\" }, resume: None, save: None, empty: false, whole: false, \
+            window: Window { lines: 32, in_order: true }, log: None }",
     ),
     (
         &["n2kdec", "frames", "--table", "t"],
@@ -172,7 +180,8 @@ const ASKED: [(&[&str], &str); 12] = [
     ),
     (
         &["n2kdec", "frames", "l", "--candump", "can0", "--table", "t"],
-        "Frames { table: Word { text: \"t\" }, candump: Some(Word { text: \"can0\" }), log: Some(Word { text: \"l\" }) }",
+        "Frames { table: Word { text: \"t\" }, candump: Some(Word { text: \"can0\" }), \
+            log: Some(Word { text: \"l\" }) }",
     ),
 ];
 
@@ -329,7 +338,9 @@ struct Example {
 const COG_AND_SOG: &str = "(1502979132.106111) can0 09F8027F#00FCFFFF0000FFFF\n";
 
 const ONE_MESSAGE: &str =
-    "{\"bad\":0,\"broken\":0,\"format\":2,\"groups\":[],\"lines\":1,\"messages\":1,\"table\":\"6b85e2b24165c1cf1b657bbddd71b3850cd65dafaf42319db5372fef7b615284\",\"unknown\":0,\"window\":10000}";
+    "{\"bad\":0,\"broken\":0,\"format\":2,\"groups\":[],\"lines\":1,\"messages\":1,\
+        \"table\":\"6b85e2b24165c1cf1b657bbddd71b3850cd65dafaf42319db5372fef7b615284\",\"unknown\":0,\
+        \"window\":10000}";
 
 const EXAMPLES: [Example; 6] = [
     // cog-and-sog
@@ -344,36 +355,49 @@ const EXAMPLES: [Example; 6] = [
         words: &["n2kdec", "decode", "--table", "t"],
         state: None,
         log: COG_AND_SOG,
-        text: "{\"timestamp\":\"2017-08-17T14:12:12.106Z\",\"prio\":2,\"src\":127,\"dst\":255,\"pgn\":129026,\"description\":\"COG & SOG, Rapid Update\",\"fields\":{\"SID\":0,\"COG Reference\":\"True\",\"SOG\":0.00}}\n",
+        text: "{\"timestamp\":\"2017-08-17T14:12:12.106Z\",\"prio\":2,\"src\":127,\"dst\":255,\"pgn\":129026,\
+            \"description\":\"COG & SOG, Rapid Update\",\"fields\":{\"SID\":0,\"COG Reference\":\"True\",\
+            \"SOG\":0.00}}\n",
         left: ONE_MESSAGE,
     },
     Example {
         words: &["n2kdec", "decode", "--table", "t", "--empty"],
         state: None,
         log: COG_AND_SOG,
-        text: "{\"timestamp\":\"2017-08-17T14:12:12.106Z\",\"prio\":2,\"src\":127,\"dst\":255,\"pgn\":129026,\"description\":\"COG & SOG, Rapid Update\",\"fields\":{\"SID\":0,\"COG Reference\":\"True\",\"COG\":null,\"SOG\":0.00}}\n",
+        text: "{\"timestamp\":\"2017-08-17T14:12:12.106Z\",\"prio\":2,\"src\":127,\"dst\":255,\"pgn\":129026,\
+            \"description\":\"COG & SOG, Rapid Update\",\"fields\":{\"SID\":0,\"COG Reference\":\"True\",\
+            \"COG\":null,\"SOG\":0.00}}\n",
         left: ONE_MESSAGE,
     },
     // two-sources-cut, after the second line
     Example {
         words: &["n2kdec", "decode", "--table", "t", "--resume", "s"],
         state: Some(
-            "{\"bad\":0,\"broken\":0,\"format\":1,\"groups\":[{\"dst\":255,\"first\":1,\"frames\":[[0,\"0ba39901414243\"]],\"pgn\":130820,\"seq\":0,\"src\":5},{\"dst\":255,\"first\":2,\"frames\":[[0,\"0ba39902585920\"]],\"pgn\":130820,\"seq\":1,\"src\":6}],\"lines\":2,\"messages\":0,\"table\":\"6b85e2b24165c1cf1b657bbddd71b3850cd65dafaf42319db5372fef7b615284\",\"unknown\":0}",
+            "{\"bad\":0,\"broken\":0,\"format\":1,\"groups\":[{\"dst\":255,\"first\":1,\"frames\":[[0,\
+                \"0ba39901414243\"]],\"pgn\":130820,\"seq\":0,\"src\":5},{\"dst\":255,\"first\":2,\
+                \"frames\":[[0,\"0ba39902585920\"]],\"pgn\":130820,\"seq\":1,\"src\":6}],\"lines\":2,\
+                \"messages\":0,\"table\":\"6b85e2b24165c1cf1b657bbddd71b3850cd65dafaf42319db5372fef7b615284\",\
+                \"unknown\":0}",
         ),
         log: "(10.200000) can0 1DFF0406#212020202020FFFF
 (10.300000) can0 1DFF0405#010000000000FFFF
 ",
-        text: "{\"timestamp\":\"1970-01-01T00:00:10.200Z\",\"prio\":7,\"src\":6,\"dst\":255,\"pgn\":130820,\"description\":\"Sample: Label\",\"fields\":{\"Maker\":419,\"Kind\":2,\"Label\":\"XY\"}}
-{\"timestamp\":\"1970-01-01T00:00:10.300Z\",\"prio\":7,\"src\":5,\"dst\":255,\"pgn\":130820,\"description\":\"Sample: Label\",\"fields\":{\"Maker\":419,\"Kind\":1,\"Label\":\"ABC\"}}
+        text: "{\"timestamp\":\"1970-01-01T00:00:10.200Z\",\"prio\":7,\"src\":6,\"dst\":255,\"pgn\":130820,\
+            \"description\":\"Sample: Label\",\"fields\":{\"Maker\":419,\"Kind\":2,\"Label\":\"XY\"}}
+{\"timestamp\":\"1970-01-01T00:00:10.300Z\",\"prio\":7,\"src\":5,\"dst\":255,\"pgn\":130820,\
+        \"description\":\"Sample: Label\",\"fields\":{\"Maker\":419,\"Kind\":1,\"Label\":\"ABC\"}}
 ",
-        left: "{\"bad\":0,\"broken\":0,\"format\":2,\"groups\":[],\"lines\":4,\"messages\":2,\"table\":\"6b85e2b24165c1cf1b657bbddd71b3850cd65dafaf42319db5372fef7b615284\",\"unknown\":0,\"window\":10000}",
+        left: "{\"bad\":0,\"broken\":0,\"format\":2,\"groups\":[],\"lines\":4,\"messages\":2,\
+            \"table\":\"6b85e2b24165c1cf1b657bbddd71b3850cd65dafaf42319db5372fef7b615284\",\"unknown\":0,\
+            \"window\":10000}",
     },
     // whole-among-frames, its last line
     Example {
         words: &["n2kdec", "decode", "--table", "t", "--whole"],
         state: None,
         log: "2020-01-01T00:00:00.000Z,7,130820,5,255,6,a3,99,01,41,42,43\n",
-        text: "{\"timestamp\":\"2020-01-01T00:00:00.000Z\",\"prio\":7,\"src\":5,\"dst\":255,\"pgn\":130820,\"description\":\"Sample: Label\",\"fields\":{\"Maker\":419,\"Kind\":1}}\n",
+        text: "{\"timestamp\":\"2020-01-01T00:00:00.000Z\",\"prio\":7,\"src\":5,\"dst\":255,\"pgn\":130820,\
+            \"description\":\"Sample: Label\",\"fields\":{\"Maker\":419,\"Kind\":1}}\n",
         left: ONE_MESSAGE,
     },
     // split-and-back

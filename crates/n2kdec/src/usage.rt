@@ -113,7 +113,8 @@ fn plain_command<'a>(alloc: Global) -> Result<Command<'a>, AllocError>
 // A command with its table, and the files of the states before its log and after it.
 fn with_files<'a>(alloc: Global, command: Command<'a>) -> Result<Command<'a>, AllocError>
     requires { (fields_of command).has_globals ≡ false }
-    ensures app { IfOk result (λ added. app_of added ≡ with_rule (with_rule (with_rule (app_of command.entry) table_rule) resume_rule) save_rule) }
+    ensures app { IfOk result (λ added. app_of added
+        ≡ with_rule (with_rule (with_rule (app_of command.entry) table_rule) resume_rule) save_rule) }
     ensures own { IfOk result (λ added. (fields_of added).has_globals ≡ false) }
 {
     command
@@ -125,7 +126,8 @@ fn with_files<'a>(alloc: Global, command: Command<'a>) -> Result<Command<'a>, Al
 // A command with the words that say what ends a group of frames.
 fn with_window<'a>(alloc: Global, command: Command<'a>) -> Result<Command<'a>, AllocError>
     requires { (fields_of command).has_globals ≡ false }
-    ensures app { IfOk result (λ added. app_of added ≡ with_rule (with_rule (app_of command.entry) window_rule) in_order_rule) }
+    ensures app { IfOk result (λ added. app_of added
+        ≡ with_rule (with_rule (app_of command.entry) window_rule) in_order_rule) }
     ensures own { IfOk result (λ added. (fields_of added).has_globals ≡ false) }
 {
     command
@@ -136,7 +138,8 @@ fn with_window<'a>(alloc: Global, command: Command<'a>) -> Result<Command<'a>, A
 // A command with the flags that say how lines are read and printed.
 fn with_flags<'a>(alloc: Global, command: Command<'a>) -> Result<Command<'a>, AllocError>
     requires { (fields_of command).has_globals ≡ false }
-    ensures app { IfOk result (λ added. app_of added ≡ with_rule (with_rule (app_of command.entry) empty_rule) whole_rule) }
+    ensures app { IfOk result (λ added. app_of added
+        ≡ with_rule (with_rule (app_of command.entry) empty_rule) whole_rule) }
     ensures own { IfOk result (λ added. (fields_of added).has_globals ≡ false) }
 {
     command
