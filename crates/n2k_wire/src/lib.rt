@@ -34,4 +34,5 @@ pub use fault::WireFault;
 pub use identifier::{Id, join_id, split_id};
 pub use packet::{GREATEST_PGN, Packet};
 pub use plain::GREATEST_ADDRESS;
+pub use stamp::UTC_LEN;
 pub use texts::{candump_text, plain_text};
