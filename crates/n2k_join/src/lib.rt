@@ -5,7 +5,8 @@
 //! - `Join::new` is the join before the first line. Before each line `Join::expire` breaks the groups whose window
 //!   ends at it, one a call. `Join::line` then takes the line, as its entry: it answers the message that the line is or
 //!   completes, why it is bad, and the group that its frame breaks (`Step`, `Broken`). A line that can't be taken
-//!   (`JoinFault`) leaves the join as it was. `Join::lend` does the same, and lends the message (`LentStep`).
+//!   (`JoinFault`) leaves the join as it was. For the lines of a log, one after the other, use `Join::lend`: it answers
+//!   the same, and lends the message (`LentStep`) where `line` moves it.
 //! - `Join::counts` are the lines, messages, bad lines, unknown PGNs, broken and open groups so far (`Counts`).
 //! - `Join::save` writes the state of a join as text, and `Join::resume` goes on from one, or says why it is refused
 //!   (`StateFault`).

@@ -6,11 +6,8 @@ ghost use Rattle.n2k_table.specs.Inner.Line.{is_plain, is_usual, sender_json, se
 
 use crate::tail::Tail;
 use crate::text::push_text;
-use n2k_wire::{Id, Packet};
+use n2k_wire::{Id, Packet, UTC_LEN};
 use std::alloc::AllocError;
-
-/// The bytes of `YYYY-MM-DDTHH:MM:SS.mmmZ`.
-const UTC_STAMP: usize = 24;
 
 /// How many bytes of a stamp are tested at once.
 const AT_ONCE: usize = 16;
@@ -75,8 +72,8 @@ fn push_sender(id: Id, line: &mut Tail) -> Result<(), AllocError>
 fn push_stamp(stamp: &[u8], line: &mut Tail) -> Result<(), AllocError>
     ensures { OnOk result (line.new.items ≡ line.old.items ++ stamp.now) }
 {
-    match stamp.as_array::<UTC_STAMP>() {
-        Some(utc) => line.put(utc, UTC_STAMP),
+    match stamp.as_array::<UTC_LEN>() {
+        Some(utc) => line.put(utc, UTC_LEN),
         None => line.extend_from_slice(stamp),
     }
 }

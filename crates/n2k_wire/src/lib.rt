@@ -34,3 +34,4 @@ pub use identifier::{Id, join_id, split_id};
 pub use packet::{GREATEST_PGN, Packet};
 pub use plain::GREATEST_ADDRESS;
 pub use plain_line::plain_text;
+pub use stamp::UTC_LEN;

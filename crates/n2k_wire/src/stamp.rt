@@ -28,8 +28,8 @@ const LAST_SECOND: u64 = 253_402_300_799;
 
 const SECONDS_OF_DAY: u64 = 86_400;
 
-/// The bytes of `YYYY-MM-DDTHH:MM:SS.mmmZ`.
-pub(crate) const UTC_LEN: usize = 24;
+/// The bytes of a stamp `YYYY-MM-DDTHH:MM:SS.mmmZ`.
+pub const UTC_LEN: usize = 24;
 
 /// The digits of a fraction, filled with zeros and cut to three.
 #[tactic(auto, unfolding(crate::specs::Stamp::three_digits))]
