@@ -41,17 +41,6 @@ impl Model for Splitter {
     ghost invariant = { λ s. IsTrue (are_sequences s.next.entries) };
 }
 
-// A packet like another, with these data.
-fn with_data(packet: &Packet, data: &[u8]) -> Packet
-    requires { length «data».now ≤ longest_message }
-    ensures { result ≡ record { stamp = packet.now.stamp; id = packet.now.id; payload = «data».now } }
-{
-    match Packet::new(packet.stamp(), packet.id(), data) {
-        Some(packet) => packet,
-        None => unreachable!(),
-    }
-}
-
 // The byte at a place of what the frames carry: the length of the data, the data, and then the filler.
 fn sent_byte(data: &[u8], place: usize) -> u8
     requires short { length «data».now ≤ longest_message }
@@ -122,7 +111,7 @@ fn piece(message: &Packet, sequence: u8, number: u8) -> Packet
 {
     let header = MOST_FRAMES * sequence + number;
     let [a, b, c, d, e, f, g] = piece_bytes(message.data(), number);
-    with_data(message, &[header, a, b, c, d, e, f, g])
+    message.with_data(&[header, a, b, c, d, e, f, g])
 }
 
 // Appends the frames of a message of a fast PGN, for which there is room.
@@ -148,7 +137,7 @@ fn append_single(packets: &mut Vec<Packet>, message: &Packet) -> Result<usize, S
     if message.data().len() > FRAME_PAYLOAD {
         return Err(SplitFault::TooLong);
     }
-    packets.push(with_data(message, message.data()))?;
+    packets.push(message.with_data(message.data()))?;
     Ok(1)
 }
 

@@ -1,10 +1,15 @@
 -- Writing the parts of a candump line.
-use Rattle.std.proofs.Common.{◌≡◌, ℕ, zero, suc, ◌/◌, ◌%◌, ◌≤◌, List, [], ◌∷◌, ◌++◌, length, map, slice_index, refl, sym, ap, ◌∙◌, append_assoc, arith, rules, Result, Ok, Err, codes}
+use Rattle.std.proofs.Common.{◌≡◌, ℕ, zero, suc, ◌+◌, ◌-◌, ◌*◌, ◌/◌, ◌%◌, ◌<◌, ◌≤◌, List, [], ◌∷◌, ◌++◌, length, map, set, take, drop, slice_index, refl, sym, ap, ◌∙◌, append_assoc, arith, rules, Result, Ok, Err, codes}
 use Rattle.std.specs.Prelude.{decimal, IfErr, IsTrue, OnOk}
 use Rattle.std.proofs.lemmas.Bool.{and_parts, leb-true}
 use Rattle.std.proofs.lemmas.Fmt.{length-decimal-le}
+use Rattle.std.proofs.lemmas.List.{length-append, length-drop, length-take-le, take_more_set}
+use Rattle.std.proofs.lemmas.Slice.{take-put_mid}
+use Rattle.std.proofs.Math.Seq.{take_at, take-append-add}
 use Rattle.std.specs.Char.{to_ascii_uppercase}
-use Rattle.hex.specs.Hex.{encode_with, encode_lower, encode_upper, lower_digits}
+use Rattle.hex.specs.Hex.{encode_with, encode_lower, encode_upper, lower_digits, upper_digits}
+use Rattle.hex.proofs.HexLemmas.{length-encode_with}
+use borrow.Rule.Slice.PartMut.{put_mid}
 use Rattle.n2k_wire.specs.Candump.{is_interface}
 use Rattle.n2k_wire.specs.declared.fault.WireFault.{WireFault}
 use Rattle.n2k_wire.specs.declared.fault.WireFault.TheVariants.{Memory}
@@ -34,6 +39,27 @@ pub upper_of_lower : (bytes : List ℕ) → map to_ascii_uppercase (encode_lower
 unfolding encode_with
 upper_of_lower [] = refl
 upper_of_lower (b ∷ bytes) = rw (indexed to_ascii_uppercase lower_digits (b / 16) refl, indexed to_ascii_uppercase lower_digits (b % 16) refl, upper_of_lower bytes) refl
+
+pub upper_len : (bytes : List ℕ) → length (encode_upper bytes) ≡ 2 * length bytes
+upper_len bytes = length-encode_with upper_digits bytes
+
+-- digits written at a place of a text, and an LF behind them
+pub line_end : (text digits : List ℕ) (at k end : ℕ) → end ≡ at + length digits → k ≡ length digits → end < length text
+    → take (end + 1) (set (put_mid at k text digits) end 10) ≡ take at text ++ (digits ++ codes "\n")
+line_end text digits at k end is same room =
+    let inside : at ≤ length text = omega (arith, is, room) in
+    let cut : length (drop k (drop at text)) ≡ length text - at - k = length-drop k (drop at text) ∙ ap (λ n. n - k) (length-drop at text) in
+    let len : length (put_mid at k text digits) ≡ length text =
+    omega (arith, is, same, room, cut, length-append (take at text) (digits ++ drop k (drop at text)), length-append digits (drop k (drop at text)), length-take-le at text inside) in
+    take_more_set (put_mid at k text digits) end 10 (omega (arith, len, room))
+    ∙ ap (λ (t : List ℕ). t ++ 10 ∷ []) (take-put_mid at k text digits end is inside) ∙ append_assoc (take at text) digits (10 ∷ [])
+
+-- what is written behind the first bytes of an appended text, and the rest of that text cut off
+pub cut_behind : (old text whole end new rest cut : List ℕ) (at len n all : ℕ) → cut ≡ take n (take all (new ++ rest)) → length new ≡ all → take n new ≡ take at whole ++ end
+    → whole ≡ old ++ text → at ≡ length old + len → cut ≡ old ++ (take len text ++ end)
+cut_behind old text whole end new rest cut at len n all is same written grown place =
+    is ∙ ap (take n) (take_at new rest all same) ∙ written
+    ∙ ap (λ (t : List ℕ). t ++ end) (ap (take at) grown ∙ ap (λ k. take k (old ++ text)) place ∙ take-append-add old text len) ∙ append_assoc old (take len text) end
 
 -- the seconds of every moment have at most twelve digits, and with their zeros at least ten
 pub seconds_short : (n : ℕ) → n ≤ 253402300799 → length (decimal n) ≤ 12

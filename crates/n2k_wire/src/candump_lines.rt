@@ -1,6 +1,6 @@
 //! Packets as candump lines. The frames of one message differ in their data alone, so what stands in front of the data is
 //! kept for the next packet.
-ghost use Rattle.std.specs.Prelude.{◌≡◌, ◌+◌, ◌-◌, ◌*◌, ◌≤◌, ◌++◌, codes, drop, length, IfErr, IfOk, IsTrue, OnOk, OnErr};
+ghost use Rattle.std.specs.Prelude.{◌≡◌, ◌+◌, ◌-◌, ◌*◌, ◌<◌, ◌≤◌, ◌++◌, codes, drop, length, take, IfErr, IfOk, IsTrue, OnOk, OnErr};
 ghost use Rattle.arrayvec.specs.ArrayVec.{array_vec_len};
 ghost use Rattle.hex.specs.Hex.{encode_upper};
 ghost use Rattle.n2k_wire.specs.declared.fault.WireFault.TheVariants.{Memory};
@@ -79,19 +79,7 @@ fn write_upper(bytes: &[u8], digits: &mut [u8])
     digits.make_ascii_uppercase();
 }
 
-fn push_upper(line: &mut CandumpLine, bytes: &[u8])
-    requires few { length bytes.now ≤ frame_payload }
-    requires room { array_vec_len line.old + 2 * length bytes.now ≤ 64 }
-    ensures items { line.new.items ≡ line.old.items ++ encode_upper bytes.now }
-    ensures len { array_vec_len line.new ≡ array_vec_len line.old + 2 * length bytes.now }
-{
-    let mut room = [0; 2 * FRAME_PAYLOAD];
-    let digits = &mut room[..2 * bytes.len()];
-    write_upper(bytes, digits);
-    push_text(line, digits);
-}
-
-/// What stands in front of the data in a candump line.
+// What stands in front of the data in a candump line.
 #[tactic(auto, unfolding(crate::specs::PrivateWords::candump_front))]
 fn front_of(seen: Moment, identifier: u32, interface: &[u8]) -> CandumpLine
     requires moment { IsMoment (plain_moment seen) }
@@ -107,28 +95,61 @@ fn front_of(seen: Moment, identifier: u32, interface: &[u8]) -> CandumpLine
     push_text(&mut line, b"000) ");
     push_text(&mut line, interface);
     line.push(b' ');
-    push_upper(&mut line, &identifier.to_be_bytes());
+    let mut digits = [0; 8];
+    write_upper(&identifier.to_be_bytes(), &mut digits);
+    push_text(&mut line, &digits);
     line.push(b'#');
     line
 }
 
-/// Appends a candump line of that front and these data, with its LF.
-fn append_behind(front: &[u8], payload: &[u8], out: &mut Vec<u8>) -> Result<(), WireFault>
-    requires front { length front.now ≤ 47 }
+// A front, and room behind it.
+fn with_room(front: &[u8]) -> [u8; LINE_ROOM]
+    requires { length front.now ≤ 47 }
+    ensures { take (length front.now) result ≡ front.now }
+{
+    let mut line = [0; LINE_ROOM];
+    line[..front.len()].copy_from_slice(front);
+    line
+}
+
+// Writes the data and the LF at a place of the text, and answers the place behind them. Eight bytes are most frames, and at a
+// known length they are cheaper.
+#[tactic(auto, using(crate::proofs::CandumpLemmas::line_end, crate::proofs::CandumpLemmas::upper_len))]
+fn write_data(text: &mut [u8], at: usize, payload: &[u8]) -> usize
+    requires room { at + 2 * length payload.now < length text.old }
+    ensures { take result text.new ≡ take at text.old ++ (encode_upper payload.now ++ codes "\n") }
+{
+    let end = at + 2 * payload.len();
+    match payload.as_array::<FRAME_PAYLOAD>() {
+        Some(eight) => write_upper(eight, &mut text[at..at + 2 * FRAME_PAYLOAD]),
+        None => write_upper(payload, &mut text[at..end]),
+    }
+    text[end] = b'\n';
+    end + 1
+}
+
+// Appends a line of a front of so many bytes and these data. The front is copied with its room, since a copy of known length
+// is short, and what is left of the room is cut off.
+fn append_behind(
+    front: &[u8; LINE_ROOM],
+    len: usize,
+    payload: &[u8],
+    out: &mut Vec<u8>,
+) -> Result<(), WireFault>
+    requires front { len ≤ 47 }
     requires short { length payload.now ≤ frame_payload }
-    ensures text { OnOk result (out.new.items ≡ out.old.items ++ (front.now ++ (encode_upper payload.now ++ codes "\n"))) }
+    ensures text { OnOk result (out.new.items ≡ out.old.items ++ (take len front.now ++ (encode_upper payload.now ++ codes "\n"))) }
     ensures unchanged { OnErr result (out.new.items ≡ out.old.items) }
     ensures memory { IfErr result (λ fault. fault ≡ Memory) }
 {
-    let mut text: CandumpLine = ArrayVec::new();
-    push_text(&mut text, front);
-    push_upper(&mut text, payload);
-    text.push(b'\n');
-    out.extend_from_slice(text.as_slice())
-        .map_err(|_| WireFault::Memory)
+    let at = out.len() + len;
+    out.extend_from_slice(front).map_err(|_| WireFault::Memory)?;
+    let end = write_data(out.as_mut_slice(), at, payload);
+    out.truncate(end);
+    Ok(())
 }
 
-/// What candump writes of a packet besides its data.
+// What candump writes of a packet besides its data.
 #[tactic(auto, unfolding(crate::specs::Texts::candump_parts))]
 fn candump_parts(packet: &Packet) -> Result<(Moment, u32), WireFault>
     ensures value { Gives (λ parts. (plain_moment parts.0, parts.1)) result (candump_parts packet.now) }
@@ -139,12 +160,13 @@ fn candump_parts(packet: &Packet) -> Result<(Moment, u32), WireFault>
     Ok((seen, identifier))
 }
 
-// What stands in front of the data of packets with this stamp and identifier.
+// What stands in front of the data of packets with this stamp and identifier, and room behind it.
 #[derive(Drop)]
 struct Front {
     stamp: [u8; UTC_LEN],
     id: Id,
-    text: CandumpLine,
+    line: [u8; LINE_ROOM],
+    len: usize,
 }
 
 /// Appends packets in a row as `candump -L` writes frames that came in at one interface, as `candump_text` does, at less
@@ -157,8 +179,7 @@ pub struct CandumpLines<'a> {
 }
 
 impl<'a> Model for CandumpLines<'a> {
-    ghost use Rattle.std.specs.Prelude.{◌≤◌, List, ℕ, IfSome, IsTrue};
-    ghost use Rattle.arrayvec.specs.ArrayVec.{array_vec_len};
+    ghost use Rattle.std.specs.Prelude.{◌≤◌, List, ℕ, IfSome, IsTrue, take};
     ghost use Rattle.n2k_wire.specs.Candump.{is_interface};
     ghost use Rattle.n2k_wire.specs.PrivateWords.{IsCandumpFront};
 
@@ -167,7 +188,7 @@ impl<'a> Model for CandumpLines<'a> {
     ghost view = { λ l. l.interface.now };
 
     ghost invariant = { λ l. IsTrue (is_interface l.interface.now)
-        × IfSome l.front (λ f. IsCandumpFront l.interface.now f.stamp f.id f.text.items × (array_vec_len f.text ≤ 47)) };
+        × IfSome l.front (λ f. IsCandumpFront l.interface.now f.stamp f.id (take f.len f.line) × (f.len ≤ 47)) };
 }
 
 impl Front {
@@ -210,7 +231,7 @@ impl<'a> CandumpLines<'a> {
     {
         match &self.front {
             Some(front) if front.is_of(packet) => {
-                append_behind(front.text.as_slice(), packet.data(), out)
+                append_behind(&front.line, front.len, packet.data(), out)
             }
             _ => self.append_anew(packet, out),
         }
@@ -226,12 +247,14 @@ impl<'a> CandumpLines<'a> {
     {
         let (seen, identifier) = candump_parts(packet)?;
         let text = front_of(seen, identifier, self.interface.as_bytes());
-        append_behind(text.as_slice(), packet.data(), out)?;
+        let line = with_room(text.as_slice());
+        append_behind(&line, text.len(), packet.data(), out)?;
         if let Some(stamp) = packet.stamp().as_array() {
             self.front = Some(Front {
                 stamp: *stamp,
                 id: packet.id(),
-                text,
+                line,
+                len: text.len(),
             });
         }
         Ok(())

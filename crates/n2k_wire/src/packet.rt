@@ -1,8 +1,8 @@
 //! A packet: a frame or a whole message, with its stamp.
-ghost use Rattle.std.specs.Prelude.{◌≡◌, ◌≤◌, take};
+ghost use Rattle.std.specs.Prelude.{◌≡◌, ◌≤◌, length, take};
 ghost use Rattle.std.specs.List.{list_all};
 ghost use Rattle.std.specs.Option.{SomeIff};
-ghost use Rattle.n2k_wire.specs.Packet.{IsPacket, IsPacketParts, is_stamp, is_stamp_byte, is_stamp_start, longest_stamp};
+ghost use Rattle.n2k_wire.specs.Packet.{IsPacket, IsPacketParts, is_stamp, is_stamp_byte, is_stamp_start, longest_message, longest_stamp};
 
 use crate::identifier::Id;
 use std::marker::Model;
@@ -110,6 +110,23 @@ impl Packet {
             stamp_len: stamp.len(),
             id,
             data: kept_data,
+            data_len: data.len(),
+        }
+    }
+
+    /// The packet with this stamp and identifier and these data, of at most 223 bytes.
+    #[inline]
+    pub fn with_data(&self, data: &[u8]) -> Packet
+        requires { length «data».now ≤ longest_message }
+        ensures { result ≡ record { stamp = self.now.stamp; id = self.now.id; payload = «data».now } }
+    {
+        let mut kept = [0; LONGEST_MESSAGE];
+        kept[..data.len()].copy_from_slice(data);
+        Packet {
+            stamp: self.stamp,
+            stamp_len: self.stamp_len,
+            id: self.id,
+            data: kept,
             data_len: data.len(),
         }
     }
