@@ -1,13 +1,12 @@
-//! Packets as texts.
+//! Packets as candump lines.
 ghost use Rattle.std.specs.Prelude.{◌≡◌, ◌+◌, ◌-◌, ◌*◌, ◌<◌, ◌≤◌, ◌++◌, [], ◌∷◌, codes, drop, length, slice_index, IfErr, IfOk, IsTrue, OnOk, OnErr};
-ghost use Rattle.std.specs.List.{flat_map};
 ghost use Rattle.arrayvec.specs.ArrayVec.{array_vec_len};
 ghost use Rattle.hex.specs.Hex.{encode_upper};
 ghost use Rattle.n2k_wire.specs.declared.fault.WireFault.TheVariants.{Memory};
 ghost use Rattle.n2k_wire.specs.Candump.{frame_payload, is_interface, longest_interface};
 ghost use Rattle.n2k_wire.specs.PrivateWords.{candump_front, plain_moment, IsMoment};
 ghost use Rattle.n2k_wire.specs.Stamp.{last_second, millis_digits};
-ghost use Rattle.n2k_wire.specs.Texts.{Appends, byte_piece, number_piece, plain_text, second_digits, candump_parts, candump_text};
+ghost use Rattle.n2k_wire.specs.Texts.{Appends, second_digits, candump_parts, candump_text};
 ghost use Rattle.n2k_wire.specs.Views.{Gives};
 
 use crate::fault::WireFault;
