@@ -14,7 +14,7 @@ use std::simd::prelude::*;
 /// Room for the line of a frame and for what is written behind it: 53 bytes at most stand before its last piece of 32.
 const FRAME_ROOM: usize = 96;
 
-/// Room for any line and for what is written behind it.
+/// Room for any line and for what is written behind it: three bytes for each byte of data, and at most 58 more.
 const LINE_ROOM: usize = 736;
 
 /// The bytes of the last piece of a line of eight bytes that count: the length, the bytes and the LF.
