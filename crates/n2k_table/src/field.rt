@@ -9,7 +9,7 @@ ghost use Rattle.n2k_table.specs.Lookup.{LookupParts};
 ghost use Rattle.n2k_table.specs.Inner.Kept.{meaning as seen_meaning, IsByteMeaning};
 ghost use Rattle.n2k_table.specs.Field.{in_bytes, byte_at_of, byte_bits_of, raw_or_none, wanted_of, is_of_bits, named_field_kind, number_faults, number_field, lookup_field_faults, lookup_field, byte_field_faults, byte_field, field_faults, field};
 
-use crate::bits::{greatest, raw, raw_at_once};
+use crate::bits::{greatest, raw};
 use crate::fault::TableFault;
 use crate::lookup::{Lookup, Lookups};
 use crate::piece::Piece;
@@ -425,7 +425,7 @@ impl Field {
         &data[from..to]
     }
 
-    /// A fast path: what a field shows that ends past the data, and one of few bits where the data have eight bytes.
+    /// A fast path: what a field shows that ends past the data, and one of few bits.
     #[inline(always)]
     pub(crate) fn quick<'a>(&'a self, data: &'a [u8]) -> Option<Quick<'a>>
         ensures value { IfSome result (λ quick. quick_parts quick ≡ shown self.now «data».now) }
@@ -435,11 +435,11 @@ impl Field {
             return Some(Quick::Absent);
         }
         if let Some(scale) = self.scale {
-            let raw = raw_at_once(data, self.at, self.bits)?;
+            let raw = raw(data, self.at, self.bits);
             return Some(quick_number(scale, raw));
         }
         if let Meaning::Named(lookup) = &self.meaning {
-            let raw = raw_at_once(data, self.at, self.bits)?;
+            let raw = raw(data, self.at, self.bits);
             return Some(quick_name(lookup.name_of(raw), self.bits, raw));
         }
         None

@@ -1,6 +1,6 @@
 //! A fast path: what a number or a named value of up to 32 bits shows, by its raw value. Its numbers have room in 64 bits.
-//! `Field::quick` goes this way where the data have eight bytes. It promises only what it answers; `Field::seen` says what
-//! any field shows, and is the function to read first.
+//! `Field::quick` goes this way. It promises only what it answers; `Field::seen` says what any field shows, and is the
+//! function to read first.
 ghost use Rattle.std.specs.Prelude.{◌≡◌, ◌≤◌, ◌<◌, ◌*◌, option_map, IfSome};
 ghost use Rattle.n2k_table.specs.Shown.{shown_name};
 ghost use Rattle.n2k_table.specs.Inner.Kept.{meaning as seen_meaning};
