@@ -33,3 +33,6 @@ pub stuck_at_rename : {T E : Type 0} (a b c d e : Option (List Call)) (text : Li
 stuck_at_rename a b c d e text (Ok value) creating writing syncing renaming = tt
 stuck_at_rename a b c d e text (Err error) creating writing syncing renaming =
     inr (inr (inr (noted a d e (sync New true ∷ written text) _ (synced a b c d text true creating writing syncing) renaming)))
+
+-- for `place`, at each of its calls
+pub ruleset stuck = (stuck_at_create, stuck_at_write, stuck_at_sync, stuck_at_rename)

@@ -10,7 +10,7 @@ use crate::folder::{Folder, Name};
 use n2k_run::Failed;
 
 // Writes the text to a new file, and gives that the name once it is synced.
-#[tactic(auto, using(crate::proofs::Placing::stuck_at_create, crate::proofs::Placing::stuck_at_write, crate::proofs::Placing::stuck_at_sync, crate::proofs::Placing::stuck_at_rename))]
+#[tactic(auto, using(crate::proofs::Placing::stuck))]
 fn place<F: Folder>(folder: &mut F, text: &[u8]) -> Result<(), Failed>
     ensures placed { OnOk result (HasPlaced (F.calls folder.old) (F.calls folder.new) text.now) }
     ensures stuck { OnErr result (IsStuck (F.calls folder.old) (F.calls folder.new) text.now) }

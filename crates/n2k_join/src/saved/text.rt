@@ -1,5 +1,5 @@
 //! The text of a saved state.
-ghost use Rattle.std.specs.Prelude.{◌≡◌, ◌<◌, [], ◌∷◌, IfOk};
+ghost use Rattle.std.specs.Prelude.{◌≡◌, ◌*◌, ◌<◌, ◌≤◌, [], ◌∷◌, IfOk};
 ghost use Rattle.hex.specs.Hex.{encode_lower};
 ghost use Rattle.json.specs.Token.{Token};
 ghost use Rattle.n2k_join.specs.Frames.{most_frames};
@@ -38,22 +38,17 @@ fn text_of(digits: &[u8]) -> &str
     str::from_utf8(digits).unwrap()
 }
 
-// Writes the seven bytes of a frame as hexadecimal digits.
+// Writes bytes as hexadecimal digits, two for each.
 #[tactic(auto, using(crate::proofs::SavedDigits::digits))]
-fn push_seven(bytes: &[u8; 7], out: &mut Writer) -> Result<(), AllocError>
+fn push_digits<const COUNT: usize, const DIGITS: usize>(
+    bytes: &[u8; COUNT],
+    out: &mut Writer,
+) -> Result<(), AllocError>
+    requires two { DIGITS ≡ 2 * COUNT }
+    requires few { DIGITS ≤ 64 }
     ensures { Appends result out.old out.new (Token.string (encode_lower bytes.now) ∷ []) }
 {
-    let mut digits = [0; 14];
-    let _ = hex::encode_to_slice(bytes, &mut digits);
-    out.string(text_of(&digits))
-}
-
-// Writes the id of a table as hexadecimal digits.
-#[tactic(auto, using(crate::proofs::SavedDigits::digits))]
-fn push_id(bytes: &[u8; 32], out: &mut Writer) -> Result<(), AllocError>
-    ensures { Appends result out.old out.new (Token.string (encode_lower bytes.now) ∷ []) }
-{
-    let mut digits = [0; 64];
+    let mut digits = [0; DIGITS];
     let _ = hex::encode_to_slice(bytes, &mut digits);
     out.string(text_of(&digits))
 }
@@ -65,7 +60,7 @@ fn push_piece(number: u8, bytes: &[u8; 7], out: &mut Writer) -> Result<(), Alloc
 {
     out.begin_array()?;
     out.u64(u64::from(number))?;
-    push_seven(bytes, out)?;
+    push_digits::<7, 14>(bytes, out)?;
     out.end_array()
 }
 
@@ -159,7 +154,7 @@ fn push_table(id: &[u8; 32], out: &mut Writer) -> Result<(), AllocError>
     ensures { Appends result out.old out.new (table_tokens id.now) }
 {
     out.key("table")?;
-    push_id(id, out)
+    push_digits::<32, 64>(id, out)
 }
 
 // Writes the counts of lines and messages.
