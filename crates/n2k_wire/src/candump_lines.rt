@@ -1,5 +1,5 @@
-//! Packets as candump lines. The frames of one message differ in their data alone, so what stands in front of the data is
-//! kept for the next packet.
+//! Packets as candump lines. The frames of one message differ in their data alone, so what stands in front of the data
+//! is kept for the next packet.
 ghost use Rattle.std.specs.Prelude.{◌≡◌, ◌+◌, ◌-◌, ◌*◌, ◌<◌, ◌≤◌, ◌++◌, codes, drop, length, take, IfErr, IfOk, IsTrue, OnOk, OnErr};
 ghost use Rattle.arrayvec.specs.ArrayVec.{array_vec_len};
 ghost use Rattle.hex.specs.Hex.{encode_upper};
@@ -112,8 +112,8 @@ fn with_room(front: &[u8]) -> [u8; LINE_ROOM]
     line
 }
 
-// Writes the data and the LF at a place of the text, and answers the place behind them. Eight bytes are most frames, and at a
-// known length they are cheaper.
+// Writes the data and the LF at a place of the text, and answers the place behind them. Most frames have eight bytes,
+// and those cost less at a known length.
 #[tactic(auto, using(crate::proofs::CandumpLemmas::line_end, crate::proofs::CandumpLemmas::upper_len))]
 fn write_data(text: &mut [u8], at: usize, payload: &[u8]) -> usize
     requires room { at + 2 * length payload.now < length text.old }
@@ -128,8 +128,8 @@ fn write_data(text: &mut [u8], at: usize, payload: &[u8]) -> usize
     end + 1
 }
 
-// Appends a line of a front of so many bytes and these data. The front is copied with its room, since a copy of known length
-// is short, and what is left of the room is cut off.
+// Appends a line of a front of so many bytes and these data. The front is copied with its room, since a copy of known
+// length costs less, and what is left of the room is cut off.
 fn append_behind(
     front: &[u8; LINE_ROOM],
     len: usize,
@@ -138,7 +138,8 @@ fn append_behind(
 ) -> Result<(), WireFault>
     requires front { len ≤ 47 }
     requires short { length payload.now ≤ frame_payload }
-    ensures text { OnOk result (out.new.items ≡ out.old.items ++ (take len front.now ++ (encode_upper payload.now ++ codes "\n"))) }
+    ensures text { OnOk result (out.new.items ≡ out.old.items
+        ++ (take len front.now ++ (encode_upper payload.now ++ codes "\n"))) }
     ensures unchanged { OnErr result (out.new.items ≡ out.old.items) }
     ensures memory { IfErr result (λ fault. fault ≡ Memory) }
 {
@@ -169,8 +170,8 @@ struct Front {
     len: usize,
 }
 
-/// Appends packets in a row as `candump -L` writes frames that came in at one interface, as `candump_text` does, at less
-/// cost where a packet has the stamp and the identifier of the last one that had a line.
+/// Appends packets in a row as `candump -L` writes frames that came in at one interface, as `candump_text` does, at
+/// less cost where a packet has the stamp and the identifier of the last one that had a line.
 #[derive(Drop)]
 pub struct CandumpLines<'a> {
     interface: &'a str,
@@ -215,8 +216,9 @@ impl<'a> CandumpLines<'a> {
         }
     }
 
-    /// Appends a packet of at most 8 bytes, as `candump_text` does: `NoStamp` or `NoId` where that says so, or `Memory`.
-    /// `out` is as it was where the answer is a fault, and what follows is appended as if that packet had not come.
+    /// Appends a packet of at most 8 bytes, as `candump_text` does: `NoStamp` or `NoId` where that says so, or
+    /// `Memory`. `out` is as it was where the answer is a fault, and what follows is appended as if that packet had
+    /// not come.
     #[tactic(auto, using(crate::proofs::CandumpLemmas::front_kept, crate::proofs::CandumpLemmas::appended))]
     pub fn append(
         &mut self,
