@@ -1,5 +1,5 @@
-//! A fast path: a number of 64 bits with at most 18 decimals is appended in one piece or two, its digits and the zeros before
-//! them as they stand in an array. `decimal.rt` appends any number; that is the file to read first.
+//! A fast path: a number of 64 bits with at most 18 decimals is appended in one piece or two, its digits and the zeros
+//! before them as they stand in an array. `decimal.rt` appends any number; that is the file to read first.
 ghost use Rattle.std.specs.Prelude.{◌≡◌, ◌∷◌, [], ◌++◌, ◌+◌, ◌-◌, ◌≤◌, take, drop, if◌then◌else◌, OnOk};
 ghost use Rattle.n2k_table.specs.Decimal.{dec, dotted, minus, padded_digits};
 ghost use Rattle.n2k_table.specs.Inner.Quick.{short_value};
