@@ -20,7 +20,7 @@ fn short_word(bytes: &[u8]) -> u64
     word
 }
 
-// The raw value of bits that lie in eight bytes: those from the byte of the first bit on, or the last eight of the data.
+// The raw value of bits that lie in eight bytes: those from the byte of the first bit on, or the data's last eight.
 #[inline(always)]
 fn raw_at_once(data: &[u8], at: usize, bits: u32) -> u64
     requires within { at + bits ≤ 8 * length «data».now }

@@ -47,8 +47,9 @@ fn push_value(seen: Seen<'_>, line: &mut Tail) -> Result<(), AllocError>
     }
 }
 
-// Appends a field as a member of an object, after a comma where a member stands before, and answers whether one stands before
-// the next. Each kind has its own branch, since what a field shows would else be put together before its key is appended.
+// Appends a field as a member of an object, after a comma where a member stands before, and answers whether one stands
+// before the next. Numbers and names have branches of their own, so that what a field shows is never put together in
+// memory: this costs less for each field.
 #[inline(always)]
 fn push_member(
     field: &Field,

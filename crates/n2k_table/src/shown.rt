@@ -81,8 +81,8 @@ pub(crate) fn long_number<'a>(signed: bool, resolution: Resolution, bits: u32, r
     }
 }
 
-/// What bits of that raw value show by the name of the value, if it has one. Where it has none, the greatest, from two bits
-/// on, says that none is there.
+/// What bits of that raw value show by the name of the value, if it has one. Where it has none, the greatest, from two
+/// bits on, says that none is there.
 #[inline(always)]
 pub(crate) fn named_value<'a>(name: Option<&'a Name>, bits: u32, raw: u64) -> Seen<'a>
     requires some { 1 ≤ bits }
