@@ -64,8 +64,8 @@ pub(crate) enum Meaning {
     Bytes,
 }
 
-/// A field: its name, its first bit in the message or in its set, how many bits it has, what they mean, and the raw value
-/// that it asks for, if it asks for one.
+/// A field: its name, its first bit in the message or in its set, how many bits it has, what they mean, and the raw
+/// value that it asks for, if it asks for one.
 #[derive(Drop)]
 pub(crate) struct Field {
     name: String,
@@ -99,8 +99,8 @@ impl Model for Field {
         × IsScaleOf (seen_meaning f.meaning) f.bits f.scale };
 }
 
-// A field as it is read. Its key is still a plain text: the readers of the four kinds speak of its bytes alone, and `kept`
-// makes the padded piece of it in one place.
+// A field as it is read. Its key is still a plain text: the readers of the four kinds speak of its bytes alone, and
+// `kept` makes the padded piece of it in one place.
 #[derive(Drop)]
 struct Described {
     name: String,

@@ -37,7 +37,8 @@ impl Model for Packet {
 
     ghost view = { λ p. record { stamp = take p.stamp_len p.stamp; id = p.id; payload = take p.data_len p.«data» } };
 
-    ghost invariant = { λ p. IsPacket (take p.stamp_len p.stamp) p.id (take p.data_len p.«data») × (p.stamp_len ≤ 32) × (p.data_len ≤ 223) };
+    ghost invariant = { λ p. IsPacket (take p.stamp_len p.stamp) p.id (take p.data_len p.«data») × (p.stamp_len ≤ 32)
+        × (p.data_len ≤ 223) };
 }
 
 // A byte that a stamp may hold.
@@ -83,7 +84,8 @@ impl Packet {
     /// The packet of these parts. `None` where the stamp isn't a stamp, the priority is over 7, the PGN over
     /// 16777215, or the data are over 223 bytes.
     pub fn new(stamp: &[u8], id: Id, data: &[u8]) -> Option<Packet>
-        ensures { SomeIff result (IsPacket stamp.now id «data».now) (record { stamp = stamp.now; id = id; payload = «data».now }) }
+        ensures { SomeIff result (IsPacket stamp.now id «data».now)
+            (record { stamp = stamp.now; id = id; payload = «data».now }) }
     {
         if !is_stamp(stamp) || id.prio > GREATEST_PRIORITY || id.pgn > GREATEST_PGN {
             return None;

@@ -37,7 +37,8 @@ fn put<const N: usize>(text: &mut [u8], at: usize, piece: &[u8; N], count: usize
 #[inline(always)]
 fn digits_word(number: u32) -> u32
     requires { number < 1000 }
-    ensures { result ≡ 48 + (48 + number / 100) * 2 ^ 8 + (48 + number / 10 % 10) * 2 ^ 16 + (48 + number % 10) * 2 ^ 24 }
+    ensures { result ≡ 48 + (48 + number / 100) * 2 ^ 8 + (48 + number / 10 % 10) * 2 ^ 16 +
+        (48 + number % 10) * 2 ^ 24 }
 {
     let number = u64::from(number);
     let tens = number / 10;
@@ -179,7 +180,8 @@ fn put_end(text: &mut [u8], at: usize, data: &[u8]) -> usize
     requires room { at + 32 ≤ length text.old }
     requires bytes { at + 3 * length «data».now + 5 ≤ length text.old }
     requires short { length «data».now ≤ 223 }
-    ensures { take result text.new ≡ take at text.old ++ number_piece (length «data».now) ++ flat_map byte_piece «data».now ++ codes "\n" }
+    ensures { take result text.new ≡ take at text.old ++ number_piece (length «data».now)
+        ++ flat_map byte_piece «data».now ++ codes "\n" }
 {
     if let Some(data) = data.as_array() {
         return put(text, at, &end_piece(data), END);
