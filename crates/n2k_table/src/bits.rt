@@ -1,68 +1,71 @@
-//! The bits of a message: raw values, unsigned and signed.
-ghost use Rattle.std.specs.Prelude.{◌≡◌, ◌+◌, ◌*◌, ◌-◌, ◌^◌, ◌<◌, ◌≤◌, length, unsigned_abs};
-ghost use Rattle.n2k_table.specs.Bits.{raw, signed_value, greatest};
+//! The bits of a message: raw values, unsigned and signed. `raw_at_once` is a fast path; `raw_by_bits` reads any
+//! bits, and is the function to read first.
+ghost use Rattle.std.specs.Prelude.{◌≡◌, ◌+◌, ◌*◌, ◌-◌, ◌^◌, ◌<◌, ◌≤◌, length, unsigned_abs, IfSome};
+ghost use Rattle.n2k_table.specs.Bits.{bit, raw, signed_value, greatest};
 
-/// The most bits that always lie in the eight bytes from the byte of their first bit on.
+/// The most bits that lie in the eight bytes from the byte of their first bit on.
 const MOST_AT_ONCE: u32 = 56;
 
-// Fewer than eight bytes as one number, the first the least. It is not inlined: most messages have eight.
-#[inline(never)]
-fn short_word(bytes: &[u8]) -> u64
-    requires { length bytes.now < 8 }
-    ensures { result ≡ raw bytes.now 0 (8 * length bytes.now) }
+// Bit `i` of the data: bit `i mod 8` of byte `i div 8`, the least significant first.
+fn bit(data: &[u8], i: usize) -> u8
+    requires { i < 8 * length «data».now }
+    ensures value { result ≡ bit «data».now i }
+    ensures range { result < 2 }
 {
-    let mut word = 0;
-    let mut left = bytes.len();
-    while left > 0 {
-        left -= 1;
-        word = 256 * word + u64::from(bytes[left]);
-    }
-    word
+    (data[i / 8] >> (i % 8)) % 2
 }
 
-// The raw value of bits that lie in eight bytes: those from the byte of the first bit on, or the data's last eight.
-#[inline(always)]
-fn raw_at_once(data: &[u8], at: usize, bits: u32) -> u64
-    requires within { at + bits ≤ 8 * length «data».now }
-    requires some { 1 ≤ bits }
-    requires few { bits ≤ 56 }
-    ensures value { result ≡ raw «data».now at bits }
-    ensures range { result < 2 ^ bits }
-{
-    let from = data.len().saturating_sub(8).min(at / 8);
-    let word = match data[from..].first_chunk::<8>() {
-        Some(eight) => u64::from_le_bytes(*eight),
-        None => short_word(data),
-    };
-    (word >> (at - 8 * from)) % (1 << bits)
-}
-
-// The raw value of more bits, in two parts. It is not inlined: few fields have so many.
+// The same bit by bit, of any bits, from the top; by whole bytes where they lie wholly inside. It is not inlined: few
+// fields are read so.
 #[inline(never)]
-fn raw_in_two(data: &[u8], at: u32, bits: u32) -> u64
+fn raw_by_bits(data: &[u8], at: u32, bits: u32) -> u64
     requires within { at + bits ≤ 8 * length «data».now }
-    requires many { 56 < bits }
     requires room { bits ≤ 64 }
     ensures value { result ≡ raw «data».now at bits }
     ensures range { result < 2 ^ bits }
 {
-    let at = at as usize;
-    4_294_967_296 * raw_at_once(data, at + 32, bits - 32) + raw_at_once(data, at, 32)
+    let mut value = 0;
+    let mut left = bits;
+    while left > 0 {
+        let end = at as usize + left as usize;
+        if left >= 8 && end % 8 == 0 {
+            left -= 8;
+            value = 256 * value + u64::from(data[end / 8 - 1]);
+        } else {
+            left -= 1;
+            value = 2 * value + u64::from(bit(data, end - 1));
+        }
+    }
+    value
+}
+
+/// A fast path: the raw value of bits that lie in one number of eight bytes. It promises only what it answers.
+#[inline(always)]
+pub(crate) fn raw_at_once(data: &[u8], at: u32, bits: u32) -> Option<u64>
+    requires within { at + bits ≤ 8 * length «data».now }
+    ensures value { IfSome result (λ value. value ≡ raw «data».now at bits) }
+{
+    if bits == 0 || bits > MOST_AT_ONCE {
+        return None;
+    }
+    let last = data.len().checked_sub(8)?;
+    let from = last.min(at as usize / 8);
+    let eight = data[from..from + 8].as_array::<8>()?;
+    let shift = at as usize - 8 * from;
+    Some((u64::from_le_bytes(*eight) >> shift) % (1 << bits))
 }
 
 /// The raw value of some bits, the sum of bit `at + j` times `2^j`.
 #[inline(always)]
 pub(crate) fn raw(data: &[u8], at: u32, bits: u32) -> u64
     requires within { at + bits ≤ 8 * length «data».now }
-    requires some { 1 ≤ bits }
     requires room { bits ≤ 64 }
     ensures value { result ≡ raw «data».now at bits }
     ensures range { result < 2 ^ bits }
 {
-    if bits <= MOST_AT_ONCE {
-        raw_at_once(data, at as usize, bits)
-    } else {
-        raw_in_two(data, at, bits)
+    match raw_at_once(data, at, bits) {
+        Some(value) => value,
+        None => raw_by_bits(data, at, bits),
     }
 }
 

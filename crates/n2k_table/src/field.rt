@@ -9,13 +9,13 @@ ghost use Rattle.n2k_table.specs.Lookup.{LookupParts};
 ghost use Rattle.n2k_table.specs.Inner.Kept.{meaning as seen_meaning, IsByteMeaning};
 ghost use Rattle.n2k_table.specs.Field.{in_bytes, byte_at_of, byte_bits_of, raw_or_none, wanted_of, is_of_bits, named_field_kind, number_faults, number_field, lookup_field_faults, lookup_field, byte_field_faults, byte_field, field_faults, field};
 
-use crate::bits::{greatest, raw};
+use crate::bits::{greatest, raw, raw_at_once};
 use crate::fault::TableFault;
 use crate::lookup::{Lookup, Lookups};
 use crate::piece::Piece;
-use crate::quick::{Scale, scale_of, short_number};
+use crate::quick::{Quick, Scale, quick_name, quick_number, scale_of};
 use crate::resolution::{Resolution, resolution_at};
-use crate::shown::{Seen, Shown, long_number, named_value, text_without_filling};
+use crate::shown::{Seen, Shown, shown_name, shown_number, shown_text};
 use crate::tail::Tail;
 use crate::text::text_json;
 use crate::tree::{
@@ -74,7 +74,7 @@ pub(crate) struct Field {
     at: u32,
     bits: u32,
     meaning: Meaning,
-    // How its bits make a number, where they are few.
+    // What a fast path needs of a number.
     scale: Option<Scale>,
     wanted: Option<u64>,
 }
@@ -369,9 +369,10 @@ pub(crate) fn read_field(
 }
 
 impl Field {
-    ghost use Rattle.std.specs.Prelude.{◌++◌, is_some, OnOk};
+    ghost use Rattle.std.specs.Prelude.{◌++◌, is_some, IfSome, OnOk};
     ghost use Rattle.n2k_table.specs.Inner.Line.{key_json};
-    ghost use Rattle.n2k_table.specs.Inner.Seen.{seen_parts, HasFewPlaces};
+    ghost use Rattle.n2k_table.specs.Inner.Quick.{quick_parts, HasFewPlaces};
+    ghost use Rattle.n2k_table.specs.Inner.Seen.{seen_parts};
     ghost use Rattle.n2k_table.specs.Shown.{shown_parts, lies_inside, field_bytes, shown};
     ghost use Rattle.n2k_table.specs.Table.{field_matches};
 
@@ -424,47 +425,54 @@ impl Field {
         &data[from..to]
     }
 
-    /// What the field shows of the data of a message or of a set: nothing where it does not lie wholly inside.
+    /// A fast path: what a field shows that ends past the data, and one of few bits where the data have eight bytes.
     #[inline(always)]
-    pub(crate) fn seen<'a>(&'a self, data: &'a [u8]) -> Seen<'a>
-        ensures value { seen_parts result ≡ shown self.now «data».now }
-        ensures places { HasFewPlaces result }
+    pub(crate) fn quick<'a>(&'a self, data: &'a [u8]) -> Option<Quick<'a>>
+        ensures value { IfSome result (λ quick. quick_parts quick ≡ shown self.now «data».now) }
+        ensures places { IfSome result HasFewPlaces }
     {
         if !self.lies_inside(data) {
-            return Seen::Absent;
+            return Some(Quick::Absent);
         }
         if let Some(scale) = self.scale {
-            let raw = raw(data, self.at, self.bits);
-            return short_number(scale, raw);
+            let raw = raw_at_once(data, self.at, self.bits)?;
+            return Some(quick_number(scale, raw));
+        }
+        if let Meaning::Named(lookup) = &self.meaning {
+            let raw = raw_at_once(data, self.at, self.bits)?;
+            return Some(quick_name(lookup.name_of(raw), self.bits, raw));
+        }
+        None
+    }
+
+    /// What the field shows of the data of a message or of a set: nothing where it does not lie wholly inside.
+    pub(crate) fn seen<'a>(&'a self, data: &'a [u8]) -> Seen<'a>
+        ensures { seen_parts result ≡ shown self.now «data».now }
+    {
+        if !self.lies_inside(data) {
+            return Seen::Other(Shown::Absent);
         }
         match &self.meaning {
             Meaning::Number { signed, resolution } => {
                 let raw = raw(data, self.at, self.bits);
-                long_number(*signed, *resolution, self.bits, raw)
+                Seen::Other(shown_number(*signed, *resolution, self.bits, raw))
             }
             Meaning::Named(lookup) => {
                 let raw = raw(data, self.at, self.bits);
-                named_value(lookup.name_of(raw), self.bits, raw)
+                shown_name(lookup.name_of(raw), self.bits, raw)
             }
-            Meaning::Text => text_without_filling(self.bytes(data)),
-            Meaning::Bytes => Seen::Bytes(self.bytes(data)),
+            Meaning::Text => Seen::Other(shown_text(self.bytes(data))),
+            Meaning::Bytes => Seen::Other(Shown::Bytes(self.bytes(data))),
         }
     }
 
-    /// What the field shows, for a caller: a number as it is, and a name as its text.
+    /// What `seen` answers, with the text of a name.
     pub(crate) fn shown<'a>(&'a self, data: &'a [u8]) -> Shown<'a>
         ensures { shown_parts result ≡ shown self.now «data».now }
     {
         match self.seen(data) {
-            Seen::Absent => Shown::Absent,
-            Seen::Short(number) => Shown::Number {
-                value: number.value(),
-                decimals: number.decimals,
-            },
-            Seen::Long { value, decimals } => Shown::Number { value, decimals },
             Seen::Name(name) => Shown::Name(name.text()),
-            Seen::Text(text) => Shown::Text(text),
-            Seen::Bytes(bytes) => Shown::Bytes(bytes),
+            Seen::Other(shown) => shown,
         }
     }
 }

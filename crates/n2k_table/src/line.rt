@@ -1,6 +1,6 @@
 //! The JSON line of a message.
 ghost use Rattle.std.specs.Prelude.{◌≡◌, ◌++◌, ◌+◌, ◌*◌, ◌≤◌, ◌||◌, true, is_some, nat_lt, codes, if◌then◌else◌, decimal, length, map, IfOk, IfSome, OnOk, OnErr, Some};
-ghost use Rattle.n2k_table.specs.Inner.Seen.{seen_parts, HasFewPlaces};
+ghost use Rattle.n2k_table.specs.Inner.Seen.{seen_parts};
 ghost use Rattle.n2k_table.specs.Shown.{shown, all_shown};
 ghost use Rattle.std.specs.List.{join_with_byte};
 ghost use Rattle.n2k_table.specs.Repeat.{set_shown, all_sets};
@@ -11,9 +11,10 @@ use crate::decimal::push_decimal;
 use crate::definition::Definition;
 use crate::field::Field;
 use crate::head::push_seen;
+use crate::quick::Quick;
 use crate::repeat::Repeat;
 use crate::short::push_signed;
-use crate::shown::Seen;
+use crate::shown::{Seen, Shown};
 use crate::table::Table;
 use crate::tail::Tail;
 use crate::text::{push_characters, push_pairs, push_text};
@@ -33,23 +34,45 @@ fn push_number(label: &[u8], number: u32, line: &mut Tail) -> Result<(), AllocEr
 // Appends what a field shows as a value.
 #[inline(always)]
 fn push_value(seen: Seen<'_>, line: &mut Tail) -> Result<(), AllocError>
-    requires { HasFewPlaces seen }
     ensures { OnOk result (IfSome (value_json true (seen_parts seen.entry))
         (λ value. line.new.items ≡ line.old.items ++ value)) }
 {
     match seen {
-        Seen::Absent => line.extend_from_slice(b"null"),
-        Seen::Short(number) => push_signed(number, line),
-        Seen::Long { value, decimals } => push_decimal(value, decimals, line),
         Seen::Name(name) => name.push_json(line),
-        Seen::Text(numbers) => push_characters(numbers, line),
-        Seen::Bytes(bytes) => push_pairs(bytes, line),
+        Seen::Other(shown) => match shown {
+            Shown::Absent => line.extend_from_slice(b"null"),
+            Shown::Number { value, decimals } => push_decimal(value, decimals, line),
+            Shown::Name(name) => push_text(name.as_bytes(), line),
+            Shown::Text(numbers) => push_characters(numbers, line),
+            Shown::Bytes(bytes) => push_pairs(bytes, line),
+        },
     }
 }
 
-// Appends a field as a member of an object, after a comma where a member stands before, and answers whether one stands
-// before the next. Numbers and names have branches of their own, so that what a field shows is never put together in
-// memory: this costs less for each field.
+// Appends a field as a member of an object, after a comma where a member stands before, and answers
+// whether one stands before the next. It is not inlined: most fields have few bits.
+#[inline(never)]
+fn push_any_member(
+    field: &Field,
+    data: &[u8],
+    empty: bool,
+    later: bool,
+    line: &mut Tail,
+) -> Result<bool, AllocError>
+    ensures { let member = member_json empty (field.now.name, shown field.now «data».now) in
+        IfOk result (λ more. (line.new.items ≡ line.old.items ++ member_text later member)
+        × (more ≡ (later || is_some member))) }
+{
+    let seen = field.seen(data);
+    if matches!(seen, Seen::Other(Shown::Absent)) && !empty {
+        return Ok(later);
+    }
+    field.push_key(later, line)?;
+    push_value(seen, line)?;
+    Ok(true)
+}
+
+// The same, with a fast path for fields of few bits. Nulls go the longer way too: few runs print them.
 #[inline(always)]
 fn push_member(
     field: &Field,
@@ -62,20 +85,17 @@ fn push_member(
         IfOk result (λ more. (line.new.items ≡ line.old.items ++ member_text later member)
         × (more ≡ (later || is_some member))) }
 {
-    match field.seen(data) {
-        Seen::Absent if !empty => return Ok(later),
-        Seen::Short(number) => {
+    match field.quick(data) {
+        Some(Quick::Absent) if !empty => return Ok(later),
+        Some(Quick::Number(number)) => {
             field.push_key(later, line)?;
             push_signed(number, line)?;
         }
-        Seen::Name(name) => {
+        Some(Quick::Name(name)) => {
             field.push_key(later, line)?;
             name.push_json(line)?;
         }
-        seen => {
-            field.push_key(later, line)?;
-            push_value(seen, line)?;
-        }
+        _ => return push_any_member(field, data, empty, later, line),
     }
     Ok(true)
 }

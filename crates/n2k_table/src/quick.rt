@@ -1,17 +1,30 @@
-//! A number of up to 32 bits, by what is kept of its field. Times its mantissa it has room in 64 bits.
-ghost use Rattle.std.specs.Prelude.{◌≡◌, ◌≤◌, ◌<◌, ◌*◌, IfSome};
+//! A fast path: what a number or a named value of up to 32 bits shows, by its raw value. Its numbers have room in 64
+//! bits. `Field::quick` goes this way where the data have eight bytes. It promises only what it answers;
+//! `Field::seen` says what any field shows, and is the function to read first.
+ghost use Rattle.std.specs.Prelude.{◌≡◌, ◌≤◌, ◌<◌, ◌*◌, option_map, IfSome};
+ghost use Rattle.n2k_table.specs.Shown.{shown_name};
 ghost use Rattle.n2k_table.specs.Inner.Kept.{meaning as seen_meaning};
-ghost use Rattle.n2k_table.specs.Inner.Seen.{seen_parts, HasFewPlaces};
-ghost use Rattle.n2k_table.specs.Inner.Quick.{nones, scaled, IsScale, IsScaleOf, IsSmall};
+ghost use Rattle.n2k_table.specs.Inner.Quick.{quick_parts, nones, scaled, HasFewPlaces, IsScale, IsScaleOf, IsSmall};
 
 use crate::bits::greatest;
 use crate::field::Meaning;
+use crate::lookup::Name;
 use crate::resolution::Resolution;
 use crate::short::{MOST_DECIMALS, Short};
-use crate::shown::Seen;
 
 /// The most bits whose numbers have room in 64 bits, whatever their resolution.
 const FEW: u32 = 32;
+
+/// What such a field shows.
+#[derive(Clone, Copy)]
+pub(crate) enum Quick<'a> {
+    /// Nothing.
+    Absent,
+    /// A number.
+    Number(Short),
+    /// The name of a value.
+    Name(&'a Name),
+}
 
 /// How a few bits make a number, kept since each line needs it.
 #[derive(Clone, Copy)]
@@ -68,25 +81,46 @@ pub(crate) fn scale_of(meaning: &Meaning, bits: u32) -> Option<Scale>
 
 /// What bits of that raw value show as a number.
 #[inline(always)]
-pub(crate) fn short_number<'a>(scale: Scale, raw: u64) -> Seen<'a>
+pub(crate) fn quick_number<'a>(scale: Scale, raw: u64) -> Quick<'a>
     requires small { IsSmall scale }
     requires range { raw < 2 * scale.turn }
-    ensures value { seen_parts result ≡ scaled scale raw }
+    ensures value { quick_parts result ≡ scaled scale raw }
     ensures places { HasFewPlaces result }
 {
     if raw >= scale.turn {
-        return Seen::Short(Short {
+        return Quick::Number(Short {
             below: true,
             size: (2 * scale.turn - raw) * scale.mantissa,
             decimals: scale.decimals,
         });
     }
     if scale.turn - raw <= scale.nones {
-        return Seen::Absent;
+        return Quick::Absent;
     }
-    Seen::Short(Short {
+    Quick::Number(Short {
         below: false,
         size: raw * scale.mantissa,
         decimals: scale.decimals,
+    })
+}
+
+/// What bits of that raw value show by the name of the value, if it has one.
+#[inline(always)]
+pub(crate) fn quick_name<'a>(name: Option<&'a Name>, bits: u32, raw: u64) -> Quick<'a>
+    requires some { 1 ≤ bits }
+    requires room { bits ≤ 64 }
+    ensures value { quick_parts result ≡ shown_name (option_map (λ n. n.now) name.entry) bits raw }
+    ensures places { HasFewPlaces result }
+{
+    if let Some(name) = name {
+        return Quick::Name(name);
+    }
+    if bits >= 2 && raw == greatest(false, bits) {
+        return Quick::Absent;
+    }
+    Quick::Number(Short {
+        below: false,
+        size: raw,
+        decimals: 0,
     })
 }

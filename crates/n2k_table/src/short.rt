@@ -8,7 +8,7 @@ use crate::tail::Tail;
 use itoa::write_digits;
 use std::alloc::AllocError;
 
-/// The most decimals of a resolution, and of a short number.
+/// The most decimals of a short number.
 pub(crate) const MOST_DECIMALS: usize = 18;
 
 /// How many bytes of the digits are copied at once: 20 digits have 64 bits.
@@ -48,18 +48,6 @@ pub(crate) struct Short {
     pub(crate) size: u64,
     /// How many of its digits stand after the dot.
     pub(crate) decimals: u8,
-}
-
-impl Short {
-    ghost use Rattle.n2k_table.specs.Inner.Quick.{short_value};
-
-    /// The number without its dot.
-    pub(crate) fn value(self) -> i128
-        ensures { result ≡ short_value self }
-    {
-        let size = i128::from(self.size);
-        if self.below { -size } else { size }
-    }
 }
 
 /// Appends the decimal text of `size / 10^decimals`.

@@ -1,13 +1,12 @@
 //! What a field shows of a message.
 ghost use Rattle.std.specs.Prelude.{◌≡◌, ◌≤◌, ◌^◌, ◌<◌, option_map};
-ghost use Rattle.n2k_table.specs.Inner.Seen.{seen_parts, HasFewPlaces};
-ghost use Rattle.n2k_table.specs.Shown.{shown_number, shown_name, shown_text, says_none, is_filling, trimmed};
+ghost use Rattle.n2k_table.specs.Inner.Seen.{seen_parts};
+ghost use Rattle.n2k_table.specs.Shown.{shown_parts, shown_number, shown_unnamed, shown_name, shown_text, says_none, is_filling, trimmed};
 
-use crate::bits::{greatest, signed_value};
+use crate::bits::{greatest, raw, signed_value};
 use crate::field::Field;
 use crate::lookup::Name;
 use crate::resolution::Resolution;
-use crate::short::Short;
 use std::marker::Model;
 
 /// What a field shows of a message. It borrows the table and the data.
@@ -40,67 +39,62 @@ fn says_none(signed: bool, bits: u32, value: i128) -> bool
     (bits >= 2 && value == i128::from(greatest)) || (bits >= 4 && value == i128::from(greatest - 1))
 }
 
-/// What a field shows, with what a line needs of it: a name has its JSON, and a number of few bits has room in 64.
-#[derive(Clone, Copy)]
-pub(crate) enum Seen<'a> {
-    /// Nothing.
-    Absent,
-    /// A number of few bits.
-    Short(Short),
-    /// Any other number, `value / 10^decimals`.
-    Long {
-        /// The digits of the number, without its dot.
-        value: i128,
-        /// How many of its digits stand after the dot.
-        decimals: u8,
-    },
-    /// The name of a value.
-    Name(&'a Name),
-    /// A text, without the bytes that fill it up.
-    Text(&'a [u8]),
-    /// Bytes as they are.
-    Bytes(&'a [u8]),
-}
-
 /// What bits of that raw value show as a number: the value times the mantissa of its resolution.
-#[inline(always)]
-pub(crate) fn long_number<'a>(signed: bool, resolution: Resolution, bits: u32, raw: u64) -> Seen<'a>
+pub(crate) fn shown_number<'a>(
+    signed: bool,
+    resolution: Resolution,
+    bits: u32,
+    raw: u64,
+) -> Shown<'a>
     requires some { 1 ≤ bits }
     requires room { bits ≤ 64 }
     requires range { raw < 2 ^ bits }
-    ensures value { seen_parts result ≡ shown_number signed resolution bits raw }
-    ensures places { HasFewPlaces result }
+    ensures { shown_parts result ≡ shown_number signed resolution bits raw }
 {
     let value = signed_value(signed, bits, raw);
     if says_none(signed, bits, value) {
-        return Seen::Absent;
+        return Shown::Absent;
     }
-    Seen::Long {
+    Shown::Number {
         value: value * i128::from(resolution.mantissa),
         decimals: resolution.decimals,
     }
 }
 
-/// What bits of that raw value show by the name of the value, if it has one. Where it has none, the greatest, from two
-/// bits on, says that none is there.
-#[inline(always)]
-pub(crate) fn named_value<'a>(name: Option<&'a Name>, bits: u32, raw: u64) -> Seen<'a>
+// What bits of that raw value show that have no name: the greatest, from two bits on, says that none is there.
+fn shown_unnamed<'a>(bits: u32, raw: u64) -> Shown<'a>
     requires some { 1 ≤ bits }
     requires room { bits ≤ 64 }
-    ensures value { seen_parts result ≡ shown_name (option_map (λ n. n.now) name.entry) bits raw }
-    ensures places { HasFewPlaces result }
+    ensures { shown_parts result ≡ shown_unnamed bits raw }
 {
-    if let Some(name) = name {
-        return Seen::Name(name);
-    }
     if bits >= 2 && raw == greatest(false, bits) {
-        return Seen::Absent;
+        return Shown::Absent;
     }
-    Seen::Short(Short {
-        below: false,
-        size: raw,
+    Shown::Number {
+        value: i128::from(raw),
         decimals: 0,
-    })
+    }
+}
+
+/// What a field shows, where a name comes with its JSON.
+#[derive(Clone, Copy)]
+pub(crate) enum Seen<'a> {
+    /// The name of a value.
+    Name(&'a Name),
+    /// Anything else.
+    Other(Shown<'a>),
+}
+
+/// What bits of that raw value show by the name of the value, if it has one.
+pub(crate) fn shown_name<'a>(name: Option<&'a Name>, bits: u32, raw: u64) -> Seen<'a>
+    requires some { 1 ≤ bits }
+    requires room { bits ≤ 64 }
+    ensures { seen_parts result ≡ shown_name (option_map (λ n. n.now) name.entry) bits raw }
+{
+    match name {
+        Some(name) => Seen::Name(name),
+        None => Seen::Other(shown_unnamed(bits, raw)),
+    }
 }
 
 // A byte that fills a text up.
@@ -111,7 +105,6 @@ fn is_filling(byte: u8) -> bool
 }
 
 // A text up to its last byte that does not fill it up.
-#[inline(never)]
 fn trimmed(text: &[u8]) -> &[u8]
     ensures { result.now ≡ trimmed text.now }
 {
@@ -126,16 +119,14 @@ fn trimmed(text: &[u8]) -> &[u8]
 }
 
 /// What the bytes of a text show: nothing where all of them fill it up.
-#[inline(always)]
-pub(crate) fn text_without_filling(text: &[u8]) -> Seen<'_>
-    ensures value { seen_parts result ≡ shown_text (trimmed text.now) }
-    ensures places { HasFewPlaces result }
+pub(crate) fn shown_text(text: &[u8]) -> Shown<'_>
+    ensures { shown_parts result ≡ shown_text (trimmed text.now) }
 {
     let kept = trimmed(text);
     if kept.is_empty() {
-        return Seen::Absent;
+        return Shown::Absent;
     }
-    Seen::Text(kept)
+    Shown::Text(kept)
 }
 
 /// What the fields of a definition show of a message: the name of each, and what it shows. It borrows

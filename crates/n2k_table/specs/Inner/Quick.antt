@@ -1,15 +1,29 @@
--- What is kept of a number of few bits, and what it shows by that.
+-- What the fast path for fields of few bits keeps of a field, and what it answers.
 use Rattle.std.specs.Prelude.{◌≡◌, ◌≤◌, ℕ, ℤ, pos, neg_ℤ, ◌+◌, ◌-◌, ◌*◌, Bool, nat_le, Option, Some, None, if◌then◌else◌}
+use Rattle.n2k_table.specs.declared.quick.Quick.{Quick}
+use Rattle.n2k_table.specs.declared.quick.Quick.TheVariants as code
 use Rattle.n2k_table.specs.declared.quick.Scale.{Scale}
 use Rattle.n2k_table.specs.declared.short.Short.{Short}
 use Rattle.n2k_table.specs.declared.resolution.Resolution.{Resolution}
 use Rattle.n2k_table.specs.Bits.{greatest}
 use Rattle.n2k_table.specs.Field.{Meaning, number as number_meaning, named, text, bytes}
-use Rattle.n2k_table.specs.Shown.{ShownParts, absent, number}
+use Rattle.n2k_table.specs.Shown.{ShownParts, absent, number, name}
 
 -- the number that a size and a sign are
 abbrev pub short_value : Short → ℤ
 short_value n = if n.below then neg_ℤ (pos n.size) else pos n.size
+
+-- the answer as parts
+abbrev pub quick_parts : Quick → ShownParts
+quick_parts code.Absent = absent
+quick_parts (code.Number n) = number (short_value n) n.decimals
+quick_parts (code.Name n) = name n.now
+
+-- a number that is answered has at most 18 digits after the dot
+abbrev pub HasFewPlaces : Quick → Type 0
+HasFewPlaces code.Absent = Unit {0}
+HasFewPlaces (code.Number n) = n.decimals ≤ 18
+HasFewPlaces (code.Name n) = Unit {0}
 
 -- how many values of n bits say that none is there, from the greatest down
 abbrev pub nones : ℕ → ℕ

@@ -4,10 +4,10 @@ use Rattle.std.specs.Int.{w128}
 use Rattle.std.specs.Prelude.{FitsSigned}
 use Rattle.n2k_table.specs.Shown.{number, says_none}
 use Rattle.n2k_table.proofs.Scaled.{product_is, shows_product}
-use Rattle.n2k_table.proofs.shown.long_number.Goals as goal
+use Rattle.n2k_table.proofs.shown.shown_number.Goals as goal
 
-pub returns-clause-value : goal.returns-clause-value
-returns-clause-value c =
+pub returns : goal.returns
+returns c =
     let value = c.signed_value-value.result in
     let resolution = c.args.resolution in
     let fits_value : FitsSigned w128 value = search rules in
