@@ -1,4 +1,4 @@
--- What a complete group is in order: the frames of one transmission.
+-- What a complete group is in order: frames as one transmission leaves them. That they were sent in one, no log shows.
 use Rattle.std.specs.Prelude.{◌≡◌, ℕ, ◌+◌, true, List, [], ◌∷◌, ◌++◌, map, Option}
 use Rattle.std.specs.List.{All, range_with_len}
 use Rattle.n2k_wire.specs.declared.entry.Entry.{Entry}

@@ -122,8 +122,8 @@ pub fn heals_in_order()
         → Heals rule kind front back x group }
 {}
 
-/// In order each message of a group is of one transmission: its frames stand in the log in the order of their
-/// numbers, 0 to the last, with no other frame of the key between them.
+/// In order the frames of each message of a group stand in the log in the order of their numbers, 0 to the last, with
+/// no other frame of the key between them.
 pub fn one_transmission()
     ensures groups { (rule : Rule) (kind : ℕ → Option Kind) (es : List Entry) (key : Key) → rule.in_order ≡ true
         → AreTransmissions rule kind es key }

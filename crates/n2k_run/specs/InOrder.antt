@@ -21,7 +21,7 @@ pub record ComesAlone (t : TableParts) (es : List Entry) (m : PacketParts) : Typ
   pub stands : entry_at es line ≡ Some entry
   pub is : alone (kind t) entry ≡ Some m
 
--- The message was sent in these frames: the log has them by rising number, from 0 to the last, with no other frame of
+-- The message is made of these frames: the log has them by rising number, from 0 to the last, with no other frame of
 -- their key between them; they are those that its length asks for; and it has their data, with the stamp, the
 -- priority and the identifier of the last.
 pub record ComesInOrder (t : TableParts) (es : List Entry) (m : PacketParts) : Type 0 where

@@ -99,7 +99,8 @@ pub record IsCut (o : Output) (stands : List Entry → Type 0) (before after : D
   pub gained : Gained o before after (entries o.packing (whole_lines came))
   pub holds : stands (entries o.packing (whole_lines came))
 
--- After TooManyLines the run stands at the last number: it has taken as many lines as are counted, and one more came.
+-- After TooManyLines the run stands at the last number: it has taken as many lines as are counted, and the bytes, where
+-- they are known, have one more.
 pub record IsFull (o : Output) (stands : List Entry → Type 0) (before after : Devices) : Type 0 where
   pub taken : List Entry
   pub full : o.counted + length taken ≡ most_lines

@@ -225,7 +225,7 @@ pub fn run_parts<W: Sink, E: Sink>(
         let after = sinks_seen W.Sink E.Sink writer.new reporter.new in
         IfOk result (PrintsLog table.now options (concat (map (λ part. part.now) parts.now)) before after) }
 
-    // In order each line that was printed tells one message: one that is a line by itself, or one transmission.
+    // In order each line that was printed tells one message: a line by itself, or frames in order with nothing between.
     ensures in_order { options.window.in_order ≡ true →
         let before = sinks_seen W.Sink E.Sink writer.old reporter.old in
         let after = sinks_seen W.Sink E.Sink writer.new reporter.new in
