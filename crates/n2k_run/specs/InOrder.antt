@@ -1,5 +1,5 @@
 -- What is printed in order, the rule for a log that was taken at the bus: each line tells a message that is one by
--- itself, or that was sent in frames which the log has one behind the other.
+-- itself, or one of frames that the log has by rising number, with none of their key between.
 use Rattle.std.specs.Prelude.{◌≡◌, ◌⊎◌, ℕ, true, List, [], ◌∷◌, ◌++◌, All, Some}
 use Rattle.std.specs.Io.KnownBytes.{Appends}
 use Rattle.n2k_wire.specs.declared.entry.Entry.{Entry}
