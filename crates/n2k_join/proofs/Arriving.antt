@@ -1,6 +1,6 @@
 -- Scattered frames arrive whole.
-use Rattle.std.proofs.Common.{◌≡◌, ◌<◌, ◌+◌, ℕ, true, List, [], ◌∷◌, ◌++◌, length, refl, ap, subst, ◌∙◌, sym, Option, Some, None}
-use Rattle.std.specs.Prelude.{find, flat_map, filter_map, map, option_map, option_and_then, option_to_list}
+use Rattle.std.proofs.Common.{◌≡◌, ◌<◌, ◌+◌, ℕ, true, List, [], ◌∷◌, length, refl, ap, subst, ◌∙◌, sym, Option, Some, None}
+use Rattle.std.specs.Prelude.{find, option_map, option_and_then}
 use Rattle.std.specs.Option.{option_or}
 use Rattle.std.specs.List.{AllByRecursion, AllZip, last_or, range_with_len}
 use Rattle.std.proofs.lemmas.List.Elements.{recursion_from_All}
@@ -21,6 +21,7 @@ use Rattle.n2k_join.proofs.Stretches.{IsStretch, cut_stretches, GoesOn, goes_on-
 use Rattle.n2k_join.proofs.Lines.{RiseFrom, all_with, rise-filter, frames-rise, frames_found}
 use Rattle.n2k_join.proofs.GroupLines.{IsGroup, IsDone, LastFrame, last_frame, all-joined, done_found}
 use Rattle.n2k_join.specs.Window.{Rule}
+use Rattle.n2k_join.proofs.Rising.{filter_map-none}
 
 -- what R gives of the second list
 pub zip-all : {X Y : Type 0} (R : X → Y → Type 0) (Q : Y → Type 0) → ((x : X) (y : Y) → R x y → Q y) → (xs : List X) (ys : List Y) → AllZip R xs ys → AllByRecursion Q ys
@@ -156,10 +157,6 @@ AllWhole ends fs = (k : Key) → AllByRecursion (λ g. complete g ≡ true) (cut
 broken_among-none : (w : Rule) (begun line : ℕ) (gs : List (List Frame)) → AllByRecursion (λ g. complete g ≡ true) gs → broken_among w begun line gs ≡ None
 broken_among-none w begun line [] each = refl
 broken_among-none w begun line (g ∷ gs) each = rw each.0 (broken_among-none w begun line gs each.1)
-
-pub filter_map-none : {X Y : Type 0} (h : X → Option Y) → ((x : X) → h x ≡ None) → (xs : List X) → filter_map h xs ≡ []
-filter_map-none h e [] = refl
-filter_map-none h e (x ∷ xs) = rw (e x) (filter_map-none h e xs)
 
 pub none_broken : (w : Rule) (fs : List Frame) → AllWhole (within w) fs → (line : ℕ) → broken_with w fs line ≡ []
 unfolding broken_with

@@ -1,23 +1,22 @@
 -- Which groups are broken at a line: those of the last line of a log, and that earlier lines keep theirs.
-use Rattle.std.proofs.Common.{◌≡◌, ◌==◌, ◌≤◌, ◌<◌, ◌+◌, ℕ, Bool, true, false, cond, not, ◌||◌, ◌&&◌, nat_le, min, List, [], ◌∷◌, ◌++◌, length, map, refl, sym, ap, ◌∙◌, subst, arith, Option, Some, None, option_map, option_and_then, option_to_list, filter, filter_map}
+use Rattle.std.proofs.Common.{◌≡◌, ◌==◌, ◌≤◌, ◌<◌, ◌+◌, ℕ, Bool, true, false, cond, not, ◌||◌, ◌&&◌, nat_le, min, List, [], ◌∷◌, ◌++◌, length, refl, sym, ap, ◌∙◌, subst, arith, Option, Some, None, option_map, option_and_then, option_to_list, filter_map}
 use Rattle.std.proofs.Math.Nat.{min-eq_left, min-eq_right, min-le_right}
 use Rattle.std.specs.Prelude.{IfSome}
-use Rattle.std.specs.List.{range_with_len, cons_option, last_or, AllByRecursion}
+use Rattle.std.specs.List.{range_with_len, last_or, AllByRecursion}
 use Rattle.std.proofs.lemmas.List.{append-nil}
-use Rattle.std.proofs.lemmas.Bool.{eqb-true, eq-eqb, ne_eqb, or_parts, and_right, lt-leb, le-leb, lt-ltb, ltb-true, ltb-false, leb-true, leb-false, false≢true}
-use Rattle.std.proofs.lemmas.Option.{none-some, same_Some}
+use Rattle.std.proofs.lemmas.Bool.{eqb-true, eq-eqb, ne_eqb, or_parts, leb-true, leb-false}
 use Rattle.n2k_join.specs.declared.broken.Broken.{Broken}
 use Rattle.n2k_join.specs.Frames.{Key, same_key, Frame, of_key, frame_at}
-use Rattle.n2k_join.specs.Groups.{Ends, closes, repeats, misfits, is_late, within, complete, incomplete, open_of, cut, first}
-use Rattle.n2k_join.specs.Open.{Group, group_of, where_begun, begun_at, open_groups, is_waiting, waiting, open_within}
-use Rattle.n2k_join.specs.Messages.{broken_of, told_of, broken_line, broken_among, broken_by, broken_begun, broken_with}
-use Rattle.n2k_join.specs.State.{held_of, held, Rise, IsOpen, AreOpen}
+use Rattle.n2k_join.specs.Groups.{closes, misfits, is_late, within, complete, incomplete, cut, first}
+use Rattle.n2k_join.specs.Open.{Group, group_of, where_begun, begun_at, open_groups}
+use Rattle.n2k_join.specs.Messages.{broken_of, told_of, broken_among, broken_by, broken_begun, broken_with}
+use Rattle.n2k_join.specs.State.{held_of}
 use Rattle.n2k_join.proofs.Carried.{same_bool}
-use Rattle.n2k_join.proofs.Cuts.{grown, cut-push, last-cut, so_far, within-ends}
-use Rattle.n2k_join.proofs.Given.{IsUpTo, first-le, up_to}
-use Rattle.n2k_join.proofs.Keys.{same_key-true, same_key-refl, same_key-sym, of_key-same, of_key-other}
-use Rattle.n2k_join.proofs.Opened.{IsLog, IsFine, key_at, none_at, at_last, at_line, open_at, begun_at-key, begun_at-is, open_of-so_far, so_far-fine, numbers_of_key, ends-kept, first-push}
-use Rattle.n2k_join.proofs.Rising.{find-passes, filter_map-range, filter_map-push, filter_map-fused, range-push, rise-least, all-map}
+use Rattle.n2k_join.proofs.Cuts.{grown, last-cut, within-ends}
+use Rattle.n2k_join.proofs.Given.{IsUpTo, first-le, up_to, cut_of_same, cut_of_other}
+use Rattle.n2k_join.proofs.Keys.{same_key-refl, same_key-sym}
+use Rattle.n2k_join.proofs.Opened.{IsLog, IsFine, none_at, at_last, at_line, open_at, begun_at-key, so_far-fine, numbers_of_key, ends-kept, first-push}
+use Rattle.n2k_join.proofs.Rising.{find-passes, filter_map-range, filter_map-push, filter_map-fused, range-push}
 use Rattle.n2k_join.specs.Window.{Rule}
 
 -- ---- the groups of a key
@@ -165,18 +164,12 @@ among-stays w n j i (g ∷ h ∷ k ∷ gs) x some up l =
 -- ---- the groups of a log
 
 module _ (w : Rule) (some : 0 < w.window) where
-  cut_of_same : (k : Key) (fs : List Frame) (x : Frame) → same_key k x.key ≡ true → cut (within w) (of_key k (fs ++ x ∷ [])) ≡ grown (within w) (cut (within w) (of_key k fs)) x
-  cut_of_same k fs x e = ap (cut (within w)) (of_key-same k fs x e) ∙ cut-push (within w) (of_key k fs) x
-
-  cut_of_other : (k : Key) (fs : List Frame) (x : Frame) → same_key k x.key ≡ false → cut (within w) (of_key k (fs ++ x ∷ [])) ≡ cut (within w) (of_key k fs)
-  cut_of_other k fs x e = ap (cut (within w)) (of_key-other k fs x e)
-
   begun-stays : (n : ℕ) (fs : List Frame) (x : Frame) (i j : ℕ) → IsLog n fs → i < x.line → (x.line ≡ j → ⊥) → broken_begun w (fs ++ x ∷ []) i j ≡ broken_begun w fs i j
   begun-stays n fs x i j log l other = ap (option_and_then (broken_by w (fs ++ x ∷ []) i)) (at_line j fs x other) ∙ by (frame_at j fs)
     where
       keyed : (f : Frame) (b : Bool) → same_key f.key x.key ≡ b → broken_by w (fs ++ x ∷ []) i f ≡ broken_by w fs i f
-      keyed f true e = ap (λ gs. option_map (broken_of f.key) (broken_among w f.line i gs)) (cut_of_same f.key fs x e) ∙ ap (option_map (broken_of f.key)) (among-stays w n f.line i (cut (within w) (of_key f.key fs)) x some (up_to (within w) n f.key fs log) l)
-      keyed f false e = ap (λ gs. option_map (broken_of f.key) (broken_among w f.line i gs)) (cut_of_other f.key fs x e)
+      keyed f true e = ap (λ gs. option_map (broken_of f.key) (broken_among w f.line i gs)) (cut_of_same (within w) f.key fs x e) ∙ ap (option_map (broken_of f.key)) (among-stays w n f.line i (cut (within w) (of_key f.key fs)) x some (up_to (within w) n f.key fs log) l)
+      keyed f false e = ap (λ gs. option_map (broken_of f.key) (broken_among w f.line i gs)) (cut_of_other (within w) f.key fs x e)
 
       by : (o : Option Frame) → option_and_then (broken_by w (fs ++ x ∷ []) i) o ≡ option_and_then (broken_by w fs i) o
       by None = refl
@@ -233,25 +226,20 @@ module _ (w : Rule) (some : 0 < w.window) where
       ap (option_and_then (broken_by w (fs ++ x ∷ []) x.line)) (at_line j fs x other) ∙ by (frame_at j fs) refl
       ∙ sym (ap (option_and_then (told_if (breaks x))) (begun_at-key (within w) (within-ends w some) fs j))
     where
-      last_of : Key → Option (List Frame)
-      last_of k = last_or None (cut (within w) (of_key k fs))
-
       fine : (k : Key) (g : List Frame) → last_or None (cut (within w) (of_key k fs)) ≡ Some g → IsFine g
-      fine k g e = at_some (so_far (within w) (of_key k fs)) (so_far-fine (within w) (within-ends w some) (of_key k fs) (numbers_of_key (within w) (within-ends w some) k fs log.numbers)) (sym (last-cut (within w) (of_key k fs)) ∙ e)
-        where
-          at_some : (o : Option (List Frame)) → IfSome o IsFine → o ≡ Some g → IsFine g
-          at_some None h e = absurd (none-some g e)
-          at_some (Some h) fine e = subst IsFine (same_Some h g e) fine
+      fine k g e =
+          subst (λ s. IfSome s IsFine) (sym (last-cut (within w) (of_key k fs)) ∙ e)
+          (so_far-fine (within w) (within-ends w some) (of_key k fs) (numbers_of_key (within w) (within-ends w some) k fs log.numbers))
 
       keyed : (f : Frame) (b : Bool) → same_key f.key x.key ≡ b → broken_by w (fs ++ x ∷ []) x.line f ≡ option_and_then (told_if (breaks x)) (option_and_then (where_begun f.line f.key) (option_and_then incomplete (last_or None (cut (within w) (of_key f.key fs)))))
       keyed f true e =
-          ap (λ gs. option_map (broken_of f.key) (broken_among w f.line x.line gs)) (cut_of_same f.key fs x e)
+          ap (λ gs. option_map (broken_of f.key) (broken_among w f.line x.line gs)) (cut_of_same (within w) f.key fs x e)
           ∙ ap (option_map (broken_of f.key)) (among-grown w n f.line (cut (within w) (of_key f.key fs)) x some (up_to (within w) n f.key fs log) l)
           ∙ told_at (λ g. within w g x && nat_le x.line (first g + w.window)) (breaks x) f.key f.line (last_or None (cut (within w) (of_key f.key fs)))
           (λ g is c b. ap (λ t. t && nat_le x.line (first g + w.window)) (sym (ends-kept (within w) (within-ends w some) f.key g x (fine f.key g is)))
           ∙ sym (ap (λ t. cond t (within w (held_of (group_of f.key g)) x && nat_le x.line (first g + w.window)) (first g + w.window == x.line)) (same_key-sym x.key f.key ∙ e)))
       keyed f false e =
-          ap (λ gs. option_map (broken_of f.key) (broken_among w f.line x.line gs)) (cut_of_other f.key fs x e)
+          ap (λ gs. option_map (broken_of f.key) (broken_among w f.line x.line gs)) (cut_of_other (within w) f.key fs x e)
           ∙ ap (option_map (broken_of f.key)) (among-last w n f.line x.line (cut (within w) (of_key f.key fs)) (up_to (within w) n f.key fs log) l)
           ∙ told_at (λ g. first g + w.window == x.line) (breaks x) f.key f.line (last_or None (cut (within w) (of_key f.key fs)))
           (λ g is c b. sym (ap (λ t. cond t (within w (held_of (group_of f.key g)) x && nat_le x.line (first g + w.window)) (first g + w.window == x.line)) (same_key-sym x.key f.key ∙ e)))
@@ -266,7 +254,7 @@ module _ (w : Rule) (some : 0 < w.window) where
   begun-own : (n : ℕ) (fs : List Frame) (x : Frame) → IsLog n fs → n < x.line → broken_begun w (fs ++ x ∷ []) x.line x.line ≡ None
   begun-own n fs x log l =
       ap (option_and_then (broken_by w (fs ++ x ∷ []) x.line)) (at_last n fs x log l)
-      ∙ ap (λ gs. option_map (broken_of x.key) (broken_among w x.line x.line gs)) (cut_of_same x.key fs x (same_key-refl x.key))
+      ∙ ap (λ gs. option_map (broken_of x.key) (broken_among w x.line x.line gs)) (cut_of_same (within w) x.key fs x (same_key-refl x.key))
       ∙ ap (option_map (broken_of x.key)) (among-own w n (cut (within w) (of_key x.key fs)) x some (up_to (within w) n x.key fs log) l)
 
   -- at a line without a frame: those whose window ends there

@@ -4,7 +4,7 @@ use mathlib.Core.Path.{fun_ext}
 use Rattle.std.specs.Prelude.{is_some}
 use Rattle.std.specs.Option.{option_or}
 use Rattle.std.specs.List.{range_with_len, list_all}
-use Rattle.std.proofs.lemmas.Bool.{or_parts, and_parts, and_from, false≢true, eqb-true, eq-eqb}
+use Rattle.std.proofs.lemmas.Bool.{or_parts, and_parts, and_from, false≢true, eqb-true, eq-eqb, or_left, or_right}
 use Rattle.n2k_join.specs.Frames.{Frame, most_frames}
 use Rattle.n2k_join.specs.Groups.{complete, carried, has_number, has_twice, total, total_by, last_number, has_all, is_within, data_of}
 use Rattle.n2k_join.specs.Open.{piece_at, pieces_of}
@@ -35,18 +35,20 @@ is_some-or (Some x) p = refl
 pub has_number-append : (g h : List Frame) (n : ℕ) → has_number n (g ++ h) ≡ (has_number n g || has_number n h)
 has_number-append g h n = ap is_some (carried-append g h n) ∙ is_some-or (carried g n) (carried h n)
 
+-- a test of two numbers may ask of either first
+pub eqb-sym : (a b : ℕ) → (a == b) ≡ (b == a)
+eqb-sym a b = same_bool _ _ (λ e. eq-eqb b a (sym (eqb-true a b e))) (λ e. eq-eqb a b (sym (eqb-true b a e)))
+
+-- a frame more has its own number, and those of the others
+pub has_number-cons : (f : Frame) (fs : List Frame) (n : ℕ) → has_number n (f ∷ fs) ≡ ((f.number == n) || has_number n fs)
+has_number-cons f fs n =
+    elim (f.number == n) as (λ b. is_some (cond b (Some f.bytes) (carried fs n)) ≡ (b || has_number n fs))
+    [ true ↦ refl | false ↦ refl ]
+
 has_one : (f x : Frame) → has_number f.number (x ∷ []) ≡ (f.number == x.number)
-has_one f x = same_bool _ _ there back
-  where
-    there_by : (b : Bool) → (x.number == f.number) ≡ b → is_some (cond b (Some x.bytes) None) ≡ true → (f.number == x.number) ≡ true
-    there_by true e h = eq-eqb f.number x.number (sym (eqb-true x.number f.number e))
-    there_by false e h = absurd (false≢true h)
-
-    there : has_number f.number (x ∷ []) ≡ true → (f.number == x.number) ≡ true
-    there = there_by (x.number == f.number) refl
-
-    back : (f.number == x.number) ≡ true → has_number f.number (x ∷ []) ≡ true
-    back e = ap (λ b. is_some (cond b (Some x.bytes) None)) (eq-eqb x.number f.number (sym (eqb-true f.number x.number e)))
+has_one f x =
+    elim (x.number == f.number) as (λ b. is_some (cond b (Some x.bytes) None) ≡ b) [ true ↦ refl | false ↦ refl ]
+    ∙ eqb-sym x.number f.number
 
 -- where no number stands twice, one does with a frame more exactly where that frame's does
 pub has_twice-push : (g : List Frame) (x : Frame) → has_twice g ≡ false → has_twice (g ++ x ∷ []) ≡ has_number x.number g
@@ -67,11 +69,8 @@ within_there last (f ∷ g) n w h = by (f.number == n) refl h (within_there last
 pub within_back : (last : ℕ) (g : List Frame) → ((n : ℕ) → has_number n g ≡ true → nat_le n last ≡ true) → is_within last g ≡ true
 within_back last [] all = refl
 within_back last (f ∷ g) all =
-    and_from _ _ (all f.number (ap (λ b. is_some (cond b (Some f.bytes) (carried g f.number))) (eq-eqb f.number f.number refl)))
-    (within_back last g (λ n h. all n (also n h)))
-  where
-    also : (n : ℕ) → has_number n g ≡ true → has_number n (f ∷ g) ≡ true
-    also n h = elim (f.number == n) as (λ b. is_some (cond b (Some f.bytes) (carried g n)) ≡ true) [ true ↦ refl | false ↦ h ]
+    and_from _ _ (all f.number (has_number-cons f g f.number ∙ or_left _ _ (eq-eqb f.number f.number refl)))
+    (within_back last g (λ n h. all n (has_number-cons f g n ∙ or_right _ _ h)))
 
 within-same : (last : ℕ) (g h : List Frame) → carried g ≡ carried h → is_within last g ≡ is_within last h
 within-same last g h e =

@@ -1,12 +1,13 @@
 -- How many of the numbers below a limit a group has: as many as it has frames, where none comes twice.
-use Rattle.std.proofs.Common.{◌≡◌, ℕ, zero, suc, ◌+◌, ◌<◌, ◌≤◌, Bool, true, false, cond, ◌&&◌, ◌||◌, List, [], ◌∷◌, length, refl, ap, ◌∙◌, sym, arith, Some, inl, inr}
-use Rattle.std.specs.Prelude.{◌==◌, is_some, count_by, if◌then◌else◌}
+use Rattle.std.proofs.Common.{◌≡◌, ℕ, zero, suc, ◌+◌, ◌<◌, ◌≤◌, Bool, true, false, cond, ◌&&◌, ◌||◌, List, [], ◌∷◌, length, refl, ap, ◌∙◌, sym, arith, inl, inr}
+use Rattle.std.specs.Prelude.{◌==◌, count_by}
 use Rattle.std.specs.List.{range_with_len, list_all, AllByRecursion}
 use Rattle.std.proofs.lemmas.Bool.{false≢true, eqb-true, eq-eqb, ne_eqb, or_parts, cases_eq}
 use Rattle.std.proofs.lemmas.List.Sums.{sum_by-cons, count_by-le-length}
 use Rattle.std.proofs.lemmas.List.FromFn.{length-range_with_len}
 use Rattle.n2k_join.specs.Frames.{Frame}
-use Rattle.n2k_join.specs.Groups.{carried, has_number, has_twice}
+use Rattle.n2k_join.specs.Groups.{has_number, has_twice}
+use Rattle.n2k_join.proofs.Carried.{has_number-cons}
 
 pub count_cons : {X : Type 0} (p : X → Bool) (x : X) (xs : List X) → count_by p (x ∷ xs) ≡ cond (p x) 1 0 + count_by p xs
 count_cons p x xs = sum_by-cons (λ y. cond (p y) 1 0) x xs
@@ -45,14 +46,6 @@ count_none (n ∷ ns) = rw (count_cons (λ k. false) n ns, count_none ns) refl
 count_agree : (p q : ℕ → Bool) → ((n : ℕ) → p n ≡ q n) → (ns : List ℕ) → count_by p ns ≡ count_by q ns
 count_agree p q e [] = refl
 count_agree p q e (n ∷ ns) = rw (count_cons p n ns, count_cons q n ns, e n, count_agree p q e ns) refl
-
--- a frame more has its own number, and those of the others
-pub has_number-cons : (f : Frame) (fs : List Frame) (n : ℕ) → has_number n (f ∷ fs) ≡ (f.number == n) || has_number n fs
-has_number-cons f fs n = by_test (f.number == n)
-  where
-    by_test : (b : Bool) → is_some (if b then Some f.bytes else carried fs n) ≡ b || is_some (carried fs n)
-    by_test true = refl
-    by_test false = refl
 
 -- the numbers below m that the frames have
 abbrev pub numbers_below : ℕ → List Frame → ℕ

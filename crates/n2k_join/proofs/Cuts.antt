@@ -5,13 +5,10 @@ use Rattle.std.specs.List.{last_or, flat_map, AllByRecursion}
 use Rattle.std.proofs.lemmas.List.Sums.{fold_push}
 use Rattle.n2k_join.specs.Frames.{Frame}
 use Rattle.n2k_join.specs.Window.{Rule}
-use Rattle.n2k_join.proofs.Carried.{same_bool}
+use Rattle.n2k_join.proofs.Carried.{same_bool, has_number-cons}
 use Rattle.std.proofs.lemmas.Bool.{or_left, or_right, or_from, lt-leb, le-leb, leb-true, le-ltb, eqb-true, eq-eqb, false≢true, and_right}
 use Rattle.n2k_join.specs.Groups.{Ends, closes, repeats, has_from, falls_back, misfits, is_late, within, cut_from, cut, carried, has_number, first}
-
-pub all-push : {A : Type 0} (P : A → Type 0) (xs : List A) (x : A) → AllByRecursion P xs → P x → AllByRecursion P (xs ++ x ∷ [])
-all-push P [] x h px = (px, tt)
-all-push P (y ∷ ys) x h px = (h.0, all-push P ys x h.1 px)
+use Rattle.n2k_join.proofs.Rising.{all-append}
 
 -- A test that ends groups: a number that comes again ends, and what else does depends on what a group carries and where
 -- it began alone, and not on frames of the line where it began.
@@ -31,10 +28,12 @@ from_has n [] e = absurd (false≢true e)
 from_has n (f ∷ g) e = by (nat_le n f.number) refl e (from_has n g)
   where
     by : (b : Bool) → nat_le n f.number ≡ b → (b || has_from n g) ≡ true → (has_from n g ≡ true → HasFrom n g) → HasFrom n (f ∷ g)
-    by true l e later = record { number = f.number; least = leb-true n f.number l; has = ap (λ b. is_some (cond b (Some f.bytes) (carried g f.number))) (eq-eqb f.number f.number refl) }
+    by true l e later =
+        let has = has_number-cons f g f.number ∙ or_left _ _ (eq-eqb f.number f.number refl) in
+        record { number = f.number; least = leb-true n f.number l; has = has }
     by false l e later =
         let h = later e in
-        record { number = h.number; least = h.least; has = elim (f.number == h.number) as (λ b. is_some (cond b (Some f.bytes) (carried g h.number)) ≡ true) [ true ↦ refl | false ↦ h.has ] }
+        record { number = h.number; least = h.least; has = has_number-cons f g h.number ∙ or_right _ _ h.has }
 
 pub has-from : (n m : ℕ) (g : List Frame) → n ≤ m → has_number m g ≡ true → has_from n g ≡ true
 has-from n m [] l e = absurd (false≢true e)
@@ -118,7 +117,7 @@ module _ (ends : Ends) where
   next-all : (P : Frame → Type 0) (o : Option (List Frame)) (x : Frame) → P x → IfSome o (AllByRecursion P) → AllByRecursion P (next ends o x)
   next-all P None x px h = (px, tt)
   next-all P (Some g) x px h =
-      elim (closes ends g x) as (λ b. AllByRecursion P (cond b (x ∷ []) (g ++ x ∷ []))) [ true ↦ (px, tt) | false ↦ all-push P g x h px ]
+      elim (closes ends g x) as (λ b. AllByRecursion P (cond b (x ∷ []) (g ++ x ∷ []))) [ true ↦ (px, tt) | false ↦ all-append P g (x ∷ []) h (px, tt) ]
 
   -- what holds of each frame holds of those of the last group
   so_far-all_from : (P : Frame → Type 0) (o : Option (List Frame)) (fs : List Frame) → IfSome o (AllByRecursion P) → AllByRecursion P fs → IfSome (fold (taken_in ends) o fs) (AllByRecursion P)
@@ -162,7 +161,7 @@ module _ (ends : Ends) where
   cut_from-all P g [] h all = (h, tt)
   cut_from-all P g (f ∷ fs) h all =
       elim (closes ends g f) as (λ b. AllByRecursion (AllByRecursion P) (cond b (g ∷ cut_from ends (f ∷ []) fs) (cut_from ends (g ++ f ∷ []) fs)))
-      [ true ↦ (h, cut_from-all P (f ∷ []) fs (all.0, tt) all.1) | false ↦ cut_from-all P (g ++ f ∷ []) fs (all-push P g f h all.0) all.1 ]
+      [ true ↦ (h, cut_from-all P (f ∷ []) fs (all.0, tt) all.1) | false ↦ cut_from-all P (g ++ f ∷ []) fs (all-append P g (f ∷ []) h (all.0, tt)) all.1 ]
 
   pub cut-all : (P : Frame → Type 0) (fs : List Frame) → AllByRecursion P fs → AllByRecursion (AllByRecursion P) (cut ends fs)
   unfolding cut

@@ -1,5 +1,5 @@
 -- What a saved text spells under a table and a window: its groups are of fast PGNs of that table, whose id it has.
-use Rattle.std.proofs.Common.{◌≡◌, ◌==◌, ℕ, Bool, true, false, List, [], ◌∷◌, length, Option, Some, None, Result, Ok, refl, IfOk}
+use Rattle.std.proofs.Common.{◌≡◌, ◌==◌, ℕ, true, List, [], ◌∷◌, length, Option, Some, None, Ok, refl, IfOk}
 use Rattle.std.specs.Prelude.{All, ◌≤◌, not}
 use Rattle.std.specs.List.{list_any}
 use Rattle.std.specs.Str.{bytes_eq}

@@ -1,7 +1,7 @@
 -- What the last line of a log gives, and that earlier lines keep what they gave.
-use Rattle.std.proofs.Common.{◌≡◌, ◌==◌, ◌≤◌, ◌<◌, ℕ, Bool, true, false, cond, not, ◌||◌, ◌&&◌, List, [], ◌∷◌, ◌++◌, length, map, refl, sym, ap, ◌∙◌, arith, Option, Some, None, option_map, option_and_then, option_to_list, find, flat_map}
+use Rattle.std.proofs.Common.{◌≡◌, ◌==◌, ◌≤◌, ◌<◌, ℕ, Bool, true, false, cond, ◌&&◌, List, [], ◌∷◌, ◌++◌, length, refl, sym, ap, ◌∙◌, arith, Option, Some, None, option_map, option_and_then, find}
 use Rattle.std.specs.List.{last_or, AllByRecursion}
-use Rattle.std.proofs.lemmas.List.{append-nil, length-append}
+use Rattle.std.proofs.lemmas.List.{length-append}
 use Rattle.std.proofs.lemmas.Bool.{eqb-true, eq-eqb, ne_eqb, or_parts}
 use Rattle.n2k_join.specs.Frames.{Key, same_key, Frame, of_key, frame_at}
 use Rattle.n2k_join.specs.Groups.{Ends, closes, complete, cut, first, last_line}
@@ -77,16 +77,17 @@ module _ (ends : Ends) where
       (cut-keeps ends (λ g. 0 < length g) (λ x. omega arith) (λ g x c h. omega (arith, length-append g (x ∷ []))) fs)
       (cut-all ends (λ (f : Frame). f.line ≤ n) fs all))
 
-  last_of : (k : Key) (fs : List Frame) → last_or None (cut ends (of_key k fs)) ≡ so_far ends (of_key k fs)
-  last_of k fs = last-cut ends (of_key k fs)
-
   pub up_to : (n : ℕ) (k : Key) (fs : List Frame) → IsLog n fs → AllByRecursion (IsUpTo n) (cut ends (of_key k fs))
   up_to n k fs log =
       groups-up_to n (of_key k fs)
       (all-map _ (λ (f : Frame). f.line ≤ n) (of_key k fs) (λ f h. h.0.1) (of_key-keeps (λ (f : Frame). (1 ≤ f.line) × (f.line ≤ n)) k fs log.lines))
 
-  cut_of_key : (fs : List Frame) (x : Frame) → cut ends (of_key x.key (fs ++ x ∷ [])) ≡ grown ends (cut ends (of_key x.key fs)) x
-  cut_of_key fs x = ap (cut ends) (of_key-same x.key fs x (same_key-refl x.key)) ∙ cut-push ends (of_key x.key fs) x
+  -- the groups of a key with a frame more of it, and with one of another
+  pub cut_of_same : (k : Key) (fs : List Frame) (x : Frame) → same_key k x.key ≡ true → cut ends (of_key k (fs ++ x ∷ [])) ≡ grown ends (cut ends (of_key k fs)) x
+  cut_of_same k fs x e = ap (cut ends) (of_key-same k fs x e) ∙ cut-push ends (of_key k fs) x
+
+  pub cut_of_other : (k : Key) (fs : List Frame) (x : Frame) → same_key k x.key ≡ false → cut ends (of_key k (fs ++ x ∷ [])) ≡ cut ends (of_key k fs)
+  cut_of_other k fs x e = ap (cut ends) (of_key-other k fs x e)
 
   -- the message of a group that the frame completes
   abbrev pub keyed : Frame → List Frame → Keyed
@@ -97,7 +98,7 @@ module _ (ends : Ends) where
   unfolding gathered
   gathered-last n fs x log l =
       ap (option_and_then (gathered_by ends (fs ++ x ∷ []))) (at_last n fs x log l)
-      ∙ ap (λ gs. option_map (keyed x) (find (is_done_at x.line) gs)) (cut_of_key fs x)
+      ∙ ap (λ gs. option_map (keyed x) (find (is_done_at x.line) gs)) (cut_of_same x.key fs x (same_key-refl x.key))
       ∙ ap (option_map (keyed x))
       (found_last (cut ends (of_key x.key fs)) x
       (all-map (IsUpTo n) (λ g. is_done_at x.line g ≡ false) (cut ends (of_key x.key fs)) (λ g up. done-not x.line g (λ e. omega (arith, last_line-all n g up.lines, l, e))) (up_to n x.key fs log))
@@ -109,12 +110,6 @@ module _ (ends : Ends) where
   gathered-none n i fs log l = ap (option_and_then (gathered_by ends fs)) (none_at n i fs log l)
 
   -- ---- earlier lines keep what they gave
-
-  cut_of_other : (k : Key) (fs : List Frame) (x : Frame) → same_key k x.key ≡ false → cut ends (of_key k (fs ++ x ∷ [])) ≡ cut ends (of_key k fs)
-  cut_of_other k fs x e = ap (cut ends) (of_key-other k fs x e)
-
-  cut_of_same : (k : Key) (fs : List Frame) (x : Frame) → same_key k x.key ≡ true → cut ends (of_key k (fs ++ x ∷ [])) ≡ grown ends (cut ends (of_key k fs)) x
-  cut_of_same k fs x e = ap (cut ends) (of_key-same k fs x e) ∙ cut-push ends (of_key k fs) x
 
   pub gathered-stays : (fs : List Frame) (x : Frame) (i : ℕ) → (x.line ≡ i → ⊥) → gathered ends (fs ++ x ∷ []) i ≡ gathered ends fs i
   unfolding gathered

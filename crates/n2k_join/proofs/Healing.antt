@@ -20,12 +20,12 @@ use Rattle.n2k_join.proofs.Keys.{of_key-append, of_key-keeps}
 use Rattle.n2k_join.proofs.Logs.{frames_from-append, frames-log}
 use Rattle.n2k_join.proofs.BrokenGroups.{last-all}
 use Rattle.n2k_join.proofs.Given.{IsUpTo, first-le, up_to}
-use Rattle.n2k_join.proofs.Counting.{has_number-cons}
 use Rattle.n2k_join.proofs.Stretches.{IsStretch, cut_stretch, goes_on-within, stretch_pieces}
 use Rattle.n2k_join.proofs.Lines.{RiseFrom, all_with, rise-all, rise-weaker, frames-rise}
 use Rattle.n2k_join.proofs.GroupLines.{IsGroup, IsDone, all-front, all-back, all-joined, first_above, done_found}
 use Rattle.n2k_join.proofs.Arriving.{StandsAt, stand, key-rise, brings}
 use Rattle.n2k_join.specs.Window.{Rule}
+use Rattle.n2k_join.proofs.Carried.{has_number-cons}
 
 -- where the group so far ends before a frame, the frames before it and those from it on are cut by themselves
 cut_splits_from : (ends : Ends) (o : Option (List Frame)) (g fs : List Frame) (x : Frame) (rest : List Frame) → ((h : List Frame) → last_or o (cut_from ends g fs) ≡ Some h → closes ends h x ≡ true) → cut_from ends g (fs ++ (x ∷ rest)) ≡ cut_from ends g fs ++ cut_from ends (x ∷ []) rest

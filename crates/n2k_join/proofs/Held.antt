@@ -5,16 +5,17 @@ use mathlib.Core.List.{reverse-cons}
 use mathlib.Core.Logic.{◌⊎◌, inl, inr}
 use Rattle.std.specs.Prelude.{is_some}
 use Rattle.std.specs.Option.{option_or}
-use Rattle.std.specs.List.{AllByRecursion}
+use Rattle.std.specs.List.{AllByRecursion, range_with_len, filter_map}
 use Rattle.std.proofs.lemmas.List.{map-append, length-map, length-reverse}
-use Rattle.std.proofs.lemmas.Bool.{eqb-true, eq-eqb, ne_eqb, or_from, cases_lt, false≢true}
+use Rattle.std.proofs.lemmas.Bool.{eqb-true, eq-eqb, ne_eqb, or_from, cases_lt, false≢true, or_left}
 use Rattle.n2k_join.specs.Frames.{Key, Frame, most_frames}
 use Rattle.n2k_join.specs.Groups.{Ends, complete, carried, has_number, has_twice, first}
 use Rattle.n2k_join.specs.Open.{Piece, Group, piece_at, pieces_of, group_of}
 use Rattle.n2k_join.specs.State.{held_frame, held_of, Rise, IsOpen}
 use Rattle.n2k_join.proofs.Cuts.{next, so_far, so_far-push, IsEnding}
-use Rattle.n2k_join.proofs.Carried.{carried-append, option_or_none, has_twice-push, complete-without_zero}
-use Rattle.n2k_join.proofs.Rising.{look, look-below, look-range, look-filter_map, rise-range, all-range, filter_map-range, find-none, find-passes, all-map}
+use Rattle.n2k_join.proofs.Carried.{carried-append, option_or_none, has_twice-push, complete-without_zero, has_number-cons}
+use Rattle.n2k_join.proofs.Rising.{look, look-below, look-range, look-filter_map, rise-range, all-range, filter_map-range, find-none, find-passes, all-map, all-append}
+use Rattle.std.proofs.lemmas.Option.{none-some, same_Some}
 
 abbrev number_of : Piece → ℕ
 number_of p = p.number
@@ -62,11 +63,8 @@ all-held P Q o each (p ∷ ps) all = (each p all.0, all-held P Q o each ps all.1
 
 pub all-reverse : {X : Type 0} (P : X → Type 0) (xs : List X) → AllByRecursion P xs → AllByRecursion P (reverse xs)
 all-reverse P [] all = tt
-all-reverse P (x ∷ xs) all = subst (AllByRecursion P) (sym (reverse-cons x xs)) (push (reverse xs) (all-reverse P xs all.1))
-  where
-    push : (ys : List _) → AllByRecursion P ys → AllByRecursion P (ys ++ x ∷ [])
-    push [] a = (all.0, tt)
-    push (y ∷ ys) a = (a.0, push ys a.1)
+all-reverse P (x ∷ xs) all =
+    subst (AllByRecursion P) (sym (reverse-cons x xs)) (all-append P (reverse xs) (x ∷ []) (all-reverse P xs all.1) (all.0, tt))
 
 -- any fact of all things holds of those of a list
 pub all-any : {X : Type 0} (P : X → Type 0) → ((x : X) → P x) → (xs : List X) → AllByRecursion P xs
@@ -83,6 +81,41 @@ length-held o ps = length-map (reverse ps) (held_frame o) ∙ length-reverse ps
 pub first-held : (o : Group) (ps : List Piece) → 0 < length ps → first (held_frames o ps) ≡ o.first
 first-held o ps some = first-all o.first (held_frames o ps) (all-held (λ (f : Frame). f.line ≡ o.first) (λ _. Unit {0}) o (λ p _. refl) (reverse ps) (all-any (λ _. Unit {0}) (λ _. tt) (reverse ps))) (omega (arith, some, length-held o ps))
 
+-- ---- the pieces that a look-up finds
+
+abbrev pub pieces_by : (ℕ → Option (List ℕ)) → List Piece
+pieces_by c = filter_map (piece_at c) (range_with_len 0 most_frames)
+
+piece_at-number : (c : ℕ → Option (List ℕ)) (n : ℕ) (p : Piece) → piece_at c n ≡ Some p → p.number ≡ n
+piece_at-number c n p e = by (c n) e
+  where
+    by : (o : Option (List ℕ)) → option_map (λ (bytes : List ℕ). record { number = n; bytes = bytes }) o ≡ Some p → p.number ≡ n
+    by None e = absurd (none-some p e)
+    by (Some b) e = sym (ap number_of (same_Some (record { number = n; bytes = b }) p e))
+
+pub pieces_by-rise : (c : ℕ → Option (List ℕ)) → Rise number_of 0 (pieces_by c)
+pieces_by-rise c = rise-range number_of (piece_at c) (piece_at-number c) 0 0 most_frames (omega arith)
+
+pieces_by-numbers : (c : ℕ → Option (List ℕ)) → AllByRecursion (λ (p : Piece). p.number < most_frames) (pieces_by c)
+pieces_by-numbers c =
+    all-range (λ (p : Piece). p.number < most_frames) (piece_at c) 0 most_frames
+    (λ i p l u e. let at : p.number ≡ i = piece_at-number c i p e in omega (arith, at))
+
+-- they carry what the look-up finds under the numbers that frames can have, and nothing under others
+pub bytes_by : (c : ℕ → Option (List ℕ)) (n : ℕ) → n < most_frames → bytes_in (pieces_by c) n ≡ c n
+bytes_by c n l =
+    ap (option_map (λ (p : Piece). p.bytes))
+    (look-filter_map number_of (piece_at c) (piece_at-number c) 0 most_frames n (omega arith) (omega arith))
+    ∙ elim (c n) as (λ o. option_map (λ (p : Piece). p.bytes) (option_map (λ (bytes : List ℕ). record { number = n; bytes = bytes }) o) ≡ o)
+    [ None ↦ refl | Some b ↦ refl ]
+
+pub bytes_by-past : (c : ℕ → Option (List ℕ)) (n : ℕ) → most_frames ≤ n → bytes_in (pieces_by c) n ≡ None
+bytes_by-past c n l =
+    ap (option_map (λ (p : Piece). p.bytes))
+    (find-none (λ (p : Piece). p.number == n) (pieces_by c)
+    (all-map (λ (p : Piece). p.number < most_frames) (λ (p : Piece). (p.number == n) ≡ false) (pieces_by c)
+    (λ p u. ne_eqb p.number n (λ e. omega (arith, u, e))) (pieces_by-numbers c)))
+
 -- ---- what is kept of a group
 
 -- frames whose numbers are those of five bits
@@ -95,40 +128,21 @@ carried-past (f ∷ g) n all l =
     let other : f.number ≡ n → ⊥ = λ e. omega (arith, all.0, e) in
     ap (λ b. cond b (Some f.bytes) (carried g n)) (ne_eqb f.number n other) ∙ carried-past g n all.1 l
 
-piece_at-number : (c : ℕ → Option (List ℕ)) (n : ℕ) (p : Piece) → piece_at c n ≡ Some p → p.number ≡ n
-piece_at-number c n p e = by (c n) e
-  where
-    number_or : Option Piece → ℕ
-    number_or None = n
-    number_or (Some p) = p.number
-
-    by : (o : Option (List ℕ)) → option_map (λ (bytes : List ℕ). record { number = n; bytes = bytes }) o ≡ Some p → p.number ≡ n
-    by None e = sym (ap number_or e)
-    by (Some b) e = sym (ap number_or e)
-
 pub pieces_of-rise : (g : List Frame) → Rise number_of 0 (pieces_of g)
 unfolding pieces_of
-pieces_of-rise g = rise-range number_of (piece_at (carried g)) (piece_at-number (carried g)) 0 0 most_frames (omega arith)
+pieces_of-rise g = pieces_by-rise (carried g)
 
 pub pieces_of-numbers : (g : List Frame) → AllByRecursion (λ (p : Piece). p.number < most_frames) (pieces_of g)
 unfolding pieces_of
-pieces_of-numbers g = all-range (λ (p : Piece). p.number < most_frames) (piece_at (carried g)) 0 most_frames (λ i p l u e. let at : p.number ≡ i = piece_at-number (carried g) i p e in omega (arith, at))
+pieces_of-numbers g = pieces_by-numbers (carried g)
 
 bytes_in-pieces : (g : List Frame) (n : ℕ) → AreNumbered g → bytes_in (pieces_of g) n ≡ carried g n
 unfolding pieces_of
-bytes_in-pieces g n all = by (cases n)
+bytes_in-pieces g n all = by (cases_lt n most_frames)
   where
-    cases : (n : ℕ) → (n < most_frames) ⊎ (most_frames ≤ n)
-    cases n = cases_lt n most_frames
-
     by : (n < most_frames) ⊎ (most_frames ≤ n) → bytes_in (pieces_of g) n ≡ carried g n
-    by (inl l) =
-        ap (option_map (λ (p : Piece). p.bytes)) (look-filter_map number_of (piece_at (carried g)) (piece_at-number (carried g)) 0 most_frames n (omega arith) (omega arith))
-        ∙ elim (carried g n) as (λ o. option_map (λ (p : Piece). p.bytes) (option_map (λ (bytes : List ℕ). record { number = n; bytes = bytes }) o) ≡ o) [ None ↦ refl | Some b ↦ refl ]
-    by (inr l) =
-        ap (option_map (λ (p : Piece). p.bytes))
-        (find-none (λ (p : Piece). p.number == n) (pieces_of g) (all-map (λ (p : Piece). p.number < most_frames) (λ (p : Piece). (p.number == n) ≡ false) (pieces_of g) (λ p u. ne_eqb p.number n (λ e. omega (arith, u, e))) (pieces_of-numbers g)))
-        ∙ sym (carried-past g n all l)
+    by (inl l) = bytes_by (carried g) n l
+    by (inr l) = bytes_by-past (carried g) n l ∙ sym (carried-past g n all l)
 
 -- what is kept of a group carries what the group does
 pub carried-kept : (k : Key) (g : List Frame) → AreNumbered g → carried (held_of (group_of k g)) ≡ carried g
@@ -137,15 +151,12 @@ carried-kept k g all = fun_ext (λ n. carried-held (group_of k g) 0 (pieces_of g
 pub has_twice-kept : (k : Key) (g : List Frame) → has_twice (held_of (group_of k g)) ≡ false
 has_twice-kept k g = has_twice-held (group_of k g) 0 (pieces_of g) (pieces_of-rise g)
 
-some_carried : (f : Frame) (g : List Frame) → is_some (carried (f ∷ g) f.number) ≡ true
-some_carried f g = ap (λ b. is_some (cond b (Some f.bytes) (carried g f.number))) (eq-eqb f.number f.number refl)
-
 pub pieces_of-some : (g : List Frame) → AreNumbered g → 0 < length g → 0 < length (pieces_of g)
 pieces_of-some [] all some = absurd (omega (arith, some))
 pieces_of-some (f ∷ g) all some = by (pieces_of (f ∷ g)) (bytes_in-pieces (f ∷ g) f.number all)
   where
     by : (ps : List Piece) → bytes_in ps f.number ≡ carried (f ∷ g) f.number → 0 < length ps
-    by [] e = absurd (false≢true (ap is_some e ∙ some_carried f g))
+    by [] e = absurd (false≢true (ap is_some e ∙ has_number-cons f g f.number ∙ or_left _ _ (eq-eqb f.number f.number refl)))
     by (p ∷ ps) e = omega arith
 
 pub first-kept : (k : Key) (g : List Frame) → AreNumbered g → 0 < length g → first (held_of (group_of k g)) ≡ first g
@@ -153,24 +164,32 @@ first-kept k g all some = first-held (group_of k g) (pieces_of g) (pieces_of-som
 
 -- ---- the frames that are held of a group are one group, and that is kept again
 
-numbered : (n : ℕ) (p : Piece) → p.number ≡ n → ◌≡◌ {A = Option Piece} (Some (record { number = n; bytes = p.bytes })) (Some p)
-numbered n p e = λ i. Some (record { number = sym e i; bytes = p.bytes })
-
-pub pieces_of-held : (o : Group) → IsOpen o → pieces_of (held_of o) ≡ o.pieces
+-- pieces that rise are those of the frames that they make
+pub pieces-held : (o : Group) (ps : List Piece) → Rise number_of 0 ps
+    → AllByRecursion (λ (p : Piece). p.number < most_frames) ps → pieces_of (held_frames o ps) ≡ ps
 unfolding pieces_of
-pieces_of-held o is =
-    filter_map-range (piece_at (carried (held_of o))) (piece_in o.pieces) 0 most_frames (λ n l u. same n)
-    ∙ look-range number_of 0 most_frames o.pieces is.rise is.numbers
+pieces-held o ps rise small =
+    filter_map-range (piece_at (carried (held_frames o ps))) (piece_in ps) 0 most_frames (λ n l u. same n)
+    ∙ look-range number_of 0 most_frames ps rise small
   where
-    by : (n : ℕ) (q : Option Piece) → piece_in o.pieces n ≡ q → option_map (λ (bytes : List ℕ). record { number = n; bytes = bytes }) (option_map (λ (p : Piece). p.bytes) q) ≡ q
+    by : (n : ℕ) (q : Option Piece) → piece_in ps n ≡ q
+        → option_map (λ (bytes : List ℕ). record { number = n; bytes = bytes }) (option_map (λ (p : Piece). p.bytes) q) ≡ q
     by n None e = refl
-    by n (Some p) e = numbered n p (eqb-true p.number n (find-passes (λ (p : Piece). p.number == n) o.pieces p e))
+    by n (Some p) e =
+        let is : p.number ≡ n = eqb-true p.number n (find-passes (λ (p : Piece). p.number == n) ps p e) in
+        λ i. Some (record { number = sym is i; bytes = p.bytes })
 
-    same : (n : ℕ) → piece_at (carried (held_of o)) n ≡ piece_in o.pieces n
-    same n = ap (option_map (λ (bytes : List ℕ). record { number = n; bytes = bytes })) (carried-held o 0 o.pieces n is.rise) ∙ by n (piece_in o.pieces n) refl
+    same : (n : ℕ) → piece_at (carried (held_frames o ps)) n ≡ piece_in ps n
+    same n =
+        ap (option_map (λ (bytes : List ℕ). record { number = n; bytes = bytes })) (carried-held o 0 ps n rise)
+        ∙ by n (piece_in ps n) refl
 
 pub group_of-held : (o : Group) → IsOpen o → group_of o.key (held_of o) ≡ o
-group_of-held o is = λ i. record { first = first-held o o.pieces is.nonempty i; key = o.key; pieces = pieces_of-held o is i }
+group_of-held o is = λ i. record {
+  first = first-held o o.pieces is.nonempty i;
+  key = o.key;
+  pieces = pieces-held o o.pieces is.rise is.numbers i;
+}
 
 module _ (ends : Ends) (is_ending : IsEnding ends) where
   so_far-pieces : (o : Group) (least : ℕ) (p : Piece) (ps : List Piece) → Rise number_of least (p ∷ ps) → so_far ends (held_frames o (p ∷ ps)) ≡ Some (held_frames o (p ∷ ps))

@@ -1,15 +1,15 @@
 -- With a rule that asks for the order of the numbers each complete group is one transmission.
-use Rattle.std.proofs.Common.{◌≡◌, ◌==◌, ℕ, zero, suc, ◌+◌, ◌<◌, ◌≤◌, ◌||◌, ◌&&◌, Bool, true, false, cond, not, List, [], ◌∷◌, ◌++◌, length, map, refl, sym, ap, ◌∙◌, subst, arith, append_assoc, nat_le, Option, Some, None, option_map, option_and_then}
+use Rattle.std.proofs.Common.{◌≡◌, ◌==◌, ℕ, zero, suc, ◌+◌, ◌<◌, ◌≤◌, ◌&&◌, Bool, true, false, cond, not, List, [], ◌∷◌, ◌++◌, length, map, refl, sym, ap, ◌∙◌, subst, arith, append_assoc, nat_le, Option, Some, None, option_map, option_and_then}
 use Rattle.std.specs.Prelude.{nat_lt, find, is_some}
-use Rattle.std.specs.List.{range_with_len, list_all, AllByRecursion}
-use Rattle.std.proofs.lemmas.List.{length-append, append-nil}
+use Rattle.std.specs.List.{range_with_len, AllByRecursion}
+use Rattle.std.proofs.lemmas.List.{length-append}
 use Rattle.std.proofs.lemmas.List.Elements.{All-from_recursion}
-use Rattle.std.proofs.lemmas.Bool.{or_parts, or_from, and_parts, leb-true, leb-false, lt-ltb, eqb-true, eqb-false, eq-eqb, ne_eqb, false≢true, true≢false}
+use Rattle.std.proofs.lemmas.Bool.{or_parts, and_parts, leb-true, leb-false, lt-ltb, eqb-true, eqb-false, ne_eqb, false≢true}
 use Rattle.std.proofs.lemmas.Option.{none-some, same_Some}
 use Rattle.n2k_wire.specs.declared.entry.Entry.{Entry}
 use Rattle.n2k_table.specs.declared.definition.Kind.{Kind}
 use Rattle.n2k_join.specs.Frames.{Key, Frame, frames, of_key, frame_at}
-use Rattle.n2k_join.specs.Groups.{Ends, carried, has_number, has_twice, has_all, is_within, last_number, total, complete, first, last_line, data_of, repeats, has_from, falls_back, misfits, is_late, within, closes, cut_from, cut}
+use Rattle.n2k_join.specs.Groups.{carried, has_number, has_twice, has_all, is_within, last_number, total, complete, first, last_line, repeats, has_from, falls_back, misfits, is_late, within, closes, cut_from, cut}
 use Rattle.n2k_join.specs.Messages.{Keyed, message_of, is_done_at, gathered_by, gathered}
 use Rattle.n2k_join.specs.Scattered.{joined}
 use Rattle.n2k_join.specs.State.{Rise}
@@ -20,8 +20,8 @@ use Rattle.n2k_join.proofs.LastFrames.{EndsWith, ends-at, whole-group}
 use Rattle.n2k_join.proofs.SlotLemmas.{all_to}
 use Rattle.n2k_join.proofs.Healing.{cut_joined}
 use Rattle.n2k_join.proofs.Lines.{RiseFrom, rise-all, all_with}
-use Rattle.n2k_join.proofs.GroupLines.{IsGroup, all-back}
-use Rattle.n2k_join.proofs.Rising.{find-all, find-passes, rise-less}
+use Rattle.n2k_join.proofs.GroupLines.{all-back}
+use Rattle.n2k_join.proofs.Rising.{find-all, find-passes}
 
 -- the numbers of frames rise, from one on
 abbrev Numbers : ℕ → List Frame → Type 0

@@ -1,7 +1,7 @@
 -- The step leads from a state that a join can have to another.
-use Rattle.std.proofs.Common.{◌≡◌, ◌==◌, ◌≤◌, ◌<◌, ◌+◌, ◌%◌, ℕ, suc, zero, Bool, true, false, cond, not, List, [], ◌∷◌, ◌++◌, length, map, refl, sym, ap, ◌∙◌, subst, arith, append_assoc, Option, Some, None, option_map, option_and_then, option_to_list, drop, ◌-◌, filter_map}
+use Rattle.std.proofs.Common.{◌≡◌, ◌==◌, ◌≤◌, ◌<◌, ◌+◌, ◌%◌, ℕ, suc, zero, Bool, true, false, cond, not, List, [], ◌∷◌, ◌++◌, length, map, refl, sym, ap, ◌∙◌, subst, arith, append_assoc, Option, Some, None, option_map, option_to_list, drop, ◌-◌, filter_map}
 use mathlib.Core.Logic.{◌⊎◌, inl, inr}
-use Rattle.std.specs.Prelude.{is_some, IfSome, slice_index_or, slice_index}
+use Rattle.std.specs.Prelude.{is_some, slice_index_or, slice_index}
 use Rattle.std.specs.List.{range_with_len, AllByRecursion}
 use Rattle.std.proofs.lemmas.List.{append-nil, length-append, length-map}
 use Rattle.std.proofs.lemmas.Bool.{eqb-true, eq-eqb, leb-true, ltb-true, not-true, or_cases, cases_lt, false≢true}
@@ -14,21 +14,18 @@ use Rattle.n2k_wire.specs.Entry.{IsEntry}
 use Rattle.n2k_wire.specs.Packet.{PacketParts, IsPacketParts, longest_message}
 use Rattle.n2k_table.specs.declared.definition.Kind.{Kind}
 use Rattle.n2k_table.specs.declared.definition.Kind.TheVariants.{Single, Fast}
-use Rattle.n2k_join.specs.declared.counts.Counts.{Counts}
 use Rattle.n2k_join.specs.Counts.{most_lines}
-use Rattle.n2k_join.specs.Frames.{Key, Frame, most_frames, filler, has_total, is_fast_payload, fast_frame, frame_with, frame_by, frame_in, of_key}
-use Rattle.n2k_join.specs.Groups.{Ends, within, carried, complete, open_of, incomplete}
-use Rattle.n2k_join.specs.Open.{Piece, Group, piece_at, pieces_of, group_of, begun_at, open_groups, is_waiting, waiting, ended, open_within}
+use Rattle.n2k_join.specs.Frames.{Key, Frame, most_frames, filler, has_total, is_fast_payload, frame_with, frame_in}
+use Rattle.n2k_join.specs.Groups.{Ends, within, carried}
+use Rattle.n2k_join.specs.Open.{Piece, Group, piece_at, pieces_of, begun_at, open_groups, is_waiting, waiting, ended}
 use Rattle.n2k_join.specs.Messages.{alone, single_by, whole_by, cause_in, fast_cause, told_of, is_unknown}
 use Rattle.n2k_join.specs.State.{State, state, Given, held_of, held, next_line, overdue, step_frames, step_given, step_groups, step_after, counted, one_if, AreCounts, IsKey, IsPiece, HasParts, Rise, AreOpen, IsState, AreFast, AreWaiting}
 use Rattle.n2k_join.specs.Window.{Rule, IsWindow}
 use Rattle.n2k_join.proofs.BrokenGroups.{told_if, breaks}
-use Rattle.n2k_join.proofs.Cuts.{IsEnding, so_far, so_far-all, so_far-keeps, within-ends}
-use Rattle.n2k_join.proofs.Held.{AreNumbered}
-use Rattle.n2k_join.proofs.Keys.{of_key-keeps}
-use Rattle.n2k_join.proofs.Lines.{frame_in-line}
+use Rattle.n2k_join.proofs.Cuts.{IsEnding, so_far, within-ends}
+use Rattle.n2k_join.proofs.Lines.{frame_in-line, frame_of_packet}
 use Rattle.n2k_join.proofs.Logs.{frame_in-number}
-use Rattle.n2k_join.proofs.Opened.{IsLog, IsFine, key_at, at_line, at_last, begun_at-is, open_of-so_far, so_far-fine, numbers_of_key}
+use Rattle.n2k_join.proofs.Opened.{IsLog, key_at, at_line, at_last, begun_group, begun_all}
 use Rattle.n2k_join.proofs.Overdue.{ended-counted, advanced-counted}
 use Rattle.n2k_join.proofs.Resumed.{held_of-all, held_of-any, held-log}
 use Rattle.n2k_join.proofs.Agreeing.{after_longer}
@@ -77,22 +74,14 @@ frame_part line packet header rest parts is fast =
     }
 
 pub frame_in-part : (kind : ℕ → Option Kind) (line : ℕ) (e : Entry) (x : Frame) → IsEntry e → frame_in kind line e ≡ Some x → IsFramePart x
-unfolding fast_frame
-frame_in-part kind line entries.Skip x valid is = absurd (none-some x is)
-frame_in-part kind line (entries.Bad cause) x valid is = absurd (none-some x is)
-frame_in-part kind line (entries.Whole packet) x valid is = absurd (none-some x is)
-frame_in-part kind line (entries.Frame packet) x valid is = by_kind (kind packet.id.pgn) is
+frame_in-part kind line e x valid is =
+    let of = frame_of_packet kind line e x is in
+    subst IsFramePart of.is (by of.packet (subst IsEntry of.entry valid).0 of.packet.payload refl of.fits)
   where
-    by_payload : (payload : List ℕ) → packet.payload ≡ payload → (b : Bool) → is_fast_payload payload ≡ b → cond b (Some (frame_with line packet (slice_index_or payload 0 0) (drop 1 payload))) None ≡ Some x → IsFramePart x
-    by_payload [] at true t is = absurd (false≢true t)
-    by_payload [] at false t is = absurd (none-some x is)
-    by_payload (header ∷ rest) at true t is = subst IsFramePart (same_Some (frame_with line packet header rest) x is) (frame_part line packet header rest valid.0 at t)
-    by_payload (header ∷ rest) at false t is = absurd (none-some x is)
-
-    by_kind : (k : Option Kind) → frame_by k line packet ≡ Some x → IsFramePart x
-    by_kind None is = absurd (none-some x is)
-    by_kind (Some Single) is = absurd (none-some x is)
-    by_kind (Some Fast) is = by_payload packet.payload refl (is_fast_payload packet.payload) refl is
+    by : (p : PacketParts) → IsPacketParts p → (payload : List ℕ) → p.payload ≡ payload → is_fast_payload payload ≡ true
+        → IsFramePart (frame_with line p (slice_index_or payload 0 0) (drop 1 payload))
+    by p parts [] at fast = absurd (false≢true fast)
+    by p parts (header ∷ rest) at fast = frame_part line p header rest parts at fast
 
 -- frames that are held of groups
 pub held-parts : (gs : List Group) → AllByRecursion HasParts gs → AllByRecursion IsFramePart (held gs)
@@ -119,61 +108,32 @@ pieces-parts fs all = all-filter_map IsPiece (piece_at (carried fs)) (range_with
     each : (n : ℕ) (p : Piece) → piece_at (carried fs) n ≡ Some p → IsPiece p
     each n p is = by n p (carried fs n) refl is
 
-key_part : (k : Key) (g : List Frame) → AllByRecursion (λ (f : Frame). IsFramePart f × (f.key ≡ k)) g → 0 < length g → IsKey k
-key_part k [] all some = absurd (omega (arith, some))
-key_part k (f ∷ g) all some = subst IsKey all.0.1 all.0.0.key
+-- what holds of the keys of a group's frames holds of its key
+key_part : (P : Key → Type 0) (k : Key) (g : List Frame) → AllByRecursion (λ (f : Frame). P f.key × (f.key ≡ k)) g → 0 < length g → P k
+key_part P k [] all some = absurd (omega (arith, some))
+key_part P k (f ∷ g) all some = subst P all.0.1 all.0.0
 
 module _ (ends : Ends) (is_ending : IsEnding ends) where
-  begun_at-parts : (fs : List Frame) (i : ℕ) (o : Group) → AreNumbered fs → AllByRecursion IsFramePart fs → begun_at ends fs i ≡ Some o → HasParts o
-  begun_at-parts fs i o numbers parts is = by_open (open_of ends o.key fs) (begun_at-is ends is_ending fs i o is).1 (open_of-so_far ends is_ending o.key fs)
-    where
-      Good : List Frame → Type 0
-      Good g = (AllByRecursion (λ (f : Frame). IsFramePart f × (f.key ≡ o.key)) g) × IsFine g
+  begun_at-parts : (fs : List Frame) (i : ℕ) (o : Group) → AllByRecursion IsFramePart fs → begun_at ends fs i ≡ Some o → HasParts o
+  begun_at-parts fs i o parts is =
+      let begun = begun_group ends is_ending fs i o is in
+      let g = begun.group in
+      let all = begun_all ends is_ending IsFramePart fs o begun parts in
+      let keys = all-map _ (λ (f : Frame). IsKey f.key × (f.key ≡ o.key)) g (λ f p. (p.0.key, p.1)) all in
+      subst HasParts begun.is (record {
+        key = key_part IsKey o.key g keys begun.nonempty;
+        pieces = pieces-parts g (all-map _ IsFramePart g (λ f p. p.0) all);
+      })
 
-      good : (h : List Frame) → Good h → HasParts (group_of o.key h)
-      good h known = record {
-        key = key_part o.key h known.0 known.1.nonempty;
-        pieces = pieces-parts h (all-map (λ (f : Frame). IsFramePart f × (f.key ≡ o.key)) IsFramePart h (λ f p. p.0) known.0);
-      }
-
-      by_test : (h : List Frame) → Good h → (b : Bool) → (g : List Frame) → Some g ≡ cond b None (Some h) → HasParts (group_of o.key g)
-      by_test h known true g same = absurd (none-some g (sym same))
-      by_test h known false g same = subst (λ g. HasParts (group_of o.key g)) (sym (same_Some g h same)) (good h known)
-
-      by_group : (s : Option (List Frame)) → IfSome s (AllByRecursion (λ (f : Frame). IsFramePart f × (f.key ≡ o.key))) → IfSome s IsFine → (g : List Frame) → Some g ≡ option_and_then incomplete s → HasParts (group_of o.key g)
-      by_group None all fine g same = absurd (none-some g (sym same))
-      by_group (Some h) all fine g same = by_test h (all, fine) (complete h) g same
-
-      by_open : (s : Option (List Frame)) → option_map (group_of o.key) s ≡ Some o → s ≡ option_and_then incomplete (so_far ends (of_key o.key fs)) → HasParts o
-      by_open None gives same = absurd (none-some o gives)
-      by_open (Some g) gives same =
-          subst HasParts (same_Some (group_of o.key g) o gives)
-          (by_group (so_far ends (of_key o.key fs))
-          (so_far-all ends (λ (f : Frame). IsFramePart f × (f.key ≡ o.key)) (of_key o.key fs) (of_key-keeps IsFramePart o.key fs parts))
-          (so_far-fine ends is_ending (of_key o.key fs) (numbers_of_key ends is_ending o.key fs numbers)) g same)
-
-  pub open_groups-parts : (n : ℕ) (fs : List Frame) → AreNumbered fs → AllByRecursion IsFramePart fs → AllByRecursion HasParts (open_groups ends n fs)
+  pub open_groups-parts : (n : ℕ) (fs : List Frame) → AllByRecursion IsFramePart fs → AllByRecursion HasParts (open_groups ends n fs)
   unfolding open_groups
-  open_groups-parts n fs numbers parts = all-range HasParts (begun_at ends fs) 1 n (λ i o l u is. begun_at-parts fs i o numbers parts is)
+  open_groups-parts n fs parts = all-range HasParts (begun_at ends fs) 1 n (λ i o l u is. begun_at-parts fs i o parts is)
 
   -- what holds of the key of each frame holds of those of the open groups
   begun_at-key_part : (P : Key → Type 0) (fs : List Frame) (i : ℕ) (o : Group) → AllByRecursion (λ (f : Frame). P f.key) fs → begun_at ends fs i ≡ Some o → P o.key
-  begun_at-key_part P fs i o all is = by_open (open_of ends o.key fs) (begun_at-is ends is_ending fs i o is).1 (open_of-so_far ends is_ending o.key fs)
-    where
-      first_key : (g : List Frame) → AllByRecursion (λ (f : Frame). P f.key × (f.key ≡ o.key)) g → 0 < length g → P o.key
-      first_key [] known some = absurd (omega (arith, some))
-      first_key (f ∷ g) known some = subst P known.0.1 known.0.0
-
-      by_group : (s : Option (List Frame)) → IfSome s (AllByRecursion (λ (f : Frame). P f.key × (f.key ≡ o.key))) → IfSome s (λ g. 0 < length g) → (g : List Frame) → Some g ≡ option_and_then incomplete s → P o.key
-      by_group None known some g same = absurd (none-some g (sym same))
-      by_group (Some h) known some g same = first_key h known some
-
-      by_open : (s : Option (List Frame)) → option_map (group_of o.key) s ≡ Some o → s ≡ option_and_then incomplete (so_far ends (of_key o.key fs)) → P o.key
-      by_open None gives same = absurd (none-some o gives)
-      by_open (Some g) gives same =
-          by_group (so_far ends (of_key o.key fs))
-          (so_far-all ends (λ (f : Frame). P f.key × (f.key ≡ o.key)) (of_key o.key fs) (of_key-keeps (λ (f : Frame). P f.key) o.key fs all))
-          (so_far-keeps ends (λ g. 0 < length g) (λ x. omega arith) (λ g x c h. omega (arith, length-append g (x ∷ []))) (of_key o.key fs)) g same
+  begun_at-key_part P fs i o all is =
+      let begun = begun_group ends is_ending fs i o is in
+      key_part P o.key begun.group (begun_all ends is_ending (λ (f : Frame). P f.key) fs o begun all) begun.nonempty
 
   pub open_groups-keys : (P : Key → Type 0) (n : ℕ) (fs : List Frame) → AllByRecursion (λ (f : Frame). P f.key) fs → AllByRecursion (λ (g : Group). P g.key) (open_groups ends n fs)
   unfolding open_groups
@@ -181,20 +141,9 @@ module _ (ends : Ends) (is_ending : IsEnding ends) where
 
 -- the frame of an entry is of a fast PGN
 frame_in-fast : (kind : ℕ → Option Kind) (line : ℕ) (e : Entry) (x : Frame) → frame_in kind line e ≡ Some x → kind x.key.pgn ≡ Some Fast
-unfolding fast_frame
-frame_in-fast kind line entries.Skip x is = absurd (none-some x is)
-frame_in-fast kind line (entries.Bad cause) x is = absurd (none-some x is)
-frame_in-fast kind line (entries.Whole packet) x is = absurd (none-some x is)
-frame_in-fast kind line (entries.Frame packet) x is = by_kind (kind packet.id.pgn) refl is
-  where
-    by_test : (b : Bool) (f : Frame) → kind f.key.pgn ≡ Some Fast → cond b (Some f) None ≡ Some x → kind x.key.pgn ≡ Some Fast
-    by_test true f k is = ap (λ (f : Frame). kind f.key.pgn) (sym (same_Some f x is)) ∙ k
-    by_test false f k is = absurd (none-some x is)
-
-    by_kind : (k : Option Kind) → kind packet.id.pgn ≡ k → frame_by k line packet ≡ Some x → kind x.key.pgn ≡ Some Fast
-    by_kind None k is = absurd (none-some x is)
-    by_kind (Some Single) k is = absurd (none-some x is)
-    by_kind (Some Fast) k is = by_test (is_fast_payload packet.payload) (frame_with line packet (slice_index_or packet.payload 0 0) (drop 1 packet.payload)) k is
+frame_in-fast kind line e x is =
+    let of = frame_of_packet kind line e x is in
+    ap (λ (f : Frame). kind f.key.pgn) (sym of.is) ∙ of.fast
 
 -- ---- a log with one frame more
 
@@ -318,7 +267,7 @@ module _ (kind : ℕ → Option Kind) (s : State) (e : Entry) (is : IsState s) w
     held = refl;
     groups = open_within-open s.rule (next_line s) window-some (step_frames kind s e) step-log;
     parts = all-filter HasParts (is_waiting s.rule (next_line s)) (open_groups (within s.rule) (next_line s) (step_frames kind s e))
-        (open_groups-parts (within s.rule) (within-ends s.rule window-some) (next_line s) (step_frames kind s e) step-log.numbers (step-parts valid));
+        (open_groups-parts (within s.rule) (within-ends s.rule window-some) (next_line s) (step_frames kind s e) (step-parts valid));
   }
 
 -- and no group's window has ended

@@ -9,7 +9,6 @@ pub mod Counting
 pub mod CutLaws
 pub mod Cuts
 pub mod Expiring
-pub mod Falling
 pub mod FastGroups
 pub mod Few
 pub mod Given

@@ -1,6 +1,6 @@
 -- Lines rise: so a frame is found by its line, and a group by that of its last frame.
-use Rattle.std.proofs.Common.{◌≡◌, ℕ, ◌+◌, ◌≤◌, Bool, true, false, cond, List, [], ◌∷◌, refl, ap, ◌∙◌, sym, arith, Option, Some, None}
-use Rattle.std.specs.Prelude.{if◌then◌else◌, filter, drop, slice_index_or}
+use Rattle.std.proofs.Common.{◌≡◌, ℕ, ◌+◌, ◌≤◌, Bool, true, false, cond, List, [], ◌∷◌, refl, ap, sym, arith, Option, Some, None}
+use Rattle.std.specs.Prelude.{filter, drop, slice_index_or}
 use Rattle.std.specs.List.{AllByRecursion, cons_option}
 use Rattle.std.proofs.lemmas.Bool.{eq-eqb, ne_eqb}
 use Rattle.n2k_wire.specs.Packet.{PacketParts}
@@ -9,6 +9,7 @@ use Rattle.n2k_wire.specs.declared.entry.Entry.TheVariants as entries
 use Rattle.n2k_table.specs.declared.definition.Kind.{Kind}
 use Rattle.n2k_table.specs.declared.definition.Kind.TheVariants.{Single, Fast}
 use Rattle.n2k_join.specs.Frames.{Frame, fast_frame, frame_with, is_fast_payload, frame_by, frame_in, frames_from, frame_at}
+use Rattle.std.proofs.lemmas.Option.{none-some, cond_some}
 
 abbrev pub line_of : Frame → ℕ
 line_of f = f.line
@@ -38,26 +39,29 @@ rise-filter p n (f ∷ fs) rise = by_test (p f) (rise-filter p (f.line + 1) fs r
     by_test true ih = (rise.0, ih)
     by_test false ih = rise-weaker n (f.line + 1) (filter p fs) (omega (arith, rise.0)) ih
 
--- a frame stands at the line of its entry
-fast_frame-line : (n : ℕ) (p : PacketParts) (f : Frame) → fast_frame n p ≡ Some f → f.line ≡ n
+-- the frame of an entry is that of a packet of a fast PGN, whose data can be a frame's
+pub record IsFrameOf (kind : ℕ → Option Kind) (n : ℕ) (e : Entry) (f : Frame) : Type 0 where
+  pub packet : PacketParts
+  pub entry : e ≡ entries.Frame packet
+  pub fast : kind packet.id.pgn ≡ Some Fast
+  pub fits : is_fast_payload packet.payload ≡ true
+  pub is : frame_with n packet (slice_index_or packet.payload 0 0) (drop 1 packet.payload) ≡ f
+
+pub frame_of_packet : (kind : ℕ → Option Kind) (n : ℕ) (e : Entry) (f : Frame) → frame_in kind n e ≡ Some f → IsFrameOf kind n e f
 unfolding fast_frame
-fast_frame-line n p f e = by_test (is_fast_payload p.payload) e
+frame_of_packet kind n (entries.Frame p) f same = by_kind (kind p.id.pgn) refl same
   where
-    some_line : (g : Frame) → g.line ≡ n → Some g ≡ Some f → f.line ≡ n
-    some_line g h same = let e' : g ≡ f = cc in ap line_of (sym e') ∙ h
+    by_kind : (k : Option Kind) → kind p.id.pgn ≡ k → frame_by k n p ≡ Some f → IsFrameOf kind n (entries.Frame p) f
+    by_kind None fast same = absurd (none-some f same)
+    by_kind (Some Single) fast same = absurd (none-some f same)
+    by_kind (Some Fast) fast same =
+        let parts = cond_some (is_fast_payload p.payload) _ f same in
+        record { packet = p; entry = refl; fast = fast; fits = parts.0; is = parts.1 }
+frame_of_packet kind n _ f same = absurd (none-some f same)
 
-    by_test : (b : Bool) → (if b then Some (frame_with n p (slice_index_or p.payload 0 0) (drop 1 p.payload)) else None) ≡ Some f → f.line ≡ n
-    by_test true same = some_line _ refl same
-    by_test false same = absurd (let e' : None ≡ Some f = same in cc)
-
+-- it stands at the line of its entry
 pub frame_in-line : (kind : ℕ → Option Kind) (n : ℕ) (e : Entry) (f : Frame) → frame_in kind n e ≡ Some f → f.line ≡ n
-frame_in-line kind n (entries.Frame p) f same = by_kind (kind p.id.pgn) same
-  where
-    by_kind : (k : Option Kind) → frame_by k n p ≡ Some f → f.line ≡ n
-    by_kind None same = absurd (cc)
-    by_kind (Some Single) same = absurd (cc)
-    by_kind (Some Fast) same = fast_frame-line n p f same
-frame_in-line kind n _ f same = absurd (cc)
+frame_in-line kind n e f same = ap line_of (sym (frame_of_packet kind n e f same).is)
 
 pub frames-rise : (kind : ℕ → Option Kind) (n : ℕ) (es : List Entry) → RiseFrom n (frames_from kind n es)
 frames-rise kind n [] = tt

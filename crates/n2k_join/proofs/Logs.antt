@@ -1,21 +1,18 @@
 -- The frames of a log's entries, and what its lines keep where an entry more comes.
-use Rattle.std.proofs.Common.{◌≡◌, ◌≤◌, ◌<◌, ◌+◌, ℕ, suc, zero, Bool, true, false, cond, List, [], ◌∷◌, ◌++◌, length, refl, sym, ap, ◌∙◌, subst, arith, add-zero, Option, Some, None, option_map, option_and_then, option_to_list, slice_get, drop, mod-lt}
+use Rattle.std.proofs.Common.{◌≡◌, ◌≤◌, ◌<◌, ◌+◌, ℕ, suc, zero, List, [], ◌∷◌, ◌++◌, length, refl, sym, ap, ◌∙◌, arith, add-zero, Option, Some, None, option_map, option_and_then, option_to_list, slice_get, ◌%◌}
 use Rattle.std.specs.Prelude.{sum_by, slice_index_or}
 use Rattle.std.specs.Option.{option_or}
 use Rattle.std.specs.List.{range_with_len, cons_option, AllByRecursion}
 use Rattle.std.proofs.lemmas.List.{append-nil}
 use Rattle.std.proofs.lemmas.List.Sums.{sum_by-cons}
-use Rattle.std.proofs.lemmas.Option.{none-some, same_Some}
 use Rattle.n2k_wire.specs.declared.entry.Entry.{Entry}
-use Rattle.n2k_wire.specs.declared.entry.Entry.TheVariants as entries
 use Rattle.n2k_table.specs.declared.definition.Kind.{Kind}
-use Rattle.n2k_table.specs.declared.definition.Kind.TheVariants.{Single, Fast}
-use Rattle.n2k_join.specs.Frames.{Frame, most_frames, is_fast_payload, fast_frame, frame_with, frame_by, frame_in, frames_from, frames, frame_at}
+use Rattle.n2k_join.specs.Frames.{Frame, most_frames, frame_in, frames_from, frames, frame_at}
 use Rattle.n2k_join.specs.Groups.{Ends}
 use Rattle.n2k_join.specs.Messages.{Keyed, gathered, broken_with, message_with, alone, entry_at}
 use Rattle.n2k_join.proofs.BrokenGroups.{broken-stays}
 use Rattle.n2k_join.proofs.Given.{gathered-stays}
-use Rattle.n2k_join.proofs.Lines.{frames-rise, frame_in-line, frames_found, rise-all}
+use Rattle.n2k_join.proofs.Lines.{frames-rise, frame_in-line, frames_found, rise-all, frame_of_packet}
 use Rattle.n2k_join.proofs.Opened.{IsLog, key_at}
 use Rattle.n2k_join.proofs.Rising.{all-map, all-zip}
 use Rattle.n2k_join.specs.Window.{Rule}
@@ -44,20 +41,11 @@ frames-below kind n (e ∷ es) =
 
 -- a frame's number has five bits
 pub frame_in-number : (kind : ℕ → Option Kind) (i : ℕ) (e : Entry) (f : Frame) → frame_in kind i e ≡ Some f → f.number < most_frames
-unfolding fast_frame
-frame_in-number kind i entries.Skip f is = absurd (none-some f is)
-frame_in-number kind i (entries.Bad cause) f is = absurd (none-some f is)
-frame_in-number kind i (entries.Whole packet) f is = absurd (none-some f is)
-frame_in-number kind i (entries.Frame packet) f is = by_kind (kind packet.id.pgn) is
-  where
-    by_test : (b : Bool) (g : Frame) → g.number < most_frames → cond b (Some g) None ≡ Some f → f.number < most_frames
-    by_test true g l is = subst (λ (f : Frame). f.number < most_frames) (same_Some g f is) l
-    by_test false g l is = absurd (none-some f is)
-
-    by_kind : (k : Option Kind) → frame_by k i packet ≡ Some f → f.number < most_frames
-    by_kind None is = absurd (none-some f is)
-    by_kind (Some Single) is = absurd (none-some f is)
-    by_kind (Some Fast) is = by_test (is_fast_payload packet.payload) (frame_with i packet (slice_index_or packet.payload 0 0) (drop 1 packet.payload)) (mod-lt (slice_index_or packet.payload 0 0) (omega arith)) is
+frame_in-number kind i e f is =
+    let of = frame_of_packet kind i e f is in
+    let header = slice_index_or of.packet.payload 0 0 in
+    let number : header % most_frames ≡ f.number = ap (λ (f : Frame). f.number) of.is in
+    omega (arith, number)
 
 -- the frames of entries are a log
 pub frames-log : (kind : ℕ → Option Kind) (es : List Entry) → IsLog (length es) (frames kind es)

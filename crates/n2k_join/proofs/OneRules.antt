@@ -6,9 +6,9 @@ use Rattle.n2k_wire.specs.Plain.{greatest_address}
 use Rattle.n2k_table.specs.declared.definition.Kind.{Kind}
 use Rattle.n2k_join.specs.Frames.{Key}
 use Rattle.n2k_join.specs.Open.{Piece, Group}
-use Rattle.n2k_join.specs.Resumed.{counts_hold, firsts_rise, group_holds, groups_hold, is_valid, judged, key_holds, pieces_rise}
+use Rattle.n2k_join.specs.Resumed.{group_holds, groups_hold, is_valid, judged, key_holds, pieces_rise}
 use Rattle.n2k_join.specs.Rules.{HasSeven, HasShape, RulesAreOne}
-use Rattle.n2k_join.specs.State.{State, IsState, AreFast, HasParts, IsKey, IsPiece}
+use Rattle.n2k_join.specs.State.{State, IsState, HasParts, IsKey, IsPiece}
 use Rattle.n2k_join.specs.Window.{Rule, IsWindow}
 use Rattle.n2k_join.proofs.FastGroups.{valid-fast, read-spelled}
 use Rattle.n2k_join.proofs.SavedGroups.{total_from}

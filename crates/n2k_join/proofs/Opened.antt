@@ -4,6 +4,7 @@ use Rattle.std.specs.Prelude.{is_some, IfSome}
 use Rattle.std.specs.Option.{option_or}
 use Rattle.std.specs.List.{range_with_len, last_or, AllByRecursion}
 use Rattle.std.proofs.lemmas.List.{length-append, append-nil}
+use Rattle.std.proofs.lemmas.List.Folds.{find-append}
 use Rattle.std.proofs.lemmas.Bool.{eqb-true, eq-eqb, ne_eqb, or_parts, false≢true, false_from_ne_true}
 use Rattle.std.proofs.lemmas.Option.{none-some, same_Some}
 use Rattle.n2k_join.specs.Frames.{Key, same_key, Frame, of_key, frame_at, most_frames}
@@ -15,7 +16,7 @@ use Rattle.n2k_join.proofs.Carried.{carried-push, complete-same, pieces_of-same,
 use Rattle.n2k_join.proofs.Cuts.{IsEnding, next, so_far, so_far-push, so_far-all, so_far-keeps, last-cut}
 use Rattle.n2k_join.proofs.Held.{AreNumbered, carried-kept, has_twice-kept, first-kept}
 use Rattle.n2k_join.proofs.Keys.{same_key-true, same_key-refl, same_key-sym, of_key-same, of_key-other, of_key-keeps}
-use Rattle.n2k_join.proofs.Rising.{range-push, filter_map-push, filter_map-fused, filter_map-range, find-append, find-passes, find-all, find-none, look, look-filter_map, all-range, all-map, passes_none}
+use Rattle.n2k_join.proofs.Rising.{range-push, filter_map-push, filter_map-fused, filter_map-range, find-passes, find-all, find-none, look, look-filter_map, all-range, all-map, passes_none}
 
 -- the key of the frame at a line
 abbrev pub key_at : ℕ → List Frame → Option Key
@@ -32,6 +33,15 @@ pub record IsFine (g : List Frame) : Type 0 where
   pub numbers : AreNumbered g
   pub once : has_twice g ≡ false
   pub nonempty : 0 < length g
+
+-- an open group is what is kept of the group so far of its key, which isn't complete
+pub record IsBegun (ends : Ends) (fs : List Frame) (o : Group) : Type 0 where
+  pub group : List Frame
+  pub so_far_is : so_far ends (of_key o.key fs) ≡ Some group
+  pub once : has_twice group ≡ false
+  pub nonempty : 0 < length group
+  pub left : complete group ≡ false
+  pub is : group_of o.key group ≡ o
 
 pub first-push : (g : List Frame) (x : Frame) → 0 < length g → first (g ++ x ∷ []) ≡ first g
 first-push [] x some = absurd (omega (arith, some))
@@ -75,6 +85,18 @@ module _ (ends : Ends) (is_ending : IsEnding ends) where
 
   pub open_of-so_far : (k : Key) (fs : List Frame) → open_of ends k fs ≡ option_and_then incomplete (so_far ends (of_key k fs))
   open_of-so_far k fs = ap (option_and_then incomplete) (last-cut ends (of_key k fs))
+
+  -- the open group of a key is its group so far, and not complete
+  open_is : (k : Key) (fs g : List Frame) → open_of ends k fs ≡ Some g → (so_far ends (of_key k fs) ≡ Some g) × (complete g ≡ false)
+  open_is k fs g e = by (so_far ends (of_key k fs)) (sym (open_of-so_far k fs) ∙ e)
+    where
+      by_test : (h : List Frame) (b : Bool) → complete h ≡ b → cond b None (Some h) ≡ Some g → (Some h ≡ Some g) × (complete g ≡ false)
+      by_test h true c e = absurd (none-some g e)
+      by_test h false c e = (e, ap complete (sym (same_Some h g e)) ∙ c)
+
+      by : (s : Option (List Frame)) → option_and_then incomplete s ≡ Some g → (s ≡ Some g) × (complete g ≡ false)
+      by None e = absurd (none-some g e)
+      by (Some h) e = by_test h (complete h) refl e
 
   so_far-once : (fs : List Frame) → IfSome (so_far ends fs) (λ g. (has_twice g ≡ false) × (0 < length g))
   so_far-once fs = so_far-keeps ends (λ g. (has_twice g ≡ false) × (0 < length g)) (λ x. (refl, omega arith)) more fs
@@ -247,6 +269,31 @@ module _ (ends : Ends) (is_ending : IsEnding ends) where
   unfolding open_groups
   open_groups-each n fs = all-range (λ (o : Group). option_map (group_of o.key) (open_of ends o.key fs) ≡ Some o) (begun_at ends fs) 1 n (λ i o l u e. (begun_at-is fs i o e).1)
 
+  pub begun_group : (fs : List Frame) (i : ℕ) (o : Group) → begun_at ends fs i ≡ Some o → IsBegun ends fs o
+  begun_group fs i o e = by (open_of ends o.key fs) refl (begun_at-is fs i o e).1
+    where
+      by : (s : Option (List Frame)) → open_of ends o.key fs ≡ s → option_map (group_of o.key) s ≡ Some o → IsBegun ends fs o
+      by None is e = absurd (none-some o e)
+      by (Some g) is e =
+          let left = open_is o.key fs g is in
+          let alone : (has_twice g ≡ false) × (0 < length g) =
+          subst (λ s. IfSome s (λ g. (has_twice g ≡ false) × (0 < length g))) left.0 (so_far-once (of_key o.key fs)) in
+          record {
+            group = g;
+            so_far_is = left.0;
+            once = alone.0;
+            nonempty = alone.1;
+            left = left.1;
+            is = same_Some (group_of o.key g) o e;
+          }
+
+  -- what holds of all frames holds of those of such a group, and they have its key
+  pub begun_all : (P : Frame → Type 0) (fs : List Frame) (o : Group) (begun : IsBegun ends fs o) → AllByRecursion P fs
+      → AllByRecursion (λ (f : Frame). P f × (f.key ≡ o.key)) begun.group
+  begun_all P fs o begun all =
+      subst (λ s. IfSome s (AllByRecursion (λ (f : Frame). P f × (f.key ≡ o.key)))) begun.so_far_is
+      (so_far-all ends (λ (f : Frame). P f × (f.key ≡ o.key)) (of_key o.key fs) (of_key-keeps P o.key fs all))
+
   -- a group of a key's cut begins at a line of the log, where a frame of that key stands
   pub so_far-begins : (n : ℕ) (k : Key) (fs : List Frame) → IsLog n fs → IfSome (so_far ends (of_key k fs)) (λ g. (1 ≤ first g) × (first g ≤ n) × (key_at (first g) fs ≡ Some k))
   so_far-begins n k fs log =
@@ -270,16 +317,11 @@ module _ (ends : Ends) (is_ending : IsEnding ends) where
       at_first [] all some = absurd (omega (arith, some))
       at_first (f ∷ g) all some = all.0
 
-  open_of-begins : (n : ℕ) (k : Key) (fs : List Frame) (g : List Frame) → IsLog n fs → open_of ends k fs ≡ Some g → (1 ≤ first g) × (first g ≤ n) × (key_at (first g) fs ≡ Some k)
-  open_of-begins n k fs g log e = by (so_far ends (of_key k fs)) (sym (open_of-so_far k fs) ∙ e) (so_far-begins n k fs log)
-    where
-      by_test : (h : List Frame) (b : Bool) → cond b None (Some h) ≡ Some g → (1 ≤ first h) × (first h ≤ n) × (key_at (first h) fs ≡ Some k) → (1 ≤ first g) × (first g ≤ n) × (key_at (first g) fs ≡ Some k)
-      by_test h true e p = absurd (none-some g e)
-      by_test h false e p = subst (λ g. (1 ≤ first g) × (first g ≤ n) × (key_at (first g) fs ≡ Some k)) (same_Some h g e) p
-
-      by : (s : Option (List Frame)) → option_and_then incomplete s ≡ Some g → IfSome s (λ g. (1 ≤ first g) × (first g ≤ n) × (key_at (first g) fs ≡ Some k)) → (1 ≤ first g) × (first g ≤ n) × (key_at (first g) fs ≡ Some k)
-      by None e p = absurd (none-some g e)
-      by (Some h) e p = by_test h (complete h) e p
+  open_of-begins : (n : ℕ) (k : Key) (fs : List Frame) (g : List Frame) → IsLog n fs → open_of ends k fs ≡ Some g
+      → (1 ≤ first g) × (first g ≤ n) × (key_at (first g) fs ≡ Some k)
+  open_of-begins n k fs g log e =
+      subst (λ s. IfSome s (λ g. (1 ≤ first g) × (first g ≤ n) × (key_at (first g) fs ≡ Some k))) (open_is k fs g e).0
+      (so_far-begins n k fs log)
 
   pub found-open : (n : ℕ) (k : Key) (fs : List Frame) → IsLog n fs → of_the_key k (open_groups ends n fs) ≡ option_map (group_of k) (open_of ends k fs)
   unfolding open_groups

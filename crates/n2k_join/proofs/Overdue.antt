@@ -1,23 +1,22 @@
 -- What is broken at a line: the groups whose window ends there, and then the one that a frame can't join.
-use Rattle.std.proofs.Common.{◌≡◌, ◌==◌, ◌≤◌, ◌<◌, ◌+◌, ℕ, Bool, true, false, cond, not, ◌||◌, ◌&&◌, nat_le, List, [], ◌∷◌, ◌++◌, length, map, refl, sym, ap, ◌∙◌, subst, arith, Option, Some, None, option_map, option_to_list, filter, filter_map, find}
+use Rattle.std.proofs.Common.{◌≡◌, ◌==◌, ◌≤◌, ◌<◌, ◌+◌, ℕ, Bool, true, false, cond, not, ◌||◌, ◌&&◌, nat_le, List, [], ◌∷◌, ◌++◌, length, map, refl, sym, ap, ◌∙◌, arith, Option, Some, None, option_map, option_to_list, filter, filter_map}
 use Rattle.std.specs.List.{cons_option, AllByRecursion}
-use Rattle.std.proofs.lemmas.List.{append-nil, length-append}
-use Rattle.std.proofs.lemmas.Bool.{eqb-true, eq-eqb, ne_eqb, lt-leb, le-leb, lt-ltb, ltb-true, ltb-false}
-use Rattle.std.proofs.lemmas.Option.{none-some}
+use Rattle.std.proofs.lemmas.List.{length-append}
+use Rattle.std.proofs.lemmas.Bool.{eq-eqb, ne_eqb, lt-leb, le-leb, lt-ltb, ltb-true, ltb-false}
 use Rattle.n2k_join.specs.declared.broken.Broken.{Broken}
 use Rattle.n2k_join.specs.Frames.{Key, same_key, Frame}
-use Rattle.n2k_join.specs.Groups.{Ends, closes, repeats, misfits, is_late, within, complete, first}
+use Rattle.n2k_join.specs.Groups.{misfits, is_late, within, complete}
 use Rattle.n2k_join.specs.Open.{Group, is_waiting, waiting, ended}
 use Rattle.n2k_join.specs.Messages.{broken_of, told_of}
 use Rattle.n2k_join.specs.State.{held_of, Rise, IsOpen, AreApart}
 use Rattle.n2k_join.specs.Inner.Stored.{lost}
-use Rattle.n2k_join.proofs.Advanced.{with_frame, joined, taken, begun, of_the_key, opened, advanced}
+use Rattle.n2k_join.proofs.Advanced.{with_frame, taken, begun, of_the_key, opened, advanced}
 use Rattle.n2k_join.proofs.BrokenGroups.{runs_out, breaks, told_if}
 use Rattle.n2k_join.proofs.Cuts.{next}
 use Rattle.n2k_join.proofs.Held.{first-held}
 use Rattle.n2k_join.proofs.Keys.{same_key-true}
-use Rattle.n2k_join.proofs.Rising.{find-none, rise-least, all-map, all-zip}
-use Rattle.n2k_join.proofs.Windows.{all-filter, waits-before, ended-ends, waits-ends, misfits-bars}
+use Rattle.n2k_join.proofs.Rising.{find-none, all-map}
+use Rattle.n2k_join.proofs.Windows.{all-filter, ended-ends, waits-ends, misfits-bars}
 use Rattle.n2k_join.specs.Window.{Rule}
 
 module _ (w : Rule) (some : 0 < w.window) where

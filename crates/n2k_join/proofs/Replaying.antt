@@ -10,7 +10,7 @@ use Rattle.n2k_join.proofs.Logs.{frames-below}
 use Rattle.n2k_wire.specs.Packet.{PacketParts}
 use Rattle.n2k_wire.specs.declared.entry.Entry.{Entry}
 use Rattle.n2k_table.specs.declared.definition.Kind.{Kind}
-use Rattle.n2k_join.specs.Frames.{Key, same_key, Frame, frame_in, frames_from, frames, of_key, frame_at}
+use Rattle.n2k_join.specs.Frames.{Key, same_key, Frame, frames, of_key, frame_at}
 use Rattle.n2k_join.specs.Groups.{Ends, within, complete, cut, last_line}
 use Rattle.n2k_join.specs.Messages.{Keyed, message_of, is_done_at, gathered_by, gathered, alone, message, numbers}
 use Rattle.n2k_join.specs.Pieces.{Sending, sendings, sendings_after}
@@ -18,10 +18,10 @@ use Rattle.n2k_join.specs.Scattered.{key_of_sending, joined, sendings_of, IsScat
 use Rattle.n2k_join.specs.Replay.{messages, gathered_messages, given_to, sent_to, Replays}
 use Rattle.n2k_join.proofs.Keys.{same_key-true, same_key-refl}
 use Rattle.n2k_join.proofs.KeyCounts.{same_length}
-use Rattle.n2k_join.proofs.Rising.{find-passes, find-all, find-none, filter_map-range, all-map}
-use Rattle.n2k_join.proofs.Lines.{RiseFrom, frame_in-line}
+use Rattle.n2k_join.proofs.Rising.{find-passes, find-all, find-none, filter_map-range, all-map, filter_map-none}
+use Rattle.n2k_join.proofs.Lines.{RiseFrom}
 use Rattle.n2k_join.proofs.GroupLines.{IsGroup, rise-after, last_frame, lasts_above}
-use Rattle.n2k_join.proofs.Arriving.{StandsAt, Comes, gathers, Settled, settles, zip-map, zip-all, as_stretch, filter_map-none}
+use Rattle.n2k_join.proofs.Arriving.{StandsAt, Comes, gathers, Settled, settles, zip-map, zip-all, as_stretch}
 use Rattle.n2k_join.specs.Window.{Rule}
 
 -- the sending whose group's last frame stands at the line

@@ -1,20 +1,20 @@
 -- What open groups hold is read back: frames held of groups have these groups open.
 use Rattle.std.proofs.Common.{◌≡◌, ◌==◌, ◌≤◌, ◌<◌, ◌+◌, ℕ, Bool, true, false, cond, List, [], ◌∷◌, ◌++◌, length, reverse, refl, sym, ap, ◌∙◌, subst, arith, Option, Some, None, option_map, option_and_then}
-use Rattle.std.specs.Prelude.{IfSome}
 use Rattle.std.specs.Option.{option_or}
 use Rattle.std.specs.List.{AllByRecursion}
 use Rattle.std.proofs.lemmas.List.{append-nil}
+use Rattle.std.proofs.lemmas.List.Folds.{find-append}
 use Rattle.std.proofs.lemmas.Bool.{eqb-true, eq-eqb, ne_eqb, eqb-false, false_from_ne_true}
-use Rattle.std.proofs.lemmas.Option.{none-some, same_Some}
+use Rattle.std.proofs.lemmas.Option.{same_Some}
 use Rattle.n2k_join.specs.Frames.{Key, same_key, Frame, of_key, frame_at, most_frames}
-use Rattle.n2k_join.specs.Groups.{Ends, complete, first, incomplete, open_of}
+use Rattle.n2k_join.specs.Groups.{Ends, first, incomplete, open_of}
 use Rattle.n2k_join.specs.Open.{Piece, Group, group_of, where_begun, begun_at, open_groups}
 use Rattle.n2k_join.specs.State.{held_frame, held_of, held, Rise, IsOpen, AreApart, AreOpen}
 use Rattle.n2k_join.proofs.Cuts.{IsEnding, so_far}
 use Rattle.n2k_join.proofs.Held.{AreNumbered, pieces_of-rise, pieces_of-numbers, pieces_of-some, group_of-held, so_far-held, all-held, all-reverse, all-any, first-held, length-held}
 use Rattle.n2k_join.proofs.Keys.{same_key-true, same_key-refl, same_key-sym, of_key-append, of_key-all, of_key-none}
-use Rattle.n2k_join.proofs.Opened.{key_at, IsLog, IsFine, open_at, begun_at-key, begun_at-is, open_of-so_far, so_far-fine, complete-kept, numbers_of_key, open_groups-each}
-use Rattle.n2k_join.proofs.Rising.{find-append, find-passes, find-all, find-none, look, look-all, look-range, rise-range, rise-least, all-range, all-map, all-zip, all-flat_map, filter_map-range}
+use Rattle.n2k_join.proofs.Opened.{key_at, IsLog, IsFine, open_at, begun_at-key, begun_at-is, open_of-so_far, complete-kept, open_groups-each, begun_group, begun_all}
+use Rattle.n2k_join.proofs.Rising.{find-passes, find-all, find-none, look, look-all, look-range, rise-range, rise-least, all-range, all-map, all-zip, all-flat_map, filter_map-range}
 
 abbrev first_of : Group → ℕ
 first_of o = o.first
@@ -107,24 +107,19 @@ module _ (ends : Ends) (is_ending : IsEnding ends) where
   -- ---- the open groups of a log can be open
 
   begun_at-open : (fs : List Frame) (i : ℕ) (o : Group) → AreNumbered fs → begun_at ends fs i ≡ Some o → IsOpen o
-  begun_at-open fs i o numbers e = by (open_of ends o.key fs) (begun_at-is ends is_ending fs i o e).1 (open_of-so_far ends is_ending o.key fs)
-    where
-      by_test : (h : List Frame) → IsFine h → (b : Bool) → complete h ≡ b → (g : List Frame) → Some g ≡ cond b None (Some h) → IsOpen (group_of o.key g)
-      by_test h fine true c g is = absurd (none-some g (sym is))
-      by_test h fine false c g is = subst (λ g. IsOpen (group_of o.key g)) (sym (same_Some g h is)) (record {
-        nonempty = pieces_of-some h fine.numbers fine.nonempty;
-        rise = pieces_of-rise h;
-        numbers = pieces_of-numbers h;
-        incomplete = complete-kept ends is_ending o.key h fine ∙ c;
+  begun_at-open fs i o numbered e =
+      let begun = begun_group ends is_ending fs i o e in
+      let g = begun.group in
+      let numbers : AreNumbered g =
+      all-map _ (λ (f : Frame). f.number < most_frames) g (λ f h. h.0)
+      (begun_all ends is_ending (λ (f : Frame). f.number < most_frames) fs o begun numbered) in
+      let fine : IsFine g = record { numbers = numbers; once = begun.once; nonempty = begun.nonempty } in
+      subst IsOpen begun.is (record {
+        nonempty = pieces_of-some g numbers begun.nonempty;
+        rise = pieces_of-rise g;
+        numbers = pieces_of-numbers g;
+        incomplete = complete-kept ends is_ending o.key g fine ∙ begun.left;
       })
-
-      by_group : (g : List Frame) (s : Option (List Frame)) → IfSome s IsFine → Some g ≡ option_and_then incomplete s → IsOpen (group_of o.key g)
-      by_group g None fine is = absurd (none-some g (sym is))
-      by_group g (Some h) fine is = by_test h fine (complete h) refl g is
-
-      by : (s : Option (List Frame)) → option_map (group_of o.key) s ≡ Some o → s ≡ option_and_then incomplete (so_far ends (of_key o.key fs)) → IsOpen o
-      by None gives is = absurd (none-some o gives)
-      by (Some g) gives is = subst IsOpen (same_Some (group_of o.key g) o gives) (by_group g (so_far ends (of_key o.key fs)) (so_far-fine ends is_ending (of_key o.key fs) (numbers_of_key ends is_ending o.key fs numbers)) is)
 
   -- groups that are the open ones of their keys are apart, since their lines are
   apart_from : (fs : List Frame) (least : ℕ) (gs : List Group) → Rise first_of least gs → AllByRecursion (λ (o : Group). option_map (group_of o.key) (open_of ends o.key fs) ≡ Some o) gs → AreApart gs

@@ -1,22 +1,33 @@
 -- Lists whose numbers rise strictly: looked up by number and read off a range of numbers.
 use Rattle.std.proofs.Common.{◌≡◌, ◌==◌, ◌≤◌, ◌<◌, ◌+◌, ℕ, suc, zero, Bool, true, false, cond, List, [], ◌∷◌, ◌++◌, refl, sym, ap, ◌∙◌, subst, arith, Option, Some, None, filter_map, find, option_and_then, option_to_list, flat_map}
-use Rattle.std.specs.Option.{option_or}
 use Rattle.std.specs.List.{range_with_len, cons_option, AllByRecursion}
 use Rattle.std.proofs.lemmas.List.Elements.{filter_map-append}
 use Rattle.std.proofs.lemmas.Bool.{eqb-true, eqb-false, eq-eqb, ne_eqb}
 use Rattle.std.proofs.lemmas.Option.{none-some, same_Some}
 use Rattle.n2k_join.specs.State.{Rise}
 
-range-suc : (a n : ℕ) → range_with_len a (suc n) ≡ range_with_len a n ++ (a + n) ∷ []
-range-suc a zero = let start : a ≡ a + zero = omega arith in ap (λ k. k ∷ []) start
-range-suc a (suc n) = let last : (a + 1) + n ≡ a + suc n = omega arith in ap (λ t. a ∷ t) (range-suc (a + 1) n ∙ ap (λ k. range_with_len (a + 1) n ++ k ∷ []) last)
+pub range-append : (a n k : ℕ) → range_with_len a (n + k) ≡ range_with_len a n ++ range_with_len (a + n) k
+range-append a zero k =
+    let e : 0 + k ≡ k = omega arith in
+    let e' : a ≡ a + 0 = omega arith in
+    ap (range_with_len a) e ∙ ap (λ j. range_with_len j k) e'
+range-append a (suc n) k =
+    let e : suc n + k ≡ suc (n + k) = omega arith in
+    let e' : (a + 1) + n ≡ a + suc n = omega arith in
+    ap (range_with_len a) e
+    ∙ ap (λ l. a ∷ l) (range-append (a + 1) n k ∙ ap (λ j. range_with_len (a + 1) n ++ range_with_len j k) e')
 
 -- one number more at the end of a range
 pub range-push : (a n : ℕ) → range_with_len a (n + 1) ≡ range_with_len a n ++ (a + n) ∷ []
-range-push a n = let next : n + 1 ≡ suc n = omega arith in ap (range_with_len a) next ∙ range-suc a n
+range-push a n = range-append a n 1
 
 pub filter_map-push : {X Y : Type 0} (h : X → Option Y) (xs : List X) (x : X) → filter_map h (xs ++ x ∷ []) ≡ filter_map h xs ++ option_to_list (h x)
 filter_map-push h xs x = filter_map-append h xs (x ∷ []) ∙ ap (λ t. filter_map h xs ++ t) (elim (h x) as (λ o. cons_option o [] ≡ option_to_list o) [ None ↦ refl | Some y ↦ refl ])
+
+-- where nothing is given
+pub filter_map-none : {X Y : Type 0} (h : X → Option Y) → ((x : X) → h x ≡ None) → (xs : List X) → filter_map h xs ≡ []
+filter_map-none h e [] = refl
+filter_map-none h e (x ∷ xs) = rw (e x) (filter_map-none h e xs)
 
 -- two passes in one
 pub filter_map-fused : {X Y Z : Type 0} (t : Y → Option Z) (h : X → Option Y) (xs : List X) → filter_map (λ x. option_and_then t (h x)) xs ≡ filter_map t (filter_map h xs)
@@ -31,10 +42,6 @@ filter_map-range h k a zero e = refl
 filter_map-range h k a (suc n) e =
     ap (λ o. cons_option o (filter_map h (range_with_len (a + 1) n))) (e a (omega arith) (omega arith))
     ∙ ap (cons_option (k a)) (filter_map-range h k (a + 1) n (λ i l u. e i (omega arith) (omega arith)))
-
-pub find-append : {X : Type 0} (p : X → Bool) (xs ys : List X) → find p (xs ++ ys) ≡ option_or (find p xs) (find p ys)
-find-append p [] ys = refl
-find-append p (x ∷ xs) ys = elim (p x) as (λ b. cond b (Some x) (find p (xs ++ ys)) ≡ option_or (cond b (Some x) (find p xs)) (find p ys)) [ true ↦ refl | false ↦ find-append p xs ys ]
 
 -- what is found passes the test
 pub find-passes : {X : Type 0} (p : X → Bool) (xs : List X) (x : X) → find p xs ≡ Some x → p x ≡ true

@@ -10,13 +10,13 @@ use Rattle.n2k_join.specs.declared.piece.OpenGroup.{OpenGroup}
 use Rattle.n2k_wire.specs.Packet.{longest_message}
 use Rattle.n2k_join.specs.Frames.{Key, most_frames}
 use Rattle.n2k_join.specs.Groups.{carried, complete}
-use Rattle.n2k_join.specs.Open.{Piece, Group, piece_at, pieces_of}
+use Rattle.n2k_join.specs.Open.{Piece, Group, pieces_of}
 use Rattle.n2k_join.specs.Resumed.{pieces_rise, piece_holds, total_holds, key_holds, is_some_list, group_holds}
 use Rattle.n2k_join.specs.State.{Rise, IsPiece, held_frame, held_of}
 use Rattle.n2k_join.specs.Inner.Slots.{slot_of, group_in}
 use Rattle.n2k_join.proofs.Carried.{carried-append, option_or_none, pieces_of-same}
-use Rattle.n2k_join.proofs.Held.{carried-held, held_frames, piece_in}
-use Rattle.n2k_join.proofs.Rising.{filter_map-range, find-none, find-passes, look-range, all-map, all-append}
+use Rattle.n2k_join.proofs.Held.{carried-held, held_frames, pieces-held}
+use Rattle.n2k_join.proofs.Rising.{find-none, all-map, all-append}
 use Rattle.n2k_join.proofs.SlotLemmas.{carried-slots}
 use Rattle.n2k_join.proofs.StateTests.{both, at_most}
 
@@ -47,22 +47,6 @@ total_from (suc n) bs h e = absurd (omega (arith, e))
 
 -- ---- pieces that join a group by rising number
 
-pieces_back : (o : Group) (ps : List Piece) → Rise number_of 0 ps → AllByRecursion (λ (p : Piece). p.number < most_frames) ps → pieces_of (held_frames o ps) ≡ ps
-unfolding pieces_of
-pieces_back o ps rise small =
-    filter_map-range (piece_at (carried (held_frames o ps))) (piece_in ps) 0 most_frames (λ n l u. same n)
-    ∙ look-range number_of 0 most_frames ps rise small
-  where
-    numbered : (n : ℕ) (p : Piece) → p.number ≡ n → ◌≡◌ {A = Option Piece} (Some (record { number = n; bytes = p.bytes })) (Some p)
-    numbered n p e = λ i. Some (record { number = sym e i; bytes = p.bytes })
-
-    by : (n : ℕ) (q : Option Piece) → piece_in ps n ≡ q → option_map (λ (bytes : List ℕ). record { number = n; bytes = bytes }) (option_map (λ (p : Piece). p.bytes) q) ≡ q
-    by n None e = refl
-    by n (Some p) e = numbered n p (eqb-true p.number n (find-passes (λ (p : Piece). p.number == n) ps p e))
-
-    same : (n : ℕ) → piece_at (carried (held_frames o ps)) n ≡ piece_in ps n
-    same n = ap (option_map (λ (bytes : List ℕ). record { number = n; bytes = bytes })) (carried-held o 0 ps n rise) ∙ by n (piece_in ps n) refl
-
 -- a piece behind those whose numbers are all smaller
 rise-last : (least : ℕ) (ps : List Piece) (p : Piece) → Rise number_of least ps → AllByRecursion (λ (q : Piece). q.number < p.number) ps → least ≤ p.number → Rise number_of least (ps ++ p ∷ [])
 rise-last least [] p rise below l = (l, tt)
@@ -83,7 +67,7 @@ piece-last o ps p is rise below small fits =
     ap (λ fs. pieces_of (fs ++ held_frame o p ∷ [])) held
     ∙ ap pieces_of (sym (map-append (held_frame o) (reverse ps) (p ∷ [])))
     ∙ pieces_of-same (map (held_frame o) (reverse ps ++ p ∷ [])) (held_frames o (ps ++ p ∷ [])) (fun_ext carry)
-    ∙ pieces_back o (ps ++ p ∷ []) (rise-last 0 ps p rise below (omega arith)) (all-append (λ (q : Piece). q.number < most_frames) ps (p ∷ []) small (fits, tt))
+    ∙ pieces-held o (ps ++ p ∷ []) (rise-last 0 ps p rise below (omega arith)) (all-append (λ (q : Piece). q.number < most_frames) ps (p ∷ []) small (fits, tt))
   where
     turned : held_frames o (ps ++ p ∷ []) ≡ held_frame o p ∷ held_frames o ps
     turned = ap (map (held_frame o)) (reverse-append ps (p ∷ []))

@@ -1,6 +1,5 @@
 -- The slots of a group: what they carry is what the group's frames carry, and its mask tells whether it is complete.
-use Rattle.std.proofs.Common.{◌≡◌, ◌≢◌, ◌==◌, ◌≤◌, ◌<◌, ◌+◌, ◌-◌, ◌*◌, ◌/◌, ◌%◌, ◌^◌, ℕ, suc, zero, Bool, true, false, cond, not, ◌&&◌, nat_le, List, [], ◌∷◌, ◌++◌, map, length, get_or, set, w32, refl, sym, ap, ◌∙◌, subst, arith, Option, Some, None, option_map, flat_map, take, drop, unwrap_or, bit_or, slice_index, slice_index_or}
-use mathlib.Core.Path.{fun_ext}
+use Rattle.std.proofs.Common.{◌≡◌, ◌≢◌, ◌==◌, ◌≤◌, ◌<◌, ◌+◌, ◌-◌, ◌*◌, ◌/◌, ◌%◌, ◌^◌, ℕ, suc, zero, Bool, true, false, cond, not, ◌&&◌, nat_le, List, [], ◌∷◌, ◌++◌, length, get_or, set, w32, refl, sym, ap, ◌∙◌, subst, arith, Option, Some, None, option_map, flat_map, take, drop, unwrap_or, bit_or, slice_index, slice_index_or}
 use mathlib.Core.Logic.{◌⊎◌, inl, inr}
 use Rattle.std.specs.Prelude.{is_some}
 use Rattle.std.specs.Int.{bit_at}
@@ -20,28 +19,22 @@ use Rattle.n2k_join.specs.Groups.{complete, carried, has_number, has_from, has_t
 use Rattle.n2k_join.specs.Open.{Piece, Group, piece_at, pieces_of, group_of}
 use Rattle.n2k_join.specs.State.{held_frame, held_of}
 use Rattle.n2k_join.specs.Inner.Slots.{slot, slot_of, group_by, group_in}
-use Rattle.n2k_join.proofs.Carried.{same_bool, carried-append, pieces_of-same, within_there, within_back}
+use Rattle.n2k_join.proofs.Carried.{same_bool, carried-append, pieces_of-same, within_there, within_back, option_or_none}
 use Rattle.n2k_join.proofs.Cuts.{HasFrom, from_has, has-from}
-use Rattle.n2k_join.proofs.Rising.{filter_map-range}
-use Rattle.n2k_join.proofs.Falling.{falling, carried_below, carried_past, once_falling}
-
-held-slots : (k : Key) (g : OpenGroup) → held_of (group_in k g) ≡ map (held_frame (group_in k g)) (falling (slot_of g) most_frames)
-unfolding falling
-held-slots k g = refl
-
-held-by : (first : ℕ) (k : Key) (mask : ℕ) (slots : List (List ℕ)) → held_of (group_by first k mask slots) ≡ map (held_frame (group_by first k mask slots)) (falling (slot mask slots) most_frames)
-unfolding falling
-held-by first k mask slots = refl
+use Rattle.n2k_join.proofs.Rising.{filter_map-range, filter_map-none}
+use Rattle.n2k_join.proofs.Held.{held_frames, carried-held, has_twice-held, pieces_by, pieces_by-rise, bytes_by, bytes_by-past}
 
 -- what the frames that a group holds carry
 pub carried-slots : (k : Key) (g : OpenGroup) (n : ℕ) → n < most_frames → carried (held_of (group_in k g)) n ≡ slot_of g n
-carried-slots k g n l = ap (λ fs. carried fs n) (held-slots k g) ∙ carried_below (group_in k g) (slot_of g) most_frames n l
+carried-slots k g n l =
+    carried-held (group_in k g) 0 (pieces_by (slot_of g)) n (pieces_by-rise (slot_of g)) ∙ bytes_by (slot_of g) n l
 
 pub carried-none : (k : Key) (g : OpenGroup) (n : ℕ) → most_frames ≤ n → carried (held_of (group_in k g)) n ≡ None
-carried-none k g n l = ap (λ fs. carried fs n) (held-slots k g) ∙ carried_past (group_in k g) (slot_of g) most_frames n l
+carried-none k g n l =
+    carried-held (group_in k g) 0 (pieces_by (slot_of g)) n (pieces_by-rise (slot_of g)) ∙ bytes_by-past (slot_of g) n l
 
 pub once-slots : (k : Key) (g : OpenGroup) → has_twice (held_of (group_in k g)) ≡ false
-once-slots k g = ap has_twice (held-slots k g) ∙ once_falling (group_in k g) (slot_of g) most_frames
+once-slots k g = has_twice-held (group_in k g) 0 (pieces_by (slot_of g)) (pieces_by-rise (slot_of g))
 
 -- ---- masks
 
@@ -158,15 +151,11 @@ take-slots k g first mask slots p small at missing there others =
     same : (n : ℕ) → n < most_frames → slot mask slots n ≡ carried (held_of (group_in k g) ++ held_frame (group_in k g) p ∷ []) n
     same n l = by (p.number == n) refl ∙ sym (carried-append (held_of (group_in k g)) (held_frame (group_in k g) p ∷ []) n ∙ ap (λ o. option_or o (cond (p.number == n) (Some p.bytes) None)) (carried-slots k g n l))
       where
-        or_none : (o : Option (List ℕ)) → o ≡ option_or o None
-        or_none None = refl
-        or_none (Some b) = refl
-
         by : (b : Bool) → (p.number == n) ≡ b → slot mask slots n ≡ option_or (slot_of g n) (cond b (Some p.bytes) None)
         by true e =
             let is : p.number ≡ n = eqb-true _ _ e in
             subst (λ m. slot mask slots m ≡ option_or (slot_of g m) (Some p.bytes)) is (there ∙ sym (ap (λ o. option_or o (Some p.bytes)) missing))
-        by false e = others n l (λ f. false≢true (sym e ∙ eq-eqb _ _ (sym f))) ∙ or_none (slot_of g n)
+        by false e = others n l (λ f. false≢true (sym e ∙ eq-eqb _ _ (sym f))) ∙ sym (option_or_none (slot_of g n))
 
 -- an empty mask fills no slot
 pub none-slot : (slots : List (List ℕ)) (n : ℕ) → slot 0 slots n ≡ None
@@ -180,20 +169,15 @@ open-by : (k : Key) (slots : List (List ℕ)) (q : Group) (x : Frame) (p : Piece
     → q ≡ record { first = x.line; key = k; pieces = pieces_of (held_of (group_by x.line k 0 slots) ++ held_frame (group_by x.line k 0 slots) p ∷ []) }
     → q ≡ group_of k (x ∷ [])
 open-by k slots q x p number bytes taken =
-    taken ∙ (λ i. record { first = x.line; key = k; pieces = pieces_of-same (held_of (group_by x.line k 0 slots) ++ held_frame (group_by x.line k 0 slots) p ∷ []) (x ∷ []) (fun_ext carry) i })
+    let o : Group = group_by x.line k 0 slots in
+    let none : held_of o ≡ [] =
+    ap (held_frames o) (filter_map-none (piece_at (slot 0 slots)) (λ n. ap (piece_if n) (none-slot slots n)) (range_with_len 0 most_frames)) in
+    let carry : carried (held_frame o p ∷ []) ≡ carried (x ∷ []) = λ i n. cond (number i == n) (Some (bytes i)) None in
+    let pieces = ap (λ fs. pieces_of (fs ++ held_frame o p ∷ [])) none ∙ pieces_of-same (held_frame o p ∷ []) (x ∷ []) carry in
+    taken ∙ (λ i. record { first = x.line; key = k; pieces = pieces i })
   where
-    empty : (n : ℕ) → carried (held_of (group_by x.line k 0 slots)) n ≡ None
-    empty n = by (cases_lt n most_frames)
-      where
-        by : (n < most_frames) ⊎ (most_frames ≤ n) → carried (held_of (group_by x.line k 0 slots)) n ≡ None
-        by (inl l) = ap (λ fs. carried fs n) (held-by x.line k 0 slots) ∙ carried_below (group_by x.line k 0 slots) (slot 0 slots) most_frames n l ∙ none-slot slots n
-        by (inr l) = ap (λ fs. carried fs n) (held-by x.line k 0 slots) ∙ carried_past (group_by x.line k 0 slots) (slot 0 slots) most_frames n l
-
-    carry : (n : ℕ) → carried (held_of (group_by x.line k 0 slots) ++ held_frame (group_by x.line k 0 slots) p ∷ []) n ≡ carried (x ∷ []) n
-    carry n =
-        carried-append (held_of (group_by x.line k 0 slots)) (held_frame (group_by x.line k 0 slots) p ∷ []) n
-        ∙ ap (λ o. option_or o (cond (p.number == n) (Some p.bytes) None)) (empty n)
-        ∙ (λ i. cond (number i == n) (Some (bytes i)) None)
+    piece_if : ℕ → Option (List ℕ) → Option Piece
+    piece_if n o = option_map (λ (bytes : List ℕ). record { number = n; bytes = bytes }) o
 
 pub open-slots : (k : Key) (g : OpenGroup) (q : Group) (x : Frame) (p : Piece) → p.number ≡ x.number → p.bytes ≡ x.bytes → g.first ≡ x.line → g.mask ≡ 0
     → q ≡ record (group_in k g) { pieces = pieces_of (held_of (group_in k g) ++ held_frame (group_in k g) p ∷ []) }

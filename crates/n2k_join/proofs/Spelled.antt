@@ -1,5 +1,5 @@
 -- What holds of each state that a value spells, whatever its numbers.
-use Rattle.std.proofs.Common.{◌≡◌, ◌<◌, ◌*◌, ℕ, Bool, true, false, List, [], ◌∷◌, length, codes, Result, Ok, Err, IfOk, refl, sym, ◌∙◌, subst, arith}
+use Rattle.std.proofs.Common.{◌≡◌, ◌<◌, ℕ, Bool, true, false, List, [], ◌∷◌, length, codes, Result, Ok, Err, IfOk, refl, sym, ◌∙◌, subst, arith}
 use Rattle.std.specs.List.{AllByRecursion}
 use Rattle.std.specs.Result.{result_ok}
 use Rattle.hex.specs.Hex.{decode_sized}
@@ -13,7 +13,7 @@ use Rattle.n2k_join.specs.declared.saved.place.Place.TheVariants as places
 use Rattle.n2k_join.specs.declared.state_fault.StateFault.{StateFault}
 use Rattle.n2k_join.specs.declared.state_fault.StateFault.TheVariants.{Shape}
 use Rattle.n2k_join.specs.Frames.{frame_bytes}
-use Rattle.n2k_join.specs.Open.{Piece, Group}
+use Rattle.n2k_join.specs.Open.{Group}
 use Rattle.n2k_join.specs.Resumed.{as_whole, counts_of, digits_of, each, elements_of, group_of, groups_at, id_at, key_of, members_at, piece_in, piece_of, pieces_at, required, state_of, valid_if, whole_at, window_at}
 use Rattle.n2k_join.specs.Rules.{HasSeven}
 use Rattle.n2k_join.specs.State.{State}

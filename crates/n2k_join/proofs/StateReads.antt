@@ -2,18 +2,18 @@
 use Rattle.std.proofs.Common.{◌≡◌, ◌≤◌, ◌<◌, ◌+◌, ◌^◌, ◌==◌, ℕ, zero, suc, Bool, true, false, if◌then◌else◌, List, [], ◌∷◌, length, map, Option, Some, option_map, Result, Ok, Err, codes, refl, sym, ap, ◌∙◌, arith, IsUtf8}
 use Rattle.std.specs.List.{AllByRecursion}
 use Rattle.std.proofs.lemmas.Bool.{eq-eqb, ne_eqb}
-use Rattle.hex.specs.Hex.{IsBytes, encode_lower}
+use Rattle.hex.specs.Hex.{IsBytes}
 use Rattle.hex.proofs.HexLemmas.{decode_sized-encode_lower}
 use Rattle.json.specs.Tree.{depth, items_depth}
 use Rattle.json.proofs.Printed.Utf8.{are_ascii, IsUtf8-are_ascii}
-use Rattle.serde_json.specs.Data.{Data, Members, array, string, object, member, no_members}
+use Rattle.serde_json.specs.Data.{Data, array}
 use Rattle.serde_json.specs.Read.{of_json, of_items}
 use Rattle.serde_json.specs.View.{items_of}
 use Rattle.serde_json.specs.Written.{outline, items_outline}
 use Rattle.serde_json.proofs.Numbers.{number_of-decimal}
 use Rattle.n2k_join.specs.Open.{Piece, Group}
 use Rattle.n2k_join.specs.Resumed.{each, elements, format_in, piece_of, group_of, key_of, pieces_at, groups_at, counts_of, id_at, is_valid, state_of, state_of_parts, judged, parsed, valid_if, waits_hold}
-use Rattle.n2k_join.specs.Saved.{IsId, are_waiting, saved_format, old_format, whole, list, piece_tree, group_tree, state_text, format_by, window_member, tree_by}
+use Rattle.n2k_join.specs.Saved.{IsId, are_waiting, saved_format, old_format, list, piece_tree, group_tree, state_text, format_by, window_member, tree_by}
 use Rattle.n2k_join.specs.State.{State, IsState, AreCounts, AreFast, AreWaiting, IsKey, IsPiece, IsOpen, HasParts}
 use Rattle.n2k_join.specs.Window.{Rule, IsWindow}
 use Rattle.n2k_join.specs.declared.counts.Counts.{Counts}

@@ -1,20 +1,17 @@
 -- The step in the forms in which a program makes it. A stored group is a list of frames as they came, and what a state
 -- keeps of it is `group_of` of its key and that list.
-use Rattle.std.proofs.Common.{◌≡◌, ◌<◌, ℕ, Bool, true, false, cond, not, List, [], ◌∷◌, ◌++◌, length, map, refl, sym, ap, ◌∙◌, arith, Option, Some, None, option_map, option_to_list, filter_map}
+use Rattle.std.proofs.Common.{◌≡◌, ◌<◌, ℕ, true, false, cond, not, List, [], ◌∷◌, ◌++◌, length, map, refl, sym, ap, ◌∙◌, arith, Option, Some, None, option_map, option_to_list, filter_map}
 use Rattle.std.specs.Prelude.{is_some}
 use Rattle.std.specs.Option.{option_or}
 use Rattle.std.specs.List.{AllByRecursion}
 use Rattle.std.proofs.lemmas.List.{append-nil}
-use Rattle.std.proofs.lemmas.Option.{none-some, same_Some}
 use Rattle.n2k_wire.specs.declared.entry.BadCause.{BadCause}
 use Rattle.n2k_wire.specs.declared.entry.BadCause.TheVariants as causes
 use Rattle.n2k_wire.specs.declared.entry.Entry.{Entry}
-use Rattle.n2k_wire.specs.declared.entry.Entry.TheVariants as entries
 use Rattle.n2k_wire.specs.Packet.{PacketParts}
 use Rattle.n2k_table.specs.declared.definition.Kind.{Kind}
-use Rattle.n2k_table.specs.declared.definition.Kind.TheVariants.{Single, Fast}
 use Rattle.n2k_join.specs.declared.broken.Broken.{Broken}
-use Rattle.n2k_join.specs.Frames.{Key, same_key, Frame, of_key, frame_by, frame_in, fast_frame, is_fast_payload}
+use Rattle.n2k_join.specs.Frames.{Key, same_key, Frame, of_key, frame_in}
 use Rattle.n2k_join.specs.Groups.{Ends, within}
 use Rattle.n2k_join.specs.Open.{Group, open_groups, is_waiting, waiting, open_within}
 use Rattle.n2k_join.specs.Messages.{Keyed, message_of, alone, single_by, cause_in, fast_cause, gathered, told_of, broken_with, is_unknown}
@@ -31,6 +28,7 @@ use Rattle.n2k_join.proofs.Resumed.{held-log, held-own, held-other, open_groups-
 use Rattle.n2k_join.proofs.Rising.{find-passes, find-all, passes_none, all-map, all-zip}
 use Rattle.n2k_join.proofs.Windows.{open-waiting, waits-before, waiting-all, all-waiting, open_within-push, open_within-none, open_within-held}
 use Rattle.n2k_join.specs.Window.{Rule}
+use Rattle.n2k_join.proofs.Lines.{frame_of_packet, frame_in-line}
 
 -- ---- what an entry is
 
@@ -42,25 +40,16 @@ pub record IsOnlyFrame (kind : ℕ → Option Kind) (n : ℕ) (e : Entry) (x : F
   pub known : is_unknown kind e ≡ false
 
 pub only_frame : (kind : ℕ → Option Kind) (line : ℕ) (e : Entry) (x : Frame) → frame_in kind line e ≡ Some x → IsOnlyFrame kind line e x
-unfolding fast_frame
-only_frame kind line entries.Skip x e = absurd (none-some x e)
-only_frame kind line (entries.Bad cause) x e = absurd (none-some x e)
-only_frame kind line (entries.Whole packet) x e = absurd (none-some x e)
-only_frame kind line (entries.Frame packet) x e = by_kind (kind packet.id.pgn) refl e
-  where
-    by_test : (b : Bool) → is_fast_payload packet.payload ≡ b → kind packet.id.pgn ≡ Some Fast → (f : Frame) → f.line ≡ line → cond b (Some f) None ≡ Some x → IsOnlyFrame kind line (entries.Frame packet) x
-    by_test true t k f at e = record {
-      line = ap (λ (f : Frame). f.line) (sym (same_Some f x e)) ∙ at;
-      alone = ap (λ k. single_by k packet) k;
-      known = ap (λ k. not (is_some k)) k;
-      cause = ap (λ k. fast_cause k packet) k ∙ ap (λ b. cond b None (Some causes.Fast)) t;
+only_frame kind line e x is =
+    let of = frame_of_packet kind line e x is in
+    record {
+      line = frame_in-line kind line e x is;
+      alone = ap (alone kind) of.entry ∙ ap (λ k. single_by k of.packet) of.fast;
+      cause =
+          ap (cause_in kind) of.entry ∙ ap (λ k. fast_cause k of.packet) of.fast
+          ∙ ap (λ b. cond b None (Some causes.Fast)) of.fits;
+      known = ap (is_unknown kind) of.entry ∙ ap (λ k. not (is_some k)) of.fast;
     }
-    by_test false t k f at e = absurd (none-some x e)
-
-    by_kind : (k : Option Kind) → kind packet.id.pgn ≡ k → frame_by k line packet ≡ Some x → IsOnlyFrame kind line (entries.Frame packet) x
-    by_kind None k e = absurd (none-some x e)
-    by_kind (Some Single) k e = absurd (none-some x e)
-    by_kind (Some Fast) k e = by_test (is_fast_payload packet.payload) refl k _ refl e
 
 -- ---- what a key's held frames are
 

@@ -1,16 +1,17 @@
 -- Where frames fall into stretches, each of which ends by its last frame and not before, these are the groups.
-use Rattle.std.proofs.Common.{◌≡◌, ℕ, zero, suc, ◌+◌, ◌<◌, ◌≤◌, ◌&&◌, Bool, map, true, false, List, [], ◌∷◌, ◌++◌, length, refl, ap, subst, ◌∙◌, sym, arith, append_assoc, length-append, inl, inr}
+use Rattle.std.proofs.Common.{◌≡◌, ℕ, zero, suc, ◌+◌, ◌<◌, ◌≤◌, ◌&&◌, Bool, map, true, false, List, [], ◌∷◌, ◌++◌, length, refl, ap, subst, ◌∙◌, sym, arith, append_assoc, length-append}
 use Rattle.std.specs.Prelude.{◌==◌, nat_lt}
 use Rattle.std.specs.List.{AllByRecursion, range_with_len}
-use Rattle.std.proofs.lemmas.Bool.{false≢true, or_parts, or_from, and_right, eq-eqb, ne_eqb, cases_eq, lt-leb}
+use Rattle.std.proofs.lemmas.Bool.{or_parts, or_from, and_right, eq-eqb, ne_eqb, lt-leb}
 use Rattle.std.proofs.lemmas.List.{append-nil}
 use Rattle.n2k_join.specs.Frames.{Frame}
 use Rattle.n2k_join.specs.Groups.{Ends, has_number, has_twice, complete, repeats, has_from, falls_back, misfits, is_late, within, first, closes, cut_from, cut}
 use Rattle.n2k_join.specs.Pieces.{last_piece, Sending}
 use Rattle.n2k_join.specs.Scattered.{IsPieceOf, joined}
-use Rattle.n2k_join.proofs.Counting.{has_number-cons}
 use Rattle.n2k_join.proofs.WholePieces.{complete_pieces}
 use Rattle.n2k_join.specs.Window.{Rule}
+use Rattle.n2k_join.proofs.Carried.{has_number-cons, eqb-sym}
+use Rattle.n2k_join.proofs.GroupLines.{all-front, all-back}
 
 -- frames that are complete, and don't end before the last
 pub record IsStretch (ends : Ends) (g : List Frame) : Type 0 where
@@ -53,24 +54,13 @@ has_number-push n (f ∷ fs) back h e =
     let rest = has_number-push n fs back h parts.1 in
     (has_number-cons f fs n ∙ or_from _ _ parts.0 rest.0, rest.1)
 
-eqb_sym : (a b : ℕ) → (a == b) ≡ false → (b == a) ≡ false
-eqb_sym a b e =
-    elim (cases_eq b a) [
-      | inl same ↦ absurd (false≢true (sym e ∙ eq-eqb a b (sym same)))
-      | inr other ↦ ne_eqb b a other
-    ]
-
 pub apart-front : (fs back : List Frame) (h : Frame) → has_twice (fs ++ (h ∷ back)) ≡ false → (has_twice fs ≡ false) × (has_number h.number fs ≡ false)
 apart-front [] back h e = (refl, refl)
 apart-front (f ∷ fs) back h e =
     let parts = or_parts _ _ e in
     let mine = has_number-push f.number fs back h parts.0 in
     let rest = apart-front fs back h parts.1 in
-    (or_from _ _ mine.0 rest.0, has_number-cons f fs h.number ∙ or_from _ _ (eqb_sym h.number f.number mine.1) rest.1)
-
-all-front : (P : Frame → Type 0) (fs back : List Frame) → AllByRecursion P (fs ++ back) → AllByRecursion P fs
-all-front P [] back each = tt
-all-front P (f ∷ fs) back each = (each.0, all-front P fs back each.1)
+    (or_from _ _ mine.0 rest.0, has_number-cons f fs h.number ∙ or_from _ _ (eqb-sym f.number h.number ∙ mine.1) rest.1)
 
 -- the frames go on together: no front of them ends before the frame after it
 pub record GoesOn (ends : Ends) (g : List Frame) : Type 0 where
@@ -78,11 +68,6 @@ pub record GoesOn (ends : Ends) (g : List Frame) : Type 0 where
 
 pub goes_on-repeats : (g : List Frame) → has_twice g ≡ false → GoesOn repeats g
 goes_on-repeats g apart = record { on = λ f h front back e. (apart-front (f ∷ front) back h (ap has_twice (sym e) ∙ apart)).1 }
-
--- nor does a window that ends after the last of them
-all-at : (P : Frame → Type 0) (front : List Frame) (h : Frame) (back : List Frame) → AllByRecursion P (front ++ (h ∷ back)) → P h
-all-at P [] h back each = each.0
-all-at P (f ∷ front) h back each = all-at P front h back each.1
 
 -- of frames whose numbers rise one by one none falls back
 above : (a n : ℕ) (front : List Frame) (h : Frame) (back : List Frame) → map (λ (f : Frame). f.number) (front ++ (h ∷ back)) ≡ range_with_len a n → (a ≤ h.number) × (has_from h.number front ≡ false)
@@ -95,10 +80,11 @@ above a (suc n) (f ∷ front) h back numbers =
     let later = above (a + 1) n front h back rest in
     (omega (arith, later.0), or_from _ _ (lt-leb h.number f.number (omega (arith, here, later.0))) later.1)
 
+-- no number falls back, and no window ends before the last of them
 pub goes_on-within : (w : Rule) (n : ℕ) (g : List Frame) → has_twice g ≡ false → (w.in_order ≡ true → map (λ (f : Frame). f.number) g ≡ range_with_len 0 n) → AllByRecursion (λ (f : Frame). f.line < first g + w.window) g → GoesOn (within w) g
 goes_on-within w n g apart ordered each = record {
   on = λ f h front back e.
-      let l : h.line < first g + w.window = all-at (λ (i : Frame). i.line < first g + w.window) (f ∷ front) h back (subst (AllByRecursion (λ (i : Frame). i.line < first g + w.window)) e each) in
+      let l : h.line < first g + w.window = (all-back (λ (i : Frame). i.line < first g + w.window) (f ∷ front) (h ∷ back) (subst (AllByRecursion (λ (i : Frame). i.line < first g + w.window)) e each)).0 in
       let same : first g ≡ f.line = ap first e in
       or_from (misfits w (f ∷ front) h) (is_late w (f ∷ front) h) (or_from (repeats (f ∷ front) h) (w.in_order && falls_back (f ∷ front) h) ((goes_on-repeats g apart).on f h front back e) (rises f h front back e w.in_order refl)) (lt-leb (f.line + w.window) h.line (omega (arith, l, same)));
 }

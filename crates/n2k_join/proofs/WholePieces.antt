@@ -13,6 +13,7 @@ use Rattle.n2k_join.specs.Scattered.{IsPieceOf}
 use Rattle.n2k_join.specs.Arrival.{PiecesJoin}
 use Rattle.n2k_join.proofs.Counting.{has_all_numbers}
 use Rattle.n2k_join.proofs.PieceFrames.{piece_says}
+use Rattle.n2k_join.proofs.Rising.{range-append}
 
 -- a number that the pieces have carries the bytes of that piece
 pub carried_pieces : (x : Sending) (fs : List Frame) (n : ℕ) → AllByRecursion (IsPieceOf x) fs → has_number n fs ≡ true → carried fs n ≡ Some (piece_bytes x.message.payload n)
@@ -62,16 +63,6 @@ complete_pieces x fs pieces apart = by_first (has_number 0 fs) refl
     by_first : (b : Bool) → has_number 0 fs ≡ b → not (has_twice fs) && (b && (has_all (last_number (total fs)) fs && is_within (last_number (total fs)) fs)) ≡ (length fs == m)
     by_first true e = rw (apart, total_of x fs pieces e, none_past x fs pieces) (and_true _ ∙ all_there)
     by_first false e = rw apart (sym (false_from_ne_true _ (λ full. false≢true (sym e ∙ all_at_first (λ n. has_number n fs) m (omega arith) (all_there ∙ full)))))
-
-range-append : (a n k : ℕ) → range_with_len a (n + k) ≡ range_with_len a n ++ range_with_len (a + n) k
-range-append a zero k =
-    let e : 0 + k ≡ k = omega arith in
-    let e' : a ≡ a + 0 = omega arith in
-    ap (range_with_len a) e ∙ ap (λ j. range_with_len j k) e'
-range-append a (suc n) k =
-    let e : suc n + k ≡ suc (n + k) = omega arith in
-    let e' : (a + 1) + n ≡ a + suc n = omega arith in
-    ap (range_with_len a) e ∙ ap (λ l. a ∷ l) (range-append (a + 1) n k ∙ ap (λ j. range_with_len (a + 1) n ++ range_with_len j k) e')
 
 -- chunks of seven, joined
 chunks : (payload : List ℕ) (a k : ℕ) → flat_map (piece_bytes payload) (range_with_len a k) ≡ map (sent_byte payload) (range_with_len (7 * a) (7 * k))

@@ -1,8 +1,7 @@
 -- The open groups under a window: what the window has ended may go before the next frame is taken.
-use Rattle.std.proofs.Common.{◌≡◌, ◌≤◌, ◌<◌, ◌+◌, ◌||◌, ◌&&◌, ℕ, Bool, true, false, cond, nat_le, List, [], ◌∷◌, ◌++◌, length, refl, sym, ap, ◌∙◌, subst, arith, Option, Some, None, option_to_list, filter, filter_map, find, ltb, leb}
+use Rattle.std.proofs.Common.{◌≡◌, ◌≤◌, ◌<◌, ◌+◌, ◌||◌, ◌&&◌, ℕ, Bool, true, false, cond, List, [], ◌∷◌, ◌++◌, refl, sym, ap, ◌∙◌, arith, Option, Some, None, option_to_list, filter, filter_map}
 use Rattle.std.specs.Prelude.{nat_lt}
 use Rattle.std.specs.List.{cons_option, AllByRecursion}
-use Rattle.std.proofs.lemmas.List.{append-nil}
 use Rattle.std.proofs.lemmas.List.Elements.{filter-append}
 use Rattle.std.proofs.lemmas.Bool.{ltb-true, ltb-false, lt-ltb, lt-leb, le-leb, or_right}
 use Rattle.std.proofs.lemmas.Option.{none-some, same_Some}
@@ -11,12 +10,12 @@ use Rattle.n2k_join.specs.Groups.{Ends, repeats, has_number, has_from, falls_bac
 use Rattle.n2k_join.specs.Open.{Group, group_of, open_groups, is_waiting, waiting, open_within}
 use Rattle.n2k_join.specs.State.{held_of, held, Rise, IsOpen, AreApart, AreOpen}
 use Rattle.n2k_join.specs.Inner.Stored.{bars}
-use Rattle.n2k_join.proofs.Advanced.{with_frame, joined, taken, begun, of_the_key, opened, advanced}
+use Rattle.n2k_join.proofs.Advanced.{with_frame, taken, begun, of_the_key, opened, advanced}
 use Rattle.n2k_join.proofs.Cuts.{within-ends, has-from}
 use Rattle.n2k_join.proofs.Held.{first-held}
 use Rattle.n2k_join.proofs.Keys.{same_key-true}
 use Rattle.n2k_join.proofs.Opened.{IsLog, open_groups-push, open_groups-none}
-use Rattle.n2k_join.proofs.Resumed.{open_groups-held, open_groups-open, held-log}
+use Rattle.n2k_join.proofs.Resumed.{open_groups-held, open_groups-open}
 use Rattle.n2k_join.proofs.Rising.{rise-less, find-none, all-map}
 use Rattle.n2k_join.specs.Window.{Rule}
 

@@ -1,6 +1,6 @@
 -- The rules of a valid state stand in two forms: as tests, which the reader of a text asks in turn, and as what holds of the
 -- state of every join. They are one.
-use Rattle.std.specs.Prelude.{◌≡◌, ◌<◌, ◌↔◌, ℕ, true, List, length, Option}
+use Rattle.std.specs.Prelude.{◌≡◌, ◌<◌, ◌↔◌, ℕ, true, length, Option}
 use Rattle.std.specs.List.{AllByRecursion}
 use Rattle.n2k_table.specs.declared.definition.Kind.{Kind}
 use Rattle.n2k_join.specs.Frames.{frame_bytes}

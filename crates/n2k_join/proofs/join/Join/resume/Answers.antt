@@ -1,11 +1,10 @@
-use Rattle.std.proofs.Common.{◌≡◌, true, refl, sym, ap, subst, ◌∙◌, arith, rules}
+use Rattle.std.proofs.Common.{◌≡◌, true, sym, ap, subst, ◌∙◌, arith, rules}
 use Rattle.std.proofs.lemmas.Bool.{eq-eqb}
 use Rattle.std.specs.Str.{bytes_eq}
 use Rattle.n2k_table.specs.Table.{kind}
 use Rattle.n2k_join.specs.Refusal.{GivesOrMemory}
 use Rattle.n2k_join.specs.Resumed.{is_valid, valid_if, state_of_parts}
 use Rattle.n2k_join.specs.State.{State}
-use Rattle.n2k_join.specs.Window.{Rule}
 use Rattle.n2k_join.proofs.StateReads.{judged-by, of-parts}
 use Rattle.n2k_join.proofs.join.Join.resume.Goals as goal
 

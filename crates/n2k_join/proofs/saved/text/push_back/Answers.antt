@@ -1,5 +1,4 @@
-use Rattle.std.proofs.Common.{◌∙◌, ap, rules}
-use Rattle.n2k_join.specs.Inner.SavedTokens.{window_tokens}
+use Rattle.std.proofs.Common.{rules}
 use Rattle.n2k_join.proofs.SavedPieces.{back_written}
 use Rattle.n2k_join.proofs.saved.text.push_back.Goals as goal
 
