@@ -1,10 +1,9 @@
 -- Which groups are broken at a line: those of the last line of a log, and that earlier lines keep theirs.
-use Rattle.std.proofs.Common.{◌≡◌, ◌==◌, ◌≤◌, ◌<◌, ◌+◌, ℕ, Bool, true, false, cond, not, ◌||◌, ◌&&◌, nat_le, min, List, [], ◌∷◌, ◌++◌, length, refl, sym, ap, ◌∙◌, subst, arith, Option, Some, None, option_map, option_and_then, option_to_list, filter_map}
-use Rattle.std.proofs.Math.Nat.{min-eq_left, min-eq_right, min-le_right}
+use Rattle.std.proofs.Common.{◌≡◌, ◌==◌, ◌<◌, ◌+◌, ℕ, Bool, true, false, cond, not, ◌||◌, ◌&&◌, nat_le, min, List, [], ◌∷◌, ◌++◌, length, refl, sym, ap, ◌∙◌, subst, arith, Option, Some, None, option_map, option_and_then, option_to_list, filter_map}
 use Rattle.std.specs.Prelude.{IfSome}
 use Rattle.std.specs.List.{range_with_len, last_or, AllByRecursion}
 use Rattle.std.proofs.lemmas.List.{append-nil}
-use Rattle.std.proofs.lemmas.Bool.{eqb-true, eq-eqb, ne_eqb, or_parts, leb-true, leb-false}
+use Rattle.std.proofs.lemmas.Bool.{eqb-true, eq-eqb, ne_eqb, or_parts, leb-true, leb-false, and_right, and_left}
 use Rattle.n2k_join.specs.declared.broken.Broken.{Broken}
 use Rattle.n2k_join.specs.Frames.{Key, same_key, Frame, of_key, frame_at}
 use Rattle.n2k_join.specs.Groups.{closes, misfits, is_late, within, complete, incomplete, cut, first}
@@ -35,22 +34,24 @@ last_if t None = None
 last_if t (Some g) = cond (t g) (Some g) None
 
 no_and : (a b c : Bool) → c ≡ false → (not a && (b && c)) ≡ false
-no_and true b c e = refl
-no_and false true c e = e
-no_and false false c e = refl
+no_and a b c e = and_right (not a) (b && c) (and_right b c e)
 
 no_first : (a b c : Bool) → b ≡ false → (not a && (b && c)) ≡ false
-no_first true b c e = refl
-no_first false b c e = ap (λ b. b && c) e
+no_first a b c e = and_right (not a) (b && c) (and_left b c e)
 
 -- a group that another follows is broken at that one's line or before
-min-le : (a b : ℕ) → min a b ≤ b
-min-le a b = min-le_right a b
-
-passed : (w : Rule) (j line : ℕ) (g h : List Frame) (gs : List (List Frame)) → first h < line → broken_among w j line (g ∷ h ∷ gs) ≡ broken_among w j line (h ∷ gs)
+passed : (w : Rule) (j line : ℕ) (g h : List Frame) (gs : List (List Frame)) → first h < line
+    → broken_among w j line (g ∷ h ∷ gs) ≡ broken_among w j line (h ∷ gs)
 passed w j line g h gs l =
-    let most : min (first g + w.window) (first h) ≤ first h = min-le (first g + w.window) (first h) in
-    ap (λ b. cond b (Some g) (broken_among w j line (h ∷ gs))) (no_and (complete g) (first g == j) (min (first g + w.window) (first h) == line) (ne_eqb (min (first g + w.window) (first h)) line (λ e. omega (arith, most, l, e))))
+    let other = ne_eqb (min (first g + w.window) (first h)) line (λ e. omega (arith, l, e)) in
+    ap (λ b. cond b (Some g) (broken_among w j line (h ∷ gs)))
+    (no_and (complete g) (first g == j) (min (first g + w.window) (first h) == line) other)
+
+-- the last group is not broken before its window ends
+among-open : (w : Rule) (j i : ℕ) (g : List Frame) → i < first g + w.window → broken_among w j i (g ∷ []) ≡ None
+among-open w j i g l =
+    ap (λ b. cond b (Some g) None)
+    (no_and (complete g) (first g == j) (first g + w.window == i) (ne_eqb (first g + w.window) i (λ e. omega (arith, e, l))))
 
 -- with no frame of the key at the line
 among-last : (w : Rule) (n j line : ℕ) (gs : List (List Frame)) → AllByRecursion (IsUpTo n) gs → n < line → broken_among w j line gs ≡ last_if (ends_at w j line) (last_or None gs)
@@ -63,15 +64,11 @@ among-one : (w : Rule) (j : ℕ) (g : List Frame) (x : Frame) → 0 < w.window �
 among-one w j g x some nonempty = by (complete g) refl (within w g x) refl
   where
     alone : broken_among w j x.line ((x ∷ []) ∷ []) ≡ None
-    alone = ap (λ b. cond b (Some (x ∷ [])) None) (no_and (complete (x ∷ [])) (x.line == j) (x.line + w.window == x.line) (ne_eqb (x.line + w.window) x.line (λ e. omega (arith, e, some))))
+    alone = among-open w j x.line (x ∷ []) (omega (arith, some))
 
     by_line : (b : Bool) → nat_le x.line (first g + w.window) ≡ b → (min (first g + w.window) x.line == x.line) ≡ b
-    by_line true e = eq-eqb (min (first g + w.window) x.line) x.line (min-eq_right (leb-true x.line (first g + w.window) e))
-    by_line false e =
-        let l : first g + w.window < x.line = leb-false x.line (first g + w.window) e in
-        let under : first g + w.window ≤ x.line = omega (arith, l) in
-        let is : min (first g + w.window) x.line ≡ first g + w.window = min-eq_left under in
-        ne_eqb (min (first g + w.window) x.line) x.line (λ f. omega (arith, l, is, f))
+    by_line true e = eq-eqb _ _ (omega (arith, leb-true x.line (first g + w.window) e))
+    by_line false e = ne_eqb _ _ (λ f. omega (arith, leb-false x.line (first g + w.window) e, f))
 
     by : (c : Bool) → complete g ≡ c → (e : Bool) → within w g x ≡ e
         → broken_among w j x.line (cond (c || e) (g ∷ (x ∷ []) ∷ []) ((g ++ x ∷ []) ∷ [])) ≡ cond (not c && ((first g == j) && (e && nat_le x.line (first g + w.window)))) (Some g) None
@@ -81,12 +78,11 @@ among-one w j g x some nonempty = by (complete g) refl (within w g x) refl
     by false t false f =
         let late : is_late w g x ≡ false = (or_parts (misfits w g x) (is_late w g x) f).1 in
         let before : x.line < first g + w.window = leb-false (first g + w.window) x.line late in
-        ap (λ b. cond b (Some (g ++ x ∷ [])) None)
-        (no_and (complete (g ++ x ∷ [])) (first (g ++ x ∷ []) == j) (first (g ++ x ∷ []) + w.window == x.line) (ne_eqb (first (g ++ x ∷ []) + w.window) x.line (λ e. omega (arith, first-push g x nonempty, before, e))))
-        ∙ sym (ap (λ b. cond b (Some g) None) (elim (first g == j) as (λ b. (b && false) ≡ false) [ true ↦ refl | false ↦ refl ]))
+        among-open w j x.line (g ++ x ∷ []) (omega (arith, first-push g x nonempty, before))
+        ∙ sym (ap (λ b. cond b (Some g) None) (and_right (first g == j) false refl))
 
 among-grown : (w : Rule) (n j : ℕ) (gs : List (List Frame)) (x : Frame) → 0 < w.window → AllByRecursion (IsUpTo n) gs → n < x.line → broken_among w j x.line (grown (within w) gs x) ≡ last_if (ends_by w j x) (last_or None gs)
-among-grown w n j [] x some up l = ap (λ b. cond b (Some (x ∷ [])) None) (no_and (complete (x ∷ [])) (x.line == j) (x.line + w.window == x.line) (ne_eqb (x.line + w.window) x.line (λ e. omega (arith, e, some))))
+among-grown w n j [] x some up l = among-open w j x.line (x ∷ []) (omega (arith, some))
 among-grown w n j (g ∷ []) x some up l = among-one w j g x some up.0.nonempty
 among-grown w n j (g ∷ h ∷ []) x some up l = by (closes (within w) h x) ∙ among-one w j h x some up.1.0.nonempty
   where
@@ -113,30 +109,12 @@ among-stays_one : (w : Rule) (j i : ℕ) (g : List Frame) (x : Frame) → 0 < w.
 among-stays_one w j i g x some nonempty l = by (complete g) refl (within w g x) refl
   where
     alone : broken_among w j i ((x ∷ []) ∷ []) ≡ None
-    alone = ap (λ b. cond b (Some (x ∷ [])) None) (no_and (complete (x ∷ [])) (x.line == j) (x.line + w.window == i) (ne_eqb (x.line + w.window) i (λ e. omega (arith, e, l))))
+    alone = among-open w j i (x ∷ []) (omega (arith, l))
 
     at_line : (min (first g + w.window) x.line == i) ≡ (first g + w.window == i)
-    at_line = same_bool _ _ there back
-      where
-        there : (min (first g + w.window) x.line == i) ≡ true → (first g + w.window == i) ≡ true
-        there e = by (nat_le (first g + w.window) x.line) refl
-          where
-            is : min (first g + w.window) x.line ≡ i
-            is = eqb-true _ _ e
-
-            by : (b : Bool) → nat_le (first g + w.window) x.line ≡ b → (first g + w.window == i) ≡ true
-            by true f = eq-eqb (first g + w.window) i (sym (min-eq_left (leb-true _ _ f)) ∙ is)
-            by false f =
-                let past : x.line < first g + w.window = leb-false _ _ f in
-                let under : x.line ≤ first g + w.window = omega (arith, past) in
-                let same : x.line ≡ i = sym (min-eq_right under) ∙ is in
-                absurd (omega (arith, l, same))
-
-        back : (first g + w.window == i) ≡ true → (min (first g + w.window) x.line == i) ≡ true
-        back e =
-            let is : first g + w.window ≡ i = eqb-true _ _ e in
-            let under : first g + w.window ≤ x.line = omega (arith, is, l) in
-            eq-eqb (min (first g + w.window) x.line) i (min-eq_left under ∙ is)
+    at_line =
+        same_bool _ _ (λ e. eq-eqb _ _ (omega (arith, l, eqb-true (min (first g + w.window) x.line) i e)))
+        (λ e. eq-eqb _ _ (omega (arith, l, eqb-true (first g + w.window) i e)))
 
     by : (c : Bool) → complete g ≡ c → (e : Bool) → within w g x ≡ e
         → broken_among w j i (cond (c || e) (g ∷ (x ∷ []) ∷ []) ((g ++ x ∷ []) ∷ [])) ≡ cond (not (complete g) && ((first g == j) && (first g + w.window == i))) (Some g) None
@@ -145,12 +123,11 @@ among-stays_one w j i g x some nonempty l = by (complete g) refl (within w g x) 
     by false t false f =
         let late : is_late w g x ≡ false = (or_parts (misfits w g x) (is_late w g x) f).1 in
         let before : x.line < first g + w.window = leb-false (first g + w.window) x.line late in
-        ap (λ b. cond b (Some (g ++ x ∷ [])) None)
-        (no_and (complete (g ++ x ∷ [])) (first (g ++ x ∷ []) == j) (first (g ++ x ∷ []) + w.window == i) (ne_eqb (first (g ++ x ∷ []) + w.window) i (λ e. omega (arith, first-push g x nonempty, before, e, l))))
-        ∙ sym (ap (λ b. cond b (Some g) None) (no_and (complete g) (first g == j) (first g + w.window == i) (ne_eqb (first g + w.window) i (λ e. omega (arith, before, e, l)))))
+        among-open w j i (g ++ x ∷ []) (omega (arith, first-push g x nonempty, before, l))
+        ∙ sym (among-open w j i g (omega (arith, before, l)))
 
 among-stays : (w : Rule) (n j i : ℕ) (gs : List (List Frame)) (x : Frame) → 0 < w.window → AllByRecursion (IsUpTo n) gs → i < x.line → broken_among w j i (grown (within w) gs x) ≡ broken_among w j i gs
-among-stays w n j i [] x some up l = ap (λ b. cond b (Some (x ∷ [])) None) (no_and (complete (x ∷ [])) (x.line == j) (x.line + w.window == i) (ne_eqb (x.line + w.window) i (λ e. omega (arith, e, l))))
+among-stays w n j i [] x some up l = among-open w j i (x ∷ []) (omega (arith, l))
 among-stays w n j i (g ∷ []) x some up l = among-stays_one w j i g x some up.0.nonempty l
 among-stays w n j i (g ∷ h ∷ []) x some up l = by (closes (within w) h x) refl (among-stays_one w j i h x some up.1.0.nonempty l)
   where

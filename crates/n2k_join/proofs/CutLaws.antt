@@ -13,7 +13,7 @@ use Rattle.n2k_join.specs.Frames.{Frame}
 use Rattle.n2k_join.specs.Groups.{Ends, EndsRepeats, closes, complete, repeats, misfits, falls_back, is_late, within, has_twice, cut_from, cut, HasEnded, IsFirstGroup, first}
 use Rattle.n2k_join.specs.Laws.{CutJoins, HasFirstGroup, CutFirst, IsSettled, CutGrows, HasSettled}
 use Rattle.n2k_join.proofs.Carried.{has_twice-push}
-use Rattle.n2k_join.proofs.Cuts.{grown, cut-push, cut-joined, cut-keeps}
+use Rattle.n2k_join.proofs.Cuts.{grown, cut-push, cut-joined, cut-keeps, cut-nonempty}
 use Rattle.n2k_join.proofs.Logs.{message-before, broken-before}
 use Rattle.n2k_join.specs.Messages.{message, broken}
 use Rattle.n2k_join.specs.Window.{Rule}
@@ -21,9 +21,6 @@ use Rattle.n2k_join.specs.Window.{Rule}
 -- no group is empty
 abbrev AreGroups : List (List Frame) → Type 0
 AreGroups gs = AllByRecursion (λ (g : List Frame). 0 < length g) gs
-
-cut-nonempty : (ends : Ends) (fs : List Frame) → AreGroups (cut ends fs)
-cut-nonempty ends fs = cut-keeps ends (λ g. 0 < length g) (λ x. omega arith) (λ g x c h. omega (arith, length-append g (x ∷ []))) fs
 
 pub cut_joins : (ends : Ends) (fs : List Frame) → EndsRepeats ends → CutJoins ends fs
 cut_joins ends fs is = record {
@@ -61,7 +58,7 @@ goes_on ends f front (x ∷ more) rest group e none ended =
     ap (λ b. cond b ((f ∷ front) ∷ cut_from ends (x ∷ []) (more ++ rest)) (cut_from ends ((f ∷ front) ++ x ∷ []) (more ++ rest))) (none f x front more e)
     ∙ goes_on ends f (front ++ x ∷ []) more rest group (e ∙ sym (append_assoc (f ∷ front) (x ∷ []) more)) none ended
 
-first_follows : (ends : Ends) (fs group rest : List Frame) → IsFirstGroup ends fs group rest → cut ends fs ≡ group ∷ cut ends rest
+pub first_follows : (ends : Ends) (fs group rest : List Frame) → IsFirstGroup ends fs group rest → cut ends fs ≡ group ∷ cut ends rest
 unfolding cut
 first_follows ends fs group rest is = ap (cut ends) is.joined ∙ by group refl is.nonempty
   where

@@ -1,5 +1,5 @@
 -- The groups of a list of frames, and those of a list with one frame more.
-use Rattle.std.proofs.Common.{◌≡◌, ◌==◌, ℕ, ◌+◌, ◌<◌, ◌≤◌, ◌||◌, ◌&&◌, Bool, true, false, cond, List, [], ◌∷◌, ◌++◌, refl, sym, ap, ◌∙◌, arith, nat_le, append_assoc, Option, Some, None}
+use Rattle.std.proofs.Common.{◌≡◌, ◌==◌, ℕ, ◌+◌, ◌<◌, ◌≤◌, ◌||◌, ◌&&◌, Bool, true, false, cond, List, [], ◌∷◌, ◌++◌, refl, sym, ap, ◌∙◌, arith, nat_le, append_assoc, Option, Some, None, length}
 use Rattle.std.specs.Prelude.{fold, is_some, IfSome, nat_lt}
 use Rattle.std.specs.List.{last_or, flat_map, AllByRecursion}
 use Rattle.std.proofs.lemmas.List.Sums.{fold_push}
@@ -9,6 +9,7 @@ use Rattle.n2k_join.proofs.Carried.{same_bool, has_number-cons}
 use Rattle.std.proofs.lemmas.Bool.{or_left, or_right, or_from, lt-leb, le-leb, leb-true, le-ltb, eqb-true, eq-eqb, false≢true, and_right}
 use Rattle.n2k_join.specs.Groups.{Ends, closes, repeats, has_from, falls_back, misfits, is_late, within, cut_from, cut, carried, has_number, first}
 use Rattle.n2k_join.proofs.Rising.{all-append}
+use Rattle.std.proofs.lemmas.List.{length-append}
 
 -- A test that ends groups: a number that comes again ends, and what else does depends on what a group carries and where
 -- it began alone, and not on frames of the line where it began.
@@ -155,6 +156,10 @@ module _ (ends : Ends) where
   unfolding cut
   cut-keeps Q one more [] = tt
   cut-keeps Q one more (f ∷ fs) = cut_from-keeps Q one more (f ∷ []) fs (one f)
+
+  -- no group is empty
+  pub cut-nonempty : (fs : List Frame) → AllByRecursion (λ (g : List Frame). 0 < length g) (cut ends fs)
+  cut-nonempty fs = cut-keeps (λ g. 0 < length g) (λ x. omega arith) (λ g x c h. omega (arith, length-append g (x ∷ []))) fs
 
   -- what holds of each frame holds of those of each group
   cut_from-all : (P : Frame → Type 0) (g fs : List Frame) → AllByRecursion P g → AllByRecursion P fs → AllByRecursion (AllByRecursion P) (cut_from ends g fs)

@@ -1,12 +1,11 @@
 -- What the last line of a log gives, and that earlier lines keep what they gave.
 use Rattle.std.proofs.Common.{◌≡◌, ◌==◌, ◌≤◌, ◌<◌, ℕ, Bool, true, false, cond, ◌&&◌, List, [], ◌∷◌, ◌++◌, length, refl, sym, ap, ◌∙◌, arith, Option, Some, None, option_map, option_and_then, find}
 use Rattle.std.specs.List.{last_or, AllByRecursion}
-use Rattle.std.proofs.lemmas.List.{length-append}
 use Rattle.std.proofs.lemmas.Bool.{eqb-true, eq-eqb, ne_eqb, or_parts}
 use Rattle.n2k_join.specs.Frames.{Key, same_key, Frame, of_key, frame_at}
 use Rattle.n2k_join.specs.Groups.{Ends, closes, complete, cut, first, last_line}
 use Rattle.n2k_join.specs.Messages.{Keyed, message_of, is_done_at, gathered_by, gathered}
-use Rattle.n2k_join.proofs.Cuts.{next, so_far, grown, cut-push, last-cut, cut-keeps, cut-all}
+use Rattle.n2k_join.proofs.Cuts.{next, so_far, grown, cut-push, last-cut, cut-all, cut-nonempty}
 use Rattle.n2k_join.proofs.Keys.{same_key-refl, of_key-same, of_key-other, of_key-keeps}
 use Rattle.n2k_join.proofs.Opened.{IsLog, none_at, at_last, at_line}
 use Rattle.n2k_join.proofs.Rising.{find-passes, all-map, all-zip}
@@ -74,7 +73,7 @@ module _ (ends : Ends) where
   groups-up_to n fs all =
       all-map _ (IsUpTo n) (cut ends fs) (λ g h. record { nonempty = h.0; lines = h.1 })
       (all-zip (λ g. 0 < length g) (AllByRecursion (λ (f : Frame). f.line ≤ n)) (cut ends fs)
-      (cut-keeps ends (λ g. 0 < length g) (λ x. omega arith) (λ g x c h. omega (arith, length-append g (x ∷ []))) fs)
+      (cut-nonempty ends fs)
       (cut-all ends (λ (f : Frame). f.line ≤ n) fs all))
 
   pub up_to : (n : ℕ) (k : Key) (fs : List Frame) → IsLog n fs → AllByRecursion (IsUpTo n) (cut ends (of_key k fs))

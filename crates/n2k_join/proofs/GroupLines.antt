@@ -1,5 +1,5 @@
 -- Groups whose frames' lines rise: each is the one that is done at its last line, and the one that begins at its first.
-use Rattle.std.proofs.Common.{◌≡◌, ℕ, ◌+◌, ◌<◌, ◌≤◌, true, false, List, [], ◌∷◌, ◌++◌, length, refl, subst, sym, arith, Some}
+use Rattle.std.proofs.Common.{◌≡◌, ℕ, ◌+◌, ◌<◌, ◌≤◌, true, false, List, [], ◌∷◌, ◌++◌, length, refl, subst, sym, arith, Some, ap}
 use Rattle.std.specs.Prelude.{find}
 use Rattle.std.specs.List.{AllByRecursion}
 use Rattle.std.proofs.lemmas.Bool.{eq-eqb, ne_eqb, and_right}
@@ -19,18 +19,20 @@ rise-after n [] rest some rise = absurd (omega (arith, some))
 rise-after n (f ∷ []) rest some rise = rise.1
 rise-after n (f ∷ g ∷ fs) rest some rise = rise-after (f.line + 1) (g ∷ fs) rest (omega arith) rise.1
 
--- what holds of all its frames, holds of its last
+-- a group ends with a frame, of which holds what holds of all its frames
 pub record LastFrame (P : Frame → Type 0) (g : List Frame) : Type 0 where
+  pub before : List Frame
   pub frame : Frame
+  pub is : g ≡ before ++ frame ∷ []
   pub at : last_line g ≡ frame.line
   pub holds : P frame
 
 pub last_frame : (P : Frame → Type 0) (g : List Frame) → IsGroup g → AllByRecursion P g → LastFrame P g
 last_frame P [] some each = absurd (omega (arith, some))
-last_frame P (f ∷ []) some each = record { frame = f; at = refl; holds = each.0 }
+last_frame P (f ∷ []) some each = record { before = []; frame = f; is = refl; at = refl; holds = each.0 }
 last_frame P (f ∷ g ∷ fs) some each =
     let rest = last_frame P (g ∷ fs) (omega arith) each.1 in
-    record { frame = rest.frame; at = rest.at; holds = rest.holds }
+    record { before = f ∷ rest.before; frame = rest.frame; is = ap (λ t. f ∷ t) rest.is; at = rest.at; holds = rest.holds }
 
 pub all-front : {X : Type 0} (P : X → Type 0) (xs ys : List X) → AllByRecursion P (xs ++ ys) → AllByRecursion P xs
 all-front P [] ys each = tt

@@ -1,11 +1,11 @@
 -- A message whose pieces come in order under its key is given, whatever stood open before with a frame 0.
 use Rattle.std.proofs.Common.{◌≡◌, ℕ, zero, suc, ◌+◌, ◌<◌, ◌≤◌, Bool, true, false, not, ◌&&◌, List, [], ◌∷◌, ◌++◌, length, refl, ap, subst, ◌∙◌, sym, arith, append_assoc, Option, Some, None}
-use Rattle.std.specs.Prelude.{◌==◌, nat_lt, drop, min, cond, if◌then◌else◌, find, filter_map, map, Contains, IfSome, option_map, option_and_then}
+use Rattle.std.specs.Prelude.{◌==◌, nat_lt, min, cond, if◌then◌else◌, find, filter_map, map, Contains, IfSome, option_map, option_and_then}
 use Rattle.std.specs.List.{AllByRecursion, last_or, range_with_len, cons_option}
 use Rattle.std.proofs.lemmas.Bool.{cases_lt, le-leb, true≢false, eqb-true, eqb-false, eq-eqb, ne_eqb, and_right, and_from, lt-ltb, or_left, or_right, or_from}
 use Rattle.std.proofs.lemmas.Option.{none-some, same_Some}
-use Rattle.std.proofs.Math.Nat.{min-eq_left, min-eq_right}
 use mathlib.Core.Logic.{◌⊎◌, inl, inr}
+use Rattle.std.proofs.lemmas.List.{append_cancel_left}
 use Rattle.std.proofs.lemmas.List.Elements.{recursion_from_All}
 use Rattle.n2k_wire.specs.declared.entry.Entry.{Entry}
 use Rattle.n2k_table.specs.declared.definition.Kind.{Kind}
@@ -15,13 +15,13 @@ use Rattle.n2k_join.specs.Messages.{is_done_at, broken_of, broken_line, broken_a
 use Rattle.n2k_join.specs.Pieces.{Sending, last_piece}
 use Rattle.n2k_join.specs.Scattered.{key_of_sending, joined, IsPieceOf}
 use Rattle.n2k_join.specs.Arrival.{Brings, ComesNext, LeavesZero, Heals}
-use Rattle.n2k_join.proofs.Cuts.{cut-all}
+use Rattle.n2k_join.proofs.Cuts.{cut-all, cut-joined, cut-nonempty}
 use Rattle.n2k_join.proofs.Keys.{of_key-append, of_key-keeps}
 use Rattle.n2k_join.proofs.Logs.{frames_from-append, frames-log}
 use Rattle.n2k_join.proofs.BrokenGroups.{last-all}
 use Rattle.n2k_join.proofs.Given.{IsUpTo, first-le, up_to}
 use Rattle.n2k_join.proofs.Stretches.{IsStretch, cut_stretch, goes_on-within, stretch_pieces}
-use Rattle.n2k_join.proofs.Lines.{RiseFrom, all_with, rise-all, rise-weaker, frames-rise}
+use Rattle.n2k_join.proofs.Lines.{RiseFrom, all_with, rise-all, frames-rise, rise-rest}
 use Rattle.n2k_join.proofs.GroupLines.{IsGroup, IsDone, all-front, all-back, all-joined, first_above, done_found}
 use Rattle.n2k_join.proofs.Arriving.{StandsAt, stand, key-rise, brings}
 use Rattle.n2k_join.specs.Window.{Rule}
@@ -44,41 +44,10 @@ unfolding cut
 cut_splits ends [] x rest last = refl
 cut_splits ends (f ∷ fs) x rest last = cut_splits_from ends None (f ∷ []) fs x rest last
 
--- the groups joined are the frames, and each has one
-joined_from : (ends : Ends) (g fs : List Frame) → joined (cut_from ends g fs) ≡ g ++ fs
-joined_from ends g [] = refl
-joined_from ends g (f ∷ fs) = by_test (closes ends g f) (joined_from ends (f ∷ []) fs) (joined_from ends (g ++ f ∷ []) fs)
-  where
-    by_test : (b : Bool) → joined (cut_from ends (f ∷ []) fs) ≡ f ∷ fs → joined (cut_from ends (g ++ f ∷ []) fs) ≡ (g ++ f ∷ []) ++ fs → joined (if b then g ∷ cut_from ends (f ∷ []) fs else cut_from ends (g ++ f ∷ []) fs) ≡ g ++ (f ∷ fs)
-    by_test true closed grown = ap (λ l. g ++ l) closed
-    by_test false closed grown = grown ∙ append_assoc g (f ∷ []) fs
-
-pub cut_joined : (ends : Ends) (fs : List Frame) → joined (cut ends fs) ≡ fs
-unfolding cut
-cut_joined ends [] = refl
-cut_joined ends (f ∷ fs) = joined_from ends (f ∷ []) fs
-
-groups_from : (ends : Ends) (f : Frame) (g fs : List Frame) → AllByRecursion IsGroup (cut_from ends (f ∷ g) fs)
-groups_from ends f g [] = (omega arith, tt)
-groups_from ends f g (h ∷ fs) = by_test (closes ends (f ∷ g) h) (groups_from ends h [] fs) (groups_from ends f (g ++ h ∷ []) fs)
-  where
-    by_test : (b : Bool) → AllByRecursion IsGroup (cut_from ends (h ∷ []) fs) → AllByRecursion IsGroup (cut_from ends ((f ∷ g) ++ h ∷ []) fs) → AllByRecursion IsGroup (if b then (f ∷ g) ∷ cut_from ends (h ∷ []) fs else cut_from ends ((f ∷ g) ++ h ∷ []) fs)
-    by_test true closed grown = (omega arith, closed)
-    by_test false closed grown = grown
-
-pub cut_groups : (ends : Ends) (fs : List Frame) → AllByRecursion IsGroup (cut ends fs)
-unfolding cut
-cut_groups ends [] = tt
-cut_groups ends (f ∷ fs) = groups_from ends f [] fs
-
 -- the groups' first lines rise
 abbrev FirstsRise : List (List Frame) → Type 0
 FirstsRise [] = Unit {0}
 FirstsRise (g ∷ gs) = AllByRecursion (λ h. first g + 1 ≤ first h) gs × FirstsRise gs
-
-rise-rest : (n : ℕ) (fs gs : List Frame) → RiseFrom n (fs ++ gs) → RiseFrom n gs
-rise-rest n [] gs rise = rise
-rise-rest n (f ∷ fs) gs rise = rise-weaker n (f.line + 1) gs (omega (arith, rise.0)) (rise-rest (f.line + 1) fs gs rise.1)
 
 firsts_rise : (n : ℕ) (gs : List (List Frame)) → AllByRecursion IsGroup gs → RiseFrom n (joined gs) → FirstsRise gs
 firsts_rise n [] some rise = tt
@@ -101,18 +70,14 @@ broken_among-at w (h ∷ a) left g later rise c =
     ∙ ap (λ b. cond b (Some h) (broken_among w (first left) (min (first left + w.window) (first g)) (a ++ (left ∷ g ∷ later)))) (and_right (not (complete h)) false refl)
     ∙ broken_among-at w a left g later rise.1 c
 
--- a list that has a last item
-record EndsWith (gs : List (List Frame)) (l : List Frame) : Type 0 where
-  before : List (List Frame)
-  is : gs ≡ before ++ l ∷ []
-
-ends_with : (o : Option (List Frame)) (gs : List (List Frame)) (l : List Frame) → (o ≡ Some l → ⊥) → last_or o gs ≡ Some l → EndsWith gs l
+-- a list that has a last item ends with it
+ends_with : (o : Option (List Frame)) (gs : List (List Frame)) (l : List Frame) → (o ≡ Some l → ⊥) → last_or o gs ≡ Some l
+    → (before : List (List Frame)) × (gs ≡ before ++ l ∷ [])
 ends_with o [] l none e = absurd (none e)
-ends_with o (g ∷ []) l none e = record { before = []; is = ap (λ h. h ∷ []) (same_Some g l e) }
-ends_with o (g ∷ h ∷ gs) l none e = by (ends_with None (h ∷ gs) l (λ t. none-some l t) e)
-  where
-    by : EndsWith (h ∷ gs) l → EndsWith (g ∷ h ∷ gs) l
-    by r = record { before = g ∷ r.before; is = ap (λ hs. g ∷ hs) r.is }
+ends_with o (g ∷ []) l none e = ([], ap (λ h. h ∷ []) (same_Some g l e))
+ends_with o (g ∷ h ∷ gs) l none e =
+    let rest = ends_with None (h ∷ gs) l (λ t. none-some l t) e in
+    (g ∷ rest.0, ap (λ hs. g ∷ hs) rest.1)
 
 -- what a number of a range gives stands among what the range gives
 given_among : {Y : Type 0} (h : ℕ → Option Y) (y : Y) (i a n : ℕ) → a ≤ i → i < a + n → h i ≡ Some y → Contains (filter_map h (range_with_len a n)) y
@@ -197,29 +162,18 @@ ends_before w n o h f up zeroth past open_has last = by_test (complete h) refl (
     by_test true e has = or_left _ _ e
     by_test false e has = or_right _ _ (by_order w.in_order refl has)
 
-append-cancel : (xs ys zs : List Frame) → xs ++ ys ≡ xs ++ zs → ys ≡ zs
-append-cancel [] ys zs e = e
-append-cancel (x ∷ xs) ys zs e = append-cancel xs ys zs (ap (drop 1) e)
-
 -- the next frame of the key stands past the entries before it
 next_past : (kind : ℕ → Option Kind) (front back : List Entry) (k : Key) (f : Frame) (g : List Frame) → of_key k (frames kind (front ++ back)) ≡ of_key k (frames kind front) ++ (f ∷ g) → length front < f.line
 next_past kind front back k f g next =
     let later = frames_from kind (1 + length front) back in
     let parts : of_key k (frames kind (front ++ back)) ≡ of_key k (frames kind front) ++ of_key k later = ap (of_key k) (frames_from-append kind 1 front back) ∙ of_key-append k (frames kind front) later in
-    let same : of_key k later ≡ f ∷ g = append-cancel (of_key k (frames kind front)) (of_key k later) (f ∷ g) (sym parts ∙ next) in
+    let same : of_key k later ≡ f ∷ g = append_cancel_left (of_key k (frames kind front)) (of_key k later) (f ∷ g) (sym parts ∙ next) in
     let past = subst (AllByRecursion (λ (i : Frame). (1 + length front ≤ i.line) × (i.key ≡ k))) same (of_key-keeps (λ (i : Frame). 1 + length front ≤ i.line) k later (rise-all (1 + length front) later (frames-rise kind (1 + length front) back))) in
     omega (arith, past.0.0)
 
 rise-at : (b : List (List Frame)) (left g : List Frame) (later : List (List Frame)) → FirstsRise (b ++ (left ∷ g ∷ later)) → first left + 1 ≤ first g
 rise-at [] left g later rise = rise.0.0
 rise-at (h ∷ b) left g later rise = rise-at b left g later rise.1
-
-min-above : (c a b : ℕ) → c ≤ a → c ≤ b → c < 1 + min a b
-min-above c a b l u = by (cases_lt a b)
-  where
-    by : (a < b) ⊎ (b ≤ a) → c < 1 + min a b
-    by (inl e) = let le : a ≤ b = omega (arith, e) in let is : min a b ≡ a = min-eq_left le in omega (arith, is, l)
-    by (inr e) = let is : min a b ≡ b = min-eq_right e in omega (arith, is, u)
 
 -- what stands open has a frame 0, where the rule doesn't ask for the order of the numbers
 abbrev HasZero : Rule → (ℕ → Option Kind) → List Entry → Sending → Type 0
@@ -243,8 +197,8 @@ heals_by w kind front back x (f ∷ g) after comes left_open =
     ap (cut (within w)) comes.next
     ∙ (cut_splits (within w) before f (g ++ after) (λ h last. ends_before w (length front) (last_or None (cut (within w) before)) h f (last-all (IsUpTo (length front)) None (cut (within w) before) tt (up_to (within w) (length front) k (frames kind front) (frames-log kind front))) zeroth (next_past kind front back k f (g ++ after) comes.next) left_open last)
     ∙ ap (λ l. cut (within w) before ++ l) (cut_stretch (within w) (f ∷ g) after stretch)) in
-    let some : AllByRecursion IsGroup gs = subst (AllByRecursion IsGroup) cuts (cut_groups (within w) (of_key k (frames kind es))) in
-    let rise : RiseFrom 1 (joined gs) = subst (λ hs. RiseFrom 1 (joined hs)) cuts (subst (RiseFrom 1) (sym (cut_joined (within w) (of_key k (frames kind es)))) (key-rise kind es k)) in
+    let some : AllByRecursion IsGroup gs = subst (AllByRecursion IsGroup) cuts (cut-nonempty (within w) (of_key k (frames kind es))) in
+    let rise : RiseFrom 1 (joined gs) = subst (λ hs. RiseFrom 1 (joined hs)) cuts (subst (RiseFrom 1) (sym (cut-joined (within w) (of_key k (frames kind es)))) (key-rise kind es k)) in
     let done : IsDone gs (f ∷ g) = (all-back (IsDone gs) (cut (within w) before) ((f ∷ g) ∷ cut (within w) after) (done_found 1 gs some rise)).0 in
     let standing : AllByRecursion (StandsAt (frames kind es) k) (f ∷ g) =
     all-front (StandsAt (frames kind es) k) (f ∷ g) after (all-back (StandsAt (frames kind es) k) before ((f ∷ g) ++ after) (subst (AllByRecursion (StandsAt (frames kind es) k)) comes.next (stand kind es k))) in
@@ -270,7 +224,7 @@ heals_by w kind front back x (f ∷ g) after comes left_open =
         let lines' : AllByRecursion (λ (i : Frame). 1 ≤ i.line) left = (all-back (AllByRecursion (λ (i : Frame). 1 ≤ i.line)) b (left ∷ later) (subst (AllByRecursion (AllByRecursion (λ (i : Frame). 1 ≤ i.line))) e lines)).0 in
         let from : 1 ≤ first left = first_above 1 left some' lines' in
         let before : first left + 1 ≤ f.line = rise-at b left (f ∷ g) (cut (within w) after) rise' in
-        let up_to : first left < 1 + min (first left + w.window) f.line = min-above (first left) (first left + w.window) f.line (omega arith) (omega (arith, before)) in
+        let up_to : first left < 1 + min (first left + w.window) f.line = omega (arith, before) in
         given_among (broken_begun w (frames kind (front ++ back)) (min (first left + w.window) f.line)) (broken_of (key_of_sending x) left) (first left) 1 (min (first left + w.window) f.line) from up_to
         (broken_where w (frames kind (front ++ back)) (key_of_sending x) left (min (first left + w.window) f.line) some' stands'
         (ap (broken_among w (first left) (min (first left + w.window) f.line)) (cuts ∙ e) ∙ broken_among-at w b left (f ∷ g) (cut (within w) after) rise' c))
@@ -289,8 +243,8 @@ heals_by w kind front back x (f ∷ g) after comes left_open =
         by_test true c = tt
         by_test false c =
             let ew = ends_with None (cut (within w) (of_key (key_of_sending x) (frames kind front))) left (λ t. none-some left t) is in
-            at_left left ew.before (cut (within w) (of_key (key_of_sending x) (frames kind front)) ++ ((f ∷ g) ∷ cut (within w) after))
-            (ap (λ hs. hs ++ ((f ∷ g) ∷ cut (within w) after)) ew.is ∙ append_assoc ew.before (left ∷ []) ((f ∷ g) ∷ cut (within w) after)) c rise some stands lines cuts
+            at_left left ew.0 (cut (within w) (of_key (key_of_sending x) (frames kind front)) ++ ((f ∷ g) ∷ cut (within w) after))
+            (ap (λ hs. hs ++ ((f ∷ g) ∷ cut (within w) after)) ew.1 ∙ append_assoc ew.0 (left ∷ []) ((f ∷ g) ∷ cut (within w) after)) c rise some stands lines cuts
 
 pub heals : (w : Rule) (kind : ℕ → Option Kind) (front back : List Entry) (x : Sending) (group after : List Frame) → ComesNext w kind front back x group after → LeavesZero w kind front x → Heals w kind front back x group
 heals w kind front back x group after comes has = heals_by w kind front back x group after comes (by (open_of (within w) (key_of_sending x) (frames kind front)) has)

@@ -15,13 +15,12 @@ use Rattle.n2k_join.specs.Scattered.{joined}
 use Rattle.n2k_join.specs.State.{Rise}
 use Rattle.n2k_join.specs.Transmission.{IsTransmission, AreTransmissions, ComesOfOne}
 use Rattle.n2k_join.specs.Window.{Rule}
-use Rattle.n2k_join.proofs.Arriving.{key-rise}
-use Rattle.n2k_join.proofs.LastFrames.{EndsWith, ends-at, whole-group}
+use Rattle.n2k_join.proofs.Arriving.{key-rise, StandsAt, stand}
 use Rattle.n2k_join.proofs.SlotLemmas.{all_to}
-use Rattle.n2k_join.proofs.Healing.{cut_joined}
-use Rattle.n2k_join.proofs.Lines.{RiseFrom, rise-all, all_with}
-use Rattle.n2k_join.proofs.GroupLines.{all-back}
+use Rattle.n2k_join.proofs.Lines.{RiseFrom, rise-all, all_with, rise-rest}
+use Rattle.n2k_join.proofs.GroupLines.{all-back, all-front, last_frame, IsGroup}
 use Rattle.n2k_join.proofs.Rising.{find-all, find-passes}
+use Rattle.n2k_join.proofs.Cuts.{cut-joined}
 
 -- the numbers of frames rise, from one on
 abbrev Numbers : ℕ → List Frame → Type 0
@@ -43,15 +42,6 @@ first-before n (f ∷ g) x rest some r =
     let past : f.line + 1 ≤ x.line = all.0 in
     omega (arith, past)
 
--- frames without those before them
-rise-rest : (n : ℕ) (g fs : List Frame) → RiseFrom n (g ++ fs) → RiseFrom 0 fs
-rise-rest n [] fs r = from_zero fs r
-  where
-    from_zero : (fs : List Frame) → RiseFrom n fs → RiseFrom 0 fs
-    from_zero [] r = tt
-    from_zero (f ∷ fs) r = (omega arith, r.1)
-rise-rest n (f ∷ g) fs r = rise-rest (f.line + 1) g fs r.1
-
 module _ (rule : Rule) (order : rule.in_order ≡ true) where
   -- what joins a group is above all of its numbers
   fits : (g : List Frame) (x : Frame) → first g < x.line → closes (within rule) g x ≡ false → has_from x.number g ≡ false
@@ -65,7 +55,7 @@ module _ (rule : Rule) (order : rule.in_order ≡ true) where
   cut_from-numbers n g [] some r lines = (r, tt)
   cut_from-numbers n g (f ∷ fs) some r lines =
       by (closes (within rule) g f) refl
-      (cut_from-numbers 0 (f ∷ []) fs (omega arith) (omega arith, tt) (rise-rest n g (f ∷ fs) lines))
+      (cut_from-numbers n (f ∷ []) fs (omega arith) (omega arith, tt) (rise-rest n g (f ∷ fs) lines))
       (λ h. cut_from-numbers n (g ++ f ∷ []) fs (omega (arith, length-append g (f ∷ []))) h (subst (RiseFrom n) (sym (append_assoc g (f ∷ []) fs)) lines))
     where
       by : (b : Bool) → closes (within rule) g f ≡ b → AllByRecursion (Numbers 0) (cut_from (within rule) (f ∷ []) fs) → (Numbers 0 (g ++ f ∷ []) → AllByRecursion (Numbers 0) (cut_from (within rule) (g ++ f ∷ []) fs))
@@ -140,10 +130,27 @@ all_whole rule order kind es key =
     let fs = of_key key (frames kind es) in
     all_with (StandsIn fs) (Numbers 0) (Whole key (frames kind es))
     (λ g place numbers done. record { before = place.before; after = place.after; together = place.is; in_order = whole-range g numbers done })
-    (cut (within rule) fs) (in_places fs [] (cut (within rule) fs) (sym (cut_joined (within rule) fs))) (cut-numbers rule order 1 fs (key-rise kind es key))
+    (cut (within rule) fs) (in_places fs [] (cut (within rule) fs) (sym (cut-joined (within rule) fs))) (cut-numbers rule order 1 fs (key-rise kind es key))
 
 pub are_transmissions : (rule : Rule) → rule.in_order ≡ true → (kind : ℕ → Option Kind) (es : List Entry) (key : Key) → AreTransmissions rule kind es key
 are_transmissions rule order kind es key = All-from_recursion (Whole key (frames kind es)) (cut (within rule) (of_key key (frames kind es))) (all_whole rule order kind es key)
+
+-- ---- the message of a group
+
+whole-group : (g : List Frame) → complete g ≡ true → IsGroup g
+unfolding complete
+whole-group [] e = absurd (false≢true e)
+whole-group (f ∷ g) e = omega arith
+
+-- the last frame of a transmission is the one that is found at its line
+ends-at : (kind : ℕ → Option Kind) (es : List Entry) (key : Key) (g : List Frame) (f : Frame) → IsTransmission key (frames kind es) g
+    → IsGroup g → frame_at (last_line g) (frames kind es) ≡ Some f → (before : List Frame) × (g ≡ before ++ f ∷ [])
+ends-at kind es key g f is some found =
+    let Stands : Frame → Type 0 = StandsAt (frames kind es) key in
+    let all : AllByRecursion Stands (is.before ++ (g ++ is.after)) = subst (AllByRecursion Stands) is.together (stand kind es key) in
+    let end = last_frame Stands g some (all-front Stands g is.after (all-back Stands is.before (g ++ is.after) all)) in
+    let same : end.frame ≡ f = same_Some _ _ (sym end.holds.0 ∙ ap (λ l. frame_at l (frames kind es)) (sym end.at) ∙ found) in
+    (end.before, end.is ∙ ap (λ l. end.before ++ l ∷ []) same)
 
 -- each message that a group gives is of one
 pub comes_of_one : (rule : Rule) → rule.in_order ≡ true → (kind : ℕ → Option Kind) (es : List Entry) (line : ℕ) (m : Keyed) → gathered (within rule) (frames kind es) line ≡ Some m → ComesOfOne kind es line m
@@ -158,16 +165,16 @@ comes_of_one rule order kind es line m e = by_frame (frame_at line (frames kind 
         let done = and_parts (complete g) (last_line g == f.line) (find-passes (is_done_at f.line) gs g found) in
         let one : IsTransmission f.key (frames kind es) g = find-all (Whole f.key (frames kind es)) (is_done_at f.line) gs g (all_whole rule order kind es f.key) found done.0 in
         let there : last_line g ≡ line = eqb-true (last_line g) f.line done.1 ∙ at in
-        let ends : EndsWith g f = ends-at kind es f.key g f one (whole-group g done.0) (ap (λ l. frame_at l (frames kind es)) there ∙ stands) in
+        let ends = ends-at kind es f.key g f one (whole-group g done.0) (ap (λ l. frame_at l (frames kind es)) there ∙ stands) in
         record {
           group = g;
           transmission = subst (λ (k : Keyed). IsTransmission k.key (frames kind es) g) is one;
           whole = done.0;
           ends_there = there;
           carries = ap (λ (k : Keyed). k.message.payload) is;
-          before_last = ends.before;
+          before_last = ends.0;
           last = f;
-          ends_with = ends.is;
+          ends_with = ends.1;
           told_by_last = ap (λ (k : Keyed). k.message) (sym is);
         }
 

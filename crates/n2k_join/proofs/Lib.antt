@@ -21,7 +21,6 @@ pub mod JoinLemmas
 pub mod Keeping
 pub mod KeyCounts
 pub mod Keys
-pub mod LastFrames
 pub mod LineLemmas
 pub mod LineTaken
 pub mod Lines

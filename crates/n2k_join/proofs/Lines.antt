@@ -1,5 +1,5 @@
 -- Lines rise: so a frame is found by its line, and a group by that of its last frame.
-use Rattle.std.proofs.Common.{◌≡◌, ℕ, ◌+◌, ◌≤◌, Bool, true, false, cond, List, [], ◌∷◌, refl, ap, sym, arith, Option, Some, None}
+use Rattle.std.proofs.Common.{◌≡◌, ℕ, ◌+◌, ◌≤◌, Bool, true, false, cond, List, [], ◌∷◌, refl, ap, sym, arith, Option, Some, None, ◌++◌}
 use Rattle.std.specs.Prelude.{filter, drop, slice_index_or}
 use Rattle.std.specs.List.{AllByRecursion, cons_option}
 use Rattle.std.proofs.lemmas.Bool.{eq-eqb, ne_eqb}
@@ -26,6 +26,11 @@ all_with P Q R h (x ∷ xs) p q = (h x p.0 q.0, all_with P Q R h xs p.1 q.1)
 pub rise-weaker : (m n : ℕ) (fs : List Frame) → m ≤ n → RiseFrom n fs → RiseFrom m fs
 rise-weaker m n [] h rise = tt
 rise-weaker m n (f ∷ fs) h rise = (omega (arith, rise.0), rise.1)
+
+-- frames without those before them
+pub rise-rest : (n : ℕ) (fs gs : List Frame) → RiseFrom n (fs ++ gs) → RiseFrom n gs
+rise-rest n [] gs rise = rise
+rise-rest n (f ∷ fs) gs rise = rise-weaker n (f.line + 1) gs (omega (arith, rise.0)) (rise-rest (f.line + 1) fs gs rise.1)
 
 pub rise-all : (n : ℕ) (fs : List Frame) → RiseFrom n fs → AllByRecursion (λ (f : Frame). n ≤ f.line) fs
 rise-all n [] rise = tt

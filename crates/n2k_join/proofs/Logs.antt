@@ -1,5 +1,5 @@
 -- The frames of a log's entries, and what its lines keep where an entry more comes.
-use Rattle.std.proofs.Common.{◌≡◌, ◌≤◌, ◌<◌, ◌+◌, ℕ, suc, zero, List, [], ◌∷◌, ◌++◌, length, refl, sym, ap, ◌∙◌, arith, add-zero, Option, Some, None, option_map, option_and_then, option_to_list, slice_get, ◌%◌}
+use Rattle.std.proofs.Common.{◌≡◌, ◌≤◌, ◌<◌, ◌+◌, ℕ, suc, zero, List, [], ◌∷◌, ◌++◌, length, refl, sym, ap, ◌∙◌, arith, Option, Some, None, option_map, option_and_then, option_to_list, slice_get, ◌%◌}
 use Rattle.std.specs.Prelude.{sum_by, slice_index_or}
 use Rattle.std.specs.Option.{option_or}
 use Rattle.std.specs.List.{range_with_len, cons_option, AllByRecursion}
@@ -17,18 +17,16 @@ use Rattle.n2k_join.proofs.Opened.{IsLog, key_at}
 use Rattle.n2k_join.proofs.Rising.{all-map, all-zip}
 use Rattle.n2k_join.specs.Window.{Rule}
 
--- What holds of a frame of each entry holds of all frames.
-pub frames-all : (P : Frame → Type 0) (Q : Entry → Type 0) (kind : ℕ → Option Kind) (n : ℕ) → ((i : ℕ) (e : Entry) (f : Frame) → Q e → frame_in kind i e ≡ Some f → P f) → (es : List Entry) → AllByRecursion Q es → AllByRecursion P (frames_from kind n es)
-frames-all P Q kind n each [] all = tt
-frames-all P Q kind n each (e ∷ es) all = by (frame_in kind n e) (λ f is. each n e f all.0 is) (frames-all P Q kind (n + 1) each es all.1)
+-- What holds of the frame of each entry holds of all frames.
+pub frames-all : (P : Frame → Type 0) (kind : ℕ → Option Kind) (n : ℕ) → ((i : ℕ) (e : Entry) (f : Frame) → frame_in kind i e ≡ Some f → P f)
+    → (es : List Entry) → AllByRecursion P (frames_from kind n es)
+frames-all P kind n each [] = tt
+frames-all P kind n each (e ∷ es) = by (frame_in kind n e) (each n e) (frames-all P kind (n + 1) each es)
   where
-    by : (o : Option Frame) → ((f : Frame) → o ≡ Some f → P f) → AllByRecursion P (frames_from kind (n + 1) es) → AllByRecursion P (cons_option o (frames_from kind (n + 1) es))
+    by : (o : Option Frame) → ((f : Frame) → o ≡ Some f → P f) → AllByRecursion P (frames_from kind (n + 1) es)
+        → AllByRecursion P (cons_option o (frames_from kind (n + 1) es))
     by None here rest = rest
     by (Some f) here rest = (here f refl, rest)
-
-all_entries : (es : List Entry) → AllByRecursion (λ _. Unit {0}) es
-all_entries [] = tt
-all_entries (e ∷ es) = (tt, all_entries es)
 
 pub frames-below : (kind : ℕ → Option Kind) (n : ℕ) (es : List Entry) → AllByRecursion (λ (f : Frame). f.line < n + length es) (frames_from kind n es)
 frames-below kind n [] = tt
@@ -53,7 +51,7 @@ frames-log kind es =
     let rises = frames-rise kind 1 es in
     record {
       lines = all-map _ (λ (f : Frame). (1 ≤ f.line) × (f.line ≤ length es)) (frames kind es) (λ f h. (h.0, omega (arith, h.1))) (all-zip (λ (f : Frame). 1 ≤ f.line) (λ (f : Frame). f.line < 1 + length es) (frames kind es) (rise-all 1 (frames kind es) rises) (frames-below kind 1 es));
-      numbers = frames-all (λ (f : Frame). f.number < most_frames) (λ _. Unit {0}) kind 1 (λ i e f _ is. frame_in-number kind i e f is) es (all_entries es);
+      numbers = frames-all (λ (f : Frame). f.number < most_frames) kind 1 (frame_in-number kind) es;
       keys = all-map (λ (f : Frame). frame_at f.line (frames kind es) ≡ Some f) (λ (f : Frame). key_at f.line (frames kind es) ≡ Some f.key) (frames kind es) (λ f h. ap (option_map (λ (f : Frame). f.key)) h) (frames_found 1 (frames kind es) rises);
     }
 
@@ -61,22 +59,27 @@ cons_option-append : {X : Type 0} (o : Option X) (xs ys : List X) → cons_optio
 cons_option-append None xs ys = refl
 cons_option-append (Some x) xs ys = refl
 
+-- the frames of entries, and of others behind them
+pub frames_from-append : (kind : ℕ → Option Kind) (line : ℕ) (es fs : List Entry)
+    → frames_from kind line (es ++ fs) ≡ frames_from kind line es ++ frames_from kind (line + length es) fs
+frames_from-append kind line [] fs = let e : line ≡ line + 0 = omega arith in ap (λ n. frames_from kind n fs) e
+frames_from-append kind line (e ∷ es) fs =
+    let same : (line + 1) + length es ≡ line + suc (length es) = omega arith in
+    let rest = frames_from-append kind (line + 1) es fs ∙ ap (λ n. frames_from kind (line + 1) es ++ frames_from kind n fs) same in
+    ap (cons_option (frame_in kind line e)) rest
+    ∙ cons_option-append (frame_in kind line e) (frames_from kind (line + 1) es) (frames_from kind (line + suc (length es)) fs)
+
 cons_option-list : {X : Type 0} (o : Option X) → cons_option o [] ≡ option_to_list o
 cons_option-list None = refl
 cons_option-list (Some x) = refl
-
-frames_from-push : (kind : ℕ → Option Kind) (n : ℕ) (es : List Entry) (e : Entry) → frames_from kind n (es ++ e ∷ []) ≡ frames_from kind n es ++ option_to_list (frame_in kind (n + length es) e)
-frames_from-push kind n [] e = cons_option-list (frame_in kind n e) ∙ ap (λ k. option_to_list (frame_in kind k e)) (sym (add-zero n))
-frames_from-push kind n (f ∷ es) e =
-    let at : n + 1 + length es ≡ n + length (f ∷ es) = omega arith in
-    ap (cons_option (frame_in kind n f)) (frames_from-push kind (n + 1) es e ∙ ap (λ k. frames_from kind (n + 1) es ++ option_to_list (frame_in kind k e)) at)
-    ∙ cons_option-append (frame_in kind n f) (frames_from kind (n + 1) es) (option_to_list (frame_in kind (n + length (f ∷ es)) e))
 
 -- one entry more
 pub frames-push : (kind : ℕ → Option Kind) (es : List Entry) (e : Entry) → frames kind (es ++ e ∷ []) ≡ frames kind es ++ option_to_list (frame_in kind (length es + 1) e)
 frames-push kind es e =
     let at : 1 + length es ≡ length es + 1 = omega arith in
-    frames_from-push kind 1 es e ∙ ap (λ k. frames kind es ++ option_to_list (frame_in kind k e)) at
+    frames_from-append kind 1 es (e ∷ [])
+    ∙ ap (λ fs. frames kind es ++ fs) (cons_option-list (frame_in kind (1 + length es) e))
+    ∙ ap (λ k. frames kind es ++ option_to_list (frame_in kind k e)) at
 
 slice_get-before : {X : Type 0} (xs : List X) (x : X) (i : ℕ) → i < length xs → slice_get (xs ++ x ∷ []) i ≡ slice_get xs i
 slice_get-before [] x i l = absurd (omega (arith, l))
@@ -94,23 +97,28 @@ entry_at-before es e (suc i) l u = slice_get-before es e i (omega arith)
 pub entry_at-last : (es : List Entry) (e : Entry) → entry_at (es ++ e ∷ []) (length es + 1) ≡ Some e
 entry_at-last es e = let at : length es + 1 ≡ suc (length es) = omega arith in ap (entry_at (es ++ e ∷ [])) at ∙ slice_get-last es e
 
+-- what a frame of the next line leaves as it was, an entry more does
+frames-before : {X : Type 0} (F : List Frame → X) (kind : ℕ → Option Kind) (es : List Entry) (e : Entry)
+    → ((x : Frame) → x.line ≡ length es + 1 → F (frames kind es ++ x ∷ []) ≡ F (frames kind es))
+    → F (frames kind (es ++ e ∷ [])) ≡ F (frames kind es)
+frames-before F kind es e stays = ap F (frames-push kind es e) ∙ by (frame_in kind (length es + 1) e) (frame_in-line kind (length es + 1) e)
+  where
+    by : (o : Option Frame) → ((x : Frame) → o ≡ Some x → x.line ≡ length es + 1) → F (frames kind es ++ option_to_list o) ≡ F (frames kind es)
+    by None line = ap F (append-nil (frames kind es))
+    by (Some x) line = stays x (line x refl)
+
 -- earlier lines keep what they gave
 gathered-before : (ends : Ends) (kind : ℕ → Option Kind) (es : List Entry) (e : Entry) (i : ℕ) → i ≤ length es → gathered ends (frames kind (es ++ e ∷ [])) i ≡ gathered ends (frames kind es) i
-gathered-before ends kind es e i u = ap (λ fs. gathered ends fs i) (frames-push kind es e) ∙ by (frame_in kind (length es + 1) e) (λ x is. frame_in-line kind (length es + 1) e x is)
-  where
-    by : (o : Option Frame) → ((x : Frame) → o ≡ Some x → x.line ≡ length es + 1) → gathered ends (frames kind es ++ option_to_list o) i ≡ gathered ends (frames kind es) i
-    by None line = ap (λ fs. gathered ends fs i) (append-nil (frames kind es))
-    by (Some x) line = let at : x.line ≡ length es + 1 = line x refl in gathered-stays ends (frames kind es) x i (λ t. omega (arith, t, at, u))
+gathered-before ends kind es e i u =
+    frames-before (λ fs. gathered ends fs i) kind es e (λ x at. gathered-stays ends (frames kind es) x i (λ t. omega (arith, t, at, u)))
 
 pub message-before : (ends : Ends) (kind : ℕ → Option Kind) (es : List Entry) (e : Entry) (i : ℕ) → 1 ≤ i → i ≤ length es → message_with ends kind (es ++ e ∷ []) i ≡ message_with ends kind es i
 message-before ends kind es e i l u = λ j. option_or (option_map (λ (m : Keyed). m.message) (gathered-before ends kind es e i u j)) (option_and_then (alone kind) (entry_at-before es e i l u j))
 
 pub broken-before : (w : Rule) → 0 < w.window → (kind : ℕ → Option Kind) (es : List Entry) (e : Entry) (i : ℕ) → i ≤ length es → broken_with w (frames kind (es ++ e ∷ [])) i ≡ broken_with w (frames kind es) i
-broken-before w some kind es e i u = ap (λ fs. broken_with w fs i) (frames-push kind es e) ∙ by (frame_in kind (length es + 1) e) (λ x is. frame_in-line kind (length es + 1) e x is)
-  where
-    by : (o : Option Frame) → ((x : Frame) → o ≡ Some x → x.line ≡ length es + 1) → broken_with w (frames kind es ++ option_to_list o) i ≡ broken_with w (frames kind es) i
-    by None line = ap (λ fs. broken_with w fs i) (append-nil (frames kind es))
-    by (Some x) line = let at : x.line ≡ length es + 1 = line x refl in broken-stays w some (length es) (frames kind es) x i (frames-log kind es) (omega (arith, at, u))
+broken-before w some kind es e i u =
+    frames-before (λ fs. broken_with w fs i) kind es e
+    (λ x at. broken-stays w some (length es) (frames kind es) x i (frames-log kind es) (omega (arith, at, u)))
 
 -- sums over a range, of what agrees there
 pub sum_by-range : (f g : ℕ → ℕ) (a n : ℕ) → ((i : ℕ) → a ≤ i → i < a + n → f i ≡ g i) → sum_by f (range_with_len a n) ≡ sum_by g (range_with_len a n)
@@ -119,14 +127,3 @@ sum_by-range f g a (suc n) e =
     sum_by-cons f a (range_with_len (a + 1) n)
     ∙ (λ j. e a (omega arith) (omega arith) j + sum_by-range f g (a + 1) n (λ i l u. e i (omega arith) (omega arith)) j)
     ∙ sym (sum_by-cons g a (range_with_len (a + 1) n))
-
-pub frames_from-append : (kind : ℕ → Option Kind) (line : ℕ) (es fs : List Entry) → frames_from kind line (es ++ fs) ≡ frames_from kind line es ++ frames_from kind (line + length es) fs
-frames_from-append kind line [] fs = let e : line ≡ line + 0 = omega arith in ap (λ n. frames_from kind n fs) e
-frames_from-append kind line (e ∷ es) fs =
-    let same : (line + 1) + length es ≡ line + suc (length es) = omega arith in
-    ap (cons_option (frame_in kind line e)) (frames_from-append kind (line + 1) es fs ∙ ap (λ n. frames_from kind (line + 1) es ++ frames_from kind n fs) same)
-    ∙ cons-append (frame_in kind line e)
-  where
-    cons-append : (o : Option Frame) → cons_option o (frames_from kind (line + 1) es ++ frames_from kind (line + suc (length es)) fs) ≡ cons_option o (frames_from kind (line + 1) es) ++ frames_from kind (line + suc (length es)) fs
-    cons-append None = refl
-    cons-append (Some f) = refl

@@ -2,6 +2,7 @@
 use Rattle.std.proofs.Common.{◌≡◌, ℕ, ◌+◌, ◌*◌, ◌%◌, ◌/◌, ◌<◌, ◌≤◌, Bool, true, false, not, ◌||◌, List, ◌∷◌, length, refl, ap, ◌∙◌, sym, arith, Some, None}
 use Rattle.std.specs.Prelude.{◌==◌, if◌then◌else◌}
 use Rattle.std.proofs.lemmas.Bool.{leb-true}
+use Rattle.std.proofs.lemmas.Option.{none-some, same_Some}
 use Rattle.n2k_wire.specs.Packet.{longest_message}
 use Rattle.n2k_join.specs.Frames.{Frame, fast_frame, frame_with, seven_bytes, has_total, is_fast_payload}
 use Rattle.n2k_join.specs.Pieces.{piece_bytes, piece, Sending}
@@ -19,12 +20,6 @@ pub record SaysPiece (x : Sending) (f : Frame) : Type 0 where
   pub id : f.id ≡ x.message.id
   pub small : f.number < 32
   pub short : f.number ≡ 0 → length x.message.payload ≤ longest_message
-
-some_is : {X : Type 0} (a b : X) → Some a ≡ Some b → a ≡ b
-some_is a b e = cc
-
-none_is : {X : Type 0} (a : X) → None ≡ Some a → ⊥
-none_is a e = cc
 
 total_fits : (payload : List ℕ) (h n : ℕ) → h ≡ 0 → n ≡ 0 → not (h == 0) || has_total (piece_bytes payload n) ≡ true → length payload ≤ longest_message
 unfolding piece_bytes
@@ -54,5 +49,5 @@ unfolding fast_frame
 piece_says x f is = by_test (is_fast_payload ((32 * x.sequence + f.number) ∷ piece_bytes x.message.payload f.number)) refl is.is_piece
   where
     by_test : (b : Bool) → is_fast_payload ((32 * x.sequence + f.number) ∷ piece_bytes x.message.payload f.number) ≡ b → (if b then Some (given_frame x f.line f.number) else None) ≡ Some f → SaysPiece x f
-    by_test true t e = says_given x f (some_is _ _ e) t
-    by_test false t e = absurd (none_is f e)
+    by_test true t e = says_given x f (same_Some _ _ e) t
+    by_test false t e = absurd (none-some f e)

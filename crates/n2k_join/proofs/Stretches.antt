@@ -1,17 +1,17 @@
 -- Where frames fall into stretches, each of which ends by its last frame and not before, these are the groups.
-use Rattle.std.proofs.Common.{◌≡◌, ℕ, zero, suc, ◌+◌, ◌<◌, ◌≤◌, ◌&&◌, Bool, map, true, false, List, [], ◌∷◌, ◌++◌, length, refl, ap, subst, ◌∙◌, sym, arith, append_assoc, length-append}
+use Rattle.std.proofs.Common.{◌≡◌, ℕ, zero, suc, ◌+◌, ◌<◌, ◌≤◌, ◌&&◌, Bool, map, true, false, List, [], ◌∷◌, ◌++◌, length, refl, ap, subst, ◌∙◌, sym, arith, length-append}
 use Rattle.std.specs.Prelude.{◌==◌, nat_lt}
 use Rattle.std.specs.List.{AllByRecursion, range_with_len}
-use Rattle.std.proofs.lemmas.Bool.{or_parts, or_from, and_right, eq-eqb, ne_eqb, lt-leb}
-use Rattle.std.proofs.lemmas.List.{append-nil}
+use Rattle.std.proofs.lemmas.Bool.{or_parts, or_from, and_right, eq-eqb, ne_eqb, lt-leb, or_left}
 use Rattle.n2k_join.specs.Frames.{Frame}
-use Rattle.n2k_join.specs.Groups.{Ends, has_number, has_twice, complete, repeats, has_from, falls_back, misfits, is_late, within, first, closes, cut_from, cut}
+use Rattle.n2k_join.specs.Groups.{Ends, has_number, has_twice, complete, repeats, has_from, falls_back, misfits, is_late, within, first, closes, cut, HasEnded}
 use Rattle.n2k_join.specs.Pieces.{last_piece, Sending}
 use Rattle.n2k_join.specs.Scattered.{IsPieceOf, joined}
 use Rattle.n2k_join.proofs.WholePieces.{complete_pieces}
 use Rattle.n2k_join.specs.Window.{Rule}
 use Rattle.n2k_join.proofs.Carried.{has_number-cons, eqb-sym}
 use Rattle.n2k_join.proofs.GroupLines.{all-front, all-back}
+use Rattle.n2k_join.proofs.CutLaws.{first_follows}
 
 -- frames that are complete, and don't end before the last
 pub record IsStretch (ends : Ends) (g : List Frame) : Type 0 where
@@ -19,24 +19,15 @@ pub record IsStretch (ends : Ends) (g : List Frame) : Type 0 where
   pub whole : complete g ≡ true
   pub goes_on : (f h : Frame) (front back : List Frame) → g ≡ (f ∷ front) ++ (h ∷ back) → closes ends (f ∷ front) h ≡ false
 
--- a group that is complete ends, whatever follows
-cut_whole : (ends : Ends) (g rest : List Frame) → complete g ≡ true → cut_from ends g rest ≡ g ∷ cut ends rest
-unfolding cut
-cut_whole ends g [] whole = refl
-cut_whole ends g (f ∷ rest) whole = rw whole refl
-
-cut_stretch_from : (ends : Ends) (g : List Frame) → IsStretch ends g → (f : Frame) (front back rest : List Frame) → g ≡ (f ∷ front) ++ back → cut_from ends (f ∷ front) (back ++ rest) ≡ g ∷ cut ends rest
-cut_stretch_from ends g is f front [] rest e =
-    let e' : f ∷ front ≡ g = sym (e ∙ append-nil (f ∷ front)) in
-    ap (λ l. cut_from ends l rest) e' ∙ cut_whole ends g rest is.whole
-cut_stretch_from ends g is f front (h ∷ back) rest e =
-    rw (is.goes_on f h front back e) (cut_stretch_from ends g is f (front ++ h ∷ []) back rest (e ∙ sym (append_assoc (f ∷ front) (h ∷ []) back)))
-
 -- a stretch at the front is the first group
 pub cut_stretch : (ends : Ends) (g rest : List Frame) → IsStretch ends g → cut ends (g ++ rest) ≡ g ∷ cut ends rest
-unfolding cut
-cut_stretch ends [] rest is = absurd (omega (arith, is.nonempty))
-cut_stretch ends (f ∷ back) rest is = cut_stretch_from ends (f ∷ back) is f [] back rest refl
+cut_stretch ends g rest is =
+    first_follows ends (g ++ rest) g rest
+    (record { joined = refl; nonempty = is.nonempty; ended = ended rest; shortest = is.goes_on })
+  where
+    ended : (rest : List Frame) → HasEnded ends g rest
+    ended [] = tt
+    ended (f ∷ rest) = or_left (complete g) (ends g f) is.whole
 
 -- stretches one behind the other are the groups
 pub cut_stretches : (ends : Ends) (gs : List (List Frame)) → AllByRecursion (IsStretch ends) gs → cut ends (joined gs) ≡ gs
