@@ -19,6 +19,8 @@ use Rattle.n2k_join.specs.Inner.Slots.{group_at, groups_in}
 use Rattle.n2k_join.proofs.IndexedLemmas.{insert-last}
 use Rattle.n2k_join.proofs.Keys.{same_key-sym}
 use Rattle.n2k_join.proofs.Rising.{all-append}
+use Rattle.std.proofs.Math.Bool.{or-false, and-false}
+use Rattle.std.proofs.lemmas.List.Folds.{list_any-append}
 
 abbrev has : Key → List Group → Bool
 has k gs = list_any (λ (other : Group). same_key k other.key) gs
@@ -32,16 +34,7 @@ none_of-nil [] = refl
 none_of-nil (g ∷ gs) = none_of-nil gs
 
 any-last : (f : Key → Bool) (ks : List Key) (k : Key) → list_any f (ks ++ k ∷ []) ≡ (list_any f ks || f k)
-any-last f [] k = or_false (f k)
-  where
-    or_false : (b : Bool) → (b || false) ≡ b
-    or_false true = refl
-    or_false false = refl
-any-last f (x ∷ ks) k = ap (λ b. f x || b) (any-last f ks k) ∙ assoc (f x) (list_any f ks) (f k)
-  where
-    assoc : (a b c : Bool) → (a || (b || c)) ≡ ((a || b) || c)
-    assoc true b c = refl
-    assoc false b c = refl
+any-last f ks k = list_any-append f ks (k ∷ []) ∙ ap (λ b. list_any f ks || b) (or-false (f k))
 
 none_of-last : (ks : List Key) (k : Key) (gs : List Group) → none_of (ks ++ k ∷ []) gs ≡ (none_of ks gs && not (has k gs))
 none_of-last ks k [] = refl
@@ -65,12 +58,9 @@ hold-new kind ks (g ∷ gs) =
     ∙ regroup (group_holds kind g) (not (list_any (same_key g.key) ks)) (none_of ks gs) (not (has g.key gs)) (groups_hold kind gs)
   where
     regroup : (h s n a r : Bool) → (h && (s && ((n && a) && r))) ≡ ((s && n) && (h && (a && r)))
-    regroup true true true a r = refl
-    regroup true true false a r = refl
-    regroup true false n a r = refl
-    regroup false true true a r = refl
-    regroup false true false a r = refl
-    regroup false false n a r = refl
+    regroup h true true a r = refl
+    regroup h true false a r = and-false h
+    regroup h false n a r = and-false h
 
 pub hold-each_new : (kind : ℕ → Option Kind) (gs : List Group) → each_new kind [] gs ≡ groups_hold kind gs
 hold-each_new kind gs = hold-new kind [] gs ∙ ap (λ b. b && groups_hold kind gs) (none_of-nil gs)

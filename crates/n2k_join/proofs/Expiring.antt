@@ -1,7 +1,7 @@
 -- A group whose window ends at the next line is broken before the line is taken, or at it: that is the same.
-use Rattle.std.proofs.Common.{◌≡◌, ◌==◌, ◌≤◌, ◌<◌, ◌+◌, ◌-◌, ℕ, Bool, true, false, cond, not, List, [], ◌∷◌, ◌++◌, length, map, refl, sym, ap, ◌∙◌, subst, arith, Option, Some, None, option_map, drop, slice_get, filter, option_to_list, option_and_then, ltb}
+use Rattle.std.proofs.Common.{◌≡◌, ◌≤◌, ◌<◌, ◌+◌, ◌-◌, ℕ, Bool, true, false, cond, not, List, [], ◌∷◌, ◌++◌, length, map, refl, sym, ap, ◌∙◌, subst, arith, Option, Some, None, option_map, drop, slice_get, filter, option_to_list, option_and_then, ltb}
 use Rattle.std.specs.List.{AllByRecursion}
-use Rattle.std.proofs.lemmas.Bool.{eqb-true, eqb-false, ltb-true, ltb-false, lt-ltb}
+use Rattle.std.proofs.lemmas.Bool.{ltb-true, ne_eqb, eq-eqb}
 use Rattle.std.proofs.lemmas.Option.{none-some, same_Some}
 use Rattle.std.specs.Prelude.{is_some}
 use Rattle.std.specs.Option.{option_or}
@@ -21,20 +21,13 @@ use Rattle.n2k_join.specs.Step.{due, expired}
 use Rattle.n2k_join.specs.Laws.{ExpiresFirst}
 use Rattle.n2k_join.proofs.Rising.{rise-less}
 use Rattle.n2k_join.specs.Window.{Rule}
+use Rattle.n2k_join.proofs.Windows.{later-wait}
 
 -- what is due stands first among the groups, and the others that have ended follow it
 pub record IsDue (s : State) (g : Group) : Type 0 where
   pub below : s.counts.lines ≡ most_lines → ⊥
   pub first : s.groups ≡ g ∷ drop 1 s.groups
   pub late : is_waiting s.rule (next_line s) g ≡ false
-
--- groups that begin later than one that waits wait
-later-wait : (w : Rule) (line least : ℕ) (gs : List Group) → Rise (λ (g : Group). g.first) least gs → line < least + w.window → ended w line gs ≡ []
-unfolding ended
-later-wait w line least [] rise l = refl
-later-wait w line least (g ∷ gs) rise l =
-    ap (λ b. cond (not b) (g ∷ filter (λ (g : Group). not (is_waiting w line g)) gs) (filter (λ (g : Group). not (is_waiting w line g)) gs)) (lt-ltb line (g.first + w.window) (omega (arith, rise.0, l)))
-    ∙ later-wait w line (g.first + 1) gs rise.1 (omega (arith, rise.0, l))
 
 first-late : (w : Rule) (line least : ℕ) (gs : List Group) (g : Group) → Rise (λ (g : Group). g.first) least gs → slice_get (ended w line gs) 0 ≡ Some g → (gs ≡ g ∷ drop 1 gs) × (is_waiting w line g ≡ false)
 unfolding ended
@@ -49,14 +42,18 @@ first-late w line least (h ∷ gs) g rise e = by (is_waiting w line h) refl e
         absurd (none-some g (sym (ap (λ (hs : List Group). slice_get hs 0) none) ∙ e))
     by false t e = let same : h ≡ g = same_Some h g e in (ap (λ k. k ∷ gs) same, ap (is_waiting w line) (sym same) ∙ t)
 
+-- what is due is the first that is overdue, where a line follows
+due_by : (s : State) → (s.counts.lines ≡ most_lines → ⊥) → due s ≡ slice_get (overdue s) 0
+due_by s below = ap (λ b. cond b None (slice_get (overdue s) 0)) (ne_eqb _ _ below)
+
+due-below : (s : State) (g : Group) → due s ≡ Some g → s.counts.lines ≡ most_lines → ⊥
+due-below s g e at = none-some g (sym (ap (λ b. cond b None (slice_get (overdue s) 0)) (eq-eqb _ _ at)) ∙ e)
+
 pub is_due : (s : State) (g : Group) → Rise (λ (g : Group). g.first) 1 s.groups → due s ≡ Some g → IsDue s g
-is_due s g rise e = by (s.counts.lines == most_lines) refl e
-  where
-    by : (b : Bool) → (s.counts.lines == most_lines) ≡ b → cond b None (slice_get (overdue s) 0) ≡ Some g → IsDue s g
-    by true t e = absurd (none-some g e)
-    by false t e =
-        let at = first-late s.rule (next_line s) 1 s.groups g rise e in
-        record { below = λ f. eqb-false _ _ t f; first = at.0; late = at.1 }
+is_due s g rise e =
+    let below = due-below s g e in
+    let at = first-late s.rule (next_line s) 1 s.groups g rise (sym (due_by s below) ∙ e) in
+    record { below = below; first = at.0; late = at.1 }
 
 -- none is due exactly where none has ended, or no line follows
 none_ended : (gs : List Group) → slice_get gs 0 ≡ None → gs ≡ []
@@ -64,11 +61,7 @@ none_ended [] e = refl
 none_ended (g ∷ gs) e = absurd (none-some g (sym e))
 
 pub none_due : (s : State) → due s ≡ None → s.counts.lines < most_lines → overdue s ≡ []
-none_due s e below = by (s.counts.lines == most_lines) refl e
-  where
-    by : (b : Bool) → (s.counts.lines == most_lines) ≡ b → cond b None (slice_get (overdue s) 0) ≡ None → overdue s ≡ []
-    by true t e = let at : s.counts.lines ≡ most_lines = eqb-true _ _ t in absurd (omega (arith, at, below))
-    by false t e = none_ended (overdue s) e
+none_due s e below = none_ended (overdue s) (sym (due_by s (λ at. omega (arith, at, below))) ∙ e)
 
 module _ (s : State) (g : Group) (is : IsDue s g) where
   pub ended-due : overdue s ≡ g ∷ overdue (expired s)
@@ -142,13 +135,6 @@ module _ (s : State) (g : Group) (is : IsDue s g) where
 
 -- ---- what a program finds, by the first of the groups
 
-due_by : (s : State) → (s.counts.lines ≡ most_lines → ⊥) → due s ≡ slice_get (overdue s) 0
-due_by s below = by (s.counts.lines == most_lines) refl
-  where
-    by : (b : Bool) → (s.counts.lines == most_lines) ≡ b → cond b None (slice_get (overdue s) 0) ≡ slice_get (overdue s) 0
-    by true e = absurd (below (eqb-true _ _ e))
-    by false e = refl
-
 ended-first : (w : Rule) (line : ℕ) (gs : List Group) → Rise (λ (g : Group). g.first) 1 gs → (o : Option Group) → slice_get gs 0 ≡ o → slice_get (ended w line gs) 0 ≡ option_and_then (λ (g : Group). cond (not (is_waiting w line g)) (Some g) None) o
 unfolding ended
 ended-first w line [] rise o e = ap (option_and_then (λ (g : Group). cond (not (is_waiting w line g)) (Some g) None)) e
@@ -205,21 +191,10 @@ pub fewer : (s t : State) (b : Broken) → option_map told_of (due s) ≡ Some b
 unfolding expired
 fewer s t b e is =
     let found = found_due s b e in
+    let first = sym (due_by s (due-below s found.group found.due_is)) ∙ found.due_is in
     let at : length t.groups ≡ length (drop 1 s.groups) = ap (λ (t : State). length t.groups) is in
-    omega (arith, at, by (s.counts.lines == most_lines) found.group found.due_is)
-  where
-    by : (b : Bool) (g : Group) → cond b None (slice_get (overdue s) 0) ≡ Some g → length (drop 1 s.groups) < length s.groups
-    by true g e = absurd (none-some g e)
-    by false g e = some-ended s.rule (next_line s) s.groups g e
+    omega (arith, at, some-ended s.rule (next_line s) s.groups found.group first)
 
 -- where one is due, the next line has a number
 pub due-few : (s : State) (b : Broken) → s.counts.lines ≤ most_lines → option_map told_of (due s) ≡ Some b → s.counts.lines < most_lines
-due-few s b most e = by (s.counts.lines == most_lines) refl (found_due s b e)
-  where
-    by : (t : Bool) → (s.counts.lines == most_lines) ≡ t → FoundDue s → s.counts.lines < most_lines
-    by true t found = absurd (none-some found.group (sym (ap (λ c. cond c None (slice_get (overdue s) 0)) t) ∙ found.due_is))
-    by false t found = below (ltb s.counts.lines most_lines) refl
-      where
-        below : (l : Bool) → ltb s.counts.lines most_lines ≡ l → s.counts.lines < most_lines
-        below true l = ltb-true _ _ l
-        below false l = absurd (eqb-false _ _ t (omega (arith, most, ltb-false _ _ l)))
+due-few s b most e = let found = found_due s b e in omega (arith, most, due-below s found.group found.due_is)

@@ -3,7 +3,7 @@ use Rattle.std.proofs.Common.{◌≡◌, ◌==◌, ℕ, true, List, [], ◌∷�
 use Rattle.std.specs.Prelude.{All, ◌≤◌, not}
 use Rattle.std.specs.List.{list_any}
 use Rattle.std.specs.Str.{bytes_eq}
-use Rattle.std.proofs.lemmas.Bool.{false≢true, eqb-true}
+use Rattle.std.proofs.lemmas.Bool.{false≢true, eqb-true, and_parts}
 use Rattle.std.proofs.lemmas.List.Elements.{recursion_from_All}
 use Rattle.std.proofs.lemmas.Slice.Eq.{bytes_eq-Decides}
 use Rattle.n2k_wire.specs.declared.entry.Entry.{Entry}
@@ -22,7 +22,6 @@ use Rattle.n2k_join.specs.Window.{Rule, IsWindow}
 use Rattle.n2k_join.proofs.Keeping.{state-valid}
 use Rattle.n2k_join.proofs.Spelled.{if_ok-then, if_ok-held, if_ok-valid, if_ok-of, IsSpelled, state-spelled}
 use Rattle.n2k_join.proofs.StateReads.{state_back}
-use Rattle.n2k_join.proofs.StateTests.{both}
 
 is_fast-true : (k : Option Kind) → is_fast k ≡ true → k ≡ Some Fast
 is_fast-true None h = absurd (false≢true h)
@@ -33,15 +32,15 @@ groups-fast : (kind : ℕ → Option Kind) (gs : List Group) → groups_hold kin
 unfolding groups_hold group_holds key_holds
 groups-fast kind [] h = tt
 groups-fast kind (g ∷ gs) h =
-    let all = both (group_holds kind g) _ h in
-    let key = both (key_holds kind g.key) _ all.0 in
-    let ranges = both _ _ key.0 in
-    let rest = both (not (list_any (λ (other : Group). same_key g.key other.key) gs)) (groups_hold kind gs) all.1 in
-    (is_fast-true (kind g.key.pgn) (both (is_fast (kind g.key.pgn)) _ ranges.1).0, groups-fast kind gs rest.1)
+    let all = and_parts (group_holds kind g) _ h in
+    let key = and_parts (key_holds kind g.key) _ all.0 in
+    let ranges = and_parts _ _ key.0 in
+    let rest = and_parts (not (list_any (λ (other : Group). same_key g.key other.key) gs)) (groups_hold kind gs) all.1 in
+    (is_fast-true (kind g.key.pgn) (and_parts (is_fast (kind g.key.pgn)) _ ranges.1).0, groups-fast kind gs rest.1)
 
 pub valid-fast : (kind : ℕ → Option Kind) (s : State) → is_valid kind s ≡ true → AreFast kind s.groups
 unfolding is_valid
-valid-fast kind s h = groups-fast kind s.groups (both (firsts_rise 1 s.counts.lines s.groups) (groups_hold kind s.groups) (both (counts_hold s.counts) _ h).1).1
+valid-fast kind s h = groups-fast kind s.groups (and_parts (firsts_rise 1 s.counts.lines s.groups) (groups_hold kind s.groups) (and_parts (counts_hold s.counts) _ h).1).1
 
 -- A text that is read spells a state of the table and the window that were handed in, which keeps the rules.
 pub record IsRead (kind : ℕ → Option Kind) (id : List ℕ) (rule : Rule) (s : State) : Type 0 where

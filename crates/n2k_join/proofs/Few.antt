@@ -25,7 +25,7 @@ use Rattle.n2k_join.proofs.OneRules.{read-state}
 use Rattle.n2k_join.proofs.Rising.{all-map}
 use Rattle.n2k_join.proofs.Spelled.{if_ok-then, if_ok-held, if_ok-valid, if_ok-of}
 use Rattle.n2k_join.proofs.StateBound.{few_pieces, state-short}
-use Rattle.n2k_join.proofs.StateTests.{in_time-from}
+use Rattle.n2k_join.proofs.ValidStates.{in_time-from}
 
 told_format : (o : Option Data) (d : Data) (format : Place) → or_cause NotJson o ≡ Ok d → format_in d ≡ Ok format → IfSome o (λ d. format_in d ≡ Ok places.WindowState) → format ≡ places.WindowState
 told_format None d format read is tells = cc

@@ -9,6 +9,7 @@ use Rattle.n2k_join.proofs.Cuts.{next, so_far, grown, cut-push, last-cut, cut-al
 use Rattle.n2k_join.proofs.Keys.{same_key-refl, of_key-same, of_key-other, of_key-keeps}
 use Rattle.n2k_join.proofs.Opened.{IsLog, none_at, at_last, at_line}
 use Rattle.n2k_join.proofs.Rising.{find-passes, all-map, all-zip}
+use Rattle.std.proofs.Math.Bool.{and-true, and-false}
 
 -- a group of lines up to n: not empty, and each of its lines is at most n
 pub record IsUpTo (n : ℕ) (g : List Frame) : Type 0 where
@@ -30,7 +31,7 @@ last_line-push (f ∷ []) x = refl
 last_line-push (f ∷ h ∷ g) x = last_line-push (h ∷ g) x
 
 done-not : (i : ℕ) (g : List Frame) → (last_line g ≡ i → ⊥) → is_done_at i g ≡ false
-done-not i g other = ap (λ b. complete g && b) (ne_eqb (last_line g) i other) ∙ elim (complete g) as (λ b. (b && false) ≡ false) [ true ↦ refl | false ↦ refl ]
+done-not i g other = ap (λ b. complete g && b) (ne_eqb (last_line g) i other) ∙ and-false (complete g)
 
 done-incomplete : (i : ℕ) (g : List Frame) → complete g ≡ false → is_done_at i g ≡ false
 done-incomplete i g e = ap (λ b. b && (last_line g == i)) e
@@ -38,7 +39,7 @@ done-incomplete i g e = ap (λ b. b && (last_line g == i)) e
 done-here : (g : List Frame) (x : Frame) → is_done_at x.line (g ++ x ∷ []) ≡ complete (g ++ x ∷ [])
 done-here g x =
     ap (λ n. complete (g ++ x ∷ []) && (n == x.line)) (last_line-push g x) ∙ ap (λ b. complete (g ++ x ∷ []) && b) (eq-eqb x.line x.line refl)
-    ∙ elim (complete (g ++ x ∷ [])) as (λ b. (b && true) ≡ b) [ true ↦ refl | false ↦ refl ]
+    ∙ and-true (complete (g ++ x ∷ []))
 
 module _ (ends : Ends) where
   -- what the frame completes

@@ -43,7 +43,6 @@ pub mod Spelled
 pub mod Splitting
 pub mod StateBound
 pub mod StateReads
-pub mod StateTests
 pub mod Steps
 pub mod Stretches
 pub mod UnderWay

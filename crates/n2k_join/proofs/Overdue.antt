@@ -2,7 +2,7 @@
 use Rattle.std.proofs.Common.{◌≡◌, ◌==◌, ◌≤◌, ◌<◌, ◌+◌, ℕ, Bool, true, false, cond, not, ◌||◌, ◌&&◌, nat_le, List, [], ◌∷◌, ◌++◌, length, map, refl, sym, ap, ◌∙◌, arith, Option, Some, None, option_map, option_to_list, filter, filter_map}
 use Rattle.std.specs.List.{cons_option, AllByRecursion}
 use Rattle.std.proofs.lemmas.List.{length-append}
-use Rattle.std.proofs.lemmas.Bool.{eq-eqb, ne_eqb, lt-leb, le-leb, lt-ltb, ltb-true, ltb-false}
+use Rattle.std.proofs.lemmas.Bool.{eq-eqb, ne_eqb, lt-leb, le-leb, ltb-true, ltb-false, or_right}
 use Rattle.n2k_join.specs.declared.broken.Broken.{Broken}
 use Rattle.n2k_join.specs.Frames.{Key, same_key, Frame}
 use Rattle.n2k_join.specs.Groups.{misfits, is_late, within, complete}
@@ -15,9 +15,11 @@ use Rattle.n2k_join.proofs.BrokenGroups.{runs_out, breaks, told_if}
 use Rattle.n2k_join.proofs.Cuts.{next}
 use Rattle.n2k_join.proofs.Held.{first-held}
 use Rattle.n2k_join.proofs.Keys.{same_key-true}
-use Rattle.n2k_join.proofs.Rising.{find-none, all-map}
-use Rattle.n2k_join.proofs.Windows.{all-filter, ended-ends, waits-ends, misfits-bars}
+use Rattle.n2k_join.proofs.Rising.{all-map}
+use Rattle.n2k_join.proofs.Windows.{ended-ends, waits-ends, misfits-bars, later-wait, key-waiting}
 use Rattle.n2k_join.specs.Window.{Rule}
+use Rattle.std.proofs.Math.Bool.{and-true}
+use Rattle.std.proofs.lemmas.List.Filters.{length-filter_both}
 
 module _ (w : Rule) (some : 0 < w.window) where
   -- ---- the tests on groups
@@ -62,11 +64,7 @@ module _ (w : Rule) (some : 0 < w.window) where
       let l : x.line < o.first + w.window = ltb-true _ _ e in
       let up_to : nat_le x.line (o.first + w.window) ≡ true = le-leb x.line (o.first + w.window) (omega (arith, l)) in
       let other : (o.first + w.window == x.line) ≡ false = ne_eqb (o.first + w.window) x.line (λ f. omega (arith, l, f)) in
-      (λ i. cond (same_key x.key o.key) (waits-ends w x o is e i && up_to i) (other i)) ∙ ap (λ b. cond (same_key x.key o.key) b false) (and_true (misfits w (held_of o) x))
-    where
-      and_true : (b : Bool) → (b && true) ≡ b
-      and_true true = refl
-      and_true false = refl
+      (λ i. cond (same_key x.key o.key) (waits-ends w x o is e i && up_to i) (other i)) ∙ ap (λ b. cond (same_key x.key o.key) b false) (and-true (misfits w (held_of o) x))
 
   -- ---- the groups that are told
 
@@ -85,14 +83,6 @@ module _ (w : Rule) (some : 0 < w.window) where
       by true e rest = ap (cons_option (told_if w some t g)) rest
       by false e rest = ap (λ b. cons_option (cond b (Some (told_of g)) None) (filter_map (told_if w some t) gs)) (past g e) ∙ rest
 
-  -- none has ended among groups that begin where one waits, or later
-  later-wait : (line least : ℕ) (gs : List Group) → Rise (λ (g : Group). g.first) least gs → line < least + w.window → ended w line gs ≡ []
-  unfolding ended
-  later-wait line least [] rise l = refl
-  later-wait line least (g ∷ gs) rise l =
-      ap (λ b. cond (not b) (g ∷ filter (λ (g : Group). not (is_waiting w line g)) gs) (filter (λ (g : Group). not (is_waiting w line g)) gs)) (lt-ltb line (g.first + w.window) (omega (arith, rise.0, l)))
-      ∙ later-wait line (g.first + 1) gs rise.1 (omega (arith, rise.0, l))
-
   -- Those whose window ends at the line are a front of the groups, since their first lines rise.
   pub told-front : (n least : ℕ) (t : Group → Bool) (gs : List Group) → AllByRecursion (λ o. is_waiting w (n + 1) o ≡ false → t o ≡ true) gs → Rise (λ (g : Group). g.first) least gs
       → filter_map (told_if w some t) gs ≡ map told_of (ended w (n + 1) gs) ++ filter_map (told_if w some t) (waiting w (n + 1) gs)
@@ -105,7 +95,7 @@ module _ (w : Rule) (some : 0 < w.window) where
           → filter_map (told_if w some t) (g ∷ gs) ≡ map told_of (cond (not b) (g ∷ ended w (n + 1) gs) (ended w (n + 1) gs)) ++ filter_map (told_if w some t) (cond b (g ∷ filter (is_waiting w (n + 1)) gs) (filter (is_waiting w (n + 1)) gs))
       by true e rest =
           let l : n + 1 < g.first + w.window = ltb-true _ _ e in
-          let none : ended w (n + 1) gs ≡ [] = later-wait (n + 1) (g.first + 1) gs rise.1 (omega (arith, l)) in
+          let none : ended w (n + 1) gs ≡ [] = later-wait w (n + 1) (g.first + 1) gs rise.1 (omega (arith, l)) in
           ap (cons_option (told_if w some t g)) (rest ∙ ap (λ hs. map told_of hs ++ filter_map (told_if w some t) (filter (is_waiting w (n + 1)) gs)) none)
           ∙ sym (ap (λ hs. map told_of hs ++ filter_map (told_if w some t) (g ∷ filter (is_waiting w (n + 1)) gs)) none)
       by false e rest = ap (λ b. cons_option (cond b (Some (told_of g)) None) (filter_map (told_if w some t) gs)) (now.0 e) ∙ ap (λ bs. told_of g ∷ bs) rest
@@ -154,39 +144,16 @@ module _ (w : Rule) (some : 0 < w.window) where
 
   pub next-waiting : (x : Frame) (gs : List Group) → AllByRecursion IsOpen gs → AreApart gs
       → next (within w) (option_map held_of (of_the_key x.key gs)) x ≡ next (within w) (option_map held_of (of_the_key x.key (waiting w x.line gs))) x
-  unfolding waiting
-  next-waiting x [] each apart = refl
-  next-waiting x (g ∷ gs) each apart = by (is_waiting w x.line g) refl (same_key x.key g.key) refl (next-waiting x gs each.1 apart.1)
-    where
-      by : (b : Bool) → is_waiting w x.line g ≡ b → (c : Bool) → same_key x.key g.key ≡ c
-          → next (within w) (option_map held_of (of_the_key x.key gs)) x ≡ next (within w) (option_map held_of (of_the_key x.key (filter (is_waiting w x.line) gs))) x
-          → next (within w) (option_map held_of (cond c (Some g) (of_the_key x.key gs))) x
-          ≡ next (within w) (option_map held_of (of_the_key x.key (cond b (g ∷ filter (is_waiting w x.line) gs) (filter (is_waiting w x.line) gs)))) x
-      by true e true f rest = sym (ap (λ t. next (within w) (option_map held_of (cond t (Some g) (of_the_key x.key (filter (is_waiting w x.line) gs)))) x) f)
-      by true e false f rest = rest ∙ sym (ap (λ t. next (within w) (option_map held_of (cond t (Some g) (of_the_key x.key (filter (is_waiting w x.line) gs)))) x) f)
-      by false e true f rest =
-          let others = all-filter (λ (h : Group). same_key x.key h.key ≡ false) (is_waiting w x.line) gs
-          (all-map (λ (h : Group). same_key g.key h.key ≡ false) (λ (h : Group). same_key x.key h.key ≡ false) gs (λ h t. ap (λ (k : Key). same_key k h.key) (same_key-true x.key g.key f) ∙ t) apart.0) in
-          ap (λ b. cond (complete (held_of g) || b) (x ∷ []) (held_of g ++ x ∷ [])) (ended-ends w x g each.0 e)
-          ∙ or_true (complete (held_of g))
-          ∙ sym (ap (λ o. next (within w) (option_map held_of o) x) (find-none (λ (h : Group). same_key x.key h.key) (filter (is_waiting w x.line) gs) others))
-        where
-          or_true : (b : Bool) → cond (b || true) (x ∷ []) (held_of g ++ x ∷ []) ≡ x ∷ []
-          or_true true = refl
-          or_true false = refl
-      by false e false f rest = rest
+  next-waiting x =
+      key-waiting w x (λ o. next (within w) (option_map held_of o) x)
+      (λ g is e. ap (λ b. cond b (x ∷ []) (held_of g ++ x ∷ [])) (or_right (complete (held_of g)) _ (ended-ends w x g is e)))
 
   -- ---- how many there are
 
   pub ended-counted : (line : ℕ) (gs : List Group) → length (ended w line gs) + length (waiting w line gs) ≡ length gs
   unfolding waiting ended
-  ended-counted line [] = refl
-  ended-counted line (g ∷ gs) = by (is_waiting w line g) (ended-counted line gs)
-    where
-      by : (b : Bool) → length (filter (λ (g : Group). not (is_waiting w line g)) gs) + length (filter (is_waiting w line) gs) ≡ length gs
-          → length (cond (not b) (g ∷ filter (λ (g : Group). not (is_waiting w line g)) gs) (filter (λ (g : Group). not (is_waiting w line g)) gs)) + length (cond b (g ∷ filter (is_waiting w line) gs) (filter (is_waiting w line) gs)) ≡ length (g ∷ gs)
-      by true e = omega (arith, e)
-      by false e = omega (arith, e)
+  ended-counted line gs =
+      omega (arith, length-filter_both (is_waiting w line) (λ (g : Group). not (is_waiting w line g)) (λ g. refl) gs)
 
   -- a group that a frame breaks goes
   broken-go : (x : Frame) (gs : List Group) → AllByRecursion IsOpen gs → AllByRecursion (λ o. is_waiting w x.line o ≡ true) gs

@@ -3,7 +3,7 @@ use Rattle.std.proofs.Common.{◌≡◌, ◌≤◌, ◌<◌, ◌+◌, ◌==◌, 
 use mathlib.Core.Path.{fun_ext}
 use Rattle.std.specs.Option.{option_or}
 use Rattle.std.specs.List.{AllByRecursion}
-use Rattle.std.proofs.lemmas.Bool.{eqb-true, ltb-true, ne_eqb}
+use Rattle.std.proofs.lemmas.Bool.{eqb-true, ltb-true, ne_eqb, and_parts, leb-true, and_right}
 use Rattle.std.proofs.lemmas.List.{map-append, reverse-append, take_more, drop_more, drop_all}
 use Rattle.n2k_table.specs.declared.definition.Kind.{Kind}
 use Rattle.n2k_join.specs.declared.piece.OpenGroup.{OpenGroup}
@@ -18,7 +18,7 @@ use Rattle.n2k_join.proofs.Carried.{carried-append, option_or_none, pieces_of-sa
 use Rattle.n2k_join.proofs.Held.{carried-held, held_frames, pieces-held}
 use Rattle.n2k_join.proofs.Rising.{find-none, all-map, all-append}
 use Rattle.n2k_join.proofs.SlotLemmas.{carried-slots}
-use Rattle.n2k_join.proofs.StateTests.{both, at_most}
+use Rattle.std.proofs.Math.Bool.{and-false}
 
 abbrev number_of : Piece → ℕ
 number_of p = p.number
@@ -27,22 +27,22 @@ pub rise_from : (least : ℕ) (ps : List Piece) → pieces_rise least ps ≡ tru
 unfolding pieces_rise
 rise_from least [] h = tt
 rise_from least (p ∷ ps) h =
-    let hs = both _ _ h in
-    (at_most least p.number (both _ _ hs.0).0, rise_from (p.number + 1) ps hs.1)
+    let hs = and_parts _ _ h in
+    (leb-true least p.number (and_parts _ _ hs.0).0, rise_from (p.number + 1) ps hs.1)
 
 pub small_from : (least : ℕ) (ps : List Piece) → pieces_rise least ps ≡ true → AllByRecursion (λ (p : Piece). p.number < most_frames) ps
 unfolding pieces_rise
 small_from least [] h = tt
 small_from least (p ∷ ps) h =
-    let hs = both _ _ h in
-    (ltb-true p.number most_frames (both _ _ (both _ _ hs.0).1).0, small_from (p.number + 1) ps hs.1)
+    let hs = and_parts _ _ h in
+    (ltb-true p.number most_frames (and_parts _ _ (and_parts _ _ hs.0).1).0, small_from (p.number + 1) ps hs.1)
 
 pub small_bytes : (bs : List ℕ) → ((i : ℕ) → get_or bs i 0 < 256) → AllByRecursion (λ byte. byte < 256) bs
 small_bytes [] h = tt
 small_bytes (b ∷ bs) h = (h 0, small_bytes bs (λ i. h (suc i)))
 
 pub total_from : (n : ℕ) (bs : List ℕ) → total_holds n bs ≡ true → n ≡ 0 → slice_index_or bs 0 0 ≤ longest_message
-total_from zero bs h e = at_most (slice_index_or bs 0 0) longest_message h
+total_from zero bs h e = leb-true (slice_index_or bs 0 0) longest_message h
 total_from (suc n) bs h e = absurd (omega (arith, e))
 
 -- ---- pieces that join a group by rising number
@@ -95,10 +95,10 @@ slot-past v g key n is rise below fits =
 
 module _ (ps : List Piece) (i least : ℕ) (p : Piece) (lt : i < length ps) (at : p ≡ get_or ps i p) (holds : piece_holds least p ≡ true) where
   above : least ≤ p.number
-  above = at_most least p.number (both _ _ holds).0
+  above = leb-true least p.number (and_parts _ _ holds).0
 
   fits : p.number < most_frames
-  fits = ltb-true p.number most_frames (both _ _ (both _ _ holds).1).0
+  fits = ltb-true p.number most_frames (and_parts _ _ (and_parts _ _ holds).1).0
 
   pub below-next : AllByRecursion (λ (q : Piece). q.number < least) (take i ps) → AllByRecursion (λ (q : Piece). q.number < p.number) (take i ps)
   below-next below = all-map (λ (q : Piece). q.number < least) (λ (q : Piece). q.number < p.number) (take i ps) (λ q l. omega (arith, l, above)) below
@@ -139,22 +139,11 @@ all-taken ps i least end left = sym left ∙ ap (pieces_rise least) (drop_all i 
 module _ (kind : ℕ → Option Kind) (g : Group) where
   pub pieces-refused : pieces_rise 0 g.pieces ≡ false → group_holds kind g ≡ false
   unfolding group_holds
-  pieces-refused bad = (λ j. key_holds kind g.key && (is_some_list g.pieces && (bad j && not (complete (held_of g))))) ∙ both-false (key_holds kind g.key) (is_some_list g.pieces)
-    where
-      both-false : (a b : Bool) → (a && (b && false)) ≡ false
-      both-false true true = refl
-      both-false true false = refl
-      both-false false b = refl
+  pieces-refused bad = (λ j. key_holds kind g.key && (is_some_list g.pieces && (bad j && not (complete (held_of g))))) ∙ and_right (key_holds kind g.key) _ (and-false (is_some_list g.pieces))
 
   pub complete-refused : complete (held_of g) ≡ true → group_holds kind g ≡ false
   unfolding group_holds
-  complete-refused done = (λ j. key_holds kind g.key && (is_some_list g.pieces && (pieces_rise 0 g.pieces && not (done j)))) ∙ three-false (key_holds kind g.key) (is_some_list g.pieces) (pieces_rise 0 g.pieces)
-    where
-      three-false : (a b c : Bool) → (a && (b && (c && false))) ≡ false
-      three-false true true true = refl
-      three-false true true false = refl
-      three-false true false c = refl
-      three-false false b c = refl
+  complete-refused done = (λ j. key_holds kind g.key && (is_some_list g.pieces && (pieces_rise 0 g.pieces && not (done j)))) ∙ and_right (key_holds kind g.key) _ (and_right (is_some_list g.pieces) _ (and-false (pieces_rise 0 g.pieces)))
 
   pub group-taken : key_holds kind g.key ≡ true → is_some_list g.pieces ≡ true → pieces_rise 0 g.pieces ≡ true → complete (held_of g) ≡ false → group_holds kind g ≡ true
   unfolding group_holds

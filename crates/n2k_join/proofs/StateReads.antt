@@ -23,8 +23,7 @@ use Rattle.n2k_wire.specs.Steps.{◌>>=◌, or_cause, holds_or}
 use Rattle.n2k_join.specs.declared.state_fault.StateFault.{StateFault}
 use Rattle.n2k_join.specs.declared.state_fault.StateFault.TheVariants.{NotJson, TableDiffers, WindowDiffers, Invalid}
 use Rattle.n2k_table.specs.declared.definition.Kind.{Kind}
-use Rattle.n2k_join.proofs.ValidStates.{state_valid, parsed_some}
-use Rattle.n2k_join.proofs.StateTests.{in_time-to}
+use Rattle.n2k_join.proofs.ValidStates.{state_valid, parsed_some, in_time-to}
 use Rattle.n2k_join.specs.Counts.{most_lines}
 use Rattle.n2k_join.specs.Frames.{most_frames}
 use Rattle.n2k_join.proofs.Rising.{all-map, all-zip}

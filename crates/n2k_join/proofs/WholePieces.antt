@@ -14,6 +14,7 @@ use Rattle.n2k_join.specs.Arrival.{PiecesJoin}
 use Rattle.n2k_join.proofs.Counting.{has_all_numbers}
 use Rattle.n2k_join.proofs.PieceFrames.{piece_says}
 use Rattle.n2k_join.proofs.Rising.{range-append}
+use Rattle.std.proofs.Math.Bool.{and-true}
 
 -- a number that the pieces have carries the bytes of that piece
 pub carried_pieces : (x : Sending) (fs : List Frame) (n : ℕ) → AllByRecursion (IsPieceOf x) fs → has_number n fs ≡ true → carried fs n ≡ Some (piece_bytes x.message.payload n)
@@ -40,10 +41,6 @@ all_at_first p (suc m) h e = by_test (p 0) e
     by_test true e = refl
     by_test false e = e
 
-and_true : (b : Bool) → b && true ≡ b
-and_true true = refl
-and_true false = refl
-
 -- the total, where frame 0 is there
 pub total_of : (x : Sending) (fs : List Frame) → AllByRecursion (IsPieceOf x) fs → has_number 0 fs ≡ true → total fs ≡ length x.message.payload
 unfolding piece_bytes
@@ -61,7 +58,7 @@ complete_pieces x fs pieces apart = by_first (has_number 0 fs) refl
     all_there = has_all_numbers m fs (pieces_below x fs pieces) apart
 
     by_first : (b : Bool) → has_number 0 fs ≡ b → not (has_twice fs) && (b && (has_all (last_number (total fs)) fs && is_within (last_number (total fs)) fs)) ≡ (length fs == m)
-    by_first true e = rw (apart, total_of x fs pieces e, none_past x fs pieces) (and_true _ ∙ all_there)
+    by_first true e = rw (apart, total_of x fs pieces e, none_past x fs pieces) (and-true _ ∙ all_there)
     by_first false e = rw apart (sym (false_from_ne_true _ (λ full. false≢true (sym e ∙ all_at_first (λ n. has_number n fs) m (omega arith) (all_there ∙ full)))))
 
 -- chunks of seven, joined

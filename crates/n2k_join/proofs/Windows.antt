@@ -1,5 +1,5 @@
 -- The open groups under a window: what the window has ended may go before the next frame is taken.
-use Rattle.std.proofs.Common.{◌≡◌, ◌≤◌, ◌<◌, ◌+◌, ◌||◌, ◌&&◌, ℕ, Bool, true, false, cond, List, [], ◌∷◌, ◌++◌, refl, sym, ap, ◌∙◌, arith, Option, Some, None, option_to_list, filter, filter_map}
+use Rattle.std.proofs.Common.{◌≡◌, ◌≤◌, ◌<◌, ◌+◌, ◌||◌, ◌&&◌, ℕ, Bool, true, false, cond, List, [], ◌∷◌, ◌++◌, refl, sym, ap, ◌∙◌, arith, Option, Some, None, option_to_list, filter, filter_map, not}
 use Rattle.std.specs.Prelude.{nat_lt}
 use Rattle.std.specs.List.{cons_option, AllByRecursion}
 use Rattle.std.proofs.lemmas.List.Elements.{filter-append}
@@ -7,7 +7,7 @@ use Rattle.std.proofs.lemmas.Bool.{ltb-true, ltb-false, lt-ltb, lt-leb, le-leb, 
 use Rattle.std.proofs.lemmas.Option.{none-some, same_Some}
 use Rattle.n2k_join.specs.Frames.{Key, same_key, Frame}
 use Rattle.n2k_join.specs.Groups.{Ends, repeats, has_number, has_from, falls_back, misfits, is_late, within, complete, first}
-use Rattle.n2k_join.specs.Open.{Group, group_of, open_groups, is_waiting, waiting, open_within}
+use Rattle.n2k_join.specs.Open.{Group, group_of, open_groups, is_waiting, waiting, open_within, ended}
 use Rattle.n2k_join.specs.State.{held_of, held, Rise, IsOpen, AreApart, AreOpen}
 use Rattle.n2k_join.specs.Inner.Stored.{bars}
 use Rattle.n2k_join.proofs.Advanced.{with_frame, taken, begun, of_the_key, opened, advanced}
@@ -18,6 +18,7 @@ use Rattle.n2k_join.proofs.Opened.{IsLog, open_groups-push, open_groups-none}
 use Rattle.n2k_join.proofs.Resumed.{open_groups-held, open_groups-open}
 use Rattle.n2k_join.proofs.Rising.{rise-less, find-none, all-map}
 use Rattle.n2k_join.specs.Window.{Rule}
+use Rattle.std.proofs.Math.Bool.{or-false}
 
 -- ---- a part of some groups that can be open can be open
 
@@ -85,6 +86,14 @@ waiting-later w n (g ∷ gs) = by (is_waiting w n g) refl (is_waiting w (n + 1) 
     by false e true f rest = absurd (let l : n + 1 < g.first + w.window = ltb-true _ _ f in let m : g.first + w.window ≤ n = ltb-false _ _ e in omega (arith, l, m))
     by false e false f rest = rest
 
+-- groups that begin later than one that waits wait
+pub later-wait : (w : Rule) (line least : ℕ) (gs : List Group) → Rise (λ (g : Group). g.first) least gs → line < least + w.window → ended w line gs ≡ []
+unfolding ended
+later-wait w line least [] rise l = refl
+later-wait w line least (g ∷ gs) rise l =
+    ap (λ b. cond (not b) (g ∷ filter (λ (g : Group). not (is_waiting w line g)) gs) (filter (λ (g : Group). not (is_waiting w line g)) gs)) (lt-ltb line (g.first + w.window) (omega (arith, rise.0, l)))
+    ∙ later-wait w line (g.first + 1) gs rise.1 (omega (arith, rise.0, l))
+
 -- groups that all wait
 pub waiting-all : (w : Rule) (line : ℕ) (gs : List Group) → AllByRecursion (λ (g : Group). is_waiting w line g ≡ true) gs → waiting w line gs ≡ gs
 unfolding waiting
@@ -132,16 +141,12 @@ ended-ends w x g is e =
     let past : g.first + w.window ≤ x.line = ltb-false x.line (g.first + w.window) e in
     or_right (misfits w (held_of g) x) (is_late w (held_of g) x) (le-leb (first (held_of g) + w.window) x.line (omega (arith, at, past)))
 
-or_false : (b : Bool) → (b || false) ≡ b
-or_false true = refl
-or_false false = refl
-
 -- and one before that ends it where its number is in it
 pub waits-ends : (w : Rule) (x : Frame) (g : Group) → IsOpen g → is_waiting w x.line g ≡ true → within w (held_of g) x ≡ misfits w (held_of g) x
 waits-ends w x g is e =
     let at : first (held_of g) ≡ g.first = first-held g g.pieces is.nonempty in
     let before : x.line < g.first + w.window = ltb-true x.line (g.first + w.window) e in
-    ap (λ b. misfits w (held_of g) x || b) (lt-leb (first (held_of g) + w.window) x.line (omega (arith, at, before))) ∙ or_false (misfits w (held_of g) x)
+    ap (λ b. misfits w (held_of g) x || b) (lt-leb (first (held_of g) + w.window) x.line (omega (arith, at, before))) ∙ or-false (misfits w (held_of g) x)
 
 -- what the code asks of a group of an earlier line
 pub misfits-bars : (w : Rule) (x : Frame) (g : Group) → IsOpen g → g.first < x.line → misfits w (held_of g) x ≡ bars w.in_order x.number g
@@ -156,27 +161,38 @@ misfits-bars w x g is l = by w.in_order
 
     by : (b : Bool) → (repeats (held_of g) x || (b && falls_back (held_of g) x)) ≡ cond b (has_from x.number (held_of g)) (has_number x.number (held_of g))
     by true = ap (λ t. repeats (held_of g) x || (t && has_from x.number (held_of g))) later ∙ own (has_number x.number (held_of g)) refl
-    by false = or_false (repeats (held_of g) x)
+    by false = or-false (repeats (held_of g) x)
 
-opened-waiting : (w : Rule) (x : Frame) (gs : List Group) → AllByRecursion IsOpen gs → AreApart gs
-    → opened (within w) x (of_the_key x.key gs) ≡ opened (within w) x (of_the_key x.key (filter (is_waiting w x.line) gs))
-opened-waiting w x [] each apart = refl
-opened-waiting w x (g ∷ gs) each apart = by (is_waiting w x.line g) refl (same_key x.key g.key) refl (opened-waiting w x gs each.1 apart.1)
+-- What tells a group whose window has ended from none as little, finds the same group of a key among those that wait.
+pub key-waiting : {X : Type 0} (w : Rule) (x : Frame) (F : Option Group → X)
+    → ((g : Group) → IsOpen g → is_waiting w x.line g ≡ false → F (Some g) ≡ F None)
+    → (gs : List Group) → AllByRecursion IsOpen gs → AreApart gs → F (of_the_key x.key gs) ≡ F (of_the_key x.key (waiting w x.line gs))
+unfolding waiting
+key-waiting w x F as_none [] each apart = refl
+key-waiting w x F as_none (g ∷ gs) each apart =
+    by (is_waiting w x.line g) refl (same_key x.key g.key) refl (key-waiting w x F as_none gs each.1 apart.1)
   where
     left : List Group
     left = filter (is_waiting w x.line) gs
 
+    others : same_key x.key g.key ≡ true → AllByRecursion (λ (h : Group). same_key x.key h.key ≡ false) left
+    others f =
+        all-filter (λ (h : Group). same_key x.key h.key ≡ false) (is_waiting w x.line) gs
+        (all-map (λ (h : Group). same_key g.key h.key ≡ false) (λ (h : Group). same_key x.key h.key ≡ false) gs
+        (λ h t. ap (λ (k : Key). same_key k h.key) (same_key-true x.key g.key f) ∙ t) apart.0)
+
     by : (b : Bool) → is_waiting w x.line g ≡ b → (c : Bool) → same_key x.key g.key ≡ c
-        → opened (within w) x (of_the_key x.key gs) ≡ opened (within w) x (of_the_key x.key (filter (is_waiting w x.line) gs))
-        → opened (within w) x (cond c (Some g) (of_the_key x.key gs)) ≡ opened (within w) x (of_the_key x.key (cond b (g ∷ filter (is_waiting w x.line) gs) (filter (is_waiting w x.line) gs)))
-    by true e true f rest = sym (ap (λ t. opened (within w) x (cond t (Some g) (of_the_key x.key (filter (is_waiting w x.line) gs)))) f)
-    by true e false f rest = rest ∙ sym (ap (λ t. opened (within w) x (cond t (Some g) (of_the_key x.key (filter (is_waiting w x.line) gs)))) f)
-    by false e true f rest =
-        let others : AllByRecursion (λ (h : Group). same_key x.key h.key ≡ false) (filter (is_waiting w x.line) gs) = all-filter (λ (h : Group). same_key x.key h.key ≡ false) (is_waiting w x.line) gs
-        (all-map (λ (h : Group). same_key g.key h.key ≡ false) (λ (h : Group). same_key x.key h.key ≡ false) gs (λ h t. ap (λ (k : Key). same_key k h.key) (same_key-true x.key g.key f) ∙ t) apart.0) in
-        ap (λ t. cond t (begun x) None) (ended-ends w x g each.0 e)
-        ∙ sym (ap (opened (within w) x) (find-none (λ (h : Group). same_key x.key h.key) (filter (is_waiting w x.line) gs) others))
+        → F (of_the_key x.key gs) ≡ F (of_the_key x.key left)
+        → F (cond c (Some g) (of_the_key x.key gs)) ≡ F (of_the_key x.key (cond b (g ∷ left) left))
+    by true e true f rest = sym (ap (λ t. F (cond t (Some g) (of_the_key x.key left))) f)
+    by true e false f rest = rest ∙ sym (ap (λ t. F (cond t (Some g) (of_the_key x.key left))) f)
+    by false e true f rest = as_none g each.0 e ∙ sym (ap F (find-none (λ (h : Group). same_key x.key h.key) left (others f)))
     by false e false f rest = rest
+
+opened-waiting : (w : Rule) (x : Frame) (gs : List Group) → AllByRecursion IsOpen gs → AreApart gs
+    → opened (within w) x (of_the_key x.key gs) ≡ opened (within w) x (of_the_key x.key (waiting w x.line gs))
+opened-waiting w x =
+    key-waiting w x (opened (within w) x) (λ g is e. ap (λ t. cond t (begun x) None) (ended-ends w x g is e))
 
 -- a group that a frame opens waits
 begun-waits : (ends : Ends) (w : Rule) (x : Frame) (o : Option Group) → 0 < w.window → filter (is_waiting w x.line) (option_to_list (opened ends x o)) ≡ option_to_list (opened ends x o)
