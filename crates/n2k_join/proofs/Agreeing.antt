@@ -1,5 +1,5 @@
 -- The step from a log's state is the state of the longer log.
-use Rattle.std.proofs.Common.{◌≡◌, ◌<◌, ◌+◌, ℕ, Bool, true, false, cond, ◌||◌, List, [], ◌∷◌, ◌++◌, length, map, refl, sym, ap, ◌∙◌, subst, arith, Option, Some, None, option_map, option_and_then, option_to_list, filter_map}
+use Rattle.std.proofs.Common.{◌≡◌, ◌<◌, ◌+◌, ℕ, Bool, true, false, cond, ◌||◌, List, [], ◌∷◌, ◌++◌, length, map, refl, sym, ap, ◌∙◌, subst, arith, Option, Some, None, option_map, option_and_then, option_to_list, filter_map, ◌≤◌}
 use Rattle.std.specs.Prelude.{is_some, IfSome, sum_by, count_by}
 use Rattle.std.specs.Option.{option_or}
 use Rattle.std.specs.List.{range_with_len, AllByRecursion}
@@ -21,7 +21,7 @@ use Rattle.n2k_join.proofs.BrokenGroups.{told_if, runs_out, breaks, broken-none,
 use Rattle.n2k_join.proofs.Carried.{carried-push, data_of-same}
 use Rattle.n2k_join.proofs.Cuts.{next, so_far, within-ends}
 use Rattle.n2k_join.proofs.Held.{carried-kept}
-use Rattle.n2k_join.proofs.Given.{completed, keyed, gathered-last, gathered-none}
+use Rattle.n2k_join.proofs.Given.{completed, keyed, gathered-last, gathered-none, message_by}
 use Rattle.n2k_join.proofs.Opened.{IsFine, so_far-fine, numbers_of_key, found-open, open_of-so_far, ends-kept, complete-kept, complete-kept_push}
 use Rattle.n2k_join.proofs.Overdue.{told-waiting, told-front, runs_out-past, runs_out-now, breaks-past, breaks-now, none-run_out, next-waiting}
 use Rattle.n2k_join.proofs.Resumed.{open_groups-open}
@@ -38,18 +38,15 @@ kept_of k s = option_map held_of (option_map (group_of k) (option_and_then incom
 abbrev message_from : Frame → List Frame → Option PacketParts
 message_from x g = option_map (message_of x) (cond (complete g) (Some g) None)
 
-given_if : (x : Frame) (g : List Frame) → message_from x g ≡ cond (complete g) (Some (message_of x g)) None
-given_if x g = elim (complete g) as (λ b. option_map (message_of x) (cond b (Some g) None) ≡ cond b (Some (message_of x g)) None) [ true ↦ refl | false ↦ refl ]
-
 module _ (w : Rule) (some : 0 < w.window) where
   message-joined : (x : Frame) (g : List Frame) → IsFine g → message_from x (g ++ x ∷ []) ≡ message_from x (held_of (group_of x.key g) ++ x ∷ [])
   message-joined x g fine =
       let h = held_of (group_of x.key g) in
       let carry = carried-kept x.key g fine.numbers in
-      given_if x (g ++ x ∷ [])
+      message_by x (complete (g ++ x ∷ [])) (g ++ x ∷ [])
       ∙ ap (λ d. cond (complete (g ++ x ∷ [])) (Some (record { stamp = x.stamp; id = x.id; payload = d })) None) (sym (data_of-same (h ++ x ∷ []) (g ++ x ∷ []) (carried-push h g x carry)))
-      ∙ ap (λ b. cond b (Some (message_of x (h ++ x ∷ []))) None) (sym (complete-kept_push (within w) (within-ends w some) x.key g x fine))
-      ∙ sym (given_if x (h ++ x ∷ []))
+      ∙ ap (λ b. cond b (Some (message_of x (h ++ x ∷ []))) None) (sym (complete-kept_push x.key g x fine))
+      ∙ sym (message_by x (complete (h ++ x ∷ [])) (h ++ x ∷ []))
 
   next-open : (x : Frame) (g : List Frame) (e : Bool) → complete g ≡ false → within w g x ≡ e → next (within w) (Some g) x ≡ cond e (x ∷ []) (g ++ x ∷ [])
   next-open x g e c t = ap (λ b. cond (b || within w g x) (x ∷ []) (g ++ x ∷ [])) c ∙ ap (λ e. cond e (x ∷ []) (g ++ x ∷ [])) t
@@ -58,7 +55,7 @@ module _ (w : Rule) (some : 0 < w.window) where
       → option_map (message_of x) (completed (within w) (Some g) x) ≡ option_map (message_of x) (completed (within w) (Some (held_of (group_of x.key g))) x)
   gives-kept_open x g e fine c t =
       let h = held_of (group_of x.key g) in
-      let c' = complete-kept (within w) (within-ends w some) x.key g fine ∙ c in
+      let c' = complete-kept x.key g fine ∙ c in
       let t' = ends-kept (within w) (within-ends w some) x.key g x fine ∙ t in
       ap (message_from x) (next-open x g e c t) ∙ joins e ∙ sym (ap (message_from x) (next-open x h e c' t'))
     where
@@ -139,7 +136,7 @@ module _ (w : Rule) (some : 0 < w.window) (kind : ℕ → Option Kind) (es : Lis
       let past : n < x.line = omega (arith, only.line) in
       let kept_is : option_map (group_of x.key) (option_and_then incomplete s) ≡ of_the_key x.key all =
       sym (found-open (within w) (within-ends w some) n x.key (frames kind es) log ∙ ap (option_map (group_of x.key)) (open_of-so_far (within w) (within-ends w some) x.key (frames kind es))) in
-      let like = gives-kept w some x s (so_far-fine (within w) (within-ends w some) (of_key x.key (frames kind es)) (numbers_of_key (within w) (within-ends w some) x.key (frames kind es) log.numbers)) in
+      let like = gives-kept w some x s (so_far-fine (within w) (within-ends w some) (of_key x.key (frames kind es)) (numbers_of_key x.key (frames kind es) log.numbers)) in
       let gathered_is : gathered (within w) (frames kind (es ++ e ∷ [])) (n + 1) ≡ option_map (keyed (within w) x) (completed (within w) s x) =
       ap (λ fs. gathered (within w) fs (n + 1)) fs ∙ ap (gathered (within w) (frames kind es ++ x ∷ [])) (sym only.line) ∙ gathered-last (within w) n (frames kind es) x log past in
       let message_is : option_map (message_of x) (completed (within w) s x) ≡ frame_message w x log_kept =
@@ -165,29 +162,30 @@ module _ (w : Rule) (some : 0 < w.window) (kind : ℕ → Option Kind) (es : Lis
 
   -- ---- what is counted
 
-  numbers-push : numbers (es ++ e ∷ []) ≡ range_with_len 1 (length es) ++ (1 + length es) ∷ []
-  numbers-push = ap (range_with_len 1) (length-append es (e ∷ [])) ∙ range-push 1 (length es)
+  -- a sum over the lines of the longer log, of what earlier lines keep
+  lines-push : (f g : ℕ → ℕ) → ((i : ℕ) → 1 ≤ i → i ≤ length es → f i ≡ g i)
+      → sum_by f (numbers (es ++ e ∷ [])) ≡ sum_by g (numbers es) + f (length es + 1)
+  lines-push f g same =
+      let next : 1 + length es ≡ length es + 1 = omega arith in
+      ap (λ n. sum_by f (range_with_len 1 n)) (length-append es (e ∷ [])) ∙ ap (sum_by f) (range-push 1 (length es))
+      ∙ sum_by_push f (range_with_len 1 (length es)) (1 + length es)
+      ∙ (λ j. sum_by-range f g 1 (length es) (λ i l u. same i l (omega (arith, u))) j + f (next j))
 
   one_is : (b : Bool) → cond b 1 0 ≡ one_if b
   one_is true = refl
   one_is false = refl
 
-  next_number : 1 + length es ≡ length es + 1
-  next_number = omega arith
-
   messages-push : count_by (λ i. is_some (message w kind (es ++ e ∷ []) i)) (numbers (es ++ e ∷ [])) ≡ count_by (λ i. is_some (message w kind es i)) (numbers es) + one_if (is_some (message w kind (es ++ e ∷ []) (length es + 1)))
   messages-push =
-      ap (count_by (λ i. is_some (message w kind (es ++ e ∷ []) i))) numbers-push
-      ∙ sum_by_push (λ i. cond (is_some (message w kind (es ++ e ∷ []) i)) 1 0) (range_with_len 1 (length es)) (1 + length es)
-      ∙ (λ j. sum_by-range (λ i. cond (is_some (message w kind (es ++ e ∷ []) i)) 1 0) (λ i. cond (is_some (message w kind es i)) 1 0) 1 (length es) (λ i l u. ap (λ m. cond (is_some m) 1 0) (message-before (within w) kind es e i l (omega arith))) j
-      + (ap (λ i. cond (is_some (message w kind (es ++ e ∷ []) i)) 1 0) next_number ∙ one_is (is_some (message w kind (es ++ e ∷ []) (length es + 1)))) j)
+      lines-push (λ i. cond (is_some (message w kind (es ++ e ∷ []) i)) 1 0) (λ i. cond (is_some (message w kind es i)) 1 0)
+      (λ i l u. ap (λ m. cond (is_some m) 1 0) (message-before (within w) kind es e i l u))
+      ∙ ap (λ n. count_by (λ i. is_some (message w kind es i)) (numbers es) + n)
+      (one_is (is_some (message w kind (es ++ e ∷ []) (length es + 1))))
 
   broken-push : sum_by (λ i. length (broken w kind (es ++ e ∷ []) i)) (numbers (es ++ e ∷ [])) ≡ sum_by (λ i. length (broken w kind es i)) (numbers es) + length (broken w kind (es ++ e ∷ []) (length es + 1))
   broken-push =
-      ap (sum_by (λ i. length (broken w kind (es ++ e ∷ []) i))) numbers-push
-      ∙ sum_by_push (λ i. length (broken w kind (es ++ e ∷ []) i)) (range_with_len 1 (length es)) (1 + length es)
-      ∙ (λ j. sum_by-range (λ i. length (broken w kind (es ++ e ∷ []) i)) (λ i. length (broken w kind es i)) 1 (length es) (λ i l u. ap length (broken-before w some kind es e i (omega arith))) j
-      + ap (λ i. length (broken w kind (es ++ e ∷ []) i)) next_number j)
+      lines-push (λ i. length (broken w kind (es ++ e ∷ []) i)) (λ i. length (broken w kind es i))
+      (λ i l u. ap length (broken-before w some kind es e i u))
 
   one_more : (p : Entry → Bool) → count_by p (es ++ e ∷ []) ≡ count_by p es + one_if (p e)
   one_more p = sum_by_push (λ x. cond (p x) 1 0) es e ∙ ap (λ n. count_by p es + n) (one_is (p e))

@@ -21,7 +21,7 @@ use Rattle.n2k_join.proofs.Stretches.{IsStretch, cut_stretches, GoesOn, goes_on-
 use Rattle.n2k_join.proofs.Lines.{RiseFrom, all_with, rise-filter, frames-rise, frames_found}
 use Rattle.n2k_join.proofs.GroupLines.{IsGroup, IsDone, LastFrame, last_frame, all-joined, done_found}
 use Rattle.n2k_join.specs.Window.{Rule}
-use Rattle.n2k_join.proofs.Rising.{filter_map-none}
+use Rattle.n2k_join.proofs.Rising.{filter_map-none, all-map, all-zip}
 
 -- what R gives of the second list
 pub zip-all : {X Y : Type 0} (R : X → Y → Type 0) (Q : Y → Type 0) → ((x : X) (y : Y) → R x y → Q y) → (xs : List X) (ys : List Y) → AllZip R xs ys → AllByRecursion Q ys
@@ -98,20 +98,6 @@ brings w kind es k x g comes = record {
   given = ap (λ (o : Option Keyed). option_or (option_map (λ (m : Keyed). m.message) o) (option_and_then (alone kind) (entry_at es (last_line g)))) (gathers (within w) kind es k x g comes);
 }
 
--- frames fall into stretches that go on to their ends
-pub record FallOn (ends : Ends) (xs : List Sending) (fs : List Frame) : Type 0 where
-  pub stretches : List (List Frame)
-  pub one_behind_the_other : fs ≡ joined stretches
-  pub each : AllZip (λ x g. IsStretchOf x g × GoesOn ends g) xs stretches
-
--- a number that doesn't repeat ends nothing, nor does one that rises, nor a window that ends later
-pub falls_on : (w : Rule) (xs : List Sending) (fs : List Frame) → FallInto w xs fs → FallOn (within w) xs fs
-falls_on w xs fs falls = record {
-  stretches = falls.stretches;
-  one_behind_the_other = falls.one_behind_the_other;
-  each = zip-map (IsStretchWithin w) (λ x g. IsStretchOf x g × GoesOn (within w) g) (λ x g is. (is.stretch, goes_on-within w (last_piece x.message + 1) g is.stretch.pieces.apart is.ordered (recursion_from_All (λ (f : Frame). f.line < first g + w.window) g is.in_time))) xs falls.stretches falls.each;
-}
-
 -- the groups of a key are the stretches of its messages
 pub record Settled (ends : Ends) (kind : ℕ → Option Kind) (ms : List PacketParts) (es : List Entry) (k : Key) : Type 0 where
   pub groups : List (List Frame)
@@ -120,30 +106,43 @@ pub record Settled (ends : Ends) (kind : ℕ → Option Kind) (ms : List PacketP
   pub rise : RiseFrom 1 (joined groups)
   pub each : AllZip (Comes ends kind es k) (sendings_of k ms) groups
 
-pub settled : (ends : Ends) (kind : ℕ → Option Kind) (ms : List PacketParts) (es : List Entry) (k : Key) → FallOn ends (sendings_of k ms) (of_key k (frames kind es)) → Settled ends kind ms es k
-settled ends kind ms es k falls =
-    let gs = falls.stretches in
+-- each message of a scattered log is settled: its stretch goes on to its end, and so is a group
+pub settles : (w : Rule) (kind : ℕ → Option Kind) (ms : List PacketParts) (es : List Entry) → IsScattered w kind ms es → (k : Key) → Settled (within w) kind ms es k
+settles w kind ms es scattered k =
+    let fs = of_key k (frames kind es) in
     let xs = sendings_of k ms in
-    let whole : AllByRecursion (IsStretch ends) gs = zip-all (λ x g. IsStretchOf x g × GoesOn ends g) (IsStretch ends) (λ x g is. as_stretch ends x g is.0 is.1) xs gs falls.each in
-    let cut_is : cut ends (of_key k (frames kind es)) ≡ gs = ap (cut ends) falls.one_behind_the_other ∙ cut_stretches ends gs whole in
+    let falls : FallInto w xs fs = scattered.falls k in
+    let gs = falls.stretches in
+    let on : AllZip (λ x g. IsStretchOf x g × GoesOn (within w) g) xs gs =
+    zip-map (IsStretchWithin w) (λ x g. IsStretchOf x g × GoesOn (within w) g)
+    (λ x g is. (
+      is.stretch,
+      goes_on-within w (last_piece x.message + 1) g is.stretch.pieces.apart is.ordered
+          (recursion_from_All (λ (f : Frame). f.line < first g + w.window) g is.in_time),
+    )) xs gs falls.each in
+    let whole : AllByRecursion (IsStretch (within w)) gs =
+    zip-all (λ x g. IsStretchOf x g × GoesOn (within w) g) (IsStretch (within w)) (λ x g is. as_stretch (within w) x g is.0 is.1) xs gs on in
+    let cut_is : cut (within w) fs ≡ gs = ap (cut (within w)) falls.one_behind_the_other ∙ cut_stretches (within w) gs whole in
     let rise : RiseFrom 1 (joined gs) = subst (RiseFrom 1) falls.one_behind_the_other (key-rise kind es k) in
-    let standing : AllByRecursion (λ g. AllByRecursion (StandsAt (frames kind es) k) g) gs = all-joined (StandsAt (frames kind es) k) gs (subst (AllByRecursion (StandsAt (frames kind es) k)) falls.one_behind_the_other (stand kind es k)) in
-    let nonempty : AllByRecursion IsGroup gs = all_with (IsStretch ends) (IsStretch ends) IsGroup (λ g is same. is.nonempty) gs whole whole in
-    let done : AllByRecursion (IsDone gs) gs = done_found 1 gs nonempty rise in
-    let both : AllByRecursion (λ g. AllByRecursion (StandsAt (frames kind es) k) g × IsDone gs g) gs = all_with _ _ _ (λ g a b. (a, b)) gs standing done in
+    let Stand : List Frame → Type 0 = AllByRecursion (StandsAt (frames kind es) k) in
+    let standing : AllByRecursion Stand gs = all-joined (StandsAt (frames kind es) k) gs (subst Stand falls.one_behind_the_other (stand kind es k)) in
+    let nonempty : AllByRecursion IsGroup gs = all-map (IsStretch (within w)) IsGroup gs (λ g is. is.nonempty) whole in
+    let both = all-zip Stand (IsDone gs) gs standing (done_found 1 gs nonempty rise) in
     record {
       groups = gs;
       cut_is = cut_is;
       nonempty = nonempty;
       rise = rise;
-      each = zip-with (λ x g. IsStretchOf x g × GoesOn ends g) (Comes ends kind es k) (λ g. AllByRecursion (StandsAt (frames kind es) k) g × IsDone gs g)
-          (λ x g is facts. record { stretch = is.0; goes_on = is.1; stands = facts.0; found = ap (find (is_done_at (last_line g))) cut_is ∙ facts.1 (as_stretch ends x g is.0 is.1).whole })
-          xs gs falls.each both;
+      each =
+          zip-with (λ x g. IsStretchOf x g × GoesOn (within w) g) (Comes (within w) kind es k) (λ g. Stand g × IsDone gs g)
+          (λ x g is facts. record {
+            stretch = is.0;
+            goes_on = is.1;
+            stands = facts.0;
+            found = ap (find (is_done_at (last_line g))) cut_is ∙ facts.1 (as_stretch (within w) x g is.0 is.1).whole;
+          })
+          xs gs on both;
     }
-
--- each message of a scattered log is settled
-pub settles : (w : Rule) (kind : ℕ → Option Kind) (ms : List PacketParts) (es : List Entry) → IsScattered w kind ms es → (k : Key) → Settled (within w) kind ms es k
-settles w kind ms es scattered k = settled (within w) kind ms es k (falls_on w (sendings_of k ms) (of_key k (frames kind es)) (scattered.falls k))
 
 pub brought : (w : Rule) (kind : ℕ → Option Kind) (ms : List PacketParts) (es : List Entry) → IsScattered w kind ms es → (k : Key) → AllZip (Brings w kind es) (sendings_of k ms) (cut (within w) (of_key k (frames kind es)))
 brought w kind ms es scattered k =

@@ -206,7 +206,7 @@ module _ (w : Rule) (some : 0 < w.window) where
       fine : (k : Key) (g : List Frame) → last_or None (cut (within w) (of_key k fs)) ≡ Some g → IsFine g
       fine k g e =
           subst (λ s. IfSome s IsFine) (sym (last-cut (within w) (of_key k fs)) ∙ e)
-          (so_far-fine (within w) (within-ends w some) (of_key k fs) (numbers_of_key (within w) (within-ends w some) k fs log.numbers))
+          (so_far-fine (within w) (within-ends w some) (of_key k fs) (numbers_of_key k fs log.numbers))
 
       keyed : (f : Frame) (b : Bool) → same_key f.key x.key ≡ b → broken_by w (fs ++ x ∷ []) x.line f ≡ option_and_then (told_if (breaks x)) (option_and_then (where_begun f.line f.key) (option_and_then incomplete (last_or None (cut (within w) (of_key f.key fs)))))
       keyed f true e =

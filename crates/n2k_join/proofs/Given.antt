@@ -41,6 +41,11 @@ done-here g x =
     ap (λ n. complete (g ++ x ∷ []) && (n == x.line)) (last_line-push g x) ∙ ap (λ b. complete (g ++ x ∷ []) && b) (eq-eqb x.line x.line refl)
     ∙ and-true (complete (g ++ x ∷ []))
 
+-- the message of a group, where there is one
+pub message_by : (x : Frame) (b : Bool) (g : List Frame) → option_map (message_of x) (cond b (Some g) None) ≡ cond b (Some (message_of x g)) None
+message_by x true g = refl
+message_by x false g = refl
+
 module _ (ends : Ends) where
   -- what the frame completes
   abbrev pub completed : Option (List Frame) → Frame → Option (List Frame)

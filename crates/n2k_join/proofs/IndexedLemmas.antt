@@ -4,8 +4,8 @@ use Rattle.std.specs.Prelude.{position, remove, insert, is_some}
 use Rattle.std.specs.Option.{option_map_or}
 use Rattle.std.specs.Map.{keys_of, values_of}
 use Rattle.std.specs.List.{position_or_len, AllByRecursion}
-use Rattle.std.proofs.lemmas.List.{map-append, append-nil, length-map}
-use Rattle.std.proofs.lemmas.Option.{none-some, same_Some}
+use Rattle.std.proofs.lemmas.List.{map-append, append-nil, length-map, take-map, drop-map}
+use Rattle.std.proofs.lemmas.Option.{none-some, same_Some, slice_get-map, slice_get_within}
 use Rattle.indexmap.specs.IndexMap.{insert_entry, set_value_at, move_index}
 use Rattle.n2k_join.specs.declared.piece.FrameKey.{FrameKey}
 use Rattle.n2k_join.specs.declared.piece.OpenGroup.{OpenGroup}
@@ -18,7 +18,9 @@ use Rattle.n2k_join.specs.State.{held_frame, held_of, IsOpen, AreApart}
 use Rattle.n2k_join.specs.Inner.Stored.{bars, key_of, piece_of, with_frame, of_the_key, begun, groups_after, gained, lost}
 use Rattle.n2k_join.specs.Inner.Slots.{slot_of, group_in, group_at, groups_in}
 use Rattle.n2k_join.proofs.SlotLemmas.{carried-slots}
-use Rattle.n2k_join.proofs.JoinLemmas.{position-None, none_at_all, groups-begun, at_place, found-place, key-place, with_piece, complete-with_frame, joins-done, joins-left, after-repeats, all-at, data_of-with_frame, gained-joins, gained-repeats, lost-joins, lost-repeats, bars-missing, broken-held, message-begun}
+use Rattle.n2k_join.proofs.JoinLemmas.{position-None, none_at_all, groups-begun, at_place, found-place, key-place, with_piece, complete-with_frame, joins-done, joins-left, after-repeats, data_of-with_frame, bars-missing, broken-held, message-begun, gained-at, lost-at}
+use Rattle.std.proofs.lemmas.List.Edits.{insert_end, length-remove}
+use Rattle.std.proofs.lemmas.List.Elements.{All-get_or, All-from_recursion}
 
 -- ---- places
 
@@ -57,12 +59,8 @@ module _ (order : Bool) (k : FrameKey) (v : OpenGroup) where
   pub opens-done : (x : Frame) (es : List (FrameKey × OpenGroup)) → x.number < most_frames → group_in (key_of k) v ≡ group_of x.key (x ∷ []) → position (λ (g : Group). same_key x.key g.key) (groups_in es) ≡ None
       → complete (held_of (group_in (key_of k) v)) ≡ true → groups_in es ≡ groups_after order (groups_in es) x
   opens-done x es small is none done =
-      sym (append-none (groups_in es)) ∙ ap (λ gs. groups_in es ++ gs) (sym (ap (λ b. cond b [] (group_in (key_of k) v ∷ [])) done) ∙ groups-begun x (group_in (key_of k) v) small is)
+      sym (append-nil (groups_in es)) ∙ ap (λ gs. groups_in es ++ gs) (sym (ap (λ b. cond b [] (group_in (key_of k) v ∷ [])) done) ∙ groups-begun x (group_in (key_of k) v) small is)
       ∙ sym (none_at_all order x (groups_in es) none).1
-    where
-      append-none : (gs : List Group) → gs ++ [] ≡ gs
-      append-none [] = refl
-      append-none (g ∷ gs) = ap (λ t. g ∷ t) (append-none gs)
 
 -- ---- the entry at a place
 
@@ -79,42 +77,20 @@ entry_at (e ∷ es) (suc i) v h =
     let rest = entry_at es i v h in
     record { key = rest.key; found = rest.found; is = rest.is; written = λ w. ap (λ gs. group_at e ∷ gs) (rest.written w) }
 
--- an entry stands at each place
-pub record Placed (es : List (FrameKey × OpenGroup)) (i : ℕ) : Type 0 where
-  pub value : OpenGroup
-  pub at : IsEntryAt es i value
-
-pub placed : (es : List (FrameKey × OpenGroup)) (i : ℕ) → i < length (groups_in es) → Placed es i
-placed [] i l = absurd (omega (arith, l))
-placed (e ∷ es) zero l = record { value = e.1; at = entry_at (e ∷ es) 0 e.1 refl }
-placed (e ∷ es) (suc i) l =
-    let rest = placed es i (omega (arith, l)) in
-    record { value = rest.value; at = record { key = rest.at.key; found = rest.at.found; is = rest.at.is; written = λ w. ap (λ gs. group_at e ∷ gs) (rest.at.written w) } }
-
-take-groups : (i : ℕ) (es : List (FrameKey × OpenGroup)) → groups_in (take i es) ≡ take i (groups_in es)
-take-groups zero es = refl
-take-groups (suc i) [] = refl
-take-groups (suc i) (e ∷ es) = ap (λ gs. group_at e ∷ gs) (take-groups i es)
-
-drop-groups : (i : ℕ) (es : List (FrameKey × OpenGroup)) → groups_in (drop i es) ≡ drop i (groups_in es)
-drop-groups zero es = refl
-drop-groups (suc i) [] = refl
-drop-groups (suc i) (e ∷ es) = drop-groups i es
-
 pub removed-groups : (es : List (FrameKey × OpenGroup)) (i : ℕ) → groups_in (remove es i) ≡ take i (groups_in es) ++ drop (i + 1) (groups_in es)
 removed-groups es i =
     let next : suc i ≡ i + 1 = omega arith in
-    map-append group_at (take i es) (drop (suc i) es) ∙ (λ j. take-groups i es j ++ drop-groups (suc i) es j) ∙ ap (λ n. take i (groups_in es) ++ drop n (groups_in es)) next
+    map-append group_at (take i es) (drop (suc i) es)
+    ∙ (λ j. sym (take-map group_at i es) j ++ sym (drop-map group_at (suc i) es) j)
+    ∙ ap (λ n. take i (groups_in es) ++ drop n (groups_in es)) next
 
 -- ---- the first of the groups
 
 pub first-group : (es : List (FrameKey × OpenGroup)) (o : Option (FrameKey × OpenGroup)) → slice_get es 0 ≡ o → slice_get (groups_in es) 0 ≡ option_map group_at o
-first-group [] o e = ap (option_map group_at) e
-first-group (e ∷ es) o is = ap (option_map group_at) is
+first-group es o is = slice_get-map group_at es 0 ∙ ap (option_map group_at) is
 
 pub removed-first : (es : List (FrameKey × OpenGroup)) → groups_in (remove es 0) ≡ drop 1 (groups_in es)
-removed-first [] = refl
-removed-first (e ∷ es) = refl
+removed-first es = removed-groups es 0
 
 -- ---- an entry written and moved last
 
@@ -133,22 +109,12 @@ length-written [] i w = refl
 length-written (e ∷ es) zero w = refl
 length-written (e ∷ es) (suc i) w = ap suc (length-written es i w)
 
-removed-length : {X : Type 0} (xs : List X) (i : ℕ) (x : X) → slice_get xs i ≡ Some x → length (remove xs i) + 1 ≡ length xs
-removed-length [] i x e = absurd (none-some x e)
-removed-length (y ∷ ys) zero x e = omega arith
-removed-length (y ∷ ys) (suc i) x e = omega (arith, removed-length ys i x e)
-
-insert-end : {X : Type 0} (xs : List X) (n : ℕ) (x : X) → n ≡ length xs → insert xs n x ≡ xs ++ x ∷ []
-insert-end [] zero x e = refl
-insert-end [] (suc n) x e = absurd (omega (arith, e))
-insert-end (y ∷ ys) zero x e = absurd (omega (arith, e))
-insert-end (y ∷ ys) (suc n) x e = ap (λ t. y ∷ t) (insert-end ys n x (omega (arith, e)))
-
 pub moved : (es : List (FrameKey × OpenGroup)) (i : ℕ) (w : OpenGroup) (k : FrameKey) (v : OpenGroup) → slice_get es i ≡ Some (k, v) → move_index (set_value_at es i w) i (length es - 1) ≡ remove es i ++ (k, w) ∷ []
 moved es i w k v found =
+    let at : length es - 1 ≡ length (remove es i) = omega (arith, length-remove es i (slice_get_within es i (k, v) found)) in
     ap (λ o. option_map_or (λ (e : FrameKey × OpenGroup). insert (remove (set_value_at es i w) i) (length es - 1) e) o (set_value_at es i w)) (slot-written es i w k v found)
     ∙ ap (λ r. insert r (length es - 1) (k, w)) (removed-written es i w)
-    ∙ insert-end (remove es i) (length es - 1) (k, w) (omega (arith, removed-length es i (k, v) found))
+    ∙ ap (λ n. insert (remove es i) n (k, w)) at ∙ insert_end (remove es i) (k, w)
 
 -- where the group of a frame's key stands at a place
 module _ (order : Bool) (x : Frame) (es : List (FrameKey × OpenGroup)) (i : ℕ) (v : OpenGroup) (apart : AreApart (groups_in es)) (place : position (λ (g : Group). same_key x.key g.key) (groups_in es) ≡ Some i) (at : IsEntryAt es i v) where
@@ -163,7 +129,8 @@ module _ (order : Bool) (x : Frame) (es : List (FrameKey × OpenGroup)) (i : ℕ
 
   pub open-there : AllByRecursion IsOpen (groups_in es) → IsOpen there
   open-there all =
-      let here = all-at IsOpen (groups_in es) i there all (at_place order x (groups_in es) i there apart place stands).0 in
+      let within = (at_place order x (groups_in es) i there apart place stands).0 in
+      let here = All-get_or IsOpen (groups_in es) i there within (All-from_recursion IsOpen (groups_in es) all) in
       subst IsOpen (at.is there) here
 
   pub key-there : x.key ≡ key_of at.key
@@ -188,7 +155,7 @@ module _ (order : Bool) (x : Frame) (es : List (FrameKey × OpenGroup)) (i : ℕ
   there-bars b e = subst (λ o. IfSome o (λ (g : Group). bars order x.number g ≡ b)) (sym found-there) e
 
   pub none-lost : bars order x.number (group_at (at.key, v)) ≡ false → None ≡ lost order x (of_the_key x.key (groups_in es))
-  none-lost e = sym (lost-joins order x (groups_in es) i there apart place stands e)
+  none-lost e = sym (lost-at order x (groups_in es) i there apart place stands false e)
 
   -- A frame for which it has no place ends it, and the group that the frame begins goes last, or gives its message.
   module _ (w : OpenGroup) (barred : IfSome (of_the_key x.key (groups_in es)) (λ (o : Group). bars order x.number o ≡ true)) (small : x.number < most_frames) (is : group_in (key_of at.key) w ≡ group_of x.key (x ∷ [])) where
@@ -211,17 +178,20 @@ module _ (order : Bool) (x : Frame) (es : List (FrameKey × OpenGroup)) (i : ℕ
     pub ends-written : complete (held_of (group_at (at.key, w))) ≡ true → groups_in (remove (set_value_at es i w) i) ≡ groups_after order (groups_in es) x
     ends-written done = ap groups_in (removed-written es i w) ∙ ends-go done
 
-    pub begun-gives : complete (held_of (group_at (at.key, w))) ≡ true → Some (record { stamp = x.stamp; id = x.id; payload = data_of (held_of (group_at (at.key, w))) }) ≡ gained order x (of_the_key x.key (groups_in es))
-    begun-gives done = sym (ap (λ b. cond b (Some (record { stamp = x.stamp; id = x.id; payload = data_of (held_of (group_at (at.key, w))) })) None) done) ∙ message-begun x (group_at (at.key, w)) small is ∙ sym (gained-repeats order x (groups_in es) i there apart place stands ends_it)
-
-    pub begun-none : complete (held_of (group_at (at.key, w))) ≡ false → None ≡ gained order x (of_the_key x.key (groups_in es))
-    begun-none left = sym (ap (λ b. cond b (Some (record { stamp = x.stamp; id = x.id; payload = data_of (held_of (group_at (at.key, w))) })) None) left) ∙ message-begun x (group_at (at.key, w)) small is ∙ sym (gained-repeats order x (groups_in es) i there apart place stands ends_it)
+    -- the message of the group that it begins, where that is complete
+    pub begun-message : (c : Bool) → complete (held_of (group_at (at.key, w))) ≡ c
+        → cond c (Some (record { stamp = x.stamp; id = x.id; payload = data_of (held_of (group_at (at.key, w))) })) None
+        ≡ gained order x (of_the_key x.key (groups_in es))
+    begun-message c is_c =
+        sym (ap (λ b. cond b (Some (record { stamp = x.stamp; id = x.id; payload = data_of (held_of (group_at (at.key, w))) })) None) is_c)
+        ∙ message-begun x (group_at (at.key, w)) small is
+        ∙ sym (gained-at order x (groups_in es) i there apart place stands true ends_it)
 
     pub breaks : AllByRecursion IsOpen (groups_in es) → Some (record { pgn = x.key.pgn; src = x.key.src; dst = x.key.dst; seq = x.key.sequence; first = v.first }) ≡ lost order x (of_the_key x.key (groups_in es))
     breaks all =
         (λ j. let k = key-there j in Some (record { pgn = k.pgn; src = k.src; dst = k.dst; seq = k.sequence; first = v.first }))
         ∙ ap Some (broken-held there x.key (open-there all) key-there)
-        ∙ sym (lost-repeats order x (groups_in es) i there apart place stands ends_it)
+        ∙ sym (lost-at order x (groups_in es) i there apart place stands true ends_it)
 
     pub ends-last : complete (held_of (group_at (at.key, w))) ≡ false → groups_in (move_index (set_value_at es i w) i (length es - 1)) ≡ groups_after order (groups_in es) x
     ends-last left =
@@ -257,14 +227,11 @@ module _ (order : Bool) (x : Frame) (es : List (FrameKey × OpenGroup)) (i : ℕ
     data-grown : data_of (held_of (group_at (at.key, w))) ≡ data_of (held_of (group_at (at.key, v)) ++ x ∷ [])
     data-grown = ap (λ (g : Group). data_of (held_of g)) grown ∙ data_of-with_frame there x (open-there fit) missing small
 
-    -- and gives its message, where it goes
-    pub gives-there : complete (held_of (group_at (at.key, w))) ≡ true → Some (record { stamp = x.stamp; id = x.id; payload = data_of (held_of (group_at (at.key, w))) }) ≡ gained order x (of_the_key x.key (groups_in es))
-    gives-there done =
-        (λ j. Some (record { stamp = x.stamp; id = x.id; payload = data-grown j }))
-        ∙ sym (ap (λ b. cond b (Some (message_of x (held_of there ++ x ∷ []))) None) (sym complete-grown ∙ done))
-        ∙ sym (gained-joins order x (groups_in es) i there apart place stands free)
-
-    pub gives-none : complete (held_of (group_at (at.key, w))) ≡ false → None ≡ gained order x (of_the_key x.key (groups_in es))
-    gives-none left =
-        sym (ap (λ b. cond b (Some (message_of x (held_of there ++ x ∷ []))) None) (sym complete-grown ∙ left))
-        ∙ sym (gained-joins order x (groups_in es) i there apart place stands free)
+    -- and gives its message, where it is complete
+    pub gives-message : (c : Bool) → complete (held_of (group_at (at.key, w))) ≡ c
+        → cond c (Some (record { stamp = x.stamp; id = x.id; payload = data_of (held_of (group_at (at.key, w))) })) None
+        ≡ gained order x (of_the_key x.key (groups_in es))
+    gives-message c is_c =
+        (λ j. cond c (Some (record { stamp = x.stamp; id = x.id; payload = data-grown j })) None)
+        ∙ sym (ap (λ b. cond b (Some (message_of x (held_of there ++ x ∷ []))) None) (sym complete-grown ∙ is_c))
+        ∙ sym (gained-at order x (groups_in es) i there apart place stands false free)

@@ -1,24 +1,27 @@
 -- The fit groups after a frame, as the code makes them: by the place of the group of its key.
-use Rattle.std.proofs.Common.{◌≡◌, ℕ, zero, suc, ◌+◌, ◌<◌, ◌≤◌, Bool, true, false, not, cond, List, [], ◌∷◌, ◌++◌, length, ltb, get_or, take, drop, set, ◌||◌, Result, Ok, Err, OnErr, Option, Some, None, option_to_list, filter_map, find, reverse, length-append, refl, sym, ap, ◌∙◌, arith}
+use Rattle.std.proofs.Common.{◌≡◌, ℕ, zero, suc, ◌+◌, ◌<◌, ◌≤◌, Bool, true, false, cond, List, [], ◌∷◌, ◌++◌, length, ltb, get_or, take, drop, set, Result, Ok, Err, OnErr, Option, Some, None, option_to_list, filter_map, find, reverse, length-append, refl, sym, ap, ◌∙◌, arith}
 use mathlib.Core.Path.{fun_ext}
 use Rattle.std.specs.Prelude.{position}
 use Rattle.std.specs.List.{AllByRecursion, cons_option, list_any, position_or_len}
-use Rattle.std.proofs.lemmas.Bool.{ltb-false, or_from, false≢true, false_from_ne_true}
-use Rattle.std.proofs.lemmas.List.{append-nil, take-set, drop-set-lt}
+use Rattle.std.proofs.lemmas.Bool.{ltb-false, false≢true, false_from_ne_true}
+use Rattle.std.proofs.lemmas.List.{append-nil, take-set, drop-set-lt, set_split}
 use Rattle.std.proofs.lemmas.List.Quantifiers.{position-Some}
 use Rattle.std.proofs.lemmas.Option.{none-some}
-use Rattle.n2k_join.specs.Messages.{broken_of}
+use Rattle.n2k_join.specs.Messages.{broken_of, told_of}
 use Rattle.n2k_join.specs.Frames.{Key, same_key, Frame, most_frames}
 use Rattle.n2k_join.specs.Groups.{complete, has_number, data_of, first}
 use Rattle.n2k_join.specs.Open.{Piece, Group, pieces_of, group_of}
 use Rattle.n2k_join.specs.State.{held_frame, held_of, IsOpen, AreApart}
 use Rattle.n2k_join.specs.Inner.Stored.{bars, with_frame, joined, taken, begun, of_the_key, opened, groups_after, message_if, gained, lost}
-use Rattle.n2k_join.proofs.Carried.{carried-append, has_twice-push, complete-same, data_of-same, pieces_of-same}
+use Rattle.n2k_join.proofs.Carried.{carried-append, has_twice-push, data_of-same, pieces_of-same}
 use Rattle.n2k_join.proofs.Cuts.{has-from}
-use Rattle.n2k_join.proofs.Held.{carried-kept, has_twice-kept, has_twice-held, length-held, all-held, all-reverse, first-held}
+use Rattle.n2k_join.proofs.Held.{carried-kept, has_twice-held, length-held, all-held, all-reverse, first-held}
 use Rattle.n2k_join.proofs.Keys.{same_key-true}
-use Rattle.n2k_join.proofs.Opened.{IsFine, first-push}
-use Rattle.n2k_join.proofs.Rising.{all-append, all-map, find-none}
+use Rattle.n2k_join.proofs.Opened.{IsFine, first-push, complete-kept}
+use Rattle.n2k_join.proofs.Rising.{all-append, all-map, find-none, passes_none}
+use Rattle.std.proofs.lemmas.List.Elements.{recursion_from_All, All-from_recursion}
+use Rattle.std.proofs.lemmas.List.Sums.{fails_before_first}
+use Rattle.std.proofs.lemmas.List.Folds.{list_any_none}
 
 -- ---- one group
 
@@ -44,10 +47,7 @@ fine-push g x fine missing small = record {
 pub fine-one : (x : Frame) → x.number < most_frames → IsFine (x ∷ [])
 fine-one x small = record { numbers = (small, tt); once = refl; nonempty = omega arith }
 
--- what is kept of a group is complete where the group is, with the same data
-pub complete-group_of : (k : Key) (g : List Frame) → IsFine g → complete (held_of (group_of k g)) ≡ complete g
-complete-group_of k g fine = complete-same (held_of (group_of k g)) g (carried-kept k g fine.numbers) (has_twice-kept k g ∙ sym fine.once)
-
+-- what is kept of a group has its data
 pub data_of-group_of : (k : Key) (g : List Frame) → IsFine g → data_of (held_of (group_of k g)) ≡ data_of g
 data_of-group_of k g fine = data_of-same (held_of (group_of k g)) g (carried-kept k g fine.numbers)
 
@@ -64,7 +64,7 @@ with_piece o x =
 
 module _ (o : Group) (x : Frame) (fit : IsOpen o) (missing : has_number x.number (held_of o) ≡ false) (small : x.number < most_frames) where
   pub complete-with_frame : complete (held_of (with_frame o x)) ≡ complete (held_of o ++ x ∷ [])
-  complete-with_frame = ap (λ (g : Group). complete (held_of g)) (with_frame-group_of o x fit) ∙ complete-group_of o.key (held_of o ++ x ∷ []) (fine-push (held_of o) x (fine-held o fit) missing small)
+  complete-with_frame = ap (λ (g : Group). complete (held_of g)) (with_frame-group_of o x fit) ∙ complete-kept o.key (held_of o ++ x ∷ []) (fine-push (held_of o) x (fine-held o fit) missing small)
 
   pub data_of-with_frame : data_of (held_of (with_frame o x)) ≡ data_of (held_of o ++ x ∷ [])
   data_of-with_frame = ap (λ (g : Group). data_of (held_of g)) (with_frame-group_of o x fit) ∙ data_of-group_of o.key (held_of o ++ x ∷ []) (fine-push (held_of o) x (fine-held o fit) missing small)
@@ -81,20 +81,17 @@ none-found : (key : Key) (gs : List Group) → AllByRecursion (λ (g : Group). s
 none-found key gs all = find-none (λ (g : Group). same_key key g.key) gs all
 
 -- where no place is found, no group passes
-none-pass : (P : Group → Bool) (gs : List Group) → length gs ≤ position_or_len P gs → AllByRecursion (λ (g : Group). P g ≡ false) gs
-none-pass P [] past = tt
-none-pass P (g ∷ gs) past = by (P g) refl past (λ l. none-pass P gs l)
-  where
-    by : (b : Bool) → P g ≡ b → suc (length gs) ≤ cond (not b) (1 + position_or_len P gs) 0 → (length gs ≤ position_or_len P gs → AllByRecursion (λ (g : Group). P g ≡ false) gs) → AllByRecursion (λ (g : Group). P g ≡ false) (g ∷ gs)
-    by true e l rest = absurd (omega (arith, l))
-    by false e l rest = (e, rest (omega (arith, l)))
-
 pub position-None : (P : Group → Bool) (gs : List Group) → position P gs ≡ None → AllByRecursion (λ (g : Group). P g ≡ false) gs
-position-None P gs none = by (ltb (position_or_len P gs) (length gs)) refl none
+position-None P gs none =
+    recursion_from_All (λ (g : Group). P g ≡ false) gs (λ k d l. fails_before_first P gs k d (omega (arith, l, past)))
   where
-    by : (b : Bool) → ltb (position_or_len P gs) (length gs) ≡ b → cond b (Some (position_or_len P gs)) None ≡ None → AllByRecursion (λ (g : Group). P g ≡ false) gs
+    by : (b : Bool) → ltb (position_or_len P gs) (length gs) ≡ b → cond b (Some (position_or_len P gs)) None ≡ None
+        → length gs ≤ position_or_len P gs
     by true e n = absurd (none-some (position_or_len P gs) (sym n))
-    by false e n = none-pass P gs (ltb-false (position_or_len P gs) (length gs) e)
+    by false e n = ltb-false (position_or_len P gs) (length gs) e
+
+    past : length gs ≤ position_or_len P gs
+    past = by (ltb (position_or_len P gs) (length gs)) refl none
 
 one_or_none : (o : Option Group) (gs : List Group) → cons_option o gs ≡ option_to_list o ++ gs
 one_or_none None gs = refl
@@ -123,12 +120,6 @@ module _ (order : Bool) (x : Frame) where
   found-at (g ∷ gs) zero d l here before = ap (λ b. cond b (Some g) (of_the_key x.key gs)) here
   found-at (g ∷ gs) (suc i) d l here before =
       ap (λ b. cond b (Some g) (of_the_key x.key gs)) (before 0 (omega arith)) ∙ found-at gs i d (omega arith) here (λ k m. before (suc k) (omega arith))
-
--- a write at a place
-set-parts : (gs : List Group) (i : ℕ) (y : Group) → i < length gs → set gs i y ≡ take i gs ++ y ∷ drop (suc i) gs
-set-parts [] i y l = absurd (omega arith)
-set-parts (g ∷ gs) zero y l = refl
-set-parts (g ∷ gs) (suc i) y l = ap (λ hs. g ∷ hs) (set-parts gs i y (omega arith))
 
 -- where no group has the frame's key
 pub none_at_all : (order : Bool) (x : Frame) (gs : List Group) → position (λ (g : Group). same_key x.key g.key) gs ≡ None
@@ -160,14 +151,18 @@ module _ (order : Bool) (x : Frame) (gs : List Group) (i : ℕ) (o : Group) (apa
   unfolding groups_after
   after-place = ap (λ hs. hs ++ option_to_list (opened order x (of_the_key x.key gs))) taken-place ∙ ap (λ (p : Option Group). (take i gs ++ (option_to_list (joined order x o) ++ drop (suc i) gs)) ++ option_to_list (opened order x p)) found-place
 
+  -- what the frame gains and breaks, by whether the group has no place for it
+  pub gained-at : (b : Bool) → bars order x.number o ≡ b
+      → gained order x (of_the_key x.key gs) ≡ cond b (message_if x (x ∷ [])) (message_if x (held_of o ++ x ∷ []))
+  gained-at b is =
+      ap (gained order x) found-place ∙ ap (λ b. cond b (message_if x (x ∷ [])) (message_if x (held_of o ++ x ∷ []))) is
+
+  pub lost-at : (b : Bool) → bars order x.number o ≡ b
+      → lost order x (of_the_key x.key gs) ≡ cond b (Some (broken_of x.key (held_of o))) None
+  lost-at b is = ap (lost order x) found-place ∙ ap (λ b. cond b (Some (broken_of x.key (held_of o))) None) is
+
   -- the group has a place for it: the frame joins it
   module _ (missing : bars order x.number o ≡ false) where
-    pub gained-joins : gained order x (of_the_key x.key gs) ≡ message_if x (held_of o ++ x ∷ [])
-    gained-joins = ap (gained order x) found-place ∙ ap (λ b. cond b (message_if x (x ∷ [])) (message_if x (held_of o ++ x ∷ []))) missing
-
-    pub lost-joins : lost order x (of_the_key x.key gs) ≡ None
-    lost-joins = ap (lost order x) found-place ∙ ap (λ b. cond b (Some (broken_of x.key (held_of o))) None) missing
-
     after-joins : groups_after order gs x ≡ take i gs ++ (option_to_list (cond (complete (held_of o ++ x ∷ [])) None (Some (with_frame o x))) ++ drop (suc i) gs)
     after-joins =
         after-place
@@ -185,19 +180,13 @@ module _ (order : Bool) (x : Frame) (gs : List Group) (i : ℕ) (o : Group) (apa
 
     pub joins-left : (y : Group) → complete (held_of o ++ x ∷ []) ≡ false → y ≡ with_frame o x → set gs i y ≡ groups_after order gs x
     joins-left y left grown =
-        set-parts gs i y at_place.0
+        set_split gs i y at_place.0
         ∙ ap (λ g. take i gs ++ g ∷ drop (suc i) gs) grown
         ∙ ap (λ b. take i gs ++ (option_to_list (cond b None (Some (with_frame o x))) ++ drop (suc i) gs)) (sym left)
         ∙ sym after-joins
 
   -- the group has none: the frame breaks it
   module _ (there : bars order x.number o ≡ true) where
-    pub gained-repeats : gained order x (of_the_key x.key gs) ≡ message_if x (x ∷ [])
-    gained-repeats = ap (gained order x) found-place ∙ ap (λ b. cond b (message_if x (x ∷ [])) (message_if x (held_of o ++ x ∷ []))) there
-
-    pub lost-repeats : lost order x (of_the_key x.key gs) ≡ Some (broken_of x.key (held_of o))
-    lost-repeats = ap (lost order x) found-place ∙ ap (λ b. cond b (Some (broken_of x.key (held_of o))) None) there
-
     pub after-repeats : groups_after order gs x ≡ (take i gs ++ drop (i + 1) gs) ++ option_to_list (begun x)
     after-repeats =
         let suc_is : suc i ≡ i + 1 = omega arith in
@@ -210,14 +199,8 @@ pub bars-missing : (order : Bool) (n : ℕ) (o : Group) → bars order n o ≡ f
 bars-missing false n o e = e
 bars-missing true n o e = false_from_ne_true (has_number n (held_of o)) (λ h. false≢true (sym e ∙ has-from n n (held_of o) (omega arith) h))
 
--- what holds of each group holds of the one at a place
-pub all-at : (P : Group → Type 0) (gs : List Group) (i : ℕ) (d : Group) → AllByRecursion P gs → i < length gs → P (get_or gs i d)
-all-at P [] i d all l = absurd (omega arith)
-all-at P (g ∷ gs) zero d all l = all.0
-all-at P (g ∷ gs) (suc i) d all l = all-at P gs i d all.1 (omega arith)
-
 -- what is told of an open group
-pub broken-held : (o : Group) (key : Key) → IsOpen o → key ≡ o.key → record { pgn = o.key.pgn; src = o.key.src; dst = o.key.dst; seq = o.key.sequence; first = o.first } ≡ broken_of key (held_of o)
+pub broken-held : (o : Group) (key : Key) → IsOpen o → key ≡ o.key → told_of o ≡ broken_of key (held_of o)
 broken-held o key fit of =
     (λ i. record { pgn = o.key.pgn; src = o.key.src; dst = o.key.dst; seq = o.key.sequence; first = sym (first-held o o.pieces fit.nonempty) i })
     ∙ ap (λ (k : Key). broken_of k (held_of o)) (sym of)
@@ -225,7 +208,7 @@ broken-held o key fit of =
 -- a group that a frame begins: its message, and what stays open of it
 module _ (x : Frame) (g : Group) (small : x.number < most_frames) (is : g ≡ group_of x.key (x ∷ [])) where
   pub complete-begun : complete (held_of g) ≡ complete (x ∷ [])
-  complete-begun = ap (λ (h : Group). complete (held_of h)) is ∙ complete-group_of x.key (x ∷ []) (fine-one x small)
+  complete-begun = ap (λ (h : Group). complete (held_of h)) is ∙ complete-kept x.key (x ∷ []) (fine-one x small)
 
   pub message-begun : cond (complete (held_of g)) (Some (record { stamp = x.stamp; id = x.id; payload = data_of (held_of g) })) None ≡ message_if x (x ∷ [])
   message-begun =
@@ -239,12 +222,7 @@ module _ (x : Frame) (g : Group) (small : x.number < most_frames) (is : g ≡ gr
 
 -- where no group of a key is found, none has it
 pub none-listed : (P : Group → Bool) (gs : List Group) → find P gs ≡ None → list_any P gs ≡ false
-none-listed P [] none = refl
-none-listed P (g ∷ gs) none = by (P g) refl none (none-listed P gs)
-  where
-    by : (b : Bool) → P g ≡ b → cond b (Some g) (find P gs) ≡ None → (find P gs ≡ None → list_any P gs ≡ false) → (P g || list_any P gs) ≡ false
-    by true e n rest = absurd (none-some g (sym n))
-    by false e n rest = or_from (P g) (list_any P gs) e (rest n)
+none-listed P gs none = list_any_none P gs (All-from_recursion (λ (g : Group). P g ≡ false) gs (passes_none P gs none))
 
 -- what holds holds on a refusal
 pub on_err : {T E : Type 0} (r : Result T E) (P : Type 0) → P → OnErr r P

@@ -40,10 +40,10 @@ pub record IsFramePart (f : Frame) : Type 0 where
 
 -- ---- frames of entries
 
-abbrev AreBytes : List ℕ → Type 0
+abbrev pub AreBytes : List ℕ → Type 0
 AreBytes xs = (i : ℕ) → slice_index xs i < 256
 
-filled : (xs : List ℕ) (j : ℕ) → AreBytes xs → slice_index_or xs j filler < 256
+pub filled : (xs : List ℕ) (j : ℕ) → AreBytes xs → slice_index_or xs j filler < 256
 filled [] j bytes = omega arith
 filled (x ∷ xs) zero bytes = bytes 0
 filled (x ∷ xs) (suc j) bytes = filled xs j (λ i. bytes (suc i))

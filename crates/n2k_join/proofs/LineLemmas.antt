@@ -17,16 +17,12 @@ use Rattle.n2k_join.specs.State.{State, Given, held_of, next_line, overdue, one_
 use Rattle.n2k_join.specs.Inner.Stored.{bars, with_frame, taken, begun, opened, of_the_key, groups_after, message_if, gained, gives_by, leaves_by}
 use Rattle.n2k_join.proofs.Advanced.{advanced, taken as advanced-taken, opened as advanced-opened}
 use Rattle.n2k_join.proofs.BrokenGroups.{told_if, breaks}
-use Rattle.n2k_join.proofs.Given.{completed}
+use Rattle.n2k_join.proofs.Given.{completed, message_by}
 use Rattle.n2k_join.proofs.Overdue.{one-broken}
 use Rattle.n2k_join.proofs.Rising.{find-all, all-zip, all-map}
 use Rattle.n2k_join.proofs.Steps.{StepsTo, kept, frame_message, only_frame, step-none, step-frame}
 use Rattle.n2k_join.proofs.Windows.{waiting-all, waits-ends, misfits-bars}
 use Rattle.n2k_join.specs.Window.{Rule}
-
-message_by : (x : Frame) (b : Bool) (g : List Frame) → option_map (message_of x) (cond b (Some g) None) ≡ cond b (Some (message_of x g)) None
-message_by x true g = refl
-message_by x false g = refl
 
 -- the message of a frame and the open group of its key
 message_with : (x : Frame) (g : List Frame) (c r : Bool) → c ≡ false

@@ -72,6 +72,25 @@ at_last n fs x log l =
     ∙ ap (λ o. option_or o (cond (x.line == x.line) (Some x) None)) (none_at n x.line fs log l)
     ∙ ap (λ b. cond b (Some x) None) (eq-eqb x.line x.line refl)
 
+-- what is kept of a group completes and takes a frame as the group does
+pub complete-kept : (k : Key) (g : List Frame) → IsFine g → complete (held_of (group_of k g)) ≡ complete g
+complete-kept k g fine = complete-same (held_of (group_of k g)) g (carried-kept k g fine.numbers) (has_twice-kept k g ∙ sym fine.once)
+
+pub complete-kept_push : (k : Key) (g : List Frame) (x : Frame) → IsFine g → complete (held_of (group_of k g) ++ x ∷ []) ≡ complete (g ++ x ∷ [])
+complete-kept_push k g x fine =
+    complete-same (held_of (group_of k g) ++ x ∷ []) (g ++ x ∷ []) (carried-push (held_of (group_of k g)) g x (carried-kept k g fine.numbers))
+    (has_twice-push (held_of (group_of k g)) x (has_twice-kept k g) ∙ ap (λ (c : ℕ → Option (List ℕ)). is_some (c x.number)) (carried-kept k g fine.numbers) ∙ sym (has_twice-push g x fine.once))
+
+pub with_frame-kept : (k : Key) (g : List Frame) (x : Frame) → IsFine g → with_frame (group_of k g) x ≡ group_of k (g ++ x ∷ [])
+with_frame-kept k g x fine = λ i. record {
+  first = sym (first-push g x fine.nonempty) i;
+  key = k;
+  pieces = pieces_of-same (held_of (group_of k g) ++ x ∷ []) (g ++ x ∷ []) (carried-push (held_of (group_of k g)) g x (carried-kept k g fine.numbers)) i;
+}
+
+pub numbers_of_key : (k : Key) (fs : List Frame) → AreNumbered fs → AreNumbered (of_key k fs)
+numbers_of_key k fs all = all-map _ (λ (f : Frame). f.number < most_frames) (of_key k fs) (λ f h. h.0) (of_key-keeps (λ (f : Frame). f.number < most_frames) k fs all)
+
 module _ (ends : Ends) (is_ending : IsEnding ends) where
   -- the open group of a key, where it begins at a line
   abbrev pub open_at : Key → List Frame → ℕ → Option Group
@@ -111,24 +130,9 @@ module _ (ends : Ends) (is_ending : IsEnding ends) where
       on_some _ _ (so_far ends fs) (λ g h. record { numbers = h.0; once = h.1.0; nonempty = h.1.1 })
       (both AreNumbered (λ g. (has_twice g ≡ false) × (0 < length g)) (so_far ends fs) (so_far-all ends (λ (f : Frame). f.number < most_frames) fs numbers) (so_far-once fs))
 
-  -- what is kept of a group ends, completes and takes a frame as the group does
+  -- and ends as the group does
   pub ends-kept : (k : Key) (g : List Frame) (x : Frame) → IsFine g → ends (held_of (group_of k g)) x ≡ ends g x
   ends-kept k g x fine = is_ending.alike (held_of (group_of k g)) g x (carried-kept k g fine.numbers) (first-kept k g fine.numbers fine.nonempty)
-
-  pub complete-kept : (k : Key) (g : List Frame) → IsFine g → complete (held_of (group_of k g)) ≡ complete g
-  complete-kept k g fine = complete-same (held_of (group_of k g)) g (carried-kept k g fine.numbers) (has_twice-kept k g ∙ sym fine.once)
-
-  pub complete-kept_push : (k : Key) (g : List Frame) (x : Frame) → IsFine g → complete (held_of (group_of k g) ++ x ∷ []) ≡ complete (g ++ x ∷ [])
-  complete-kept_push k g x fine =
-      complete-same (held_of (group_of k g) ++ x ∷ []) (g ++ x ∷ []) (carried-push (held_of (group_of k g)) g x (carried-kept k g fine.numbers))
-      (has_twice-push (held_of (group_of k g)) x (has_twice-kept k g) ∙ ap (λ (c : ℕ → Option (List ℕ)). is_some (c x.number)) (carried-kept k g fine.numbers) ∙ sym (has_twice-push g x fine.once))
-
-  pub with_frame-kept : (k : Key) (g : List Frame) (x : Frame) → IsFine g → with_frame (group_of k g) x ≡ group_of k (g ++ x ∷ [])
-  with_frame-kept k g x fine = λ i. record {
-    first = sym (first-push g x fine.nonempty) i;
-    key = k;
-    pieces = pieces_of-same (held_of (group_of k g) ++ x ∷ []) (g ++ x ∷ []) (carried-push (held_of (group_of k g)) g x (carried-kept k g fine.numbers)) i;
-  }
 
   taken-ended : (k : Key) (g : List Frame) (x : Frame) → IsFine g → same_key x.key k ≡ true → ends g x ≡ true → taken ends x (group_of k g) ≡ None
   taken-ended k g x fine same e =
@@ -212,9 +216,6 @@ module _ (ends : Ends) (is_ending : IsEnding ends) where
           ∙ ap (λ b. cond (complete h) None (cond b (Some (group_of x.key h)) None)) (ap (λ n. n == x.line) (first-push g x fine.nonempty) ∙ ne_eqb (first g) x.line past)
           ∙ both_none (complete h)
           ∙ sym (ap (λ b. cond b (begun x) None) (ends-kept x.key g x fine ∙ t))
-
-  pub numbers_of_key : (k : Key) (fs : List Frame) → AreNumbered fs → AreNumbered (of_key k fs)
-  numbers_of_key k fs all = all-map _ (λ (f : Frame). f.number < most_frames) (of_key k fs) (λ f h. h.0) (of_key-keeps (λ (f : Frame). f.number < most_frames) k fs all)
 
   open_at-push : (k : Key) (fs : List Frame) (x : Frame) (i : ℕ) → AreNumbered fs → (x.line ≡ i → ⊥) → open_at k (fs ++ x ∷ []) i ≡ option_and_then (taken ends x) (open_at k fs i)
   open_at-push k fs x i numbers other = by (same_key x.key k) refl

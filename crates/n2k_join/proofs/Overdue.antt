@@ -13,13 +13,13 @@ use Rattle.n2k_join.specs.Inner.Stored.{lost}
 use Rattle.n2k_join.proofs.Advanced.{with_frame, taken, begun, of_the_key, opened, advanced}
 use Rattle.n2k_join.proofs.BrokenGroups.{runs_out, breaks, told_if}
 use Rattle.n2k_join.proofs.Cuts.{next}
-use Rattle.n2k_join.proofs.Held.{first-held}
 use Rattle.n2k_join.proofs.Keys.{same_key-true}
 use Rattle.n2k_join.proofs.Rising.{all-map}
 use Rattle.n2k_join.proofs.Windows.{ended-ends, waits-ends, misfits-bars, later-wait, key-waiting}
 use Rattle.n2k_join.specs.Window.{Rule}
 use Rattle.std.proofs.Math.Bool.{and-true}
 use Rattle.std.proofs.lemmas.List.Filters.{length-filter_both}
+use Rattle.n2k_join.proofs.JoinLemmas.{broken-held}
 
 module _ (w : Rule) (some : 0 < w.window) where
   -- ---- the tests on groups
@@ -119,11 +119,6 @@ module _ (w : Rule) (some : 0 < w.window) where
       rest : List Broken
       rest = filter_map (told_if w some (breaks w some x)) gs
 
-      told_is : same_key x.key g.key ≡ true → told_of g ≡ broken_of x.key (held_of g)
-      told_is e =
-          (λ i. record { pgn = g.key.pgn; src = g.key.src; dst = g.key.dst; seq = g.key.sequence; first = sym (first-held g g.pieces each.0.nonempty) i })
-          ∙ ap (λ (k : Key). broken_of k (held_of g)) (sym (same_key-true x.key g.key e))
-
       by_test : (r : Bool) → told_of g ≡ broken_of x.key (held_of g) → cons_option (cond r (Some (told_of g)) None) [] ≡ option_to_list (cond r (Some (broken_of x.key (held_of g))) None)
       by_test true e = ap (λ b. b ∷ []) e
       by_test false e = refl
@@ -134,7 +129,7 @@ module _ (w : Rule) (some : 0 < w.window) where
           let others = all-map (λ (h : Group). same_key g.key h.key ≡ false) (λ (h : Group). same_key x.key h.key ≡ false) gs (λ h t. ap (λ (k : Key). same_key k h.key) (same_key-true x.key g.key e) ∙ t) apart.0 in
           ap (cons_option (told_if w some (breaks w some x) g)) (told-none (breaks w some x) gs (others-quiet x gs each.1 wait.1 others))
           ∙ ap (λ b. cons_option (cond b (Some (told_of g)) None) []) (breaks-later x g each.0 wait.0 ∙ ap (λ b. cond b (misfits w (held_of g) x) false) e)
-          ∙ by_test (misfits w (held_of g) x) (told_is e)
+          ∙ by_test (misfits w (held_of g) x) (broken-held g x.key each.0 (same_key-true x.key g.key e))
           ∙ ap (λ r. option_to_list (cond r (Some (broken_of x.key (held_of g))) None)) (misfits-bars w x g each.0 begun.0)
       by false e later =
           ap (λ b. cons_option (cond b (Some (told_of g)) None) (filter_map (told_if w some (breaks w some x)) gs)) (breaks-later x g each.0 wait.0 ∙ ap (λ b. cond b (misfits w (held_of g) x) false) e)

@@ -118,7 +118,7 @@ module _ (ends : Ends) (is_ending : IsEnding ends) where
         nonempty = pieces_of-some g numbers begun.nonempty;
         rise = pieces_of-rise g;
         numbers = pieces_of-numbers g;
-        incomplete = complete-kept ends is_ending o.key g fine ∙ begun.left;
+        incomplete = complete-kept o.key g fine ∙ begun.left;
       })
 
   -- groups that are the open ones of their keys are apart, since their lines are

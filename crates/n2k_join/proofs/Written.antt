@@ -1,6 +1,6 @@
 -- The frames of messages, as they are written one behind the other, are scattered frames of these messages.
 use Rattle.std.proofs.Common.{◌≡◌, ℕ, zero, suc, ◌+◌, ◌*◌, ◌%◌, ◌<◌, ◌≤◌, Bool, true, false, cond, not, List, [], ◌∷◌, ◌++◌, map, length, refl, ap, subst, ◌∙◌, sym, arith, Option, Some, None, inl, inr}
-use Rattle.std.specs.Prelude.{flat_map, filter, slice_index, slice_index_or}
+use Rattle.std.specs.Prelude.{flat_map, filter}
 use Rattle.std.specs.List.{AllByRecursion, All, range_with_len, cons_option}
 use Rattle.std.proofs.lemmas.Bool.{le-leb, or_left, or_right, ne_eqb, cases_eq}
 use Rattle.std.proofs.lemmas.List.{map-append, length-map}
@@ -25,11 +25,13 @@ use Rattle.n2k_join.proofs.Lines.{frames-rise, rise-all}
 use Rattle.n2k_join.proofs.Logs.{frames-below, frames_from-append}
 use Rattle.n2k_join.proofs.Healing.{rising-apart, rising-length}
 use Rattle.n2k_join.specs.Window.{Rule}
+use Rattle.n2k_join.proofs.Keeping.{AreBytes, filled}
 
--- a sending of a fast PGN, whose data a fast packet can hold
-pub record CanSend (kind : ℕ → Option Kind) (x : Sending) : Type 0 where
+-- a sending that a packet of the program and a sequence make
+pub record IsSending (kind : ℕ → Option Kind) (x : Sending) : Type 0 where
   pub fast : kind x.message.id.pgn ≡ Some Fast
-  pub fits : length x.message.payload ≤ longest_message
+  pub packet : IsPacketParts x.message
+  pub sequence : x.sequence < 8
 
 -- a piece is a frame's data
 fast_payload : (payload : List ℕ) (s n : ℕ) → length payload ≤ longest_message → n < 32 → is_fast_payload ((32 * s + n) ∷ piece_bytes payload n) ≡ true
@@ -63,15 +65,15 @@ pub record ComeInOrder (x : Sending) (first count : ℕ) (fs : List Frame) : Typ
   pub each : AllByRecursion (IsPieceOf x) fs
   pub rising : map (λ (f : Frame). f.number) fs ≡ range_with_len first count
 
-come_in_order : (kind : ℕ → Option Kind) (x : Sending) → CanSend kind x → (line first count : ℕ) → first + count ≤ last_piece x.message + 1 → ComeInOrder x first count (frames_from kind line (as_entries (map (piece x.message x.sequence) (range_with_len first count))))
+come_in_order : (kind : ℕ → Option Kind) (x : Sending) → IsSending kind x → (line first count : ℕ) → first + count ≤ last_piece x.message + 1 → ComeInOrder x first count (frames_from kind line (as_entries (map (piece x.message x.sequence) (range_with_len first count))))
 come_in_order kind x can line first zero within = record { each = tt; rising = refl }
 come_in_order kind x can line first (suc count) within =
-    let small : first < 32 = omega (arith, can.fits) in
-    let frame : frame_in kind line (entries.Frame (piece x.message x.sequence first)) ≡ Some (given_frame x line first) = ap (λ k. frame_by k line (piece x.message x.sequence first)) can.fast ∙ piece_frame x line first can.fits small in
+    let small : first < 32 = omega (arith, can.packet.packet_ok.payload_ok) in
+    let frame : frame_in kind line (entries.Frame (piece x.message x.sequence first)) ≡ Some (given_frame x line first) = ap (λ k. frame_by k line (piece x.message x.sequence first)) can.fast ∙ piece_frame x line first can.packet.packet_ok.payload_ok small in
     let rest = come_in_order kind x can (line + 1) (first + 1) count (omega arith) in
     let later = frames_from kind (line + 1) (as_entries (map (piece x.message x.sequence) (range_with_len (first + 1) count))) in
     subst (λ o. ComeInOrder x first (suc count) (cons_option o later)) (sym frame) (record {
-      each = (piece_is x line first can.fits (omega arith), rest.each);
+      each = (piece_is x line first can.packet.packet_ok.payload_ok (omega arith), rest.each);
       rising = ap (λ n. n ∷ map (λ (f : Frame). f.number) later) (number_is x line first small) ∙ ap (λ l. first ∷ l) rest.rising;
     })
 
@@ -79,13 +81,13 @@ come_in_order kind x can line first (suc count) within =
 frames_at : (ℕ → Option Kind) → ℕ → Sending → List Frame
 frames_at kind line x = frames_from kind line (as_entries (frames_of_sending kind x))
 
-sending_stretch : (kind : ℕ → Option Kind) (line : ℕ) (x : Sending) → CanSend kind x → ComeInOrder x 0 (last_piece x.message + 1) (frames_at kind line x)
+sending_stretch : (kind : ℕ → Option Kind) (line : ℕ) (x : Sending) → IsSending kind x → ComeInOrder x 0 (last_piece x.message + 1) (frames_at kind line x)
 unfolding frames_at pieces_as
 sending_stretch kind line x can =
     subst (λ k. ComeInOrder x 0 (last_piece x.message + 1) (frames_from kind line (as_entries (pieces_as k x.message x.sequence)))) (sym can.fast) (come_in_order kind x can line 0 (last_piece x.message + 1) (omega arith))
 
 -- of the frames of a sending all have its key
-own_key : (kind : ℕ → Option Kind) (line : ℕ) (x : Sending) → CanSend kind x → (k : Key) (b : Bool) → same_key k (key_of_sending x) ≡ b → AllByRecursion (λ (f : Frame). same_key k f.key ≡ b) (frames_at kind line x)
+own_key : (kind : ℕ → Option Kind) (line : ℕ) (x : Sending) → IsSending kind x → (k : Key) (b : Bool) → same_key k (key_of_sending x) ≡ b → AllByRecursion (λ (f : Frame). same_key k f.key ≡ b) (frames_at kind line x)
 own_key kind line x can k b e = all-map (IsPieceOf x) (λ (f : Frame). same_key k f.key ≡ b) (frames_at kind line x) (λ f is. ap (same_key k) (piece_says x f is).key ∙ e) (sending_stretch kind line x can).each
 
 -- the frames of sendings, one behind the other, fall into their stretches
@@ -93,14 +95,14 @@ sent_frames : (ℕ → Option Kind) → ℕ → List Sending → List Frame
 sent_frames kind line xs = frames_from kind line (as_entries (flat_map (frames_of_sending kind) xs))
 
 -- The frames of a sending stand at lines one behind the other, and there are 32 at most: so the shortest window holds them.
-short : (kind : ℕ → Option Kind) (x : Sending) → CanSend kind x → length (as_entries (frames_of_sending kind x)) ≤ 32
+short : (kind : ℕ → Option Kind) (x : Sending) → IsSending kind x → length (as_entries (frames_of_sending kind x)) ≤ 32
 unfolding pieces_as
 short kind x can =
     let count : length (as_entries (frames_of_sending kind x)) ≡ last_piece x.message + 1 =
     length-map (frames_of_sending kind x) (λ p. entries.Frame p) ∙ ap (λ k. length (pieces_as k x.message x.sequence)) can.fast ∙ length-map-range_with_len (piece x.message x.sequence) 0 (last_piece x.message + 1) in
-    omega (arith, count, can.fits)
+    omega (arith, count, can.packet.packet_ok.payload_ok)
 
-in_time : (kind : ℕ → Option Kind) (w : Rule) (line : ℕ) (x : Sending) → 32 ≤ w.window → CanSend kind x → IsGroup (frames_at kind line x) → AllByRecursion (λ (f : Frame). f.line < first (frames_at kind line x) + w.window) (frames_at kind line x)
+in_time : (kind : ℕ → Option Kind) (w : Rule) (line : ℕ) (x : Sending) → 32 ≤ w.window → IsSending kind x → IsGroup (frames_at kind line x) → AllByRecursion (λ (f : Frame). f.line < first (frames_at kind line x) + w.window) (frames_at kind line x)
 unfolding frames_at
 in_time kind w line x long can some =
     let es = as_entries (frames_of_sending kind x) in
@@ -114,7 +116,7 @@ one_more w k x xs g fs is falls = record {
   each = (is, falls.each);
 }
 
-fall : (w : Rule) → 32 ≤ w.window → (kind : ℕ → Option Kind) (k : Key) (line : ℕ) (xs : List Sending) → AllByRecursion (CanSend kind) xs → FallInto w (filter (λ (x : Sending). same_key k (key_of_sending x)) xs) (of_key k (sent_frames kind line xs))
+fall : (w : Rule) → 32 ≤ w.window → (kind : ℕ → Option Kind) (k : Key) (line : ℕ) (xs : List Sending) → AllByRecursion (IsSending kind) xs → FallInto w (filter (λ (x : Sending). same_key k (key_of_sending x)) xs) (of_key k (sent_frames kind line xs))
 unfolding sent_frames frames_at
 fall w long kind k line [] can = record { stretches = []; one_behind_the_other = refl; each = tt }
 fall w long kind k line (x ∷ xs) can =
@@ -143,41 +145,26 @@ fall w long kind k line (x ∷ xs) can =
     by_key true e falls = rw (of_key-all k (frames_at kind line x) (own_key kind line x can.0 k true e)) (one_more w k x _ (frames_at kind line x) _ (record { stretch = stretch; in_time = All-from_recursion (λ (f : Frame). f.line < first (frames_at kind line x) + w.window) (frames_at kind line x) (in_time kind w line x long can.0 some); ordered = λ _. in_order.rising }) falls)
     by_key false e falls = rw (of_key-none k (frames_at kind line x) (own_key kind line x can.0 k false e)) falls
 
--- each message of a fast PGN can be sent, under any sequence
-can_send : (kind : ℕ → Option Kind) (earlier ms : List PacketParts) → AllByRecursion (λ (m : PacketParts). kind m.id.pgn ≡ Some Fast) ms → AllByRecursion IsPacketParts ms → AllByRecursion (CanSend kind) (sendings_after earlier ms)
-can_send kind earlier [] fast are = tt
-can_send kind earlier (m ∷ ms) fast are = (record { fast = fast.0; fits = are.0.packet_ok.payload_ok }, can_send kind (earlier ++ m ∷ []) ms fast.1 are.1)
+-- each message of a fast PGN is sent, under a sequence of three bits
+are_sendings : (kind : ℕ → Option Kind) (earlier ms : List PacketParts) → AllByRecursion (λ (m : PacketParts). kind m.id.pgn ≡ Some Fast) ms → AllByRecursion IsPacketParts ms → AllByRecursion (IsSending kind) (sendings_after earlier ms)
+are_sendings kind earlier [] fast are = tt
+are_sendings kind earlier (m ∷ ms) fast are = (record { fast = fast.0; packet = are.0; sequence = omega arith }, are_sendings kind (earlier ++ m ∷ []) ms fast.1 are.1)
 
 pub written_scattered : (w : Rule) → 32 ≤ w.window → (kind : ℕ → Option Kind) (ms : List PacketParts) → All IsPacketParts ms → All (λ (m : PacketParts). kind m.id.pgn ≡ Some Fast) ms → IsScattered w kind ms (as_entries (written kind ms))
 unfolding sent_frames
 written_scattered w long kind ms are fast = record {
   fast = fast;
-  falls = λ k. fall w long kind k 1 (sendings ms) (can_send kind [] ms (recursion_from_All _ ms fast) (recursion_from_All _ ms are));
+  falls = λ k. fall w long kind k 1 (sendings ms) (are_sendings kind [] ms (recursion_from_All _ ms fast) (recursion_from_All _ ms are));
 }
-
--- a sending that a packet of the program and a sequence make
-pub record IsSending (kind : ℕ → Option Kind) (x : Sending) : Type 0 where
-  pub fast : kind x.message.id.pgn ≡ Some Fast
-  pub packet : IsPacketParts x.message
-  pub sequence : x.sequence < 8
 
 -- the frame of a packet is an entry of the program, and no message alone
 pub record IsPieceEntry (kind : ℕ → Option Kind) (e : Entry) : Type 0 where
   pub entry : IsEntry e
   pub mute : alone kind e ≡ None
 
--- numbers that are bytes
-abbrev AreBytes : List ℕ → Type 0
-AreBytes bytes = (i : ℕ) → slice_index bytes i < 256
-
-bytes-default : (payload : List ℕ) (j : ℕ) → AreBytes payload → slice_index_or payload j 255 < 256
-bytes-default [] j are = omega arith
-bytes-default (b ∷ payload) zero are = are 0
-bytes-default (b ∷ payload) (suc j) are = bytes-default payload j (λ i. are (suc i))
-
 sent_byte-byte : (payload : List ℕ) (j : ℕ) → length payload ≤ longest_message → AreBytes payload → sent_byte payload j < 256
 sent_byte-byte payload zero fits are = omega arith
-sent_byte-byte payload (suc j) fits are = bytes-default payload j are
+sent_byte-byte payload (suc j) fits are = filled payload j are
 
 bytes-map : (g : ℕ → ℕ) → ((j : ℕ) → g j < 256) → (ns : List ℕ) → AreBytes (map g ns)
 bytes-map g h [] i = omega arith
@@ -223,10 +210,6 @@ all_entries kind [] is = tt
 all_entries kind (x ∷ xs) is =
     subst (AllByRecursion (IsPieceEntry kind)) (sym (map-append (λ p. entries.Frame p) (frames_of_sending kind x) (flat_map (frames_of_sending kind) xs)))
     (all-append (IsPieceEntry kind) (as_entries (frames_of_sending kind x)) (as_entries (flat_map (frames_of_sending kind) xs)) (sending_entries kind x is.0) (all_entries kind xs is.1))
-
-are_sendings : (kind : ℕ → Option Kind) (earlier ms : List PacketParts) → AllByRecursion (λ (m : PacketParts). kind m.id.pgn ≡ Some Fast) ms → AllByRecursion IsPacketParts ms → AllByRecursion (IsSending kind) (sendings_after earlier ms)
-are_sendings kind earlier [] fast are = tt
-are_sendings kind earlier (m ∷ ms) fast are = (record { fast = fast.0; packet = are.0; sequence = omega arith }, are_sendings kind (earlier ++ m ∷ []) ms fast.1 are.1)
 
 pub written_entries : (kind : ℕ → Option Kind) (ms : List PacketParts) → All IsPacketParts ms → All (λ (m : PacketParts). kind m.id.pgn ≡ Some Fast) ms → AllByRecursion (IsPieceEntry kind) (as_entries (written kind ms))
 written_entries kind ms are fast = all_entries kind (sendings ms) (are_sendings kind [] ms (recursion_from_All _ ms fast) (recursion_from_All _ ms are))

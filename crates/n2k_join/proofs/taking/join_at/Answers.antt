@@ -1,8 +1,8 @@
-use Rattle.std.proofs.Common.{◌∙◌, sym, ap, refl}
+use Rattle.std.proofs.Common.{◌∙◌, sym, ap, refl, true, false}
 use Rattle.n2k_join.specs.Frames.{Frame}
 use Rattle.n2k_join.specs.Inner.Stored.{key_of, frame_of}
 use Rattle.n2k_join.specs.Inner.Slots.{groups_in}
-use Rattle.n2k_join.proofs.IndexedLemmas.{entry_at, has_place, empty, joins-stay, joins-go, gives-there, gives-none}
+use Rattle.n2k_join.proofs.IndexedLemmas.{entry_at, has_place, empty, joins-stay, joins-go, gives-message}
 use Rattle.n2k_join.proofs.taking.join_at.Goals as goal
 
 pub take-requires : goal.take-requires
@@ -20,8 +20,8 @@ returns-then-is_complete c = record {
       let v = c.in-Some.group.now in
       let at = entry_at es c.args.at v (sym c.in-Some.ensures.value) in
       c.give.ensures (key_of at.key)
-      ∙ gives-there c.args.in_order x es c.args.at v c.requires.apart c.requires.place at c.take.new.self c.args.frame.now.piece c.requires.«open» c.args.frame.now.piece.small refl refl
-      (has_place c.args.in_order x es c.args.at v c.requires.apart c.requires.place at c.requires.missing) (c.take.ensures.taken (key_of at.key)) (sym (c.is_complete.ensures (key_of at.key)) ∙ c.if-is_complete.true);
+      ∙ gives-message c.args.in_order x es c.args.at v c.requires.apart c.requires.place at c.take.new.self c.args.frame.now.piece c.requires.«open» c.args.frame.now.piece.small refl refl
+      (has_place c.args.in_order x es c.args.at v c.requires.apart c.requires.place at c.requires.missing) (c.take.ensures.taken (key_of at.key)) true (sym (c.is_complete.ensures (key_of at.key)) ∙ c.if-is_complete.true);
   groups = λ line.
       let x : Frame = frame_of line c.args.packet.now c.args.frame.now in
       let es = c.args.groups.now.entries in
@@ -40,8 +40,8 @@ returns-else-is_complete c = record {
       let v = c.in-Some.group.now in
       let at = entry_at es c.args.at v (sym c.in-Some.ensures.value) in
       c.requires.none
-      ∙ gives-none c.args.in_order x es c.args.at v c.requires.apart c.requires.place at c.take.new.self c.args.frame.now.piece c.requires.«open» c.args.frame.now.piece.small refl refl
-      (has_place c.args.in_order x es c.args.at v c.requires.apart c.requires.place at c.requires.missing) (c.take.ensures.taken (key_of at.key)) (sym (c.is_complete.ensures (key_of at.key)) ∙ c.if-is_complete.false);
+      ∙ gives-message c.args.in_order x es c.args.at v c.requires.apart c.requires.place at c.take.new.self c.args.frame.now.piece c.requires.«open» c.args.frame.now.piece.small refl refl
+      (has_place c.args.in_order x es c.args.at v c.requires.apart c.requires.place at c.requires.missing) (c.take.ensures.taken (key_of at.key)) false (sym (c.is_complete.ensures (key_of at.key)) ∙ c.if-is_complete.false);
   groups = λ line.
       let x : Frame = frame_of line c.args.packet.now c.args.frame.now in
       let es = c.args.groups.now.entries in

@@ -1,9 +1,9 @@
-use Rattle.std.proofs.Common.{◌≡◌, ◌-◌, ◌∙◌, Some, length, sym, ap, arith}
+use Rattle.std.proofs.Common.{◌≡◌, ◌-◌, ◌∙◌, Some, length, sym, ap, arith, true, false}
 use Rattle.indexmap.specs.IndexMap.{set_value_at, move_index}
 use Rattle.n2k_join.specs.Frames.{Frame, Key}
 use Rattle.n2k_join.specs.Inner.Stored.{key_of, frame_of}
 use Rattle.n2k_join.specs.Inner.Slots.{groups_in, group_in}
-use Rattle.n2k_join.proofs.IndexedLemmas.{entry_at, key-there, length-there, length-written, ends-written, ends-last, begun-gives, begun-none, breaks}
+use Rattle.n2k_join.proofs.IndexedLemmas.{entry_at, key-there, length-there, length-written, ends-written, ends-last, begun-message, breaks}
 use Rattle.n2k_join.proofs.taking.reopen_at.Goals as goal
 
 pub returns-then-is_complete : goal.returns-then-is_complete
@@ -16,7 +16,7 @@ returns-then-is_complete c =
     let is = ap (λ (k : Key). group_in k w) (sym (key-there c.args.in_order x es c.args.at v c.requires.apart c.requires.place at)) ∙ c.open-fresh.ensures c.args.packet.now in
     let done = sym (c.is_complete.ensures (key_of at.key)) ∙ c.if-is_complete.true in
     record {
-      message = c.give.ensures (key_of at.key) ∙ begun-gives c.args.in_order x es c.args.at v c.requires.apart c.requires.place at w c.requires.there c.args.frame.now.piece.small is done;
+      message = c.give.ensures (key_of at.key) ∙ begun-message c.args.in_order x es c.args.at v c.requires.apart c.requires.place at w c.requires.there c.args.frame.now.piece.small is true done;
       broken = ap Some c.broken-broken.ensures ∙ breaks c.args.in_order x es c.args.at v c.requires.apart c.requires.place at w c.requires.there c.args.frame.now.piece.small is c.requires.«open»;
       groups = ap groups_in c.shift_remove_index.ensures.entries ∙ ends-written c.args.in_order x es c.args.at v c.requires.apart c.requires.place at w c.requires.there c.args.frame.now.piece.small is done;
     }
@@ -53,7 +53,7 @@ returns-else-is_complete c =
     let left = sym (c.is_complete.ensures (key_of at.key)) ∙ c.if-is_complete.false in
     let count : c.len.result - 1 ≡ length es - 1 = ap (λ n. n - 1) (c.len.ensures.len ∙ length-written es c.args.at w) in
     record {
-      message = c.requires.none ∙ begun-none c.args.in_order x es c.args.at v c.requires.apart c.requires.place at w c.requires.there c.args.frame.now.piece.small is left;
+      message = c.requires.none ∙ begun-message c.args.in_order x es c.args.at v c.requires.apart c.requires.place at w c.requires.there c.args.frame.now.piece.small is false left;
       broken = ap Some c.broken-broken.ensures ∙ breaks c.args.in_order x es c.args.at v c.requires.apart c.requires.place at w c.requires.there c.args.frame.now.piece.small is c.requires.«open»;
       groups =
           ap groups_in (c.move_index.ensures.entries ∙ ap (λ n. move_index (set_value_at es c.args.at w) c.args.at n) count)
