@@ -9,8 +9,6 @@ pub mod Counting
 pub mod CutLaws
 pub mod Cuts
 pub mod Expiring
-pub mod FastGroups
-pub mod Few
 pub mod Given
 pub mod GroupLines
 pub mod Healing
@@ -22,15 +20,14 @@ pub mod Keeping
 pub mod KeyCounts
 pub mod Keys
 pub mod LineLemmas
-pub mod LineTaken
 pub mod Lines
 pub mod Logs
 pub mod Numbered
-pub mod OneRules
 pub mod Opened
 pub mod Overdue
 pub mod PieceBytes
 pub mod PieceFrames
+pub mod ReadStates
 pub mod Replaying
 pub mod Resumed
 pub mod Rising

@@ -8,12 +8,12 @@ use Rattle.n2k_join.specs.declared.broken.Broken.{Broken}
 use Rattle.n2k_join.specs.declared.counts.Counts.{Counts}
 use Rattle.n2k_wire.specs.Packet.{PacketParts}
 use Rattle.n2k_join.specs.declared.step.Step.{Step}
-use Rattle.n2k_join.specs.Step.{given_of}
+use Rattle.n2k_join.specs.Step.{given_of, due}
 use Rattle.n2k_join.specs.Frames.{same_key, Frame, frame_in}
 use Rattle.n2k_join.specs.Groups.{within, complete}
 use Rattle.n2k_join.specs.Messages.{message_of, told_of, alone, cause_in, is_unknown}
 use Rattle.n2k_join.specs.Open.{Group, is_waiting, ended}
-use Rattle.n2k_join.specs.State.{State, Given, held_of, next_line, overdue, one_if, counted, step_after, IsOpen, AreOpen}
+use Rattle.n2k_join.specs.State.{State, Given, held_of, next_line, overdue, one_if, counted, step_after, IsOpen, AreOpen, IsState, step_given}
 use Rattle.n2k_join.specs.Inner.Stored.{bars, with_frame, taken, begun, opened, of_the_key, groups_after, message_if, gained, gives_by, leaves_by}
 use Rattle.n2k_join.proofs.Advanced.{advanced, taken as advanced-taken, opened as advanced-opened}
 use Rattle.n2k_join.proofs.BrokenGroups.{told_if, breaks}
@@ -23,6 +23,8 @@ use Rattle.n2k_join.proofs.Rising.{find-all, all-zip, all-map}
 use Rattle.n2k_join.proofs.Steps.{StepsTo, kept, frame_message, only_frame, step-none, step-frame}
 use Rattle.n2k_join.proofs.Windows.{waiting-all, waits-ends, misfits-bars}
 use Rattle.n2k_join.specs.Window.{Rule}
+use Rattle.n2k_join.specs.Counts.{most_lines}
+use Rattle.n2k_join.proofs.Expiring.{none_due}
 
 -- the message of a frame and the open group of its key
 message_with : (x : Frame) (g : List Frame) (c r : Bool) → c ≡ false
@@ -78,7 +80,7 @@ none-overdue w line (g ∷ gs) e = by (is_waiting w line g) refl e (none-overdue
     by false is e rest = absurd cc
 
 -- The step on a state whose groups can be open, none of which is overdue.
-pub line-steps : (kind : ℕ → Option Kind) (s : State) (e : Entry) → 0 < s.rule.window → AreOpen s.counts.lines s.groups → overdue s ≡ []
+line-steps : (kind : ℕ → Option Kind) (s : State) (e : Entry) → 0 < s.rule.window → AreOpen s.counts.lines s.groups → overdue s ≡ []
     → let o = frame_in kind (next_line s) e in StepsTo kind s e (gives_by s.rule.in_order (alone kind e) (cause_in kind e) s.groups o) (leaves_by s.rule.in_order s.groups o)
 line-steps kind s e some are none_over = by (frame_in kind (next_line s) e) refl
   where
@@ -118,42 +120,54 @@ line-steps kind s e some are none_over = by (frame_in kind (next_line s) e) refl
         (step-frame kind s e some are x found)
 
 -- one group at most is told
-pub length-told : (o : Option Broken) → length (option_to_list o) ≡ one_if (is_some o)
+length-told : (o : Option Broken) → length (option_to_list o) ≡ one_if (is_some o)
 length-told None = refl
 length-told (Some b) = refl
 
--- the counts after a line
-pub counts-after : (kind : ℕ → Option Kind) (c : Counts) (e : Entry) (step : Step PacketParts) (unknown : Bool) (n held : ℕ) (r : Counts) → unknown ≡ is_unknown kind e → n ≡ held
-    → r ≡ record { lines = c.lines + 1; messages = c.messages + one_if (is_some step.message); bad = c.bad + one_if (is_some step.bad); unknown = c.unknown + one_if unknown; broken = c.broken + one_if (is_some step.broken); held = n }
-    → r ≡ counted kind c e (given_of step) held
-counts-after kind c e step unknown n held r known count is =
-    is ∙ (λ i. record {
-      lines = c.lines + 1;
-      messages = c.messages + one_if (is_some step.message);
-      bad = c.bad + one_if (is_some step.bad);
-      unknown = c.unknown + one_if (known i);
-      broken = c.broken + sym (length-told step.broken) i;
-      held = count i;
-    })
+-- What a line gives and leaves, by what the code knows before it: the state is one that a join can have, and no group is due.
+module _ (kind : ℕ → Option Kind) (s t : State) (e : Entry) (order : Bool) (state : IsState s) (is : s ≡ t) (ready : due t ≡ None)
+    (below : s.counts.lines ≡ most_lines → ⊥) (same : order ≡ s.rule.in_order) where
+  abbrev gives : Given
+  gives = gives_by order (alone kind e) (cause_in kind e) s.groups (frame_in kind (next_line s) e)
 
--- the state after a line
-pub line-after : (kind : ℕ → Option Kind) (s : State) (e : Entry) (step : Step PacketParts) (gives : Given) (leaves gs : List Group) (r : Counts) → StepsTo kind s e gives leaves
-    → given_of step ≡ gives → gs ≡ leaves → r ≡ counted kind s.counts e (given_of step) (length gs)
-    → record { id = s.id; rule = s.rule; counts = r; groups = gs } ≡ step_after kind s e
-line-after kind s e step gives leaves gs r steps given groups counts =
-    ap (λ (c : Counts). record { id = s.id; rule = s.rule; counts = c; groups = gs }) counts
-    ∙ (λ i. record { id = s.id; rule = s.rule; counts = counted kind s.counts e (given i) (length (groups i)); groups = groups i })
-    ∙ sym steps.after
+  abbrev leaves : List Group
+  leaves = leaves_by order s.groups (frame_in kind (next_line s) e)
 
--- the state that the code reaches, by its parts
-pub line-reached : (kind : ℕ → Option Kind) (s : State) (e : Entry) (step : Step PacketParts) (unknown : Bool) (n : ℕ) (gs : List Group) (r : Counts) → 0 < s.rule.window → AreOpen s.counts.lines s.groups → overdue s ≡ []
-    → given_of step ≡ gives_by s.rule.in_order (alone kind e) (cause_in kind e) s.groups (frame_in kind (next_line s) e)
-    → unknown ≡ is_unknown kind e
-    → gs ≡ leaves_by s.rule.in_order s.groups (frame_in kind (next_line s) e)
-    → n ≡ length gs
-    → r ≡ record { lines = s.counts.lines + 1; messages = s.counts.messages + one_if (is_some step.message); bad = s.counts.bad + one_if (is_some step.bad); unknown = s.counts.unknown + one_if unknown; broken = s.counts.broken + one_if (is_some step.broken); held = n }
-    → record { id = s.id; rule = s.rule; counts = r; groups = gs } ≡ step_after kind s e
-line-reached kind s e step unknown n gs r some are none_over given known groups count is =
-    let o = frame_in kind (next_line s) e in
-    line-after kind s e step (gives_by s.rule.in_order (alone kind e) (cause_in kind e) s.groups o) (leaves_by s.rule.in_order s.groups o) gs r (line-steps kind s e some are none_over) given groups
-    (counts-after kind s.counts e step unknown n (length gs) r known count is)
+  steps : StepsTo kind s e gives leaves
+  steps =
+      let o = frame_in kind (next_line s) e in
+      let none_over = none_due s (ap due is ∙ ready) (omega (arith, state.counted.lines, below)) in
+      subst (λ b. StepsTo kind s e (gives_by b (alone kind e) (cause_in kind e) s.groups o) (leaves_by b s.groups o)) (sym same)
+      (line-steps kind s e (omega (arith, state.window.least)) state.groups none_over)
+
+  pub line-gives : {g : Given} → g ≡ gives → g ≡ step_given kind t e
+  line-gives given = given ∙ sym steps.given ∙ ap (λ u. step_given kind u e) is
+
+  pub line-leads : (step : Step PacketParts) (unknown : Bool) (n : ℕ) (gs : List Group) (r : Counts) → given_of step ≡ gives
+      → unknown ≡ is_unknown kind e → gs ≡ leaves → n ≡ length gs
+      → r ≡ record {
+        lines = s.counts.lines + 1;
+        messages = s.counts.messages + one_if (is_some step.message);
+        bad = s.counts.bad + one_if (is_some step.bad);
+        unknown = s.counts.unknown + one_if unknown;
+        broken = s.counts.broken + one_if (is_some step.broken);
+        held = n;
+      }
+      → record { id = s.id; rule = s.rule; counts = r; groups = gs } ≡ step_after kind s e
+  line-leads step unknown n gs r given known groups count is_r =
+      let counted_is : r ≡ counted kind s.counts e (given_of step) (length gs) = is_r ∙ (λ i. record {
+        lines = s.counts.lines + 1;
+        messages = s.counts.messages + one_if (is_some step.message);
+        bad = s.counts.bad + one_if (is_some step.bad);
+        unknown = s.counts.unknown + one_if (known i);
+        broken = s.counts.broken + sym (length-told step.broken) i;
+        held = count i;
+      }) in
+      ap (λ (c : Counts). record { id = s.id; rule = s.rule; counts = c; groups = gs }) counted_is
+      ∙ (λ i. record {
+        id = s.id;
+        rule = s.rule;
+        counts = counted kind s.counts e (given i) (length (groups i));
+        groups = groups i;
+      })
+      ∙ sym steps.after

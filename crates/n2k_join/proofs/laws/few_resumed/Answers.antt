@@ -1,4 +1,4 @@
-use Rattle.n2k_join.proofs.Few.{few_resumed, few_after}
+use Rattle.n2k_join.proofs.ReadStates.{few_resumed, few_after}
 use Rattle.n2k_join.proofs.laws.few_resumed.Goals as goal
 
 pub returns : goal.returns

@@ -1,6 +1,6 @@
 use Rattle.std.proofs.Common.{arith}
 use Rattle.n2k_join.specs.Open.{open_groups, waiting}
-use Rattle.n2k_join.proofs.FastGroups.{read-spelled, valid-fast}
+use Rattle.n2k_join.proofs.ReadStates.{read-spelled, valid-fast}
 use Rattle.n2k_join.proofs.Keeping.{step-fast}
 use Rattle.n2k_join.proofs.laws.groups_stay_fast.Goals as goal
 

@@ -1,4 +1,4 @@
-use Rattle.n2k_join.proofs.OneRules.{rules-one, read-state}
+use Rattle.n2k_join.proofs.ReadStates.{rules-one, read-state}
 use Rattle.n2k_join.proofs.laws.rules_are_one.Goals as goal
 
 pub returns : goal.returns

@@ -1,4 +1,4 @@
-use Rattle.n2k_join.proofs.FastGroups.{log_back}
+use Rattle.n2k_join.proofs.ReadStates.{log_back}
 use Rattle.n2k_join.proofs.laws.saved_log_reads_back.Goals as goal
 
 pub returns : goal.returns

@@ -8,7 +8,7 @@ use Rattle.n2k_join.specs.State.{State, step_after, IsState, AreWaiting}
 use Rattle.n2k_join.specs.Inner.Slots.{group_at, groups_in}
 use Rattle.n2k_join.specs.Inner.Told.{packet_in, told_message}
 use Rattle.n2k_join.proofs.Keeping.{step-keeps, step-waits, few-open}
-use Rattle.n2k_join.proofs.LineTaken.{line-gives, line-leads}
+use Rattle.n2k_join.proofs.LineLemmas.{line-gives, line-leads}
 use Rattle.n2k_join.proofs.join.Join.take.Goals as goal
 
 pub invariant_of-self-2 : goal.invariant_of-self-2
@@ -19,7 +19,7 @@ invariant_of-self-2 c =
     let step : Step PacketParts = record { message = told_message o (packet_in c.args.entry.now) c.take_entry.new.joined; bad = o.bad; broken = o.broken } in
     let held : c.len.result ≡ length (groups_in c.take_entry.new.groups.entries) = c.len.ensures.len ∙ sym (length-map c.take_entry.new.groups.entries group_at) in
     let gives = c.in_ok-outcome.ensures in
-    let leads = line-leads (kind c.args.table.now) s c.args.self.now c.args.entry.now c.is_in_order.result step o.is_unknown c.len.result (groups_in c.take_entry.new.groups.entries) c.counted-self-inside.result c.self.invariant c.self.view_is c.requires.expired c.if-self-eq-MOST_LINES.false c.is_in_order.ensures gives.given gives.unknown gives.groups held (rw c.is_message-is_message.ensures at c.counted-self-inside.ensures) in
+    let leads = line-leads (kind c.args.table.now) s c.args.self.now c.args.entry.now c.is_in_order.result c.self.invariant c.self.view_is c.requires.expired c.if-self-eq-MOST_LINES.false c.is_in_order.ensures step o.is_unknown c.len.result (groups_in c.take_entry.new.groups.entries) c.counted-self-inside.result gives.given gives.unknown gives.groups held (rw c.is_message-is_message.ensures at c.counted-self-inside.ensures) in
     subst IsState (sym leads) (step-keeps (kind c.args.table.now) s c.args.entry.now c.self.invariant (c.know_entry.ensures c.requires.short) below)
 
 pub returns : goal.returns
@@ -30,7 +30,7 @@ returns c =
     let step : Step PacketParts = record { message = told_message o (packet_in c.args.entry.now) c.take_entry.new.joined; bad = o.bad; broken = o.broken } in
     let held : c.len.result ≡ length (groups_in c.take_entry.new.groups.entries) = c.len.ensures.len ∙ sym (length-map c.take_entry.new.groups.entries group_at) in
     let gives = c.in_ok-outcome.ensures in
-    let leads = line-leads (kind c.args.table.now) s c.args.self.now c.args.entry.now c.is_in_order.result step o.is_unknown c.len.result (groups_in c.take_entry.new.groups.entries) c.counted-self-inside.result c.self.invariant c.self.view_is c.requires.expired c.if-self-eq-MOST_LINES.false c.is_in_order.ensures gives.given gives.unknown gives.groups held (rw c.is_message-is_message.ensures at c.counted-self-inside.ensures) in
+    let leads = line-leads (kind c.args.table.now) s c.args.self.now c.args.entry.now c.is_in_order.result c.self.invariant c.self.view_is c.requires.expired c.if-self-eq-MOST_LINES.false c.is_in_order.ensures step o.is_unknown c.len.result (groups_in c.take_entry.new.groups.entries) c.counted-self-inside.result gives.given gives.unknown gives.groups held (rw c.is_message-is_message.ensures at c.counted-self-inside.ensures) in
     let keeps : IsState (step_after (kind c.args.table.now) s c.args.entry.now) = step-keeps (kind c.args.table.now) s c.args.entry.now c.self.invariant (c.know_entry.ensures c.requires.short) below in
     record {
       given = line-gives (kind c.args.table.now) s c.args.self.now c.args.entry.now c.is_in_order.result c.self.invariant c.self.view_is c.requires.expired c.if-self-eq-MOST_LINES.false c.is_in_order.ensures gives.given;

@@ -1,0 +1,182 @@
+-- What holds of a state that is read: its groups are of fast PGNs of the table that it was read with, its rules are those that
+-- the state of a join keeps, and few groups are open.
+use Rattle.std.proofs.Common.{◌≡◌, ◌==◌, ℕ, true, List, [], ◌∷◌, length, Option, Some, None, Ok, refl, IfOk, ◌≤◌, ◌+◌, sym, subst, arith, ◌<◌}
+use Rattle.std.specs.Prelude.{All, ◌≤◌, not, IfSome}
+use Rattle.std.specs.List.{list_any, AllByRecursion}
+use Rattle.std.specs.Str.{bytes_eq}
+use Rattle.std.proofs.lemmas.Bool.{false≢true, eqb-true, and_parts, ltb-true, leb-true}
+use Rattle.std.proofs.lemmas.List.Elements.{recursion_from_All}
+use Rattle.std.proofs.lemmas.Slice.Eq.{bytes_eq-Decides}
+use Rattle.n2k_wire.specs.declared.entry.Entry.{Entry}
+use Rattle.n2k_wire.specs.Entry.{IsEntry}
+use Rattle.n2k_table.specs.declared.definition.Kind.{Kind}
+use Rattle.n2k_table.specs.declared.definition.Kind.TheVariants.{Single, Fast}
+use Rattle.n2k_join.specs.declared.state_fault.StateFault.TheVariants.{NotJson, TableDiffers, WindowDiffers, Invalid}
+use Rattle.n2k_join.specs.Counts.{most_lines}
+use Rattle.n2k_join.specs.Frames.{same_key, Key, most_frames}
+use Rattle.n2k_join.specs.Open.{Group, Piece}
+use Rattle.n2k_wire.specs.Steps.{or_cause}
+use Rattle.n2k_join.specs.Resumed.{counts_hold, firsts_rise, format_in, group_holds, groups_hold, is_fast, is_valid, judged, key_holds, parsed, state_of, waits_hold, pieces_rise}
+use Rattle.n2k_join.specs.Saved.{IsId, state_text, are_waiting}
+use Rattle.n2k_join.specs.State.{State, state, AreFast, IsState, HasParts, IsKey, IsPiece, IsOpen, AreWaiting, step_after}
+use Rattle.n2k_join.specs.Window.{Rule, IsWindow}
+use Rattle.n2k_join.proofs.Keeping.{state-valid, few-open, step-keeps, step-waits}
+use Rattle.n2k_join.proofs.Spelled.{if_ok-then, if_ok-held, if_ok-valid, if_ok-of, IsSpelled, state-spelled}
+use Rattle.n2k_join.proofs.StateReads.{state_back}
+use Rattle.n2k_wire.specs.Plain.{greatest_address}
+use Rattle.n2k_join.specs.Rules.{HasSeven, HasShape, RulesAreOne}
+use Rattle.n2k_join.proofs.SavedGroups.{total_from}
+use Rattle.n2k_join.proofs.ValidStates.{valid_state, state_valid, in_time-from, in_time-to}
+use Rattle.serde_json.specs.Data.{Data}
+use Rattle.n2k_join.specs.declared.saved.place.Place.{Place}
+use Rattle.n2k_join.specs.declared.saved.place.Place.TheVariants as places
+use Rattle.n2k_join.specs.Bounds.{TellsWindow, HoldsFew}
+use Rattle.n2k_join.proofs.Rising.{all-map}
+use Rattle.n2k_join.proofs.StateBound.{few_pieces, state-short}
+
+is_fast-true : (k : Option Kind) → is_fast k ≡ true → k ≡ Some Fast
+is_fast-true None h = absurd (false≢true h)
+is_fast-true (Some Single) h = absurd (false≢true h)
+is_fast-true (Some Fast) h = refl
+
+groups-fast : (kind : ℕ → Option Kind) (gs : List Group) → groups_hold kind gs ≡ true → AreFast kind gs
+unfolding groups_hold group_holds key_holds
+groups-fast kind [] h = tt
+groups-fast kind (g ∷ gs) h =
+    let all = and_parts (group_holds kind g) _ h in
+    let key = and_parts (key_holds kind g.key) _ all.0 in
+    let ranges = and_parts _ _ key.0 in
+    let rest = and_parts (not (list_any (λ (other : Group). same_key g.key other.key) gs)) (groups_hold kind gs) all.1 in
+    (is_fast-true (kind g.key.pgn) (and_parts (is_fast (kind g.key.pgn)) _ ranges.1).0, groups-fast kind gs rest.1)
+
+pub valid-fast : (kind : ℕ → Option Kind) (s : State) → is_valid kind s ≡ true → AreFast kind s.groups
+unfolding is_valid
+valid-fast kind s h = groups-fast kind s.groups (and_parts (firsts_rise 1 s.counts.lines s.groups) (groups_hold kind s.groups) (and_parts (counts_hold s.counts) _ h).1).1
+
+-- a text that spells a state of the format that tells its window, read as that format
+told_format : (o : Option Data) (d : Data) (format : Place) → or_cause NotJson o ≡ Ok d → format_in d ≡ Ok format
+    → IfSome o (λ d. format_in d ≡ Ok places.WindowState) → format ≡ places.WindowState
+told_format None d format read is tells = cc
+told_format (Some e) d format read is tells = cc
+
+-- A text that is read spells a state of the table and the window that were handed in, which keeps the rules. Where it tells its
+-- window, no group's window has ended.
+pub record IsRead (kind : ℕ → Option Kind) (id : List ℕ) (rule : Rule) (bytes : List ℕ) (s : State) : Type 0 where
+  pub same_table : s.id ≡ id
+  pub same_rule : s.rule ≡ rule
+  pub spelled : IsSpelled rule s
+  pub valid : is_valid kind s ≡ true
+  pub waits : TellsWindow bytes → are_waiting s ≡ true
+
+reads : (kind : ℕ → Option Kind) (id : List ℕ) (rule : Rule) (bytes : List ℕ) → IfOk (judged kind id rule bytes) (IsRead kind id rule bytes)
+unfolding judged
+reads kind id rule bytes =
+    if_ok-then Read (or_cause NotJson (parsed bytes)) _ (λ d read. if_ok-then Read (format_in d) _ (λ format is.
+    if_ok-then Read (state_of format rule d) _ (λ s spelled.
+    if_ok-held Read TableDiffers (bytes_eq s.id id) _ (λ table.
+    if_ok-held Read WindowDiffers (s.rule.window == rule.window) _ (λ window.
+    if_ok-held Read Invalid (waits_hold format s) _ (λ in_time.
+    if_ok-valid Read (is_valid kind s) s (λ valid.
+    is_read s (if_ok-of (IsSpelled rule) (state_of format rule d) s (state-spelled format rule d) spelled) table window valid
+    (λ tells. subst (λ (f : Place). waits_hold f s ≡ true) (told_format (parsed bytes) d format read is tells) in_time))))))))
+  where
+    Read : State → Type 0
+    Read s = IsRead kind id rule bytes s
+
+    is_read : (s : State) → IsSpelled rule s → bytes_eq s.id id ≡ true → (s.rule.window == rule.window) ≡ true → is_valid kind s ≡ true
+        → (TellsWindow bytes → are_waiting s ≡ true) → Read s
+    is_read s spelled table window valid waits =
+        let same_window : s.rule.window ≡ rule.window = eqb-true s.rule.window rule.window window in
+        record {
+          same_table = (bytes_eq-Decides s.id id).0 table;
+          same_rule = λ i. record { window = same_window i; in_order = spelled.order i };
+          spelled = spelled;
+          valid = valid;
+          waits = waits;
+        }
+
+pub read-spelled : (kind : ℕ → Option Kind) (id : List ℕ) (rule : Rule) (bytes : List ℕ) (s : State) → judged kind id rule bytes ≡ Ok s
+    → IsRead kind id rule bytes s
+read-spelled kind id rule bytes s is =
+    if_ok-of (IsRead kind id rule bytes) (judged kind id rule bytes) s (reads kind id rule bytes) is
+
+-- what is saved after a log reads back
+pub log_back : (kind : ℕ → Option Kind) (id : List ℕ) (rule : Rule) (es : List Entry) → IsWindow rule.window → IsId id → All IsEntry es → length es ≤ most_lines
+    → judged kind id rule (state_text (state id rule kind es)) ≡ Ok (state id rule kind es)
+log_back kind id rule es window is valid few =
+    let stands = state-valid id rule kind es window (recursion_from_All IsEntry es valid) few in
+    state_back kind (state id rule kind es) stands.valid stands.fast is
+
+-- ---- the rules of a valid state, as they are asked, and those that the state of a join keeps
+
+key_from : (kind : ℕ → Option Kind) (k : Key) → key_holds kind k ≡ true → IsKey k
+unfolding key_holds
+key_from kind k h =
+    let pgn = and_parts _ _ h in
+    let fast = and_parts _ _ pgn.1 in
+    let src = and_parts _ _ fast.1 in
+    let dst = and_parts _ _ src.1 in
+    let src_small : k.src ≤ greatest_address = leb-true k.src greatest_address src.0 in
+    let dst_small : k.dst ≤ greatest_address = leb-true k.dst greatest_address dst.0 in
+    record { src = omega (arith, src_small); dst = omega (arith, dst_small); pgn = leb-true _ _ pgn.0; sequence = ltb-true _ _ dst.1 }
+
+pieces_from : (least : ℕ) (ps : List Piece) → pieces_rise least ps ≡ true → AllByRecursion HasSeven ps → AllByRecursion IsPiece ps
+unfolding pieces_rise
+pieces_from least [] h seven = tt
+pieces_from least (p ∷ ps) h seven =
+    let hs = and_parts _ _ h in
+    let total = (and_parts _ _ (and_parts _ _ hs.0).1).1 in
+    (record { seven = seven.0.seven; are_bytes = seven.0.are_bytes; total = total_from p.number p.bytes total }, pieces_from (p.number + 1) ps hs.1 seven.1)
+
+parts_from : (kind : ℕ → Option Kind) (gs : List Group) → groups_hold kind gs ≡ true → AllByRecursion (λ (g : Group). AllByRecursion HasSeven g.pieces) gs → AllByRecursion HasParts gs
+unfolding groups_hold group_holds
+parts_from kind [] h seven = tt
+parts_from kind (g ∷ gs) h seven =
+    let hs = and_parts _ _ h in
+    let group = and_parts _ _ hs.0 in
+    let pieces = (and_parts _ _ (and_parts _ _ group.1).1).0 in
+    (record { key = key_from kind g.key group.0; pieces = pieces_from 0 g.pieces pieces seven.0 }, parts_from kind gs (and_parts _ _ hs.1).1 seven.1)
+
+valid-state : (kind : ℕ → Option Kind) (s : State) → HasShape s → is_valid kind s ≡ true → IsState s
+unfolding is_valid
+valid-state kind s is h =
+    let counts = and_parts _ _ h in
+    let rest = and_parts _ _ counts.1 in
+    valid_state kind s is.window counts.0 rest.0 rest.1 is.held (parts_from kind s.groups rest.1 is.frames)
+
+pub rules-one : (kind : ℕ → Option Kind) (s : State) → HasShape s → RulesAreOne kind s
+rules-one kind s is = record {
+  state = λ h. (valid-state kind s is h, valid-fast kind s h);
+  passes = λ state fast. state_valid kind s state fast;
+  in_time = (in_time-from s, in_time-to s);
+}
+
+-- a text that is read spells a state that a join can have
+pub read-state : (kind : ℕ → Option Kind) (id : List ℕ) (rule : Rule) (bytes : List ℕ) (s : State) → IsWindow rule.window → judged kind id rule bytes ≡ Ok s → IsState s
+read-state kind id rule bytes s window is =
+    let read = read-spelled kind id rule bytes s is in
+    let own : IsWindow s.rule.window = subst (λ (r : Rule). IsWindow r.window) (sym read.same_rule) window in
+    valid-state kind s (record { window = own; held = read.spelled.held; frames = read.spelled.frames }) read.valid
+
+-- ---- what it holds at the most
+
+few-frames : (gs : List Group) → AllByRecursion IsOpen gs → AllByRecursion (λ (g : Group). length g.pieces ≤ most_frames) gs
+few-frames gs each = all-map IsOpen (λ (g : Group). length g.pieces ≤ most_frames) gs (λ g is. let few = few_pieces 0 g.pieces is.rise is.numbers (omega arith) in omega (arith, few)) each
+
+holds_few : (s : State) → IsState s → AreWaiting s → IsId s.id → HoldsFew s
+holds_few s is waits id =
+    let few = few-open s is waits in
+    let short = state-short s is id in
+    record { waiting = waits; groups = few; frames = few-frames s.groups is.groups.each; saved = omega (arith, few, short) }
+
+pub few_resumed : (kind : ℕ → Option Kind) (id : List ℕ) (rule : Rule) (bytes : List ℕ) (s : State) → IsWindow rule.window → IsId id
+    → TellsWindow bytes → judged kind id rule bytes ≡ Ok s → HoldsFew s
+few_resumed kind id rule bytes s window known tells is =
+    let read = read-spelled kind id rule bytes s is in
+    holds_few s (read-state kind id rule bytes s window is) (in_time-from s (read.waits tells)) (subst IsId (sym read.same_table) known)
+
+pub few_after : (kind : ℕ → Option Kind) (id : List ℕ) (rule : Rule) (bytes : List ℕ) (s : State) (e : Entry) → IsWindow rule.window → IsId id → judged kind id rule bytes ≡ Ok s → IsEntry e → s.counts.lines < most_lines → HoldsFew (step_after kind s e)
+unfolding step_after
+few_after kind id rule bytes s e window known is valid below =
+    let read = read-spelled kind id rule bytes s is in
+    holds_few (step_after kind s e) (step-keeps kind s e (read-state kind id rule bytes s window is) valid below) (step-waits kind s e) (subst IsId (sym read.same_table) known)
