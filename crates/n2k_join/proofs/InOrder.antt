@@ -1,4 +1,4 @@
--- With a rule that asks for the order of the numbers each complete group is one transmission.
+-- With a rule that asks for the order of the numbers each complete group is of consecutive frames.
 use Rattle.std.proofs.Common.{◌≡◌, ◌==◌, ℕ, zero, suc, ◌+◌, ◌<◌, ◌≤◌, ◌&&◌, Bool, true, false, cond, not, List, [], ◌∷◌, ◌++◌, length, map, refl, sym, ap, ◌∙◌, subst, arith, append_assoc, nat_le, Option, Some, None, option_map, option_and_then}
 use Rattle.std.specs.Prelude.{nat_lt, find, is_some}
 use Rattle.std.specs.List.{range_with_len, AllByRecursion}
@@ -13,7 +13,7 @@ use Rattle.n2k_join.specs.Groups.{carried, has_number, has_twice, has_all, is_wi
 use Rattle.n2k_join.specs.Messages.{Keyed, message_of, is_done_at, gathered_by, gathered}
 use Rattle.n2k_join.specs.Scattered.{joined}
 use Rattle.n2k_join.specs.State.{Rise}
-use Rattle.n2k_join.specs.Transmission.{IsTransmission, AreTransmissions, ComesOfOne}
+use Rattle.n2k_join.specs.Consecutive.{AreConsecutive, GroupsConsecutive, ComesOfConsecutive}
 use Rattle.n2k_join.specs.Window.{Rule}
 use Rattle.n2k_join.proofs.Arriving.{key-rise, StandsAt, stand}
 use Rattle.n2k_join.proofs.SlotLemmas.{all_to}
@@ -123,7 +123,7 @@ in_places fs before [] e = tt
 in_places fs before (g ∷ gs) e = (record { before = before; after = joined gs; is = e }, in_places fs (before ++ g) gs (e ∙ sym (append_assoc before g (joined gs))))
 
 abbrev Whole : Key → List Frame → List Frame → Type 0
-Whole key fs g = complete g ≡ true → IsTransmission key fs g
+Whole key fs g = complete g ≡ true → AreConsecutive key fs g
 
 all_whole : (rule : Rule) → rule.in_order ≡ true → (kind : ℕ → Option Kind) (es : List Entry) (key : Key) → AllByRecursion (Whole key (frames kind es)) (cut (within rule) (of_key key (frames kind es)))
 all_whole rule order kind es key =
@@ -132,8 +132,8 @@ all_whole rule order kind es key =
     (λ g place numbers done. record { before = place.before; after = place.after; together = place.is; in_order = whole-range g numbers done })
     (cut (within rule) fs) (in_places fs [] (cut (within rule) fs) (sym (cut-joined (within rule) fs))) (cut-numbers rule order 1 fs (key-rise kind es key))
 
-pub are_transmissions : (rule : Rule) → rule.in_order ≡ true → (kind : ℕ → Option Kind) (es : List Entry) (key : Key) → AreTransmissions rule kind es key
-are_transmissions rule order kind es key = All-from_recursion (Whole key (frames kind es)) (cut (within rule) (of_key key (frames kind es))) (all_whole rule order kind es key)
+pub groups_consecutive : (rule : Rule) → rule.in_order ≡ true → (kind : ℕ → Option Kind) (es : List Entry) (key : Key) → GroupsConsecutive rule kind es key
+groups_consecutive rule order kind es key = All-from_recursion (Whole key (frames kind es)) (cut (within rule) (of_key key (frames kind es))) (all_whole rule order kind es key)
 
 -- ---- the message of a group
 
@@ -142,8 +142,8 @@ unfolding complete
 whole-group [] e = absurd (false≢true e)
 whole-group (f ∷ g) e = omega arith
 
--- the last frame of a transmission is the one that is found at its line
-ends-at : (kind : ℕ → Option Kind) (es : List Entry) (key : Key) (g : List Frame) (f : Frame) → IsTransmission key (frames kind es) g
+-- the last of consecutive frames is the one that is found at its line
+ends-at : (kind : ℕ → Option Kind) (es : List Entry) (key : Key) (g : List Frame) (f : Frame) → AreConsecutive key (frames kind es) g
     → IsGroup g → frame_at (last_line g) (frames kind es) ≡ Some f → (before : List Frame) × (g ≡ before ++ f ∷ [])
 ends-at kind es key g f is some found =
     let Stands : Frame → Type 0 = StandsAt (frames kind es) key in
@@ -153,31 +153,31 @@ ends-at kind es key g f is some found =
     (end.before, end.is ∙ ap (λ l. end.before ++ l ∷ []) same)
 
 -- each message that a group gives is of one
-pub comes_of_one : (rule : Rule) → rule.in_order ≡ true → (kind : ℕ → Option Kind) (es : List Entry) (line : ℕ) (m : Keyed) → gathered (within rule) (frames kind es) line ≡ Some m → ComesOfOne kind es line m
+pub comes_of_consecutive : (rule : Rule) → rule.in_order ≡ true → (kind : ℕ → Option Kind) (es : List Entry) (line : ℕ) (m : Keyed) → gathered (within rule) (frames kind es) line ≡ Some m → ComesOfConsecutive kind es line m
 unfolding gathered
-comes_of_one rule order kind es line m e = by_frame (frame_at line (frames kind es)) refl e
+comes_of_consecutive rule order kind es line m e = by_frame (frame_at line (frames kind es)) refl e
   where
-    by_group : (f : Frame) → frame_at line (frames kind es) ≡ Some f → f.line ≡ line → (o : Option (List Frame)) → find (is_done_at f.line) (cut (within rule) (of_key f.key (frames kind es))) ≡ o → option_map (λ group. record { key = f.key; message = message_of f group }) o ≡ Some m → ComesOfOne kind es line m
+    by_group : (f : Frame) → frame_at line (frames kind es) ≡ Some f → f.line ≡ line → (o : Option (List Frame)) → find (is_done_at f.line) (cut (within rule) (of_key f.key (frames kind es))) ≡ o → option_map (λ group. record { key = f.key; message = message_of f group }) o ≡ Some m → ComesOfConsecutive kind es line m
     by_group f stands at None found e = absurd (none-some m e)
     by_group f stands at (Some g) found e =
         let gs = cut (within rule) (of_key f.key (frames kind es)) in
         let is : record { key = f.key; message = message_of f g } ≡ m = same_Some _ m e in
         let done = and_parts (complete g) (last_line g == f.line) (find-passes (is_done_at f.line) gs g found) in
-        let one : IsTransmission f.key (frames kind es) g = find-all (Whole f.key (frames kind es)) (is_done_at f.line) gs g (all_whole rule order kind es f.key) found done.0 in
+        let one : AreConsecutive f.key (frames kind es) g = find-all (Whole f.key (frames kind es)) (is_done_at f.line) gs g (all_whole rule order kind es f.key) found done.0 in
         let there : last_line g ≡ line = eqb-true (last_line g) f.line done.1 ∙ at in
         let ends = ends-at kind es f.key g f one (whole-group g done.0) (ap (λ l. frame_at l (frames kind es)) there ∙ stands) in
         record {
           group = g;
-          transmission = subst (λ (k : Keyed). IsTransmission k.key (frames kind es) g) is one;
+          consecutive = subst (λ (k : Keyed). AreConsecutive k.key (frames kind es) g) is one;
           whole = done.0;
           ends_there = there;
           carries = ap (λ (k : Keyed). k.message.payload) is;
           before_last = ends.0;
           last = f;
           ends_with = ends.1;
-          told_by_last = ap (λ (k : Keyed). k.message) (sym is);
+          is_of_last = ap (λ (k : Keyed). k.message) (sym is);
         }
 
-    by_frame : (o : Option Frame) → frame_at line (frames kind es) ≡ o → option_and_then (gathered_by (within rule) (frames kind es)) o ≡ Some m → ComesOfOne kind es line m
+    by_frame : (o : Option Frame) → frame_at line (frames kind es) ≡ o → option_and_then (gathered_by (within rule) (frames kind es)) o ≡ Some m → ComesOfConsecutive kind es line m
     by_frame None found e = absurd (none-some m e)
     by_frame (Some f) found e = by_group f found (eqb-true f.line line (find-passes (λ (g : Frame). g.line == line) (frames kind es) f found)) (find (is_done_at f.line) (cut (within rule) (of_key f.key (frames kind es)))) refl e

@@ -22,7 +22,7 @@ ghost use Rattle.n2k_join.specs.Saved.{IsId, state_text};
 ghost use Rattle.n2k_join.specs.State.{State, IsState, AreFast, AreWaiting, state, step_after};
 ghost use Rattle.n2k_join.specs.Window.{Rule, IsWindow};
 ghost use Rattle.n2k_join.specs.Arrival.{PiecesJoin, FillsAllFrames, ArriveWhole, ComesNext, LeavesZero, Heals};
-ghost use Rattle.n2k_join.specs.Transmission.{AreTransmissions, ComesOfOne};
+ghost use Rattle.n2k_join.specs.Consecutive.{GroupsConsecutive, ComesOfConsecutive};
 ghost use Rattle.n2k_join.specs.Bounds.{TellsWindow, HoldsFew};
 ghost use Rattle.n2k_join.specs.UnderWay.{EightUnderWay, AreOfOneStream};
 
@@ -124,11 +124,12 @@ pub fn heals_in_order()
 
 /// In order the frames of each message of a group stand in the log in the order of their numbers, 0 to the last, with
 /// no other frame of the key between them.
-pub fn one_transmission()
+pub fn consecutive_frames()
     ensures groups { (rule : Rule) (kind : ℕ → Option Kind) (es : List Entry) (key : Key) → rule.in_order ≡ true
-        → AreTransmissions rule kind es key }
+        → GroupsConsecutive rule kind es key }
     ensures messages { (rule : Rule) (kind : ℕ → Option Kind) (es : List Entry) (line : ℕ) (m : Keyed)
-        → rule.in_order ≡ true → gathered (within rule) (frames kind es) line ≡ Some m → ComesOfOne kind es line m }
+        → rule.in_order ≡ true → gathered (within rule) (frames kind es) line ≡ Some m
+        → ComesOfConsecutive kind es line m }
 {}
 
 /// The rules of a valid state are one: those that a text is asked for, and those that the state of each join keeps.

@@ -1,4 +1,4 @@
--- In order each line that is printed tells a message that is one by itself, or one transmission.
+-- In order each line that is printed tells a message that is one by itself, or one of consecutive frames.
 use Rattle.std.proofs.Common.{◌≡◌, ℕ, Bool, true, List, [], ◌∷◌, ◌++◌, refl, sym, ap, ◌∙◌, subst, Option, Some, None}
 use Rattle.std.specs.Prelude.{◌⊎◌, filter_map, option_map, option_and_then}
 use Rattle.std.specs.List.{AllByRecursion, cons_option}
@@ -15,7 +15,7 @@ use Rattle.n2k_join.specs.Frames.{Frame, frames}
 use Rattle.n2k_join.specs.Groups.{within, complete}
 use Rattle.n2k_join.specs.Messages.{Keyed, alone, entry_at, gathered, message, message_of, numbers}
 use Rattle.n2k_join.specs.Replay.{messages}
-use Rattle.n2k_join.specs.Transmission.{ComesOfOne, IsTransmission}
+use Rattle.n2k_join.specs.Consecutive.{ComesOfConsecutive, AreConsecutive}
 use Rattle.n2k_run.specs.declared.options.Options.{Options}
 use Rattle.n2k_run.specs.Decoded.{out, out_of}
 use Rattle.n2k_run.specs.Entries.{entries}
@@ -27,7 +27,7 @@ use Rattle.n2k_run.proofs.PrintedBack.{out_of-lines}
 -- what the laws below say, under a rule in order
 pub record OrderLaws (t : TableParts) (o : Options) : Type 0 where
   pub one_line : (m : PacketParts) (empty : Bool) → IsOneLine (json t m empty)
-  pub one_transmission : (es : List Entry) (line : ℕ) (m : Keyed) → gathered (within o.window) (frames (kind t) es) line ≡ Some m → ComesOfOne (kind t) es line m
+  pub consecutive : (es : List Entry) (line : ℕ) (m : Keyed) → gathered (within o.window) (frames (kind t) es) line ≡ Some m → ComesOfConsecutive (kind t) es line m
 
 abbrev Comes : TableParts → List Entry → PacketParts → Type 0
 Comes t es m = ComesAlone t es m ⊎ ComesInOrder t es m
@@ -51,14 +51,14 @@ told t o es (l ∷ ls) (m ∷ ms) is each =
     (record { message = m; printed = first; comes = each.0 }, told t o es ls ms rest each.1)
 
 module _ (t : TableParts) (o : Options) (laws : OrderLaws t o) (es : List Entry) where
-  of_group : (k : Keyed) (m : PacketParts) (line : ℕ) → k.message ≡ m → ComesOfOne (kind t) es line k → ComesInOrder t es m
+  of_group : (k : Keyed) (m : PacketParts) (line : ℕ) → k.message ≡ m → ComesOfConsecutive (kind t) es line k → ComesInOrder t es m
   of_group k m line is one = record {
     key = k.key;
     before_last = one.before_last;
     last = one.last;
-    in_order = subst (IsTransmission k.key (frames (kind t) es)) one.ends_with one.transmission;
+    in_order = subst (AreConsecutive k.key (frames (kind t) es)) one.ends_with one.consecutive;
     whole = subst (λ (g : List Frame). complete g ≡ true) one.ends_with one.whole;
-    is = sym is ∙ one.told_by_last ∙ ap (message_of one.last) one.ends_with;
+    is = sym is ∙ one.is_of_last ∙ ap (message_of one.last) one.ends_with;
   }
 
   -- the message of a line
@@ -67,7 +67,7 @@ module _ (t : TableParts) (o : Options) (laws : OrderLaws t o) (es : List Entry)
     where
       by : (g : Option Keyed) → gathered (within o.window) (frames (kind t) es) line ≡ g → (x : Option Entry) → entry_at es line ≡ x
           → option_or (option_map (λ (k : Keyed). k.message) g) (option_and_then (alone (kind t)) x) ≡ Some m → Comes t es m
-      by (Some k) gathers x stands is = inr (of_group k m line (same_Some _ _ is) (laws.one_transmission es line k gathers))
+      by (Some k) gathers x stands is = inr (of_group k m line (same_Some _ _ is) (laws.consecutive es line k gathers))
       by None gathers (Some entry) stands is = inl (record { line = line; entry = entry; stands = stands; is = is })
       by None gathers None stands is = absurd (none-some m is)
 

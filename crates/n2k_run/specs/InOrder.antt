@@ -9,7 +9,7 @@ use Rattle.n2k_table.specs.Table.{TableParts, kind}
 use Rattle.n2k_join.specs.Frames.{Key, Frame, frames}
 use Rattle.n2k_join.specs.Groups.{complete}
 use Rattle.n2k_join.specs.Messages.{alone, entry_at, message_of}
-use Rattle.n2k_join.specs.Transmission.{IsTransmission}
+use Rattle.n2k_join.specs.Consecutive.{AreConsecutive}
 use Rattle.n2k_run.specs.declared.options.Options.{Options}
 use Rattle.n2k_run.specs.Lines.{line_feed, lines}
 use Rattle.n2k_run.specs.Runs.{Devices}
@@ -28,7 +28,7 @@ pub record ComesInOrder (t : TableParts) (es : List Entry) (m : PacketParts) : T
   pub key : Key
   pub before_last : List Frame
   pub last : Frame
-  pub in_order : IsTransmission key (frames (kind t) es) (before_last ++ last ∷ [])
+  pub in_order : AreConsecutive key (frames (kind t) es) (before_last ++ last ∷ [])
   pub whole : complete (before_last ++ last ∷ []) ≡ true
   pub is : m ≡ message_of last (before_last ++ last ∷ [])
 

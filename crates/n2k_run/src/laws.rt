@@ -55,7 +55,7 @@ pub fn printed_in_order()
         → EachTellsOne t o (entries_of o parts) (out_of t o (entries_of o parts)) }
 {
     n2k_table::laws::json_is_one_line();
-    n2k_join::laws::one_transmission();
+    n2k_join::laws::consecutive_frames();
 }
 
 /// What is saved after the front of a log reads back, under the same table: a part begins with the state that the

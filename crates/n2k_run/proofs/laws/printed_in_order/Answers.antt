@@ -9,7 +9,7 @@ pub returns : goal.returns
 returns c =
     let laws : (t : TableParts) (o : Options) → o.window.in_order ≡ true → OrderLaws t o = λ t o order. record {
       one_line = c.json_is_one_line.ensures t;
-      one_transmission = λ es line m given. c.one_transmission.ensures.messages o.window (kind t) es line m order given;
+      consecutive = λ es line m given. c.consecutive_frames.ensures.messages o.window (kind t) es line m order given;
     } in
     record {
       log = λ t o log order. log_in_order t o log (laws t o order);

@@ -1,4 +1,5 @@
--- What a complete group is in order: frames as one transmission leaves them. That they were sent in one, no log shows.
+-- What a complete group is in order: frames by rising number with no other of their key between them. Whether a device sent them
+-- one after the other, no log shows.
 use Rattle.std.specs.Prelude.{◌≡◌, ℕ, ◌+◌, true, List, [], ◌∷◌, ◌++◌, map, Option}
 use Rattle.std.specs.List.{All, range_with_len}
 use Rattle.n2k_wire.specs.declared.entry.Entry.{Entry}
@@ -9,25 +10,25 @@ use Rattle.n2k_join.specs.Messages.{Keyed, message_of}
 use Rattle.n2k_join.specs.Window.{Rule}
 
 -- The frames stand one behind the other among the key's frames of a log, and their numbers are 0 to the last, in that order.
-pub record IsTransmission (key : Key) (fs group : List Frame) : Type 0 where
+pub record AreConsecutive (key : Key) (fs group : List Frame) : Type 0 where
   pub before : List Frame
   pub after : List Frame
   pub together : of_key key fs ≡ before ++ (group ++ after)
   pub in_order : map (λ (f : Frame). f.number) group ≡ range_with_len 0 (last_number (total group) + 1)
 
 -- so is each complete group of a key
-abbrev pub AreTransmissions : Rule → (ℕ → Option Kind) → List Entry → Key → Type 0
-AreTransmissions rule kind es key = All (λ (group : List Frame). complete group ≡ true → IsTransmission key (frames kind es) group) (cut (within rule) (of_key key (frames kind es)))
+abbrev pub GroupsConsecutive : Rule → (ℕ → Option Kind) → List Entry → Key → Type 0
+GroupsConsecutive rule kind es key = All (λ (group : List Frame). complete group ≡ true → AreConsecutive key (frames kind es) group) (cut (within rule) (of_key key (frames kind es)))
 
 -- The message of a line has the data of such a group, and the stamp, the priority and the identifier of its last frame,
 -- which stands at the line.
-pub record ComesOfOne (kind : ℕ → Option Kind) (es : List Entry) (line : ℕ) (m : Keyed) : Type 0 where
+pub record ComesOfConsecutive (kind : ℕ → Option Kind) (es : List Entry) (line : ℕ) (m : Keyed) : Type 0 where
   pub group : List Frame
-  pub transmission : IsTransmission m.key (frames kind es) group
+  pub consecutive : AreConsecutive m.key (frames kind es) group
   pub whole : complete group ≡ true
   pub ends_there : last_line group ≡ line
   pub carries : data_of group ≡ m.message.payload
   pub before_last : List Frame
   pub last : Frame
   pub ends_with : group ≡ before_last ++ last ∷ []
-  pub told_by_last : m.message ≡ message_of last group
+  pub is_of_last : m.message ≡ message_of last group
