@@ -5,7 +5,7 @@ use Rattle.std.proofs.lemmas.Fmt.{length-decimal-le}
 use Rattle.std.proofs.Math.Nat.{mul-suc}
 use Rattle.json.specs.Print.{escape_byte, escape, quoted}
 use Rattle.hex.specs.Hex.{encode_lower, encode_with, lower_digits}
-use Rattle.serde_json.specs.Data.{Data, string, Items, no_items, item, Members, no_members, member}
+use Rattle.serde_json.specs.Data.{Data, string, Items, no_items, item, Members, no_members, member, object}
 use Rattle.serde_json.specs.View.{items_of}
 use Rattle.serde_json.specs.Written.{comma_if, compact_text, items_text, members_text}
 use Rattle.n2k_join.specs.declared.counts.Counts.{Counts}
@@ -22,6 +22,9 @@ use Rattle.n2k_join.proofs.SavedGroups.{small_bytes}
 
 number_short : (k n : ℕ) → 0 < k → n < 10 ^ k → n < 2 ^ 64 → length (compact_text (whole n)) ≤ k
 number_short k n some fits small = length-decimal-le k n some fits small
+
+count_short : (n : ℕ) → n ≤ most_lines → length (compact_text (whole n)) ≤ 15
+count_short n most = number_short 15 n (omega arith) (omega (arith, most)) (omega (arith, most))
 
 -- a hexadecimal digit stands for itself in a text
 unescaped : (ds : List ℕ) (i : ℕ) → AllByRecursion (λ d. length (escape_byte d) ≡ 1) ds → i < length ds → length (escape_byte (slice_index ds i)) ≡ 1
@@ -73,14 +76,23 @@ first_short d ds a b one more =
     let all = length-append (compact_text d) (items_text true ds) in
     omega (arith, all, one, more)
 
-member_short : (later : Bool) (k : List ℕ) (d : Data) (ms : Members) (a b : ℕ) → length (compact_text d) ≤ a → length (members_text true ms) ≤ b
-    → length (members_text later (member k d ms)) ≤ ((2 + length (quoted k)) + a) + b
-member_short later k d ms a b one more =
-    let comma = comma_short later in
-    let all = length-append (comma_if later) (quoted k ++ 58 ∷ (compact_text d ++ members_text true ms)) in
+-- members behind the first of an object, of so many bytes at most with the brace that ends it
+record AreShort (ms : Members) (most : ℕ) : Type 0 where
+  fits : length (members_text true ms) ≤ most
+
+none_short : AreShort no_members 1
+none_short = record { fits = omega arith }
+
+-- a member whose name has so many characters, and its value so many bytes at most
+member_short : (k : List ℕ) (d : Data) {ms : Members} (n a : ℕ) {b : ℕ} → length (quoted k) ≡ n → length (compact_text d) ≤ a → AreShort ms b
+    → AreShort (member k d ms) (((2 + n) + a) + b)
+member_short k d {ms} n a long one more =
     let name = length-append (quoted k) (58 ∷ (compact_text d ++ members_text true ms)) in
     let rest = length-append (compact_text d) (members_text true ms) in
-    omega (arith, comma, all, name, rest, one, more)
+    record { fits = omega (arith, name, rest, long, one, more.fits) }
+
+object_short : (k : List ℕ) (d : Data) {ms : Members} {most : ℕ} → AreShort (member k d ms) most → length (compact_text (object (member k d ms))) ≤ most
+object_short k d are = omega (arith, are.fits)
 
 -- the elements of an array, each of so many bytes at most
 items_short : {A : Type 0} (f : A → Data) (a : ℕ) (later : Bool) (xs : List A) → AllByRecursion (λ x. length (compact_text (f x)) ≤ a) xs → length (items_text later (items_of (map f xs))) ≤ (1 + a) * length xs + 1
@@ -121,26 +133,6 @@ few_pieces least (p ∷ ps) rise small within =
 
 -- ---- open groups
 
--- the parts of a key as numbers of so many digits
-record KeyShort (key : Key) : Type 0 where
-  dst : length (compact_text (whole key.dst)) ≤ 3
-  pgn : length (compact_text (whole key.pgn)) ≤ 8
-  sequence : length (compact_text (whole key.sequence)) ≤ 1
-  src : length (compact_text (whole key.src)) ≤ 3
-
-key_short : (key : Key) → IsKey key → KeyShort key
-key_short key is =
-    let dst : key.dst < 256 = is.dst in
-    let pgn : key.pgn ≤ greatest_pgn = is.pgn in
-    let sequence : key.sequence < 8 = is.sequence in
-    let src : key.src < 256 = is.src in
-    record {
-      dst = number_short 3 key.dst (omega arith) (omega (arith, dst)) (omega (arith, dst));
-      pgn = number_short 8 key.pgn (omega arith) (omega (arith, pgn)) (omega (arith, pgn));
-      sequence = number_short 1 key.sequence (omega arith) (omega (arith, sequence)) (omega (arith, sequence));
-      src = number_short 3 key.src (omega arith) (omega (arith, src)) (omega (arith, src));
-    }
-
 frames_short : (g : Group) → HasParts g → IsOpen g → length (compact_text (list (map piece_tree g.pieces))) ≤ 706
 frames_short g parts is =
     let few = few_pieces 0 g.pieces is.rise is.numbers (omega arith) in
@@ -150,21 +142,17 @@ frames_short g parts is =
 group_short : (g : Group) → HasParts g → IsOpen g → g.first ≤ most_lines → length (compact_text (group_tree g)) ≤ 785
 unfolding group_tree escape_byte
 group_short g parts is begun =
-    let key = key_short g.key parts.key in
-    let line = number_short 15 g.first (omega arith) (omega (arith, begun)) (omega (arith, begun)) in
-    let frames = frames_short g parts is in
-    let m-src = member (codes "src") (whole g.key.src) no_members in
-    let m-seq = member (codes "seq") (whole g.key.sequence) m-src in
-    let m-pgn = member (codes "pgn") (whole g.key.pgn) m-seq in
-    let m-frames = member (codes "frames") (list (map piece_tree g.pieces)) m-pgn in
-    let m-first = member (codes "first") (whole g.first) m-frames in
-    let l-src : length (members_text true m-src) ≤ 11 = member_short true (codes "src") (whole g.key.src) no_members 3 1 key.src (omega arith) in
-    let l-seq : length (members_text true m-seq) ≤ 19 = member_short true (codes "seq") (whole g.key.sequence) m-src 1 11 key.sequence l-src in
-    let l-pgn : length (members_text true m-pgn) ≤ 34 = member_short true (codes "pgn") (whole g.key.pgn) m-seq 8 19 key.pgn l-seq in
-    let l-frames : length (members_text true m-frames) ≤ 750 = member_short true (codes "frames") (list (map piece_tree g.pieces)) m-pgn 706 34 frames l-pgn in
-    let l-first : length (members_text true m-first) ≤ 774 = member_short true (codes "first") (whole g.first) m-frames 15 750 line l-frames in
-    let all : length (members_text false (member (codes "dst") (whole g.key.dst) m-first)) ≤ 784 = member_short false (codes "dst") (whole g.key.dst) m-first 3 774 key.dst l-first in
-    omega (arith, all)
+    let src = number_short 3 g.key.src (omega arith) (omega (arith, parts.key.src)) (omega (arith, parts.key.src)) in
+    let seq = number_short 1 g.key.sequence (omega arith) (omega (arith, parts.key.sequence)) (omega (arith, parts.key.sequence)) in
+    let pgn = number_short 8 g.key.pgn (omega arith) (omega (arith, parts.key.pgn)) (omega (arith, parts.key.pgn)) in
+    let dst = number_short 3 g.key.dst (omega arith) (omega (arith, parts.key.dst)) (omega (arith, parts.key.dst)) in
+    let m-src = member_short (codes "src") (whole g.key.src) 5 3 refl src none_short in
+    let m-seq = member_short (codes "seq") (whole g.key.sequence) 5 1 refl seq m-src in
+    let m-pgn = member_short (codes "pgn") (whole g.key.pgn) 5 8 refl pgn m-seq in
+    let m-frames = member_short (codes "frames") (list (map piece_tree g.pieces)) 8 706 refl (frames_short g parts is) m-pgn in
+    let m-first = member_short (codes "first") (whole g.first) 7 15 refl (count_short g.first begun) m-frames in
+    let m-dst = member_short (codes "dst") (whole g.key.dst) 5 3 refl dst m-first in
+    omega (arith, object_short (codes "dst") (whole g.key.dst) m-dst)
 
 groups_each : (lines : ℕ) (gs : List Group) → lines ≤ most_lines → AllByRecursion HasParts gs → AllByRecursion IsOpen gs → AllByRecursion (λ (g : Group). g.first ≤ lines) gs
     → AllByRecursion (λ g. length (compact_text (group_tree g)) ≤ 785) gs
@@ -175,38 +163,16 @@ groups_each lines (g ∷ gs) most parts are begun =
 
 -- ---- the state
 
--- the counts as numbers of so many digits
-record CountsShort (c : Counts) : Type 0 where
-  bad : length (compact_text (whole c.bad)) ≤ 15
-  broken : length (compact_text (whole c.broken)) ≤ 15
-  lines : length (compact_text (whole c.lines)) ≤ 15
-  messages : length (compact_text (whole c.messages)) ≤ 15
-  unknown : length (compact_text (whole c.unknown)) ≤ 15
-
-count_short : (n : ℕ) → n ≤ most_lines → length (compact_text (whole n)) ≤ 15
-count_short n most = number_short 15 n (omega arith) (omega (arith, most)) (omega (arith, most))
-
-counts_short : (c : Counts) → AreCounts c → CountsShort c
-counts_short c are =
-    let lines : c.lines ≤ most_lines = are.lines in
-    let given : c.messages + c.bad + c.unknown ≤ c.lines = are.given in
-    let broken : c.broken + c.held ≤ c.lines = are.broken in
-    record {
-      bad = count_short c.bad (omega (arith, given, lines));
-      broken = count_short c.broken (omega (arith, broken, lines));
-      lines = count_short c.lines lines;
-      messages = count_short c.messages (omega (arith, given, lines));
-      unknown = count_short c.unknown (omega (arith, given, lines));
-    }
-
 format_short : (tells : Bool) → length (compact_text (whole (format_by tells))) ≤ 1
 format_short true = number_short 1 2 (omega arith) (omega arith) (omega arith)
 format_short false = number_short 1 1 (omega arith) (omega arith) (omega arith)
 
-window_short : (tells : Bool) (window : ℕ) → IsWindow window → length (members_text true (window_member tells window)) ≤ 18
+window_short : (tells : Bool) (window : ℕ) → IsWindow window → AreShort (window_member tells window) 18
 unfolding escape_byte
-window_short true window is = member_short true (codes "window") (whole window) no_members 7 1 (number_short 7 window (omega arith) (omega (arith, is.most)) (omega (arith, is.most))) (omega arith)
-window_short false window is = omega arith
+window_short true window is =
+    let digits = number_short 7 window (omega arith) (omega (arith, is.most)) (omega (arith, is.most)) in
+    member_short (codes "window") (whole window) 8 7 refl digits none_short
+window_short false window is = record { fits = omega arith }
 
 -- the text of a state that a join can have, of a table's id
 pub state-short : (s : State) → IsState s → IsId s.id → length (state_text s) ≤ bare_bytes + group_bytes * length s.groups
@@ -214,27 +180,24 @@ unfolding state_text tree_by escape_byte
 state-short s is known =
     let n = length s.groups in
     let most : s.counts.lines ≤ most_lines = is.counted.lines in
-    let short = counts_short s.counts is.counted in
+    let given : s.counts.messages + s.counts.bad + s.counts.unknown ≤ s.counts.lines = is.counted.given in
+    let broken : s.counts.broken + s.counts.held ≤ s.counts.lines = is.counted.broken in
     let id = digits_short 32 s.id known.long (small_bytes s.id known.are_bytes) in
-    let groups : length (compact_text (list (map group_tree s.groups))) ≤ 786 * n + 2 = list_short group_tree 785 s.groups (groups_each s.counts.lines s.groups most is.parts is.groups.each is.groups.begun) in
-    let m-window = window_member (are_waiting s) s.rule.window in
-    let m-unknown = member (codes "unknown") (whole s.counts.unknown) m-window in
-    let m-table = member (codes "table") (string (encode_lower s.id)) m-unknown in
-    let m-messages = member (codes "messages") (whole s.counts.messages) m-table in
-    let m-lines = member (codes "lines") (whole s.counts.lines) m-messages in
-    let m-groups = member (codes "groups") (list (map group_tree s.groups)) m-lines in
-    let m-format = member (codes "format") (whole (format_by (are_waiting s))) m-groups in
-    let m-broken = member (codes "broken") (whole s.counts.broken) m-format in
-    let l-window : length (members_text true m-window) ≤ 18 = window_short (are_waiting s) s.rule.window is.window in
-    let l-unknown : length (members_text true m-unknown) ≤ 44 = member_short true (codes "unknown") (whole s.counts.unknown) m-window 15 18 short.unknown l-window in
-    let l-table : length (members_text true m-table) ≤ 119 = member_short true (codes "table") (string (encode_lower s.id)) m-unknown 66 44 id l-unknown in
-    let l-messages : length (members_text true m-messages) ≤ 146 = member_short true (codes "messages") (whole s.counts.messages) m-table 15 119 short.messages l-table in
-    let l-lines : length (members_text true m-lines) ≤ 170 = member_short true (codes "lines") (whole s.counts.lines) m-messages 15 146 short.lines l-messages in
-    let l-groups : length (members_text true m-groups) ≤ (10 + (786 * n + 2)) + 170 = member_short true (codes "groups") (list (map group_tree s.groups)) m-lines (786 * n + 2) 170 groups l-lines in
-    let l-format : length (members_text true m-format) ≤ 11 + ((10 + (786 * n + 2)) + 170) = member_short true (codes "format") (whole (format_by (are_waiting s))) m-groups 1 ((10 + (786 * n + 2)) + 170) (format_short (are_waiting s)) l-groups in
-    let l-broken : length (members_text true m-broken) ≤ 25 + (11 + ((10 + (786 * n + 2)) + 170)) = member_short true (codes "broken") (whole s.counts.broken) m-format 15 (11 + ((10 + (786 * n + 2)) + 170)) short.broken l-format in
-    let all : length (members_text false (member (codes "bad") (whole s.counts.bad) m-broken)) ≤ 22 + (25 + (11 + ((10 + (786 * n + 2)) + 170))) = member_short false (codes "bad") (whole s.counts.bad) m-broken 15 (25 + (11 + ((10 + (786 * n + 2)) + 170))) short.bad l-broken in
-    omega (arith, all)
+    let each = groups_each s.counts.lines s.groups most is.parts is.groups.each is.groups.begun in
+    let groups : length (compact_text (list (map group_tree s.groups))) ≤ 786 * n + 2 = list_short group_tree 785 s.groups each in
+    let count : (k : ℕ) → k ≤ s.counts.lines → length (compact_text (whole k)) ≤ 15 = λ k l. count_short k (omega (arith, l, most)) in
+    let unknown = count s.counts.unknown (omega (arith, given)) in
+    let m-unknown = member_short (codes "unknown") (whole s.counts.unknown) 9 15 refl unknown (window_short (are_waiting s) s.rule.window is.window) in
+    let m-table = member_short (codes "table") (string (encode_lower s.id)) 7 66 refl id m-unknown in
+    let messages = count s.counts.messages (omega (arith, given)) in
+    let m-messages = member_short (codes "messages") (whole s.counts.messages) 10 15 refl messages m-table in
+    let m-lines = member_short (codes "lines") (whole s.counts.lines) 7 15 refl (count s.counts.lines (omega arith)) m-messages in
+    let m-groups = member_short (codes "groups") (list (map group_tree s.groups)) 8 (786 * n + 2) refl groups m-lines in
+    let format = format_by (are_waiting s) in
+    let m-format = member_short (codes "format") (whole format) 8 1 refl (format_short (are_waiting s)) m-groups in
+    let m-broken = member_short (codes "broken") (whole s.counts.broken) 8 15 refl (count s.counts.broken (omega (arith, broken))) m-format in
+    let m-bad = member_short (codes "bad") (whole s.counts.bad) 5 15 refl (count s.counts.bad (omega (arith, given))) m-broken in
+    omega (arith, object_short (codes "bad") (whole s.counts.bad) m-bad)
 
 -- the same of a text whose groups were lent, as the state's owner sees it
 pub saved-short : (s view : State) (lent : List Group) (text : List ℕ) → IsState s → IsId s.id → lent ≡ s.groups → s ≡ view

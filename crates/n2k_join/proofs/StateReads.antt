@@ -2,18 +2,18 @@
 use Rattle.std.proofs.Common.{◌≡◌, ◌≤◌, ◌<◌, ◌+◌, ◌^◌, ◌==◌, ℕ, zero, suc, Bool, true, false, if◌then◌else◌, List, [], ◌∷◌, length, map, Option, Some, option_map, Result, Ok, Err, codes, refl, sym, ap, ◌∙◌, arith, IsUtf8}
 use Rattle.std.specs.List.{AllByRecursion}
 use Rattle.std.proofs.lemmas.Bool.{eq-eqb, ne_eqb}
-use Rattle.hex.specs.Hex.{IsBytes}
+use Rattle.hex.specs.Hex.{IsBytes, encode_lower}
 use Rattle.hex.proofs.HexLemmas.{decode_sized-encode_lower}
 use Rattle.json.specs.Tree.{depth, items_depth}
 use Rattle.json.proofs.Printed.Utf8.{are_ascii, IsUtf8-are_ascii}
-use Rattle.serde_json.specs.Data.{Data, array}
+use Rattle.serde_json.specs.Data.{Data, array, Members, member, no_members, string}
 use Rattle.serde_json.specs.Read.{of_json, of_items}
 use Rattle.serde_json.specs.View.{items_of}
 use Rattle.serde_json.specs.Written.{outline, items_outline}
 use Rattle.serde_json.proofs.Numbers.{number_of-decimal}
 use Rattle.n2k_join.specs.Open.{Piece, Group}
 use Rattle.n2k_join.specs.Resumed.{each, elements, format_in, piece_of, group_of, key_of, pieces_at, groups_at, counts_of, id_at, is_valid, state_of, state_of_parts, judged, parsed, valid_if, waits_hold}
-use Rattle.n2k_join.specs.Saved.{IsId, are_waiting, saved_format, old_format, list, piece_tree, group_tree, state_text, format_by, window_member, tree_by}
+use Rattle.n2k_join.specs.Saved.{IsId, are_waiting, saved_format, old_format, list, piece_tree, group_tree, state_text, format_by, window_member, tree_by, whole}
 use Rattle.n2k_join.specs.State.{State, IsState, AreCounts, AreFast, AreWaiting, IsKey, IsPiece, IsOpen, HasParts}
 use Rattle.n2k_join.specs.Window.{Rule, IsWindow}
 use Rattle.n2k_join.specs.declared.counts.Counts.{Counts}
@@ -89,9 +89,15 @@ pub each-reads : {X : Type 0} (f : X → Data) (g : Data → Result X StateFault
 each-reads f g [] all = refl
 each-reads f g (x ∷ xs) all = rw (all.0, each-reads f g xs all.1) refl
 
--- the name of a member is text
-name : (s : List ℕ) → are_ascii s ≡ true → IsUtf8 s
-name s ascii = IsUtf8-are_ascii s ascii
+-- members behind the first of an object, under names that are text
+record ArePlainTexts (ms : Members) : Type 0 where
+  each : ArePlainMembers ms
+
+plain_none : ArePlainTexts no_members
+plain_none = record { each = tt }
+
+plain_member : (k : List ℕ) (d : Data) {ms : Members} → are_ascii k ≡ true → IsPlain d → ArePlainTexts ms → ArePlainTexts (member k d ms)
+plain_member k d ascii plain rest = record { each = (IsUtf8-are_ascii k ascii, plain, rest.each) }
 
 -- a group that a state can hold
 pub record IsKept (g : Group) : Type 0 where
@@ -103,20 +109,13 @@ pub group-tree : (g : Group) → IsKept g → IsTree 3 (group_tree g)
 unfolding group_tree
 group-tree g is =
     let frames = lists 1 piece_tree g.pieces (all-map IsHeld (λ p. IsTree 1 (piece_tree p)) g.pieces piece-tree is.pieces) in
+    let src = plain_member (codes "src") (whole g.key.src) refl (omega (arith, is.key.src)) plain_none in
+    let seq = plain_member (codes "seq") (whole g.key.sequence) refl (omega (arith, is.key.sequence)) src in
+    let pgn = plain_member (codes "pgn") (whole g.key.pgn) refl (omega (arith, is.key.pgn)) seq in
+    let pieces = plain_member (codes "frames") (list (map piece_tree g.pieces)) refl frames.plain pgn in
+    let first = plain_member (codes "first") (whole g.first) refl (omega (arith, is.first)) pieces in
     record {
-      plain = (
-        name (codes "dst") refl,
-        omega (arith, is.key.dst),
-        (
-          name (codes "first") refl,
-          omega (arith, is.first),
-          (
-            name (codes "frames") refl,
-            frames.plain,
-            (name (codes "pgn") refl, omega (arith, is.key.pgn), (name (codes "seq") refl, omega (arith, is.key.sequence), (name (codes "src") refl, omega (arith, is.key.src), tt))),
-          ),
-        ),
-      );
+      plain = (plain_member (codes "dst") (whole g.key.dst) refl (omega (arith, is.key.dst)) first).each;
       shallow = let more = frames.shallow in omega arith;
       back = rw (number_of-decimal g.key.dst (omega (arith, is.key.dst)), number_of-decimal g.first (omega (arith, is.first)), frames.back, number_of-decimal g.key.pgn (omega (arith, is.key.pgn)), number_of-decimal g.key.sequence (omega (arith, is.key.sequence)), number_of-decimal g.key.src (omega (arith, is.key.src))) refl;
     }
@@ -167,42 +166,23 @@ format-small : (tells : Bool) → format_by tells < 2 ^ 64
 format-small true = omega arith
 format-small false = omega arith
 
-last-plain : (tells : Bool) (s : State) → IsWindow s.rule.window → ArePlainMembers (window_member tells s.rule.window)
-last-plain true s is = (name (codes "window") refl, omega (arith, is.most), tt)
-last-plain false s is = tt
+last-plain : (tells : Bool) (s : State) → IsWindow s.rule.window → ArePlainTexts (window_member tells s.rule.window)
+last-plain true s is = plain_member (codes "window") (whole s.rule.window) refl (omega (arith, is.most)) plain_none
+last-plain false s is = plain_none
 
 tree-plain : (tells : Bool) (s : State) → IsState s → IsPlain (tree_by tells s)
 unfolding tree_by
 tree-plain tells s is =
-    let small = counts-small s.counts is.counted in (
-      name (codes "bad") refl,
-      small.bad,
-      (
-        name (codes "broken") refl,
-        small.broken,
-        (
-          name (codes "format") refl,
-          format-small tells,
-          (
-            name (codes "groups") refl,
-            (groups-tree s is).plain,
-            (
-              name (codes "lines") refl,
-              small.lines,
-              (
-                name (codes "messages") refl,
-                small.messages,
-                (
-                  name (codes "table") refl,
-                  IsUtf8-encode_lower s.id,
-                  (name (codes "unknown") refl, small.unknown, last-plain tells s is.window),
-                ),
-              ),
-            ),
-          ),
-        ),
-      ),
-    )
+    let small = counts-small s.counts is.counted in
+    let last = last-plain tells s is.window in
+    let unknown = plain_member (codes "unknown") (whole s.counts.unknown) refl small.unknown last in
+    let table = plain_member (codes "table") (string (encode_lower s.id)) refl (IsUtf8-encode_lower s.id) unknown in
+    let messages = plain_member (codes "messages") (whole s.counts.messages) refl small.messages table in
+    let lines = plain_member (codes "lines") (whole s.counts.lines) refl small.lines messages in
+    let groups = plain_member (codes "groups") (list (map group_tree s.groups)) refl (groups-tree s is).plain lines in
+    let format = plain_member (codes "format") (whole (format_by tells)) refl (format-small tells) groups in
+    let broken = plain_member (codes "broken") (whole s.counts.broken) refl small.broken format in
+    (plain_member (codes "bad") (whole s.counts.bad) refl small.bad broken).each
 
 tree-shallow : (tells : Bool) (s : State) → IsState s → depth (outline (tree_by tells s)) ≤ 5
 unfolding tree_by
@@ -242,19 +222,19 @@ state-tree tells s is = record { plain = tree-plain tells s is; shallow = tree-s
 abbrev read_under : Bool → Rule → State → State
 read_under tells rule s = record { id = s.id; rule = record { window = if tells then s.rule.window else rule.window; in_order = rule.in_order }; counts = s.counts; groups = s.groups }
 
+-- the groups of its text
+groups-back : (s : State) → IsState s → each group_of (elements (items_of (map group_tree s.groups))) ≡ Ok s.groups
+groups-back s is =
+    each-reads group_tree group_of s.groups
+    (all-map IsKept (λ (g : Group). group_of (group_tree g) ≡ Ok g) s.groups group-reads (kept_groups s is))
+
 pub state-reads : (tells : Bool) (rule : Rule) (s : State) → IsState s → IsId s.id → state_of (place_by tells) rule (tree_by tells s) ≡ Ok (read_under tells rule s)
 unfolding state_of counts_of id_at groups_at tree_by
 state-reads true rule s is id =
-    rw (
-      decode_sized-encode_lower s.id 32 id.long id.are_bytes,
-      each-reads group_tree group_of s.groups (all-map IsKept (λ (g : Group). group_of (group_tree g) ≡ Ok g) s.groups group-reads (kept_groups s is)),
-    )
+    rw (decode_sized-encode_lower s.id 32 id.long id.are_bytes, groups-back s is)
     (ap (λ n. Ok (record { id = s.id; rule = record { window = s.rule.window; in_order = rule.in_order }; counts = record s.counts { held = n }; groups = s.groups })) (sym is.held))
 state-reads false rule s is id =
-    rw (
-      decode_sized-encode_lower s.id 32 id.long id.are_bytes,
-      each-reads group_tree group_of s.groups (all-map IsKept (λ (g : Group). group_of (group_tree g) ≡ Ok g) s.groups group-reads (kept_groups s is)),
-    )
+    rw (decode_sized-encode_lower s.id 32 id.long id.are_bytes, groups-back s is)
     (ap (λ n. Ok (record { id = s.id; rule = rule; counts = record s.counts { held = n }; groups = s.groups })) (sym is.held))
 
 bytes_eq-same : (bs : List ℕ) → bytes_eq bs bs ≡ true
