@@ -8,14 +8,12 @@ use Rattle.hex.specs.Hex.{encode_lower, encode_with, lower_digits}
 use Rattle.serde_json.specs.Data.{Data, string, Items, no_items, item, Members, no_members, member, object}
 use Rattle.serde_json.specs.View.{items_of}
 use Rattle.serde_json.specs.Written.{comma_if, compact_text, items_text, members_text}
-use Rattle.n2k_join.specs.declared.counts.Counts.{Counts}
 use Rattle.n2k_join.specs.Counts.{most_lines}
-use Rattle.n2k_wire.specs.Packet.{greatest_pgn}
-use Rattle.n2k_join.specs.Frames.{Key, most_frames}
+use Rattle.n2k_join.specs.Frames.{most_frames}
 use Rattle.n2k_join.specs.Open.{Piece, Group}
 use Rattle.n2k_join.specs.Saved.{whole, list, piece_tree, group_tree, state_text, tree_by, format_by, window_member, are_waiting, bare_bytes, group_bytes, IsId}
 use Rattle.n2k_join.specs.Window.{IsWindow}
-use Rattle.n2k_join.specs.State.{State, IsState, AreCounts, IsKey, IsPiece, HasParts, IsOpen, Rise}
+use Rattle.n2k_join.specs.State.{State, IsState, IsPiece, HasParts, IsOpen, Rise}
 use Rattle.n2k_join.proofs.SavedGroups.{small_bytes}
 
 -- ---- numbers and digits

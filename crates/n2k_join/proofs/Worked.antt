@@ -1,5 +1,5 @@
 -- The definitions computed on worked examples, each entry being that of its line.
-use Rattle.std.proofs.Common.{◌≡◌, ◌==◌, ◌++◌, ◌∙◌, ◌<◌, ◌*◌, if◌then◌else◌, ℕ, zero, suc, Bool, true, false, List, [], ◌∷◌, Option, Some, None, map, refl, sym, ap, arith}
+use Rattle.std.proofs.Common.{◌≡◌, ◌==◌, ◌++◌, ◌∙◌, ◌<◌, ◌*◌, if◌then◌else◌, ℕ, zero, suc, Bool, true, false, List, [], ◌∷◌, Option, Some, None, map, refl, sym, ap, arith, ◌+◌}
 use Rattle.std.specs.List.{range_with_len}
 use Rattle.std.proofs.lemmas.List.Elements.{All-from_recursion}
 use Rattle.std.proofs.lemmas.Bool.{false≢true}
@@ -12,14 +12,17 @@ use Rattle.n2k_table.specs.declared.definition.Kind.TheVariants.{Single, Fast}
 use Rattle.n2k_join.specs.declared.counts.Counts.{Counts}
 use Rattle.n2k_join.specs.Frames.{Key, Frame, same_key, fast_frame, frame_with}
 use Rattle.n2k_join.specs.Groups.{complete, cut, data_of}
-use Rattle.n2k_join.specs.Open.{Group, pieces_of, begun_at, open_groups, waiting, ended}
-use Rattle.n2k_join.specs.Messages.{gathered, broken_with, message, broken, counts}
+use Rattle.n2k_join.specs.Open.{pieces_of, begun_at, open_groups, waiting, ended, Piece}
+use Rattle.n2k_join.specs.Messages.{gathered, broken_with, message, broken, counts, numbers}
 use Rattle.n2k_join.specs.Pieces.{piece_bytes, same_stream, Sending}
-use Rattle.n2k_join.specs.Scattered.{IsPieceOf, IsStretchOf, IsStretchWithin, FallInto, IsScattered}
+use Rattle.n2k_join.specs.Scattered.{IsPieceOf, IsStretchWithin, FallInto, IsScattered}
 use Rattle.n2k_join.specs.Arrival.{ComesNext, LeavesZero}
 use Rattle.n2k_join.specs.State.{State, state, step_given, step_after}
 use Rattle.n2k_join.specs.Window.{Rule}
 use Rattle.n2k_join.proofs.Keys.{same_key-true}
+use Rattle.std.specs.Prelude.{flat_map}
+use Rattle.n2k_join.specs.declared.broken.Broken.{Broken}
+use Rattle.n2k_join.specs.Replay.{messages}
 
 -- 130820 is sent in fast packets, 129026 in single frames, and nothing is known of other PGNs
 kind : ℕ → Option Kind
@@ -53,32 +56,42 @@ start header total which = header ∷ total ∷ 0xA3 ∷ 0x99 ∷ which ∷ 0x41
 abbrev lines_only : ℕ → ℕ → ℕ → ℕ → ℕ → ℕ → Counts
 lines_only l m b u r h = record { lines = l; messages = m; bad = b; unknown = u; broken = r; held = h }
 
-abbrev groups_after : List Entry → List Group
-groups_after es = (state [] rule kind es).groups
+-- what a log gives: its messages, the groups that are broken at its lines, and its counts
+abbrev Gives : Rule → List Entry → List PacketParts → List Broken → Counts → Type 0
+Gives by es given lost counted =
+    (messages by kind es ≡ given) × (flat_map (broken by kind es) (numbers es) ≡ lost) × (counts by kind es ≡ counted)
+
+-- the message that begins as `start` says, and a broken group of these frames
+abbrev whole : ℕ → ℕ → ℕ → List ℕ → PacketParts
+whole src stamp which end = packet 130820 src stamp ((0xA3 ∷ 0x99 ∷ which ∷ 0x41 ∷ 0x42 ∷ 0x43 ∷ []) ++ end)
+
+abbrev group : ℕ → ℕ → ℕ → Broken
+group src sequence first = record { pgn = 130820; src = src; dst = 255; seq = sequence; first = first }
+
+abbrev zeros : List ℕ
+zeros = 0 ∷ 0 ∷ 0 ∷ 0 ∷ 0 ∷ []
+
+abbrev blanks : List ℕ
+blanks = 32 ∷ 32 ∷ 32 ∷ 32 ∷ 32 ∷ []
+
+abbrev filled_end : List ℕ → List ℕ
+filled_end five = five ++ (255 ∷ 255 ∷ [])
 
 -- Two sources in turns: the second completes first, and each message has the stamp of its completing line.
 abbrev two_sources : List Entry
 two_sources =
     frame 5 1 (start 0x00 11 1)
     ∷ frame 6 2 (start 0x20 11 2)
-    ∷ frame 6 3 (0x21 ∷ 32 ∷ 32 ∷ 32 ∷ 32 ∷ 32 ∷ 255 ∷ 255 ∷ [])
-    ∷ frame 5 4 (0x01 ∷ 0 ∷ 0 ∷ 0 ∷ 0 ∷ 0 ∷ 255 ∷ 255 ∷ [])
+    ∷ frame 6 3 (0x21 ∷ filled_end blanks)
+    ∷ frame 5 4 (0x01 ∷ filled_end zeros)
     ∷ []
 
-two_sources-third : message rule kind two_sources 3 ≡ Some (packet 130820 6 3 (0xA3 ∷ 0x99 ∷ 2 ∷ 0x41 ∷ 0x42 ∷ 0x43 ∷ 32 ∷ 32 ∷ 32 ∷ 32 ∷ 32 ∷ []))
-unfolding kind fast_frame same_key complete cut data_of gathered
-two_sources-third = refl
-
-two_sources-fourth : message rule kind two_sources 4 ≡ Some (packet 130820 5 4 (0xA3 ∷ 0x99 ∷ 1 ∷ 0x41 ∷ 0x42 ∷ 0x43 ∷ 0 ∷ 0 ∷ 0 ∷ 0 ∷ 0 ∷ []))
-unfolding kind fast_frame same_key complete cut data_of gathered
-two_sources-fourth = refl
-
-two_sources-counts : counts rule kind two_sources ≡ lines_only 4 2 0 0 0 0
+two_sources-given : Gives rule two_sources (whole 6 3 2 blanks ∷ whole 5 4 1 zeros ∷ []) [] (lines_only 4 2 0 0 0 0)
 unfolding kind fast_frame same_key complete cut data_of gathered broken_with pieces_of begun_at open_groups waiting
-two_sources-counts = refl
+two_sources-given = (refl, refl, refl)
 
 -- frames 1 and 0 of a total of 13
-reversed : message rule kind (frame 5 1 (0x41 ∷ spaces) ∷ frame 5 2 (start 0x40 13 3) ∷ []) 2 ≡ Some (packet 130820 5 2 (0xA3 ∷ 0x99 ∷ 3 ∷ 0x41 ∷ 0x42 ∷ 0x43 ∷ spaces))
+reversed : message rule kind (frame 5 1 (0x41 ∷ spaces) ∷ frame 5 2 (start 0x40 13 3) ∷ []) 2 ≡ Some (whole 5 2 3 spaces)
 unfolding kind fast_frame same_key complete cut data_of gathered
 reversed = refl
 
@@ -92,20 +105,24 @@ repeated =
     ∷ frame 5 5 (0x62 ∷ spaces)
     ∷ []
 
-repeated-broken : broken rule kind repeated 3 ≡ record { pgn = 130820; src = 5; dst = 255; seq = 3; first = 1 } ∷ []
-unfolding kind fast_frame same_key complete cut broken_with
-repeated-broken = refl
-
-repeated-message : message rule kind repeated 5 ≡ Some (packet 130820 5 5 ((0xA3 ∷ 0x99 ∷ 4 ∷ 0x41 ∷ 0x42 ∷ 0x43 ∷ []) ++ (spaces ++ spaces)))
-unfolding kind fast_frame same_key complete cut data_of gathered
-repeated-message = refl
-
-repeated-counts : counts rule kind repeated ≡ lines_only 5 1 0 0 1 0
+repeated-given : Gives rule repeated (whole 5 5 4 (spaces ++ spaces) ∷ []) (group 5 3 1 ∷ []) (lines_only 5 1 0 0 1 0)
 unfolding kind fast_frame same_key complete cut data_of gathered broken_with pieces_of begun_at open_groups waiting
-repeated-counts = refl
+repeated-given = (refl, refl, refl)
 
--- Totals of 0, 6, 7, 13 and 14 need 1, 1, 2, 2 and 3 frames. A frame 0 that comes again breaks a group and may be complete alone.
-short_totals : counts rule kind (frame 1 1 (start 0 0 1) ∷ frame 2 1 (start 0 6 1) ∷ frame 3 1 (start 0 7 1) ∷ frame 3 1 (1 ∷ []) ∷ frame 4 1 (start 0 13 1) ∷ frame 4 1 (1 ∷ []) ∷ frame 5 1 (start 0 14 1) ∷ frame 5 1 (1 ∷ []) ∷ []) ≡ lines_only 8 4 0 0 0 1
+-- Totals of 0, 6, 7, 13 and 14 need 1, 1, 2, 2 and 3 frames.
+abbrev totals : List Entry
+totals =
+    frame 1 1 (start 0 0 1)
+    ∷ frame 2 1 (start 0 6 1)
+    ∷ frame 3 1 (start 0 7 1)
+    ∷ frame 3 1 (1 ∷ [])
+    ∷ frame 4 1 (start 0 13 1)
+    ∷ frame 4 1 (1 ∷ [])
+    ∷ frame 5 1 (start 0 14 1)
+    ∷ frame 5 1 (1 ∷ [])
+    ∷ []
+
+short_totals : counts rule kind totals ≡ lines_only 8 4 0 0 0 1
 unfolding kind fast_frame same_key complete cut data_of gathered broken_with pieces_of begun_at open_groups waiting
 short_totals = refl
 
@@ -113,21 +130,18 @@ empty_total : message rule kind (frame 5 1 (0 ∷ 0 ∷ []) ∷ []) 1 ≡ Some (
 unfolding kind fast_frame same_key complete cut data_of gathered
 empty_total = refl
 
-again : counts rule kind (frame 5 1 (start 0 11 1) ∷ frame 5 2 (start 0 6 1) ∷ []) ≡ lines_only 2 1 0 0 1 0
+-- A frame 0 that comes again breaks a group and may be complete alone.
+again : Gives rule (frame 5 1 (start 0 11 1) ∷ frame 5 2 (start 0 6 1) ∷ []) (whole 5 2 1 [] ∷ []) (group 5 0 1 ∷ []) (lines_only 2 1 0 0 1 0)
 unfolding kind fast_frame same_key complete cut data_of gathered broken_with pieces_of begun_at open_groups waiting
-again = refl
+again = (refl, refl, refl)
 
 -- The longest message takes every number that a frame can have: 223 bytes in 32 frames, of which the first has six.
 abbrev longest : List Entry
 longest = frame 5 1 (0 ∷ 223 ∷ range_with_len 1 6) ∷ map (λ n. frame 5 n (n ∷ range_with_len (7 * n) 7)) (range_with_len 1 31)
 
-longest-message : message rule kind longest 32 ≡ Some (packet 130820 5 31 (range_with_len 1 223))
-unfolding kind fast_frame same_key complete cut data_of gathered
-longest-message = refl
-
-longest-counts : counts rule kind longest ≡ lines_only 32 1 0 0 0 0
+longest-given : Gives rule longest (packet 130820 5 31 (range_with_len 1 223) ∷ []) [] (lines_only 32 1 0 0 0 0)
 unfolding kind fast_frame same_key complete cut data_of gathered broken_with pieces_of begun_at open_groups waiting
-longest-counts = refl
+longest-given = (refl, refl, refl)
 
 -- Frame 3 of a total of 13 keeps a group open though 0 and 1 are there.
 abbrev extra_frame : List Entry
@@ -137,21 +151,25 @@ extra_frame-counts : counts rule kind extra_frame ≡ lines_only 4 0 0 0 1 1
 unfolding kind fast_frame same_key complete cut data_of gathered broken_with pieces_of begun_at open_groups waiting
 extra_frame-counts = refl
 
-extra_frame-open : groups_after extra_frame ≡ record { first = 4; key = record { src = 5; dst = 255; pgn = 130820; sequence = 4 }; pieces = record { number = 0; bytes = 13 ∷ 0xA3 ∷ 0x99 ∷ 6 ∷ 0x41 ∷ 0x42 ∷ 0x43 ∷ [] } ∷ [] } ∷ []
+extra_frame-open : (state [] rule kind extra_frame).groups ≡ record {
+  first = 4;
+  key = record { src = 5; dst = 255; pgn = 130820; sequence = 4 };
+  pieces = record { number = 0; bytes = 13 ∷ 0xA3 ∷ 0x99 ∷ 6 ∷ 0x41 ∷ 0x42 ∷ 0x43 ∷ [] } ∷ [];
+} ∷ []
 unfolding kind fast_frame same_key complete cut pieces_of begun_at open_groups waiting
 extra_frame-open = refl
 
 -- A new sequence ends no older group: eight messages of one stream may be under way.
-eight_under_way : counts rule kind (frame 5 1 (start 0x00 11 1) ∷ frame 5 2 (start 0x20 11 2) ∷ frame 5 3 (start 0x40 11 3) ∷ frame 5 4 (start 0x60 11 4) ∷ frame 5 5 (start 0x80 11 5) ∷ frame 5 6 (start 0xA0 11 6) ∷ frame 5 7 (start 0xC0 11 7) ∷ frame 5 8 (start 0xE0 11 8) ∷ []) ≡ lines_only 8 0 0 0 0 8
+eight_under_way : counts rule kind (map (λ n. frame 5 n (start (32 * n) 11 n)) (range_with_len 0 8)) ≡ lines_only 8 0 0 0 0 8
 unfolding kind fast_frame same_key complete cut data_of gathered broken_with pieces_of begun_at open_groups waiting
 eight_under_way = refl
 
 -- A stale frame 1 is taken for one of a later message; a short last frame is filled.
-mixed : message rule kind (frame 5 1 (0x01 ∷ spaces) ∷ frame 5 9 (start 0x00 13 3) ∷ []) 2 ≡ Some (packet 130820 5 9 (0xA3 ∷ 0x99 ∷ 3 ∷ 0x41 ∷ 0x42 ∷ 0x43 ∷ spaces))
+mixed : message rule kind (frame 5 1 (0x01 ∷ spaces) ∷ frame 5 9 (start 0x00 13 3) ∷ []) 2 ≡ Some (whole 5 9 3 spaces)
 unfolding kind fast_frame same_key complete cut data_of gathered
 mixed = refl
 
-filled : message rule kind (frame 5 1 (start 0x00 8 3) ∷ frame 5 2 (0x01 ∷ 7 ∷ []) ∷ []) 2 ≡ Some (packet 130820 5 2 (0xA3 ∷ 0x99 ∷ 3 ∷ 0x41 ∷ 0x42 ∷ 0x43 ∷ 7 ∷ 255 ∷ []))
+filled : message rule kind (frame 5 1 (start 0x00 8 3) ∷ frame 5 2 (0x01 ∷ 7 ∷ []) ∷ []) 2 ≡ Some (whole 5 2 3 (7 ∷ 255 ∷ []))
 unfolding kind fast_frame same_key complete cut data_of gathered
 filled = refl
 
@@ -164,46 +182,30 @@ skips (suc n) es = entries.Skip ∷ skips n es
 abbrev stale : ℕ → List Entry
 stale between = frame 5 1 (0x01 ∷ spaces) ∷ skips between (frame 5 9 (start 0x00 13 3) ∷ [])
 
-stale-broken : broken shortest kind (stale 31) 33 ≡ record { pgn = 130820; src = 5; dst = 255; seq = 0; first = 1 } ∷ []
-unfolding kind skips fast_frame same_key complete cut broken_with
-stale-broken = refl
-
-stale-counts : counts shortest kind (stale 31) ≡ lines_only 33 0 0 0 1 1
+stale-given : Gives shortest (stale 31) [] (group 5 0 1 ∷ []) (lines_only 33 0 0 0 1 1)
 unfolding kind skips fast_frame same_key complete cut data_of gathered broken_with pieces_of begun_at open_groups waiting
-stale-counts = refl
+stale-given = (refl, refl, refl)
 
-in_time-counts : counts shortest kind (stale 30) ≡ lines_only 32 1 0 0 0 0
+in_time : counts shortest kind (stale 30) ≡ lines_only 32 1 0 0 0 0
 unfolding kind skips fast_frame same_key complete cut data_of gathered broken_with pieces_of begun_at open_groups waiting
-in_time-counts = refl
+in_time = refl
 
 -- Two groups are broken at one line: the window of the first ends, and the second has the frame's number.
 abbrev two_at_once : List Entry
 two_at_once = frame 5 1 (start 0x00 11 1) ∷ frame 6 2 (start 0x20 11 2) ∷ skips 30 (frame 6 2 (start 0x20 11 2) ∷ [])
 
-two_at_once-broken : broken shortest kind two_at_once 33 ≡ record { pgn = 130820; src = 5; dst = 255; seq = 0; first = 1 } ∷ record { pgn = 130820; src = 6; dst = 255; seq = 1; first = 2 } ∷ []
+two_at_once-broken : broken shortest kind two_at_once 33 ≡ group 5 0 1 ∷ group 6 1 2 ∷ []
 unfolding kind skips fast_frame same_key complete cut broken_with
 two_at_once-broken = refl
-
-two_at_once-counts : counts shortest kind two_at_once ≡ lines_only 33 0 0 0 2 1
-unfolding kind skips fast_frame same_key complete cut data_of gathered broken_with pieces_of begun_at open_groups waiting
-two_at_once-counts = refl
 
 -- Frame 0 of a message was lost, and the next of its key comes whole. In order it is given, and what was left is broken;
 -- else it takes in what was left, and leaves as much.
 abbrev first_lost : List Entry
 first_lost = frame 5 1 (0x01 ∷ 255 ∷ []) ∷ frame 5 2 (start 0x00 13 3) ∷ frame 5 3 (0x01 ∷ spaces) ∷ []
 
-first_lost-message : message ordered kind first_lost 3 ≡ Some (packet 130820 5 3 (0xA3 ∷ 0x99 ∷ 3 ∷ 0x41 ∷ 0x42 ∷ 0x43 ∷ spaces))
-unfolding kind fast_frame same_key complete cut data_of gathered
-first_lost-message = refl
-
-first_lost-broken : broken ordered kind first_lost 2 ≡ record { pgn = 130820; src = 5; dst = 255; seq = 0; first = 1 } ∷ []
-unfolding kind fast_frame same_key complete cut broken_with
-first_lost-broken = refl
-
-first_lost-counts : counts ordered kind first_lost ≡ lines_only 3 1 0 0 1 0
+first_lost-given : Gives ordered first_lost (whole 5 3 3 spaces ∷ []) (group 5 0 1 ∷ []) (lines_only 3 1 0 0 1 0)
 unfolding kind fast_frame same_key complete cut data_of gathered broken_with pieces_of begun_at open_groups waiting
-first_lost-counts = refl
+first_lost-given = (refl, refl, refl)
 
 first_lost-mixed : counts rule kind first_lost ≡ lines_only 3 1 0 0 0 1
 unfolding kind fast_frame same_key complete cut data_of gathered broken_with pieces_of begun_at open_groups waiting
@@ -223,67 +225,61 @@ other_lines =
     ∷ entries.Frame (packet 129026 1 8 (0x15 ∷ []))
     ∷ entries.Whole (packet 130820 5 9 (7 ∷ 0x98 ∷ []))
     ∷ entries.Whole (packet 59904 5 10 (7 ∷ 0x98 ∷ []))
-    ∷ frame 5 11 (0x01 ∷ 0 ∷ 0 ∷ 0 ∷ 0 ∷ 0 ∷ [])
+    ∷ frame 5 11 (0x01 ∷ zeros)
     ∷ []
 
-other_lines-counts : counts rule kind other_lines ≡ lines_only 11 3 4 2 0 0
+other_lines-given : Gives rule other_lines
+    (packet 129026 1 8 (0x15 ∷ []) ∷ packet 130820 5 9 (7 ∷ 0x98 ∷ []) ∷ whole 5 11 1 zeros ∷ []) [] (lines_only 11 3 4 2 0 0)
 unfolding kind fast_frame same_key complete cut data_of gathered broken_with pieces_of begun_at open_groups waiting
-other_lines-counts = refl
-
-other_lines-whole : message rule kind other_lines 9 ≡ Some (packet 130820 5 9 (7 ∷ 0x98 ∷ []))
-unfolding kind fast_frame same_key complete cut data_of gathered
-other_lines-whole = refl
+other_lines-given = (refl, refl, refl)
 
 -- A state that no log leads to, since a group that began at its last line has two frames: frame 3, and frame 0 of a total
 -- of 6. Frame 1 joins them and doesn't complete the group, and frame 3 breaks it. So does another frame 0 of that total,
 -- which is a message alone. Were what is held taken up by rising number, the held frame 0 would be complete alone, and
 -- frames 1 and 0 would join frame 3.
-abbrev resumed : State
-resumed = record {
+abbrev held_open : ℕ → List Piece → State
+held_open lines pieces = record {
   id = [];
   rule = rule;
-  counts = lines_only 2 0 0 0 0 1;
-  groups = record { first = 2; key = record { src = 5; dst = 255; pgn = 130820; sequence = 0 }; pieces = record { number = 0; bytes = 6 ∷ 1 ∷ 2 ∷ 3 ∷ 4 ∷ 5 ∷ 6 ∷ [] } ∷ record { number = 3; bytes = spaces } ∷ [] } ∷ [];
+  counts = lines_only lines 0 0 0 0 1;
+  groups = record { first = 2; key = record { src = 5; dst = 255; pgn = 130820; sequence = 0 }; pieces = pieces } ∷ [];
 }
+
+abbrev zeroth : Piece
+zeroth = record { number = 0; bytes = 6 ∷ 1 ∷ 2 ∷ 3 ∷ 4 ∷ 5 ∷ 6 ∷ [] }
+
+abbrev resumed : State
+resumed = held_open 2 (zeroth ∷ record { number = 3; bytes = spaces } ∷ [])
 
 resumed-waits : step_given kind resumed (frame 5 3 (0x01 ∷ spaces)) ≡ record { message = None; cause = None; broken = [] }
 unfolding kind fast_frame same_key complete cut data_of gathered broken_with waiting ended step_given
 resumed-waits = refl
 
-resumed-joined : step_after kind resumed (frame 5 3 (0x01 ∷ spaces)) ≡ record {
-  id = [];
-  rule = rule;
-  counts = lines_only 3 0 0 0 0 1;
-  groups = record { first = 2; key = record { src = 5; dst = 255; pgn = 130820; sequence = 0 }; pieces = record { number = 0; bytes = 6 ∷ 1 ∷ 2 ∷ 3 ∷ 4 ∷ 5 ∷ 6 ∷ [] } ∷ record { number = 1; bytes = spaces } ∷ record { number = 3; bytes = spaces } ∷ [] } ∷ [];
-}
+resumed-joined : step_after kind resumed (frame 5 3 (0x01 ∷ spaces))
+    ≡ held_open 3 (zeroth ∷ record { number = 1; bytes = spaces } ∷ record { number = 3; bytes = spaces } ∷ [])
 unfolding kind fast_frame same_key complete cut data_of gathered broken_with pieces_of begun_at open_groups waiting ended step_given step_after
 resumed-joined = refl
 
-resumed-broken : step_given kind resumed (frame 5 3 (0x03 ∷ spaces)) ≡ record { message = None; cause = None; broken = record { pgn = 130820; src = 5; dst = 255; seq = 0; first = 2 } ∷ [] }
+resumed-broken : step_given kind resumed (frame 5 3 (0x03 ∷ spaces)) ≡ record { message = None; cause = None; broken = group 5 0 2 ∷ [] }
 unfolding kind fast_frame same_key complete cut data_of gathered broken_with waiting ended step_given
 resumed-broken = refl
 
-resumed-again : step_given kind resumed (frame 5 3 (0x00 ∷ 6 ∷ 11 ∷ 12 ∷ 13 ∷ 14 ∷ 15 ∷ 16 ∷ [])) ≡ record { message = Some (packet 130820 5 3 (11 ∷ 12 ∷ 13 ∷ 14 ∷ 15 ∷ 16 ∷ [])); cause = None; broken = record { pgn = 130820; src = 5; dst = 255; seq = 0; first = 2 } ∷ [] }
+resumed-again : step_given kind resumed (frame 5 3 (start 0x00 6 1))
+    ≡ record { message = Some (whole 5 3 1 []); cause = None; broken = group 5 0 2 ∷ [] }
 unfolding kind fast_frame same_key complete cut data_of gathered broken_with waiting ended step_given
 resumed-again = refl
 
 -- ---- what the laws of arrival ask for
 
--- a message of eleven bytes, and the frame at a line that has this header and these bytes
-abbrev eleven : ℕ → List ℕ → PacketParts
-eleven which end = packet 130820 5 which ((0xA3 ∷ 0x99 ∷ which ∷ 0x41 ∷ 0x42 ∷ 0x43 ∷ []) ++ end)
-
+-- the frames 0 and 1 of a message of eleven bytes under a sequence, at a line
 abbrev frame_on : ℕ → ℕ → ℕ → List ℕ → Frame
 frame_on line stamp header rest = frame_with line (packet 130820 5 stamp (header ∷ rest)) header rest
 
-abbrev zeros : List ℕ
-zeros = 0 ∷ 0 ∷ 0 ∷ 0 ∷ 0 ∷ []
+abbrev opening : ℕ → ℕ → ℕ → Frame
+opening line sequence which = frame_on line which (32 * sequence) (11 ∷ 0xA3 ∷ 0x99 ∷ which ∷ 0x41 ∷ 0x42 ∷ 0x43 ∷ [])
 
-abbrev blanks : List ℕ
-blanks = 32 ∷ 32 ∷ 32 ∷ 32 ∷ 32 ∷ []
-
-abbrev filled_end : List ℕ → List ℕ
-filled_end five = five ++ (255 ∷ 255 ∷ [])
+abbrev closing : ℕ → ℕ → ℕ → List ℕ → Frame
+closing line sequence which end = frame_on line which (32 * sequence + 1) (filled_end end)
 
 -- A lost message has left its frame 0 open; then a message comes whole under the same key.
 abbrev lost : List Entry
@@ -293,10 +289,10 @@ abbrev then_whole : List Entry
 then_whole = frame 5 2 (start 0x00 11 2) ∷ entries.Skip ∷ frame 5 2 (0x01 ∷ filled_end zeros) ∷ []
 
 abbrev sent_second : Sending
-sent_second = record { sequence = 0; message = eleven 2 zeros }
+sent_second = record { sequence = 0; message = whole 5 2 2 zeros }
 
 abbrev whole_frames : List Frame
-whole_frames = frame_on 2 2 0x00 (11 ∷ 0xA3 ∷ 0x99 ∷ 2 ∷ 0x41 ∷ 0x42 ∷ 0x43 ∷ []) ∷ frame_on 4 2 0x01 (filled_end zeros) ∷ []
+whole_frames = opening 2 0 2 ∷ closing 4 0 2 zeros ∷ []
 
 comes_next : ComesNext rule kind lost then_whole sent_second whole_frames []
 unfolding kind fast_frame same_key complete cut piece_bytes
@@ -312,9 +308,6 @@ unfolding kind fast_frame same_key complete cut
 leaves_zero = λ _. refl
 
 -- Two messages of one stream, under way at once, the frames of each by falling number, and other lines between.
-abbrev two_messages : List PacketParts
-two_messages = eleven 1 zeros ∷ eleven 2 blanks ∷ []
-
 abbrev interleaved : List Entry
 interleaved =
     frame 5 2 (0x21 ∷ filled_end blanks)
@@ -325,71 +318,62 @@ interleaved =
     ∷ frame 5 2 (start 0x20 11 2)
     ∷ []
 
-abbrev key_0 : Key
-key_0 = record { src = 5; dst = 255; pgn = 130820; sequence = 0 }
-
-abbrev key_1 : Key
-key_1 = record { src = 5; dst = 255; pgn = 130820; sequence = 1 }
+abbrev key_of : ℕ → Key
+key_of sequence = record { src = 5; dst = 255; pgn = 130820; sequence = sequence }
 
 abbrev sent_0 : Sending
-sent_0 = record { sequence = 0; message = eleven 1 zeros }
+sent_0 = record { sequence = 0; message = whole 5 1 1 zeros }
 
 abbrev sent_1 : Sending
-sent_1 = record { sequence = 1; message = eleven 2 blanks }
+sent_1 = record { sequence = 1; message = whole 5 2 2 blanks }
 
 -- the frames of each, as they come
-abbrev first_0 : Frame
-first_0 = frame_on 4 1 0x00 (11 ∷ 0xA3 ∷ 0x99 ∷ 1 ∷ 0x41 ∷ 0x42 ∷ 0x43 ∷ [])
-
-abbrev second_0 : Frame
-second_0 = frame_on 2 1 0x01 (filled_end zeros)
-
-abbrev first_1 : Frame
-first_1 = frame_on 6 2 0x20 (11 ∷ 0xA3 ∷ 0x99 ∷ 2 ∷ 0x41 ∷ 0x42 ∷ 0x43 ∷ [])
-
-abbrev second_1 : Frame
-second_1 = frame_on 1 2 0x21 (filled_end blanks)
-
 abbrev frames_0 : List Frame
-frames_0 = second_0 ∷ first_0 ∷ []
+frames_0 = closing 2 0 1 zeros ∷ opening 4 0 1 ∷ []
 
 abbrev frames_1 : List Frame
-frames_1 = second_1 ∷ first_1 ∷ []
-
-stretch_0 : IsStretchOf sent_0 frames_0
-unfolding fast_frame piece_bytes
-stretch_0 = record {
-  pieces = record { each = All-from_recursion (IsPieceOf sent_0) frames_0 (record { in_range = omega arith; is_piece = refl }, (record { in_range = omega arith; is_piece = refl }, tt)); apart = refl };
-  whole = refl;
-}
-
-stretch_1 : IsStretchOf sent_1 frames_1
-unfolding fast_frame piece_bytes
-stretch_1 = record {
-  pieces = record { each = All-from_recursion (IsPieceOf sent_1) frames_1 (record { in_range = omega arith; is_piece = refl }, (record { in_range = omega arith; is_piece = refl }, tt)); apart = refl };
-  whole = refl;
-}
+frames_1 = closing 1 1 2 blanks ∷ opening 6 1 2 ∷ []
 
 within_0 : IsStretchWithin rule sent_0 frames_0
-within_0 = record { stretch = stretch_0; in_time = All-from_recursion (λ (f : Frame). f.line < 10_002) frames_0 (omega arith, (omega arith, tt)); ordered = λ e. absurd (false≢true e) }
+unfolding fast_frame piece_bytes
+within_0 = record {
+  stretch = record {
+    pieces = record { each = All-from_recursion (IsPieceOf sent_0) frames_0 (record { in_range = omega arith; is_piece = refl }, (record { in_range = omega arith; is_piece = refl }, tt)); apart = refl };
+    whole = refl;
+  };
+  in_time = All-from_recursion (λ (f : Frame). f.line < 10_002) frames_0 (omega arith, (omega arith, tt));
+  ordered = λ e. absurd (false≢true e);
+}
 
 within_1 : IsStretchWithin rule sent_1 frames_1
-within_1 = record { stretch = stretch_1; in_time = All-from_recursion (λ (f : Frame). f.line < 10_001) frames_1 (omega arith, (omega arith, tt)); ordered = λ e. absurd (false≢true e) }
+unfolding fast_frame piece_bytes
+within_1 = record {
+  stretch = record {
+    pieces = record { each = All-from_recursion (IsPieceOf sent_1) frames_1 (record { in_range = omega arith; is_piece = refl }, (record { in_range = omega arith; is_piece = refl }, tt)); apart = refl };
+    whole = refl;
+  };
+  in_time = All-from_recursion (λ (f : Frame). f.line < 10_001) frames_1 (omega arith, (omega arith, tt));
+  ordered = λ e. absurd (false≢true e);
+}
 
 -- a value, where it is kept
 abbrev kept : {A : Type 0} → Bool → A → List A → List A
 kept b x xs = if b then x ∷ xs else xs
 
-interleaved-scattered : IsScattered rule kind two_messages interleaved
+interleaved-scattered : IsScattered rule kind (sent_0.message ∷ sent_1.message ∷ []) interleaved
 unfolding kind fast_frame same_stream
 interleaved-scattered = record {
-  fast = All-from_recursion (λ (m : PacketParts). kind m.id.pgn ≡ Some Fast) two_messages (refl, (refl, tt));
-  falls = λ key. by key (same_key key key_0) (same_key key key_1) refl refl;
+  fast = All-from_recursion (λ (m : PacketParts). kind m.id.pgn ≡ Some Fast) (sent_0.message ∷ sent_1.message ∷ []) (refl, (refl, tt));
+  falls = λ key. by key (same_key key (key_of 0)) (same_key key (key_of 1)) refl refl;
 }
   where
-    by : (key : Key) (b c : Bool) → same_key key key_0 ≡ b → same_key key key_1 ≡ c
-        → FallInto rule (kept b sent_0 (kept c sent_1 [])) (kept c second_1 (kept b second_0 (kept b first_0 (kept c first_1 []))))
-    by key true true e f = absurd (let same : key_0 ≡ key_1 = sym (same_key-true key key_0 e) ∙ same_key-true key key_1 f in let one : 0 ≡ 1 = ap (λ (k : Key). k.sequence) same in omega (arith, one))
+    by : (key : Key) (b c : Bool) → same_key key (key_of 0) ≡ b → same_key key (key_of 1) ≡ c
+        → FallInto rule (kept b sent_0 (kept c sent_1 []))
+        (kept c (closing 1 1 2 blanks) (kept b (closing 2 0 1 zeros) (kept b (opening 4 0 1) (kept c (opening 6 1 2) []))))
+    by key true true e f =
+        let same : key_of 0 ≡ key_of 1 = sym (same_key-true key (key_of 0) e) ∙ same_key-true key (key_of 1) f in
+        let one : 0 ≡ 1 = ap (λ (k : Key). k.sequence) same in
+        absurd (omega (arith, one))
     by key true false e f = record { stretches = frames_0 ∷ []; one_behind_the_other = refl; each = (within_0, tt) }
     by key false true e f = record { stretches = frames_1 ∷ []; one_behind_the_other = refl; each = (within_1, tt) }
     by key false false e f = record { stretches = []; one_behind_the_other = refl; each = tt }
