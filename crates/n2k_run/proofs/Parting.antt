@@ -25,20 +25,14 @@ use Rattle.n2k_run.specs.Inner.Parts.{Finishes, HasSaved, Saves}
 use Rattle.n2k_run.specs.Making.{after_all}
 use Rattle.n2k_run.specs.Parts.{BeginsBy, HasPart, IsPartOf, OnRefusal, Ran, StandsAtLine, TellsRun, begun}
 use Rattle.n2k_run.specs.Runs.{Devices, HasFronts, Output, Runs, output_from}
-use Rattle.n2k_run.specs.Writing.{AppendsFront}
 use Rattle.n2k_run.proofs.Calls.{none_read, within_one}
 use Rattle.n2k_run.proofs.Ending.{of_log, runs_more, runs_same}
 use Rattle.n2k_run.proofs.LogSteps.{LogLaws, output_after-is, state_after}
+use Rattle.n2k_run.proofs.Running.{all_gained, none_gained}
 
 known_any : (known : Option (List ℕ)) (P : List ℕ → Type 0) → ((log : List ℕ) → P log) → IfSome known P
 known_any None P all = tt
 known_any (Some log) P all = all log
-
-none_gained : (held : Option (List ℕ)) (text : List ℕ) → AppendsFront held held text
-none_gained held text = (text, record { front = []; appended = Appends-nil held; still = refl })
-
-all_gained : (old new : Option (List ℕ)) (text : List ℕ) → Appends old new text → AppendsFront old new text
-all_gained old new text appended = ([], record { front = text; appended = appended; still = sym (append-nil text) })
 
 -- a run that never began: nothing was read or written
 pub unbegun : (o : Output) (stands : List Entry → Type 0) (before : Devices) (fault : StateFault) → o.reports [] ≡ [] → TellsRun o stands before before (Err (Refused fault))

@@ -68,24 +68,17 @@ fn close_part<K: Keeper, E: Sink>(
                 Err(_) => Err(Fault::Save),
             }
         }
-        Err(Stop { fault, part: None }) => Err(fault),
-        Err(
-            Stop {
-                fault: Fault::Read,
-                part: Some(part),
-            },
-        ) => {
-            let _ = save_and_sum_up(&part, keeper, errors);
-            Err(Fault::Read)
-        }
-        Err(
-            Stop {
-                fault,
-                part: Some(part),
-            },
-        ) => {
-            let _ = sum_up(&part.counts, errors);
-            Err(fault)
+        Err(stop) => {
+            match (&stop.part, stop.fault) {
+                (None, _) => {}
+                (Some(part), Fault::Read) => {
+                    let _ = save_and_sum_up(part, keeper, errors);
+                }
+                (Some(part), _) => {
+                    let _ = sum_up(&part.counts, errors);
+                }
+            }
+            Err(stop.fault)
         }
     }
 }

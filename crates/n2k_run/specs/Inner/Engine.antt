@@ -109,15 +109,16 @@ FailsKept writes₀ writes reports₀ reports (Err Read) = ⊥
 FailsKept writes₀ writes reports₀ reports (Err Memory) = ⊥
 FailsKept writes₀ writes reports₀ reports (Err TooManyLines) = ⊥
 
--- What was made of these entries: of the first of them the texts and reports are written, of the others they are kept.
+-- What was made of these entries: of the first of them the texts and reports are written to the sinks, of the others they
+-- are kept.
 pub record Made {S : Type 0} (m : Making S) (s₀ s : S) (es : List Entry) (text report : List ℕ)
-    (before now : Devices) : Type 0 where
+    (w₀ w e₀ e : Option (List ℕ)) : Type 0 where
   pub written : List Entry
   pub kept : List Entry
   pub entries_are : es ≡ written ++ kept
   pub state : s ≡ after_all m s₀ es
-  pub printed : Appends before.written now.written (texts_from m s₀ written)
-  pub reported : Appends before.reported now.reported (reports_from m s₀ written)
+  pub printed : Appends w₀ w (texts_from m s₀ written)
+  pub reported : Appends e₀ e (reports_from m s₀ written)
   pub text_is : text ≡ texts_from m (after_all m s₀ written) kept
   pub report_is : report ≡ reports_from m (after_all m s₀ written) kept
   pub counted : m.lines s ≡ m.lines s₀ + length es
@@ -131,7 +132,7 @@ pub record Stands {S : Type 0} (m : Making S) (packing : Packing) (s₀ s : S) (
   -- it ends with a line, unless the log has ended
   pub whole : held.has_ended ≡ false → IsEmptyOrEndsWith front line_feed
   pub end : held.has_ended ≡ true → (unanswered held ≡ []) × IsAtEnd now.left
-  pub made : Made m s₀ s (entries packing front) text report before now
+  pub made : Made m s₀ s (entries packing front) text report before.written now.written before.reported now.reported
   pub called : CallsAre before.calls now.calls 0 held.reads
   -- each call but the one that found the end gave bytes
   pub reads : ReadsBytes (if held.has_ended then 1 else 0) before.left now.left before.calls now.calls
