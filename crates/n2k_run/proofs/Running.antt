@@ -49,13 +49,10 @@ pub none_read : {S : Type 0} (m : Making S) (packing : Packing) (s s' : S) (held
     → WritesKept {T = Unit {0}} text' report' w w' e e' (Err sink) → failed ≡ failed₀
 none_read m packing s s' held held' text text' report report' left₀ left failed₀ failed w w' e e' Read Write next not_memory reads out = absurd (omega (arith, ap length next.2, out.2))
 none_read m packing s s' held held' text text' report report' left₀ left failed₀ failed w w' e e' Read Report next not_memory reads out = absurd (omega (arith, ap length next.3, out.2))
-none_read m packing s s' held held' text text' report report' left₀ left failed₀ failed w w' e e' Read Read next not_memory reads out = absurd out
-none_read m packing s s' held held' text text' report report' left₀ left failed₀ failed w w' e e' Read Memory next not_memory reads out = absurd out
-none_read m packing s s' held held' text text' report report' left₀ left failed₀ failed w w' e e' Read TooManyLines next not_memory reads out = absurd out
+none_read m packing s s' held held' text text' report report' left₀ left failed₀ failed w w' e e' Read _ next not_memory reads out = absurd out
 none_read m packing s s' held held' text text' report report' left₀ left failed₀ failed w w' e e' TooManyLines sink next not_memory reads out = reads
 none_read m packing s s' held held' text text' report report' left₀ left failed₀ failed w w' e e' Memory sink next not_memory reads out = reads
-none_read m packing s s' held held' text text' report report' left₀ left failed₀ failed w w' e e' Write sink next not_memory reads out = absurd next
-none_read m packing s s' held held' text text' report report' left₀ left failed₀ failed w w' e e' Report sink next not_memory reads out = absurd next
+none_read m packing s s' held held' text text' report report' left₀ left failed₀ failed w w' e e' _ sink next not_memory reads out = absurd next
 
 module _ {S : Type 0} (m : Making S) (packing : Packing) (s₀ : S) (before : Devices) where
   abbrev o : Output
@@ -286,9 +283,7 @@ module _ {S : Type 0} (m : Making S) (packing : Packing) (s₀ : S) (before : De
   sink_end stands s es text report now after Report made lead reads writes reports out fails calls =
       ended stands es after Report tt (report_out s es text report now after made (out.0, out.1)) lead
       (record { reads = reads; writes = fails.1 ∙ writes; reports = subst (λ n. HasFailed n after.failed_reports) reports fails.0 }) calls
-  sink_end stands s es text report now after Read made lead reads writes reports out fails calls = absurd out
-  sink_end stands s es text report now after Memory made lead reads writes reports out fails calls = absurd out
-  sink_end stands s es text report now after TooManyLines made lead reads writes reports out fails calls = absurd out
+  sink_end stands s es text report now after _ made lead reads writes reports out fails calls = absurd out
 
   pub lead_of : (s : S) (held : Held) (text report : List ℕ) (now : Devices) (stands : Stands m packing s₀ s held text report before now) → Leads packing before.left (entries packing stands.front)
   lead_of s held text report now stands = leads packing before.left now.left stands.front (unanswered held) held.has_ended stands.came stands.whole stands.end
@@ -348,8 +343,7 @@ module _ {S : Type 0} (m : Making S) (packing : Packing) (s₀ : S) (before : De
   still_made s s' held held' text text' report report' now left calls failed Read stands next not_memory es made = made_still s s' es text text' report report' now made next.1
   still_made s s' held held' text text' report report' now left calls failed TooManyLines stands next not_memory es made = made_still s s' es text text' report report' now made next.2
   still_made s s' held held' text text' report report' now left calls failed Memory stands next not_memory es made = absurd (not_memory refl)
-  still_made s s' held held' text text' report report' now left calls failed Write stands next not_memory es made = absurd next
-  still_made s s' held held' text text' report report' now left calls failed Report stands next not_memory es made = absurd next
+  still_made s s' held held' text text' report report' now left calls failed _ stands next not_memory es made = absurd next
 
   -- the source failed, or gave no end: the lines whose end came are written
   cut_end : (s s' : S) (held held' : Held) (text text' report report' : List ℕ) (now after : Devices) (stands : Stands m packing s₀ s held text report before now) → held.has_ended ≡ false
@@ -390,9 +384,7 @@ module _ {S : Type 0} (m : Making S) (packing : Packing) (s₀ : S) (before : De
       → Ends {T = Unit {0}} o (λ es. s' ≡ after_all m s₀ es) before after (Err fault)
   fault_ends s s' held held' text text' report report' now after Read stands on next not_memory made = cut_end s s' held held' text text' report report' now after stands on next made
   fault_ends s s' held held' text text' report report' now after TooManyLines stands on next not_memory made = full_end s s' held held' text text' report report' now after stands on next made
-  fault_ends s s' held held' text text' report report' now after Memory stands on next not_memory made = tt
-  fault_ends s s' held held' text text' report report' now after Write stands on next not_memory made = tt
-  fault_ends s s' held held' text text' report report' now after Report stands on next not_memory made = tt
+  fault_ends s s' held held' text text' report report' now after _ stands on next not_memory made = tt
 
   -- a read's fault is the source's, or that of the most reads
   fault_device : (now after : Devices) (s s' : S) (held held' : Held) (text text' report report' : List ℕ) (fault : RunFault) → NoneFailed before now → (after.failed_writes ≡ now.failed_writes) × (after.failed_reports ≡ now.failed_reports) → CallsAre before.calls after.calls 0 held'.reads
@@ -405,8 +397,7 @@ module _ {S : Type 0} (m : Making S) (packing : Packing) (s₀ : S) (before : De
   }
   fault_device now after s s' held held' text text' report report' Write none hold called next reads = absurd next
   fault_device now after s s' held held' text text' report report' Report none hold called next reads = absurd next
-  fault_device now after s s' held held' text text' report report' Memory none hold called next reads = record { reads = reads ∙ none.reads; writes = hold.0 ∙ none.writes; reports = hold.1 ∙ none.reports }
-  fault_device now after s s' held held' text text' report report' TooManyLines none hold called next reads = record { reads = reads ∙ none.reads; writes = hold.0 ∙ none.writes; reports = hold.1 ∙ none.reports }
+  fault_device now after s s' held held' text text' report report' _ none hold called next reads = record { reads = reads ∙ none.reads; writes = hold.0 ∙ none.writes; reports = hold.1 ∙ none.reports }
 
   pub fault_end : (s s' : S) (held held' : Held) (text text' report report' : List ℕ) (now : Devices) (left : Option (List ℕ)) (calls failed : ℕ) (w' e' : Option (List ℕ)) (fw' fe' : ℕ) (fault : RunFault) → Stands m packing s₀ s held text report before now → held.has_ended ≡ false
       → TakesNext {T = Unit {0}} m packing s s' held held' now.left left text text' report report' (Err fault) → (fault ≡ Memory → ⊥) → ReadsNext {T = Unit {0}} held' now.failed_reads failed (Err fault) → CallsAre now.calls calls held.reads held'.reads → ReadsBytes 1 now.left left now.calls calls

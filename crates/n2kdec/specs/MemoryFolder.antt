@@ -24,14 +24,12 @@ done_at (Cut number done) n = if number == n then done else Whole
 
 -- whether the power is cut in the call of this number, and whether that call fails by itself
 abbrev pub cuts : Trouble → ℕ → Bool
-cuts No n = false
-cuts (Failure number done) n = false
 cuts (Cut number done) n = number == n
+cuts _ n = false
 
 abbrev pub fails : Trouble → ℕ → Bool
-fails No n = false
 fails (Failure number done) n = number == n
-fails (Cut number done) n = false
+fails _ n = false
 
 -- how much of the next call is done: after a cut nothing
 abbrev pub next_done : Names → Extent
@@ -64,10 +62,7 @@ gets s other = record s { text = other.text; is_synced = other.is_synced }
 abbrev pub moved : Extent → Name → Name → Names → Names
 moved Whole Own New s = record s { own = removed Whole s.own; beside = gets s.beside s.own }
 moved Whole New Own s = record s { own = gets s.own s.beside; beside = removed Whole s.beside }
-moved Whole Own Own s = s
-moved Whole New New s = s
-moved Nothing from to s = s
-moved Part from to s = s
+moved _ from to s = s
 
 -- the next call is such a move
 abbrev pub renamed : Name → Name → Names → Names

@@ -40,18 +40,15 @@ written text Whole s = record s { text = option_map (λ had. had ++ text) s.text
 
 -- a cut leaves the file's text
 abbrev pub synced : Extent → Standing → Standing
-synced Nothing s = s
-synced Part s = s
 synced Whole s = record s { is_synced = true }
+synced _ s = s
 
 -- the name is gone
 abbrev pub removed : Extent → Standing → Standing
-removed Nothing s = s
-removed Part s = s
 removed Whole s = record s { text = None }
+removed _ s = s
 
 -- a cut leaves the name what the name has, of a file that is not synced the first half
 abbrev pub settle : Extent → Standing → Standing
-settle Nothing s = s
-settle Part s = s
 settle Whole s = record s { settled = left s Part }
+settle _ s = s
