@@ -44,16 +44,11 @@ module _ (o : Output) (stands stands' : List Entry → Type 0) (before after : D
   ends_more : (T U : Type 0) (fault : RunFault) → ((es : List Entry) → stands es → stands' es) → Ends {T = T} o stands before after (Err fault) → Ends {T = U} o stands' before after (Err fault)
   ends_more T U Read follows e = record { came = e.came; given = e.given; numbered = e.numbered; gained = e.gained; holds = follows _ e.holds }
   ends_more T U TooManyLines follows e = record { taken = e.taken; full = e.full; left = e.left; gained = e.gained; holds = follows _ e.holds }
-  ends_more T U Write follows e = tt
-  ends_more T U Report follows e = tt
-  ends_more T U Memory follows e = tt
+  ends_more T U _ follows e = tt
 
   device_same : (T U : Type 0) (fault : RunFault) → HasDevice {T = T} before after (Err fault) → HasDevice {T = U} before after (Err fault)
   device_same T U Read d = d
-  device_same T U Write d = d
-  device_same T U Report d = d
-  device_same T U Memory d = d
-  device_same T U TooManyLines d = d
+  device_same T U _ d = d
 
   pub err_more : (T U : Type 0) (fault : RunFault) → Runs {T = T} o stands before after (Err fault) → ((es : List Entry) → stands es → stands' es) → Runs {T = U} o stands' before after (Err fault)
   err_more T U fault runs follows = record {

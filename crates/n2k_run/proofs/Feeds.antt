@@ -7,7 +7,7 @@ use Rattle.std.proofs.lemmas.List.Elements.{All-head, All-tail, All-append, All-
 use Rattle.n2k_wire.specs.Entry.{longest_line}
 use Rattle.n2k_run.specs.declared.blocks.Found.{Found}
 use Rattle.n2k_run.specs.declared.blocks.Found.TheVariants.{Line, Long, End}
-use Rattle.n2k_run.specs.Blocks.{Held, HasFeed, HasNoFeed, passed, unanswered}
+use Rattle.n2k_run.specs.Blocks.{Held, FirstLine, HasFeed, HasNoFeed, passed, unanswered}
 use Rattle.n2k_run.specs.Inner.Block.{EndsAt, Finds, FindsEnd, Judges, MakesRoom}
 use Rattle.n2k_run.specs.Lines.{is_line_feed, without_return}
 
@@ -82,49 +82,41 @@ feed_or_none bytes feed none =
 pub feed_at : (bytes : List ℕ) (feed : Option ℕ) (size : ℕ) → FindsEnd bytes feed → feed ≡ Some size → EndsAt bytes size
 feed_at bytes feed size finds is = subst (FindsEnd bytes) is finds
 
--- the line that is answered is the first of all that is unanswered
-pub finds_line : (passing : Bool) (kept : List ℕ) (new : Held) (size : ℕ) (found : Found) (left : Option (List ℕ)) → EndsAt kept size → Judges passing (without_return (take size kept)) new.line found → unanswered new ≡ drop (size + 1) kept → new.has_ended ≡ false
-    → Finds ((if passing then passed else []) ++ kept) new left found
-finds_line false kept new size Line left at judged is on = (
-  record { piece = take size kept; line_is = judged.1; no_feed = at.no_feed; ends = inl (on, at.split ∙ ap (λ r. take size kept ++ (10 ∷ r)) (sym is)) },
-  rw judged.1 judged.2,
-)
-finds_line false kept new size Long left at judged is on = (
-  without_return (take size kept),
-  record { piece = take size kept; line_is = refl; no_feed = at.no_feed; ends = inl (on, at.split ∙ ap (λ r. take size kept ++ (10 ∷ r)) (sym is)) },
-  elim judged [ inl p ↦ cc | inr p ↦ p ],
-)
-finds_line false kept new size End left at judged is on = absurd judged
-finds_line true kept new size Line left at judged is on = cc
-finds_line true kept new size Long left at judged is on =
-    let piece : List ℕ = passed ++ take size kept in (
-      without_return piece,
-      record { piece = piece; line_is = refl; no_feed = All-append is_plain passed (take size kept) passed-no_feed at.no_feed; ends = inl (on, ap (λ k. passed ++ k) (at.split ∙ ap (λ r. take size kept ++ (10 ∷ r)) (sym is)) ∙ sym (append_assoc passed (take size kept) (10 ∷ unanswered new))) },
-      long_after (take size kept),
-    )
-finds_line true kept new size End left at judged is on = absurd judged
+-- The piece ends at a line feed, or at the end of the source, where nothing is left after it; before it stands `front`.
+abbrev pub EndsPiece : (front kept piece rest : List ℕ) → Bool → Option (List ℕ) → Type 0
+EndsPiece front kept piece rest ended left = ((ended ≡ false) × (kept ≡ piece ++ (10 ∷ rest)))
+    ⊎ (IsAtEnd left × (ended ≡ true) × (kept ≡ piece) × (0 < length (front ++ piece)) × (rest ≡ []))
 
--- the same at the end of the source
-pub finds_rest : (passing : Bool) (kept text : List ℕ) (new : Held) (found : Found) (left : Option (List ℕ)) → HasNoFeed kept → (passing ≡ true) ⊎ (0 < length kept) → Judges passing (without_return text) new.line found → text ≡ kept → unanswered new ≡ [] → new.has_ended ≡ true → IsAtEnd left
+pub at_feed : (front kept rest : List ℕ) (size : ℕ) (ended : Bool) (left : Option (List ℕ)) → EndsAt kept size → rest ≡ drop (size + 1) kept → ended ≡ false → EndsPiece front kept (take size kept) rest ended left
+at_feed front kept rest size ended left at is on = inl (on, at.split ∙ ap (λ r. take size kept ++ (10 ∷ r)) (sym is))
+
+first_of : (front kept piece line rest : List ℕ) (ended : Bool) (left : Option (List ℕ)) → HasNoFeed front → HasNoFeed piece → EndsPiece front kept piece rest ended left → line ≡ without_return (front ++ piece) → FirstLine (front ++ kept) line rest ended left
+first_of front kept piece line rest ended left before none ends is = record {
+  piece = front ++ piece;
+  line_is = is;
+  no_feed = All-append is_plain front piece before none;
+  ends = elim ends [
+    | inl feed ↦ inl (feed.0, ap (λ k. front ++ k) feed.1 ∙ sym (append_assoc front piece (10 ∷ rest)))
+    | inr end ↦ inr (end.0, end.1, ap (λ k. front ++ k) end.2, end.3, end.4)
+  ];
+}
+
+none : HasNoFeed []
+none = λ k d below. absurd (omega (arith, below))
+
+-- the line that is answered is the first of all that is unanswered
+pub finds : (passing : Bool) (kept piece : List ℕ) (new : Held) (found : Found) (left : Option (List ℕ)) → HasNoFeed piece → Judges passing (without_return piece) new.line found → EndsPiece (if passing then passed else []) kept piece (unanswered new) new.has_ended left
     → Finds ((if passing then passed else []) ++ kept) new left found
-finds_rest false kept text new Line left none some judged is nothing ended end = (
-  record { piece = kept; line_is = judged.1 ∙ ap without_return is; no_feed = none; ends = inr (end, ended, refl, elim some [ inl p ↦ cc | inr p ↦ p ], nothing) },
-  rw judged.1 judged.2,
-)
-finds_rest false kept text new Long left none some judged is nothing ended end = (
-  without_return kept,
-  record { piece = kept; line_is = refl; no_feed = none; ends = inr (end, ended, refl, elim some [ inl p ↦ cc | inr p ↦ p ], nothing) },
-  elim judged [ inl p ↦ cc | inr p ↦ subst (λ t. longest_line < length (without_return t)) is p ],
-)
-finds_rest false kept text new End left none some judged is nothing ended end = absurd judged
-finds_rest true kept text new Line left none some judged is nothing ended end = cc
-finds_rest true kept text new Long left none some judged is nothing ended end =
-    let piece : List ℕ = passed ++ kept in (
-      without_return piece,
-      record { piece = piece; line_is = refl; no_feed = All-append is_plain passed kept passed-no_feed none; ends = inr (end, ended, refl, omega (arith, length-append passed kept, length-passed), nothing) },
-      long_after kept,
-    )
-finds_rest true kept text new End left none some judged is nothing ended end = absurd judged
+finds false kept piece new Line left no_feed judged ends = (first_of [] kept piece new.line _ _ left none no_feed ends judged.1, rw judged.1 judged.2)
+finds false kept piece new Long left no_feed judged ends = (without_return piece, first_of [] kept piece _ _ _ left none no_feed ends refl, elim judged [ inl p ↦ cc | inr p ↦ p ])
+finds true kept piece new Line left no_feed judged ends = cc
+finds true kept piece new Long left no_feed judged ends = (without_return (passed ++ piece), first_of passed kept piece _ _ _ left passed-no_feed no_feed ends refl, long_after piece)
+finds _ kept piece new End left no_feed judged ends = absurd judged
+
+-- what is unanswered has a byte
+pub some_byte : (passing : Bool) (kept : List ℕ) → (passing ≡ true) ⊎ (0 < length kept) → 0 < length ((if passing then passed else []) ++ kept)
+some_byte true kept some = omega (arith, length-append passed kept, length-passed)
+some_byte false kept some = elim some [ inl p ↦ cc | inr p ↦ p ]
 
 -- no line ends in what is unanswered where none ends in what is kept
 pub unanswered-no_feed : (held : Held) → HasNoFeed held.kept → HasNoFeed (unanswered held)

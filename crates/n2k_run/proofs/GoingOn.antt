@@ -151,12 +151,8 @@ module _ (t : TableParts) (o : Options) (laws : LogLaws o.window) where
     continues_of before after (Err (Stopped run_faults.TooManyLines part)) told kinds refused =
         let runs = told_stopped _ before after _ run_faults.TooManyLines part told in
         known_more before.left _ _ (λ log left. to_limit log before after part runs.ends.taken left.0 left.1 left.2 runs.ends.full runs.ends.gained runs.ends.holds) runs.ends.left
-    continues_of before after (Err (Stopped run_faults.Write part)) runs (inl e) refused = cc
-    continues_of before after (Err (Stopped run_faults.Write part)) runs (inr e) refused = cc
-    continues_of before after (Err (Stopped run_faults.Report part)) runs (inl e) refused = cc
-    continues_of before after (Err (Stopped run_faults.Report part)) runs (inr e) refused = cc
-    continues_of before after (Err (Stopped run_faults.Memory part)) runs (inl e) refused = cc
-    continues_of before after (Err (Stopped run_faults.Memory part)) runs (inr e) refused = cc
+    continues_of before after (Err (Stopped _ part)) runs (inl e) refused = cc
+    continues_of before after (Err (Stopped _ part)) runs (inr e) refused = cc
     continues_of before after (Err (Refused fault)) runs kinds refused = refused fault refl
     continues_of before after (Err (Run fault)) told kinds refused = known_more before.left _ _ (λ log fronts. goes_partly log before after fronts) (told_run _ before after _ fault told).fronts
     continues_of before after (Err Memory) told kinds refused = known_more before.left _ _ (λ log fronts. goes_partly log before after fronts) (line_fronts _ before after _ told.ran told.ended told.runs)

@@ -41,11 +41,8 @@ empty-of laws t o window join (Ok part) id is saves = part-of laws t o window (s
 empty-of laws t o window join (Err e) id is saves = tt
 
 pub refused_memory : (t : TableParts) (o : Options) (handed : Option (List ℕ)) (s : State) (result : Result Part PartFault) → begun t o handed ≡ Ok s → BeginsBy t o handed result → RefusedByMemory result
-refused_memory t o handed s (Ok part) is begins = tt
-refused_memory t o handed s (Err (Stopped fault part)) is begins = tt
-refused_memory t o handed s (Err (Run fault)) is begins = tt
-refused_memory t o handed s (Err Memory) is begins = tt
 refused_memory t o handed s (Err (Refused fault)) is begins = memory_alone fault (begun t o handed) s is begins.1
+refused_memory t o handed s _ is begins = tt
 
 pub none_taken : (t : TableParts) (o : Options) (before : Devices) (part : Part) → IsPartOf t o (state t.id o.window (kind t) []) part → TakesAll t o [] before before part
 none_taken t o before part is = record {
@@ -80,12 +77,9 @@ module _ (t : TableParts) (o : Options) (laws : LogLaws o.window) where
       }
 
 -- where the state is refused, both sinks are as they were
-pub both_untouched : {W E : Type 0} (result : Result Part PartFault) (w w' : W) (e e' : E) (seen : W → E → Devices) → OnRefusal result (w' ≡ w) → OnRefusal result (e' ≡ e) → OnRefusal result (seen w' e' ≡ seen w e)
-both_untouched (Ok part) w w' e e' seen p q = tt
-both_untouched (Err (Stopped fault part)) w w' e e' seen p q = tt
-both_untouched (Err (Run fault)) w w' e e' seen p q = tt
-both_untouched (Err Memory) w w' e e' seen p q = tt
-both_untouched (Err (Refused fault)) w w' e e' seen p q = rw (p, q) refl
+pub both_untouched : {W E : Type 0} (P : Type 0) (result : Result Part PartFault) (w w' : W) (e e' : E) (seen : W → E → Devices) → OnRefusal result (P × (w' ≡ w) × (e' ≡ e)) → OnRefusal result (seen w' e' ≡ seen w e)
+both_untouched P (Err (Refused fault)) w w' e e' seen same = rw (same.1, same.2) refl
+both_untouched P _ w w' e e' seen same = tt
 
 -- the run of a part reads from its source in memory
 pub runs_part : (t : TableParts) (o : Options) (front : List Entry) (met : List ℕ) (reader : PartLeft) (before after : Devices) (left : Option (List ℕ)) (calls : ℕ) (result : Result Part PartFault) → reader ≡ record { left = met; calls = 0 }
@@ -119,10 +113,7 @@ not_read t o parts before after (Err (Stopped fault part)) few (inr end) = λ is
     subst (λ (f : RunFault). Runs {T = Unit {0}} (output_after t o front) stands source read (Err f)) is (told_stopped (output_after t o front) source read stands fault part end.runs.told) in
     let few_bytes : length end.met + 1 < most_reads = part_met (λ met. length met + 1 < most_reads) parts end.done end.met end.later few end.parts_are in
     not_stopped (output_after t o front) stands end.met end.between after end.runs.left end.runs.calls few_bytes runs
-not_read t o parts before after (Err (Refused fault)) few end = tt
-not_read t o parts before after (Err (Run fault)) few end = tt
-not_read t o parts before after (Err Memory) few end = tt
-not_read t o parts before after (Ok part) few end = tt
+not_read t o parts before after _ few end = tt
 
 -- the parts before one, that one, and those after it
 pub split_parts : (parts : List (Bor (List ℕ))) (i : ℕ) (d : Bor (List ℕ)) → i < length parts → map (λ (p : Bor (List ℕ)). p.now) parts ≡ map (λ (p : Bor (List ℕ)). p.now) (take i parts) ++ (get_or parts i d).now ∷ map (λ (p : Bor (List ℕ)). p.now) (drop (suc i) parts)

@@ -25,20 +25,14 @@ use Rattle.n2k_run.specs.Inner.Parts.{Finishes, HasSaved, Saves}
 use Rattle.n2k_run.specs.Making.{after_all}
 use Rattle.n2k_run.specs.Parts.{BeginsBy, HasPart, IsPartOf, OnRefusal, Ran, StandsAtLine, TellsRun, begun}
 use Rattle.n2k_run.specs.Runs.{Devices, HasFronts, Output, Runs, output_from}
-use Rattle.n2k_run.specs.Writing.{AppendsFront}
 use Rattle.n2k_run.proofs.Calls.{none_read, within_one}
 use Rattle.n2k_run.proofs.Ending.{of_log, runs_more, runs_same}
 use Rattle.n2k_run.proofs.LogSteps.{LogLaws, output_after-is, state_after}
+use Rattle.n2k_run.proofs.Running.{all_gained, none_gained}
 
 known_any : (known : Option (List ℕ)) (P : List ℕ → Type 0) → ((log : List ℕ) → P log) → IfSome known P
 known_any None P all = tt
 known_any (Some log) P all = all log
-
-none_gained : (held : Option (List ℕ)) (text : List ℕ) → AppendsFront held held text
-none_gained held text = (text, record { front = []; appended = Appends-nil held; still = refl })
-
-all_gained : (old new : Option (List ℕ)) (text : List ℕ) → Appends old new text → AppendsFront old new text
-all_gained old new text appended = ([], record { front = text; appended = appended; still = sym (append-nil text) })
 
 -- a run that never began: nothing was read or written
 pub unbegun : (o : Output) (stands : List Entry → Type 0) (before : Devices) (fault : StateFault) → o.reports [] ≡ [] → TellsRun o stands before before (Err (Refused fault))
@@ -72,9 +66,7 @@ module _ (o : Output) (before after : Devices) where
   })
   line_fronts stands (Err run_faults.Read) line runs = runs.fronts
   line_fronts stands (Err run_faults.TooManyLines) line runs = runs.fronts
-  line_fronts stands (Err run_faults.Write) line runs = absurd line
-  line_fronts stands (Err run_faults.Report) line runs = absurd line
-  line_fronts stands (Err run_faults.Memory) line runs = absurd line
+  line_fronts stands _ line runs = absurd line
 
   -- the run of which an answer tells, by the end that it tells
   pub told_ok : (stands : List Entry → Type 0) (part : Part) → TellsRun o stands before after (Ok part) → Runs {T = Unit {0}} o stands before after (Ok tt)
@@ -87,26 +79,13 @@ module _ (o : Output) (before after : Devices) where
   told_run stands fault told = subst (λ r. Runs o stands before after r) told.ended told.runs
 
 finished : (result : Result Part PartFault) (ran : Result (Unit {0}) RunFault) → Finishes result ran → Ran result ran
-finished (Ok part) ran is = is
-finished (Err (Stopped fault part)) ran is = is
-finished (Err (Run fault)) ran is = is
-finished (Err Memory) ran is = is
 finished (Err (Refused fault)) ran is = absurd is
+finished _ ran is = is
 
 -- after a run no state is refused
 pub begins_by : (t : TableParts) (o : Options) (handed : Option (List ℕ)) (s : State) (result : Result Part PartFault) (ran : Result (Unit {0}) RunFault) → begun t o handed ≡ Ok s → Finishes result ran → BeginsBy t o handed result
-begins_by t o handed s (Ok part) ran is finishes = subst (λ r. IsOk r) (sym is) refl
-begins_by t o handed s (Err (Stopped fault part)) ran is finishes = subst (λ r. IsOk r) (sym is) refl
-begins_by t o handed s (Err (Run fault)) ran is finishes = subst (λ r. IsOk r) (sym is) refl
-begins_by t o handed s (Err Memory) ran is finishes = subst (λ r. IsOk r) (sym is) refl
 begins_by t o handed s (Err (Refused fault)) ran is finishes = absurd finishes
-
-pub not_refused : (result : Result Part PartFault) (ran : Result (Unit {0}) RunFault) (P : Type 0) → Finishes result ran → OnRefusal result P
-not_refused (Ok part) ran P finishes = tt
-not_refused (Err (Stopped fault part)) ran P finishes = tt
-not_refused (Err (Run fault)) ran P finishes = tt
-not_refused (Err Memory) ran P finishes = tt
-not_refused (Err (Refused fault)) ran P finishes = absurd finishes
+begins_by t o handed s _ ran is finishes = subst (λ r. IsOk r) (sym is) refl
 
 -- ---- the states that a part goes through
 
@@ -169,9 +148,7 @@ module _ (laws : KeepsFast) (t : TableParts) (o : Options) (window : IsWindow o.
   pub has_part : (s : State) (result : Result Part PartFault) → IsId t.id → IsUnder t o s → HasSaved result s → HasPart t o result s
   has_part s (Ok part) id under saves = part-of s part id under saves
   has_part s (Err (Stopped fault part)) id under saves = part-of s part id under saves
-  has_part s (Err (Refused fault)) id under saves = tt
-  has_part s (Err (Run fault)) id under saves = tt
-  has_part s (Err Memory) id under saves = tt
+  has_part s _ id under saves = tt
 
   -- the steps from the state that the part began with
   pub steps_of : (handed : Option (List ℕ)) (join join' : State) (before after : Devices) (ran : Result (Unit {0}) RunFault) (result : Result Part PartFault) → IsId t.id → begun t o handed ≡ Ok join
@@ -206,13 +183,8 @@ log_of t o laws before after result front steps =
 -- ---- a refused state
 
 pub refused_by : (fault : StateFault) (said : Result State StateFault) → ((fault ≡ state_faults.Memory → ⊥) → said ≡ Err fault) → (fault ≡ state_faults.Memory) ⊎ (said ≡ Err fault)
-refused_by state_faults.NotJson said h = inr (h (λ e. cc))
-refused_by state_faults.Format said h = inr (h (λ e. cc))
-refused_by state_faults.Shape said h = inr (h (λ e. cc))
-refused_by state_faults.TableDiffers said h = inr (h (λ e. cc))
-refused_by state_faults.Invalid said h = inr (h (λ e. cc))
 refused_by state_faults.Memory said h = inl refl
-refused_by state_faults.WindowDiffers said h = inr (h (λ e. cc))
+refused_by _ said h = inr (h (λ e. cc))
 
 pub memory_alone : (fault : StateFault) (said : Result State StateFault) (s : State) → said ≡ Ok s → (fault ≡ state_faults.Memory) ⊎ (said ≡ Err fault) → fault ≡ state_faults.Memory
 memory_alone fault said s is (inl memory) = memory

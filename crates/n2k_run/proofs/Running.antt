@@ -22,17 +22,22 @@ use Rattle.n2k_run.proofs.Finding.{calls_end}
 use Rattle.n2k_run.proofs.Folds.{after-append, texts-append, reports-append}
 use Rattle.n2k_run.proofs.Fronts.{Leads, leads, takes_more, whole_front}
 
--- all of a text that has more after it
-all_front : (old new : Option (List ℕ)) (text more whole : List ℕ) → Appends old new text → whole ≡ text ++ more → AppendsFront old new whole
-all_front old new text more whole appended is = (more, record { front = text; appended = appended; still = is })
+-- nothing of a text, or all of it
+pub none_gained : (held : Option (List ℕ)) (text : List ℕ) → AppendsFront held held text
+none_gained held text = (text, record { front = []; appended = Appends-nil held; still = refl })
 
--- a front of what follows it
-more_front : (old mid new : Option (List ℕ)) (text part more whole : List ℕ) → Appends old mid text → AppendsFront mid new part → whole ≡ (text ++ part) ++ more → AppendsFront old new whole
-more_front old mid new text part more whole first second is =
-    let owes = second.1 in
-    let parts : (text ++ part) ++ more ≡ (text ++ owes.front) ++ (second.0 ++ more) =
-    ap (λ p. (text ++ p) ++ more) owes.still ∙ ap (λ p. p ++ more) (sym (append_assoc text owes.front second.0)) ∙ append_assoc (text ++ owes.front) second.0 more in
-    (second.0 ++ more, record { front = text ++ owes.front; appended = Appends-trans old mid new text owes.front first owes.appended; still = is ∙ parts })
+pub all_gained : (old new : Option (List ℕ)) (text : List ℕ) → Appends old new text → AppendsFront old new text
+all_gained old new text appended = ([], record { front = text; appended = appended; still = sym (append-nil text) })
+
+-- a front of a text that has more after it
+longer_front : (old new : Option (List ℕ)) (text more whole : List ℕ) → AppendsFront old new text → whole ≡ text ++ more → AppendsFront old new whole
+longer_front old new text more whole (rest, owes) is =
+    (rest ++ more, record { front = owes.front; appended = owes.appended; still = is ∙ ap (λ t. t ++ more) owes.still ∙ append_assoc owes.front rest more })
+
+-- a front of what follows a text
+more_front : (old mid new : Option (List ℕ)) (text part whole : List ℕ) → Appends old mid text → AppendsFront mid new part → whole ≡ text ++ part → AppendsFront old new whole
+more_front old mid new text part whole first (rest, owes) is =
+    (rest, record { front = text ++ owes.front; appended = Appends-trans old mid new text owes.front first owes.appended; still = is ∙ ap (λ p. text ++ p) owes.still ∙ sym (append_assoc text owes.front rest) })
 
 pub known_more : (known : Option (List ℕ)) (P Q : List ℕ → Type 0) → ((log : List ℕ) → P log → Q log) → IfSome known P → IfSome known Q
 known_more None P Q follows p = tt
@@ -44,13 +49,10 @@ pub none_read : {S : Type 0} (m : Making S) (packing : Packing) (s s' : S) (held
     → WritesKept {T = Unit {0}} text' report' w w' e e' (Err sink) → failed ≡ failed₀
 none_read m packing s s' held held' text text' report report' left₀ left failed₀ failed w w' e e' Read Write next not_memory reads out = absurd (omega (arith, ap length next.2, out.2))
 none_read m packing s s' held held' text text' report report' left₀ left failed₀ failed w w' e e' Read Report next not_memory reads out = absurd (omega (arith, ap length next.3, out.2))
-none_read m packing s s' held held' text text' report report' left₀ left failed₀ failed w w' e e' Read Read next not_memory reads out = absurd out
-none_read m packing s s' held held' text text' report report' left₀ left failed₀ failed w w' e e' Read Memory next not_memory reads out = absurd out
-none_read m packing s s' held held' text text' report report' left₀ left failed₀ failed w w' e e' Read TooManyLines next not_memory reads out = absurd out
+none_read m packing s s' held held' text text' report report' left₀ left failed₀ failed w w' e e' Read _ next not_memory reads out = absurd out
 none_read m packing s s' held held' text text' report report' left₀ left failed₀ failed w w' e e' TooManyLines sink next not_memory reads out = reads
 none_read m packing s s' held held' text text' report report' left₀ left failed₀ failed w w' e e' Memory sink next not_memory reads out = reads
-none_read m packing s s' held held' text text' report report' left₀ left failed₀ failed w w' e e' Write sink next not_memory reads out = absurd next
-none_read m packing s s' held held' text text' report report' left₀ left failed₀ failed w w' e e' Report sink next not_memory reads out = absurd next
+none_read m packing s s' held held' text text' report report' left₀ left failed₀ failed w w' e e' _ sink next not_memory reads out = absurd next
 
 module _ {S : Type 0} (m : Making S) (packing : Packing) (s₀ : S) (before : Devices) where
   abbrev o : Output
@@ -63,17 +65,17 @@ module _ {S : Type 0} (m : Making S) (packing : Packing) (s₀ : S) (before : De
   reports_lead : (es more : List Entry) (log : List ℕ) → entries packing log ≡ es ++ more → reports_from m s₀ (entries packing log) ≡ reports_from m s₀ es ++ reports_from m (after_all m s₀ es) more
   reports_lead es more log is = ap (reports_from m s₀) is ∙ reports-append m s₀ es more
 
-  -- what is written and what is kept
-  texts_parts : (s : S) (es : List Entry) (text report : List ℕ) (now : Devices) (made : Made m s₀ s es text report before now) → texts_from m s₀ es ≡ texts_from m s₀ made.written ++ text
+  -- what was made of entries, and what of it is written and kept
+  abbrev MadeOf : S → List Entry → List ℕ → List ℕ → Devices → Type 0
+  MadeOf s es text report now = Made m s₀ s es text report before.written now.written before.reported now.reported
+
+  texts_parts : (s : S) (es : List Entry) (text report : List ℕ) (now : Devices) (made : MadeOf s es text report now) → texts_from m s₀ es ≡ texts_from m s₀ made.written ++ text
   texts_parts s es text report now made =
       ap (texts_from m s₀) made.entries_are ∙ texts-append m s₀ made.written made.kept ∙ ap (λ t. texts_from m s₀ made.written ++ t) (sym made.text_is)
 
-  reports_parts : (s : S) (es : List Entry) (text report : List ℕ) (now : Devices) (made : Made m s₀ s es text report before now) → reports_from m s₀ es ≡ reports_from m s₀ made.written ++ report
+  reports_parts : (s : S) (es : List Entry) (text report : List ℕ) (now : Devices) (made : MadeOf s es text report now) → reports_from m s₀ es ≡ reports_from m s₀ made.written ++ report
   reports_parts s es text report now made =
       ap (reports_from m s₀) made.entries_are ∙ reports-append m s₀ made.written made.kept ∙ ap (λ t. reports_from m s₀ made.written ++ t) (sym made.report_is)
-
-  reports_whole : (s : S) (es : List Entry) (text report : List ℕ) (now : Devices) (made : Made m s₀ s es text report before now) → reports_from m s₀ made.written ++ report ≡ reports_from m s₀ es ++ []
-  reports_whole s es text report now made = sym (reports_parts s es text report now made) ∙ sym (append-nil (reports_from m s₀ es))
 
   -- nothing is made yet
   pub begins : (held : Held) (text report : List ℕ) → held ≡ record { kept = []; is_passing = false; has_ended = false; reads = 0; line = []; room = 4096 } → text ≡ [] → report ≡ [] → Stands m packing s₀ s₀ held text report before before
@@ -102,14 +104,22 @@ module _ {S : Type 0} (m : Making S) (packing : Packing) (s₀ : S) (before : De
       }
 
   -- all that is kept was written
-  made_written : (s : S) (es : List Entry) (text report : List ℕ) (now after : Devices) → Made m s₀ s es text report before now → Appends now.written after.written text → Appends now.reported after.reported report → Made m s₀ s es [] [] before after
+  all_printed : (s : S) (es : List Entry) (text report : List ℕ) (now : Devices) (w : Option (List ℕ)) → MadeOf s es text report now → Appends now.written w text → Appends before.written w (texts_from m s₀ es)
+  all_printed s es text report now w made texts =
+      subst (λ t. Appends before.written w t) (sym (texts_parts s es text report now made)) (Appends-trans before.written now.written w _ text made.printed texts)
+
+  all_reported : (s : S) (es : List Entry) (text report : List ℕ) (now : Devices) (e : Option (List ℕ)) → MadeOf s es text report now → Appends now.reported e report → Appends before.reported e (reports_from m s₀ es)
+  all_reported s es text report now e made reports =
+      subst (λ t. Appends before.reported e t) (sym (reports_parts s es text report now made)) (Appends-trans before.reported now.reported e _ report made.reported reports)
+
+  made_written : (s : S) (es : List Entry) (text report : List ℕ) (now after : Devices) → MadeOf s es text report now → Appends now.written after.written text → Appends now.reported after.reported report → MadeOf s es [] [] after
   made_written s es text report now after made texts reports = record {
     written = es;
     kept = [];
     entries_are = sym (append-nil es);
     state = made.state;
-    printed = subst (λ t. Appends before.written after.written t) (sym (texts_parts s es text report now made)) (Appends-trans before.written now.written after.written _ text made.printed texts);
-    reported = subst (λ t. Appends before.reported after.reported t) (sym (reports_parts s es text report now made)) (Appends-trans before.reported now.reported after.reported _ report made.reported reports);
+    printed = all_printed s es text report now after.written made texts;
+    reported = all_reported s es text report now after.reported made reports;
     text_is = refl;
     report_is = refl;
     counted = made.counted;
@@ -121,7 +131,7 @@ module _ {S : Type 0} (m : Making S) (packing : Packing) (s₀ : S) (before : De
       → Stands m packing s₀ s held text' report' before (record now { written = w'; failed_writes = fw'; reported = e'; failed_reports = fe' })
   writes s held text report now w' e' fw' fe' text' report' stands out none_failed none_kept =
       let after : Devices = record now { written = w'; failed_writes = fw'; reported = e'; failed_reports = fe' } in
-      let made : Made m s₀ s (entries packing stands.front) [] [] before after = made_written s _ text report now after stands.made out.0 out.1 in
+      let made : MadeOf s (entries packing stands.front) [] [] after = made_written s _ text report now after stands.made out.0 out.1 in
       record {
         front = stands.front;
         came = stands.came;
@@ -134,7 +144,7 @@ module _ {S : Type 0} (m : Making S) (packing : Packing) (s₀ : S) (before : De
       }
 
   -- one entry more was made
-  made_more : (s s' : S) (es : List Entry) (x : Entry) (text text' report report' : List ℕ) (now : Devices) → Made m s₀ s es text report before now → MovesOn m s s' x text text' report report' → Made m s₀ s' (es ++ (x ∷ [])) text' report' before now
+  made_more : (s s' : S) (es : List Entry) (x : Entry) (text text' report report' : List ℕ) (now : Devices) → MadeOf s es text report now → MovesOn m s s' x text text' report report' → MadeOf s' (es ++ (x ∷ [])) text' report' now
   made_more s s' es x text text' report report' now made moves =
       let mid : S = after_all m s₀ made.written in
       let here : after_all m mid made.kept ≡ s = sym (after-append m s₀ made.written made.kept) ∙ ap (after_all m s₀) (sym made.entries_are) ∙ sym made.state in
@@ -151,38 +161,12 @@ module _ {S : Type 0} (m : Making S) (packing : Packing) (s₀ : S) (before : De
         numbered = λ some. omega (arith, moves.few, made.counted, length-append es (x ∷ []));
       }
 
-  made_still : (s s' : S) (es : List Entry) (text text' report report' : List ℕ) (now : Devices) → Made m s₀ s es text report before now → StandsStill s s' text text' report report' → Made m s₀ s' es text' report' before now
-  made_still s s' es text text' report report' now made still = record {
-    written = made.written;
-    kept = made.kept;
-    entries_are = made.entries_are;
-    state = still.same_state ∙ made.state;
-    printed = made.printed;
-    reported = made.reported;
-    text_is = still.same_text ∙ made.text_is;
-    report_is = still.same_report ∙ made.report_is;
-    counted = ap m.lines still.same_state ∙ made.counted;
-    numbered = made.numbered;
-  }
+  made_still : (s s' : S) (es : List Entry) (text text' report report' : List ℕ) (now : Devices) → MadeOf s es text report now → StandsStill s s' text text' report report' → MadeOf s' es text' report' now
+  made_still s s' es text text' report report' now made still = rw (still.same_state, still.same_text, still.same_report) made
 
   -- the source after a call, the sinks as they were
   abbrev read_on : Devices → Option (List ℕ) → ℕ → ℕ → Devices
   read_on now left calls failed = record now { left = left; calls = calls; failed_reads = failed }
-
-  -- what is made does not hang on the source
-  made_read : (s : S) (es : List Entry) (text report : List ℕ) (now : Devices) (left : Option (List ℕ)) (calls failed : ℕ) → Made m s₀ s es text report before now → Made m s₀ s es text report before (read_on now left calls failed)
-  made_read s es text report now left calls failed made = record {
-    written = made.written;
-    kept = made.kept;
-    entries_are = made.entries_are;
-    state = made.state;
-    printed = made.printed;
-    reported = made.reported;
-    text_is = made.text_is;
-    report_is = made.report_is;
-    counted = made.counted;
-    numbered = made.numbered;
-  }
 
   calls_trans : (c₀ c c' r₀ r r' : ℕ) → CallsAre c₀ c r₀ r → CallsAre c c' r r' → CallsAre c₀ c' r₀ r'
   calls_trans c₀ c c' r₀ r r' (rise, inl p) (rises, inl q) = (omega (arith, rise, rises), inl (omega (arith, p, q)))
@@ -200,13 +184,13 @@ module _ {S : Type 0} (m : Making S) (packing : Packing) (s₀ : S) (before : De
       elim next [
         | inl one ↦
             let more = takes_more packing held held' before.left now.left left stands.front one.0 stands.came (stands.whole on) one.1 in
-            let moved = made_read s' _ text' report' now left calls failed (made_more s s' (entries packing stands.front) one.0 text text' report report' now stands.made one.2) in
+            let moved = made_more s s' (entries packing stands.front) one.0 text text' report report' now stands.made one.2 in
             record {
               front = more.longer;
               came = more.came;
               whole = more.whole;
               end = more.end;
-              made = subst (λ es. Made m s₀ s' es text' report' before (read_on now left calls failed)) (sym more.entries_are) moved;
+              made = subst (λ es. MadeOf s' es text' report' (read_on now left calls failed)) (sym more.entries_are) moved;
               called = calls_are;
               reads = reads;
               none_failed = none;
@@ -219,7 +203,7 @@ module _ {S : Type 0} (m : Making S) (packing : Packing) (s₀ : S) (before : De
               came = subst (λ b. Consumes before.left left b) all (Consumes-trans before.left now.left left (stands.front ++ unanswered held) bytes stands.came last.0.given);
               whole = λ _. stands.whole on;
               end = λ _. (last.0.none_held, last.0.at_end);
-              made = made_read s' _ text' report' now left calls failed (made_still s s' (entries packing stands.front) text text' report report' now stands.made last.1);
+              made = made_still s s' (entries packing stands.front) text text' report report' now stands.made last.1;
               called = calls_are;
               reads = reads;
               none_failed = none;
@@ -228,98 +212,78 @@ module _ {S : Type 0} (m : Making S) (packing : Packing) (s₀ : S) (before : De
 
   -- ---- what a run leaves
 
-  -- all of these entries are written, and they lead the log's
-  gained : (s : S) (es : List Entry) (now : Devices) → Made m s₀ s es [] [] before now → Gained o before now es
-  gained s es now made = record {
-    printed = subst (λ t. Appends before.written now.written t) (sym (texts_parts s es [] [] now made ∙ append-nil (texts_from m s₀ made.written))) made.printed;
-    reported = subst (λ t. Appends before.reported now.reported t) (sym (reports_parts s es [] [] now made ∙ append-nil (reports_from m s₀ made.written))) made.reported;
+  -- What the sinks gained of these entries: the reports of the first of them whole, and a front of the texts of the same.
+  record HasOut (es : List Entry) (after : Devices) : Type 0 where
+    taken : List Entry
+    rest : List Entry
+    entries_are : es ≡ taken ++ rest
+    printed : AppendsFront before.written after.written (texts_from m s₀ taken)
+    reports_first : (more : List ℕ) × Appends before.reported after.reported (reports_from m s₀ taken ++ more)
+    reported : AppendsFront before.reported after.reported (reports_from m s₀ es)
+
+  -- it is so for the log that they lead
+  all_entries : (es : List Entry) (after : Devices) (out : HasOut es after) (log : List ℕ) (l : (more : List Entry) × (entries packing log ≡ es ++ more)) → entries packing log ≡ out.taken ++ (out.rest ++ l.0)
+  all_entries es after out log l = l.1 ∙ ap (λ es. es ++ l.0) out.entries_are ∙ append_assoc out.taken out.rest l.0
+
+  fronts_of : (es : List Entry) (after : Devices) → HasOut es after → Leads packing before.left es → IfSome before.left (λ log. HasFronts o before after log)
+  fronts_of es after out lead = known_more before.left _ _ (λ log l. record {
+    printed = longer_front _ _ _ _ _ out.printed (texts_lead out.taken (out.rest ++ l.0) log (all_entries es after out log l));
+    reported = longer_front _ _ _ _ _ out.reported (reports_lead es l.0 log l.1);
+  }) lead
+
+  first_of : (es : List Entry) (after : Devices) → HasOut es after → Leads packing before.left es → IfSome before.left (λ log. ReportsFirst o before after log)
+  first_of es after out lead = known_more before.left _ _ (λ log l. record {
+    taken = out.taken;
+    left = out.rest ++ l.0;
+    lines_taken = all_entries es after out log l;
+    printed = out.printed;
+    reported = out.reports_first;
+  }) lead
+
+  -- all of them are written
+  gained : (s : S) (es : List Entry) (now : Devices) → MadeOf s es [] [] now → Gained o before now es
+  gained s es now made = record { printed = all_printed s es [] [] now now.written made (Appends-nil now.written); reported = all_reported s es [] [] now now.reported made (Appends-nil now.reported) }
+
+  -- all reports were written, and of the texts a front
+  written_out : (es : List Entry) (after : Devices) → AppendsFront before.written after.written (texts_from m s₀ es) → Appends before.reported after.reported (reports_from m s₀ es) → HasOut es after
+  written_out es after texts reports = record {
+    taken = es;
+    rest = [];
+    entries_are = sym (append-nil es);
+    printed = texts;
+    reports_first = ([], subst (λ t. Appends before.reported after.reported t) (sym (append-nil (reports_from m s₀ es))) reports);
+    reported = all_gained before.reported after.reported _ reports;
   }
 
-  gained_fronts : (es : List Entry) (after : Devices) → Gained o before after es → Leads packing before.left es → IfSome before.left (λ log. HasFronts o before after log)
-  gained_fronts es after g lead = known_more before.left _ _ (λ log l. record {
-    printed = all_front before.written after.written _ _ _ g.printed (texts_lead es l.0 log l.1);
-    reported = all_front before.reported after.reported _ _ _ g.reported (reports_lead es l.0 log l.1);
-  }) lead
-
-  gained_first : (es : List Entry) (after : Devices) → Gained o before after es → Leads packing before.left es → IfSome before.left (λ log. ReportsFirst o before after log)
-  gained_first es after g lead = known_more before.left _ _ (λ log l. record {
-    taken = es;
-    left = l.0;
-    lines_taken = l.1;
-    printed = all_front before.written after.written _ [] _ g.printed (sym (append-nil (texts_from m s₀ es)));
-    reported = ([], subst (λ t. Appends before.reported after.reported t) (sym (append-nil (reports_from m s₀ es))) g.reported);
-  }) lead
-
-  -- what was written stands, and no more
-  kept_fronts : (s : S) (es : List Entry) (text report : List ℕ) (now : Devices) → Made m s₀ s es text report before now → Leads packing before.left es → IfSome before.left (λ log. HasFronts o before now log)
-  kept_fronts s es text report now made lead = known_more before.left _ _ (λ log l. record {
-    printed = all_front before.written now.written _ (text ++ texts_from m (after_all m s₀ es) l.0) _ made.printed (texts_lead es l.0 log l.1 ∙ ap (λ t. t ++ texts_from m (after_all m s₀ es) l.0) (texts_parts s es text report now made) ∙ append_assoc (texts_from m s₀ made.written) text (texts_from m (after_all m s₀ es) l.0));
-    reported = all_front before.reported now.reported _ (report ++ reports_from m (after_all m s₀ es) l.0) _ made.reported (reports_lead es l.0 log l.1 ∙ ap (λ t. t ++ reports_from m (after_all m s₀ es) l.0) (reports_parts s es text report now made) ∙ append_assoc (reports_from m s₀ made.written) report (reports_from m (after_all m s₀ es) l.0));
-  }) lead
-
-  kept_first : (s : S) (es : List Entry) (text report : List ℕ) (now : Devices) → Made m s₀ s es text report before now → Leads packing before.left es → IfSome before.left (λ log. ReportsFirst o before now log)
-  kept_first s es text report now made lead = known_more before.left _ _ (λ log l. record {
+  -- no more texts were written, and of the reports a front
+  report_out : (s : S) (es : List Entry) (text report : List ℕ) (now after : Devices) → MadeOf s es text report now → (after.written ≡ now.written) × AppendsFront now.reported after.reported report → HasOut es after
+  report_out s es text report now after made out = record {
     taken = made.written;
-    left = made.kept ++ l.0;
-    lines_taken = l.1 ∙ ap (λ es. es ++ l.0) made.entries_are ∙ append_assoc made.written made.kept l.0;
-    printed = all_front before.written now.written _ [] _ made.printed (sym (append-nil (texts_from m s₀ made.written)));
-    reported = ([], subst (λ t. Appends before.reported now.reported t) (sym (append-nil (reports_from m s₀ made.written))) made.reported);
-  }) lead
+    rest = made.kept;
+    entries_are = made.entries_are;
+    printed = all_gained before.written after.written _ (subst (λ w. Appends before.written w (texts_from m s₀ made.written)) (sym out.0) made.printed);
+    reports_first = (out.1.1.front, Appends-trans before.reported now.reported after.reported _ out.1.1.front made.reported out.1.1.appended);
+    reported = more_front before.reported now.reported after.reported _ report _ made.reported out.1 (reports_parts s es text report now made);
+  }
 
-  -- the sink of the reports failed: of the texts nothing more was written
-  report_fronts : (s : S) (es : List Entry) (text report : List ℕ) (now after : Devices) → Made m s₀ s es text report before now → (after.written ≡ now.written) × AppendsFront now.reported after.reported report → Leads packing before.left es → IfSome before.left (λ log. HasFronts o before after log)
-  report_fronts s es text report now after made out lead = known_more before.left _ _ (λ log l. record {
-    printed = all_front before.written after.written _ (text ++ texts_from m (after_all m s₀ es) l.0) _ (subst (λ w. Appends before.written w (texts_from m s₀ made.written)) (sym out.0) made.printed) (texts_lead es l.0 log l.1 ∙ ap (λ t. t ++ texts_from m (after_all m s₀ es) l.0) (texts_parts s es text report now made) ∙ append_assoc (texts_from m s₀ made.written) text (texts_from m (after_all m s₀ es) l.0));
-    reported = more_front before.reported now.reported after.reported _ report (reports_from m (after_all m s₀ es) l.0) _ made.reported out.1 (reports_lead es l.0 log l.1 ∙ ap (λ t. t ++ reports_from m (after_all m s₀ es) l.0) (reports_parts s es text report now made));
-  }) lead
-
-  report_first : (s : S) (es : List Entry) (text report : List ℕ) (now after : Devices) → Made m s₀ s es text report before now → (after.written ≡ now.written) × AppendsFront now.reported after.reported report → Leads packing before.left es → IfSome before.left (λ log. ReportsFirst o before after log)
-  report_first s es text report now after made out lead = known_more before.left _ _ (λ log l. record {
-    taken = made.written;
-    left = made.kept ++ l.0;
-    lines_taken = l.1 ∙ ap (λ es. es ++ l.0) made.entries_are ∙ append_assoc made.written made.kept l.0;
-    printed = all_front before.written after.written _ [] _ (subst (λ w. Appends before.written w (texts_from m s₀ made.written)) (sym out.0) made.printed) (sym (append-nil (texts_from m s₀ made.written)));
-    reported = (out.1.1.front, Appends-trans before.reported now.reported after.reported _ out.1.1.front made.reported out.1.1.appended);
-  }) lead
-
-  -- the sink of the texts failed: the reports of the same lines were written
-  write_fronts : (s : S) (es : List Entry) (text report : List ℕ) (now after : Devices) → Made m s₀ s es text report before now → AppendsFront now.written after.written text × Appends now.reported after.reported report → Leads packing before.left es → IfSome before.left (λ log. HasFronts o before after log)
-  write_fronts s es text report now after made out lead = known_more before.left _ _ (λ log l. record {
-    printed = more_front before.written now.written after.written _ text (texts_from m (after_all m s₀ es) l.0) _ made.printed out.0 (texts_lead es l.0 log l.1 ∙ ap (λ t. t ++ texts_from m (after_all m s₀ es) l.0) (texts_parts s es text report now made));
-    reported = all_front before.reported after.reported _ (reports_from m (after_all m s₀ es) l.0) _ (Appends-trans before.reported now.reported after.reported _ report made.reported out.1) (reports_lead es l.0 log l.1 ∙ ap (λ t. t ++ reports_from m (after_all m s₀ es) l.0) (reports_parts s es text report now made));
-  }) lead
-
-  write_first : (s : S) (es : List Entry) (text report : List ℕ) (now after : Devices) → Made m s₀ s es text report before now → AppendsFront now.written after.written text × Appends now.reported after.reported report → Leads packing before.left es → IfSome before.left (λ log. ReportsFirst o before after log)
-  write_first s es text report now after made out lead = known_more before.left _ _ (λ log l. record {
-    taken = es;
-    left = l.0;
-    lines_taken = l.1;
-    printed = more_front before.written now.written after.written _ text [] _ made.printed out.0 (texts_parts s es text report now made ∙ sym (append-nil (texts_from m s₀ made.written ++ text)));
-    reported = ([], subst (λ t. Appends before.reported after.reported t) (reports_whole s es text report now made) (Appends-trans before.reported now.reported after.reported _ report made.reported out.1));
-  }) lead
+  -- how a run ends by a fault, of which so much is out
+  ended : (stands : List Entry → Type 0) (es : List Entry) (after : Devices) (fault : RunFault) → Ends {T = Unit {0}} o stands before after (Err fault) → HasOut es after → Leads packing before.left es → HasDevice {T = Unit {0}} before after (Err fault)
+      → ReadsBytes 1 before.left after.left before.calls after.calls → Runs {T = Unit {0}} o stands before after (Err fault)
+  ended stands es after fault ends out lead device reads = record { ends = ends; fronts = fronts_of es after out lead; reports_first = first_of es after out lead; device = device; reads = reads }
 
   -- a sink failed
-  pub sink_end : (stands : List Entry → Type 0) (s : S) (es : List Entry) (text report : List ℕ) (now after : Devices) (fault : RunFault) → Made m s₀ s es text report before now → Leads packing before.left es → after.failed_reads ≡ before.failed_reads → now.failed_writes ≡ before.failed_writes → now.failed_reports ≡ before.failed_reports
+  pub sink_end : (stands : List Entry → Type 0) (s : S) (es : List Entry) (text report : List ℕ) (now after : Devices) (fault : RunFault) → MadeOf s es text report now → Leads packing before.left es → after.failed_reads ≡ before.failed_reads → now.failed_writes ≡ before.failed_writes → now.failed_reports ≡ before.failed_reports
       → WritesKept {T = Unit {0}} text report now.written after.written now.reported after.reported (Err fault) → FailsKept {T = Unit {0}} now.failed_writes after.failed_writes now.failed_reports after.failed_reports (Err fault)
       → ReadsBytes 1 before.left after.left before.calls after.calls
       → Runs {T = Unit {0}} o stands before after (Err fault)
-  sink_end stands s es text report now after Write made lead reads writes reports out fails calls = record {
-    ends = tt;
-    fronts = write_fronts s es text report now after made (out.0, out.1) lead;
-    reports_first = write_first s es text report now after made (out.0, out.1) lead;
-    device = record { reads = reads; writes = subst (λ n. HasFailed n after.failed_writes) writes fails.0; reports = fails.1 ∙ reports };
-    reads = calls;
-  }
-  sink_end stands s es text report now after Report made lead reads writes reports out fails calls = record {
-    ends = tt;
-    fronts = report_fronts s es text report now after made (out.0, out.1) lead;
-    reports_first = report_first s es text report now after made (out.0, out.1) lead;
-    device = record { reads = reads; writes = fails.1 ∙ writes; reports = subst (λ n. HasFailed n after.failed_reports) reports fails.0 };
-    reads = calls;
-  }
-  sink_end stands s es text report now after Read made lead reads writes reports out fails calls = absurd out
-  sink_end stands s es text report now after Memory made lead reads writes reports out fails calls = absurd out
-  sink_end stands s es text report now after TooManyLines made lead reads writes reports out fails calls = absurd out
+  sink_end stands s es text report now after Write made lead reads writes reports out fails calls =
+      let texts = more_front before.written now.written after.written _ text _ made.printed out.0 (texts_parts s es text report now made) in
+      ended stands es after Write tt (written_out es after texts (all_reported s es text report now after.reported made out.1)) lead
+      (record { reads = reads; writes = subst (λ n. HasFailed n after.failed_writes) writes fails.0; reports = fails.1 ∙ reports }) calls
+  sink_end stands s es text report now after Report made lead reads writes reports out fails calls =
+      ended stands es after Report tt (report_out s es text report now after made (out.0, out.1)) lead
+      (record { reads = reads; writes = fails.1 ∙ writes; reports = subst (λ n. HasFailed n after.failed_reports) reports fails.0 }) calls
+  sink_end stands s es text report now after _ made lead reads writes reports out fails calls = absurd out
 
   pub lead_of : (s : S) (held : Held) (text report : List ℕ) (now : Devices) (stands : Stands m packing s₀ s held text report before now) → Leads packing before.left (entries packing stands.front)
   lead_of s held text report now stands = leads packing before.left now.left stands.front (unanswered held) held.has_ended stands.came stands.whole stands.end
@@ -334,15 +298,10 @@ module _ {S : Type 0} (m : Making S) (packing : Packing) (s₀ : S) (before : De
   -- memory was refused: nothing more is written
   pub memory_end : (stands : List Entry → Type 0) (s : S) (held : Held) (text report : List ℕ) (now : Devices) (left : Option (List ℕ)) (calls failed : ℕ) → Stands m packing s₀ s held text report before now → held.has_ended ≡ false → ReadsBytes 1 now.left left now.calls calls → failed ≡ now.failed_reads → Runs {T = Unit {0}} o stands before (read_on now left calls failed) (Err Memory)
   memory_end stands s held text report now left calls failed stood on next none_failed =
-      let made = made_read s (entries packing stood.front) text report now left calls failed stood.made in
-      let lead = lead_of s held text report now stood in
-      record {
-        ends = tt;
-        fronts = kept_fronts s (entries packing stood.front) text report (read_on now left calls failed) made lead;
-        reports_first = kept_first s (entries packing stood.front) text report (read_on now left calls failed) made lead;
-        device = record { reads = none_failed ∙ stood.none_failed.reads; writes = stood.none_failed.writes; reports = stood.none_failed.reports };
-        reads = calls_next s held text report now left calls stood on next;
-      }
+      let es = entries packing stood.front in
+      let after = read_on now left calls failed in
+      ended stands es after Memory tt (report_out s es text report now after stood.made (refl, none_gained now.reported report)) (lead_of s held text report now stood)
+      (record { reads = none_failed ∙ stood.none_failed.reads; writes = stood.none_failed.writes; reports = stood.none_failed.reports }) (calls_next s held text report now left calls stood on next)
 
   -- the end of the log
   pub whole_end : (s : S) (held : Held) (text report : List ℕ) (now : Devices) (w' e' : Option (List ℕ)) (fw' fe' : ℕ) → Stands m packing s₀ s held text report before now → held.has_ended ≡ true
@@ -351,7 +310,7 @@ module _ {S : Type 0} (m : Making S) (packing : Packing) (s₀ : S) (before : De
   whole_end s held text report now w' e' fw' fe' stands ended out none_failed =
       let after : Devices = record now { written = w'; failed_writes = fw'; reported = e'; failed_reports = fe' } in
       let es = entries packing stands.front in
-      let made : Made m s₀ s es [] [] before after = made_written s es text report now after stands.made out.0 out.1 in
+      let made : MadeOf s es [] [] after = made_written s es text report now after stands.made out.0 out.1 in
       let all = gained s es after made in
       let lead = lead_of s held text report now stands in
       let end = stands.end ended in
@@ -365,7 +324,7 @@ module _ {S : Type 0} (m : Making S) (packing : Packing) (s₀ : S) (before : De
           holds = stands.made.state;
         };
         fronts = tt;
-        reports_first = gained_first es after all lead;
+        reports_first = first_of es after (written_out es after (all_gained _ _ _ all.printed) all.reported) lead;
         device = record { reads = stands.none_failed.reads; writes = none_failed.0 ∙ stands.none_failed.writes; reports = none_failed.1 ∙ stands.none_failed.reports };
         reads = calls_here s held text report now stands;
       }
@@ -380,17 +339,16 @@ module _ {S : Type 0} (m : Making S) (packing : Packing) (s₀ : S) (before : De
 
   -- a fault of the next line, where nothing moved
   pub still_made : (s s' : S) (held held' : Held) (text text' report report' : List ℕ) (now : Devices) (left : Option (List ℕ)) (calls failed : ℕ) (fault : RunFault) → Stands m packing s₀ s held text report before now → TakesNext {T = Unit {0}} m packing s s' held held' now.left left text text' report report' (Err fault) → (fault ≡ Memory → ⊥)
-      → (es : List Entry) → Made m s₀ s es text report before now → Made m s₀ s' es text' report' before (read_on now left calls failed)
-  still_made s s' held held' text text' report report' now left calls failed Read stands next not_memory es made = made_read s' es text' report' now left calls failed (made_still s s' es text text' report report' now made next.1)
-  still_made s s' held held' text text' report report' now left calls failed TooManyLines stands next not_memory es made = made_read s' es text' report' now left calls failed (made_still s s' es text text' report report' now made next.2)
+      → (es : List Entry) → MadeOf s es text report now → MadeOf s' es text' report' (read_on now left calls failed)
+  still_made s s' held held' text text' report report' now left calls failed Read stands next not_memory es made = made_still s s' es text text' report report' now made next.1
+  still_made s s' held held' text text' report report' now left calls failed TooManyLines stands next not_memory es made = made_still s s' es text text' report report' now made next.2
   still_made s s' held held' text text' report report' now left calls failed Memory stands next not_memory es made = absurd (not_memory refl)
-  still_made s s' held held' text text' report report' now left calls failed Write stands next not_memory es made = absurd next
-  still_made s s' held held' text text' report report' now left calls failed Report stands next not_memory es made = absurd next
+  still_made s s' held held' text text' report report' now left calls failed _ stands next not_memory es made = absurd next
 
   -- the source failed, or gave no end: the lines whose end came are written
   cut_end : (s s' : S) (held held' : Held) (text text' report report' : List ℕ) (now after : Devices) (stands : Stands m packing s₀ s held text report before now) → held.has_ended ≡ false
       → (next : TakesNext {T = Unit {0}} m packing s s' held held' now.left after.left text text' report report' (Err Read))
-      → Made m s₀ s' (entries packing stands.front) [] [] before after
+      → MadeOf s' (entries packing stands.front) [] [] after
       → IsCut o (λ es. s' ≡ after_all m s₀ es) before after
   cut_end s s' held held' text text' report report' now after stands on next made =
       let bytes : List ℕ = unanswered held ++ next.0.came in
@@ -407,7 +365,7 @@ module _ {S : Type 0} (m : Making S) (packing : Packing) (s₀ : S) (before : De
   -- no more lines are counted, and one more came
   full_end : (s s' : S) (held held' : Held) (text text' report report' : List ℕ) (now after : Devices) (stands : Stands m packing s₀ s held text report before now) → held.has_ended ≡ false
       → (next : TakesNext {T = Unit {0}} m packing s s' held held' now.left after.left text text' report report' (Err TooManyLines))
-      → Made m s₀ s' (entries packing stands.front) [] [] before after
+      → MadeOf s' (entries packing stands.front) [] [] after
       → IsFull o (λ es. s' ≡ after_all m s₀ es) before after
   full_end s s' held held' text text' report report' now after stands on next made =
       let more = takes_more packing held held' before.left now.left after.left stands.front next.0 stands.came (stands.whole on) next.1 in
@@ -422,13 +380,11 @@ module _ {S : Type 0} (m : Making S) (packing : Packing) (s₀ : S) (before : De
 
   fault_ends : (s s' : S) (held held' : Held) (text text' report report' : List ℕ) (now after : Devices) (fault : RunFault) (stands : Stands m packing s₀ s held text report before now) → held.has_ended ≡ false
       → (next : TakesNext {T = Unit {0}} m packing s s' held held' now.left after.left text text' report report' (Err fault)) → (fault ≡ Memory → ⊥)
-      → Made m s₀ s' (entries packing stands.front) [] [] before after
+      → MadeOf s' (entries packing stands.front) [] [] after
       → Ends {T = Unit {0}} o (λ es. s' ≡ after_all m s₀ es) before after (Err fault)
   fault_ends s s' held held' text text' report report' now after Read stands on next not_memory made = cut_end s s' held held' text text' report report' now after stands on next made
   fault_ends s s' held held' text text' report report' now after TooManyLines stands on next not_memory made = full_end s s' held held' text text' report report' now after stands on next made
-  fault_ends s s' held held' text text' report report' now after Memory stands on next not_memory made = tt
-  fault_ends s s' held held' text text' report report' now after Write stands on next not_memory made = tt
-  fault_ends s s' held held' text text' report report' now after Report stands on next not_memory made = tt
+  fault_ends s s' held held' text text' report report' now after _ stands on next not_memory made = tt
 
   -- a read's fault is the source's, or that of the most reads
   fault_device : (now after : Devices) (s s' : S) (held held' : Held) (text text' report report' : List ℕ) (fault : RunFault) → NoneFailed before now → (after.failed_writes ≡ now.failed_writes) × (after.failed_reports ≡ now.failed_reports) → CallsAre before.calls after.calls 0 held'.reads
@@ -441,8 +397,7 @@ module _ {S : Type 0} (m : Making S) (packing : Packing) (s₀ : S) (before : De
   }
   fault_device now after s s' held held' text text' report report' Write none hold called next reads = absurd next
   fault_device now after s s' held held' text text' report report' Report none hold called next reads = absurd next
-  fault_device now after s s' held held' text text' report report' Memory none hold called next reads = record { reads = reads ∙ none.reads; writes = hold.0 ∙ none.writes; reports = hold.1 ∙ none.reports }
-  fault_device now after s s' held held' text text' report report' TooManyLines none hold called next reads = record { reads = reads ∙ none.reads; writes = hold.0 ∙ none.writes; reports = hold.1 ∙ none.reports }
+  fault_device now after s s' held held' text text' report report' _ none hold called next reads = record { reads = reads ∙ none.reads; writes = hold.0 ∙ none.writes; reports = hold.1 ∙ none.reports }
 
   pub fault_end : (s s' : S) (held held' : Held) (text text' report report' : List ℕ) (now : Devices) (left : Option (List ℕ)) (calls failed : ℕ) (w' e' : Option (List ℕ)) (fw' fe' : ℕ) (fault : RunFault) → Stands m packing s₀ s held text report before now → held.has_ended ≡ false
       → TakesNext {T = Unit {0}} m packing s s' held held' now.left left text text' report report' (Err fault) → (fault ≡ Memory → ⊥) → ReadsNext {T = Unit {0}} held' now.failed_reads failed (Err fault) → CallsAre now.calls calls held.reads held'.reads → ReadsBytes 1 now.left left now.calls calls
@@ -452,14 +407,10 @@ module _ {S : Type 0} (m : Making S) (packing : Packing) (s₀ : S) (before : De
       let mid : Devices = read_on now left calls failed in
       let after : Devices = record now { left = left; calls = calls; failed_reads = failed; written = w'; failed_writes = fw'; reported = e'; failed_reports = fe' } in
       let es = entries packing stands.front in
-      let made : Made m s₀ s' es text' report' before mid = still_made s s' held held' text text' report report' now left calls failed fault stands next not_memory es stands.made in
-      let done : Made m s₀ s' es [] [] before after = made_written s' es text' report' mid after made out.0 out.1 in
+      let made : MadeOf s' es text' report' mid = still_made s s' held held' text text' report report' now left calls failed fault stands next not_memory es stands.made in
+      let done : MadeOf s' es [] [] after = made_written s' es text' report' mid after made out.0 out.1 in
       let all = gained s' es after done in
-      let lead = lead_of s held text report now stands in
-      record {
-        ends = fault_ends s s' held held' text text' report report' now after fault stands on next not_memory done;
-        fronts = gained_fronts es after all lead;
-        reports_first = gained_first es after all lead;
-        device = fault_device now after s s' held held' text text' report report' fault stands.none_failed hold (calls_trans before.calls now.calls calls 0 held.reads held'.reads stands.called called) next reads;
-        reads = calls_next s held text report now left calls stands on calls_more;
-      }
+      ended (λ es. s' ≡ after_all m s₀ es) es after fault (fault_ends s s' held held' text text' report report' now after fault stands on next not_memory done)
+      (written_out es after (all_gained _ _ _ all.printed) all.reported) (lead_of s held text report now stands)
+      (fault_device now after s s' held held' text text' report report' fault stands.none_failed hold (calls_trans before.calls now.calls calls 0 held.reads held'.reads stands.called called) next reads)
+      (calls_next s held text report now left calls stands on calls_more)

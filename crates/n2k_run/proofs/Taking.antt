@@ -24,11 +24,9 @@ long_entry line packing long =
 module _ {S : Type 0} (m : Making S) (packing : Packing) (s s' : S) (old new : Held) (left₀ left : Option (List ℕ)) (text text' report report' : List ℕ) where
   takes_entry : {T : Type 0} (x : Entry) (result : Result T RunFault) → NextEntry packing old new left₀ left x → Takes m s s' x text text' report report' result → TakesNext m packing s s' old new left₀ left text text' report report' result
   takes_entry x (Ok y) next takes = inl (x, next, takes)
-  takes_entry x (Err Read) next takes = absurd takes
-  takes_entry x (Err Write) next takes = absurd takes
-  takes_entry x (Err Report) next takes = absurd takes
   takes_entry x (Err Memory) next takes = tt
   takes_entry x (Err TooManyLines) next takes = (x, next, takes.0, takes.1)
+  takes_entry x _ next takes = absurd takes
 
   pub takes_line : {T : Type 0} (line : Bor (List ℕ)) (x : Entry) (calls₀ calls : ℕ) (result : Result T RunFault) → Answers old new left₀ left calls₀ calls (Ok (Line line)) → x ≡ entry line.now packing → Takes m s s' x text text' report report' result → TakesNext m packing s s' old new left₀ left text text' report report' result
   takes_line line x calls₀ calls result a is takes =

@@ -1,7 +1,7 @@
 -- The entries of a log, one a line, and what they count for.
 use Rattle.std.specs.Prelude.{ℕ, Bool, true, false, List, map}
 use Rattle.n2k_wire.specs.declared.entry.Entry.{Entry}
-use Rattle.n2k_wire.specs.declared.entry.Entry.TheVariants.{Skip, Bad, Frame, Whole}
+use Rattle.n2k_wire.specs.declared.entry.Entry.TheVariants.{Bad, Frame, Whole}
 use Rattle.n2k_wire.specs.declared.entry.Packing.{Packing}
 use Rattle.n2k_wire.specs.Entry.{entry}
 use Rattle.n2k_run.specs.Lines.{lines}
@@ -12,14 +12,11 @@ entries packing log = map (λ line. entry line packing) (lines log)
 
 -- a line that can't be read
 abbrev pub is_bad : Entry → Bool
-is_bad Skip = false
 is_bad (Bad cause) = true
-is_bad (Frame packet) = false
-is_bad (Whole packet) = false
+is_bad _ = false
 
 -- a line that is a frame, or a whole message
 abbrev pub is_packet : Entry → Bool
-is_packet Skip = false
-is_packet (Bad cause) = false
 is_packet (Frame packet) = true
 is_packet (Whole packet) = true
+is_packet _ = false

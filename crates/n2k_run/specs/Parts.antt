@@ -55,18 +55,14 @@ pub record IsPartOf (t : TableParts) (o : Options) (s : State) (part : Part) : T
 abbrev pub HasPart : TableParts → Options → Result Part PartFault → State → Type 0
 HasPart t o (Ok part) s = IsPartOf t o s part
 HasPart t o (Err (Stopped fault part)) s = IsPartOf t o s part
-HasPart t o (Err (Refused fault)) s = Unit {0}
-HasPart t o (Err (Run fault)) s = Unit {0}
-HasPart t o (Err Memory) s = Unit {0}
+HasPart t o _ s = Unit {0}
 
 -- after such a run the join stands at a line, and can be saved
 abbrev pub StandsAtLine : Result (Unit {0}) RunFault → Type 0
 StandsAtLine (Ok x) = Unit {0}
 StandsAtLine (Err run_faults.Read) = Unit {0}
 StandsAtLine (Err run_faults.TooManyLines) = Unit {0}
-StandsAtLine (Err run_faults.Write) = ⊥
-StandsAtLine (Err run_faults.Report) = ⊥
-StandsAtLine (Err run_faults.Memory) = ⊥
+StandsAtLine _ = ⊥
 
 -- How the run ended of which an answer tells: so as the answer says, or at a line where its state could not be saved.
 -- Where the state that was handed in is refused, nothing was run, and this is as after want of memory.
@@ -86,37 +82,26 @@ pub record TellsRun (o : Output) (stands : List Entry → Type 0) (before after 
 
 -- Each kind of refusal has its faults: a Part is answered where the run stands at a line, and none where it is spent.
 abbrev pub IsOfKind : Result Part PartFault → Type 0
-IsOfKind (Ok part) = Unit {0}
-IsOfKind (Err (Refused fault)) = Unit {0}
 IsOfKind (Err (Stopped fault part)) = (fault ≡ run_faults.Read) ⊎ (fault ≡ run_faults.TooManyLines)
 IsOfKind (Err (Run fault)) = (fault ≡ run_faults.Write) ⊎ ((fault ≡ run_faults.Report) ⊎ (fault ≡ run_faults.Memory))
-IsOfKind (Err Memory) = Unit {0}
+IsOfKind _ = Unit {0}
 
 -- A state that was handed in is refused, by the first fault that stands in it or for want of memory; else it is the
 -- one that the part begins with.
 abbrev pub BeginsBy : TableParts → Options → Option (List ℕ) → Result Part PartFault → Type 0
 BeginsBy t o handed (Err (Refused fault)) =
     IsSome handed × ((fault ≡ state_faults.Memory) ⊎ (begun t o handed ≡ Err fault))
-BeginsBy t o handed (Err (Stopped fault part)) = IsOk (begun t o handed)
-BeginsBy t o handed (Err (Run fault)) = IsOk (begun t o handed)
-BeginsBy t o handed (Err Memory) = IsOk (begun t o handed)
-BeginsBy t o handed (Ok part) = IsOk (begun t o handed)
+BeginsBy t o handed _ = IsOk (begun t o handed)
 
 -- where a state is refused, it is for want of memory alone
 abbrev pub RefusedByMemory : Result Part PartFault → Type 0
 RefusedByMemory (Err (Refused fault)) = fault ≡ state_faults.Memory
-RefusedByMemory (Err (Stopped fault part)) = Unit {0}
-RefusedByMemory (Err (Run fault)) = Unit {0}
-RefusedByMemory (Err Memory) = Unit {0}
-RefusedByMemory (Ok part) = Unit {0}
+RefusedByMemory _ = Unit {0}
 
 -- this holds where the state was refused
 abbrev pub OnRefusal : Result Part PartFault → Type 0 → Type 0
 OnRefusal (Err (Refused fault)) P = P
-OnRefusal (Err (Stopped fault part)) P = Unit {0}
-OnRefusal (Err (Run fault)) P = Unit {0}
-OnRefusal (Err Memory) P = Unit {0}
-OnRefusal (Ok part) P = Unit {0}
+OnRefusal _ P = Unit {0}
 
 -- ---- the headline
 
@@ -170,23 +155,18 @@ Continues t o front before after (Err (Stopped run_faults.Read part)) =
     (came : List ℕ) × Consumes before.left after.left came × GoesOn t o front (whole_lines came) before after part
 Continues t o front before after (Err (Stopped run_faults.TooManyLines part)) =
     IfSome before.left (λ log. GoesOnToLimit t o front log before after part)
-Continues t o front before after (Err (Stopped run_faults.Write part)) = ⊥
-Continues t o front before after (Err (Stopped run_faults.Report part)) = ⊥
-Continues t o front before after (Err (Stopped run_faults.Memory part)) = ⊥
+Continues t o front before after (Err (Stopped _ part)) = ⊥
 Continues t o front before after (Err (Refused fault)) = fault ≡ state_faults.Memory
-Continues t o front before after (Err (Run fault)) = IfSome before.left (λ log. GoesOnPartly t o front log before after)
-Continues t o front before after (Err Memory) = IfSome before.left (λ log. GoesOnPartly t o front log before after)
+Continues t o front before after _ = IfSome before.left (λ log. GoesOnPartly t o front log before after)
 
 -- ---- what the run of a part promises
 
 -- From a state that is handed in, or, where there is none, from a log's beginning.
 pub record RunsFrom (t : TableParts) (o : Options) (handed : Option (List ℕ)) (before after : Devices)
     (result : Result Part PartFault) : Type 0 where
-  -- Each kind of refusal has its faults. A state is refused for what stands in it, or for want of memory, and then no
-  -- device is touched.
+  -- Each kind of refusal has its faults. A state is refused for what stands in it, or for want of memory.
   pub fault_kinds : IsOfKind result
   pub begins : BeginsBy t o handed result
-  pub untouched : OnRefusal result (after ≡ before)
   -- From any state that reads, whether or not a log leads to it: the texts and reports of the steps of the part's
   -- entries.
   pub steps : (s : State) → begun t o handed ≡ Ok s
@@ -263,10 +243,7 @@ AreWithinReads parts = All (λ part. length part + 1 < most_reads) parts
 -- a run was not stopped for Read
 abbrev pub IsNotRead : Result Part PartFault → Type 0
 IsNotRead (Err (Stopped fault part)) = fault ≡ run_faults.Read → ⊥
-IsNotRead (Err (Refused fault)) = Unit {0}
-IsNotRead (Err (Run fault)) = Unit {0}
-IsNotRead (Err Memory) = Unit {0}
-IsNotRead (Ok part) = Unit {0}
+IsNotRead _ = Unit {0}
 
 -- the whole log was printed: the sinks gained its output and its reports, and the Part is what is saved and counted
 -- after it

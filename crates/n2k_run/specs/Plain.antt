@@ -2,7 +2,7 @@
 use Rattle.std.specs.Prelude.{ℕ, List, [], length, count_by}
 use Rattle.std.specs.List.{flat_map}
 use Rattle.n2k_wire.specs.declared.entry.Entry.{Entry}
-use Rattle.n2k_wire.specs.declared.entry.Entry.TheVariants.{Skip, Bad, Frame, Whole}
+use Rattle.n2k_wire.specs.declared.entry.Entry.TheVariants.{Frame, Whole}
 use Rattle.n2k_wire.specs.declared.entry.Packing.TheVariants.{Frames}
 use Rattle.n2k_wire.specs.Texts.{plain_text}
 use Rattle.n2k_join.specs.declared.counts.Counts.{Counts}
@@ -12,10 +12,9 @@ use Rattle.n2k_run.specs.Runs.{Output}
 
 -- the plain line of a frame or of a whole message
 abbrev pub plain_line : Entry → List ℕ
-plain_line Skip = []
-plain_line (Bad cause) = []
 plain_line (Frame packet) = plain_text packet
 plain_line (Whole packet) = plain_text packet
+plain_line _ = []
 
 -- the plain lines of these entries, in their order
 abbrev pub plain_lines : List Entry → List ℕ

@@ -4,7 +4,7 @@ use Rattle.std.specs.List.{flat_map, enumerate_from}
 use Rattle.n2k_wire.specs.declared.entry.BadCause.{BadCause}
 use Rattle.n2k_wire.specs.declared.entry.BadCause.TheVariants as causes
 use Rattle.n2k_wire.specs.declared.entry.Entry.{Entry}
-use Rattle.n2k_wire.specs.declared.entry.Entry.TheVariants.{Skip, Bad, Frame, Whole}
+use Rattle.n2k_wire.specs.declared.entry.Entry.TheVariants.{Bad}
 use Rattle.n2k_join.specs.declared.broken.Broken.{Broken}
 use Rattle.n2k_join.specs.declared.counts.Counts.{Counts}
 
@@ -51,10 +51,8 @@ summary_text counts =
 
 -- what is reported of the entry of that line by itself
 abbrev pub bad_report : ℕ → Entry → List ℕ
-bad_report number Skip = []
 bad_report number (Bad cause) = bad_text number cause
-bad_report number (Frame packet) = []
-bad_report number (Whole packet) = []
+bad_report number _ = []
 
 -- the reports of bad lines among these entries, whose first is that of line `first`
 abbrev pub bad_reports_from : ℕ → List Entry → List ℕ

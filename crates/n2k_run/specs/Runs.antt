@@ -7,7 +7,7 @@ use Rattle.n2k_join.specs.Counts.{most_lines}
 use Rattle.n2k_run.specs.declared.device.Sink.{Ghosts as OfSink}
 use Rattle.n2k_run.specs.declared.device.Source.{Ghosts as OfSource}
 use Rattle.n2k_run.specs.declared.fault.RunFault.{RunFault}
-use Rattle.n2k_run.specs.declared.fault.RunFault.TheVariants.{Read, Write, Report, Memory, TooManyLines}
+use Rattle.n2k_run.specs.declared.fault.RunFault.TheVariants.{Read, Write, Report, TooManyLines}
 use Rattle.n2k_run.specs.Device.{HasFailed}
 use Rattle.n2k_run.specs.Entries.{entries}
 use Rattle.n2k_run.specs.Lines.{whole_lines}
@@ -114,9 +114,7 @@ abbrev pub Ends : {T : Type 0} → Output → (List Entry → Type 0) → Device
 Ends o stands before after (Ok x) = IsWhole o stands before after
 Ends o stands before after (Err Read) = IsCut o stands before after
 Ends o stands before after (Err TooManyLines) = IsFull o stands before after
-Ends o stands before after (Err Write) = Unit {0}
-Ends o stands before after (Err Report) = Unit {0}
-Ends o stands before after (Err Memory) = Unit {0}
+Ends o stands before after _ = Unit {0}
 
 -- the sinks gained a front of the texts and a front of the reports of the whole log
 pub record HasFronts (o : Output) (before after : Devices) (log : List ℕ) : Type 0 where
@@ -160,12 +158,10 @@ pub record ReportFails (before after : Devices) : Type 0 where
 -- A fault of a device is that device's own, or for Read that no end was found by 10^12 reads, and no other device
 -- failed. No failure of a device is told as another fault, or as none.
 abbrev pub HasDevice : {T : Type 0} → Devices → Devices → Result T RunFault → Type 0
-HasDevice before after (Ok x) = NoneFailed before after
 HasDevice before after (Err Read) = ReadFails before after
 HasDevice before after (Err Write) = WriteFails before after
 HasDevice before after (Err Report) = ReportFails before after
-HasDevice before after (Err Memory) = NoneFailed before after
-HasDevice before after (Err TooManyLines) = NoneFailed before after
+HasDevice before after _ = NoneFailed before after
 
 -- what every run promises
 pub record Runs {T : Type 0} (o : Output) (stands : List Entry → Type 0) (before after : Devices)

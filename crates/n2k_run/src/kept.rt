@@ -38,13 +38,9 @@ impl Kept {
             (E.failed_calls reporter.old) (E.failed_calls reporter.new) result }
         ensures none_kept { OnOk result ((self.new.text.items ≡ []) × (self.new.report.items ≡ [])) }
     {
-        if write_all(reporter, &self.report).is_err() {
-            return Err(RunFault::Report);
-        }
+        write_all(reporter, &self.report).map_err(|_| RunFault::Report)?;
         self.report.clear();
-        if write_all(writer, &self.text).is_err() {
-            return Err(RunFault::Write);
-        }
+        write_all(writer, &self.text).map_err(|_| RunFault::Write)?;
         self.text.clear();
         Ok(())
     }

@@ -140,9 +140,8 @@ pub fn run_part<R: Source, W: Sink, E: Sink>(
     ensures runs { let before = seen R.Source W.Sink E.Sink reader.old writer.old reporter.old in
         let after = seen R.Source W.Sink E.Sink reader.new writer.new reporter.new in
         RunsFrom table.now options (option_map (λ bytes. bytes.now) saved.entry) before after result }
-    ensures unread { OnRefusal result (reader.new ≡ reader.old) }
-    ensures unwritten { OnRefusal result (writer.new ≡ writer.old) }
-    ensures unreported { OnRefusal result (reporter.new ≡ reporter.old) }
+    ensures untouched { OnRefusal result
+        ((reader.new ≡ reader.old) × (writer.new ≡ writer.old) × (reporter.new ≡ reporter.old)) }
 {
     laws::steps_agree();
     laws::lines_stay();

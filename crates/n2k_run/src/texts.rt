@@ -38,10 +38,12 @@ fn cause_text(cause: BadCause) -> &'static [u8]
     }
 }
 
-fn push_decimal(text: &mut Vec<u8>, number: u64) -> Result<(), AllocError>
-    ensures { OnOk result (text.new.items ≡ text.old.items ++ decimal number) }
+// Appends a name and a number.
+fn push_count(text: &mut Vec<u8>, name: &[u8], number: u64) -> Result<(), AllocError>
+    ensures { OnOk result (text.new.items ≡ text.old.items ++ name.now ++ decimal number) }
 {
     let mut buffer = itoa::Buffer::new();
+    text.extend_from_slice(name)?;
     text.extend_from_slice(buffer.format(number).as_bytes())
 }
 
@@ -58,8 +60,7 @@ pub fn bad_text(
     ensures unchanged { OnErr result (out.new.items ≡ out.old.items) }
 {
     let mut text = Vec::new(alloc);
-    text.extend_from_slice(b"line ")?;
-    push_decimal(&mut text, number)?;
+    push_count(&mut text, b"line ", number)?;
     text.extend_from_slice(b" bad ")?;
     text.extend_from_slice(cause_text(cause))?;
     text.push(b'\n')?;
@@ -88,14 +89,6 @@ pub fn broken_text(
     push_count(&mut text, b" first ", group.first)?;
     text.push(b'\n')?;
     out.extend_from_slice(&text)
-}
-
-// Appends a name and a number.
-fn push_count(text: &mut Vec<u8>, name: &[u8], number: u64) -> Result<(), AllocError>
-    ensures { OnOk result (text.new.items ≡ text.old.items ++ name.now ++ decimal number) }
-{
-    text.extend_from_slice(name)?;
-    push_decimal(text, number)
 }
 
 // Appends a name and what was counted under it.

@@ -10,6 +10,7 @@ use Rattle.n2k_run.specs.Writing.{AppendsFront}
 use Rattle.n2k_run.specs.Runs.{AreNumbered, Devices, Gained, HasFronts, NoneFailed, Output, ReportsFirst, Runs}
 use Rattle.n2k_run.specs.Parts.{StandsAtLine}
 use Rattle.n2k_run.proofs.Parting.{line_fronts}
+use Rattle.n2k_run.proofs.Running.{known_more}
 use Rattle.n2k_join.specs.Counts.{most_lines}
 use Rattle.n2k_run.specs.declared.fault.RunFault.{RunFault}
 use Rattle.n2k_run.specs.declared.fault.RunFault.TheVariants as run
@@ -22,10 +23,6 @@ use Rattle.n2kdec.specs.declared.fault.Fault.{Fault}
 use Rattle.n2kdec.specs.declared.fault.Fault.TheVariants.{Memory, Report, Table}
 use Rattle.n2kdec.specs.declared.work.Stop.{Stop}
 use Rattle.n2kdec.specs.Work.{RefusesTable, TellsWhole}
-
-pub if_some : {A : Type 0} (P Q : A → Type 0) (o : Option A) → ((a : A) → P a → Q a) → IfSome o P → IfSome o Q
-if_some P Q None weaker p = tt
-if_some P Q (Some a) weaker p = weaker a p
 
 -- a text follows what was written first
 more_after : (old mid new : Option (List ℕ)) (text more : List ℕ) → (rest : List ℕ) × Appends old mid (text ++ rest) → Appends mid new more → (rest : List ℕ) × Appends old new (text ++ rest)
@@ -69,9 +66,7 @@ module _ (c : Command) (stands : List Entry → Type 0) (before after : Devices)
       × (IsSaved c.saving es ⊎ CannotBeSaved c.saving)
   Follows run.TooManyLines = (es : List Entry) → stands es → SumsUpPart c.sums_up_a_part errors summed (summary_text (c.counts es))
       × IsUntouched c.saving
-  Follows run.Write = IsLeft
-  Follows run.Report = IsLeft
-  Follows run.Memory = IsLeft
+  Follows _ = IsLeft
 
   -- no call of the errors failed in the run
   taken : (es : List Entry) (said : Place → Place → List ℕ → Type 0) → AreNumbered c.output.counted es → Gained c.output before mid es → errors.failed ≡ before.failed_reports
@@ -91,7 +86,7 @@ module _ (c : Command) (stands : List Entry → Type 0) (before after : Devices)
   same_text same = ap (λ (p : Place). p.text) (sym same)
 
   fronts : errors.text ≡ after.reported → IfSome before.left (HasFronts c.output before mid) → IfSome before.left (HasFronts c.output before after)
-  fronts same ran = if_some _ _ before.left (λ log front. record {
+  fronts same ran = known_more before.left _ _ (λ log front. record {
     printed = front.printed;
     reported = subst (λ e. AppendsFront before.reported e (c.output.reports (entries_for c log))) same front.reported;
   }) ran
@@ -132,7 +127,7 @@ module _ (c : Command) (stands : List Entry → Type 0) (before after : Devices)
   device run.Memory ran follows = inl (none_failed follows.0 ran.device)
 
   still_first : (more : List ℕ) × Appends errors.text after.reported more → IfSome before.left (ReportsFirst c.output before mid) → IfSome before.left (ReportsFirst c.output before after)
-  still_first then = if_some _ _ before.left (λ log first. record {
+  still_first then = known_more before.left _ _ (λ log first. record {
     taken = first.taken;
     left = first.left;
     lines_taken = first.lines_taken;
@@ -154,9 +149,7 @@ module _ (c : Command) (stands : List Entry → Type 0) (before after : Devices)
   line_device (Ok x) line part same runs = inl (none_failed same runs.device)
   line_device (Err run.Read) line part same runs = inr (part, record { reads = runs.device.reads; writes = runs.device.writes; reports = same_failed same ∙ runs.device.reports })
   line_device (Err run.TooManyLines) line part same runs = inl (none_failed same runs.device)
-  line_device (Err run.Write) line part same runs = absurd line
-  line_device (Err run.Report) line part same runs = absurd line
-  line_device (Err run.Memory) line part same runs = absurd line
+  line_device _ line part same runs = absurd line
 
   pub left_at_line : (ran : Result (Unit {0}) RunFault) → StandsAtLine ran → c.sums_up_a_part ≡ true → Runs c.output stands before mid ran → IsLeft → IsStopped c before after Memory
   left_at_line ran line part runs left = record {
@@ -238,9 +231,7 @@ module _ (output : Output) (counts_of : List Entry → Counts) (before after : D
   nothing_follows : (stands : List Entry → Type 0) (f : RunFault) → said ≡ errors → Follows whole_command stands before after errors f
   nothing_follows stands run.Read same = λ es is. (same, inl (record { kept = tt; none_failed = refl }))
   nothing_follows stands run.TooManyLines same = λ es is. (same, refl)
-  nothing_follows stands run.Write same = (same, refl)
-  nothing_follows stands run.Report same = (same, refl)
-  nothing_follows stands run.Memory same = (same, refl)
+  nothing_follows stands _ same = (same, refl)
 
   pub ended_whole : (ended : Result Counts RunFault) (told : Result Part Stop) (r : Result ℕ Fault)
       → Runs output (λ es. IfOk ended (λ counts. counts ≡ counts_of es)) before (record after { reported = errors.text; failed_reports = errors.failed }) ended

@@ -24,7 +24,9 @@ use Rattle.n2k_run.specs.declared.part.PartFault.TheVariants as part_faults
 use Rattle.n2k_run.specs.declared.options.Options.{Options}
 use Rattle.n2k_table.specs.Table.{TableParts, faults, kind as kind_of, table as table_of}
 use Rattle.n2k_table.specs.declared.fault.TableFault.{TableFault}
+use Rattle.n2k_run.proofs.Joined.{refused_memory}
 use Rattle.n2k_run.proofs.Parting.{told_ok, told_run, told_stopped}
+use Rattle.n2k_run.proofs.Running.{known_more}
 use Rattle.n2kdec.specs.Inner.Closing.{Closes, ClosesPart}
 use Rattle.n2kdec.specs.Commands.{CannotBeSaved, Command, Decodes, Ends, EndsUnlessRefused, IsJudged, IsSaved, IsStopped, IsWrittenUnlessFailed, Replaces, Place, PrintsRest, decode_to, place}
 use Rattle.n2kdec.specs.Fault.{exit_status, fault_of_run}
@@ -32,7 +34,7 @@ use Rattle.n2kdec.specs.declared.fault.Fault.{Fault}
 use Rattle.n2kdec.specs.declared.fault.Fault.TheVariants.{Save, State, Table}
 use Rattle.n2kdec.specs.declared.work.Stop.{Stop}
 use Rattle.n2kdec.specs.Work.{RefusesTable, answer_of_part}
-use Rattle.n2kdec.proofs.CommandLemmas.{ended_by_closing, if_some, left_at_line, left_by_run, some_written, stopped_by_run}
+use Rattle.n2kdec.proofs.CommandLemmas.{ended_by_closing, left_at_line, left_by_run, some_written, stopped_by_run}
 
 -- no command that has begun ends by a refusal
 unless : (c : Command) (before after : Devices) (r : Result ℕ Fault) → Ends c before after r → EndsUnlessRefused c before after r
@@ -74,39 +76,20 @@ module _ (o : Output) (stands_at : List Entry → StateOf) (t : TableParts) (opt
       (stopped_by_run c _ before after errors run.Read (told_stopped o before mid _ run.Read part told) (λ es is. (summary_of part es is closes.1.1, saved_or_not part es is closes.1.0)) (some_written errors said (summary_text part.counts) closes.1.1))
   closed (Err (part_faults.Stopped run.TooManyLines part)) r kind memory told closes = subst (EndsUnlessRefused c before after) (sym closes.0)
       (stopped_by_run c _ before after errors run.TooManyLines (told_stopped o before mid _ run.TooManyLines part told) (λ es is. (summary_of part es is closes.1.1, closes.1.0)) (some_written errors said (summary_text part.counts) closes.1.1))
-  closed (Err (part_faults.Stopped run.Write part)) r (inl kind) memory ran closes = let bad : run.Write ≡ run.Read = kind in cc
-  closed (Err (part_faults.Stopped run.Write part)) r (inr kind) memory ran closes = let bad : run.Write ≡ run.TooManyLines = kind in cc
-  closed (Err (part_faults.Stopped run.Report part)) r (inl kind) memory ran closes = let bad : run.Report ≡ run.Read = kind in cc
-  closed (Err (part_faults.Stopped run.Report part)) r (inr kind) memory ran closes = let bad : run.Report ≡ run.TooManyLines = kind in cc
-  closed (Err (part_faults.Stopped run.Memory part)) r (inl kind) memory ran closes = let bad : run.Memory ≡ run.Read = kind in cc
-  closed (Err (part_faults.Stopped run.Memory part)) r (inr kind) memory ran closes = let bad : run.Memory ≡ run.TooManyLines = kind in cc
+  closed (Err (part_faults.Stopped _ part)) r (inl kind) memory ran closes = cc
+  closed (Err (part_faults.Stopped _ part)) r (inr kind) memory ran closes = cc
   closed (Err (part_faults.Run run.Write)) r kind memory told closes = subst (EndsUnlessRefused c before after) (sym closes.0)
       (left_by_run c _ before after errors run.Write (told_run o before mid _ run.Write told) (closes.1.1, closes.1.0) closes.1.1)
   closed (Err (part_faults.Run run.Report)) r kind memory told closes = subst (EndsUnlessRefused c before after) (sym closes.0)
       (left_by_run c _ before after errors run.Report (told_run o before mid _ run.Report told) (closes.1.1, closes.1.0) closes.1.1)
   closed (Err (part_faults.Run run.Memory)) r kind memory told closes = subst (EndsUnlessRefused c before after) (sym closes.0)
       (left_by_run c _ before after errors run.Memory (told_run o before mid _ run.Memory told) (closes.1.1, closes.1.0) closes.1.1)
-  closed (Err (part_faults.Run run.Read)) r (inl kind) memory ran closes = let bad : run.Read ≡ run.Write = kind in cc
-  closed (Err (part_faults.Run run.Read)) r (inr (inl kind)) memory ran closes = let bad : run.Read ≡ run.Report = kind in cc
-  closed (Err (part_faults.Run run.Read)) r (inr (inr kind)) memory ran closes = let bad : run.Read ≡ run.Memory = kind in cc
-  closed (Err (part_faults.Run run.TooManyLines)) r (inl kind) memory ran closes = let bad : run.TooManyLines ≡ run.Write = kind in cc
-  closed (Err (part_faults.Run run.TooManyLines)) r (inr (inl kind)) memory ran closes = let bad : run.TooManyLines ≡ run.Report = kind in cc
-  closed (Err (part_faults.Run run.TooManyLines)) r (inr (inr kind)) memory ran closes = let bad : run.TooManyLines ≡ run.Memory = kind in cc
+  closed (Err (part_faults.Run _)) r (inl kind) memory ran closes = cc
+  closed (Err (part_faults.Run _)) r (inr (inl kind)) memory ran closes = cc
+  closed (Err (part_faults.Run _)) r (inr (inr kind)) memory ran closes = cc
   closed (Err (part_faults.State fault)) r kind memory ran closes = subst (EndsUnlessRefused c before after) (sym closes.0) memory
   closed (Err part_faults.Memory) r kind memory told closes = subst (EndsUnlessRefused c before after) (sym closes.0)
       (left_at_line c _ before after errors told.ran told.ended refl told.runs (closes.1.1, closes.1.0))
-
--- a state that spells this one is refused for want of memory alone
-memory_only : (t : TableParts) (options : Options) (handed : Option (List ℕ)) (s : StateOf) (ended : Result Part PartFault) → BeginsBy t options handed ended → begun t options handed ≡ Ok s → RefusedByMemory ended
-memory_only t options handed s (Ok part) begins is = tt
-memory_only t options handed s (Err (part_faults.Stopped f part)) begins is = tt
-memory_only t options handed s (Err (part_faults.Run f)) begins is = tt
-memory_only t options handed s (Err part_faults.Memory) begins is = tt
-memory_only t options handed s (Err (part_faults.State fault)) begins is = go begins.1
-  where
-    go : (fault ≡ state_faults.Memory) ⊎ (begun t options handed ≡ Err fault) → fault ≡ state_faults.Memory
-    go (inl memory) = memory
-    go (inr refused) = let bad : Ok s ≡ Err fault = sym is ∙ refused in cc
 
 -- what is judged before a log is read
 module _ (t : TableParts) (o : Options) (found : List TableFault) (none : found ≡ []) (handed : Option (List ℕ)) (errors said keeper kept : Place) where
@@ -115,10 +98,7 @@ module _ (t : TableParts) (o : Options) (found : List TableFault) (none : found 
 
   by_run : (f : RunFault) → IsOk (begun t o handed) → IsJudged found handed (begun t o handed) (fault_of_run f)
   by_run run.Read is = (none, is)
-  by_run run.Write is = (none, is)
-  by_run run.Report is = (none, is)
-  by_run run.Memory is = (none, is)
-  by_run run.TooManyLines is = (none, is)
+  by_run _ is = (none, is)
 
   refused_state : (fault : StateFault) → (fault ≡ state_faults.Memory) ⊎ (begun t o handed ≡ Err fault) → (fault ≢ state_faults.Memory) → begun t o handed ≡ Err fault
   refused_state fault (inl memory) other = absurd (other memory)
@@ -151,7 +131,7 @@ module _ (bytes : List ℕ) (o : Options) (handed : Option (List ℕ)) (before a
       → IfOk r (λ status. IfSome before.left (λ log. PrintsRest t o front log before after keeper kept status))
   rest_of front (Ok part) (Err fault) goes closes = tt
   rest_of front (Ok part) (Ok status) goes (inr unsaved) = let bad : Ok status ≡ Err Save = unsaved.0 in cc
-  rest_of front (Ok part) (Ok status) goes (inl closes) = if_some _ _ before.left (λ log on. record {
+  rest_of front (Ok part) (Ok status) goes (inl closes) = known_more before.left _ _ (λ log on. record {
     text = on.text;
     printed = on.printed;
     output = on.output;
@@ -171,9 +151,9 @@ module _ (bytes : List ℕ) (o : Options) (handed : Option (List ℕ)) (before a
   decoded ended r none runs closes = record {
     judged = judged_by t o (faults bytes) none handed errors told keeper kept ended r runs.begins closes;
     steps = λ s is. closed (output_from (join_making t o.empty) o.packing s) (after_all (join_making t o.empty) s) t o before after errors keeper kept ended r
-        runs.fault_kinds (memory_only t o handed s ended runs.begins is) (runs.steps s is) closes;
+        runs.fault_kinds (refused_memory t o handed s ended is runs.begins) (runs.steps s is) closes;
     log = λ front is. closed (output_after t o front) (λ es. state t.id o.window (kind_of t) (front ++ es)) t o before after errors keeper kept ended r
-        runs.fault_kinds (memory_only t o handed _ ended runs.begins is) (runs.log front is) closes;
+        runs.fault_kinds (refused_memory t o handed _ ended is runs.begins) (runs.log front is) closes;
     headline = λ front is. rest_of front ended r (runs.headline front is) closes;
   }
 

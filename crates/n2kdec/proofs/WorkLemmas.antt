@@ -104,11 +104,7 @@ module _ (P Q R : Type 0) (both : P → Q → R) where
 
   pub unless_refused : (words : Words) (keeper kept errors summed : Place) (told : Result Part Stop) (r : Result ℕ Fault) → ClosesWork words keeper kept errors summed told r
       → IfErr told (λ stop. IsRefusal stop.fault → (stop.part ≡ None) × P) → IfErr told (λ stop. stop.part ≡ None → Q) → IfErr r (λ fault. IsRefusal fault → R)
-  unless_refused (Plain log) keeper kept errors summed (Ok part) r closes first then = by_sum errors summed part r closes.1
-  unless_refused (Plain log) keeper kept errors summed (Err stop) r closes first then = by_stop stop r closes.1.0 first then
-  unless_refused (Frames t candump log) keeper kept errors summed (Ok part) r closes first then = by_sum errors summed part r closes.1
-  unless_refused (Frames t candump log) keeper kept errors summed (Err stop) r closes first then = by_stop stop r closes.1.0 first then
-  unless_refused (Help text) keeper kept errors summed (Ok part) r closes first then = by_sum errors summed part r closes.1
-  unless_refused (Help text) keeper kept errors summed (Err stop) r closes first then = by_stop stop r closes.1.0 first then
   unless_refused (Decode t resume save empty whole window log) keeper kept errors summed (Ok part) r closes first then = by_part keeper kept errors summed part r closes
   unless_refused (Decode t resume save empty whole window log) keeper kept errors summed (Err stop) r closes first then = by_stop stop r closes.0 first then
+  unless_refused _ keeper kept errors summed (Ok part) r closes first then = by_sum errors summed part r closes.1
+  unless_refused _ keeper kept errors summed (Err stop) r closes first then = by_stop stop r closes.1.0 first then

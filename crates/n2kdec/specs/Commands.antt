@@ -177,7 +177,7 @@ pub record HasRead (c : Command) (before after : Devices) : Type 0 where
   pub taken : HasTaken c before after (entries_for c (whole_lines came)) (SumsUpPart c.sums_up_a_part)
   pub saved : IsSaved c.saving (entries_for c (whole_lines came)) ⊎ CannotBeSaved c.saving
 
--- As many lines are taken as are counted, and the log has more. Nothing is saved.
+-- As many lines are taken as are counted, and the log, where its bytes are known, has more. Nothing is saved.
 pub record IsFull (c : Command) (before after : Devices) : Type 0 where
   pub lines : List Entry
   pub full : c.output.counted + length lines ≡ most_lines

@@ -65,25 +65,12 @@ abbrev pub TellsFault : Bool → Fault → List ℕ → Type 0
 TellsFault is_terminal fault text = (before : List ℕ) × StandsBefore is_terminal fault before × (text ≡ before ++ fault_line fault)
 
 abbrev pub table_status : TableFault → ℕ
-table_status table.NotToml = 2
-table_status table.Format = 2
-table_status table.Key = 2
-table_status table.Range = 2
-table_status table.Text = 2
-table_status table.Twice = 2
-table_status table.Lookup = 2
-table_status table.Mixed = 2
-table_status table.TooMany = 2
 table_status table.Memory = 3
+table_status _ = 2
 
 abbrev pub state_status : StateFault → ℕ
-state_status state.NotJson = 2
-state_status state.Format = 2
-state_status state.Shape = 2
-state_status state.TableDiffers = 2
-state_status state.Invalid = 2
 state_status state.Memory = 3
-state_status state.WindowDiffers = 2
+state_status _ = 2
 
 -- 2 where the words, the table or the state are refused, 3 where a file, a device, memory or the limit of lines ended it
 abbrev pub status_of : Fault → ℕ
@@ -93,14 +80,7 @@ status_of TableSize = 2
 status_of StateSize = 2
 status_of (Table fault) = table_status fault
 status_of (State fault) = state_status fault
-status_of TableFile = 3
-status_of StateFile = 3
-status_of Read = 3
-status_of Write = 3
-status_of Report = 3
-status_of Memory = 3
-status_of Lines = 3
-status_of Save = 3
+status_of _ = 3
 
 -- what the program says of a run's fault
 abbrev pub fault_of_run : RunFault → Fault

@@ -1,16 +1,16 @@
 -- A folder in memory: what its names have, what comes in between, and the calls that it keeps.
-use Rattle.std.specs.Prelude.{◌≡◌, ◌⊎◌, ◌==◌, ◌||◌, ℕ, Bool, true, false, List, [], Option, Some, None, Vec, Result, if◌then◌else◌, is_ok, map, option_map}
+use Rattle.std.specs.Prelude.{◌≡◌, ◌⊎◌, ◌==◌, ℕ, Bool, true, false, List, [], Option, Some, Vec, Result, if◌then◌else◌, is_ok, map, option_map}
 use Rattle.std.specs.declared.alloc.Global.{Global}
 use Rattle.n2k_run.specs.Device.{one_more}
 use Rattle.n2kdec.specs.Folder.{Call, Content, create, write, sync, rename, sync_folder, remove}
-use Rattle.n2kdec.specs.Standing.{Standing, settled_as}
+use Rattle.n2kdec.specs.Standing.{Standing, removed, settled_as}
 use Rattle.n2kdec.specs.declared.folder.Name.{Name}
 use Rattle.n2kdec.specs.declared.folder.Name.TheVariants.{Own, New}
 use Rattle.n2kdec.specs.declared.memory_folder.Extent.{Extent}
 use Rattle.n2kdec.specs.declared.memory_folder.Extent.TheVariants.{Nothing, Part, Whole}
 use Rattle.n2kdec.specs.declared.memory_folder.Names.{Names}
-use Rattle.n2kdec.specs.declared.memory_folder.Noted.{Noted}
-use Rattle.n2kdec.specs.declared.memory_folder.Noted.TheVariants as noted
+use Rattle.n2kdec.specs.declared.memory_folder.Step.{Step}
+use Rattle.n2kdec.specs.declared.memory_folder.Step.TheVariants as steps
 use Rattle.n2kdec.specs.declared.memory_folder.Trouble.{Trouble}
 use Rattle.n2kdec.specs.declared.memory_folder.Trouble.TheVariants.{No, Failure, Cut}
 
@@ -24,14 +24,12 @@ done_at (Cut number done) n = if number == n then done else Whole
 
 -- whether the power is cut in the call of this number, and whether that call fails by itself
 abbrev pub cuts : Trouble → ℕ → Bool
-cuts No n = false
-cuts (Failure number done) n = false
 cuts (Cut number done) n = number == n
+cuts _ n = false
 
 abbrev pub fails : Trouble → ℕ → Bool
-fails No n = false
 fails (Failure number done) n = number == n
-fails (Cut number done) n = false
+fails _ n = false
 
 -- how much of the next call is done: after a cut nothing
 abbrev pub next_done : Names → Extent
@@ -39,10 +37,7 @@ next_done s = if s.is_off then Nothing else done_at s.trouble (one_more s.calls)
 
 -- the next call is begun: calls are counted until a cut
 abbrev pub begun : Names → Names
-begun s = record {
-  own = s.own;
-  beside = s.beside;
-  trouble = s.trouble;
+begun s = record s {
   calls = if s.is_off then s.calls else one_more s.calls;
   is_off = if s.is_off then true else cuts s.trouble (one_more s.calls);
 }
@@ -61,13 +56,13 @@ abbrev pub on_both : (Extent → Standing → Standing) → Names → Names
 on_both change s = record (begun s) { own = change (next_done s) s.own; beside = change (next_done s) s.beside }
 
 -- a name gets the file of another, which is gone then
+abbrev pub gets : Standing → Standing → Standing
+gets s other = record s { text = other.text; is_synced = other.is_synced }
+
 abbrev pub moved : Extent → Name → Name → Names → Names
-moved Whole Own New s = record s { own = record { file = None; settled = s.own.settled }; beside = record { file = s.own.file; settled = s.beside.settled } }
-moved Whole New Own s = record s { own = record { file = s.beside.file; settled = s.own.settled }; beside = record { file = None; settled = s.beside.settled } }
-moved Whole Own Own s = s
-moved Whole New New s = s
-moved Nothing from to s = s
-moved Part from to s = s
+moved Whole Own New s = record s { own = removed Whole s.own; beside = gets s.beside s.own }
+moved Whole New Own s = record s { own = gets s.own s.beside; beside = removed Whole s.beside }
+moved _ from to s = s
 
 -- the next call is such a move
 abbrev pub renamed : Name → Name → Names → Names
@@ -85,21 +80,25 @@ pub record Memory : Type 0 where
   pub names : Names
   pub calls : Option (List Call)
 
-abbrev pub call_of : Noted → Call
-call_of (noted.Create name done) = create name done
-call_of (noted.Write name text done) = write name text.items done
-call_of (noted.Sync name done) = sync name done
-call_of (noted.Rename from to done) = rename from to done
-call_of (noted.SyncFolder done) = sync_folder done
-call_of (noted.Remove name done) = remove name done
+abbrev pub call_of : Step → Bool → Call
+call_of (steps.Create name) done = create name done
+call_of (steps.Write name text) done = write name text.items done
+call_of (steps.Sync name) done = sync name done
+call_of (steps.Rename from to) done = rename from to done
+call_of steps.SyncFolder done = sync_folder done
+call_of (steps.Remove name) done = remove name done
 
-abbrev pub calls_of : Option (Vec Noted Global) → Option (List Call)
-calls_of kept = option_map (λ noted. map call_of noted.items) kept
+abbrev pub calls_of : Option (Vec (Step × Bool) Global) → Option (List Call)
+calls_of noted = option_map (λ steps. map (λ (p : Step × Bool). call_of p.0 p.1) steps.items) noted
 
 -- a folder of which no call was made, with these texts, which a cut leaves
 abbrev pub fresh : Content → Content → Trouble → Memory
 fresh own new trouble = record { names = record { own = settled_as own; beside = settled_as new; trouble = trouble; calls = 0; is_off = false }; calls = Some [] }
 
--- A call is done and answered so; or, for want of memory, nothing of it is done, and it fails.
+-- a call is done and answered so
+abbrev pub Done : {T E : Type 0} → Names → Names → Result T E → Type 0
+Done done after result = (after ≡ done) × (is_ok result ≡ goes_well after)
+
+-- or, for want of memory, nothing of it is done, and it fails
 abbrev pub DoneOrRefused : {T E : Type 0} → Names → Names → Names → Result T E → Type 0
-DoneOrRefused before done after result = ((after ≡ done) × (is_ok result ≡ goes_well after)) ⊎ ((after ≡ begun before) × (is_ok result ≡ false))
+DoneOrRefused before done after result = Done done after result ⊎ ((after ≡ begun before) × (is_ok result ≡ false))

@@ -20,10 +20,8 @@ fn sum_up<E: Sink>(counts: &Counts, errors: &mut E) -> Result<u8, Fault>
     ensures { SumsUp (place (E.contents errors.old) (E.failed_calls errors.old))
         (place (E.contents errors.new) (E.failed_calls errors.new)) counts.now result }
 {
-    match write_summary(counts, errors) {
-        Ok(()) => Ok(exit_status(counts)),
-        Err(_) => Err(Fault::Report),
-    }
+    write_summary(counts, errors).map_err(|_| Fault::Report)?;
+    Ok(exit_status(counts))
 }
 
 // What became of the state of a part, and of its summary.
@@ -63,29 +61,20 @@ fn close_part<K: Keeper, E: Sink>(
     match ended {
         Ok(part) => {
             let closing = save_and_sum_up(&part, keeper, errors);
-            match closing.saved {
-                Ok(()) => closing.summed,
-                Err(_) => Err(Fault::Save),
+            closing.saved.map_err(|_| Fault::Save)?;
+            closing.summed
+        }
+        Err(stop) => {
+            match (&stop.part, stop.fault) {
+                (None, _) => {}
+                (Some(part), Fault::Read) => {
+                    let _ = save_and_sum_up(part, keeper, errors);
+                }
+                (Some(part), _) => {
+                    let _ = sum_up(&part.counts, errors);
+                }
             }
-        }
-        Err(Stop { fault, part: None }) => Err(fault),
-        Err(
-            Stop {
-                fault: Fault::Read,
-                part: Some(part),
-            },
-        ) => {
-            let _ = save_and_sum_up(&part, keeper, errors);
-            Err(Fault::Read)
-        }
-        Err(
-            Stop {
-                fault,
-                part: Some(part),
-            },
-        ) => {
-            let _ = sum_up(&part.counts, errors);
-            Err(fault)
+            Err(stop.fault)
         }
     }
 }

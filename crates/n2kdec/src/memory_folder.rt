@@ -1,5 +1,5 @@
 //! A folder in memory, for tests: a call of it fails, or the power is cut in a call, and it keeps the calls.
-ghost use Rattle.std.specs.Prelude.{◌≡◌};
+ghost use Rattle.std.specs.Prelude.{◌≡◌, IfOk, option_map};
 ghost use Rattle.n2kdec.specs.Standing.{so_much};
 
 use crate::folder::{Folder, Name};
@@ -29,21 +29,6 @@ pub enum Trouble {
     Cut(u64, Extent),
 }
 
-// The file of a name.
-#[derive(Drop)]
-struct MemoryFile {
-    text: Vec<u8>,
-    is_synced: bool,
-}
-
-impl Model for MemoryFile {
-    ghost use Rattle.n2kdec.specs.Standing.{Text};
-
-    ghost Value = { Text };
-
-    ghost view = { λ file. record { bytes = file.text.items; is_synced = file.is_synced } };
-}
-
 // So much of a text.
 fn so_much(extent: Extent, text: &[u8]) -> &[u8]
     ensures { result.now ≡ so_much extent text.now }
@@ -55,74 +40,52 @@ fn so_much(extent: Extent, text: &[u8]) -> &[u8]
     }
 }
 
-impl MemoryFile {
-    ghost use Rattle.std.specs.Prelude.{◌≡◌, ◌++◌, false, true, OnErr, OnOk};
-    ghost use Rattle.n2kdec.specs.Standing.{left_of};
-
-    // What a cut leaves of it.
-    fn left(&self, extent: Extent) -> &[u8]
-        ensures { result.now ≡ left_of self.now extent }
-    {
-        if self.is_synced {
-            &self.text
-        } else {
-            so_much(extent, &self.text)
-        }
-    }
-
-    fn append(&mut self, text: &[u8]) -> Result<(), AllocError>
-        ensures ok { OnOk result (self.new ≡ record { bytes = self.old.bytes ++ text.now; is_synced = false }) }
-        ensures unchanged { OnErr result (self.new ≡ self.old) }
-    {
-        self.text.extend_from_slice(text)?;
-        self.is_synced = false;
-        Ok(())
-    }
-
-    fn sync(&mut self)
-        ensures { self.new ≡ record { bytes = self.old.bytes; is_synced = true } }
-    {
-        self.is_synced = true;
+// A copy of a text, where there is one.
+fn copy(alloc: Global, text: Option<&[u8]>) -> Result<Option<Vec<u8>>, AllocError>
+    ensures { IfOk result (λ copy. option_map (λ bytes. bytes.items) copy
+        ≡ option_map (λ bytes. bytes.now) text.entry) }
+{
+    match text {
+        Some(text) => Ok(Some(text.to_vec(alloc)?)),
+        None => Ok(None),
     }
 }
 
-// What a name has, and what it has after a cut as long as the folder is not synced.
+// The text of a name, whether a cut leaves that, and what a cut leaves as long as the folder is not synced.
 #[derive(Drop)]
-struct Entry {
-    file: Option<MemoryFile>,
+struct Standing {
+    text: Option<Vec<u8>>,
+    is_synced: bool,
     settled: Option<Vec<u8>>,
 }
 
-impl Model for Entry {
+impl Model for Standing {
     ghost use Rattle.std.specs.Prelude.{option_map};
     ghost use Rattle.n2kdec.specs.Standing.{Standing};
 
     ghost Value = { Standing };
 
-    ghost view = { λ entry. record { file = entry.file; settled = option_map (λ text. text.items) entry.settled } };
+    ghost view = { λ s. record {
+      text = option_map (λ bytes. bytes.items) s.text;
+      is_synced = s.is_synced;
+      settled = option_map (λ bytes. bytes.items) s.settled;
+    } };
 }
 
-impl Entry {
-    ghost use Rattle.std.specs.Prelude.{◌≡◌, IfOk, None, OnErr, OnOk, option_map};
+impl Standing {
+    ghost use Rattle.std.specs.Prelude.{◌≡◌, IfOk, OnErr, OnOk, option_map};
+    ghost use Rattle.n2kdec.specs.MemoryFolder.{gets};
     ghost use Rattle.n2kdec.specs.Standing.{created, left, removed, settled_as, synced, written};
-    ghost use Rattle.n2kdec.specs.declared.memory_folder.Extent.TheVariants.{Part};
+    ghost use Rattle.n2kdec.specs.declared.memory_folder.Extent.TheVariants.{Whole};
 
     // A name with this text, which a cut leaves.
-    fn new(alloc: Global, text: Option<&[u8]>) -> Result<Entry, AllocError>
-        ensures { IfOk result (λ entry. entry ≡ settled_as (option_map (λ bytes. bytes.now) text.entry)) }
+    fn new(alloc: Global, text: Option<&[u8]>) -> Result<Standing, AllocError>
+        ensures { IfOk result (λ standing. standing ≡ settled_as (option_map (λ bytes. bytes.now) text.entry)) }
     {
-        let Some(text) = text else {
-            return Ok(Entry {
-                file: None,
-                settled: None,
-            });
-        };
-        Ok(Entry {
-            file: Some(MemoryFile {
-                text: text.to_vec(alloc)?,
-                is_synced: true,
-            }),
-            settled: Some(text.to_vec(alloc)?),
+        Ok(Standing {
+            text: copy(alloc, text)?,
+            is_synced: true,
+            settled: copy(alloc, text)?,
         })
     }
 
@@ -131,28 +94,10 @@ impl Entry {
         ensures { option_map (λ bytes. bytes.now) result ≡ left self.now extent }
     {
         match extent {
-            Extent::Nothing => match &self.settled {
-                Some(text) => Some(text),
-                None => None,
-            },
-            Extent::Part | Extent::Whole => match &self.file {
-                Some(file) => Some(file.left(extent)),
-                None => None,
-            },
+            Extent::Nothing => Some(self.settled.as_ref()?),
+            Extent::Part if !self.is_synced => Some(so_much(extent, self.text.as_ref()?)),
+            Extent::Part | Extent::Whole => Some(self.text.as_ref()?),
         }
-    }
-
-    fn take(&mut self) -> Option<MemoryFile>
-        ensures taken { result ≡ self.old.file }
-        ensures gone { self.new ≡ record { file = None; settled = self.old.settled } }
-    {
-        self.file.take()
-    }
-
-    fn put(&mut self, file: Option<MemoryFile>)
-        ensures { self.new ≡ record { file = file; settled = self.old.settled } }
-    {
-        self.file = file;
     }
 
     // An empty file takes the name. A part of the call takes what had the name away.
@@ -161,12 +106,10 @@ impl Entry {
     {
         match done {
             Extent::Nothing => {}
-            Extent::Part => self.put(None),
+            Extent::Part => self.text = None,
             Extent::Whole => {
-                self.put(Some(MemoryFile {
-                    text: Vec::new(alloc),
-                    is_synced: false,
-                }))
+                self.text = Some(Vec::new(alloc));
+                self.is_synced = false;
             }
         }
     }
@@ -175,70 +118,61 @@ impl Entry {
         ensures ok { OnOk result (self.new ≡ written text.now done self.old) }
         ensures unchanged { OnErr result (self.new ≡ self.old) }
     {
-        match done {
-            Extent::Nothing => Ok(()),
-            Extent::Part | Extent::Whole => match &mut self.file {
-                Some(file) => file.append(so_much(done, text)),
-                None => Ok(()),
-            },
+        if done != Extent::Nothing {
+            if let Some(had) = &mut self.text {
+                had.extend_from_slice(so_much(done, text))?;
+            }
+            self.is_synced = false;
         }
+        Ok(())
     }
 
     fn sync(&mut self, done: Extent)
         ensures { self.new ≡ synced done self.old }
     {
-        match done {
-            Extent::Whole => {
-                if let Some(file) = &mut self.file {
-                    file.sync();
-                }
-            }
-            Extent::Nothing | Extent::Part => {}
+        if done == Extent::Whole {
+            self.is_synced = true;
         }
-    }
-
-    // What a cut leaves that leaves a part of what is not synced.
-    fn left_in_part(&self, alloc: Global) -> Result<Option<Vec<u8>>, AllocError>
-        ensures { IfOk result (λ text. option_map (λ bytes. bytes.items) text ≡ left self.now Part) }
-    {
-        match self.left(Extent::Part) {
-            Some(text) => Ok(Some(text.to_vec(alloc)?)),
-            None => Ok(None),
-        }
-    }
-
-    // A cut leaves this from now on, until the name has another file.
-    fn settle(&mut self, text: Option<Vec<u8>>)
-        ensures { self.new ≡ record { file = self.old.file; settled = option_map (λ bytes. bytes.items) text } }
-    {
-        self.settled = text;
     }
 
     fn remove(&mut self, done: Extent)
         ensures { self.new ≡ removed done self.old }
     {
-        match done {
-            Extent::Whole => self.put(None),
-            Extent::Nothing | Extent::Part => {}
+        if done == Extent::Whole {
+            self.text = None;
         }
+    }
+
+    // The name gets the file of the other, which is gone then.
+    fn take_from(&mut self, other: &mut Standing)
+        ensures got { self.new ≡ gets self.old other.old }
+        ensures gone { other.new ≡ removed Whole other.old }
+    {
+        self.text = other.text.take();
+        self.is_synced = other.is_synced;
+    }
+
+    // A cut leaves this from now on, until the name has another file.
+    fn settle(&mut self, text: Option<Vec<u8>>)
+        ensures { self.new ≡ record self.old { settled = option_map (λ bytes. bytes.items) text } }
+    {
+        self.settled = text;
     }
 }
 
 // The names, and what comes in between.
 #[derive(Drop)]
 struct Names {
-    own: Entry,
-    beside: Entry,
+    own: Standing,
+    beside: Standing,
     trouble: Trouble,
     calls: u64,
     is_off: bool,
 }
 
 impl Names {
-    ghost use Rattle.std.specs.Prelude.{◌≡◌, OnErr, OnOk, is_ok};
-    ghost use Rattle.n2kdec.specs.MemoryFolder.{begun, goes_well, moved, next_done, on_both, on_name, renamed};
-    ghost use Rattle.n2kdec.specs.Standing.{created, removed, settle, synced, written};
-    ghost use Rattle.n2kdec.specs.declared.memory_folder.Extent.TheVariants.{Whole};
+    ghost use Rattle.std.specs.Prelude.{◌≡◌, is_ok};
+    ghost use Rattle.n2kdec.specs.MemoryFolder.{begun, goes_well, next_done};
 
     // How much of the next call is done.
     fn begin(&mut self) -> Extent
@@ -259,89 +193,6 @@ impl Names {
         }
     }
 
-    fn create(&mut self, alloc: Global, name: Name)
-        ensures { self.new ≡ on_name name created self.old }
-    {
-        let done = self.begin();
-        match name {
-            Name::Own => self.own.create(alloc, done),
-            Name::New => self.beside.create(alloc, done),
-        }
-    }
-
-    fn write(&mut self, name: Name, text: &[u8]) -> Result<(), AllocError>
-        ensures ok { OnOk result (self.new ≡ on_name name (written text.now) self.old) }
-        ensures refused { OnErr result (self.new ≡ begun self.old) }
-    {
-        let done = self.begin();
-        match name {
-            Name::Own => self.own.write(text, done),
-            Name::New => self.beside.write(text, done),
-        }
-    }
-
-    fn sync(&mut self, name: Name)
-        ensures { self.new ≡ on_name name synced self.old }
-    {
-        let done = self.begin();
-        match name {
-            Name::Own => self.own.sync(done),
-            Name::New => self.beside.sync(done),
-        }
-    }
-
-    // A name gets the file of another, which is gone then.
-    fn move_file(&mut self, from: Name, to: Name)
-        ensures { self.new ≡ moved Whole from to self.old }
-    {
-        match (from, to) {
-            (Name::Own, Name::New) => {
-                let file = self.own.take();
-                self.beside.put(file);
-            }
-            (Name::New, Name::Own) => {
-                let file = self.beside.take();
-                self.own.put(file);
-            }
-            (Name::Own, Name::Own) | (Name::New, Name::New) => {}
-        }
-    }
-
-    fn rename(&mut self, from: Name, to: Name)
-        ensures { self.new ≡ renamed from to self.old }
-    {
-        match self.begin() {
-            Extent::Whole => self.move_file(from, to),
-            Extent::Nothing | Extent::Part => {}
-        }
-    }
-
-    fn sync_names(&mut self, alloc: Global) -> Result<(), AllocError>
-        ensures ok { OnOk result (self.new ≡ on_both settle self.old) }
-        ensures refused { OnErr result (self.new ≡ begun self.old) }
-    {
-        match self.begin() {
-            Extent::Whole => {
-                let own = self.own.left_in_part(alloc)?;
-                let beside = self.beside.left_in_part(alloc)?;
-                self.own.settle(own);
-                self.beside.settle(beside);
-                Ok(())
-            }
-            Extent::Nothing | Extent::Part => Ok(()),
-        }
-    }
-
-    fn remove(&mut self, name: Name)
-        ensures { self.new ≡ on_name name removed self.old }
-    {
-        let done = self.begin();
-        match name {
-            Name::Own => self.own.remove(done),
-            Name::New => self.beside.remove(done),
-        }
-    }
-
     // The answer of the call that was made last.
     fn answer(&self) -> Result<(), Failed>
         ensures { is_ok result ≡ goes_well self.now }
@@ -354,45 +205,15 @@ impl Names {
     }
 }
 
-// A call, and whether its answer was Ok.
+// A call, but for its answer.
 #[derive(Drop)]
-pub enum Noted {
-    Create(Name, bool),
-    Write(Name, Vec<u8>, bool),
-    Sync(Name, bool),
-    Rename(Name, Name, bool),
-    SyncFolder(bool),
-    Remove(Name, bool),
-}
-
-// The calls that were made, the last one first. For want of memory they are lost.
-#[derive(Drop)]
-struct Record {
-    noted: Option<Vec<Noted>>,
-}
-
-impl Record {
-    ghost use Rattle.std.specs.Prelude.{◌≡◌, None};
-    ghost use Rattle.n2kdec.specs.Folder.{Notes};
-    ghost use Rattle.n2kdec.specs.MemoryFolder.{call_of, calls_of};
-
-    fn note(&mut self, call: Noted)
-        ensures { Notes (calls_of self.old.noted) (calls_of self.new.noted) (call_of call) }
-    {
-        let Some(mut noted) = self.noted.take() else {
-            return;
-        };
-        if noted.insert(0, call).is_ok() {
-            self.noted = Some(noted);
-        }
-    }
-
-    // A call was made that can't be noted.
-    fn lose(&mut self)
-        ensures { calls_of self.new.noted ≡ None }
-    {
-        self.noted = None;
-    }
+pub enum Step {
+    Create(Name),
+    Write(Name, Vec<u8>),
+    Sync(Name),
+    Rename(Name, Name),
+    SyncFolder,
+    Remove(Name),
 }
 
 /// A folder in memory.
@@ -400,7 +221,8 @@ impl Record {
 pub struct MemoryFolder {
     alloc: Global,
     names: Names,
-    kept: Record,
+    // The calls that were made, and whether the answer was Ok, the last one first. For want of memory they are lost.
+    noted: Option<Vec<(Step, bool)>>,
 }
 
 impl Model for MemoryFolder {
@@ -408,14 +230,14 @@ impl Model for MemoryFolder {
 
     ghost Value = { Memory };
 
-    ghost view = { λ folder. record { names = folder.names; calls = calls_of folder.kept.noted } };
+    ghost view = { λ folder. record { names = folder.names; calls = calls_of folder.noted } };
 }
 
 impl MemoryFolder {
-    ghost use Rattle.std.specs.Prelude.{◌≡◌, IfOk, option_map};
-    ghost use Rattle.n2kdec.specs.MemoryFolder.{fresh, standing};
+    ghost use Rattle.std.specs.Prelude.{◌≡◌, IfOk, is_ok, option_map};
+    ghost use Rattle.n2kdec.specs.Folder.{Notes};
+    ghost use Rattle.n2kdec.specs.MemoryFolder.{call_of, fresh, goes_well, standing};
     ghost use Rattle.n2kdec.specs.Standing.{left};
-    ghost use Rattle.n2kdec.specs.declared.memory_folder.Extent.TheVariants.{Whole};
 
     /// A folder whose names have these texts, which a cut leaves. No call of it was made.
     pub fn new(
@@ -430,26 +252,17 @@ impl MemoryFolder {
         Ok(MemoryFolder {
             alloc,
             names: Names {
-                own: Entry::new(alloc, own)?,
-                beside: Entry::new(alloc, new)?,
+                own: Standing::new(alloc, own)?,
+                beside: Standing::new(alloc, new)?,
                 trouble,
                 calls: 0,
                 is_off: false,
             },
-            kept: Record {
-                noted: Some(Vec::new(alloc)),
-            },
+            noted: Some(Vec::new(alloc)),
         })
     }
 
-    /// What a name has.
-    pub fn holds(&self, name: Name) -> Option<&[u8]>
-        ensures { option_map (λ bytes. bytes.now) result ≡ left (standing self.now.names name) Whole }
-    {
-        self.left(name, Extent::Whole)
-    }
-
-    /// What a name has after a cut that leaves so much of what is not synced.
+    /// What a name has after a cut that leaves so much of what is not synced; what it has now, where that is all.
     pub fn left(&self, name: Name, extent: Extent) -> Option<&[u8]>
         ensures { option_map (λ bytes. bytes.now) result ≡ left (standing self.now.names name) extent }
     {
@@ -465,25 +278,41 @@ impl MemoryFolder {
     {
         self.names.calls
     }
+
+    // Notes the call that was made last, and answers it.
+    fn answer(&mut self, step: Step) -> Result<(), Failed>
+        ensures names { self.new.names ≡ self.old.names }
+        ensures noted { Notes self.old.calls self.new.calls (call_of step (is_ok result)) }
+        ensures answered { is_ok result ≡ goes_well self.old.names }
+    {
+        let answer = self.names.answer();
+        if let Some(mut noted) = self.noted.take()
+            && noted.insert(0, (step, answer.is_ok())).is_ok()
+        {
+            self.noted = Some(noted);
+        }
+        answer
+    }
 }
 
 impl Folder for MemoryFolder {
-    ghost use Rattle.std.specs.Prelude.{◌≡◌, is_ok};
+    ghost use Rattle.std.specs.Prelude.{is_ok};
     ghost use Rattle.n2kdec.specs.Folder.{Notes, create, write, sync, rename, sync_folder, remove};
-    ghost use Rattle.n2kdec.specs.MemoryFolder.{DoneOrRefused, goes_well, on_both, on_name, renamed};
+    ghost use Rattle.n2kdec.specs.MemoryFolder.{Done, DoneOrRefused, on_both, on_name, renamed};
     ghost use Rattle.n2kdec.specs.Standing.{created, removed, settle, synced, written};
 
     ghost calls = { λ folder. folder.calls };
 
     fn create(&mut self, name: Name) -> Result<(), Failed>
         ensures noted { Notes self.old.calls self.new.calls (create name (is_ok result)) }
-        ensures done { self.new.names ≡ on_name name created self.old.names }
-        ensures answered { is_ok result ≡ goes_well self.new.names }
+        ensures done { Done (on_name name created self.old.names) self.new.names result }
     {
-        self.names.create(self.alloc, name);
-        let answer = self.names.answer();
-        self.kept.note(Noted::Create(name, answer.is_ok()));
-        answer
+        let done = self.names.begin();
+        match name {
+            Name::Own => self.names.own.create(self.alloc, done),
+            Name::New => self.names.beside.create(self.alloc, done),
+        }
+        self.answer(Step::Create(name))
     }
 
     fn write(&mut self, name: Name, text: &[u8]) -> Result<(), Failed>
@@ -491,59 +320,74 @@ impl Folder for MemoryFolder {
         ensures done { DoneOrRefused self.old.names
             (on_name name (written text.now) self.old.names) self.new.names result }
     {
-        let answer = match self.names.write(name, text) {
-            Ok(()) => self.names.answer(),
-            Err(_) => Err(Failed),
+        let done = self.names.begin();
+        let copy = text.to_vec(self.alloc);
+        let written = match name {
+            _ if copy.is_err() => Err(AllocError),
+            Name::Own => self.names.own.write(text, done),
+            Name::New => self.names.beside.write(text, done),
         };
-        match text.to_vec(self.alloc) {
-            Ok(copy) => self.kept.note(Noted::Write(name, copy, answer.is_ok())),
-            Err(_) => self.kept.lose(),
+        match (written, copy) {
+            (Ok(()), Ok(copy)) => self.answer(Step::Write(name, copy)),
+            _ => {
+                self.noted = None;
+                Err(Failed)
+            }
         }
-        answer
     }
 
     fn sync(&mut self, name: Name) -> Result<(), Failed>
         ensures noted { Notes self.old.calls self.new.calls (sync name (is_ok result)) }
-        ensures done { self.new.names ≡ on_name name synced self.old.names }
-        ensures answered { is_ok result ≡ goes_well self.new.names }
+        ensures done { Done (on_name name synced self.old.names) self.new.names result }
     {
-        self.names.sync(name);
-        let answer = self.names.answer();
-        self.kept.note(Noted::Sync(name, answer.is_ok()));
-        answer
+        let done = self.names.begin();
+        match name {
+            Name::Own => self.names.own.sync(done),
+            Name::New => self.names.beside.sync(done),
+        }
+        self.answer(Step::Sync(name))
     }
 
     fn rename(&mut self, from: Name, to: Name) -> Result<(), Failed>
         ensures noted { Notes self.old.calls self.new.calls (rename from to (is_ok result)) }
-        ensures done { self.new.names ≡ renamed from to self.old.names }
-        ensures answered { is_ok result ≡ goes_well self.new.names }
+        ensures done { Done (renamed from to self.old.names) self.new.names result }
     {
-        self.names.rename(from, to);
-        let answer = self.names.answer();
-        self.kept.note(Noted::Rename(from, to, answer.is_ok()));
-        answer
+        let done = self.names.begin();
+        let Names { own, beside, .. } = &mut self.names;
+        match (done, from, to) {
+            (Extent::Whole, Name::Own, Name::New) => beside.take_from(own),
+            (Extent::Whole, Name::New, Name::Own) => own.take_from(beside),
+            _ => {}
+        }
+        self.answer(Step::Rename(from, to))
     }
 
     fn sync_folder(&mut self) -> Result<(), Failed>
         ensures noted { Notes self.old.calls self.new.calls (sync_folder (is_ok result)) }
         ensures done { DoneOrRefused self.old.names (on_both settle self.old.names) self.new.names result }
     {
-        let answer = match self.names.sync_names(self.alloc) {
-            Ok(()) => self.names.answer(),
-            Err(_) => Err(Failed),
-        };
-        self.kept.note(Noted::SyncFolder(answer.is_ok()));
-        answer
+        if self.names.begin() == Extent::Whole {
+            let own = copy(self.alloc, self.names.own.left(Extent::Part));
+            let beside = copy(self.alloc, self.names.beside.left(Extent::Part));
+            let (Ok(own), Ok(beside)) = (own, beside) else {
+                self.noted = None;
+                return Err(Failed);
+            };
+            self.names.own.settle(own);
+            self.names.beside.settle(beside);
+        }
+        self.answer(Step::SyncFolder)
     }
 
     fn remove(&mut self, name: Name) -> Result<(), Failed>
         ensures noted { Notes self.old.calls self.new.calls (remove name (is_ok result)) }
-        ensures done { self.new.names ≡ on_name name removed self.old.names }
-        ensures answered { is_ok result ≡ goes_well self.new.names }
+        ensures done { Done (on_name name removed self.old.names) self.new.names result }
     {
-        self.names.remove(name);
-        let answer = self.names.answer();
-        self.kept.note(Noted::Remove(name, answer.is_ok()));
-        answer
+        let done = self.names.begin();
+        match name {
+            Name::Own => self.names.own.remove(done),
+            Name::New => self.names.beside.remove(done),
+        }
+        self.answer(Step::Remove(name))
     }
 }

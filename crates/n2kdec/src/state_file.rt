@@ -10,22 +10,17 @@ use n2k_run::Failed;
 use std::fs;
 use std::io::Write;
 
-// Writes a state whole.
-fn write_state<W: Write>(file: &mut W, state: &[u8]) -> Result<(), Failed>
-    ensures { OnOk result (Appends (W.contents file.old) (W.contents file.new) state.now) }
+/// Writes a text whole.
+pub fn write_text<W: Write>(writer: &mut W, text: &[u8]) -> Result<(), Failed>
+    ensures { OnOk result (Appends (W.contents writer.old) (W.contents writer.new) text.now) }
 {
-    match file.write_all(state) {
-        Ok(()) => Ok(()),
-        Err(_) => Err(Failed),
-    }
+    writer.write_all(text).map_err(|_| Failed)
 }
 
 // Writes to what can't be replaced: a pipe, a device, an open file.
 fn write_to(rt: &HostRuntime, name: &str, state: &[u8]) -> Result<(), Failed> {
-    match fs::create(rt, name) {
-        Ok(mut file) => write_state(&mut file, state),
-        Err(_) => Err(Failed),
-    }
+    let mut file = fs::create(rt, name).map_err(|_| Failed)?;
+    write_text(&mut file, state)
 }
 
 // Writes a state in the place of what the name has.

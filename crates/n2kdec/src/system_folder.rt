@@ -1,5 +1,5 @@
 //! The folder of a file of the system.
-ghost use Rattle.std.specs.Prelude.{◌≡◌, ◌++◌, IfOk, is_ok, string_bytes};
+ghost use Rattle.std.specs.Prelude.{◌≡◌, ◌++◌, IfOk, string_bytes};
 
 use crate::folder::{Folder, Name};
 use n2k_run::Failed;
@@ -22,10 +22,10 @@ fn beside(rt: &HostRuntime, path: &str, target: Path<'_>) -> Result<String, Allo
 // What the link of this name leads to; none where it is no link.
 fn link(rt: &HostRuntime, path: &str) -> Result<Option<String>, Failed> {
     match fs::read_link(rt, path) {
-        Ok(target) => match beside(rt, path, target.as_path()) {
-            Ok(text) => Ok(Some(text)),
-            Err(_) => Err(Failed),
-        },
+        Ok(target) => {
+            let text = beside(rt, path, target.as_path()).map_err(|_| Failed)?;
+            Ok(Some(text))
+        }
         Err(error) if matches!(error.kind(), ErrorKind::InvalidInput | ErrorKind::NotFound) => {
             Ok(None)
         }
@@ -59,20 +59,11 @@ fn text(rt: &HostRuntime, front: &str, end: &str) -> Result<String, Failed>
     Ok(text)
 }
 
-fn done(answer: io::Result<()>) -> Result<(), Failed>
-    ensures { is_ok result ≡ is_ok answer }
-{
-    match answer {
-        Ok(()) => Ok(()),
-        Err(_) => Err(Failed),
-    }
-}
-
 // Takes a name away, where it is there.
 fn remove(rt: &HostRuntime, path: &str) -> Result<(), Failed> {
     match fs::remove_file(rt, path) {
         Err(error) if error.kind() == ErrorKind::NotFound => Ok(()),
-        answer => done(answer),
+        answer => answer.map_err(|_| Failed),
     }
 }
 
@@ -167,25 +158,21 @@ impl<'a> Folder for SystemFolder<'a> {
     // another name too.
     fn create(&mut self, name: Name) -> Result<(), Failed> {
         remove(self.rt, self.path(name))?;
-        match create(self.rt, self.path(name), self.mode) {
-            Ok(file) => {
-                self.made = Some(Made { name, file });
-                Ok(())
-            }
-            Err(_) => Err(Failed),
-        }
+        let file = create(self.rt, self.path(name), self.mode).map_err(|_| Failed)?;
+        self.made = Some(Made { name, file });
+        Ok(())
     }
 
     fn write(&mut self, name: Name, text: &[u8]) -> Result<(), Failed> {
-        done(self.made(name)?.write_all(text))
+        self.made(name)?.write_all(text).map_err(|_| Failed)
     }
 
     fn sync(&mut self, name: Name) -> Result<(), Failed> {
-        done(self.made(name)?.sync_all())
+        self.made(name)?.sync_all().map_err(|_| Failed)
     }
 
     fn rename(&mut self, from: Name, to: Name) -> Result<(), Failed> {
-        done(fs::rename(self.rt, self.path(from), self.path(to)))?;
+        fs::rename(self.rt, self.path(from), self.path(to)).map_err(|_| Failed)?;
         if let Some(made) = &mut self.made
             && made.name == from
         {
@@ -195,10 +182,8 @@ impl<'a> Folder for SystemFolder<'a> {
     }
 
     fn sync_folder(&mut self) -> Result<(), Failed> {
-        match self.open() {
-            Ok(folder) => done(folder.sync_all()),
-            Err(_) => Err(Failed),
-        }
+        let folder = self.open().map_err(|_| Failed)?;
+        folder.sync_all().map_err(|_| Failed)
     }
 
     fn remove(&mut self, name: Name) -> Result<(), Failed> {

@@ -2,7 +2,7 @@
 ghost use Rattle.std.specs.Prelude.{◌≡◌, IfOk, false};
 ghost use Rattle.clap.specs.Words.{app_of, rule_of, with_rule};
 ghost use Rattle.clap.specs.declared.builder.command.Command.TheViews.{out-Command as fields_of};
-ghost use Rattle.n2kdec.specs.Usage.{candump_rule, decode_app, empty_rule, frames_app, in_order_rule, log_rule, plain_app, program_app, resume_rule, save_rule, table_rule, whole_rule, window_rule};
+ghost use Rattle.n2kdec.specs.Usage.{decode_app, empty_rule, flag_rule, frames_app, in_order_rule, log_rule, option_rule, plain_app, program_app, resume_rule, save_rule, table_rule, whole_rule, window_rule};
 
 use clap::{Arg, ArgAction, Command};
 use std::alloc::{AllocError, Global};
@@ -20,85 +20,42 @@ fn log_argument<'a>(alloc: Global) -> Arg<'a>
         .help("The log; without it standard input is read")
 }
 
+// An option with a value.
+fn option<'a>(
+    alloc: Global,
+    name: &'a str,
+    value: &'a str,
+    required: bool,
+    help: &'a str,
+) -> Arg<'a>
+    ensures rule { rule_of result ≡ record (option_rule name.now) { required = required } }
+    ensures own { result.global ≡ false }
+{
+    Arg::new(alloc, name)
+        .long(name)
+        .value_name(value)
+        .required(required)
+        .help(help)
+}
+
+// An option without a value.
+fn flag<'a>(alloc: Global, name: &'a str, help: &'a str) -> Arg<'a>
+    ensures rule { rule_of result ≡ flag_rule name.now }
+    ensures own { result.global ≡ false }
+{
+    Arg::new(alloc, name)
+        .long(name)
+        .action(ArgAction::SetTrue)
+        .help(help)
+}
+
 // The table of a command that needs one.
 fn table_argument<'a>(alloc: Global) -> Arg<'a>
     ensures rule { rule_of result ≡ table_rule }
     ensures own { result.global ≡ false }
 {
-    Arg::new(alloc, "table")
-        .long("table")
-        .value_name("F")
-        .required(true)
-        .help("The table of PGNs and fields, a TOML file")
-}
-
-fn resume_argument<'a>(alloc: Global) -> Arg<'a>
-    ensures rule { rule_of result ≡ resume_rule }
-    ensures own { result.global ≡ false }
-{
-    Arg::new(alloc, "resume")
-        .long("resume")
-        .value_name("F")
-        .help("Goes on from the state in this file")
-}
-
-fn save_argument<'a>(alloc: Global) -> Arg<'a>
-    ensures rule { rule_of result ≡ save_rule }
-    ensures own { result.global ≡ false }
-{
-    Arg::new(alloc, "save").long("save").value_name("F").help(
-        "Writes the state after the log to this file, over what it has; it may be the file of --resume",
-    )
-}
-
-fn candump_argument<'a>(alloc: Global) -> Arg<'a>
-    ensures rule { rule_of result ≡ candump_rule }
-    ensures own { result.global ≡ false }
-{
-    Arg::new(alloc, "candump")
-        .long("candump")
-        .value_name("IFACE")
-        .help("Writes candump lines of this interface in place of plain lines")
-}
-
-fn window_argument<'a>(alloc: Global) -> Arg<'a>
-    ensures rule { rule_of result ≡ window_rule }
-    ensures own { result.global ≡ false }
-{
-    Arg::new(alloc, "window")
-        .long("window")
-        .value_name("W")
-        .help("Gives a message so many lines to come whole: 32 to 1000000; without it 10000")
-}
-
-fn in_order_argument<'a>(alloc: Global) -> Arg<'a>
-    ensures rule { rule_of result ≡ in_order_rule }
-    ensures own { result.global ≡ false }
-{
-    Arg::new(alloc, "in-order")
-        .long("in-order")
-        .action(ArgAction::SetTrue)
-        .help("Gives up a message at a frame out of order: for a log that was taken at the bus")
-}
-
-fn empty_argument<'a>(alloc: Global) -> Arg<'a>
-    ensures rule { rule_of result ≡ empty_rule }
-    ensures own { result.global ≡ false }
-{
-    Arg::new(alloc, "empty")
-        .long("empty")
-        .action(ArgAction::SetTrue)
-        .help("Prints absent fields as null")
-}
-
-fn whole_argument<'a>(alloc: Global) -> Arg<'a>
-    ensures rule { rule_of result ≡ whole_rule }
-    ensures own { result.global ≡ false }
-{
-    Arg::new(alloc, "whole")
-        .long("whole")
-        .action(ArgAction::SetTrue)
-        .help("Reads every plain line as a whole message")
+    let help = "The table of PGNs and fields, a TOML file";
+    option(alloc, "table", "F", true, help)
 }
 
 fn plain_command<'a>(alloc: Global) -> Result<Command<'a>, AllocError>
@@ -117,10 +74,13 @@ fn with_files<'a>(alloc: Global, command: Command<'a>) -> Result<Command<'a>, Al
         ≡ with_rule (with_rule (with_rule (app_of command.entry) table_rule) resume_rule) save_rule) }
     ensures own { IfOk result (λ added. (fields_of added).has_globals ≡ false) }
 {
+    let resume = "Goes on from the state in this file";
+    let save =
+        "Writes the state after the log to this file, over what it has; it may be the file of --resume";
     command
         .arg(table_argument(alloc))?
-        .arg(resume_argument(alloc))?
-        .arg(save_argument(alloc))
+        .arg(option(alloc, "resume", "F", false, resume))?
+        .arg(option(alloc, "save", "F", false, save))
 }
 
 // A command with the words that say what ends a group of frames.
@@ -130,9 +90,12 @@ fn with_window<'a>(alloc: Global, command: Command<'a>) -> Result<Command<'a>, A
         ≡ with_rule (with_rule (app_of command.entry) window_rule) in_order_rule) }
     ensures own { IfOk result (λ added. (fields_of added).has_globals ≡ false) }
 {
+    let window = "Gives a message so many lines to come whole: 32 to 1000000; without it 10000";
+    let in_order =
+        "Gives up a message at a frame out of order: for a log that was taken at the bus";
     command
-        .arg(window_argument(alloc))?
-        .arg(in_order_argument(alloc))
+        .arg(option(alloc, "window", "W", false, window))?
+        .arg(flag(alloc, "in-order", in_order))
 }
 
 // A command with the flags that say how lines are read and printed.
@@ -143,8 +106,8 @@ fn with_flags<'a>(alloc: Global, command: Command<'a>) -> Result<Command<'a>, Al
     ensures own { IfOk result (λ added. (fields_of added).has_globals ≡ false) }
 {
     command
-        .arg(empty_argument(alloc))?
-        .arg(whole_argument(alloc))
+        .arg(flag(alloc, "empty", "Prints absent fields as null"))?
+        .arg(flag(alloc, "whole", "Reads every plain line as a whole message"))
 }
 
 fn decode_command<'a>(alloc: Global) -> Result<Command<'a>, AllocError>
@@ -162,10 +125,11 @@ fn frames_command<'a>(alloc: Global) -> Result<Command<'a>, AllocError>
     ensures app { IfOk result (λ command. app_of command ≡ frames_app) }
     ensures own { IfOk result (λ command. (fields_of command).has_globals ≡ false) }
 {
+    let candump = "Writes candump lines of this interface in place of plain lines";
     Command::new(alloc, "frames")
         .about("Writes the whole messages of a log as the frames of the bus")
         .arg(table_argument(alloc))?
-        .arg(candump_argument(alloc))?
+        .arg(option(alloc, "candump", "IFACE", false, candump))?
         .arg(log_argument(alloc))
 }
 

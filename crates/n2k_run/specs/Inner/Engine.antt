@@ -39,9 +39,7 @@ Takes m s s' x text text' report report' (Ok y) = MovesOn m s s' x text text' re
 Takes m s s' x text text' report report' (Err TooManyLines) =
     StandsStill s s' text text' report report' × (m.lines s ≡ most_lines)
 Takes m s s' x text text' report report' (Err Memory) = Unit {0}
-Takes m s s' x text text' report report' (Err Read) = ⊥
-Takes m s s' x text text' report report' (Err Write) = ⊥
-Takes m s s' x text text' report report' (Err Report) = ⊥
+Takes m s s' x text text' report report' _ = ⊥
 
 -- the next line of the log, and its entry
 pub record NextEntry (packing : Packing) (old new : Held) (left₀ left : Option (List ℕ)) (x : Entry) : Type 0 where
@@ -78,17 +76,14 @@ TakesNext m packing s s' old new left₀ left text text' report report' (Err Too
 TakesNext m packing s s' old new left₀ left text text' report report' (Err Read) =
     FailsNext old left₀ left × StandsStill s s' text text' report report' × (text' ≡ []) × (report' ≡ [])
 TakesNext m packing s s' old new left₀ left text text' report report' (Err Memory) = Unit {0}
-TakesNext m packing s s' old new left₀ left text text' report report' (Err Write) = ⊥
-TakesNext m packing s s' old new left₀ left text text' report report' (Err Report) = ⊥
+TakesNext m packing s s' old new left₀ left text text' report report' _ = ⊥
 
 -- the source's failures at it: none where a line or the end was found, also where the maker refuses the line
 abbrev pub ReadsNext : {T : Type 0} → Held → ℕ → ℕ → Result T RunFault → Type 0
 ReadsNext new failed₀ failed (Err Read) = HasFailed failed₀ failed ⊎ ((new.reads ≡ most_reads) × (failed ≡ failed₀))
 ReadsNext new failed₀ failed (Err Write) = Unit {0}
 ReadsNext new failed₀ failed (Err Report) = Unit {0}
-ReadsNext new failed₀ failed (Err Memory) = failed ≡ failed₀
-ReadsNext new failed₀ failed (Err TooManyLines) = failed ≡ failed₀
-ReadsNext new failed₀ failed (Ok x) = failed ≡ failed₀
+ReadsNext new failed₀ failed _ = failed ≡ failed₀
 
 -- what is kept is written, the reports first; a sink that fails had something to write
 abbrev pub WritesKept : {T : Type 0} → List ℕ → List ℕ → Option (List ℕ) → Option (List ℕ) → Option (List ℕ)
@@ -96,28 +91,25 @@ abbrev pub WritesKept : {T : Type 0} → List ℕ → List ℕ → Option (List 
 WritesKept text report w w' e e' (Ok x) = Appends w w' text × Appends e e' report
 WritesKept text report w w' e e' (Err Report) = (w' ≡ w) × AppendsFront e e' report × (0 < length report)
 WritesKept text report w w' e e' (Err Write) = AppendsFront w w' text × Appends e e' report × (0 < length text)
-WritesKept text report w w' e e' (Err Read) = ⊥
-WritesKept text report w w' e e' (Err Memory) = ⊥
-WritesKept text report w w' e e' (Err TooManyLines) = ⊥
+WritesKept text report w w' e e' _ = ⊥
 
 -- the sinks' failures at it
 abbrev pub FailsKept : {T : Type 0} → ℕ → ℕ → ℕ → ℕ → Result T RunFault → Type 0
 FailsKept writes₀ writes reports₀ reports (Ok x) = (writes ≡ writes₀) × (reports ≡ reports₀)
 FailsKept writes₀ writes reports₀ reports (Err Write) = HasFailed writes₀ writes × (reports ≡ reports₀)
 FailsKept writes₀ writes reports₀ reports (Err Report) = HasFailed reports₀ reports × (writes ≡ writes₀)
-FailsKept writes₀ writes reports₀ reports (Err Read) = ⊥
-FailsKept writes₀ writes reports₀ reports (Err Memory) = ⊥
-FailsKept writes₀ writes reports₀ reports (Err TooManyLines) = ⊥
+FailsKept writes₀ writes reports₀ reports _ = ⊥
 
--- What was made of these entries: of the first of them the texts and reports are written, of the others they are kept.
+-- What was made of these entries: of the first of them the texts and reports are written to the sinks, of the others they
+-- are kept.
 pub record Made {S : Type 0} (m : Making S) (s₀ s : S) (es : List Entry) (text report : List ℕ)
-    (before now : Devices) : Type 0 where
+    (w₀ w e₀ e : Option (List ℕ)) : Type 0 where
   pub written : List Entry
   pub kept : List Entry
   pub entries_are : es ≡ written ++ kept
   pub state : s ≡ after_all m s₀ es
-  pub printed : Appends before.written now.written (texts_from m s₀ written)
-  pub reported : Appends before.reported now.reported (reports_from m s₀ written)
+  pub printed : Appends w₀ w (texts_from m s₀ written)
+  pub reported : Appends e₀ e (reports_from m s₀ written)
   pub text_is : text ≡ texts_from m (after_all m s₀ written) kept
   pub report_is : report ≡ reports_from m (after_all m s₀ written) kept
   pub counted : m.lines s ≡ m.lines s₀ + length es
@@ -131,7 +123,7 @@ pub record Stands {S : Type 0} (m : Making S) (packing : Packing) (s₀ s : S) (
   -- it ends with a line, unless the log has ended
   pub whole : held.has_ended ≡ false → IsEmptyOrEndsWith front line_feed
   pub end : held.has_ended ≡ true → (unanswered held ≡ []) × IsAtEnd now.left
-  pub made : Made m s₀ s (entries packing front) text report before now
+  pub made : Made m s₀ s (entries packing front) text report before.written now.written before.reported now.reported
   pub called : CallsAre before.calls now.calls 0 held.reads
   -- each call but the one that found the end gave bytes
   pub reads : ReadsBytes (if held.has_ended then 1 else 0) before.left now.left before.calls now.calls

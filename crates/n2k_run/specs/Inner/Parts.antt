@@ -25,9 +25,7 @@ pub record Saves (s : State) (part : Part) : Type 0 where
 abbrev pub HasSaved : Result Part PartFault → State → Type 0
 HasSaved (Ok part) s = Saves s part
 HasSaved (Err (Stopped fault part)) s = Saves s part
-HasSaved (Err (Refused fault)) s = Unit {0}
-HasSaved (Err (Run fault)) s = Unit {0}
-HasSaved (Err Memory) s = Unit {0}
+HasSaved _ s = Unit {0}
 
 -- what is answered after a run
 abbrev pub Finishes : Result Part PartFault → Result (Unit {0}) RunFault → Type 0

@@ -35,8 +35,12 @@ fn a_failure_in_each_call_leaves_the_old_text_or_the_new(rt: HostRuntime) -> Res
             assert!(rt; replace(&mut folder, NEW).is_err(), "{trouble:?}");
             let renamed = call == 5 || call == 4 && done == Extent::Whole;
             let now = if renamed { NEW } else { OLD };
-            assert_eq!(rt; folder.holds(Name::Own), Some(now), "{trouble:?}");
-            assert_eq!(rt; folder.holds(Name::New), None, "{trouble:?}");
+            assert_eq!(rt;
+                folder.left(Name::Own, Extent::Whole),
+                Some(now),
+                "{trouble:?}"
+            );
+            assert_eq!(rt; folder.left(Name::New, Extent::Whole), None, "{trouble:?}");
         }
     }
     Ok(())

@@ -27,7 +27,7 @@ returns-in_err-write-clause-runs g c =
     let p = err_from_is_err_and c.from_residual.result c.from_residual.ensures.1 in
     let e = c.in_err-write.ensures in
     let stands = c.lines.invariant.stands in
-    rw (p.1, p.2) (sink_end _ _ _ _ _ _ _ _ _ _ (devices g c.lines.reader c.write.new.writer c.write.new.reporter) _ stands.made (lead_of _ _ _ _ _ _ _ _ _ stands) stands.none_failed.reads stands.none_failed.writes stands.none_failed.reports e.written e.device (calls_here _ _ _ _ _ _ _ _ _ stands))
+    rw (p.1, p.2) (sink_end _ _ _ _ _ _ _ _ _ (devices g c.lines.reader c.lines.writer c.lines.reporter) (devices g c.lines.reader c.write.new.writer c.write.new.reporter) _ stands.made (lead_of _ _ _ _ _ _ _ _ _ stands) stands.none_failed.reads stands.none_failed.writes stands.none_failed.reports e.written e.device (calls_here _ _ _ _ _ _ _ _ _ stands))
 
 pub lines-preserved : goal.lines-preserved
 lines-preserved g c =
@@ -48,7 +48,7 @@ returns-in_err-write-in_default g c =
     let sound = none_read (g.M.Maker.making c.args.maker.now) c.args.packing _ _ _ _ _ _ _ _ _ _ _ _ _ _ _ _ c.in-Err.fault _ c.in-Err.ensures.taken c.in_default.not-Memory c.in-Err.ensures.device w.written in
     let made = still_made _ _ _ _ _ _ _ _ _ _ _ _ _ _ (g.R.Source.calls c.take_next.new.reader) (g.R.Source.failed_calls c.take_next.new.reader) c.in-Err.fault here c.in-Err.ensures.taken c.in_default.not-Memory _ here.made in
     record {
-      runs = rw (p.1, p.2) (sink_end _ _ _ _ _ _ _ _ _ _ (devices g c.take_next.new.reader c.write-in_default.new.writer c.write-in_default.new.reporter) _ made (lead_of _ _ _ _ _ _ _ _ _ here) (sound ∙ here.none_failed.reads) here.none_failed.writes here.none_failed.reports w.written w.device (calls_next _ _ _ _ _ _ _ _ _ _ _ here (sym c.has_ended.ensures ∙ c.lines-test.true) c.in-Err.ensures.reads));
+      runs = rw (p.1, p.2) (sink_end _ _ _ _ _ _ _ _ _ (devices g c.take_next.new.reader c.if-not-has_line.writer c.if-not-has_line.reporter) (devices g c.take_next.new.reader c.write-in_default.new.writer c.write-in_default.new.reporter) _ made (lead_of _ _ _ _ _ _ _ _ _ here) (sound ∙ here.none_failed.reads) here.none_failed.writes here.none_failed.reports w.written w.device (calls_next _ _ _ _ _ _ _ _ _ _ _ here (sym c.has_ended.ensures ∙ c.lines-test.true) c.in-Err.ensures.reads));
       ready = rw p.1 tt;
     }
 

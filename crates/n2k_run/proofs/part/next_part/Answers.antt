@@ -15,4 +15,4 @@ returns-clause-log g c = λ front is.
     let before = sinks_seen g.W.Sink g.E.Sink c.args.writer.now c.args.reporter.now in
     let after = sinks_seen g.W.Sink g.E.Sink c.run_part.new.writer c.run_part.new.reporter in
     runs_part c.args.table.now c.args.options.now front c.args.part.now c.new-reader.result before after (Some c.run_part.new.reader.left) c.run_part.new.reader.calls c.run_part.result c.new-reader.ensures (c.run_part.ensures.runs.log front read)
-    (both_untouched c.run_part.result c.args.writer.now c.run_part.new.writer c.args.reporter.now c.run_part.new.reporter (sinks_seen g.W.Sink g.E.Sink) c.run_part.ensures.unwritten c.run_part.ensures.unreported)
+    (both_untouched _ c.run_part.result c.args.writer.now c.run_part.new.writer c.args.reporter.now c.run_part.new.reporter (sinks_seen g.W.Sink g.E.Sink) c.run_part.ensures.untouched)

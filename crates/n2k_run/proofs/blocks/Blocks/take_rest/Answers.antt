@@ -2,7 +2,7 @@ use Rattle.std.proofs.Common.{◌≡◌, ◌⊎◌, inl, inr, ◌<◌, ◌+◌, 
 use Rattle.std.specs.List.{slice_range}
 use Rattle.std.proofs.lemmas.List.{take_all, drop_all}
 use Rattle.n2k_run.specs.Blocks.{Held, HasNoFeed}
-use Rattle.n2k_run.proofs.Feeds.{finds_rest, unanswered_plain}
+use Rattle.n2k_run.proofs.Feeds.{finds, some_byte, unanswered_plain}
 use Rattle.n2k_run.proofs.Ranges.{length-range}
 use Rattle.n2k_run.proofs.blocks.Blocks.take_rest.Goals as goal
 use Rattle.n2k_run.proofs.blocks.Blocks.take_rest.Goals.{else-size-eq0-via-then-size-eq0+else-not-self, else-size-eq0-via-else-size-eq0}
@@ -19,4 +19,5 @@ returns-clause-found c = λ left end.
     ] in
     let all = take_all (c.self.inside.end - c.self.inside.start) kept (omega (arith, size)) in
     let nothing = e.kept ∙ drop_all (c.self.inside.end - c.self.inside.start + 0) kept (omega (arith, size)) in
-    rw (← c.self.view_is) (finds_rest c.self.inside.is_passing kept _ c.answer.new.self c.answer.result left none some e.found all (unanswered_plain c.answer.new.self e.passing ∙ nothing) e.ended end)
+    rw (← c.self.view_is) (finds c.self.inside.is_passing kept _ c.answer.new.self c.answer.result left (rw all none) e.found
+    (inr (end, e.ended, sym all, rw all (some_byte c.self.inside.is_passing kept some), unanswered_plain c.answer.new.self e.passing ∙ nothing)))
