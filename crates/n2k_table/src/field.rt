@@ -9,13 +9,13 @@ ghost use Rattle.n2k_table.specs.Lookup.{LookupParts};
 ghost use Rattle.n2k_table.specs.Inner.Kept.{meaning as seen_meaning, IsByteMeaning};
 ghost use Rattle.n2k_table.specs.Field.{in_bytes, byte_at_of, byte_bits_of, raw_or_none, wanted_of, is_of_bits, named_field_kind, number_faults, number_field, lookup_field_faults, lookup_field, byte_field_faults, byte_field, field_faults, field};
 
-use crate::bits::{greatest, raw, raw_at_once};
+use crate::bits::{greatest, raw};
 use crate::fault::TableFault;
 use crate::lookup::{Lookup, Lookups};
+use crate::number::Scale;
 use crate::piece::Piece;
-use crate::quick::{Quick, Scale, quick_name, quick_number, scale_of};
-use crate::resolution::{Resolution, resolution_at};
-use crate::shown::{Seen, Shown, shown_name, shown_number, shown_text};
+use crate::resolution::resolution_at;
+use crate::seen::{Seen, seen_name, seen_text};
 use crate::tail::Tail;
 use crate::text::text_json;
 use crate::tree::{
@@ -50,12 +50,7 @@ pub(crate) struct Room {
 #[derive(Drop)]
 pub(crate) enum Meaning {
     /// A number, in two's complement where it is signed, times its resolution.
-    Number {
-        /// Whether the number may be below zero.
-        signed: bool,
-        /// What the raw value is multiplied with.
-        resolution: Resolution,
-    },
+    Number(Scale),
     /// A value that a lookup gives names for. The fields of a table share its lookups.
     Named(Rc<Lookup>),
     /// A text, each byte the character of its number.
@@ -74,8 +69,6 @@ pub(crate) struct Field {
     at: u32,
     bits: u32,
     meaning: Meaning,
-    // What a fast path needs of a number.
-    scale: Option<Scale>,
     wanted: Option<u64>,
 }
 
@@ -83,7 +76,6 @@ impl Model for Field {
     ghost use Rattle.std.specs.Prelude.{string_bytes};
     ghost use Rattle.n2k_table.specs.Field.{FieldParts};
     ghost use Rattle.n2k_table.specs.Inner.Kept.{meaning as seen_meaning, IsKept};
-    ghost use Rattle.n2k_table.specs.Inner.Quick.{IsScaleOf};
 
     ghost Value = { FieldParts };
 
@@ -95,8 +87,7 @@ impl Model for Field {
       wanted = f.wanted;
     } };
 
-    ghost invariant = { λ f. IsKept (string_bytes f.name) f.key f.at f.bits (seen_meaning f.meaning) f.wanted
-        × IsScaleOf (seen_meaning f.meaning) f.bits f.scale };
+    ghost invariant = { λ f. IsKept (string_bytes f.name) f.key f.at f.bits f.meaning f.wanted };
 }
 
 // A field as it is read. Its key is still a plain text: the readers of the four kinds speak of its bytes alone, and
@@ -126,7 +117,7 @@ impl Model for Described {
       wanted = d.wanted;
     } };
 
-    ghost invariant = { λ d. IsKept (string_bytes d.name) d.key.items d.at d.bits (seen_meaning d.meaning) d.wanted };
+    ghost invariant = { λ d. IsKept (string_bytes d.name) d.key.items d.at d.bits d.meaning d.wanted };
 }
 
 // The raw value that a field asks for, if it asks for one.
@@ -230,7 +221,7 @@ fn number_field(alloc: Global, room: Room, table: &Table) -> Result<Described, T
         key: key_of(alloc, name)?,
         at,
         bits,
-        meaning: Meaning::Number { signed, resolution },
+        meaning: Meaning::Number(Scale::of(signed, bits, resolution)),
         wanted,
     })
 }
@@ -277,7 +268,7 @@ fn byte_field(
     room: Room,
     table: &Table,
 ) -> Result<Described, TableFault>
-    requires meaning { IsByteMeaning (seen_meaning meaning) }
+    requires meaning { IsByteMeaning meaning }
     requires room { room.bits ≤ 1784 }
     ensures { let f = table_view table.now in
         GivesOrMemory (λ field. field) result
@@ -340,14 +331,12 @@ fn read_described(
 fn kept(described: Described) -> Field
     ensures { result ≡ described }
 {
-    let scale = scale_of(&described.meaning, described.bits);
     Field {
         name: described.name,
         key: Piece::of(described.key),
         at: described.at,
         bits: described.bits,
         meaning: described.meaning,
-        scale,
         wanted: described.wanted,
     }
 }
@@ -369,11 +358,10 @@ pub(crate) fn read_field(
 }
 
 impl Field {
-    ghost use Rattle.std.specs.Prelude.{◌++◌, is_some, IfSome, OnOk};
+    ghost use Rattle.std.specs.Prelude.{◌++◌, is_some, OnOk};
     ghost use Rattle.n2k_table.specs.Inner.Line.{key_json};
-    ghost use Rattle.n2k_table.specs.Inner.Quick.{quick_parts, HasFewPlaces};
     ghost use Rattle.n2k_table.specs.Inner.Seen.{seen_parts};
-    ghost use Rattle.n2k_table.specs.Shown.{shown_parts, lies_inside, field_bytes, shown};
+    ghost use Rattle.n2k_table.specs.Shown.{lies_inside, field_bytes, shown};
     ghost use Rattle.n2k_table.specs.Table.{field_matches};
 
     /// The name.
@@ -425,54 +413,26 @@ impl Field {
         &data[from..to]
     }
 
-    /// A fast path: what a field shows that ends past the data, and one of few bits where the data have eight bytes.
+    /// What the field shows of the data of a message or of a set: nothing where it does not lie wholly inside. Each
+    /// answer is returned where it is made, so that none is put together in memory.
     #[inline(always)]
-    pub(crate) fn quick<'a>(&'a self, data: &'a [u8]) -> Option<Quick<'a>>
-        ensures value { IfSome result (λ quick. quick_parts quick ≡ shown self.now «data».now) }
-        ensures places { IfSome result HasFewPlaces }
-    {
-        if !self.lies_inside(data) {
-            return Some(Quick::Absent);
-        }
-        if let Some(scale) = self.scale {
-            let raw = raw_at_once(data, self.at, self.bits)?;
-            return Some(quick_number(scale, raw));
-        }
-        if let Meaning::Named(lookup) = &self.meaning {
-            let raw = raw_at_once(data, self.at, self.bits)?;
-            return Some(quick_name(lookup.name_of(raw), self.bits, raw));
-        }
-        None
-    }
-
-    /// What the field shows of the data of a message or of a set: nothing where it does not lie wholly inside.
     pub(crate) fn seen<'a>(&'a self, data: &'a [u8]) -> Seen<'a>
         ensures { seen_parts result ≡ shown self.now «data».now }
     {
         if !self.lies_inside(data) {
-            return Seen::Other(Shown::Absent);
+            return Seen::Absent;
         }
         match &self.meaning {
-            Meaning::Number { signed, resolution } => {
+            Meaning::Number(scale) => {
                 let raw = raw(data, self.at, self.bits);
-                Seen::Other(shown_number(*signed, *resolution, self.bits, raw))
+                return scale.number(raw);
             }
             Meaning::Named(lookup) => {
                 let raw = raw(data, self.at, self.bits);
-                shown_name(lookup.name_of(raw), self.bits, raw)
+                return seen_name(lookup.name_of(raw), self.bits, raw);
             }
-            Meaning::Text => Seen::Other(shown_text(self.bytes(data))),
-            Meaning::Bytes => Seen::Other(Shown::Bytes(self.bytes(data))),
-        }
-    }
-
-    /// What `seen` answers, with the text of a name.
-    pub(crate) fn shown<'a>(&'a self, data: &'a [u8]) -> Shown<'a>
-        ensures { shown_parts result ≡ shown self.now «data».now }
-    {
-        match self.seen(data) {
-            Seen::Name(name) => Shown::Name(name.text()),
-            Seen::Other(shown) => shown,
+            Meaning::Text => return seen_text(self.bytes(data)),
+            Meaning::Bytes => return Seen::Bytes(self.bytes(data)),
         }
     }
 }

@@ -1,7 +1,7 @@
 use Rattle.std.proofs.Common.{sym, ap, ◌∙◌}
 use Rattle.n2k_table.specs.Shown.{trimmed}
 use Rattle.n2k_table.proofs.Trims.{trimmed_more, trimmed_done}
-use Rattle.n2k_table.proofs.shown.trimmed.Goals as goal
+use Rattle.n2k_table.proofs.seen.trimmed.Goals as goal
 
 pub loop-last-preserved : goal.loop-last-preserved
 loop-last-preserved c =

@@ -3,7 +3,7 @@ use Rattle.std.specs.Prelude.{decimal}
 use Rattle.n2k_table.specs.Inner.Digits.{filled}
 use Rattle.n2k_table.proofs.Members.{on_ok}
 use Rattle.n2k_table.proofs.Decimals.{filled_padded}
-use Rattle.n2k_table.proofs.decimal.push_size.Goals as goal
+use Rattle.n2k_table.proofs.decimal.push_long.Goals as goal
 
 pub returns-else-decimals-digits : goal.returns-else-decimals-digits
 returns-else-decimals-digits c =
