@@ -20,7 +20,6 @@ pub mod Places
 pub mod Numbers
 pub mod RawBits
 pub mod Rooms
-pub mod Scaled
 pub mod SetPlaces
 pub mod Tops
 pub mod Trims
