@@ -1,4 +1,4 @@
-//! A fast path: a number of 64 bits with at most 18 decimals is appended in one piece or two, its digits and the
+//! A fast path: a number of 64 bits with at most 18 decimals is appended in one copy or two, its digits and the
 //! zeros before them as they stand in an array. `decimal.rt` appends any number; that is the file to read first.
 ghost use Rattle.std.specs.Prelude.{◌≡◌, ◌++◌, ◌+◌, ◌-◌, ◌≤◌, take, drop, OnOk};
 ghost use Rattle.n2k_table.specs.Decimal.{dotted, padded_digits};
