@@ -185,12 +185,6 @@ dec_only x e small text t =
 pub size_lt : (x : ℤ) → FitsSigned w128 x → unsigned_abs x < 10 ^ 64
 size_lt x fits = omega (arith, ints, fits)
 
--- as the code appends it: digits that are more than the decimals
-pub dotted_padded : (n e : ℕ) → e < length (decimal n) → dotted e (decimal n) ≡ dotted e (padded_digits n e)
-dotted_padded n e more =
-    let none : e + 1 - length (decimal n) ≡ 0 = omega arith in
-    ap (λ k. dotted e (replicate k 48 ++ decimal n)) (sym none)
-
 -- a zero before e digits
 dotted_after : (e : ℕ) (ds : List ℕ) → length ds ≡ e → 0 < e → dotted e (48 ∷ ds) ≡ 48 ∷ 46 ∷ ds
 dotted_after e [] len some = absurd (omega arith)

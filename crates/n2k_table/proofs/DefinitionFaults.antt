@@ -8,7 +8,7 @@ use Rattle.n2k_table.specs.declared.definition.Kind.TheVariants.{Single}
 use Rattle.n2k_table.specs.declared.fault.TableFault.{TableFault}
 use Rattle.n2k_table.specs.declared.fault.TableFault.TheVariants.{Key, Mixed, TooMany}
 use Rattle.n2k_table.specs.declared.tree.TableFormat.{TableFormat}
-use Rattle.n2k_table.specs.declared.tree.Place.TheVariants.{Definition}
+use Rattle.n2k_table.specs.declared.tree.Section.TheVariants.{Definition}
 use Rattle.n2k_wire.specs.Steps.{◌>>=◌}
 use Rattle.n2k_table.specs.Fault.{fault_of, faults_in, value_or, unless}
 use Rattle.n2k_table.specs.Tree.{has_only_keys, as_members}

@@ -1,6 +1,5 @@
 -- The faults of bytes by those of their document, and that an answered fault stands.
-use Rattle.std.proofs.Common.{◌≡◌, ℕ, List, [], ◌∷◌, Some, None, Ok, Err, ap, ◌∙◌, inl, inr, arith}
-use Rattle.std.specs.Prelude.{Contains}
+use Rattle.std.proofs.Common.{◌≡◌, ℕ, List, Some, None, Ok, Err, ap, ◌∙◌, inl, inr}
 use Rattle.std.specs.Str.{is_utf8, IsUtf8}
 use Rattle.std.proofs.lemmas.Bool.{cases_Bool}
 use Rattle.std.proofs.lemmas.Str.{IsUtf8-from_is_utf8, is_utf8-from_IsUtf8}
@@ -42,10 +41,3 @@ read_document bytes top definitions utf8 parsed read =
     let p = judged_ok (top_faults top) (top_definitions top) definitions read in
     let here = document_some bytes top utf8 parsed in
     rw (here, p.0, p.1)
-
--- the first fault is one of them
-pub first_stands : {X : Type 0} (fs : List TableFault) (x : X) (f : TableFault) → judged fs x ≡ Err f → Contains fs f
-first_stands [] x f e = absurd cc
-first_stands (g ∷ fs) x f e =
-    let same : g ≡ f = cc in
-    (0, omega arith, same)

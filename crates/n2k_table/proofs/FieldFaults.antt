@@ -9,7 +9,7 @@ use Rattle.n2k_table.specs.declared.fault.TableFault.TheVariants.{Key, Range, Lo
 use Rattle.n2k_table.specs.declared.tree.FieldKind.{FieldKind}
 use Rattle.n2k_table.specs.declared.tree.FieldKind.TheVariants as kind
 use Rattle.n2k_table.specs.declared.tree.Holder.{Holder}
-use Rattle.n2k_table.specs.declared.tree.Place.TheVariants.{NumberField, LookupField, ByteField}
+use Rattle.n2k_table.specs.declared.tree.Section.TheVariants.{NumberField, LookupField, ByteField}
 use Rattle.n2k_wire.specs.Steps.{◌>>=◌}
 use Rattle.n2k_table.specs.Fault.{fault_of, faults_in, value_or, unless}
 use Rattle.n2k_table.specs.Tree.{has_only_keys}

@@ -43,20 +43,6 @@ seven_of (a ∷ b ∷ c ∷ d ∷ e ∷ f ∷ []) is = absurd (omega arith)
 seven_of (a ∷ b ∷ c ∷ d ∷ e ∷ f ∷ g ∷ []) is = refl
 seven_of (a ∷ b ∷ c ∷ d ∷ e ∷ f ∷ g ∷ h ∷ more) is = absurd (omega arith)
 
--- a line to which three parts are appended in turn
-pub three_parts : (line a b c l1 l2 l3 : List ℕ) → l1 ≡ line ++ a → l2 ≡ l1 ++ b → l3 ≡ l2 ++ c → l3 ≡ line ++ ((a ++ b) ++ c)
-three_parts line a b c l1 l2 l3 p1 p2 p3 = rw (p3, p2, p1) (simp append_assoc)
-
-seen_lists : (label stamp sender : List ℕ)
-    → (((label ++ 34 ∷ []) ++ stamp) ++ 34 ∷ []) ++ sender ≡ (label ++ (34 ∷ (stamp ++ 34 ∷ []))) ++ sender
-seen_lists label stamp sender = simp append_assoc
-
--- what stands before the PGN, where the stamp stands for itself
-pub plain_seen : (m : PacketParts) → list_all is_plain m.stamp ≡ true
-    → ((codes "{\"timestamp\":\"" ++ m.stamp) ++ codes "\"") ++ sender_json m.id ≡ seen_json m
-unfolding seen_json
-plain_seen m plain = rw (text_json-plain m.stamp plain) (seen_lists (codes "{\"timestamp\":") m.stamp (sender_json m.id))
-
 line_lists : (ts st c1 p c2 s c3 d c4 g c5 de c6 ms : List ℕ)
     → ((((ts ++ st) ++ (((((c1 ++ p) ++ c2) ++ s) ++ c3) ++ d)) ++ ((((c4 ++ g) ++ c5) ++ de) ++ (c6 ++ 123 ∷ []))) ++ ms) ++ (125 ∷ 125 ∷ 10 ∷ [])
     ≡ ((((((ts ++ st) ++ (((((((c1 ++ p) ++ c2) ++ s) ++ c3) ++ d) ++ c4) ++ g)) ++ c5) ++ de) ++ c6) ++ ((123 ∷ ms) ++ 125 ∷ [])) ++ (125 ∷ 10 ∷ [])

@@ -17,10 +17,9 @@ pub mod OneKind
 pub mod OneLine
 pub mod Placed
 pub mod Places
-pub mod Quicks
+pub mod Numbers
 pub mod RawBits
 pub mod Rooms
-pub mod Scaled
 pub mod SetPlaces
 pub mod Tops
 pub mod Trims

@@ -7,7 +7,7 @@ use Rattle.std.proofs.lemmas.Bool.{cases_Bool}
 use Rattle.toml.specs.Data.{Data, Members, no_members}
 use Rattle.n2k_table.specs.declared.fault.TableFault.{TableFault}
 use Rattle.n2k_table.specs.declared.fault.TableFault.TheVariants.{Key, Twice, TooMany}
-use Rattle.n2k_table.specs.declared.tree.Place.TheVariants.{Lookup}
+use Rattle.n2k_table.specs.declared.tree.Section.TheVariants.{Lookup}
 use Rattle.n2k_wire.specs.Steps.{◌>>=◌}
 use Rattle.n2k_table.specs.Fault.{fault_of, faults_in, value_or, unless}
 use Rattle.n2k_table.specs.Tree.{has_only_keys, as_members}

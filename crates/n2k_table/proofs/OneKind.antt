@@ -11,7 +11,7 @@ use Rattle.n2k_table.specs.declared.fault.TableFault.{TableFault}
 use Rattle.n2k_table.specs.declared.fault.TableFault.TheVariants.{Key, Mixed, TooMany}
 use Rattle.n2k_table.specs.declared.tree.TableFormat.{TableFormat}
 use Rattle.n2k_table.specs.declared.tree.TableFormat.TheVariants.{One}
-use Rattle.n2k_table.specs.declared.tree.Place.TheVariants.{Document}
+use Rattle.n2k_table.specs.declared.tree.Section.TheVariants.{Document}
 use Rattle.n2k_table.specs.Fault.{unless, value_or, faults_in}
 use Rattle.n2k_table.specs.Tree.{has_only_keys}
 use Rattle.n2k_table.specs.Lookup.{LookupParts, lookups_faults}

@@ -1,47 +1,16 @@
 -- Where the definitions of a PGN stand.
-use Rattle.std.proofs.Common.{◌≡◌, ℕ, zero, suc, ◌+◌, ◌<◌, ◌≤◌, Bool, true, false, ◌&&◌, nat_eq, cond, List, [], ◌∷◌, ◌++◌, length, get_or, drop, slice_get, Option, Some, None, is_some, option_map, unwrap_or, Vec, Global, IfSome, below_more, refl, sym, ap, ◌∙◌, append_assoc, inl, inr, arith}
+use Rattle.std.proofs.Common.{◌≡◌, ℕ, zero, suc, ◌+◌, ◌<◌, Bool, true, false, ◌&&◌, nat_eq, cond, List, [], ◌∷◌, ◌++◌, length, get_or, drop, slice_get, Option, Some, None, is_some, option_map, unwrap_or, Vec, Global, IfSome, below_more, refl, sym, ap, ◌∙◌, append_assoc, inl, inr, arith}
 use Rattle.std.specs.List.{find}
 use Rattle.std.specs.Option.{option_map_or}
 use Rattle.std.proofs.lemmas.Option.{slice_get-get_or}
 use Rattle.std.specs.Map.{lookup as value_at}
 use Rattle.std.proofs.lemmas.Bool.{cases_Bool, false≢true}
 use Rattle.std.proofs.lemmas.Bool.Decides.{nat_tests}
-use Rattle.std.proofs.lemmas.List.{append-nil, drop_more, at_drop_all, length-append, get_or-map}
+use Rattle.std.proofs.lemmas.List.{drop_more, length-append, get_or-map}
 use Rattle.indexmap.specs.IndexMap.{IndexMap, get}
 use Rattle.n2k_table.specs.Definition.{DefinitionParts}
 use Rattle.n2k_table.specs.Table.{is_of}
 use Rattle.n2k_table.specs.Inner.Index.{numbers, places_from, places, IsIndex}
-
--- one more definition, which is of the number or not
-pub places_more : (number : ℕ) (ds : List DefinitionParts) (i : ℕ) (d : DefinitionParts) → i < length ds → d ≡ get_or ds i d
-    → places_from i number (numbers (drop i ds)) ≡ cond (nat_eq d.number number) (i ∷ places_from (i + 1) number (numbers (drop (i + 1) ds))) (places_from (i + 1) number (numbers (drop (i + 1) ds)))
-places_more number ds i d lt at =
-    let here : drop i ds ≡ d ∷ drop (i + 1) ds = drop_more ds i d lt ∙ ap (λ e. e ∷ drop (i + 1) ds) (sym at) in
-    let next : suc i ≡ i + 1 = omega arith in
-    rw (here, next) refl
-
--- the places so far, with the next definition
-pub place_kept : (number : ℕ) (ds : List DefinitionParts) (i : ℕ) (d : DefinitionParts) (so_far total : List ℕ) → i < length ds → d ≡ get_or ds i d → d.number ≡ number
-    → so_far ++ places_from i number (numbers (drop i ds)) ≡ total → (so_far ++ i ∷ []) ++ places_from (i + 1) number (numbers (drop (i + 1) ds)) ≡ total
-place_kept number ds i d so_far total lt at same is =
-    let test : nat_eq d.number number ≡ true = grind (arith, nat_tests) in
-    let rest = places_from (i + 1) number (numbers (drop (i + 1) ds)) in
-    let here : places_from i number (numbers (drop i ds)) ≡ i ∷ rest = places_more number ds i d lt at ∙ ap (λ b. cond b (i ∷ rest) rest) test in
-    append_assoc so_far (i ∷ []) rest ∙ ap (λ (r : List ℕ). so_far ++ r) (sym here) ∙ is
-
-pub place_passed : (number : ℕ) (ds : List DefinitionParts) (i : ℕ) (d : DefinitionParts) (so_far total : List ℕ) → i < length ds → d ≡ get_or ds i d → (d.number ≡ number → ⊥)
-    → so_far ++ places_from i number (numbers (drop i ds)) ≡ total → so_far ++ places_from (i + 1) number (numbers (drop (i + 1) ds)) ≡ total
-place_passed number ds i d so_far total lt at other is =
-    let test : nat_eq d.number number ≡ false = grind (arith, nat_tests) in
-    let rest = places_from (i + 1) number (numbers (drop (i + 1) ds)) in
-    let here : places_from i number (numbers (drop i ds)) ≡ rest = places_more number ds i d lt at ∙ ap (λ b. cond b (i ∷ rest) rest) test in
-    ap (λ (r : List ℕ). so_far ++ r) (sym here) ∙ is
-
-pub places_done : (number : ℕ) (ds : List DefinitionParts) (i : ℕ) (so_far total : List ℕ) → length ds ≤ i
-    → so_far ++ places_from i number (numbers (drop i ds)) ≡ total → so_far ≡ total
-places_done number ds i so_far total le is =
-    let nothing = at_drop_all (λ es. so_far ++ places_from i number (numbers es)) ds i le in
-    sym (append-nil so_far) ∙ sym nothing ∙ is
 
 -- a number that is not there has no place
 no_places : (number : ℕ) (ns : List ℕ) (i : ℕ) → ((k : ℕ) → k < length ns → nat_eq (get_or ns k 0) number ≡ false) → places_from i number ns ≡ []

@@ -1,13 +1,13 @@
--- Raw values, from the top bit down.
-use Rattle.std.proofs.Common.{◌≡◌, ℕ, zero, suc, ◌+◌, ◌-◌, ◌*◌, ◌/◌, ◌%◌, ◌^◌, ◌<◌, ◌≤◌, Bool, true, false, List, slice_index, take, drop, sym, ap, ◌∙◌, arith, lit<}
+-- Raw values, a byte at a time and in parts.
+use Rattle.std.proofs.Common.{◌≡◌, ℕ, zero, suc, ◌+◌, ◌-◌, ◌*◌, ◌/◌, ◌%◌, ◌^◌, ◌<◌, ◌≤◌, List, slice_index, take, drop, sym, ap, ◌∙◌, arith, lit<}
 use Rattle.std.specs.Int.{w64, from_le_bytes}
 use Rattle.std.proofs.lemmas.List.{get_or-take, get_or-drop}
 use Rattle.std.proofs.lemmas.Nat.{pow-add, shr_high, mod_low}
 use Rattle.std.proofs.Math.Nat.{pow-suc, mul-le-mul_left, pow-le-pow_right}
-use Rattle.n2k_table.specs.Bits.{bit, raw, greatest}
+use Rattle.n2k_table.specs.Bits.{bit, raw}
 
 -- the bits from the lowest on
-pub raw_low : (d : List ℕ) (a n : ℕ) → raw d a (suc n) ≡ bit d a + 2 * raw d (a + 1) n
+raw_low : (d : List ℕ) (a n : ℕ) → raw d a (suc n) ≡ bit d a + 2 * raw d (a + 1) n
 unfolding raw
 raw_low d a zero = omega (arith, ap (bit d) (let e : a + 0 ≡ a = omega arith in e))
 raw_low d a (suc n) =
@@ -24,14 +24,6 @@ raw_lt d a (suc n) =
     let power : 2 ^ suc n ≡ 2 * 2 ^ n = grind (arith, pow-suc) in
     let one : bit d (a + n) ≤ 1 = omega arith in
     omega (arith, raw_lt d a n, mul-le-mul_left (2 ^ n) one)
-
--- one more bit below those that are read
-pub raw_more : (d : List ℕ) (a n left : ℕ) → left < n → 2 * raw d (a + (left + 1)) (n - (left + 1)) + bit d (a + left) ≡ raw d (a + left) (n - left)
-raw_more d a n left lt =
-    let places : a + left + 1 ≡ a + (left + 1) = omega arith in
-    let count : n - left ≡ suc (n - (left + 1)) = omega arith in
-    let low = raw_low d (a + left) (n - (left + 1)) in
-    rw count (omega (arith, low, ap (λ p. raw d p (n - (left + 1))) places))
 
 -- a bit of a byte at whose first bit p lies
 bit_of_byte : (d : List ℕ) (p j : ℕ) → j < 8 → p % 8 ≡ 0 → bit d (p + j) ≡ slice_index d (p / 8) / 2 ^ j % 2
@@ -72,16 +64,6 @@ raw_byte d p m aligned small =
     let first = ap (λ q. raw d q (m + 8)) start in
     omega (arith, e0, e1, e2, e3, e4, e5, e6, e7, b0, b1, b2, b3, b4, b5, b6, b7, whole, first)
 
--- a whole byte below the bits that are read
-pub raw_eight : (d : List ℕ) (a n left : ℕ) → left + 8 ≤ n → (a + left) % 8 ≡ 0 → slice_index d ((a + left) / 8) < 256
-    → 256 * raw d (a + (left + 8)) (n - (left + 8)) + slice_index d ((a + left) / 8) ≡ raw d (a + left) (n - left)
-raw_eight d a n left within aligned small =
-    let m = n - (left + 8) in
-    let count : n - left ≡ m + 8 = omega arith in
-    let place : a + left + 8 ≡ a + (left + 8) = omega arith in
-    let byte = raw_byte d (a + left) m aligned small in
-    rw count (omega (arith, byte, ap (λ p. raw d p m) place))
-
 -- 2 ^ n is twice the half
 pub twice_half : (n : ℕ) → 1 ≤ n → 2 ^ n ≡ 2 * 2 ^ (n - 1)
 twice_half zero some = absurd (omega arith)
@@ -92,11 +74,6 @@ twice_half (suc n) some =
 -- a bound on powers of two
 pub pow_le : (m n : ℕ) → m ≤ n → 2 ^ m ≤ 2 ^ n
 pow_le m n le = pow-le-pow_right (omega arith) le
-
--- from four bits on there is a value below the greatest
-pub greatest_some : (signed : Bool) (n : ℕ) → 4 ≤ n → 1 ≤ greatest signed n
-greatest_some true n le = omega (arith, pow_le 3 (n - 1) (omega arith))
-greatest_some false n le = omega (arith, pow_le 4 n le)
 
 -- bits in two parts, those above and those below
 pub raw_split : (d : List ℕ) (a s n : ℕ) → raw d a (s + n) ≡ raw d (a + s) n * 2 ^ s + raw d a s

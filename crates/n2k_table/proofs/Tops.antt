@@ -6,7 +6,7 @@ use Rattle.toml.specs.Data.{Data, Members}
 use Rattle.n2k_table.specs.declared.fault.TableFault.{TableFault}
 use Rattle.n2k_table.specs.declared.fault.TableFault.TheVariants.{Twice, TooMany}
 use Rattle.n2k_table.specs.declared.tree.TableFormat.{TableFormat}
-use Rattle.n2k_table.specs.declared.tree.Place.TheVariants.{Document}
+use Rattle.n2k_table.specs.declared.tree.Section.TheVariants.{Document}
 use Rattle.n2k_table.specs.Fault.{faults_in, value_or, unless}
 use Rattle.n2k_table.specs.Tree.{has_only_keys}
 use Rattle.n2k_table.specs.Twice.{has_twice}

@@ -5,7 +5,7 @@ pub mod Index
 pub mod Kept
 pub mod Kinds
 pub mod Line
-pub mod Quick
+pub mod Number
 pub mod Reading
 pub mod Seen
 pub mod Tail

@@ -5,7 +5,7 @@ use Rattle.toml.specs.Data.{Members}
 use Rattle.n2k_table.specs.declared.fault.TableFault.{TableFault}
 use Rattle.n2k_table.specs.declared.fault.TableFault.TheVariants.{Key, Range}
 use Rattle.n2k_table.specs.declared.tree.Holder.TheVariants.{Set}
-use Rattle.n2k_table.specs.declared.tree.Place.TheVariants.{Repeat}
+use Rattle.n2k_table.specs.declared.tree.Section.TheVariants.{Repeat}
 use Rattle.n2k_table.specs.Fault.{fault_of, faults_in, value_or, unless}
 use Rattle.n2k_table.specs.Tree.{has_only_keys}
 use Rattle.n2k_table.specs.Lookup.{LookupParts}

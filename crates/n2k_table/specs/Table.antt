@@ -11,7 +11,7 @@ use Rattle.n2k_table.specs.declared.fault.TableFault.{TableFault}
 use Rattle.n2k_table.specs.declared.fault.TableFault.TheVariants.{NotToml, Format, Key, Mixed, TooMany}
 use Rattle.n2k_table.specs.declared.tree.TableFormat.{TableFormat}
 use Rattle.n2k_table.specs.declared.tree.TableFormat.TheVariants.{One, Two}
-use Rattle.n2k_table.specs.declared.tree.Place.TheVariants.{Document}
+use Rattle.n2k_table.specs.declared.tree.Section.TheVariants.{Document}
 use Rattle.n2k_table.specs.Fault.{faults_in, value_or, unless}
 use Rattle.n2k_table.specs.Tree.{has_only_keys, whole_at, elements_or_none}
 use Rattle.n2k_table.specs.Bits.{raw}

@@ -10,8 +10,8 @@ use Rattle.n2k_table.specs.declared.tree.TableFormat.{TableFormat}
 use Rattle.n2k_table.specs.declared.tree.TableFormat.TheVariants.{One, Two}
 use Rattle.n2k_table.specs.declared.tree.Holder.{Holder}
 use Rattle.n2k_table.specs.declared.tree.Holder.TheVariants.{Message, Set}
-use Rattle.n2k_table.specs.declared.tree.Place.{Place}
-use Rattle.n2k_table.specs.declared.tree.Place.TheVariants.{Document, Lookup, Definition, Repeat, NumberField, LookupField, ByteField}
+use Rattle.n2k_table.specs.declared.tree.Section.{Section}
+use Rattle.n2k_table.specs.declared.tree.Section.TheVariants.{Document, Lookup, Definition, Repeat, NumberField, LookupField, ByteField}
 use Rattle.n2k_wire.specs.Steps.{◌>>=◌}
 
 -- the most bytes of a name or a description
@@ -28,8 +28,8 @@ abbrev pub repeat_keys : TableFormat → List (List ℕ)
 repeat_keys One = []
 repeat_keys Two = codes "repeat" ∷ []
 
--- the keys that a table of the document may have, by its place
-abbrev pub keys : Place → List (List ℕ)
+-- the keys that a section of the document may have
+abbrev pub keys : Section → List (List ℕ)
 keys Document = codes "format" ∷ codes "lookup" ∷ codes "pgn" ∷ []
 keys Lookup = codes "name" ∷ codes "entries" ∷ []
 keys (Definition format) = codes "number" ∷ codes "kind" ∷ codes "description" ∷ codes "fields" ∷ repeat_keys format
@@ -38,13 +38,13 @@ keys (NumberField holder) = codes "name" ∷ codes "kind" ∷ codes "at" ∷ cod
 keys (LookupField holder) = codes "name" ∷ codes "kind" ∷ codes "at" ∷ codes "bits" ∷ codes "lookup" ∷ match_keys holder
 keys ByteField = codes "name" ∷ codes "kind" ∷ codes "at" ∷ codes "bits" ∷ []
 
-abbrev pub is_key : Place → List ℕ → Bool
-is_key place key = list_any (λ k. bytes_eq key k) (keys place)
+abbrev pub is_key : Section → List ℕ → Bool
+is_key section key = list_any (λ k. bytes_eq key k) (keys section)
 
--- each key of the table is one of its place
-abbrev pub has_only_keys : Place → Members → Bool
-has_only_keys place no_members = true
-has_only_keys place (member key d ms) = is_key place key && has_only_keys place ms
+-- each key of the table is one that such a section may have
+abbrev pub has_only_keys : Section → Members → Bool
+has_only_keys section no_members = true
+has_only_keys section (member key d ms) = is_key section key && has_only_keys section ms
 
 -- the value at a key that has to be there
 abbrev pub required : List ℕ → Members → Result Data TableFault

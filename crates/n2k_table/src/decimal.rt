@@ -1,8 +1,10 @@
 //! The decimal text of a whole number over a power of ten.
-ghost use Rattle.std.specs.Prelude.{◌≡◌, ◌++◌, ◌≤◌, ℕ, List, length, decimal, OnOk, OnErr};
-ghost use Rattle.n2k_table.specs.Decimal.{IsDecimal, dec, dotted, padded_digits, sign_of};
+ghost use Rattle.std.specs.Prelude.{◌≡◌, ◌∷◌, [], ◌++◌, ◌≤◌, ℕ, List, if◌then◌else◌, length, decimal, OnOk, OnErr};
+ghost use Rattle.n2k_table.specs.Decimal.{IsDecimal, dec, dotted, minus, padded_digits};
 ghost use Rattle.n2k_table.specs.Inner.Digits.{filled};
+ghost use Rattle.n2k_table.specs.Inner.Number.{value_of};
 
+use crate::number::Number;
 use crate::short::{MOST_DECIMALS, push_short};
 use crate::tail::Tail;
 use itoa::Buffer;
@@ -35,19 +37,21 @@ fn push_filled(digits: &[u8], decimals: usize, line: &mut Tail) -> Result<(), Al
     Ok(())
 }
 
-// Appends a minus sign where the value is below zero.
-fn push_sign(value: i128, line: &mut Tail) -> Result<(), AllocError>
-    ensures { OnOk result (line.new.items ≡ line.old.items ++ sign_of value) }
+// Appends a minus sign, or nothing.
+#[inline(always)]
+fn push_minus(below: bool, line: &mut Tail) -> Result<(), AllocError>
+    ensures { OnOk result (line.new.items ≡ line.old.items ++ (if below then minus ∷ [] else [])) }
 {
-    if value < 0 {
+    if below {
         line.push(b'-')?;
     }
     Ok(())
 }
 
-// Appends the decimal text of `size / 10^decimals`.
+// Appends the decimal text of `size / 10^decimals`, of any number of digits. It is not inlined: few have so many.
+#[cold]
 #[inline(never)]
-fn push_size(size: u128, decimals: usize, line: &mut Tail) -> Result<(), AllocError>
+fn push_long(size: u128, decimals: usize, line: &mut Tail) -> Result<(), AllocError>
     ensures { OnOk result (line.new.items ≡ line.old.items ++ dotted decimals (padded_digits size decimals)) }
 {
     let mut buffer = Buffer::new();
@@ -59,18 +63,33 @@ fn push_size(size: u128, decimals: usize, line: &mut Tail) -> Result<(), AllocEr
     }
 }
 
-/// Appends the decimal text of `value / 10^decimals`.
+// Appends the decimal text of `size / 10^decimals`.
 #[inline(always)]
-pub(crate) fn push_decimal(value: i128, decimals: u8, line: &mut Tail) -> Result<(), AllocError>
-    ensures { OnOk result (line.new.items ≡ line.old.items ++ dec value decimals) }
+fn push_size(size: u128, decimals: usize, line: &mut Tail) -> Result<(), AllocError>
+    ensures { OnOk result (line.new.items ≡ line.old.items ++ dotted decimals (padded_digits size decimals)) }
 {
-    let size = value.unsigned_abs();
-    let decimals = usize::from(decimals);
-    push_sign(value, line)?;
     match u64::try_from(size) {
         Ok(short) if decimals <= MOST_DECIMALS => push_short(short, decimals, line),
-        _ => push_size(size, decimals, line),
+        _ => push_long(size, decimals, line),
     }
+}
+
+/// Appends the decimal text of a number.
+#[inline(always)]
+pub(crate) fn push_number(number: Number, line: &mut Tail) -> Result<(), AllocError>
+    ensures { OnOk result (line.new.items ≡ line.old.items ++ dec (value_of number) number.decimals) }
+{
+    let size = u128::from(number.size) * u128::from(number.mantissa);
+    push_minus(number.below & (size > 0), line)?;
+    push_size(size, usize::from(number.decimals), line)
+}
+
+// Appends the decimal text of `value / 10^decimals`.
+fn push_decimal(value: i128, decimals: u8, line: &mut Tail) -> Result<(), AllocError>
+    ensures { OnOk result (line.new.items ≡ line.old.items ++ dec value decimals) }
+{
+    push_minus(value < 0, line)?;
+    push_size(value.unsigned_abs(), usize::from(decimals), line)
 }
 
 /// Appends the decimal text of `value / 10^decimals`, with exactly that many digits after the dot: a minus

@@ -1,43 +1,14 @@
-//! What a table says of one message.
-ghost use Rattle.std.specs.Prelude.{◌≡◌, IfOk, is_some, map, option_map};
+//! A definition: what a table says of one message.
+ghost use Rattle.std.specs.Prelude.{◌≡◌, map, option_map};
 ghost use Rattle.std.specs.List.{list_all, list_any};
-ghost use Rattle.toml.specs.View.{view, table_view};
-ghost use Rattle.n2k_wire.specs.Views.{Gives};
-ghost use Rattle.n2k_table.specs.Inner.Reading.{GivesOrMemory, judged};
-ghost use Rattle.n2k_table.specs.Lookup.{LookupParts};
-ghost use Rattle.n2k_table.specs.Inner.Line.{label_json};
-ghost use Rattle.n2k_table.specs.Field.{FieldParts, field};
-ghost use Rattle.n2k_table.specs.Repeat.{repeat};
 ghost use Rattle.n2k_table.specs.Table.{are_mixed, field_matches, has_mixed};
-ghost use Rattle.n2k_table.specs.Definition.{named_kind, repeat_of, repeat_beside_faults, layout_faults, layout, members_faults, members_definition, definition_faults, definition};
 ghost use Rattle.n2k_table.specs.Inner.Kinds.{pgn_kind};
 
-use crate::fault::TableFault;
-use crate::field::{Field, MESSAGE_BITS, Room};
-use crate::fields::{is_named, read_fields};
-use crate::lookup::Lookups;
-use crate::repeat::{Repeat, read_repeat};
+use crate::field::Field;
+use crate::repeat::Repeat;
 use crate::sets::Sets;
 use crate::shown::Fields;
-use crate::text::text_json;
-use crate::tree::{
-    Holder, Place, TableFormat, any_text_at, as_members, elements_at, found, has_only_keys,
-    text_at, whole_at,
-};
-use itoa::Buffer;
-use n2k_wire::GREATEST_PGN;
-use std::alloc::{AllocError, Global};
 use std::marker::Model;
-use toml::{Table, Value};
-
-/// The name of the member that holds the sets of a message.
-const LIST: &str = "list";
-
-// The room of a field of a message.
-const MESSAGE: Room = Room {
-    holder: Holder::Message,
-    bits: MESSAGE_BITS,
-};
 
 /// How the messages of a PGN are sent.
 #[derive(Clone, Copy, PartialEq, Eq, Debug)]
@@ -51,15 +22,15 @@ pub enum Kind {
 /// A definition, as the table keeps it.
 #[derive(Drop)]
 pub(crate) struct StoredDefinition {
-    number: u32,
-    kind: Kind,
-    description: String,
+    pub(crate) number: u32,
+    pub(crate) kind: Kind,
+    pub(crate) description: String,
     // What stands in a line between who sent the message and the members, kept since each line needs it.
-    label: Vec<u8>,
+    pub(crate) label: Vec<u8>,
     // Whether a field asks for a value; most messages of most PGNs have none that does.
-    asks: bool,
-    fields: Vec<Field>,
-    repeat: Option<Repeat>,
+    pub(crate) asks: bool,
+    pub(crate) fields: Vec<Field>,
+    pub(crate) repeat: Option<Repeat>,
 }
 
 impl Model for StoredDefinition {
@@ -80,13 +51,6 @@ impl Model for StoredDefinition {
 
     ghost invariant = { λ d. (d.label.items ≡ label_json d.number (string_bytes d.description))
         × (d.asks ≡ list_any (λ f. is_some f.wanted) d.fields.items) };
-}
-
-// Whether a field asks for a value.
-fn any_asks(fields: &[Field]) -> bool
-    ensures { result ≡ list_any (λ f. is_some f.wanted) fields.now }
-{
-    fields.iter().any(|field| field.asks())
 }
 
 // Whether the data have what the fields ask for.
@@ -238,115 +202,6 @@ impl<'a> Definition<'a> {
     }
 }
 
-fn named_kind(text: &str) -> Result<Kind, TableFault>
-    ensures { Gives (λ kind. kind) result (named_kind text.now) }
-{
-    match text {
-        "single" => Ok(Kind::Single),
-        "fast" => Ok(Kind::Fast),
-        _ => Err(TableFault::Text),
-    }
-}
-
-// What the definition of a PGN puts into a line before the members.
-#[tactic(auto, using(std::proofs::Common::append_assoc), unfolding(crate::specs::Inner::Line::label_json))]
-fn label_of(alloc: Global, number: u32, description: &str) -> Result<Vec<u8>, AllocError>
-    ensures { IfOk result (λ label. label.items ≡ label_json number description.now) }
-{
-    let mut buffer = Buffer::new();
-    let description = text_json(alloc, description)?;
-    let mut label = Vec::new(alloc);
-    label.extend_from_slice(b",\"pgn\":")?;
-    label.extend_from_slice(buffer.format(number).as_bytes())?;
-    label.extend_from_slice(b",\"description\":")?;
-    label.extend_from_slice(&description)?;
-    label.extend_from_slice(b",\"fields\":{")?;
-    Ok(label)
-}
-
-// The repeat of a definition, if it has one.
-fn repeat_at(format: TableFormat, table: &Table) -> Result<Option<&Table>, TableFault>
-    ensures { Gives (λ repeat. option_map (λ t. table_view t.now) repeat) result
-        (repeat_of format (table_view table.now)) }
-{
-    match format {
-        TableFormat::One => Ok(None),
-        TableFormat::Two => match found(table, "repeat") {
-            None => Ok(None),
-            Some(value) => Ok(Some(as_members(value)?)),
-        },
-    }
-}
-
-// Reads what repeats behind these fields, if something does.
-fn read_beside(
-    alloc: Global,
-    lookups: &Lookups,
-    fields: &[Field],
-    table: Option<&Table>,
-) -> Result<Option<Repeat>, TableFault>
-    ensures { let names = map (λ (lookup : LookupParts). lookup.name) lookups.now in
-        let own = map (λ (field : FieldParts). field.name) fields.now in
-        let m = option_map (λ t. table_view t.now) table.entry in
-        GivesOrMemory (λ r. r) result
-        (judged (repeat_beside_faults names own m) (option_map (repeat lookups.now) m)) }
-{
-    let Some(table) = table else {
-        return Ok(None);
-    };
-    let repeat = read_repeat(alloc, lookups, table)?;
-    if is_named(fields, LIST) {
-        return Err(TableFault::Twice);
-    }
-    Ok(Some(repeat))
-}
-
-// Reads what a message shows: its fields, and what repeats behind them.
-fn read_layout(
-    alloc: Global,
-    lookups: &Lookups,
-    format: TableFormat,
-    table: &Table,
-) -> Result<(Vec<Field>, Option<Repeat>), TableFault>
-    ensures { let names = map (λ (lookup : LookupParts). lookup.name) lookups.now in
-        let m = table_view table.now in
-        GivesOrMemory (λ l. (l.0.items, l.1)) result
-        (judged (layout_faults format names m) (layout format lookups.now m)) }
-{
-    let fields = read_fields(alloc, lookups, MESSAGE, elements_at(table, "fields")?)?;
-    let repeat = read_beside(alloc, lookups, &fields, repeat_at(format, table)?)?;
-    Ok((fields, repeat))
-}
-
-fn read_members(
-    alloc: Global,
-    lookups: &Lookups,
-    format: TableFormat,
-    table: &Table,
-) -> Result<StoredDefinition, TableFault>
-    ensures { let names = map (λ (lookup : LookupParts). lookup.name) lookups.now in
-        let m = table_view table.now in
-        GivesOrMemory (λ stored. stored) result
-        (judged (members_faults format names m) (members_definition format lookups.now m)) }
-{
-    if !has_only_keys(table, Place::Definition(format)) {
-        return Err(TableFault::Key);
-    }
-    let number = whole_at(table, "number", 0, GREATEST_PGN)?;
-    let kind = named_kind(any_text_at(table, "kind")?)?;
-    let description = text_at(table, "description")?;
-    let (fields, repeat) = read_layout(alloc, lookups, format, table)?;
-    Ok(StoredDefinition {
-        number,
-        kind,
-        description: String::from_str(alloc, description)?,
-        label: label_of(alloc, number, description)?,
-        asks: any_asks(&fields),
-        fields,
-        repeat,
-    })
-}
-
 /// Whether two definitions of one PGN have different kinds.
 pub(crate) fn has_mixed(definitions: &[StoredDefinition]) -> bool
     ensures { result ≡ has_mixed (map pgn_kind definitions.now) }
@@ -370,19 +225,4 @@ fn is_mixed_among(definitions: &[StoredDefinition], definition: &StoredDefinitio
         }
     }
     false
-}
-
-/// Reads a definition, in a table of this format and of these lookups.
-pub(crate) fn read_definition(
-    alloc: Global,
-    lookups: &Lookups,
-    format: TableFormat,
-    value: &Value,
-) -> Result<StoredDefinition, TableFault>
-    ensures { let names = map (λ (lookup : LookupParts). lookup.name) lookups.now in
-        let d = view value.now in
-        GivesOrMemory (λ stored. stored) result
-        (judged (definition_faults format names d) (definition format lookups.now d)) }
-{
-    read_members(alloc, lookups, format, as_members(value)?)
 }

@@ -1,61 +1,21 @@
-//! What a table says of one field.
-ghost use Rattle.std.specs.Prelude.{◌≡◌, ◌≤◌, ◌+◌, ◌*◌, ◌%◌, codes, true, length, map, IfOk, Ok};
-ghost use Rattle.n2k_table.specs.Inner.Line.{key_json};
-ghost use Rattle.toml.specs.Data.{get_member};
-ghost use Rattle.toml.specs.View.{view, table_view};
-ghost use Rattle.n2k_wire.specs.Views.{Gives};
-ghost use Rattle.n2k_table.specs.Inner.Reading.{GivesOrMemory, judged};
-ghost use Rattle.n2k_table.specs.Lookup.{LookupParts};
-ghost use Rattle.n2k_table.specs.Inner.Kept.{meaning as seen_meaning, IsByteMeaning};
-ghost use Rattle.n2k_table.specs.Field.{in_bytes, byte_at_of, byte_bits_of, raw_or_none, wanted_of, is_of_bits, named_field_kind, number_faults, number_field, lookup_field_faults, lookup_field, byte_field_faults, byte_field, field_faults, field};
+//! A field, and what it shows.
+ghost use Rattle.std.specs.Prelude.{◌≡◌, ◌≤◌, ◌+◌, ◌*◌, length};
 
-use crate::bits::{greatest, raw, raw_at_once};
-use crate::fault::TableFault;
-use crate::lookup::{Lookup, Lookups};
-use crate::piece::Piece;
-use crate::quick::{Quick, Scale, quick_name, quick_number, scale_of};
-use crate::resolution::{Resolution, resolution_at};
-use crate::shown::{Seen, Shown, shown_name, shown_number, shown_text};
+use crate::bits::raw;
+use crate::lookup::Lookup;
+use crate::number::Scale;
+use crate::padded::Padded;
+use crate::seen::{Seen, seen_name, seen_text};
 use crate::tail::Tail;
-use crate::text::text_json;
-use crate::tree::{
-    FieldKind, Holder, Place, any_text_at, as_members, found, has_only_keys, text_at, truth_at,
-    whole_at,
-};
-use std::alloc::{AllocError, Global};
+use std::alloc::AllocError;
 use std::marker::Model;
 use std::rc::Rc;
-use toml::{Table, Value};
-
-/// The last bit at which a field may begin.
-pub(crate) const LAST_BIT: u32 = 1783;
-
-/// The bits of the longest message.
-pub(crate) const MESSAGE_BITS: u32 = 1784;
-
-/// The most bits of a number.
-pub(crate) const MOST_NUMBER_BITS: u32 = 64;
-
-/// The most bits of a lookup field.
-pub(crate) const MOST_LOOKUP_BITS: u32 = 32;
-
-/// The room of a field: what it stands in, and how many bits that has.
-#[derive(Clone, Copy)]
-pub(crate) struct Room {
-    pub(crate) holder: Holder,
-    pub(crate) bits: u32,
-}
 
 /// What the bits of a field mean.
 #[derive(Drop)]
 pub(crate) enum Meaning {
     /// A number, in two's complement where it is signed, times its resolution.
-    Number {
-        /// Whether the number may be below zero.
-        signed: bool,
-        /// What the raw value is multiplied with.
-        resolution: Resolution,
-    },
+    Number(Scale),
     /// A value that a lookup gives names for. The fields of a table share its lookups.
     Named(Rc<Lookup>),
     /// A text, each byte the character of its number.
@@ -68,22 +28,19 @@ pub(crate) enum Meaning {
 /// value that it asks for, if it asks for one.
 #[derive(Drop)]
 pub(crate) struct Field {
-    name: String,
+    pub(crate) name: String,
     // What stands before the value in a line, with a comma, kept since each line needs it.
-    key: Piece,
-    at: u32,
-    bits: u32,
-    meaning: Meaning,
-    // What a fast path needs of a number.
-    scale: Option<Scale>,
-    wanted: Option<u64>,
+    pub(crate) key: Padded,
+    pub(crate) at: u32,
+    pub(crate) bits: u32,
+    pub(crate) meaning: Meaning,
+    pub(crate) wanted: Option<u64>,
 }
 
 impl Model for Field {
     ghost use Rattle.std.specs.Prelude.{string_bytes};
     ghost use Rattle.n2k_table.specs.Field.{FieldParts};
     ghost use Rattle.n2k_table.specs.Inner.Kept.{meaning as seen_meaning, IsKept};
-    ghost use Rattle.n2k_table.specs.Inner.Quick.{IsScaleOf};
 
     ghost Value = { FieldParts };
 
@@ -95,285 +52,14 @@ impl Model for Field {
       wanted = f.wanted;
     } };
 
-    ghost invariant = { λ f. IsKept (string_bytes f.name) f.key f.at f.bits (seen_meaning f.meaning) f.wanted
-        × IsScaleOf (seen_meaning f.meaning) f.bits f.scale };
-}
-
-// A field as it is read. Its key is still a plain text: the readers of the four kinds speak of its bytes alone, and
-// `kept` makes the padded piece of it in one place.
-#[derive(Drop)]
-struct Described {
-    name: String,
-    key: Vec<u8>,
-    at: u32,
-    bits: u32,
-    meaning: Meaning,
-    wanted: Option<u64>,
-}
-
-impl Model for Described {
-    ghost use Rattle.std.specs.Prelude.{string_bytes};
-    ghost use Rattle.n2k_table.specs.Field.{FieldParts};
-    ghost use Rattle.n2k_table.specs.Inner.Kept.{meaning as seen_meaning, IsKept};
-
-    ghost Value = { FieldParts };
-
-    ghost view = { λ d. record {
-      name = string_bytes d.name;
-      at = d.at;
-      bits = d.bits;
-      meaning = seen_meaning d.meaning;
-      wanted = d.wanted;
-    } };
-
-    ghost invariant = { λ d. IsKept (string_bytes d.name) d.key.items d.at d.bits (seen_meaning d.meaning) d.wanted };
-}
-
-// The raw value that a field asks for, if it asks for one.
-fn wanted_at(holder: Holder, table: &Table) -> Result<Option<u64>, TableFault>
-    ensures { Gives (λ wanted. wanted) result (wanted_of holder (table_view table.now)) }
-{
-    match holder {
-        Holder::Message => match_at(table),
-        Holder::Set => Ok(None),
-    }
-}
-
-fn match_at(table: &Table) -> Result<Option<u64>, TableFault>
-    ensures { Gives (λ wanted. wanted) result (raw_or_none (get_member (codes "match") (table_view table.now))) }
-{
-    let Some(value) = found(table, "match") else {
-        return Ok(None);
-    };
-    let integer = value.as_integer().ok_or(TableFault::Key)?;
-    match u64::try_from(integer) {
-        Ok(wanted) => Ok(Some(wanted)),
-        Err(_) => Err(TableFault::Range),
-    }
-}
-
-// Whether a raw value that is asked for is one of so many bits.
-fn is_of_bits(wanted: Option<u64>, bits: u32) -> bool
-    requires some { 1 ≤ bits }
-    requires room { bits ≤ 64 }
-    ensures { result ≡ is_of_bits wanted bits }
-{
-    match wanted {
-        None => true,
-        Some(value) => value <= greatest(false, bits),
-    }
-}
-
-// Bits that make whole bytes.
-fn in_bytes(bits: u32) -> Result<u32, TableFault>
-    ensures value { Gives (λ bits. bits) result (in_bytes bits) }
-    ensures same { IfOk result (λ same. same ≡ bits) }
-    ensures whole { IfOk result (λ bits. bits % 8 ≡ 0) }
-{
-    if bits % 8 == 0 {
-        Ok(bits)
-    } else {
-        Err(TableFault::Range)
-    }
-}
-
-/// The first bit of a field of whole bytes, or of what repeats.
-pub(crate) fn byte_at(table: &Table) -> Result<u32, TableFault>
-    ensures value { Gives (λ at. at) result (byte_at_of (table_view table.now)) }
-    ensures range { IfOk result (λ at. at ≤ 1783) }
-    ensures whole { IfOk result (λ at. at % 8 ≡ 0) }
-{
-    in_bytes(whole_at(table, "at", 0, LAST_BIT)?)
-}
-
-/// The bits of a field of whole bytes, or of a set.
-pub(crate) fn byte_bits(table: &Table) -> Result<u32, TableFault>
-    ensures value { Gives (λ bits. bits) result (byte_bits_of (table_view table.now)) }
-    ensures range { IfOk result (λ bits. (1 ≤ bits) × (bits ≤ 1784)) }
-    ensures whole { IfOk result (λ bits. bits % 8 ≡ 0) }
-{
-    in_bytes(whole_at(table, "bits", 1, MESSAGE_BITS)?)
-}
-
-// What stands before the value of a field in a line, behind a comma.
-fn key_of(alloc: Global, name: &str) -> Result<Vec<u8>, AllocError>
-    ensures { IfOk result (λ key. key.items ≡ key_json true name.now) }
-{
-    let name = text_json(alloc, name)?;
-    let mut key = Vec::new(alloc);
-    key.push(b',')?;
-    key.extend_from_slice(&name)?;
-    key.push(b':')?;
-    Ok(key)
-}
-
-fn number_field(alloc: Global, room: Room, table: &Table) -> Result<Described, TableFault>
-    requires { room.bits ≤ 1784 }
-    ensures { let f = table_view table.now in
-        GivesOrMemory (λ field. field) result
-        (judged (number_faults room.holder (Ok room.bits) f) (number_field room.holder f)) }
-{
-    if !has_only_keys(table, Place::NumberField(room.holder)) {
-        return Err(TableFault::Key);
-    }
-    let name = text_at(table, "name")?;
-    let at = whole_at(table, "at", 0, LAST_BIT)?;
-    let bits = whole_at(table, "bits", 1, MOST_NUMBER_BITS)?;
-    let signed = truth_at(table, "signed")?;
-    let resolution = resolution_at(table)?;
-    let wanted = wanted_at(room.holder, table)?;
-    if at + bits > room.bits || (signed && bits < 2) || !is_of_bits(wanted, bits) {
-        return Err(TableFault::Range);
-    }
-    Ok(Described {
-        name: String::from_str(alloc, name)?,
-        key: key_of(alloc, name)?,
-        at,
-        bits,
-        meaning: Meaning::Number { signed, resolution },
-        wanted,
-    })
-}
-
-fn lookup_field(
-    alloc: Global,
-    lookups: &Lookups,
-    room: Room,
-    table: &Table,
-) -> Result<Described, TableFault>
-    requires { room.bits ≤ 1784 }
-    ensures { let names = map (λ (lookup : LookupParts). lookup.name) lookups.now in
-        let f = table_view table.now in
-        GivesOrMemory (λ field. field) result
-        (judged (lookup_field_faults room.holder (Ok room.bits) names f) (lookup_field room.holder lookups.now f)) }
-{
-    if !has_only_keys(table, Place::LookupField(room.holder)) {
-        return Err(TableFault::Key);
-    }
-    let name = text_at(table, "name")?;
-    let at = whole_at(table, "at", 0, LAST_BIT)?;
-    let bits = whole_at(table, "bits", 1, MOST_LOOKUP_BITS)?;
-    let wanted = wanted_at(room.holder, table)?;
-    let lookup_name = text_at(table, "lookup")?;
-    if at + bits > room.bits || !is_of_bits(wanted, bits) {
-        return Err(TableFault::Range);
-    }
-    let Some(lookup) = lookups.find(lookup_name) else {
-        return Err(TableFault::Lookup);
-    };
-    Ok(Described {
-        name: String::from_str(alloc, name)?,
-        key: key_of(alloc, name)?,
-        at,
-        bits,
-        meaning: Meaning::Named(lookup.clone()?),
-        wanted,
-    })
-}
-
-fn byte_field(
-    alloc: Global,
-    meaning: Meaning,
-    room: Room,
-    table: &Table,
-) -> Result<Described, TableFault>
-    requires meaning { IsByteMeaning (seen_meaning meaning) }
-    requires room { room.bits ≤ 1784 }
-    ensures { let f = table_view table.now in
-        GivesOrMemory (λ field. field) result
-        (judged (byte_field_faults (Ok room.bits) f) (byte_field (seen_meaning meaning) f)) }
-{
-    if !has_only_keys(table, Place::ByteField) {
-        return Err(TableFault::Key);
-    }
-    let name = text_at(table, "name")?;
-    let at = byte_at(table)?;
-    let bits = byte_bits(table)?;
-    if at + bits > room.bits {
-        return Err(TableFault::Range);
-    }
-    Ok(Described {
-        name: String::from_str(alloc, name)?,
-        key: key_of(alloc, name)?,
-        at,
-        bits,
-        meaning,
-        wanted: None,
-    })
-}
-
-fn named_kind(name: &str) -> Result<FieldKind, TableFault>
-    ensures { Gives (λ kind. kind) result (named_field_kind name.now) }
-{
-    match name {
-        "number" => Ok(FieldKind::Number),
-        "lookup" => Ok(FieldKind::Lookup),
-        "text" => Ok(FieldKind::Text),
-        "bytes" => Ok(FieldKind::Bytes),
-        _ => Err(TableFault::Text),
-    }
-}
-
-// Reads a field by its kind.
-fn read_described(
-    alloc: Global,
-    lookups: &Lookups,
-    room: Room,
-    value: &Value,
-) -> Result<Described, TableFault>
-    requires { room.bits ≤ 1784 }
-    ensures { let names = map (λ (lookup : LookupParts). lookup.name) lookups.now in
-        let d = view value.now in
-        GivesOrMemory (λ field. field) result
-        (judged (field_faults room.holder (Ok room.bits) names d) (field room.holder lookups.now d)) }
-{
-    let table = as_members(value)?;
-    match named_kind(any_text_at(table, "kind")?)? {
-        FieldKind::Number => number_field(alloc, room, table),
-        FieldKind::Lookup => lookup_field(alloc, lookups, room, table),
-        FieldKind::Text => byte_field(alloc, Meaning::Text, room, table),
-        FieldKind::Bytes => byte_field(alloc, Meaning::Bytes, room, table),
-    }
-}
-
-// The field, with its key as it is copied.
-fn kept(described: Described) -> Field
-    ensures { result ≡ described }
-{
-    let scale = scale_of(&described.meaning, described.bits);
-    Field {
-        name: described.name,
-        key: Piece::of(described.key),
-        at: described.at,
-        bits: described.bits,
-        meaning: described.meaning,
-        scale,
-        wanted: described.wanted,
-    }
-}
-
-/// Reads a field of a message or of a set, by its kind, in a table of these lookups.
-pub(crate) fn read_field(
-    alloc: Global,
-    lookups: &Lookups,
-    room: Room,
-    value: &Value,
-) -> Result<Field, TableFault>
-    requires { room.bits ≤ 1784 }
-    ensures { let names = map (λ (lookup : LookupParts). lookup.name) lookups.now in
-        let d = view value.now in
-        GivesOrMemory (λ field. field) result
-        (judged (field_faults room.holder (Ok room.bits) names d) (field room.holder lookups.now d)) }
-{
-    Ok(kept(read_described(alloc, lookups, room, value)?))
+    ghost invariant = { λ f. IsKept (string_bytes f.name) f.key f.at f.bits f.meaning f.wanted };
 }
 
 impl Field {
-    ghost use Rattle.std.specs.Prelude.{◌++◌, is_some, IfSome, OnOk};
+    ghost use Rattle.std.specs.Prelude.{◌++◌, is_some, OnOk};
     ghost use Rattle.n2k_table.specs.Inner.Line.{key_json};
-    ghost use Rattle.n2k_table.specs.Inner.Quick.{quick_parts, HasFewPlaces};
     ghost use Rattle.n2k_table.specs.Inner.Seen.{seen_parts};
-    ghost use Rattle.n2k_table.specs.Shown.{shown_parts, lies_inside, field_bytes, shown};
+    ghost use Rattle.n2k_table.specs.Shown.{lies_inside, field_bytes, shown};
     ghost use Rattle.n2k_table.specs.Table.{field_matches};
 
     /// The name.
@@ -425,54 +111,26 @@ impl Field {
         &data[from..to]
     }
 
-    /// A fast path: what a field shows that ends past the data, and one of few bits where the data have eight bytes.
+    /// What the field shows of the data of a message or of a set: nothing where it does not lie wholly inside. Each
+    /// answer is returned where it is made, so that none is put together in memory.
     #[inline(always)]
-    pub(crate) fn quick<'a>(&'a self, data: &'a [u8]) -> Option<Quick<'a>>
-        ensures value { IfSome result (λ quick. quick_parts quick ≡ shown self.now «data».now) }
-        ensures places { IfSome result HasFewPlaces }
-    {
-        if !self.lies_inside(data) {
-            return Some(Quick::Absent);
-        }
-        if let Some(scale) = self.scale {
-            let raw = raw_at_once(data, self.at, self.bits)?;
-            return Some(quick_number(scale, raw));
-        }
-        if let Meaning::Named(lookup) = &self.meaning {
-            let raw = raw_at_once(data, self.at, self.bits)?;
-            return Some(quick_name(lookup.name_of(raw), self.bits, raw));
-        }
-        None
-    }
-
-    /// What the field shows of the data of a message or of a set: nothing where it does not lie wholly inside.
     pub(crate) fn seen<'a>(&'a self, data: &'a [u8]) -> Seen<'a>
         ensures { seen_parts result ≡ shown self.now «data».now }
     {
         if !self.lies_inside(data) {
-            return Seen::Other(Shown::Absent);
+            return Seen::Absent;
         }
         match &self.meaning {
-            Meaning::Number { signed, resolution } => {
+            Meaning::Number(scale) => {
                 let raw = raw(data, self.at, self.bits);
-                Seen::Other(shown_number(*signed, *resolution, self.bits, raw))
+                return scale.number(raw);
             }
             Meaning::Named(lookup) => {
                 let raw = raw(data, self.at, self.bits);
-                shown_name(lookup.name_of(raw), self.bits, raw)
+                return seen_name(lookup.name_of(raw), self.bits, raw);
             }
-            Meaning::Text => Seen::Other(shown_text(self.bytes(data))),
-            Meaning::Bytes => Seen::Other(Shown::Bytes(self.bytes(data))),
-        }
-    }
-
-    /// What `seen` answers, with the text of a name.
-    pub(crate) fn shown<'a>(&'a self, data: &'a [u8]) -> Shown<'a>
-        ensures { shown_parts result ≡ shown self.now «data».now }
-    {
-        match self.seen(data) {
-            Seen::Name(name) => Shown::Name(name.text()),
-            Seen::Other(shown) => shown,
+            Meaning::Text => return seen_text(self.bytes(data)),
+            Meaning::Bytes => return Seen::Bytes(self.bytes(data)),
         }
     }
 }

@@ -11,7 +11,8 @@ ghost use Rattle.n2k_table.specs.Field.{field, field_faults};
 ghost use Rattle.n2k_table.specs.Fields.{fields_faults};
 
 use crate::fault::TableFault;
-use crate::field::{Field, Room, read_field};
+use crate::field::Field;
+use crate::field_reader::{Span, read_field};
 use crate::lookup::Lookups;
 use std::alloc::Global;
 use toml::value::Array;
@@ -50,19 +51,19 @@ pub(crate) fn is_named(fields: &[Field], name: &str) -> bool
 fn each_field(
     alloc: Global,
     lookups: &Lookups,
-    room: Room,
+    span: Span,
     values: &Array,
 ) -> Result<Vec<Field>, TableFault>
-    requires { room.bits ≤ 1784 }
+    requires { span.bits ≤ 1784 }
     ensures { let names = map (λ (lookup : LookupParts). lookup.name) lookups.now in
         let ds = elements (array_view values.now) in
         GivesOrMemory (λ fields. fields.items) result
-        (judged (flat_map (field_faults room.holder (Ok room.bits) names) ds)
-        (map (field room.holder lookups.now) ds)) }
+        (judged (flat_map (field_faults span.holder (Ok span.bits) names) ds)
+        (map (field span.holder lookups.now) ds)) }
 {
     let mut fields = Vec::new(alloc);
     for value in values {
-        fields.push(read_field(alloc, lookups, room, value)?)?;
+        fields.push(read_field(alloc, lookups, span, value)?)?;
     }
     Ok(fields)
 }
@@ -71,19 +72,19 @@ fn each_field(
 pub(crate) fn read_fields(
     alloc: Global,
     lookups: &Lookups,
-    room: Room,
+    span: Span,
     values: &Array,
 ) -> Result<Vec<Field>, TableFault>
-    requires { room.bits ≤ 1784 }
+    requires { span.bits ≤ 1784 }
     ensures { let names = map (λ (lookup : LookupParts). lookup.name) lookups.now in
         let ds = elements (array_view values.now) in
         GivesOrMemory (λ fields. fields.items) result
-        (judged (fields_faults room.holder (Ok room.bits) names ds) (map (field room.holder lookups.now) ds)) }
+        (judged (fields_faults span.holder (Ok span.bits) names ds) (map (field span.holder lookups.now) ds)) }
 {
     if values.len() > MOST_FIELDS {
         return Err(TableFault::TooMany);
     }
-    let fields = each_field(alloc, lookups, room, values)?;
+    let fields = each_field(alloc, lookups, span, values)?;
     if has_twice(&fields) {
         return Err(TableFault::Twice);
     }

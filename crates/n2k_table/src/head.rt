@@ -18,10 +18,10 @@ const LABEL: usize = 7;
 /// Room for them and a number of up to three digits.
 const PART: usize = LABEL + 3;
 
-// A label and a number behind it, as a piece of which a part counts. Copying one costs less than two.
+// A label and a number behind it, padded, and how many bytes count. One copy costs less than two.
 #[inline(always)]
-fn part_piece(label: &[u8; LABEL], number: u8) -> ([u8; PART], usize)
-    ensures piece { take result.1 result.0 ≡ label.now ++ decimal number }
+fn padded_part(label: &[u8; LABEL], number: u8) -> ([u8; PART], usize)
+    ensures text { take result.1 result.0 ≡ label.now ++ decimal number }
     ensures few { result.1 ≤ 10 }
 {
     let [a, b, c, d, e, f, g] = *label;
@@ -40,8 +40,8 @@ fn part_piece(label: &[u8; LABEL], number: u8) -> ([u8; PART], usize)
 fn push_part(label: &[u8; LABEL], number: u8, line: &mut Tail) -> Result<(), AllocError>
     ensures { OnOk result (line.new.items ≡ line.old.items ++ (label.now ++ decimal number)) }
 {
-    let (piece, count) = part_piece(label, number);
-    line.put(&piece, count)
+    let (padded, count) = padded_part(label, number);
+    line.put(&padded, count)
 }
 
 // The same of a priority, which has one digit.

@@ -1,29 +1,27 @@
 //! The JSON line of a message.
 ghost use Rattle.std.specs.Prelude.{◌≡◌, ◌++◌, ◌+◌, ◌*◌, ◌≤◌, ◌||◌, true, is_some, nat_lt, codes, if◌then◌else◌, decimal, length, map, IfOk, IfSome, OnOk, OnErr, Some};
-ghost use Rattle.n2k_table.specs.Inner.Seen.{seen_parts};
 ghost use Rattle.n2k_table.specs.Shown.{shown, all_shown};
-ghost use Rattle.std.specs.List.{join_with_byte};
+ghost use Rattle.std.specs.List.{flat_map, join_with_byte};
 ghost use Rattle.n2k_table.specs.Repeat.{set_shown, all_sets};
-ghost use Rattle.n2k_table.specs.Json.{comma, value_json, member_json, members, set_json, list_json, message_members, unmatched_json, chosen_json, json};
-ghost use Rattle.n2k_table.specs.Inner.Line.{has_members, member_text};
+ghost use Rattle.n2k_table.specs.Json.{comma, member_json, members, set_json, list_json, message_members, unmatched_json, chosen_json, json};
+ghost use Rattle.n2k_table.specs.Inner.Line.{has_members, key_json, member_text};
+ghost use Rattle.n2k_table.specs.Text.{text_json, character, pairs};
 
-use crate::decimal::push_decimal;
+use crate::decimal::push_number;
 use crate::definition::Definition;
 use crate::field::Field;
 use crate::head::push_seen;
-use crate::quick::Quick;
 use crate::repeat::Repeat;
-use crate::short::push_signed;
-use crate::shown::{Seen, Shown};
+use crate::seen::Seen;
 use crate::table::Table;
 use crate::tail::Tail;
-use crate::text::{push_characters, push_pairs, push_text};
+use crate::text::{push_characters, push_pairs};
 use itoa::Buffer;
 use n2k_wire::Packet;
 use std::alloc::{AllocError, Global};
 
 // Appends a label, and a number behind it.
-fn push_number(label: &[u8], number: u32, line: &mut Tail) -> Result<(), AllocError>
+fn push_labelled(label: &[u8], number: u32, line: &mut Tail) -> Result<(), AllocError>
     ensures { OnOk result (line.new.items ≡ line.old.items ++ label.now ++ decimal number) }
 {
     let mut buffer = Buffer::new();
@@ -31,48 +29,36 @@ fn push_number(label: &[u8], number: u32, line: &mut Tail) -> Result<(), AllocEr
     line.extend_from_slice(buffer.format(number).as_bytes())
 }
 
-// Appends what a field shows as a value.
-#[inline(always)]
-fn push_value(seen: Seen<'_>, line: &mut Tail) -> Result<(), AllocError>
-    ensures { OnOk result (IfSome (value_json true (seen_parts seen.entry))
-        (λ value. line.new.items ≡ line.old.items ++ value)) }
-{
-    match seen {
-        Seen::Name(name) => name.push_json(line),
-        Seen::Other(shown) => match shown {
-            Shown::Absent => line.extend_from_slice(b"null"),
-            Shown::Number { value, decimals } => push_decimal(value, decimals, line),
-            Shown::Name(name) => push_text(name.as_bytes(), line),
-            Shown::Text(numbers) => push_characters(numbers, line),
-            Shown::Bytes(bytes) => push_pairs(bytes, line),
-        },
-    }
-}
-
-// Appends a field as a member of an object, after a comma where a member stands before, and answers
-// whether one stands before the next. It is not inlined: most fields have few bits.
+// Appends the value of a member that is there, behind its key: `null`, a text, or bytes. They are not inlined: most
+// fields are numbers and names.
 #[inline(never)]
-fn push_any_member(
-    field: &Field,
-    data: &[u8],
-    empty: bool,
-    later: bool,
-    line: &mut Tail,
-) -> Result<bool, AllocError>
-    ensures { let member = member_json empty (field.now.name, shown field.now «data».now) in
-        IfOk result (λ more. (line.new.items ≡ line.old.items ++ member_text later member)
-        × (more ≡ (later || is_some member))) }
+fn push_null(field: &Field, later: bool, line: &mut Tail) -> Result<(), AllocError>
+    ensures { OnOk result (line.new.items ≡ line.old.items ++ (key_json later field.now.name ++ codes "null")) }
 {
-    let seen = field.seen(data);
-    if matches!(seen, Seen::Other(Shown::Absent)) && !empty {
-        return Ok(later);
-    }
     field.push_key(later, line)?;
-    push_value(seen, line)?;
-    Ok(true)
+    line.extend_from_slice(b"null")
 }
 
-// The same, with a fast path for fields of few bits. Nulls go the longer way too: few runs print them.
+#[inline(never)]
+fn push_text(field: &Field, text: &[u8], later: bool, line: &mut Tail) -> Result<(), AllocError>
+    ensures { OnOk result (line.new.items
+        ≡ line.old.items ++ (key_json later field.now.name ++ text_json (flat_map character text.now))) }
+{
+    field.push_key(later, line)?;
+    push_characters(text, line)
+}
+
+#[inline(never)]
+fn push_bytes(field: &Field, bytes: &[u8], later: bool, line: &mut Tail) -> Result<(), AllocError>
+    ensures { OnOk result (line.new.items
+        ≡ line.old.items ++ (key_json later field.now.name ++ text_json (pairs bytes.now))) }
+{
+    field.push_key(later, line)?;
+    push_pairs(bytes, line)
+}
+
+// Appends a field as a member of an object, after a comma where a member stands before, and answers whether one stands
+// before the next. What it shows goes from branch to branch, and is never put together in memory.
 #[inline(always)]
 fn push_member(
     field: &Field,
@@ -85,17 +71,19 @@ fn push_member(
         IfOk result (λ more. (line.new.items ≡ line.old.items ++ member_text later member)
         × (more ≡ (later || is_some member))) }
 {
-    match field.quick(data) {
-        Some(Quick::Absent) if !empty => return Ok(later),
-        Some(Quick::Number(number)) => {
+    match field.seen(data) {
+        Seen::Absent if !empty => return Ok(later),
+        Seen::Absent => push_null(field, later, line)?,
+        Seen::Number(number) => {
             field.push_key(later, line)?;
-            push_signed(number, line)?;
+            push_number(number, line)?;
         }
-        Some(Quick::Name(name)) => {
+        Seen::Name(name) => {
             field.push_key(later, line)?;
             name.push_json(line)?;
         }
-        _ => return push_any_member(field, data, empty, later, line),
+        Seen::Text(text) => push_text(field, text, later, line)?,
+        Seen::Bytes(bytes) => push_bytes(field, bytes, later, line)?,
     }
     Ok(true)
 }
@@ -210,7 +198,7 @@ fn push_unmatched(packet: &Packet, line: &mut Tail) -> Result<(), AllocError>
     ensures { OnOk result (line.new.items ≡ line.old.items ++ unmatched_json packet.now) }
 {
     push_seen(packet, line)?;
-    push_number(b",\"pgn\":", packet.id().pgn, line)?;
+    push_labelled(b",\"pgn\":", packet.id().pgn, line)?;
     line.extend_from_slice(b",\"description\":\"Unmatched\",\"fields\":{\"Data\":")?;
     push_pairs(packet.data(), line)?;
     line.put(b"}}\n", 3)

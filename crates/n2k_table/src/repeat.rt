@@ -6,10 +6,11 @@ ghost use Rattle.n2k_table.specs.Lookup.{LookupParts};
 ghost use Rattle.n2k_table.specs.Repeat.{set_count, set_bytes, repeat_faults, repeat};
 
 use crate::fault::TableFault;
-use crate::field::{Field, MESSAGE_BITS, Room, byte_at, byte_bits};
+use crate::field::Field;
+use crate::field_reader::{MESSAGE_BITS, Span, byte_at, byte_bits};
 use crate::fields::read_fields;
 use crate::lookup::Lookups;
-use crate::tree::{Holder, Place, elements_at, has_only_keys};
+use crate::tree::{Holder, Section, elements_at, has_only_keys};
 use std::alloc::Global;
 use std::marker::Model;
 use toml::Table;
@@ -72,7 +73,7 @@ pub(crate) fn read_repeat(
         let m = table_view table.now in
         GivesOrMemory (λ r. r) result (judged (repeat_faults names m) (repeat lookups.now m)) }
 {
-    if !has_only_keys(table, Place::Repeat) {
+    if !has_only_keys(table, Section::Repeat) {
         return Err(TableFault::Key);
     }
     let at = byte_at(table)?;
@@ -80,11 +81,11 @@ pub(crate) fn read_repeat(
     if at + bits > MESSAGE_BITS {
         return Err(TableFault::Range);
     }
-    let room = Room {
+    let span = Span {
         holder: Holder::Set,
         bits,
     };
-    let fields = read_fields(alloc, lookups, room, elements_at(table, "fields")?)?;
+    let fields = read_fields(alloc, lookups, span, elements_at(table, "fields")?)?;
     Ok(Repeat {
         first: at / 8,
         size: bits / 8,

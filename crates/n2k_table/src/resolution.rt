@@ -10,6 +10,7 @@ ghost use Rattle.n2k_table.specs.Resolution.{is_digits, parts, of_parts, resolut
 ghost use Rattle.n2k_table.specs.Inner.Digits.{ArePartsOfDigits};
 
 use crate::fault::TableFault;
+use crate::short::MOST_DECIMALS;
 use crate::tree::found;
 use toml::Table;
 
@@ -23,8 +24,6 @@ pub(crate) struct Resolution {
 }
 
 const MOST_WHOLE_DIGITS: usize = 10;
-
-const MOST_DECIMALS: usize = 18;
 
 fn are_digits(text: &[u8]) -> bool
     ensures { result ≡ list_all is_ascii_digit text.now }

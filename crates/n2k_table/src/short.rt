@@ -1,14 +1,13 @@
-//! A fast path: a number of 64 bits with at most 18 decimals is appended in one piece or two, its digits and the
+//! A fast path: a number of 64 bits with at most 18 decimals is appended in one copy or two, its digits and the
 //! zeros before them as they stand in an array. `decimal.rt` appends any number; that is the file to read first.
-ghost use Rattle.std.specs.Prelude.{◌≡◌, ◌∷◌, [], ◌++◌, ◌+◌, ◌-◌, ◌≤◌, take, drop, if◌then◌else◌, OnOk};
-ghost use Rattle.n2k_table.specs.Decimal.{dec, dotted, minus, padded_digits};
-ghost use Rattle.n2k_table.specs.Inner.Quick.{short_value};
+ghost use Rattle.std.specs.Prelude.{◌≡◌, ◌++◌, ◌+◌, ◌-◌, ◌≤◌, take, drop, OnOk};
+ghost use Rattle.n2k_table.specs.Decimal.{dotted, padded_digits};
 
 use crate::tail::Tail;
 use itoa::write_digits;
 use std::alloc::AllocError;
 
-/// The most decimals of a short number.
+/// The most decimals of a resolution, and of a short number.
 pub(crate) const MOST_DECIMALS: usize = 18;
 
 /// How many bytes of the digits are copied at once: 20 digits have 64 bits.
@@ -39,17 +38,6 @@ fn push_digits(
     }
 }
 
-/// A number that has room in 64 bits, its sign apart: `size / 10^decimals`, or as far below zero.
-#[derive(Clone, Copy)]
-pub(crate) struct Short {
-    /// Whether it is below zero, where it is not zero.
-    pub(crate) below: bool,
-    /// How far it is from zero, without its dot.
-    pub(crate) size: u64,
-    /// How many of its digits stand after the dot.
-    pub(crate) decimals: u8,
-}
-
 /// Appends the decimal text of `size / 10^decimals`.
 #[inline(always)]
 pub(crate) fn push_short(size: u64, decimals: usize, line: &mut Tail) -> Result<(), AllocError>
@@ -66,25 +54,4 @@ pub(crate) fn push_short(size: u64, decimals: usize, line: &mut Tail) -> Result<
         push_digits(&digits, dot - 1, END, line)?;
     }
     Ok(())
-}
-
-// Appends a minus sign, or nothing.
-#[inline(always)]
-fn push_minus(below: bool, line: &mut Tail) -> Result<(), AllocError>
-    ensures { OnOk result (line.new.items ≡ line.old.items ++ (if below then minus ∷ [] else [])) }
-{
-    if below {
-        line.push(b'-')?;
-    }
-    Ok(())
-}
-
-/// Appends the decimal text of a number.
-#[inline(always)]
-pub(crate) fn push_signed(number: Short, line: &mut Tail) -> Result<(), AllocError>
-    requires { number.decimals ≤ 18 }
-    ensures { OnOk result (line.new.items ≡ line.old.items ++ dec (short_value number) number.decimals) }
-{
-    push_minus(number.below & (number.size > 0), line)?;
-    push_short(number.size, usize::from(number.decimals), line)
 }

@@ -10,11 +10,13 @@ ghost use Rattle.n2k_table.specs.Table.{definitions_faults, format_of, lookups_o
 ghost use Rattle.n2k_wire.specs.Views.{Gives};
 ghost use Rattle.n2k_table.specs.Inner.Reading.{GivesOrMemory, judged};
 
-use crate::definition::{Definition, Kind, StoredDefinition, has_mixed, read_definition};
+use crate::definition::{Definition, Kind, StoredDefinition, has_mixed};
+use crate::definition_reader::read_definition;
 use crate::fault::TableFault;
 use crate::index::{Index, index_of, places_at};
-use crate::lookup::{Lookups, read_lookups};
-use crate::tree::{Place, TableFormat, elements_if_there, has_only_keys, whole_at};
+use crate::lookup::Lookups;
+use crate::lookup_reader::read_lookups;
+use crate::tree::{Section, TableFormat, elements_if_there, has_only_keys, whole_at};
 use sha2::{Digest, Sha256};
 use std::alloc::Global;
 use std::marker::Model;
@@ -132,7 +134,7 @@ fn read_top(alloc: Global, top: &toml::Table) -> Result<Vec<StoredDefinition>, T
         GivesOrMemory (λ v. v.items) result (judged (top_faults m) (top_definitions m)) }
 {
     let format = format_of(top)?;
-    if !has_only_keys(top, Place::Document) {
+    if !has_only_keys(top, Section::Document) {
         return Err(TableFault::Key);
     }
     let lookups = top_lookups(alloc, top)?;

@@ -5,7 +5,7 @@ ghost use Rattle.std.specs.Str.{bytes_eq};
 ghost use Rattle.toml.specs.Data.{get_member};
 ghost use Rattle.toml.specs.View.{view, table_view, array_view};
 ghost use Rattle.n2k_wire.specs.Views.{Gives};
-ghost use Rattle.n2k_table.specs.declared.tree.Place.TheVariants.{ByteField};
+ghost use Rattle.n2k_table.specs.declared.tree.Section.TheVariants.{ByteField};
 ghost use Rattle.n2k_table.specs.Tree.{is_key, has_only_keys, required, as_members, whole_at, any_text_at, sized, text_at, truth_at, elements, as_elements, elements_at, elements_or_none};
 ghost use Rattle.n2k_table.specs.Inner.Reading.{elements_of};
 
@@ -34,9 +34,9 @@ pub(crate) enum Holder {
     Set,
 }
 
-/// Where a table of the document stands, which decides its keys.
+/// What a table of the document is, which decides its keys.
 #[derive(Clone, Copy)]
-pub(crate) enum Place {
+pub(crate) enum Section {
     /// The top level.
     Document,
     /// A lookup.
@@ -101,40 +101,40 @@ impl Holder {
     }
 }
 
-impl Place {
+impl Section {
     ghost use Rattle.n2k_table.specs.Tree.{is_key};
 
     fn has(self, key: &str) -> bool
         ensures { result ≡ is_key self key.now }
     {
         match self {
-            Place::Document => key == "format" || key == "lookup" || key == "pgn",
-            Place::Lookup => key == "name" || key == "entries",
-            Place::Definition(format) => {
+            Section::Document => key == "format" || key == "lookup" || key == "pgn",
+            Section::Lookup => key == "name" || key == "entries",
+            Section::Definition(format) => {
                 key == "number"
                     || key == "kind"
                     || key == "description"
                     || key == "fields"
                     || format.has_key(key)
             }
-            Place::Repeat => key == "at" || key == "bits" || key == "fields",
-            Place::NumberField(holder) => {
+            Section::Repeat => key == "at" || key == "bits" || key == "fields",
+            Section::NumberField(holder) => {
                 is_field_key(key) || key == "signed" || key == "resolution" || holder.has_key(key)
             }
-            Place::LookupField(holder) => {
+            Section::LookupField(holder) => {
                 is_field_key(key) || key == "lookup" || holder.has_key(key)
             }
-            Place::ByteField => is_field_key(key),
+            Section::ByteField => is_field_key(key),
         }
     }
 }
 
-/// Whether each key of the table is one of its place.
-pub(crate) fn has_only_keys(table: &Table, place: Place) -> bool
-    ensures { result ≡ has_only_keys place (table_view table.now) }
+/// Whether each key of the table is one that such a section may have.
+pub(crate) fn has_only_keys(table: &Table, section: Section) -> bool
+    ensures { result ≡ has_only_keys section (table_view table.now) }
 {
     for key in table.keys() {
-        if !place.has(key.as_str()) {
+        if !section.has(key.as_str()) {
             return false;
         }
     }

@@ -1,6 +1,23 @@
-use Rattle.std.proofs.Common.{arith}
-use Rattle.n2k_table.proofs.RawBits.{raw_lt}
+use Rattle.std.proofs.Common.{◌≡◌, ◌+◌, ◌-◌, ◌*◌, ◌/◌, ◌%◌, ◌^◌, ◌≤◌, take, drop, ap, ◌∙◌, arith}
+use Rattle.std.proofs.lemmas.Nat.{one_shl}
+use Rattle.n2k_table.specs.Bits.{raw}
+use Rattle.n2k_table.proofs.RawBits.{raw_eight_bytes, raw_out_of}
 use Rattle.n2k_table.proofs.bits.raw.Goals as goal
 
-pub returns-in-Some-clause-range : goal.returns-in-Some-clause-range
-returns-in-Some-clause-range c = omega (arith, raw_lt c.args.«data».now c.args.at c.args.bits, c.raw_at_once.ensures)
+pub overflow_shr-result : goal.overflow_shr-result
+overflow_shr-result c = omega (arith, c.min-from.ensures, c.requires, c.if-bits-le-MOST_AT_ONCE.true, c.if-data-ge8.true)
+
+pub returns-in-Some-clause-value : goal.returns-in-Some-clause-value
+returns-in-Some-clause-value c =
+    let payload = c.args.«data».now in
+    let from = c.min-from.result in
+    let shift = c.args.at - 8 * from in
+    let few : shift + c.args.bits ≤ 64 = omega (arith, c.min-from.ensures, c.requires, c.if-bits-le-MOST_AT_ONCE.true, c.if-data-ge8.true) in
+    let place : 8 * from + shift ≡ c.args.at = omega (arith, c.min-from.ensures) in
+    let power = one_shl c.args.bits 64 (omega (arith, c.if-bits-le-MOST_AT_ONCE.true)) in
+    let eight = c.in-Some.ensures.cases.same ∙ ap (λ k. take k (drop from payload)) (let e : from + 8 - from ≡ 8 = omega arith in e) in
+    let word = c.from_le_bytes.ensures ∙ raw_eight_bytes payload c.in-Some.eight.now from (λ k. (c.type_inv.«data» k).fits) eight in
+    ap (λ n. c.from_le_bytes.result / 2 ^ shift % n) power
+    ∙ ap (λ n. n / 2 ^ shift % 2 ^ c.args.bits) word
+    ∙ raw_out_of payload (8 * from) shift c.args.bits 64 few
+    ∙ ap (λ p. raw payload p c.args.bits) place

@@ -9,5 +9,5 @@ use Rattle.n2k_table.proofs.fields.each_field.Given as goal
 
 abbrev pub invariant-loop-value : goal.invariant-loop-value
 invariant-loop-value l =
-    after l.fields.items (each (field_faults l.room.holder (Ok l.room.bits) (map (λ (l : LookupParts). l.name) l.lookups)) (field l.room.holder l.lookups) (elements (items_view (drop l.value-index l.values.items))))
-    ≡ each (field_faults l.room.holder (Ok l.room.bits) (map (λ (l : LookupParts). l.name) l.lookups)) (field l.room.holder l.lookups) (elements (items_view l.values.items))
+    after l.fields.items (each (field_faults l.span.holder (Ok l.span.bits) (map (λ (l : LookupParts). l.name) l.lookups)) (field l.span.holder l.lookups) (elements (items_view (drop l.value-index l.values.items))))
+    ≡ each (field_faults l.span.holder (Ok l.span.bits) (map (λ (l : LookupParts). l.name) l.lookups)) (field l.span.holder l.lookups) (elements (items_view l.values.items))

@@ -9,19 +9,19 @@ use Rattle.n2k_table.proofs.fields.read_fields.Goals as goal
 
 pub returns-then-len-gt-MOST_FIELDS : goal.returns-then-len-gt-MOST_FIELDS
 returns-then-len-gt-MOST_FIELDS c = λ other.
-    fields_many c.args.room.holder (Ok c.args.room.bits) (map (λ (l : LookupParts). l.name) c.args.lookups.now) c.args.lookups.now (elements (array_view c.args.values.now)) _ (omega (arith, length-elements c.args.values.now.items))
+    fields_many c.args.span.holder (Ok c.args.span.bits) (map (λ (l : LookupParts). l.name) c.args.lookups.now) c.args.lookups.now (elements (array_view c.args.values.now)) _ (omega (arith, length-elements c.args.values.now.items))
 
 pub returns-in_err-fields : goal.returns-in_err-fields
 returns-in_err-fields c =
     let p = err_from_is_err_and c.from_residual.result c.from_residual.ensures.1 in
-    rw (p.1, p.2) (λ other. fields_fault c.args.room.holder (Ok c.args.room.bits) (map (λ (l : LookupParts). l.name) c.args.lookups.now) c.args.lookups.now (elements (array_view c.args.values.now)) c.in_err-fields.field-0.0 _ (omega (arith, length-elements c.args.values.now.items)) (c.in_err-fields.ensures other))
+    rw (p.1, p.2) (λ other. fields_fault c.args.span.holder (Ok c.args.span.bits) (map (λ (l : LookupParts). l.name) c.args.lookups.now) c.args.lookups.now (elements (array_view c.args.values.now)) c.in_err-fields.field-0.0 _ (omega (arith, length-elements c.args.values.now.items)) (c.in_err-fields.ensures other))
 
 pub returns-then-has_twice : goal.returns-then-has_twice
 returns-then-has_twice c = λ other.
-    fields_twice c.args.room.holder (Ok c.args.room.bits) (map (λ (l : LookupParts). l.name) c.args.lookups.now) c.args.lookups.now (elements (array_view c.args.values.now)) c.in_ok-fields.fields.items (omega (arith, length-elements c.args.values.now.items)) c.in_ok-fields.ensures
+    fields_twice c.args.span.holder (Ok c.args.span.bits) (map (λ (l : LookupParts). l.name) c.args.lookups.now) c.args.lookups.now (elements (array_view c.args.values.now)) c.in_ok-fields.fields.items (omega (arith, length-elements c.args.values.now.items)) c.in_ok-fields.ensures
     (rw (← c.deref.ensures.value) (sym c.if-has_twice.ensures))
 
 pub returns : goal.returns
 returns c =
-    fields_read c.args.room.holder (Ok c.args.room.bits) (map (λ (l : LookupParts). l.name) c.args.lookups.now) c.args.lookups.now (elements (array_view c.args.values.now)) c.in_ok-fields.fields.items (omega (arith, length-elements c.args.values.now.items)) c.in_ok-fields.ensures
+    fields_read c.args.span.holder (Ok c.args.span.bits) (map (λ (l : LookupParts). l.name) c.args.lookups.now) c.args.lookups.now (elements (array_view c.args.values.now)) c.in_ok-fields.fields.items (omega (arith, length-elements c.args.values.now.items)) c.in_ok-fields.ensures
     (rw (← c.deref.ensures.value) (sym c.if-has_twice.ensures))

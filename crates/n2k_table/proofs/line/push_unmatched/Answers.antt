@@ -10,6 +10,6 @@ pub returns : goal.returns
 returns c =
     let m = c.args.packet.now in
     on_ok c.put.result (λ closed. six_parts c.args.line.now.items (seen_json m) (codes ",\"pgn\":") (decimal m.id.pgn) (codes ",\"description\":\"Unmatched\",\"fields\":{\"Data\":") (text_json (pairs m.payload)) (codes "}}\n") _ _ _ _ _ _
-    c.in_ok-push_seen.ensures refl (rw c.id.ensures.value at c.in_ok-push_number.ensures) c.in_ok-extend_from_slice.ensures
+    c.in_ok-push_seen.ensures refl (rw c.id.ensures.value at c.in_ok-push_labelled.ensures) c.in_ok-extend_from_slice.ensures
     (rw c.«data».ensures.value at c.in_ok-push_pairs.ensures) closed
     ∙ ap (λ (t : List ℕ). c.args.line.now.items ++ t) (unmatched_parts m)) c.put.ensures

@@ -2,7 +2,7 @@ use Rattle.std.proofs.Common.{◌≡◌, true, List, Result, rules, sym, subst}
 use Rattle.std.proofs.lemmas.Result.{err_from_is_err_and}
 use Rattle.toml.specs.View.{table_view}
 use Rattle.n2k_table.specs.declared.fault.TableFault.{TableFault}
-use Rattle.n2k_table.specs.declared.tree.Place.TheVariants.{Document}
+use Rattle.n2k_table.specs.declared.tree.Section.TheVariants.{Document}
 use Rattle.n2k_table.specs.Inner.Reading.{GivesOrMemory}
 use Rattle.n2k_table.specs.Tree.{has_only_keys}
 use Rattle.n2k_table.specs.Definition.{DefinitionParts}

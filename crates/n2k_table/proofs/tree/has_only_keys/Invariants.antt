@@ -9,4 +9,4 @@ abbrev pub invariant-loop-key : goal.invariant-loop-key
 invariant-loop-key l =
     (goal.iterator-loop-key).can_next l.key-iterator ×
     (goal.iterator-loop-key).is_finite l.key-iterator ×
-    (list_all (λ k. is_key l.place (string_bytes k)) l.key-iterator ≡ has_only_keys l.place (table_view l.table))
+    (list_all (λ k. is_key l.section (string_bytes k)) l.key-iterator ≡ has_only_keys l.section (table_view l.table))

@@ -1,0 +1,27 @@
+-- What the code keeps of a number field, and what a raw value shows by that.
+use Rattle.std.specs.Prelude.{◌≡◌, ℕ, ℤ, pos, neg_ℤ, ◌*ℤ◌, ◌+◌, ◌-◌, ◌^◌, nat_le, if◌then◌else◌}
+use Rattle.n2k_table.specs.declared.number.Number.{Number}
+use Rattle.n2k_table.specs.declared.number.Scale.{Scale}
+use Rattle.n2k_table.specs.Bits.{greatest}
+use Rattle.n2k_table.specs.Shown.{ShownParts, absent, number}
+
+-- the number without its dot
+abbrev pub value_of : Number → ℤ
+value_of n = (if n.below then neg_ℤ (pos n.size) else pos n.size) *ℤ pos n.mantissa
+
+-- how many values of n bits say that none is there, from the greatest down
+abbrev pub nones : ℕ → ℕ
+nones n = if nat_le 4 n then 2 else if nat_le 2 n then 1 else 0
+
+-- What is kept of a number of n bits: the greatest value that counts, the greatest value, and the greatest raw value.
+pub record IsScale (n : ℕ) (s : Scale) : Type 0 where
+  pub last : s.last ≡ greatest s.signed n - nones n
+  pub greatest : s.greatest ≡ greatest s.signed n
+  pub all : s.all ≡ 2 ^ n - 1
+
+-- what a raw value shows by that
+abbrev pub scaled : Scale → ℕ → ShownParts
+scaled s r =
+    if nat_le r s.last then number (pos r *ℤ pos s.resolution.mantissa) s.resolution.decimals
+    else if nat_le r s.greatest then absent
+    else number (neg_ℤ (pos (s.all - r + 1)) *ℤ pos s.resolution.mantissa) s.resolution.decimals

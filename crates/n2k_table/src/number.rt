@@ -1,0 +1,103 @@
+//! What some bits show as a number.
+ghost use Rattle.std.specs.Prelude.{◌≡◌, ◌≤◌};
+ghost use Rattle.n2k_table.specs.Inner.Number.{nones, scaled, value_of, IsScale};
+ghost use Rattle.n2k_table.specs.Inner.Seen.{seen_parts};
+
+use crate::bits::greatest;
+use crate::resolution::Resolution;
+use crate::seen::Seen;
+
+/// A number, its sign apart: `size * mantissa / 10^decimals`, or as far below zero.
+#[derive(Clone, Copy)]
+pub(crate) struct Number {
+    /// Whether it is below zero, where it is not zero.
+    pub(crate) below: bool,
+    /// How far the value of its bits is from zero.
+    pub(crate) size: u64,
+    /// What that is multiplied with.
+    pub(crate) mantissa: u32,
+    /// How many digits stand after the dot.
+    pub(crate) decimals: u8,
+}
+
+impl Number {
+    /// The number without its dot.
+    pub(crate) fn value(self) -> i128
+        ensures { result ≡ value_of self }
+    {
+        let size = i128::from(self.size) * i128::from(self.mantissa);
+        if self.below { -size } else { size }
+    }
+}
+
+/// How some bits make a number, kept since each line needs it.
+#[derive(Clone, Copy)]
+pub(crate) struct Scale {
+    /// Whether the number may be below zero.
+    pub(crate) signed: bool,
+    /// What the value of the bits is multiplied with.
+    pub(crate) resolution: Resolution,
+    /// The greatest value that counts.
+    pub(crate) last: u64,
+    /// The greatest value. Those between say that none is there, and raw values above it are below zero.
+    pub(crate) greatest: u64,
+    /// The greatest raw value.
+    pub(crate) all: u64,
+}
+
+// How many values of so many bits say that none is there.
+fn nones(bits: u32) -> u64
+    ensures { result ≡ nones bits }
+{
+    match bits {
+        0..=1 => 0,
+        2..=3 => 1,
+        _ => 2,
+    }
+}
+
+impl Scale {
+    /// How bits make a number by a resolution.
+    pub(crate) fn of(signed: bool, bits: u32, resolution: Resolution) -> Scale
+        requires some { 1 ≤ bits }
+        requires room { bits ≤ 64 }
+        ensures signed { result.signed ≡ signed }
+        ensures resolution { result.resolution ≡ resolution }
+        ensures kept { IsScale bits result }
+    {
+        let all = greatest(false, bits);
+        let greatest = greatest(signed, bits);
+        Scale {
+            signed,
+            resolution,
+            last: greatest.saturating_sub(nones(bits)),
+            greatest,
+            all,
+        }
+    }
+
+    /// What bits of that raw value show.
+    #[inline(always)]
+    pub(crate) fn number<'a>(&self, raw: u64) -> Seen<'a>
+        requires { raw ≤ self.now.all }
+        ensures { seen_parts result ≡ scaled self.now raw }
+    {
+        if raw <= self.last {
+            return Seen::Number(Number {
+                below: false,
+                size: raw,
+                mantissa: self.resolution.mantissa,
+                decimals: self.resolution.decimals,
+            });
+        }
+        if raw <= self.greatest {
+            return Seen::Absent;
+        }
+        Seen::Number(Number {
+            below: true,
+            size: self.all - raw + 1,
+            mantissa: self.resolution.mantissa,
+            decimals: self.resolution.decimals,
+        })
+    }
+}
