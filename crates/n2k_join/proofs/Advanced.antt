@@ -5,10 +5,7 @@ use Rattle.n2k_join.specs.Frames.{Key, same_key, Frame}
 use Rattle.n2k_join.specs.Groups.{Ends, complete}
 use Rattle.n2k_join.specs.Open.{Group, pieces_of, group_of}
 use Rattle.n2k_join.specs.State.{held_of}
-
--- an open group with a frame more
-abbrev pub with_frame : Group → Frame → Group
-with_frame o x = record { first = o.first; key = o.key; pieces = pieces_of (held_of o ++ x ∷ []) }
+pub use Rattle.n2k_join.specs.Inner.Stored.{with_frame, begun, of_the_key}
 
 -- what stays open of a group of the frame's key
 abbrev pub joined : Ends → Frame → Group → Option Group
@@ -17,14 +14,6 @@ joined ends x o = cond (ends (held_of o) x) None (cond (complete (held_of o ++ x
 -- what stays open of a group
 abbrev pub taken : Ends → Frame → Group → Option Group
 taken ends x o = cond (same_key x.key o.key) (joined ends x o) (Some o)
-
--- the group that a frame begins, where it doesn't complete it
-abbrev pub begun : Frame → Option Group
-begun x = cond (complete (x ∷ [])) None (Some (group_of x.key (x ∷ [])))
-
--- the open group of a key
-abbrev pub of_the_key : Key → List Group → Option Group
-of_the_key key groups = find (λ (o : Group). same_key key o.key) groups
 
 -- the group that a frame opens, where this is the open one of its key
 abbrev pub opened : Ends → Frame → Option Group → Option Group

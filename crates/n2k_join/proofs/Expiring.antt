@@ -19,7 +19,7 @@ use Rattle.n2k_join.specs.Open.{Group, is_waiting, waiting, ended, open_within}
 use Rattle.n2k_join.specs.State.{State, Given, held, next_line, overdue, step_given, step_after, counted, one_if, Rise, HasParts, AreOpen, IsState, AreWaiting}
 use Rattle.n2k_join.specs.Step.{due, expired}
 use Rattle.n2k_join.specs.Laws.{ExpiresFirst}
-use Rattle.n2k_join.proofs.Rising.{rise-less}
+use Rattle.n2k_join.proofs.Rising.{rise-less, option_map_some}
 use Rattle.n2k_join.specs.Window.{Rule}
 use Rattle.n2k_join.proofs.Windows.{later-wait}
 
@@ -159,11 +159,7 @@ pub record FoundDue (s : State) : Type 0 where
   pub due_is : due s ≡ Some group
 
 pub found_due : (s : State) (b : Broken) → option_map told_of (due s) ≡ Some b → FoundDue s
-found_due s b e = by (due s) refl e
-  where
-    by : (o : Option Group) → due s ≡ o → option_map told_of o ≡ Some b → FoundDue s
-    by None is e = absurd (none-some b e)
-    by (Some g) is e = record { group = g; due_is = is }
+found_due s b e = option_map_some told_of (due s) b e (λ g is same. record { group = g; due_is = is })
 
 pub record Expires (s : State) : Type 0 where
   pub group : Group

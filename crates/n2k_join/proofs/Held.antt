@@ -14,7 +14,7 @@ use Rattle.n2k_join.specs.Open.{Piece, Group, piece_at, pieces_of, group_of}
 use Rattle.n2k_join.specs.State.{held_frame, held_of, Rise, IsOpen}
 use Rattle.n2k_join.proofs.Cuts.{next, so_far, so_far-push, IsEnding}
 use Rattle.n2k_join.proofs.Carried.{carried-append, option_or_none, has_twice-push, complete-without_zero, has_number-cons}
-use Rattle.n2k_join.proofs.Rising.{look, look-below, look-range, look-filter_map, rise-range, all-range, filter_map-range, find-none, find-passes, all-map, all-append}
+use Rattle.n2k_join.proofs.Rising.{look, look-below, look-range, look-filter_map, rise-range, all-range, filter_map-range, find-none, find-passes, all-map, all-append, option_map_some}
 use Rattle.std.proofs.lemmas.Option.{none-some, same_Some}
 
 abbrev number_of : Piece → ℕ
@@ -87,11 +87,8 @@ abbrev pub pieces_by : (ℕ → Option (List ℕ)) → List Piece
 pieces_by c = filter_map (piece_at c) (range_with_len 0 most_frames)
 
 piece_at-number : (c : ℕ → Option (List ℕ)) (n : ℕ) (p : Piece) → piece_at c n ≡ Some p → p.number ≡ n
-piece_at-number c n p e = by (c n) e
-  where
-    by : (o : Option (List ℕ)) → option_map (λ (bytes : List ℕ). record { number = n; bytes = bytes }) o ≡ Some p → p.number ≡ n
-    by None e = absurd (none-some p e)
-    by (Some b) e = sym (ap number_of (same_Some (record { number = n; bytes = b }) p e))
+piece_at-number c n p e =
+    option_map_some (λ (bytes : List ℕ). let p : Piece = record { number = n; bytes = bytes } in p) (c n) p e (λ b is same. sym (ap number_of same))
 
 pub pieces_by-rise : (c : ℕ → Option (List ℕ)) → Rise number_of 0 (pieces_by c)
 pieces_by-rise c = rise-range number_of (piece_at c) (piece_at-number c) 0 0 most_frames (omega arith)

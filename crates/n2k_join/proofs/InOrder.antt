@@ -5,7 +5,7 @@ use Rattle.std.specs.List.{range_with_len, AllByRecursion}
 use Rattle.std.proofs.lemmas.List.{length-append}
 use Rattle.std.proofs.lemmas.List.Elements.{All-from_recursion}
 use Rattle.std.proofs.lemmas.Bool.{or_parts, and_parts, leb-true, leb-false, lt-ltb, eqb-true, eqb-false, ne_eqb, false≢true}
-use Rattle.std.proofs.lemmas.Option.{none-some, same_Some}
+use Rattle.std.proofs.lemmas.Option.{none-some, same_Some, option_and_then_some}
 use Rattle.n2k_wire.specs.declared.entry.Entry.{Entry}
 use Rattle.n2k_table.specs.declared.definition.Kind.{Kind}
 use Rattle.n2k_join.specs.Frames.{Key, Frame, frames, of_key, frame_at}
@@ -19,7 +19,7 @@ use Rattle.n2k_join.proofs.Arriving.{key-rise, StandsAt, stand}
 use Rattle.n2k_join.proofs.SlotLemmas.{all_to}
 use Rattle.n2k_join.proofs.Lines.{RiseFrom, rise-all, all_with, rise-rest}
 use Rattle.n2k_join.proofs.GroupLines.{all-back, all-front, last_frame, IsGroup}
-use Rattle.n2k_join.proofs.Rising.{find-all, find-passes}
+use Rattle.n2k_join.proofs.Rising.{find-all, find-passes, option_map_some}
 use Rattle.n2k_join.proofs.Cuts.{cut-joined}
 
 -- the numbers of frames rise, from one on
@@ -155,29 +155,25 @@ ends-at kind es key g f is some found =
 -- each message that a group gives is of one
 pub comes_of_consecutive : (rule : Rule) → rule.in_order ≡ true → (kind : ℕ → Option Kind) (es : List Entry) (line : ℕ) (m : Keyed) → gathered (within rule) (frames kind es) line ≡ Some m → ComesOfConsecutive kind es line m
 unfolding gathered
-comes_of_consecutive rule order kind es line m e = by_frame (frame_at line (frames kind es)) refl e
-  where
-    by_group : (f : Frame) → frame_at line (frames kind es) ≡ Some f → f.line ≡ line → (o : Option (List Frame)) → find (is_done_at f.line) (cut (within rule) (of_key f.key (frames kind es))) ≡ o → option_map (λ group. record { key = f.key; message = message_of f group }) o ≡ Some m → ComesOfConsecutive kind es line m
-    by_group f stands at None found e = absurd (none-some m e)
-    by_group f stands at (Some g) found e =
-        let gs = cut (within rule) (of_key f.key (frames kind es)) in
-        let is : record { key = f.key; message = message_of f g } ≡ m = same_Some _ m e in
-        let done = and_parts (complete g) (last_line g == f.line) (find-passes (is_done_at f.line) gs g found) in
-        let one : AreConsecutive f.key (frames kind es) g = find-all (Whole f.key (frames kind es)) (is_done_at f.line) gs g (all_whole rule order kind es f.key) found done.0 in
-        let there : last_line g ≡ line = eqb-true (last_line g) f.line done.1 ∙ at in
-        let ends = ends-at kind es f.key g f one (whole-group g done.0) (ap (λ l. frame_at l (frames kind es)) there ∙ stands) in
-        record {
-          group = g;
-          consecutive = subst (λ (k : Keyed). AreConsecutive k.key (frames kind es) g) is one;
-          whole = done.0;
-          ends_there = there;
-          carries = ap (λ (k : Keyed). k.message.payload) is;
-          before_last = ends.0;
-          last = f;
-          ends_with = ends.1;
-          is_of_last = ap (λ (k : Keyed). k.message) (sym is);
-        }
-
-    by_frame : (o : Option Frame) → frame_at line (frames kind es) ≡ o → option_and_then (gathered_by (within rule) (frames kind es)) o ≡ Some m → ComesOfConsecutive kind es line m
-    by_frame None found e = absurd (none-some m e)
-    by_frame (Some f) found e = by_group f found (eqb-true f.line line (find-passes (λ (g : Frame). g.line == line) (frames kind es) f found)) (find (is_done_at f.line) (cut (within rule) (of_key f.key (frames kind es)))) refl e
+comes_of_consecutive rule order kind es line m e =
+    option_and_then_some (gathered_by (within rule) (frames kind es)) (frame_at line (frames kind es)) m e (λ f stands gathers.
+    option_map_some (λ (group : List Frame). let k : Keyed = record { key = f.key; message = message_of f group } in k)
+    (find (is_done_at f.line) (cut (within rule) (of_key f.key (frames kind es)))) m gathers (λ g found is.
+    let gs = cut (within rule) (of_key f.key (frames kind es)) in
+    let at : f.line ≡ line = eqb-true f.line line (find-passes (λ (g : Frame). g.line == line) (frames kind es) f stands) in
+    let done = and_parts (complete g) (last_line g == f.line) (find-passes (is_done_at f.line) gs g found) in
+    let one : AreConsecutive f.key (frames kind es) g =
+    find-all (Whole f.key (frames kind es)) (is_done_at f.line) gs g (all_whole rule order kind es f.key) found done.0 in
+    let there : last_line g ≡ line = eqb-true (last_line g) f.line done.1 ∙ at in
+    let ends = ends-at kind es f.key g f one (whole-group g done.0) (ap (λ l. frame_at l (frames kind es)) there ∙ stands) in
+    record {
+      group = g;
+      consecutive = subst (λ (k : Keyed). AreConsecutive k.key (frames kind es) g) is one;
+      whole = done.0;
+      ends_there = there;
+      carries = ap (λ (k : Keyed). k.message.payload) is;
+      before_last = ends.0;
+      last = f;
+      ends_with = ends.1;
+      is_of_last = ap (λ (k : Keyed). k.message) (sym is);
+    }))

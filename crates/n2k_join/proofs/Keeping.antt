@@ -30,7 +30,7 @@ use Rattle.n2k_join.proofs.Overdue.{ended-counted, advanced-counted}
 use Rattle.n2k_join.proofs.Resumed.{held_of-all, held_of-any, held-log}
 use Rattle.n2k_join.proofs.Agreeing.{after_longer}
 use Rattle.n2k_join.proofs.Steps.{StepsTo, kept, frame_message, only_frame, kept-open, kept-wait, step-none, step-frame}
-use Rattle.n2k_join.proofs.Rising.{all-map, all-append, all-zip, all-flat_map, all-range, all-filter_map, rise-less}
+use Rattle.n2k_join.proofs.Rising.{all-map, all-append, all-zip, all-flat_map, all-range, all-filter_map, rise-less, option_map_some}
 use Rattle.n2k_join.proofs.Windows.{all-filter, all-waiting, open_within-open}
 
 -- the parts of a frame are such as the program's packets give
@@ -101,12 +101,10 @@ pieces-parts : (fs : List Frame) → AllByRecursion IsFramePart fs → AllByRecu
 unfolding pieces_of
 pieces-parts fs all = all-filter_map IsPiece (piece_at (carried fs)) (range_with_len 0 most_frames) each
   where
-    by : (n : ℕ) (p : Piece) (o : Option (List ℕ)) → carried fs n ≡ o → option_map (λ (bytes : List ℕ). record { number = n; bytes = bytes }) o ≡ Some p → IsPiece p
-    by n p None c is = absurd (none-some p is)
-    by n p (Some b) c is = subst IsPiece (same_Some (record { number = n; bytes = b }) p is) (carried-part fs n b all c)
-
     each : (n : ℕ) (p : Piece) → piece_at (carried fs) n ≡ Some p → IsPiece p
-    each n p is = by n p (carried fs n) refl is
+    each n p is =
+        option_map_some (λ (bytes : List ℕ). let p : Piece = record { number = n; bytes = bytes } in p) (carried fs n) p is
+        (λ b there same. subst IsPiece same (carried-part fs n b all there))
 
 -- what holds of the keys of a group's frames holds of its key
 key_part : (P : Key → Type 0) (k : Key) (g : List Frame) → AllByRecursion (λ (f : Frame). P f.key × (f.key ≡ k)) g → 0 < length g → P k

@@ -6,7 +6,7 @@ use Rattle.std.specs.List.{range_with_len, last_or, AllByRecursion}
 use Rattle.std.proofs.lemmas.List.{length-append, append-nil}
 use Rattle.std.proofs.lemmas.List.Folds.{find-append}
 use Rattle.std.proofs.lemmas.Bool.{eqb-true, eq-eqb, ne_eqb, or_parts, false≢true, false_from_ne_true}
-use Rattle.std.proofs.lemmas.Option.{none-some, same_Some}
+use Rattle.std.proofs.lemmas.Option.{none-some, same_Some, option_and_then_some, cond_some}
 use Rattle.n2k_join.specs.Frames.{Key, same_key, Frame, of_key, frame_at, most_frames}
 use Rattle.n2k_join.specs.Groups.{Ends, closes, complete, cut, has_number, has_twice, first, incomplete, open_of}
 use Rattle.n2k_join.specs.Open.{Group, group_of, where_begun, begun_at, open_groups}
@@ -16,7 +16,7 @@ use Rattle.n2k_join.proofs.Carried.{carried-push, complete-same, pieces_of-same,
 use Rattle.n2k_join.proofs.Cuts.{IsEnding, next, so_far, so_far-push, so_far-all, so_far-keeps, last-cut}
 use Rattle.n2k_join.proofs.Held.{AreNumbered, carried-kept, has_twice-kept, first-kept}
 use Rattle.n2k_join.proofs.Keys.{same_key-true, same_key-refl, same_key-sym, of_key-same, of_key-other, of_key-keeps}
-use Rattle.n2k_join.proofs.Rising.{range-push, filter_map-push, filter_map-fused, filter_map-range, find-passes, find-all, find-none, look, look-filter_map, all-range, all-map, passes_none}
+use Rattle.n2k_join.proofs.Rising.{range-push, filter_map-push, filter_map-fused, filter_map-range, find-passes, find-all, find-none, look, look-filter_map, all-range, all-map, passes_none, option_map_some}
 
 -- the key of the frame at a line
 abbrev pub key_at : ℕ → List Frame → Option Key
@@ -248,45 +248,26 @@ module _ (ends : Ends) (is_ending : IsEnding ends) where
   -- ---- the open group of a key is found among the open groups
 
   pub begun_at-is : (fs : List Frame) (i : ℕ) (o : Group) → begun_at ends fs i ≡ Some o → (o.first ≡ i) × (option_map (group_of o.key) (open_of ends o.key fs) ≡ Some o)
-  begun_at-is fs i o e = by (key_at i fs) (sym (begun_at-key fs i) ∙ e)
-    where
-      by_line : (k : Key) (g : List Frame) → open_of ends k fs ≡ Some g → (b : Bool) → (first g == i) ≡ b → cond b (Some (group_of k g)) None ≡ Some o → (o.first ≡ i) × (option_map (group_of o.key) (open_of ends o.key fs) ≡ Some o)
-      by_line k g is true t e =
-          let same : group_of k g ≡ o = same_Some (group_of k g) o e in (
-            ap (λ (o : Group). o.first) (sym same) ∙ eqb-true (first g) i t,
-            subst (λ (o : Group). option_map (group_of o.key) (open_of ends o.key fs) ≡ Some o) same (ap (option_map (group_of k)) is),
-          )
-      by_line k g is false t e = absurd (none-some o e)
-
-      by_open : (k : Key) (g : Option (List Frame)) → open_of ends k fs ≡ g → option_and_then (where_begun i k) g ≡ Some o → (o.first ≡ i) × (option_map (group_of o.key) (open_of ends o.key fs) ≡ Some o)
-      by_open k None is e = absurd (none-some o e)
-      by_open k (Some g) is e = by_line k g is (first g == i) refl e
-
-      by : (k : Option Key) → option_and_then (λ (k : Key). open_at k fs i) k ≡ Some o → (o.first ≡ i) × (option_map (group_of o.key) (open_of ends o.key fs) ≡ Some o)
-      by None e = absurd (none-some o e)
-      by (Some k) e = by_open k (open_of ends k fs) refl e
+  unfolding begun_at
+  begun_at-is fs i o e =
+      option_and_then_some (λ (f : Frame). option_and_then (where_begun i f.key) (open_of ends f.key fs)) (frame_at i fs) o e (λ f stands e.
+      option_and_then_some (where_begun i f.key) (open_of ends f.key fs) o e (λ g is e.
+      let parts = cond_some (first g == i) (group_of f.key g) o e in (
+        ap (λ (o : Group). o.first) (sym parts.1) ∙ eqb-true (first g) i parts.0,
+        subst (λ (o : Group). option_map (group_of o.key) (open_of ends o.key fs) ≡ Some o) parts.1 (ap (option_map (group_of f.key)) is),
+      )))
 
   pub open_groups-each : (n : ℕ) (fs : List Frame) → AllByRecursion (λ (o : Group). option_map (group_of o.key) (open_of ends o.key fs) ≡ Some o) (open_groups ends n fs)
   unfolding open_groups
   open_groups-each n fs = all-range (λ (o : Group). option_map (group_of o.key) (open_of ends o.key fs) ≡ Some o) (begun_at ends fs) 1 n (λ i o l u e. (begun_at-is fs i o e).1)
 
   pub begun_group : (fs : List Frame) (i : ℕ) (o : Group) → begun_at ends fs i ≡ Some o → IsBegun ends fs o
-  begun_group fs i o e = by (open_of ends o.key fs) refl (begun_at-is fs i o e).1
-    where
-      by : (s : Option (List Frame)) → open_of ends o.key fs ≡ s → option_map (group_of o.key) s ≡ Some o → IsBegun ends fs o
-      by None is e = absurd (none-some o e)
-      by (Some g) is e =
-          let left = open_is o.key fs g is in
-          let alone : (has_twice g ≡ false) × (0 < length g) =
-          subst (λ s. IfSome s (λ g. (has_twice g ≡ false) × (0 < length g))) left.0 (so_far-once (of_key o.key fs)) in
-          record {
-            group = g;
-            so_far_is = left.0;
-            once = alone.0;
-            nonempty = alone.1;
-            left = left.1;
-            is = same_Some (group_of o.key g) o e;
-          }
+  begun_group fs i o e =
+      option_map_some (group_of o.key) (open_of ends o.key fs) o (begun_at-is fs i o e).1 (λ g is same.
+      let left = open_is o.key fs g is in
+      let alone : (has_twice g ≡ false) × (0 < length g) =
+      subst (λ s. IfSome s (λ g. (has_twice g ≡ false) × (0 < length g))) left.0 (so_far-once (of_key o.key fs)) in
+      record { group = g; so_far_is = left.0; once = alone.0; nonempty = alone.1; left = left.1; is = same })
 
   -- what holds of all frames holds of those of such a group, and they have its key
   pub begun_all : (P : Frame → Type 0) (fs : List Frame) (o : Group) (begun : IsBegun ends fs o) → AllByRecursion P fs

@@ -1,5 +1,5 @@
 -- Lists whose numbers rise strictly: looked up by number and read off a range of numbers.
-use Rattle.std.proofs.Common.{◌≡◌, ◌==◌, ◌≤◌, ◌<◌, ◌+◌, ℕ, suc, zero, Bool, true, false, cond, List, [], ◌∷◌, ◌++◌, refl, sym, ap, ◌∙◌, subst, arith, Option, Some, None, filter_map, find, option_and_then, option_to_list, flat_map}
+use Rattle.std.proofs.Common.{◌≡◌, ◌==◌, ◌≤◌, ◌<◌, ◌+◌, ℕ, suc, zero, Bool, true, false, cond, List, [], ◌∷◌, ◌++◌, refl, sym, ap, ◌∙◌, subst, arith, Option, Some, None, filter_map, find, option_and_then, option_to_list, flat_map, option_map}
 use Rattle.std.specs.List.{range_with_len, cons_option, AllByRecursion, list_any}
 use Rattle.std.proofs.lemmas.List.Elements.{filter_map-append}
 use Rattle.std.proofs.lemmas.Bool.{eqb-true, eqb-false, eq-eqb, ne_eqb, or_parts}
@@ -28,6 +28,11 @@ filter_map-push h xs x = filter_map-append h xs (x ∷ []) ∙ ap (λ t. filter_
 pub filter_map-none : {X Y : Type 0} (h : X → Option Y) → ((x : X) → h x ≡ None) → (xs : List X) → filter_map h xs ≡ []
 filter_map-none h e [] = refl
 filter_map-none h e (x ∷ xs) = rw (e x) (filter_map-none h e xs)
+
+-- where a value is made of an option, the option has one that it is made of
+pub option_map_some : {X Y P : Type 0} (f : X → Y) (o : Option X) (y : Y) → option_map f o ≡ Some y → ((x : X) → o ≡ Some x → f x ≡ y → P) → P
+option_map_some f None y e given = absurd (none-some y e)
+option_map_some f (Some x) y e given = given x refl (same_Some (f x) y e)
 
 -- two passes in one
 pub filter_map-fused : {X Y Z : Type 0} (t : Y → Option Z) (h : X → Option Y) (xs : List X) → filter_map (λ x. option_and_then t (h x)) xs ≡ filter_map t (filter_map h xs)

@@ -133,10 +133,10 @@ module _ (k : Key) (g : OpenGroup) (last : ℕ) (small : last < most_frames) (fi
       (λ i. not (once-slots k g i) && (zeroth i && (has_all (at i) (held_of (group_in k g)) && is_within (at i) (held_of (group_in k g)))))
       ∙ same_bool _ _ (λ e. eq-eqb _ _ (full_there e)) (λ e. full_back (eqb-true _ _ e))
 
-pub incomplete-slots : (k : Key) (g : OpenGroup) → slot_of g 0 ≡ None → complete (held_of (group_in k g)) ≡ false
+pub incomplete-slots : (k : Key) (g : OpenGroup) → is_some (slot_of g 0) ≡ false → complete (held_of (group_in k g)) ≡ false
 unfolding complete
 incomplete-slots k g e =
-    (λ i. not (once-slots k g i) && (is_some ((carried-slots k g 0 (omega arith) ∙ e) i) && (has_all (last_number (total (held_of (group_in k g)))) (held_of (group_in k g)) && is_within (last_number (total (held_of (group_in k g)))) (held_of (group_in k g)))))
+    (λ i. not (once-slots k g i) && ((ap is_some (carried-slots k g 0 (omega arith)) ∙ e) i && (has_all (last_number (total (held_of (group_in k g)))) (held_of (group_in k g)) && is_within (last_number (total (held_of (group_in k g)))) (held_of (group_in k g)))))
 
 -- ---- one piece more
 
@@ -269,25 +269,15 @@ module _ (first mask number : ℕ) (slots : List (List ℕ)) (bytes : List ℕ) 
 
 -- ---- completeness, by the total that is read
 
-pub total-none : (g : OpenGroup) → None ≡ option_map (λ (bytes : List ℕ). slice_index bytes 0) (slot_of g 0) → slot_of g 0 ≡ None
-total-none g e = by (slot_of g 0) refl e
-  where
-    by : (o : Option (List ℕ)) → slot_of g 0 ≡ o → None ≡ option_map (λ (bytes : List ℕ). slice_index bytes 0) o → slot_of g 0 ≡ None
-    by None is e = is
-    by (Some b) is e = absurd (none-some (slice_index b 0) e)
-
-pub complete-slots : (k : Key) (g : OpenGroup) (t : ℕ) → t ≤ longest_message → g.mask < 2 ^ 32 → Some t ≡ option_map (λ (bytes : List ℕ). slice_index bytes 0) (slot_of g 0)
-    → complete (held_of (group_in k g)) ≡ (g.mask == 2 ^ (t / 7 + 1) - 1)
-complete-slots k g t small fits e = by (slot_of g 0) refl e
-  where
-    at : carried (held_of (group_in k g)) 0 ≡ slot_of g 0
-    at = carried-slots k g 0 (omega arith)
-
-    by : (o : Option (List ℕ)) → slot_of g 0 ≡ o → Some t ≡ option_map (λ (bytes : List ℕ). slice_index bytes 0) o → complete (held_of (group_in k g)) ≡ (g.mask == 2 ^ (t / 7 + 1) - 1)
-    by None is e = absurd (none-some t (sym e))
-    by (Some b) is e =
-        let total_is : total (held_of (group_in k g)) ≡ t = ap total_by (at ∙ is) ∙ sym (same_Some t (slice_index b 0) e) in
-        complete-mask k g (t / 7) (omega (arith, small)) fits (ap is_some (at ∙ is)) (ap last_number total_is)
+-- a group with frame 0 is complete where its mask has the bits up to the last number that the total asks for
+pub complete-slots : (k : Key) (g : OpenGroup) → bit_at g.mask 0 ≡ 1 → g.mask < 2 ^ 32
+    → complete (held_of (group_in k g)) ≡ (g.mask == 2 ^ (slice_index (get_or g.slots 0 []) 0 / 7 + 1) - 1)
+complete-slots k g one fits =
+    let at : carried (held_of (group_in k g)) 0 ≡ Some (get_or g.slots 0 []) =
+    carried-slots k g 0 (omega arith) ∙ ap (λ b. cond b (Some (get_or g.slots 0 [])) None) (eq-eqb _ _ one) in
+    let small : slice_index (get_or g.slots 0 []) 0 ≤ longest_message = g.total one in
+    complete-mask k g (slice_index (get_or g.slots 0 []) 0 / 7) (omega (arith, small)) fits (ap is_some at)
+    (ap (λ o. last_number (total_by o)) at)
 
 -- ---- the data of a complete group
 

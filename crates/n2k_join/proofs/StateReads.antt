@@ -31,7 +31,7 @@ use Rattle.n2k_join.proofs.SavedDigits.{IsUtf8-encode_lower}
 use Rattle.std.specs.Str.{bytes_eq}
 use Rattle.std.proofs.lemmas.Slice.Eq.{bytes_eq-Decides}
 use Rattle.serde_json.specs.Written.{compact_text}
-use Rattle.n2k_join.proofs.WrittenReads.{IsPlain, ArePlain, ArePlainMembers, compact_utf8, compact_reads}
+use Rattle.n2k_join.proofs.WrittenReads.{IsPlain, ArePlain, ArePlainMembers, text_utf8, compact_reads}
 
 -- A tree that is written and read back: it is plain, nests no deeper than this, and stands for itself.
 pub record IsTree (deep : ℕ) (d : Data) : Type 0 where
@@ -215,9 +215,6 @@ tree-back false s is =
       number_of-decimal s.counts.unknown small.unknown,
     ) refl
 
-pub state-tree : (tells : Bool) (s : State) → IsState s → IsTree 5 (tree_by tells s)
-state-tree tells s is = record { plain = tree-plain tells s is; shallow = tree-shallow tells s is; back = tree-back tells s is }
-
 -- the state that is read where this is handed in
 abbrev read_under : Bool → Rule → State → State
 read_under tells rule s = record { id = s.id; rule = record { window = if tells then s.rule.window else rule.window; in_order = rule.in_order }; counts = s.counts; groups = s.groups }
@@ -255,9 +252,9 @@ text-asked tells kind id rule s is known = by tells
   where
     text : (tells : Bool) → or_cause NotJson (parsed (compact_text (tree_by tells s))) ≡ Ok (tree_by tells s)
     text tells =
-        let tree = state-tree tells s is in
-        let depth_ok : depth (outline (tree_by tells s)) ≤ 127 = let few = tree.shallow in omega arith in
-        parsed_some (compact_text (tree_by tells s)) (tree_by tells s) (compact_utf8 (tree_by tells s) tree.plain) (compact_reads (tree_by tells s) tree.plain depth_ok tree.back)
+        let plain = tree-plain tells s is in
+        let depth_ok : depth (outline (tree_by tells s)) ≤ 127 = let few = tree-shallow tells s is in omega arith in
+        parsed_some (compact_text (tree_by tells s)) (tree_by tells s) (text_utf8 (tree_by tells s) plain) (compact_reads (tree_by tells s) plain depth_ok (tree-back tells s is))
 
     by : (tells : Bool) → judged kind id rule (compact_text (tree_by tells s)) ≡ asked kind id rule (place_by tells) (read_under tells rule s)
     by true = rw (text true) (rw (state-reads true rule s is known) refl)

@@ -26,7 +26,7 @@ use Rattle.n2k_join.proofs.Opened.{IsLog}
 use Rattle.n2k_join.proofs.Overdue.{none-run_out}
 use Rattle.n2k_join.proofs.Resumed.{held-log, held-own, held-other, open_groups-held}
 use Rattle.n2k_join.proofs.Rising.{find-passes, find-all, passes_none, all-map, all-zip}
-use Rattle.n2k_join.proofs.Windows.{open-waiting, waits-before, waiting-all, all-waiting, open_within-push, open_within-none, open_within-held}
+use Rattle.n2k_join.proofs.Windows.{open-waiting, waits-before, waiting-all, all-waiting, open_within-push, open_within-none}
 use Rattle.n2k_join.specs.Window.{Rule}
 use Rattle.n2k_join.proofs.Lines.{frame_of_packet, frame_in-line}
 
@@ -111,17 +111,17 @@ module _ (kind : ℕ → Option Kind) (s : State) (e : Entry) (some : 0 < s.rule
   pub kept-wait : AllByRecursion (λ (g : Group). is_waiting s.rule (next_line s) g ≡ true) (kept s)
   kept-wait = all-waiting s.rule (next_line s) s.groups
 
+  kept-groups : open_groups (within s.rule) s.counts.lines (held (kept s)) ≡ kept s
+  kept-groups = open_groups-held (within s.rule) (within-ends s.rule some) s.counts.lines (kept s) kept-open
+
   -- what is held of them has them open, at the last line and at the next
   kept-now : open_within s.rule s.counts.lines (held (kept s)) ≡ kept s
   kept-now =
-      open_within-held s.rule s.counts.lines some (kept s) kept-open
+      ap (waiting s.rule s.counts.lines) kept-groups
       ∙ waiting-all s.rule s.counts.lines (kept s) (all-map (λ (g : Group). is_waiting s.rule (next_line s) g ≡ true) (λ (g : Group). is_waiting s.rule s.counts.lines g ≡ true) (kept s) (λ g e. waits-before s.rule s.counts.lines g e) kept-wait)
 
   kept-next : waiting s.rule (next_line s) (open_within s.rule s.counts.lines (held (kept s))) ≡ kept s
   kept-next = ap (waiting s.rule (next_line s)) kept-now ∙ waiting-all s.rule (next_line s) (kept s) kept-wait
-
-  kept-groups : open_groups (within s.rule) s.counts.lines (held (kept s)) ≡ kept s
-  kept-groups = open_groups-held (within s.rule) (within-ends s.rule some) s.counts.lines (kept s) kept-open
 
   -- an entry without a frame leaves them
   pub step-none : frame_in kind (next_line s) e ≡ None → StepsTo kind s e (record { message = alone kind e; cause = cause_in kind e; broken = map told_of (overdue s) }) (kept s)

@@ -57,9 +57,6 @@ apart-front (f ∷ fs) back h e =
 pub record GoesOn (ends : Ends) (g : List Frame) : Type 0 where
   pub on : (f h : Frame) (front back : List Frame) → g ≡ (f ∷ front) ++ (h ∷ back) → ends (f ∷ front) h ≡ false
 
-pub goes_on-repeats : (g : List Frame) → has_twice g ≡ false → GoesOn repeats g
-goes_on-repeats g apart = record { on = λ f h front back e. (apart-front (f ∷ front) back h (ap has_twice (sym e) ∙ apart)).1 }
-
 -- of frames whose numbers rise one by one none falls back
 above : (a n : ℕ) (front : List Frame) (h : Frame) (back : List Frame) → map (λ (f : Frame). f.number) (front ++ (h ∷ back)) ≡ range_with_len a n → (a ≤ h.number) × (has_from h.number front ≡ false)
 above a zero [] h back numbers = absurd (cc)
@@ -77,7 +74,7 @@ goes_on-within w n g apart ordered each = record {
   on = λ f h front back e.
       let l : h.line < first g + w.window = (all-back (λ (i : Frame). i.line < first g + w.window) (f ∷ front) (h ∷ back) (subst (AllByRecursion (λ (i : Frame). i.line < first g + w.window)) e each)).0 in
       let same : first g ≡ f.line = ap first e in
-      or_from (misfits w (f ∷ front) h) (is_late w (f ∷ front) h) (or_from (repeats (f ∷ front) h) (w.in_order && falls_back (f ∷ front) h) ((goes_on-repeats g apart).on f h front back e) (rises f h front back e w.in_order refl)) (lt-leb (f.line + w.window) h.line (omega (arith, l, same)));
+      or_from (misfits w (f ∷ front) h) (is_late w (f ∷ front) h) (or_from (repeats (f ∷ front) h) (w.in_order && falls_back (f ∷ front) h) (apart-front (f ∷ front) back h (ap has_twice (sym e) ∙ apart)).1 (rises f h front back e w.in_order refl)) (lt-leb (f.line + w.window) h.line (omega (arith, l, same)));
 }
   where
     rises : (f h : Frame) (front back : List Frame) → g ≡ (f ∷ front) ++ (h ∷ back) → (b : Bool) → w.in_order ≡ b → (b && falls_back (f ∷ front) h) ≡ false

@@ -238,7 +238,3 @@ module _ (w : Rule) (n : ℕ) (some : 0 < w.window) where
   -- the open groups of a log can be open
   pub open_within-open : (fs : List Frame) → IsLog n fs → AreOpen n (open_within w n fs)
   open_within-open fs log = open-waiting w n n (open_groups (within w) n fs) (open_groups-open (within w) (within-ends w some) n fs log)
-
-  -- what groups hold has those of them open that wait
-  pub open_within-held : (gs : List Group) → AreOpen n gs → open_within w n (held gs) ≡ waiting w n gs
-  open_within-held gs are = ap (waiting w n) (open_groups-held (within w) (within-ends w some) n gs are)

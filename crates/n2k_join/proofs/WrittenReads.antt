@@ -58,7 +58,7 @@ one_byte true = IsUtf8-are_ascii (44 ∷ []) refl
 one_byte false = IsUtf8-nil
 
 mutual
-  text_utf8 : (d : Data) → IsPlain d → IsUtf8 (compact_text d)
+  pub text_utf8 : (d : Data) → IsPlain d → IsUtf8 (compact_text d)
   text_utf8 null h = absurd h
   text_utf8 (boolean b) h = absurd h
   text_utf8 (number (unsigned n)) h = IsUtf8-from_ascii (decimal n) (IsAscii-decimal n h)
@@ -77,9 +77,6 @@ mutual
   members_utf8 later (member k d ms) h =
       IsUtf8-append (comma_if later) _ (one_byte later) (IsUtf8-append _ _ (IsUtf8-quoted k h.0)
       (IsUtf8-append (58 ∷ []) _ (IsUtf8-are_ascii (58 ∷ []) refl) (IsUtf8-append (compact_text d) _ (text_utf8 d h.1) (members_utf8 true ms h.2))))
-
-pub compact_utf8 : (d : Data) → IsPlain d → IsUtf8 (compact_text d)
-compact_utf8 d h = text_utf8 d h
 
 pub compact_reads : (d : Data) → IsPlain d → tree.depth (outline d) ≤ max_depth → of_json (outline d) ≡ Some d → read (compact_text d) ≡ Some d
 compact_reads d plain shallow back =

@@ -61,14 +61,6 @@ impl OpenGroup {
         self.mask >> u32::from(number) & 1 == 1
     }
 
-    // Whether a frame of the number, or of one above it, is there.
-    fn has_from(&self, number: u8) -> bool
-        requires { number < most_frames }
-        ensures { (key : Key) → result ≡ has_from number (held_of (group_in key self.now)) }
-    {
-        is_any_from(self.mask, number)
-    }
-
     /// Whether it has no place for a frame of the number: that is there, or, where messages are sent in order, it isn't
     /// greater than each of its own.
     pub(crate) fn bars(&self, in_order: bool, number: u8) -> bool
@@ -76,7 +68,7 @@ impl OpenGroup {
         ensures { (key : Key) → result ≡ bars in_order number (group_in key self.now) }
     {
         if in_order {
-            self.has_from(number)
+            is_any_from(self.mask, number)
         } else {
             self.has(number)
         }
@@ -108,26 +100,14 @@ impl OpenGroup {
         self.mask |= 1 << u32::from(number);
     }
 
-    // The total of the message, if frame 0 is there.
-    fn total(&self) -> Option<u8>
-        ensures value { result ≡ option_map (λ bytes. slice_index bytes 0) (slot_of self.now 0) }
-        ensures small { IfSome result (λ total. total ≤ longest_message) }
-    {
-        if self.has(0) {
-            Some(self.slots[0][0])
-        } else {
-            None
-        }
-    }
-
     /// Whether its numbers are exactly those of the message.
     pub(crate) fn is_complete(&self) -> bool
         ensures { (key : Key) → result ≡ complete (held_of (group_in key self.now)) }
     {
-        match self.total() {
-            None => false,
-            Some(total) => is_ones(self.mask, total / 7),
+        if !self.has(0) {
+            return false;
         }
+        is_ones(self.mask, self.slots[0][0] / 7)
     }
 
     /// Writes the message of the group, which is complete, to `joined`, with the stamp and identifier of the packet

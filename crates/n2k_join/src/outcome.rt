@@ -144,34 +144,6 @@ fn take_fast(
     })
 }
 
-// A frame whose PGN is sent as its kind says.
-fn take_packet(
-    in_order: bool,
-    groups: &mut IndexMap<FrameKey, OpenGroup>,
-    line: u64,
-    kind: Option<Kind>,
-    packet: &Packet,
-    joined: &mut Option<Packet>,
-) -> Result<Outcome, AllocError>
-    requires open { AllByRecursion IsOpen (groups_in groups.old.entries) }
-    requires apart { AreApart (groups_in groups.old.entries) }
-    requires none { joined.old ≡ None }
-    ensures given { IfOk result (λ o. told o (Some packet.now) joined.new
-        ≡ gives_by in_order (single_by kind packet.now) (fast_cause kind packet.now) (groups_in groups.old.entries)
-        (frame_by kind line packet.now)) }
-    ensures unknown { IfOk result (λ o. o.is_unknown ≡ not (is_some kind)) }
-    ensures groups { OnOk result (groups_in groups.new.entries
-        ≡ leaves_by in_order (groups_in groups.old.entries) (frame_by kind line packet.now)) }
-    ensures unchanged { OnErr result (groups.new.entries ≡ groups.old.entries) }
-    ensures memory { OnErr result (opens_by (groups_in groups.old.entries) (frame_by kind line packet.now) ≡ true) }
-{
-    match kind {
-        None => Ok(Outcome::of_nothing(true)),
-        Some(Kind::Single) => Ok(Outcome::of_own()),
-        Some(Kind::Fast) => take_fast(in_order, groups, line, packet, joined),
-    }
-}
-
 /// Takes the entry of a line into the open groups. The message of a group that it completes goes to `joined`.
 pub(crate) fn take_entry(
     in_order: bool,
@@ -198,10 +170,11 @@ pub(crate) fn take_entry(
     match entry {
         Entry::Skip => Ok(Outcome::of_nothing(false)),
         Entry::Bad(cause) => Ok(Outcome::of_bad(*cause)),
-        Entry::Frame(packet) => {
-            let kind = table.kind(packet.id().pgn);
-            take_packet(in_order, groups, line, kind, packet, joined)
-        }
+        Entry::Frame(packet) => match table.kind(packet.id().pgn) {
+            None => Ok(Outcome::of_nothing(true)),
+            Some(Kind::Single) => Ok(Outcome::of_own()),
+            Some(Kind::Fast) => take_fast(in_order, groups, line, packet, joined),
+        },
         Entry::Whole(packet) => match table.kind(packet.id().pgn) {
             None => Ok(Outcome::of_nothing(true)),
             Some(_) => Ok(Outcome::of_own()),

@@ -13,40 +13,38 @@ take-requires c =
     empty c.args.in_order x es c.args.at c.in-Some.group.now c.requires.apart c.requires.place at c.args.frame.now.piece.small (has_place c.args.in_order x es c.args.at c.in-Some.group.now c.requires.apart c.requires.place at c.requires.missing)
 
 pub returns-then-is_complete : goal.returns-then-is_complete
-returns-then-is_complete c = record {
-  message = λ line.
-      let x : Frame = frame_of line c.args.packet.now c.args.frame.now in
-      let es = c.args.groups.now.entries in
-      let v = c.in-Some.group.now in
-      let at = entry_at es c.args.at v (sym c.in-Some.ensures.value) in
-      c.give.ensures (key_of at.key)
-      ∙ gives-message c.args.in_order x es c.args.at v c.requires.apart c.requires.place at c.take.new.self c.args.frame.now.piece c.requires.«open» c.args.frame.now.piece.small refl refl
-      (has_place c.args.in_order x es c.args.at v c.requires.apart c.requires.place at c.requires.missing) (c.take.ensures.taken (key_of at.key)) true (sym (c.is_complete.ensures (key_of at.key)) ∙ c.if-is_complete.true);
-  groups = λ line.
-      let x : Frame = frame_of line c.args.packet.now c.args.frame.now in
-      let es = c.args.groups.now.entries in
-      let v = c.in-Some.group.now in
-      let at = entry_at es c.args.at v (sym c.in-Some.ensures.value) in
-      ap groups_in c.shift_remove_index.ensures.entries
-      ∙ joins-go c.args.in_order x es c.args.at v c.requires.apart c.requires.place at c.take.new.self c.args.frame.now.piece c.requires.«open» c.args.frame.now.piece.small refl refl
-      (has_place c.args.in_order x es c.args.at v c.requires.apart c.requires.place at c.requires.missing) (c.take.ensures.taken (key_of at.key)) (sym (c.is_complete.ensures (key_of at.key)) ∙ c.if-is_complete.true);
-}
+returns-then-is_complete c =
+    let es = c.args.groups.now.entries in
+    let v = c.in-Some.group.now in
+    let at = entry_at es c.args.at v (sym c.in-Some.ensures.value) in
+    let done = sym (c.is_complete.ensures (key_of at.key)) ∙ c.if-is_complete.true in
+    record {
+      message = λ line.
+          let x : Frame = frame_of line c.args.packet.now c.args.frame.now in
+          c.give.ensures (key_of at.key)
+          ∙ gives-message c.args.in_order x es c.args.at v c.requires.apart c.requires.place at c.take.new.self c.args.frame.now.piece c.requires.«open» c.args.frame.now.piece.small refl refl
+          (has_place c.args.in_order x es c.args.at v c.requires.apart c.requires.place at c.requires.missing) (c.take.ensures.taken (key_of at.key)) true done;
+      groups = λ line.
+          let x : Frame = frame_of line c.args.packet.now c.args.frame.now in
+          ap groups_in c.shift_remove_index.ensures.entries
+          ∙ joins-go c.args.in_order x es c.args.at v c.requires.apart c.requires.place at c.take.new.self c.args.frame.now.piece c.requires.«open» c.args.frame.now.piece.small refl refl
+          (has_place c.args.in_order x es c.args.at v c.requires.apart c.requires.place at c.requires.missing) (c.take.ensures.taken (key_of at.key)) done;
+    }
 
 pub returns-else-is_complete : goal.returns-else-is_complete
-returns-else-is_complete c = record {
-  message = λ line.
-      let x : Frame = frame_of line c.args.packet.now c.args.frame.now in
-      let es = c.args.groups.now.entries in
-      let v = c.in-Some.group.now in
-      let at = entry_at es c.args.at v (sym c.in-Some.ensures.value) in
-      c.requires.none
-      ∙ gives-message c.args.in_order x es c.args.at v c.requires.apart c.requires.place at c.take.new.self c.args.frame.now.piece c.requires.«open» c.args.frame.now.piece.small refl refl
-      (has_place c.args.in_order x es c.args.at v c.requires.apart c.requires.place at c.requires.missing) (c.take.ensures.taken (key_of at.key)) false (sym (c.is_complete.ensures (key_of at.key)) ∙ c.if-is_complete.false);
-  groups = λ line.
-      let x : Frame = frame_of line c.args.packet.now c.args.frame.now in
-      let es = c.args.groups.now.entries in
-      let v = c.in-Some.group.now in
-      let at = entry_at es c.args.at v (sym c.in-Some.ensures.value) in
-      joins-stay c.args.in_order x es c.args.at v c.requires.apart c.requires.place at c.take.new.self c.args.frame.now.piece c.requires.«open» c.args.frame.now.piece.small refl refl
-      (has_place c.args.in_order x es c.args.at v c.requires.apart c.requires.place at c.requires.missing) (c.take.ensures.taken (key_of at.key)) (sym (c.is_complete.ensures (key_of at.key)) ∙ c.if-is_complete.false);
-}
+returns-else-is_complete c =
+    let es = c.args.groups.now.entries in
+    let v = c.in-Some.group.now in
+    let at = entry_at es c.args.at v (sym c.in-Some.ensures.value) in
+    let left = sym (c.is_complete.ensures (key_of at.key)) ∙ c.if-is_complete.false in
+    record {
+      message = λ line.
+          let x : Frame = frame_of line c.args.packet.now c.args.frame.now in
+          c.requires.none
+          ∙ gives-message c.args.in_order x es c.args.at v c.requires.apart c.requires.place at c.take.new.self c.args.frame.now.piece c.requires.«open» c.args.frame.now.piece.small refl refl
+          (has_place c.args.in_order x es c.args.at v c.requires.apart c.requires.place at c.requires.missing) (c.take.ensures.taken (key_of at.key)) false left;
+      groups = λ line.
+          let x : Frame = frame_of line c.args.packet.now c.args.frame.now in
+          joins-stay c.args.in_order x es c.args.at v c.requires.apart c.requires.place at c.take.new.self c.args.frame.now.piece c.requires.«open» c.args.frame.now.piece.small refl refl
+          (has_place c.args.in_order x es c.args.at v c.requires.apart c.requires.place at c.requires.missing) (c.take.ensures.taken (key_of at.key)) left;
+    }

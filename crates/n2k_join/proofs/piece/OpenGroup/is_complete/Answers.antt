@@ -1,9 +1,11 @@
-use Rattle.std.proofs.Common.{◌∙◌, sym}
-use Rattle.n2k_join.proofs.SlotLemmas.{incomplete-slots, total-none, complete-slots}
+use Rattle.std.proofs.Common.{◌∙◌, sym, eqb-true}
+use Rattle.n2k_join.proofs.SlotLemmas.{is_some-slot, incomplete-slots, complete-slots}
 use Rattle.n2k_join.proofs.piece.OpenGroup.is_complete.Goals as goal
 
-pub returns-in-None : goal.returns-in-None
-returns-in-None c key = sym (incomplete-slots key c.args.self.now (total-none c.args.self.now c.in-None.ensures.value))
+pub returns-then-not-has : goal.returns-then-not-has
+returns-then-not-has c key = sym (incomplete-slots key c.args.self.now (sym c.has.ensures ∙ c.if-not-has.true))
 
-pub returns-in-Some : goal.returns-in-Some
-returns-in-Some c key = c.is_ones.ensures.value ∙ sym (complete-slots key c.args.self.now c.in-Some.total c.in-Some.ensures.small c.is_ones.ensures.range c.in-Some.ensures.value)
+pub returns : goal.returns
+returns c key =
+    let zeroth = eqb-true _ _ (sym (is_some-slot c.args.self.now 0) ∙ sym c.has.ensures ∙ c.if-not-has.false) in
+    c.is_ones.ensures.value ∙ sym (complete-slots key c.args.self.now zeroth c.is_ones.ensures.range)
