@@ -1,13 +1,11 @@
 -- A run's promise in other words: by other functions that agree, and with another answer.
-use Rattle.std.proofs.Common.{◌≡◌, ℕ, List, ◌++◌, refl, sym, ap, ◌∙◌, subst, Option, Some, None, Result, Ok, Err}
-use Rattle.std.specs.Prelude.{IfSome}
+use Rattle.std.proofs.Common.{◌≡◌, ℕ, List, ◌++◌, refl, sym, ap, ◌∙◌, subst, Option, Some, None, Result, Ok, Err, IfSome, append-nil}
 use Rattle.std.specs.Io.KnownBytes.{Consumes, IsAtEnd}
-use Rattle.std.proofs.lemmas.List.{append-nil}
 use mathlib.Core.Path.{fun_ext}
 use Rattle.n2k_wire.specs.declared.entry.Entry.{Entry}
 use Rattle.n2k_wire.specs.declared.entry.Packing.{Packing}
 use Rattle.n2k_run.specs.declared.fault.RunFault.{RunFault}
-use Rattle.n2k_run.specs.declared.fault.RunFault.TheVariants.{Read, Write, Report, Memory, TooManyLines}
+use Rattle.n2k_run.specs.declared.fault.RunFault.TheVariants.{Read, TooManyLines}
 use Rattle.n2k_run.specs.Runs.{Devices, Ends, HasDevice, IsWhole, Output, Runs}
 
 -- outputs are equal that agree on all entries

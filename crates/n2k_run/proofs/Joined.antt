@@ -1,10 +1,6 @@
 -- Parts that lie in memory, taken one after the other.
-use Rattle.std.proofs.Common.{◌≡◌, ℕ, List, [], ◌∷◌, ◌++◌, arith, length, length-append, map, Option, Some, None, Result, Ok, Err, refl, sym, ap, ◌∙◌, subst, append-nil}
-use Rattle.std.specs.Prelude.{◌⊎◌, ◌+◌, IfOk}
+use Rattle.std.proofs.Common.{◌≡◌, ℕ, List, [], ◌∷◌, ◌++◌, arith, length, length-append, map, Option, Some, None, Result, Ok, Err, refl, sym, ap, ◌∙◌, subst, append-nil, ◌⊎◌, ◌+◌, IfOk, inl, inr, ◌<◌, get_or, take, drop, suc, Bor}
 use Rattle.std.specs.List.{All, concat}
-use mathlib.Core.Logic.{inl, inr}
-use Rattle.std.specs.Prelude.{◌<◌, get_or, take, drop, suc}
-use Rattle.std.specs.Borrow.{Bor}
 use Rattle.std.proofs.lemmas.List.{get_or_at, map-append, take-append-drop}
 use Rattle.std.proofs.Math.Seq.{drop-cons}
 use Rattle.std.specs.Io.KnownBytes.{Appends}
@@ -18,7 +14,7 @@ use Rattle.n2k_join.specs.Window.{IsWindow}
 use Rattle.n2k_run.specs.declared.options.Options.{Options}
 use Rattle.n2k_run.specs.declared.part.Part.{Part}
 use Rattle.n2k_run.specs.declared.part.PartFault.{PartFault}
-use Rattle.n2k_run.specs.declared.part.PartFault.TheVariants.{State as Refused, Stopped, Run, Memory}
+use Rattle.n2k_run.specs.declared.part.PartFault.TheVariants.{State as Refused, Stopped}
 use Rattle.n2k_run.specs.Decoded.{out, out_of, output_after, reports, reports_of}
 use Rattle.n2k_run.specs.Entries.{entries}
 use Rattle.n2k_run.specs.Inner.Parts.{PartLeft, Saves}

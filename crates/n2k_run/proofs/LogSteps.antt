@@ -1,6 +1,5 @@
 -- What the steps of a join give of a log's lines is what the whole log says of them.
-use Rattle.std.proofs.Common.{◌≡◌, ℕ, suc, ◌+◌, ◌<◌, ◌≤◌, Bool, List, [], ◌∷◌, ◌++◌, length, Option, Some, refl, sym, ap, ◌∙◌, subst, append_assoc, append-nil, length-append, arith}
-use Rattle.std.specs.Prelude.{option_and_then, option_to_list, slice_get}
+use Rattle.std.proofs.Common.{◌≡◌, ℕ, suc, ◌+◌, ◌<◌, ◌≤◌, Bool, List, [], ◌∷◌, ◌++◌, length, Option, Some, refl, sym, ap, ◌∙◌, subst, append_assoc, append-nil, length-append, arith, option_and_then, option_to_list, slice_get}
 use Rattle.std.specs.List.{flat_map, range_with_len}
 use Rattle.n2k_wire.specs.declared.entry.Entry.{Entry}
 use Rattle.n2k_table.specs.declared.definition.Kind.{Kind}
@@ -14,7 +13,7 @@ use Rattle.n2k_join.specs.Messages.{message, broken, cause_in, entry_at}
 use Rattle.n2k_join.specs.State.{Given, State, state, step_after, step_given}
 use Rattle.n2k_run.specs.declared.options.Options.{Options}
 use Rattle.n2k_run.specs.Decoded.{cause_at, join_making, message_line, numbers_after, output_after, report_at, text_at}
-use Rattle.n2k_run.specs.Making.{after_all, texts_from, reports_from}
+use Rattle.n2k_run.specs.Making.{after_all, given_from, texts_from, reports_from}
 use Rattle.n2k_run.specs.Reports.{broken_text, cause_report, line_report}
 use Rattle.n2k_join.specs.Window.{Rule, IsWindow}
 use Rattle.n2k_run.specs.Inner.Engine.{MovesOn}
@@ -115,18 +114,22 @@ module _ (t : TableParts) (o : Options) (laws : LogLaws o.window) (id : List ℕ
       ap (λ (g : Given). g.cause) (laws.agree id (kind t) front e).given
       ∙ ap (option_and_then (cause_in (kind t))) (sym (entry_next front e es))
 
-  pub texts_after : (front es : List Entry) → texts_from (join_making t o.empty) (state id o.window (kind t) front) es ≡ flat_map (text_at t o (front ++ es)) (numbers_after front es)
-  texts_after front [] = refl
-  texts_after front (e ∷ es) =
-      let here = ap (message_line t o.empty) (message_next front e es) in
+  -- so is what is given of all the next entries
+  given_after : (given : State → Entry → List ℕ) (at : List Entry → ℕ → List ℕ) → ((front : List Entry) (e : Entry) (es : List Entry) → given (state id o.window (kind t) front) e ≡ at (front ++ e ∷ es) (length front + 1)) → (front es : List Entry)
+      → given_from given (join_making t o.empty) (state id o.window (kind t) front) es ≡ flat_map (at (front ++ es)) (numbers_after front es)
+  given_after given at here front [] = refl
+  given_after given at here front (e ∷ es) =
       let next : length (front ++ e ∷ []) + 1 ≡ length front + 1 + 1 = omega (arith, length-append front (e ∷ [])) in
       let rest =
-      ap (λ s. texts_from (join_making t o.empty) s es) (laws.agree id (kind t) front e).after
-      ∙ texts_after (front ++ e ∷ []) es
-      ∙ ap (λ xs. flat_map (text_at t o xs) (range_with_len (length (front ++ e ∷ []) + 1) (length es))) (append_assoc front (e ∷ []) es)
-      ∙ ap (λ n. flat_map (text_at t o (front ++ e ∷ es)) (range_with_len n (length es))) next in
-      ap (λ x. x ++ texts_from (join_making t o.empty) (step_after (kind t) (state id o.window (kind t) front) e) es) here
-      ∙ ap (λ r. text_at t o (front ++ e ∷ es) (length front + 1) ++ r) rest
+      ap (λ s. given_from given (join_making t o.empty) s es) (laws.agree id (kind t) front e).after
+      ∙ given_after given at here (front ++ e ∷ []) es
+      ∙ ap (λ xs. flat_map (at xs) (range_with_len (length (front ++ e ∷ []) + 1) (length es))) (append_assoc front (e ∷ []) es)
+      ∙ ap (λ n. flat_map (at (front ++ e ∷ es)) (range_with_len n (length es))) next in
+      ap (λ x. x ++ given_from given (join_making t o.empty) (step_after (kind t) (state id o.window (kind t) front) e) es) (here front e es)
+      ∙ ap (λ r. at (front ++ e ∷ es) (length front + 1) ++ r) rest
+
+  pub texts_after : (front es : List Entry) → texts_from (join_making t o.empty) (state id o.window (kind t) front) es ≡ flat_map (text_at t o (front ++ es)) (numbers_after front es)
+  texts_after = given_after (join_making t o.empty).text (text_at t o) (λ front e es. ap (message_line t o.empty) (message_next front e es))
 
   report_next : (front : List Entry) (e : Entry) (es : List Entry) → (join_making t o.empty).report (state id o.window (kind t) front) e ≡ report_at t o (front ++ e ∷ es) (length front + 1)
   report_next front e es =
@@ -134,16 +137,7 @@ module _ (t : TableParts) (o : Options) (laws : LogLaws o.window) (id : List ℕ
       ∙ ap (line_report (length front + 1) (broken o.window (kind t) (front ++ e ∷ es) (length front + 1))) (cause_next front e es)
 
   pub reports_after : (front es : List Entry) → reports_from (join_making t o.empty) (state id o.window (kind t) front) es ≡ flat_map (report_at t o (front ++ es)) (numbers_after front es)
-  reports_after front [] = refl
-  reports_after front (e ∷ es) =
-      let next : length (front ++ e ∷ []) + 1 ≡ length front + 1 + 1 = omega (arith, length-append front (e ∷ [])) in
-      let rest =
-      ap (λ s. reports_from (join_making t o.empty) s es) (laws.agree id (kind t) front e).after
-      ∙ reports_after (front ++ e ∷ []) es
-      ∙ ap (λ xs. flat_map (report_at t o xs) (range_with_len (length (front ++ e ∷ []) + 1) (length es))) (append_assoc front (e ∷ []) es)
-      ∙ ap (λ n. flat_map (report_at t o (front ++ e ∷ es)) (range_with_len n (length es))) next in
-      ap (λ x. x ++ reports_from (join_making t o.empty) (step_after (kind t) (state id o.window (kind t) front) e) es) (report_next front e es)
-      ∙ ap (λ r. report_at t o (front ++ e ∷ es) (length front + 1) ++ r) rest
+  reports_after = given_after (join_making t o.empty).report (report_at t o) report_next
 
 -- a run from a log's state makes what the whole log says
 pub output_after-is : (t : TableParts) (o : Options) → LogLaws o.window → (id : List ℕ) (front : List Entry) → output_from (join_making t o.empty) o.packing (state id o.window (kind t) front) ≡ output_after t o front

@@ -1,6 +1,5 @@
 -- Texts that are one line each are the lines of what they make together.
-use Rattle.std.proofs.Common.{◌≡◌, ℕ, ◌-◌, ◌≤◌, false, List, [], ◌∷◌, ◌++◌, map, length, refl, ap, ◌∙◌, sym, arith, append_assoc}
-use Rattle.std.specs.Prelude.{flat_map, slice_index, if◌then◌else◌, All, take}
+use Rattle.std.proofs.Common.{◌≡◌, ℕ, ◌-◌, ◌≤◌, false, List, [], ◌∷◌, ◌++◌, map, length, refl, ap, ◌∙◌, sym, arith, append_assoc, flat_map, slice_index, if◌then◌else◌, All, take}
 use Rattle.std.proofs.lemmas.Bool.{ne_eqb}
 use Rattle.std.proofs.lemmas.List.Elements.{All-get_or, All-weaker}
 use Rattle.n2k_table.specs.OneLine.{IsOneLine}

@@ -1,7 +1,6 @@
 -- A part of a log: what its run promises is what its answer says.
-use Rattle.std.proofs.Common.{◌≡◌, ℕ, List, [], ◌∷◌, ◌++◌, arith, Option, Some, None, Result, Ok, Err, refl, sym, ap, ◌∙◌, subst, append-nil}
+use Rattle.std.proofs.Common.{◌≡◌, ℕ, List, [], ◌∷◌, ◌++◌, arith, Option, Some, None, Result, Ok, Err, refl, sym, ap, ◌∙◌, subst, append-nil, inl, inr}
 use Rattle.std.specs.Prelude.{◌⊎◌, IfSome, IsOk}
-use mathlib.Core.Logic.{inl, inr}
 use Rattle.std.specs.Io.KnownBytes.{Appends}
 use Rattle.std.proofs.KnownBytes.{Appends-nil}
 use Rattle.n2k_wire.specs.declared.entry.Entry.{Entry}
@@ -17,13 +16,13 @@ use Rattle.n2k_run.specs.declared.fault.RunFault.{RunFault}
 use Rattle.n2k_run.specs.declared.fault.RunFault.TheVariants as run_faults
 use Rattle.n2k_run.specs.declared.part.Part.{Part}
 use Rattle.n2k_run.specs.declared.part.PartFault.{PartFault}
-use Rattle.n2k_run.specs.declared.part.PartFault.TheVariants.{State as Refused, Stopped, Run, Memory}
+use Rattle.n2k_run.specs.declared.part.PartFault.TheVariants.{State as Refused, Stopped, Run}
 use Rattle.n2k_run.specs.declared.options.Options.{Options}
 use Rattle.n2k_run.specs.Decoded.{join_making, output_after}
 use Rattle.n2k_run.specs.Entries.{entries}
 use Rattle.n2k_run.specs.Inner.Parts.{Finishes, HasSaved, Saves}
 use Rattle.n2k_run.specs.Making.{after_all}
-use Rattle.n2k_run.specs.Parts.{BeginsBy, HasPart, IsPartOf, OnRefusal, Ran, StandsAtLine, TellsRun, begun}
+use Rattle.n2k_run.specs.Parts.{BeginsBy, HasPart, IsPartOf, Ran, StandsAtLine, TellsRun, begun}
 use Rattle.n2k_run.specs.Runs.{Devices, HasFronts, Output, Runs, output_from}
 use Rattle.n2k_run.proofs.Calls.{none_read, within_one}
 use Rattle.n2k_run.proofs.Ending.{of_log, runs_more, runs_same}

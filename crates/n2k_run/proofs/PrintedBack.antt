@@ -1,6 +1,5 @@
 -- A log over which messages are scattered prints these messages.
-use Rattle.std.proofs.Common.{◌≡◌, ℕ, Bool, List, [], ◌∷◌, ◌++◌, map, length, refl, ap, ◌∙◌, sym, suc, Option, Some, None}
-use Rattle.std.specs.Prelude.{flat_map, filter_map}
+use Rattle.std.proofs.Common.{◌≡◌, ℕ, Bool, List, [], ◌∷◌, ◌++◌, length, refl, ap, ◌∙◌, sym, Option, Some, None, flat_map, filter_map}
 use Rattle.std.specs.List.{cons_option}
 use Rattle.std.proofs.lemmas.List.{length-map}
 use Rattle.n2k_wire.specs.declared.entry.Entry.{Entry}

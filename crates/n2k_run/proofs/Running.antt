@@ -1,9 +1,7 @@
 -- The engine of the runs: what stands after each step, and what each end leaves.
-use Rattle.std.proofs.Common.{◌≡◌, inl, inr, ℕ, true, false, List, [], ◌∷◌, ◌++◌, length, refl, sym, ap, ◌∙◌, subst, append_assoc, arith, length-append, Option, Some, None, Result, Ok, Err}
-use Rattle.std.specs.Prelude.{IfSome, if◌then◌else◌}
+use Rattle.std.proofs.Common.{◌≡◌, inl, inr, ℕ, true, false, List, [], ◌∷◌, ◌++◌, length, refl, sym, ap, ◌∙◌, subst, append_assoc, arith, length-append, Option, Some, None, Result, Ok, Err, IfSome, if◌then◌else◌, append-nil}
 use Rattle.std.specs.Io.KnownBytes.{Appends, Consumes}
 use Rattle.std.proofs.KnownBytes.{Appends-nil, Appends-trans, Consumes-nil, Consumes-trans}
-use Rattle.std.proofs.lemmas.List.{append-nil}
 use Rattle.n2k_wire.specs.declared.entry.Entry.{Entry}
 use Rattle.n2k_wire.specs.declared.entry.Packing.{Packing}
 use Rattle.n2k_run.specs.declared.fault.RunFault.{RunFault}
@@ -12,14 +10,14 @@ use Rattle.n2k_run.specs.Blocks.{Held, CallsAre, unanswered}
 use Rattle.n2k_run.specs.Device.{HasFailed}
 use Rattle.n2k_run.specs.Entries.{entries}
 use Rattle.n2k_run.specs.Lines.{whole_lines}
-use Rattle.n2k_run.specs.Making.{Making, after_all, texts_from, reports_from}
+use Rattle.n2k_run.specs.Making.{Making, after_all, given_from, texts_from, reports_from}
 use Rattle.n2k_run.specs.Reading.{ReadsBytes}
 use Rattle.n2k_run.specs.Runs.{AreNumbered, Devices, Ends, Gained, HasDevice, HasFronts, IsCut, IsFull, NoneFailed, Output, ReportsFirst, Runs, output_from}
 use Rattle.n2k_run.specs.Writing.{AppendsFront}
 use Rattle.n2k_run.specs.Inner.Engine.{FailsKept, Made, MovesOn, ReadsNext, Stands, StandsStill, TakesNext, WritesKept}
 use Rattle.n2k_run.proofs.Calls.{ended_within_one, none_read as no_calls, reads_on}
 use Rattle.n2k_run.proofs.Finding.{calls_end}
-use Rattle.n2k_run.proofs.Folds.{after-append, texts-append, reports-append}
+use Rattle.n2k_run.proofs.Folds.{after-append, given-append}
 use Rattle.n2k_run.proofs.Fronts.{Leads, leads, takes_more, whole_front}
 
 -- nothing of a text, or all of it
@@ -59,23 +57,21 @@ module _ {S : Type 0} (m : Making S) (packing : Packing) (s₀ : S) (before : De
   o = output_from m packing s₀
 
   -- what is made of a front, and what is made of the log
-  texts_lead : (es more : List Entry) (log : List ℕ) → entries packing log ≡ es ++ more → texts_from m s₀ (entries packing log) ≡ texts_from m s₀ es ++ texts_from m (after_all m s₀ es) more
-  texts_lead es more log is = ap (texts_from m s₀) is ∙ texts-append m s₀ es more
+  led : (given : S → Entry → List ℕ) (es more : List Entry) (log : List ℕ) → entries packing log ≡ es ++ more → given_from given m s₀ (entries packing log) ≡ given_from given m s₀ es ++ given_from given m (after_all m s₀ es) more
+  led given es more log is = ap (given_from given m s₀) is ∙ given-append m given s₀ es more
 
-  reports_lead : (es more : List Entry) (log : List ℕ) → entries packing log ≡ es ++ more → reports_from m s₀ (entries packing log) ≡ reports_from m s₀ es ++ reports_from m (after_all m s₀ es) more
-  reports_lead es more log is = ap (reports_from m s₀) is ∙ reports-append m s₀ es more
+  -- what is written of it and what is kept
+  parts : (given : S → Entry → List ℕ) (es written kept : List Entry) (last : List ℕ) → es ≡ written ++ kept → last ≡ given_from given m (after_all m s₀ written) kept → given_from given m s₀ es ≡ given_from given m s₀ written ++ last
+  parts given es written kept last are is = ap (given_from given m s₀) are ∙ given-append m given s₀ written kept ∙ ap (λ t. given_from given m s₀ written ++ t) (sym is)
+
+  -- which is written then
+  all_out : (given : S → Entry → List ℕ) (es written kept : List Entry) (last : List ℕ) (w₀ w w' : Option (List ℕ)) → es ≡ written ++ kept → last ≡ given_from given m (after_all m s₀ written) kept
+      → Appends w₀ w (given_from given m s₀ written) → Appends w w' last → Appends w₀ w' (given_from given m s₀ es)
+  all_out given es written kept last w₀ w w' are is first next = subst (λ t. Appends w₀ w' t) (sym (parts given es written kept last are is)) (Appends-trans w₀ w w' _ last first next)
 
   -- what was made of entries, and what of it is written and kept
   abbrev MadeOf : S → List Entry → List ℕ → List ℕ → Devices → Type 0
   MadeOf s es text report now = Made m s₀ s es text report before.written now.written before.reported now.reported
-
-  texts_parts : (s : S) (es : List Entry) (text report : List ℕ) (now : Devices) (made : MadeOf s es text report now) → texts_from m s₀ es ≡ texts_from m s₀ made.written ++ text
-  texts_parts s es text report now made =
-      ap (texts_from m s₀) made.entries_are ∙ texts-append m s₀ made.written made.kept ∙ ap (λ t. texts_from m s₀ made.written ++ t) (sym made.text_is)
-
-  reports_parts : (s : S) (es : List Entry) (text report : List ℕ) (now : Devices) (made : MadeOf s es text report now) → reports_from m s₀ es ≡ reports_from m s₀ made.written ++ report
-  reports_parts s es text report now made =
-      ap (reports_from m s₀) made.entries_are ∙ reports-append m s₀ made.written made.kept ∙ ap (λ t. reports_from m s₀ made.written ++ t) (sym made.report_is)
 
   -- nothing is made yet
   pub begins : (held : Held) (text report : List ℕ) → held ≡ record { kept = []; is_passing = false; has_ended = false; reads = 0; line = []; room = 4096 } → text ≡ [] → report ≡ [] → Stands m packing s₀ s₀ held text report before before
@@ -104,22 +100,14 @@ module _ {S : Type 0} (m : Making S) (packing : Packing) (s₀ : S) (before : De
       }
 
   -- all that is kept was written
-  all_printed : (s : S) (es : List Entry) (text report : List ℕ) (now : Devices) (w : Option (List ℕ)) → MadeOf s es text report now → Appends now.written w text → Appends before.written w (texts_from m s₀ es)
-  all_printed s es text report now w made texts =
-      subst (λ t. Appends before.written w t) (sym (texts_parts s es text report now made)) (Appends-trans before.written now.written w _ text made.printed texts)
-
-  all_reported : (s : S) (es : List Entry) (text report : List ℕ) (now : Devices) (e : Option (List ℕ)) → MadeOf s es text report now → Appends now.reported e report → Appends before.reported e (reports_from m s₀ es)
-  all_reported s es text report now e made reports =
-      subst (λ t. Appends before.reported e t) (sym (reports_parts s es text report now made)) (Appends-trans before.reported now.reported e _ report made.reported reports)
-
   made_written : (s : S) (es : List Entry) (text report : List ℕ) (now after : Devices) → MadeOf s es text report now → Appends now.written after.written text → Appends now.reported after.reported report → MadeOf s es [] [] after
   made_written s es text report now after made texts reports = record {
     written = es;
     kept = [];
     entries_are = sym (append-nil es);
     state = made.state;
-    printed = all_printed s es text report now after.written made texts;
-    reported = all_reported s es text report now after.reported made reports;
+    printed = all_out m.text es made.written made.kept text _ _ _ made.entries_are made.text_is made.printed texts;
+    reported = all_out m.report es made.written made.kept report _ _ _ made.entries_are made.report_is made.reported reports;
     text_is = refl;
     report_is = refl;
     counted = made.counted;
@@ -155,8 +143,8 @@ module _ {S : Type 0} (m : Making S) (packing : Packing) (s₀ : S) (before : De
         state = moves.state_after ∙ ap (λ s. m.after s x) made.state ∙ sym (after-append m s₀ es (x ∷ []));
         printed = made.printed;
         reported = made.reported;
-        text_is = moves.text_after ∙ ap (λ t. t ++ m.text s x) made.text_is ∙ ap (λ s. texts_from m mid made.kept ++ m.text s x) (sym here) ∙ ap (λ t. texts_from m mid made.kept ++ t) (sym (append-nil (m.text (after_all m mid made.kept) x))) ∙ sym (texts-append m mid made.kept (x ∷ []));
-        report_is = moves.report_after ∙ ap (λ t. t ++ m.report s x) made.report_is ∙ ap (λ s. reports_from m mid made.kept ++ m.report s x) (sym here) ∙ ap (λ t. reports_from m mid made.kept ++ t) (sym (append-nil (m.report (after_all m mid made.kept) x))) ∙ sym (reports-append m mid made.kept (x ∷ []));
+        text_is = moves.text_after ∙ ap (λ t. t ++ m.text s x) made.text_is ∙ ap (λ s. texts_from m mid made.kept ++ m.text s x) (sym here) ∙ ap (λ t. texts_from m mid made.kept ++ t) (sym (append-nil (m.text (after_all m mid made.kept) x))) ∙ sym (given-append m m.text mid made.kept (x ∷ []));
+        report_is = moves.report_after ∙ ap (λ t. t ++ m.report s x) made.report_is ∙ ap (λ s. reports_from m mid made.kept ++ m.report s x) (sym here) ∙ ap (λ t. reports_from m mid made.kept ++ t) (sym (append-nil (m.report (after_all m mid made.kept) x))) ∙ sym (given-append m m.report mid made.kept (x ∷ []));
         counted = omega (arith, moves.counted, made.counted, length-append es (x ∷ []));
         numbered = λ some. omega (arith, moves.few, made.counted, length-append es (x ∷ []));
       }
@@ -227,8 +215,8 @@ module _ {S : Type 0} (m : Making S) (packing : Packing) (s₀ : S) (before : De
 
   fronts_of : (es : List Entry) (after : Devices) → HasOut es after → Leads packing before.left es → IfSome before.left (λ log. HasFronts o before after log)
   fronts_of es after out lead = known_more before.left _ _ (λ log l. record {
-    printed = longer_front _ _ _ _ _ out.printed (texts_lead out.taken (out.rest ++ l.0) log (all_entries es after out log l));
-    reported = longer_front _ _ _ _ _ out.reported (reports_lead es l.0 log l.1);
+    printed = longer_front _ _ _ _ _ out.printed (led m.text out.taken (out.rest ++ l.0) log (all_entries es after out log l));
+    reported = longer_front _ _ _ _ _ out.reported (led m.report es l.0 log l.1);
   }) lead
 
   first_of : (es : List Entry) (after : Devices) → HasOut es after → Leads packing before.left es → IfSome before.left (λ log. ReportsFirst o before after log)
@@ -242,7 +230,10 @@ module _ {S : Type 0} (m : Making S) (packing : Packing) (s₀ : S) (before : De
 
   -- all of them are written
   gained : (s : S) (es : List Entry) (now : Devices) → MadeOf s es [] [] now → Gained o before now es
-  gained s es now made = record { printed = all_printed s es [] [] now now.written made (Appends-nil now.written); reported = all_reported s es [] [] now now.reported made (Appends-nil now.reported) }
+  gained s es now made = record {
+    printed = all_out m.text es made.written made.kept [] _ _ _ made.entries_are made.text_is made.printed (Appends-nil now.written);
+    reported = all_out m.report es made.written made.kept [] _ _ _ made.entries_are made.report_is made.reported (Appends-nil now.reported);
+  }
 
   -- all reports were written, and of the texts a front
   written_out : (es : List Entry) (after : Devices) → AppendsFront before.written after.written (texts_from m s₀ es) → Appends before.reported after.reported (reports_from m s₀ es) → HasOut es after
@@ -263,7 +254,7 @@ module _ {S : Type 0} (m : Making S) (packing : Packing) (s₀ : S) (before : De
     entries_are = made.entries_are;
     printed = all_gained before.written after.written _ (subst (λ w. Appends before.written w (texts_from m s₀ made.written)) (sym out.0) made.printed);
     reports_first = (out.1.1.front, Appends-trans before.reported now.reported after.reported _ out.1.1.front made.reported out.1.1.appended);
-    reported = more_front before.reported now.reported after.reported _ report _ made.reported out.1 (reports_parts s es text report now made);
+    reported = more_front before.reported now.reported after.reported _ report _ made.reported out.1 (parts m.report es made.written made.kept report made.entries_are made.report_is);
   }
 
   -- how a run ends by a fault, of which so much is out
@@ -277,8 +268,8 @@ module _ {S : Type 0} (m : Making S) (packing : Packing) (s₀ : S) (before : De
       → ReadsBytes 1 before.left after.left before.calls after.calls
       → Runs {T = Unit {0}} o stands before after (Err fault)
   sink_end stands s es text report now after Write made lead reads writes reports out fails calls =
-      let texts = more_front before.written now.written after.written _ text _ made.printed out.0 (texts_parts s es text report now made) in
-      ended stands es after Write tt (written_out es after texts (all_reported s es text report now after.reported made out.1)) lead
+      let texts = more_front before.written now.written after.written _ text _ made.printed out.0 (parts m.text es made.written made.kept text made.entries_are made.text_is) in
+      ended stands es after Write tt (written_out es after texts (all_out m.report es made.written made.kept report _ _ _ made.entries_are made.report_is made.reported out.1)) lead
       (record { reads = reads; writes = subst (λ n. HasFailed n after.failed_writes) writes fails.0; reports = fails.1 ∙ reports }) calls
   sink_end stands s es text report now after Report made lead reads writes reports out fails calls =
       ended stands es after Report tt (report_out s es text report now after made (out.0, out.1)) lead

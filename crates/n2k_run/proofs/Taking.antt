@@ -1,6 +1,5 @@
 -- The entry of the next line, as the maker takes it.
-use Rattle.std.proofs.Common.{◌≡◌, inl, ℕ, ◌<◌, true, List, length, refl, Option, Result, Ok, Err, Bor}
-use Rattle.std.specs.Prelude.{nat_lt}
+use Rattle.std.proofs.Common.{◌≡◌, inl, ℕ, ◌<◌, true, List, length, refl, Option, Result, Ok, Err, Bor, nat_lt}
 use Rattle.std.proofs.lemmas.Bool.{lt-ltb}
 use Rattle.n2k_wire.specs.declared.entry.BadCause.TheVariants as causes
 use Rattle.n2k_wire.specs.declared.entry.Entry.{Entry}
@@ -9,7 +8,7 @@ use Rattle.n2k_wire.specs.declared.entry.Packing.{Packing}
 use Rattle.n2k_wire.specs.Entry.{entry, longest_line}
 use Rattle.n2k_run.specs.declared.blocks.Next.TheVariants.{Line, Long}
 use Rattle.n2k_run.specs.declared.fault.RunFault.{RunFault}
-use Rattle.n2k_run.specs.declared.fault.RunFault.TheVariants.{Read, Write, Report, Memory, TooManyLines}
+use Rattle.n2k_run.specs.declared.fault.RunFault.TheVariants.{Memory, TooManyLines}
 use Rattle.n2k_run.specs.Blocks.{Held, Answers}
 use Rattle.n2k_run.specs.Making.{Making}
 use Rattle.n2k_run.specs.Inner.Engine.{NextEntry, Takes, TakesNext}

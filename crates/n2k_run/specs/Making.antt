@@ -18,12 +18,14 @@ abbrev pub after_all : {S : Type 0} → Making S → S → List Entry → S
 after_all m s [] = s
 after_all m s (e ∷ es) = after_all m (m.after s e) es
 
--- what is written of them, from a state on
-abbrev pub texts_from : {S : Type 0} → Making S → S → List Entry → List ℕ
-texts_from m s [] = []
-texts_from m s (e ∷ es) = m.text s e ++ texts_from m (m.after s e) es
+-- what is given of each of them, in a row, from a state on
+abbrev pub given_from : {S : Type 0} → (S → Entry → List ℕ) → Making S → S → List Entry → List ℕ
+given_from given m s [] = []
+given_from given m s (e ∷ es) = given s e ++ given_from given m (m.after s e) es
 
--- what is reported of them, from a state on
+-- what is written of them, and what is reported
+abbrev pub texts_from : {S : Type 0} → Making S → S → List Entry → List ℕ
+texts_from m s es = given_from m.text m s es
+
 abbrev pub reports_from : {S : Type 0} → Making S → S → List Entry → List ℕ
-reports_from m s [] = []
-reports_from m s (e ∷ es) = m.report s e ++ reports_from m (m.after s e) es
+reports_from m s es = given_from m.report m s es

@@ -1,5 +1,4 @@
-use Rattle.std.proofs.Common.{Err, ℕ, List, [], map, take, drop, suc, get_or, Bor, sym, subst, arith}
-use mathlib.Core.Logic.{inr}
+use Rattle.std.proofs.Common.{Err, ℕ, List, [], map, take, drop, suc, get_or, Bor, sym, subst, arith, inr}
 use Rattle.std.proofs.lemmas.List.{map_more, take_all}
 use Rattle.n2k_run.specs.Decoded.{out_of}
 use Rattle.n2k_run.specs.Parts.{TakesAll, entries_of}
@@ -25,10 +24,7 @@ returns-in-Err-clause-log g c =
     })
 
 pub returns-in-Err-clause-never_read : goal.returns-in-Err-clause-never_read
-returns-in-Err-clause-never_read g c = λ few.
-    let before = sinks_seen g.W.Sink g.E.Sink c.args.writer.now c.args.reporter.now in
-    let after = sinks_seen g.W.Sink g.E.Sink c.next_part.new.writer c.next_part.new.reporter in
-    not_read c.args.table.now c.args.options (map (λ part. part.now) c.args.parts.now) before after (Err c.in-Err.fault) few (returns-in-Err-clause-log g c)
+returns-in-Err-clause-never_read g c = λ few. not_read _ _ _ _ _ (Err c.in-Err.fault) few (returns-in-Err-clause-log g c)
 
 pub loop-part-preserved : goal.loop-part-preserved
 loop-part-preserved g c =
@@ -37,12 +33,10 @@ loop-part-preserved g c =
     let parts = c.args.parts.now in
     let i = c.loop-part.part-index in
     let before = sinks_seen g.W.Sink g.E.Sink c.args.writer.now c.args.reporter.now in
-    let between = sinks_seen g.W.Sink g.E.Sink c.loop-part.writer c.loop-part.reporter in
     let after = sinks_seen g.W.Sink g.E.Sink c.next_part.new.writer c.next_part.new.reporter in
     let laws = log_laws c.args.options.window c.know_window.ensures c.steps_agree.ensures c.lines_stay.ensures in
     let run = c.in-Ok.ensures.log (entries_of c.args.options (map now (take i parts))) c.loop-part.invariant.leads_to in
-    subst (λ ps. TakesAll c.args.table.now c.args.options ps before after c.in-Ok.next) (sym (map_more now parts i none c.loop-part-test.true))
-    (next_taken c.args.table.now c.args.options laws (map now (take i parts)) (get_or parts i none).now before between after c.loop-part.last c.in-Ok.next c.loop-part.invariant run)
+    subst (λ ps. TakesAll c.args.table.now c.args.options ps before after c.in-Ok.next) (sym (map_more now parts i none c.loop-part-test.true)) (next_taken _ _ laws (map now (take i parts)) _ _ _ _ _ _ c.loop-part.invariant run)
 
 pub returns-clause-log : goal.returns-clause-log
 returns-clause-log g c =
@@ -53,11 +47,7 @@ returns-clause-log g c =
     subst (λ ps. TakesAll c.args.table.now c.args.options (map now ps) before after c.loop-part.last) (take_all c.loop-part.part-index parts (omega (arith, c.loop-part-test.false))) c.loop-part.invariant
 
 pub returns-clause-headline : goal.returns-clause-headline
-returns-clause-headline g c = λ cut.
-    let now : Bor (List ℕ) → List ℕ = λ part. part.now in
-    let before = sinks_seen g.W.Sink g.E.Sink c.args.writer.now c.args.reporter.now in
-    let after = sinks_seen g.W.Sink g.E.Sink c.loop-part.writer c.loop-part.reporter in
-    prints_log c.args.table.now c.args.options (map now c.args.parts.now) before after c.loop-part.last cut (returns-clause-log g c)
+returns-clause-headline g c = λ cut. prints_log _ _ _ _ _ _ cut (returns-clause-log g c)
 
 pub returns-clause-in_order : goal.returns-clause-in_order
 returns-clause-in_order g c = λ order.
