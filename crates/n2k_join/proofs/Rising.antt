@@ -1,10 +1,11 @@
 -- Lists whose numbers rise strictly: looked up by number and read off a range of numbers.
-use Rattle.std.proofs.Common.{◌≡◌, ◌==◌, ◌≤◌, ◌<◌, ◌+◌, ℕ, suc, zero, Bool, true, false, cond, List, [], ◌∷◌, ◌++◌, refl, sym, ap, ◌∙◌, subst, arith, Option, Some, None, filter_map, find, option_and_then, option_to_list, flat_map, option_map}
-use Rattle.std.specs.List.{range_with_len, cons_option, AllByRecursion, list_any}
+use Rattle.std.proofs.Common.{◌≡◌, ◌==◌, ◌≤◌, ◌<◌, ◌+◌, ℕ, suc, zero, Bool, true, false, cond, List, [], ◌∷◌, ◌++◌, refl, sym, ap, ◌∙◌, subst, arith, Option, Some, None, filter_map, find, option_and_then, option_to_list, flat_map, option_map, length, filter}
+use Rattle.std.specs.List.{range_with_len, cons_option, AllByRecursion, list_any, last_or}
 use Rattle.std.proofs.lemmas.List.Elements.{filter_map-append}
 use Rattle.std.proofs.lemmas.Bool.{eqb-true, eqb-false, eq-eqb, ne_eqb, or_parts}
 use Rattle.std.proofs.lemmas.Option.{none-some, same_Some}
 use Rattle.n2k_join.specs.State.{Rise}
+use Rattle.std.specs.Prelude.{IfSome}
 
 pub range-append : (a n k : ℕ) → range_with_len a (n + k) ≡ range_with_len a n ++ range_with_len (a + n) k
 range-append a zero k =
@@ -97,9 +98,29 @@ pub all-append : {X : Type 0} (P : X → Type 0) (xs ys : List X) → AllByRecur
 all-append P [] ys a b = b
 all-append P (x ∷ xs) ys a b = (a.0, all-append P xs ys a.1 b)
 
+pub all-front : {X : Type 0} (P : X → Type 0) (xs ys : List X) → AllByRecursion P (xs ++ ys) → AllByRecursion P xs
+all-front P [] ys each = tt
+all-front P (x ∷ xs) ys each = (each.0, all-front P xs ys each.1)
+
+pub all-back : {X : Type 0} (P : X → Type 0) (xs ys : List X) → AllByRecursion P (xs ++ ys) → AllByRecursion P ys
+all-back P [] ys each = each
+all-back P (x ∷ xs) ys each = all-back P xs ys each.1
+
 pub all-flat_map : {X Y : Type 0} (P : Y → Type 0) (f : X → List Y) (xs : List X) → AllByRecursion (λ x. AllByRecursion P (f x)) xs → AllByRecursion P (flat_map f xs)
 all-flat_map P f [] all = tt
 all-flat_map P f (x ∷ xs) all = all-append P (f x) (flat_map f xs) all.0 (all-flat_map P f xs all.1)
+
+-- what holds of all items, holds of those of each list
+pub all-joined : {X : Type 0} (P : X → Type 0) (gs : List (List X)) → AllByRecursion P (flat_map (λ (g : List X). g) gs) → AllByRecursion (AllByRecursion P) gs
+all-joined P [] each = tt
+all-joined {X} P (g ∷ gs) each =
+    let rest = flat_map (λ (g : List X). g) gs in
+    (all-front P g rest each, all-joined P gs (all-back P g rest each))
+
+-- what holds of each, holds of the last
+pub last-all : {X : Type 0} (P : X → Type 0) (o : Option X) (xs : List X) → IfSome o P → AllByRecursion P xs → IfSome (last_or o xs) P
+last-all P o [] h all = h
+last-all P o (x ∷ xs) h all = last-all P (Some x) xs all.0 all.1
 
 module _ {A : Type 0} (number : A → ℕ) where
   -- the item of a number
@@ -114,6 +135,28 @@ module _ {A : Type 0} (number : A → ℕ) where
   pub rise-least : (least : ℕ) (xs : List A) → Rise number least xs → AllByRecursion (λ x. least ≤ number x) xs
   rise-least least [] r = tt
   rise-least least (x ∷ xs) r = (r.0, all-map (λ y. number x + 1 ≤ number y) (λ y. least ≤ number y) xs (λ y l. omega (arith, l, r.0)) (rise-least (number x + 1) xs r.1))
+
+  -- items without those before them, and some of the items
+  pub rise-rest : (least : ℕ) (xs ys : List A) → Rise number least (xs ++ ys) → Rise number least ys
+  rise-rest least [] ys r = r
+  rise-rest least (x ∷ xs) ys r = rise-less least (number x + 1) ys (omega (arith, r.0)) (rise-rest (number x + 1) xs ys r.1)
+
+  pub rise-filter : (t : A → Bool) (least : ℕ) (xs : List A) → Rise number least xs → Rise number least (filter t xs)
+  rise-filter t least [] r = tt
+  rise-filter t least (x ∷ xs) r =
+      let at : least ≤ number x + 1 = omega (arith, r.0) in
+      let rest = rise-filter t (number x + 1) xs r.1 in
+      elim (t x) as (λ b. Rise number least (cond b (x ∷ filter t xs) (filter t xs)))
+      [ true ↦ (r.0, rest) | false ↦ rise-less least (number x + 1) (filter t xs) at rest ]
+
+  -- no more items than there are numbers for them
+  pub rise-few : (least n : ℕ) (xs : List A) → Rise number least xs → AllByRecursion (λ x. number x < least + n) xs → length xs ≤ n
+  rise-few least n [] r all = omega arith
+  rise-few least zero (x ∷ xs) r all = absurd (omega (arith, r.0, all.0))
+  rise-few least (suc n) (x ∷ xs) r all =
+      let below = all-map (λ y. number y < least + suc n) (λ y. number y < (least + 1) + n) xs (λ y l. omega (arith, l)) all.1 in
+      let rest = rise-few (least + 1) n xs (rise-less (least + 1) (number x + 1) xs (omega (arith, r.0)) r.1) below in
+      omega (arith, rest)
 
   -- below the least number there is none
   pub look-below : (least n : ℕ) (xs : List A) → Rise number least xs → n < least → look xs n ≡ None
