@@ -18,10 +18,10 @@ use Rattle.n2k_join.proofs.Keys.{of_key-keeps}
 use Rattle.n2k_join.proofs.PieceFrames.{piece_says}
 use Rattle.n2k_join.proofs.WholePieces.{data_pieces}
 use Rattle.n2k_join.proofs.Stretches.{IsStretch, cut_stretches, GoesOn, goes_on-within, stretch_pieces}
-use Rattle.n2k_join.proofs.Lines.{RiseFrom, all_with, frames-rise, line_of}
+use Rattle.n2k_join.proofs.Lines.{RiseFrom, frames-rise, line_of}
 use Rattle.n2k_join.proofs.GroupLines.{IsGroup, IsDone, LastFrame, last_frame, done_found}
 use Rattle.n2k_join.specs.Window.{Rule}
-use Rattle.n2k_join.proofs.Rising.{filter_map-none, all-map, all-zip, all-joined, rise-filter, look-all}
+use Rattle.n2k_join.proofs.Rising.{filter_map-none, all-map, all-zip, all-joined, rise-filter, look-all, all_with}
 
 -- what R gives of the second list
 pub zip-all : {X Y : Type 0} (R : X → Y → Type 0) (Q : Y → Type 0) → ((x : X) (y : Y) → R x y → Q y) → (xs : List X) (ys : List Y) → AllZip R xs ys → AllByRecursion Q ys

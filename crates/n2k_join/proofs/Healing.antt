@@ -20,25 +20,26 @@ use Rattle.n2k_join.proofs.Keys.{of_key-append, of_key-keeps}
 use Rattle.n2k_join.proofs.Logs.{frames_from-append, frames-log}
 use Rattle.n2k_join.proofs.Given.{IsUpTo, first-le, up_to}
 use Rattle.n2k_join.proofs.Stretches.{IsStretch, cut_stretch, goes_on-within, stretch_pieces}
-use Rattle.n2k_join.proofs.Lines.{RiseFrom, all_with, frames-rise, line_of}
+use Rattle.n2k_join.proofs.Lines.{RiseFrom, frames-rise, line_of}
 use Rattle.n2k_join.proofs.GroupLines.{IsGroup, IsDone, first_above, done_found}
 use Rattle.n2k_join.proofs.Arriving.{StandsAt, stand, key-rise, brings}
 use Rattle.n2k_join.specs.Window.{Rule}
 use Rattle.n2k_join.proofs.Carried.{has_number-cons}
-use Rattle.n2k_join.proofs.Rising.{last-all, all-front, all-back, all-joined, rise-least, rise-rest}
+use Rattle.n2k_join.proofs.Rising.{last-all, all-front, all-back, all-joined, rise-least, rise-rest, all_with}
 use Rattle.n2k_join.specs.State.{Rise}
 
 -- where the group so far ends before a frame, the frames before it and those from it on are cut by themselves
-cut_splits_from : (ends : Ends) (o : Option (List Frame)) (g fs : List Frame) (x : Frame) (rest : List Frame) → ((h : List Frame) → last_or o (cut_from ends g fs) ≡ Some h → closes ends h x ≡ true) → cut_from ends g (fs ++ (x ∷ rest)) ≡ cut_from ends g fs ++ cut_from ends (x ∷ []) rest
+cut_splits_from : (ends : Ends) (o : Option (List Frame)) (g fs : List Frame) (x : Frame) (rest : List Frame)
+    → ((h : List Frame) → last_or o (cut_from ends g fs) ≡ Some h → closes ends h x ≡ true)
+    → cut_from ends g (fs ++ (x ∷ rest)) ≡ cut_from ends g fs ++ cut_from ends (x ∷ []) rest
 cut_splits_from ends o g [] x rest last = rw (last g refl) refl
-cut_splits_from ends o g (f ∷ fs) x rest last = by_test (closes ends g f) last (cut_splits_from ends (Some g) (f ∷ []) fs x rest) (cut_splits_from ends o (g ++ f ∷ []) fs x rest)
-  where
-    by_test : (b : Bool) → ((h : List Frame) → last_or o (if b then g ∷ cut_from ends (f ∷ []) fs else cut_from ends (g ++ f ∷ []) fs) ≡ Some h → closes ends h x ≡ true)
-        → (((h : List Frame) → last_or (Some g) (cut_from ends (f ∷ []) fs) ≡ Some h → closes ends h x ≡ true) → cut_from ends (f ∷ []) (fs ++ (x ∷ rest)) ≡ cut_from ends (f ∷ []) fs ++ cut_from ends (x ∷ []) rest)
-        → (((h : List Frame) → last_or o (cut_from ends (g ++ f ∷ []) fs) ≡ Some h → closes ends h x ≡ true) → cut_from ends (g ++ f ∷ []) (fs ++ (x ∷ rest)) ≡ cut_from ends (g ++ f ∷ []) fs ++ cut_from ends (x ∷ []) rest)
-        → (if b then g ∷ cut_from ends (f ∷ []) (fs ++ (x ∷ rest)) else cut_from ends (g ++ f ∷ []) (fs ++ (x ∷ rest))) ≡ (if b then g ∷ cut_from ends (f ∷ []) fs else cut_from ends (g ++ f ∷ []) fs) ++ cut_from ends (x ∷ []) rest
-    by_test true last closed grown = ap (λ l. g ∷ l) (closed last)
-    by_test false last closed grown = grown last
+cut_splits_from ends o g (f ∷ fs) x rest last =
+    (elim (closes ends g f) as (λ b. ((h : List Frame) → last_or o (cond b (g ∷ cut_from ends (f ∷ []) fs) (cut_from ends (g ++ f ∷ []) fs)) ≡ Some h → closes ends h x ≡ true)
+    → cond b (g ∷ cut_from ends (f ∷ []) (fs ++ (x ∷ rest))) (cut_from ends (g ++ f ∷ []) (fs ++ (x ∷ rest)))
+    ≡ cond b (g ∷ cut_from ends (f ∷ []) fs) (cut_from ends (g ++ f ∷ []) fs) ++ cut_from ends (x ∷ []) rest) [
+      | true ↦ λ last. ap (λ l. g ∷ l) (cut_splits_from ends (Some g) (f ∷ []) fs x rest last)
+      | false ↦ λ last. cut_splits_from ends o (g ++ f ∷ []) fs x rest last
+    ]) last
 
 pub cut_splits : (ends : Ends) (fs : List Frame) (x : Frame) (rest : List Frame) → ((h : List Frame) → last_or None (cut ends fs) ≡ Some h → closes ends h x ≡ true) → cut ends (fs ++ (x ∷ rest)) ≡ cut ends fs ++ cut ends (x ∷ rest)
 unfolding cut

@@ -16,10 +16,9 @@ use Rattle.n2k_join.specs.State.{Rise}
 use Rattle.n2k_join.specs.Consecutive.{AreConsecutive, GroupsConsecutive, ComesOfConsecutive}
 use Rattle.n2k_join.specs.Window.{Rule}
 use Rattle.n2k_join.proofs.Arriving.{key-rise, StandsAt, stand}
-use Rattle.n2k_join.proofs.SlotLemmas.{all_to}
-use Rattle.n2k_join.proofs.Lines.{RiseFrom, all_with, line_of}
+use Rattle.n2k_join.proofs.Lines.{RiseFrom, line_of}
 use Rattle.n2k_join.proofs.GroupLines.{last_frame, IsGroup}
-use Rattle.n2k_join.proofs.Rising.{find-all, find-passes, option_map_some, all-front, all-back, rise-least, rise-rest}
+use Rattle.n2k_join.proofs.Rising.{find-all, find-passes, option_map_some, all-front, all-back, rise-least, rise-rest, all_to, all_with}
 use Rattle.n2k_join.proofs.Cuts.{cut-joined}
 
 -- the numbers of frames rise, from one on

@@ -20,10 +20,6 @@ line_of f = f.line
 abbrev pub RiseFrom : ℕ → List Frame → Type 0
 RiseFrom n fs = Rise line_of n fs
 
-pub all_with : {X : Type 0} (P Q R : X → Type 0) → ((x : X) → P x → Q x → R x) → (xs : List X) → AllByRecursion P xs → AllByRecursion Q xs → AllByRecursion R xs
-all_with P Q R h [] p q = tt
-all_with P Q R h (x ∷ xs) p q = (h x p.0 q.0, all_with P Q R h xs p.1 q.1)
-
 -- the frame of an entry is that of a packet of a fast PGN, whose data can be a frame's
 pub record IsFrameOf (kind : ℕ → Option Kind) (n : ℕ) (e : Entry) (f : Frame) : Type 0 where
   pub packet : PacketParts

@@ -15,7 +15,7 @@ use Rattle.n2k_join.proofs.Cuts.{within-ends, has-from}
 use Rattle.n2k_join.proofs.Held.{first-held}
 use Rattle.n2k_join.proofs.Keys.{same_key-true}
 use Rattle.n2k_join.proofs.Opened.{IsLog, open_groups-push, open_groups-none}
-use Rattle.n2k_join.proofs.Resumed.{open_groups-held, open_groups-open}
+use Rattle.n2k_join.proofs.Resumed.{open_groups-held, open_groups-open, first_of}
 use Rattle.n2k_join.proofs.Rising.{rise-less, find-none, all-map, rise-filter}
 use Rattle.n2k_join.specs.Window.{Rule}
 use Rattle.std.proofs.Math.Bool.{or-false}
@@ -39,9 +39,6 @@ all-passed t (x ∷ xs) = by (t x) refl (all-passed t xs)
 pub filter-passed : {X : Type 0} (t : X → Bool) (xs : List X) → AllByRecursion (λ x. t x ≡ true) xs → filter t xs ≡ xs
 filter-passed t [] all = refl
 filter-passed t (x ∷ xs) all = ap (λ b. cond b (x ∷ filter t xs) (filter t xs)) all.0 ∙ ap (λ ys. x ∷ ys) (filter-passed t xs all.1)
-
-abbrev first_of : Group → ℕ
-first_of o = o.first
 
 apart-filter : (t : Group → Bool) (gs : List Group) → AreApart gs → AreApart (filter t gs)
 apart-filter t [] a = tt
