@@ -18,10 +18,10 @@ use Rattle.n2k_join.proofs.Keys.{of_key-keeps}
 use Rattle.n2k_join.proofs.PieceFrames.{piece_says}
 use Rattle.n2k_join.proofs.WholePieces.{data_pieces}
 use Rattle.n2k_join.proofs.Stretches.{IsStretch, cut_stretches, GoesOn, goes_on-within, stretch_pieces}
-use Rattle.n2k_join.proofs.Lines.{RiseFrom, all_with, rise-filter, frames-rise, frames_found}
-use Rattle.n2k_join.proofs.GroupLines.{IsGroup, IsDone, LastFrame, last_frame, all-joined, done_found}
+use Rattle.n2k_join.proofs.Lines.{RiseFrom, frames-rise, line_of}
+use Rattle.n2k_join.proofs.GroupLines.{IsGroup, IsDone, LastFrame, last_frame, done_found}
 use Rattle.n2k_join.specs.Window.{Rule}
-use Rattle.n2k_join.proofs.Rising.{filter_map-none, all-map, all-zip}
+use Rattle.n2k_join.proofs.Rising.{filter_map-none, all-map, all-zip, all-joined, rise-filter, look-all, all_with}
 
 -- what R gives of the second list
 pub zip-all : {X Y : Type 0} (R : X → Y → Type 0) (Q : Y → Type 0) → ((x : X) (y : Y) → R x y → Q y) → (xs : List X) (ys : List Y) → AllZip R xs ys → AllByRecursion Q ys
@@ -48,10 +48,10 @@ StandsAt fs k f = (frame_at f.line fs ≡ Some f) × (f.key ≡ k)
 
 -- the frames of a key, each found at its line
 pub stand : (kind : ℕ → Option Kind) (es : List Entry) (k : Key) → AllByRecursion (StandsAt (frames kind es) k) (of_key k (frames kind es))
-stand kind es k = of_key-keeps (λ (f : Frame). frame_at f.line (frames kind es) ≡ Some f) k (frames kind es) (frames_found 1 (frames kind es) (frames-rise kind 1 es))
+stand kind es k = of_key-keeps (λ (f : Frame). frame_at f.line (frames kind es) ≡ Some f) k (frames kind es) (look-all line_of 1 (frames kind es) (frames-rise kind 1 es))
 
 pub key-rise : (kind : ℕ → Option Kind) (es : List Entry) (k : Key) → RiseFrom 1 (of_key k (frames kind es))
-key-rise kind es k = rise-filter (λ (f : Frame). same_key k f.key) 1 (frames kind es) (frames-rise kind 1 es)
+key-rise kind es k = rise-filter line_of (λ (f : Frame). same_key k f.key) 1 (frames kind es) (frames-rise kind 1 es)
 
 -- the group that is done at its last line, is gathered there
 pub gathered_group : (ends : Ends) (fs : List Frame) (k : Key) (g : List Frame) (f : Frame) → last_line g ≡ f.line → StandsAt fs k f → find (is_done_at (last_line g)) (cut ends (of_key k fs)) ≡ Some g → gathered ends fs (last_line g) ≡ Some (record { key = k; message = message_of f g })

@@ -15,7 +15,7 @@ use Rattle.n2k_join.proofs.Cuts.{grown, last-cut, within-ends}
 use Rattle.n2k_join.proofs.Given.{IsUpTo, first-le, up_to, cut_of_same, cut_of_other}
 use Rattle.n2k_join.proofs.Keys.{same_key-refl, same_key-sym}
 use Rattle.n2k_join.proofs.Opened.{IsLog, IsFine, none_at, at_last, at_line, open_at, begun_at-key, so_far-fine, numbers_of_key, ends-kept, first-push}
-use Rattle.n2k_join.proofs.Rising.{find-passes, filter_map-range, filter_map-push, filter_map-fused, range-push}
+use Rattle.n2k_join.proofs.Rising.{find-passes, filter_map-range, filter_map-push, filter_map-fused, range-push, last-all}
 use Rattle.n2k_join.specs.Window.{Rule}
 
 -- ---- the groups of a key
@@ -90,11 +90,6 @@ among-grown w n j (g ∷ h ∷ []) x some up l = by (closes (within w) h x) ∙ 
     by true = passed w j x.line g h ((x ∷ []) ∷ []) (omega (arith, first-le n h up.1.0, l))
     by false = passed w j x.line g (h ++ x ∷ []) [] (omega (arith, first-le n h up.1.0, l, first-push h x up.1.0.nonempty))
 among-grown w n j (g ∷ h ∷ k ∷ gs) x some up l = passed w j x.line g h (grown (within w) (k ∷ gs) x) (omega (arith, first-le n h up.1.0, l)) ∙ among-grown w n j (h ∷ k ∷ gs) x some up.1 l
-
--- what holds of each group holds of the last
-pub last-all : (P : List Frame → Type 0) (o : Option (List Frame)) (gs : List (List Frame)) → IfSome o P → AllByRecursion P gs → IfSome (last_or o gs) P
-last-all P o [] h all = h
-last-all P o (g ∷ gs) h all = last-all P (Some g) gs all.0 all.1
 
 -- the group that a frame begins isn't broken at its line
 among-own : (w : Rule) (n : ℕ) (gs : List (List Frame)) (x : Frame) → 0 < w.window → AllByRecursion (IsUpTo n) gs → n < x.line → broken_among w x.line x.line (grown (within w) gs x) ≡ None

@@ -1,5 +1,5 @@
 -- The groups of a list of frames, and those of a list with one frame more.
-use Rattle.std.proofs.Common.{◌≡◌, ◌==◌, ℕ, ◌+◌, ◌<◌, ◌≤◌, ◌||◌, ◌&&◌, Bool, true, false, cond, List, [], ◌∷◌, ◌++◌, refl, sym, ap, ◌∙◌, arith, nat_le, append_assoc, Option, Some, None, length}
+use Rattle.std.proofs.Common.{◌≡◌, ◌==◌, ℕ, ◌+◌, ◌<◌, ◌≤◌, ◌||◌, ◌&&◌, Bool, true, false, cond, List, [], ◌∷◌, ◌++◌, refl, sym, ap, ◌∙◌, arith, nat_le, append_assoc, Option, Some, None, length, subst}
 use Rattle.std.specs.Prelude.{fold, is_some, IfSome, nat_lt}
 use Rattle.std.specs.List.{last_or, flat_map, AllByRecursion}
 use Rattle.std.proofs.lemmas.List.Sums.{fold_push}
@@ -8,7 +8,7 @@ use Rattle.n2k_join.specs.Window.{Rule}
 use Rattle.n2k_join.proofs.Carried.{same_bool, has_number-cons}
 use Rattle.std.proofs.lemmas.Bool.{or_left, or_right, or_from, lt-leb, le-leb, leb-true, le-ltb, eqb-true, eq-eqb, false≢true, and_right}
 use Rattle.n2k_join.specs.Groups.{Ends, closes, repeats, has_from, falls_back, misfits, is_late, within, cut_from, cut, carried, has_number, first}
-use Rattle.n2k_join.proofs.Rising.{all-append}
+use Rattle.n2k_join.proofs.Rising.{all-append, all-joined, last-all}
 use Rattle.std.proofs.lemmas.List.{length-append}
 
 -- A test that ends groups: a number that comes again ends, and what else does depends on what a group carries and where
@@ -115,35 +115,7 @@ module _ (ends : Ends) where
   unfolding so_far
   so_far-push fs x = fold_push (taken_in ends) None fs x
 
-  next-all : (P : Frame → Type 0) (o : Option (List Frame)) (x : Frame) → P x → IfSome o (AllByRecursion P) → AllByRecursion P (next ends o x)
-  next-all P None x px h = (px, tt)
-  next-all P (Some g) x px h =
-      elim (closes ends g x) as (λ b. AllByRecursion P (cond b (x ∷ []) (g ++ x ∷ []))) [ true ↦ (px, tt) | false ↦ all-append P g (x ∷ []) h (px, tt) ]
-
-  -- what holds of each frame holds of those of the last group
-  so_far-all_from : (P : Frame → Type 0) (o : Option (List Frame)) (fs : List Frame) → IfSome o (AllByRecursion P) → AllByRecursion P fs → IfSome (fold (taken_in ends) o fs) (AllByRecursion P)
-  so_far-all_from P o [] h all = h
-  so_far-all_from P o (f ∷ fs) h all = so_far-all_from P (Some (next ends o f)) fs (next-all P o f all.0 h) all.1
-
-  pub so_far-all : (P : Frame → Type 0) (fs : List Frame) → AllByRecursion P fs → IfSome (so_far ends fs) (AllByRecursion P)
-  unfolding so_far
-  so_far-all P fs all = so_far-all_from P None fs tt all
-
-  -- what holds of a frame alone and stays where one joins holds of the last group
-  so_far-keeps_from : (Q : List Frame → Type 0) → ((x : Frame) → Q (x ∷ [])) → ((g : List Frame) (x : Frame) → closes ends g x ≡ false → Q g → Q (g ++ x ∷ [])) → (o : Option (List Frame)) (fs : List Frame) → IfSome o Q → IfSome (fold (taken_in ends) o fs) Q
-  so_far-keeps_from Q one more o [] h = h
-  so_far-keeps_from Q one more None (f ∷ fs) h = so_far-keeps_from Q one more (Some (f ∷ [])) fs (one f)
-  so_far-keeps_from Q one more (Some g) (f ∷ fs) h = so_far-keeps_from Q one more (Some (next ends (Some g) f)) fs (kept (closes ends g f) refl)
-    where
-      kept : (b : Bool) → closes ends g f ≡ b → Q (cond b (f ∷ []) (g ++ f ∷ []))
-      kept true e = one f
-      kept false e = more g f e h
-
-  pub so_far-keeps : (Q : List Frame → Type 0) → ((x : Frame) → Q (x ∷ [])) → ((g : List Frame) (x : Frame) → closes ends g x ≡ false → Q g → Q (g ++ x ∷ [])) → (fs : List Frame) → IfSome (so_far ends fs) Q
-  unfolding so_far
-  so_far-keeps Q one more fs = so_far-keeps_from Q one more None fs tt
-
-  -- the same of each group
+  -- what holds of a frame alone and stays where one joins holds of each group
   cut_from-keeps : (Q : List Frame → Type 0) → ((x : Frame) → Q (x ∷ [])) → ((g : List Frame) (x : Frame) → closes ends g x ≡ false → Q g → Q (g ++ x ∷ [])) → (g fs : List Frame) → Q g → AllByRecursion Q (cut_from ends g fs)
   cut_from-keeps Q one more g [] h = (h, tt)
   cut_from-keeps Q one more g (f ∷ fs) h = kept (closes ends g f) refl (cut_from-keeps Q one more (f ∷ []) fs (one f)) (cut_from-keeps Q one more (g ++ f ∷ []) fs)
@@ -161,18 +133,6 @@ module _ (ends : Ends) where
   pub cut-nonempty : (fs : List Frame) → AllByRecursion (λ (g : List Frame). 0 < length g) (cut ends fs)
   cut-nonempty fs = cut-keeps (λ g. 0 < length g) (λ x. omega arith) (λ g x c h. omega (arith, length-append g (x ∷ []))) fs
 
-  -- what holds of each frame holds of those of each group
-  cut_from-all : (P : Frame → Type 0) (g fs : List Frame) → AllByRecursion P g → AllByRecursion P fs → AllByRecursion (AllByRecursion P) (cut_from ends g fs)
-  cut_from-all P g [] h all = (h, tt)
-  cut_from-all P g (f ∷ fs) h all =
-      elim (closes ends g f) as (λ b. AllByRecursion (AllByRecursion P) (cond b (g ∷ cut_from ends (f ∷ []) fs) (cut_from ends (g ++ f ∷ []) fs)))
-      [ true ↦ (h, cut_from-all P (f ∷ []) fs (all.0, tt) all.1) | false ↦ cut_from-all P (g ++ f ∷ []) fs (all-append P g (f ∷ []) h (all.0, tt)) all.1 ]
-
-  pub cut-all : (P : Frame → Type 0) (fs : List Frame) → AllByRecursion P fs → AllByRecursion (AllByRecursion P) (cut ends fs)
-  unfolding cut
-  cut-all P [] all = tt
-  cut-all P (f ∷ fs) all = cut_from-all P (f ∷ []) fs (all.0, tt) all.1
-
   -- the groups joined are the frames
   cut_from-joined : (g fs : List Frame) → flat_map (λ (h : List Frame). h) (cut_from ends g fs) ≡ g ++ fs
   cut_from-joined g [] = refl
@@ -184,3 +144,16 @@ module _ (ends : Ends) where
   unfolding cut
   cut-joined [] = refl
   cut-joined (f ∷ fs) = cut_from-joined (f ∷ []) fs
+
+  -- what holds of each frame holds of those of each group
+  pub cut-all : (P : Frame → Type 0) (fs : List Frame) → AllByRecursion P fs → AllByRecursion (AllByRecursion P) (cut ends fs)
+  cut-all P fs all = all-joined P (cut ends fs) (subst (AllByRecursion P) (sym (cut-joined fs)) all)
+
+  -- and so of the last group
+  pub so_far-all : (P : Frame → Type 0) (fs : List Frame) → AllByRecursion P fs → IfSome (so_far ends fs) (AllByRecursion P)
+  so_far-all P fs all =
+      subst (λ o. IfSome o (AllByRecursion P)) (last-cut fs) (last-all (AllByRecursion P) None (cut ends fs) tt (cut-all P fs all))
+
+  pub so_far-keeps : (Q : List Frame → Type 0) → ((x : Frame) → Q (x ∷ [])) → ((g : List Frame) (x : Frame) → closes ends g x ≡ false → Q g → Q (g ++ x ∷ [])) → (fs : List Frame) → IfSome (so_far ends fs) Q
+  so_far-keeps Q one more fs =
+      subst (λ o. IfSome o Q) (last-cut fs) (last-all Q None (cut ends fs) tt (cut-keeps Q one more fs))

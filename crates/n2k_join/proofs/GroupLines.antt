@@ -7,7 +7,8 @@ use Rattle.n2k_join.specs.Frames.{Frame}
 use Rattle.n2k_join.specs.Groups.{complete, first, last_line}
 use Rattle.n2k_join.specs.Messages.{is_done_at}
 use Rattle.n2k_join.specs.Scattered.{joined}
-use Rattle.n2k_join.proofs.Lines.{RiseFrom, all_with, rise-all}
+use Rattle.n2k_join.proofs.Lines.{RiseFrom, line_of}
+use Rattle.n2k_join.proofs.Rising.{all-joined, rise-least, all_with}
 
 -- a group has a frame
 abbrev pub IsGroup : List Frame → Type 0
@@ -34,28 +35,16 @@ last_frame P (f ∷ g ∷ fs) some each =
     let rest = last_frame P (g ∷ fs) (omega arith) each.1 in
     record { before = f ∷ rest.before; frame = rest.frame; is = ap (λ t. f ∷ t) rest.is; at = rest.at; holds = rest.holds }
 
-pub all-front : {X : Type 0} (P : X → Type 0) (xs ys : List X) → AllByRecursion P (xs ++ ys) → AllByRecursion P xs
-all-front P [] ys each = tt
-all-front P (x ∷ xs) ys each = (each.0, all-front P xs ys each.1)
-
-pub all-back : {X : Type 0} (P : X → Type 0) (xs ys : List X) → AllByRecursion P (xs ++ ys) → AllByRecursion P ys
-all-back P [] ys each = each
-all-back P (x ∷ xs) ys each = all-back P xs ys each.1
-
--- what holds of all frames, holds of each group's
-pub all-joined : (P : Frame → Type 0) (gs : List (List Frame)) → AllByRecursion P (joined gs) → AllByRecursion (λ g. AllByRecursion P g) gs
-all-joined P [] each = tt
-all-joined P (g ∷ gs) each = (all-front P g (joined gs) each, all-joined P gs (all-back P g (joined gs) each))
-
-last_above : (n : ℕ) (g : List Frame) → IsGroup g → AllByRecursion (λ (f : Frame). n ≤ f.line) g → n ≤ last_line g
-last_above n g some each = let last = last_frame (λ (f : Frame). n ≤ f.line) g some each in subst (λ l. n ≤ l) (sym last.at) last.holds
-
 pub first_above : (n : ℕ) (g : List Frame) → IsGroup g → AllByRecursion (λ (f : Frame). n ≤ f.line) g → n ≤ first g
 first_above n [] some each = absurd (omega (arith, some))
 first_above n (f ∷ g) some each = each.0
 
 pub lasts_above : (n : ℕ) (gs : List (List Frame)) → AllByRecursion IsGroup gs → RiseFrom n (joined gs) → AllByRecursion (λ g. n ≤ last_line g) gs
-lasts_above n gs some rise = all_with IsGroup (λ g. AllByRecursion (λ (f : Frame). n ≤ f.line) g) (λ g. n ≤ last_line g) (λ g here each. last_above n g here each) gs some (all-joined _ gs (rise-all n (joined gs) rise))
+lasts_above n gs some rise =
+    all_with IsGroup (AllByRecursion (λ (f : Frame). n ≤ f.line)) (λ g. n ≤ last_line g) (λ g here each.
+    let last = last_frame (λ (f : Frame). n ≤ f.line) g here each in
+    subst (λ l. n ≤ l) (sym last.at) last.holds)
+    gs some (all-joined _ gs (rise-least line_of n (joined gs) rise))
 
 -- a complete group is the one that is done at its last line
 abbrev pub IsDone : List (List Frame) → List Frame → Type 0

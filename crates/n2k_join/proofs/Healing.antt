@@ -18,26 +18,28 @@ use Rattle.n2k_join.specs.Arrival.{Brings, ComesNext, LeavesZero, Heals}
 use Rattle.n2k_join.proofs.Cuts.{cut-all, cut-joined, cut-nonempty}
 use Rattle.n2k_join.proofs.Keys.{of_key-append, of_key-keeps}
 use Rattle.n2k_join.proofs.Logs.{frames_from-append, frames-log}
-use Rattle.n2k_join.proofs.BrokenGroups.{last-all}
 use Rattle.n2k_join.proofs.Given.{IsUpTo, first-le, up_to}
 use Rattle.n2k_join.proofs.Stretches.{IsStretch, cut_stretch, goes_on-within, stretch_pieces}
-use Rattle.n2k_join.proofs.Lines.{RiseFrom, all_with, rise-all, frames-rise, rise-rest}
-use Rattle.n2k_join.proofs.GroupLines.{IsGroup, IsDone, all-front, all-back, all-joined, first_above, done_found}
+use Rattle.n2k_join.proofs.Lines.{RiseFrom, frames-rise, line_of}
+use Rattle.n2k_join.proofs.GroupLines.{IsGroup, IsDone, first_above, done_found}
 use Rattle.n2k_join.proofs.Arriving.{StandsAt, stand, key-rise, brings}
 use Rattle.n2k_join.specs.Window.{Rule}
 use Rattle.n2k_join.proofs.Carried.{has_number-cons}
+use Rattle.n2k_join.proofs.Rising.{last-all, all-front, all-back, all-joined, rise-least, rise-rest, all_with}
+use Rattle.n2k_join.specs.State.{Rise}
 
 -- where the group so far ends before a frame, the frames before it and those from it on are cut by themselves
-cut_splits_from : (ends : Ends) (o : Option (List Frame)) (g fs : List Frame) (x : Frame) (rest : List Frame) → ((h : List Frame) → last_or o (cut_from ends g fs) ≡ Some h → closes ends h x ≡ true) → cut_from ends g (fs ++ (x ∷ rest)) ≡ cut_from ends g fs ++ cut_from ends (x ∷ []) rest
+cut_splits_from : (ends : Ends) (o : Option (List Frame)) (g fs : List Frame) (x : Frame) (rest : List Frame)
+    → ((h : List Frame) → last_or o (cut_from ends g fs) ≡ Some h → closes ends h x ≡ true)
+    → cut_from ends g (fs ++ (x ∷ rest)) ≡ cut_from ends g fs ++ cut_from ends (x ∷ []) rest
 cut_splits_from ends o g [] x rest last = rw (last g refl) refl
-cut_splits_from ends o g (f ∷ fs) x rest last = by_test (closes ends g f) last (cut_splits_from ends (Some g) (f ∷ []) fs x rest) (cut_splits_from ends o (g ++ f ∷ []) fs x rest)
-  where
-    by_test : (b : Bool) → ((h : List Frame) → last_or o (if b then g ∷ cut_from ends (f ∷ []) fs else cut_from ends (g ++ f ∷ []) fs) ≡ Some h → closes ends h x ≡ true)
-        → (((h : List Frame) → last_or (Some g) (cut_from ends (f ∷ []) fs) ≡ Some h → closes ends h x ≡ true) → cut_from ends (f ∷ []) (fs ++ (x ∷ rest)) ≡ cut_from ends (f ∷ []) fs ++ cut_from ends (x ∷ []) rest)
-        → (((h : List Frame) → last_or o (cut_from ends (g ++ f ∷ []) fs) ≡ Some h → closes ends h x ≡ true) → cut_from ends (g ++ f ∷ []) (fs ++ (x ∷ rest)) ≡ cut_from ends (g ++ f ∷ []) fs ++ cut_from ends (x ∷ []) rest)
-        → (if b then g ∷ cut_from ends (f ∷ []) (fs ++ (x ∷ rest)) else cut_from ends (g ++ f ∷ []) (fs ++ (x ∷ rest))) ≡ (if b then g ∷ cut_from ends (f ∷ []) fs else cut_from ends (g ++ f ∷ []) fs) ++ cut_from ends (x ∷ []) rest
-    by_test true last closed grown = ap (λ l. g ∷ l) (closed last)
-    by_test false last closed grown = grown last
+cut_splits_from ends o g (f ∷ fs) x rest last =
+    (elim (closes ends g f) as (λ b. ((h : List Frame) → last_or o (cond b (g ∷ cut_from ends (f ∷ []) fs) (cut_from ends (g ++ f ∷ []) fs)) ≡ Some h → closes ends h x ≡ true)
+    → cond b (g ∷ cut_from ends (f ∷ []) (fs ++ (x ∷ rest))) (cut_from ends (g ++ f ∷ []) (fs ++ (x ∷ rest)))
+    ≡ cond b (g ∷ cut_from ends (f ∷ []) fs) (cut_from ends (g ++ f ∷ []) fs) ++ cut_from ends (x ∷ []) rest) [
+      | true ↦ λ last. ap (λ l. g ∷ l) (cut_splits_from ends (Some g) (f ∷ []) fs x rest last)
+      | false ↦ λ last. cut_splits_from ends o (g ++ f ∷ []) fs x rest last
+    ]) last
 
 pub cut_splits : (ends : Ends) (fs : List Frame) (x : Frame) (rest : List Frame) → ((h : List Frame) → last_or None (cut ends fs) ≡ Some h → closes ends h x ≡ true) → cut ends (fs ++ (x ∷ rest)) ≡ cut ends fs ++ cut ends (x ∷ rest)
 unfolding cut
@@ -45,30 +47,23 @@ cut_splits ends [] x rest last = refl
 cut_splits ends (f ∷ fs) x rest last = cut_splits_from ends None (f ∷ []) fs x rest last
 
 -- the groups' first lines rise
-abbrev FirstsRise : List (List Frame) → Type 0
-FirstsRise [] = Unit {0}
-FirstsRise (g ∷ gs) = AllByRecursion (λ h. first g + 1 ≤ first h) gs × FirstsRise gs
-
-firsts_rise : (n : ℕ) (gs : List (List Frame)) → AllByRecursion IsGroup gs → RiseFrom n (joined gs) → FirstsRise gs
+firsts_rise : (n : ℕ) (gs : List (List Frame)) → AllByRecursion IsGroup gs → RiseFrom n (joined gs) → Rise first n gs
 firsts_rise n [] some rise = tt
 firsts_rise n ([] ∷ gs) some rise = absurd (omega (arith, some.0))
 firsts_rise n ((f ∷ g) ∷ gs) some rise =
-    let later : RiseFrom (f.line + 1) (joined gs) = rise-rest (f.line + 1) g (joined gs) rise.1 in (
-      all_with IsGroup (λ h. AllByRecursion (λ (i : Frame). f.line + 1 ≤ i.line) h) (λ h. f.line + 1 ≤ first h) (λ h here each. first_above (f.line + 1) h here each) gs some.1 (all-joined _ gs (rise-all (f.line + 1) (joined gs) later)),
-      firsts_rise (f.line + 1) gs some.1 later,
-    )
+    (rise.0, firsts_rise (f.line + 1) gs some.1 (rise-rest line_of (f.line + 1) g (joined gs) rise.1))
 
 -- The last group of the front of a cut, where it isn't complete, is broken where its window ends or the group after it begins.
-broken_among-at : (w : Rule) (a : List (List Frame)) (left g : List Frame) (later : List (List Frame)) → FirstsRise (a ++ (left ∷ g ∷ later)) → complete left ≡ false
+broken_among-at : (w : Rule) (n : ℕ) (a : List (List Frame)) (left g : List Frame) (later : List (List Frame)) → Rise first n (a ++ (left ∷ g ∷ later)) → complete left ≡ false
     → broken_among w (first left) (min (first left + w.window) (first g)) (a ++ (left ∷ g ∷ later)) ≡ Some left
-broken_among-at w [] left g later rise c =
+broken_among-at w n [] left g later rise c =
     λ i. cond (not (c i) && (eq-eqb (first left) (first left) refl i && eq-eqb (min (first left + w.window) (first g)) (min (first left + w.window) (first g)) refl i)) (Some left) (broken_among w (first left) (min (first left + w.window) (first g)) (g ∷ later))
-broken_among-at w (h ∷ a) left g later rise c =
-    let apart : first h + 1 ≤ first left = (all-back (λ j. first h + 1 ≤ first j) a (left ∷ g ∷ later) rise.0).0 in
+broken_among-at w n (h ∷ a) left g later rise c =
+    let apart : first h + 1 ≤ first left = (all-back (λ j. first h + 1 ≤ first j) a (left ∷ g ∷ later) (rise-least first (first h + 1) (a ++ (left ∷ g ∷ later)) rise.1)).0 in
     let other : (first h == first left) ≡ false = ne_eqb (first h) (first left) (λ same. omega (arith, same, apart)) in
     (λ i. cond (not (complete h) && (other i && (broken_line w h (a ++ (left ∷ g ∷ later)) == min (first left + w.window) (first g)))) (Some h) (broken_among w (first left) (min (first left + w.window) (first g)) (a ++ (left ∷ g ∷ later))))
     ∙ ap (λ b. cond b (Some h) (broken_among w (first left) (min (first left + w.window) (first g)) (a ++ (left ∷ g ∷ later)))) (and_right (not (complete h)) false refl)
-    ∙ broken_among-at w a left g later rise.1 c
+    ∙ broken_among-at w (first h + 1) a left g later rise.1 c
 
 -- a list that has a last item ends with it
 ends_with : (o : Option (List Frame)) (gs : List (List Frame)) (l : List Frame) → (o ≡ Some l → ⊥) → last_or o gs ≡ Some l
@@ -168,12 +163,12 @@ next_past kind front back k f g next =
     let later = frames_from kind (1 + length front) back in
     let parts : of_key k (frames kind (front ++ back)) ≡ of_key k (frames kind front) ++ of_key k later = ap (of_key k) (frames_from-append kind 1 front back) ∙ of_key-append k (frames kind front) later in
     let same : of_key k later ≡ f ∷ g = append_cancel_left (of_key k (frames kind front)) (of_key k later) (f ∷ g) (sym parts ∙ next) in
-    let past = subst (AllByRecursion (λ (i : Frame). (1 + length front ≤ i.line) × (i.key ≡ k))) same (of_key-keeps (λ (i : Frame). 1 + length front ≤ i.line) k later (rise-all (1 + length front) later (frames-rise kind (1 + length front) back))) in
+    let past = subst (AllByRecursion (λ (i : Frame). (1 + length front ≤ i.line) × (i.key ≡ k))) same (of_key-keeps (λ (i : Frame). 1 + length front ≤ i.line) k later (rise-least line_of (1 + length front) later (frames-rise kind (1 + length front) back))) in
     omega (arith, past.0.0)
 
-rise-at : (b : List (List Frame)) (left g : List Frame) (later : List (List Frame)) → FirstsRise (b ++ (left ∷ g ∷ later)) → first left + 1 ≤ first g
-rise-at [] left g later rise = rise.0.0
-rise-at (h ∷ b) left g later rise = rise-at b left g later rise.1
+rise-at : (n : ℕ) (b : List (List Frame)) (left g : List Frame) (later : List (List Frame)) → Rise first n (b ++ (left ∷ g ∷ later)) → first left + 1 ≤ first g
+rise-at n [] left g later rise = rise.1.0
+rise-at n (h ∷ b) left g later rise = rise-at (first h + 1) b left g later rise.1
 
 -- what stands open has a frame 0, where the rule doesn't ask for the order of the numbers
 abbrev HasZero : Rule → (ℕ → Option Kind) → List Entry → Sending → Type 0
@@ -207,30 +202,30 @@ heals_by w kind front back x (f ∷ g) after comes left_open =
     brings w kind es k x (f ∷ g) (record { stretch = record { pieces = record { each = comes.each; apart = apart }; whole = full }; goes_on = goes_on; stands = standing; found = ap (find (is_done_at (last_line (f ∷ g)))) cuts ∙ done stretch.whole }) in
     record {
       given = brought.given;
-      breaks = by_open (last_or None (cut (within w) before)) refl (firsts_rise 1 gs some rise) some all_stand (all-joined _ gs (rise-all 1 (joined gs) rise)) cuts;
+      breaks = by_open (last_or None (cut (within w) before)) refl (firsts_rise 1 gs some rise) some all_stand (all-joined _ gs (rise-least line_of 1 (joined gs) rise)) cuts;
     }
   where
     told : Option (List Frame) → Type 0
     told o = IfSome o (λ left. Contains (broken w kind (front ++ back) (min (first left + w.window) f.line)) (broken_of (key_of_sending x) left))
 
-    at_left : (left : List Frame) (b : List (List Frame)) (gs : List (List Frame)) → gs ≡ b ++ (left ∷ (f ∷ g) ∷ cut (within w) after) → complete left ≡ false → FirstsRise gs → AllByRecursion IsGroup gs
+    at_left : (left : List Frame) (b : List (List Frame)) (gs : List (List Frame)) → gs ≡ b ++ (left ∷ (f ∷ g) ∷ cut (within w) after) → complete left ≡ false → Rise first 1 gs → AllByRecursion IsGroup gs
         → AllByRecursion (AllByRecursion (StandsAt (frames kind (front ++ back)) (key_of_sending x))) gs → AllByRecursion (AllByRecursion (λ (i : Frame). 1 ≤ i.line)) gs → cut (within w) (of_key (key_of_sending x) (frames kind (front ++ back))) ≡ gs
         → Contains (broken w kind (front ++ back) (min (first left + w.window) f.line)) (broken_of (key_of_sending x) left)
     at_left left b gs e c rise some stands lines cuts =
         let later = (f ∷ g) ∷ cut (within w) after in
-        let rise' : FirstsRise (b ++ (left ∷ later)) = subst FirstsRise e rise in
+        let rise' : Rise first 1 (b ++ (left ∷ later)) = subst (Rise first 1) e rise in
         let some' : IsGroup left = (all-back IsGroup b (left ∷ later) (subst (AllByRecursion IsGroup) e some)).0 in
         let stands' : AllByRecursion (StandsAt (frames kind (front ++ back)) (key_of_sending x)) left = (all-back (AllByRecursion (StandsAt (frames kind (front ++ back)) (key_of_sending x))) b (left ∷ later) (subst (AllByRecursion (AllByRecursion (StandsAt (frames kind (front ++ back)) (key_of_sending x)))) e stands)).0 in
         let lines' : AllByRecursion (λ (i : Frame). 1 ≤ i.line) left = (all-back (AllByRecursion (λ (i : Frame). 1 ≤ i.line)) b (left ∷ later) (subst (AllByRecursion (AllByRecursion (λ (i : Frame). 1 ≤ i.line))) e lines)).0 in
         let from : 1 ≤ first left = first_above 1 left some' lines' in
-        let before : first left + 1 ≤ f.line = rise-at b left (f ∷ g) (cut (within w) after) rise' in
+        let before : first left + 1 ≤ f.line = rise-at 1 b left (f ∷ g) (cut (within w) after) rise' in
         let up_to : first left < 1 + min (first left + w.window) f.line = omega (arith, before) in
         given_among (broken_begun w (frames kind (front ++ back)) (min (first left + w.window) f.line)) (broken_of (key_of_sending x) left) (first left) 1 (min (first left + w.window) f.line) from up_to
         (broken_where w (frames kind (front ++ back)) (key_of_sending x) left (min (first left + w.window) f.line) some' stands'
-        (ap (broken_among w (first left) (min (first left + w.window) f.line)) (cuts ∙ e) ∙ broken_among-at w b left (f ∷ g) (cut (within w) after) rise' c))
+        (ap (broken_among w (first left) (min (first left + w.window) f.line)) (cuts ∙ e) ∙ broken_among-at w 1 b left (f ∷ g) (cut (within w) after) rise' c))
 
     by_open : (o : Option (List Frame)) → last_or None (cut (within w) (of_key (key_of_sending x) (frames kind front))) ≡ o
-        → FirstsRise (cut (within w) (of_key (key_of_sending x) (frames kind front)) ++ ((f ∷ g) ∷ cut (within w) after))
+        → Rise first 1 (cut (within w) (of_key (key_of_sending x) (frames kind front)) ++ ((f ∷ g) ∷ cut (within w) after))
         → AllByRecursion IsGroup (cut (within w) (of_key (key_of_sending x) (frames kind front)) ++ ((f ∷ g) ∷ cut (within w) after))
         → AllByRecursion (AllByRecursion (StandsAt (frames kind (front ++ back)) (key_of_sending x))) (cut (within w) (of_key (key_of_sending x) (frames kind front)) ++ ((f ∷ g) ∷ cut (within w) after))
         → AllByRecursion (AllByRecursion (λ (i : Frame). 1 ≤ i.line)) (cut (within w) (of_key (key_of_sending x) (frames kind front)) ++ ((f ∷ g) ∷ cut (within w) after))

@@ -17,7 +17,7 @@ use Rattle.n2k_join.proofs.Carried.{carried-append, option_or_none, has_twice-pu
 use Rattle.n2k_join.proofs.Rising.{look, look-below, look-range, look-filter_map, rise-range, all-range, filter_map-range, find-none, find-passes, all-map, all-append, option_map_some}
 use Rattle.std.proofs.lemmas.Option.{none-some, same_Some}
 
-abbrev number_of : Piece → ℕ
+abbrev pub number_of : Piece → ℕ
 number_of p = p.number
 
 -- the piece of a number among pieces

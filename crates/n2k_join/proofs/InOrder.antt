@@ -16,10 +16,9 @@ use Rattle.n2k_join.specs.State.{Rise}
 use Rattle.n2k_join.specs.Consecutive.{AreConsecutive, GroupsConsecutive, ComesOfConsecutive}
 use Rattle.n2k_join.specs.Window.{Rule}
 use Rattle.n2k_join.proofs.Arriving.{key-rise, StandsAt, stand}
-use Rattle.n2k_join.proofs.SlotLemmas.{all_to}
-use Rattle.n2k_join.proofs.Lines.{RiseFrom, rise-all, all_with, rise-rest}
-use Rattle.n2k_join.proofs.GroupLines.{all-back, all-front, last_frame, IsGroup}
-use Rattle.n2k_join.proofs.Rising.{find-all, find-passes, option_map_some}
+use Rattle.n2k_join.proofs.Lines.{RiseFrom, line_of}
+use Rattle.n2k_join.proofs.GroupLines.{last_frame, IsGroup}
+use Rattle.n2k_join.proofs.Rising.{find-all, find-passes, option_map_some, all-front, all-back, rise-least, rise-rest, all_to, all_with}
 use Rattle.n2k_join.proofs.Cuts.{cut-joined}
 
 -- the numbers of frames rise, from one on
@@ -38,7 +37,7 @@ numbers-push least (f ∷ g) x r l e = let a = above-all x.number f g e in (r.0,
 first-before : (n : ℕ) (g : List Frame) (x : Frame) (rest : List Frame) → 0 < length g → RiseFrom n (g ++ (x ∷ rest)) → first g < x.line
 first-before n [] x rest some r = absurd (omega (arith, some))
 first-before n (f ∷ g) x rest some r =
-    let all = all-back (λ (h : Frame). f.line + 1 ≤ h.line) g (x ∷ rest) (rise-all (f.line + 1) (g ++ (x ∷ rest)) r.1) in
+    let all = all-back (λ (h : Frame). f.line + 1 ≤ h.line) g (x ∷ rest) (rise-least line_of (f.line + 1) (g ++ (x ∷ rest)) r.1) in
     let past : f.line + 1 ≤ x.line = all.0 in
     omega (arith, past)
 
@@ -55,7 +54,7 @@ module _ (rule : Rule) (order : rule.in_order ≡ true) where
   cut_from-numbers n g [] some r lines = (r, tt)
   cut_from-numbers n g (f ∷ fs) some r lines =
       by (closes (within rule) g f) refl
-      (cut_from-numbers n (f ∷ []) fs (omega arith) (omega arith, tt) (rise-rest n g (f ∷ fs) lines))
+      (cut_from-numbers n (f ∷ []) fs (omega arith) (omega arith, tt) (rise-rest line_of n g (f ∷ fs) lines))
       (λ h. cut_from-numbers n (g ++ f ∷ []) fs (omega (arith, length-append g (f ∷ []))) h (subst (RiseFrom n) (sym (append_assoc g (f ∷ []) fs)) lines))
     where
       by : (b : Bool) → closes (within rule) g f ≡ b → AllByRecursion (Numbers 0) (cut_from (within rule) (f ∷ []) fs) → (Numbers 0 (g ++ f ∷ []) → AllByRecursion (Numbers 0) (cut_from (within rule) (g ++ f ∷ []) fs))

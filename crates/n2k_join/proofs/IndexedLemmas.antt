@@ -21,6 +21,7 @@ use Rattle.n2k_join.proofs.SlotLemmas.{carried-slots}
 use Rattle.n2k_join.proofs.JoinLemmas.{position-None, none_at_all, groups-begun, at_place, found-place, key-place, with_piece, complete-with_frame, joins-done, joins-left, after-repeats, data_of-with_frame, bars-missing, broken-held, message-begun, gained-at, lost-at}
 use Rattle.std.proofs.lemmas.List.Edits.{insert_end, length-remove}
 use Rattle.std.proofs.lemmas.List.Elements.{All-get_or, All-from_recursion}
+use Rattle.n2k_join.proofs.Rising.{none_from}
 
 -- ---- places
 
@@ -144,11 +145,9 @@ module _ (order : Bool) (x : Frame) (es : List (FrameKey × OpenGroup)) (i : ℕ
   has_place free = subst (λ o. IfSome o (λ (g : Group). bars order x.number g ≡ false)) found-there free
 
   pub empty : x.number < most_frames → bars order x.number (group_at (at.key, v)) ≡ false → slot_of v x.number ≡ None
-  empty small free = by (slot_of v x.number) (sym (ap is_some (carried-slots (key_of at.key) v x.number small)) ∙ bars-missing order x.number there free)
-    where
-      by : (o : Option (List ℕ)) → is_some o ≡ false → o ≡ None
-      by None e = refl
-      by (Some b) e = absurd cc
+  empty small free =
+      none_from (slot_of v x.number)
+      (sym (ap is_some (carried-slots (key_of at.key) v x.number small)) ∙ bars-missing order x.number there free)
 
   -- what it says is what the group of the key says
   pub there-bars : (b : Bool) → bars order x.number (group_at (at.key, v)) ≡ b → IfSome (of_the_key x.key (groups_in es)) (λ (o : Group). bars order x.number o ≡ b)

@@ -30,7 +30,7 @@ use Rattle.n2k_join.proofs.Overdue.{ended-counted, advanced-counted}
 use Rattle.n2k_join.proofs.Resumed.{held_of-all, held_of-any, held-log}
 use Rattle.n2k_join.proofs.Agreeing.{after_longer}
 use Rattle.n2k_join.proofs.Steps.{StepsTo, kept, frame_message, only_frame, kept-open, kept-wait, step-none, step-frame}
-use Rattle.n2k_join.proofs.Rising.{all-map, all-append, all-zip, all-flat_map, all-range, all-filter_map, rise-less, option_map_some}
+use Rattle.n2k_join.proofs.Rising.{all-map, all-append, all-zip, all-flat_map, all-range, all-filter_map, rise-less, option_map_some, rise-few}
 use Rattle.n2k_join.proofs.Windows.{all-filter, all-waiting, open_within-open}
 
 -- the parts of a frame are such as the program's packets give
@@ -277,14 +277,6 @@ step-waits kind s e =
 
 -- ---- how many groups are open
 
-rise-few : (least n : ℕ) (gs : List Group) → Rise (λ (g : Group). g.first) least gs → AllByRecursion (λ (g : Group). g.first < least + n) gs → length gs ≤ n
-rise-few least n [] rise all = omega arith
-rise-few least zero (g ∷ gs) rise all = absurd (omega (arith, rise.0, all.0))
-rise-few least (suc n) (g ∷ gs) rise all =
-    let rest = rise-few (least + 1) n gs (rise-less (λ (g : Group). g.first) (least + 1) (g.first + 1) gs (omega (arith, rise.0)) rise.1)
-    (all-map (λ (g : Group). g.first < least + suc n) (λ (g : Group). g.first < (least + 1) + n) gs (λ g l. omega (arith, l)) all.1) in
-    omega (arith, rest)
-
 -- Where no group's window has ended, no more groups are open than the window has lines: each began at a line of its own.
 pub few-open : (s : State) → IsState s → AreWaiting s → length s.groups ≤ s.rule.window
 few-open s is wait = by (cases_lt s.counts.lines s.rule.window)
@@ -295,11 +287,11 @@ few-open s is wait = by (cases_lt s.counts.lines s.rule.window)
 
     by : (s.counts.lines < s.rule.window) ⊎ (s.rule.window ≤ s.counts.lines) → length s.groups ≤ s.rule.window
     by (inl l) =
-        rise-few 1 s.rule.window s.groups is.groups.rise
+        rise-few (λ (g : Group). g.first) 1 s.rule.window s.groups is.groups.rise
         (all-map (λ (g : Group). g.first ≤ s.counts.lines) (λ (g : Group). g.first < 1 + s.rule.window) s.groups (λ g u. omega (arith, u, l)) is.groups.begun)
     by (inr l) =
         let least = s.counts.lines - s.rule.window + 1 in
-        rise-few least s.rule.window s.groups (starts least 1 s.groups is.groups.rise (all-map (λ (g : Group). s.counts.lines < g.first + s.rule.window) (λ (g : Group). least ≤ g.first) s.groups (λ g u. omega (arith, u, l)) wait))
+        rise-few (λ (g : Group). g.first) least s.rule.window s.groups (starts least 1 s.groups is.groups.rise (all-map (λ (g : Group). s.counts.lines < g.first + s.rule.window) (λ (g : Group). least ≤ g.first) s.groups (λ g u. omega (arith, u, l)) wait))
         (all-map (λ (g : Group). g.first ≤ s.counts.lines) (λ (g : Group). g.first < least + s.rule.window) s.groups (λ g u. omega (arith, u, l)) is.groups.begun)
 
 -- before the first line

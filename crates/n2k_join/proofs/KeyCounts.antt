@@ -1,6 +1,7 @@
 -- Two lists with equally many items of each key are equally long.
 use Rattle.std.proofs.Common.{◌≡◌, ℕ, zero, suc, ◌+◌, ◌≤◌, Bool, true, false, cond, not, List, [], ◌∷◌, length, refl, ap, subst, ◌∙◌, sym, arith}
 use Rattle.std.specs.Prelude.{filter}
+use Rattle.std.proofs.lemmas.List.Filters.{length-filter_both}
 use Rattle.n2k_join.specs.Frames.{Key, same_key}
 use Rattle.n2k_join.proofs.Keys.{same_key-true, same_key-refl, same_key-sym}
 
@@ -12,12 +13,7 @@ abbrev others : {X : Type 0} → (X → Key) → Key → List X → List X
 others key k xs = filter (λ x. not (same_key k (key x))) xs
 
 of-others : {X : Type 0} (key : X → Key) (k : Key) (xs : List X) → length xs ≡ length (of key k xs) + length (others key k xs)
-of-others key k [] = refl
-of-others key k (x ∷ xs) = by_test (same_key k (key x)) (of-others key k xs)
-  where
-    by_test : (b : Bool) → length xs ≡ length (of key k xs) + length (others key k xs) → suc (length xs) ≡ length (cond b (x ∷ of key k xs) (of key k xs)) + length (cond (not b) (x ∷ others key k xs) (others key k xs))
-    by_test true ih = omega arith
-    by_test false ih = omega arith
+of-others key k xs = sym (length-filter_both (λ x. same_key k (key x)) (λ x. not (same_key k (key x))) (λ x. refl) xs)
 
 none-others : {X : Type 0} (key : X → Key) (k : Key) (xs : List X) → of key k (others key k xs) ≡ []
 none-others key k [] = refl

@@ -12,9 +12,9 @@ use Rattle.n2k_join.specs.Groups.{Ends}
 use Rattle.n2k_join.specs.Messages.{Keyed, gathered, broken_with, message_with, alone, entry_at}
 use Rattle.n2k_join.proofs.BrokenGroups.{broken-stays}
 use Rattle.n2k_join.proofs.Given.{gathered-stays}
-use Rattle.n2k_join.proofs.Lines.{frames-rise, frame_in-line, frames_found, rise-all, frame_of_packet}
+use Rattle.n2k_join.proofs.Lines.{frames-rise, frame_in-line, frame_of_packet, line_of}
 use Rattle.n2k_join.proofs.Opened.{IsLog, key_at}
-use Rattle.n2k_join.proofs.Rising.{all-map, all-zip}
+use Rattle.n2k_join.proofs.Rising.{all-map, all-zip, look-all, rise-least}
 use Rattle.n2k_join.specs.Window.{Rule}
 
 -- What holds of the frame of each entry holds of all frames.
@@ -50,9 +50,9 @@ pub frames-log : (kind : ℕ → Option Kind) (es : List Entry) → IsLog (lengt
 frames-log kind es =
     let rises = frames-rise kind 1 es in
     record {
-      lines = all-map _ (λ (f : Frame). (1 ≤ f.line) × (f.line ≤ length es)) (frames kind es) (λ f h. (h.0, omega (arith, h.1))) (all-zip (λ (f : Frame). 1 ≤ f.line) (λ (f : Frame). f.line < 1 + length es) (frames kind es) (rise-all 1 (frames kind es) rises) (frames-below kind 1 es));
+      lines = all-map _ (λ (f : Frame). (1 ≤ f.line) × (f.line ≤ length es)) (frames kind es) (λ f h. (h.0, omega (arith, h.1))) (all-zip (λ (f : Frame). 1 ≤ f.line) (λ (f : Frame). f.line < 1 + length es) (frames kind es) (rise-least line_of 1 (frames kind es) rises) (frames-below kind 1 es));
       numbers = frames-all (λ (f : Frame). f.number < most_frames) kind 1 (frame_in-number kind) es;
-      keys = all-map (λ (f : Frame). frame_at f.line (frames kind es) ≡ Some f) (λ (f : Frame). key_at f.line (frames kind es) ≡ Some f.key) (frames kind es) (λ f h. ap (option_map (λ (f : Frame). f.key)) h) (frames_found 1 (frames kind es) rises);
+      keys = all-map (λ (f : Frame). frame_at f.line (frames kind es) ≡ Some f) (λ (f : Frame). key_at f.line (frames kind es) ≡ Some f.key) (frames kind es) (λ f h. ap (option_map (λ (f : Frame). f.key)) h) (look-all line_of 1 (frames kind es) rises);
     }
 
 cons_option-append : {X : Type 0} (o : Option X) (xs ys : List X) → cons_option o (xs ++ ys) ≡ cons_option o xs ++ ys

@@ -16,7 +16,7 @@ use Rattle.n2k_join.proofs.Carried.{carried-push, complete-same, pieces_of-same,
 use Rattle.n2k_join.proofs.Cuts.{IsEnding, next, so_far, so_far-push, so_far-all, so_far-keeps, last-cut}
 use Rattle.n2k_join.proofs.Held.{AreNumbered, carried-kept, has_twice-kept, first-kept}
 use Rattle.n2k_join.proofs.Keys.{same_key-true, same_key-refl, same_key-sym, of_key-same, of_key-other, of_key-keeps}
-use Rattle.n2k_join.proofs.Rising.{range-push, filter_map-push, filter_map-fused, filter_map-range, find-passes, find-all, find-none, look, look-filter_map, all-range, all-map, passes_none, option_map_some}
+use Rattle.n2k_join.proofs.Rising.{range-push, filter_map-push, filter_map-fused, filter_map-range, find-passes, find-all, find-none, look, look-filter_map, all-range, all-map, passes_none, option_map_some, all_with}
 
 -- the key of the frame at a line
 abbrev pub key_at : ℕ → List Frame → Option Key
@@ -282,18 +282,11 @@ module _ (ends : Ends) (is_ending : IsEnding ends) where
       on_some _ _ (so_far ends (of_key k fs)) (λ g h. at_first g h.0 h.1.nonempty)
       (both (AllByRecursion P) IsFine (so_far ends (of_key k fs)) (so_far-all ends P (of_key k fs) of_it) (so_far-fine (of_key k fs) (numbers_of_key k fs log.numbers)))
     where
-      L : Frame → Type 0
-      L f = (1 ≤ f.line) × (f.line ≤ n)
-
       P : Frame → Type 0
       P f = (1 ≤ f.line) × (f.line ≤ n) × (key_at f.line fs ≡ Some k)
 
-      zipped : (gs : List Frame) → AllByRecursion L gs → AllByRecursion (λ (f : Frame). key_at f.line fs ≡ Some f.key) gs → AllByRecursion (λ (f : Frame). (1 ≤ f.line) × (f.line ≤ n) × (key_at f.line fs ≡ Some f.key)) gs
-      zipped [] a b = tt
-      zipped (f ∷ gs) a b = ((a.0.0, a.0.1, b.0), zipped gs a.1 b.1)
-
       of_it : AllByRecursion P (of_key k fs)
-      of_it = all-map _ P (of_key k fs) (λ f h. (h.0.0, h.0.1, h.0.2 ∙ ap Some h.1)) (of_key-keeps (λ (f : Frame). (1 ≤ f.line) × (f.line ≤ n) × (key_at f.line fs ≡ Some f.key)) k fs (zipped fs log.lines log.keys))
+      of_it = all-map _ P (of_key k fs) (λ f h. (h.0.0, h.0.1, h.0.2 ∙ ap Some h.1)) (of_key-keeps (λ (f : Frame). (1 ≤ f.line) × (f.line ≤ n) × (key_at f.line fs ≡ Some f.key)) k fs (all_with (λ (f : Frame). (1 ≤ f.line) × (f.line ≤ n)) (λ (f : Frame). key_at f.line fs ≡ Some f.key) _ (λ f a b. (a.0, a.1, b)) fs log.lines log.keys))
 
       at_first : (g : List Frame) → AllByRecursion P g → 0 < length g → (1 ≤ first g) × (first g ≤ n) × (key_at (first g) fs ≡ Some k)
       at_first [] all some = absurd (omega (arith, some))

@@ -31,8 +31,8 @@ use Rattle.serde_json.specs.Data.{Data}
 use Rattle.n2k_join.specs.declared.saved.place.Place.{Place}
 use Rattle.n2k_join.specs.declared.saved.place.Place.TheVariants as places
 use Rattle.n2k_join.specs.Bounds.{TellsWindow, HoldsFew}
-use Rattle.n2k_join.proofs.Rising.{all-map}
-use Rattle.n2k_join.proofs.StateBound.{few_pieces, state-short}
+use Rattle.n2k_join.proofs.Rising.{all-map, rise-few}
+use Rattle.n2k_join.proofs.StateBound.{state-short}
 
 is_fast-true : (k : Option Kind) → is_fast k ≡ true → k ≡ Some Fast
 is_fast-true None h = absurd (false≢true h)
@@ -161,7 +161,7 @@ read-state kind id rule bytes s window is =
 -- ---- what it holds at the most
 
 few-frames : (gs : List Group) → AllByRecursion IsOpen gs → AllByRecursion (λ (g : Group). length g.pieces ≤ most_frames) gs
-few-frames gs each = all-map IsOpen (λ (g : Group). length g.pieces ≤ most_frames) gs (λ g is. let few = few_pieces 0 g.pieces is.rise is.numbers (omega arith) in omega (arith, few)) each
+few-frames gs each = all-map IsOpen (λ (g : Group). length g.pieces ≤ most_frames) gs (λ g is. let few = rise-few (λ (p : Piece). p.number) 0 most_frames g.pieces is.rise is.numbers in omega (arith, few)) each
 
 holds_few : (s : State) → IsState s → AreWaiting s → IsId s.id → HoldsFew s
 holds_few s is waits id =

@@ -23,6 +23,7 @@ use Rattle.n2k_join.proofs.Lines.{RiseFrom}
 use Rattle.n2k_join.proofs.GroupLines.{IsGroup, rise-after, last_frame, lasts_above}
 use Rattle.n2k_join.proofs.Arriving.{StandsAt, Comes, gathers, Settled, settles, zip-map, zip-all, as_stretch}
 use Rattle.n2k_join.specs.Window.{Rule}
+use Rattle.n2k_join.specs.State.{Rise}
 
 -- the sending whose group's last frame stands at the line
 unfoldable at_line : List Sending → List (List Frame) → ℕ → Option Sending
@@ -30,19 +31,14 @@ at_line [] gs line = None
 at_line (x ∷ xs) [] line = None
 at_line (x ∷ xs) (g ∷ gs) line = if last_line g == line then Some x else at_line xs gs line
 
--- the groups' last lines rise, from n on
-abbrev LastsRise : ℕ → List (List Frame) → Type 0
-LastsRise n [] = Unit {0}
-LastsRise n (g ∷ gs) = (n ≤ last_line g) × LastsRise (last_line g + 1) gs
-
-at_line-before : (n line : ℕ) (xs : List Sending) (gs : List (List Frame)) → LastsRise n gs → line < n → at_line xs gs line ≡ None
+at_line-before : (n line : ℕ) (xs : List Sending) (gs : List (List Frame)) → Rise last_line n gs → line < n → at_line xs gs line ≡ None
 unfolding at_line
 at_line-before n line [] gs rise before = refl
 at_line-before n line (x ∷ xs) [] rise before = refl
 at_line-before n line (x ∷ xs) (g ∷ gs) rise before = rw (ne_eqb (last_line g) line (λ same. omega arith)) (at_line-before (last_line g + 1) line xs gs rise.1 (omega arith))
 
 -- read off line by line, the sendings come in their order
-read_off : (R : Sending → List Frame → Type 0) (n count : ℕ) (xs : List Sending) (gs : List (List Frame)) → AllZip R xs gs → LastsRise n gs → AllByRecursion (λ g. last_line g < n + count) gs → filter_map (at_line xs gs) (range_with_len n count) ≡ xs
+read_off : (R : Sending → List Frame → Type 0) (n count : ℕ) (xs : List Sending) (gs : List (List Frame)) → AllZip R xs gs → Rise last_line n gs → AllByRecursion (λ g. last_line g < n + count) gs → filter_map (at_line xs gs) (range_with_len n count) ≡ xs
 unfolding at_line
 read_off R n count [] [] each rise within = filter_map-none (at_line [] []) (λ line. refl) (range_with_len n count)
 read_off R n count [] (g ∷ gs) each rise within = absurd each
@@ -54,13 +50,13 @@ read_off R n (suc count) (x ∷ xs) (g ∷ gs) each rise within = by_place (case
     shifted hs all = all-map _ (λ h. last_line h < (n + 1) + count) hs (λ h l. omega arith) all
 
     by_place : (last_line g ≡ n) ⊎ (last_line g ≡ n → ⊥)
-        → (LastsRise (n + 1) gs → AllByRecursion (λ h. last_line h < (n + 1) + count) gs → filter_map (at_line xs gs) (range_with_len (n + 1) count) ≡ xs)
-        → (LastsRise (n + 1) (g ∷ gs) → AllByRecursion (λ h. last_line h < (n + 1) + count) (g ∷ gs) → filter_map (at_line (x ∷ xs) (g ∷ gs)) (range_with_len (n + 1) count) ≡ x ∷ xs)
+        → (Rise last_line (n + 1) gs → AllByRecursion (λ h. last_line h < (n + 1) + count) gs → filter_map (at_line xs gs) (range_with_len (n + 1) count) ≡ xs)
+        → (Rise last_line (n + 1) (g ∷ gs) → AllByRecursion (λ h. last_line h < (n + 1) + count) (g ∷ gs) → filter_map (at_line (x ∷ xs) (g ∷ gs)) (range_with_len (n + 1) count) ≡ x ∷ xs)
         → cons_option (at_line (x ∷ xs) (g ∷ gs) n) (filter_map (at_line (x ∷ xs) (g ∷ gs)) (range_with_len (n + 1) count)) ≡ x ∷ xs
     by_place (inl here) next again =
         let later : filter_map (at_line (x ∷ xs) (g ∷ gs)) (range_with_len (n + 1) count) ≡ filter_map (at_line xs gs) (range_with_len (n + 1) count) =
         filter_map-range (at_line (x ∷ xs) (g ∷ gs)) (at_line xs gs) (n + 1) count (λ i low high. rw (ne_eqb (last_line g) i (λ same. omega arith)) refl) in
-        let rest : LastsRise (n + 1) gs = subst (λ l. LastsRise (l + 1) gs) here rise.1 in
+        let rest : Rise last_line (n + 1) gs = subst (λ l. Rise last_line (l + 1) gs) here rise.1 in
         rw (eq-eqb (last_line g) n here) (ap (λ l. x ∷ l) (later ∙ next rest (shifted gs within.1)))
     by_place (inr other) next again =
         let past : n + 1 ≤ last_line g = omega (arith, rise.0, other) in
@@ -137,7 +133,7 @@ map-filter_map {Y = Y} g h (x ∷ xs) = by_given (h x) (map-filter_map g h xs)
     by_given (Some y) ih = ap (λ l. g y ∷ l) ih
 
 -- the lines of groups rise, and lie within the log
-lasts_rise : (n : ℕ) (gs : List (List Frame)) → AllByRecursion IsGroup gs → RiseFrom n (joined gs) → LastsRise n gs
+lasts_rise : (n : ℕ) (gs : List (List Frame)) → AllByRecursion IsGroup gs → RiseFrom n (joined gs) → Rise last_line n gs
 lasts_rise n [] some rise = tt
 lasts_rise n (g ∷ gs) some rise =
     let above = lasts_above n (g ∷ gs) some rise in

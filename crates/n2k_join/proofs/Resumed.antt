@@ -16,7 +16,7 @@ use Rattle.n2k_join.proofs.Keys.{same_key-true, same_key-refl, same_key-sym, of_
 use Rattle.n2k_join.proofs.Opened.{key_at, IsLog, IsFine, open_at, begun_at-key, begun_at-is, open_of-so_far, complete-kept, open_groups-each, begun_group, begun_all}
 use Rattle.n2k_join.proofs.Rising.{find-passes, find-all, find-none, look, look-all, look-range, rise-range, rise-least, all-range, all-map, all-zip, all-flat_map, filter_map-range}
 
-abbrev first_of : Group → ℕ
+abbrev pub first_of : Group → ℕ
 first_of o = o.first
 
 -- what holds of each frame that is held of a group

@@ -1,10 +1,11 @@
 -- Lists whose numbers rise strictly: looked up by number and read off a range of numbers.
-use Rattle.std.proofs.Common.{◌≡◌, ◌==◌, ◌≤◌, ◌<◌, ◌+◌, ℕ, suc, zero, Bool, true, false, cond, List, [], ◌∷◌, ◌++◌, refl, sym, ap, ◌∙◌, subst, arith, Option, Some, None, filter_map, find, option_and_then, option_to_list, flat_map, option_map}
-use Rattle.std.specs.List.{range_with_len, cons_option, AllByRecursion, list_any}
+use Rattle.std.proofs.Common.{◌≡◌, ◌==◌, ◌≤◌, ◌<◌, ◌+◌, ℕ, suc, zero, Bool, true, false, cond, List, [], ◌∷◌, ◌++◌, refl, sym, ap, ◌∙◌, subst, arith, Option, Some, None, filter_map, find, option_and_then, option_to_list, flat_map, option_map, length, filter, ◌≢◌}
+use Rattle.std.specs.List.{range_with_len, cons_option, AllByRecursion, list_any, last_or, list_all}
 use Rattle.std.proofs.lemmas.List.Elements.{filter_map-append}
-use Rattle.std.proofs.lemmas.Bool.{eqb-true, eqb-false, eq-eqb, ne_eqb, or_parts}
+use Rattle.std.proofs.lemmas.Bool.{eqb-true, eqb-false, eq-eqb, ne_eqb, or_parts, and_parts, and_from, false≢true}
 use Rattle.std.proofs.lemmas.Option.{none-some, same_Some}
 use Rattle.n2k_join.specs.State.{Rise}
+use Rattle.std.specs.Prelude.{IfSome, is_some}
 
 pub range-append : (a n k : ℕ) → range_with_len a (n + k) ≡ range_with_len a n ++ range_with_len (a + n) k
 range-append a zero k =
@@ -33,6 +34,10 @@ filter_map-none h e (x ∷ xs) = rw (e x) (filter_map-none h e xs)
 pub option_map_some : {X Y P : Type 0} (f : X → Y) (o : Option X) (y : Y) → option_map f o ≡ Some y → ((x : X) → o ≡ Some x → f x ≡ y → P) → P
 option_map_some f None y e given = absurd (none-some y e)
 option_map_some f (Some x) y e given = given x refl (same_Some (f x) y e)
+
+pub none_from : {X : Type 0} (o : Option X) → is_some o ≡ false → o ≡ None
+none_from None e = refl
+none_from (Some x) e = absurd cc
 
 -- two passes in one
 pub filter_map-fused : {X Y Z : Type 0} (t : Y → Option Z) (h : X → Option Y) (xs : List X) → filter_map (λ x. option_and_then t (h x)) xs ≡ filter_map t (filter_map h xs)
@@ -85,6 +90,21 @@ pub none_any : {X : Type 0} (p : X → Bool) (xs : List X) → list_any p xs ≡
 none_any p [] h = tt
 none_any p (x ∷ xs) h = let parts = or_parts _ _ h in (parts.0, none_any p xs parts.1)
 
+-- a test of the numbers of a range
+pub all_from : (p : ℕ → Bool) (a n : ℕ) → ((i : ℕ) → a ≤ i → i < a + n → p i ≡ true) → list_all p (range_with_len a n) ≡ true
+all_from p a zero each = refl
+all_from p a (suc n) each = and_from _ _ (each a (omega arith) (omega arith)) (all_from p (a + 1) n (λ i l u. each i (omega (arith, l)) (omega (arith, u))))
+
+pub all_to : (p : ℕ → Bool) (a n i : ℕ) → list_all p (range_with_len a n) ≡ true → a ≤ i → i < a + n → p i ≡ true
+all_to p a zero i h l u = absurd (omega (arith, l, u))
+all_to p a (suc n) i h l u = by (a == i) refl (all_to p (a + 1) n i (and_parts _ _ h).1)
+  where
+    by : (b : Bool) → (a == i) ≡ b → (a + 1 ≤ i → i < (a + 1) + n → p i ≡ true) → p i ≡ true
+    by true e rest = ap p (sym (eqb-true a i e)) ∙ (and_parts _ _ h).0
+    by false e rest =
+        let differs : a ≢ i = λ f. false≢true (sym e ∙ eq-eqb a i f) in
+        rest (omega (arith, l, differs)) (omega (arith, u))
+
 pub all-map : {X : Type 0} (P Q : X → Type 0) (xs : List X) → ((x : X) → P x → Q x) → AllByRecursion P xs → AllByRecursion Q xs
 all-map P Q [] h all = tt
 all-map P Q (x ∷ xs) h all = (h x all.0, all-map P Q xs h all.1)
@@ -93,13 +113,37 @@ pub all-zip : {X : Type 0} (P Q : X → Type 0) (xs : List X) → AllByRecursion
 all-zip P Q [] p q = tt
 all-zip P Q (x ∷ xs) p q = ((p.0, q.0), all-zip P Q xs p.1 q.1)
 
+pub all_with : {X : Type 0} (P Q R : X → Type 0) → ((x : X) → P x → Q x → R x) → (xs : List X) → AllByRecursion P xs → AllByRecursion Q xs → AllByRecursion R xs
+all_with P Q R h [] p q = tt
+all_with P Q R h (x ∷ xs) p q = (h x p.0 q.0, all_with P Q R h xs p.1 q.1)
+
 pub all-append : {X : Type 0} (P : X → Type 0) (xs ys : List X) → AllByRecursion P xs → AllByRecursion P ys → AllByRecursion P (xs ++ ys)
 all-append P [] ys a b = b
 all-append P (x ∷ xs) ys a b = (a.0, all-append P xs ys a.1 b)
 
+pub all-front : {X : Type 0} (P : X → Type 0) (xs ys : List X) → AllByRecursion P (xs ++ ys) → AllByRecursion P xs
+all-front P [] ys each = tt
+all-front P (x ∷ xs) ys each = (each.0, all-front P xs ys each.1)
+
+pub all-back : {X : Type 0} (P : X → Type 0) (xs ys : List X) → AllByRecursion P (xs ++ ys) → AllByRecursion P ys
+all-back P [] ys each = each
+all-back P (x ∷ xs) ys each = all-back P xs ys each.1
+
 pub all-flat_map : {X Y : Type 0} (P : Y → Type 0) (f : X → List Y) (xs : List X) → AllByRecursion (λ x. AllByRecursion P (f x)) xs → AllByRecursion P (flat_map f xs)
 all-flat_map P f [] all = tt
 all-flat_map P f (x ∷ xs) all = all-append P (f x) (flat_map f xs) all.0 (all-flat_map P f xs all.1)
+
+-- what holds of all items, holds of those of each list
+pub all-joined : {X : Type 0} (P : X → Type 0) (gs : List (List X)) → AllByRecursion P (flat_map (λ (g : List X). g) gs) → AllByRecursion (AllByRecursion P) gs
+all-joined P [] each = tt
+all-joined {X} P (g ∷ gs) each =
+    let rest = flat_map (λ (g : List X). g) gs in
+    (all-front P g rest each, all-joined P gs (all-back P g rest each))
+
+-- what holds of each, holds of the last
+pub last-all : {X : Type 0} (P : X → Type 0) (o : Option X) (xs : List X) → IfSome o P → AllByRecursion P xs → IfSome (last_or o xs) P
+last-all P o [] h all = h
+last-all P o (x ∷ xs) h all = last-all P (Some x) xs all.0 all.1
 
 module _ {A : Type 0} (number : A → ℕ) where
   -- the item of a number
@@ -114,6 +158,28 @@ module _ {A : Type 0} (number : A → ℕ) where
   pub rise-least : (least : ℕ) (xs : List A) → Rise number least xs → AllByRecursion (λ x. least ≤ number x) xs
   rise-least least [] r = tt
   rise-least least (x ∷ xs) r = (r.0, all-map (λ y. number x + 1 ≤ number y) (λ y. least ≤ number y) xs (λ y l. omega (arith, l, r.0)) (rise-least (number x + 1) xs r.1))
+
+  -- items without those before them, and some of the items
+  pub rise-rest : (least : ℕ) (xs ys : List A) → Rise number least (xs ++ ys) → Rise number least ys
+  rise-rest least [] ys r = r
+  rise-rest least (x ∷ xs) ys r = rise-less least (number x + 1) ys (omega (arith, r.0)) (rise-rest (number x + 1) xs ys r.1)
+
+  pub rise-filter : (t : A → Bool) (least : ℕ) (xs : List A) → Rise number least xs → Rise number least (filter t xs)
+  rise-filter t least [] r = tt
+  rise-filter t least (x ∷ xs) r =
+      let at : least ≤ number x + 1 = omega (arith, r.0) in
+      let rest = rise-filter t (number x + 1) xs r.1 in
+      elim (t x) as (λ b. Rise number least (cond b (x ∷ filter t xs) (filter t xs)))
+      [ true ↦ (r.0, rest) | false ↦ rise-less least (number x + 1) (filter t xs) at rest ]
+
+  -- no more items than there are numbers for them
+  pub rise-few : (least n : ℕ) (xs : List A) → Rise number least xs → AllByRecursion (λ x. number x < least + n) xs → length xs ≤ n
+  rise-few least n [] r all = omega arith
+  rise-few least zero (x ∷ xs) r all = absurd (omega (arith, r.0, all.0))
+  rise-few least (suc n) (x ∷ xs) r all =
+      let below = all-map (λ y. number y < least + suc n) (λ y. number y < (least + 1) + n) xs (λ y l. omega (arith, l)) all.1 in
+      let rest = rise-few (least + 1) n xs (rise-less (least + 1) (number x + 1) xs (omega (arith, r.0)) r.1) below in
+      omega (arith, rest)
 
   -- below the least number there is none
   pub look-below : (least n : ℕ) (xs : List A) → Rise number least xs → n < least → look xs n ≡ None

@@ -15,13 +15,10 @@ use Rattle.n2k_join.specs.Resumed.{pieces_rise, piece_holds, total_holds, key_ho
 use Rattle.n2k_join.specs.State.{Rise, IsPiece, held_frame, held_of}
 use Rattle.n2k_join.specs.Inner.Slots.{slot_of, group_in}
 use Rattle.n2k_join.proofs.Carried.{carried-append, option_or_none, pieces_of-same}
-use Rattle.n2k_join.proofs.Held.{carried-held, held_frames, pieces-held}
+use Rattle.n2k_join.proofs.Held.{carried-held, held_frames, pieces-held, number_of}
 use Rattle.n2k_join.proofs.Rising.{find-none, all-map, all-append}
 use Rattle.n2k_join.proofs.SlotLemmas.{carried-slots}
 use Rattle.std.proofs.Math.Bool.{and-false}
-
-abbrev number_of : Piece → ℕ
-number_of p = p.number
 
 pub rise_from : (least : ℕ) (ps : List Piece) → pieces_rise least ps ≡ true → Rise (λ (p : Piece). p.number) least ps
 unfolding pieces_rise

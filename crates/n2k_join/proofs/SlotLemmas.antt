@@ -21,7 +21,7 @@ use Rattle.n2k_join.specs.State.{held_frame, held_of}
 use Rattle.n2k_join.specs.Inner.Slots.{slot, slot_of, group_by, group_in}
 use Rattle.n2k_join.proofs.Carried.{same_bool, carried-append, pieces_of-same, within_there, within_back, option_or_none}
 use Rattle.n2k_join.proofs.Cuts.{HasFrom, from_has, has-from}
-use Rattle.n2k_join.proofs.Rising.{filter_map-range, filter_map-none}
+use Rattle.n2k_join.proofs.Rising.{filter_map-range, filter_map-none, all_from, all_to}
 use Rattle.n2k_join.proofs.Held.{held_frames, carried-held, has_twice-held, pieces_by, pieces_by-rise, bytes_by, bytes_by-past}
 
 -- what the frames that a group holds carry
@@ -64,20 +64,6 @@ is_some-slot g n = elim (bit_at g.mask n == 1) as (λ b. is_some (cond b (Some (
 
 has-slot : (k : Key) (g : OpenGroup) (n : ℕ) → n < most_frames → has_number n (held_of (group_in k g)) ≡ (bit_at g.mask n == 1)
 has-slot k g n l = ap is_some (carried-slots k g n l) ∙ is_some-slot g n
-
-all_from : (p : ℕ → Bool) (a n : ℕ) → ((i : ℕ) → a ≤ i → i < a + n → p i ≡ true) → list_all p (range_with_len a n) ≡ true
-all_from p a zero each = refl
-all_from p a (suc n) each = and_from _ _ (each a (omega arith) (omega arith)) (all_from p (a + 1) n (λ i l u. each i (omega (arith, l)) (omega (arith, u))))
-
-pub all_to : (p : ℕ → Bool) (a n i : ℕ) → list_all p (range_with_len a n) ≡ true → a ≤ i → i < a + n → p i ≡ true
-all_to p a zero i h l u = absurd (omega (arith, l, u))
-all_to p a (suc n) i h l u = by (a == i) refl (all_to p (a + 1) n i (and_parts _ _ h).1)
-  where
-    by : (b : Bool) → (a == i) ≡ b → (a + 1 ≤ i → i < (a + 1) + n → p i ≡ true) → p i ≡ true
-    by true e rest = ap p (sym (eqb-true a i e)) ∙ (and_parts _ _ h).0
-    by false e rest =
-        let differs : a ≢ i = λ f. false≢true (sym e ∙ eq-eqb a i f) in
-        rest (omega (arith, l, differs)) (omega (arith, u))
 
 bit_two : (n i : ℕ) → (bit_at n i ≡ 0) ⊎ (bit_at n i ≡ 1)
 bit_two n i = by (n / 2 ^ i)

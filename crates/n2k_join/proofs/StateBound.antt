@@ -15,6 +15,7 @@ use Rattle.n2k_join.specs.Saved.{whole, list, piece_tree, group_tree, state_text
 use Rattle.n2k_join.specs.Window.{IsWindow}
 use Rattle.n2k_join.specs.State.{State, IsState, IsPiece, HasParts, IsOpen, Rise}
 use Rattle.n2k_join.proofs.SavedGroups.{small_bytes}
+use Rattle.n2k_join.proofs.Rising.{rise-few}
 
 -- ---- numbers and digits
 
@@ -119,21 +120,11 @@ pieces_each : (ps : List Piece) → AllByRecursion IsPiece ps → AllByRecursion
 pieces_each [] are small = tt
 pieces_each (p ∷ ps) are small = (piece_short p are.0 small.0, pieces_each ps are.1 small.1)
 
--- what rises from a number on and stays below 32 has no more members than there are numbers
-pub few_pieces : (least : ℕ) (ps : List Piece) → Rise (λ (p : Piece). p.number) least ps → AllByRecursion (λ (p : Piece). p.number < most_frames) ps → least ≤ most_frames → length ps + least ≤ most_frames
-few_pieces least [] rise small within = omega (arith, within)
-few_pieces least (p ∷ ps) rise small within =
-    let below : p.number < most_frames = small.0 in
-    let next : p.number + 1 ≤ most_frames = omega (arith, below) in
-    let from : least ≤ p.number = rise.0 in
-    let rest = few_pieces (p.number + 1) ps rise.1 small.1 next in
-    omega (arith, from, rest)
-
 -- ---- open groups
 
 frames_short : (g : Group) → HasParts g → IsOpen g → length (compact_text (list (map piece_tree g.pieces))) ≤ 706
 frames_short g parts is =
-    let few = few_pieces 0 g.pieces is.rise is.numbers (omega arith) in
+    let few = rise-few (λ (p : Piece). p.number) 0 most_frames g.pieces is.rise is.numbers in
     let short = list_short piece_tree 21 g.pieces (pieces_each g.pieces parts.pieces is.numbers) in
     omega (arith, few, short)
 

@@ -10,8 +10,8 @@ use Rattle.n2k_join.specs.Scattered.{IsPieceOf, joined}
 use Rattle.n2k_join.proofs.WholePieces.{complete_pieces}
 use Rattle.n2k_join.specs.Window.{Rule}
 use Rattle.n2k_join.proofs.Carried.{has_number-cons, eqb-sym}
-use Rattle.n2k_join.proofs.GroupLines.{all-front, all-back}
 use Rattle.n2k_join.proofs.CutLaws.{first_follows}
+use Rattle.n2k_join.proofs.Rising.{all-front, all-back}
 
 -- frames that are complete, and don't end before the last
 pub record IsStretch (ends : Ends) (g : List Frame) : Type 0 where

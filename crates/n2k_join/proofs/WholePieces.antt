@@ -13,7 +13,7 @@ use Rattle.n2k_join.specs.Scattered.{IsPieceOf}
 use Rattle.n2k_join.specs.Arrival.{PiecesJoin}
 use Rattle.n2k_join.proofs.Counting.{has_all_numbers}
 use Rattle.n2k_join.proofs.PieceFrames.{piece_says}
-use Rattle.n2k_join.proofs.Rising.{range-append}
+use Rattle.n2k_join.proofs.Rising.{range-append, all_to, all-map}
 use Rattle.std.proofs.Math.Bool.{and-true}
 
 -- a number that the pieces have carries the bytes of that piece
@@ -26,20 +26,11 @@ carried_pieces x (f ∷ fs) n pieces has = by_test (f.number == n) refl has (car
     by_test false e h ih = ih h
 
 pieces_below : (x : Sending) (fs : List Frame) → AllByRecursion (IsPieceOf x) fs → AllByRecursion (λ (f : Frame). f.number < last_piece x.message + 1) fs
-pieces_below x [] pieces = tt
-pieces_below x (f ∷ fs) pieces = (omega (arith, pieces.0.in_range), pieces_below x fs pieces.1)
+pieces_below x fs pieces = all-map (IsPieceOf x) (λ (f : Frame). f.number < last_piece x.message + 1) fs (λ f is. omega (arith, is.in_range)) pieces
 
 none_past : (x : Sending) (fs : List Frame) → AllByRecursion (IsPieceOf x) fs → is_within (last_piece x.message) fs ≡ true
 none_past x [] pieces = refl
 none_past x (f ∷ fs) pieces = rw (le-leb f.number (last_piece x.message) pieces.0.in_range) (none_past x fs pieces.1)
-
-all_at_first : (p : ℕ → Bool) (m : ℕ) → 0 < m → list_all p (range_with_len 0 m) ≡ true → p 0 ≡ true
-all_at_first p zero h e = absurd (omega arith)
-all_at_first p (suc m) h e = by_test (p 0) e
-  where
-    by_test : (b : Bool) → b && list_all p (range_with_len (0 + 1) m) ≡ true → b ≡ true
-    by_test true e = refl
-    by_test false e = e
 
 -- the total, where frame 0 is there
 pub total_of : (x : Sending) (fs : List Frame) → AllByRecursion (IsPieceOf x) fs → has_number 0 fs ≡ true → total fs ≡ length x.message.payload
@@ -59,7 +50,7 @@ complete_pieces x fs pieces apart = by_first (has_number 0 fs) refl
 
     by_first : (b : Bool) → has_number 0 fs ≡ b → not (has_twice fs) && (b && (has_all (last_number (total fs)) fs && is_within (last_number (total fs)) fs)) ≡ (length fs == m)
     by_first true e = rw (apart, total_of x fs pieces e, none_past x fs pieces) (and-true _ ∙ all_there)
-    by_first false e = rw apart (sym (false_from_ne_true _ (λ full. false≢true (sym e ∙ all_at_first (λ n. has_number n fs) m (omega arith) (all_there ∙ full)))))
+    by_first false e = rw apart (sym (false_from_ne_true _ (λ full. false≢true (sym e ∙ all_to (λ n. has_number n fs) 0 m 0 (all_there ∙ full) (omega arith) (omega arith)))))
 
 -- chunks of seven, joined
 chunks : (payload : List ℕ) (a k : ℕ) → flat_map (piece_bytes payload) (range_with_len a k) ≡ map (sent_byte payload) (range_with_len (7 * a) (7 * k))
@@ -105,7 +96,7 @@ unfolding data_of
 data_pieces x fs pieces apart full =
     let m = last_piece x.message + 1 in
     let all_there : list_all (λ n. has_number n fs) (range_with_len 0 m) ≡ true = has_all_numbers m fs (pieces_below x fs pieces) apart ∙ eq-eqb _ _ full in
-    let first : has_number 0 fs ≡ true = all_at_first (λ n. has_number n fs) m (omega arith) all_there in
+    let first : has_number 0 fs ≡ true = all_to (λ n. has_number n fs) 0 m 0 all_there (omega arith) (omega arith) in
     ap (λ t. take t (drop 1 (flat_map (bytes_at fs) (range_with_len 0 (last_number t + 1))))) (total_of x fs pieces first)
     ∙ (ap (λ l. take (length x.message.payload) (drop 1 l)) (bytes_pieces x fs (range_with_len 0 m) pieces all_there ∙ chunks x.message.payload 0 m)
     ∙ sent_data x.message.payload)

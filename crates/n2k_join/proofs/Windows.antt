@@ -15,8 +15,8 @@ use Rattle.n2k_join.proofs.Cuts.{within-ends, has-from}
 use Rattle.n2k_join.proofs.Held.{first-held}
 use Rattle.n2k_join.proofs.Keys.{same_key-true}
 use Rattle.n2k_join.proofs.Opened.{IsLog, open_groups-push, open_groups-none}
-use Rattle.n2k_join.proofs.Resumed.{open_groups-held, open_groups-open}
-use Rattle.n2k_join.proofs.Rising.{rise-less, find-none, all-map}
+use Rattle.n2k_join.proofs.Resumed.{open_groups-held, open_groups-open, first_of}
+use Rattle.n2k_join.proofs.Rising.{rise-less, find-none, all-map, rise-filter}
 use Rattle.n2k_join.specs.Window.{Rule}
 use Rattle.std.proofs.Math.Bool.{or-false}
 
@@ -40,16 +40,6 @@ pub filter-passed : {X : Type 0} (t : X → Bool) (xs : List X) → AllByRecursi
 filter-passed t [] all = refl
 filter-passed t (x ∷ xs) all = ap (λ b. cond b (x ∷ filter t xs) (filter t xs)) all.0 ∙ ap (λ ys. x ∷ ys) (filter-passed t xs all.1)
 
-abbrev first_of : Group → ℕ
-first_of o = o.first
-
-rise-filter : (least : ℕ) (t : Group → Bool) (gs : List Group) → Rise (λ (g : Group). g.first) least gs → Rise (λ (g : Group). g.first) least (filter t gs)
-rise-filter least t [] r = tt
-rise-filter least t (g ∷ gs) r =
-    let at : least ≤ g.first + 1 = omega (arith, r.0) in
-    elim (t g) as (λ b. Rise (λ (g : Group). g.first) least (cond b (g ∷ filter t gs) (filter t gs)))
-    [ true ↦ (r.0, rise-filter (g.first + 1) t gs r.1) | false ↦ rise-less (λ (g : Group). g.first) least (g.first + 1) (filter t gs) at (rise-filter (g.first + 1) t gs r.1) ]
-
 apart-filter : (t : Group → Bool) (gs : List Group) → AreApart gs → AreApart (filter t gs)
 apart-filter t [] a = tt
 apart-filter t (g ∷ gs) a =
@@ -59,7 +49,7 @@ apart-filter t (g ∷ gs) a =
 pub open-filter : (n : ℕ) (t : Group → Bool) (gs : List Group) → AreOpen n gs → AreOpen n (filter t gs)
 open-filter n t gs are = record {
   each = all-filter IsOpen t gs are.each;
-  rise = rise-filter 1 t gs are.rise;
+  rise = rise-filter (λ (g : Group). g.first) t 1 gs are.rise;
   begun = all-filter (λ (g : Group). g.first ≤ n) t gs are.begun;
   apart = apart-filter t gs are.apart;
 }

@@ -17,11 +17,11 @@ use Rattle.n2k_join.specs.Messages.{single_by, alone}
 use Rattle.n2k_join.specs.Pieces.{sent_byte, piece_bytes, piece, last_piece, pieces_as, Sending, sendings, sendings_after, frames_of_sending, written}
 use Rattle.n2k_join.specs.Scattered.{key_of_sending, IsPieceOf, IsStretchOf, IsStretchWithin, FallInto, IsScattered, as_entries, WrittenLog}
 use Rattle.n2k_join.proofs.Keys.{of_key-append, of_key-all, of_key-none}
-use Rattle.n2k_join.proofs.Rising.{all-map, all-append}
+use Rattle.n2k_join.proofs.Rising.{all-map, all-append, rise-least}
 use Rattle.n2k_join.proofs.PieceFrames.{given_frame, piece_says}
 use Rattle.n2k_join.specs.Groups.{first}
 use Rattle.n2k_join.proofs.GroupLines.{IsGroup, first_above}
-use Rattle.n2k_join.proofs.Lines.{frames-rise, rise-all}
+use Rattle.n2k_join.proofs.Lines.{frames-rise, line_of}
 use Rattle.n2k_join.proofs.Logs.{frames-below, frames_from-append}
 use Rattle.n2k_join.proofs.Healing.{rising-apart, rising-length}
 use Rattle.n2k_join.specs.Window.{Rule}
@@ -106,7 +106,7 @@ in_time : (kind : ℕ → Option Kind) (w : Rule) (line : ℕ) (x : Sending) →
 unfolding frames_at
 in_time kind w line x long can some =
     let es = as_entries (frames_of_sending kind x) in
-    let from : line ≤ first (frames_from kind line es) = first_above line (frames_from kind line es) some (rise-all line (frames_from kind line es) (frames-rise kind line es)) in
+    let from : line ≤ first (frames_from kind line es) = first_above line (frames_from kind line es) some (rise-least line_of line (frames_from kind line es) (frames-rise kind line es)) in
     all-map (λ (f : Frame). f.line < line + length es) (λ (f : Frame). f.line < first (frames_from kind line es) + w.window) (frames_from kind line es) (λ f l. omega (arith, l, from, short kind x can, long)) (frames-below kind line es)
 
 one_more : (w : Rule) (k : Key) (x : Sending) (xs : List Sending) (g fs : List Frame) → IsStretchWithin w x g → FallInto w xs fs → FallInto w (x ∷ xs) (g ++ fs)

@@ -4,7 +4,7 @@ ghost use Rattle.n2k_run.specs.FramesOut.{IsInterface, interface_of};
 ghost use Rattle.n2k_run.specs.Runs.{seen};
 ghost use Rattle.n2kdec.specs.Commands.{IsRefusal};
 ghost use Rattle.n2kdec.specs.Words.{IsCommand, interface_word, options_of};
-ghost use Rattle.n2kdec.specs.Work.{ByTable, DoesDecode, DoesFrames, DoesPlain, TellsWhole, Works, answer_of_part, stop_of, stop_of_part};
+ghost use Rattle.n2kdec.specs.Work.{TellsWhole, Works, answer_of_part, stop_of, stop_of_part};
 
 use crate::fault::Fault;
 use crate::word::{Word, Words};
@@ -97,72 +97,6 @@ fn text_of(word: &Option<Word>) -> Option<&str>
     }
 }
 
-// `plain`, which reads no table.
-fn plain_by<R: Source, W: Sink, E: Sink>(
-    alloc: Global,
-    log: &mut R,
-    output: &mut W,
-    errors: &mut E,
-) -> Result<Part, Stop>
-    ensures { let before = seen R.Source W.Sink E.Sink log.old output.old errors.old in
-        let after = seen R.Source W.Sink E.Sink log.new output.new errors.new in
-        DoesPlain before after result }
-{
-    let ended = run_plain(alloc, log, output, errors);
-    whole(alloc, ended)
-}
-
-// `decode` by the table that the bytes spell, where they have no fault.
-fn decode_by<R: Source, W: Sink, E: Sink>(
-    alloc: Global,
-    table: &[u8],
-    state: Option<&[u8]>,
-    options: Options,
-    log: &mut R,
-    output: &mut W,
-    errors: &mut E,
-) -> Result<Part, Stop>
-    ensures does { let before = seen R.Source W.Sink E.Sink log.old output.old errors.old in
-        let after = seen R.Source W.Sink E.Sink log.new output.new errors.new in
-        ByTable table.now before after result
-        (λ t. DoesDecode t options (option_map (λ bytes. bytes.now) state.entry) before after result) }
-    ensures untouched { IfErr result (λ stop. IsRefusal stop.fault
-        → (stop.part ≡ None) × ((log.new ≡ log.old) × (output.new ≡ output.old) × (errors.new ≡ errors.old))) }
-{
-    match Table::read(alloc, table) {
-        Ok(table) => {
-            let ended = run_part(alloc, &table, state, options, log, output, errors);
-            part(ended)
-        }
-        Err(fault) => Err(Stop::of(Fault::Table(fault))),
-    }
-}
-
-// `frames` by the table that the bytes spell, where they have no fault.
-fn frames_by<R: Source, W: Sink, E: Sink>(
-    alloc: Global,
-    table: &[u8],
-    interface: Option<&str>,
-    log: &mut R,
-    output: &mut W,
-    errors: &mut E,
-) -> Result<Part, Stop>
-    requires { IsInterface (interface_of interface) }
-    ensures does { let before = seen R.Source W.Sink E.Sink log.old output.old errors.old in
-        let after = seen R.Source W.Sink E.Sink log.new output.new errors.new in
-        ByTable table.now before after result (λ t. DoesFrames t (interface_of interface.entry) before after result) }
-    ensures untouched { IfErr result (λ stop. IsRefusal stop.fault
-        → (stop.part ≡ None) × ((log.new ≡ log.old) × (output.new ≡ output.old) × (errors.new ≡ errors.old))) }
-{
-    match Table::read(alloc, table) {
-        Ok(table) => {
-            let ended = run_frames(alloc, &table, interface, log, output, errors);
-            whole(alloc, ended)
-        }
-        Err(fault) => Err(Stop::of(Fault::Table(fault))),
-    }
-}
-
 /// Does what the words name, from the bytes of a table and of a state as far as their command has them: `plain` and
 /// `frames` over a whole log, `decode` from the state on, or from a log's beginning (`None`). The output gets the
 /// texts, and `errors` the reports.
@@ -187,19 +121,30 @@ pub fn work<R: Source, W: Sink, E: Sink>(
         → (stop.part ≡ None) × ((log.new ≡ log.old) × (output.new ≡ output.old) × (errors.new ≡ errors.old))) }
 {
     match words {
-        Words::Plain { .. } => plain_by(alloc, log, output, errors),
+        Words::Plain { .. } => {
+            let ended = run_plain(alloc, log, output, errors);
+            whole(alloc, ended)
+        }
         Words::Decode {
             empty,
             whole,
             window,
             ..
-        } => {
-            let options = options_of(*empty, *whole, *window);
-            decode_by(alloc, table, state, options, log, output, errors)
-        }
-        Words::Frames { candump, .. } => {
-            frames_by(alloc, table, text_of(candump), log, output, errors)
-        }
+        } => match Table::read(alloc, table) {
+            Ok(table) => {
+                let options = options_of(*empty, *whole, *window);
+                let ended = run_part(alloc, &table, state, options, log, output, errors);
+                part(ended)
+            }
+            Err(fault) => Err(Stop::of(Fault::Table(fault))),
+        },
+        Words::Frames { candump, .. } => match Table::read(alloc, table) {
+            Ok(table) => {
+                let ended = run_frames(alloc, &table, text_of(candump), log, output, errors);
+                whole(alloc, ended)
+            }
+            Err(fault) => Err(Stop::of(Fault::Table(fault))),
+        },
         Words::Help(_) => Err(Stop::of(Fault::Words)),
     }
 }

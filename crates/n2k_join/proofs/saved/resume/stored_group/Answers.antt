@@ -23,10 +23,7 @@ is_read : (first : ℕ) (key : Key) (ps items : List Piece) (stored g : Group) �
 is_read first key ps items stored g is same view = is ∙ ap (λ ps. let h : Group = record { first = first; key = key; pieces = ps } in h) same ∙ view
 
 some_items : (ps : List Piece) (b : Bool) → b ≡ (length ps == 0) → b ≡ false → is_some_list ps ≡ true
-some_items [] b is not_empty = is_false (sym is ∙ not_empty)
-  where
-    is_false : true ≡ false → false ≡ true
-    is_false e = sym e
+some_items [] b is not_empty = sym (sym is ∙ not_empty)
 some_items (p ∷ ps) b is not_empty = refl
 
 pub returns-then-is_complete-clause-value : goal.returns-then-is_complete-clause-value

@@ -12,11 +12,8 @@ use Rattle.n2k_join.specs.Inner.Apart.{each_new, SomeUnder}
 use Rattle.n2k_join.specs.Inner.Slots.{group_at, groups_in}
 use Rattle.n2k_join.specs.Inner.Stored.{key_of}
 use Rattle.n2k_join.proofs.Apart.{keys_in, hold-each_new, key_again, key_listed, stored_kept, stored_left, stored_parts}
+use Rattle.n2k_join.proofs.Rising.{none_from}
 use Rattle.n2k_join.proofs.saved.resume.stored_groups.Goals as goal
-
-none_is : {T : Type 0} (o : Option T) → is_some o ≡ false → o ≡ None
-none_is None e = refl
-none_is (Some x) e = absurd cc
 
 pub loop-group-init : goal.loop-group-init
 loop-group-init c = record {
@@ -46,7 +43,7 @@ loop-group-preserved c =
     let i = c.loop-group.group-index in
     let taken = subst (λ o. SomeUnder group_at o (group_holds (kind c.args.table.now) g) g) c.in_ok-key.ensures.ok_part c.stored_group.ensures.value in
     let parts = subst (λ o. IfSome o (λ e. HasParts (group_at e))) c.in_ok-key.ensures.ok_part c.stored_group.ensures.parts in
-    let none : lookup (λ (j : FrameKey). same_key (key_of k) (key_of j)) es ≡ None = sym c.in_ok-insert.ensures.old ∙ none_is c.in_ok-insert.field-0 (sym c.is_some.ensures ∙ c.if-is_some.false) in
+    let none : lookup (λ (j : FrameKey). same_key (key_of k) (key_of j)) es ≡ None = sym c.in_ok-insert.ensures.old ∙ none_from c.in_ok-insert.field-0 (sym c.is_some.ensures ∙ c.if-is_some.false) in
     record {
       left = stored_left (kind c.args.table.now) gs i g (omega arith) c.group-item.is k v es c.insert.new.self.entries taken.1 none c.in_ok-insert.ensures.entries taken.0 c.loop-group.invariant.left;
       kept = stored_kept (kind c.args.table.now) gs i g (omega arith) c.group-item.is k v es c.insert.new.self.entries taken.1 none c.in_ok-insert.ensures.entries c.loop-group.invariant.kept;
