@@ -22,7 +22,7 @@ use Rattle.n2k_run.specs.Decoded.{join_making, output_after}
 use Rattle.n2k_run.specs.Entries.{entries}
 use Rattle.n2k_run.specs.Inner.Parts.{Finishes, HasSaved, Saves}
 use Rattle.n2k_run.specs.Making.{after_all}
-use Rattle.n2k_run.specs.Parts.{BeginsBy, HasPart, IsPartOf, Ran, StandsAtLine, TellsRun, begun}
+use Rattle.n2k_run.specs.Parts.{BeginsBy, HasPart, IsPartOf, OnRefusal, Ran, StandsAtLine, TellsRun, begun}
 use Rattle.n2k_run.specs.Runs.{Devices, HasFronts, Output, Runs, output_from}
 use Rattle.n2k_run.proofs.Calls.{none_read, within_one}
 use Rattle.n2k_run.proofs.Ending.{of_log, runs_more, runs_same}
@@ -85,6 +85,10 @@ finished _ ran is = is
 pub begins_by : (t : TableParts) (o : Options) (handed : Option (List ℕ)) (s : State) (result : Result Part PartFault) (ran : Result (Unit {0}) RunFault) → begun t o handed ≡ Ok s → Finishes result ran → BeginsBy t o handed result
 begins_by t o handed s (Err (Refused fault)) ran is finishes = absurd finishes
 begins_by t o handed s _ ran is finishes = subst (λ r. IsOk r) (sym is) refl
+
+pub not_refused : (result : Result Part PartFault) (ran : Result (Unit {0}) RunFault) (P : Type 0) → Finishes result ran → OnRefusal result P
+not_refused (Err (Refused fault)) ran P finishes = absurd finishes
+not_refused _ ran P finishes = tt
 
 -- ---- the states that a part goes through
 

@@ -164,9 +164,11 @@ Continues t o front before after _ = IfSome before.left (λ log. GoesOnPartly t 
 -- From a state that is handed in, or, where there is none, from a log's beginning.
 pub record RunsFrom (t : TableParts) (o : Options) (handed : Option (List ℕ)) (before after : Devices)
     (result : Result Part PartFault) : Type 0 where
-  -- Each kind of refusal has its faults. A state is refused for what stands in it, or for want of memory.
+  -- Each kind of refusal has its faults. A state is refused for what stands in it, or for want of memory, and then no
+  -- device is touched.
   pub fault_kinds : IsOfKind result
   pub begins : BeginsBy t o handed result
+  pub untouched : OnRefusal result (after ≡ before)
   -- From any state that reads, whether or not a log leads to it: the texts and reports of the steps of the part's
   -- entries.
   pub steps : (s : State) → begun t o handed ≡ Ok s

@@ -9,13 +9,14 @@ use Rattle.n2k_run.specs.Parts.{HasPart, TellsRun, begun}
 use Rattle.n2k_run.specs.Runs.{seen}
 use Rattle.n2k_run.proofs.GoingOn.{continues_of}
 use Rattle.n2k_run.proofs.LogSteps.{log_laws}
-use Rattle.n2k_run.proofs.Parting.{KeepsFast, begins_by, log_of, memory_alone, refused_by, steps_of, unbegun}
+use Rattle.n2k_run.proofs.Parting.{KeepsFast, begins_by, log_of, memory_alone, not_refused, refused_by, steps_of, unbegun}
 use Rattle.n2k_run.proofs.part.run_part.Goals as goal
 
 pub returns-in-Err-clause-runs : goal.returns-in-Err-clause-runs
 returns-in-Err-clause-runs g c = record {
   fault_kinds = tt;
   begins = (c.begin.ensures.handed cc, refused_by c.in-Err.fault _ c.in-Err.ensures.state);
+  untouched = refl;
   steps = λ s is. unbegun _ _ _ c.in-Err.fault refl;
   log = λ front is. unbegun _ _ _ c.in-Err.fault refl;
   headline = λ front is. memory_alone c.in-Err.fault _ _ is.leads_to (refused_by c.in-Err.fault _ c.in-Err.ensures.state);
@@ -45,6 +46,7 @@ returns-clause-runs g c =
     record {
       fault_kinds = c.finish.ensures.fault_kinds;
       begins = begins_by t o handed c.in-Ok.join result c.run-ran.result c.in-Ok.ensures.state finishes;
+      untouched = not_refused result c.run-ran.result (after ≡ before) finishes;
       steps = steps;
       log = log;
       headline = λ front is. continues_of t o logs front is.whole_lines before after result (log (entries o.packing front) is.leads_to) c.finish.ensures.fault_kinds
