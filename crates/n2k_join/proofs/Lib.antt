@@ -32,6 +32,7 @@ pub mod OneRules
 pub mod Opened
 pub mod Overdue
 pub mod PieceBytes
+pub mod LentFrames
 pub mod PieceFrames
 pub mod Replaying
 pub mod Resumed

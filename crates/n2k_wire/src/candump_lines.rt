@@ -14,7 +14,7 @@ use crate::fault::WireFault;
 use crate::identifier::join_id;
 use crate::packet::Packet;
 use crate::plain_line::{append_room, put};
-use crate::stamp::{Moment, read_utc, utc_text};
+use crate::stamp::read_utc;
 use std::alloc::Global;
 use std::marker::Model;
 
