@@ -26,6 +26,7 @@ pub mod Numbered
 pub mod Opened
 pub mod Overdue
 pub mod PieceBytes
+pub mod LentFrames
 pub mod PieceFrames
 pub mod ReadStates
 pub mod Replaying

@@ -8,31 +8,7 @@ use Rattle.n2k_table.specs.declared.definition.Kind.{Kind}
 use Rattle.n2k_table.specs.declared.definition.Kind.TheVariants.{Single, Fast}
 use Rattle.n2k_join.specs.Pieces.{Stream, same_stream, Sequences, is_fast, raised}
 use Rattle.n2k_join.specs.Splitter.{sequences}
-use Rattle.n2k_join.specs.Inner.Stored.{are_sequences}
-
--- one that is found is below 8
-pub found_below : (test : Stream → Bool) (held : List (Stream × ℕ)) (n : ℕ) → are_sequences held ≡ true → Some n ≡ lookup test held → n < 8
-found_below test [] n small found = absurd (none_of found)
-  where
-    none_of : Some n ≡ None → ⊥
-    none_of e = cc
-found_below test (e ∷ es) n small found = by (test e.0) found (found_below test es n (and_parts _ _ small).1)
-  where
-    here : Some n ≡ Some e.1 → n ≡ e.1
-    here f = cc
-
-    by : (b : Bool) → Some n ≡ cond b (Some e.1) (lookup test es) → (Some n ≡ lookup test es → n < 8) → n < 8
-    by true f later = let same : n ≡ e.1 = here f in let below : e.1 < 8 = ltb-true _ _ (and_parts _ _ small).0 in omega arith
-    by false f later = later f
-
--- and with one more they are sequences still
-pub insert_entry-are_sequences : (eq : Stream → Stream → Bool) (held : List (Stream × ℕ)) (k : Stream) (n : ℕ) → are_sequences held ≡ true → nat_lt n 8 ≡ true → are_sequences (insert_entry eq held k n) ≡ true
-insert_entry-are_sequences eq [] k n small below = and_from _ _ below refl
-insert_entry-are_sequences eq (e ∷ es) k n small below = by (eq k e.0) (insert_entry-are_sequences eq es k n (and_parts _ _ small).1 below)
-  where
-    by : (b : Bool) → are_sequences (insert_entry eq es k n) ≡ true → are_sequences (cond b ((e.0, n) ∷ es) (e ∷ insert_entry eq es k n)) ≡ true
-    by true later = and_from _ _ below (and_parts _ _ small).1
-    by false later = and_from _ _ (and_parts _ _ small).0 later
+use Rattle.n2k_join.specs.Inner.Stored.{AreSequences}
 
 pub same_stream-true : (a b : Stream) → same_stream a b ≡ true → a ≡ b
 unfolding same_stream
@@ -50,6 +26,14 @@ raised_by_map held stream other n found e f = ap (λ o. unwrap_or o 0) f ∙ by 
     by : (b : Bool) → same_stream stream other ≡ b → unwrap_or (cond b (Some ((n + 1) % 8)) (lookup (same_stream other) held)) 0 ≡ cond b ((sequences held other + 1) % 8) (sequences held other)
     by true same = ap (λ m. (m + 1) % 8) (e ∙ ap (sequences held) (same_stream-true stream other same))
     by false same = refl
+
+-- and it is below 8 still
+pub raised_below : (held : List (Stream × ℕ)) (stream other : Stream) (after : ℕ) → AreSequences held → after ≡ cond (same_stream stream other) ((sequences held other + 1) % 8) (sequences held other) → after < 8
+raised_below held stream other after are is = by (same_stream stream other) is
+  where
+    by : (b : Bool) → after ≡ cond b ((sequences held other + 1) % 8) (sequences held other) → after < 8
+    by true e = omega arith
+    by false e = omega (arith, are other, e)
 
 -- a message of a single PGN raises nothing
 pub raised_single : (kind : ℕ → Option Kind) (held : Sequences) (s : Stream) → kind s.pgn ≡ Some Single → raised kind held s ≡ held

@@ -42,7 +42,7 @@ pub use counts::{Counts, MOST_LINES};
 pub use fault::JoinFault;
 pub use join::Join;
 pub use split_fault::SplitFault;
-pub use splitter::Splitter;
+pub use splitter::{Frames, Splitter};
 pub use state_fault::StateFault;
 pub use step::{LentStep, Step};
 pub use stream::Stream;

@@ -1,20 +1,22 @@
 -- The frames of one message, and their lines.
-use Rattle.std.proofs.Common.{◌≡◌, ◌≤◌, ◌<◌, ◌+◌, ◌*◌, ℕ, zero, suc, Bool, true, false, cond, List, [], ◌∷◌, ◌++◌, length, map, All, refl, sym, ap, ◌∙◌, subst, arith, Option, Some, None, Result, Ok, Err}
-use Rattle.std.specs.Prelude.{IfOk, IsOkUnless, MatchOption, nat_le, unwrap_or}
+use Rattle.std.proofs.Common.{◌≡◌, ◌≤◌, ◌<◌, ◌+◌, ◌*◌, ℕ, zero, suc, Bool, true, false, cond, List, [], ◌∷◌, ◌++◌, length, get_or, map, take, refl, sym, ap, ◌∙◌, append_assoc, subst, arith, codes, Option, Some, None, Result, Ok, Err}
+use Rattle.std.specs.Prelude.{IsOkUnless, MatchOption, nat_le, option_map, slice_get}
 use Rattle.std.specs.List.{AllByRecursion, range_with_len}
-use Rattle.std.specs.Option.{is_none, option_or}
-use Rattle.std.specs.Result.{result_ok}
+use Rattle.std.specs.Option.{is_none}
+use Rattle.std.proofs.Math.Seq.{take-append_seam, take-suc, take_all}
 use Rattle.std.proofs.lemmas.Bool.{leb-true}
 use Rattle.std.proofs.lemmas.List.{append-nil}
-use Rattle.std.proofs.lemmas.List.Elements.{All-from_recursion, All-same}
+use Rattle.std.proofs.lemmas.List.Concat.{flat_map-append}
 use Rattle.std.proofs.lemmas.List.FromFn.{length-map-range_with_len}
+use Rattle.std.proofs.lemmas.Option.{get_or_from_slice_get, slice_get_within}
+use Rattle.n2k_wire.specs.declared.entry.BadCause.{BadCause}
 use Rattle.n2k_wire.specs.declared.fault.WireFault.{WireFault}
-use Rattle.n2k_wire.specs.declared.fault.WireFault.TheVariants.{NoStamp, NoId, Memory}
+use Rattle.n2k_wire.specs.declared.fault.WireFault.TheVariants.{Memory}
 use Rattle.n2k_wire.specs.Candump.{frame_payload}
 use Rattle.n2k_wire.specs.Packet.{PacketParts}
 use Rattle.n2k_wire.specs.Stamp.{Moment}
-use Rattle.n2k_wire.specs.Steps.{◌>>=◌, or_cause}
-use Rattle.n2k_wire.specs.Texts.{candump_line, candump_parts}
+use Rattle.n2k_wire.specs.Steps.{◌>>=◌}
+use Rattle.n2k_wire.specs.Texts.{Appends, candump_line, candump_parts}
 use Rattle.n2k_table.specs.declared.definition.Kind.{Kind}
 use Rattle.n2k_table.specs.declared.definition.Kind.TheVariants.{Single, Fast}
 use Rattle.n2k_join.specs.declared.split_fault.SplitFault.{SplitFault}
@@ -22,13 +24,14 @@ use Rattle.n2k_join.specs.declared.split_fault.SplitFault.TheVariants as unsplit
 use Rattle.n2k_join.specs.Pieces.{Sequences, last_piece, piece, piece_bytes, pieces_as, pieces_by, raised, sent_byte, stream_of}
 use Rattle.n2k_join.specs.Splitter.{refusal}
 use Rattle.n2k_run.specs.declared.frames.Outcome.{Outcome}
-use Rattle.n2k_run.specs.FramesOut.{fault_cause, frame_texts, interface_cause, split_cause}
-use Rattle.n2k_run.specs.Inner.Sending.{MadeOf, SentMessage, WritesFrames, candump_texts, lines_of, outcome_by}
+use Rattle.n2k_run.specs.declared.frames.Outcome.TheVariants.{Written, Bad}
+use Rattle.n2k_run.specs.FramesOut.{fault_cause, frame_text, frame_texts, interface_cause}
+use Rattle.n2k_run.specs.Inner.Sending.{SentMessage, frame_line, outcome_by}
 
 -- what candump writes in front of a frame's data is what it writes for the message, and the frame has at most 8 bytes
-record IsFrameOf (m p : PacketParts) : Type 0 where
-  parts_are : candump_parts p ≡ candump_parts m
-  short : length p.payload ≤ frame_payload
+pub record IsFrameOf (m p : PacketParts) : Type 0 where
+  pub parts_are : candump_parts p ≡ candump_parts m
+  pub short : length p.payload ≤ frame_payload
 
 seven : (m : PacketParts) (n : ℕ) → length (piece_bytes m.payload n) ≡ 7
 unfolding piece_bytes
@@ -56,89 +59,79 @@ frames_are None m s e = tt
 frames_are (Some Single) m s e = (record { parts_are = refl; short = leb-true _ _ (single_fits (nat_le (length m.payload) frame_payload) e) }, tt)
 frames_are (Some Fast) m s e = pieces_are m s 0 (last_piece m + 1)
 
-frames_some : (k : Option Kind) (m : PacketParts) (s : ℕ) → refusal k m ≡ None → 0 < length (pieces_as k m s)
-unfolding pieces_as
-frames_some None m s e = absurd (some_none e)
-  where
-    some_none : Some unsplit.Unknown ≡ None → ⊥
-    some_none e = cc
-frames_some (Some Single) m s e = omega arith
-frames_some (Some Fast) m s e = omega (arith, length-map-range_with_len (piece m s) 0 (last_piece m + 1))
+-- one of them
+at : {A : Type 0} (P : A → Type 0) (xs : List A) (n : ℕ) (d : A) → AllByRecursion P xs → n < length xs → P (get_or xs n d)
+at P [] n d all within = absurd (omega (arith, within))
+at P (x ∷ xs) zero d all within = all.0
+at P (x ∷ xs) (suc n) d all within = at P xs n d all.1 (omega (arith, within))
 
--- each frame fits a candump line
-all_short : (m : PacketParts) (ps : List PacketParts) → AllByRecursion (IsFrameOf m) ps → AllByRecursion (λ (p : PacketParts). length p.payload ≤ frame_payload) ps
-all_short m [] are = tt
-all_short m (p ∷ ps) are = (are.0.short, all_short m ps are.1)
-
-pub frames_short : (k : Option Kind) (m : PacketParts) (s : ℕ) (ps : List PacketParts) → ps ≡ pieces_as k m s → refusal k m ≡ None → All (λ (p : PacketParts). length p.payload ≤ frame_payload) ps
-frames_short k m s ps is split =
-    All-same (λ (p : PacketParts). length p.payload ≤ frame_payload) ps (pieces_as k m s) is (All-from_recursion (λ (p : PacketParts). length p.payload ≤ frame_payload) (pieces_as k m s) (all_short m (pieces_as k m s) (frames_are k m s split)))
-
--- what was appended to nothing
-pub appended_alone : {A : Type 0} (xs none more : List A) → xs ≡ none ++ more → none ≡ [] → xs ≡ more
-appended_alone xs none more is empty = is ∙ ap (λ front. front ++ more) empty
+pub frame_of : (k : Option Kind) (m : PacketParts) (s : ℕ) (ps : List PacketParts) (n : ℕ) (p : PacketParts) → ps ≡ pieces_as k m s → refusal k m ≡ None → slice_get ps n ≡ Some p → IsFrameOf m p
+frame_of k m s ps n p are split is =
+    let all = subst (AllByRecursion (IsFrameOf m)) (sym are) (frames_are k m s split) in
+    subst (IsFrameOf m) (get_or_from_slice_get ps n p p is) (at (IsFrameOf m) ps n p all (slice_get_within ps n p is))
 
 ok_err : {A E : Type 0} (x : A) (fault : E) → Ok x ≡ Err fault → ⊥
 ok_err x fault e = cc
 
 -- a message that was split isn't refused
-pub split_of : (refused : Option SplitFault) (count : ℕ) → MatchOption refused (IsOkUnless (Ok count) unsplit.Memory) (λ fault. Ok count ≡ Err fault) → refused ≡ None
-split_of None count e = refl
-split_of (Some fault) count e = absurd (ok_err count fault e)
+pub split_of : {A : Type 0} (refused : Option SplitFault) (x : A) → MatchOption refused (IsOkUnless (Ok x) unsplit.Memory) (λ fault. Ok x ≡ Err fault) → refused ≡ None
+split_of None x e = refl
+split_of (Some fault) x e = absurd (ok_err x fault e)
 
-both_lines : (first more : Result (List ℕ) WireFault) (line rest : List ℕ) → first ≡ Ok line → more ≡ Ok rest → (first >>= (λ text. more >>= (λ others. Ok (text ++ others)))) ≡ Ok (unwrap_or (result_ok first) [] ++ rest)
-both_lines first more line rest e f = rw (e, f) refl
+-- A frame's line was appended: the message is seen at the interface.
+pub record IsLineAppended (interface : Option (List ℕ)) (m p : PacketParts) (old new : List ℕ) : Type 0 where
+  pub seen : interface_cause interface m ≡ None
+  pub text_is : new ≡ old ++ frame_text interface p
 
--- where candump writes the message's stamp and identifier it has a line for each frame
-lines_are : (interface : List ℕ) (m : PacketParts) (parts : Moment × ℕ) (ps : List PacketParts) → candump_parts m ≡ Ok parts → AllByRecursion (IsFrameOf m) ps → candump_texts interface ps ≡ Ok (frame_texts (Some interface) ps)
-lines_are interface m parts [] is are = refl
-lines_are interface m parts (p ∷ ps) is are =
-    let here = ap (λ r. r >>= (λ parts. Ok (candump_line interface parts.0 parts.1 p.payload ++ 10 ∷ []))) (are.0.parts_are ∙ is) in
-    both_lines _ _ _ _ here (lines_are interface m parts ps is are.1)
+by_parts : (interface : List ℕ) (m p : PacketParts) (parts : Result (Moment × ℕ) WireFault) (old new : List ℕ) → candump_parts p ≡ parts → candump_parts p ≡ candump_parts m
+    → Appends (parts >>= (λ x. Ok (candump_line interface x.0 x.1 p.payload ++ codes "\n"))) (Ok tt) old new → IsLineAppended (Some interface) m p old new
+by_parts interface m p (Ok parts) old new is same a = record { seen = rw (sym same ∙ is) refl; text_is = rw is a.0 }
+by_parts interface m p (Err fault) old new is same a = absurd (ok_err tt fault a)
 
--- and else for none
-lines_none : (interface : List ℕ) (m : PacketParts) (fault : WireFault) (ps : List PacketParts) → candump_parts m ≡ Err fault → AllByRecursion (IsFrameOf m) ps → 0 < length ps → candump_texts interface ps ≡ Err fault
-lines_none interface m fault [] is are some = absurd (omega (arith, some))
-lines_none interface m fault (p ∷ ps) is are some =
-    ap (λ r. (r >>= (λ parts. Ok (candump_line interface parts.0 parts.1 p.payload ++ 10 ∷ []))) >>= (λ text. candump_texts interface ps >>= (λ more. Ok (text ++ more)))) (are.0.parts_are ∙ is)
+pub line_appended : (interface : Option (List ℕ)) (m p : PacketParts) (old new : List ℕ) → IsFrameOf m p → Appends (frame_line interface p) (Ok tt) old new → IsLineAppended interface m p old new
+line_appended None m p old new is a = record { seen = refl; text_is = a.0 }
+line_appended (Some interface) m p old new is a = by_parts interface m p (candump_parts p) old new refl is.parts_are a
 
--- it isn't for want of memory
-abbrev both_parts : Moment → ℕ → Result (Moment × ℕ) WireFault
-both_parts seen identifier = Ok (seen, identifier)
+-- A frame has no line: neither has the message any.
+none_by : (interface : List ℕ) (m p : PacketParts) (fault : WireFault) (made : Outcome) (parts : Result (Moment × ℕ) WireFault) (old new : List ℕ) → candump_parts p ≡ parts → candump_parts p ≡ candump_parts m → Some made ≡ option_map Bad (fault_cause fault)
+    → Appends (parts >>= (λ x. Ok (candump_line interface x.0 x.1 p.payload ++ codes "\n"))) (Err fault) old new → interface_cause (Some interface) m ≡ fault_cause fault
+none_by interface m p fault made (Ok parts) old new is same outcome a = absurd (let memory : fault ≡ Memory = a.1 in let none = rw memory at outcome in cc)
+none_by interface m p fault made (Err other) old new is same outcome a = let it : fault ≡ other = cc in rw (sym same ∙ is) (ap fault_cause (sym it))
 
-parts_by : (stamp : Option Moment) (id : Option ℕ) → (or_cause NoStamp stamp >>= (λ seen. or_cause NoId id >>= both_parts seen)) ≡ Err Memory → ⊥
-parts_by None id e = cc
-parts_by (Some seen) None e = cc
-parts_by (Some seen) (Some identifier) e = cc
+pub no_line : (interface : Option (List ℕ)) (m p : PacketParts) (fault : WireFault) (made : Outcome) (old new : List ℕ) → IsFrameOf m p → Some made ≡ option_map Bad (fault_cause fault) → Appends (frame_line interface p) (Err fault) old new
+    → interface_cause interface m ≡ fault_cause fault
+no_line None m p fault made old new is outcome a = absurd (let memory : fault ≡ Memory = a.1 in let none = rw memory at outcome in cc)
+no_line (Some interface) m p fault made old new is outcome a = none_by interface m p fault made (candump_parts p) old new refl is.parts_are outcome a
 
-no_memory : (m : PacketParts) → candump_parts m ≡ Err Memory → ⊥
-unfolding candump_parts
-no_memory m e = parts_by _ _ e
+-- one frame more
+pub one_more : (interface : Option (List ℕ)) (frames : List PacketParts) (n : ℕ) (p : PacketParts) (start now after : List ℕ) → slice_get frames n ≡ Some p → now ≡ start ++ frame_texts interface (take n frames) → after ≡ now ++ frame_text interface p
+    → after ≡ start ++ frame_texts interface (take (n + 1) frames)
+one_more interface frames n p start now after is before grown =
+    let next : n + 1 ≡ suc n = omega arith in
+    let more : take (n + 1) frames ≡ take n frames ++ p ∷ [] = ap (λ k. take k frames) next ∙ take-suc frames n p (slice_get_within frames n p is) ∙ ap (λ y. take n frames ++ y ∷ []) (get_or_from_slice_get frames n p p is) in
+    let texts : frame_texts interface (take (n + 1) frames) ≡ frame_texts interface (take n frames) ++ frame_text interface p = ap (frame_texts interface) more ∙ flat_map-append (frame_text interface) (take n frames) (p ∷ []) ∙ ap (λ (t : List ℕ). frame_texts interface (take n frames) ++ t) (append-nil (frame_text interface p)) in
+    grown ∙ ap (λ (t : List ℕ). t ++ frame_text interface p) before ∙ append_assoc start (frame_texts interface (take n frames)) (frame_text interface p) ∙ ap (λ (t : List ℕ). start ++ t) (sym texts)
 
-refused_text : (m : PacketParts) (fault : WireFault) (lines text : List ℕ) → candump_parts m ≡ Err fault → text ≡ text ++ cond (is_none (fault_cause fault)) lines []
-refused_text m NoStamp lines text e = sym (append-nil text)
-refused_text m NoId lines text e = sym (append-nil text)
-refused_text m Memory lines text e = absurd (no_memory m e)
+-- a message was split, and the lines of all its frames are written
+pub sent : (kind : ℕ → Option Kind) (interface : Option (List ℕ)) (m : PacketParts) (held held' : Sequences) (frames : List PacketParts) (n : ℕ) (text text' : List ℕ) → frames ≡ pieces_by kind m (held (stream_of m.id)) → refusal (kind m.id.pgn) m ≡ None
+    → held' ≡ raised kind held (stream_of m.id) → interface_cause interface m ≡ None → length frames ≤ n → text' ≡ text ++ frame_texts interface (take n frames) → SentMessage kind interface m held held' text text' Written
+sent kind interface m held held' frames n text text' are split after seen all is = record {
+  made_is = rw (split, seen) refl;
+  held_is = rw split after;
+  text_is = rw (split, seen) (is ∙ ap (λ ps. text ++ frame_texts interface ps) (take_all n frames all ∙ are));
+}
 
--- what became of a message that was split
-pub record SplitMade (interface : Option (List ℕ)) (k : Option Kind) (m : PacketParts) (s : ℕ) (text text' : List ℕ) (made : Outcome) : Type 0 where
-  pub made_is : made ≡ outcome_by (option_or (split_cause (refusal k m)) (interface_cause interface m))
-  pub text_is : text' ≡ text ++ cond (is_none (option_or (split_cause (refusal k m)) (interface_cause interface m))) (frame_texts interface (pieces_as k m s)) []
+-- a message was split, and none of its lines is written
+bad_of : (cause : Option BadCause) (made : Outcome) → Some made ≡ option_map Bad cause → (made ≡ outcome_by cause) × (is_none cause ≡ false)
+bad_of None made e = absurd cc
+bad_of (Some cause) made e = (let same : made ≡ Bad cause = cc in same, refl)
 
-seen_by : (interface : List ℕ) (k : Option Kind) (m : PacketParts) (s : ℕ) (text text' : List ℕ) (made : Outcome) (parts : Result (Moment × ℕ) WireFault) → refusal k m ≡ None → candump_parts m ≡ parts → MadeOf (candump_texts interface (pieces_as k m s)) text text' made → SplitMade (Some interface) k m s text text' made
-seen_by interface k m s text text' made (Ok parts) split is a =
-    let b = subst (λ r. MadeOf r text text' made) (lines_are interface m parts (pieces_as k m s) is (frames_are k m s split)) a in
-    record { made_is = rw (split, is) b.1; text_is = rw (split, is) b.0 }
-seen_by interface k m s text text' made (Err fault) split is a =
-    let b = subst (λ r. MadeOf r text text' made) (lines_none interface m fault (pieces_as k m s) is (frames_are k m s split) (frames_some k m s split)) a in
-    record { made_is = rw (split, is) b.1; text_is = rw (split, is) (b.0 ∙ refused_text m fault (frame_texts (Some interface) (pieces_as k m s)) text is) }
+pub not_sent : (kind : ℕ → Option Kind) (interface : Option (List ℕ)) (m : PacketParts) (held held' : Sequences) (fault : WireFault) (made : Outcome) (text : List ℕ) → refusal (kind m.id.pgn) m ≡ None → held' ≡ raised kind held (stream_of m.id)
+    → interface_cause interface m ≡ fault_cause fault → Some made ≡ option_map Bad (fault_cause fault) → SentMessage kind interface m held held' text text made
+not_sent kind interface m held held' fault made text split after seen outcome =
+    let bad = bad_of (fault_cause fault) made outcome in
+    record { made_is = rw (split, seen) bad.0; held_is = rw split after; text_is = rw (split, seen, bad.1) (sym (append-nil text)) }
 
-pub split_made : (interface : Option (List ℕ)) (k : Option Kind) (m : PacketParts) (s : ℕ) (text text' : List ℕ) (made : Outcome) → refusal k m ≡ None → MadeOf (lines_of interface (pieces_as k m s)) text text' made → SplitMade interface k m s text text' made
-split_made None k m s text text' made split a = record { made_is = rw split a.1; text_is = rw split a.0 }
-split_made (Some interface) k m s text text' made split a = seen_by interface k m s text text' made (candump_parts m) split refl a
-
-pub sent_message : {E : Type 0} (kind : ℕ → Option Kind) (interface : Option (List ℕ)) (m : PacketParts) (held held' : Sequences) (frames : List PacketParts) (text text' : List ℕ) (result : Result Outcome E) → frames ≡ pieces_by kind m (held (stream_of m.id)) → refusal (kind m.id.pgn) m ≡ None → held' ≡ raised kind held (stream_of m.id) → WritesFrames interface frames text text' result → IfOk result (SentMessage kind interface m held held' text text')
-sent_message kind interface m held held' frames text text' (Err fault) is split after writes = tt
-sent_message kind interface m held held' frames text text' (Ok made) is split after writes =
-    let a = split_made interface (kind m.id.pgn) m (held (stream_of m.id)) text text' made split (subst (λ fs. MadeOf (lines_of interface fs) text text' made) is writes) in
-    record { made_is = a.made_is; held_is = rw split after; text_is = a.text_is }
+-- what was appended is cut off
+pub cut_back : (start more now after cut : List ℕ) (n : ℕ) → now ≡ start ++ more → after ≡ now → n ≡ length start → cut ≡ take n after → cut ≡ start
+cut_back start more now after cut n is same len back = back ∙ ap (λ k. take k after) len ∙ ap (take (length start)) (same ∙ is) ∙ take-append_seam start more

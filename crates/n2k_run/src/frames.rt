@@ -1,13 +1,15 @@
 //! The run of `frames`: each whole message of a log as the lines of its frames.
-ghost use Rattle.std.specs.Prelude.{◌≡◌, ◌++◌, ◌≤◌, length, All, IfOk, IfSome, IsTrue, OnOk, Some};
+ghost use Rattle.std.specs.Prelude.{◌≡◌, ◌≤◌, length, option_map, IfOk, IfSome, OnErr, Some};
 ghost use Rattle.std.specs.Io.KnownBytes.{Appends};
-ghost use Rattle.n2k_wire.specs.Candump.{frame_payload, is_interface};
-ghost use Rattle.n2k_wire.specs.Packet.{PacketParts};
+ghost use Rattle.n2k_wire.specs.Candump.{frame_payload};
+ghost use Rattle.n2k_wire.specs.Texts as texts;
 ghost use Rattle.n2k_table.specs.Table.{kind};
+ghost use Rattle.n2k_join.specs.Pieces.{first_sequences};
 ghost use Rattle.n2k_join.specs.Splitter.{sequences};
-ghost use Rattle.n2k_run.specs.FramesOut.{IsInterface, interface_of, frame_texts, frames_counts, frames_out, frames_output, frames_reports, frame_counts_of};
+ghost use Rattle.n2k_run.specs.declared.frames.Outcome.TheVariants.{Bad};
+ghost use Rattle.n2k_run.specs.FramesOut.{IsInterface, interface_of, fault_cause, frames_counts, frames_out, frames_output, frames_reports, frame_counts_of};
 ghost use Rattle.n2k_run.specs.Runs.{Runs, seen};
-ghost use Rattle.n2k_run.specs.Inner.Sending.{AppendsLines, SentLine, SentMessage, WritesFrames, candump_texts};
+ghost use Rattle.n2k_run.specs.Inner.Sending.{SentLine, SentMessage, frame_line};
 
 use crate::device::{Sink, Source};
 use crate::engine::run_entries;
@@ -16,7 +18,7 @@ use crate::maker::Maker;
 use crate::texts::bad_text;
 use n2k_join::{Counts, MOST_LINES, SplitFault, Splitter, laws};
 use n2k_table::Table;
-use n2k_wire::{BadCause, CandumpLines, Entry, Packet, Packing, WireFault, plain_text};
+use n2k_wire::{BadCause, CandumpLines, Entry, Id, Packet, Packing, WireFault, plain_text};
 use std::alloc::{AllocError, Global};
 
 // What becomes of a line.
@@ -30,46 +32,49 @@ enum Outcome {
     Bad(BadCause),
 }
 
-// Appends the plain lines of frames.
-fn append_plain(alloc: Global, frames: &[Packet], text: &mut Vec<u8>) -> Result<(), AllocError>
-    ensures { OnOk result (text.new.items ≡ text.old.items ++ frame_texts None frames.now) }
-{
-    for frame in frames {
-        plain_text(alloc, frame, text)?;
-    }
-    Ok(())
-}
-
-// Appends the lines that candump writes of frames: of all, or of none, since those before a fault are taken back.
-fn append_candump(
+// Appends the line of a frame: a plain one, or at an interface the one that candump writes.
+fn append_line(
     alloc: Global,
-    frames: &[Packet],
-    interface: &str,
+    lines: &mut Option<CandumpLines>,
+    frame: &Packet,
     text: &mut Vec<u8>,
 ) -> Result<(), WireFault>
-    requires short { All (λ (frame : PacketParts). length frame.payload ≤ frame_payload) frames.now }
-    requires interface { IsTrue (is_interface interface.now) }
-    ensures { AppendsLines (candump_texts interface.now frames.now) result text.old.items text.new.items }
+    requires { length frame.now.payload ≤ frame_payload }
+    ensures text { texts.Appends (frame_line lines.old frame.now) result text.old.items text.new.items }
+    ensures unchanged { OnErr result (text.new.items ≡ text.old.items) }
+    ensures interface { lines.new ≡ lines.old }
 {
-    let before = text.len();
-    let mut lines = CandumpLines::new(interface);
-    for frame in frames {
-        match lines.append(alloc, frame, text) {
-            Ok(()) => {}
-            Err(fault) => {
-                text.truncate(before);
-                return Err(fault);
-            }
-        }
+    match lines {
+        Some(lines) => lines.append(alloc, frame, text),
+        None => plain_text(alloc, frame, text).map_err(|_| WireFault::Memory),
     }
-    Ok(())
 }
 
-// What a run has sent so far, and the room that each message's frames take in turn.
+// What becomes of a message whose frames have no lines.
+fn refused(fault: WireFault) -> Result<Outcome, AllocError>
+    ensures { IfOk result (λ made. Some made ≡ option_map Bad (fault_cause fault)) }
+{
+    match fault {
+        WireFault::NoStamp => Ok(Outcome::Bad(BadCause::Time)),
+        WireFault::NoId => Ok(Outcome::Bad(BadCause::Address)),
+        WireFault::Memory => Err(AllocError),
+    }
+}
+
+// What sends messages one after the other.
 #[derive(Drop)]
-struct Sending {
+struct Sender<'a> {
     splitter: Splitter,
-    frames: Vec<Packet>,
+    // The lines at the interface, where one is handed in.
+    lines: Option<CandumpLines<'a>>,
+    // Room for a frame.
+    frame: Packet,
+}
+
+// What a run has sent so far.
+#[derive(Drop)]
+struct Sending<'a> {
+    sender: Sender<'a>,
     counts: Counts,
 }
 
@@ -81,93 +86,101 @@ struct FrameLines<'a> {
 }
 
 impl<'a> FrameLines<'a> {
-    // Writes frames of one message.
-    fn write(
-        &self,
-        alloc: Global,
-        frames: &[Packet],
-        text: &mut Vec<u8>,
-    ) -> Result<Outcome, AllocError>
-        requires short { All (λ (frame : PacketParts). length frame.payload ≤ frame_payload) frames.now }
-        requires interface { IsInterface (interface_of self.now.interface) }
-        ensures { WritesFrames (interface_of self.now.interface) frames.now text.old.items text.new.items result }
+    // What sends the first message.
+    fn sender(&self, alloc: Global) -> Sender<'a>
+        requires { IsInterface (interface_of self.now.interface) }
+        ensures splitter { sequences result.splitter ≡ first_sequences }
+        ensures lines { result.lines ≡ interface_of self.now.interface }
     {
-        let Some(interface) = self.interface else {
-            append_plain(alloc, frames, text)?;
-            return Ok(Outcome::Written);
+        let id = Id {
+            prio: 0,
+            pgn: 0,
+            src: 0,
+            dst: 0,
         };
-        match append_candump(alloc, frames, interface, text) {
-            Ok(()) => Ok(Outcome::Written),
-            Err(WireFault::NoStamp) => Ok(Outcome::Bad(BadCause::Time)),
-            Err(WireFault::NoId) => Ok(Outcome::Bad(BadCause::Address)),
-            Err(WireFault::Memory) => Err(AllocError),
+        Sender {
+            splitter: Splitter::new(alloc),
+            lines: match self.interface {
+                Some(name) => Some(CandumpLines::new(name)),
+                None => None,
+            },
+            frame: Packet::new(b"-", id, b"").unwrap(),
         }
     }
 
-    // Sends a message: it is split, and its frames are written.
+    // Sends a message: it is split, and the lines of its frames are written, all or none.
     fn send(
         &self,
         alloc: Global,
-        splitter: &mut Splitter,
-        frames: &mut Vec<Packet>,
+        sender: &mut Sender,
         message: &Packet,
         text: &mut Vec<u8>,
     ) -> Result<Outcome, AllocError>
-        requires { IsInterface (interface_of self.now.interface) }
-        ensures { IfOk result (SentMessage (kind self.now.table.now) (interface_of self.now.interface) message.now
-            (sequences splitter.old) (sequences splitter.new) text.old.items text.new.items) }
+        requires { sender.old.lines ≡ interface_of self.now.interface }
+        ensures sent { IfOk result (SentMessage (kind self.now.table.now) (interface_of self.now.interface) message.now
+            (sequences sender.old.splitter) (sequences sender.new.splitter) text.old.items text.new.items) }
+        ensures lines { sender.new.lines ≡ sender.old.lines }
     {
-        frames.clear();
-        match splitter.message(self.table, message, frames) {
-            Ok(_) => self.write(alloc, frames, text),
-            Err(SplitFault::Unknown) => Ok(Outcome::Bad(BadCause::Unknown)),
-            Err(SplitFault::TooLong) => Ok(Outcome::Bad(BadCause::Size)),
-            Err(SplitFault::Memory) => Err(AllocError),
+        let frames = match sender.splitter.split(self.table, message) {
+            Ok(frames) => frames,
+            Err(SplitFault::Unknown) => return Ok(Outcome::Bad(BadCause::Unknown)),
+            Err(SplitFault::TooLong) => return Ok(Outcome::Bad(BadCause::Size)),
+            Err(SplitFault::Memory) => return Err(AllocError),
+        };
+        let before = text.len();
+        for number in 0..frames.count() {
+            let frame = frames.frame(number, &mut sender.frame);
+            if let Err(fault) = append_line(alloc, &mut sender.lines, frame, text) {
+                text.truncate(before);
+                return refused(fault);
+            }
         }
+        Ok(Outcome::Written)
     }
 
     // What becomes of the entry of a line.
     fn outcome(
         &self,
         alloc: Global,
-        splitter: &mut Splitter,
-        frames: &mut Vec<Packet>,
+        sender: &mut Sender,
         entry: &Entry,
         text: &mut Vec<u8>,
     ) -> Result<Outcome, AllocError>
-        requires { IsInterface (interface_of self.now.interface) }
-        ensures { IfOk result (SentLine (kind self.now.table.now) (interface_of self.now.interface) entry.now
-            (sequences splitter.old) (sequences splitter.new) text.old.items text.new.items) }
+        requires { sender.old.lines ≡ interface_of self.now.interface }
+        ensures sent { IfOk result (SentLine (kind self.now.table.now) (interface_of self.now.interface) entry.now
+            (sequences sender.old.splitter) (sequences sender.new.splitter) text.old.items text.new.items) }
+        ensures lines { sender.new.lines ≡ sender.old.lines }
     {
         match entry {
             Entry::Skip => Ok(Outcome::Skipped),
             Entry::Bad(cause) => Ok(Outcome::Bad(*cause)),
             Entry::Frame(_) => Ok(Outcome::Bad(BadCause::Frame)),
-            Entry::Whole(message) => self.send(alloc, splitter, frames, message, text),
+            Entry::Whole(message) => self.send(alloc, sender, message, text),
         }
     }
 }
 
 impl<'a> Maker for FrameLines<'a> {
+    ghost use Rattle.std.specs.Prelude.{◌≡◌};
     ghost use Rattle.n2k_table.specs.Table.{kind};
     ghost use Rattle.n2k_join.specs.Splitter.{sequences};
-    ghost use Rattle.n2k_run.specs.FramesOut.{IsInterface, interface_of};
+    ghost use Rattle.n2k_run.specs.FramesOut.{interface_of};
     ghost use Rattle.n2k_run.specs.Inner.Sending.{AreFrameCounts, Sent, sending};
 
-    type State = Sending;
+    type State = Sending<'a>;
 
     ghost Known = { Sent };
 
-    ghost known = { λ s. record { held = sequences s.splitter; counts = s.counts } };
+    ghost known = { λ s. record { held = sequences s.sender.splitter; counts = s.counts } };
 
     ghost making = { λ m. sending (kind m.table.now) (interface_of m.interface) };
 
-    ghost is_ready = { λ m s. IsInterface (interface_of m.interface) × AreFrameCounts s.counts };
+    ghost is_ready = { λ m s. (s.sender.lines ≡ interface_of m.interface) × AreFrameCounts s.counts };
 
     fn take(
         &self,
         alloc: Global,
-        state: &mut Sending,
+        state: &mut Sending<'a>,
         entry: &Entry,
         text: &mut Vec<u8>,
         report: &mut Vec<u8>,
@@ -176,7 +189,7 @@ impl<'a> Maker for FrameLines<'a> {
             return Err(RunFault::TooManyLines);
         }
         state.counts.lines += 1;
-        match self.outcome(alloc, &mut state.splitter, &mut state.frames, entry, text)? {
+        match self.outcome(alloc, &mut state.sender, entry, text)? {
             Outcome::Skipped => {}
             Outcome::Written => state.counts.messages += 1,
             Outcome::Bad(cause) => {
@@ -236,8 +249,7 @@ pub fn run_frames<R: Source, W: Sink, E: Sink>(
     laws::splits_written();
     let maker = FrameLines { table, interface };
     let mut state = Sending {
-        splitter: Splitter::new(alloc),
-        frames: Vec::new(alloc),
+        sender: maker.sender(alloc),
         counts: Counts::NONE,
     };
     match run_entries(

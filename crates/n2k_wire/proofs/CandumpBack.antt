@@ -116,7 +116,7 @@ seconds_after n few =
     zeros_read (drop (length (decimal n)) (codes "0000000000")) (decimal n) (all_dropped (λ b. b == 48) (length (decimal n)) (codes "0000000000") refl)
     ∙ (decimal_reads n (omega arith)).0
 
-length-seconds : (n : ℕ) → n ≤ 253402300799 → (0 < length (second_digits n)) × (length (second_digits n) ≤ 12)
+pub length-seconds : (n : ℕ) → n ≤ 253402300799 → (0 < length (second_digits n)) × (length (second_digits n) ≤ 12)
 length-seconds n few =
     let whole = length-append (drop (length (decimal n)) (codes "0000000000")) (decimal n) in
     let zeros : length (drop (length (decimal n)) (codes "0000000000")) ≡ 10 - length (decimal n) = length-drop (length (decimal n)) (codes "0000000000") in

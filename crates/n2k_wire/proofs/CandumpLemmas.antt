@@ -1,23 +1,22 @@
 -- Writing the parts of a candump line.
-use Rattle.std.proofs.Common.{◌≡◌, ℕ, zero, suc, ◌+◌, ◌-◌, ◌*◌, ◌/◌, ◌%◌, ◌<◌, ◌≤◌, List, [], ◌∷◌, ◌++◌, length, map, set, take, drop, slice_index, refl, sym, ap, ◌∙◌, append_assoc, arith, rules, Result, Ok, Err, codes}
-use Rattle.std.specs.Prelude.{decimal, IfErr, IsTrue, OnOk}
+use Rattle.std.proofs.Common.{◌≡◌, ℕ, zero, suc, ◌+◌, ◌*◌, ◌/◌, ◌%◌, ◌≤◌, List, [], ◌∷◌, ◌++◌, length, map, take, slice_index, refl, sym, ap, ◌∙◌, append_assoc, arith, Some, None, Ok, Err, codes}
+use Rattle.std.specs.Prelude.{decimal, IsTrue}
 use Rattle.std.proofs.lemmas.Bool.{and_parts, leb-true}
 use Rattle.std.proofs.lemmas.Fmt.{length-decimal-le}
-use Rattle.std.proofs.lemmas.List.{length-append, length-drop, length-take-le, take_more_set}
+use Rattle.std.proofs.lemmas.List.{length-append}
 use Rattle.std.proofs.lemmas.Slice.{take-put_mid}
-use Rattle.std.proofs.Math.Seq.{take_at, take-append-add}
+use Rattle.std.proofs.Math.Seq.{take_at}
 use Rattle.std.specs.Char.{to_ascii_uppercase}
+use Rattle.std.specs.Int.{w32, to_be_bytes}
 use Rattle.hex.specs.Hex.{encode_with, encode_lower, encode_upper, lower_digits, upper_digits}
 use Rattle.hex.proofs.HexLemmas.{length-encode_with}
 use borrow.Rule.Slice.PartMut.{put_mid}
 use Rattle.n2k_wire.specs.Candump.{is_interface}
-use Rattle.n2k_wire.specs.declared.fault.WireFault.{WireFault}
-use Rattle.n2k_wire.specs.declared.fault.WireFault.TheVariants.{Memory}
-use Rattle.n2k_wire.specs.declared.identifier.Id.{Id}
+use Rattle.n2k_wire.specs.declared.fault.WireFault.TheVariants.{NoStamp, NoId, Memory}
+use Rattle.n2k_wire.specs.Identifier.{join}
 use Rattle.n2k_wire.specs.Packet.{PacketParts}
-use Rattle.n2k_wire.specs.PrivateWords.{candump_front, IsCandumpFront}
-use Rattle.n2k_wire.specs.Stamp.{Moment}
-use Rattle.n2k_wire.specs.Steps.{◌>>=◌}
+use Rattle.n2k_wire.specs.PrivateWords.{behind_millis, second_front, IsStampText}
+use Rattle.n2k_wire.specs.Stamp.{Moment, millis_digits, utc_moment}
 use Rattle.n2k_wire.specs.Texts.{Appends, candump_line, candump_parts, candump_text}
 
 -- the name of an interface is short
@@ -43,60 +42,48 @@ upper_of_lower (b ∷ bytes) = rw (indexed to_ascii_uppercase lower_digits (b / 
 pub upper_len : (bytes : List ℕ) → length (encode_upper bytes) ≡ 2 * length bytes
 upper_len bytes = length-encode_with upper_digits bytes
 
--- digits written at a place of a text, and an LF behind them
-pub line_end : (text digits : List ℕ) (at k end : ℕ) → end ≡ at + length digits → k ≡ length digits → end < length text
-    → take (end + 1) (set (put_mid at k text digits) end 10) ≡ take at text ++ (digits ++ codes "\n")
-line_end text digits at k end is same room =
-    let inside : at ≤ length text = omega (arith, is, room) in
-    let cut : length (drop k (drop at text)) ≡ length text - at - k = length-drop k (drop at text) ∙ ap (λ n. n - k) (length-drop at text) in
-    let len : length (put_mid at k text digits) ≡ length text =
-    omega (arith, is, same, room, cut, length-append (take at text) (digits ++ drop k (drop at text)), length-append digits (drop k (drop at text)), length-take-le at text inside) in
-    take_more_set (put_mid at k text digits) end 10 (omega (arith, len, room))
-    ∙ ap (λ (t : List ℕ). t ++ 10 ∷ []) (take-put_mid at k text digits end is inside) ∙ append_assoc (take at text) digits (10 ∷ [])
-
--- what is written behind the first bytes of an appended text, and the rest of that text cut off
-pub cut_behind : (old text whole end new rest cut : List ℕ) (at len n all : ℕ) → cut ≡ take n (take all (new ++ rest)) → length new ≡ all → take n new ≡ take at whole ++ end
-    → whole ≡ old ++ text → at ≡ length old + len → cut ≡ old ++ (take len text ++ end)
-cut_behind old text whole end new rest cut at len n all is same written grown place =
-    is ∙ ap (take n) (take_at new rest all same) ∙ written
-    ∙ ap (λ (t : List ℕ). t ++ end) (ap (take at) grown ∙ ap (λ k. take k (old ++ text)) place ∙ take-append-add old text len) ∙ append_assoc old (take len text) end
-
 -- the seconds of every moment have at most twelve digits, and with their zeros at least ten
 pub seconds_short : (n : ℕ) → n ≤ 253402300799 → length (decimal n) ≤ 12
 seconds_short n few = length-decimal-le 12 n (omega arith) (omega arith) (omega arith)
 
--- a candump line is what stands in front of its data, and the data
-line_behind : (interface : List ℕ) (seen : Moment) (identifier : ℕ) (payload : List ℕ) → candump_line interface seen identifier payload ≡ candump_front interface seen identifier ++ encode_upper payload
-unfolding candump_line candump_front
-line_behind interface seen identifier payload = search rules
+-- the digits of bytes, written at a place of a text
+pub digits_put : (text digits bytes : List ℕ) (at k end : ℕ) → digits ≡ encode_upper bytes → end ≡ at + 2 * length bytes → at ≤ length text → take end (put_mid at k text digits) ≡ take at text ++ encode_upper bytes
+digits_put text digits bytes at k end same is inside =
+    take-put_mid at k text digits end (is ∙ ap (λ n. at + n) (sym (ap length same ∙ upper_len bytes))) inside ∙ ap (λ (t : List ℕ). take at text ++ t) same
 
--- what stands in front of the data is the same for all packets of one stamp and identifier
-pub front_is : (interface : List ℕ) (p : PacketParts) (seen : Moment) (identifier : ℕ) → candump_parts p ≡ Ok (seen, identifier) → IsCandumpFront interface p.stamp p.id (candump_front interface seen identifier)
+pub behind_short : (interface : List ℕ) → IsTrue (is_interface interface) → length (behind_millis interface) ≤ 21
+behind_short interface ok = omega (arith, interface_short interface ok, length-append interface (codes " "))
+
+-- ---- why a packet has no line, and the line that it has
+
+pub no_stamp : (interface : List ℕ) (p : PacketParts) (old new : List ℕ) → utc_moment p.stamp ≡ None → Appends (candump_text interface p) (Err NoStamp) old new
 unfolding candump_parts
-front_is interface p seen identifier is payload = ap (λ r. r >>= (λ parts. Ok (candump_front interface parts.0 parts.1))) is
+no_stamp interface p old new none = rw none refl
 
--- it is that of a packet with the same stamp and identifier
-pub front_kept : (interface stamp : List ℕ) (id : Id) (text : List ℕ) (p : PacketParts) → IsCandumpFront interface stamp id text → p.stamp ≡ stamp → p.id ≡ id → IsCandumpFront interface p.stamp p.id text
-front_kept interface stamp id text p front same_stamp same_id = rw (same_stamp, same_id) front
-
-ok_same : (x y : List ℕ) (r : Result (List ℕ) WireFault) → r ≡ Ok x → r ≡ Ok y → x ≡ y
-ok_same x y r e f = cc
-
-err_ok : (fault : WireFault) (x : List ℕ) → Err fault ≡ Ok x → ⊥
-err_ok fault x e = cc
-
-line_of : (interface text payload : List ℕ) (r : Result (Moment × ℕ) WireFault) → (r >>= (λ parts. Ok (candump_front interface parts.0 parts.1))) ≡ Ok text
-    → (r >>= (λ parts. Ok (candump_line interface parts.0 parts.1 payload ++ codes "\n"))) ≡ Ok (text ++ (encode_upper payload ++ codes "\n"))
-line_of interface text payload (Ok parts) is =
-    let front = ok_same _ _ _ refl is in
-    ap Ok (ap (λ line. line ++ codes "\n") (line_behind interface parts.0 parts.1 payload ∙ ap (λ t. t ++ encode_upper payload) front) ∙ append_assoc text (encode_upper payload) (codes "\n"))
-line_of interface text payload (Err fault) is = absurd (err_ok fault text is)
-
--- a packet's line is what stands in front of its data, and its data
-text_behind : (interface text : List ℕ) (p : PacketParts) → IsCandumpFront interface p.stamp p.id text → candump_text interface p ≡ Ok (text ++ (encode_upper p.payload ++ codes "\n"))
+pub no_id : (interface begun : List ℕ) (p : PacketParts) (old new : List ℕ) → IsStampText (utc_moment p.stamp) begun → join p.id ≡ None → Appends (candump_text interface p) (Err NoId) old new
 unfolding candump_parts
-text_behind interface text p front = line_of interface text p.payload (candump_parts p) (front p.payload)
+no_id interface begun p old new (seen, found, is) none = rw (found, none) refl
 
-pub appended : (interface text : List ℕ) (p : PacketParts) (result : Result (Unit {0}) WireFault) (old new : List ℕ) → IsCandumpFront interface p.stamp p.id text
-    → OnOk result (new ≡ old ++ (text ++ (encode_upper p.payload ++ codes "\n"))) → IfErr result (λ fault. fault ≡ Memory) → Appends (candump_text interface p) result old new
-appended interface text p result old new front ok err = rw (text_behind interface text p front) (ok, err)
+pub no_memory : (interface begun : List ℕ) (p : PacketParts) (identifier : ℕ) (old new : List ℕ) → IsStampText (utc_moment p.stamp) begun → join p.id ≡ Some identifier → Appends (candump_text interface p) (Err Memory) old new
+unfolding candump_parts
+no_memory interface begun p identifier old new (seen, found, is) joined = rw (found, joined) (tt, refl)
+
+-- the line of a moment, an identifier and data, by how it begins
+abbrev line_of : List ℕ → List ℕ → ℕ → List ℕ → List ℕ
+line_of begun behind identifier payload = begun ++ behind ++ encode_upper (to_be_bytes w32 identifier) ++ codes "#" ++ encode_upper payload ++ codes "\n"
+
+line_is : (interface begun : List ℕ) (seen : Moment) (identifier : ℕ) (payload : List ℕ) → begun ≡ second_front seen.seconds ++ millis_digits seen.millis
+    → line_of begun (behind_millis interface) identifier payload ≡ candump_line interface seen identifier payload ++ codes "\n"
+unfolding candump_line
+line_is interface begun seen identifier payload is = rw is (simp append_assoc)
+
+-- A line that was written behind the text that was there, of which the room behind it is cut off, is the packet's.
+pub appended : (interface front millis behind : List ℕ) (p : PacketParts) (identifier : ℕ) (payload old room written rest cut : List ℕ) (at n all : ℕ)
+    → IsStampText (utc_moment p.stamp) (front ++ millis) → join p.id ≡ Some identifier → behind ≡ behind_millis interface → payload ≡ p.payload
+    → take n written ≡ take at room ++ (front ++ millis ++ behind ++ encode_upper (to_be_bytes w32 identifier) ++ codes "#" ++ encode_upper payload ++ codes "\n") → take at room ≡ old
+    → cut ≡ take n (take all (written ++ rest)) → length written ≡ all → Appends (candump_text interface p) (Ok tt) old cut
+unfolding candump_parts
+appended interface front millis behind p identifier payload old room written rest cut at n all (seen, found, is) joined behind_is payload_is line before cut_is long =
+    let grouped : front ++ millis ++ behind ++ encode_upper (to_be_bytes w32 identifier) ++ codes "#" ++ encode_upper payload ++ codes "\n" ≡ line_of (front ++ millis) behind identifier payload = simp append_assoc in
+    let same : line_of (front ++ millis) behind identifier payload ≡ line_of (front ++ millis) (behind_millis interface) identifier p.payload = rw (behind_is, payload_is) refl in
+    rw (found, joined) (cut_is ∙ ap (take n) (take_at written rest all long) ∙ line ∙ (rw before (ap (λ (t : List ℕ). old ++ t) (grouped ∙ same ∙ line_is interface (front ++ millis) seen identifier p.payload is))), tt)

@@ -22,7 +22,7 @@ digits_read before (b ∷ text) all =
     let parts = and_parts (is_ascii_digit b) (list_all is_ascii_digit text) all in
     rw parts.0 (digits_read (10 * before + (b - 48)) text parts.1)
 
-number_read : (most : ℕ) (text : List ℕ) → list_all is_ascii_digit text ≡ true → 1 ≤ length text → length text ≤ most → (n : ℕ) × (decimal_number most text ≡ Some n) × (decimal_after 0 text ≡ Some n)
+pub number_read : (most : ℕ) (text : List ℕ) → list_all is_ascii_digit text ≡ true → 1 ≤ length text → length text ≤ most → (n : ℕ) × (decimal_number most text ≡ Some n) × (decimal_after 0 text ≡ Some n)
 unfolding decimal_number
 number_read most text all some few =
     let read = digits_read 0 text all in

@@ -10,6 +10,7 @@ pub mod PlainLemmas
 pub mod ReadBack
 pub mod TextLemmas
 pub mod Clocks
+pub mod SharedSeconds
 pub mod UsualFrames
 pub mod UsualLanes
 pub mod PlainByPlace

@@ -58,7 +58,7 @@ unfolding decimal_after
 after_nil before n e = cc
 
 -- the digits of a number that was read
-number_digits : (most n : ℕ) (text : List ℕ) → decimal_number most text ≡ Some n → decimal_after 0 text ≡ Some n
+pub number_digits : (most n : ℕ) (text : List ℕ) → decimal_number most text ≡ Some n → decimal_after 0 text ≡ Some n
 unfolding decimal_number
 number_digits most n text e =
     elim (cases_Bool (ltb 0 (length text) && leb (length text) most)) [
@@ -126,7 +126,7 @@ byte_at place next b text e within is =
     drop-cons text place 0 within ∙ (rw (is, after) refl)
 
 -- each of eight tests that hold
-eight : (a b c d e f g h : Bool) → (a && b && c && d && e && f && g && h) ≡ true → (a ≡ true) × (b ≡ true) × (c ≡ true) × (d ≡ true) × (e ≡ true) × (f ≡ true) × (g ≡ true) × (h ≡ true)
+pub eight : (a b c d e f g h : Bool) → (a && b && c && d && e && f && g && h) ≡ true → (a ≡ true) × (b ≡ true) × (c ≡ true) × (d ≡ true) × (e ≡ true) × (f ≡ true) × (g ≡ true) × (h ≡ true)
 eight a b c d e f g h all =
     let p7 = and_parts (a && b && c && d && e && f && g) h all in
     let p6 = and_parts (a && b && c && d && e && f) g p7.0 in
@@ -306,7 +306,7 @@ found_parts text seen day second millis form ed es em seconds fraction =
       record { seconds_fit = omega (arith, seconds, time.1, date.1); millis_fit = omega (arith, fraction, digits.1) },
     )
 
-moment_is : (seen : Moment) (seconds millis : ℕ) → Some (record { seconds = seconds; millis = millis }) ≡ Some seen → (seconds ≡ seen.seconds) × (millis ≡ seen.millis)
+pub moment_is : (seen : Moment) (seconds millis : ℕ) → Some (record { seconds = seconds; millis = millis }) ≡ Some seen → (seconds ≡ seen.seconds) × (millis ≡ seen.millis)
 moment_is seen seconds millis e = let same : (record { seconds = seconds; millis = millis }) ≡ seen = cc in (ap (λ (m : Moment). m.seconds) same, ap (λ (m : Moment). m.millis) same)
 
 -- the text of the moment that a text names

@@ -1,12 +1,11 @@
 -- Words for the contracts of private functions: what the code holds, as the definitions have it. Nothing that a
 -- caller sees needs them.
-use Rattle.std.specs.Prelude.{◌≡◌, ◌≤◌, ◌<◌, ℕ, ◌+◌, ◌*◌, ◌/◌, ◌%◌, true, if◌then◌else◌, nat_lt, List, [], ◌∷◌, ◌++◌, length, Option, Some, None, option_map, option_and_then, Ok, codes}
+use Rattle.std.specs.Prelude.{◌≡◌, ◌≤◌, ◌<◌, ℕ, ◌+◌, ◌*◌, ◌/◌, ◌%◌, ◌==◌, ◌&&◌, Bool, true, if◌then◌else◌, nat_lt, List, [], ◌∷◌, ◌++◌, length, slice_index, take, Option, Some, None, option_map, option_and_then, codes}
 use Rattle.std.specs.Borrow.{Bor}
-use Rattle.std.specs.Char.{is_ascii_hexdigit}
-use Rattle.std.specs.Int.{w32, to_be_bytes}
+use Rattle.std.specs.Char.{is_ascii_digit, is_ascii_hexdigit}
 use Rattle.std.specs.List.{list_all}
 use Rattle.std.specs.Result.{result_ok}
-use Rattle.hex.specs.Hex.{decode_of, encode_upper}
+use Rattle.hex.specs.Hex.{decode_of}
 use Rattle.n2k_wire.specs.declared.candump.CandumpFrame.{CandumpFrame}
 use Rattle.n2k_wire.specs.declared.entry.Entry.{Entry}
 use Rattle.n2k_wire.specs.declared.entry.Entry.TheVariants as entries
@@ -16,11 +15,10 @@ use Rattle.n2k_wire.specs.declared.stamp.Moment as moments_of_code
 use Rattle.n2k_wire.specs.Plain.{Header, greatest_address, number_to, packed, pairs, pieces}
 use Rattle.n2k_wire.specs.Packet.{greatest_pgn, greatest_priority}
 use Rattle.n2k_wire.specs.declared.identifier.Id.{Id}
-use Rattle.n2k_wire.specs.Candump.{stamped, identifier}
+use Rattle.n2k_wire.specs.Candump.{stamped}
 use Rattle.n2k_wire.specs.Digits.{decimal_number}
-use Rattle.n2k_wire.specs.Stamp.{Moment, last_second, millis_digits, most_fraction_digits, moment, three_digits, utc_text}
-use Rattle.n2k_wire.specs.Steps.{◌>>=◌}
-use Rattle.n2k_wire.specs.Texts.{candump_parts, second_digits}
+use Rattle.n2k_wire.specs.Stamp.{Moment, last_second, millis_digits, most_fraction_digits, moment, three_digits, utc_moment, utc_text}
+use Rattle.n2k_wire.specs.Texts.{second_digits}
 
 -- The value of a hexadecimal digit, by arithmetic alone: `0` to `9` are 48 to 57, `A` to `F` 65 to 70, `a` to `f` 97
 -- to 102, so the letters, at 64 and above, count from 10.
@@ -61,15 +59,28 @@ IsFront front seconds =
     (fraction rest : List ℕ) (f m : ℕ) → decimal_number most_fraction_digits fraction ≡ Some f → decimal_number 3 (three_digits fraction) ≡ Some m
     → stamp_behind (front ++ (fraction ++ (41 ∷ rest))) ≡ Some (utc_text (record { seconds = seconds; millis = m }), rest)
 
--- what stands in front of the data in a candump line, of an interface, a moment and the 29 bits of an identifier
-unfoldable pub candump_front : List ℕ → Moment → ℕ → List ℕ
-candump_front interface seen identifier =
-    codes "(" ++ second_digits seen.seconds ++ codes "." ++ millis_digits seen.millis ++ codes "000) " ++ interface ++ codes " " ++ encode_upper (to_be_bytes w32 identifier) ++ codes "#"
+-- how the candump lines of a second begin
+abbrev pub second_front : ℕ → List ℕ
+second_front seconds = codes "(" ++ second_digits seconds ++ codes "."
 
--- a text is what stands so at an interface in front of the data of each packet of this stamp and identifier
-abbrev pub IsCandumpFront : List ℕ → List ℕ → Id → List ℕ → Type 0
-IsCandumpFront interface stamp id text =
-    (payload : List ℕ) → (candump_parts (record { stamp = stamp; id = id; payload = payload }) >>= (λ parts. Ok (candump_front interface parts.0 parts.1))) ≡ Ok text
+-- what stands in a candump line between the milliseconds and the identifier
+abbrev pub behind_millis : List ℕ → List ℕ
+behind_millis interface = codes "000) " ++ interface ++ codes " "
+
+-- whether the last four bytes of a stamp are its milliseconds and `Z`
+abbrev pub are_millis : List ℕ → Bool
+are_millis behind = list_all is_ascii_digit (take 3 behind) && (slice_index behind 3 == 90)
+
+-- a text is how the candump line of a moment that was found begins, up to its milliseconds
+abbrev pub IsStampText : Option Moment → List ℕ → Type 0
+IsStampText found text =
+    (seen : Moment) × (found ≡ Some seen) × (text ≡ second_front seen.seconds ++ millis_digits seen.millis)
+
+-- The stamps that begin so are those of one second, and its candump lines begin so.
+pub record IsSecond (stamp line : List ℕ) : Type 0 where
+  pub shared : (behind : List ℕ) → length behind ≡ 4 → are_millis behind ≡ true
+      → IsStampText (utc_moment (stamp ++ behind)) (line ++ take 3 behind)
+  pub short : length line ≤ 14
 
 -- the pieces of the text that is left of a plain line, if there is any
 abbrev pub pieces_left : Option (Bor (List ℕ)) → List (List ℕ)

@@ -4,6 +4,7 @@ ghost use Rattle.std.specs.List.{list_all};
 ghost use Rattle.std.specs.Option.{SomeIff};
 ghost use Rattle.n2k_wire.specs.Packet.{IsPacket, IsPacketParts, is_stamp, is_stamp_byte, is_stamp_start, longest_message, longest_stamp};
 
+use crate::candump::FRAME_PAYLOAD;
 use crate::identifier::Id;
 use std::marker::Model;
 
@@ -131,6 +132,18 @@ impl Packet {
             data: kept,
             data_len: data.len(),
         }
+    }
+
+    /// Makes it a frame of a message, with these data, in its own place.
+    #[inline]
+    pub fn set_frame(&mut self, message: &Packet, data: &[u8; FRAME_PAYLOAD])
+        ensures { self.new ≡ record { stamp = message.now.stamp; id = message.now.id; payload = «data».now } }
+    {
+        self.stamp = message.stamp;
+        self.stamp_len = message.stamp_len;
+        self.id = message.id;
+        self.data[..FRAME_PAYLOAD].copy_from_slice(data);
+        self.data_len = FRAME_PAYLOAD;
     }
 
     /// Makes it the packet of these parts, in its own place.

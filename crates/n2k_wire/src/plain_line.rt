@@ -20,9 +20,14 @@ const LINE_ROOM: usize = 736;
 /// The bytes of the last piece of a line of eight bytes that count: the length, the bytes and the LF.
 const END: usize = 27;
 
-// Writes a piece at a place of the text, of which the first bytes count, and answers the place behind them.
+/// Writes a piece at a place of the text, of which the first bytes count, and answers the place behind them.
 #[inline(always)]
-fn put<const N: usize>(text: &mut [u8], at: usize, piece: &[u8; N], count: usize) -> usize
+pub(crate) fn put<const N: usize>(
+    text: &mut [u8],
+    at: usize,
+    piece: &[u8; N],
+    count: usize,
+) -> usize
     requires room { at + N ≤ length text.old }
     requires few { count ≤ N }
     ensures bytes { take result text.new ≡ take at text.old ++ take count piece.now }
@@ -211,9 +216,9 @@ fn write_line(text: &mut [u8], at: usize, packet: &Packet) -> usize
     put_end(text, at, packet.data())
 }
 
-// Appends zeros, as many as the line of so many bytes and what is written behind it can take.
+/// Appends zeros, as many as the line of so many bytes and what is written behind it can take.
 #[inline(always)]
-fn append_room(bytes: usize, out: &mut Vec<u8>) -> Result<(), AllocError>
+pub(crate) fn append_room(bytes: usize, out: &mut Vec<u8>) -> Result<(), AllocError>
     requires { bytes ≤ longest_message }
     ensures before { OnOk result (take (length out.old.items) out.new.items ≡ out.old.items) }
     ensures room { OnOk result (length out.old.items + 85 ≤ length out.new.items) }

@@ -1,5 +1,5 @@
 -- What the code keeps, as the definitions see it.
-use Rattle.std.specs.Prelude.{ℕ, nat_lt, Bool, List, [], ◌∷◌, ◌++◌, if◌then◌else◌, Option, Some, None, filter_map, find, option_to_list}
+use Rattle.std.specs.Prelude.{ℕ, ◌≡◌, ◌<◌, ◌≤◌, Bool, List, [], ◌∷◌, ◌++◌, length, if◌then◌else◌, Option, Some, None, filter_map, find, option_to_list}
 use Rattle.std.specs.List.{list_all}
 use Rattle.n2k_join.specs.declared.broken.Broken.{Broken}
 use Rattle.n2k_wire.specs.Packet.{PacketParts}
@@ -7,11 +7,12 @@ use Rattle.n2k_wire.specs.declared.entry.BadCause.{BadCause}
 use Rattle.n2k_join.specs.declared.piece.FrameKey.{FrameKey}
 use Rattle.n2k_join.specs.declared.piece.StoredPiece.{StoredPiece}
 use Rattle.n2k_join.specs.declared.piece.FastFrame.{FastFrame}
-use Rattle.n2k_join.specs.Frames.{Key, same_key, Frame, most_sequences}
+use Rattle.n2k_join.specs.Frames.{Key, same_key, Frame, most_frames, most_sequences}
 use Rattle.n2k_join.specs.Groups.{has_number, has_from, complete}
 use Rattle.n2k_join.specs.Open.{Piece, Group, pieces_of, group_of}
 use Rattle.n2k_join.specs.Messages.{message_of, broken_of}
 use Rattle.n2k_join.specs.Pieces.{Stream}
+use Rattle.n2k_join.specs.Splitter.{sequences}
 use Rattle.n2k_join.specs.State.{Given, held_of}
 
 abbrev pub key_of : FrameKey → Key
@@ -32,8 +33,15 @@ frame_of line packet frame = record {
 }
 
 -- each sequence that a splitter holds is of three bits
-abbrev pub are_sequences : List (Stream × ℕ) → Bool
-are_sequences held = list_all (λ (e : Stream × ℕ). nat_lt e.1 most_sequences) held
+abbrev pub AreSequences : List (Stream × ℕ) → Type 0
+AreSequences held = (stream : Stream) → sequences held stream < most_sequences
+
+-- a sequence and a number of frames are those of these frames
+pub record AreFrames (sequence count : ℕ) (frames : List PacketParts) : Type 0 where
+  pub small : sequence < most_sequences
+  pub counted : count ≡ length frames
+  pub some : 0 < count
+  pub few : count ≤ most_frames
 
 -- ---- a frame taken into the open groups, as the code does it
 

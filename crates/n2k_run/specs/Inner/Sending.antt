@@ -1,14 +1,12 @@
 -- Messages that are sent one after the other, by what is known of those before.
-use Rattle.std.specs.Prelude.{◌≡◌, ◌⊎◌, ◌≤◌, ◌+◌, ℕ, if◌then◌else◌, List, [], ◌∷◌, ◌++◌, Option, Some, None, Result, Ok, Err, IfOk}
+use Rattle.std.specs.Prelude.{◌≡◌, ◌≤◌, ◌+◌, ℕ, if◌then◌else◌, List, [], ◌++◌, Option, Some, None, Result, Ok}
 use Rattle.std.specs.Option.{is_none}
 use Rattle.n2k_wire.specs.declared.entry.BadCause.{BadCause}
 use Rattle.n2k_wire.specs.declared.entry.Entry.{Entry}
 use Rattle.n2k_wire.specs.declared.entry.Entry.TheVariants as lines
 use Rattle.n2k_wire.specs.declared.fault.WireFault.{WireFault}
-use Rattle.n2k_wire.specs.declared.fault.WireFault.TheVariants.{Memory}
 use Rattle.n2k_wire.specs.Packet.{PacketParts}
-use Rattle.n2k_wire.specs.Steps.{◌>>=◌}
-use Rattle.n2k_wire.specs.Texts.{candump_text}
+use Rattle.n2k_wire.specs.Texts.{candump_text, plain_text}
 use Rattle.n2k_table.specs.declared.definition.Kind.{Kind}
 use Rattle.n2k_join.specs.declared.counts.Counts.{Counts}
 use Rattle.n2k_join.specs.Counts.{most_lines}
@@ -16,7 +14,7 @@ use Rattle.n2k_join.specs.Pieces.{Sequences, pieces_by, raised, stream_of}
 use Rattle.n2k_join.specs.Splitter.{refusal}
 use Rattle.n2k_run.specs.declared.frames.Outcome.{Outcome}
 use Rattle.n2k_run.specs.declared.frames.Outcome.TheVariants.{Skipped, Written, Bad}
-use Rattle.n2k_run.specs.FramesOut.{fault_cause, frame_texts, is_refused, is_sent, line_cause, message_cause}
+use Rattle.n2k_run.specs.FramesOut.{frame_texts, is_refused, is_sent, line_cause, message_cause}
 use Rattle.n2k_run.specs.Making.{Making}
 use Rattle.n2k_run.specs.Reports.{cause_report}
 
@@ -31,21 +29,10 @@ pub record AreFrameCounts (c : Counts) : Type 0 where
   pub messages : c.messages ≤ c.lines
   pub bad : c.bad ≤ c.lines
 
--- the lines that candump writes of frames, or the fault of the first that has none
-abbrev pub candump_texts : List ℕ → List PacketParts → Result (List ℕ) WireFault
-candump_texts interface [] = Ok []
-candump_texts interface (frame ∷ frames) =
-    candump_text interface frame >>= (λ text. candump_texts interface frames >>= (λ more. Ok (text ++ more)))
-
--- Those lines were appended, or none: memory may be refused before the frame is reached that has no line.
-abbrev pub AppendsLines : Result (List ℕ) WireFault → Result (Unit {0}) WireFault → List ℕ → List ℕ → Type 0
-AppendsLines lines (Ok x) old new = (text : List ℕ) × ((lines ≡ Ok text) × (new ≡ old ++ text))
-AppendsLines lines (Err fault) old new = (new ≡ old) × ((lines ≡ Err fault) ⊎ (fault ≡ Memory))
-
--- the lines of frames, plain ones or those that candump writes
-abbrev pub lines_of : Option (List ℕ) → List PacketParts → Result (List ℕ) WireFault
-lines_of None frames = Ok (frame_texts None frames)
-lines_of (Some interface) frames = candump_texts interface frames
+-- the line of a frame, a plain one or the one that candump writes
+abbrev pub frame_line : Option (List ℕ) → PacketParts → Result (List ℕ) WireFault
+frame_line None frame = Ok (plain_text frame)
+frame_line (Some interface) frame = candump_text interface frame
 
 -- what becomes of a message, by why it isn't written
 abbrev pub outcome_by : Option BadCause → Outcome
@@ -57,15 +44,6 @@ outcome kind interface lines.Skip = Skipped
 outcome kind interface (lines.Bad cause) = Bad cause
 outcome kind interface (lines.Frame packet) = outcome_by (line_cause kind interface (lines.Frame packet))
 outcome kind interface (lines.Whole packet) = outcome_by (message_cause kind interface packet)
-
--- What became of frames that have these lines: all of them are written, or none.
-abbrev pub MadeOf : Result (List ℕ) WireFault → List ℕ → List ℕ → Outcome → Type 0
-MadeOf (Ok lines) text text' made = (text' ≡ text ++ lines) × (made ≡ Written)
-MadeOf (Err fault) text text' made = (text' ≡ text) × (made ≡ outcome_by (fault_cause fault))
-
-abbrev pub WritesFrames : {E : Type 0} → Option (List ℕ) → List PacketParts → List ℕ → List ℕ → Result Outcome E
-    → Type 0
-WritesFrames interface frames text text' result = IfOk result (MadeOf (lines_of interface frames) text text')
 
 -- what is written of a message
 abbrev pub message_text : (ℕ → Option Kind) → Option (List ℕ) → Sequences → PacketParts → List ℕ

@@ -10,7 +10,7 @@ pub returns-in-Ok-clause-runs : goal.returns-in-Ok-clause-runs
 returns-in-Ok-clause-runs g c =
     let t = c.args.table.now in
     let i = interface_of c.args.interface in
-    let same = output_is t i _ c.new.ensures (c.splits_written.ensures (kind t)) in
+    let same = output_is t i _ c.sender.ensures.splitter (c.splits_written.ensures (kind t)) in
     let runs = runs_same _ _ _ _ _ _ same c.in-Ok.ensures.runs in
     ok_more (frames_output t i) _ _ _ _ _ _ runs (λ es stands. ap (λ (s : Sent). s.counts) stands ∙ counts_are_those (kind t) i _ es)
 
@@ -18,7 +18,7 @@ pub returns-in-Ok-clause-out : goal.returns-in-Ok-clause-out
 returns-in-Ok-clause-out g c =
     let t = c.args.table.now in
     let i = interface_of c.args.interface in
-    let same = output_is t i _ c.new.ensures (c.splits_written.ensures (kind t)) in
+    let same = output_is t i _ c.sender.ensures.splitter (c.splits_written.ensures (kind t)) in
     let runs = runs_same _ _ _ _ _ _ same c.in-Ok.ensures.runs in
     of_log (frames_output t i) _ _ _ _ runs.ends (runs.ends.gained.printed, runs.ends.gained.reported, ap (λ (s : Sent). s.counts) runs.ends.holds ∙ counts_are_those (kind t) i _ _)
 
@@ -26,6 +26,6 @@ pub returns-clause-runs : goal.returns-clause-runs
 returns-clause-runs g c =
     let t = c.args.table.now in
     let i = interface_of c.args.interface in
-    let same = output_is t i _ c.new.ensures (c.splits_written.ensures (kind t)) in
+    let same = output_is t i _ c.sender.ensures.splitter (c.splits_written.ensures (kind t)) in
     let runs = runs_same _ _ _ _ _ _ same c.in-Err.ensures.runs in
     err_more (frames_output t i) _ _ _ _ _ _ c.in-Err.fault runs (λ es stands. tt)

@@ -1,0 +1,63 @@
+-- The frames of a message, one by one.
+use Rattle.std.proofs.Common.{◌≡◌, ℕ, zero, suc, ◌+◌, ◌/◌, ◌<◌, ◌≤◌, List, [], ◌∷◌, ◌++◌, length, get_or, map, take, Option, Some, None, refl, sym, ap, ◌∙◌, append_assoc, arith}
+use Rattle.std.specs.Prelude.{slice_get}
+use Rattle.std.specs.List.{range_with_len}
+use Rattle.std.proofs.Math.Seq.{take-suc}
+use Rattle.std.proofs.lemmas.List.FromFn.{get_or-map-range_with_len, length-map-range_with_len}
+use Rattle.std.proofs.lemmas.Option.{get_or_from_slice_get, slice_get-get_or, slice_get_within}
+use Rattle.n2k_wire.specs.Packet.{PacketParts, longest_message}
+use Rattle.n2k_table.specs.declared.definition.Kind.{Kind}
+use Rattle.n2k_table.specs.declared.definition.Kind.TheVariants.{Single, Fast}
+use Rattle.n2k_join.specs.Frames.{most_sequences}
+use Rattle.n2k_join.specs.Inner.Stored.{AreFrames}
+use Rattle.n2k_join.specs.Pieces.{last_piece, piece, pieces_as}
+
+pub count_single : (m : PacketParts) (s : ℕ) → length (pieces_as (Some Single) m s) ≡ 1
+unfolding pieces_as
+count_single m s = refl
+
+pub count_fast : (m : PacketParts) (s : ℕ) → length (pieces_as (Some Fast) m s) ≡ last_piece m + 1
+unfolding pieces_as
+count_fast m s = length-map-range_with_len (piece m s) 0 (last_piece m + 1)
+
+-- a message of a single PGN is its own frame, whatever the sequence
+pub pieces_single : (m : PacketParts) (s t : ℕ) → pieces_as (Some Single) m s ≡ pieces_as (Some Single) m t
+unfolding pieces_as
+pieces_single m s t = refl
+
+pub single_at : (m : PacketParts) (s n : ℕ) → n < length (pieces_as (Some Single) m s) → slice_get (pieces_as (Some Single) m s) n ≡ Some m
+unfolding pieces_as
+single_at m s zero within = refl
+single_at m s (suc n) within = absurd (omega (arith, within))
+
+pub fast_at : (m : PacketParts) (s n : ℕ) → n < length (pieces_as (Some Fast) m s) → slice_get (pieces_as (Some Fast) m s) n ≡ Some (piece m s n)
+unfolding pieces_as
+fast_at m s n within =
+    let few : n < last_piece m + 1 = omega (arith, within, count_fast m s) in
+    slice_get-get_or (map (piece m s) (range_with_len 0 (last_piece m + 1))) n m within
+    ∙ ap Some (get_or-map-range_with_len (piece m s) 0 (last_piece m + 1) n n m few (omega arith))
+
+-- they are counted
+pub are_single : (m : PacketParts) → AreFrames 0 1 (pieces_as (Some Single) m 0)
+are_single m = record { small = omega arith; counted = sym (count_single m 0); some = omega arith; few = omega arith }
+
+pub are_fast : (m : PacketParts) (s n : ℕ) → s < most_sequences → length m.payload ≤ longest_message → n ≡ length m.payload / 7 + 1 → AreFrames s n (pieces_as (Some Fast) m s)
+are_fast m s n small short is = record { small = small; counted = omega (arith, is, count_fast m s); some = omega (arith, is); few = omega (arith, is, short) }
+
+-- and no more than this many, where none is refused
+pub few_frames : (k : Option Kind) (m : PacketParts) (s : ℕ) → length (pieces_as k m s) ≤ length m.payload / 7 + 1
+unfolding pieces_as
+few_frames None m s = omega arith
+few_frames (Some Single) m s = omega arith
+few_frames (Some Fast) m s = omega (arith, length-map-range_with_len (piece m s) 0 (last_piece m + 1))
+
+-- one element more of a list
+pub one_more : {A : Type 0} (xs : List A) (n : ℕ) (x : A) → slice_get xs n ≡ Some x → take (n + 1) xs ≡ take n xs ++ x ∷ []
+one_more xs n x is =
+    let next : n + 1 ≡ suc n = omega arith in
+    ap (λ k. take k xs) next ∙ take-suc xs n x (slice_get_within xs n x is) ∙ ap (λ y. take n xs ++ y ∷ []) (get_or_from_slice_get xs n x x is)
+
+-- a frame was appended behind those before it
+pub pushed : (start now after frames : List PacketParts) (n : ℕ) (x : PacketParts) → slice_get frames n ≡ Some x → now ≡ start ++ take n frames → after ≡ now ++ x ∷ [] → after ≡ start ++ take (n + 1) frames
+pushed start now after frames n x is before grown =
+    grown ∙ ap (λ (ps : List PacketParts). ps ++ x ∷ []) before ∙ append_assoc start (take n frames) (x ∷ []) ∙ ap (λ (ps : List PacketParts). start ++ ps) (sym (one_more frames n x is))
