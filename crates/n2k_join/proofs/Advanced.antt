@@ -1,9 +1,9 @@
 -- The step on open groups as a program makes it: the group of the frame's key takes the frame, or goes, and a new one
 -- may be opened.
-use Rattle.std.proofs.Common.{cond, List, [], ◌∷◌, ◌++◌, Option, Some, None, option_to_list, filter_map, find}
-use Rattle.n2k_join.specs.Frames.{Key, same_key, Frame}
+use Rattle.std.proofs.Common.{cond, List, [], ◌∷◌, ◌++◌, Option, Some, None, option_to_list, filter_map}
+use Rattle.n2k_join.specs.Frames.{same_key, Frame}
 use Rattle.n2k_join.specs.Groups.{Ends, complete}
-use Rattle.n2k_join.specs.Open.{Group, pieces_of, group_of}
+use Rattle.n2k_join.specs.Open.{Group}
 use Rattle.n2k_join.specs.State.{held_of}
 pub use Rattle.n2k_join.specs.Inner.Stored.{with_frame, begun, of_the_key}
 

@@ -22,6 +22,7 @@ use Rattle.n2k_join.proofs.Lines.{RiseFrom, frames-rise, line_of}
 use Rattle.n2k_join.proofs.GroupLines.{IsGroup, IsDone, LastFrame, last_frame, done_found}
 use Rattle.n2k_join.specs.Window.{Rule}
 use Rattle.n2k_join.proofs.Rising.{filter_map-none, all-map, all-zip, all-joined, rise-filter, look-all, all_with}
+use Rattle.n2k_join.proofs.Held.{all-any}
 
 -- what R gives of the second list
 pub zip-all : {X Y : Type 0} (R : X → Y → Type 0) (Q : Y → Type 0) → ((x : X) (y : Y) → R x y → Q y) → (xs : List X) (ys : List Y) → AllZip R xs ys → AllByRecursion Q ys
@@ -37,10 +38,7 @@ zip-with R S Q h (x ∷ xs) [] each all = absurd each
 zip-with R S Q h (x ∷ xs) (y ∷ ys) each all = (h x y each.0 all.0, zip-with R S Q h xs ys each.1 all.1)
 
 pub zip-map : {X Y : Type 0} (R S : X → Y → Type 0) → ((x : X) (y : Y) → R x y → S x y) → (xs : List X) (ys : List Y) → AllZip R xs ys → AllZip S xs ys
-zip-map R S h [] [] each = tt
-zip-map R S h [] (y ∷ ys) each = absurd each
-zip-map R S h (x ∷ xs) [] each = absurd each
-zip-map R S h (x ∷ xs) (y ∷ ys) each = (h x y each.0, zip-map R S h xs ys each.1)
+zip-map R S h xs ys each = zip-with R S (λ _. Unit {0}) (λ x y r _. h x y r) xs ys each (all-any (λ _. Unit {0}) (λ _. tt) ys)
 
 -- a frame is the one at its line, and has the key
 abbrev pub StandsAt : List Frame → Key → Frame → Type 0

@@ -15,7 +15,7 @@ use Rattle.n2k_join.proofs.Cuts.{grown, last-cut, within-ends}
 use Rattle.n2k_join.proofs.Given.{IsUpTo, first-le, up_to, cut_of_same, cut_of_other}
 use Rattle.n2k_join.proofs.Keys.{same_key-refl, same_key-sym}
 use Rattle.n2k_join.proofs.Opened.{IsLog, IsFine, none_at, at_last, at_line, open_at, begun_at-key, so_far-fine, numbers_of_key, ends-kept, first-push}
-use Rattle.n2k_join.proofs.Rising.{find-passes, filter_map-range, filter_map-push, filter_map-fused, range-push, last-all}
+use Rattle.n2k_join.proofs.Rising.{find-passes, filter_map-range, filter_map-push, filter_map-fused, range-push, last-all, of_cond}
 use Rattle.n2k_join.specs.Window.{Rule}
 
 -- ---- the groups of a key
@@ -170,15 +170,11 @@ module _ (w : Rule) (some : 0 < w.window) where
   told_at t u k j None same = refl
   told_at t u k j (Some g) same = by (complete g) refl (first g == j) refl
     where
-      by_test : (b : Bool) → option_map (broken_of k) (cond b (Some g) None) ≡ cond b (Some (told_of (group_of k g))) None
-      by_test true = refl
-      by_test false = refl
-
       by : (c : Bool) → complete g ≡ c → (b : Bool) → (first g == j) ≡ b
           → option_map (broken_of k) (cond (not c && (b && t g)) (Some g) None) ≡ option_and_then (told_if u) (option_and_then (where_begun j k) (cond c None (Some g)))
       by true c b e = refl
       by false c true e =
-          by_test (t g) ∙ ap (λ b. cond b (Some (told_of (group_of k g))) None) (same g refl c (eqb-true (first g) j e))
+          of_cond (option_map (broken_of k)) (t g) (Some g) None ∙ ap (λ b. cond b (Some (told_of (group_of k g))) None) (same g refl c (eqb-true (first g) j e))
           ∙ sym (ap (λ b. option_and_then (told_if u) (cond b (Some (group_of k g)) None)) e)
       by false c false e = sym (ap (λ b. option_and_then (told_if u) (cond b (Some (group_of k g)) None)) e)
 

@@ -8,7 +8,7 @@ use Rattle.n2k_join.specs.Window.{Rule}
 use Rattle.n2k_join.proofs.Carried.{same_bool, has_number-cons}
 use Rattle.std.proofs.lemmas.Bool.{or_left, or_right, or_from, lt-leb, le-leb, leb-true, le-ltb, eqb-true, eq-eqb, false≢true, and_right}
 use Rattle.n2k_join.specs.Groups.{Ends, closes, repeats, has_from, falls_back, misfits, is_late, within, cut_from, cut, carried, has_number, first}
-use Rattle.n2k_join.proofs.Rising.{all-append, all-joined, last-all}
+use Rattle.n2k_join.proofs.Rising.{all-joined, last-all}
 use Rattle.std.proofs.lemmas.List.{length-append}
 
 -- A test that ends groups: a number that comes again ends, and what else does depends on what a group carries and where

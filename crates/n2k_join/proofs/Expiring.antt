@@ -1,8 +1,8 @@
 -- A group whose window ends at the next line is broken before the line is taken, or at it: that is the same.
-use Rattle.std.proofs.Common.{◌≡◌, ◌≤◌, ◌<◌, ◌+◌, ◌-◌, ℕ, Bool, true, false, cond, not, List, [], ◌∷◌, ◌++◌, length, map, refl, sym, ap, ◌∙◌, subst, arith, Option, Some, None, option_map, drop, slice_get, filter, option_to_list, option_and_then, ltb}
+use Rattle.std.proofs.Common.{◌≡◌, ◌≤◌, ◌<◌, ◌+◌, ◌-◌, ℕ, Bool, true, false, cond, not, List, [], ◌∷◌, ◌++◌, length, map, refl, sym, ap, ◌∙◌, subst, arith, Option, Some, None, option_map, drop, slice_get, option_to_list, option_and_then, ltb}
 use Rattle.std.specs.List.{AllByRecursion}
-use Rattle.std.proofs.lemmas.Bool.{ltb-true, ne_eqb, eq-eqb}
-use Rattle.std.proofs.lemmas.Option.{none-some, same_Some}
+use Rattle.std.proofs.lemmas.Bool.{ltb-true, ne_eqb, eq-eqb, not-true}
+use Rattle.std.proofs.lemmas.Option.{none-some, cond_some}
 use Rattle.std.specs.Prelude.{is_some}
 use Rattle.std.specs.Option.{option_or}
 use Rattle.n2k_wire.specs.declared.entry.BadCause.{BadCause}
@@ -29,18 +29,26 @@ pub record IsDue (s : State) (g : Group) : Type 0 where
   pub first : s.groups ≡ g ∷ drop 1 s.groups
   pub late : is_waiting s.rule (next_line s) g ≡ false
 
-first-late : (w : Rule) (line least : ℕ) (gs : List Group) (g : Group) → Rise (λ (g : Group). g.first) least gs → slice_get (ended w line gs) 0 ≡ Some g → (gs ≡ g ∷ drop 1 gs) × (is_waiting w line g ≡ false)
+-- of groups whose first lines rise, the first is the first that has ended
+ended-first : (w : Rule) (line : ℕ) (gs : List Group) → Rise (λ (g : Group). g.first) 1 gs → (o : Option Group) → slice_get gs 0 ≡ o → slice_get (ended w line gs) 0 ≡ option_and_then (λ (g : Group). cond (not (is_waiting w line g)) (Some g) None) o
 unfolding ended
-first-late w line least [] g rise e = absurd (none-some g e)
-first-late w line least (h ∷ gs) g rise e = by (is_waiting w line h) refl e
+ended-first w line [] rise o e = ap (option_and_then (λ (g : Group). cond (not (is_waiting w line g)) (Some g) None)) e
+ended-first w line (g ∷ gs) rise o e = by (is_waiting w line g) refl ∙ ap (option_and_then (λ (g : Group). cond (not (is_waiting w line g)) (Some g) None)) e
   where
-    by : (b : Bool) → is_waiting w line h ≡ b → slice_get (cond (not b) (h ∷ filter (λ (g : Group). not (is_waiting w line g)) gs) (filter (λ (g : Group). not (is_waiting w line g)) gs)) 0 ≡ Some g
-        → (h ∷ gs ≡ g ∷ gs) × (is_waiting w line g ≡ false)
-    by true t e =
-        let l : line < h.first + w.window = ltb-true _ _ t in
-        let none : ended w line gs ≡ [] = later-wait w line (h.first + 1) gs rise.1 (omega (arith, l)) in
-        absurd (none-some g (sym (ap (λ (hs : List Group). slice_get hs 0) none) ∙ e))
-    by false t e = let same : h ≡ g = same_Some h g e in (ap (λ k. k ∷ gs) same, ap (is_waiting w line) (sym same) ∙ t)
+    by : (b : Bool) → is_waiting w line g ≡ b → slice_get (cond (not b) (g ∷ ended w line gs) (ended w line gs)) 0 ≡ cond (not (is_waiting w line g)) (Some g) None
+    by true t =
+        let l : line < g.first + w.window = ltb-true _ _ t in
+        ap (λ (hs : List Group). slice_get hs 0) (later-wait w line (g.first + 1) gs rise.1 (omega (arith, l))) ∙ sym (ap (λ b. cond (not b) (Some g) None) t)
+    by false t = sym (ap (λ b. cond (not b) (Some g) None) t)
+
+first-late : (w : Rule) (line : ℕ) (gs : List Group) (g : Group) → Rise (λ (g : Group). g.first) 1 gs → slice_get (ended w line gs) 0 ≡ Some g → (gs ≡ g ∷ drop 1 gs) × (is_waiting w line g ≡ false)
+first-late w line gs g rise e = by gs (sym (ended-first w line gs rise (slice_get gs 0) refl) ∙ e)
+  where
+    by : (gs : List Group) → option_and_then (λ (g : Group). cond (not (is_waiting w line g)) (Some g) None) (slice_get gs 0) ≡ Some g → (gs ≡ g ∷ drop 1 gs) × (is_waiting w line g ≡ false)
+    by [] e = absurd (none-some g e)
+    by (h ∷ gs) e =
+        let late = cond_some (not (is_waiting w line h)) h g e in
+        (ap (λ k. k ∷ gs) late.1, ap (is_waiting w line) (sym late.1) ∙ not-true (is_waiting w line h) late.0)
 
 -- what is due is the first that is overdue, where a line follows
 due_by : (s : State) → (s.counts.lines ≡ most_lines → ⊥) → due s ≡ slice_get (overdue s) 0
@@ -52,7 +60,7 @@ due-below s g e at = none-some g (sym (ap (λ b. cond b None (slice_get (overdue
 pub is_due : (s : State) (g : Group) → Rise (λ (g : Group). g.first) 1 s.groups → due s ≡ Some g → IsDue s g
 is_due s g rise e =
     let below = due-below s g e in
-    let at = first-late s.rule (next_line s) 1 s.groups g rise (sym (due_by s below) ∙ e) in
+    let at = first-late s.rule (next_line s) s.groups g rise (sym (due_by s below) ∙ e) in
     record { below = below; first = at.0; late = at.1 }
 
 -- none is due exactly where none has ended, or no line follows
@@ -134,17 +142,6 @@ module _ (s : State) (g : Group) (is : IsDue s g) where
       }
 
 -- ---- what a program finds, by the first of the groups
-
-ended-first : (w : Rule) (line : ℕ) (gs : List Group) → Rise (λ (g : Group). g.first) 1 gs → (o : Option Group) → slice_get gs 0 ≡ o → slice_get (ended w line gs) 0 ≡ option_and_then (λ (g : Group). cond (not (is_waiting w line g)) (Some g) None) o
-unfolding ended
-ended-first w line [] rise o e = ap (option_and_then (λ (g : Group). cond (not (is_waiting w line g)) (Some g) None)) e
-ended-first w line (g ∷ gs) rise o e = by (is_waiting w line g) refl ∙ ap (option_and_then (λ (g : Group). cond (not (is_waiting w line g)) (Some g) None)) e
-  where
-    by : (b : Bool) → is_waiting w line g ≡ b → slice_get (cond (not b) (g ∷ ended w line gs) (ended w line gs)) 0 ≡ cond (not (is_waiting w line g)) (Some g) None
-    by true t =
-        let l : line < g.first + w.window = ltb-true _ _ t in
-        ap (λ (hs : List Group). slice_get hs 0) (later-wait w line (g.first + 1) gs rise.1 (omega (arith, l))) ∙ sym (ap (λ b. cond (not b) (Some g) None) t)
-    by false t = sym (ap (λ b. cond (not b) (Some g) None) t)
 
 -- none is open; the first waits; the first doesn't
 pub due-none : (s : State) → Rise (λ (g : Group). g.first) 1 s.groups → (s.counts.lines ≡ most_lines → ⊥) → slice_get s.groups 0 ≡ None → due s ≡ None

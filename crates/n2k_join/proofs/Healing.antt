@@ -5,7 +5,8 @@ use Rattle.std.specs.List.{AllByRecursion, last_or, range_with_len, cons_option}
 use Rattle.std.proofs.lemmas.Bool.{cases_lt, le-leb, true≢false, eqb-true, eqb-false, eq-eqb, ne_eqb, and_right, and_from, lt-ltb, or_left, or_right, or_from}
 use Rattle.std.proofs.lemmas.Option.{none-some, same_Some}
 use mathlib.Core.Logic.{◌⊎◌, inl, inr}
-use Rattle.std.proofs.lemmas.List.{append_cancel_left}
+use Rattle.std.proofs.lemmas.List.{append_cancel_left, length-map}
+use Rattle.std.proofs.lemmas.List.FromFn.{length-range_with_len}
 use Rattle.std.proofs.lemmas.List.Elements.{recursion_from_All}
 use Rattle.n2k_wire.specs.declared.entry.Entry.{Entry}
 use Rattle.n2k_table.specs.declared.definition.Kind.{Kind}
@@ -25,7 +26,7 @@ use Rattle.n2k_join.proofs.GroupLines.{IsGroup, IsDone, first_above, done_found}
 use Rattle.n2k_join.proofs.Arriving.{StandsAt, stand, key-rise, brings}
 use Rattle.n2k_join.specs.Window.{Rule}
 use Rattle.n2k_join.proofs.Carried.{has_number-cons}
-use Rattle.n2k_join.proofs.Rising.{last-all, all-front, all-back, all-joined, rise-least, rise-rest, all_with}
+use Rattle.n2k_join.proofs.Rising.{last-all, all-front, all-back, all-joined, rise-least, rise-rest}
 use Rattle.n2k_join.specs.State.{Rise}
 
 -- where the group so far ends before a frame, the frames before it and those from it on are cut by themselves
@@ -59,7 +60,7 @@ broken_among-at : (w : Rule) (n : ℕ) (a : List (List Frame)) (left g : List Fr
 broken_among-at w n [] left g later rise c =
     λ i. cond (not (c i) && (eq-eqb (first left) (first left) refl i && eq-eqb (min (first left + w.window) (first g)) (min (first left + w.window) (first g)) refl i)) (Some left) (broken_among w (first left) (min (first left + w.window) (first g)) (g ∷ later))
 broken_among-at w n (h ∷ a) left g later rise c =
-    let apart : first h + 1 ≤ first left = (all-back (λ j. first h + 1 ≤ first j) a (left ∷ g ∷ later) (rise-least first (first h + 1) (a ++ (left ∷ g ∷ later)) rise.1)).0 in
+    let apart : first h + 1 ≤ first left = (rise-rest first (first h + 1) a (left ∷ g ∷ later) rise.1).0 in
     let other : (first h == first left) ≡ false = ne_eqb (first h) (first left) (λ same. omega (arith, same, apart)) in
     (λ i. cond (not (complete h) && (other i && (broken_line w h (a ++ (left ∷ g ∷ later)) == min (first left + w.window) (first g)))) (Some h) (broken_among w (first left) (min (first left + w.window) (first g)) (a ++ (left ∷ g ∷ later))))
     ∙ ap (λ b. cond b (Some h) (broken_among w (first left) (min (first left + w.window) (first g)) (a ++ (left ∷ g ∷ later)))) (and_right (not (complete h)) false refl)
@@ -118,12 +119,7 @@ rising-apart a (suc n) (f ∷ fs) numbers =
     or_from _ _ (none_below f.number (a + 1) n fs (omega arith) rest) (rising-apart (a + 1) n fs rest)
 
 pub rising-length : (a n : ℕ) (fs : List Frame) → map (λ (f : Frame). f.number) fs ≡ range_with_len a n → length fs ≡ n
-rising-length a zero [] numbers = refl
-rising-length a (suc n) [] numbers = absurd (cc)
-rising-length a zero (f ∷ fs) numbers = absurd (cc)
-rising-length a (suc n) (f ∷ fs) numbers =
-    let rest : map (λ (g : Frame). g.number) fs ≡ range_with_len (a + 1) n = cc in
-    ap suc (rising-length (a + 1) n fs rest)
+rising-length a n fs numbers = sym (length-map fs (λ (f : Frame). f.number)) ∙ ap length numbers ∙ length-range_with_len a n
 
 rising-first : (n : ℕ) (f : Frame) (fs : List Frame) → 0 < n → map (λ (g : Frame). g.number) (f ∷ fs) ≡ range_with_len 0 n → f.number ≡ 0
 rising-first zero f fs some numbers = absurd (omega arith)
@@ -165,10 +161,6 @@ next_past kind front back k f g next =
     let same : of_key k later ≡ f ∷ g = append_cancel_left (of_key k (frames kind front)) (of_key k later) (f ∷ g) (sym parts ∙ next) in
     let past = subst (AllByRecursion (λ (i : Frame). (1 + length front ≤ i.line) × (i.key ≡ k))) same (of_key-keeps (λ (i : Frame). 1 + length front ≤ i.line) k later (rise-least line_of (1 + length front) later (frames-rise kind (1 + length front) back))) in
     omega (arith, past.0.0)
-
-rise-at : (n : ℕ) (b : List (List Frame)) (left g : List Frame) (later : List (List Frame)) → Rise first n (b ++ (left ∷ g ∷ later)) → first left + 1 ≤ first g
-rise-at n [] left g later rise = rise.1.0
-rise-at n (h ∷ b) left g later rise = rise-at (first h + 1) b left g later rise.1
 
 -- what stands open has a frame 0, where the rule doesn't ask for the order of the numbers
 abbrev HasZero : Rule → (ℕ → Option Kind) → List Entry → Sending → Type 0
@@ -218,7 +210,7 @@ heals_by w kind front back x (f ∷ g) after comes left_open =
         let stands' : AllByRecursion (StandsAt (frames kind (front ++ back)) (key_of_sending x)) left = (all-back (AllByRecursion (StandsAt (frames kind (front ++ back)) (key_of_sending x))) b (left ∷ later) (subst (AllByRecursion (AllByRecursion (StandsAt (frames kind (front ++ back)) (key_of_sending x)))) e stands)).0 in
         let lines' : AllByRecursion (λ (i : Frame). 1 ≤ i.line) left = (all-back (AllByRecursion (λ (i : Frame). 1 ≤ i.line)) b (left ∷ later) (subst (AllByRecursion (AllByRecursion (λ (i : Frame). 1 ≤ i.line))) e lines)).0 in
         let from : 1 ≤ first left = first_above 1 left some' lines' in
-        let before : first left + 1 ≤ f.line = rise-at 1 b left (f ∷ g) (cut (within w) after) rise' in
+        let before : first left + 1 ≤ f.line = (rise-rest first 1 b (left ∷ (f ∷ g) ∷ cut (within w) after) rise').1.0 in
         let up_to : first left < 1 + min (first left + w.window) f.line = omega (arith, before) in
         given_among (broken_begun w (frames kind (front ++ back)) (min (first left + w.window) f.line)) (broken_of (key_of_sending x) left) (first left) 1 (min (first left + w.window) f.line) from up_to
         (broken_where w (frames kind (front ++ back)) (key_of_sending x) left (min (first left + w.window) f.line) some' stands'

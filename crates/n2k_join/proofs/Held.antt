@@ -15,7 +15,6 @@ use Rattle.n2k_join.specs.State.{held_frame, held_of, Rise, IsOpen}
 use Rattle.n2k_join.proofs.Cuts.{next, so_far, so_far-push, IsEnding}
 use Rattle.n2k_join.proofs.Carried.{carried-append, option_or_none, has_twice-push, complete-without_zero, has_number-cons}
 use Rattle.n2k_join.proofs.Rising.{look, look-below, look-range, look-filter_map, rise-range, all-range, filter_map-range, find-none, find-passes, all-map, all-append, option_map_some}
-use Rattle.std.proofs.lemmas.Option.{none-some, same_Some}
 
 abbrev pub number_of : Piece → ℕ
 number_of p = p.number
@@ -71,15 +70,15 @@ pub all-any : {X : Type 0} (P : X → Type 0) → ((x : X) → P x) → (xs : Li
 all-any P each [] = tt
 all-any P each (x ∷ xs) = (each x, all-any P each xs)
 
-pub first-all : (l : ℕ) (g : List Frame) → AllByRecursion (λ (f : Frame). f.line ≡ l) g → 0 < length g → first g ≡ l
-first-all l [] all some = absurd (omega (arith, some))
-first-all l (f ∷ g) all some = all.0
-
 pub length-held : (o : Group) (ps : List Piece) → length (held_frames o ps) ≡ length ps
 length-held o ps = length-map (reverse ps) (held_frame o) ∙ length-reverse ps
 
 pub first-held : (o : Group) (ps : List Piece) → 0 < length ps → first (held_frames o ps) ≡ o.first
-first-held o ps some = first-all o.first (held_frames o ps) (all-held (λ (f : Frame). f.line ≡ o.first) (λ _. Unit {0}) o (λ p _. refl) (reverse ps) (all-any (λ _. Unit {0}) (λ _. tt) (reverse ps))) (omega (arith, some, length-held o ps))
+first-held o ps some = by (reverse ps) (omega (arith, some, length-reverse ps))
+  where
+    by : (qs : List Piece) → 0 < length qs → first (map (held_frame o) qs) ≡ o.first
+    by [] some = absurd (omega (arith, some))
+    by (q ∷ qs) some = refl
 
 -- ---- the pieces that a look-up finds
 

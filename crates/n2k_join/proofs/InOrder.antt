@@ -1,11 +1,11 @@
 -- With a rule that asks for the order of the numbers each complete group is of consecutive frames.
-use Rattle.std.proofs.Common.{◌≡◌, ◌==◌, ℕ, zero, suc, ◌+◌, ◌<◌, ◌≤◌, ◌&&◌, Bool, true, false, cond, not, List, [], ◌∷◌, ◌++◌, length, map, refl, sym, ap, ◌∙◌, subst, arith, append_assoc, nat_le, Option, Some, None, option_map, option_and_then}
+use Rattle.std.proofs.Common.{◌≡◌, ◌==◌, ℕ, zero, suc, ◌+◌, ◌<◌, ◌≤◌, ◌&&◌, Bool, true, false, cond, not, List, [], ◌∷◌, ◌++◌, length, map, refl, sym, ap, ◌∙◌, subst, arith, append_assoc, nat_le, Option, Some}
 use Rattle.std.specs.Prelude.{nat_lt, find, is_some}
 use Rattle.std.specs.List.{range_with_len, AllByRecursion}
 use Rattle.std.proofs.lemmas.List.{length-append}
 use Rattle.std.proofs.lemmas.List.Elements.{All-from_recursion}
 use Rattle.std.proofs.lemmas.Bool.{or_parts, and_parts, leb-true, leb-false, lt-ltb, eqb-true, eqb-false, ne_eqb, false≢true}
-use Rattle.std.proofs.lemmas.Option.{none-some, same_Some, option_and_then_some}
+use Rattle.std.proofs.lemmas.Option.{same_Some, option_and_then_some}
 use Rattle.n2k_wire.specs.declared.entry.Entry.{Entry}
 use Rattle.n2k_table.specs.declared.definition.Kind.{Kind}
 use Rattle.n2k_join.specs.Frames.{Key, Frame, frames, of_key, frame_at}
@@ -18,7 +18,7 @@ use Rattle.n2k_join.specs.Window.{Rule}
 use Rattle.n2k_join.proofs.Arriving.{key-rise, StandsAt, stand}
 use Rattle.n2k_join.proofs.Lines.{RiseFrom, line_of}
 use Rattle.n2k_join.proofs.GroupLines.{last_frame, IsGroup}
-use Rattle.n2k_join.proofs.Rising.{find-all, find-passes, option_map_some, all-front, all-back, rise-least, rise-rest, all_to, all_with}
+use Rattle.n2k_join.proofs.Rising.{find-all, find-passes, option_map_some, all-front, all-back, rise-rest, all_to, all_with, all-map}
 use Rattle.n2k_join.proofs.Cuts.{cut-joined}
 
 -- the numbers of frames rise, from one on
@@ -37,8 +37,7 @@ numbers-push least (f ∷ g) x r l e = let a = above-all x.number f g e in (r.0,
 first-before : (n : ℕ) (g : List Frame) (x : Frame) (rest : List Frame) → 0 < length g → RiseFrom n (g ++ (x ∷ rest)) → first g < x.line
 first-before n [] x rest some r = absurd (omega (arith, some))
 first-before n (f ∷ g) x rest some r =
-    let all = all-back (λ (h : Frame). f.line + 1 ≤ h.line) g (x ∷ rest) (rise-least line_of (f.line + 1) (g ++ (x ∷ rest)) r.1) in
-    let past : f.line + 1 ≤ x.line = all.0 in
+    let past : f.line + 1 ≤ x.line = (rise-rest line_of (f.line + 1) g (x ∷ rest) r.1).0 in
     omega (arith, past)
 
 module _ (rule : Rule) (order : rule.in_order ≡ true) where
@@ -83,7 +82,7 @@ are-range a (suc n) (f ∷ g) r below has =
     let is : f.number ≡ a = at (f.number == a) refl in
     let r' : Numbers (a + 1) g = subst (λ k. Numbers (k + 1) g) is r.1 in
     ap (λ k. k ∷ map (λ (f : Frame). f.number) g) is
-    ∙ ap (λ ks. a ∷ ks) (are-range (a + 1) n g r' (all_with (λ (h : Frame). h.number < a + suc n) (λ (h : Frame). h.number < a + suc n) (λ (h : Frame). h.number < (a + 1) + n) (λ h u v. omega (arith, u)) g below.1 below.1)
+    ∙ ap (λ ks. a ∷ ks) (are-range (a + 1) n g r' (all-map (λ (h : Frame). h.number < a + suc n) (λ (h : Frame). h.number < (a + 1) + n) g (λ h u. omega (arith, u)) below.1)
     (λ m l u. sym (ap (λ b. is_some (cond b (Some f.bytes) (carried g m))) (ne_eqb f.number m (λ e. omega (arith, e, is, l)))) ∙ has m (omega (arith, l)) (omega (arith, u))))
   where
     at : (b : Bool) → (f.number == a) ≡ b → f.number ≡ a

@@ -31,8 +31,7 @@ module _ (k : FrameKey) where
   place_or_len (e ∷ es) = ap (λ (n : ℕ). cond (not (same_key (key_of k) (key_of e.0))) (1 + n) 0) (place_or_len es)
 
   keys-groups : (es : List (FrameKey × OpenGroup)) → length (keys_of es) ≡ length (groups_in es)
-  keys-groups [] = refl
-  keys-groups (e ∷ es) = ap suc (keys-groups es)
+  keys-groups es = length-map es (λ e. e.0) ∙ sym (length-map es group_at)
 
   -- the place of a key is that of its group
   pub place-key : (es : List (FrameKey × OpenGroup)) → position (λ (j : FrameKey). same_key (key_of k) (key_of j)) (keys_of es) ≡ position (λ (g : Group). same_key (key_of k) g.key) (groups_in es)
@@ -89,9 +88,6 @@ removed-groups es i =
 
 pub first-group : (es : List (FrameKey × OpenGroup)) (o : Option (FrameKey × OpenGroup)) → slice_get es 0 ≡ o → slice_get (groups_in es) 0 ≡ option_map group_at o
 first-group es o is = slice_get-map group_at es 0 ∙ ap (option_map group_at) is
-
-pub removed-first : (es : List (FrameKey × OpenGroup)) → groups_in (remove es 0) ≡ drop 1 (groups_in es)
-removed-first es = removed-groups es 0
 
 -- ---- an entry written and moved last
 

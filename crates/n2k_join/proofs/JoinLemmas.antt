@@ -1,12 +1,12 @@
 -- The fit groups after a frame, as the code makes them: by the place of the group of its key.
 use Rattle.std.proofs.Common.{◌≡◌, ℕ, zero, suc, ◌+◌, ◌<◌, ◌≤◌, Bool, true, false, cond, List, [], ◌∷◌, ◌++◌, length, ltb, get_or, take, drop, set, Result, Ok, Err, OnErr, Option, Some, None, option_to_list, filter_map, find, reverse, length-append, refl, sym, ap, ◌∙◌, arith}
 use mathlib.Core.Path.{fun_ext}
-use Rattle.std.specs.Prelude.{position}
+use Rattle.std.specs.Prelude.{position, slice_get}
 use Rattle.std.specs.List.{AllByRecursion, cons_option, list_any, position_or_len}
 use Rattle.std.proofs.lemmas.Bool.{ltb-false, false≢true, false_from_ne_true}
 use Rattle.std.proofs.lemmas.List.{append-nil, take-set, drop-set-lt, set_split}
 use Rattle.std.proofs.lemmas.List.Quantifiers.{position-Some}
-use Rattle.std.proofs.lemmas.Option.{none-some}
+use Rattle.std.proofs.lemmas.Option.{none-some, cond_some, slice_get_read}
 use Rattle.n2k_join.specs.Messages.{broken_of, told_of}
 use Rattle.n2k_join.specs.Frames.{Key, same_key, Frame, most_frames}
 use Rattle.n2k_join.specs.Groups.{complete, has_number, data_of, first}
@@ -21,7 +21,7 @@ use Rattle.n2k_join.proofs.Opened.{IsFine, first-push, complete-kept}
 use Rattle.n2k_join.proofs.Rising.{all-append, all-map, find-none, passes_none}
 use Rattle.std.proofs.lemmas.List.Elements.{recursion_from_All, All-from_recursion}
 use Rattle.std.proofs.lemmas.List.Sums.{fails_before_first}
-use Rattle.std.proofs.lemmas.List.Folds.{list_any_none}
+use Rattle.std.proofs.lemmas.List.Folds.{list_any_none, find_at}
 
 -- ---- one group
 
@@ -77,9 +77,6 @@ taken-others order x [] all = refl
 taken-others order x (g ∷ gs) all =
     ap (λ b. cons_option (cond b (joined order x g) (Some g)) (filter_map (taken order x) gs)) all.0 ∙ ap (λ hs. g ∷ hs) (taken-others order x gs all.1)
 
-none-found : (key : Key) (gs : List Group) → AllByRecursion (λ (g : Group). same_key key g.key ≡ false) gs → of_the_key key gs ≡ None
-none-found key gs all = find-none (λ (g : Group). same_key key g.key) gs all
-
 -- where no place is found, no group passes
 pub position-None : (P : Group → Bool) (gs : List Group) → position P gs ≡ None → AllByRecursion (λ (g : Group). P g ≡ false) gs
 position-None P gs none =
@@ -98,9 +95,6 @@ one_or_none None gs = refl
 one_or_none (Some g) gs = refl
 
 module _ (order : Bool) (x : Frame) where
-  same : Group → Bool
-  same g = same_key x.key g.key
-
   -- the group of the frame's key goes its way, and the others stay
   pub taken-at : (gs : List Group) (i : ℕ) (d : Group) → AreApart gs → i < length gs → same_key x.key (get_or gs i d).key ≡ true → ((k : ℕ) → k < i → same_key x.key (get_or gs k d).key ≡ false)
       → filter_map (taken order x) gs ≡ take i gs ++ (option_to_list (joined order x (get_or gs i d)) ++ drop (suc i) gs)
@@ -114,20 +108,13 @@ module _ (order : Bool) (x : Frame) where
       ap (λ b. cons_option (cond b (joined order x g) (Some g)) (filter_map (taken order x) gs)) (before 0 (omega arith))
       ∙ ap (λ hs. g ∷ hs) (taken-at gs i d apart.1 (omega arith) here (λ k m. before (suc k) (omega arith)))
 
-  pub found-at : (gs : List Group) (i : ℕ) (d : Group) → i < length gs → same_key x.key (get_or gs i d).key ≡ true → ((k : ℕ) → k < i → same_key x.key (get_or gs k d).key ≡ false)
-      → of_the_key x.key gs ≡ Some (get_or gs i d)
-  found-at [] i d l here before = absurd (omega arith)
-  found-at (g ∷ gs) zero d l here before = ap (λ b. cond b (Some g) (of_the_key x.key gs)) here
-  found-at (g ∷ gs) (suc i) d l here before =
-      ap (λ b. cond b (Some g) (of_the_key x.key gs)) (before 0 (omega arith)) ∙ found-at gs i d (omega arith) here (λ k m. before (suc k) (omega arith))
-
 -- where no group has the frame's key
 pub none_at_all : (order : Bool) (x : Frame) (gs : List Group) → position (λ (g : Group). same_key x.key g.key) gs ≡ None
     → (of_the_key x.key gs ≡ None) × (groups_after order gs x ≡ gs ++ option_to_list (begun x))
 unfolding groups_after
 none_at_all order x gs none =
     let each = position-None (λ (h : Group). same_key x.key h.key) gs none in
-    let found = none-found x.key gs each in (
+    let found = find-none (λ (g : Group). same_key x.key g.key) gs each in (
       found,
       ap (λ hs. hs ++ option_to_list (opened order x (of_the_key x.key gs))) (taken-others order x gs each)
           ∙ ap (λ (o : Option Group). gs ++ option_to_list (opened order x o)) found,
@@ -139,7 +126,10 @@ module _ (order : Bool) (x : Frame) (gs : List Group) (i : ℕ) (o : Group) (apa
   at_place = position-Some (λ (g : Group). same_key x.key g.key) gs i o place
 
   pub found-place : of_the_key x.key gs ≡ Some o
-  found-place = found-at order x gs i o at_place.0 at_place.1 at_place.2 ∙ ap Some (sym is)
+  found-place =
+      let P : Group → Bool = λ (g : Group). same_key x.key g.key in
+      let at : position_or_len P gs ≡ i = (cond_some (ltb (position_or_len P gs) (length gs)) (position_or_len P gs) i place).1 in
+      find_at P gs ∙ ap (slice_get gs) at ∙ slice_get_read gs (length gs) i o refl at_place.0 is
 
   pub key-place : x.key ≡ o.key
   key-place = same_key-true x.key o.key (ap (λ (g : Group). same_key x.key g.key) is ∙ at_place.1)

@@ -30,7 +30,7 @@ use Rattle.n2k_join.proofs.Overdue.{ended-counted, advanced-counted}
 use Rattle.n2k_join.proofs.Resumed.{held_of-all, held_of-any, held-log}
 use Rattle.n2k_join.proofs.Agreeing.{after_longer}
 use Rattle.n2k_join.proofs.Steps.{StepsTo, kept, frame_message, only_frame, kept-open, kept-wait, step-none, step-frame}
-use Rattle.n2k_join.proofs.Rising.{all-map, all-append, all-zip, all-flat_map, all-range, all-filter_map, rise-less, option_map_some, rise-few}
+use Rattle.n2k_join.proofs.Rising.{all-map, all-append, all-zip, all-flat_map, all-range, all-filter_map, option_map_some, rise-few, all-option}
 use Rattle.n2k_join.proofs.Windows.{all-filter, all-waiting, open_within-open}
 
 -- the parts of a frame are such as the program's packets give
@@ -225,11 +225,9 @@ module _ (kind : ℕ → Option Kind) (s : State) (e : Entry) (is : IsState s) w
   kept-parts = all-filter HasParts (is_waiting s.rule (next_line s)) s.groups is.parts
 
   step-parts : IsEntry e → AllByRecursion IsFramePart (step_frames kind s e)
-  step-parts valid = all-append IsFramePart (held (kept s)) (option_to_list (frame_in kind (next_line s) e)) (held-parts (kept s) kept-parts) (by (frame_in kind (next_line s) e) refl)
-    where
-      by : (o : Option Frame) → frame_in kind (next_line s) e ≡ o → AllByRecursion IsFramePart (option_to_list o)
-      by None none = tt
-      by (Some x) some = (frame_in-part kind (next_line s) e x valid some, tt)
+  step-parts valid =
+      all-append IsFramePart (held (kept s)) (option_to_list (frame_in kind (next_line s) e)) (held-parts (kept s) kept-parts)
+      (all-option IsFramePart (frame_in kind (next_line s) e) (λ x. frame_in-part kind (next_line s) e x valid))
 
   pub step-once : GivesOnce kind s e (step_given kind s e) (step_groups kind s e)
   unfolding step_after
@@ -314,11 +312,7 @@ step-fast kind s e some fast =
     (all-append (λ (f : Frame). kind f.key.pgn ≡ Some Fast) (held (kept s)) (option_to_list (frame_in kind (next_line s) e))
     (all-flat_map (λ (f : Frame). kind f.key.pgn ≡ Some Fast) held_of (kept s) (all-map (λ (g : Group). kind g.key.pgn ≡ Some Fast) (λ (g : Group). AllByRecursion (λ (f : Frame). kind f.key.pgn ≡ Some Fast) (held_of g)) (kept s) (λ g k. held_of-any (λ (f : Frame). kind f.key.pgn ≡ Some Fast) g (λ p. k))
     (all-filter (λ (g : Group). kind g.key.pgn ≡ Some Fast) (is_waiting s.rule (next_line s)) s.groups fast)))
-    (by (frame_in kind (next_line s) e) refl)))
-  where
-    by : (o : Option Frame) → frame_in kind (next_line s) e ≡ o → AllByRecursion (λ (f : Frame). kind f.key.pgn ≡ Some Fast) (option_to_list o)
-    by None none = tt
-    by (Some x) some = (frame_in-fast kind (next_line s) e x some, tt)
+    (all-option (λ (f : Frame). kind f.key.pgn ≡ Some Fast) (frame_in kind (next_line s) e) (frame_in-fast kind (next_line s) e))))
 
 -- ---- the states of logs
 

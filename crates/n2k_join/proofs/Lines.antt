@@ -1,14 +1,13 @@
 -- Lines rise: so a frame is found by its line, and a group by that of its last frame.
-use Rattle.std.proofs.Common.{◌≡◌, ℕ, ◌+◌, ◌≤◌, Bool, true, false, cond, List, [], ◌∷◌, refl, ap, sym, arith, Option, Some, None, ◌++◌}
-use Rattle.std.specs.Prelude.{filter, drop, slice_index_or}
-use Rattle.std.specs.List.{AllByRecursion, cons_option}
-use Rattle.std.proofs.lemmas.Bool.{eq-eqb, ne_eqb}
+use Rattle.std.proofs.Common.{◌≡◌, ℕ, ◌+◌, true, List, [], ◌∷◌, refl, ap, sym, arith, Option, Some, None}
+use Rattle.std.specs.Prelude.{drop, slice_index_or}
+use Rattle.std.specs.List.{cons_option}
 use Rattle.n2k_wire.specs.Packet.{PacketParts}
 use Rattle.n2k_wire.specs.declared.entry.Entry.{Entry}
 use Rattle.n2k_wire.specs.declared.entry.Entry.TheVariants as entries
 use Rattle.n2k_table.specs.declared.definition.Kind.{Kind}
 use Rattle.n2k_table.specs.declared.definition.Kind.TheVariants.{Single, Fast}
-use Rattle.n2k_join.specs.Frames.{Frame, fast_frame, frame_with, is_fast_payload, frame_by, frame_in, frames_from, frame_at}
+use Rattle.n2k_join.specs.Frames.{Frame, fast_frame, frame_with, is_fast_payload, frame_by, frame_in, frames_from}
 use Rattle.std.proofs.lemmas.Option.{none-some, cond_some}
 use Rattle.n2k_join.specs.State.{Rise}
 use Rattle.n2k_join.proofs.Rising.{rise-less}

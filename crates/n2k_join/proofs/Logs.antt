@@ -18,10 +18,11 @@ use Rattle.n2k_join.proofs.Rising.{all-map, all-zip, look-all, rise-least}
 use Rattle.n2k_join.specs.Window.{Rule}
 
 -- What holds of the frame of each entry holds of all frames.
-pub frames-all : (P : Frame → Type 0) (kind : ℕ → Option Kind) (n : ℕ) → ((i : ℕ) (e : Entry) (f : Frame) → frame_in kind i e ≡ Some f → P f)
-    → (es : List Entry) → AllByRecursion P (frames_from kind n es)
-frames-all P kind n each [] = tt
-frames-all P kind n each (e ∷ es) = by (frame_in kind n e) (each n e) (frames-all P kind (n + 1) each es)
+pub frames-all : (P : Frame → Type 0) (kind : ℕ → Option Kind) (n : ℕ) (es : List Entry)
+    → ((i : ℕ) (e : Entry) (f : Frame) → i < n + length es → frame_in kind i e ≡ Some f → P f) → AllByRecursion P (frames_from kind n es)
+frames-all P kind n [] each = tt
+frames-all P kind n (e ∷ es) each =
+    by (frame_in kind n e) (λ f is. each n e f (omega arith) is) (frames-all P kind (n + 1) es (λ i e f u is. each i e f (omega (arith, u)) is))
   where
     by : (o : Option Frame) → ((f : Frame) → o ≡ Some f → P f) → AllByRecursion P (frames_from kind (n + 1) es)
         → AllByRecursion P (cons_option o (frames_from kind (n + 1) es))
@@ -29,13 +30,9 @@ frames-all P kind n each (e ∷ es) = by (frame_in kind n e) (each n e) (frames-
     by (Some f) here rest = (here f refl, rest)
 
 pub frames-below : (kind : ℕ → Option Kind) (n : ℕ) (es : List Entry) → AllByRecursion (λ (f : Frame). f.line < n + length es) (frames_from kind n es)
-frames-below kind n [] = tt
-frames-below kind n (e ∷ es) =
-    by (frame_in kind n e) (λ f is. frame_in-line kind n e f is) (all-map (λ (f : Frame). f.line < (n + 1) + length es) (λ (f : Frame). f.line < n + length (e ∷ es)) (frames_from kind (n + 1) es) (λ f l. omega (arith, l)) (frames-below kind (n + 1) es))
-  where
-    by : (o : Option Frame) → ((f : Frame) → o ≡ Some f → f.line ≡ n) → AllByRecursion (λ (f : Frame). f.line < n + length (e ∷ es)) (frames_from kind (n + 1) es) → AllByRecursion (λ (f : Frame). f.line < n + length (e ∷ es)) (cons_option o (frames_from kind (n + 1) es))
-    by None here rest = rest
-    by (Some f) here rest = let at : f.line ≡ n = here f refl in (omega (arith, at), rest)
+frames-below kind n es =
+    frames-all (λ (f : Frame). f.line < n + length es) kind n es
+    (λ i e f u is. let at : f.line ≡ i = frame_in-line kind i e f is in omega (arith, at, u))
 
 -- a frame's number has five bits
 pub frame_in-number : (kind : ℕ → Option Kind) (i : ℕ) (e : Entry) (f : Frame) → frame_in kind i e ≡ Some f → f.number < most_frames
@@ -51,7 +48,7 @@ frames-log kind es =
     let rises = frames-rise kind 1 es in
     record {
       lines = all-map _ (λ (f : Frame). (1 ≤ f.line) × (f.line ≤ length es)) (frames kind es) (λ f h. (h.0, omega (arith, h.1))) (all-zip (λ (f : Frame). 1 ≤ f.line) (λ (f : Frame). f.line < 1 + length es) (frames kind es) (rise-least line_of 1 (frames kind es) rises) (frames-below kind 1 es));
-      numbers = frames-all (λ (f : Frame). f.number < most_frames) kind 1 (frame_in-number kind) es;
+      numbers = frames-all (λ (f : Frame). f.number < most_frames) kind 1 es (λ i e f _ is. frame_in-number kind i e f is);
       keys = all-map (λ (f : Frame). frame_at f.line (frames kind es) ≡ Some f) (λ (f : Frame). key_at f.line (frames kind es) ≡ Some f.key) (frames kind es) (λ f h. ap (option_map (λ (f : Frame). f.key)) h) (look-all line_of 1 (frames kind es) rises);
     }
 

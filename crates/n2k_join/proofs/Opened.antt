@@ -16,7 +16,7 @@ use Rattle.n2k_join.proofs.Carried.{carried-push, complete-same, pieces_of-same,
 use Rattle.n2k_join.proofs.Cuts.{IsEnding, next, so_far, so_far-push, so_far-all, so_far-keeps, last-cut}
 use Rattle.n2k_join.proofs.Held.{AreNumbered, carried-kept, has_twice-kept, first-kept}
 use Rattle.n2k_join.proofs.Keys.{same_key-true, same_key-refl, same_key-sym, of_key-same, of_key-other, of_key-keeps}
-use Rattle.n2k_join.proofs.Rising.{range-push, filter_map-push, filter_map-fused, filter_map-range, find-passes, find-all, find-none, look, look-filter_map, all-range, all-map, passes_none, option_map_some, all_with}
+use Rattle.n2k_join.proofs.Rising.{range-push, filter_map-push, filter_map-fused, filter_map-range, find-passes, find-all, find-none, look, look-filter_map, all-range, all-map, passes_none, option_map_some, all_with, of_cond}
 
 -- the key of the frame at a line
 abbrev pub key_at : ℕ → List Frame → Option Key
@@ -157,20 +157,6 @@ module _ (ends : Ends) (is_ending : IsEnding ends) where
       elim (complete (x ∷ [])) as (λ b. option_and_then (where_begun x.line x.key) (cond b None (Some (x ∷ []))) ≡ cond b None (Some (group_of x.key (x ∷ []))))
       [ true ↦ refl | false ↦ ap (λ b. cond b (Some (group_of x.key (x ∷ []))) None) (eq-eqb x.line x.line refl) ]
 
-  and_then-cond : {X Y : Type 0} (f : X → Option Y) (b : Bool) (x : X) → option_and_then f (cond b None (Some x)) ≡ cond b None (f x)
-  and_then-cond f true x = refl
-  and_then-cond f false x = refl
-
-  and_then-cond_not : {X Y : Type 0} (f : X → Option Y) (b : Bool) (x : X) → option_and_then f (cond b (Some x) None) ≡ cond b (f x) None
-  and_then-cond_not f true x = refl
-  and_then-cond_not f false x = refl
-
-  cond-swap : {X : Type 0} (a b : Bool) (x : X) → cond a None (cond b (Some x) None) ≡ cond b (cond a None (Some x)) None
-  cond-swap true true x = refl
-  cond-swap true false x = refl
-  cond-swap false true x = refl
-  cond-swap false false x = refl
-
   both_none : (b : Bool) → ◌≡◌ {A = Option Group} (cond b None None) None
   both_none true = refl
   both_none false = refl
@@ -191,13 +177,14 @@ module _ (ends : Ends) (is_ending : IsEnding ends) where
       by true e t = not_here k x i other
       by false true t =
           not_here k x i other
-          ∙ sym (and_then-cond_not (taken ends x) (first g == i) (group_of k g) ∙ ap (λ o. cond (first g == i) o None) (taken-ended k g x fine same t)
+          ∙ sym (of_cond (option_and_then (taken ends x)) (first g == i) (Some (group_of k g)) None ∙ ap (λ o. cond (first g == i) o None) (taken-ended k g x fine same t)
           ∙ both_none (first g == i))
       by false false t =
-          and_then-cond (where_begun i k) (complete h) h
+          of_cond (option_and_then (where_begun i k)) (complete h) None (Some h)
           ∙ ap (λ o. cond (complete h) None o) where_same
-          ∙ cond-swap (complete h) (first g == i) (group_of k h)
-          ∙ sym (and_then-cond_not (taken ends x) (first g == i) (group_of k g) ∙ ap (λ o. cond (first g == i) o None) (taken-joined k g x fine same t))
+          ∙ of_cond (λ o. cond (complete h) None o) (first g == i) (Some (group_of k h)) None
+          ∙ ap (λ o. cond (first g == i) (cond (complete h) None (Some (group_of k h))) o) (both_none (complete h))
+          ∙ sym (of_cond (option_and_then (taken ends x)) (first g == i) (Some (group_of k g)) None ∙ ap (λ o. cond (first g == i) o None) (taken-joined k g x fine same t))
 
   -- and at the frame's own
   is_opened : (x : Frame) (s : Option (List Frame)) → IfSome s IsFine → IfSome s (λ g. first g ≡ x.line → ⊥)
@@ -212,7 +199,7 @@ module _ (ends : Ends) (is_ending : IsEnding ends) where
       by true e t = here x
       by false true t = here x ∙ sym (ap (λ b. cond b (begun x) None) (ends-kept x.key g x fine ∙ t))
       by false false t =
-          and_then-cond (where_begun x.line x.key) (complete h) h
+          of_cond (option_and_then (where_begun x.line x.key)) (complete h) None (Some h)
           ∙ ap (λ b. cond (complete h) None (cond b (Some (group_of x.key h)) None)) (ap (λ n. n == x.line) (first-push g x fine.nonempty) ∙ ne_eqb (first g) x.line past)
           ∙ both_none (complete h)
           ∙ sym (ap (λ b. cond b (begun x) None) (ends-kept x.key g x fine ∙ t))
@@ -232,7 +219,7 @@ module _ (ends : Ends) (is_ending : IsEnding ends) where
           untouched : (o : Option (List Frame)) → option_and_then (taken ends x) (option_and_then (where_begun i k) o) ≡ option_and_then (where_begun i k) o
           untouched None = refl
           untouched (Some g) =
-              and_then-cond_not (taken ends x) (first g == i) (group_of k g) ∙ ap (λ b. cond (first g == i) (cond b (joined ends x (group_of k g)) (Some (group_of k g))) None) differs
+              of_cond (option_and_then (taken ends x)) (first g == i) (Some (group_of k g)) None ∙ ap (λ b. cond (first g == i) (cond b (joined ends x (group_of k g)) (Some (group_of k g))) None) differs
 
   begun_at-push : (fs : List Frame) (x : Frame) (i : ℕ) → AreNumbered fs → (x.line ≡ i → ⊥) → begun_at ends (fs ++ x ∷ []) i ≡ option_and_then (taken ends x) (begun_at ends fs i)
   begun_at-push fs x i numbers other =

@@ -24,6 +24,7 @@ use Rattle.n2k_join.proofs.GroupLines.{IsGroup, rise-after, last_frame, lasts_ab
 use Rattle.n2k_join.proofs.Arriving.{StandsAt, Comes, gathers, Settled, settles, zip-map, zip-all, as_stretch}
 use Rattle.n2k_join.specs.Window.{Rule}
 use Rattle.n2k_join.specs.State.{Rise}
+use Rattle.n2k_join.proofs.Carried.{option_or_none}
 
 -- the sending whose group's last frame stands at the line
 unfoldable at_line : List Sending → List (List Frame) → ℕ → Option Sending
@@ -155,16 +156,12 @@ line_of_key ends kind ms es k at i = by_line (at_line-cases (gathered ends (fram
     by_line (inl here) = ap (kept k) here.2 ∙ (own here.0 ∙ sym (ap (option_map (keyed k)) here.1))
     by_line (inr there) = none_of_key ends (frames kind es) k at.groups i at.cut_is there.1 ∙ sym (ap (option_map (keyed k)) there.0)
 
-filter_map-agree : {X Y : Type 0} (g h : X → Option Y) → ((x : X) → g x ≡ h x) → (xs : List X) → filter_map g xs ≡ filter_map h xs
-filter_map-agree g h e [] = refl
-filter_map-agree g h e (x ∷ xs) = ap (λ o. cons_option o (filter_map g xs)) (e x) ∙ ap (cons_option (h x)) (filter_map-agree g h e xs)
-
 -- what the groups of a key give, is what was sent under it, in order
 pub gathered_of_key : (ends : Ends) (kind : ℕ → Option Kind) (ms : List PacketParts) (es : List Entry) (k : Key) → Settled ends kind ms es k → filter (λ (m : Keyed). same_key k m.key) (filter_map (gathered ends (frames kind es)) (numbers es)) ≡ map (keyed k) (sendings_of k ms)
 gathered_of_key ends kind ms es k at =
     let inside : AllByRecursion (λ g. last_line g < 1 + length es) at.groups = zip-all (Comes ends kind es k) (λ g. last_line g < 1 + length es) (comes-within ends kind es k) (sendings_of k ms) at.groups at.each in
     filter-filter_map k (gathered ends (frames kind es)) (numbers es)
-    ∙ (filter_map-agree (λ i. kept k (gathered ends (frames kind es) i)) (λ i. option_map (keyed k) (at_line (sendings_of k ms) at.groups i)) (line_of_key ends kind ms es k at) (numbers es)
+    ∙ (filter_map-range (λ i. kept k (gathered ends (frames kind es) i)) (λ i. option_map (keyed k) (at_line (sendings_of k ms) at.groups i)) 1 (length es) (λ i l u. line_of_key ends kind ms es k at i)
     ∙ (sym (map-filter_map (keyed k) (at_line (sendings_of k ms) at.groups) (numbers es))
     ∙ ap (map (keyed k)) (read_off (Comes ends kind es k) 1 (length es) (sendings_of k ms) at.groups at.each (lasts_rise 1 at.groups at.nonempty at.rise) inside)))
 
@@ -181,17 +178,13 @@ entry-mute kind [] i mute = refl
 entry-mute kind (e ∷ es) zero mute = mute.0
 entry-mute kind (e ∷ es) (suc i) mute = entry-mute kind es i mute.1
 
-option_or-none : {X : Type 0} (o : Option X) → option_or o None ≡ o
-option_or-none None = refl
-option_or-none (Some x) = refl
-
 line-mute : (w : Rule) (kind : ℕ → Option Kind) (es : List Entry) (i : ℕ) → AllByRecursion (λ (e : Entry). alone kind e ≡ None) es → message w kind es i ≡ option_map (λ (m : Keyed). m.message) (gathered (within w) (frames kind es) i)
-line-mute w kind es zero mute = option_or-none _
-line-mute w kind es (suc i) mute = ap (option_or (option_map (λ (m : Keyed). m.message) (gathered (within w) (frames kind es) (suc i)))) (entry-mute kind es i mute) ∙ option_or-none _
+line-mute w kind es zero mute = option_or_none _
+line-mute w kind es (suc i) mute = ap (option_or (option_map (λ (m : Keyed). m.message) (gathered (within w) (frames kind es) (suc i)))) (entry-mute kind es i mute) ∙ option_or_none _
 
 pub by_groups : (w : Rule) (kind : ℕ → Option Kind) (es : List Entry) → IsMute kind es → messages w kind es ≡ map (λ (m : Keyed). m.message) (gathered_messages w kind es)
 by_groups w kind es mute =
-    filter_map-agree (message w kind es) (λ i. option_map (λ (m : Keyed). m.message) (gathered (within w) (frames kind es) i)) (λ i. line-mute w kind es i (recursion_from_All _ es mute)) (numbers es)
+    filter_map-range (message w kind es) (λ i. option_map (λ (m : Keyed). m.message) (gathered (within w) (frames kind es) i)) 1 (length es) (λ i l u. line-mute w kind es i (recursion_from_All _ es mute))
     ∙ sym (map-filter_map (λ (m : Keyed). m.message) (gathered (within w) (frames kind es)) (numbers es))
 
 length-sendings : (earlier ms : List PacketParts) → length (sendings_after earlier ms) ≡ length ms

@@ -25,6 +25,11 @@ range-push a n = range-append a n 1
 pub filter_map-push : {X Y : Type 0} (h : X → Option Y) (xs : List X) (x : X) → filter_map h (xs ++ x ∷ []) ≡ filter_map h xs ++ option_to_list (h x)
 filter_map-push h xs x = filter_map-append h xs (x ∷ []) ∙ ap (λ t. filter_map h xs ++ t) (elim (h x) as (λ o. cons_option o [] ≡ option_to_list o) [ None ↦ refl | Some y ↦ refl ])
 
+-- what is made of one of two is one of what is made of them
+pub of_cond : {X Y : Type 0} (h : X → Y) (b : Bool) (x y : X) → h (cond b x y) ≡ cond b (h x) (h y)
+of_cond h true x y = refl
+of_cond h false x y = refl
+
 -- where nothing is given
 pub filter_map-none : {X Y : Type 0} (h : X → Option Y) → ((x : X) → h x ≡ None) → (xs : List X) → filter_map h xs ≡ []
 filter_map-none h e [] = refl
@@ -117,6 +122,11 @@ pub all_with : {X : Type 0} (P Q R : X → Type 0) → ((x : X) → P x → Q x 
 all_with P Q R h [] p q = tt
 all_with P Q R h (x ∷ xs) p q = (h x p.0 q.0, all_with P Q R h xs p.1 q.1)
 
+-- what holds of a value, where there is one
+pub all-option : {X : Type 0} (P : X → Type 0) (o : Option X) → ((x : X) → o ≡ Some x → P x) → AllByRecursion P (option_to_list o)
+all-option P None each = tt
+all-option P (Some x) each = (each x refl, tt)
+
 pub all-append : {X : Type 0} (P : X → Type 0) (xs ys : List X) → AllByRecursion P xs → AllByRecursion P ys → AllByRecursion P (xs ++ ys)
 all-append P [] ys a b = b
 all-append P (x ∷ xs) ys a b = (a.0, all-append P xs ys a.1 b)
@@ -183,11 +193,9 @@ module _ {A : Type 0} (number : A → ℕ) where
 
   -- below the least number there is none
   pub look-below : (least n : ℕ) (xs : List A) → Rise number least xs → n < least → look xs n ≡ None
-  look-below least n [] r l = refl
-  look-below least n (x ∷ xs) r l =
-      let above : number x ≡ n → ⊥ = λ e. omega (arith, r.0, e) in
-      let more : n < number x + 1 = omega (arith, r.0) in
-      ap (λ b. cond b (Some x) (look xs n)) (ne_eqb (number x) n above) ∙ look-below (number x + 1) n xs r.1 more
+  look-below least n xs r l =
+      find-none (λ x. number x == n) xs
+      (all-map (λ x. least ≤ number x) (λ x. (number x == n) ≡ false) xs (λ x m. ne_eqb (number x) n (λ e. omega (arith, m, e, l))) (rise-least least xs r))
 
   look-here : (x : A) (xs : List A) (n : ℕ) → number x ≡ n → look (x ∷ xs) n ≡ Some x
   look-here x xs n e = ap (λ b. cond b (Some x) (look xs n)) (eq-eqb (number x) n e)

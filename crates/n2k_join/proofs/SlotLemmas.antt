@@ -1,15 +1,14 @@
 -- The slots of a group: what they carry is what the group's frames carry, and its mask tells whether it is complete.
-use Rattle.std.proofs.Common.{◌≡◌, ◌≢◌, ◌==◌, ◌≤◌, ◌<◌, ◌+◌, ◌-◌, ◌*◌, ◌/◌, ◌%◌, ◌^◌, ℕ, suc, zero, Bool, true, false, cond, not, ◌&&◌, nat_le, List, [], ◌∷◌, ◌++◌, length, get_or, set, w32, refl, sym, ap, ◌∙◌, subst, arith, Option, Some, None, option_map, flat_map, take, drop, unwrap_or, bit_or, slice_index, slice_index_or}
+use Rattle.std.proofs.Common.{◌≡◌, ◌==◌, ◌≤◌, ◌<◌, ◌+◌, ◌-◌, ◌*◌, ◌/◌, ◌%◌, ◌^◌, ℕ, suc, zero, Bool, true, false, cond, not, ◌&&◌, nat_le, List, [], ◌∷◌, ◌++◌, length, get_or, set, w32, refl, sym, ap, ◌∙◌, subst, arith, Option, Some, None, option_map, flat_map, take, drop, unwrap_or, bit_or, slice_index, slice_index_or}
 use mathlib.Core.Logic.{◌⊎◌, inl, inr}
 use Rattle.std.specs.Prelude.{is_some}
 use Rattle.std.specs.Int.{bit_at}
 use Rattle.std.specs.Option.{option_or}
-use Rattle.std.specs.List.{range_with_len, list_all, AllByRecursion}
+use Rattle.std.specs.List.{range_with_len, AllByRecursion}
 use Rattle.std.proofs.lemmas.Bool.{cases_lt, eqb-true, eq-eqb, and_parts, and_from, le-leb, leb-true, false≢true}
-use Rattle.std.proofs.Math.Nat.{pow-suc}
-use Rattle.std.proofs.lemmas.Nat.Bits.{bit_at_lowest, bit_at-suc, bit_at-zero, bit_at_ones, bit_at_above, bit_at_set_same, bit_at_set_other, same_from_bits, bit_at_ones_above}
+use Rattle.std.proofs.lemmas.Nat.Bits.{bit_at-lt, bit_at-zero, bit_at_ones, bit_at_above, bit_at_set_same, bit_at_set_other, same_from_bits, bit_at_ones_above}
+use Rattle.std.proofs.lemmas.List.Elements.{All-set, All-from_recursion, recursion_from_All}
 use Rattle.std.proofs.lemmas.Nat.{shr-shr}
-use Rattle.std.proofs.lemmas.Option.{none-some, same_Some}
 use Rattle.std.proofs.lemmas.List.{get_or-set_same, get_or-set_other, length-append, take-append-le, take-append-drop}
 use Rattle.std.proofs.lemmas.Grind.{flat_map-append}
 use Rattle.n2k_join.specs.declared.piece.OpenGroup.{OpenGroup}
@@ -39,23 +38,13 @@ once-slots k g = has_twice-held (group_in k g) 0 (pieces_by (slot_of g)) (pieces
 -- ---- masks
 
 -- a number whose bits are ones below k and zeros from there on
-pub mask_is : (w k n : ℕ) → k ≤ w → n < 2 ^ w → ((i : ℕ) → i < k → bit_at n i ≡ 1) → ((i : ℕ) → k ≤ i → i < w → bit_at n i ≡ 0) → n ≡ 2 ^ k - 1
-mask_is zero zero n l b ones zeros = omega (arith, b)
-mask_is zero (suc k) n l b ones zeros = absurd (omega (arith, l))
-mask_is (suc w) zero n l b ones zeros =
-    let half : n / 2 < 2 ^ w = omega (arith, b, pow-suc 2 w) in
-    let rest : n / 2 ≡ 2 ^ 0 - 1 = mask_is w 0 (n / 2) (omega arith) half (λ i f. absurd (omega (arith, f))) (λ i a f. sym (bit_at-suc n i) ∙ zeros (suc i) (omega arith) (omega (arith, f))) in
-    let low : n % 2 ≡ 0 = sym (bit_at_lowest n) ∙ zeros 0 (omega arith) (omega arith) in
-    omega (arith, rest, low)
-mask_is (suc w) (suc k) n l b ones zeros =
-    let half : n / 2 < 2 ^ w = omega (arith, b, pow-suc 2 w) in
-    let rest : n / 2 ≡ 2 ^ k - 1 = mask_is w k (n / 2) (omega (arith, l)) half (λ i f. sym (bit_at-suc n i) ∙ ones (suc i) (omega (arith, f))) (λ i a f. sym (bit_at-suc n i) ∙ zeros (suc i) (omega (arith, a)) (omega (arith, f))) in
-    let low : n % 2 ≡ 1 = sym (bit_at_lowest n) ∙ ones 0 (omega arith) in
-    omega (arith, rest, low, pow-suc 2 k, some k)
+pub mask_is : (w k n : ℕ) → n < 2 ^ w → ((i : ℕ) → i < k → bit_at n i ≡ 1) → ((i : ℕ) → k ≤ i → i < w → bit_at n i ≡ 0) → n ≡ 2 ^ k - 1
+mask_is w k n b ones zeros = same_from_bits n (2 ^ k - 1) (λ i. by i (cases_lt i k) (cases_lt i w))
   where
-    some : (k : ℕ) → 1 ≤ 2 ^ k
-    some zero = omega arith
-    some (suc k) = omega (arith, some k, pow-suc 2 k)
+    by : (i : ℕ) → (i < k) ⊎ (k ≤ i) → (i < w) ⊎ (w ≤ i) → bit_at n i ≡ bit_at (2 ^ k - 1) i
+    by i (inl below) at = ones i below ∙ sym (bit_at_ones k i below)
+    by i (inr past) (inl below) = zeros i past below ∙ sym (bit_at_ones_above k i past)
+    by i (inr past) (inr above) = bit_at_above n w i b above ∙ sym (bit_at_ones_above k i past)
 
 -- ---- completeness
 
@@ -66,15 +55,12 @@ has-slot : (k : Key) (g : OpenGroup) (n : ℕ) → n < most_frames → has_numbe
 has-slot k g n l = ap is_some (carried-slots k g n l) ∙ is_some-slot g n
 
 bit_two : (n i : ℕ) → (bit_at n i ≡ 0) ⊎ (bit_at n i ≡ 1)
-bit_two n i = by (n / 2 ^ i)
+bit_two n i = by (bit_at n i) (bit_at-lt n i)
   where
-    by : (m : ℕ) → (m % 2 ≡ 0) ⊎ (m % 2 ≡ 1)
-    by m = two (m % 2) (omega arith)
-      where
-        two : (r : ℕ) → r < 2 → (r ≡ 0) ⊎ (r ≡ 1)
-        two zero l = inl refl
-        two (suc zero) l = inr refl
-        two (suc (suc r)) l = absurd (omega (arith, l))
+    by : (r : ℕ) → r < 2 → (r ≡ 0) ⊎ (r ≡ 1)
+    by zero l = inl refl
+    by (suc zero) l = inr refl
+    by (suc (suc r)) l = absurd (omega (arith, l))
 
 module _ (k : Key) (g : OpenGroup) (last : ℕ) (small : last < most_frames) (fits : g.mask < 2 ^ 32) where
   abbrev pub h : List Frame
@@ -86,7 +72,7 @@ module _ (k : Key) (g : OpenGroup) (last : ℕ) (small : last < most_frames) (fi
       let within = (and_parts _ _ e).1 in
       let ones : (i : ℕ) → i < last + 1 → bit_at g.mask i ≡ 1 = λ i l. eqb-true _ _ (sym (has-slot k g i (omega (arith, l, small))) ∙ all_to (λ n. has_number n (held_of (group_in k g))) 0 (last + 1) i all (omega arith) (omega (arith, l))) in
       let zeros : (i : ℕ) → last + 1 ≤ i → i < 32 → bit_at g.mask i ≡ 0 = λ i l u. none i l u within (bit_two g.mask i) in
-      mask_is 32 (last + 1) g.mask (omega (arith, small)) fits ones zeros
+      mask_is 32 (last + 1) g.mask fits ones zeros
     where
       none : (i : ℕ) → last + 1 ≤ i → i < 32 → is_within last (held_of (group_in k g)) ≡ true → (bit_at g.mask i ≡ 0) ⊎ (bit_at g.mask i ≡ 1) → bit_at g.mask i ≡ 0
       none i l u within (inl e) = e
@@ -246,12 +232,9 @@ module _ (first mask number : ℕ) (slots : List (List ℕ)) (bytes : List ℕ) 
 
   -- each slot keeps seven bytes
   pub seven-slots : AllByRecursion (λ (b : List ℕ). length b ≡ frame_bytes) slots → length bytes ≡ frame_bytes → AllByRecursion (λ (b : List ℕ). length b ≡ frame_bytes) (set slots number bytes)
-  seven-slots all one = by slots number all
-    where
-      by : (ss : List (List ℕ)) (n : ℕ) → AllByRecursion (λ (b : List ℕ). length b ≡ frame_bytes) ss → AllByRecursion (λ (b : List ℕ). length b ≡ frame_bytes) (set ss n bytes)
-      by [] n each = tt
-      by (b ∷ ss) zero each = (one, each.1)
-      by (b ∷ ss) (suc n) each = (each.0, by ss n each.1)
+  seven-slots all one =
+      let seven = λ (b : List ℕ). length b ≡ frame_bytes in
+      recursion_from_All seven (set slots number bytes) (All-set seven slots number bytes one (All-from_recursion seven slots all))
 
 -- ---- completeness, by the total that is read
 

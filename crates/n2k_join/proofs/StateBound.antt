@@ -13,9 +13,9 @@ use Rattle.n2k_join.specs.Frames.{most_frames}
 use Rattle.n2k_join.specs.Open.{Piece, Group}
 use Rattle.n2k_join.specs.Saved.{whole, list, piece_tree, group_tree, state_text, tree_by, format_by, window_member, are_waiting, bare_bytes, group_bytes, IsId}
 use Rattle.n2k_join.specs.Window.{IsWindow}
-use Rattle.n2k_join.specs.State.{State, IsState, IsPiece, HasParts, IsOpen, Rise}
+use Rattle.n2k_join.specs.State.{State, IsState, IsPiece, HasParts, IsOpen}
 use Rattle.n2k_join.proofs.SavedGroups.{small_bytes}
-use Rattle.n2k_join.proofs.Rising.{rise-few}
+use Rattle.n2k_join.proofs.Rising.{rise-few, all_with, all-zip}
 
 -- ---- numbers and digits
 
@@ -116,16 +116,12 @@ piece_short p is small =
     let first : length (items_text false (item (whole p.number) (item (string (encode_lower p.bytes)) no_items))) ≤ 20 = first_short (whole p.number) (item (string (encode_lower p.bytes)) no_items) 2 18 number second in
     omega (arith, first)
 
-pieces_each : (ps : List Piece) → AllByRecursion IsPiece ps → AllByRecursion (λ (p : Piece). p.number < most_frames) ps → AllByRecursion (λ p. length (compact_text (piece_tree p)) ≤ 21) ps
-pieces_each [] are small = tt
-pieces_each (p ∷ ps) are small = (piece_short p are.0 small.0, pieces_each ps are.1 small.1)
-
 -- ---- open groups
 
 frames_short : (g : Group) → HasParts g → IsOpen g → length (compact_text (list (map piece_tree g.pieces))) ≤ 706
 frames_short g parts is =
     let few = rise-few (λ (p : Piece). p.number) 0 most_frames g.pieces is.rise is.numbers in
-    let short = list_short piece_tree 21 g.pieces (pieces_each g.pieces parts.pieces is.numbers) in
+    let short = list_short piece_tree 21 g.pieces (all_with IsPiece (λ (p : Piece). p.number < most_frames) _ piece_short g.pieces parts.pieces is.numbers) in
     omega (arith, few, short)
 
 group_short : (g : Group) → HasParts g → IsOpen g → g.first ≤ most_lines → length (compact_text (group_tree g)) ≤ 785
@@ -142,13 +138,6 @@ group_short g parts is begun =
     let m-first = member_short (codes "first") (whole g.first) 7 15 refl (count_short g.first begun) m-frames in
     let m-dst = member_short (codes "dst") (whole g.key.dst) 5 3 refl dst m-first in
     omega (arith, object_short (codes "dst") (whole g.key.dst) m-dst)
-
-groups_each : (lines : ℕ) (gs : List Group) → lines ≤ most_lines → AllByRecursion HasParts gs → AllByRecursion IsOpen gs → AllByRecursion (λ (g : Group). g.first ≤ lines) gs
-    → AllByRecursion (λ g. length (compact_text (group_tree g)) ≤ 785) gs
-groups_each lines [] most parts are begun = tt
-groups_each lines (g ∷ gs) most parts are begun =
-    let first : g.first ≤ lines = begun.0 in
-    (group_short g parts.0 are.0 (omega (arith, first, most)), groups_each lines gs most parts.1 are.1 begun.1)
 
 -- ---- the state
 
@@ -172,7 +161,9 @@ state-short s is known =
     let given : s.counts.messages + s.counts.bad + s.counts.unknown ≤ s.counts.lines = is.counted.given in
     let broken : s.counts.broken + s.counts.held ≤ s.counts.lines = is.counted.broken in
     let id = digits_short 32 s.id known.long (small_bytes s.id known.are_bytes) in
-    let each = groups_each s.counts.lines s.groups most is.parts is.groups.each is.groups.begun in
+    let open_parts = all-zip HasParts IsOpen s.groups is.parts is.groups.each in
+    let each = all_with (λ (g : Group). HasParts g × IsOpen g) (λ (g : Group). g.first ≤ s.counts.lines) (λ g. length (compact_text (group_tree g)) ≤ 785)
+    (λ g is first. group_short g is.0 is.1 (omega (arith, first, most))) s.groups open_parts is.groups.begun in
     let groups : length (compact_text (list (map group_tree s.groups))) ≤ 786 * n + 2 = list_short group_tree 785 s.groups each in
     let count : (k : ℕ) → k ≤ s.counts.lines → length (compact_text (whole k)) ≤ 15 = λ k l. count_short k (omega (arith, l, most)) in
     let unknown = count s.counts.unknown (omega (arith, given)) in

@@ -245,10 +245,10 @@ asked kind id rule format s = do
   in_time ← holds_or Invalid (waits_hold format s)
   valid_if (is_valid kind s) s
 
-text-asked : (tells : Bool) (kind : ℕ → Option Kind) (id : List ℕ) (rule : Rule) (s : State) → IsState s → IsId s.id
-    → judged kind id rule (compact_text (tree_by tells s)) ≡ asked kind id rule (place_by tells) (read_under tells rule s)
-unfolding judged tree_by
-text-asked tells kind id rule s is known = by tells
+text-asked : (kind : ℕ → Option Kind) (id : List ℕ) (rule : Rule) (s : State) → IsState s → IsId s.id
+    → judged kind id rule (state_text s) ≡ asked kind id rule (place_by (are_waiting s)) (read_under (are_waiting s) rule s)
+unfolding judged tree_by state_text
+text-asked kind id rule s is known = by (are_waiting s)
   where
     text : (tells : Bool) → or_cause NotJson (parsed (compact_text (tree_by tells s))) ≡ Ok (tree_by tells s)
     text tells =
@@ -260,19 +260,6 @@ text-asked tells kind id rule s is known = by tells
     by true = rw (text true) (rw (state-reads true rule s is known) refl)
     by false = rw (text false) (rw (state-reads false rule s is known) refl)
 
-asked-all : (kind : ℕ → Option Kind) (id : List ℕ) (rule : Rule) (format : Place) (s : State)
-    → bytes_eq s.id id ≡ true → (s.rule.window == rule.window) ≡ true → waits_hold format s ≡ true → is_valid kind s ≡ true → asked kind id rule format s ≡ Ok s
-asked-all kind id rule format s table window waits valid = rw table (rw window (rw waits (rw valid refl)))
-
-asked-elsewhere : (kind : ℕ → Option Kind) (id : List ℕ) (rule : Rule) (format : Place) (s : State)
-    → bytes_eq s.id id ≡ true → (s.rule.window == rule.window) ≡ false → asked kind id rule format s ≡ Err WindowDiffers
-asked-elsewhere kind id rule format s table window = rw table (rw window refl)
-
--- the text of a state that tells its window or doesn't
-text-by : (kind : ℕ → Option Kind) (id : List ℕ) (rule : Rule) (s : State) (tells : Bool) → are_waiting s ≡ tells → judged kind id rule (state_text s) ≡ judged kind id rule (compact_text (tree_by tells s))
-unfolding state_text
-text-by kind id rule s tells e = ap (λ d. judged kind id rule (compact_text d)) (ap (λ b. tree_by b s) e)
-
 waits-there : (s : State) → are_waiting s ≡ true → waits_hold places.WindowState s ≡ true
 waits-there s e = cc
 
@@ -281,18 +268,22 @@ waits-there s e = cc
 pub state_under : (kind : ℕ → Option Kind) (s : State) (order : Bool) → IsState s → AreFast kind s.groups → IsId s.id
     → judged kind s.id (record { window = s.rule.window; in_order = order }) (state_text s) ≡ Ok (record { id = s.id; rule = record { window = s.rule.window; in_order = order }; counts = s.counts; groups = s.groups })
 unfolding is_valid
-state_under kind s order is fast id = by (are_waiting s) refl
+state_under kind s order is fast id = text-asked kind s.id rule s is id ∙ by (are_waiting s) refl
   where
-    by : (tells : Bool) → are_waiting s ≡ tells
-        → judged kind s.id (record { window = s.rule.window; in_order = order }) (state_text s) ≡ Ok (record { id = s.id; rule = record { window = s.rule.window; in_order = order }; counts = s.counts; groups = s.groups })
-    by true e =
-        let rule : Rule = record { window = s.rule.window; in_order = order } in
-        text-by kind s.id rule s true e ∙ text-asked true kind s.id rule s is id
-        ∙ asked-all kind s.id rule places.WindowState (read_under true rule s) (bytes_eq-same s.id) (eq-eqb s.rule.window s.rule.window refl) (waits-there s e) (state_valid kind s is fast)
-    by false e =
-        let rule : Rule = record { window = s.rule.window; in_order = order } in
-        text-by kind s.id rule s false e ∙ text-asked false kind s.id rule s is id
-        ∙ asked-all kind s.id rule places.State (read_under false rule s) (bytes_eq-same s.id) (eq-eqb s.rule.window s.rule.window refl) refl (state_valid kind s is fast)
+    rule : Rule
+    rule = record { window = s.rule.window; in_order = order }
+
+    ruled : State
+    ruled = record { id = s.id; rule = rule; counts = s.counts; groups = s.groups }
+
+    answers : (place : Place) → waits_hold place ruled ≡ true → asked kind s.id rule place ruled ≡ Ok ruled
+    answers place waits =
+        let valid : is_valid kind ruled ≡ true = state_valid kind s is fast in
+        rw (bytes_eq-same s.id) (rw (eq-eqb s.rule.window s.rule.window refl) (rw waits (rw valid refl)))
+
+    by : (tells : Bool) → are_waiting s ≡ tells → asked kind s.id rule (place_by tells) (read_under tells rule s) ≡ Ok ruled
+    by true e = answers places.WindowState (waits-there s e)
+    by false e = answers places.State refl
 
 pub state_back : (kind : ℕ → Option Kind) (s : State) → IsState s → AreFast kind s.groups → IsId s.id → judged kind s.id s.rule (state_text s) ≡ Ok s
 state_back kind s is fast id = state_under kind s s.rule.in_order is fast id
@@ -301,8 +292,10 @@ state_back kind s is fast id = state_under kind s s.rule.in_order is fast id
 pub state_elsewhere : (kind : ℕ → Option Kind) (s : State) (rule : Rule) → IsState s → AreWaiting s → IsId s.id → (s.rule.window ≡ rule.window → ⊥)
     → judged kind s.id rule (state_text s) ≡ Err WindowDiffers
 state_elsewhere kind s rule is waits id other =
-    text-by kind s.id rule s true (in_time-to s waits) ∙ text-asked true kind s.id rule s is id
-    ∙ asked-elsewhere kind s.id rule places.WindowState (read_under true rule s) (bytes_eq-same s.id) (ne_eqb s.rule.window rule.window other)
+    let refused : asked kind s.id rule places.WindowState (read_under true rule s) ≡ Err WindowDiffers =
+    rw (bytes_eq-same s.id) (rw (ne_eqb s.rule.window rule.window other) refl) in
+    text-asked kind s.id rule s is id
+    ∙ ap (λ tells. asked kind s.id rule (place_by tells) (read_under tells rule s)) (in_time-to s waits) ∙ refused
 
 -- What a text is read as, once each question but that of the rules is answered.
 pub judged-by : (kind : ℕ → Option Kind) (id bytes : List ℕ) (rule : Rule) (d : Data) (format : Place) (s : State)

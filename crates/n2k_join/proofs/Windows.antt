@@ -2,21 +2,21 @@
 use Rattle.std.proofs.Common.{◌≡◌, ◌≤◌, ◌<◌, ◌+◌, ◌||◌, ◌&&◌, ℕ, Bool, true, false, cond, List, [], ◌∷◌, ◌++◌, refl, sym, ap, ◌∙◌, arith, Option, Some, None, option_to_list, filter, filter_map, not}
 use Rattle.std.specs.Prelude.{nat_lt}
 use Rattle.std.specs.List.{cons_option, AllByRecursion}
-use Rattle.std.proofs.lemmas.List.Elements.{filter-append}
+use Rattle.std.proofs.lemmas.List.Elements.{filter-append, filter_passes, recursion_from_All}
 use Rattle.std.proofs.lemmas.Bool.{ltb-true, ltb-false, lt-ltb, lt-leb, le-leb, or_right}
 use Rattle.std.proofs.lemmas.Option.{none-some, same_Some}
 use Rattle.n2k_join.specs.Frames.{Key, same_key, Frame}
 use Rattle.n2k_join.specs.Groups.{Ends, repeats, has_number, has_from, falls_back, misfits, is_late, within, complete, first}
 use Rattle.n2k_join.specs.Open.{Group, group_of, open_groups, is_waiting, waiting, open_within, ended}
-use Rattle.n2k_join.specs.State.{held_of, held, Rise, IsOpen, AreApart, AreOpen}
+use Rattle.n2k_join.specs.State.{held_of, Rise, IsOpen, AreApart, AreOpen}
 use Rattle.n2k_join.specs.Inner.Stored.{bars}
 use Rattle.n2k_join.proofs.Advanced.{with_frame, taken, begun, of_the_key, opened, advanced}
 use Rattle.n2k_join.proofs.Cuts.{within-ends, has-from}
 use Rattle.n2k_join.proofs.Held.{first-held}
 use Rattle.n2k_join.proofs.Keys.{same_key-true}
 use Rattle.n2k_join.proofs.Opened.{IsLog, open_groups-push, open_groups-none}
-use Rattle.n2k_join.proofs.Resumed.{open_groups-held, open_groups-open, first_of}
-use Rattle.n2k_join.proofs.Rising.{rise-less, find-none, all-map, rise-filter}
+use Rattle.n2k_join.proofs.Resumed.{open_groups-open, first_of}
+use Rattle.n2k_join.proofs.Rising.{find-none, all-map, rise-filter}
 use Rattle.n2k_join.specs.Window.{Rule}
 use Rattle.std.proofs.Math.Bool.{or-false}
 
@@ -28,12 +28,7 @@ all-filter P t (x ∷ xs) a = elim (t x) as (λ b. AllByRecursion P (cond b (x �
 
 -- all that are left pass
 pub all-passed : {X : Type 0} (t : X → Bool) (xs : List X) → AllByRecursion (λ x. t x ≡ true) (filter t xs)
-all-passed t [] = tt
-all-passed t (x ∷ xs) = by (t x) refl (all-passed t xs)
-  where
-    by : (b : Bool) → t x ≡ b → AllByRecursion (λ x. t x ≡ true) (filter t xs) → AllByRecursion (λ x. t x ≡ true) (cond b (x ∷ filter t xs) (filter t xs))
-    by true e rest = (e, rest)
-    by false e rest = rest
+all-passed t xs = recursion_from_All (λ x. t x ≡ true) (filter t xs) (filter_passes t xs)
 
 -- where all pass, all are left
 pub filter-passed : {X : Type 0} (t : X → Bool) (xs : List X) → AllByRecursion (λ x. t x ≡ true) xs → filter t xs ≡ xs
