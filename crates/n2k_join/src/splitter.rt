@@ -77,15 +77,52 @@ fn sent_byte(data: &[u8], place: usize) -> u8
     }
 }
 
-// The seven bytes that a frame carries.
+// The seven bytes of a frame that the data fill.
+fn full_piece(data: &[u8], number: u8) -> Option<[u8; 7]>
+    requires { length «data».now ≤ longest_message }
+    ensures { IfSome result (λ bytes. bytes ≡ piece_bytes «data».now number) }
+{
+    if number == 0 {
+        let six = data.first_chunk::<6>()?;
+        return Some([
+            data.len() as u8,
+            six[0],
+            six[1],
+            six[2],
+            six[3],
+            six[4],
+            six[5],
+        ]);
+    }
+    let first = FRAME_BYTES * number as usize - 1;
+    if first > data.len() {
+        return None;
+    }
+    let (_, behind) = data.split_at(first);
+    let seven = behind.first_chunk::<7>()?;
+    Some(*seven)
+}
+
+// The seven bytes of any frame, place by place.
 #[tactic(auto, using(crate::proofs::PieceBytes::bytes_by_place), unfolding(crate::specs::Pieces::piece_bytes))]
-fn piece_bytes(data: &[u8], number: u8) -> [u8; 7]
+fn piece_by_place(data: &[u8], number: u8) -> [u8; 7]
     requires { length «data».now ≤ longest_message }
     ensures { result ≡ piece_bytes «data».now number }
 {
     let first = FRAME_BYTES * number as usize;
     let at = |i| sent_byte(data, first + i);
     [at(0), at(1), at(2), at(3), at(4), at(5), at(6)]
+}
+
+// The seven bytes that a frame carries.
+fn piece_bytes(data: &[u8], number: u8) -> [u8; 7]
+    requires { length «data».now ≤ longest_message }
+    ensures { result ≡ piece_bytes «data».now number }
+{
+    match full_piece(data, number) {
+        Some(bytes) => bytes,
+        None => piece_by_place(data, number),
+    }
 }
 
 // Makes a packet frame `number` of a message, in its own place.

@@ -1,0 +1,15 @@
+use Rattle.std.proofs.Common.{◌*◌, ◌-◌, ap, sym, ◌∙◌, arith}
+use Rattle.n2k_join.specs.Pieces.{piece_bytes}
+use Rattle.n2k_join.proofs.PieceBytes.{first_bytes, later_bytes}
+use Rattle.n2k_join.proofs.splitter.full_piece.Goals as goal
+
+pub returns-then-number-eq0 : goal.returns-then-number-eq0
+returns-then-number-eq0 c =
+    let payload = c.args.data.now in
+    let cases = c.in_ok-six.ensures.cases in
+    first_bytes payload c.in_ok-six.six.now cases.enough cases.same ∙ ap (piece_bytes payload) (sym c.if-number-eq0.true)
+
+pub returns : goal.returns
+returns c =
+    let cases = c.in_ok-seven.ensures.cases in
+    later_bytes c.args.data.now c.split_at.result.1.now c.in_ok-seven.seven.now c.args.number (7 * c.args.number - 1) (omega arith) c.split_at.ensures.back cases.enough cases.same
