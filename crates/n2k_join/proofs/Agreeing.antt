@@ -177,7 +177,8 @@ module _ (w : Rule) (some : 0 < w.window) (kind : ℕ → Option Kind) (es : Lis
 
   messages-push : count_by (λ i. is_some (message w kind (es ++ e ∷ []) i)) (numbers (es ++ e ∷ [])) ≡ count_by (λ i. is_some (message w kind es i)) (numbers es) + one_if (is_some (message w kind (es ++ e ∷ []) (length es + 1)))
   messages-push =
-      lines-push (λ i. cond (is_some (message w kind (es ++ e ∷ []) i)) 1 0) (λ i. cond (is_some (message w kind es i)) 1 0)
+      lines-push (λ i. cond (is_some (message w kind (es ++ e ∷ []) i)) 1 0)
+      (λ i. cond (is_some (message w kind es i)) 1 0)
       (λ i l u. ap (λ m. cond (is_some m) 1 0) (message-before (within w) kind es e i l u))
       ∙ ap (λ n. count_by (λ i. is_some (message w kind es i)) (numbers es) + n)
       (one_is (is_some (message w kind (es ++ e ∷ []) (length es + 1))))

@@ -38,7 +38,8 @@ zip-with R S Q h (x ∷ xs) [] each all = absurd each
 zip-with R S Q h (x ∷ xs) (y ∷ ys) each all = (h x y each.0 all.0, zip-with R S Q h xs ys each.1 all.1)
 
 pub zip-map : {X Y : Type 0} (R S : X → Y → Type 0) → ((x : X) (y : Y) → R x y → S x y) → (xs : List X) (ys : List Y) → AllZip R xs ys → AllZip S xs ys
-zip-map R S h xs ys each = zip-with R S (λ _. Unit {0}) (λ x y r _. h x y r) xs ys each (all-any (λ _. Unit {0}) (λ _. tt) ys)
+zip-map R S h xs ys each =
+    zip-with R S (λ _. Unit {0}) (λ x y r _. h x y r) xs ys each (all-any (λ _. Unit {0}) (λ _. tt) ys)
 
 -- a frame is the one at its line, and has the key
 abbrev pub StandsAt : List Frame → Key → Frame → Type 0
@@ -111,19 +112,21 @@ settles w kind ms es scattered k =
     let xs = sendings_of k ms in
     let falls : FallInto w xs fs = scattered.falls k in
     let gs = falls.stretches in
-    let on : AllZip (λ x g. IsStretchOf x g × GoesOn (within w) g) xs gs =
-    zip-map (IsStretchWithin w) (λ x g. IsStretchOf x g × GoesOn (within w) g)
+    let Fits : Sending → List Frame → Type 0 = λ x g. IsStretchOf x g × GoesOn (within w) g in
+    let on : AllZip Fits xs gs =
+    zip-map (IsStretchWithin w) Fits
     (λ x g is. (
       is.stretch,
       goes_on-within w (last_piece x.message + 1) g is.stretch.pieces.apart is.ordered
           (recursion_from_All (λ (f : Frame). f.line < first g + w.window) g is.in_time),
     )) xs gs falls.each in
     let whole : AllByRecursion (IsStretch (within w)) gs =
-    zip-all (λ x g. IsStretchOf x g × GoesOn (within w) g) (IsStretch (within w)) (λ x g is. as_stretch (within w) x g is.0 is.1) xs gs on in
+    zip-all Fits (IsStretch (within w)) (λ x g is. as_stretch (within w) x g is.0 is.1) xs gs on in
     let cut_is : cut (within w) fs ≡ gs = ap (cut (within w)) falls.one_behind_the_other ∙ cut_stretches (within w) gs whole in
     let rise : RiseFrom 1 (joined gs) = subst (RiseFrom 1) falls.one_behind_the_other (key-rise kind es k) in
     let Stand : List Frame → Type 0 = AllByRecursion (StandsAt (frames kind es) k) in
-    let standing : AllByRecursion Stand gs = all-joined (StandsAt (frames kind es) k) gs (subst Stand falls.one_behind_the_other (stand kind es k)) in
+    let standing : AllByRecursion Stand gs =
+    all-joined (StandsAt (frames kind es) k) gs (subst Stand falls.one_behind_the_other (stand kind es k)) in
     let nonempty : AllByRecursion IsGroup gs = all-map (IsStretch (within w)) IsGroup gs (λ g is. is.nonempty) whole in
     let both = all-zip Stand (IsDone gs) gs standing (done_found 1 gs nonempty rise) in
     record {
@@ -132,7 +135,7 @@ settles w kind ms es scattered k =
       nonempty = nonempty;
       rise = rise;
       each =
-          zip-with (λ x g. IsStretchOf x g × GoesOn (within w) g) (Comes (within w) kind es k) (λ g. Stand g × IsDone gs g)
+          zip-with Fits (Comes (within w) kind es k) (λ g. Stand g × IsDone gs g)
           (λ x g is facts. record {
             stretch = is.0;
             goes_on = is.1;

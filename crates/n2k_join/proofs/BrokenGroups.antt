@@ -36,9 +36,6 @@ last_if t (Some g) = cond (t g) (Some g) None
 no_and : (a b c : Bool) → c ≡ false → (not a && (b && c)) ≡ false
 no_and a b c e = and_right (not a) (b && c) (and_right b c e)
 
-no_first : (a b c : Bool) → b ≡ false → (not a && (b && c)) ≡ false
-no_first a b c e = and_right (not a) (b && c) (and_left b c e)
-
 -- a group that another follows is broken at that one's line or before
 passed : (w : Rule) (j line : ℕ) (g h : List Frame) (gs : List (List Frame)) → first h < line
     → broken_among w j line (g ∷ h ∷ gs) ≡ broken_among w j line (h ∷ gs)
@@ -97,7 +94,10 @@ among-own w n gs x some up l = among-grown w n x.line gs x some up l ∙ by (las
   where
     by : (o : Option (List Frame)) → IfSome o (IsUpTo n) → last_if (ends_by w x.line x) o ≡ None
     by None h = refl
-    by (Some g) h = ap (λ b. cond b (Some g) None) (no_first (complete g) (first g == x.line) (within w g x && nat_le x.line (first g + w.window)) (ne_eqb (first g) x.line (λ e. omega (arith, first-le n g h, l, e))))
+    by (Some g) h =
+        let other = ne_eqb (first g) x.line (λ e. omega (arith, first-le n g h, l, e)) in
+        let in_time = within w g x && nat_le x.line (first g + w.window) in
+        ap (λ b. cond b (Some g) None) (and_right (not (complete g)) _ (and_left (first g == x.line) in_time other))
 
 -- Earlier lines keep what is broken at them.
 among-stays_one : (w : Rule) (j i : ℕ) (g : List Frame) (x : Frame) → 0 < w.window → 0 < length g → i < x.line → broken_among w j i (grown (within w) (g ∷ []) x) ≡ broken_among w j i (g ∷ [])

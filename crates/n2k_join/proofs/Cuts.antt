@@ -152,7 +152,8 @@ module _ (ends : Ends) where
   -- and so of the last group
   pub so_far-all : (P : Frame → Type 0) (fs : List Frame) → AllByRecursion P fs → IfSome (so_far ends fs) (AllByRecursion P)
   so_far-all P fs all =
-      subst (λ o. IfSome o (AllByRecursion P)) (last-cut fs) (last-all (AllByRecursion P) None (cut ends fs) tt (cut-all P fs all))
+      subst (λ o. IfSome o (AllByRecursion P)) (last-cut fs)
+      (last-all (AllByRecursion P) None (cut ends fs) tt (cut-all P fs all))
 
   pub so_far-keeps : (Q : List Frame → Type 0) → ((x : Frame) → Q (x ∷ [])) → ((g : List Frame) (x : Frame) → closes ends g x ≡ false → Q g → Q (g ++ x ∷ [])) → (fs : List Frame) → IfSome (so_far ends fs) Q
   so_far-keeps Q one more fs =

@@ -29,11 +29,15 @@ pub record IsDue (s : State) (g : Group) : Type 0 where
   pub first : s.groups ≡ g ∷ drop 1 s.groups
   pub late : is_waiting s.rule (next_line s) g ≡ false
 
+-- a group, where its window has ended
+abbrev if_ended : Rule → ℕ → Group → Option Group
+if_ended w line g = cond (not (is_waiting w line g)) (Some g) None
+
 -- of groups whose first lines rise, the first is the first that has ended
-ended-first : (w : Rule) (line : ℕ) (gs : List Group) → Rise (λ (g : Group). g.first) 1 gs → (o : Option Group) → slice_get gs 0 ≡ o → slice_get (ended w line gs) 0 ≡ option_and_then (λ (g : Group). cond (not (is_waiting w line g)) (Some g) None) o
+ended-first : (w : Rule) (line : ℕ) (gs : List Group) → Rise (λ (g : Group). g.first) 1 gs → (o : Option Group) → slice_get gs 0 ≡ o → slice_get (ended w line gs) 0 ≡ option_and_then (if_ended w line) o
 unfolding ended
-ended-first w line [] rise o e = ap (option_and_then (λ (g : Group). cond (not (is_waiting w line g)) (Some g) None)) e
-ended-first w line (g ∷ gs) rise o e = by (is_waiting w line g) refl ∙ ap (option_and_then (λ (g : Group). cond (not (is_waiting w line g)) (Some g) None)) e
+ended-first w line [] rise o e = ap (option_and_then (if_ended w line)) e
+ended-first w line (g ∷ gs) rise o e = by (is_waiting w line g) refl ∙ ap (option_and_then (if_ended w line)) e
   where
     by : (b : Bool) → is_waiting w line g ≡ b → slice_get (cond (not b) (g ∷ ended w line gs) (ended w line gs)) 0 ≡ cond (not (is_waiting w line g)) (Some g) None
     by true t =
@@ -44,7 +48,8 @@ ended-first w line (g ∷ gs) rise o e = by (is_waiting w line g) refl ∙ ap (o
 first-late : (w : Rule) (line : ℕ) (gs : List Group) (g : Group) → Rise (λ (g : Group). g.first) 1 gs → slice_get (ended w line gs) 0 ≡ Some g → (gs ≡ g ∷ drop 1 gs) × (is_waiting w line g ≡ false)
 first-late w line gs g rise e = by gs (sym (ended-first w line gs rise (slice_get gs 0) refl) ∙ e)
   where
-    by : (gs : List Group) → option_and_then (λ (g : Group). cond (not (is_waiting w line g)) (Some g) None) (slice_get gs 0) ≡ Some g → (gs ≡ g ∷ drop 1 gs) × (is_waiting w line g ≡ false)
+    by : (gs : List Group) → option_and_then (if_ended w line) (slice_get gs 0) ≡ Some g
+        → (gs ≡ g ∷ drop 1 gs) × (is_waiting w line g ≡ false)
     by [] e = absurd (none-some g e)
     by (h ∷ gs) e =
         let late = cond_some (not (is_waiting w line h)) h g e in

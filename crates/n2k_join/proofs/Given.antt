@@ -33,9 +33,6 @@ last_line-push (f ∷ h ∷ g) x = last_line-push (h ∷ g) x
 done-not : (i : ℕ) (g : List Frame) → (last_line g ≡ i → ⊥) → is_done_at i g ≡ false
 done-not i g other = ap (λ b. complete g && b) (ne_eqb (last_line g) i other) ∙ and-false (complete g)
 
-done-incomplete : (i : ℕ) (g : List Frame) → complete g ≡ false → is_done_at i g ≡ false
-done-incomplete i g e = ap (λ b. b && (last_line g == i)) e
-
 done-here : (g : List Frame) (x : Frame) → is_done_at x.line (g ++ x ∷ []) ≡ complete (g ++ x ∷ [])
 done-here g x =
     ap (λ n. complete (g ++ x ∷ []) && (n == x.line)) (last_line-push g x) ∙ ap (λ b. complete (g ++ x ∷ []) && b) (eq-eqb x.line x.line refl)
@@ -71,7 +68,7 @@ module _ (ends : Ends) where
       by true e = ap (λ b. cond (is_done_at i g) (Some g) (cond b (Some (x ∷ [])) None)) (done-not i (x ∷ []) other)
       by false e =
           ap (λ b. cond b (Some (g ++ x ∷ [])) None) (done-not i (g ++ x ∷ []) (λ t. other (sym (last_line-push g x) ∙ t)))
-          ∙ sym (ap (λ b. cond b (Some g) None) (done-incomplete i g (or_parts (complete g) (ends g x) e).0))
+          ∙ sym (ap (λ b. cond (b && (last_line g == i)) (Some g) None) (or_parts (complete g) (ends g x) e).0)
   found_stays i (g ∷ h ∷ gs) x other = ap (λ o. cond (is_done_at i g) (Some g) o) (found_stays i (h ∷ gs) x other)
 
   -- the groups of frames of lines up to n

@@ -32,8 +32,8 @@ pub last_frame : (P : Frame → Type 0) (g : List Frame) → IsGroup g → AllBy
 last_frame P [] some each = absurd (omega (arith, some))
 last_frame P (f ∷ []) some each = record { before = []; frame = f; is = refl; at = refl; holds = each.0 }
 last_frame P (f ∷ g ∷ fs) some each =
-    let rest = last_frame P (g ∷ fs) (omega arith) each.1 in
-    record { before = f ∷ rest.before; frame = rest.frame; is = ap (λ t. f ∷ t) rest.is; at = rest.at; holds = rest.holds }
+    let end = last_frame P (g ∷ fs) (omega arith) each.1 in
+    record { before = f ∷ end.before; frame = end.frame; is = ap (λ t. f ∷ t) end.is; at = end.at; holds = end.holds }
 
 pub first_above : (n : ℕ) (g : List Frame) → IsGroup g → AllByRecursion (λ (f : Frame). n ≤ f.line) g → n ≤ first g
 first_above n [] some each = absurd (omega (arith, some))

@@ -119,7 +119,8 @@ rising-apart a (suc n) (f ∷ fs) numbers =
     or_from _ _ (none_below f.number (a + 1) n fs (omega arith) rest) (rising-apart (a + 1) n fs rest)
 
 pub rising-length : (a n : ℕ) (fs : List Frame) → map (λ (f : Frame). f.number) fs ≡ range_with_len a n → length fs ≡ n
-rising-length a n fs numbers = sym (length-map fs (λ (f : Frame). f.number)) ∙ ap length numbers ∙ length-range_with_len a n
+rising-length a n fs numbers =
+    sym (length-map fs (λ (f : Frame). f.number)) ∙ ap length numbers ∙ length-range_with_len a n
 
 rising-first : (n : ℕ) (f : Frame) (fs : List Frame) → 0 < n → map (λ (g : Frame). g.number) (f ∷ fs) ≡ range_with_len 0 n → f.number ≡ 0
 rising-first zero f fs some numbers = absurd (omega arith)

@@ -63,7 +63,8 @@ all-held P Q o each (p ∷ ps) all = (each p all.0, all-held P Q o each ps all.1
 pub all-reverse : {X : Type 0} (P : X → Type 0) (xs : List X) → AllByRecursion P xs → AllByRecursion P (reverse xs)
 all-reverse P [] all = tt
 all-reverse P (x ∷ xs) all =
-    subst (AllByRecursion P) (sym (reverse-cons x xs)) (all-append P (reverse xs) (x ∷ []) (all-reverse P xs all.1) (all.0, tt))
+    subst (AllByRecursion P) (sym (reverse-cons x xs))
+    (all-append P (reverse xs) (x ∷ []) (all-reverse P xs all.1) (all.0, tt))
 
 -- any fact of all things holds of those of a list
 pub all-any : {X : Type 0} (P : X → Type 0) → ((x : X) → P x) → (xs : List X) → AllByRecursion P xs
@@ -87,7 +88,8 @@ pieces_by c = filter_map (piece_at c) (range_with_len 0 most_frames)
 
 piece_at-number : (c : ℕ → Option (List ℕ)) (n : ℕ) (p : Piece) → piece_at c n ≡ Some p → p.number ≡ n
 piece_at-number c n p e =
-    option_map_some (λ (bytes : List ℕ). let p : Piece = record { number = n; bytes = bytes } in p) (c n) p e (λ b is same. sym (ap number_of same))
+    option_map_some (λ (bytes : List ℕ). let p : Piece = record { number = n; bytes = bytes } in p) (c n) p e
+    (λ b is same. sym (ap number_of same))
 
 pub pieces_by-rise : (c : ℕ → Option (List ℕ)) → Rise number_of 0 (pieces_by c)
 pieces_by-rise c = rise-range number_of (piece_at c) (piece_at-number c) 0 0 most_frames (omega arith)
@@ -152,7 +154,8 @@ pieces_of-some [] all some = absurd (omega (arith, some))
 pieces_of-some (f ∷ g) all some = by (pieces_of (f ∷ g)) (bytes_in-pieces (f ∷ g) f.number all)
   where
     by : (ps : List Piece) → bytes_in ps f.number ≡ carried (f ∷ g) f.number → 0 < length ps
-    by [] e = absurd (false≢true (ap is_some e ∙ has_number-cons f g f.number ∙ or_left _ _ (eq-eqb f.number f.number refl)))
+    by [] e =
+        absurd (false≢true (ap is_some e ∙ has_number-cons f g f.number ∙ or_left _ _ (eq-eqb f.number f.number refl)))
     by (p ∷ ps) e = omega arith
 
 pub first-kept : (k : Key) (g : List Frame) → AreNumbered g → 0 < length g → first (held_of (group_of k g)) ≡ first g

@@ -141,8 +141,9 @@ whole-group [] e = absurd (false≢true e)
 whole-group (f ∷ g) e = omega arith
 
 -- the last of consecutive frames is the one that is found at its line
-ends-at : (kind : ℕ → Option Kind) (es : List Entry) (key : Key) (g : List Frame) (f : Frame) → AreConsecutive key (frames kind es) g
-    → IsGroup g → frame_at (last_line g) (frames kind es) ≡ Some f → (before : List Frame) × (g ≡ before ++ f ∷ [])
+ends-at : (kind : ℕ → Option Kind) (es : List Entry) (key : Key) (g : List Frame) (f : Frame)
+    → AreConsecutive key (frames kind es) g → IsGroup g → frame_at (last_line g) (frames kind es) ≡ Some f
+    → (before : List Frame) × (g ≡ before ++ f ∷ [])
 ends-at kind es key g f is some found =
     let Stands : Frame → Type 0 = StandsAt (frames kind es) key in
     let all : AllByRecursion Stands (is.before ++ (g ++ is.after)) = subst (AllByRecursion Stands) is.together (stand kind es key) in
@@ -154,19 +155,20 @@ ends-at kind es key g f is some found =
 pub comes_of_consecutive : (rule : Rule) → rule.in_order ≡ true → (kind : ℕ → Option Kind) (es : List Entry) (line : ℕ) (m : Keyed) → gathered (within rule) (frames kind es) line ≡ Some m → ComesOfConsecutive kind es line m
 unfolding gathered
 comes_of_consecutive rule order kind es line m e =
-    option_and_then_some (gathered_by (within rule) (frames kind es)) (frame_at line (frames kind es)) m e (λ f stands gathers.
+    let fs = frames kind es in
+    option_and_then_some (gathered_by (within rule) fs) (frame_at line fs) m e (λ f stands gathers.
     option_map_some (λ (group : List Frame). let k : Keyed = record { key = f.key; message = message_of f group } in k)
-    (find (is_done_at f.line) (cut (within rule) (of_key f.key (frames kind es)))) m gathers (λ g found is.
-    let gs = cut (within rule) (of_key f.key (frames kind es)) in
-    let at : f.line ≡ line = eqb-true f.line line (find-passes (λ (g : Frame). g.line == line) (frames kind es) f stands) in
+    (find (is_done_at f.line) (cut (within rule) (of_key f.key fs))) m gathers (λ g found is.
+    let gs = cut (within rule) (of_key f.key fs) in
+    let at : f.line ≡ line = eqb-true f.line line (find-passes (λ (g : Frame). g.line == line) fs f stands) in
     let done = and_parts (complete g) (last_line g == f.line) (find-passes (is_done_at f.line) gs g found) in
-    let one : AreConsecutive f.key (frames kind es) g =
-    find-all (Whole f.key (frames kind es)) (is_done_at f.line) gs g (all_whole rule order kind es f.key) found done.0 in
+    let one : AreConsecutive f.key fs g =
+    find-all (Whole f.key fs) (is_done_at f.line) gs g (all_whole rule order kind es f.key) found done.0 in
     let there : last_line g ≡ line = eqb-true (last_line g) f.line done.1 ∙ at in
-    let ends = ends-at kind es f.key g f one (whole-group g done.0) (ap (λ l. frame_at l (frames kind es)) there ∙ stands) in
+    let ends = ends-at kind es f.key g f one (whole-group g done.0) (ap (λ l. frame_at l fs) there ∙ stands) in
     record {
       group = g;
-      consecutive = subst (λ (k : Keyed). AreConsecutive k.key (frames kind es) g) is one;
+      consecutive = subst (λ (k : Keyed). AreConsecutive k.key fs g) is one;
       whole = done.0;
       ends_there = there;
       carries = ap (λ (k : Keyed). k.message.payload) is;

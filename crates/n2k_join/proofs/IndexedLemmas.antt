@@ -108,7 +108,8 @@ length-written (e ∷ es) (suc i) w = ap suc (length-written es i w)
 
 pub moved : (es : List (FrameKey × OpenGroup)) (i : ℕ) (w : OpenGroup) (k : FrameKey) (v : OpenGroup) → slice_get es i ≡ Some (k, v) → move_index (set_value_at es i w) i (length es - 1) ≡ remove es i ++ (k, w) ∷ []
 moved es i w k v found =
-    let at : length es - 1 ≡ length (remove es i) = omega (arith, length-remove es i (slice_get_within es i (k, v) found)) in
+    let at : length es - 1 ≡ length (remove es i) =
+    omega (arith, length-remove es i (slice_get_within es i (k, v) found)) in
     ap (λ o. option_map_or (λ (e : FrameKey × OpenGroup). insert (remove (set_value_at es i w) i) (length es - 1) e) o (set_value_at es i w)) (slot-written es i w k v found)
     ∙ ap (λ r. insert r (length es - 1) (k, w)) (removed-written es i w)
     ∙ ap (λ n. insert (remove es i) n (k, w)) at ∙ insert_end (remove es i) (k, w)
@@ -178,7 +179,7 @@ module _ (order : Bool) (x : Frame) (es : List (FrameKey × OpenGroup)) (i : ℕ
         → cond c (Some (record { stamp = x.stamp; id = x.id; payload = data_of (held_of (group_at (at.key, w))) })) None
         ≡ gained order x (of_the_key x.key (groups_in es))
     begun-message c is_c =
-        sym (ap (λ b. cond b (Some (record { stamp = x.stamp; id = x.id; payload = data_of (held_of (group_at (at.key, w))) })) None) is_c)
+        sym (ap (λ b. cond b (Some (message_of x (held_of (group_at (at.key, w))))) None) is_c)
         ∙ message-begun x (group_at (at.key, w)) small is
         ∙ sym (gained-at order x (groups_in es) i there apart place stands true ends_it)
 

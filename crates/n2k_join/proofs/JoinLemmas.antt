@@ -128,7 +128,7 @@ module _ (order : Bool) (x : Frame) (gs : List Group) (i : ℕ) (o : Group) (apa
   pub found-place : of_the_key x.key gs ≡ Some o
   found-place =
       let P : Group → Bool = λ (g : Group). same_key x.key g.key in
-      let at : position_or_len P gs ≡ i = (cond_some (ltb (position_or_len P gs) (length gs)) (position_or_len P gs) i place).1 in
+      let at = (cond_some (ltb (position_or_len P gs) (length gs)) (position_or_len P gs) i place).1 in
       find_at P gs ∙ ap (slice_get gs) at ∙ slice_get_read gs (length gs) i o refl at_place.0 is
 
   pub key-place : x.key ≡ o.key

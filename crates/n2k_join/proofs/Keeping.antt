@@ -103,8 +103,8 @@ pieces-parts fs all = all-filter_map IsPiece (piece_at (carried fs)) (range_with
   where
     each : (n : ℕ) (p : Piece) → piece_at (carried fs) n ≡ Some p → IsPiece p
     each n p is =
-        option_map_some (λ (bytes : List ℕ). let p : Piece = record { number = n; bytes = bytes } in p) (carried fs n) p is
-        (λ b there same. subst IsPiece same (carried-part fs n b all there))
+        option_map_some (λ (bytes : List ℕ). let p : Piece = record { number = n; bytes = bytes } in p)
+        (carried fs n) p is (λ b there same. subst IsPiece same (carried-part fs n b all there))
 
 -- what holds of the keys of a group's frames holds of its key
 key_part : (P : Key → Type 0) (k : Key) (g : List Frame) → AllByRecursion (λ (f : Frame). P f.key × (f.key ≡ k)) g → 0 < length g → P k
@@ -226,7 +226,8 @@ module _ (kind : ℕ → Option Kind) (s : State) (e : Entry) (is : IsState s) w
 
   step-parts : IsEntry e → AllByRecursion IsFramePart (step_frames kind s e)
   step-parts valid =
-      all-append IsFramePart (held (kept s)) (option_to_list (frame_in kind (next_line s) e)) (held-parts (kept s) kept-parts)
+      all-append IsFramePart (held (kept s)) (option_to_list (frame_in kind (next_line s) e))
+      (held-parts (kept s) kept-parts)
       (all-option IsFramePart (frame_in kind (next_line s) e) (λ x. frame_in-part kind (next_line s) e x valid))
 
   pub step-once : GivesOnce kind s e (step_given kind s e) (step_groups kind s e)
@@ -312,7 +313,8 @@ step-fast kind s e some fast =
     (all-append (λ (f : Frame). kind f.key.pgn ≡ Some Fast) (held (kept s)) (option_to_list (frame_in kind (next_line s) e))
     (all-flat_map (λ (f : Frame). kind f.key.pgn ≡ Some Fast) held_of (kept s) (all-map (λ (g : Group). kind g.key.pgn ≡ Some Fast) (λ (g : Group). AllByRecursion (λ (f : Frame). kind f.key.pgn ≡ Some Fast) (held_of g)) (kept s) (λ g k. held_of-any (λ (f : Frame). kind f.key.pgn ≡ Some Fast) g (λ p. k))
     (all-filter (λ (g : Group). kind g.key.pgn ≡ Some Fast) (is_waiting s.rule (next_line s)) s.groups fast)))
-    (all-option (λ (f : Frame). kind f.key.pgn ≡ Some Fast) (frame_in kind (next_line s) e) (frame_in-fast kind (next_line s) e))))
+    (all-option (λ (f : Frame). kind f.key.pgn ≡ Some Fast) (frame_in kind (next_line s) e)
+    (frame_in-fast kind (next_line s) e))))
 
 -- ---- the states of logs
 

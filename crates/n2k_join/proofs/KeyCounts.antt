@@ -38,9 +38,6 @@ all-others key k c (x ∷ xs) other = by_test (same_key k (key x)) refl (all-oth
     by_test true e ih = rw (apart e, e) (ap (λ l. x ∷ l) ih)
     by_test false e ih = skipped (not (same_key c (key x))) e ih
 
-others-shorter : {X : Type 0} (key : X → Key) (k : Key) (xs : List X) → length (others key k xs) ≤ length xs
-others-shorter key k xs = omega (arith, of-others key k xs)
-
 -- where each key has equally many
 pub same_length : {X Y : Type 0} (key : X → Key) (key' : Y → Key) (n : ℕ) (xs : List X) (ys : List Y) → length xs ≤ n → ((k : Key) → length (of key k xs) ≡ length (of key' k ys)) → length xs ≡ length ys
 same_length key key' n [] [] short each = refl
@@ -52,7 +49,7 @@ same_length key key' (suc n) (x ∷ xs) ys short each =
     let right : length ys ≡ length (of key' c ys) + length (others key' c ys) = of-others key' c ys in
     let dropped : others key c (x ∷ xs) ≡ others key c xs = ap (λ b. cond (not b) (x ∷ others key c xs) (others key c xs)) (same_key-refl c) in
     let rest : (k : Key) → length (of key k (others key c xs)) ≡ length (of key' k (others key' c ys)) = λ k. by_key k (same_key k c) refl dropped in
-    let ih : length (others key c xs) ≡ length (others key' c ys) = same_length key key' n (others key c xs) (others key' c ys) (omega (arith, others-shorter key c xs)) rest in
+    let ih : length (others key c xs) ≡ length (others key' c ys) = same_length key key' n (others key c xs) (others key' c ys) (omega (arith, of-others key c xs)) rest in
     let here = each c in
     let lengths : length (others key c (x ∷ xs)) ≡ length (others key c xs) = ap length dropped in
     omega arith

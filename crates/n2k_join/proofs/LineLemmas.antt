@@ -124,9 +124,9 @@ length-told : (o : Option Broken) → length (option_to_list o) ≡ one_if (is_s
 length-told None = refl
 length-told (Some b) = refl
 
--- What a line gives and leaves, by what the code knows before it: the state is one that a join can have, and no group is due.
-module _ (kind : ℕ → Option Kind) (s t : State) (e : Entry) (order : Bool) (state : IsState s) (is : s ≡ t) (ready : due t ≡ None)
-    (below : s.counts.lines ≡ most_lines → ⊥) (same : order ≡ s.rule.in_order) where
+-- What a line gives and leaves, by what the code knows before: the state is one that a join can have, and none is due.
+module _ (kind : ℕ → Option Kind) (s t : State) (e : Entry) (order : Bool) (state : IsState s) (is : s ≡ t)
+    (ready : due t ≡ None) (below : s.counts.lines ≡ most_lines → ⊥) (same : order ≡ s.rule.in_order) where
   abbrev gives : Given
   gives = gives_by order (alone kind e) (cause_in kind e) s.groups (frame_in kind (next_line s) e)
 
@@ -137,14 +137,14 @@ module _ (kind : ℕ → Option Kind) (s t : State) (e : Entry) (order : Bool) (
   steps =
       let o = frame_in kind (next_line s) e in
       let none_over = none_due s (ap due is ∙ ready) (omega (arith, state.counted.lines, below)) in
-      subst (λ b. StepsTo kind s e (gives_by b (alone kind e) (cause_in kind e) s.groups o) (leaves_by b s.groups o)) (sym same)
-      (line-steps kind s e (omega (arith, state.window.least)) state.groups none_over)
+      subst (λ b. StepsTo kind s e (gives_by b (alone kind e) (cause_in kind e) s.groups o) (leaves_by b s.groups o))
+      (sym same) (line-steps kind s e (omega (arith, state.window.least)) state.groups none_over)
 
   pub line-gives : {g : Given} → g ≡ gives → g ≡ step_given kind t e
   line-gives given = given ∙ sym steps.given ∙ ap (λ u. step_given kind u e) is
 
-  pub line-leads : (step : Step PacketParts) (unknown : Bool) (n : ℕ) (gs : List Group) (r : Counts) → given_of step ≡ gives
-      → unknown ≡ is_unknown kind e → gs ≡ leaves → n ≡ length gs
+  pub line-leads : (step : Step PacketParts) (unknown : Bool) (n : ℕ) (gs : List Group) (r : Counts)
+      → given_of step ≡ gives → unknown ≡ is_unknown kind e → gs ≡ leaves → n ≡ length gs
       → r ≡ record {
         lines = s.counts.lines + 1;
         messages = s.counts.messages + one_if (is_some step.message);

@@ -27,7 +27,8 @@ pub record IsFrameOf (kind : ℕ → Option Kind) (n : ℕ) (e : Entry) (f : Fra
   pub fits : is_fast_payload packet.payload ≡ true
   pub is : frame_with n packet (slice_index_or packet.payload 0 0) (drop 1 packet.payload) ≡ f
 
-pub frame_of_packet : (kind : ℕ → Option Kind) (n : ℕ) (e : Entry) (f : Frame) → frame_in kind n e ≡ Some f → IsFrameOf kind n e f
+pub frame_of_packet : (kind : ℕ → Option Kind) (n : ℕ) (e : Entry) (f : Frame) → frame_in kind n e ≡ Some f
+    → IsFrameOf kind n e f
 unfolding fast_frame
 frame_of_packet kind n (entries.Frame p) f same = by_kind (kind p.id.pgn) refl same
   where

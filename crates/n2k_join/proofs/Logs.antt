@@ -19,10 +19,12 @@ use Rattle.n2k_join.specs.Window.{Rule}
 
 -- What holds of the frame of each entry holds of all frames.
 pub frames-all : (P : Frame → Type 0) (kind : ℕ → Option Kind) (n : ℕ) (es : List Entry)
-    → ((i : ℕ) (e : Entry) (f : Frame) → i < n + length es → frame_in kind i e ≡ Some f → P f) → AllByRecursion P (frames_from kind n es)
+    → ((i : ℕ) (e : Entry) (f : Frame) → i < n + length es → frame_in kind i e ≡ Some f → P f)
+    → AllByRecursion P (frames_from kind n es)
 frames-all P kind n [] each = tt
 frames-all P kind n (e ∷ es) each =
-    by (frame_in kind n e) (λ f is. each n e f (omega arith) is) (frames-all P kind (n + 1) es (λ i e f u is. each i e f (omega (arith, u)) is))
+    by (frame_in kind n e) (λ f is. each n e f (omega arith) is)
+    (frames-all P kind (n + 1) es (λ i e f u is. each i e f (omega (arith, u)) is))
   where
     by : (o : Option Frame) → ((f : Frame) → o ≡ Some f → P f) → AllByRecursion P (frames_from kind (n + 1) es)
         → AllByRecursion P (cons_option o (frames_from kind (n + 1) es))
@@ -107,7 +109,8 @@ frames-before F kind es e stays = ap F (frames-push kind es e) ∙ by (frame_in 
 -- earlier lines keep what they gave
 gathered-before : (ends : Ends) (kind : ℕ → Option Kind) (es : List Entry) (e : Entry) (i : ℕ) → i ≤ length es → gathered ends (frames kind (es ++ e ∷ [])) i ≡ gathered ends (frames kind es) i
 gathered-before ends kind es e i u =
-    frames-before (λ fs. gathered ends fs i) kind es e (λ x at. gathered-stays ends (frames kind es) x i (λ t. omega (arith, t, at, u)))
+    frames-before (λ fs. gathered ends fs i) kind es e
+    (λ x at. gathered-stays ends (frames kind es) x i (λ t. omega (arith, t, at, u)))
 
 pub message-before : (ends : Ends) (kind : ℕ → Option Kind) (es : List Entry) (e : Entry) (i : ℕ) → 1 ≤ i → i ≤ length es → message_with ends kind (es ++ e ∷ []) i ≡ message_with ends kind es i
 message-before ends kind es e i l u = λ j. option_or (option_map (λ (m : Keyed). m.message) (gathered-before ends kind es e i u j)) (option_and_then (alone kind) (entry_at-before es e i l u j))

@@ -106,16 +106,16 @@ module _ (ends : Ends) (is_ending : IsEnding ends) where
   open_of-so_far k fs = ap (option_and_then incomplete) (last-cut ends (of_key k fs))
 
   -- the open group of a key is its group so far, and not complete
-  open_is : (k : Key) (fs g : List Frame) → open_of ends k fs ≡ Some g → (so_far ends (of_key k fs) ≡ Some g) × (complete g ≡ false)
-  open_is k fs g e = by (so_far ends (of_key k fs)) (sym (open_of-so_far k fs) ∙ e)
+  open_is : (k : Key) (fs g : List Frame) → open_of ends k fs ≡ Some g
+      → (so_far ends (of_key k fs) ≡ Some g) × (complete g ≡ false)
+  open_is k fs g e =
+      option_and_then_some incomplete (so_far ends (of_key k fs)) g (sym (open_of-so_far k fs) ∙ e)
+      (λ h is left. let found = by h (complete h) refl left in (is ∙ found.0, found.1))
     where
-      by_test : (h : List Frame) (b : Bool) → complete h ≡ b → cond b None (Some h) ≡ Some g → (Some h ≡ Some g) × (complete g ≡ false)
-      by_test h true c e = absurd (none-some g e)
-      by_test h false c e = (e, ap complete (sym (same_Some h g e)) ∙ c)
-
-      by : (s : Option (List Frame)) → option_and_then incomplete s ≡ Some g → (s ≡ Some g) × (complete g ≡ false)
-      by None e = absurd (none-some g e)
-      by (Some h) e = by_test h (complete h) refl e
+      by : (h : List Frame) (b : Bool) → complete h ≡ b → cond b None (Some h) ≡ Some g
+          → (Some h ≡ Some g) × (complete g ≡ false)
+      by h true c e = absurd (none-some g e)
+      by h false c e = (e, ap complete (sym (same_Some h g e)) ∙ c)
 
   so_far-once : (fs : List Frame) → IfSome (so_far ends fs) (λ g. (has_twice g ≡ false) × (0 < length g))
   so_far-once fs = so_far-keeps ends (λ g. (has_twice g ≡ false) × (0 < length g)) (λ x. (refl, omega arith)) more fs
@@ -237,7 +237,8 @@ module _ (ends : Ends) (is_ending : IsEnding ends) where
   pub begun_at-is : (fs : List Frame) (i : ℕ) (o : Group) → begun_at ends fs i ≡ Some o → (o.first ≡ i) × (option_map (group_of o.key) (open_of ends o.key fs) ≡ Some o)
   unfolding begun_at
   begun_at-is fs i o e =
-      option_and_then_some (λ (f : Frame). option_and_then (where_begun i f.key) (open_of ends f.key fs)) (frame_at i fs) o e (λ f stands e.
+      option_and_then_some (λ (f : Frame). option_and_then (where_begun i f.key) (open_of ends f.key fs))
+      (frame_at i fs) o e (λ f stands e.
       option_and_then_some (where_begun i f.key) (open_of ends f.key fs) o e (λ g is e.
       let parts = cond_some (first g == i) (group_of f.key g) o e in (
         ap (λ (o : Group). o.first) (sym parts.1) ∙ eqb-true (first g) i parts.0,

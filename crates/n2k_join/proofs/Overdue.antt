@@ -141,7 +141,8 @@ module _ (w : Rule) (some : 0 < w.window) where
       → next (within w) (option_map held_of (of_the_key x.key gs)) x ≡ next (within w) (option_map held_of (of_the_key x.key (waiting w x.line gs))) x
   next-waiting x =
       key-waiting w x (λ o. next (within w) (option_map held_of o) x)
-      (λ g is e. ap (λ b. cond b (x ∷ []) (held_of g ++ x ∷ [])) (or_right (complete (held_of g)) _ (ended-ends w x g is e)))
+      (λ g is e. ap (λ b. cond b (x ∷ []) (held_of g ++ x ∷ []))
+      (or_right (complete (held_of g)) _ (ended-ends w x g is e)))
 
   -- ---- how many there are
 

@@ -1,5 +1,5 @@
--- What holds of a state that is read: its groups are of fast PGNs of the table that it was read with, its rules are those that
--- the state of a join keeps, and few groups are open.
+-- What holds of a state that is read: its groups are of fast PGNs of the table that it was read with, its rules are
+-- those that the state of a join keeps, and few groups are open.
 use Rattle.std.proofs.Common.{◌≡◌, ◌==◌, ℕ, true, List, [], ◌∷◌, length, Option, Some, None, Ok, refl, IfOk, ◌≤◌, ◌+◌, sym, subst, arith, ◌<◌}
 use Rattle.std.specs.Prelude.{All, ◌≤◌, not, IfSome}
 use Rattle.std.specs.List.{list_any, AllByRecursion}
@@ -59,8 +59,8 @@ told_format : (o : Option Data) (d : Data) (format : Place) → or_cause NotJson
 told_format None d format read is tells = cc
 told_format (Some e) d format read is tells = cc
 
--- A text that is read spells a state of the table and the window that were handed in, which keeps the rules. Where it tells its
--- window, no group's window has ended.
+-- A text that is read spells a state of the table and the window that were handed in, which keeps the rules.
+-- Where it tells its window, no group's window has ended.
 pub record IsRead (kind : ℕ → Option Kind) (id : List ℕ) (rule : Rule) (bytes : List ℕ) (s : State) : Type 0 where
   pub same_table : s.id ≡ id
   pub same_rule : s.rule ≡ rule
@@ -77,7 +77,8 @@ reads kind id rule bytes =
     if_ok-held Read WindowDiffers (s.rule.window == rule.window) _ (λ window.
     if_ok-held Read Invalid (waits_hold format s) _ (λ in_time.
     if_ok-valid Read (is_valid kind s) s (λ valid.
-    is_read s (if_ok-of (IsSpelled rule) (state_of format rule d) s (state-spelled format rule d) spelled) table window valid
+    is_read s (if_ok-of (IsSpelled rule) (state_of format rule d) s (state-spelled format rule d) spelled)
+    table window valid
     (λ tells. subst (λ (f : Place). waits_hold f s ≡ true) (told_format (parsed bytes) d format read is tells) in_time))))))))
   where
     Read : State → Type 0

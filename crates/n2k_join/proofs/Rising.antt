@@ -36,7 +36,8 @@ filter_map-none h e [] = refl
 filter_map-none h e (x ∷ xs) = rw (e x) (filter_map-none h e xs)
 
 -- where a value is made of an option, the option has one that it is made of
-pub option_map_some : {X Y P : Type 0} (f : X → Y) (o : Option X) (y : Y) → option_map f o ≡ Some y → ((x : X) → o ≡ Some x → f x ≡ y → P) → P
+pub option_map_some : {X Y P : Type 0} (f : X → Y) (o : Option X) (y : Y) → option_map f o ≡ Some y
+    → ((x : X) → o ≡ Some x → f x ≡ y → P) → P
 option_map_some f None y e given = absurd (none-some y e)
 option_map_some f (Some x) y e given = given x refl (same_Some (f x) y e)
 
@@ -123,7 +124,8 @@ all_with P Q R h [] p q = tt
 all_with P Q R h (x ∷ xs) p q = (h x p.0 q.0, all_with P Q R h xs p.1 q.1)
 
 -- what holds of a value, where there is one
-pub all-option : {X : Type 0} (P : X → Type 0) (o : Option X) → ((x : X) → o ≡ Some x → P x) → AllByRecursion P (option_to_list o)
+pub all-option : {X : Type 0} (P : X → Type 0) (o : Option X) → ((x : X) → o ≡ Some x → P x)
+    → AllByRecursion P (option_to_list o)
 all-option P None each = tt
 all-option P (Some x) each = (each x refl, tt)
 
@@ -172,7 +174,8 @@ module _ {A : Type 0} (number : A → ℕ) where
   -- items without those before them, and some of the items
   pub rise-rest : (least : ℕ) (xs ys : List A) → Rise number least (xs ++ ys) → Rise number least ys
   rise-rest least [] ys r = r
-  rise-rest least (x ∷ xs) ys r = rise-less least (number x + 1) ys (omega (arith, r.0)) (rise-rest (number x + 1) xs ys r.1)
+  rise-rest least (x ∷ xs) ys r =
+      rise-less least (number x + 1) ys (omega (arith, r.0)) (rise-rest (number x + 1) xs ys r.1)
 
   pub rise-filter : (t : A → Bool) (least : ℕ) (xs : List A) → Rise number least xs → Rise number least (filter t xs)
   rise-filter t least [] r = tt
@@ -187,7 +190,8 @@ module _ {A : Type 0} (number : A → ℕ) where
   rise-few least n [] r all = omega arith
   rise-few least zero (x ∷ xs) r all = absurd (omega (arith, r.0, all.0))
   rise-few least (suc n) (x ∷ xs) r all =
-      let below = all-map (λ y. number y < least + suc n) (λ y. number y < (least + 1) + n) xs (λ y l. omega (arith, l)) all.1 in
+      let below =
+      all-map (λ y. number y < least + suc n) (λ y. number y < (least + 1) + n) xs (λ y l. omega (arith, l)) all.1 in
       let rest = rise-few (least + 1) n xs (rise-less (least + 1) (number x + 1) xs (omega (arith, r.0)) r.1) below in
       omega (arith, rest)
 
@@ -195,7 +199,8 @@ module _ {A : Type 0} (number : A → ℕ) where
   pub look-below : (least n : ℕ) (xs : List A) → Rise number least xs → n < least → look xs n ≡ None
   look-below least n xs r l =
       find-none (λ x. number x == n) xs
-      (all-map (λ x. least ≤ number x) (λ x. (number x == n) ≡ false) xs (λ x m. ne_eqb (number x) n (λ e. omega (arith, m, e, l))) (rise-least least xs r))
+      (all-map (λ x. least ≤ number x) (λ x. (number x == n) ≡ false) xs
+      (λ x m. ne_eqb (number x) n (λ e. omega (arith, m, e, l))) (rise-least least xs r))
 
   look-here : (x : A) (xs : List A) (n : ℕ) → number x ≡ n → look (x ∷ xs) n ≡ Some x
   look-here x xs n e = ap (λ b. cond b (Some x) (look xs n)) (eq-eqb (number x) n e)

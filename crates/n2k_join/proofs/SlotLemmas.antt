@@ -143,9 +143,12 @@ open-by : (k : Key) (slots : List (List ℕ)) (q : Group) (x : Frame) (p : Piece
 open-by k slots q x p number bytes taken =
     let o : Group = group_by x.line k 0 slots in
     let none : held_of o ≡ [] =
-    ap (held_frames o) (filter_map-none (piece_at (slot 0 slots)) (λ n. ap (piece_if n) (none-slot slots n)) (range_with_len 0 most_frames)) in
+    ap (held_frames o)
+    (filter_map-none (piece_at (slot 0 slots)) (λ n. ap (piece_if n) (none-slot slots n))
+    (range_with_len 0 most_frames)) in
     let carry : carried (held_frame o p ∷ []) ≡ carried (x ∷ []) = λ i n. cond (number i == n) (Some (bytes i)) None in
-    let pieces = ap (λ fs. pieces_of (fs ++ held_frame o p ∷ [])) none ∙ pieces_of-same (held_frame o p ∷ []) (x ∷ []) carry in
+    let pieces =
+    ap (λ fs. pieces_of (fs ++ held_frame o p ∷ [])) none ∙ pieces_of-same (held_frame o p ∷ []) (x ∷ []) carry in
     taken ∙ (λ i. record { first = x.line; key = k; pieces = pieces i })
   where
     piece_if : ℕ → Option (List ℕ) → Option Piece
@@ -234,7 +237,8 @@ module _ (first mask number : ℕ) (slots : List (List ℕ)) (bytes : List ℕ) 
   pub seven-slots : AllByRecursion (λ (b : List ℕ). length b ≡ frame_bytes) slots → length bytes ≡ frame_bytes → AllByRecursion (λ (b : List ℕ). length b ≡ frame_bytes) (set slots number bytes)
   seven-slots all one =
       let seven = λ (b : List ℕ). length b ≡ frame_bytes in
-      recursion_from_All seven (set slots number bytes) (All-set seven slots number bytes one (All-from_recursion seven slots all))
+      recursion_from_All seven (set slots number bytes)
+      (All-set seven slots number bytes one (All-from_recursion seven slots all))
 
 -- ---- completeness, by the total that is read
 

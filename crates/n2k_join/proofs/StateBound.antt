@@ -83,14 +83,15 @@ none_short : AreShort no_members 1
 none_short = record { fits = omega arith }
 
 -- a member whose name has so many characters, and its value so many bytes at most
-member_short : (k : List ℕ) (d : Data) {ms : Members} (n a : ℕ) {b : ℕ} → length (quoted k) ≡ n → length (compact_text d) ≤ a → AreShort ms b
-    → AreShort (member k d ms) (((2 + n) + a) + b)
+member_short : (k : List ℕ) (d : Data) {ms : Members} (n a : ℕ) {b : ℕ} → length (quoted k) ≡ n
+    → length (compact_text d) ≤ a → AreShort ms b → AreShort (member k d ms) (((2 + n) + a) + b)
 member_short k d {ms} n a long one more =
     let name = length-append (quoted k) (58 ∷ (compact_text d ++ members_text true ms)) in
     let rest = length-append (compact_text d) (members_text true ms) in
     record { fits = omega (arith, name, rest, long, one, more.fits) }
 
-object_short : (k : List ℕ) (d : Data) {ms : Members} {most : ℕ} → AreShort (member k d ms) most → length (compact_text (object (member k d ms))) ≤ most
+object_short : (k : List ℕ) (d : Data) {ms : Members} {most : ℕ} → AreShort (member k d ms) most
+    → length (compact_text (object (member k d ms))) ≤ most
 object_short k d are = omega (arith, are.fits)
 
 -- the elements of an array, each of so many bytes at most
@@ -121,7 +122,9 @@ piece_short p is small =
 frames_short : (g : Group) → HasParts g → IsOpen g → length (compact_text (list (map piece_tree g.pieces))) ≤ 706
 frames_short g parts is =
     let few = rise-few (λ (p : Piece). p.number) 0 most_frames g.pieces is.rise is.numbers in
-    let short = list_short piece_tree 21 g.pieces (all_with IsPiece (λ (p : Piece). p.number < most_frames) _ piece_short g.pieces parts.pieces is.numbers) in
+    let each =
+    all_with IsPiece (λ (p : Piece). p.number < most_frames) _ piece_short g.pieces parts.pieces is.numbers in
+    let short = list_short piece_tree 21 g.pieces each in
     omega (arith, few, short)
 
 group_short : (g : Group) → HasParts g → IsOpen g → g.first ≤ most_lines → length (compact_text (group_tree g)) ≤ 785
@@ -134,7 +137,8 @@ group_short g parts is begun =
     let m-src = member_short (codes "src") (whole g.key.src) 5 3 refl src none_short in
     let m-seq = member_short (codes "seq") (whole g.key.sequence) 5 1 refl seq m-src in
     let m-pgn = member_short (codes "pgn") (whole g.key.pgn) 5 8 refl pgn m-seq in
-    let m-frames = member_short (codes "frames") (list (map piece_tree g.pieces)) 8 706 refl (frames_short g parts is) m-pgn in
+    let m-frames =
+    member_short (codes "frames") (list (map piece_tree g.pieces)) 8 706 refl (frames_short g parts is) m-pgn in
     let m-first = member_short (codes "first") (whole g.first) 7 15 refl (count_short g.first begun) m-frames in
     let m-dst = member_short (codes "dst") (whole g.key.dst) 5 3 refl dst m-first in
     omega (arith, object_short (codes "dst") (whole g.key.dst) m-dst)
@@ -162,21 +166,28 @@ state-short s is known =
     let broken : s.counts.broken + s.counts.held ≤ s.counts.lines = is.counted.broken in
     let id = digits_short 32 s.id known.long (small_bytes s.id known.are_bytes) in
     let open_parts = all-zip HasParts IsOpen s.groups is.parts is.groups.each in
-    let each = all_with (λ (g : Group). HasParts g × IsOpen g) (λ (g : Group). g.first ≤ s.counts.lines) (λ g. length (compact_text (group_tree g)) ≤ 785)
+    let each = all_with (λ (g : Group). HasParts g × IsOpen g) (λ (g : Group). g.first ≤ s.counts.lines)
+    (λ g. length (compact_text (group_tree g)) ≤ 785)
     (λ g is first. group_short g is.0 is.1 (omega (arith, first, most))) s.groups open_parts is.groups.begun in
-    let groups : length (compact_text (list (map group_tree s.groups))) ≤ 786 * n + 2 = list_short group_tree 785 s.groups each in
-    let count : (k : ℕ) → k ≤ s.counts.lines → length (compact_text (whole k)) ≤ 15 = λ k l. count_short k (omega (arith, l, most)) in
+    let groups : length (compact_text (list (map group_tree s.groups))) ≤ 786 * n + 2 =
+    list_short group_tree 785 s.groups each in
+    let count : (k : ℕ) → k ≤ s.counts.lines → length (compact_text (whole k)) ≤ 15 =
+    λ k l. count_short k (omega (arith, l, most)) in
     let unknown = count s.counts.unknown (omega (arith, given)) in
-    let m-unknown = member_short (codes "unknown") (whole s.counts.unknown) 9 15 refl unknown (window_short (are_waiting s) s.rule.window is.window) in
+    let window = window_short (are_waiting s) s.rule.window is.window in
+    let m-unknown = member_short (codes "unknown") (whole s.counts.unknown) 9 15 refl unknown window in
     let m-table = member_short (codes "table") (string (encode_lower s.id)) 7 66 refl id m-unknown in
     let messages = count s.counts.messages (omega (arith, given)) in
     let m-messages = member_short (codes "messages") (whole s.counts.messages) 10 15 refl messages m-table in
-    let m-lines = member_short (codes "lines") (whole s.counts.lines) 7 15 refl (count s.counts.lines (omega arith)) m-messages in
+    let lines = count s.counts.lines (omega arith) in
+    let m-lines = member_short (codes "lines") (whole s.counts.lines) 7 15 refl lines m-messages in
     let m-groups = member_short (codes "groups") (list (map group_tree s.groups)) 8 (786 * n + 2) refl groups m-lines in
     let format = format_by (are_waiting s) in
     let m-format = member_short (codes "format") (whole format) 8 1 refl (format_short (are_waiting s)) m-groups in
-    let m-broken = member_short (codes "broken") (whole s.counts.broken) 8 15 refl (count s.counts.broken (omega (arith, broken))) m-format in
-    let m-bad = member_short (codes "bad") (whole s.counts.bad) 5 15 refl (count s.counts.bad (omega (arith, given))) m-broken in
+    let breaks = count s.counts.broken (omega (arith, broken)) in
+    let m-broken = member_short (codes "broken") (whole s.counts.broken) 8 15 refl breaks m-format in
+    let bad = count s.counts.bad (omega (arith, given)) in
+    let m-bad = member_short (codes "bad") (whole s.counts.bad) 5 15 refl bad m-broken in
     omega (arith, object_short (codes "bad") (whole s.counts.bad) m-bad)
 
 -- the same of a text whose groups were lent, as the state's owner sees it

@@ -96,7 +96,8 @@ record ArePlainTexts (ms : Members) : Type 0 where
 plain_none : ArePlainTexts no_members
 plain_none = record { each = tt }
 
-plain_member : (k : List ℕ) (d : Data) {ms : Members} → are_ascii k ≡ true → IsPlain d → ArePlainTexts ms → ArePlainTexts (member k d ms)
+plain_member : (k : List ℕ) (d : Data) {ms : Members} → are_ascii k ≡ true → IsPlain d → ArePlainTexts ms
+    → ArePlainTexts (member k d ms)
 plain_member k d ascii plain rest = record { each = (IsUtf8-are_ascii k ascii, plain, rest.each) }
 
 -- a group that a state can hold
@@ -281,7 +282,8 @@ state_under kind s order is fast id = text-asked kind s.id rule s is id ∙ by (
         let valid : is_valid kind ruled ≡ true = state_valid kind s is fast in
         rw (bytes_eq-same s.id) (rw (eq-eqb s.rule.window s.rule.window refl) (rw waits (rw valid refl)))
 
-    by : (tells : Bool) → are_waiting s ≡ tells → asked kind s.id rule (place_by tells) (read_under tells rule s) ≡ Ok ruled
+    by : (tells : Bool) → are_waiting s ≡ tells
+        → asked kind s.id rule (place_by tells) (read_under tells rule s) ≡ Ok ruled
     by true e = answers places.WindowState (waits-there s e)
     by false e = answers places.State refl
 

@@ -79,7 +79,8 @@ groups_from kind (g ∷ gs) h =
     let hs = and_parts _ _ h in
     let more = and_parts _ _ hs.1 in
     let rest = groups_from kind gs more.1 in
-    ((open_from kind g hs.0, rest.0), (none_any (λ (other : Group). same_key g.key other.key) gs (not-true _ more.0), rest.1))
+    let apart = none_any (λ (other : Group). same_key g.key other.key) gs (not-true _ more.0) in
+    ((open_from kind g hs.0, rest.0), (apart, rest.1))
 
 pub valid_state : (kind : ℕ → Option Kind) (s : State) → IsWindow s.rule.window → counts_hold s.counts ≡ true → firsts_rise 1 s.counts.lines s.groups ≡ true → groups_hold kind s.groups ≡ true
     → s.counts.held ≡ length s.groups → AllByRecursion HasParts s.groups → IsState s

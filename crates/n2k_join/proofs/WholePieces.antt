@@ -26,7 +26,9 @@ carried_pieces x (f ∷ fs) n pieces has = by_test (f.number == n) refl has (car
     by_test false e h ih = ih h
 
 pieces_below : (x : Sending) (fs : List Frame) → AllByRecursion (IsPieceOf x) fs → AllByRecursion (λ (f : Frame). f.number < last_piece x.message + 1) fs
-pieces_below x fs pieces = all-map (IsPieceOf x) (λ (f : Frame). f.number < last_piece x.message + 1) fs (λ f is. omega (arith, is.in_range)) pieces
+pieces_below x fs pieces =
+    all-map (IsPieceOf x) (λ (f : Frame). f.number < last_piece x.message + 1) fs
+    (λ f is. omega (arith, is.in_range)) pieces
 
 none_past : (x : Sending) (fs : List Frame) → AllByRecursion (IsPieceOf x) fs → is_within (last_piece x.message) fs ≡ true
 none_past x [] pieces = refl

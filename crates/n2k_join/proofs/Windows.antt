@@ -151,7 +151,8 @@ misfits-bars w x g is l = by w.in_order
 -- What tells a group whose window has ended from none as little, finds the same group of a key among those that wait.
 pub key-waiting : {X : Type 0} (w : Rule) (x : Frame) (F : Option Group → X)
     → ((g : Group) → IsOpen g → is_waiting w x.line g ≡ false → F (Some g) ≡ F None)
-    → (gs : List Group) → AllByRecursion IsOpen gs → AreApart gs → F (of_the_key x.key gs) ≡ F (of_the_key x.key (waiting w x.line gs))
+    → (gs : List Group) → AllByRecursion IsOpen gs → AreApart gs
+    → F (of_the_key x.key gs) ≡ F (of_the_key x.key (waiting w x.line gs))
 unfolding waiting
 key-waiting w x F as_none [] each apart = refl
 key-waiting w x F as_none (g ∷ gs) each apart =
@@ -171,7 +172,8 @@ key-waiting w x F as_none (g ∷ gs) each apart =
         → F (cond c (Some g) (of_the_key x.key gs)) ≡ F (of_the_key x.key (cond b (g ∷ left) left))
     by true e true f rest = sym (ap (λ t. F (cond t (Some g) (of_the_key x.key left))) f)
     by true e false f rest = rest ∙ sym (ap (λ t. F (cond t (Some g) (of_the_key x.key left))) f)
-    by false e true f rest = as_none g each.0 e ∙ sym (ap F (find-none (λ (h : Group). same_key x.key h.key) left (others f)))
+    by false e true f rest =
+        as_none g each.0 e ∙ sym (ap F (find-none (λ (h : Group). same_key x.key h.key) left (others f)))
     by false e false f rest = rest
 
 opened-waiting : (w : Rule) (x : Frame) (gs : List Group) → AllByRecursion IsOpen gs → AreApart gs

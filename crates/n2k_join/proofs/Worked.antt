@@ -160,7 +160,8 @@ unfolding kind fast_frame same_key complete cut pieces_of begun_at open_groups w
 extra_frame-open = refl
 
 -- A new sequence ends no older group: eight messages of one stream may be under way.
-eight_under_way : counts rule kind (map (λ n. frame 5 n (start (32 * n) 11 n)) (range_with_len 0 8)) ≡ lines_only 8 0 0 0 0 8
+eight_under_way : counts rule kind (map (λ n. frame 5 n (start (32 * n) 11 n)) (range_with_len 0 8))
+    ≡ lines_only 8 0 0 0 0 8
 unfolding kind fast_frame same_key complete cut data_of gathered broken_with pieces_of begun_at open_groups waiting
 eight_under_way = refl
 
@@ -229,7 +230,8 @@ other_lines =
     ∷ []
 
 other_lines-given : Gives rule other_lines
-    (packet 129026 1 8 (0x15 ∷ []) ∷ packet 130820 5 9 (7 ∷ 0x98 ∷ []) ∷ whole 5 11 1 zeros ∷ []) [] (lines_only 11 3 4 2 0 0)
+    (packet 129026 1 8 (0x15 ∷ []) ∷ packet 130820 5 9 (7 ∷ 0x98 ∷ []) ∷ whole 5 11 1 zeros ∷ [])
+    [] (lines_only 11 3 4 2 0 0)
 unfolding kind fast_frame same_key complete cut data_of gathered broken_with pieces_of begun_at open_groups waiting
 other_lines-given = (refl, refl, refl)
 
@@ -369,7 +371,8 @@ interleaved-scattered = record {
   where
     by : (key : Key) (b c : Bool) → same_key key (key_of 0) ≡ b → same_key key (key_of 1) ≡ c
         → FallInto rule (kept b sent_0 (kept c sent_1 []))
-        (kept c (closing 1 1 2 blanks) (kept b (closing 2 0 1 zeros) (kept b (opening 4 0 1) (kept c (opening 6 1 2) []))))
+        (kept c (closing 1 1 2 blanks) (kept b (closing 2 0 1 zeros)
+        (kept b (opening 4 0 1) (kept c (opening 6 1 2) []))))
     by key true true e f =
         let same : key_of 0 ≡ key_of 1 = sym (same_key-true key (key_of 0) e) ∙ same_key-true key (key_of 1) f in
         let one : 0 ≡ 1 = ap (λ (k : Key). k.sequence) same in

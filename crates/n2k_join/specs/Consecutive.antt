@@ -1,5 +1,5 @@
--- What a complete group is in order: frames by rising number with no other of their key between them. Whether a device sent them
--- one after the other, no log shows.
+-- What a complete group is in order: frames by rising number with no other of their key between them. Whether a device
+-- sent them one after the other, no log shows.
 use Rattle.std.specs.Prelude.{◌≡◌, ℕ, ◌+◌, true, List, [], ◌∷◌, ◌++◌, map, Option}
 use Rattle.std.specs.List.{All, range_with_len}
 use Rattle.n2k_wire.specs.declared.entry.Entry.{Entry}

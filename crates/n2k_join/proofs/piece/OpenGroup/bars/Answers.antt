@@ -10,10 +10,12 @@ pub returns-then-in_order : goal.returns-then-in_order
 returns-then-in_order c key =
     c.is_any_from.ensures.value
     ∙ sym (from-mask key c.args.self.now c.args.number c.is_any_from.ensures.range)
-    ∙ sym (ap (λ b. cond b (has_from c.args.number (held_of (group_in key c.args.self.now))) (has_number c.args.number (held_of (group_in key c.args.self.now)))) c.if-in_order.true)
+    ∙ (let held = held_of (group_in key c.args.self.now) in
+    sym (ap (λ b. cond b (has_from c.args.number held) (has_number c.args.number held)) c.if-in_order.true))
 
 pub returns-else-in_order : goal.returns-else-in_order
 returns-else-in_order c key =
     c.has.ensures
     ∙ sym (ap is_some (carried-slots key c.args.self.now c.args.number c.requires))
-    ∙ sym (ap (λ b. cond b (has_from c.args.number (held_of (group_in key c.args.self.now))) (has_number c.args.number (held_of (group_in key c.args.self.now)))) c.if-in_order.false)
+    ∙ (let held = held_of (group_in key c.args.self.now) in
+    sym (ap (λ b. cond b (has_from c.args.number held) (has_number c.args.number held)) c.if-in_order.false))
