@@ -42,16 +42,4 @@ answers_known old new (Some bytes) (Some rest) calls₀ calls result answers =
     (rest, refl, subst (λ b. AnswersLine b (unanswered new ++ rest) result) (sym all) (gives_line (unanswered old ++ answers.came) (unanswered new) rest new.has_ended result answers.answer))
 
 pub answers_line : (old new : Held) (left₀ left : Option (List ℕ)) (calls₀ calls : ℕ) (line : Bor (List ℕ)) → AnswersFound old new left₀ left calls₀ calls (Ok found.Line) → line.now ≡ new.line → Answers old new left₀ left calls₀ calls (Ok (Line line))
-answers_line old new left₀ left calls₀ calls line a is = record {
-  came = a.came;
-  given = a.given;
-  answer = subst (λ (l : List ℕ). FirstLine (unanswered old ++ a.came) l (unanswered new) new.has_ended left × (length l ≤ 2048)) (sym is) a.answer;
-  called = a.called;
-  few = a.few;
-}
-
-pub answers_long : (old new : Held) (left₀ left : Option (List ℕ)) (calls₀ calls : ℕ) → AnswersFound old new left₀ left calls₀ calls (Ok found.Long) → Answers old new left₀ left calls₀ calls (Ok Long)
-answers_long old new left₀ left calls₀ calls a = record { came = a.came; given = a.given; answer = a.answer; called = a.called; few = a.few }
-
-pub answers_failed : (old new : Held) (left₀ left : Option (List ℕ)) (calls₀ calls : ℕ) (failed : Failed) → AnswersFound old new left₀ left calls₀ calls (Err failed) → Answers old new left₀ left calls₀ calls (Err failed)
-answers_failed old new left₀ left calls₀ calls failed a = record { came = a.came; given = a.given; answer = a.answer; called = a.called; few = a.few }
+answers_line old new left₀ left calls₀ calls line a is = rw is a

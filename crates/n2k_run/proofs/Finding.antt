@@ -79,15 +79,15 @@ calls_end calls₀ calls reads (rise, inr full) all = inr full
 
 -- nothing came yet
 pub reads_none : (held : Held) (left : Option (List ℕ)) (calls : ℕ) → Reads 0 held held left left calls calls
-reads_none held left calls = record { came = []; given = Consumes-nil left; stays = inl (sym (append-nil (unanswered held))); called = (omega arith, inl refl); few = omega arith }
+reads_none held left calls = record { came = []; given = Consumes-nil left; answer = inl (sym (append-nil (unanswered held))); called = (omega arith, inl refl); few = omega arith }
 
 pub reads_room : (old mid new : Held) (left₀ left : Option (List ℕ)) (calls₀ calls : ℕ) → Reads 0 old mid left₀ left calls₀ calls → HasNoFeed mid.kept → MakesRoom (unanswered mid) (unanswered new) → new.reads ≡ mid.reads → Reads 0 old new left₀ left calls₀ calls
 reads_room old mid new left₀ left calls₀ calls so_far none room reads =
-    let whole : HasNoFeed (unanswered old ++ so_far.came) = no_feed_whole _ _ so_far.stays (unanswered-no_feed mid none) in
+    let whole : HasNoFeed (unanswered old ++ so_far.came) = no_feed_whole _ _ so_far.answer (unanswered-no_feed mid none) in
     record {
       came = so_far.came;
       given = so_far.given;
-      stays = stays_room _ _ _ whole so_far.stays room;
+      answer = stays_room _ _ _ whole so_far.answer room;
       called = subst (λ r. CallsAre calls₀ calls old.reads r) (sym reads) so_far.called;
       few = so_far.few;
     }
@@ -102,11 +102,11 @@ pub reads_more : (idle : ℕ) (old mid new : Held) (left₀ left left' : Option 
     → Reads idle old new left₀ left' calls₀ calls'
 reads_more idle old mid new left₀ left left' calls₀ calls calls' so_far gains gave passing reads called =
     let whole : List ℕ = unanswered old ++ so_far.came in
-    let more : Stays (whole ++ gains.gained) (unanswered mid ++ gains.gained) = stays_more whole (unanswered mid) gains.gained so_far.stays in
+    let more : Stays (whole ++ gains.gained) (unanswered mid ++ gains.gained) = stays_more whole (unanswered mid) gains.gained so_far.answer in
     record {
       came = so_far.came ++ gains.gained;
       given = Consumes-trans left₀ left left' so_far.came gains.gained so_far.given gains.given;
-      stays = rw (← append_assoc (unanswered old) so_far.came gains.gained, unanswered_gained mid new gains.gained passing gains.appended) more;
+      answer = rw (← append_assoc (unanswered old) so_far.came gains.gained, unanswered_gained mid new gains.gained passing gains.appended) more;
       called = calls_more calls₀ calls calls' old.reads mid.reads new.reads so_far.called called reads;
       few = omega (arith, called, one_more_at_most calls, so_far.few, gave, ap length gains.appended, length-append mid.kept gains.gained, length-append so_far.came gains.gained);
     }
@@ -155,7 +155,7 @@ pub found_line : (idle : ℕ) (old mid new : Held) (left₀ left : Option (List 
 found_line idle old mid new left₀ left calls₀ calls found so_far finds reads ended = record {
   came = so_far.came;
   given = so_far.given;
-  answer = finds_whole _ _ new left found so_far.stays finds;
+  answer = finds_whole _ _ new left found so_far.answer finds;
   called = subst (λ r. CallsAre calls₀ calls old.reads r) (sym reads) so_far.called;
   few = omega (arith, so_far.few, ended);
 }
@@ -165,7 +165,7 @@ pub found_none : (idle : ℕ) (old new : Held) (left₀ left : Option (List ℕ)
 found_none idle old new left₀ left calls₀ calls failed so_far once none = record {
   came = so_far.came;
   given = so_far.given;
-  answer = (no_feed_whole _ _ so_far.stays (unanswered-no_feed new none), so_far.stays);
+  answer = (no_feed_whole _ _ so_far.answer (unanswered-no_feed new none), so_far.answer);
   called = so_far.called;
   few = omega (arith, so_far.few, once);
 }

@@ -79,16 +79,20 @@ GivesNext whole rest has_ended left (Err failed) = HasNoFeed whole × Stays whol
 abbrev pub CallsAre : ℕ → ℕ → ℕ → ℕ → Type 0
 CallsAre calls₀ calls reads₀ reads = (reads₀ ≤ reads) × ((calls + reads₀ ≡ calls₀ + reads) ⊎ (2 ^ 64 - 1 ≤ calls))
 
--- an answer, what it took of the source, and what is held after it
-pub record Answers (old new : Held) (left₀ left : Option (List ℕ)) (calls₀ calls : ℕ)
-    (result : Result Next Failed) : Type 0 where
-  -- the bytes that came of the source
+-- What came of a source while a block went from one state to another, by calls of which each gave at least one byte but
+-- for so many; and what holds of all the bytes, those unanswered before and these.
+pub record Came (idle : ℕ) (old new : Held) (left₀ left : Option (List ℕ)) (calls₀ calls : ℕ)
+    (holds : List ℕ → Type 0) : Type 0 where
   pub came : List ℕ
   pub given : Consumes left₀ left came
-  pub answer : GivesNext (unanswered old ++ came) (unanswered new) new.has_ended left result
+  pub answer : holds (unanswered old ++ came)
   pub called : CallsAre calls₀ calls old.reads new.reads
-  -- each call gave at least one of them, but for the one that found the end or failed
-  pub few : calls ≤ calls₀ + length came + idle_calls new.has_ended result
+  pub few : calls ≤ calls₀ + length came + idle
+
+-- an answer, what it took of the source, and what is held after it: the one call that gives no byte finds the end or fails
+abbrev pub Answers : Held → Held → Option (List ℕ) → Option (List ℕ) → ℕ → ℕ → Result Next Failed → Type 0
+Answers old new left₀ left calls₀ calls result = Came (idle_calls new.has_ended result) old new left₀ left calls₀ calls
+    (λ whole. GivesNext whole (unanswered new) new.has_ended left result)
 
 -- an answer, by the lines of the bytes that are unanswered and those that the source has left
 abbrev pub AnswersLine : List ℕ → List ℕ → Result Next Failed → Type 0

@@ -1,12 +1,12 @@
 -- How a block stands: its places in order, and what each private step of it does.
 use Rattle.std.specs.Prelude.{◌≡◌, ◌⊎◌, ◌<◌, ◌≤◌, ◌+◌, ◌-◌, ℕ, Bool, true, false, List, [], ◌∷◌, ◌++◌, length, take, drop, slice_range, Option, MatchOption, Result, Ok, Err}
-use Rattle.std.specs.Io.KnownBytes.{Consumes, IsAtEnd}
+use Rattle.std.specs.Io.KnownBytes.{IsAtEnd}
 use Rattle.n2k_wire.specs.Entry.{longest_line}
 use Rattle.n2k_run.specs.declared.blocks.Blocks.TheInside.{Inside}
 use Rattle.n2k_run.specs.declared.blocks.Found.{Found}
 use Rattle.n2k_run.specs.declared.blocks.Found.TheVariants.{Line, Long, End}
 use Rattle.n2k_run.specs.declared.device.Failed.{Failed}
-use Rattle.n2k_run.specs.Blocks.{Held, HasNoFeed, FirstLine, FirstLong, Stays, CallsAre, passed, unanswered}
+use Rattle.n2k_run.specs.Blocks.{Held, Came, HasNoFeed, FirstLine, FirstLong, Stays, passed, unanswered}
 use Rattle.n2k_run.specs.Lines.{line_feed}
 use Rattle.n2k_run.specs.Reading.{idle_calls, most_reads}
 
@@ -64,18 +64,10 @@ abbrev pub GivesFound : List ℕ → Held → Option (List ℕ) → Result Found
 GivesFound whole new left (Ok found) = Finds whole new left found
 GivesFound whole new left (Err failed) = HasNoFeed whole × Stays whole (unanswered new)
 
-pub record AnswersFound (old new : Held) (left₀ left : Option (List ℕ)) (calls₀ calls : ℕ)
-    (result : Result Found Failed) : Type 0 where
-  pub came : List ℕ
-  pub given : Consumes left₀ left came
-  pub answer : GivesFound (unanswered old ++ came) new left result
-  pub called : CallsAre calls₀ calls old.reads new.reads
-  pub few : calls ≤ calls₀ + length came + idle_calls new.has_ended result
+abbrev pub AnswersFound : Held → Held → Option (List ℕ) → Option (List ℕ) → ℕ → ℕ → Result Found Failed → Type 0
+AnswersFound old new left₀ left calls₀ calls result =
+    Came (idle_calls new.has_ended result) old new left₀ left calls₀ calls (λ whole. GivesFound whole new left result)
 
 -- what came while no answer was found, by calls of which so many gave nothing
-pub record Reads (idle : ℕ) (old new : Held) (left₀ left : Option (List ℕ)) (calls₀ calls : ℕ) : Type 0 where
-  pub came : List ℕ
-  pub given : Consumes left₀ left came
-  pub stays : Stays (unanswered old ++ came) (unanswered new)
-  pub called : CallsAre calls₀ calls old.reads new.reads
-  pub few : calls ≤ calls₀ + length came + idle
+abbrev pub Reads : ℕ → Held → Held → Option (List ℕ) → Option (List ℕ) → ℕ → ℕ → Type 0
+Reads idle old new left₀ left calls₀ calls = Came idle old new left₀ left calls₀ calls (λ whole. Stays whole (unanswered new))
