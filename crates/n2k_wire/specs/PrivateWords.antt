@@ -16,7 +16,7 @@ use Rattle.n2k_wire.specs.declared.stamp.Moment as moments_of_code
 use Rattle.n2k_wire.specs.Plain.{Header, greatest_address, number_to, packed, pairs, pieces}
 use Rattle.n2k_wire.specs.Packet.{greatest_pgn, greatest_priority}
 use Rattle.n2k_wire.specs.declared.identifier.Id.{Id}
-use Rattle.n2k_wire.specs.Candump.{stamped, identifier}
+use Rattle.n2k_wire.specs.Candump.{framed, identifier, stamped}
 use Rattle.n2k_wire.specs.Digits.{decimal_number}
 use Rattle.n2k_wire.specs.Stamp.{Moment, last_second, millis_digits, most_fraction_digits, moment, three_digits, utc_text}
 use Rattle.n2k_wire.specs.Steps.{◌>>=◌}
@@ -61,6 +61,10 @@ IsFront front seconds =
     (fraction rest : List ℕ) (f m : ℕ) → decimal_number most_fraction_digits fraction ≡ Some f → decimal_number 3 (three_digits fraction) ≡ Some m
     → stamp_behind (front ++ (fraction ++ (41 ∷ rest))) ≡ Some (utc_text (record { seconds = seconds; millis = m }), rest)
 
+-- behind an interface stand the digits of this identifier, and behind the `#` the rest
+abbrev pub IsFramed : List ℕ → ℕ → List ℕ → Type 0
+IsFramed text n rest = (digits : List ℕ) × (framed text ≡ Some (digits, rest)) × (identifier digits ≡ Ok (Some n))
+
 -- what stands in front of the data in a candump line, of an interface, a moment and the 29 bits of an identifier
 unfoldable pub candump_front : List ℕ → Moment → ℕ → List ℕ
 candump_front interface seen identifier =
@@ -97,23 +101,18 @@ with_commas (a ∷ []) = a ∷ []
 with_commas (a ∷ b ∷ []) = a ∷ b ∷ []
 with_commas (a ∷ b ∷ c ∷ more) = a ∷ b ∷ 44 ∷ with_commas (c ∷ more)
 
--- a text begins with pieces of hexadecimal digits that spell these bytes, of which there are some, and the rest follows
-pub record AreSpelled (text bytes rest : List ℕ) : Type 0 where
+-- a text is eight pieces of hexadecimal digits, which spell these bytes
+pub record AreSpelled (text bytes : List ℕ) : Type 0 where
   pub digits : List ℕ
-  pub text_is : text ≡ with_commas digits ++ rest
+  pub text_is : text ≡ with_commas digits
   pub hexadecimal : list_all is_ascii_hexdigit digits ≡ true
-  pub count : length digits ≡ 2 * length bytes
-  pub some : 0 < length bytes
+  pub count : length digits ≡ 16
   pub bytes_are : result_ok (decode_of digits) ≡ Some bytes
 
 -- these pieces begin with those of these bytes, and more follow
 pub record AreRead (all : List (List ℕ)) (bytes : List ℕ) (more : List (List ℕ)) : Type 0 where
   pub count : length all ≡ length bytes + length more
   pub read : pairs all ≡ option_map (λ others. bytes ++ others) (pairs more)
-
--- pieces that were read up to the first of these are read up to the second, with what they hold by then
-abbrev pub IsReadOn : List ℕ → List (List ℕ) → List ℕ → List (List ℕ) → Type 0
-IsReadOn before from bytes to = (all : List (List ℕ)) → AreRead all before from → AreRead all bytes to
 
 -- an entry is that of a plain line with these parts and this data, which could be read
 abbrev pub IsPackedOf : Packing → List ℕ → Id → Option (List ℕ) → Entry → Type 0
