@@ -10,6 +10,7 @@ use Rattle.n2k_wire.specs.Packet.{is_stamp}
 use Rattle.n2k_wire.specs.Pieces.{after_byte}
 use Rattle.n2k_wire.specs.PrivateWords.{IsFront, stamp_behind}
 use Rattle.n2k_wire.specs.Stamp.{millis_digits, three_digits, utc_text}
+use Rattle.n2k_wire.proofs.CandumpBack.{number_is}
 use Rattle.n2k_wire.proofs.UsualStamps.{follows, usual}
 use Rattle.n2k_wire.proofs.UtcBack.{three_back}
 use Rattle.n2k_wire.proofs.UtcStamps.{utc_is_stamp}
@@ -23,12 +24,9 @@ digits_read before (b ∷ text) all =
     rw parts.0 (digits_read (10 * before + (b - 48)) text parts.1)
 
 number_read : (most : ℕ) (text : List ℕ) → list_all is_ascii_digit text ≡ true → 1 ≤ length text → length text ≤ most → (n : ℕ) × (decimal_number most text ≡ Some n) × (decimal_after 0 text ≡ Some n)
-unfolding decimal_number
 number_read most text all some few =
     let read = digits_read 0 text all in
-    let a : ltb 0 (length text) ≡ true = lt-ltb 0 (length text) (omega arith) in
-    let b : leb (length text) most ≡ true = le-leb (length text) most few in
-    (read.0, rw (a, b) read.1, read.1)
+    (read.0, number_is most read.0 text some few read.1, read.1)
 
 opens : (byte : ℕ) (rest : List ℕ) → after_byte byte (byte ∷ rest) ≡ Some rest
 unfolding after_byte

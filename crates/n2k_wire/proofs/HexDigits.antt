@@ -3,7 +3,7 @@ use Rattle.std.proofs.Common.{◌≡◌, ℕ, zero, suc, ◌+◌, ◌*◌, ◌%�
 use Rattle.std.specs.Char.{is_ascii_hexdigit}
 use Rattle.std.specs.List.{list_all, position_or_len}
 use Rattle.std.specs.Result.{result_ok}
-use Rattle.std.proofs.lemmas.Bool.{agree_below_at, cases_Bool, eqb-true}
+use Rattle.std.proofs.lemmas.Bool.{agree_below_at, and_parts, cases_Bool, eqb-true}
 use Rattle.std.proofs.lemmas.Bool.Decides.{nat_tests}
 use Rattle.std.proofs.lemmas.Simd.{mask_l-mod}
 use Rattle.std.proofs.Math.Bool.{and-true, and_assoc}
@@ -16,10 +16,6 @@ use Rattle.hex.specs.Hex.{hex_digit_value, decode_pairs, decode_of}
 use Rattle.n2k_wire.specs.PrivateWords.{hex_value}
 use Rattle.n2k_wire.specs.Plain.{pair}
 use Rattle.n2k_wire.proofs.TextLemmas.{listed, listed_all}
-
-both : (a b : Bool) → (a && b) ≡ true → (a ≡ true) × (b ≡ true)
-both true b e = (refl, e)
-both false b e = absurd cc
 
 -- the value that `hex` gives a digit
 pub hex_digit_value-is : (digit : ℕ) → is_ascii_hexdigit digit ≡ true → hex_digit_value digit ≡ Some (hex_value digit)
@@ -36,8 +32,8 @@ unfolding decode_pairs spelled
 decode_pairs-spelled i n [] all e = refl
 decode_pairs-spelled i n (digit ∷ []) all e = absurd (omega arith)
 decode_pairs-spelled i n (high ∷ low ∷ rest) all e =
-    let first : (is_ascii_hexdigit high ≡ true) × (list_all is_ascii_hexdigit (low ∷ rest) ≡ true) = both _ _ all in
-    let second : (is_ascii_hexdigit low ≡ true) × (list_all is_ascii_hexdigit rest ≡ true) = both _ _ first.1 in
+    let first : (is_ascii_hexdigit high ≡ true) × (list_all is_ascii_hexdigit (low ∷ rest) ≡ true) = and_parts _ _ all in
+    let second : (is_ascii_hexdigit low ≡ true) × (list_all is_ascii_hexdigit rest ≡ true) = and_parts _ _ first.1 in
     let more : length rest ≡ 2 * (n - 1) = omega arith in
     rw (hex_digit_value-is high first.0, hex_digit_value-is low second.0, decode_pairs-spelled (i + 2) (n - 1) rest second.1 more) refl
 
@@ -65,7 +61,7 @@ pub all_front : (p : ℕ → Bool) (n : ℕ) (text : List ℕ) → list_all p te
 all_front p zero text all = refl
 all_front p (suc n) [] all = refl
 all_front p (suc n) (b ∷ text) all =
-    let parts = both (p b) (list_all p text) all in
+    let parts = and_parts (p b) (list_all p text) all in
     rw parts.0 (all_front p n text parts.1)
 
 -- one byte more is looked at
@@ -83,13 +79,9 @@ all_done p bytes i so_far past before = sym (and-true so_far) ∙ (rw (drop_of_l
 pub all_digits : (p : ℕ → Bool) (text : List ℕ) → list_all p text ≡ true → length text ≡ position_or_len (λ b. not (p b)) text
 all_digits p [] all = refl
 all_digits p (b ∷ text) all =
-    let first : (p b ≡ true) × (list_all p text ≡ true) = both _ _ all in
+    let first : (p b ≡ true) × (list_all p text ≡ true) = and_parts _ _ all in
     let rest = all_digits p text first.1 in
     rw first.0 (omega arith)
-
--- a byte that is no digit has no value
-pub hex_digit_value-none : (digit : ℕ) → is_ascii_hexdigit digit ≡ false → hex_digit_value digit ≡ None
-hex_digit_value-none digit e = grind (arith, nat_tests)
 
 -- two digits spell one byte
 pub pair_spelled : (piece : List ℕ) → length piece ≡ 2 → (is_ascii_hexdigit (get_or piece 0 0) && is_ascii_hexdigit (get_or piece 1 0)) ≡ true
@@ -98,7 +90,7 @@ unfolding pair decode_pairs
 pair_spelled [] two digits = absurd (omega arith)
 pair_spelled (high ∷ []) two digits = absurd (omega arith)
 pair_spelled (high ∷ low ∷ []) two digits =
-    let each : (is_ascii_hexdigit high ≡ true) × (is_ascii_hexdigit low ≡ true) = both _ _ digits in
+    let each : (is_ascii_hexdigit high ≡ true) × (is_ascii_hexdigit low ≡ true) = and_parts _ _ digits in
     rw (hex_digit_value-is high each.0, hex_digit_value-is low each.1) refl
 pair_spelled (high ∷ low ∷ other ∷ more) two digits = absurd (omega arith)
 
@@ -123,7 +115,7 @@ value b = cond (top 7 (no_figure b)) ((letter b + 10) % 256) (figure b)
 is_digit : (b : ℕ) → b < 256 → other b ≡ false → (is_ascii_hexdigit b ≡ true) × (value b ≡ hex_value b)
 is_digit b byte digit =
     let table = agree_below_at (λ c. other c || (is_ascii_hexdigit c && eqb (value c) (hex_value c))) (λ c. true) 256 b refl byte in
-    let parts = both _ _ (rw digit at table) in
+    let parts = and_parts _ _ (rw digit at table) in
     (parts.0, eqb-true _ _ parts.1)
 
 abbrev figures : ℕ → List ℕ → List ℕ
@@ -181,8 +173,8 @@ byte_is high low a b =
 -- each of them
 pub digit_at : (digits : List ℕ) (i : ℕ) → list_all is_ascii_hexdigit digits ≡ true → i < length digits → is_ascii_hexdigit (get_or digits i 0) ≡ true
 digit_at [] i all within = absurd (omega arith)
-digit_at (digit ∷ digits) zero all within = (both _ _ all).0
-digit_at (digit ∷ digits) (suc i) all within = digit_at digits i (both _ _ all).1 (omega arith)
+digit_at (digit ∷ digits) zero all within = (and_parts _ _ all).0
+digit_at (digit ∷ digits) (suc i) all within = digit_at digits i (and_parts _ _ all).1 (omega arith)
 
 joined_is : (digits : List ℕ) → length digits ≡ 16 → list_all is_ascii_hexdigit digits ≡ true → joined (map hex_value digits) ≡ spelled digits
 unfolding listed spelled

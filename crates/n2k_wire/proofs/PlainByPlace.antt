@@ -25,7 +25,7 @@ use Rattle.n2k_wire.specs.Pieces.{after_byte}
 use Rattle.n2k_wire.specs.Plain.{bytes_of, header, id_of, number_to, packed, packet_of, pairs, pieces, plain_packet}
 use Rattle.n2k_wire.specs.PrivateWords.{AreRead, AreSpelled, IsNumberBefore, IsIdBefore, IsPackedOf, hex_value, with_commas}
 use Rattle.n2k_wire.specs.Steps.{◌>>=◌}
-use Rattle.n2k_wire.proofs.CandumpBack.{no_digit, no_hex}
+use Rattle.n2k_wire.proofs.CandumpBack.{is_other}
 use Rattle.n2k_wire.proofs.HexDigits.{all_front, decode_of-even, pair_spelled, spelled, spelled_bytes}
 use Rattle.n2k_wire.proofs.PlainTexts.{partly}
 use Rattle.n2k_wire.proofs.PlainLemmas.{bytes_of-pairs, regroup, with_front}
@@ -55,7 +55,7 @@ read_digits limit n piece None e found = absurd (let none = rw e at found in cc)
 read_digits limit n piece (Some k) e found = number_digits 10 k piece e
 
 no_comma_among : (piece : List ℕ) → list_all is_ascii_digit piece ≡ true → HasNoComma piece
-no_comma_among piece all = All-weaker (λ b. is_ascii_digit b ≡ true) (λ b. (b == 44) ≡ false) (no_digit 44 refl) piece (AllPass-from_list_all is_ascii_digit piece all)
+no_comma_among piece all = All-weaker (λ b. is_ascii_digit b ≡ true) (λ b. (b == 44) ≡ false) (is_other is_ascii_digit 44 refl) piece (AllPass-from_list_all is_ascii_digit piece all)
 
 -- digits before a comma are a piece
 pub numbered : (limit n : ℕ) (text piece behind rest : List ℕ) → piece ++ behind ≡ text → after_byte 44 behind ≡ Some rest → number_to limit piece ≡ Some n → IsNumberBefore limit text n rest
@@ -98,8 +98,8 @@ all_taken all more room bytes last e len first rest written inside eight past wi
 
 two_no_comma : (a b : ℕ) → is_ascii_hexdigit a ≡ true → is_ascii_hexdigit b ≡ true → HasNoComma (a ∷ b ∷ [])
 two_no_comma a b ea eb =
-    All-cons (λ x. (x == 44) ≡ false) a (b ∷ []) (no_hex 44 refl a ea)
-    (All-cons (λ x. (x == 44) ≡ false) b [] (no_hex 44 refl b eb) (All-nil (λ x. (x == 44) ≡ false)))
+    All-cons (λ x. (x == 44) ≡ false) a (b ∷ []) (is_other is_ascii_hexdigit 44 refl a ea)
+    (All-cons (λ x. (x == 44) ≡ false) b [] (is_other is_ascii_hexdigit 44 refl b eb) (All-nil (λ x. (x == 44) ≡ false)))
 
 -- these pieces follow a piece that stands before this text
 abbrev Follow : List ℕ → List (List ℕ) → Type 0

@@ -2,14 +2,14 @@
 use Rattle.std.proofs.Common.{◌≡◌, ℕ, zero, suc, ◌+◌, ◌*◌, ◌/◌, ◌%◌, ◌^◌, ◌<◌, ◌≤◌, true, false, List, [], ◌∷◌, ◌++◌, map, length, Some, None, Ok, ltb, leb, not, refl, ap, ◌∙◌, arith, append_assoc, length-append}
 use Rattle.std.specs.Prelude.{◌==◌, ◌&&◌, decimal, option_and_then, slice_index, IsTrue}
 use Rattle.std.specs.List.{All, list_all, flat_map}
-use Rattle.std.proofs.lemmas.Bool.{and_parts, leb-true, le-leb, le-ltb, lt-ltb, ne_eqb, not-true}
+use Rattle.std.proofs.lemmas.Bool.{agree_below_at, and_parts, leb-true, le-leb, le-ltb, lt-ltb, ne_eqb, not-true}
 use Rattle.std.proofs.lemmas.Fmt.{decimal_by_steps, length-decimal-le, decimal_nonempty}
 use Rattle.std.proofs.lemmas.List.{append-nil, length-map}
 use Rattle.std.proofs.lemmas.List.Elements.{All-nil, All-cons, All-append, All-weaker}
 use Rattle.std.proofs.lemmas.List.Splits.{slice_split_at, slice_split_none}
 use Rattle.std.proofs.lemmas.List.Sums.{AllPass-from_list_all}
-use Rattle.hex.specs.Hex.{IsBytes, encode_with, encode_lower, lower_digits, hex_digit_value}
-use Rattle.hex.proofs.HexLemmas.{IsDigits-lower_digits, decode_sized-encode_lower}
+use Rattle.hex.specs.Hex.{IsBytes, encode_with, encode_lower, lower_digits}
+use Rattle.hex.proofs.HexLemmas.{decode_sized-encode_lower}
 use Rattle.n2k_wire.specs.declared.entry.Packing.{Packing}
 use Rattle.n2k_wire.specs.Digits.{decimal_digit, decimal_after, decimal_number}
 use Rattle.n2k_wire.specs.Entry.{entry, is_skipped, is_candump, settled}
@@ -43,8 +43,7 @@ abbrev byte_digits : ℕ → List ℕ
 byte_digits b = encode_lower (b ∷ [])
 
 digit_no_comma : (d : ℕ) → d < 16 → (slice_index lower_digits d == 44) ≡ false
-digit_no_comma d h =
-    no_comma (slice_index lower_digits d) (λ e. let read : hex_digit_value 44 ≡ Some d = rw e at (IsDigits-lower_digits d h) in cc)
+digit_no_comma d h = agree_below_at (λ k. slice_index lower_digits k == 44) (λ k. false) 16 d refl h
 
 byte_no_comma : (b : ℕ) → b < 256 → HasNoComma (byte_digits b)
 unfolding encode_with
@@ -86,7 +85,7 @@ length-bytes (b ∷ bytes) = omega (arith, length-byte_digits b, length-bytes by
 
 -- ---- numbers
 
-digit_reads : (d : ℕ) → d < 10 → decimal_digit (48 + d) ≡ Some d
+pub digit_reads : (d : ℕ) → d < 10 → decimal_digit (48 + d) ≡ Some d
 unfolding decimal_digit
 digit_reads d h =
     let low : leb 48 (48 + d) ≡ true = le-leb 48 (48 + d) (omega arith) in

@@ -12,7 +12,7 @@ use Rattle.n2k_wire.specs.Packet.{is_stamp, is_stamp_byte}
 use Rattle.n2k_wire.specs.Pieces.{cut_at}
 use Rattle.n2k_wire.specs.Stamp.{Moment, two_digits, four_digits, millis_digits, date_text, time_text, utc_text, moment, three_digits}
 use Rattle.n2k_wire.specs.PrivateWords.{IsMoment}
-use Rattle.n2k_wire.proofs.UtcBack.{with_some, if_some, after_cons, after_nil}
+use Rattle.n2k_wire.proofs.UtcBack.{with_some, if_some, after_cons, after_nil, number_parts}
 
 -- ---- the date of a day has digits enough
 
@@ -154,14 +154,7 @@ three_small n (a ∷ b ∷ c ∷ []) few e =
 three_small n (a ∷ b ∷ c ∷ d ∷ more) few e = absurd (omega arith)
 
 millis_small : (n : ℕ) (text : List ℕ) → decimal_number 3 text ≡ Some n → n ≤ 999
-unfolding decimal_number
-millis_small n text e =
-    elim (cases_Bool (ltb 0 (length text) && leb (length text) 3)) [
-      | inl fits ↦
-          let few = leb-true (length text) 3 (and_parts (ltb 0 (length text)) (leb (length text) 3) fits).1 in
-          three_small n text few (rw fits at e)
-      | inr other ↦ absurd (let none = rw other at e in cc)
-    ]
+millis_small n text e = let read = number_parts 3 n text e in three_small n text read.0 read.1
 
 pub moment_is_one : (text : List ℕ) (seen : Moment) → moment text ≡ Some seen → IsMoment seen
 unfolding moment
