@@ -27,7 +27,7 @@ use Rattle.n2k_wire.specs.Stamp.{Moment, moment, three_digits, millis_digits, ut
 use Rattle.n2k_wire.specs.Steps.{◌>>=◌, or_cause}
 use Rattle.n2k_wire.specs.Texts.{second_digits, candump_line, candump_parts, candump_text}
 use Rattle.n2k_wire.specs.PrivateWords.{IsMoment}
-use Rattle.n2k_wire.proofs.CandumpLemmas.{seconds_short}
+use Rattle.n2k_wire.proofs.CandumpLemmas.{name_parts, seconds_short}
 use Rattle.n2k_wire.proofs.HexDigits.{all_digits}
 use Rattle.n2k_wire.proofs.IdentifierLemmas.{join_split, join_bits}
 use Rattle.n2k_wire.proofs.ReadBack.{decimal_reads, digit_reads}
@@ -186,13 +186,6 @@ no_hex_in : (c : ℕ) → is_ascii_hexdigit c ≡ false → (text : List ℕ) �
 no_hex_in c other text all = none_of is_ascii_hexdigit (λ b. b == c) (is_other is_ascii_hexdigit c other) text all
 
 -- ---- the parts behind the stamp
-
-name_parts : (name : List ℕ) → is_interface name ≡ true → (0 < length name) × (length name ≤ 15) × (list_all is_interface_byte name ≡ true)
-unfolding is_interface
-name_parts name ok =
-    let outer = and_parts (ltb 0 (length name) && leb (length name) 15) (list_all is_interface_byte name) ok in
-    let inner = and_parts (ltb 0 (length name)) (leb (length name) 15) outer.0 in
-    (ltb-true 0 (length name) inner.0, leb-true (length name) 15 inner.1, outer.1)
 
 pub framed_read : (name digits behind : List ℕ) → is_interface name ≡ true → 0 < length digits → list_all is_ascii_hexdigit digits ≡ true
     → framed (32 ∷ (name ++ (32 ∷ (digits ++ (35 ∷ behind))))) ≡ Some (digits, behind)

@@ -133,30 +133,27 @@ others n bytes = map (top 7) (zip2 bit_and (above n 9 (figures n bytes)) (above 
 abbrev pub values : ℕ → List ℕ → List ℕ
 values n bytes = sel_l (map (top 7) (above n 9 (figures n bytes))) (zip2 (λ a b. (a + b) % 256) (letters n bytes) (replicate n 10)) (figures n bytes)
 
-length-others : (n : ℕ) (bytes : List ℕ) → length bytes ≡ n → length (others n bytes) ≡ n
-length-others zero bytes long = refl
-length-others (suc n) [] long = absurd (omega arith)
-length-others (suc n) (b ∷ bytes) long = omega (arith, length-others n bytes (omega arith))
+length-others : (bytes : List ℕ) → length (others (length bytes) bytes) ≡ length bytes
+length-others [] = refl
+length-others (b ∷ bytes) = omega (arith, length-others bytes)
 
-lanes_read : (n : ℕ) (bytes : List ℕ) → length bytes ≡ n → Each1 (Fits w8) bytes → mask_l (others n bytes) ≡ 0
-    → (list_all is_ascii_hexdigit bytes ≡ true) × (values n bytes ≡ map hex_value bytes)
-lanes_read zero [] long small none = (refl, refl)
-lanes_read zero (b ∷ bytes) long small none = absurd (omega arith)
-lanes_read (suc n) [] long small none = absurd (omega arith)
-lanes_read (suc n) (b ∷ bytes) long small none =
+lanes_read : (bytes : List ℕ) → Each1 (Fits w8) bytes → mask_l (others (length bytes) bytes) ≡ 0 → (list_all is_ascii_hexdigit bytes ≡ true) × (values (length bytes) bytes ≡ map hex_value bytes)
+lanes_read [] small none = (refl, refl)
+lanes_read (b ∷ bytes) small none =
     elim (cases_Bool (other b)) [
       | inl stops ↦ absurd (let some = rw stops at none in omega arith)
       | inr digit ↦
           let first = is_digit b small.0.fits digit in
           let left = rw digit at none in
-          let rest = lanes_read n bytes (omega arith) small.1 (omega arith) in
+          let rest = lanes_read bytes small.1 (omega arith) in
           (rw first.0 rest.0, λ i. first.1 i ∷ rest.1 i)
     ]
 
 pub sixteen_read : (bytes : List ℕ) → length bytes ≡ 16 → Each1 (Fits w8) bytes → mask_l (others 16 bytes) % 2 ^ 64 ≡ 0
     → (list_all is_ascii_hexdigit bytes ≡ true) × (values 16 bytes ≡ map hex_value bytes)
 sixteen_read bytes long small none =
-    lanes_read 16 bytes long small (sym (mask_l-mod (others 16 bytes) 64 (omega (arith, length-others 16 bytes long))) ∙ none)
+    let whole : length (others 16 bytes) ≡ 16 = rw long at (length-others bytes) in
+    (rw long at (lanes_read bytes small)) (sym (mask_l-mod (others 16 bytes) 64 (omega (arith, whole))) ∙ none)
 
 -- the bytes of their pairs
 abbrev joined : List ℕ → List ℕ

@@ -131,17 +131,10 @@ lane_is : (n : ℕ) → n < 16 → lower_lane n ≡ get_or lower_digits n 0
 lane_is n small = eqb-true _ _ (agree_below_at (λ k. eqb (lower_lane k) (get_or lower_digits k 0)) (λ k. true) 16 n refl small)
 
 -- the digits of some numbers, lane by lane
-pub lanes_lower : (n : ℕ) (xs : List ℕ) → length xs ≡ n
-    → sel_l (map (top 7) (zip2 (λ a b. cond (ltb a b) 255 0) (replicate n 9) xs)) (zip2 (λ a b. (a + b) % 256) xs (replicate n 87)) (zip2 (λ a b. (a + b) % 256) xs (replicate n 48)) ≡ map lower_lane xs
-lanes_lower zero [] long = refl
-lanes_lower zero (x ∷ xs) long = absurd (omega arith)
-lanes_lower (suc n) [] long = absurd (omega arith)
-lanes_lower (suc n) (x ∷ xs) long =
-    let rest = lanes_lower n xs (omega arith) in
-    elim (cases_Bool (ltb 9 x)) [
-      | inl letter ↦ rw (letter, rest) refl
-      | inr figure ↦ rw (figure, rest) refl
-    ]
+pub lanes_lower : (xs : List ℕ)
+    → sel_l (map (top 7) (zip2 (λ a b. cond (ltb a b) 255 0) (replicate (length xs) 9) xs)) (zip2 (λ a b. (a + b) % 256) xs (replicate (length xs) 87)) (zip2 (λ a b. (a + b) % 256) xs (replicate (length xs) 48)) ≡ map lower_lane xs
+lanes_lower [] = refl
+lanes_lower (x ∷ xs) = elim (cases_Bool (ltb 9 x)) [ inl letter ↦ rw (letter, lanes_lower xs) refl | inr figure ↦ rw (figure, lanes_lower xs) refl ]
 
 high_digit : (b : ℕ) → b < 256 → lower_lane (b / 16) ≡ get_or lower_digits (b / 16) 0
 high_digit b byte = lane_is (b / 16) (omega arith)
