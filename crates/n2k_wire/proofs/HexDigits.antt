@@ -84,8 +84,8 @@ all_digits p (b ∷ text) all =
     rw first.0 (omega arith)
 
 -- two digits spell one byte
-pub pair_spelled : (piece : List ℕ) → length piece ≡ 2 → (is_ascii_hexdigit (get_or piece 0 0) && is_ascii_hexdigit (get_or piece 1 0)) ≡ true
-    → pair piece ≡ Some ((hex_value (get_or piece 0 0) * 16 + hex_value (get_or piece 1 0)) ∷ [])
+pub pair_spelled : (column : List ℕ) → length column ≡ 2 → (is_ascii_hexdigit (get_or column 0 0) && is_ascii_hexdigit (get_or column 1 0)) ≡ true
+    → pair column ≡ Some ((hex_value (get_or column 0 0) * 16 + hex_value (get_or column 1 0)) ∷ [])
 unfolding pair decode_pairs
 pair_spelled [] two digits = absurd (omega arith)
 pair_spelled (high ∷ []) two digits = absurd (omega arith)

@@ -18,7 +18,7 @@ use Rattle.n2k_wire.specs.Digits.{decimal_number}
 use Rattle.n2k_wire.specs.Entry.{IsEntry, IsShort, entry, is_candump, is_skipped, longest_line, settled}
 use Rattle.n2k_wire.specs.Identifier.{split, pdu_format}
 use Rattle.n2k_wire.specs.Packet.{PacketParts, IsPacketParts, is_stamp}
-use Rattle.n2k_wire.specs.Plain.{Header, pieces, number_to, pair, pairs, header, id_of, bytes_of, packed, packet_of, packet_of_pieces, plain, plain_packet}
+use Rattle.n2k_wire.specs.Plain.{Header, columns, number_to, pair, pairs, header, id_of, bytes_of, packed, packet_of, packet_of_columns, plain, plain_packet}
 use Rattle.n2k_wire.specs.Stamp.{Moment, moment, utc_text}
 use Rattle.n2k_wire.specs.Steps.{◌>>=◌, or_cause, holds_or, some_if}
 use Rattle.n2k_wire.specs.PrivateWords.{IsMoment}
@@ -72,12 +72,12 @@ payload_fits text bytes e =
     (omega (arith, read.2), read.3))
 
 -- a pair of digits is one byte
-pair_fits : (piece bytes : List ℕ) → pair piece ≡ Some bytes → (length bytes ≡ 1) × IsBytes bytes
+pair_fits : (column bytes : List ℕ) → pair column ≡ Some bytes → (length bytes ≡ 1) × IsBytes bytes
 unfolding pair
-pair_fits piece bytes e =
-    let ok = answered (decode_sized piece 1) bytes e in
-    let two = decode_sized-ok piece 1 bytes ok in
-    let read = decode_of-ok piece bytes (sym (decode_sized-twice piece 1 two) ∙ ok) in
+pair_fits column bytes e =
+    let ok = answered (decode_sized column 1) bytes e in
+    let two = decode_sized-ok column 1 bytes ok in
+    let read = decode_of-ok column bytes (sym (decode_sized-twice column 1 two) ∙ ok) in
     (omega (arith, read.2), read.3)
 
 -- one byte, then others
@@ -102,9 +102,9 @@ next_fits count byte bytes (Some rest) one others e =
 pairs_fit : (more : List (List ℕ)) (bytes : List ℕ) → pairs more ≡ Some bytes → (length bytes ≡ length more) × IsBytes bytes
 unfolding pairs
 pairs_fit [] bytes e = let none : [] ≡ bytes = cc in rw (← none) (refl, λ i. omega arith)
-pairs_fit (piece ∷ more) bytes e =
-    with_some (pair piece) _ bytes e (λ byte eb e1.
-    next_fits (length more) byte bytes (pairs more) (pair_fits piece byte eb) (λ read er. pairs_fit more read er) e1)
+pairs_fit (column ∷ more) bytes e =
+    with_some (pair column) _ bytes e (λ byte eb e1.
+    next_fits (length more) byte bytes (pairs more) (pair_fits column byte eb) (λ read er. pairs_fit more read er) e1)
 
 bytes_fit : (len : ℕ) (more : List (List ℕ)) (bytes : List ℕ) → bytes_of len more ≡ Some bytes → (length bytes ≡ len) × IsBytes bytes
 unfolding bytes_of
@@ -151,10 +151,10 @@ candump_is_entry line e gives =
 
 -- ---- plain lines
 
-number_fits : (limit n : ℕ) (piece : List ℕ) → or_cause causes.Number (number_to limit piece) ≡ Ok n → n ≤ limit
+number_fits : (limit n : ℕ) (column : List ℕ) → or_cause causes.Number (number_to limit column) ≡ Ok n → n ≤ limit
 unfolding number_to
-number_fits limit n piece e =
-    with_some (decimal_number 10 piece) _ n (found causes.Number (number_to limit piece) n e) (λ read er e1.
+number_fits limit n column e =
+    with_some (decimal_number 10 column) _ n (found causes.Number (number_to limit column) n e) (λ read er e1.
     let is = if_some (leb read limit) read n e1 in
     rw (← is.1) (leb-true read limit is.0))
 
@@ -191,9 +191,9 @@ packet_is_one stamp more p e =
       bytes_ok = read.1;
     }))))))
 
-pieces_are_packet : (all : List (List ℕ)) (p : PacketParts) → packet_of_pieces all ≡ Ok p → IsPacketParts p
-pieces_are_packet [] p e = absurd cc
-pieces_are_packet (stamp ∷ more) p e = packet_is_one stamp more p e
+columns_are_packet : (all : List (List ℕ)) (p : PacketParts) → packet_of_columns all ≡ Ok p → IsPacketParts p
+columns_are_packet [] p e = absurd cc
+columns_are_packet (stamp ∷ more) p e = packet_is_one stamp more p e
 
 packed_is_entry : (packing : Packing) (p : PacketParts) → IsPacketParts p → IsEntry (packed packing p)
 packed_is_entry packings.Frames p is =
@@ -207,7 +207,7 @@ plain_is_entry : (packing : Packing) (line : List ℕ) (e : Entry) → plain pac
 plain_is_entry packing line e gives =
     with_ok (plain_packet line) _ e gives (λ p ep e1.
     let same : packed packing p ≡ e = cc in
-    subst IsEntry same (packed_is_entry packing p (pieces_are_packet (pieces line) p ep)))
+    subst IsEntry same (packed_is_entry packing p (columns_are_packet (columns line) p ep)))
 
 -- ---- lines
 

@@ -22,14 +22,14 @@ use Rattle.n2k_wire.specs.Digits.{decimal_number}
 use Rattle.n2k_wire.specs.Entry.{entry, is_candump, is_skipped, settled}
 use Rattle.n2k_wire.specs.Packet.{is_stamp, is_stamp_byte, starts_stamp}
 use Rattle.n2k_wire.specs.Pieces.{after_byte}
-use Rattle.n2k_wire.specs.Plain.{bytes_of, header, id_of, number_to, packed, packet_of, pairs, pieces, plain_packet}
+use Rattle.n2k_wire.specs.Plain.{bytes_of, header, id_of, number_to, packed, packet_of, pairs, columns, plain_packet}
 use Rattle.n2k_wire.specs.PrivateWords.{AreRead, AreSpelled, IsNumberBefore, IsIdBefore, IsPackedOf, hex_value, with_commas}
 use Rattle.n2k_wire.specs.Steps.{◌>>=◌}
 use Rattle.n2k_wire.proofs.CandumpBack.{is_other}
 use Rattle.n2k_wire.proofs.HexDigits.{all_front, decode_of-even, pair_spelled, spelled, spelled_bytes}
 use Rattle.n2k_wire.proofs.PlainTexts.{partly}
 use Rattle.n2k_wire.proofs.PlainLemmas.{bytes_of-pairs, regroup, with_front}
-use Rattle.n2k_wire.proofs.ReadBack.{HasNoComma, last_piece, next_piece, not_candump, not_skipped, plain_entry, stamp_parts}
+use Rattle.n2k_wire.proofs.ReadBack.{HasNoComma, last_column, next_column, not_candump, not_skipped, plain_entry, stamp_parts}
 use Rattle.n2k_wire.proofs.TextLemmas.{listed, listed_all}
 use Rattle.n2k_wire.proofs.UsualStamps.{follows, number_digits}
 
@@ -49,22 +49,22 @@ is_found n line front stamp front_is stamp_is few long all starts =
 -- ---- numbers
 
 -- what was read as a number has digits alone
-read_digits : (limit n : ℕ) (piece : List ℕ) (read : Option ℕ) → decimal_number 10 piece ≡ read → number_to limit piece ≡ Some n → list_all is_ascii_digit piece ≡ true
+read_digits : (limit n : ℕ) (column : List ℕ) (read : Option ℕ) → decimal_number 10 column ≡ read → number_to limit column ≡ Some n → list_all is_ascii_digit column ≡ true
 unfolding number_to
-read_digits limit n piece None e found = absurd (let none = rw e at found in cc)
-read_digits limit n piece (Some k) e found = number_digits 10 k piece e
+read_digits limit n column None e found = absurd (let none = rw e at found in cc)
+read_digits limit n column (Some k) e found = number_digits 10 k column e
 
-no_comma_among : (piece : List ℕ) → list_all is_ascii_digit piece ≡ true → HasNoComma piece
-no_comma_among piece all = All-weaker (λ b. is_ascii_digit b ≡ true) (λ b. (b == 44) ≡ false) (is_other is_ascii_digit 44 refl) piece (AllPass-from_list_all is_ascii_digit piece all)
+no_comma_among : (column : List ℕ) → list_all is_ascii_digit column ≡ true → HasNoComma column
+no_comma_among column all = All-weaker (λ b. is_ascii_digit b ≡ true) (λ b. (b == 44) ≡ false) (is_other is_ascii_digit 44 refl) column (AllPass-from_list_all is_ascii_digit column all)
 
--- digits before a comma are a piece
-pub numbered : (limit n : ℕ) (text piece behind rest : List ℕ) → piece ++ behind ≡ text → after_byte 44 behind ≡ Some rest → number_to limit piece ≡ Some n → IsNumberBefore limit text n rest
-numbered limit n text piece behind rest whole comma found =
-    let text_is : text ≡ piece ++ (44 ∷ rest) = sym whole ∙ ap (λ (t : List ℕ). piece ++ t) (follows 44 behind rest comma) in
-    let alone = no_comma_among piece (read_digits limit n piece (decimal_number 10 piece) refl found) in
-    (piece, ap (λ (t : List ℕ). pieces t) text_is ∙ next_piece piece rest alone, found)
+-- digits before a comma are a column
+pub numbered : (limit n : ℕ) (text column behind rest : List ℕ) → column ++ behind ≡ text → after_byte 44 behind ≡ Some rest → number_to limit column ≡ Some n → IsNumberBefore limit text n rest
+numbered limit n text column behind rest whole comma found =
+    let text_is : text ≡ column ++ (44 ∷ rest) = sym whole ∙ ap (λ (t : List ℕ). column ++ t) (follows 44 behind rest comma) in
+    let alone = no_comma_among column (read_digits limit n column (decimal_number 10 column) refl found) in
+    (column, ap (λ (t : List ℕ). columns t) text_is ∙ next_column column rest alone, found)
 
--- ---- pieces that were read
+-- ---- columns that were read
 
 -- what was read before, and then more
 pub read_more : (all next rest : List (List ℕ)) (front bytes : List ℕ) → AreRead all front next → AreRead next bytes rest → AreRead all (front ++ bytes) rest
@@ -79,10 +79,10 @@ unfolding pairs
 all_read all bytes is = bytes_of-pairs (length bytes) all (omega (arith, is.count)) ∙ is.read ∙ ap Some (append-nil bytes)
 
 -- a frame's data
-pub frame_made : (text stamp ours bytes : List ℕ) (id : Id) (e : Entry) → AreRead (pieces text) bytes [] → length bytes ≡ 8 → ours ≡ stamp
-    → e ≡ entries.Frame (record { stamp = ours; id = id; payload = bytes }) → IsPackedOf packings.Frames stamp id (bytes_of 8 (pieces text)) e
+pub frame_made : (text stamp ours bytes : List ℕ) (id : Id) (e : Entry) → AreRead (columns text) bytes [] → length bytes ≡ 8 → ours ≡ stamp
+    → e ≡ entries.Frame (record { stamp = ours; id = id; payload = bytes }) → IsPackedOf packings.Frames stamp id (bytes_of 8 (columns text)) e
 frame_made text stamp ours bytes id e read eight same is =
-    let payload : bytes_of 8 (pieces text) ≡ Some bytes = rw eight at (all_read (pieces text) bytes read) in
+    let payload : bytes_of 8 (columns text) ≡ Some bytes = rw eight at (all_read (columns text) bytes read) in
     rw (payload, eight, is, same) refl
 
 -- the first bytes of what was taken
@@ -101,18 +101,18 @@ two_no_comma a b ea eb =
     All-cons (λ x. (x == 44) ≡ false) a (b ∷ []) (is_other is_ascii_hexdigit 44 refl a ea)
     (All-cons (λ x. (x == 44) ≡ false) b [] (is_other is_ascii_hexdigit 44 refl b eb) (All-nil (λ x. (x == 44) ≡ false)))
 
--- these pieces follow a piece that stands before this text
+-- these columns follow a column that stands before this text
 abbrev Follow : List ℕ → List (List ℕ) → Type 0
-Follow text more = (piece : List ℕ) → HasNoComma piece → pieces (piece ++ text) ≡ piece ∷ more
+Follow text more = (column : List ℕ) → HasNoComma column → columns (column ++ text) ≡ column ∷ more
 
-one_read : (a b : ℕ) (text : List ℕ) (more : List (List ℕ)) → Follow text more → is_ascii_hexdigit a ≡ true → is_ascii_hexdigit b ≡ true → AreRead (pieces (a ∷ b ∷ text)) ((hex_value a * 16 + hex_value b) ∷ []) more
+one_read : (a b : ℕ) (text : List ℕ) (more : List (List ℕ)) → Follow text more → is_ascii_hexdigit a ≡ true → is_ascii_hexdigit b ≡ true → AreRead (columns (a ∷ b ∷ text)) ((hex_value a * 16 + hex_value b) ∷ []) more
 unfolding pairs
 one_read a b text more ends ea eb =
     let next = ends (a ∷ b ∷ []) (two_no_comma a b ea eb) in
     let read = pair_spelled (a ∷ b ∷ []) refl (rw (ea, eb) refl) in
     record { count = rw next (omega arith); read = rw (next, read) refl }
 
-digits_read : (n : ℕ) (digits text : List ℕ) (more : List (List ℕ)) → Follow text more → list_all is_ascii_hexdigit digits ≡ true → length digits ≡ 2 * suc n → AreRead (pieces (with_commas digits ++ text)) (spelled digits) more
+digits_read : (n : ℕ) (digits text : List ℕ) (more : List (List ℕ)) → Follow text more → list_all is_ascii_hexdigit digits ≡ true → length digits ≡ 2 * suc n → AreRead (columns (with_commas digits ++ text)) (spelled digits) more
 unfolding with_commas spelled
 digits_read n [] text more ends all e = absurd (omega arith)
 digits_read n (a ∷ []) text more ends all e = absurd (omega arith)
@@ -124,30 +124,30 @@ digits_read n (a ∷ b ∷ c ∷ rest) text more ends all e =
     let ea = and_parts (is_ascii_hexdigit a) (list_all is_ascii_hexdigit (b ∷ c ∷ rest)) all in
     let eb = and_parts (is_ascii_hexdigit b) (list_all is_ascii_hexdigit (c ∷ rest)) ea.1 in
     let others = with_commas (c ∷ rest) ++ text in
-    read_more (pieces (a ∷ b ∷ 44 ∷ others)) (pieces others) more _ (spelled (c ∷ rest))
-    (one_read a b (44 ∷ others) (pieces others) (λ piece alone. next_piece piece others alone) ea.0 eb.0)
+    read_more (columns (a ∷ b ∷ 44 ∷ others)) (columns others) more _ (spelled (c ∷ rest))
+    (one_read a b (44 ∷ others) (columns others) (λ column alone. next_column column others alone) ea.0 eb.0)
     (digits_read (n - 1) (c ∷ rest) text more ends eb.1 (omega arith))
 
--- eight pieces and what follows them
-eight_read : (text bytes behind : List ℕ) (more : List (List ℕ)) → AreSpelled text bytes → Follow behind more → AreRead (pieces (text ++ behind)) bytes more
+-- eight columns and what follows them
+eight_read : (text bytes behind : List ℕ) (more : List (List ℕ)) → AreSpelled text bytes → Follow behind more → AreRead (columns (text ++ behind)) bytes more
 eight_read text bytes behind more is ends =
     let same : spelled is.digits ≡ bytes = spelled_bytes 8 is.digits bytes is.hexadecimal is.count is.bytes_are in
     let read = digits_read 7 is.digits behind more ends is.hexadecimal is.count in
-    subst (λ t. AreRead (pieces (t ++ behind)) bytes more) (sym is.text_is) (subst (λ bs. AreRead (pieces (with_commas is.digits ++ behind)) bs more) same read)
+    subst (λ t. AreRead (columns (t ++ behind)) bytes more) (sym is.text_is) (subst (λ bs. AreRead (columns (with_commas is.digits ++ behind)) bs more) same read)
 
--- a comma and more pieces follow
-pub read_before : (text chunk bytes behind rest : List ℕ) → AreSpelled chunk bytes → text ≡ chunk ++ behind → after_byte 44 behind ≡ Some rest → AreRead (pieces text) bytes (pieces rest)
+-- a comma and more columns follow
+pub read_before : (text chunk bytes behind rest : List ℕ) → AreSpelled chunk bytes → text ≡ chunk ++ behind → after_byte 44 behind ≡ Some rest → AreRead (columns text) bytes (columns rest)
 read_before text chunk bytes behind rest is whole comma =
     let behind_is = follows 44 behind rest comma in
-    subst (λ t. AreRead (pieces t) bytes (pieces rest)) (sym whole)
-    (eight_read chunk bytes behind (pieces rest) is (λ piece alone. ap (λ t. pieces (piece ++ t)) behind_is ∙ next_piece piece rest alone))
+    subst (λ t. AreRead (columns t) bytes (columns rest)) (sym whole)
+    (eight_read chunk bytes behind (columns rest) is (λ column alone. ap (λ t. columns (column ++ t)) behind_is ∙ next_column column rest alone))
 
 nothing_more : Follow [] []
-nothing_more piece alone = ap pieces (append-nil piece) ∙ last_piece piece alone
+nothing_more column alone = ap columns (append-nil column) ∙ last_column column alone
 
 -- nothing follows
-pub read_alone : (text bytes : List ℕ) → AreSpelled text bytes → AreRead (pieces text) bytes []
-read_alone text bytes is = subst (λ t. AreRead (pieces t) bytes []) (append-nil text) (eight_read text bytes [] [] is nothing_more)
+pub read_alone : (text bytes : List ℕ) → AreSpelled text bytes → AreRead (columns text) bytes []
+read_alone text bytes is = subst (λ t. AreRead (columns t) bytes []) (append-nil text) (eight_read text bytes [] [] is nothing_more)
 
 two_more : (j : ℕ) → 2 * suc j ≡ suc (suc (2 * j))
 two_more j = omega arith
@@ -155,17 +155,17 @@ two_more j = omega arith
 three_more : (j : ℕ) → 3 * suc j ≡ suc (suc (suc (3 * j)))
 three_more j = omega arith
 
--- the first pieces, and what they spell
-front_pieces : (j : ℕ) (digits : List ℕ) → take (suc (suc (3 * j))) (with_commas digits) ≡ with_commas (take (suc (suc (2 * j))) digits)
+-- the first columns, and what they spell
+front_columns : (j : ℕ) (digits : List ℕ) → take (suc (suc (3 * j))) (with_commas digits) ≡ with_commas (take (suc (suc (2 * j))) digits)
 unfolding with_commas
-front_pieces zero [] = refl
-front_pieces zero (a ∷ []) = refl
-front_pieces zero (a ∷ b ∷ []) = refl
-front_pieces zero (a ∷ b ∷ c ∷ more) = refl
-front_pieces (suc j) [] = refl
-front_pieces (suc j) (a ∷ []) = refl
-front_pieces (suc j) (a ∷ b ∷ []) = rw (three_more j, two_more j) refl
-front_pieces (suc j) (a ∷ b ∷ c ∷ more) = rw (three_more j, two_more j) (ap (λ (t : List ℕ). a ∷ b ∷ 44 ∷ t) (front_pieces j (c ∷ more)))
+front_columns zero [] = refl
+front_columns zero (a ∷ []) = refl
+front_columns zero (a ∷ b ∷ []) = refl
+front_columns zero (a ∷ b ∷ c ∷ more) = refl
+front_columns (suc j) [] = refl
+front_columns (suc j) (a ∷ []) = refl
+front_columns (suc j) (a ∷ b ∷ []) = rw (three_more j, two_more j) refl
+front_columns (suc j) (a ∷ b ∷ c ∷ more) = rw (three_more j, two_more j) (ap (λ (t : List ℕ). a ∷ b ∷ 44 ∷ t) (front_columns j (c ∷ more)))
 
 front_spelled : (j : ℕ) (digits : List ℕ) → spelled (take (suc (suc (2 * j))) digits) ≡ take (suc j) (spelled digits)
 unfolding spelled
@@ -176,17 +176,17 @@ front_spelled (suc j) [] = refl
 front_spelled (suc j) (a ∷ []) = refl
 front_spelled (suc j) (a ∷ b ∷ more) = rw (two_more j) (ap (λ (t : List ℕ). (hex_value a * 16 + hex_value b) ∷ t) (front_spelled j more))
 
--- the text is the first of eight pieces
-pub read_last : (text padded bytes : List ℕ) (count : ℕ) → AreSpelled padded bytes → take (length text) padded ≡ text → length text + 1 ≡ 3 * count → 1 ≤ count → count ≤ 8 → AreRead (pieces text) (take count bytes) []
+-- the text is the first of eight columns
+pub read_last : (text padded bytes : List ℕ) (count : ℕ) → AreSpelled padded bytes → take (length text) padded ≡ text → length text + 1 ≡ 3 * count → 1 ≤ count → count ≤ 8 → AreRead (columns text) (take count bytes) []
 read_last text padded bytes zero is front_is long some few = absurd (omega arith)
 read_last text padded bytes (suc j) is front_is long some few =
     let front = take (suc (suc (2 * j))) is.digits in
     let len : length text ≡ suc (suc (3 * j)) = omega arith in
-    let text_is : with_commas front ≡ text = sym (ap (take (suc (suc (3 * j)))) is.text_is ∙ front_pieces j is.digits) ∙ (rw len at front_is) in
+    let text_is : with_commas front ≡ text = sym (ap (take (suc (suc (3 * j)))) is.text_is ∙ front_columns j is.digits) ∙ (rw len at front_is) in
     let same : spelled front ≡ take (suc j) bytes = front_spelled j is.digits ∙ ap (take (suc j)) (spelled_bytes 8 is.digits bytes is.hexadecimal is.count is.bytes_are) in
     let two : length front ≡ 2 * suc j = length-take-le (suc (suc (2 * j))) is.digits (omega (arith, is.count)) ∙ omega arith in
     let read = digits_read j front [] [] nothing_more (all_front is_ascii_hexdigit (suc (suc (2 * j))) is.digits is.hexadecimal) two in
-    subst (λ t. AreRead (pieces t) (take (suc j) bytes) []) (append-nil (with_commas front) ∙ text_is) (subst (λ bs. AreRead (pieces (with_commas front ++ [])) bs []) same read)
+    subst (λ t. AreRead (columns t) (take (suc j) bytes) []) (append-nil (with_commas front) ∙ text_is) (subst (λ bs. AreRead (columns (with_commas front ++ [])) bs []) same read)
 
 -- ---- by their places
 
@@ -199,7 +199,7 @@ all_commas [] none i within = absurd (omega arith)
 all_commas (b ∷ lanes) none zero within = eqb-true b 44 (not-false (eqb b 44) (no_bit (not (eqb b 44)) (mask_l (map (λ b. not (eqb b 44)) lanes)) none).0)
 all_commas (b ∷ lanes) none (suc i) within = all_commas lanes (no_bit (not (eqb b 44)) (mask_l (map (λ b. not (eqb b 44)) lanes)) none).1 i (omega arith)
 
--- the bytes of eight pieces, as two vectors
+-- the bytes of eight columns, as two vectors
 abbrev pub lanes_of : List ℕ → List ℕ
 lanes_of text = take 16 text ++ take 16 (take 16 (drop 7 text))
 
@@ -227,16 +227,16 @@ eight_spelled text bytes long commas hex decoded =
 -- ---- the line
 
 -- the packet of a line, by its parts
-packet_read : (line stamp text behind rest payload : List ℕ) (id : Id) (n : ℕ) → line ≡ stamp ++ (44 ∷ text) → IsTrue (is_stamp stamp) → IsIdBefore text id behind → IsNumberBefore 223 behind n rest → bytes_of n (pieces rest) ≡ Some payload
+packet_read : (line stamp text behind rest payload : List ℕ) (id : Id) (n : ℕ) → line ≡ stamp ++ (44 ∷ text) → IsTrue (is_stamp stamp) → IsIdBefore text id behind → IsNumberBefore 223 behind n rest → bytes_of n (columns rest) ≡ Some payload
     → plain_packet line ≡ Ok (record { stamp = stamp; id = id; payload = payload })
 unfolding packet_of header id_of
 packet_read line stamp text behind rest payload id n line_is ok (pgn, src, dst, first, second, third, fourth) len bytes =
-    let cut = ap (λ (t : List ℕ). pieces t) line_is ∙ next_piece stamp text (stamp_parts stamp ok).2 in
+    let cut = ap (λ (t : List ℕ). columns t) line_is ∙ next_column stamp text (stamp_parts stamp ok).2 in
     rw (cut, first.1, second.1, third.1, fourth.1, len.1, ok, first.2, second.2, third.2, fourth.2, len.2, bytes) refl
 
 -- the entry of a line, by its parts and what its data make of them
 pub entry_read : (packing : Packing) (line stamp text behind rest : List ℕ) (id : Id) (n : ℕ) (e : Entry) → line ≡ stamp ++ (44 ∷ text) → length line ≤ 2048 → IsTrue (is_stamp stamp) → IsIdBefore text id behind → IsNumberBefore 223 behind n rest
-    → (bytes : Option (List ℕ)) → bytes_of n (pieces rest) ≡ bytes → IsPackedOf packing stamp id bytes e → e ≡ entry line packing
+    → (bytes : Option (List ℕ)) → bytes_of n (columns rest) ≡ bytes → IsPackedOf packing stamp id bytes e → e ≡ entry line packing
 entry_read packing line stamp text behind rest id n e line_is short ok is len None read made = absurd cc
 entry_read packing line stamp text behind rest id n e line_is short ok is len (Some payload) read made =
     let parts = stamp_parts stamp ok in

@@ -11,9 +11,9 @@ use Rattle.n2k_wire.specs.declared.candump.CandumpFrame.{CandumpFrame}
 use Rattle.n2k_wire.specs.declared.entry.Entry.{Entry}
 use Rattle.n2k_wire.specs.declared.entry.Entry.TheVariants as entries
 use Rattle.n2k_wire.specs.declared.entry.Packing.{Packing}
-use Rattle.n2k_wire.specs.declared.plain.Header as pieces_of_code
+use Rattle.n2k_wire.specs.declared.plain.Header as headers_of_code
 use Rattle.n2k_wire.specs.declared.stamp.Moment as moments_of_code
-use Rattle.n2k_wire.specs.Plain.{Header, greatest_address, number_to, packed, pairs, pieces}
+use Rattle.n2k_wire.specs.Plain.{Header, greatest_address, number_to, packed, pairs, columns}
 use Rattle.n2k_wire.specs.Packet.{greatest_pgn, greatest_priority}
 use Rattle.n2k_wire.specs.declared.identifier.Id.{Id}
 use Rattle.n2k_wire.specs.Candump.{framed, identifier, stamped}
@@ -75,21 +75,21 @@ abbrev pub IsCandumpFront : List ℕ → List ℕ → Id → List ℕ → Type 0
 IsCandumpFront interface stamp id text =
     (payload : List ℕ) → (candump_parts (record { stamp = stamp; id = id; payload = payload }) >>= (λ parts. Ok (candump_front interface parts.0 parts.1))) ≡ Ok text
 
--- the pieces of the text that is left of a plain line, if there is any
-abbrev pub pieces_left : Option (Bor (List ℕ)) → List (List ℕ)
-pieces_left None = []
-pieces_left (Some text) = pieces text.now
+-- the columns of the text that is left of a plain line, if there is any
+abbrev pub columns_left : Option (Bor (List ℕ)) → List (List ℕ)
+columns_left None = []
+columns_left (Some text) = columns text.now
 
--- the pieces behind a stamp, of which the code holds the last as one text
-abbrev pub plain_header : pieces_of_code.Header → Header
+-- the columns behind a stamp, of which the code holds the last as one text
+abbrev pub plain_header : headers_of_code.Header → Header
 plain_header h =
-    record { prio = h.prio.now; pgn = h.pgn.now; src = h.src.now; dst = h.dst.now; len = h.len.now; more = pieces_left h.more }
+    record { prio = h.prio.now; pgn = h.pgn.now; src = h.src.now; dst = h.dst.now; len = h.len.now; more = columns_left h.more }
 
--- the first piece of a text is this number, up to a limit, and the pieces behind it are those of the rest
+-- the first column of a text is this number, up to a limit, and the columns behind it are those of the rest
 abbrev pub IsNumberBefore : ℕ → List ℕ → ℕ → List ℕ → Type 0
-IsNumberBefore limit text n rest = (piece : List ℕ) × (pieces text ≡ piece ∷ pieces rest) × (number_to limit piece ≡ Some n)
+IsNumberBefore limit text n rest = (column : List ℕ) × (columns text ≡ column ∷ columns rest) × (number_to limit column ≡ Some n)
 
--- the first four pieces of a text are the numbers of an identifier, and the pieces behind them are those of the rest
+-- the first four columns of a text are the numbers of an identifier, and the columns behind them are those of the rest
 abbrev pub IsIdBefore : List ℕ → Id → List ℕ → Type 0
 IsIdBefore text id rest =
     (pgn src dst : List ℕ) × IsNumberBefore greatest_priority text id.prio pgn × IsNumberBefore greatest_pgn pgn id.pgn src × IsNumberBefore greatest_address src id.src dst × IsNumberBefore greatest_address dst id.dst rest
@@ -101,7 +101,7 @@ with_commas (a ∷ []) = a ∷ []
 with_commas (a ∷ b ∷ []) = a ∷ b ∷ []
 with_commas (a ∷ b ∷ c ∷ more) = a ∷ b ∷ 44 ∷ with_commas (c ∷ more)
 
--- a text is eight pieces of hexadecimal digits, which spell these bytes
+-- a text is eight columns of hexadecimal digits, which spell these bytes
 pub record AreSpelled (text bytes : List ℕ) : Type 0 where
   pub digits : List ℕ
   pub text_is : text ≡ with_commas digits
@@ -109,7 +109,7 @@ pub record AreSpelled (text bytes : List ℕ) : Type 0 where
   pub count : length digits ≡ 16
   pub bytes_are : result_ok (decode_of digits) ≡ Some bytes
 
--- these pieces begin with those of these bytes, and more follow
+-- these columns begin with those of these bytes, and more follow
 pub record AreRead (all : List (List ℕ)) (bytes : List ℕ) (more : List (List ℕ)) : Type 0 where
   pub count : length all ≡ length bytes + length more
   pub read : pairs all ≡ option_map (λ others. bytes ++ others) (pairs more)

@@ -7,7 +7,7 @@ ghost use Rattle.std.specs.List.{list_all};
 ghost use Rattle.std.specs.Simd.Lanes.{mask_l};
 ghost use Rattle.n2k_wire.specs.Entry.{entry, IsEntry, IsShort};
 ghost use Rattle.n2k_wire.specs.Packet.{greatest_pgn, greatest_priority, is_stamp, is_stamp_byte, longest_message, longest_stamp, starts_stamp};
-ghost use Rattle.n2k_wire.specs.Plain.{bytes_of, greatest_address, pieces};
+ghost use Rattle.n2k_wire.specs.Plain.{bytes_of, greatest_address, columns};
 ghost use Rattle.n2k_wire.specs.PrivateWords.{AreRead, AreSpelled, IsIdBefore, IsNumberBefore, IsPackedOf};
 ghost use Rattle.n2k_wire.specs.declared.entry.Packing.TheVariants as packings;
 
@@ -88,9 +88,9 @@ fn number_before(digits: usize, limit: u64, text: &[u8]) -> Option<(u64, &[u8])>
     if text.len() < digits {
         return None;
     }
-    let (piece, behind) = text.split_at(digits);
+    let (column, behind) = text.split_at(digits);
     let rest = after_byte(b',', behind)?;
-    let number = number_to(limit, piece)?;
+    let number = number_to(limit, column)?;
     Some((number, rest))
 }
 
@@ -173,7 +173,7 @@ fn eight_columns(text: &[u8; EIGHT_COLUMNS]) -> Option<[u8; FRAME_PAYLOAD]>
 #[inline]
 fn last_columns(text: &[u8], count: usize) -> Option<[u8; FRAME_PAYLOAD]>
     requires { (1 ≤ count) × (count ≤ 8) }
-    ensures { IfSome result (λ bytes. AreRead (pieces text.now) (take count bytes) []) }
+    ensures { IfSome result (λ bytes. AreRead (columns text.now) (take count bytes) []) }
 {
     if text.len() + 1 != 3 * count {
         return None;
@@ -197,7 +197,7 @@ fn put_eight(room: &mut [u8], at: usize, eight: &[u8; FRAME_PAYLOAD])
 #[inline]
 fn read_columns(text: &[u8], len: usize, room: &mut [u8; DATA_ROOM]) -> Option<()>
     requires { (1 ≤ len) × (len ≤ longest_message) }
-    ensures { IfSome result (λ done. bytes_of len (pieces text.now) ≡ Some (take len room.new)) }
+    ensures { IfSome result (λ done. bytes_of len (columns text.now) ≡ Some (take len room.new)) }
 {
     let eights = (len - 1) / FRAME_PAYLOAD;
     let mut rest = text;
@@ -225,7 +225,7 @@ fn set_read(
     requires prio { id.prio ≤ greatest_priority }
     requires pgn { id.pgn ≤ greatest_pgn }
     requires few { len ≤ longest_message }
-    ensures value { IfSome result (λ done. IsPackedOf packing stamp.now id (bytes_of len (pieces text.now)) place.new) }
+    ensures value { IfSome result (λ done. IsPackedOf packing stamp.now id (bytes_of len (columns text.now)) place.new) }
     ensures valid { IfSome result (λ done. IsEntry place.new) }
 {
     if len == 0 {

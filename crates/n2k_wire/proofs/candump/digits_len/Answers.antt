@@ -1,4 +1,4 @@
-use Rattle.n2k_wire.proofs.PieceLemmas.{none_found}
+use Rattle.n2k_wire.proofs.Columns.{none_found}
 use Rattle.n2k_wire.proofs.candump.digits_len.Goals as goal
 
 pub returns-in-None-clause-value : goal.returns-in-None-clause-value
