@@ -1,10 +1,10 @@
 -- The candump line of a packet is read as the frame of that packet.
 use Rattle.std.proofs.Common.{◌≡◌, ℕ, zero, suc, ◌+◌, ◌-◌, ◌*◌, ◌/◌, ◌%◌, ◌^◌, ◌<◌, ◌≤◌, Bool, true, false, not, List, [], ◌∷◌, ◌++◌, length, drop, Option, Some, None, Result, Ok, refl, sym, ap, ◌∙◌, append_assoc, length-append, arith, ltb, leb, inl, inr}
-use Rattle.std.specs.Prelude.{codes, decimal, position, slice_index, IsTrue, ◌&&◌, ◌==◌}
+use Rattle.std.specs.Prelude.{codes, decimal, position, slice_index, IsTrue, ◌==◌}
 use Rattle.std.specs.Char.{is_ascii_digit, is_ascii_hexdigit}
 use Rattle.std.specs.Int.{w32, to_be_bytes}
 use Rattle.std.specs.List.{list_all, position_or_len}
-use Rattle.std.proofs.lemmas.Bool.{agree_below_at, and_parts, cases_Bool, eq-eqb, eqb-true, le-leb, le-ltb, leb-true, lt-ltb, ltb-true}
+use Rattle.std.proofs.lemmas.Bool.{agree_below_at, and_parts, cases_Bool, eq-eqb, eqb-true, le-leb, le-ltb, lt-ltb}
 use Rattle.std.proofs.lemmas.Fmt.{decimal_nonempty}
 use Rattle.std.proofs.lemmas.List.{append_cancel_right, length-drop}
 use Rattle.std.proofs.lemmas.List.Folds.{list_all-append}

@@ -41,9 +41,9 @@ clean-stamp : (stamp : List ℕ) → list_all is_stamp_byte stamp ≡ true → I
 clean-stamp stamp all =
     All-weaker (λ b. is_stamp_byte b ≡ true) (λ b. 32 ≤ b) (λ b fits. leb-true 32 b (and_parts _ _ (and_parts (is_printable b) _ fits).0).0) stamp (AllPass-from_list_all is_stamp_byte stamp all)
 
-pub plain_line-clean : (p : PacketParts) → IsPacketParts p → IsClean (plain_line p)
+pub clean_line : (p : PacketParts) → IsPacketParts p → IsClean (plain_line p)
 unfolding plain_line
-plain_line-clean p is =
+clean_line p is =
     let ok = is.packet_ok in
     let stamp = clean-stamp p.stamp (and_parts (starts_stamp p.stamp && leb (length p.stamp) 32) (list_all is_stamp_byte p.stamp) ok.stamp_ok).1 in
     onward _ _ (onward _ _ (onward _ _ (onward _ _ (onward _ _ (onward _ _ stamp (clean-number p.id.prio (omega (arith, ok.prio_ok)))) (clean-number p.id.pgn (omega (arith, ok.pgn_ok)))) (clean-number p.id.src (omega (arith, is.src_ok)))) (clean-number p.id.dst (omega (arith, is.dst_ok))))

@@ -1,5 +1,5 @@
 -- Pairs of hexadecimal digits, by the values of the digits.
-use Rattle.std.proofs.Common.{◌≡◌, ℕ, zero, suc, ◌+◌, ◌*◌, ◌%◌, ◌^◌, ◌<◌, ◌≤◌, Bool, true, false, cond, eqb, ltb, not, ◌&&◌, ◌||◌, List, [], ◌∷◌, ◌++◌, length, get_or, map, take, drop, replicate, bit_and, bit_or, Fits, w8, Some, None, Ok, refl, sym, ap, ◌∙◌, append_assoc, arith, ◌-◌, inl, inr}
+use Rattle.std.proofs.Common.{◌≡◌, ℕ, zero, suc, ◌+◌, ◌*◌, ◌%◌, ◌^◌, ◌<◌, ◌≤◌, Bool, true, false, cond, eqb, ltb, not, ◌&&◌, ◌||◌, List, [], ◌∷◌, ◌++◌, length, get_or, map, take, drop, replicate, bit_and, bit_or, Fits, w8, Some, Ok, refl, sym, ap, ◌∙◌, arith, ◌-◌, inl, inr}
 use Rattle.std.specs.Char.{is_ascii_hexdigit}
 use Rattle.std.specs.List.{list_all, position_or_len}
 use Rattle.std.specs.Result.{result_ok}
@@ -10,7 +10,6 @@ use Rattle.std.proofs.Math.Bool.{and-true, and_assoc}
 use Rattle.std.proofs.Math.Numerals.{one-add}
 use Rattle.std.proofs.Math.Seq.{drop-cons}
 use Rattle.std.proofs.Math.ListN.{drop_of_length-le}
-use Rattle.std.proofs.lemmas.List.{append-nil}
 use lib.Lanes.{Each1, mask_l, pick_l, sel_l, top, zip2}
 use Rattle.hex.specs.Hex.{hex_digit_value, decode_pairs, decode_of}
 use Rattle.n2k_wire.specs.PrivateWords.{hex_value}

@@ -9,8 +9,6 @@ use Rattle.std.proofs.lemmas.Simd.{bitmask_splat}
 use Rattle.std.proofs.lemmas.List.{append-nil, length-append, length-take-le, take-append-drop, take-take}
 use Rattle.std.proofs.lemmas.List.Elements.{All-nil, All-cons, All-weaker}
 use Rattle.std.proofs.lemmas.List.Sums.{AllPass-from_list_all}
-use Rattle.std.proofs.Math.ListN.{drop_of_length-le}
-use Rattle.std.proofs.Math.Seq.{drop-cons}
 use lib.Lanes.{mask_l, pick_l, top, zip2}
 use Rattle.hex.specs.Hex.{decode_of}
 use Rattle.n2k_wire.specs.declared.entry.Entry.{Entry}
@@ -26,7 +24,7 @@ use Rattle.n2k_wire.specs.Plain.{bytes_of, header, id_of, number_to, packed, pac
 use Rattle.n2k_wire.specs.PrivateWords.{AreRead, AreSpelled, IsNumberBefore, IsIdBefore, IsPackedOf, hex_value, with_commas}
 use Rattle.n2k_wire.specs.Steps.{◌>>=◌}
 use Rattle.n2k_wire.proofs.CandumpBack.{is_other}
-use Rattle.n2k_wire.proofs.HexDigits.{all_front, decode_of-even, pair_spelled, spelled, spelled_bytes}
+use Rattle.n2k_wire.proofs.HexDigits.{all_front, pair_spelled, spelled, spelled_bytes}
 use Rattle.n2k_wire.proofs.PlainTexts.{partly}
 use Rattle.n2k_wire.proofs.PlainLemmas.{bytes_of-pairs, regroup, with_front}
 use Rattle.n2k_wire.proofs.ReadBack.{HasNoComma, last_column, next_column, not_candump, not_skipped, plain_entry, stamp_parts}

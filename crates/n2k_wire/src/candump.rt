@@ -156,6 +156,7 @@ fn place_of_other(text: &[u8]) -> Option<usize>
 }
 
 /// How many hexadecimal digits a text begins with.
+#[tactic(auto, using(crate::proofs::Columns::none_found))]
 fn digits_len(text: &[u8]) -> usize
     ensures value { result ≡ digits_len text.now }
     ensures within { result ≤ length text.now }

@@ -27,10 +27,11 @@ const EIGHT_COLUMNS: usize = 23;
 /// The bytes of `YYYY-MM-DD-HH:MM:SS.mmm`, as canboat stamps its lines. Stamps of known length are moved at once.
 const CANBOAT_LEN: usize = 23;
 
-/// Room for the data of any message, which are taken eight bytes at once.
-const DATA_ROOM: usize = 224;
+/// The bytes of the longest message, filled up to whole frames of eight.
+const FILLED_MESSAGE: usize = 224;
 
 /// A bit for each byte that a stamp can't have.
+#[tactic(auto, using(crate::proofs::UsualLanes::stamp_mask))]
 #[inline(always)]
 fn mask_of_others(lanes: u8x32) -> u64
     ensures { result ≡ mask_l (map (λ b. not (is_stamp_byte b)) lanes) }
@@ -145,7 +146,9 @@ fn id_before(text: &[u8]) -> Option<(Id, &[u8])>
     ))
 }
 
-/// The bytes of eight columns.
+/// The bytes of eight columns. Their digits, and the commas between them, are picked out of two vectors, which hold the
+/// first sixteen bytes of the text and the last.
+#[tactic(auto, using(crate::proofs::PlainByPlace::eight_spelled))]
 #[inline(always)]
 fn eight_columns(text: &[u8; EIGHT_COLUMNS]) -> Option<[u8; FRAME_PAYLOAD]>
     ensures { IfSome result (λ bytes. AreSpelled text.now bytes) }
@@ -154,9 +157,7 @@ fn eight_columns(text: &[u8; EIGHT_COLUMNS]) -> Option<[u8; FRAME_PAYLOAD]>
     let back = u8x16::from_slice(&text[7..]);
     let commas: u8x16 = front.shuffle(
         back,
-        [
-            2, 5, 8, 11, 14, 26, 29, 29, 29, 29, 29, 29, 29, 29, 29, 29,
-        ],
+        [2, 5, 8, 11, 14, 26, 29, 29, 29, 29, 29, 29, 29, 29, 29, 29],
     );
     if commas.simd_ne(u8x16::splat(b',')).to_bitmask() != 0 {
         return None;
@@ -169,7 +170,7 @@ fn eight_columns(text: &[u8; EIGHT_COLUMNS]) -> Option<[u8; FRAME_PAYLOAD]>
     Some(bytes)
 }
 
-/// The bytes of a text of so many columns, at most eight, and others behind them.
+/// The bytes of a text of so many columns, at most eight. Columns of zeros fill it up, and their bytes follow.
 #[inline]
 fn last_columns(text: &[u8], count: usize) -> Option<[u8; FRAME_PAYLOAD]>
     requires { (1 ≤ count) × (count ≤ 8) }
@@ -184,30 +185,30 @@ fn last_columns(text: &[u8], count: usize) -> Option<[u8; FRAME_PAYLOAD]>
     Some(bytes)
 }
 
-/// Puts eight bytes at a place of the room.
+/// Puts eight bytes at a place of others.
 #[inline(always)]
-fn put_eight(room: &mut [u8], at: usize, eight: &[u8; FRAME_PAYLOAD])
-    requires { at + 8 ≤ length room.old }
-    ensures { take (at + 8) room.new ≡ take at room.old ++ eight.now }
+fn put_eight(bytes: &mut [u8], at: usize, eight: &[u8; FRAME_PAYLOAD])
+    requires { at + 8 ≤ length bytes.old }
+    ensures { take (at + 8) bytes.new ≡ take at bytes.old ++ eight.now }
 {
-    u8x8::from_array(*eight).copy_to_slice(&mut room[at..]);
+    u8x8::from_array(*eight).copy_to_slice(&mut bytes[at..]);
 }
 
-/// The bytes of a text of so many columns, and others behind them.
+/// Reads the bytes of a text of so many columns, eight at once.
 #[inline]
-fn read_columns(text: &[u8], len: usize, room: &mut [u8; DATA_ROOM]) -> Option<()>
+fn read_columns(text: &[u8], len: usize, bytes: &mut [u8; FILLED_MESSAGE]) -> Option<()>
     requires { (1 ≤ len) × (len ≤ longest_message) }
-    ensures { IfSome result (λ done. bytes_of len (columns text.now) ≡ Some (take len room.new)) }
+    ensures { IfSome result (λ done. bytes_of len (columns text.now) ≡ Some (take len bytes.new)) }
 {
     let eights = (len - 1) / FRAME_PAYLOAD;
     let mut rest = text;
     for i in 0..eights {
         let (chunk, more) = rest.split_first_chunk::<EIGHT_COLUMNS>()?;
-        put_eight(room, FRAME_PAYLOAD * i, &eight_columns(chunk)?);
+        put_eight(bytes, FRAME_PAYLOAD * i, &eight_columns(chunk)?);
         rest = after_byte(b',', more)?;
     }
     let last = last_columns(rest, len - FRAME_PAYLOAD * eights)?;
-    put_eight(room, FRAME_PAYLOAD * eights, &last);
+    put_eight(bytes, FRAME_PAYLOAD * eights, &last);
     Some(())
 }
 
@@ -231,7 +232,7 @@ fn set_read(
     if len == 0 {
         return None;
     }
-    let mut data = [0; DATA_ROOM];
+    let mut data = [0; FILLED_MESSAGE];
     read_columns(text, len, &mut data)?;
     set_packed(place, packing, stamp, id, &data[..len]);
     Some(())

@@ -134,6 +134,7 @@ fn are_same(front: &[u8; FRONT], other: &[u8; FRONT]) -> bool
 }
 
 /// The text of a second with the milliseconds that a fraction begins with.
+#[tactic(auto, using(crate::proofs::Clocks::millis_put))]
 #[inline]
 fn with_millis(text: &[u8; UTC_LEN], fraction: &[u8; FRACTION]) -> [u8; UTC_LEN]
     ensures { (seconds m : ℕ) → text.now ≡ utc_text (record { seconds = seconds; millis = 0 })
@@ -148,6 +149,7 @@ fn with_millis(text: &[u8; UTC_LEN], fraction: &[u8; FRACTION]) -> [u8; UTC_LEN]
 }
 
 /// A bit for each byte that an interface's name can't have.
+#[tactic(auto, using(crate::proofs::UsualLanes::mask_is))]
 #[inline(always)]
 fn mask_of_others(lanes: u8x16) -> u64
     ensures { result ≡ mask_l (map (λ b. not (is_interface_byte b)) lanes) }
@@ -176,7 +178,9 @@ fn usual_identifier(digits: &[u8; WORD_DIGITS]) -> Option<u32>
     ensures value { IfSome result (λ n. identifier digits.now ≡ Ok (Some n)) }
     ensures bits { IfSome result (λ n. n < 2 ^ 29) }
 {
-    let twice: u8x16 = u8x8::from_array(*digits).swizzle([0, 1, 2, 3, 4, 5, 6, 7, 0, 1, 2, 3, 4, 5, 6, 7]);
+    let twice: u8x16 = u8x8::from_array(*digits).swizzle([
+        0, 1, 2, 3, 4, 5, 6, 7, 0, 1, 2, 3, 4, 5, 6, 7,
+    ]);
     let [a, b, c, d, ..] = eight_bytes(twice)?;
     let number = u32::from_be_bytes([a, b, c, d]);
     if number < FIRST_ERROR_FRAME {

@@ -1,4 +1,4 @@
-use Rattle.std.proofs.Common.{◌≡◌, ◌+◌, ◌-◌, ◌*◌, ◌/◌, ◌++◌, take, length, ap, sym, subst, arith}
+use Rattle.std.proofs.Common.{◌≡◌, ◌+◌, ◌-◌, ◌*◌, ◌/◌, ◌++◌, take, sym, subst, arith}
 use Rattle.n2k_wire.specs.Plain.{columns}
 use Rattle.n2k_wire.specs.PrivateWords.{AreRead}
 use Rattle.n2k_wire.proofs.Clocks.{first_chunk}
@@ -17,11 +17,11 @@ loop-i-preserved c =
     let parts = first_chunk 23 text chunk behind cases.0 cases.1 cases.2 in
     let next = read_before text chunk eight behind rest c.in_ok-eight_columns.ensures parts.1 c.in_ok-rest.ensures in
     let at : 8 * c.loop-i.i + 8 ≡ 8 * (c.loop-i.i + 1) = omega arith in
-    let bytes : take (8 * (c.loop-i.i + 1)) c.put_eight.new.room ≡ take (8 * c.loop-i.i) c.loop-i.room ++ eight = rw at at c.put_eight.ensures in
-    subst (λ bs. AreRead all bs (columns rest)) (sym bytes) (read_more all (columns text) (columns rest) (take (8 * c.loop-i.i) c.loop-i.room) eight c.loop-i.invariant next)
+    let bytes : take (8 * (c.loop-i.i + 1)) c.put_eight.new.bytes ≡ take (8 * c.loop-i.i) c.loop-i.bytes ++ eight = rw at at c.put_eight.ensures in
+    subst (λ bs. AreRead all bs (columns rest)) (sym bytes) (read_more all (columns text) (columns rest) (take (8 * c.loop-i.i) c.loop-i.bytes) eight c.loop-i.invariant next)
 
 pub returns : goal.returns
 returns c =
     let end : c.loop-i.i ≡ (c.args.len - 1) / 8 = omega arith in
-    all_taken (columns c.args.text.now) (columns c.loop-i.rest.now) c.loop-i.room c.put_eight-2.new.room c.in_ok-last.last (8 * ((c.args.len - 1) / 8)) c.args.len
+    all_taken (columns c.args.text.now) (columns c.loop-i.rest.now) c.loop-i.bytes c.put_eight-2.new.bytes c.in_ok-last.last (8 * ((c.args.len - 1) / 8)) c.args.len
     (rw end at c.loop-i.invariant) c.in_ok-last.ensures c.put_eight-2.ensures (omega arith) (omega arith) (omega arith) (omega arith)
