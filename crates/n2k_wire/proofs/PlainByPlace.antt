@@ -77,11 +77,11 @@ unfolding pairs
 all_read all bytes is = bytes_of-pairs (length bytes) all (omega (arith, is.count)) ∙ is.read ∙ ap Some (append-nil bytes)
 
 -- a frame's data
-pub frame_made : (text stamp ours bytes : List ℕ) (id : Id) (e : Entry) → AreRead (columns text) bytes [] → length bytes ≡ 8 → ours ≡ stamp
-    → e ≡ entries.Frame (record { stamp = ours; id = id; payload = bytes }) → IsPackedOf packings.Frames stamp id (bytes_of 8 (columns text)) e
-frame_made text stamp ours bytes id e read eight same is =
+frame_made : (text stamp bytes : List ℕ) (id : Id) (e : Entry) → AreRead (columns text) bytes [] → length bytes ≡ 8 → e ≡ entries.Frame (record { stamp = stamp; id = id; payload = bytes })
+    → IsPackedOf packings.Frames stamp id (bytes_of 8 (columns text)) e
+frame_made text stamp bytes id e read eight is =
     let payload : bytes_of 8 (columns text) ≡ Some bytes = rw eight at (all_read (columns text) bytes read) in
-    rw (payload, eight, is, same) refl
+    rw (payload, eight, is) refl
 
 -- the first bytes of what was taken
 pub all_taken : (all more : List (List ℕ)) (room bytes last : List ℕ) (e len : ℕ) → AreRead all (take e room) more → AreRead more (take (len - e) last) [] → take (e + 8) bytes ≡ take e room ++ last
@@ -245,8 +245,7 @@ entry_read packing line stamp text behind rest id n e line_is short ok is len (S
     sym same ∙ sym (plain_entry line packing short kept other ∙ ap (λ r. settled (r >>= (λ q. Ok (packed packing q)))) packet)
 
 -- the frame of a line with eight bytes of data
-pub frame_line : (line stamp text behind rest eight bytes ours : List ℕ) (id : Id) (e : Entry) → line ≡ stamp ++ (44 ∷ text) → length line ≤ 2048 → IsTrue (is_stamp stamp) → IsIdBefore text id behind → IsNumberBefore 223 behind 8 rest
-    → eight ≡ rest → AreSpelled eight bytes → length bytes ≡ 8 → ours ≡ stamp → e ≡ entries.Frame (record { stamp = ours; id = id; payload = bytes }) → e ≡ entry line packings.Frames
-frame_line line stamp text behind rest eight bytes ours id e line_is short ok is len eight_is are long same made =
-    entry_read packings.Frames line stamp text behind rest id 8 e line_is short ok is len _ refl
-    (frame_made rest stamp ours bytes id e (rw eight_is at (read_alone eight bytes are)) long same made)
+pub frame_line : (line stamp text behind rest eight bytes : List ℕ) (id : Id) (e : Entry) → line ≡ stamp ++ (44 ∷ text) → length line ≤ 2048 → IsTrue (is_stamp stamp) → IsIdBefore text id behind → IsNumberBefore 223 behind 8 rest
+    → eight ≡ rest → AreSpelled eight bytes → length bytes ≡ 8 → e ≡ entries.Frame (record { stamp = stamp; id = id; payload = bytes }) → e ≡ entry line packings.Frames
+frame_line line stamp text behind rest eight bytes id e line_is short ok is len eight_is are long made =
+    entry_read packings.Frames line stamp text behind rest id 8 e line_is short ok is len _ refl (frame_made rest stamp bytes id e (rw eight_is at (read_alone eight bytes are)) long made)

@@ -6,9 +6,10 @@ ghost use Rattle.std.specs.Prelude.{◌≡◌, ◌≤◌, ◌+◌, ◌++◌, [],
 ghost use Rattle.std.specs.List.{list_all};
 ghost use Rattle.std.specs.Simd.Lanes.{mask_l};
 ghost use Rattle.n2k_wire.specs.Entry.{entry, IsEntry, IsShort};
-ghost use Rattle.n2k_wire.specs.Packet.{greatest_pgn, greatest_priority, is_stamp, is_stamp_byte, longest_message, longest_stamp, starts_stamp};
+ghost use Rattle.n2k_wire.specs.Packet.{IsPacket, greatest_pgn, greatest_priority, is_stamp, is_stamp_byte, longest_message, longest_stamp, starts_stamp};
 ghost use Rattle.n2k_wire.specs.Plain.{bytes_of, greatest_address, columns};
 ghost use Rattle.n2k_wire.specs.PrivateWords.{AreRead, AreSpelled, IsIdBefore, IsNumberBefore, IsPackedOf};
+ghost use Rattle.n2k_wire.specs.declared.entry.Entry.TheVariants as entries;
 ghost use Rattle.n2k_wire.specs.declared.entry.Packing.TheVariants as packings;
 
 use crate::candump::FRAME_PAYLOAD;
@@ -24,7 +25,7 @@ use std::simd::prelude::*;
 /// The bytes of eight columns of two digits, with a comma between each two.
 const EIGHT_COLUMNS: usize = 23;
 
-/// The bytes of `YYYY-MM-DD-HH:MM:SS.mmm`, as canboat stamps its lines. Stamps of known length are moved at once.
+/// The bytes of `YYYY-MM-DD-HH:MM:SS.mmm`, as canboat stamps its lines.
 const CANBOAT_LEN: usize = 23;
 
 /// The bytes of the longest message, filled up to whole frames of eight.
@@ -238,6 +239,20 @@ fn set_read(
     Some(())
 }
 
+/// Makes an entry the frame of these parts. Stamps of the usual lengths are moved at once.
+#[inline(always)]
+fn set_stamped(place: &mut Entry, stamp: &[u8], id: Id, data: &[u8; FRAME_PAYLOAD])
+    requires { IsPacket stamp.now id «data».now }
+    ensures value { place.new ≡ entries.Frame (record { stamp = stamp.now; id = id; payload = «data».now }) }
+    ensures valid { IsEntry place.new }
+{
+    match (stamp.as_array::<UTC_LEN>(), stamp.as_array::<CANBOAT_LEN>()) {
+        (Some(ours), _) => set_usual(place, ours, id, data),
+        (_, Some(canboats)) => set_usual(place, canboats, id, data),
+        _ => set_frame(place, stamp, id, data),
+    }
+}
+
 /// Puts the entry of such a line where that of an earlier line was. Of another line it answers nothing.
 pub(crate) fn read_plain_by_place(line: &[u8], packing: Packing, place: &mut Entry) -> Option<()>
     ensures entry { IfSome result (λ done. place.new ≡ entry line.now packing) }
@@ -253,11 +268,7 @@ pub(crate) fn read_plain_by_place(line: &[u8], packing: Packing, place: &mut Ent
     match (packing, text.as_array::<EIGHT_COLUMNS>()) {
         (Packing::Frames, Some(eight)) if len == FRAME_PAYLOAD as u64 => {
             let data = eight_columns(eight)?;
-            match (stamp.as_array::<UTC_LEN>(), stamp.as_array::<CANBOAT_LEN>()) {
-                (Some(ours), _) => set_usual(place, ours, id, &data),
-                (_, Some(canboats)) => set_usual(place, canboats, id, &data),
-                _ => set_frame(place, stamp, id, &data),
-            }
+            set_stamped(place, stamp, id, &data);
             Some(())
         }
         _ => set_read(place, packing, stamp, id, text, len as usize),
