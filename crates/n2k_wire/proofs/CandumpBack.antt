@@ -28,6 +28,7 @@ use Rattle.n2k_wire.specs.Steps.{◌>>=◌, or_cause}
 use Rattle.n2k_wire.specs.Texts.{second_digits, candump_line, candump_parts, candump_text}
 use Rattle.n2k_wire.specs.PrivateWords.{IsMoment}
 use Rattle.n2k_wire.proofs.CandumpLemmas.{name_parts, seconds_short}
+use Rattle.n2k_wire.proofs.DigitLemmas.{after-none}
 use Rattle.n2k_wire.proofs.HexDigits.{all_digits}
 use Rattle.n2k_wire.proofs.IdentifierLemmas.{join_split, join_bits}
 use Rattle.n2k_wire.proofs.ReadBack.{decimal_reads, digit_reads}
@@ -135,10 +136,6 @@ one_more : (before d : ℕ) (text : List ℕ) → d < 10 → decimal_after befor
 unfolding decimal_after
 one_more before d text small = rw (digit_reads d small) refl
 
-none_more : (before : ℕ) → decimal_after before [] ≡ Some before
-unfolding decimal_after
-none_more before = refl
-
 millis_after : (n : ℕ) (more : List ℕ) → n ≤ 999 → decimal_after 0 (millis_digits n ++ more) ≡ decimal_after n more
 millis_after n more few =
     let value : 10 * (10 * (10 * 0 + n / 100) + n % 100 / 10) + n % 100 % 10 ≡ n = omega arith in
@@ -149,7 +146,7 @@ millis_after n more few =
 
 fraction_after : (n : ℕ) → n ≤ 999 → decimal_after 0 (millis_digits n ++ codes "000") ≡ Some (10 * (10 * (10 * n + 0) + 0) + 0)
 fraction_after n few =
-    millis_after n (codes "000") few ∙ one_more n 0 (codes "00") (omega arith) ∙ one_more (10 * n + 0) 0 (codes "0") (omega arith) ∙ one_more (10 * (10 * n + 0) + 0) 0 [] (omega arith) ∙ none_more (10 * (10 * (10 * n + 0) + 0) + 0)
+    millis_after n (codes "000") few ∙ one_more n 0 (codes "00") (omega arith) ∙ one_more (10 * n + 0) 0 (codes "0") (omega arith) ∙ one_more (10 * (10 * n + 0) + 0) 0 [] (omega arith) ∙ after-none (10 * (10 * (10 * n + 0) + 0) + 0)
 
 -- a byte of one kind is not one of another
 pub is_other : (p : ℕ → Bool) (c : ℕ) → p c ≡ false → (b : ℕ) → p b ≡ true → (b == c) ≡ false
@@ -164,7 +161,7 @@ moment_read seen fits =
     let none = none_of is_ascii_digit (λ b. b == 46) (is_other is_ascii_digit 46 refl) (second_digits seen.seconds) (digits_alone 0 seen.seconds (second_digits seen.seconds) seconds) in
     let whole = number_is 12 seen.seconds (second_digits seen.seconds) lengths.0 lengths.1 seconds in
     let fraction = number_is 9 (10 * (10 * (10 * seen.millis + 0) + 0) + 0) (millis_digits seen.millis ++ codes "000") (omega arith) (omega arith) (fraction_after seen.millis fits.millis_fit) in
-    let millis = number_is 3 seen.millis (millis_digits seen.millis) (omega arith) (omega arith) (millis_after seen.millis [] fits.millis_fit ∙ none_more seen.millis) in
+    let millis = number_is 3 seen.millis (millis_digits seen.millis) (omega arith) (omega arith) (millis_after seen.millis [] fits.millis_fit ∙ after-none seen.millis) in
     let last : leb seen.seconds 253402300799 ≡ true = le-leb _ _ fits.seconds_fit in
     rw (cut_behind 46 (second_digits seen.seconds) (millis_digits seen.millis ++ codes "000") none, whole, fraction, millis, last) refl
 
@@ -264,20 +261,20 @@ unfolding candump
 candump_by line outer text digits behind seen n found es em ef ei er = rw (es, em, ef, ei, er) refl
 
 module _ (p : PacketParts) (name : List ℕ) (packing : Packing) (seen : Moment) (n : ℕ) (ok : IsPacketParts p) (short : length p.payload ≤ 8) (named : is_interface name ≡ true) (stamp : utc_moment p.stamp ≡ Some seen) (joined : join p.id ≡ Some n) where
-  digits : List ℕ
+  abbrev digits : List ℕ
   digits = encode_upper (to_be_bytes w32 n)
 
-  behind : List ℕ
+  abbrev behind : List ℕ
   behind = encode_upper p.payload
 
-  outer : List ℕ
+  abbrev outer : List ℕ
   outer = second_digits seen.seconds ++ (46 ∷ (millis_digits seen.millis ++ codes "000"))
 
-  text : List ℕ
+  abbrev text : List ℕ
   text = 32 ∷ (name ++ (32 ∷ (digits ++ (35 ∷ behind))))
 
   line_is : candump_line name seen n p.payload ≡ 40 ∷ (outer ++ (41 ∷ text))
-  unfolding candump_line digits behind outer text
+  unfolding candump_line
   line_is = grouped (second_digits seen.seconds) (millis_digits seen.millis) name (encode_upper (to_be_bytes w32 n)) (encode_upper p.payload)
 
   utc : (utc_text seen ≡ p.stamp) × IsMoment seen
@@ -287,7 +284,6 @@ module _ (p : PacketParts) (name : List ℕ) (packing : Packing) (seen : Moment)
   bits = join_bits p.id n (omega (arith, ok.src_ok)) (omega (arith, ok.dst_ok)) joined
 
   line_short : length (40 ∷ (outer ++ (41 ∷ text))) ≤ 2048
-  unfolding digits behind outer text
   line_short =
       let a = length-append (second_digits seen.seconds ++ (46 ∷ (millis_digits seen.millis ++ codes "000"))) (41 ∷ (32 ∷ (name ++ (32 ∷ (encode_upper (to_be_bytes w32 n) ++ (35 ∷ encode_upper p.payload)))))) in
       let b = length-append (second_digits seen.seconds) (46 ∷ (millis_digits seen.millis ++ codes "000")) in
@@ -300,7 +296,6 @@ module _ (p : PacketParts) (name : List ℕ) (packing : Packing) (seen : Moment)
       omega arith
 
   candump_is : candump (40 ∷ (outer ++ (41 ∷ text))) ≡ Ok (entries.Frame (record { stamp = utc_text seen; id = split n; payload = p.payload }))
-  unfolding digits behind outer text
   candump_is =
       let some : 0 < length (encode_upper (to_be_bytes w32 n)) = omega (arith, length-encode_with upper_digits (to_be_bytes w32 n)) in
       candump_by _ _ _ _ _ seen n _

@@ -83,15 +83,9 @@ all_digits p (b ∷ text) all =
     rw first.0 (omega arith)
 
 -- two digits spell one byte
-pub pair_spelled : (column : List ℕ) → length column ≡ 2 → (is_ascii_hexdigit (get_or column 0 0) && is_ascii_hexdigit (get_or column 1 0)) ≡ true
-    → pair column ≡ Some ((hex_value (get_or column 0 0) * 16 + hex_value (get_or column 1 0)) ∷ [])
+pub pair_spelled : (high low : ℕ) → is_ascii_hexdigit high ≡ true → is_ascii_hexdigit low ≡ true → pair (high ∷ low ∷ []) ≡ Some ((hex_value high * 16 + hex_value low) ∷ [])
 unfolding pair decode_pairs
-pair_spelled [] two digits = absurd (omega arith)
-pair_spelled (high ∷ []) two digits = absurd (omega arith)
-pair_spelled (high ∷ low ∷ []) two digits =
-    let each : (is_ascii_hexdigit high ≡ true) × (is_ascii_hexdigit low ≡ true) = and_parts _ _ digits in
-    rw (hex_digit_value-is high each.0, hex_digit_value-is low each.1) refl
-pair_spelled (high ∷ low ∷ other ∷ more) two digits = absurd (omega arith)
+pair_spelled high low a b = rw (hex_digit_value-is high a, hex_digit_value-is low b) refl
 
 -- ---- sixteen digits, lane by lane
 

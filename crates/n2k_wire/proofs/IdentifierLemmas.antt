@@ -82,10 +82,6 @@ join_bits id n src dst e =
     let is = joined_as id n e in
     omega (arith, is.1, is.0.0, is.0.1, specific_small id dst)
 
--- a PGN with its page, its format and its low byte
-format_is_of : (page format low : ℕ) → format < 256 → low < 256 → format_of (page * 2 ^ 16 + format * 2 ^ 8 + low) ≡ format
-format_is_of page format low f l = omega arith
-
 joins : (id : Id) (n : ℕ) → id.prio < 8 → id.pgn < 2 ^ 18 → (if is_addressed id.pgn then low_byte id.pgn == 0 else id.dst == everyone) ≡ true → number_of id ≡ n → join id ≡ Some n
 unfolding is_joinable
 joins id n prio pgn rest number =

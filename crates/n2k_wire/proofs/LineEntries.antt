@@ -90,21 +90,20 @@ in_front (x ∷ []) bytes one a b = (omega arith, cons x bytes (a 0) b)
     cons x xs h hs (suc i) = hs i
 in_front (x ∷ y ∷ more) bytes one a b = absurd (omega arith)
 
-next_fits : (count : ℕ) (byte bytes : List ℕ) (rest : Option (List ℕ)) → (length byte ≡ 1) × IsBytes byte → ((read : List ℕ) → rest ≡ Some read → (length read ≡ count) × IsBytes read)
-    → option_map (λ others. byte ++ others) rest ≡ Some bytes → (length bytes ≡ suc count) × IsBytes bytes
-next_fits count byte bytes None one others e = absurd cc
-next_fits count byte bytes (Some rest) one others e =
-    let same : byte ++ rest ≡ bytes = cc in
-    let read = others rest refl in
-    let whole = in_front byte rest one.0 one.1 read.1 in
-    rw (← same) (omega (arith, whole.0, read.0), whole.1)
+with_mapped : {A B : Type 0} {P : Type 0} (o : Option A) (f : A → B) (y : B) → option_map f o ≡ Some y → ((x : A) → o ≡ Some x → f x ≡ y → P) → P
+with_mapped None f y e follows = absurd cc
+with_mapped (Some x) f y e follows = follows x refl (let same : f x ≡ y = cc in same)
 
 pairs_fit : (more : List (List ℕ)) (bytes : List ℕ) → pairs more ≡ Some bytes → (length bytes ≡ length more) × IsBytes bytes
 unfolding pairs
 pairs_fit [] bytes e = let none : [] ≡ bytes = cc in rw (← none) (refl, λ i. omega arith)
 pairs_fit (column ∷ more) bytes e =
     with_some (pair column) _ bytes e (λ byte eb e1.
-    next_fits (length more) byte bytes (pairs more) (pair_fits column byte eb) (λ read er. pairs_fit more read er) e1)
+    with_mapped (pairs more) _ bytes e1 (λ read er same.
+    let one = pair_fits column byte eb in
+    let rest = pairs_fit more read er in
+    let whole = in_front byte read one.0 one.1 rest.1 in
+    rw (← same) (omega (arith, whole.0, rest.0), whole.1)))
 
 bytes_fit : (len : ℕ) (more : List (List ℕ)) (bytes : List ℕ) → bytes_of len more ≡ Some bytes → (length bytes ≡ len) × IsBytes bytes
 unfolding bytes_of

@@ -107,7 +107,7 @@ one_read : (a b : ℕ) (text : List ℕ) (more : List (List ℕ)) → Follow tex
 unfolding pairs
 one_read a b text more ends ea eb =
     let next = ends (a ∷ b ∷ []) (two_no_comma a b ea eb) in
-    let read = pair_spelled (a ∷ b ∷ []) refl (rw (ea, eb) refl) in
+    let read = pair_spelled a b ea eb in
     record { count = rw next (omega arith); read = rw (next, read) refl }
 
 digits_read : (n : ℕ) (digits text : List ℕ) (more : List (List ℕ)) → Follow text more → list_all is_ascii_hexdigit digits ≡ true → length digits ≡ 2 * suc n → AreRead (columns (with_commas digits ++ text)) (spelled digits) more

@@ -198,12 +198,12 @@ module _ (p : PacketParts) (packing : Packing) (ok : IsPacketParts p) where
   len_small = omega (arith, ok.packet_ok.payload_ok)
 
   -- what stands behind the stamp
-  behind_stamp : List ℕ
+  abbrev behind_stamp : List ℕ
   behind_stamp =
       number_piece p.id.prio ++ (number_piece p.id.pgn ++ (number_piece p.id.src ++ (number_piece p.id.dst ++ (number_piece (length p.payload) ++ flat_map byte_piece p.payload))))
 
   line_is : plain_line p ≡ p.stamp ++ behind_stamp
-  unfolding plain_line behind_stamp
+  unfolding plain_line
   line_is = regroup p.stamp (number_piece p.id.prio) (number_piece p.id.pgn) (number_piece p.id.src) (number_piece p.id.dst) (number_piece (length p.payload)) (flat_map byte_piece p.payload)
 
   line_short : length (plain_line p) ≤ 2048
@@ -213,12 +213,11 @@ module _ (p : PacketParts) (packing : Packing) (ok : IsPacketParts p) where
       (omega (arith, ok.packet_ok.payload_ok, stamp_is.1, length-number_piece p.id.prio prio_small, length-number_piece p.id.pgn pgn_small, length-number_piece p.id.src src_small, length-number_piece p.id.dst dst_small, length-number_piece (length p.payload) len_small, length-bytes p.payload))
 
   -- the columns behind the stamp
-  behind : List (List ℕ)
+  abbrev behind : List (List ℕ)
   behind =
       decimal p.id.prio ∷ decimal p.id.pgn ∷ decimal p.id.src ∷ decimal p.id.dst ∷ decimal (length p.payload) ∷ map byte_digits p.payload
 
   columns_are : columns (p.stamp ++ behind_stamp) ≡ p.stamp ∷ behind
-  unfolding behind_stamp behind
   columns_are =
       next_column p.stamp _ stamp_is.2
       ∙ ap (λ more. p.stamp ∷ more)
@@ -233,7 +232,7 @@ module _ (p : PacketParts) (packing : Packing) (ok : IsPacketParts p) where
       (columns_of_bytes (decimal (length p.payload)) p.payload (number_no_comma (length p.payload) len_small) ok.bytes_ok)))))
 
   packet_read : packet_of p.stamp behind ≡ Ok p
-  unfolding behind packet_of header id_of
+  unfolding packet_of header id_of
   packet_read =
       let bytes : bytes_of (length p.payload) (map byte_digits p.payload) ≡ Some p.payload =
       bytes_of-pairs (length p.payload) (map byte_digits p.payload) (length-map p.payload byte_digits) ∙ bytes_read p.payload ok.bytes_ok in

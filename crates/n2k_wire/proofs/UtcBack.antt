@@ -174,15 +174,10 @@ time_by : (second h m s : ℕ) → second / 3600 ≡ h → second / 60 % 60 ≡ 
 time_by second h m s eh em es = ap (λ n. two_digits n ++ codes ":" ++ two_digits (second / 60 % 60) ++ codes ":" ++ two_digits (second % 60)) eh ∙ ap (λ n. two_digits h ++ codes ":" ++ two_digits n ++ codes ":" ++ two_digits (second % 60)) em ∙ ap (λ n. two_digits h ++ codes ":" ++ two_digits m ++ codes ":" ++ two_digits n) es
 
 three_parts : (mark : List ℕ) (a b c x y z : List ℕ) → a ≡ x → b ≡ y → c ≡ z → a ++ mark ++ b ++ mark ++ c ≡ x ++ mark ++ y ++ mark ++ z
-three_parts mark a b c x y z ea eb ec = ap (λ l. l ++ mark ++ b ++ mark ++ c) ea ∙ ap (λ l. x ++ mark ++ l ++ mark ++ c) eb ∙ ap (λ l. x ++ mark ++ y ++ mark ++ l) ec
+three_parts mark a b c x y z ea eb ec = rw (ea, eb, ec) refl
 
-three_texts : (a b c x y z : List ℕ) → a ≡ x → b ≡ y → c ≡ z → a ++ codes "T" ++ b ++ codes "." ++ c ++ codes "Z" ≡ x ++ codes "T" ++ y ++ codes "." ++ z ++ codes "Z"
-three_texts a b c x y z ea eb ec = ap (λ l. l ++ codes "T" ++ b ++ codes "." ++ c ++ codes "Z") ea ∙ ap (λ l. x ++ codes "T" ++ l ++ codes "." ++ c ++ codes "Z") eb ∙ ap (λ l. x ++ codes "T" ++ y ++ codes "." ++ l ++ codes "Z") ec
-
-text_by : (seen : Moment) (date time fraction : List ℕ) → date ≡ date_text (seen.seconds / 86400) → time ≡ time_text (seen.seconds % 86400) → fraction ≡ millis_digits seen.millis
-    → utc_text seen ≡ date ++ codes "T" ++ time ++ codes "." ++ fraction ++ codes "Z"
-unfolding utc_text
-text_by seen date time fraction ed et ef = sym (three_texts date time fraction _ _ _ ed et ef)
+texts : (a b c x y z : List ℕ) → a ≡ x → b ≡ y → c ≡ z → a ++ codes "T" ++ b ++ codes "." ++ c ++ codes "Z" ≡ x ++ codes "T" ++ y ++ codes "." ++ z ++ codes "Z"
+texts a b c x y z ea eb ec = rw (ea, eb, ec) refl
 
 same_pos : (a b : ℕ) → pos a ≡ pos b → a ≡ b
 same_pos a b e = cc
@@ -258,8 +253,8 @@ found_parts text seen day second millis form ed es em seconds fraction =
     let digits = three_at text form 20 millis (omega arith) em in
     let day_is : day ≡ seen.seconds / 86400 = omega (arith, seconds, time.1) in
     let second_is : second ≡ seen.seconds % 86400 = omega (arith, seconds, time.1) in (
-      text_by seen (date_text day) (time_text second) (millis_digits millis) (ap date_text day_is) (ap time_text second_is) (ap millis_digits fraction)
-          ∙ three_texts _ _ _ _ _ _ date.0 time.0 digits.0
+      sym (texts (date_text day) (time_text second) (millis_digits millis) _ _ _ (ap date_text day_is) (ap time_text second_is) (ap millis_digits fraction))
+          ∙ texts _ _ _ _ _ _ date.0 time.0 digits.0
           ∙ grouped (take 4 (drop 0 text)) (take 2 (drop 5 text)) (take 2 (drop 8 text)) (take 2 (drop 11 text)) (take 2 (drop 14 text)) (take 2 (drop 17 text)) (take 3 (drop 20 text))
           ∙ sym (whole text form),
       record { seconds_fit = omega (arith, seconds, time.1, date.1); millis_fit = omega (arith, fraction, digits.1) },
