@@ -1,5 +1,5 @@
 -- The candump line of a packet is read as the frame of that packet.
-use Rattle.std.proofs.Common.{◌≡◌, ℕ, zero, suc, ◌+◌, ◌-◌, ◌*◌, ◌/◌, ◌%◌, ◌^◌, ◌<◌, ◌≤◌, Bool, true, false, not, List, [], ◌∷◌, ◌++◌, length, drop, Option, Some, None, Result, Ok, refl, sym, ap, ◌∙◌, append_assoc, length-append, arith, ltb, leb, inl, inr}
+use Rattle.std.proofs.Common.{◌≡◌, ℕ, zero, suc, ◌+◌, ◌-◌, ◌*◌, ◌/◌, ◌%◌, ◌^◌, ◌<◌, ◌≤◌, Bool, true, false, not, List, [], ◌∷◌, ◌++◌, length, drop, Some, Ok, refl, sym, ap, ◌∙◌, append_assoc, length-append, arith, ltb, leb, inl, inr}
 use Rattle.std.specs.Prelude.{codes, decimal, position, slice_index, IsTrue, ◌==◌}
 use Rattle.std.specs.Char.{is_ascii_digit, is_ascii_hexdigit}
 use Rattle.std.specs.Int.{w32, to_be_bytes}
@@ -14,7 +14,6 @@ use Rattle.hex.specs.Hex.{IsBytes, encode_upper, encode_with, upper_digits}
 use Rattle.hex.proofs.HexLemmas.{decode_of-encode_upper, length-encode_with}
 use Rattle.n2k_wire.specs.declared.entry.Entry.{Entry}
 use Rattle.n2k_wire.specs.declared.entry.Entry.TheVariants as entries
-use Rattle.n2k_wire.specs.declared.fault.WireFault.{WireFault}
 use Rattle.n2k_wire.specs.declared.fault.WireFault.TheVariants.{NoStamp, NoId}
 use Rattle.n2k_wire.specs.declared.entry.Packing.{Packing}
 use Rattle.n2k_wire.specs.Candump.{stamped, framed, is_interface, is_interface_byte, identifier, is_other_frame, is_ending, digits_len, payload, frame_of, candump}
@@ -24,7 +23,7 @@ use Rattle.n2k_wire.specs.Identifier.{join, split}
 use Rattle.n2k_wire.specs.Packet.{PacketParts, IsPacketParts}
 use Rattle.n2k_wire.specs.Pieces.{cut_at, after_byte, skip_spaces}
 use Rattle.n2k_wire.specs.Stamp.{Moment, moment, three_digits, millis_digits, utc_text, utc_moment}
-use Rattle.n2k_wire.specs.Steps.{◌>>=◌, or_cause}
+use Rattle.n2k_wire.specs.Steps.{or_cause}
 use Rattle.n2k_wire.specs.Texts.{second_digits, candump_line, candump_parts, candump_text}
 use Rattle.n2k_wire.specs.PrivateWords.{IsMoment}
 use Rattle.n2k_wire.proofs.CandumpLemmas.{name_parts, seconds_short}
@@ -32,7 +31,7 @@ use Rattle.n2k_wire.proofs.DigitLemmas.{after-none}
 use Rattle.n2k_wire.proofs.HexDigits.{all_digits}
 use Rattle.n2k_wire.proofs.IdentifierLemmas.{join_split, join_bits}
 use Rattle.n2k_wire.proofs.ReadBack.{decimal_reads, digit_reads}
-use Rattle.n2k_wire.proofs.UtcBack.{utc_back}
+use Rattle.n2k_wire.proofs.UtcBack.{found, utc_back, with_ok}
 
 -- ---- a text cut at its first separator
 
@@ -317,27 +316,13 @@ module _ (p : PacketParts) (name : List ℕ) (packing : Packing) (seen : Moment)
       ∙ ap settled candump_is
       ∙ ap (λ q. entries.Frame q) same)
 
-abbrev parts_by : Option Moment → Option ℕ → Result (Moment × ℕ) WireFault
-parts_by stamp joined = do
-  seen ← or_cause NoStamp stamp
-  n ← or_cause NoId joined
-  Ok (seen, n)
-
-abbrev text_by : List ℕ → List ℕ → Result (Moment × ℕ) WireFault → Result (List ℕ) WireFault
-text_by name bytes found = found >>= (λ parts. Ok (candump_line name parts.0 parts.1 bytes ++ codes "\n"))
-
--- by what stands in front of the data
-by_parts : (p : PacketParts) (name line : List ℕ) (packing : Packing) (seen : Option Moment) (n : Option ℕ) → seen ≡ utc_moment p.stamp → n ≡ join p.id
-    → IsPacketParts p → length p.payload ≤ 8 → is_interface name ≡ true
-    → text_by name p.payload (parts_by seen n) ≡ Ok (line ++ codes "\n")
-    → entry line packing ≡ entries.Frame p
-by_parts p name line packing None n stamp joined ok short named e = absurd cc
-by_parts p name line packing (Some seen) None stamp joined ok short named e = absurd cc
-by_parts p name line packing (Some seen) (Some n) stamp joined ok short named e =
-    let texts : candump_line name seen n p.payload ++ codes "\n" ≡ line ++ codes "\n" = cc in
-    let same = append_cancel_right (candump_line name seen n p.payload) line (codes "\n") texts in
-    rw (← same) (line_back p name packing seen n ok short named (sym stamp) (sym joined))
-
 pub candump_reads_back : (p : PacketParts) (name line : List ℕ) (packing : Packing) → IsPacketParts p → length p.payload ≤ 8 → IsTrue (is_interface name) → candump_text name p ≡ Ok (line ++ codes "\n") → entry line packing ≡ entries.Frame p
 unfolding candump_parts
-candump_reads_back p name line packing ok short named e = by_parts p name line packing (utc_moment p.stamp) (join p.id) refl refl ok short named e
+candump_reads_back p name line packing ok short named e =
+    with_ok (candump_parts p) _ (line ++ codes "\n") e (λ parts ep e1.
+    with_ok (or_cause NoStamp (utc_moment p.stamp)) _ parts ep (λ seen es e2.
+    with_ok (or_cause NoId (join p.id)) _ parts e2 (λ n en e3.
+    let same : (seen, n) ≡ parts = cc in
+    let texts : candump_line name seen n p.payload ++ codes "\n" ≡ line ++ codes "\n" = let whole = rw (← same) at e1 in cc in
+    let line_is = append_cancel_right (candump_line name seen n p.payload) line (codes "\n") texts in
+    rw (← line_is) (line_back p name packing seen n ok short named (found NoStamp (utc_moment p.stamp) seen es) (found NoId (join p.id) n en)))))

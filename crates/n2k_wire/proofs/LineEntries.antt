@@ -20,21 +20,12 @@ use Rattle.n2k_wire.specs.Identifier.{split, pdu_format}
 use Rattle.n2k_wire.specs.Packet.{PacketParts, IsPacketParts, is_stamp}
 use Rattle.n2k_wire.specs.Plain.{Header, columns, number_to, pair, pairs, header, id_of, bytes_of, packed, packet_of, packet_of_columns, plain, plain_packet}
 use Rattle.n2k_wire.specs.Stamp.{Moment, moment, utc_text}
-use Rattle.n2k_wire.specs.Steps.{◌>>=◌, or_cause, holds_or, some_if}
+use Rattle.n2k_wire.specs.Steps.{or_cause, holds_or, some_if}
 use Rattle.n2k_wire.specs.PrivateWords.{IsMoment}
-use Rattle.n2k_wire.proofs.UtcBack.{with_some, if_some}
+use Rattle.n2k_wire.proofs.UtcBack.{found, if_some, with_ok, with_some}
 use Rattle.n2k_wire.proofs.UtcStamps.{utc_is_stamp, moment_is_one}
 
 -- ---- steps that gave something
-
--- what follows from the first step's value follows
-with_ok : {A B E : Type 0} {P : Type 0} (r : Result A E) (f : A → Result B E) (y : B) → (r >>= f) ≡ Ok y → ((x : A) → r ≡ Ok x → f x ≡ Ok y → P) → P
-with_ok (Ok x) f y e follows = follows x refl e
-with_ok (Err cause) f y e follows = absurd cc
-
-found : {A E : Type 0} (cause : E) (o : Option A) (x : A) → or_cause cause o ≡ Ok x → o ≡ Some x
-found cause None x e = absurd cc
-found cause (Some y) x e = let same : y ≡ x = cc in ap Some same
 
 held : {E : Type 0} (cause : E) (test : Bool) (x : Unit {0}) → holds_or cause test ≡ Ok x → test ≡ true
 held cause true x e = refl

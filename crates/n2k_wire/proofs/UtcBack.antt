@@ -1,5 +1,5 @@
 -- The text `YYYY-MM-DDTHH:MM:SS.mmmZ` of the moment that such a text names is that text.
-use Rattle.std.proofs.Common.{◌≡◌, ℕ, ◌+◌, ◌-◌, ◌*◌, ◌/◌, ◌%◌, ◌<◌, ◌≤◌, Bool, true, false, List, [], ◌∷◌, ◌++◌, get_or, length, take, drop, Option, Some, None, refl, sym, ap, subst, ◌∙◌, append_assoc, arith, ltb, leb, pos, inl, inr}
+use Rattle.std.proofs.Common.{◌≡◌, ℕ, ◌+◌, ◌-◌, ◌*◌, ◌/◌, ◌%◌, ◌<◌, ◌≤◌, Bool, true, false, List, [], ◌∷◌, ◌++◌, get_or, length, take, drop, Option, Some, None, Result, Ok, Err, refl, sym, ap, subst, ◌∙◌, append_assoc, arith, ltb, leb, pos, inl, inr}
 use Rattle.std.specs.Prelude.{codes, option_and_then, slice_index, ◌&&◌, ◌==◌}
 use Rattle.std.specs.Char.{is_ascii_digit}
 use Rattle.std.proofs.lemmas.Bool.{and_parts, cases_Bool, eqb-true, leb-true, ltb-true}
@@ -9,7 +9,7 @@ use Rattle.jiff_core.proofs.SignedLemmas.{signed_arith}
 use Rattle.n2k_wire.specs.Calendar.{day_number, is_date, year_of, month_of, day_of_month}
 use Rattle.n2k_wire.specs.Digits.{decimal_digit, decimal_after, decimal_number}
 use Rattle.n2k_wire.specs.Stamp.{Moment, two_digits, four_digits, millis_digits, date_text, time_text, utc_text, has_utc_form, number_at, day_at_start, second_behind_date, utc_moment}
-use Rattle.n2k_wire.specs.Steps.{some_if}
+use Rattle.n2k_wire.specs.Steps.{◌>>=◌, or_cause, some_if}
 use Rattle.n2k_wire.specs.PrivateWords.{IsMoment}
 use Rattle.n2k_wire.proofs.CalendarLemmas.{IsDateOf, date_of_number, to_last_day}
 use Rattle.n2k_wire.proofs.TextLemmas.{listed, listed_all}
@@ -24,6 +24,14 @@ then_some (Some x) f y e = (x, refl, e)
 pub with_some : {A B : Type 0} {P : Type 0} (o : Option A) (f : A → Option B) (y : B) → option_and_then f o ≡ Some y → ((x : A) → o ≡ Some x → f x ≡ Some y → P) → P
 with_some None f y e follows = absurd cc
 with_some (Some x) f y e follows = follows x refl e
+
+pub with_ok : {A B E : Type 0} {P : Type 0} (r : Result A E) (f : A → Result B E) (y : B) → (r >>= f) ≡ Ok y → ((x : A) → r ≡ Ok x → f x ≡ Ok y → P) → P
+with_ok (Ok x) f y e follows = follows x refl e
+with_ok (Err cause) f y e follows = absurd cc
+
+pub found : {A E : Type 0} (cause : E) (o : Option A) (x : A) → or_cause cause o ≡ Ok x → o ≡ Some x
+found cause None x e = absurd cc
+found cause (Some y) x e = let same : y ≡ x = cc in ap Some same
 
 pub if_some : {A : Type 0} (test : Bool) (x y : A) → some_if test x ≡ Some y → (test ≡ true) × (x ≡ y)
 if_some true x y e = (refl, let same : x ≡ y = cc in same)
