@@ -38,6 +38,14 @@ first_day y h =
     let bounds = days_in_month_bounds y 1 in
     (h, (omega arith, omega arith), (omega arith, omega arith))
 
+-- no year from 1970 on begins before 1970 does
+years_rise : (year : ℕ) → 1970 ≤ year → day_count (pos 1970) 1 1 ≤ day_count (pos year) 1 1
+years_rise year late =
+    elim (cases_lt 1970 year) [
+      | inl lt ↦ omega (arith, day_count-lt_year (pos 1970) 1 1 (pos year) 1 1 (first_day (pos 1970) (omega (arith, signed_arith), omega (arith, signed_arith))) (omega arith) (omega (arith, signed_arith)))
+      | inr le ↦ let e : year ≡ 1970 = omega (arith, late) in rw e (omega arith)
+    ]
+
 module _ (day year m d : ℕ) (civil : IsCivilDate (pos year) m d) (count : day_count (pos year) m d ≡ day + 4_371_953) where
   from_1970 : 1970 ≤ year
   from_1970 =
@@ -59,13 +67,6 @@ module _ (day year m d : ℕ) (civil : IsCivilDate (pos year) m d) (count : day_
         | inr le ↦ let e : m ≡ 1 = omega (arith, civil.1.0) in rw e (omega arith)
       ]
 
-  years_rise : day_count (pos 1970) 1 1 ≤ day_count (pos year) 1 1
-  years_rise =
-      elim (cases_lt 1970 year) [
-        | inl lt ↦ omega (arith, day_count-lt_year (pos 1970) 1 1 (pos year) 1 1 (first_day (pos 1970) (omega (arith, signed_arith), omega (arith, signed_arith))) (omega arith) (omega (arith, signed_arith)))
-        | inr le ↦ let e : year ≡ 1970 = omega (arith, from_1970) in rw e (omega arith)
-      ]
-
   year_begun : day_number year 1 1 ≤ day
   year_begun = omega (arith, months_rise, month_begun)
 
@@ -82,7 +83,7 @@ module _ (day year m d : ℕ) (civil : IsCivilDate (pos year) m d) (count : day_
   month_is = rw year_is (last_begun_month-is 11 year day m civil.1.0 (omega (arith, civil.1.1)) month_begun month_last)
 
   day_is : day_of_month day ≡ d
-  day_is = rw (month_is, year_is) (omega (arith, day_count-epoch, day_count-day (pos year) m d 1 civil.2.0 (omega arith), month_begun, months_rise, years_rise, civil.2.0))
+  day_is = rw (month_is, year_is) (omega (arith, day_count-epoch, day_count-day (pos year) m d 1 civil.2.0 (omega arith), month_begun, months_rise, years_rise year from_1970, civil.2.0))
 
   pub date_of : IsDateOf day (pos year) m d
   date_of = record { year_is = ap pos (sym year_is); month_is = sym month_is; day_is = sym day_is; year_fits = rw year_is to_9999 }
@@ -97,15 +98,8 @@ is_date_of day (negsuc n) m d civil e =
 -- ---- from a date to its day number
 
 module _ (y m d : ℕ) (late : 1970 ≤ y) (civil : IsCivilDate (pos y) m d) where
-  first_of_year : day_count (pos 1970) 1 1 ≤ day_count (pos y) 1 1
-  first_of_year =
-      elim (cases_lt 1970 y) [
-        | inl lt ↦ omega (arith, day_count-lt_year (pos 1970) 1 1 (pos y) 1 1 (first_day (pos 1970) (omega (arith, signed_arith), omega (arith, signed_arith))) (omega arith) (omega (arith, signed_arith)))
-        | inr le ↦ let e : y ≡ 1970 = omega (arith, late) in rw e (omega arith)
-      ]
-
   pub from_epoch : 4_371_953 ≤ day_count (pos y) m d
-  from_epoch = omega (arith, civil.2.0, first_of_year, day_count-epoch, day_count-day_of_year (pos y) m d civil.2.0)
+  from_epoch = omega (arith, civil.2.0, years_rise y late, day_count-epoch, day_count-day_of_year (pos y) m d civil.2.0)
 
   pub to_last_day : day_number y m d ≤ 2_932_896
   to_last_day = omega (arith, day_count-epoch, from_epoch, day_count_bounds (pos y) m d civil)

@@ -1,20 +1,19 @@
 -- The candump line of a packet is read as the frame of that packet.
-use Rattle.std.proofs.Common.{◌≡◌, ℕ, zero, suc, ◌+◌, ◌-◌, ◌*◌, ◌/◌, ◌%◌, ◌^◌, ◌<◌, ◌≤◌, Bool, true, false, not, List, [], ◌∷◌, ◌++◌, length, drop, Option, Some, None, Result, Ok, refl, sym, ap, ◌∙◌, append_assoc, length-append, arith, ltb, leb, inl, inr}
-use Rattle.std.specs.Prelude.{codes, decimal, position, slice_index, IsTrue, ◌&&◌, ◌==◌}
+use Rattle.std.proofs.Common.{◌≡◌, ℕ, zero, suc, ◌+◌, ◌-◌, ◌*◌, ◌/◌, ◌%◌, ◌^◌, ◌<◌, ◌≤◌, Bool, true, false, not, List, [], ◌∷◌, ◌++◌, length, drop, Some, Ok, refl, sym, ap, ◌∙◌, append_assoc, length-append, arith, ltb, leb, inl, inr}
+use Rattle.std.specs.Prelude.{codes, decimal, position, slice_index, IsTrue, ◌==◌}
 use Rattle.std.specs.Char.{is_ascii_digit, is_ascii_hexdigit}
 use Rattle.std.specs.Int.{w32, to_be_bytes}
 use Rattle.std.specs.List.{list_all, position_or_len}
-use Rattle.std.proofs.lemmas.Bool.{and_parts, cases_Bool, eq-eqb, eqb-true, le-leb, le-ltb, leb-true, lt-ltb, ltb-true}
+use Rattle.std.proofs.lemmas.Bool.{agree_below_at, and_parts, cases_Bool, eq-eqb, eqb-true, le-leb, le-ltb, lt-ltb}
 use Rattle.std.proofs.lemmas.Fmt.{decimal_nonempty}
 use Rattle.std.proofs.lemmas.List.{append_cancel_right, length-drop}
 use Rattle.std.proofs.lemmas.List.Folds.{list_all-append}
 use Rattle.std.proofs.lemmas.Nat.{from_be_bytes-to_be_bytes_4}
 use Rattle.std.proofs.Math.Seq.{drop-append-add, drop-length, take-append_seam, take-length}
 use Rattle.hex.specs.Hex.{IsBytes, encode_upper, encode_with, upper_digits}
-use Rattle.hex.proofs.HexLemmas.{IsDigits-upper_digits, decode_of-encode_upper, length-encode_with}
+use Rattle.hex.proofs.HexLemmas.{decode_of-encode_upper, length-encode_with}
 use Rattle.n2k_wire.specs.declared.entry.Entry.{Entry}
 use Rattle.n2k_wire.specs.declared.entry.Entry.TheVariants as entries
-use Rattle.n2k_wire.specs.declared.fault.WireFault.{WireFault}
 use Rattle.n2k_wire.specs.declared.fault.WireFault.TheVariants.{NoStamp, NoId}
 use Rattle.n2k_wire.specs.declared.entry.Packing.{Packing}
 use Rattle.n2k_wire.specs.Candump.{stamped, framed, is_interface, is_interface_byte, identifier, is_other_frame, is_ending, digits_len, payload, frame_of, candump}
@@ -24,14 +23,15 @@ use Rattle.n2k_wire.specs.Identifier.{join, split}
 use Rattle.n2k_wire.specs.Packet.{PacketParts, IsPacketParts}
 use Rattle.n2k_wire.specs.Pieces.{cut_at, after_byte, skip_spaces}
 use Rattle.n2k_wire.specs.Stamp.{Moment, moment, three_digits, millis_digits, utc_text, utc_moment}
-use Rattle.n2k_wire.specs.Steps.{◌>>=◌, or_cause}
+use Rattle.n2k_wire.specs.Steps.{or_cause}
 use Rattle.n2k_wire.specs.Texts.{second_digits, candump_line, candump_parts, candump_text}
 use Rattle.n2k_wire.specs.PrivateWords.{IsMoment}
-use Rattle.n2k_wire.proofs.CandumpLemmas.{seconds_short}
-use Rattle.n2k_wire.proofs.HexDigits.{all_digits, hex_digit_value-none}
+use Rattle.n2k_wire.proofs.CandumpLemmas.{name_parts, seconds_short}
+use Rattle.n2k_wire.proofs.DigitLemmas.{after-none}
+use Rattle.n2k_wire.proofs.HexDigits.{all_digits}
 use Rattle.n2k_wire.proofs.IdentifierLemmas.{join_split, join_bits}
-use Rattle.n2k_wire.proofs.ReadBack.{decimal_reads}
-use Rattle.n2k_wire.proofs.UtcBack.{utc_back}
+use Rattle.n2k_wire.proofs.ReadBack.{decimal_reads, digit_reads}
+use Rattle.n2k_wire.proofs.UtcBack.{found, utc_back, with_ok}
 
 -- ---- a text cut at its first separator
 
@@ -124,28 +124,16 @@ length-seconds n few =
     let most = seconds_short n few in
     (omega arith, omega arith)
 
-number_read : (most n : ℕ) (text : List ℕ) → 0 < length text → length text ≤ most → decimal_after 0 text ≡ Some n → decimal_number most text ≡ Some n
+pub number_is : (most n : ℕ) (text : List ℕ) → 0 < length text → length text ≤ most → decimal_after 0 text ≡ Some n → decimal_number most text ≡ Some n
 unfolding decimal_number
-number_read most n text some few e =
+number_is most n text some few e =
     let a : ltb 0 (length text) ≡ true = lt-ltb 0 (length text) some in
     let b : leb (length text) most ≡ true = le-leb (length text) most few in
     rw (a, b) e
 
-digit_read : (d : ℕ) → d < 10 → decimal_digit (48 + d) ≡ Some d
-unfolding decimal_digit
-digit_read d small =
-    let low : leb 48 (48 + d) ≡ true = le-leb 48 (48 + d) (omega arith) in
-    let high : leb (48 + d) 57 ≡ true = le-leb (48 + d) 57 (omega arith) in
-    let value : 48 + d - 48 ≡ d = omega arith in
-    rw (low, high, value) refl
-
 one_more : (before d : ℕ) (text : List ℕ) → d < 10 → decimal_after before ((48 + d) ∷ text) ≡ decimal_after (10 * before + d) text
 unfolding decimal_after
-one_more before d text small = rw (digit_read d small) refl
-
-none_more : (before : ℕ) → decimal_after before [] ≡ Some before
-unfolding decimal_after
-none_more before = refl
+one_more before d text small = rw (digit_reads d small) refl
 
 millis_after : (n : ℕ) (more : List ℕ) → n ≤ 999 → decimal_after 0 (millis_digits n ++ more) ≡ decimal_after n more
 millis_after n more few =
@@ -157,10 +145,11 @@ millis_after n more few =
 
 fraction_after : (n : ℕ) → n ≤ 999 → decimal_after 0 (millis_digits n ++ codes "000") ≡ Some (10 * (10 * (10 * n + 0) + 0) + 0)
 fraction_after n few =
-    millis_after n (codes "000") few ∙ one_more n 0 (codes "00") (omega arith) ∙ one_more (10 * n + 0) 0 (codes "0") (omega arith) ∙ one_more (10 * (10 * n + 0) + 0) 0 [] (omega arith) ∙ none_more (10 * (10 * (10 * n + 0) + 0) + 0)
+    millis_after n (codes "000") few ∙ one_more n 0 (codes "00") (omega arith) ∙ one_more (10 * n + 0) 0 (codes "0") (omega arith) ∙ one_more (10 * (10 * n + 0) + 0) 0 [] (omega arith) ∙ after-none (10 * (10 * (10 * n + 0) + 0) + 0)
 
-pub no_digit : (c : ℕ) → (is_ascii_digit c ≡ false) → (b : ℕ) → is_ascii_digit b ≡ true → (b == c) ≡ false
-no_digit c other b digit = elim (cases_Bool (b == c)) [ inl same ↦ absurd (let e : b ≡ c = eqb-true b c same in let both = rw e at digit in cc) | inr differs ↦ differs ]
+-- a byte of one kind is not one of another
+pub is_other : (p : ℕ → Bool) (c : ℕ) → p c ≡ false → (b : ℕ) → p b ≡ true → (b == c) ≡ false
+is_other p c none b some = elim (cases_Bool (b == c)) [ inl same ↦ absurd (let e : b ≡ c = eqb-true b c same in let both = rw e at some in cc) | inr differs ↦ differs ]
 
 -- what stands between the parentheses is read as the moment
 moment_read : (seen : Moment) → IsMoment seen → moment (second_digits seen.seconds ++ (46 ∷ (millis_digits seen.millis ++ codes "000"))) ≡ Some seen
@@ -168,21 +157,17 @@ unfolding moment three_digits
 moment_read seen fits =
     let seconds = seconds_after seen.seconds fits.seconds_fit in
     let lengths = length-seconds seen.seconds fits.seconds_fit in
-    let none = none_of is_ascii_digit (λ b. b == 46) (no_digit 46 refl) (second_digits seen.seconds) (digits_alone 0 seen.seconds (second_digits seen.seconds) seconds) in
-    let whole = number_read 12 seen.seconds (second_digits seen.seconds) lengths.0 lengths.1 seconds in
-    let fraction = number_read 9 (10 * (10 * (10 * seen.millis + 0) + 0) + 0) (millis_digits seen.millis ++ codes "000") (omega arith) (omega arith) (fraction_after seen.millis fits.millis_fit) in
-    let millis = number_read 3 seen.millis (millis_digits seen.millis) (omega arith) (omega arith) (millis_after seen.millis [] fits.millis_fit ∙ none_more seen.millis) in
+    let none = none_of is_ascii_digit (λ b. b == 46) (is_other is_ascii_digit 46 refl) (second_digits seen.seconds) (digits_alone 0 seen.seconds (second_digits seen.seconds) seconds) in
+    let whole = number_is 12 seen.seconds (second_digits seen.seconds) lengths.0 lengths.1 seconds in
+    let fraction = number_is 9 (10 * (10 * (10 * seen.millis + 0) + 0) + 0) (millis_digits seen.millis ++ codes "000") (omega arith) (omega arith) (fraction_after seen.millis fits.millis_fit) in
+    let millis = number_is 3 seen.millis (millis_digits seen.millis) (omega arith) (omega arith) (millis_after seen.millis [] fits.millis_fit ∙ after-none seen.millis) in
     let last : leb seen.seconds 253402300799 ≡ true = le-leb _ _ fits.seconds_fit in
     rw (cut_behind 46 (second_digits seen.seconds) (millis_digits seen.millis ++ codes "000") none, whole, fraction, millis, last) refl
 
 -- ---- hexadecimal digits
 
 upper_hex : (d : ℕ) → d < 16 → is_ascii_hexdigit (slice_index upper_digits d) ≡ true
-upper_hex d small =
-    elim (cases_Bool (is_ascii_hexdigit (slice_index upper_digits d))) [
-      | inl hex ↦ hex
-      | inr other ↦ absurd (let none = hex_digit_value-none (slice_index upper_digits d) other in let some = IsDigits-upper_digits d small in cc)
-    ]
+upper_hex d small = agree_below_at (λ k. is_ascii_hexdigit (slice_index upper_digits k)) (λ k. true) 16 d refl small
 
 upper_hexes : (bytes : List ℕ) → IsBytes bytes → list_all is_ascii_hexdigit (encode_upper bytes) ≡ true
 unfolding encode_with
@@ -193,30 +178,17 @@ upper_hexes (b ∷ bytes) ok =
     let low : is_ascii_hexdigit (slice_index upper_digits (b % 16)) ≡ true = upper_hex (b % 16) (omega arith) in
     rw (high, low) (upper_hexes bytes (λ i. ok (suc i)))
 
-pub no_hex : (c : ℕ) → is_ascii_hexdigit c ≡ false → (b : ℕ) → is_ascii_hexdigit b ≡ true → (b == c) ≡ false
-no_hex c other b hex = elim (cases_Bool (b == c)) [ inl same ↦ absurd (let e : b ≡ c = eqb-true b c same in let both = rw e at hex in cc) | inr differs ↦ differs ]
-
 no_hex_in : (c : ℕ) → is_ascii_hexdigit c ≡ false → (text : List ℕ) → list_all is_ascii_hexdigit text ≡ true → HasNone (λ b. b == c) text
-no_hex_in c other text all = none_of is_ascii_hexdigit (λ b. b == c) (no_hex c other) text all
+no_hex_in c other text all = none_of is_ascii_hexdigit (λ b. b == c) (is_other is_ascii_hexdigit c other) text all
 
 -- ---- the parts behind the stamp
-
-no_space_in_name : (b : ℕ) → is_interface_byte b ≡ true → (b == 32) ≡ false
-no_space_in_name b ok = elim (cases_Bool (b == 32)) [ inl same ↦ absurd (let e : b ≡ 32 = eqb-true b 32 same in let both = rw e at ok in cc) | inr differs ↦ differs ]
-
-name_parts : (name : List ℕ) → is_interface name ≡ true → (0 < length name) × (length name ≤ 15) × (list_all is_interface_byte name ≡ true)
-unfolding is_interface
-name_parts name ok =
-    let outer = and_parts (ltb 0 (length name) && leb (length name) 15) (list_all is_interface_byte name) ok in
-    let inner = and_parts (ltb 0 (length name)) (leb (length name) 15) outer.0 in
-    (ltb-true 0 (length name) inner.0, leb-true (length name) 15 inner.1, outer.1)
 
 pub framed_read : (name digits behind : List ℕ) → is_interface name ≡ true → 0 < length digits → list_all is_ascii_hexdigit digits ≡ true
     → framed (32 ∷ (name ++ (32 ∷ (digits ++ (35 ∷ behind))))) ≡ Some (digits, behind)
 unfolding framed after_byte
 framed_read name digits behind ok some hex =
     let parts = name_parts name ok in
-    let none = none_of is_interface_byte (λ b. b == 32) no_space_in_name name parts.2 in
+    let none = none_of is_interface_byte (λ b. b == 32) (is_other is_interface_byte 32 refl) name parts.2 in
     rw (no_space_in_front name (32 ∷ (digits ++ (35 ∷ behind))) parts.0 none, cut_behind 32 name (digits ++ (35 ∷ behind)) none, ok, no_space_in_front digits (35 ∷ behind) some (no_hex_in 32 refl digits hex), cut_behind 35 digits behind (no_hex_in 35 refl digits hex)) refl
 
 word_bytes : (n : ℕ) → IsBytes (to_be_bytes w32 n)
@@ -238,7 +210,7 @@ unfolding is_other_frame
 no_other_frame [] all = refl
 no_other_frame (b ∷ text) all =
     let hex = (and_parts (is_ascii_hexdigit b) (list_all is_ascii_hexdigit text) all).0 in
-    rw (no_hex 35 refl b hex, no_hex 82 refl b hex, no_hex 114 refl b hex) refl
+    rw (is_other is_ascii_hexdigit 35 refl b hex, is_other is_ascii_hexdigit 82 refl b hex, is_other is_ascii_hexdigit 114 refl b hex) refl
 
 no_ending : is_ending [] ≡ true
 unfolding is_ending
@@ -265,8 +237,8 @@ unfolding stamped after_byte
 stamped_read seen rest fits =
     let seconds = digits_alone 0 seen.seconds (second_digits seen.seconds) (seconds_after seen.seconds fits.seconds_fit) in
     let fraction = digits_alone 0 (10 * (10 * (10 * seen.millis + 0) + 0) + 0) (millis_digits seen.millis ++ codes "000") (fraction_after seen.millis fits.millis_fit) in
-    let front = none_of is_ascii_digit (λ b. b == 41) (no_digit 41 refl) (second_digits seen.seconds) seconds in
-    let behind : HasNone (λ b. b == 41) (46 ∷ (millis_digits seen.millis ++ codes "000")) = none_of is_ascii_digit (λ b. b == 41) (no_digit 41 refl) (millis_digits seen.millis ++ codes "000") fraction in
+    let front = none_of is_ascii_digit (λ b. b == 41) (is_other is_ascii_digit 41 refl) (second_digits seen.seconds) seconds in
+    let behind : HasNone (λ b. b == 41) (46 ∷ (millis_digits seen.millis ++ codes "000")) = none_of is_ascii_digit (λ b. b == 41) (is_other is_ascii_digit 41 refl) (millis_digits seen.millis ++ codes "000") fraction in
     let none : HasNone (λ b. b == 41) (second_digits seen.seconds ++ (46 ∷ (millis_digits seen.millis ++ codes "000"))) = rw (list_all-append (λ b. not (b == 41)) (second_digits seen.seconds) (46 ∷ (millis_digits seen.millis ++ codes "000")), front) behind in
     cut_behind 41 (second_digits seen.seconds ++ (46 ∷ (millis_digits seen.millis ++ codes "000"))) rest none
 
@@ -288,20 +260,20 @@ unfolding candump
 candump_by line outer text digits behind seen n found es em ef ei er = rw (es, em, ef, ei, er) refl
 
 module _ (p : PacketParts) (name : List ℕ) (packing : Packing) (seen : Moment) (n : ℕ) (ok : IsPacketParts p) (short : length p.payload ≤ 8) (named : is_interface name ≡ true) (stamp : utc_moment p.stamp ≡ Some seen) (joined : join p.id ≡ Some n) where
-  digits : List ℕ
+  abbrev digits : List ℕ
   digits = encode_upper (to_be_bytes w32 n)
 
-  behind : List ℕ
+  abbrev behind : List ℕ
   behind = encode_upper p.payload
 
-  outer : List ℕ
+  abbrev outer : List ℕ
   outer = second_digits seen.seconds ++ (46 ∷ (millis_digits seen.millis ++ codes "000"))
 
-  text : List ℕ
+  abbrev text : List ℕ
   text = 32 ∷ (name ++ (32 ∷ (digits ++ (35 ∷ behind))))
 
   line_is : candump_line name seen n p.payload ≡ 40 ∷ (outer ++ (41 ∷ text))
-  unfolding candump_line digits behind outer text
+  unfolding candump_line
   line_is = grouped (second_digits seen.seconds) (millis_digits seen.millis) name (encode_upper (to_be_bytes w32 n)) (encode_upper p.payload)
 
   utc : (utc_text seen ≡ p.stamp) × IsMoment seen
@@ -311,7 +283,6 @@ module _ (p : PacketParts) (name : List ℕ) (packing : Packing) (seen : Moment)
   bits = join_bits p.id n (omega (arith, ok.src_ok)) (omega (arith, ok.dst_ok)) joined
 
   line_short : length (40 ∷ (outer ++ (41 ∷ text))) ≤ 2048
-  unfolding digits behind outer text
   line_short =
       let a = length-append (second_digits seen.seconds ++ (46 ∷ (millis_digits seen.millis ++ codes "000"))) (41 ∷ (32 ∷ (name ++ (32 ∷ (encode_upper (to_be_bytes w32 n) ++ (35 ∷ encode_upper p.payload)))))) in
       let b = length-append (second_digits seen.seconds) (46 ∷ (millis_digits seen.millis ++ codes "000")) in
@@ -324,7 +295,6 @@ module _ (p : PacketParts) (name : List ℕ) (packing : Packing) (seen : Moment)
       omega arith
 
   candump_is : candump (40 ∷ (outer ++ (41 ∷ text))) ≡ Ok (entries.Frame (record { stamp = utc_text seen; id = split n; payload = p.payload }))
-  unfolding digits behind outer text
   candump_is =
       let some : 0 < length (encode_upper (to_be_bytes w32 n)) = omega (arith, length-encode_with upper_digits (to_be_bytes w32 n)) in
       candump_by _ _ _ _ _ seen n _
@@ -346,27 +316,13 @@ module _ (p : PacketParts) (name : List ℕ) (packing : Packing) (seen : Moment)
       ∙ ap settled candump_is
       ∙ ap (λ q. entries.Frame q) same)
 
-abbrev parts_by : Option Moment → Option ℕ → Result (Moment × ℕ) WireFault
-parts_by stamp joined = do
-  seen ← or_cause NoStamp stamp
-  n ← or_cause NoId joined
-  Ok (seen, n)
-
-abbrev text_by : List ℕ → List ℕ → Result (Moment × ℕ) WireFault → Result (List ℕ) WireFault
-text_by name bytes found = found >>= (λ parts. Ok (candump_line name parts.0 parts.1 bytes ++ codes "\n"))
-
--- by what stands in front of the data
-by_parts : (p : PacketParts) (name line : List ℕ) (packing : Packing) (seen : Option Moment) (n : Option ℕ) → seen ≡ utc_moment p.stamp → n ≡ join p.id
-    → IsPacketParts p → length p.payload ≤ 8 → is_interface name ≡ true
-    → text_by name p.payload (parts_by seen n) ≡ Ok (line ++ codes "\n")
-    → entry line packing ≡ entries.Frame p
-by_parts p name line packing None n stamp joined ok short named e = absurd cc
-by_parts p name line packing (Some seen) None stamp joined ok short named e = absurd cc
-by_parts p name line packing (Some seen) (Some n) stamp joined ok short named e =
-    let texts : candump_line name seen n p.payload ++ codes "\n" ≡ line ++ codes "\n" = cc in
-    let same = append_cancel_right (candump_line name seen n p.payload) line (codes "\n") texts in
-    rw (← same) (line_back p name packing seen n ok short named (sym stamp) (sym joined))
-
 pub candump_reads_back : (p : PacketParts) (name line : List ℕ) (packing : Packing) → IsPacketParts p → length p.payload ≤ 8 → IsTrue (is_interface name) → candump_text name p ≡ Ok (line ++ codes "\n") → entry line packing ≡ entries.Frame p
 unfolding candump_parts
-candump_reads_back p name line packing ok short named e = by_parts p name line packing (utc_moment p.stamp) (join p.id) refl refl ok short named e
+candump_reads_back p name line packing ok short named e =
+    with_ok (candump_parts p) _ (line ++ codes "\n") e (λ parts ep e1.
+    with_ok (or_cause NoStamp (utc_moment p.stamp)) _ parts ep (λ seen es e2.
+    with_ok (or_cause NoId (join p.id)) _ parts e2 (λ n en e3.
+    let same : (seen, n) ≡ parts = cc in
+    let texts : candump_line name seen n p.payload ++ codes "\n" ≡ line ++ codes "\n" = let whole = rw (← same) at e1 in cc in
+    let line_is = append_cancel_right (candump_line name seen n p.payload) line (codes "\n") texts in
+    rw (← line_is) (line_back p name packing seen n ok short named (found NoStamp (utc_moment p.stamp) seen es) (found NoId (join p.id) n en)))))

@@ -1,7 +1,8 @@
 -- Writing the parts of a candump line.
-use Rattle.std.proofs.Common.{◌≡◌, ℕ, zero, suc, ◌+◌, ◌*◌, ◌/◌, ◌%◌, ◌≤◌, List, [], ◌∷◌, ◌++◌, length, map, take, slice_index, refl, sym, ap, ◌∙◌, append_assoc, arith, Some, None, Ok, Err, codes}
-use Rattle.std.specs.Prelude.{decimal, IsTrue}
-use Rattle.std.proofs.lemmas.Bool.{and_parts, leb-true}
+use Rattle.std.proofs.Common.{◌≡◌, ℕ, zero, suc, ◌+◌, ◌*◌, ◌/◌, ◌%◌, ◌≤◌, List, [], ◌∷◌, ◌++◌, length, map, take, slice_index, refl, sym, ap, ◌∙◌, append_assoc, arith, Some, None, Ok, Err, codes, ◌-◌, ◌<◌, true, ltb, leb}
+use Rattle.std.specs.Prelude.{decimal, IsTrue, ◌&&◌}
+use Rattle.std.proofs.lemmas.Bool.{and_parts, leb-true, ltb-true}
+use Rattle.std.specs.List.{list_all}
 use Rattle.std.proofs.lemmas.Fmt.{length-decimal-le}
 use Rattle.std.proofs.lemmas.List.{length-append}
 use Rattle.std.proofs.lemmas.Slice.{take-put_mid}
@@ -11,7 +12,7 @@ use Rattle.std.specs.Int.{w32, to_be_bytes}
 use Rattle.hex.specs.Hex.{encode_with, encode_lower, encode_upper, lower_digits, upper_digits}
 use Rattle.hex.proofs.HexLemmas.{length-encode_with}
 use borrow.Rule.Slice.PartMut.{put_mid}
-use Rattle.n2k_wire.specs.Candump.{is_interface}
+use Rattle.n2k_wire.specs.Candump.{is_interface, is_interface_byte}
 use Rattle.n2k_wire.specs.declared.fault.WireFault.TheVariants.{NoStamp, NoId, Memory}
 use Rattle.n2k_wire.specs.Identifier.{join}
 use Rattle.n2k_wire.specs.Packet.{PacketParts}
@@ -19,13 +20,16 @@ use Rattle.n2k_wire.specs.PrivateWords.{behind_millis, second_front, IsStampText
 use Rattle.n2k_wire.specs.Stamp.{Moment, millis_digits, utc_moment}
 use Rattle.n2k_wire.specs.Texts.{Appends, candump_line, candump_parts, candump_text}
 
--- the name of an interface is short
-pub interface_short : (name : List ℕ) → IsTrue (is_interface name) → length name ≤ 15
+-- a name of an interface has a few bytes of its own
+pub name_parts : (name : List ℕ) → is_interface name ≡ true → (0 < length name) × (length name ≤ 15) × (list_all is_interface_byte name ≡ true)
 unfolding is_interface
-interface_short name ok =
-    let outer = and_parts _ _ ok in
-    let inner = and_parts _ _ outer.0 in
-    leb-true (length name) 15 inner.1
+name_parts name ok =
+    let outer = and_parts (ltb 0 (length name) && leb (length name) 15) (list_all is_interface_byte name) ok in
+    let inner = and_parts (ltb 0 (length name)) (leb (length name) 15) outer.0 in
+    (ltb-true 0 (length name) inner.0, leb-true (length name) 15 inner.1, outer.1)
+
+pub interface_short : (name : List ℕ) → IsTrue (is_interface name) → length name ≤ 15
+interface_short name ok = (name_parts name ok).1
 
 -- the digit of the other table is its upper case
 indexed : (f : ℕ → ℕ) (digits : List ℕ) (i : ℕ) → f 0 ≡ 0 → slice_index (map f digits) i ≡ f (slice_index digits i)

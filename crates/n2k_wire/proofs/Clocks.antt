@@ -1,15 +1,16 @@
 -- The second that lines in a row share: what they begin with, and its text with the milliseconds of each.
-use Rattle.std.proofs.Common.{◌≡◌, ℕ, ◌+◌, ◌-◌, ◌*◌, ◌/◌, ◌%◌, ◌≤◌, true, ltb, leb, List, [], ◌∷◌, ◌++◌, length, get_or, set, take, drop, Some, refl, ap, sym, ◌∙◌, arith, append_assoc}
+use Rattle.std.proofs.Common.{◌≡◌, ℕ, ◌+◌, ◌-◌, ◌*◌, ◌/◌, ◌%◌, ◌≤◌, true, List, [], ◌∷◌, ◌++◌, length, get_or, set, take, drop, Some, refl, ap, sym, ◌∙◌, arith, append_assoc}
 use Rattle.std.specs.Prelude.{codes, IsTrue}
 use Rattle.std.specs.Char.{is_ascii_digit}
 use Rattle.std.specs.List.{list_all}
-use Rattle.std.proofs.lemmas.Bool.{and_parts, eq-eqb, le-leb, lt-ltb}
+use Rattle.std.proofs.lemmas.Bool.{and_parts, eq-eqb}
 use Rattle.std.proofs.lemmas.List.{length-drop, length-take-le, take-append-drop}
 use Rattle.n2k_wire.specs.Digits.{decimal_after, decimal_digit, decimal_number}
 use Rattle.n2k_wire.specs.Packet.{is_stamp}
 use Rattle.n2k_wire.specs.Pieces.{after_byte}
 use Rattle.n2k_wire.specs.PrivateWords.{IsFront, stamp_behind}
 use Rattle.n2k_wire.specs.Stamp.{millis_digits, three_digits, utc_text}
+use Rattle.n2k_wire.proofs.CandumpBack.{number_is}
 use Rattle.n2k_wire.proofs.UsualStamps.{follows, usual}
 use Rattle.n2k_wire.proofs.UtcBack.{three_back}
 use Rattle.n2k_wire.proofs.UtcStamps.{utc_is_stamp}
@@ -23,12 +24,9 @@ digits_read before (b ∷ text) all =
     rw parts.0 (digits_read (10 * before + (b - 48)) text parts.1)
 
 pub number_read : (most : ℕ) (text : List ℕ) → list_all is_ascii_digit text ≡ true → 1 ≤ length text → length text ≤ most → (n : ℕ) × (decimal_number most text ≡ Some n) × (decimal_after 0 text ≡ Some n)
-unfolding decimal_number
 number_read most text all some few =
     let read = digits_read 0 text all in
-    let a : ltb 0 (length text) ≡ true = lt-ltb 0 (length text) (omega arith) in
-    let b : leb (length text) most ≡ true = le-leb (length text) most few in
-    (read.0, rw (a, b) read.1, read.1)
+    (read.0, number_is most read.0 text some few read.1, read.1)
 
 opens : (byte : ℕ) (rest : List ℕ) → after_byte byte (byte ∷ rest) ≡ Some rest
 unfolding after_byte

@@ -12,7 +12,7 @@ after-other : (before b : ℕ) (digits : List ℕ) → None ≡ decimal_digit b 
 unfolding decimal_after
 after-other before b digits e = rw (← e) refl
 
-after-none : (before : ℕ) → decimal_after before [] ≡ Some before
+pub after-none : (before : ℕ) → decimal_after before [] ≡ Some before
 unfolding decimal_after
 after-none before = refl
 

@@ -1,22 +1,20 @@
 -- Pairs of hexadecimal digits, by the values of the digits.
-use Rattle.std.proofs.Common.{◌≡◌, ℕ, zero, suc, ◌+◌, ◌*◌, ◌%◌, ◌<◌, ◌≤◌, Bool, true, false, not, ◌&&◌, List, [], ◌∷◌, ◌++◌, length, get_or, take, drop, Some, None, Ok, refl, sym, ap, ◌∙◌, append_assoc, arith, ◌-◌, inl, inr}
+use Rattle.std.proofs.Common.{◌≡◌, ℕ, zero, suc, ◌+◌, ◌*◌, ◌%◌, ◌^◌, ◌<◌, ◌≤◌, Bool, true, false, cond, eqb, ltb, not, ◌&&◌, ◌||◌, List, [], ◌∷◌, ◌++◌, length, get_or, map, take, drop, replicate, bit_and, bit_or, Fits, w8, Some, Ok, refl, sym, ap, ◌∙◌, arith, ◌-◌, inl, inr}
 use Rattle.std.specs.Char.{is_ascii_hexdigit}
 use Rattle.std.specs.List.{list_all, position_or_len}
 use Rattle.std.specs.Result.{result_ok}
-use Rattle.std.proofs.lemmas.Bool.{cases_Bool}
+use Rattle.std.proofs.lemmas.Bool.{agree_below_at, and_parts, cases_Bool, eqb-true}
 use Rattle.std.proofs.lemmas.Bool.Decides.{nat_tests}
+use Rattle.std.proofs.lemmas.Simd.{mask_l-mod}
 use Rattle.std.proofs.Math.Bool.{and-true, and_assoc}
 use Rattle.std.proofs.Math.Numerals.{one-add}
 use Rattle.std.proofs.Math.Seq.{drop-cons}
 use Rattle.std.proofs.Math.ListN.{drop_of_length-le}
-use Rattle.std.proofs.lemmas.List.{append-nil}
+use lib.Lanes.{Each1, mask_l, pick_l, sel_l, top, zip2}
 use Rattle.hex.specs.Hex.{hex_digit_value, decode_pairs, decode_of}
 use Rattle.n2k_wire.specs.PrivateWords.{hex_value}
 use Rattle.n2k_wire.specs.Plain.{pair}
-
-both : (a b : Bool) → (a && b) ≡ true → (a ≡ true) × (b ≡ true)
-both true b e = (refl, e)
-both false b e = absurd cc
+use Rattle.n2k_wire.proofs.TextLemmas.{listed, listed_all}
 
 -- the value that `hex` gives a digit
 pub hex_digit_value-is : (digit : ℕ) → is_ascii_hexdigit digit ≡ true → hex_digit_value digit ≡ Some (hex_value digit)
@@ -33,8 +31,8 @@ unfolding decode_pairs spelled
 decode_pairs-spelled i n [] all e = refl
 decode_pairs-spelled i n (digit ∷ []) all e = absurd (omega arith)
 decode_pairs-spelled i n (high ∷ low ∷ rest) all e =
-    let first : (is_ascii_hexdigit high ≡ true) × (list_all is_ascii_hexdigit (low ∷ rest) ≡ true) = both _ _ all in
-    let second : (is_ascii_hexdigit low ≡ true) × (list_all is_ascii_hexdigit rest ≡ true) = both _ _ first.1 in
+    let first : (is_ascii_hexdigit high ≡ true) × (list_all is_ascii_hexdigit (low ∷ rest) ≡ true) = and_parts _ _ all in
+    let second : (is_ascii_hexdigit low ≡ true) × (list_all is_ascii_hexdigit rest ≡ true) = and_parts _ _ first.1 in
     let more : length rest ≡ 2 * (n - 1) = omega arith in
     rw (hex_digit_value-is high first.0, hex_digit_value-is low second.0, decode_pairs-spelled (i + 2) (n - 1) rest second.1 more) refl
 
@@ -43,31 +41,11 @@ decode_of-even n digits all e =
     let even : length digits % 2 ≡ 0 = omega arith in
     rw (even, decode_pairs-spelled 0 n digits all e) refl
 
--- the byte of each pair
-pub spelled_at : (digits : List ℕ) (i : ℕ) → 2 * i + 1 < length digits → get_or (spelled digits) i 0 ≡ hex_value (get_or digits (2 * i) 0) * 16 + hex_value (get_or digits (2 * i + 1) 0)
-unfolding spelled
-spelled_at [] i within = absurd (omega arith)
-spelled_at (digit ∷ []) i within = absurd (omega arith)
-spelled_at (high ∷ low ∷ rest) zero within = refl
-spelled_at (high ∷ low ∷ rest) (suc i) within =
-    let first : 2 * suc i ≡ suc (suc (2 * i)) = omega arith in
-    let second : suc (suc (2 * i)) + 1 ≡ suc (suc (2 * i + 1)) = omega arith in
-    rw (first, second) (spelled_at rest i (omega arith))
+some_same : (x y : List ℕ) → Some x ≡ Some y → x ≡ y
+some_same x y e = cc
 
--- one pair more
-pub spells_on : (digits front : List ℕ) (i : ℕ) → 2 * i + 1 < length digits → front ++ spelled (drop (2 * i) digits) ≡ spelled digits
-    → (front ++ (hex_value (get_or digits (2 * i) 0) * 16 + hex_value (get_or digits (2 * i + 1) 0)) ∷ []) ++ spelled (drop (2 * (i + 1)) digits) ≡ spelled digits
-unfolding spelled
-spells_on digits front i within so_far =
-    let high = drop-cons digits (2 * i) 0 (omega arith) in
-    let low = drop-cons digits (suc (2 * i)) 0 (omega arith) in
-    let second : suc (2 * i) ≡ 2 * i + 1 = omega arith in
-    let next : suc (suc (2 * i)) ≡ 2 * (i + 1) = omega arith in
-    append_assoc front _ _ ∙ sym (rw (high, low, next, second) refl) ∙ so_far
-
-pub spells_none : (digits front : List ℕ) (i : ℕ) → length digits ≤ 2 * i → front ++ spelled (drop (2 * i) digits) ≡ spelled digits → front ≡ spelled digits
-unfolding spelled
-spells_none digits front i past so_far = sym (append-nil front) ∙ (rw (drop_of_length-le digits {i = 2 * i} past) at so_far)
+pub spelled_bytes : (n : ℕ) (digits bytes : List ℕ) → list_all is_ascii_hexdigit digits ≡ true → length digits ≡ 2 * n → result_ok (decode_of digits) ≡ Some bytes → spelled digits ≡ bytes
+spelled_bytes n digits bytes all e read = some_same _ _ (sym (decode_of-even n digits all e) ∙ read)
 
 -- the digits that a text begins with are digits
 pub all_before : (p : ℕ → Bool) (text : List ℕ) → list_all p (take (position_or_len (λ b. not (p b)) text) text) ≡ true
@@ -78,11 +56,12 @@ all_before p (b ∷ text) =
       | inr fails ↦ rw fails refl
     ]
 
--- each of them
-pub digit_at : (digits : List ℕ) (i : ℕ) → list_all is_ascii_hexdigit digits ≡ true → i < length digits → is_ascii_hexdigit (get_or digits i 0) ≡ true
-digit_at [] i all within = absurd (omega arith)
-digit_at (digit ∷ digits) zero all within = (both _ _ all).0
-digit_at (digit ∷ digits) (suc i) all within = digit_at digits i (both _ _ all).1 (omega arith)
+pub all_front : (p : ℕ → Bool) (n : ℕ) (text : List ℕ) → list_all p text ≡ true → list_all p (take n text) ≡ true
+all_front p zero text all = refl
+all_front p (suc n) [] all = refl
+all_front p (suc n) (b ∷ text) all =
+    let parts = and_parts (p b) (list_all p text) all in
+    rw parts.0 (all_front p n text parts.1)
 
 -- one byte more is looked at
 pub all_more : (p : ℕ → Bool) (bytes : List ℕ) (i : ℕ) (so_far : Bool) → i < length bytes → (so_far && list_all p (drop i bytes)) ≡ list_all p bytes
@@ -99,21 +78,103 @@ all_done p bytes i so_far past before = sym (and-true so_far) ∙ (rw (drop_of_l
 pub all_digits : (p : ℕ → Bool) (text : List ℕ) → list_all p text ≡ true → length text ≡ position_or_len (λ b. not (p b)) text
 all_digits p [] all = refl
 all_digits p (b ∷ text) all =
-    let first : (p b ≡ true) × (list_all p text ≡ true) = both _ _ all in
+    let first : (p b ≡ true) × (list_all p text ≡ true) = and_parts _ _ all in
     let rest = all_digits p text first.1 in
     rw first.0 (omega arith)
 
--- a byte that is no digit has no value
-pub hex_digit_value-none : (digit : ℕ) → is_ascii_hexdigit digit ≡ false → hex_digit_value digit ≡ None
-hex_digit_value-none digit e = grind (arith, nat_tests)
-
 -- two digits spell one byte
-pub pair_spelled : (piece : List ℕ) → length piece ≡ 2 → (is_ascii_hexdigit (get_or piece 0 0) && is_ascii_hexdigit (get_or piece 1 0)) ≡ true
-    → pair piece ≡ Some ((hex_value (get_or piece 0 0) * 16 + hex_value (get_or piece 1 0)) ∷ [])
+pub pair_spelled : (high low : ℕ) → is_ascii_hexdigit high ≡ true → is_ascii_hexdigit low ≡ true → pair (high ∷ low ∷ []) ≡ Some ((hex_value high * 16 + hex_value low) ∷ [])
 unfolding pair decode_pairs
-pair_spelled [] two digits = absurd (omega arith)
-pair_spelled (high ∷ []) two digits = absurd (omega arith)
-pair_spelled (high ∷ low ∷ []) two digits =
-    let each : (is_ascii_hexdigit high ≡ true) × (is_ascii_hexdigit low ≡ true) = both _ _ digits in
-    rw (hex_digit_value-is high each.0, hex_digit_value-is low each.1) refl
-pair_spelled (high ∷ low ∷ other ∷ more) two digits = absurd (omega arith)
+pair_spelled high low a b = rw (hex_digit_value-is high a, hex_digit_value-is low b) refl
+
+-- ---- sixteen digits, lane by lane
+
+-- the distances of a byte from `0` and, in lower case, from `a`
+abbrev figure : ℕ → ℕ
+figure b = (b + (256 - 48)) % 256
+
+abbrev letter : ℕ → ℕ
+letter b = (bit_or b 32 + (256 - 97)) % 256
+
+abbrev no_figure : ℕ → ℕ
+no_figure b = cond (ltb 9 (figure b)) 255 0
+
+abbrev other : ℕ → Bool
+other b = top 7 (bit_and (no_figure b) (cond (ltb 5 (letter b)) 255 0))
+
+abbrev value : ℕ → ℕ
+value b = cond (top 7 (no_figure b)) ((letter b + 10) % 256) (figure b)
+
+is_digit : (b : ℕ) → b < 256 → other b ≡ false → (is_ascii_hexdigit b ≡ true) × (value b ≡ hex_value b)
+is_digit b byte digit =
+    let table = agree_below_at (λ c. other c || (is_ascii_hexdigit c && eqb (value c) (hex_value c))) (λ c. true) 256 b refl byte in
+    let parts = and_parts _ _ (rw digit at table) in
+    (parts.0, eqb-true _ _ parts.1)
+
+abbrev figures : ℕ → List ℕ → List ℕ
+figures n bytes = zip2 (λ a b. (a + (256 - b)) % 256) bytes (replicate n 48)
+
+abbrev letters : ℕ → List ℕ → List ℕ
+letters n bytes = zip2 (λ a b. (a + (256 - b)) % 256) (zip2 bit_or bytes (replicate n 32)) (replicate n 97)
+
+abbrev above : ℕ → ℕ → List ℕ → List ℕ
+above n most bytes = zip2 (λ a b. cond (ltb a b) 255 0) (replicate n most) bytes
+
+abbrev others : ℕ → List ℕ → List Bool
+others n bytes = map (top 7) (zip2 bit_and (above n 9 (figures n bytes)) (above n 5 (letters n bytes)))
+
+abbrev pub values : ℕ → List ℕ → List ℕ
+values n bytes = sel_l (map (top 7) (above n 9 (figures n bytes))) (zip2 (λ a b. (a + b) % 256) (letters n bytes) (replicate n 10)) (figures n bytes)
+
+length-others : (bytes : List ℕ) → length (others (length bytes) bytes) ≡ length bytes
+length-others [] = refl
+length-others (b ∷ bytes) = omega (arith, length-others bytes)
+
+lanes_read : (bytes : List ℕ) → Each1 (Fits w8) bytes → mask_l (others (length bytes) bytes) ≡ 0 → (list_all is_ascii_hexdigit bytes ≡ true) × (values (length bytes) bytes ≡ map hex_value bytes)
+lanes_read [] small none = (refl, refl)
+lanes_read (b ∷ bytes) small none =
+    elim (cases_Bool (other b)) [
+      | inl stops ↦ absurd (let some = rw stops at none in omega arith)
+      | inr digit ↦
+          let first = is_digit b small.0.fits digit in
+          let left = rw digit at none in
+          let rest = lanes_read bytes small.1 (omega arith) in
+          (rw first.0 rest.0, λ i. first.1 i ∷ rest.1 i)
+    ]
+
+pub sixteen_read : (bytes : List ℕ) → length bytes ≡ 16 → Each1 (Fits w8) bytes → mask_l (others 16 bytes) % 2 ^ 64 ≡ 0
+    → (list_all is_ascii_hexdigit bytes ≡ true) × (values 16 bytes ≡ map hex_value bytes)
+sixteen_read bytes long small none =
+    let whole : length (others 16 bytes) ≡ 16 = rw long at (length-others bytes) in
+    (rw long at (lanes_read bytes small)) (sym (mask_l-mod (others 16 bytes) 64 (omega (arith, whole))) ∙ none)
+
+-- the bytes of their pairs
+abbrev joined : List ℕ → List ℕ
+joined vs =
+    zip2 (λ a b. (a + b) % 256) (zip2 (λ a b. a * b % 256) (pick_l 0 (vs ++ vs) (0 ∷ 2 ∷ 4 ∷ 6 ∷ 8 ∷ 10 ∷ 12 ∷ 14 ∷ [])) (replicate 8 16))
+    (pick_l 0 (vs ++ vs) (1 ∷ 3 ∷ 5 ∷ 7 ∷ 9 ∷ 11 ∷ 13 ∷ 15 ∷ []))
+
+byte_is : (high low : ℕ) → is_ascii_hexdigit high ≡ true → is_ascii_hexdigit low ≡ true → (hex_value high * 16 % 256 + hex_value low) % 256 ≡ hex_value high * 16 + hex_value low
+byte_is high low a b =
+    let x : hex_value high < 16 = grind (arith, nat_tests) in
+    let y : hex_value low < 16 = grind (arith, nat_tests) in
+    omega arith
+
+-- each of them
+pub digit_at : (digits : List ℕ) (i : ℕ) → list_all is_ascii_hexdigit digits ≡ true → i < length digits → is_ascii_hexdigit (get_or digits i 0) ≡ true
+digit_at [] i all within = absurd (omega arith)
+digit_at (digit ∷ digits) zero all within = (and_parts _ _ all).0
+digit_at (digit ∷ digits) (suc i) all within = digit_at digits i (and_parts _ _ all).1 (omega arith)
+
+joined_is : (digits : List ℕ) → length digits ≡ 16 → list_all is_ascii_hexdigit digits ≡ true → joined (map hex_value digits) ≡ spelled digits
+unfolding listed spelled
+joined_is digits long all =
+    let each : digits ≡ listed 16 0 digits = listed_all 16 0 digits long in
+    let byte : (k : ℕ) → k < 15 → (hex_value (get_or digits k 0) * 16 % 256 + hex_value (get_or digits (suc k) 0)) % 256 ≡ hex_value (get_or digits k 0) * 16 + hex_value (get_or digits (suc k) 0) = λ k within.
+    byte_is (get_or digits k 0) (get_or digits (suc k) 0) (digit_at digits k all (omega arith)) (digit_at digits (suc k) all (omega arith)) in
+    ap (λ t. joined (map hex_value t)) each
+    ∙ (λ i. byte 0 (omega arith) i ∷ byte 2 (omega arith) i ∷ byte 4 (omega arith) i ∷ byte 6 (omega arith) i ∷ byte 8 (omega arith) i ∷ byte 10 (omega arith) i ∷ byte 12 (omega arith) i ∷ byte 14 (omega arith) i ∷ [])
+    ∙ ap spelled (sym each)
+
+pub sixteen_joined : (digits : List ℕ) → length digits ≡ 16 → (list_all is_ascii_hexdigit digits ≡ true) × (values 16 digits ≡ map hex_value digits) → joined (values 16 digits) ≡ spelled digits
+sixteen_joined digits long read = ap joined read.1 ∙ joined_is digits long read.0

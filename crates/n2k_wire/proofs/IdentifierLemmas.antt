@@ -5,22 +5,14 @@ use Rattle.std.proofs.lemmas.Bool.{and_parts, cases_Bool, lt-ltb, ltb-true, eq-e
 use Rattle.n2k_wire.specs.declared.identifier.Id.{Id}
 use Rattle.n2k_wire.specs.Identifier.{split, join, is_joinable, is_addressed, format_of, low_byte, specific_of, source, pdu_specific, pdu_format, data_page, priority, everyone}
 
--- the parts of a sum of priority, page and format, specific byte and source
-module _ (p g s a : ℕ) (p_fits : p < 8) (g_fits : g < 1024) (s_fits : s < 256) (a_fits : a < 256) where
-  pub source_is : source (p * 2 ^ 26 + g * 2 ^ 16 + s * 2 ^ 8 + a) ≡ a
-  source_is = omega arith
+-- a sum of priority, page and format, specific byte and source
+abbrev sum_of : ℕ → ℕ → ℕ → ℕ → ℕ
+sum_of p g s a = p * 2 ^ 26 + g * 2 ^ 16 + s * 2 ^ 8 + a
 
-  pub specific_is : pdu_specific (p * 2 ^ 26 + g * 2 ^ 16 + s * 2 ^ 8 + a) ≡ s
-  specific_is = omega arith
-
-  pub format_is : pdu_format (p * 2 ^ 26 + g * 2 ^ 16 + s * 2 ^ 8 + a) ≡ g % 2 ^ 8
-  format_is = omega arith
-
-  pub page_is : data_page (p * 2 ^ 26 + g * 2 ^ 16 + s * 2 ^ 8 + a) ≡ g / 2 ^ 8
-  page_is = omega arith
-
-  pub priority_is : priority (p * 2 ^ 26 + g * 2 ^ 16 + s * 2 ^ 8 + a) ≡ p
-  priority_is = omega arith
+-- its parts
+parts : (p g s a : ℕ) → p < 8 → g < 1024 → s < 256 → a < 256
+    → (priority (sum_of p g s a) ≡ p) × (data_page (sum_of p g s a) ≡ g / 2 ^ 8) × (pdu_format (sum_of p g s a) ≡ g % 2 ^ 8) × (pdu_specific (sum_of p g s a) ≡ s) × (source (sum_of p g s a) ≡ a)
+parts p g s a p_fits g_fits s_fits a_fits = (omega arith, omega arith, omega arith, omega arith, omega arith)
 
 same_id : (a b : Id) → a.prio ≡ b.prio → a.pgn ≡ b.pgn → a.src ≡ b.src → a.dst ≡ b.dst → a ≡ b
 same_id a b prio pgn src dst =
@@ -39,11 +31,7 @@ split_broadcast n test id prio pgn src dst = rw test (same_id _ id prio pgn src 
 
 -- the number of an identifier that says this
 abbrev number_of : Id → ℕ
-number_of id = id.prio * 2 ^ 26 + id.pgn / 2 ^ 8 * 2 ^ 16 + specific_of id * 2 ^ 8 + id.src
-
-join_none : (id : Id) (n : ℕ) → is_joinable id ≡ false → join id ≡ Some n → ⊥
-unfolding join
-join_none id n fails e = let none = rw fails at e in cc
+number_of id = sum_of id.prio (id.pgn / 2 ^ 8) (specific_of id) id.src
 
 join_some : (id : Id) → is_joinable id ≡ true → join id ≡ Some (number_of id)
 unfolding join
@@ -60,60 +48,39 @@ joinable id holds =
     let inner = and_parts _ _ outer.0 in
     (ltb-true _ _ inner.0, ltb-true _ _ inner.1, outer.1)
 
+joined_as : (id : Id) (n : ℕ) → join id ≡ Some n → Joinable id × (number_of id ≡ n)
+unfolding join
+joined_as id n e =
+    elim (cases_Bool (is_joinable id)) [
+      | inl holds ↦ (joinable id holds, let same = sym (join_some id holds) ∙ e in cc)
+      | inr fails ↦ absurd (let none = rw fails at e in cc)
+    ]
+
+specific_small : (id : Id) → id.dst < 2 ^ 8 → specific_of id < 256
+specific_small id dst = elim (cases_Bool (is_addressed id.pgn)) [ inl one ↦ rw one dst | inr all ↦ rw all (omega arith) ]
+
 split_number : (id : Id) → id.src < 2 ^ 8 → id.dst < 2 ^ 8 → Joinable id → split (number_of id) ≡ id
 split_number id src dst facts =
+    let is = parts id.prio (id.pgn / 2 ^ 8) (specific_of id) id.src facts.0 (omega (arith, facts.1)) (specific_small id dst) src in
     elim (cases_Bool (is_addressed id.pgn)) [
       | inl one ↦
           let low : low_byte id.pgn ≡ 0 = eqb-true _ _ (rw one at facts.2) in
           let specific : specific_of id ≡ id.dst = rw one refl in
-          let s : specific_of id < 256 = omega arith in
-          let g : id.pgn / 2 ^ 8 < 1024 = omega (arith, facts.1) in
-          let format = format_is id.prio (id.pgn / 2 ^ 8) (specific_of id) id.src facts.0 g s src in
-          let page = page_is id.prio (id.pgn / 2 ^ 8) (specific_of id) id.src facts.0 g s src in
-          split_addressed (number_of id) (rw format one) id
-          (priority_is id.prio (id.pgn / 2 ^ 8) (specific_of id) id.src facts.0 g s src)
-          (rw (format, page) (omega arith))
-          (source_is id.prio (id.pgn / 2 ^ 8) (specific_of id) id.src facts.0 g s src)
-          (specific_is id.prio (id.pgn / 2 ^ 8) (specific_of id) id.src facts.0 g s src ∙ specific)
+          split_addressed (number_of id) (rw is.2 one) id is.0 (rw (is.2, is.1) (omega arith)) is.4 (is.3 ∙ specific)
       | inr all ↦
           let everyone_is : id.dst ≡ everyone = eqb-true _ _ (rw all at facts.2) in
-          let specific : specific_of id ≡ low_byte id.pgn = rw all refl in
-          let s : specific_of id < 256 = omega arith in
-          let g : id.pgn / 2 ^ 8 < 1024 = omega (arith, facts.1) in
-          let format = format_is id.prio (id.pgn / 2 ^ 8) (specific_of id) id.src facts.0 g s src in
-          let page = page_is id.prio (id.pgn / 2 ^ 8) (specific_of id) id.src facts.0 g s src in
-          let low = specific_is id.prio (id.pgn / 2 ^ 8) (specific_of id) id.src facts.0 g s src ∙ specific in
-          split_broadcast (number_of id) (rw format all) id
-          (priority_is id.prio (id.pgn / 2 ^ 8) (specific_of id) id.src facts.0 g s src)
-          (rw (format, page, low) (omega arith))
-          (source_is id.prio (id.pgn / 2 ^ 8) (specific_of id) id.src facts.0 g s src)
-          (sym everyone_is)
+          let low : pdu_specific (number_of id) ≡ low_byte id.pgn = is.3 ∙ (rw all refl) in
+          split_broadcast (number_of id) (rw is.2 all) id is.0 (rw (is.2, is.1, low) (omega arith)) is.4 (sym everyone_is)
     ]
 
 pub join_split : (id : Id) (n : ℕ) → id.src < 2 ^ 8 → id.dst < 2 ^ 8 → join id ≡ Some n → split n ≡ id
-join_split id n src dst e =
-    elim (cases_Bool (is_joinable id)) [
-      | inl holds ↦
-          let number : number_of id ≡ n = let same = sym (join_some id holds) ∙ e in cc in
-          rw (← number) (split_number id src dst (joinable id holds))
-      | inr fails ↦ absurd (join_none id n fails e)
-    ]
+join_split id n src dst e = let is = joined_as id n e in rw (← is.1) (split_number id src dst is.0)
 
 -- an identifier has 29 bits
 pub join_bits : (id : Id) (n : ℕ) → id.src < 2 ^ 8 → id.dst < 2 ^ 8 → join id ≡ Some n → n < 2 ^ 29
 join_bits id n src dst e =
-    elim (cases_Bool (is_joinable id)) [
-      | inl holds ↦
-          let number : number_of id ≡ n = let same = sym (join_some id holds) ∙ e in cc in
-          let facts = joinable id holds in
-          let specific : specific_of id < 256 = elim (cases_Bool (is_addressed id.pgn)) [ inl one ↦ rw one dst | inr all ↦ rw all (omega arith) ] in
-          omega (arith, facts.0, facts.1)
-      | inr fails ↦ absurd (join_none id n fails e)
-    ]
-
--- a PGN with its page, its format and its low byte
-format_is_of : (page format low : ℕ) → format < 256 → low < 256 → format_of (page * 2 ^ 16 + format * 2 ^ 8 + low) ≡ format
-format_is_of page format low f l = omega arith
+    let is = joined_as id n e in
+    omega (arith, is.1, is.0.0, is.0.1, specific_small id dst)
 
 joins : (id : Id) (n : ℕ) → id.prio < 8 → id.pgn < 2 ^ 18 → (if is_addressed id.pgn then low_byte id.pgn == 0 else id.dst == everyone) ≡ true → number_of id ≡ n → join id ≡ Some n
 unfolding is_joinable

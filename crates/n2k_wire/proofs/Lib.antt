@@ -5,7 +5,7 @@ pub mod DigitLemmas
 pub mod HexDigits
 pub mod IdentifierLemmas
 pub mod FirstPlaces
-pub mod PieceLemmas
+pub mod Columns
 pub mod PlainLemmas
 pub mod ReadBack
 pub mod TextLemmas

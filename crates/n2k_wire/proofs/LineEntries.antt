@@ -18,23 +18,14 @@ use Rattle.n2k_wire.specs.Digits.{decimal_number}
 use Rattle.n2k_wire.specs.Entry.{IsEntry, IsShort, entry, is_candump, is_skipped, longest_line, settled}
 use Rattle.n2k_wire.specs.Identifier.{split, pdu_format}
 use Rattle.n2k_wire.specs.Packet.{PacketParts, IsPacketParts, is_stamp}
-use Rattle.n2k_wire.specs.Plain.{Header, pieces, number_to, pair, pairs, header, id_of, bytes_of, packed, packet_of, packet_of_pieces, plain, plain_packet}
+use Rattle.n2k_wire.specs.Plain.{Header, columns, number_to, pair, pairs, header, id_of, bytes_of, packed, packet_of, packet_of_columns, plain, plain_packet}
 use Rattle.n2k_wire.specs.Stamp.{Moment, moment, utc_text}
-use Rattle.n2k_wire.specs.Steps.{◌>>=◌, or_cause, holds_or, some_if}
+use Rattle.n2k_wire.specs.Steps.{or_cause, holds_or, some_if}
 use Rattle.n2k_wire.specs.PrivateWords.{IsMoment}
-use Rattle.n2k_wire.proofs.UtcBack.{with_some, if_some}
+use Rattle.n2k_wire.proofs.UtcBack.{found, if_some, with_ok, with_some}
 use Rattle.n2k_wire.proofs.UtcStamps.{utc_is_stamp, moment_is_one}
 
 -- ---- steps that gave something
-
--- what follows from the first step's value follows
-with_ok : {A B E : Type 0} {P : Type 0} (r : Result A E) (f : A → Result B E) (y : B) → (r >>= f) ≡ Ok y → ((x : A) → r ≡ Ok x → f x ≡ Ok y → P) → P
-with_ok (Ok x) f y e follows = follows x refl e
-with_ok (Err cause) f y e follows = absurd cc
-
-found : {A E : Type 0} (cause : E) (o : Option A) (x : A) → or_cause cause o ≡ Ok x → o ≡ Some x
-found cause None x e = absurd cc
-found cause (Some y) x e = let same : y ≡ x = cc in ap Some same
 
 held : {E : Type 0} (cause : E) (test : Bool) (x : Unit {0}) → holds_or cause test ≡ Ok x → test ≡ true
 held cause true x e = refl
@@ -72,12 +63,12 @@ payload_fits text bytes e =
     (omega (arith, read.2), read.3))
 
 -- a pair of digits is one byte
-pair_fits : (piece bytes : List ℕ) → pair piece ≡ Some bytes → (length bytes ≡ 1) × IsBytes bytes
+pair_fits : (column bytes : List ℕ) → pair column ≡ Some bytes → (length bytes ≡ 1) × IsBytes bytes
 unfolding pair
-pair_fits piece bytes e =
-    let ok = answered (decode_sized piece 1) bytes e in
-    let two = decode_sized-ok piece 1 bytes ok in
-    let read = decode_of-ok piece bytes (sym (decode_sized-twice piece 1 two) ∙ ok) in
+pair_fits column bytes e =
+    let ok = answered (decode_sized column 1) bytes e in
+    let two = decode_sized-ok column 1 bytes ok in
+    let read = decode_of-ok column bytes (sym (decode_sized-twice column 1 two) ∙ ok) in
     (omega (arith, read.2), read.3)
 
 -- one byte, then others
@@ -90,21 +81,20 @@ in_front (x ∷ []) bytes one a b = (omega arith, cons x bytes (a 0) b)
     cons x xs h hs (suc i) = hs i
 in_front (x ∷ y ∷ more) bytes one a b = absurd (omega arith)
 
-next_fits : (count : ℕ) (byte bytes : List ℕ) (rest : Option (List ℕ)) → (length byte ≡ 1) × IsBytes byte → ((read : List ℕ) → rest ≡ Some read → (length read ≡ count) × IsBytes read)
-    → option_map (λ others. byte ++ others) rest ≡ Some bytes → (length bytes ≡ suc count) × IsBytes bytes
-next_fits count byte bytes None one others e = absurd cc
-next_fits count byte bytes (Some rest) one others e =
-    let same : byte ++ rest ≡ bytes = cc in
-    let read = others rest refl in
-    let whole = in_front byte rest one.0 one.1 read.1 in
-    rw (← same) (omega (arith, whole.0, read.0), whole.1)
+with_mapped : {A B : Type 0} {P : Type 0} (o : Option A) (f : A → B) (y : B) → option_map f o ≡ Some y → ((x : A) → o ≡ Some x → f x ≡ y → P) → P
+with_mapped None f y e follows = absurd cc
+with_mapped (Some x) f y e follows = follows x refl (let same : f x ≡ y = cc in same)
 
 pairs_fit : (more : List (List ℕ)) (bytes : List ℕ) → pairs more ≡ Some bytes → (length bytes ≡ length more) × IsBytes bytes
 unfolding pairs
 pairs_fit [] bytes e = let none : [] ≡ bytes = cc in rw (← none) (refl, λ i. omega arith)
-pairs_fit (piece ∷ more) bytes e =
-    with_some (pair piece) _ bytes e (λ byte eb e1.
-    next_fits (length more) byte bytes (pairs more) (pair_fits piece byte eb) (λ read er. pairs_fit more read er) e1)
+pairs_fit (column ∷ more) bytes e =
+    with_some (pair column) _ bytes e (λ byte eb e1.
+    with_mapped (pairs more) _ bytes e1 (λ read er same.
+    let one = pair_fits column byte eb in
+    let rest = pairs_fit more read er in
+    let whole = in_front byte read one.0 one.1 rest.1 in
+    rw (← same) (omega (arith, whole.0, rest.0), whole.1)))
 
 bytes_fit : (len : ℕ) (more : List (List ℕ)) (bytes : List ℕ) → bytes_of len more ≡ Some bytes → (length bytes ≡ len) × IsBytes bytes
 unfolding bytes_of
@@ -151,10 +141,10 @@ candump_is_entry line e gives =
 
 -- ---- plain lines
 
-number_fits : (limit n : ℕ) (piece : List ℕ) → or_cause causes.Number (number_to limit piece) ≡ Ok n → n ≤ limit
+number_fits : (limit n : ℕ) (column : List ℕ) → or_cause causes.Number (number_to limit column) ≡ Ok n → n ≤ limit
 unfolding number_to
-number_fits limit n piece e =
-    with_some (decimal_number 10 piece) _ n (found causes.Number (number_to limit piece) n e) (λ read er e1.
+number_fits limit n column e =
+    with_some (decimal_number 10 column) _ n (found causes.Number (number_to limit column) n e) (λ read er e1.
     let is = if_some (leb read limit) read n e1 in
     rw (← is.1) (leb-true read limit is.0))
 
@@ -191,9 +181,9 @@ packet_is_one stamp more p e =
       bytes_ok = read.1;
     }))))))
 
-pieces_are_packet : (all : List (List ℕ)) (p : PacketParts) → packet_of_pieces all ≡ Ok p → IsPacketParts p
-pieces_are_packet [] p e = absurd cc
-pieces_are_packet (stamp ∷ more) p e = packet_is_one stamp more p e
+columns_are_packet : (all : List (List ℕ)) (p : PacketParts) → packet_of_columns all ≡ Ok p → IsPacketParts p
+columns_are_packet [] p e = absurd cc
+columns_are_packet (stamp ∷ more) p e = packet_is_one stamp more p e
 
 packed_is_entry : (packing : Packing) (p : PacketParts) → IsPacketParts p → IsEntry (packed packing p)
 packed_is_entry packings.Frames p is =
@@ -207,7 +197,7 @@ plain_is_entry : (packing : Packing) (line : List ℕ) (e : Entry) → plain pac
 plain_is_entry packing line e gives =
     with_ok (plain_packet line) _ e gives (λ p ep e1.
     let same : packed packing p ≡ e = cc in
-    subst IsEntry same (packed_is_entry packing p (pieces_are_packet (pieces line) p ep)))
+    subst IsEntry same (packed_is_entry packing p (columns_are_packet (columns line) p ep)))
 
 -- ---- lines
 

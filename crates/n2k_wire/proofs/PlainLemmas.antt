@@ -1,4 +1,4 @@
--- Reading the bytes of a plain line, one piece at a time.
+-- Reading the bytes of a plain line, one column at a time.
 use Rattle.std.proofs.Common.{◌≡◌, ℕ, List, [], ◌∷◌, ◌++◌, length, Option, Some, None, refl, ap, ◌∙◌, append_assoc, inl, inr}
 use Rattle.std.specs.Prelude.{option_map}
 use Rattle.std.proofs.lemmas.Bool.{eq-eqb, ne_eqb, cases_eq}
@@ -13,13 +13,13 @@ pub regroup : (front byte : List ℕ) (read : Option (List ℕ)) → with_front 
 regroup front byte None = refl
 regroup front byte (Some bytes) = simp append_assoc
 
-pub reads_piece : (front byte piece : List ℕ) (more : List (List ℕ)) → pair piece ≡ Some byte → with_front front (pairs (piece ∷ more)) ≡ with_front (front ++ byte) (pairs more)
+pub reads_column : (front byte column : List ℕ) (more : List (List ℕ)) → pair column ≡ Some byte → with_front front (pairs (column ∷ more)) ≡ with_front (front ++ byte) (pairs more)
 unfolding pairs
-reads_piece front byte piece more e = rw e (regroup front byte (pairs more))
+reads_column front byte column more e = rw e (regroup front byte (pairs more))
 
-pub ends_piece : (front piece : List ℕ) (more : List (List ℕ)) → pair piece ≡ None → with_front front (pairs (piece ∷ more)) ≡ None
+pub ends_column : (front column : List ℕ) (more : List (List ℕ)) → pair column ≡ None → with_front front (pairs (column ∷ more)) ≡ None
 unfolding pairs
-ends_piece front piece more e = rw e refl
+ends_column front column more e = rw e refl
 
 pub pairs-end : (front : List ℕ) → with_front front (pairs []) ≡ Some front
 unfolding pairs
@@ -29,12 +29,12 @@ pub bytes_of-pairs : (len : ℕ) (more : List (List ℕ)) → length more ≡ le
 unfolding bytes_of
 bytes_of-pairs len more e = rw (eq-eqb (length more) len e) refl
 
--- another number of pieces
+-- another number of columns
 pub bytes_of-other : (len : ℕ) (more : List (List ℕ)) → (length more ≡ len → ⊥) → bytes_of len more ≡ None
 unfolding bytes_of
 bytes_of-other len more other = rw (ne_eqb (length more) len other) refl
 
--- a piece that is no byte, among as many pieces as there should be or not
+-- a column that is no byte, among as many columns as there should be or not
 pub bytes_of-bad : (len : ℕ) (more : List (List ℕ)) → pairs more ≡ None → bytes_of len more ≡ None
 bytes_of-bad len more bad =
     elim (cases_eq (length more) len) [

@@ -1,9 +1,9 @@
 -- Plain lines, written in pieces of constant length.
-use Rattle.std.proofs.Common.{◌≡◌, ℕ, zero, suc, ◌+◌, ◌-◌, ◌*◌, ◌/◌, ◌%◌, ◌^◌, ◌<◌, ◌≤◌, true, false, cond, ltb, List, [], ◌∷◌, ◌++◌, length, get_or, map, take, replicate, bit_and, refl, sym, ap, ◌∙◌, append_assoc, arith, inl, inr}
+use Rattle.std.proofs.Common.{◌≡◌, ℕ, suc, ◌+◌, ◌-◌, ◌*◌, ◌/◌, ◌%◌, ◌^◌, ◌<◌, ◌≤◌, true, cond, eqb, ltb, List, [], ◌∷◌, ◌++◌, length, get_or, map, take, replicate, bit_and, refl, sym, ap, ◌∙◌, append_assoc, arith, inl, inr}
 use Rattle.std.specs.Prelude.{codes, decimal}
 use Rattle.std.specs.List.{flat_map}
 use Rattle.std.specs.Int.{w32, w64, to_le_bytes}
-use Rattle.std.proofs.lemmas.Bool.{cases_Bool, cases_lt, lt-ltb, le-ltb}
+use Rattle.std.proofs.lemmas.Bool.{agree_below_at, cases_Bool, cases_lt, eqb-true}
 use Rattle.std.proofs.lemmas.Nat.{and_mask}
 use Rattle.hex.specs.Hex.{encode_with, lower_digits}
 use Rattle.n2k_wire.specs.Packet.{PacketParts}
@@ -13,7 +13,7 @@ use lib.Lanes.{pick_l, sel_l, top, zip2}
 use Rattle.itoa.proofs.Decimal.{decimal_two, decimal_four}
 use Rattle.std.proofs.lemmas.Fmt.{decimal_digit}
 use Rattle.n2k_wire.specs.Texts.{byte_piece, number_piece, plain_line, plain_text}
-use Rattle.n2k_wire.proofs.TextLemmas.{eight_of, figure_at, letter_at, piece_of_one, piece_of_two, piece_of_three}
+use Rattle.n2k_wire.proofs.TextLemmas.{listed, listed_all, piece_of_one, piece_of_two, piece_of_three}
 
 take_past : (p q : List ℕ) (k : ℕ) → take (length p + k) (p ++ q) ≡ p ++ take k q
 take_past [] q k =
@@ -128,24 +128,13 @@ word_is_large n free few =
 -- ---- the eight bytes
 
 lane_is : (n : ℕ) → n < 16 → lower_lane n ≡ get_or lower_digits n 0
-lane_is n small =
-    elim (cases_lt 9 n) [
-      | inl letter ↦ (let test : ltb 9 n ≡ true = lt-ltb 9 n letter in rw (letter_at n letter small, test) (omega arith))
-      | inr figure ↦ (let test : ltb 9 n ≡ false = le-ltb 9 n figure in rw (figure_at n figure, test) (omega arith))
-    ]
+lane_is n small = eqb-true _ _ (agree_below_at (λ k. eqb (lower_lane k) (get_or lower_digits k 0)) (λ k. true) 16 n refl small)
 
 -- the digits of some numbers, lane by lane
-pub lanes_lower : (n : ℕ) (xs : List ℕ) → length xs ≡ n
-    → sel_l (map (top 7) (zip2 (λ a b. cond (ltb a b) 255 0) (replicate n 9) xs)) (zip2 (λ a b. (a + b) % 256) xs (replicate n 87)) (zip2 (λ a b. (a + b) % 256) xs (replicate n 48)) ≡ map lower_lane xs
-lanes_lower zero [] long = refl
-lanes_lower zero (x ∷ xs) long = absurd (omega arith)
-lanes_lower (suc n) [] long = absurd (omega arith)
-lanes_lower (suc n) (x ∷ xs) long =
-    let rest = lanes_lower n xs (omega arith) in
-    elim (cases_Bool (ltb 9 x)) [
-      | inl letter ↦ rw (letter, rest) refl
-      | inr figure ↦ rw (figure, rest) refl
-    ]
+pub lanes_lower : (xs : List ℕ)
+    → sel_l (map (top 7) (zip2 (λ a b. cond (ltb a b) 255 0) (replicate (length xs) 9) xs)) (zip2 (λ a b. (a + b) % 256) xs (replicate (length xs) 87)) (zip2 (λ a b. (a + b) % 256) xs (replicate (length xs) 48)) ≡ map lower_lane xs
+lanes_lower [] = refl
+lanes_lower (x ∷ xs) = elim (cases_Bool (ltb 9 x)) [ inl letter ↦ rw (letter, lanes_lower xs) refl | inr figure ↦ rw (figure, lanes_lower xs) refl ]
 
 high_digit : (b : ℕ) → b < 256 → lower_lane (b / 16) ≡ get_or lower_digits (b / 16) 0
 high_digit b byte = lane_is (b / 16) (omega arith)
@@ -173,8 +162,9 @@ end_of_eight a b c d e f g h A B C D E F G H =
     ∷ 44 ∷ high_digit e E i ∷ low_digit e i ∷ 44 ∷ high_digit f F i ∷ low_digit f i ∷ 44 ∷ high_digit g G i ∷ low_digit g i ∷ 44 ∷ high_digit h H i ∷ low_digit h i ∷ 10 ∷ [])
 
 pub end_is : (bytes : List ℕ) → length bytes ≡ 8 → ((k : ℕ) → get_or bytes k 0 < 256) → end_of bytes ≡ pieces_of bytes
+unfolding listed
 end_is bytes long small =
-    let each = eight_of bytes long in
+    let each = listed_all 8 0 bytes long in
     ap end_of each
     ∙ end_of_eight (get_or bytes 0 0) (get_or bytes 1 0) (get_or bytes 2 0) (get_or bytes 3 0) (get_or bytes 4 0) (get_or bytes 5 0) (get_or bytes 6 0) (get_or bytes 7 0) (small 0) (small 1) (small 2) (small 3) (small 4) (small 5) (small 6) (small 7)
     ∙ ap pieces_of (sym each)

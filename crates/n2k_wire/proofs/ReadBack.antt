@@ -2,24 +2,24 @@
 use Rattle.std.proofs.Common.{◌≡◌, ℕ, zero, suc, ◌+◌, ◌*◌, ◌/◌, ◌%◌, ◌^◌, ◌<◌, ◌≤◌, true, false, List, [], ◌∷◌, ◌++◌, map, length, Some, None, Ok, ltb, leb, not, refl, ap, ◌∙◌, arith, append_assoc, length-append}
 use Rattle.std.specs.Prelude.{◌==◌, ◌&&◌, decimal, option_and_then, slice_index, IsTrue}
 use Rattle.std.specs.List.{All, list_all, flat_map}
-use Rattle.std.proofs.lemmas.Bool.{and_parts, leb-true, le-leb, le-ltb, lt-ltb, ne_eqb, not-true}
+use Rattle.std.proofs.lemmas.Bool.{agree_below_at, and_parts, leb-true, le-leb, le-ltb, lt-ltb, ne_eqb, not-true}
 use Rattle.std.proofs.lemmas.Fmt.{decimal_by_steps, length-decimal-le, decimal_nonempty}
 use Rattle.std.proofs.lemmas.List.{append-nil, length-map}
 use Rattle.std.proofs.lemmas.List.Elements.{All-nil, All-cons, All-append, All-weaker}
 use Rattle.std.proofs.lemmas.List.Splits.{slice_split_at, slice_split_none}
 use Rattle.std.proofs.lemmas.List.Sums.{AllPass-from_list_all}
-use Rattle.hex.specs.Hex.{IsBytes, encode_with, encode_lower, lower_digits, hex_digit_value}
-use Rattle.hex.proofs.HexLemmas.{IsDigits-lower_digits, decode_sized-encode_lower}
+use Rattle.hex.specs.Hex.{IsBytes, encode_with, encode_lower, lower_digits}
+use Rattle.hex.proofs.HexLemmas.{decode_sized-encode_lower}
 use Rattle.n2k_wire.specs.declared.entry.Packing.{Packing}
 use Rattle.n2k_wire.specs.Digits.{decimal_digit, decimal_after, decimal_number}
 use Rattle.n2k_wire.specs.Entry.{entry, is_skipped, is_candump, settled}
 use Rattle.n2k_wire.specs.Packet.{PacketParts, IsPacketParts, is_printable, is_stamp, is_stamp_byte, starts_stamp}
-use Rattle.n2k_wire.specs.Plain.{pieces, number_to, pair, pairs, header, id_of, bytes_of, packed, packet_of, packet_of_pieces, plain}
+use Rattle.n2k_wire.specs.Plain.{columns, number_to, pair, pairs, header, id_of, bytes_of, packed, packet_of, packet_of_columns, plain}
 use Rattle.n2k_wire.specs.Steps.{◌>>=◌}
 use Rattle.n2k_wire.specs.Texts.{byte_piece, number_piece, plain_line}
 use Rattle.n2k_wire.proofs.PlainLemmas.{bytes_of-pairs}
 
--- ---- pieces
+-- ---- columns
 
 -- a text without a comma
 abbrev pub HasNoComma : List ℕ → Type 0
@@ -28,13 +28,13 @@ HasNoComma text = All (λ b. (b == 44) ≡ false) text
 no_comma : (b : ℕ) → (b ≡ 44 → ⊥) → (b == 44) ≡ false
 no_comma b other = ne_eqb b 44 other
 
--- a piece and a comma, and what stands behind them
-pub next_piece : (text more : List ℕ) → HasNoComma text → pieces (text ++ (44 ∷ more)) ≡ text ∷ pieces more
-next_piece text more h = slice_split_at (λ b. b == 44) text 44 more h refl
+-- a column and a comma, and what stands behind them
+pub next_column : (text more : List ℕ) → HasNoComma text → columns (text ++ (44 ∷ more)) ≡ text ∷ columns more
+next_column text more h = slice_split_at (λ b. b == 44) text 44 more h refl
 
--- the last piece
-pub last_piece : (text : List ℕ) → HasNoComma text → pieces text ≡ text ∷ []
-last_piece text h = slice_split_none (λ b. b == 44) text h
+-- the last column
+pub last_column : (text : List ℕ) → HasNoComma text → columns text ≡ text ∷ []
+last_column text h = slice_split_none (λ b. b == 44) text h
 
 -- ---- bytes
 
@@ -43,8 +43,7 @@ abbrev byte_digits : ℕ → List ℕ
 byte_digits b = encode_lower (b ∷ [])
 
 digit_no_comma : (d : ℕ) → d < 16 → (slice_index lower_digits d == 44) ≡ false
-digit_no_comma d h =
-    no_comma (slice_index lower_digits d) (λ e. let read : hex_digit_value 44 ≡ Some d = rw e at (IsDigits-lower_digits d h) in cc)
+digit_no_comma d h = agree_below_at (λ k. slice_index lower_digits k == 44) (λ k. false) 16 d refl h
 
 byte_no_comma : (b : ℕ) → b < 256 → HasNoComma (byte_digits b)
 unfolding encode_with
@@ -72,12 +71,12 @@ unfolding pairs
 bytes_read [] h = refl
 bytes_read (b ∷ bytes) h = rw (byte_reads b (h 0), bytes_read bytes (λ i. h (suc i))) refl
 
--- a piece, and behind it one piece for each byte
-pieces_of_bytes : (front bytes : List ℕ) → HasNoComma front → IsBytes bytes → pieces (front ++ flat_map byte_piece bytes) ≡ front ∷ map byte_digits bytes
-pieces_of_bytes front [] h bs = rw append-nil (last_piece front h)
-pieces_of_bytes front (b ∷ bytes) h bs =
-    next_piece front (byte_digits b ++ flat_map byte_piece bytes) h
-    ∙ ap (λ more. front ∷ more) (pieces_of_bytes (byte_digits b) bytes (byte_no_comma b (bs 0)) (λ i. bs (suc i)))
+-- a column, and behind it one column for each byte
+columns_of_bytes : (front bytes : List ℕ) → HasNoComma front → IsBytes bytes → columns (front ++ flat_map byte_piece bytes) ≡ front ∷ map byte_digits bytes
+columns_of_bytes front [] h bs = rw append-nil (last_column front h)
+columns_of_bytes front (b ∷ bytes) h bs =
+    next_column front (byte_digits b ++ flat_map byte_piece bytes) h
+    ∙ ap (λ more. front ∷ more) (columns_of_bytes (byte_digits b) bytes (byte_no_comma b (bs 0)) (λ i. bs (suc i)))
 
 -- three characters for each byte
 length-bytes : (bytes : List ℕ) → length (flat_map byte_piece bytes) ≡ 3 * length bytes
@@ -86,7 +85,7 @@ length-bytes (b ∷ bytes) = omega (arith, length-byte_digits b, length-bytes by
 
 -- ---- numbers
 
-digit_reads : (d : ℕ) → d < 10 → decimal_digit (48 + d) ≡ Some d
+pub digit_reads : (d : ℕ) → d < 10 → decimal_digit (48 + d) ≡ Some d
 unfolding decimal_digit
 digit_reads d h =
     let low : leb 48 (48 + d) ≡ true = le-leb 48 (48 + d) (omega arith) in
@@ -107,7 +106,7 @@ digit_behind before b (c ∷ digits) n e =
       | Some digit ↦ λ some. digit_behind (10 * before + digit) b digits n some
     ] e
 
--- a text that is read as this number, and is one piece
+-- a text that is read as this number, and is one column
 abbrev IsReadAs : ℕ → List ℕ → Type 0
 IsReadAs n text = (decimal_after 0 text ≡ Some n) × HasNoComma text
 
@@ -145,7 +144,7 @@ length-number_piece n h = omega (arith, length-decimal-le 10 n (omega arith) h (
 
 -- ---- the stamp
 
--- a stamp begins as none of the other lines do, is short, and is one piece
+-- a stamp begins as none of the other lines do, is short, and is one column
 pub stamp_parts : (stamp : List ℕ) → IsTrue (is_stamp stamp) → (starts_stamp stamp ≡ true) × (length stamp ≤ 32) × HasNoComma stamp
 stamp_parts stamp ok =
     let outer = and_parts (starts_stamp stamp && leb (length stamp) 32) (list_all is_stamp_byte stamp) ok in
@@ -199,12 +198,12 @@ module _ (p : PacketParts) (packing : Packing) (ok : IsPacketParts p) where
   len_small = omega (arith, ok.packet_ok.payload_ok)
 
   -- what stands behind the stamp
-  behind_stamp : List ℕ
+  abbrev behind_stamp : List ℕ
   behind_stamp =
       number_piece p.id.prio ++ (number_piece p.id.pgn ++ (number_piece p.id.src ++ (number_piece p.id.dst ++ (number_piece (length p.payload) ++ flat_map byte_piece p.payload))))
 
   line_is : plain_line p ≡ p.stamp ++ behind_stamp
-  unfolding plain_line behind_stamp
+  unfolding plain_line
   line_is = regroup p.stamp (number_piece p.id.prio) (number_piece p.id.pgn) (number_piece p.id.src) (number_piece p.id.dst) (number_piece (length p.payload)) (flat_map byte_piece p.payload)
 
   line_short : length (plain_line p) ≤ 2048
@@ -213,28 +212,27 @@ module _ (p : PacketParts) (packing : Packing) (ok : IsPacketParts p) where
       rw (lengths p.stamp (number_piece p.id.prio) (number_piece p.id.pgn) (number_piece p.id.src) (number_piece p.id.dst) (number_piece (length p.payload)) (flat_map byte_piece p.payload))
       (omega (arith, ok.packet_ok.payload_ok, stamp_is.1, length-number_piece p.id.prio prio_small, length-number_piece p.id.pgn pgn_small, length-number_piece p.id.src src_small, length-number_piece p.id.dst dst_small, length-number_piece (length p.payload) len_small, length-bytes p.payload))
 
-  -- the pieces behind the stamp
-  behind : List (List ℕ)
+  -- the columns behind the stamp
+  abbrev behind : List (List ℕ)
   behind =
       decimal p.id.prio ∷ decimal p.id.pgn ∷ decimal p.id.src ∷ decimal p.id.dst ∷ decimal (length p.payload) ∷ map byte_digits p.payload
 
-  pieces_are : pieces (p.stamp ++ behind_stamp) ≡ p.stamp ∷ behind
-  unfolding behind_stamp behind
-  pieces_are =
-      next_piece p.stamp _ stamp_is.2
+  columns_are : columns (p.stamp ++ behind_stamp) ≡ p.stamp ∷ behind
+  columns_are =
+      next_column p.stamp _ stamp_is.2
       ∙ ap (λ more. p.stamp ∷ more)
-      (next_piece (decimal p.id.prio) _ (number_no_comma p.id.prio prio_small)
+      (next_column (decimal p.id.prio) _ (number_no_comma p.id.prio prio_small)
       ∙ ap (λ more. decimal p.id.prio ∷ more)
-      (next_piece (decimal p.id.pgn) _ (number_no_comma p.id.pgn pgn_small)
+      (next_column (decimal p.id.pgn) _ (number_no_comma p.id.pgn pgn_small)
       ∙ ap (λ more. decimal p.id.pgn ∷ more)
-      (next_piece (decimal p.id.src) _ (number_no_comma p.id.src src_small)
+      (next_column (decimal p.id.src) _ (number_no_comma p.id.src src_small)
       ∙ ap (λ more. decimal p.id.src ∷ more)
-      (next_piece (decimal p.id.dst) _ (number_no_comma p.id.dst dst_small)
+      (next_column (decimal p.id.dst) _ (number_no_comma p.id.dst dst_small)
       ∙ ap (λ more. decimal p.id.dst ∷ more)
-      (pieces_of_bytes (decimal (length p.payload)) p.payload (number_no_comma (length p.payload) len_small) ok.bytes_ok)))))
+      (columns_of_bytes (decimal (length p.payload)) p.payload (number_no_comma (length p.payload) len_small) ok.bytes_ok)))))
 
   packet_read : packet_of p.stamp behind ≡ Ok p
-  unfolding behind packet_of header id_of
+  unfolding packet_of header id_of
   packet_read =
       let bytes : bytes_of (length p.payload) (map byte_digits p.payload) ≡ Some p.payload =
       bytes_of-pairs (length p.payload) (map byte_digits p.payload) (length-map p.payload byte_digits) ∙ bytes_read p.payload ok.bytes_ok in
@@ -244,7 +242,7 @@ module _ (p : PacketParts) (packing : Packing) (ok : IsPacketParts p) where
   reads_back =
       let kept : is_skipped (plain_line p) ≡ false = rw line_is (not_skipped p.stamp behind_stamp stamp_is.0) in
       let other : is_candump (plain_line p) ≡ false = rw line_is (not_candump p.stamp behind_stamp stamp_is.0) in
-      let same : pieces (plain_line p) ≡ p.stamp ∷ behind = rw line_is pieces_are in
+      let same : columns (plain_line p) ≡ p.stamp ∷ behind = rw line_is columns_are in
       plain_entry (plain_line p) packing line_short kept other
-      ∙ ap (λ all. settled (packet_of_pieces all >>= (λ q. Ok (packed packing q)))) same
+      ∙ ap (λ all. settled (packet_of_columns all >>= (λ q. Ok (packed packing q)))) same
       ∙ ap (λ read. settled (read >>= (λ q. Ok (packed packing q)))) packet_read

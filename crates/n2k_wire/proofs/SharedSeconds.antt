@@ -14,7 +14,7 @@ use Rattle.n2k_wire.specs.Steps.{some_if}
 use Rattle.n2k_wire.specs.Texts.{second_digits}
 use Rattle.n2k_wire.proofs.CandumpBack.{length-seconds}
 use Rattle.n2k_wire.proofs.Clocks.{number_read}
-use Rattle.n2k_wire.proofs.UtcBack.{eight, if_some, moment_is, number_digits, three_back, with_some}
+use Rattle.n2k_wire.proofs.UtcBack.{eight, if_some, moment_is, number_parts, three_back, with_some}
 
 part_same : (place digits : ℕ) (s b c : List ℕ) → place + digits ≤ length s → take digits (drop place (s ++ b)) ≡ take digits (drop place (s ++ c))
 part_same zero zero s b c within = refl
@@ -95,7 +95,7 @@ own_millis stamp behind seen long four e =
     with_some (number_at 20 3 (stamp ++ behind)) _ seen e3 (λ millis em e4.
     let is : millis ≡ seen.millis = (moment_is seen (day * 86400 + second) millis e4).1 in
     let three : length (take 3 behind) ≡ 3 = length-take-le 3 behind (omega (arith, four)) in
-    let digits = number_digits 3 millis (take 3 behind) (sym (millis_at stamp long behind behind four four (take 3 behind) refl) ∙ em) in
+    let digits = (number_parts 3 millis (take 3 behind) (sym (millis_at stamp long behind behind four four (take 3 behind) refl) ∙ em)).1 in
     ap millis_digits (sym is) ∙ (three_back millis (take 3 behind) three digits).0))))
 
 -- the front of a line has at most fourteen bytes

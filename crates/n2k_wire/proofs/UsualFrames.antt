@@ -1,5 +1,5 @@
 -- What follows the stamp of a line, where it stands as `candump` writes it.
-use Rattle.std.proofs.Common.{◌≡◌, ℕ, ◌*◌, ◌<◌, ◌≤◌, true, false, ltb, leb, not, List, [], ◌∷◌, ◌++◌, take, drop, length, Some, Ok, refl, ap, sym, ◌∙◌, inl, inr, arith}
+use Rattle.std.proofs.Common.{◌≡◌, ℕ, ◌*◌, ◌<◌, ◌≤◌, true, false, ltb, leb, not, List, [], ◌∷◌, ◌++◌, take, drop, get_or, length, Some, Ok, refl, ap, sym, subst, ◌∙◌, inl, inr, arith}
 use Rattle.std.specs.Prelude.{◌==◌, position, option_map}
 use Rattle.std.specs.Char.{is_ascii_hexdigit}
 use Rattle.std.specs.Int.{w32, from_be_bytes}
@@ -8,6 +8,7 @@ use Rattle.std.specs.Result.{result_ok}
 use Rattle.std.proofs.lemmas.Bool.{cases_Bool, eqb-true, le-leb, lt-ltb}
 use Rattle.std.proofs.lemmas.List.{take-append-drop}
 use Rattle.std.proofs.Math.Seq.{drop-length, take-length}
+use lib.Lanes.{pick_l}
 use Rattle.hex.specs.Hex.{decode_of}
 use Rattle.n2k_wire.specs.declared.entry.Entry.TheVariants as entries
 use Rattle.n2k_wire.specs.declared.entry.Packing.{Packing}
@@ -15,10 +16,11 @@ use Rattle.n2k_wire.specs.Candump.{stamped, framed, is_interface, is_interface_b
 use Rattle.n2k_wire.specs.Entry.{entry, settled}
 use Rattle.n2k_wire.specs.Identifier.{split}
 use Rattle.n2k_wire.specs.Pieces.{after_byte}
-use Rattle.n2k_wire.specs.PrivateWords.{stamp_behind}
+use Rattle.n2k_wire.specs.PrivateWords.{IsFramed, stamp_behind}
 use Rattle.n2k_wire.specs.Stamp.{moment, utc_text}
 use Rattle.n2k_wire.proofs.CandumpBack.{candump_entry, framed_read}
-use Rattle.n2k_wire.proofs.HexDigits.{all_before, all_digits}
+use Rattle.n2k_wire.proofs.HexDigits.{all_before, all_digits, all_front, decode_of-even, spelled, spelled_bytes}
+use Rattle.n2k_wire.proofs.TextLemmas.{listed, listed_all}
 use Rattle.n2k_wire.proofs.UsualStamps.{follows}
 use Rattle.n2k_wire.proofs.UtcBack.{with_some}
 
@@ -57,6 +59,21 @@ identifier_of digits n hex eight read small =
     let fits : ltb n 0x20000000 ≡ true = lt-ltb n 0x20000000 small in
     rw (read, hex, eight, fits) refl
 
+-- eight digits twice
+abbrev pub twice : List ℕ → List ℕ
+twice digits = pick_l 0 (digits ++ digits) (0 ∷ 1 ∷ 2 ∷ 3 ∷ 4 ∷ 5 ∷ 6 ∷ 7 ∷ 0 ∷ 1 ∷ 2 ∷ 3 ∷ 4 ∷ 5 ∷ 6 ∷ 7 ∷ [])
+
+-- the first four of their bytes
+pub word_of : (digits bytes : List ℕ) → length digits ≡ 8 → list_all is_ascii_hexdigit (twice digits) ≡ true → result_ok (decode_of (twice digits)) ≡ Some bytes
+    → (list_all is_ascii_hexdigit digits ≡ true) × (result_ok (decode_of digits) ≡ Some (get_or bytes 0 0 ∷ get_or bytes 1 0 ∷ get_or bytes 2 0 ∷ get_or bytes 3 0 ∷ []))
+unfolding listed spelled
+word_of digits bytes eight hex decoded =
+    let each : digits ≡ listed 8 0 digits = listed_all 8 0 digits eight in
+    let all : list_all is_ascii_hexdigit (twice (listed 8 0 digits)) ≡ true = subst (λ t. list_all is_ascii_hexdigit (twice t) ≡ true) each hex in
+    let bytes_are = spelled_bytes 8 (twice (listed 8 0 digits)) bytes all refl (subst (λ t. result_ok (decode_of (twice t)) ≡ Some bytes) each decoded) in
+    let first : list_all is_ascii_hexdigit digits ≡ true = subst (λ t. list_all is_ascii_hexdigit t ≡ true) (sym each) (all_front is_ascii_hexdigit 8 (twice (listed 8 0 digits)) all) in
+    (first, decode_of-even 4 digits first eight ∙ ap (λ t. Some (spelled t)) each ∙ ap (λ bs. Some (get_or bs 0 0 ∷ get_or bs 1 0 ∷ get_or bs 2 0 ∷ get_or bs 3 0 ∷ [])) bytes_are)
+
 -- sixteen digits are the data of a frame
 pub payload_of : (text bytes : List ℕ) → list_all is_ascii_hexdigit text ≡ true → length text ≡ 16 → result_ok (decode_of text) ≡ Some bytes → payload text ≡ Some bytes
 unfolding payload is_ending
@@ -66,10 +83,10 @@ payload_of text bytes hex sixteen read =
     rw (len, few, drop-length text, take-length text, read) refl
 
 -- the entry of a line, by its parts
-pub entry_of : (line stamp text digits behind bytes : List ℕ) (n : ℕ) → stamp_behind line ≡ Some (stamp, text) → framed text ≡ Some (digits, behind) → identifier digits ≡ Ok (Some n)
+pub entry_of : (line stamp text behind bytes : List ℕ) (n : ℕ) → stamp_behind line ≡ Some (stamp, text) → IsFramed text n behind
     → is_other_frame behind ≡ false → payload behind ≡ Some bytes → settled (candump line) ≡ entries.Frame (record { stamp = stamp; id = split n; payload = bytes })
 unfolding stamp_behind candump frame_of
-entry_of line stamp text digits behind bytes n is framed_is known other read =
+entry_of line stamp text behind bytes n is (digits, framed_is, known) other read =
     with_some (stamped line) _ (stamp, text) is (λ outer es more.
     with_some (moment outer.0) _ (stamp, text) more (λ seen em last.
     let same : (utc_text seen, outer.1) ≡ (stamp, text) = cc in

@@ -1,5 +1,5 @@
 -- Bytes that are looked at all at once.
-use Rattle.std.proofs.Common.{◌≡◌, ℕ, zero, suc, ◌+◌, ◌-◌, ◌%◌, ◌^◌, ◌<◌, ◌≤◌, Bool, true, false, not, cond, eqb, ltb, List, [], ◌∷◌, length, get_or, map, take, replicate, Fits, w8, Some, refl, sym, ap, ◌∙◌, arith, inl, inr, eq-zero-or-pos}
+use Rattle.std.proofs.Common.{◌≡◌, ℕ, ◌+◌, ◌-◌, ◌%◌, ◌^◌, ◌<◌, ◌≤◌, Bool, true, false, not, cond, eqb, ltb, List, [], ◌∷◌, length, get_or, map, take, replicate, Fits, w8, Some, refl, sym, ap, ◌∙◌, arith, inl, inr, eq-zero-or-pos}
 use Rattle.std.specs.Prelude.{position}
 use Rattle.std.specs.List.{position_or_len, prefix_len}
 use Rattle.std.proofs.lemmas.Bool.{agree_below_at, lt-ltb, not-false, not-true}
@@ -20,20 +20,16 @@ other b = not (is_interface_byte b)
 abbrev lane : ℕ → Bool
 lane b = top 7 (cond (ltb 93 ((b + (256 - 33)) % 256)) 255 0)
 
-pub others : (n : ℕ) (bytes : List ℕ) → length bytes ≡ n → Each1 (Fits w8) bytes
-    → map (top 7) (zip2 (λ a b. cond (ltb a b) 255 0) (replicate n 93) (zip2 (λ a b. (a + (256 - b)) % 256) bytes (replicate n 33))) ≡ map other bytes
-others zero [] long small = refl
-others zero (b ∷ bytes) long small = absurd (omega arith)
-others (suc n) [] long small = absurd (omega arith)
-others (suc n) (b ∷ bytes) long small =
-    let one : lane b ≡ other b = agree_below_at lane other 256 b refl small.0.fits in
-    λ i. one i ∷ others n bytes (omega arith) small.1 i
+others : (bytes : List ℕ) → Each1 (Fits w8) bytes
+    → map (top 7) (zip2 (λ a b. cond (ltb a b) 255 0) (replicate (length bytes) 93) (zip2 (λ a b. (a + (256 - b)) % 256) bytes (replicate (length bytes) 33))) ≡ map other bytes
+others [] small = refl
+others (b ∷ bytes) small = λ i. agree_below_at lane other 256 b refl small.0.fits i ∷ others bytes small.1 i
 
 -- the bits of these lanes
 pub mask_is : (bytes : List ℕ) → length bytes ≡ 16 → Each1 (Fits w8) bytes
     → mask_l (map (top 7) (zip2 (λ a b. cond (ltb a b) 255 0) (replicate 16 93) (zip2 (λ a b. (a + (256 - b)) % 256) bytes (replicate 16 33)))) % 2 ^ 64 ≡ mask_l (map other bytes)
 mask_is bytes long small =
-    ap (λ ms. mask_l ms % 2 ^ 64) (others 16 bytes long small) ∙ mask_l-mod (map other bytes) 64 (omega (arith, length-map bytes other, long))
+    ap (λ ms. mask_l ms % 2 ^ 64) (rw long at (others bytes small)) ∙ mask_l-mod (map other bytes) 64 (omega (arith, length-map bytes other, long))
 
 -- the first of sixteen bytes whose bit is set
 pub place_is : (text : List ℕ) (mask : ℕ) → 16 ≤ length text → count_trailing_zeros 64 mask < 16 → mask ≡ mask_l (map other (take 16 text)) → position other text ≡ Some (count_trailing_zeros 64 mask)
@@ -63,19 +59,15 @@ no_stamp b = not (is_stamp_byte b)
 abbrev stamp_lane : ℕ → Bool
 stamp_lane b = top 7 (bit_or (cond (ltb 94 ((b + (256 - 32)) % 256)) 255 0) (cond (eqb b 44) 255 0))
 
-stamp_lanes : (n : ℕ) (bytes : List ℕ) → length bytes ≡ n → Each1 (Fits w8) bytes
-    → map (top 7) (zip2 bit_or (zip2 (λ a b. cond (ltb a b) 255 0) (replicate n 94) (zip2 (λ a b. (a + (256 - b)) % 256) bytes (replicate n 32))) (zip2 (λ a b. cond (eqb a b) 255 0) bytes (replicate n 44))) ≡ map no_stamp bytes
-stamp_lanes zero [] long small = refl
-stamp_lanes zero (b ∷ bytes) long small = absurd (omega arith)
-stamp_lanes (suc n) [] long small = absurd (omega arith)
-stamp_lanes (suc n) (b ∷ bytes) long small =
-    let one : stamp_lane b ≡ no_stamp b = agree_below_at stamp_lane no_stamp 256 b refl small.0.fits in
-    λ i. one i ∷ stamp_lanes n bytes (omega arith) small.1 i
+stamp_lanes : (bytes : List ℕ) → Each1 (Fits w8) bytes
+    → map (top 7) (zip2 bit_or (zip2 (λ a b. cond (ltb a b) 255 0) (replicate (length bytes) 94) (zip2 (λ a b. (a + (256 - b)) % 256) bytes (replicate (length bytes) 32))) (zip2 (λ a b. cond (eqb a b) 255 0) bytes (replicate (length bytes) 44))) ≡ map no_stamp bytes
+stamp_lanes [] small = refl
+stamp_lanes (b ∷ bytes) small = λ i. agree_below_at stamp_lane no_stamp 256 b refl small.0.fits i ∷ stamp_lanes bytes small.1 i
 
 pub stamp_mask : (bytes : List ℕ) → length bytes ≡ 32 → Each1 (Fits w8) bytes
     → mask_l (map (top 7) (zip2 bit_or (zip2 (λ a b. cond (ltb a b) 255 0) (replicate 32 94) (zip2 (λ a b. (a + (256 - b)) % 256) bytes (replicate 32 32))) (zip2 (λ a b. cond (eqb a b) 255 0) bytes (replicate 32 44)))) % 2 ^ 64 ≡ mask_l (map no_stamp bytes)
 stamp_mask bytes long small =
-    ap (λ ms. mask_l ms % 2 ^ 64) (stamp_lanes 32 bytes long small) ∙ mask_l-mod (map no_stamp bytes) 64 (omega (arith, length-map bytes no_stamp, long))
+    ap (λ ms. mask_l ms % 2 ^ 64) (rw long at (stamp_lanes bytes small)) ∙ mask_l-mod (map no_stamp bytes) 64 (omega (arith, length-map bytes no_stamp, long))
 
 -- all bytes are those of a stamp
 pub none_stops : (text : List ℕ) (n : ℕ) → length text ≡ n → mask_l (map no_stamp text) ≡ 0 → list_all is_stamp_byte (take n text) ≡ true

@@ -1,6 +1,6 @@
 -- A stamp in which the separators stand where `candump` puts them.
-use Rattle.std.proofs.Common.{◌≡◌, ℕ, ◌≤◌, true, ltb, leb, not, List, [], ◌∷◌, ◌++◌, length, Some, refl, ap, ◌∙◌, inl, inr}
-use Rattle.std.specs.Prelude.{◌==◌, ◌&&◌}
+use Rattle.std.proofs.Common.{◌≡◌, ℕ, ◌≤◌, true, leb, not, List, [], ◌∷◌, ◌++◌, Some, refl, ap, ◌∙◌, inl, inr}
+use Rattle.std.specs.Prelude.{◌==◌}
 use Rattle.std.specs.Char.{is_ascii_digit}
 use Rattle.std.specs.List.{list_all}
 use Rattle.std.proofs.lemmas.Bool.{cases_Bool, le-leb, eqb-true}
@@ -10,15 +10,11 @@ use Rattle.n2k_wire.specs.Digits.{decimal_number}
 use Rattle.n2k_wire.specs.Pieces.{cut_at, after_byte}
 use Rattle.n2k_wire.specs.PrivateWords.{stamp_behind}
 use Rattle.n2k_wire.specs.Stamp.{moment, three_digits, utc_text}
-use Rattle.n2k_wire.proofs.CandumpBack.{cut_behind, digits_alone, no_digit, none_of}
+use Rattle.n2k_wire.proofs.CandumpBack.{cut_behind, digits_alone, is_other, none_of}
+use Rattle.n2k_wire.proofs.UtcBack.{number_parts}
 
 pub number_digits : (most n : ℕ) (text : List ℕ) → decimal_number most text ≡ Some n → list_all is_ascii_digit text ≡ true
-unfolding decimal_number
-number_digits most n text e =
-    elim (cases_Bool (ltb 0 (length text) && leb (length text) most)) [
-      | inl fits ↦ digits_alone 0 n text (rw fits at e)
-      | inr long ↦ absurd (let none = rw long at e in cc)
-    ]
+number_digits most n text e = digits_alone 0 n text (number_parts most n text e).1
 
 pub follows : (byte : ℕ) (text rest : List ℕ) → after_byte byte text ≡ Some rest → text ≡ byte ∷ rest
 unfolding after_byte
@@ -41,9 +37,9 @@ usual line inner stamp behind text seconds point fraction s f m opened inner_is 
     let fs = number_digits 9 f fraction part in
     let stamp_at : stamp ≡ seconds ++ (46 ∷ fraction) = stamp_is ∙ ap (λ (t : List ℕ). seconds ++ t) (follows 46 point fraction pointed) in
     let inner_at : inner ≡ stamp ++ (41 ∷ text) = inner_is ∙ ap (λ (t : List ℕ). stamp ++ t) (follows 41 behind text closed) in
-    let none_dot = none_of is_ascii_digit (λ b. b == 46) (no_digit 46 refl) seconds ds in
-    let front = none_of is_ascii_digit (λ b. b == 41) (no_digit 41 refl) seconds ds in
-    let back = none_of is_ascii_digit (λ b. b == 41) (no_digit 41 refl) fraction fs in
+    let none_dot = none_of is_ascii_digit (λ b. b == 46) (is_other is_ascii_digit 46 refl) seconds ds in
+    let front = none_of is_ascii_digit (λ b. b == 41) (is_other is_ascii_digit 41 refl) seconds ds in
+    let back = none_of is_ascii_digit (λ b. b == 41) (is_other is_ascii_digit 41 refl) fraction fs in
     let none_end : list_all (λ b. not (b == 41)) stamp ≡ true = rw stamp_at (list_all-append (λ b. not (b == 41)) seconds (46 ∷ fraction) ∙ rw (front, back) refl) in
     let outer : cut_at 41 inner ≡ Some (stamp, text) = ap (cut_at 41) inner_at ∙ cut_behind 41 stamp text none_end in
     let parts : cut_at 46 stamp ≡ Some (seconds, fraction) = ap (cut_at 46) stamp_at ∙ cut_behind 46 seconds fraction none_dot in

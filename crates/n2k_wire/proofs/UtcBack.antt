@@ -1,18 +1,18 @@
 -- The text `YYYY-MM-DDTHH:MM:SS.mmmZ` of the moment that such a text names is that text.
-use Rattle.std.proofs.Common.{◌≡◌, ℕ, suc, ◌+◌, ◌-◌, ◌*◌, ◌/◌, ◌%◌, ◌<◌, ◌≤◌, Bool, true, false, List, [], ◌∷◌, ◌++◌, length, take, drop, Option, Some, None, refl, sym, ap, subst, ◌∙◌, append_assoc, arith, ltb, leb, pos, inl, inr}
+use Rattle.std.proofs.Common.{◌≡◌, ℕ, ◌+◌, ◌-◌, ◌*◌, ◌/◌, ◌%◌, ◌<◌, ◌≤◌, Bool, true, false, List, [], ◌∷◌, ◌++◌, get_or, length, take, drop, Option, Some, None, Result, Ok, Err, refl, sym, ap, subst, ◌∙◌, append_assoc, arith, ltb, leb, pos, inl, inr}
 use Rattle.std.specs.Prelude.{codes, option_and_then, slice_index, ◌&&◌, ◌==◌}
 use Rattle.std.specs.Char.{is_ascii_digit}
 use Rattle.std.proofs.lemmas.Bool.{and_parts, cases_Bool, eqb-true, leb-true, ltb-true}
-use Rattle.std.proofs.lemmas.List.{take-append-drop, drop-drop, drop_all, length-take-le, length-drop}
-use Rattle.std.proofs.Math.Seq.{drop-cons}
+use Rattle.std.proofs.lemmas.List.{length-take-le, length-drop}
 use Rattle.jiff_core.specs.Calendar.{IsCivilDate, days_in_month}
 use Rattle.jiff_core.proofs.SignedLemmas.{signed_arith}
 use Rattle.n2k_wire.specs.Calendar.{day_number, is_date, year_of, month_of, day_of_month}
 use Rattle.n2k_wire.specs.Digits.{decimal_digit, decimal_after, decimal_number}
 use Rattle.n2k_wire.specs.Stamp.{Moment, two_digits, four_digits, millis_digits, date_text, time_text, utc_text, has_utc_form, number_at, day_at_start, second_behind_date, utc_moment}
-use Rattle.n2k_wire.specs.Steps.{some_if}
+use Rattle.n2k_wire.specs.Steps.{◌>>=◌, or_cause, some_if}
 use Rattle.n2k_wire.specs.PrivateWords.{IsMoment}
 use Rattle.n2k_wire.proofs.CalendarLemmas.{IsDateOf, date_of_number, to_last_day}
+use Rattle.n2k_wire.proofs.TextLemmas.{listed, listed_all}
 
 -- ---- steps that found something
 
@@ -24,6 +24,14 @@ then_some (Some x) f y e = (x, refl, e)
 pub with_some : {A B : Type 0} {P : Type 0} (o : Option A) (f : A → Option B) (y : B) → option_and_then f o ≡ Some y → ((x : A) → o ≡ Some x → f x ≡ Some y → P) → P
 with_some None f y e follows = absurd cc
 with_some (Some x) f y e follows = follows x refl e
+
+pub with_ok : {A B E : Type 0} {P : Type 0} (r : Result A E) (f : A → Result B E) (y : B) → (r >>= f) ≡ Ok y → ((x : A) → r ≡ Ok x → f x ≡ Ok y → P) → P
+with_ok (Ok x) f y e follows = follows x refl e
+with_ok (Err cause) f y e follows = absurd cc
+
+pub found : {A E : Type 0} (cause : E) (o : Option A) (x : A) → or_cause cause o ≡ Ok x → o ≡ Some x
+found cause None x e = absurd cc
+found cause (Some y) x e = let same : y ≡ x = cc in ap Some same
 
 pub if_some : {A : Type 0} (test : Bool) (x y : A) → some_if test x ≡ Some y → (test ≡ true) × (x ≡ y)
 if_some true x y e = (refl, let same : x ≡ y = cc in same)
@@ -58,72 +66,57 @@ unfolding decimal_after
 after_nil before n e = cc
 
 -- the digits of a number that was read
-pub number_digits : (most n : ℕ) (text : List ℕ) → decimal_number most text ≡ Some n → decimal_after 0 text ≡ Some n
+pub number_parts : (most n : ℕ) (text : List ℕ) → decimal_number most text ≡ Some n → (length text ≤ most) × (decimal_after 0 text ≡ Some n)
 unfolding decimal_number
-number_digits most n text e =
+number_parts most n text e =
     elim (cases_Bool (ltb 0 (length text) && leb (length text) most)) [
-      | inl fits ↦ rw fits at e
+      | inl fits ↦ (leb-true (length text) most (and_parts (ltb 0 (length text)) (leb (length text) most) fits).1, rw fits at e)
       | inr other ↦ absurd (let none = rw other at e in cc)
     ]
 
 two_back : (n : ℕ) (text : List ℕ) → length text ≡ 2 → decimal_after 0 text ≡ Some n → (two_digits n ≡ text) × (n < 100)
-two_back n [] two e = absurd (omega arith)
-two_back n (a ∷ []) two e = absurd (omega arith)
-two_back n (a ∷ b ∷ []) two e =
-    let x = after_cons 0 a n (b ∷ []) e in
-    let y = after_cons (10 * 0 + x.0) b n [] x.3 in
+unfolding listed
+two_back n text two e =
+    let each = listed_all 2 0 text two in
+    let x = after_cons 0 _ n _ (subst (λ t. decimal_after 0 t ≡ Some n) each e) in
+    let y = after_cons (10 * 0 + x.0) _ n [] x.3 in
     let value = after_nil (10 * (10 * 0 + x.0) + y.0) n y.3 in
-    let tens : 48 + n / 10 ≡ a = omega arith in
-    let ones : 48 + n % 10 ≡ b = omega arith in
-    (rw (tens, ones) refl, omega arith)
-two_back n (a ∷ b ∷ c ∷ more) two e = absurd (omega arith)
+    let tens : 48 + n / 10 ≡ get_or text 0 0 = omega arith in
+    let ones : 48 + n % 10 ≡ get_or text 1 0 = omega arith in
+    (rw (tens, ones) (sym each), omega arith)
 
 pub three_back : (n : ℕ) (text : List ℕ) → length text ≡ 3 → decimal_after 0 text ≡ Some n → (millis_digits n ≡ text) × (n < 1000)
-three_back n [] three e = absurd (omega arith)
-three_back n (a ∷ []) three e = absurd (omega arith)
-three_back n (a ∷ b ∷ []) three e = absurd (omega arith)
-three_back n (a ∷ b ∷ c ∷ []) three e =
-    let x = after_cons 0 a n (b ∷ c ∷ []) e in
-    let y = after_cons (10 * 0 + x.0) b n (c ∷ []) x.3 in
-    let z = after_cons (10 * (10 * 0 + x.0) + y.0) c n [] y.3 in
+unfolding listed
+three_back n text three e =
+    let each = listed_all 3 0 text three in
+    let x = after_cons 0 _ n _ (subst (λ t. decimal_after 0 t ≡ Some n) each e) in
+    let y = after_cons (10 * 0 + x.0) _ n _ x.3 in
+    let z = after_cons (10 * (10 * 0 + x.0) + y.0) _ n [] y.3 in
     let value = after_nil (10 * (10 * (10 * 0 + x.0) + y.0) + z.0) n z.3 in
-    let hundreds : 48 + n / 100 ≡ a = omega arith in
-    let tens : 48 + n % 100 / 10 ≡ b = omega arith in
-    let ones : 48 + n % 100 % 10 ≡ c = omega arith in
-    (rw (hundreds, tens, ones) refl, omega arith)
-three_back n (a ∷ b ∷ c ∷ d ∷ more) three e = absurd (omega arith)
+    let hundreds : 48 + n / 100 ≡ get_or text 0 0 = omega arith in
+    let tens : 48 + n % 100 / 10 ≡ get_or text 1 0 = omega arith in
+    let ones : 48 + n % 100 % 10 ≡ get_or text 2 0 = omega arith in
+    (rw (hundreds, tens, ones) (sym each), omega arith)
 
 four_back : (n : ℕ) (text : List ℕ) → length text ≡ 4 → decimal_after 0 text ≡ Some n → (four_digits n ≡ text) × (n < 10000)
-four_back n [] four e = absurd (omega arith)
-four_back n (a ∷ []) four e = absurd (omega arith)
-four_back n (a ∷ b ∷ []) four e = absurd (omega arith)
-four_back n (a ∷ b ∷ c ∷ []) four e = absurd (omega arith)
-four_back n (a ∷ b ∷ c ∷ d ∷ []) four e =
-    let x = after_cons 0 a n (b ∷ c ∷ d ∷ []) e in
-    let y = after_cons (10 * 0 + x.0) b n (c ∷ d ∷ []) x.3 in
-    let z = after_cons (10 * (10 * 0 + x.0) + y.0) c n (d ∷ []) y.3 in
-    let w = after_cons (10 * (10 * (10 * 0 + x.0) + y.0) + z.0) d n [] z.3 in
+unfolding listed
+four_back n text four e =
+    let each = listed_all 4 0 text four in
+    let x = after_cons 0 _ n _ (subst (λ t. decimal_after 0 t ≡ Some n) each e) in
+    let y = after_cons (10 * 0 + x.0) _ n _ x.3 in
+    let z = after_cons (10 * (10 * 0 + x.0) + y.0) _ n _ y.3 in
+    let w = after_cons (10 * (10 * (10 * 0 + x.0) + y.0) + z.0) _ n [] z.3 in
     let value = after_nil (10 * (10 * (10 * (10 * 0 + x.0) + y.0) + z.0) + w.0) n w.3 in
-    let thousands : 48 + n / 100 / 10 ≡ a = omega arith in
-    let hundreds : 48 + n / 100 % 10 ≡ b = omega arith in
-    let tens : 48 + n % 100 / 10 ≡ c = omega arith in
-    let ones : 48 + n % 100 % 10 ≡ d = omega arith in
-    (rw (thousands, hundreds, tens, ones) refl, omega arith)
-four_back n (a ∷ b ∷ c ∷ d ∷ other ∷ more) four e = absurd (omega arith)
+    let thousands : 48 + n / 100 / 10 ≡ get_or text 0 0 = omega arith in
+    let hundreds : 48 + n / 100 % 10 ≡ get_or text 1 0 = omega arith in
+    let tens : 48 + n % 100 / 10 ≡ get_or text 2 0 = omega arith in
+    let ones : 48 + n % 100 % 10 ≡ get_or text 3 0 = omega arith in
+    (rw (thousands, hundreds, tens, ones) (sym each), omega arith)
 
 -- ---- a text of 24 bytes, part by part
 
 length_at : (place digits : ℕ) (text : List ℕ) → place + digits ≤ length text → length (take digits (drop place text)) ≡ digits
 length_at place digits text within = length-take-le digits (drop place text) (omega (arith, length-drop place text))
-
-part_at : (place digits next : ℕ) (text : List ℕ) → place + digits ≡ next → drop place text ≡ take digits (drop place text) ++ drop next text
-part_at place digits next text e =
-    sym (take-append-drop digits (drop place text)) ∙ ap (λ xs. take digits (drop place text) ++ xs) (drop-drop digits place text ∙ ap (λ k. drop k text) e)
-
-byte_at : (place next b : ℕ) (text : List ℕ) → place + 1 ≡ next → place < length text → slice_index text place ≡ b → drop place text ≡ b ∷ drop next text
-byte_at place next b text e within is =
-    let after : suc place ≡ next = omega arith in
-    drop-cons text place 0 within ∙ (rw (is, after) refl)
 
 -- each of eight tests that hold
 pub eight : (a b c d e f g h : Bool) → (a && b && c && d && e && f && g && h) ≡ true → (a ≡ true) × (b ≡ true) × (c ≡ true) × (d ≡ true) × (e ≡ true) × (f ≡ true) × (g ≡ true) × (h ≡ true)
@@ -145,51 +138,25 @@ module _ (text : List ℕ) (form : has_utc_form text ≡ true) where
   pub long : length text ≡ 24
   long = eqb-true (length text) 24 tests.0
 
-  at_23 : drop 23 text ≡ 90 ∷ []
-  at_23 = byte_at 23 24 90 text (omega arith) (omega (arith, long)) (eqb-true (slice_index text 23) 90 tests.7) ∙ ap (λ xs. 90 ∷ xs) (drop_all 24 text (omega (arith, long)))
+  abbrev Parts : List ℕ → List ℕ
+  Parts t = take 4 (drop 0 t) ++ (45 ∷ (take 2 (drop 5 t) ++ (45 ∷ (take 2 (drop 8 t) ++ (84 ∷ (take 2 (drop 11 t) ++ (58 ∷ (take 2 (drop 14 t) ++ (58 ∷ (take 2 (drop 17 t) ++ (46 ∷ (take 3 (drop 20 t) ++ (90 ∷ [])))))))))))))
 
-  at_19 : drop 19 text ≡ 46 ∷ (take 3 (drop 20 text) ++ (90 ∷ []))
-  at_19 =
-      byte_at 19 20 46 text (omega arith) (omega (arith, long)) (eqb-true (slice_index text 19) 46 tests.6)
-      ∙ ap (λ xs. 46 ∷ xs) (part_at 20 3 23 text (omega arith) ∙ ap (λ xs. take 3 (drop 20 text) ++ xs) at_23)
-
-  at_16 : drop 16 text ≡ 58 ∷ (take 2 (drop 17 text) ++ (46 ∷ (take 3 (drop 20 text) ++ (90 ∷ []))))
-  at_16 =
-      byte_at 16 17 58 text (omega arith) (omega (arith, long)) (eqb-true (slice_index text 16) 58 tests.5)
-      ∙ ap (λ xs. 58 ∷ xs) (part_at 17 2 19 text (omega arith) ∙ ap (λ xs. take 2 (drop 17 text) ++ xs) at_19)
-
-  at_13 : drop 13 text ≡ 58 ∷ (take 2 (drop 14 text) ++ (58 ∷ (take 2 (drop 17 text) ++ (46 ∷ (take 3 (drop 20 text) ++ (90 ∷ []))))))
-  at_13 =
-      byte_at 13 14 58 text (omega arith) (omega (arith, long)) (eqb-true (slice_index text 13) 58 tests.4)
-      ∙ ap (λ xs. 58 ∷ xs) (part_at 14 2 16 text (omega arith) ∙ ap (λ xs. take 2 (drop 14 text) ++ xs) at_16)
-
-  at_10 : drop 10 text ≡ 84 ∷ (take 2 (drop 11 text) ++ (58 ∷ (take 2 (drop 14 text) ++ (58 ∷ (take 2 (drop 17 text) ++ (46 ∷ (take 3 (drop 20 text) ++ (90 ∷ []))))))))
-  at_10 =
-      byte_at 10 11 84 text (omega arith) (omega (arith, long)) (eqb-true (slice_index text 10) 84 tests.3)
-      ∙ ap (λ xs. 84 ∷ xs) (part_at 11 2 13 text (omega arith) ∙ ap (λ xs. take 2 (drop 11 text) ++ xs) at_13)
-
-  at_7 : drop 7 text ≡ 45 ∷ (take 2 (drop 8 text) ++ (84 ∷ (take 2 (drop 11 text) ++ (58 ∷ (take 2 (drop 14 text) ++ (58 ∷ (take 2 (drop 17 text) ++ (46 ∷ (take 3 (drop 20 text) ++ (90 ∷ []))))))))))
-  at_7 =
-      byte_at 7 8 45 text (omega arith) (omega (arith, long)) (eqb-true (slice_index text 7) 45 tests.2)
-      ∙ ap (λ xs. 45 ∷ xs) (part_at 8 2 10 text (omega arith) ∙ ap (λ xs. take 2 (drop 8 text) ++ xs) at_10)
-
-  at_4 : drop 4 text ≡ 45 ∷ (take 2 (drop 5 text) ++ (45 ∷ (take 2 (drop 8 text) ++ (84 ∷ (take 2 (drop 11 text) ++ (58 ∷ (take 2 (drop 14 text) ++ (58 ∷ (take 2 (drop 17 text) ++ (46 ∷ (take 3 (drop 20 text) ++ (90 ∷ []))))))))))))
-  at_4 =
-      byte_at 4 5 45 text (omega arith) (omega (arith, long)) (eqb-true (slice_index text 4) 45 tests.1)
-      ∙ ap (λ xs. 45 ∷ xs) (part_at 5 2 7 text (omega arith) ∙ ap (λ xs. take 2 (drop 5 text) ++ xs) at_7)
-
-  pub whole : text ≡ take 4 (drop 0 text) ++ (45 ∷ (take 2 (drop 5 text) ++ (45 ∷ (take 2 (drop 8 text) ++ (84 ∷ (take 2 (drop 11 text) ++ (58 ∷ (take 2 (drop 14 text) ++ (58 ∷ (take 2 (drop 17 text) ++ (46 ∷ (take 3 (drop 20 text) ++ (90 ∷ [])))))))))))))
-  whole = part_at 0 4 4 text (omega arith) ∙ ap (λ xs. take 4 (drop 0 text) ++ xs) at_4
+  pub whole : text ≡ Parts text
+  unfolding listed
+  whole =
+      let each = listed_all 24 0 text long in
+      let at : (place b : ℕ) → (slice_index text place == b) ≡ true → get_or text place 0 ≡ b = λ place b same. eqb-true (slice_index text place) b same in
+      each ∙ (rw (at 4 45 tests.1, at 7 45 tests.2, at 10 84 tests.3, at 13 58 tests.4, at 16 58 tests.5, at 19 46 tests.6, at 23 90 tests.7) refl) ∙ ap Parts (sym each)
 
   -- numbers in their places, as digits
   pub two_at : (place n : ℕ) → place + 2 ≤ 24 → number_at place 2 text ≡ Some n → (two_digits n ≡ take 2 (drop place text)) × (n < 100)
-  two_at place n within e = two_back n (take 2 (drop place text)) (length_at place 2 text (omega (arith, long))) (number_digits 2 n _ e)
+  two_at place n within e = two_back n (take 2 (drop place text)) (length_at place 2 text (omega (arith, long))) (number_parts 2 n _ e).1
 
   pub three_at : (place n : ℕ) → place + 3 ≤ 24 → number_at place 3 text ≡ Some n → (millis_digits n ≡ take 3 (drop place text)) × (n < 1000)
-  three_at place n within e = three_back n (take 3 (drop place text)) (length_at place 3 text (omega (arith, long))) (number_digits 3 n _ e)
+  three_at place n within e = three_back n (take 3 (drop place text)) (length_at place 3 text (omega (arith, long))) (number_parts 3 n _ e).1
 
   pub four_at : (place n : ℕ) → place + 4 ≤ 24 → number_at place 4 text ≡ Some n → (four_digits n ≡ take 4 (drop place text)) × (n < 10000)
-  four_at place n within e = four_back n (take 4 (drop place text)) (length_at place 4 text (omega (arith, long))) (number_digits 4 n _ e)
+  four_at place n within e = four_back n (take 4 (drop place text)) (length_at place 4 text (omega (arith, long))) (number_parts 4 n _ e).1
 
 -- ---- dates and times
 
@@ -215,15 +182,10 @@ time_by : (second h m s : ℕ) → second / 3600 ≡ h → second / 60 % 60 ≡ 
 time_by second h m s eh em es = ap (λ n. two_digits n ++ codes ":" ++ two_digits (second / 60 % 60) ++ codes ":" ++ two_digits (second % 60)) eh ∙ ap (λ n. two_digits h ++ codes ":" ++ two_digits n ++ codes ":" ++ two_digits (second % 60)) em ∙ ap (λ n. two_digits h ++ codes ":" ++ two_digits m ++ codes ":" ++ two_digits n) es
 
 three_parts : (mark : List ℕ) (a b c x y z : List ℕ) → a ≡ x → b ≡ y → c ≡ z → a ++ mark ++ b ++ mark ++ c ≡ x ++ mark ++ y ++ mark ++ z
-three_parts mark a b c x y z ea eb ec = ap (λ l. l ++ mark ++ b ++ mark ++ c) ea ∙ ap (λ l. x ++ mark ++ l ++ mark ++ c) eb ∙ ap (λ l. x ++ mark ++ y ++ mark ++ l) ec
+three_parts mark a b c x y z ea eb ec = rw (ea, eb, ec) refl
 
-three_texts : (a b c x y z : List ℕ) → a ≡ x → b ≡ y → c ≡ z → a ++ codes "T" ++ b ++ codes "." ++ c ++ codes "Z" ≡ x ++ codes "T" ++ y ++ codes "." ++ z ++ codes "Z"
-three_texts a b c x y z ea eb ec = ap (λ l. l ++ codes "T" ++ b ++ codes "." ++ c ++ codes "Z") ea ∙ ap (λ l. x ++ codes "T" ++ l ++ codes "." ++ c ++ codes "Z") eb ∙ ap (λ l. x ++ codes "T" ++ y ++ codes "." ++ l ++ codes "Z") ec
-
-text_by : (seen : Moment) (date time fraction : List ℕ) → date ≡ date_text (seen.seconds / 86400) → time ≡ time_text (seen.seconds % 86400) → fraction ≡ millis_digits seen.millis
-    → utc_text seen ≡ date ++ codes "T" ++ time ++ codes "." ++ fraction ++ codes "Z"
-unfolding utc_text
-text_by seen date time fraction ed et ef = sym (three_texts date time fraction _ _ _ ed et ef)
+texts : (a b c x y z : List ℕ) → a ≡ x → b ≡ y → c ≡ z → a ++ codes "T" ++ b ++ codes "." ++ c ++ codes "Z" ≡ x ++ codes "T" ++ y ++ codes "." ++ z ++ codes "Z"
+texts a b c x y z ea eb ec = rw (ea, eb, ec) refl
 
 same_pos : (a b : ℕ) → pos a ≡ pos b → a ≡ b
 same_pos a b e = cc
@@ -299,8 +261,8 @@ found_parts text seen day second millis form ed es em seconds fraction =
     let digits = three_at text form 20 millis (omega arith) em in
     let day_is : day ≡ seen.seconds / 86400 = omega (arith, seconds, time.1) in
     let second_is : second ≡ seen.seconds % 86400 = omega (arith, seconds, time.1) in (
-      text_by seen (date_text day) (time_text second) (millis_digits millis) (ap date_text day_is) (ap time_text second_is) (ap millis_digits fraction)
-          ∙ three_texts _ _ _ _ _ _ date.0 time.0 digits.0
+      sym (texts (date_text day) (time_text second) (millis_digits millis) _ _ _ (ap date_text day_is) (ap time_text second_is) (ap millis_digits fraction))
+          ∙ texts _ _ _ _ _ _ date.0 time.0 digits.0
           ∙ grouped (take 4 (drop 0 text)) (take 2 (drop 5 text)) (take 2 (drop 8 text)) (take 2 (drop 11 text)) (take 2 (drop 14 text)) (take 2 (drop 17 text)) (take 3 (drop 20 text))
           ∙ sym (whole text form),
       record { seconds_fit = omega (arith, seconds, time.1, date.1); millis_fit = omega (arith, fraction, digits.1) },

@@ -1,8 +1,8 @@
 -- A moment's text is a stamp.
-use Rattle.std.proofs.Common.{◌≡◌, ℕ, zero, suc, ◌+◌, ◌*◌, ◌/◌, ◌%◌, ◌<◌, ◌≤◌, true, false, ◌&&◌, List, [], ◌∷◌, ◌++◌, length, Some, refl, ◌∙◌, arith, leb, ltb, pos, inl, inr}
+use Rattle.std.proofs.Common.{◌≡◌, ℕ, zero, suc, ◌+◌, ◌*◌, ◌/◌, ◌%◌, ◌<◌, ◌≤◌, true, false, ◌&&◌, List, [], ◌∷◌, ◌++◌, length, Some, refl, ◌∙◌, arith, leb, pos, inl, inr}
 use Rattle.std.specs.Prelude.{codes, not, IsTrue, ◌==◌}
 use Rattle.std.specs.List.{list_all}
-use Rattle.std.proofs.lemmas.Bool.{and_from, and_parts, cases_Bool, leb-false, leb-true, le-leb, ne_eqb}
+use Rattle.std.proofs.lemmas.Bool.{and_from, cases_Bool, leb-false, leb-true, le-leb, ne_eqb}
 use Rattle.std.proofs.lemmas.List.Folds.{list_all-append}
 use Rattle.jiff_core.proofs.SignedLemmas.{signed_arith}
 use Rattle.jiff_core.proofs.CalendarLemmas.{day_count-epoch, day_count-end, day_count-next_year, day_count-next_month, day_count-last_of_year, day_count-day, days_in_month_bounds}
@@ -12,7 +12,7 @@ use Rattle.n2k_wire.specs.Packet.{is_stamp, is_stamp_byte}
 use Rattle.n2k_wire.specs.Pieces.{cut_at}
 use Rattle.n2k_wire.specs.Stamp.{Moment, two_digits, four_digits, millis_digits, date_text, time_text, utc_text, moment, three_digits}
 use Rattle.n2k_wire.specs.PrivateWords.{IsMoment}
-use Rattle.n2k_wire.proofs.UtcBack.{with_some, if_some, after_cons, after_nil}
+use Rattle.n2k_wire.proofs.UtcBack.{with_some, if_some, after_cons, after_nil, number_parts}
 
 -- ---- the date of a day has digits enough
 
@@ -154,14 +154,7 @@ three_small n (a ∷ b ∷ c ∷ []) few e =
 three_small n (a ∷ b ∷ c ∷ d ∷ more) few e = absurd (omega arith)
 
 millis_small : (n : ℕ) (text : List ℕ) → decimal_number 3 text ≡ Some n → n ≤ 999
-unfolding decimal_number
-millis_small n text e =
-    elim (cases_Bool (ltb 0 (length text) && leb (length text) 3)) [
-      | inl fits ↦
-          let few = leb-true (length text) 3 (and_parts (ltb 0 (length text)) (leb (length text) 3) fits).1 in
-          three_small n text few (rw fits at e)
-      | inr other ↦ absurd (let none = rw other at e in cc)
-    ]
+millis_small n text e = let read = number_parts 3 n text e in three_small n text read.0 read.1
 
 pub moment_is_one : (text : List ℕ) (seen : Moment) → moment text ≡ Some seen → IsMoment seen
 unfolding moment

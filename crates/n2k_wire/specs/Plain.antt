@@ -23,24 +23,24 @@ most_number_digits = 10
 abbrev pub greatest_address : ℕ
 greatest_address = 255
 
--- the pieces between the commas
-abbrev pub pieces : List ℕ → List (List ℕ)
-pieces text = slice_split (λ b. b == 44) text
+-- the columns between the commas
+abbrev pub columns : List ℕ → List (List ℕ)
+columns text = slice_split (λ b. b == 44) text
 
--- a piece as a number up to a limit
+-- a column as a number up to a limit
 unfoldable pub number_to : ℕ → List ℕ → Option ℕ
-number_to limit piece = option_and_then (λ n. some_if (nat_le n limit) n) (decimal_number most_number_digits piece)
+number_to limit column = option_and_then (λ n. some_if (nat_le n limit) n) (decimal_number most_number_digits column)
 
--- a piece of two hexadecimal digits, as the one byte that they spell
+-- a column of two hexadecimal digits, as the one byte that they spell
 unfoldable pub pair : List ℕ → Option (List ℕ)
-pair piece = result_ok (decode_sized piece 1)
+pair column = result_ok (decode_sized column 1)
 
--- each piece as a byte
+-- each column as a byte
 unfoldable pub pairs : List (List ℕ) → Option (List ℕ)
 pairs [] = Some []
-pairs (piece ∷ more) = option_and_then (λ byte. option_map (λ bytes. byte ++ bytes) (pairs more)) (pair piece)
+pairs (column ∷ more) = option_and_then (λ byte. option_map (λ bytes. byte ++ bytes) (pairs more)) (pair column)
 
--- the five pieces behind the stamp, and the pieces behind those
+-- the five columns behind the stamp, and the columns behind those
 pub record Header : Type 0 where
   pub prio : List ℕ
   pub pgn : List ℕ
@@ -63,11 +63,11 @@ id_of h = do
   dst ← or_cause causes.Number (number_to greatest_address h.dst)
   Ok (record { prio = prio; pgn = pgn; src = src; dst = dst })
 
--- exactly so many pieces, each as a byte
+-- exactly so many columns, each as a byte
 unfoldable pub bytes_of : ℕ → List (List ℕ) → Option (List ℕ)
 bytes_of len more = if length more == len then pairs more else None
 
--- the packet of a plain line whose pieces are these, or the first of its causes
+-- the packet of a plain line whose columns are these, or the first of its causes
 unfoldable pub packet_of : List ℕ → List (List ℕ) → Result PacketParts BadCause
 packet_of stamp more = do
   stamped ← holds_or causes.Stamp (is_stamp stamp)
@@ -77,13 +77,13 @@ packet_of stamp more = do
   bytes ← or_cause causes.Data (bytes_of len h.more)
   Ok (record { stamp = stamp; id = id; payload = bytes })
 
--- the same of the pieces as a list, which is never empty
-abbrev pub packet_of_pieces : List (List ℕ) → Result PacketParts BadCause
-packet_of_pieces [] = Err causes.Stamp
-packet_of_pieces (stamp ∷ more) = packet_of stamp more
+-- the same of the columns as a list, which is never empty
+abbrev pub packet_of_columns : List (List ℕ) → Result PacketParts BadCause
+packet_of_columns [] = Err causes.Stamp
+packet_of_columns (stamp ∷ more) = packet_of stamp more
 
 abbrev pub plain_packet : List ℕ → Result PacketParts BadCause
-plain_packet line = packet_of_pieces (pieces line)
+plain_packet line = packet_of_columns (columns line)
 
 -- whether a plain line with so many bytes is a frame, and no whole message
 abbrev pub is_frame : Packing → ℕ → Bool

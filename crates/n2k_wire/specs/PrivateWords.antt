@@ -1,6 +1,6 @@
 -- Words for the contracts of private functions: what the code holds, as the definitions have it. Nothing that a
 -- caller sees needs them.
-use Rattle.std.specs.Prelude.{◌≡◌, ◌≤◌, ◌<◌, ℕ, ◌+◌, ◌*◌, ◌/◌, ◌%◌, ◌==◌, ◌&&◌, Bool, true, if◌then◌else◌, nat_lt, List, [], ◌∷◌, ◌++◌, length, slice_index, take, Option, Some, None, option_map, option_and_then, codes}
+use Rattle.std.specs.Prelude.{◌≡◌, ◌≤◌, ◌<◌, ℕ, ◌+◌, ◌*◌, ◌/◌, ◌%◌, ◌==◌, ◌&&◌, Bool, true, if◌then◌else◌, nat_lt, List, [], ◌∷◌, ◌++◌, length, slice_index, take, Option, Some, None, option_map, option_and_then, codes, Ok}
 use Rattle.std.specs.Borrow.{Bor}
 use Rattle.std.specs.Char.{is_ascii_digit, is_ascii_hexdigit}
 use Rattle.std.specs.List.{list_all}
@@ -10,12 +10,12 @@ use Rattle.n2k_wire.specs.declared.candump.CandumpFrame.{CandumpFrame}
 use Rattle.n2k_wire.specs.declared.entry.Entry.{Entry}
 use Rattle.n2k_wire.specs.declared.entry.Entry.TheVariants as entries
 use Rattle.n2k_wire.specs.declared.entry.Packing.{Packing}
-use Rattle.n2k_wire.specs.declared.plain.Header as pieces_of_code
+use Rattle.n2k_wire.specs.declared.plain.Header as headers_of_code
 use Rattle.n2k_wire.specs.declared.stamp.Moment as moments_of_code
-use Rattle.n2k_wire.specs.Plain.{Header, greatest_address, number_to, packed, pairs, pieces}
+use Rattle.n2k_wire.specs.Plain.{Header, greatest_address, number_to, packed, pairs, columns}
 use Rattle.n2k_wire.specs.Packet.{greatest_pgn, greatest_priority}
 use Rattle.n2k_wire.specs.declared.identifier.Id.{Id}
-use Rattle.n2k_wire.specs.Candump.{stamped}
+use Rattle.n2k_wire.specs.Candump.{stamped, framed, identifier}
 use Rattle.n2k_wire.specs.Digits.{decimal_number}
 use Rattle.n2k_wire.specs.Stamp.{Moment, last_second, millis_digits, most_fraction_digits, moment, three_digits, utc_moment, utc_text}
 use Rattle.n2k_wire.specs.Texts.{second_digits}
@@ -59,6 +59,10 @@ IsFront front seconds =
     (fraction rest : List ℕ) (f m : ℕ) → decimal_number most_fraction_digits fraction ≡ Some f → decimal_number 3 (three_digits fraction) ≡ Some m
     → stamp_behind (front ++ (fraction ++ (41 ∷ rest))) ≡ Some (utc_text (record { seconds = seconds; millis = m }), rest)
 
+-- behind an interface stand the digits of this identifier, and behind the `#` the rest
+abbrev pub IsFramed : List ℕ → ℕ → List ℕ → Type 0
+IsFramed text n rest = (digits : List ℕ) × (framed text ≡ Some (digits, rest)) × (identifier digits ≡ Ok (Some n))
+
 -- how the candump lines of a second begin
 abbrev pub second_front : ℕ → List ℕ
 second_front seconds = codes "(" ++ second_digits seconds ++ codes "."
@@ -82,21 +86,21 @@ pub record IsSecond (stamp line : List ℕ) : Type 0 where
       → IsStampText (utc_moment (stamp ++ behind)) (line ++ take 3 behind)
   pub short : length line ≤ 14
 
--- the pieces of the text that is left of a plain line, if there is any
-abbrev pub pieces_left : Option (Bor (List ℕ)) → List (List ℕ)
-pieces_left None = []
-pieces_left (Some text) = pieces text.now
+-- the columns of the text that is left of a plain line, if there is any
+abbrev pub columns_left : Option (Bor (List ℕ)) → List (List ℕ)
+columns_left None = []
+columns_left (Some text) = columns text.now
 
--- the pieces behind a stamp, of which the code holds the last as one text
-abbrev pub plain_header : pieces_of_code.Header → Header
+-- the columns behind a stamp, of which the code holds the last as one text
+abbrev pub plain_header : headers_of_code.Header → Header
 plain_header h =
-    record { prio = h.prio.now; pgn = h.pgn.now; src = h.src.now; dst = h.dst.now; len = h.len.now; more = pieces_left h.more }
+    record { prio = h.prio.now; pgn = h.pgn.now; src = h.src.now; dst = h.dst.now; len = h.len.now; more = columns_left h.more }
 
--- the first piece of a text is this number, up to a limit, and the pieces behind it are those of the rest
+-- the first column of a text is this number, up to a limit, and the columns behind it are those of the rest
 abbrev pub IsNumberBefore : ℕ → List ℕ → ℕ → List ℕ → Type 0
-IsNumberBefore limit text n rest = (piece : List ℕ) × (pieces text ≡ piece ∷ pieces rest) × (number_to limit piece ≡ Some n)
+IsNumberBefore limit text n rest = (column : List ℕ) × (columns text ≡ column ∷ columns rest) × (number_to limit column ≡ Some n)
 
--- the first four pieces of a text are the numbers of an identifier, and the pieces behind them are those of the rest
+-- the first four columns of a text are the numbers of an identifier, and the columns behind them are those of the rest
 abbrev pub IsIdBefore : List ℕ → Id → List ℕ → Type 0
 IsIdBefore text id rest =
     (pgn src dst : List ℕ) × IsNumberBefore greatest_priority text id.prio pgn × IsNumberBefore greatest_pgn pgn id.pgn src × IsNumberBefore greatest_address src id.src dst × IsNumberBefore greatest_address dst id.dst rest
@@ -108,23 +112,18 @@ with_commas (a ∷ []) = a ∷ []
 with_commas (a ∷ b ∷ []) = a ∷ b ∷ []
 with_commas (a ∷ b ∷ c ∷ more) = a ∷ b ∷ 44 ∷ with_commas (c ∷ more)
 
--- a text begins with pieces of hexadecimal digits that spell these bytes, of which there are some, and the rest follows
-pub record AreSpelled (text bytes rest : List ℕ) : Type 0 where
+-- a text is eight columns of hexadecimal digits, which spell these bytes
+pub record AreSpelled (text bytes : List ℕ) : Type 0 where
   pub digits : List ℕ
-  pub text_is : text ≡ with_commas digits ++ rest
+  pub text_is : text ≡ with_commas digits
   pub hexadecimal : list_all is_ascii_hexdigit digits ≡ true
-  pub count : length digits ≡ 2 * length bytes
-  pub some : 0 < length bytes
+  pub count : length digits ≡ 16
   pub bytes_are : result_ok (decode_of digits) ≡ Some bytes
 
--- these pieces begin with those of these bytes, and more follow
+-- these columns begin with those of these bytes, and more follow
 pub record AreRead (all : List (List ℕ)) (bytes : List ℕ) (more : List (List ℕ)) : Type 0 where
   pub count : length all ≡ length bytes + length more
   pub read : pairs all ≡ option_map (λ others. bytes ++ others) (pairs more)
-
--- pieces that were read up to the first of these are read up to the second, with what they hold by then
-abbrev pub IsReadOn : List ℕ → List (List ℕ) → List ℕ → List (List ℕ) → Type 0
-IsReadOn before from bytes to = (all : List (List ℕ)) → AreRead all before from → AreRead all bytes to
 
 -- an entry is that of a plain line with these parts and this data, which could be read
 abbrev pub IsPackedOf : Packing → List ℕ → Id → Option (List ℕ) → Entry → Type 0

@@ -11,7 +11,6 @@ ghost use Rattle.n2k_wire.specs.Views.{Finds, Gives};
 ghost use Rattle.n2k_wire.specs.Entry.{IsEntry, settled};
 ghost use Rattle.n2k_wire.specs.Packet.{IsPacket};
 
-use crate::digits::{are_hex_digits, is_hex_digit};
 use crate::entry::{BadCause, Entry, set_frame};
 use crate::identifier::{Id, split_id};
 use crate::pieces::{after_byte, cut_at, skip_spaces};
@@ -104,6 +103,12 @@ fn read_word(digits: &[u8]) -> Option<u32>
     Some(u32::from_be_bytes(bytes))
 }
 
+fn are_hex_digits(digits: &[u8]) -> bool
+    ensures { result ≡ list_all is_ascii_hexdigit digits.now }
+{
+    digits.iter().all(|byte| byte.is_ascii_hexdigit())
+}
+
 /// The 29 bits of an extended identifier, or none where the frame is skipped.
 #[tactic(auto, unfolding(crate::specs::Candump::identifier))]
 fn read_identifier(digits: &[u8]) -> Result<Option<u32>, BadCause>
@@ -147,10 +152,11 @@ fn is_ending(rest: &[u8]) -> bool
 fn place_of_other(text: &[u8]) -> Option<usize>
     ensures { result ≡ position (λ b. not (is_ascii_hexdigit b)) text.now }
 {
-    text.iter().position(|byte| !is_hex_digit(*byte))
+    text.iter().position(|byte| !byte.is_ascii_hexdigit())
 }
 
 /// How many hexadecimal digits a text begins with.
+#[tactic(auto, using(crate::proofs::Columns::none_found))]
 fn digits_len(text: &[u8]) -> usize
     ensures value { result ≡ digits_len text.now }
     ensures within { result ≤ length text.now }

@@ -22,7 +22,7 @@ pub enum BadCause {
     Long,
     /// 2: the stamp.
     Stamp,
-    /// 3: pieces are missing.
+    /// 3: parts are missing.
     Form,
     /// 4: a CAN identifier of another form than 3 or 8 hexadecimal digits, or of 40000000 and more. From 20000000
     /// on it is an error frame's, which is skipped.

@@ -12,18 +12,21 @@ use crate::identifier::Id;
 
 /// The plain line of a packet is read as that packet, with the same stamp, identifier and data: as a whole message
 /// under `Packing::Whole` or with more than 8 bytes, else as a frame.
+#[tactic(auto, using(crate::proofs::ReadBack::reads_back))]
 pub fn plain_line_reads_back()
     ensures { (p : PacketParts) (packing : Packing) → IsPacketParts p
         → entry (plain_line p) packing ≡ packed packing p }
 {}
 
 /// An identifier is split into what it says, and what it says is joined to that identifier, both ways.
+#[tactic(auto, using(crate::proofs::IdentifierLemmas::join_split, crate::proofs::IdentifierLemmas::split_join))]
 pub fn identifiers_round_trip()
     ensures joined { (id : Id) (n : ℕ) → id.src < 2 ^ 8 → id.dst < 2 ^ 8 → join id ≡ Some n → split n ≡ id }
     ensures split_up { (n : ℕ) → n < 2 ^ 29 → join (split n) ≡ Some n }
 {}
 
 /// The candump line of a packet of at most 8 bytes is read as the frame of that packet, under each packing.
+#[tactic(auto, using(crate::proofs::CandumpBack::candump_reads_back))]
 pub fn candump_line_reads_back()
     ensures { (p : PacketParts) (interface line : List ℕ) (packing : Packing) → IsPacketParts p
         → length p.payload ≤ frame_payload → IsTrue (is_interface interface)
@@ -31,11 +34,13 @@ pub fn candump_line_reads_back()
 {}
 
 /// A plain line is one line: no byte of it is below the space.
+#[tactic(auto, using(crate::proofs::CleanTexts::clean_line))]
 pub fn plain_line_is_one_line()
     ensures { (p : PacketParts) → IsPacketParts p → All (λ b. 32 ≤ b) (plain_line p) }
 {}
 
 /// The entry of each text is one that a line can be: the parts of its packet make one, and a frame has at most 8 bytes.
+#[tactic(auto, using(crate::proofs::LineEntries::entry_is_entry, crate::proofs::LineEntries::entry_is_short))]
 pub fn entries_are_entries()
     ensures valid { (line : List ℕ) (packing : Packing) → IsEntry (entry line packing) }
     ensures short { (line : List ℕ) (packing : Packing) → IsShort (entry line packing) }

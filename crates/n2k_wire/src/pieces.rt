@@ -3,6 +3,7 @@ ghost use Rattle.std.specs.Prelude.{◌≡◌, ◌==◌, not, position};
 ghost use Rattle.n2k_wire.specs.Views.{Finds};
 ghost use Rattle.n2k_wire.specs.Pieces.{cut_at, after_byte, skip_spaces};
 
+#[tactic(auto, using(crate::proofs::FirstPlaces::first_place))]
 fn place_of(byte: u8, bytes: &[u8]) -> Option<usize>
     ensures { result ≡ position (λ b. b == byte) bytes.now }
 {

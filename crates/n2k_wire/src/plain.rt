@@ -1,7 +1,7 @@
 //! Plain lines: `stamp,prio,pgn,src,dst,len,b0,b1,..`, the format that canboat's programs read and write.
 ghost use Rattle.std.specs.Prelude.{◌≡◌, ◌≤◌, [], ◌∷◌, length, IfSome, IfOk};
-ghost use Rattle.n2k_wire.specs.Plain.{plain, plain_packet, pieces, number_to, pair, header, id_of, bytes_of, is_frame, packed};
-ghost use Rattle.n2k_wire.specs.PrivateWords.{pieces_left, plain_header};
+ghost use Rattle.n2k_wire.specs.Plain.{plain, plain_packet, columns, number_to, pair, header, id_of, bytes_of, is_frame, packed};
+ghost use Rattle.n2k_wire.specs.PrivateWords.{columns_left, plain_header};
 ghost use Rattle.n2k_wire.specs.Views.{Finds, Gives};
 ghost use Rattle.n2k_wire.specs.Entry.{IsEntry, settled};
 ghost use Rattle.n2k_wire.specs.Packet.{IsPacket, greatest_pgn, greatest_priority, longest_message};
@@ -18,7 +18,7 @@ use hex::FromHex;
 /// The greatest address of a packet and of a saved state.
 pub const GREATEST_ADDRESS: u64 = 255;
 
-/// The five pieces behind the stamp, and what is left behind those: nothing, or a text of pieces.
+/// The five columns behind the stamp, and what is left behind those: nothing, or a text of columns.
 #[derive(Clone, Copy)]
 struct Header<'a> {
     prio: &'a [u8],
@@ -29,24 +29,24 @@ struct Header<'a> {
     more: Option<&'a [u8]>,
 }
 
-/// The first piece of a text, and the text of those behind it, if there are any.
-fn first_piece(text: &[u8]) -> (&[u8], Option<&[u8]>)
-    ensures { pieces text.now ≡ result.0.now ∷ pieces_left result.1 }
+/// The first column of a text, and the text of those behind it, if there are any.
+fn first_column(text: &[u8]) -> (&[u8], Option<&[u8]>)
+    ensures { columns text.now ≡ result.0.now ∷ columns_left result.1 }
 {
     match cut_at(b',', text) {
-        Some((piece, more)) => (piece, Some(more)),
+        Some((column, more)) => (column, Some(more)),
         None => (text, None),
     }
 }
 
-/// A piece as a number up to a limit.
+/// A column as a number up to a limit.
 #[tactic(auto, unfolding(crate::specs::Plain::number_to))]
 #[inline]
-pub(crate) fn number_to(limit: u64, piece: &[u8]) -> Option<u64>
-    ensures value { result ≡ number_to limit piece.now }
+pub(crate) fn number_to(limit: u64, column: &[u8]) -> Option<u64>
+    ensures value { result ≡ number_to limit column.now }
     ensures bound { IfSome result (λ n. n ≤ limit) }
 {
-    let number = decimal_number(10, piece)?;
+    let number = decimal_number(10, column)?;
     if number > limit {
         return None;
     }
@@ -55,13 +55,13 @@ pub(crate) fn number_to(limit: u64, piece: &[u8]) -> Option<u64>
 
 #[tactic(auto, unfolding(crate::specs::Plain::header))]
 fn read_header(text: Option<&[u8]>) -> Option<Header<'_>>
-    ensures { Finds plain_header result (header (pieces_left text.entry)) }
+    ensures { Finds plain_header result (header (columns_left text.entry)) }
 {
-    let (prio, text) = first_piece(text?);
-    let (pgn, text) = first_piece(text?);
-    let (src, text) = first_piece(text?);
-    let (dst, text) = first_piece(text?);
-    let (len, more) = first_piece(text?);
+    let (prio, text) = first_column(text?);
+    let (pgn, text) = first_column(text?);
+    let (src, text) = first_column(text?);
+    let (dst, text) = first_column(text?);
+    let (len, more) = first_column(text?);
     Some(Header {
         prio,
         pgn,
@@ -91,16 +91,16 @@ fn read_id(header: &Header<'_>) -> Result<Id, BadCause>
     })
 }
 
-/// A piece of two hexadecimal digits, as the one byte that they spell.
+/// A column of two hexadecimal digits, as the one byte that they spell.
 #[tactic(auto, unfolding(crate::specs::Plain::pair))]
-fn read_pair(piece: &[u8]) -> Option<u8>
-    ensures { Finds (λ byte. byte ∷ []) result (pair piece.now) }
+fn read_pair(column: &[u8]) -> Option<u8>
+    ensures { Finds (λ byte. byte ∷ []) result (pair column.now) }
 {
-    let [byte] = <[u8; 1]>::from_hex(piece).ok()?;
+    let [byte] = <[u8; 1]>::from_hex(column).ok()?;
     Some(byte)
 }
 
-/// Exactly so many pieces, each as a byte, which `bytes` holds then.
+/// Exactly so many columns, each as a byte, which `bytes` holds then.
 fn read_bytes(
     len: u64,
     more: Option<&[u8]>,
@@ -108,7 +108,7 @@ fn read_bytes(
 ) -> Option<()>
     requires few { len ≤ longest_message }
     requires empty { bytes.old.items ≡ [] }
-    ensures value { Finds (λ done. bytes.new.items) result (bytes_of len (pieces_left more.entry)) }
+    ensures value { Finds (λ done. bytes.new.items) result (bytes_of len (columns_left more.entry)) }
     ensures len { IfSome result (λ done. length bytes.new.items ≡ len) }
 {
     let mut left = more;
@@ -116,8 +116,8 @@ fn read_bytes(
         let Some(text) = left else {
             return None;
         };
-        let (piece, rest) = first_piece(text);
-        match read_pair(piece) {
+        let (column, rest) = first_column(text);
+        match read_pair(column) {
             Some(byte) => bytes.push(byte),
             None => return None,
         }
@@ -150,7 +150,7 @@ fn read_packet<'a>(
         (plain_packet line.now) }
     ensures valid { IfOk result (λ r. IsPacket r.0.now r.1 bytes.new.items) }
 {
-    let (stamp, more) = first_piece(line);
+    let (stamp, more) = first_column(line);
     if !is_stamp(stamp) {
         return Err(BadCause::Stamp);
     }

@@ -2,36 +2,37 @@
 //! `2011-11-24-22:42:04.388,2,127251,36,255,8,7d,0b,7d,02,00,ff,ff,ff`, is read by place: the end of its stamp is
 //! looked for among 32 bytes at once, that of a number at few places, and data are taken eight bytes at once. It
 //! promises only what it answers. Where it answers nothing, `plain.rt` reads the line, as it reads every plain line.
-ghost use Rattle.std.specs.Prelude.{◌≡◌, ◌≤◌, ◌*◌, ◌+◌, ◌++◌, ℕ, List, [], ◌∷◌, length, map, not, take, true, IfSome, IsTrue};
+ghost use Rattle.std.specs.Prelude.{◌≡◌, ◌≤◌, ◌+◌, ◌++◌, [], ◌∷◌, length, map, not, take, true, Some, IfSome, IsTrue};
 ghost use Rattle.std.specs.List.{list_all};
 ghost use Rattle.std.specs.Simd.Lanes.{mask_l};
 ghost use Rattle.n2k_wire.specs.Entry.{entry, IsEntry, IsShort};
-ghost use Rattle.n2k_wire.specs.Packet.{greatest_pgn, greatest_priority, is_stamp, is_stamp_byte, longest_message, longest_stamp, starts_stamp};
-ghost use Rattle.n2k_wire.specs.Plain.{bytes_of, greatest_address, pieces};
-ghost use Rattle.n2k_wire.specs.PrivateWords.{AreRead, AreSpelled, IsIdBefore, IsNumberBefore, IsPackedOf, IsReadOn};
+ghost use Rattle.n2k_wire.specs.Packet.{IsPacket, greatest_pgn, greatest_priority, is_stamp, is_stamp_byte, longest_message, longest_stamp, starts_stamp};
+ghost use Rattle.n2k_wire.specs.Plain.{bytes_of, greatest_address, columns};
+ghost use Rattle.n2k_wire.specs.PrivateWords.{AreRead, AreSpelled, IsIdBefore, IsNumberBefore, IsPackedOf};
+ghost use Rattle.n2k_wire.specs.declared.entry.Entry.TheVariants as entries;
 ghost use Rattle.n2k_wire.specs.declared.entry.Packing.TheVariants as packings;
 
 use crate::candump::FRAME_PAYLOAD;
-use crate::digits::{are_hex_digits, eight_bytes, is_hex_digit, spelled_byte};
+use crate::digits::eight_bytes;
 use crate::entry::{Entry, LONGEST_LINE, Packing, set_frame, set_usual};
 use crate::identifier::Id;
 use crate::packet::{GREATEST_PGN, GREATEST_PRIORITY, LONGEST_MESSAGE, LONGEST_STAMP};
 use crate::pieces::after_byte;
 use crate::plain::{GREATEST_ADDRESS, number_to, set_packed};
 use crate::stamp::UTC_LEN;
-use arrayvec::ArrayVec;
 use std::simd::prelude::*;
 
-/// The bytes of eight pieces of two digits with commas between them.
-const EIGHT_PIECES: usize = 23;
+/// The bytes of eight columns of two digits, with a comma between each two.
+const EIGHT_COLUMNS: usize = 23;
 
-/// The bytes of `YYYY-MM-DD-HH:MM:SS.mmm`, as canboat stamps its lines. Stamps of known length are moved at once.
+/// The bytes of `YYYY-MM-DD-HH:MM:SS.mmm`, as canboat stamps its lines.
 const CANBOAT_LEN: usize = 23;
 
-/// The data of a message.
-type Data = ArrayVec<u8, LONGEST_MESSAGE>;
+/// The bytes of the longest message, filled up to whole frames of eight.
+const FILLED_MESSAGE: usize = 224;
 
 /// A bit for each byte that a stamp can't have.
+#[tactic(auto, using(crate::proofs::UsualLanes::stamp_mask))]
 #[inline(always)]
 fn mask_of_others(lanes: u8x32) -> u64
     ensures { result ≡ mask_l (map (λ b. not (is_stamp_byte b)) lanes) }
@@ -81,7 +82,7 @@ fn stamp_before(line: &[u8]) -> Option<(&[u8], &[u8])>
 }
 
 /// The number of so many digits before a comma, and what follows the comma.
-#[inline]
+#[inline(always)]
 fn number_before(digits: usize, limit: u64, text: &[u8]) -> Option<(u64, &[u8])>
     ensures value { IfSome result (λ x. IsNumberBefore limit text.now x.0 x.1.now) }
     ensures bound { IfSome result (λ x. x.0 ≤ limit) }
@@ -89,14 +90,14 @@ fn number_before(digits: usize, limit: u64, text: &[u8]) -> Option<(u64, &[u8])>
     if text.len() < digits {
         return None;
     }
-    let (piece, behind) = text.split_at(digits);
+    let (column, behind) = text.split_at(digits);
     let rest = after_byte(b',', behind)?;
-    let number = number_to(limit, piece)?;
+    let number = number_to(limit, column)?;
     Some((number, rest))
 }
 
 /// A number of one to three digits before a comma, and what follows the comma.
-#[inline]
+#[inline(always)]
 fn short_number_before(limit: u64, text: &[u8]) -> Option<(u64, &[u8])>
     ensures value { IfSome result (λ x. IsNumberBefore limit text.now x.0 x.1.now) }
     ensures bound { IfSome result (λ x. x.0 ≤ limit) }
@@ -111,7 +112,7 @@ fn short_number_before(limit: u64, text: &[u8]) -> Option<(u64, &[u8])>
 }
 
 /// A PGN of six digits or five before a comma, and what follows the comma.
-#[inline]
+#[inline(always)]
 fn pgn_before(text: &[u8]) -> Option<(u64, &[u8])>
     ensures value { IfSome result (λ x. IsNumberBefore greatest_pgn text.now x.0 x.1.now) }
     ensures bound { IfSome result (λ x. x.0 ≤ greatest_pgn) }
@@ -146,84 +147,73 @@ fn id_before(text: &[u8]) -> Option<(Id, &[u8])>
     ))
 }
 
-/// The bytes of eight pieces. No branch goes by the kind of a digit.
-#[inline]
-fn eight_pieces(text: &[u8; EIGHT_PIECES]) -> Option<[u8; FRAME_PAYLOAD]>
-    ensures { IfSome result (λ bytes. AreSpelled text.now bytes []) }
+/// The bytes of eight columns. Their digits, and the commas between them, are picked out of two vectors, which hold the
+/// first sixteen bytes of the text and the last.
+#[tactic(auto, using(crate::proofs::PlainByPlace::eight_spelled))]
+#[inline(always)]
+fn eight_columns(text: &[u8; EIGHT_COLUMNS]) -> Option<[u8; FRAME_PAYLOAD]>
+    ensures { IfSome result (λ bytes. AreSpelled text.now bytes) }
 {
-    if text[2] != b','
-        || text[5] != b','
-        || text[8] != b','
-        || text[11] != b','
-        || text[14] != b','
-        || text[17] != b','
-        || text[20] != b','
-    {
+    let front = u8x16::from_slice(text);
+    let back = u8x16::from_slice(&text[7..]);
+    let commas: u8x16 = front.shuffle(
+        back,
+        [2, 5, 8, 11, 14, 26, 29, 29, 29, 29, 29, 29, 29, 29, 29, 29],
+    );
+    if commas.simd_ne(u8x16::splat(b',')).to_bitmask() != 0 {
         return None;
     }
-    let digits = [
-        text[0], text[1], text[3], text[4], text[6], text[7], text[9], text[10], text[12],
-        text[13], text[15], text[16], text[18], text[19], text[21], text[22],
-    ];
-    if !are_hex_digits(&digits) {
-        return None;
-    }
-    Some(eight_bytes(&digits))
+    let digits: u8x16 = front.shuffle(
+        back,
+        [0, 1, 3, 4, 6, 7, 9, 10, 12, 13, 15, 25, 27, 28, 30, 31],
+    );
+    let bytes = eight_bytes(digits)?;
+    Some(bytes)
 }
 
-/// So many times eight bytes, and what follows them and a comma.
+/// The bytes of a text of so many columns, at most eight. Columns of zeros fill it up, and their bytes follow.
 #[inline]
-fn read_eights<'a>(text: &'a [u8], eights: usize, bytes: &mut Data) -> Option<&'a [u8]>
-    requires few { 8 * eights ≤ longest_message }
-    requires empty { bytes.old.items ≡ [] }
-    ensures value { IfSome result (λ rest. AreRead (pieces text.now) bytes.new.items (pieces rest.now)) }
-    ensures len { IfSome result (λ rest. length bytes.new.items ≡ 8 * eights) }
+fn last_columns(text: &[u8], count: usize) -> Option<[u8; FRAME_PAYLOAD]>
+    requires { (1 ≤ count) × (count ≤ 8) }
+    ensures { IfSome result (λ bytes. AreRead (columns text.now) (take count bytes) []) }
 {
+    if text.len() + 1 != 3 * count {
+        return None;
+    }
+    let mut padded = *b"00,00,00,00,00,00,00,00";
+    padded[..text.len()].copy_from_slice(text);
+    let bytes = eight_columns(&padded)?;
+    Some(bytes)
+}
+
+/// Puts eight bytes at a place of others.
+#[inline(always)]
+fn put_eight(bytes: &mut [u8], at: usize, eight: &[u8; FRAME_PAYLOAD])
+    requires { at + 8 ≤ length bytes.old }
+    ensures { take (at + 8) bytes.new ≡ take at bytes.old ++ eight.now }
+{
+    u8x8::from_array(*eight).copy_to_slice(&mut bytes[at..]);
+}
+
+/// Reads the bytes of a text of so many columns, eight at once.
+#[inline]
+fn read_columns(text: &[u8], len: usize, bytes: &mut [u8; FILLED_MESSAGE]) -> Option<()>
+    requires { (1 ≤ len) × (len ≤ longest_message) }
+    ensures { IfSome result (λ done. bytes_of len (columns text.now) ≡ Some (take len bytes.new)) }
+{
+    let eights = (len - 1) / FRAME_PAYLOAD;
     let mut rest = text;
-    for _ in 0..eights {
-        let (chunk, more) = rest.split_first_chunk::<EIGHT_PIECES>()?;
-        let eight = eight_pieces(chunk)?;
-        let _ = bytes.try_extend_from_slice(&eight);
+    for i in 0..eights {
+        let (chunk, more) = rest.split_first_chunk::<EIGHT_COLUMNS>()?;
+        put_eight(bytes, FRAME_PAYLOAD * i, &eight_columns(chunk)?);
         rest = after_byte(b',', more)?;
     }
-    Some(rest)
-}
-
-/// The byte of a piece that a text begins with, and what follows its two digits.
-#[inline]
-fn byte_before(text: &[u8]) -> Option<(u8, &[u8])>
-    ensures { IfSome result (λ x. AreSpelled text.now (x.0 ∷ []) x.1.now) }
-{
-    let ([high, low], rest) = text.split_first_chunk::<2>()?;
-    if is_hex_digit(*high) & is_hex_digit(*low) {
-        Some((spelled_byte(*high, *low), rest))
-    } else {
-        None
-    }
-}
-
-/// The bytes of the last pieces, one by one, behind those that were read before: one more than `count`.
-#[inline]
-fn read_ones(text: &[u8], count: usize, bytes: &mut Data) -> Option<()>
-    requires few { length bytes.old.items + count + 1 ≤ longest_message }
-    ensures value { IfSome result (λ done. IsReadOn bytes.old.items (pieces text.now) bytes.new.items []) }
-    ensures len { IfSome result (λ done. length bytes.new.items ≡ length bytes.old.items + count + 1) }
-{
-    let mut rest = text;
-    for _ in 0..count {
-        let (byte, behind) = byte_before(rest)?;
-        bytes.push(byte);
-        rest = after_byte(b',', behind)?;
-    }
-    let (byte, behind) = byte_before(rest)?;
-    if !behind.is_empty() {
-        return None;
-    }
-    bytes.push(byte);
+    let last = last_columns(rest, len - FRAME_PAYLOAD * eights)?;
+    put_eight(bytes, FRAME_PAYLOAD * eights, &last);
     Some(())
 }
 
-/// Puts the entry of a line with these parts and the data of so many pieces where that of an earlier line was.
+/// Puts the entry of a line with these parts and the data of so many columns where that of an earlier line was.
 #[inline(never)]
 fn set_read(
     place: &mut Entry,
@@ -237,18 +227,30 @@ fn set_read(
     requires prio { id.prio ≤ greatest_priority }
     requires pgn { id.pgn ≤ greatest_pgn }
     requires few { len ≤ longest_message }
-    ensures value { IfSome result (λ done. IsPackedOf packing stamp.now id (bytes_of len (pieces text.now)) place.new) }
+    ensures value { IfSome result (λ done. IsPackedOf packing stamp.now id (bytes_of len (columns text.now)) place.new) }
     ensures valid { IfSome result (λ done. IsEntry place.new) }
 {
     if len == 0 {
         return None;
     }
-    let mut data = ArrayVec::new();
-    let eights = (len - 1) / FRAME_PAYLOAD;
-    let rest = read_eights(text, eights, &mut data)?;
-    read_ones(rest, len - 1 - FRAME_PAYLOAD * eights, &mut data)?;
-    set_packed(place, packing, stamp, id, data.as_slice());
+    let mut data = [0; FILLED_MESSAGE];
+    read_columns(text, len, &mut data)?;
+    set_packed(place, packing, stamp, id, &data[..len]);
     Some(())
+}
+
+/// Makes an entry the frame of these parts. Stamps of the usual lengths are moved at once.
+#[inline(always)]
+fn set_stamped(place: &mut Entry, stamp: &[u8], id: Id, data: &[u8; FRAME_PAYLOAD])
+    requires { IsPacket stamp.now id «data».now }
+    ensures value { place.new ≡ entries.Frame (record { stamp = stamp.now; id = id; payload = «data».now }) }
+    ensures valid { IsEntry place.new }
+{
+    match (stamp.as_array::<UTC_LEN>(), stamp.as_array::<CANBOAT_LEN>()) {
+        (Some(ours), _) => set_usual(place, ours, id, data),
+        (_, Some(canboats)) => set_usual(place, canboats, id, data),
+        _ => set_frame(place, stamp, id, data),
+    }
 }
 
 /// Puts the entry of such a line where that of an earlier line was. Of another line it answers nothing.
@@ -263,14 +265,10 @@ pub(crate) fn read_plain_by_place(line: &[u8], packing: Packing, place: &mut Ent
     let (stamp, text) = stamp_before(line)?;
     let (id, text) = id_before(text)?;
     let (len, text) = short_number_before(LONGEST_MESSAGE as u64, text)?;
-    match (packing, text.as_array::<EIGHT_PIECES>()) {
+    match (packing, text.as_array::<EIGHT_COLUMNS>()) {
         (Packing::Frames, Some(eight)) if len == FRAME_PAYLOAD as u64 => {
-            let data = eight_pieces(eight)?;
-            match (stamp.as_array::<UTC_LEN>(), stamp.as_array::<CANBOAT_LEN>()) {
-                (Some(ours), _) => set_usual(place, ours, id, &data),
-                (_, Some(canboats)) => set_usual(place, canboats, id, &data),
-                _ => set_frame(place, stamp, id, &data),
-            }
+            let data = eight_columns(eight)?;
+            set_stamped(place, stamp, id, &data);
             Some(())
         }
         _ => set_read(place, packing, stamp, id, text, len as usize),

@@ -7,15 +7,15 @@ ghost use Rattle.std.specs.Char.{is_ascii_hexdigit};
 ghost use Rattle.std.specs.Int.{w32, w64, to_le_bytes};
 ghost use Rattle.std.specs.List.{list_all};
 ghost use Rattle.std.specs.Simd.Lanes.{mask_l};
-ghost use Rattle.n2k_wire.specs.Candump.{framed, is_interface_byte, identifier, is_other_frame, payload};
+ghost use Rattle.n2k_wire.specs.Candump.{is_interface_byte, identifier, is_other_frame, payload};
 ghost use Rattle.n2k_wire.specs.Entry.{entry, IsEntry, IsShort};
 ghost use Rattle.n2k_wire.specs.declared.entry.Packing.{Packing};
 ghost use Rattle.n2k_wire.specs.Packet.{is_stamp};
-ghost use Rattle.n2k_wire.specs.PrivateWords.{IsFront, stamp_behind};
+ghost use Rattle.n2k_wire.specs.PrivateWords.{IsFramed, IsFront, stamp_behind};
 ghost use Rattle.n2k_wire.specs.Stamp.{last_second, millis_digits, three_digits, utc_text};
 
 use crate::candump::{FIRST_ERROR_FRAME, LONGEST_INTERFACE};
-use crate::digits::{are_digits, are_hex_digits, decimal_number, eight_bytes, spelled_word};
+use crate::digits::{are_digits, decimal_number, eight_bytes};
 use crate::entry::{Entry, set_usual};
 use crate::identifier::split_id;
 use crate::pieces::after_byte;
@@ -134,6 +134,7 @@ fn are_same(front: &[u8; FRONT], other: &[u8; FRONT]) -> bool
 }
 
 /// The text of a second with the milliseconds that a fraction begins with.
+#[tactic(auto, using(crate::proofs::Clocks::millis_put))]
 #[inline]
 fn with_millis(text: &[u8; UTC_LEN], fraction: &[u8; FRACTION]) -> [u8; UTC_LEN]
     ensures { (seconds m : ℕ) → text.now ≡ utc_text (record { seconds = seconds; millis = 0 })
@@ -148,6 +149,7 @@ fn with_millis(text: &[u8; UTC_LEN], fraction: &[u8; FRACTION]) -> [u8; UTC_LEN]
 }
 
 /// A bit for each byte that an interface's name can't have.
+#[tactic(auto, using(crate::proofs::UsualLanes::mask_is))]
 #[inline(always)]
 fn mask_of_others(lanes: u8x16) -> u64
     ensures { result ≡ mask_l (map (λ b. not (is_interface_byte b)) lanes) }
@@ -169,12 +171,31 @@ fn place_of_other(text: &[u8]) -> Option<usize>
     if at < LANES { Some(at) } else { None }
 }
 
-/// The digits of the identifier and what follows the `#`, where one space stands on each side of the interface, and
-/// eight digits before the `#`.
+/// The 29 bits of an identifier of eight digits.
 #[inline]
-fn usual_framed(text: &[u8]) -> Option<(&[u8; WORD_DIGITS], &[u8])>
-    ensures value { IfSome result (λ x. framed text.now ≡ Some (x.0.now, x.1.now)) }
-    ensures hexadecimal { IfSome result (λ x. list_all is_ascii_hexdigit x.0.now ≡ true) }
+fn usual_identifier(digits: &[u8; WORD_DIGITS]) -> Option<u32>
+    ensures hexadecimal { IfSome result (λ n. list_all is_ascii_hexdigit digits.now ≡ true) }
+    ensures value { IfSome result (λ n. identifier digits.now ≡ Ok (Some n)) }
+    ensures bits { IfSome result (λ n. n < 2 ^ 29) }
+{
+    let twice: u8x16 = u8x8::from_array(*digits).swizzle([
+        0, 1, 2, 3, 4, 5, 6, 7, 0, 1, 2, 3, 4, 5, 6, 7,
+    ]);
+    let [a, b, c, d, ..] = eight_bytes(twice)?;
+    let number = u32::from_be_bytes([a, b, c, d]);
+    if number < FIRST_ERROR_FRAME {
+        Some(number)
+    } else {
+        None
+    }
+}
+
+/// The identifier and what follows the `#`, where one space stands on each side of the interface, and eight digits
+/// before the `#`.
+#[inline]
+fn usual_framed(text: &[u8]) -> Option<(u32, &[u8])>
+    ensures value { IfSome result (λ x. IsFramed text.now x.0 x.1.now) }
+    ensures bits { IfSome result (λ x. x.0 < 2 ^ 29) }
 {
     let named = after_byte(b' ', text)?;
     let at = place_of_other(named)?;
@@ -184,26 +205,9 @@ fn usual_framed(text: &[u8]) -> Option<(&[u8; WORD_DIGITS], &[u8])>
     let (_, rest) = named.split_at(at);
     let inner = after_byte(b' ', rest)?;
     let (digits, behind) = inner.split_first_chunk::<WORD_DIGITS>()?;
-    if !are_hex_digits(digits) {
-        return None;
-    }
+    let identifier = usual_identifier(digits)?;
     let data = after_byte(b'#', behind)?;
-    Some((digits, data))
-}
-
-/// The 29 bits of an identifier of eight digits.
-#[inline]
-fn usual_identifier(digits: &[u8; WORD_DIGITS]) -> Option<u32>
-    requires { list_all is_ascii_hexdigit digits.now ≡ true }
-    ensures value { IfSome result (λ n. identifier digits.now ≡ Ok (Some n)) }
-    ensures bits { IfSome result (λ n. n < 2 ^ 29) }
-{
-    let number = spelled_word(digits);
-    if number < FIRST_ERROR_FRAME {
-        Some(number)
-    } else {
-        None
-    }
+    Some((identifier, data))
 }
 
 /// The eight bytes of a frame's data.
@@ -214,10 +218,7 @@ fn usual_payload(text: &[u8]) -> Option<[u8; 8]>
     ensures value { IfSome result (λ bytes. payload text.now ≡ Some bytes) }
 {
     let digits = text.as_array::<16>()?;
-    if !are_hex_digits(digits) {
-        return None;
-    }
-    Some(eight_bytes(digits))
+    eight_bytes(u8x16::from_array(*digits))
 }
 
 /// Puts the entry of such a line where that of an earlier line was. Of another line it answers nothing.
@@ -230,8 +231,7 @@ pub(crate) fn read_usual(clock: &mut Clock, line: &[u8], place: &mut Entry) -> O
         return None;
     }
     let (stamp, text) = clock.stamp_behind(line)?;
-    let (digits, text) = usual_framed(text)?;
-    let identifier = usual_identifier(digits)?;
+    let (identifier, text) = usual_framed(text)?;
     let data = usual_payload(text)?;
     set_usual(place, &stamp, split_id(identifier), &data);
     Some(())

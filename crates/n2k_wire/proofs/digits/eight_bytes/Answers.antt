@@ -1,16 +1,12 @@
-use Rattle.std.proofs.Common.{◌≡◌, take, ap, sym, ◌∙◌, arith, Some}
-use Rattle.std.proofs.lemmas.List.{take_more_set, take_all, length-set}
-use Rattle.n2k_wire.proofs.HexDigits.{spells_on, spells_none, decode_of-even}
+use Rattle.std.proofs.Common.{Some, ap, sym, ◌∙◌, arith}
+use Rattle.n2k_wire.proofs.HexDigits.{decode_of-even, sixteen_joined, sixteen_read}
 use Rattle.n2k_wire.proofs.digits.eight_bytes.Goals as goal
 
-pub loop-i-preserved : goal.loop-i-preserved
-loop-i-preserved c = record {
-  long = length-set c.loop-i.bytes c.loop-i.i c.spelled_byte.result ∙ c.loop-i.invariant.long;
-  read = rw (take_more_set c.loop-i.bytes c.loop-i.i c.spelled_byte.result (omega (arith, c.loop-i.invariant.long)), c.spelled_byte.ensures)
-      (spells_on c.args.digits.now _ c.loop-i.i (omega arith) c.loop-i.invariant.read);
-}
+pub returns-clause-hexadecimal : goal.returns-clause-hexadecimal
+returns-clause-hexadecimal c = (sixteen_read c.args.digits c.fits-digits.0 c.fits-digits.1 (omega arith)).0
 
-pub returns : goal.returns
-returns c =
-    let whole : take c.loop-i.i c.loop-i.bytes ≡ c.loop-i.bytes = take_all c.loop-i.i c.loop-i.bytes (omega (arith, c.loop-i.invariant.long)) in
-    decode_of-even 8 c.args.digits.now c.requires c.told-digits ∙ ap Some (sym (spells_none c.args.digits.now _ c.loop-i.i (omega arith) c.loop-i.invariant.read) ∙ whole)
+pub returns-clause-value : goal.returns-clause-value
+returns-clause-value c =
+    let digits = c.args.digits in
+    let read = sixteen_read digits c.fits-digits.0 c.fits-digits.1 (omega arith) in
+    decode_of-even 8 digits read.0 c.fits-digits.0 ∙ ap Some (sym (sixteen_joined digits c.fits-digits.0 read))

@@ -3,26 +3,12 @@ use Rattle.std.proofs.lemmas.Option.{IfSome_then}
 use Rattle.n2k_wire.proofs.PlainByPlace.{entry_read, frame_line}
 use Rattle.n2k_wire.proofs.plain_by_place.read_plain_by_place.Goals as goal
 
-pub returns-in-Some-default-clause-entry : goal.returns-in-Some-default-clause-entry
-returns-in-Some-default-clause-entry c =
+pub returns-in_ok-data-in-Frames-Some-clause-entry : goal.returns-in_ok-data-in-Frames-Some-clause-entry
+returns-in_ok-data-in-Frames-Some-clause-entry c =
     let len = rw c.if-len.true at c.in_ok-len.ensures.value in
     rw c.in-Frames-Some.is-0
-    (frame_line c.args.line.now c.in_ok-stamp.stamp.now c.in_ok-stamp.text.now c.in_ok-id.text.now c.in_ok-len.text.now c.in-Frames-Some.eight.now c.in_ok-data-in-Frames-Some.data c.in-Some-default.ours.now c.in_ok-id.id c.set_usual.new.place
-    c.in_ok-stamp.ensures.line (omega arith) c.in_ok-stamp.ensures.stamp c.in_ok-id.ensures.value len c.in-Frames-Some.ensures.cases.same c.in_ok-data-in-Frames-Some.ensures (omega arith) c.in-Some-default.ensures.cases.same c.set_usual.ensures.value)
-
-pub returns-in_default-Some-clause-entry : goal.returns-in_default-Some-clause-entry
-returns-in_default-Some-clause-entry c =
-    let len = rw c.if-len.true at c.in_ok-len.ensures.value in
-    rw c.in-Frames-Some.is-0
-    (frame_line c.args.line.now c.in_ok-stamp.stamp.now c.in_ok-stamp.text.now c.in_ok-id.text.now c.in_ok-len.text.now c.in-Frames-Some.eight.now c.in_ok-data-in-Frames-Some.data c.in_default-Some.canboats.now c.in_ok-id.id c.set_usual-in_default-Some.new.place
-    c.in_ok-stamp.ensures.line (omega arith) c.in_ok-stamp.ensures.stamp c.in_ok-id.ensures.value len c.in-Frames-Some.ensures.cases.same c.in_ok-data-in-Frames-Some.ensures (omega arith) c.in_default-Some.ensures.cases.same c.set_usual-in_default-Some.ensures.value)
-
-pub returns-in_default-2-clause-entry : goal.returns-in_default-2-clause-entry
-returns-in_default-2-clause-entry c =
-    let len = rw c.if-len.true at c.in_ok-len.ensures.value in
-    rw c.in-Frames-Some.is-0
-    (frame_line c.args.line.now c.in_ok-stamp.stamp.now c.in_ok-stamp.text.now c.in_ok-id.text.now c.in_ok-len.text.now c.in-Frames-Some.eight.now c.in_ok-data-in-Frames-Some.data c.in_ok-stamp.stamp.now c.in_ok-id.id c.set_frame.new.place
-    c.in_ok-stamp.ensures.line (omega arith) c.in_ok-stamp.ensures.stamp c.in_ok-id.ensures.value len c.in-Frames-Some.ensures.cases.same c.in_ok-data-in-Frames-Some.ensures (omega arith) refl c.set_frame.ensures.value)
+    (frame_line c.args.line.now c.in_ok-stamp.stamp.now c.in_ok-stamp.text.now c.in_ok-id.text.now c.in_ok-len.text.now c.in-Frames-Some.eight.now c.in_ok-data-in-Frames-Some.data c.in_ok-id.id c.set_stamped.new.place
+    c.in_ok-stamp.ensures.line (omega arith) c.in_ok-stamp.ensures.stamp c.in_ok-id.ensures.value len c.in-Frames-Some.ensures.cases.same c.in_ok-data-in-Frames-Some.ensures (omega arith) c.set_stamped.ensures.value)
 
 pub returns-in_default-clause-entry : goal.returns-in_default-clause-entry
 returns-in_default-clause-entry c =

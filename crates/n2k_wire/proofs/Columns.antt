@@ -1,4 +1,4 @@
--- A text cut at the first separator, and the same text as a list of pieces.
+-- A text cut at the first separator, and the same text as a list of columns.
 use Rattle.std.proofs.Common.{◌≡◌, ℕ, ◌+◌, ◌≤◌, Bool, true, false, not, ltb, List, [], ◌∷◌, length, Some, None, refl, ap, subst, ◌∙◌, arith, inl, inr}
 use Rattle.std.specs.Prelude.{position, ◌==◌}
 use Rattle.std.specs.List.{position_or_len, slice_split, onto_first}
@@ -30,20 +30,20 @@ split_none p (x ∷ xs) e =
 the_parts : (x y : List ℕ × List ℕ) → Some x ≡ Some y → x ≡ y
 the_parts x y e = cc
 
--- where there is no separator, the text is the one piece
-pub pieces-uncut : (separator : ℕ) (text : List ℕ) → cut_at separator text ≡ None → slice_split (λ b. b == separator) text ≡ text ∷ []
+-- where there is no separator, the text is the one column
+pub columns_uncut : (separator : ℕ) (text : List ℕ) → cut_at separator text ≡ None → slice_split (λ b. b == separator) text ≡ text ∷ []
 unfolding cut_at
-pieces-uncut separator text e =
+columns_uncut separator text e =
     elim (cases_lt (position_or_len (λ b. b == separator) text) (length text)) [
       | inl lt ↦ absurd (let found : ltb (position_or_len (λ b. b == separator) text) (length text) ≡ true = lt-ltb _ _ lt in let z = rw found at e in cc)
       | inr le ↦ split_none (λ b. b == separator) text (omega (arith, prefix_len-le-length (λ b. not (b == separator)) text))
     ]
 
--- else the first piece is what stands before the first separator
-pub pieces-cut : (separator : ℕ) (text before after : List ℕ) → cut_at separator text ≡ Some (before, after)
+-- else the first column is what stands before the first separator
+pub columns_cut : (separator : ℕ) (text before after : List ℕ) → cut_at separator text ≡ Some (before, after)
     → slice_split (λ b. b == separator) text ≡ before ∷ slice_split (λ b. b == separator) after
 unfolding cut_at
-pieces-cut separator text before after e =
+columns_cut separator text before after e =
     elim (cases_lt (position_or_len (λ b. b == separator) text) (length text)) [
       | inl lt ↦
           let found : ltb (position_or_len (λ b. b == separator) text) (length text) ≡ true = lt-ltb _ _ lt in

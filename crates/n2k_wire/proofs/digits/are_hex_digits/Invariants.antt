@@ -1,7 +1,0 @@
-use Rattle.std.proofs.Common.{◌≡◌, ◌&&◌, drop}
-use Rattle.std.specs.Char.{is_ascii_hexdigit}
-use Rattle.std.specs.List.{list_all}
-use Rattle.n2k_wire.proofs.digits.are_hex_digits.Given as goal
-
-abbrev pub invariant-loop-byte : goal.invariant-loop-byte
-invariant-loop-byte l = (l.all && list_all is_ascii_hexdigit (drop l.byte-index l.digits)) ≡ list_all is_ascii_hexdigit l.digits
