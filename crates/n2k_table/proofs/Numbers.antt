@@ -30,8 +30,8 @@ sized false k = refl
 sized true zero = refl
 sized true (suc k) = refl
 
-pub size_is : (n : Number) → n.size * n.mantissa ≡ unsigned_abs (value_of n)
-size_is n = sized n.below (n.size * n.mantissa) ∙ ap unsigned_abs (sym (product n.below n.size n.mantissa))
+pub size_is : (n : Number) → n.size * n.resolution.mantissa ≡ unsigned_abs (value_of n)
+size_is n = sized n.below (n.size * n.resolution.mantissa) ∙ ap unsigned_abs (sym (product n.below n.size n.resolution.mantissa))
 
 -- and its sign
 signed_so : (b : Bool) (k : ℕ) → (if b && nat_lt 0 k then minus ∷ [] else []) ≡ sign_of (if b then neg_ℤ (pos k) else pos k)
@@ -39,8 +39,8 @@ signed_so false k = refl
 signed_so true zero = refl
 signed_so true (suc k) = rw (lt-ltb 0 (suc k) (omega arith)) refl
 
-pub sign_is : (n : Number) → (if n.below && nat_lt 0 (n.size * n.mantissa) then minus ∷ [] else []) ≡ sign_of (value_of n)
-sign_is n = signed_so n.below (n.size * n.mantissa) ∙ ap sign_of (sym (product n.below n.size n.mantissa))
+pub sign_is : (n : Number) → (if n.below && nat_lt 0 (n.size * n.resolution.mantissa) then minus ∷ [] else []) ≡ sign_of (value_of n)
+sign_is n = signed_so n.below (n.size * n.resolution.mantissa) ∙ ap sign_of (sym (product n.below n.size n.resolution.mantissa))
 
 -- the sign of a number whose sign does not
 pub sign_of_below : (x : ℤ) → (if lt_z x (pos 0) then minus ∷ [] else []) ≡ sign_of x

@@ -77,11 +77,11 @@ fn push_size(size: u128, decimals: usize, line: &mut Tail) -> Result<(), AllocEr
 /// Appends the decimal text of a number.
 #[inline(always)]
 pub(crate) fn push_number(number: Number, line: &mut Tail) -> Result<(), AllocError>
-    ensures { OnOk result (line.new.items ≡ line.old.items ++ dec (value_of number) number.decimals) }
+    ensures { OnOk result (line.new.items ≡ line.old.items ++ dec (value_of number) number.resolution.decimals) }
 {
-    let size = u128::from(number.size) * u128::from(number.mantissa);
+    let size = u128::from(number.size) * u128::from(number.resolution.mantissa);
     push_minus(number.below & (size > 0), line)?;
-    push_size(size, usize::from(number.decimals), line)
+    push_size(size, usize::from(number.resolution.decimals), line)
 }
 
 // Appends the decimal text of `value / 10^decimals`.

@@ -26,9 +26,6 @@ pub(crate) const MOST_LOOKUPS: usize = 1024;
 /// The most entries of a lookup.
 pub(crate) const MOST_ENTRIES: usize = 4096;
 
-/// The greatest value that an entry names.
-pub(crate) const GREATEST_VALUE: u32 = 4_294_967_295;
-
 /// A value with its name.
 #[derive(Drop)]
 pub(crate) struct NamedValue {
@@ -42,14 +39,6 @@ impl Model for NamedValue {
     ghost Value = { ℕ × List ℕ };
 
     ghost view = { λ e. (e.value, e.name) };
-}
-
-impl NamedValue {
-    fn value(&self) -> u64
-        ensures { result ≡ self.now.0 }
-    {
-        self.value
-    }
 }
 
 // The integer and the text of an entry.

@@ -7,7 +7,7 @@ use crate::bits::greatest;
 use crate::resolution::Resolution;
 use crate::seen::Seen;
 
-/// A number, its sign apart: `size * mantissa / 10^decimals`, or as far below zero.
+/// A number, its sign apart: a size times a resolution, or as far below zero.
 #[derive(Clone, Copy)]
 pub(crate) struct Number {
     /// Whether it is below zero, where it is not zero.
@@ -15,9 +15,7 @@ pub(crate) struct Number {
     /// How far the value of its bits is from zero.
     pub(crate) size: u64,
     /// What that is multiplied with.
-    pub(crate) mantissa: u32,
-    /// How many digits stand after the dot.
-    pub(crate) decimals: u8,
+    pub(crate) resolution: Resolution,
 }
 
 impl Number {
@@ -25,7 +23,7 @@ impl Number {
     pub(crate) fn value(self) -> i128
         ensures { result ≡ value_of self }
     {
-        let size = i128::from(self.size) * i128::from(self.mantissa);
+        let size = i128::from(self.size) * i128::from(self.resolution.mantissa);
         if self.below { -size } else { size }
     }
 }
@@ -86,8 +84,7 @@ impl Scale {
             return Seen::Number(Number {
                 below: false,
                 size: raw,
-                mantissa: self.resolution.mantissa,
-                decimals: self.resolution.decimals,
+                resolution: self.resolution,
             });
         }
         if raw <= self.greatest {
@@ -96,8 +93,7 @@ impl Scale {
         Seen::Number(Number {
             below: true,
             size: self.all - raw + 1,
-            mantissa: self.resolution.mantissa,
-            decimals: self.resolution.decimals,
+            resolution: self.resolution,
         })
     }
 }

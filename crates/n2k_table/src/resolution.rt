@@ -23,6 +23,12 @@ pub(crate) struct Resolution {
     pub(crate) decimals: u8,
 }
 
+/// The resolution of what has none.
+pub(crate) const ONE: Resolution = Resolution {
+    mantissa: 1,
+    decimals: 0,
+};
+
 const MOST_WHOLE_DIGITS: usize = 10;
 
 fn are_digits(text: &[u8]) -> bool
@@ -112,10 +118,7 @@ pub(crate) fn resolution_at(table: &Table) -> Result<Resolution, TableFault>
     ensures { Gives (λ resolution. resolution) result (resolution_at (table_view table.now)) }
 {
     match found(table, "resolution") {
-        None => Ok(Resolution {
-            mantissa: 1,
-            decimals: 0,
-        }),
+        None => Ok(ONE),
         Some(value) => of_text(value.as_str().ok_or(TableFault::Key)?),
     }
 }

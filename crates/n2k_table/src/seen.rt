@@ -6,6 +6,7 @@ ghost use Rattle.n2k_table.specs.Shown.{shown_parts, shown_name, shown_text, is_
 use crate::bits::greatest;
 use crate::lookup::Name;
 use crate::number::Number;
+use crate::resolution::ONE;
 use crate::shown::Shown;
 
 /// What a field shows. It is `Shown` with what a line needs: a name comes with its JSON, and a number in parts.
@@ -32,7 +33,7 @@ impl<'a> Seen<'a> {
             Seen::Absent => Shown::Absent,
             Seen::Number(number) => Shown::Number {
                 value: number.value(),
-                decimals: number.decimals,
+                decimals: number.resolution.decimals,
             },
             Seen::Name(name) => Shown::Name(name.text()),
             Seen::Text(text) => Shown::Text(text),
@@ -58,8 +59,7 @@ pub(crate) fn seen_name<'a>(name: Option<&'a Name>, bits: u32, raw: u64) -> Seen
     Seen::Number(Number {
         below: false,
         size: raw,
-        mantissa: 1,
-        decimals: 0,
+        resolution: ONE,
     })
 }
 

@@ -7,7 +7,7 @@ use Rattle.n2k_table.specs.Shown.{ShownParts, absent, number}
 
 -- the number without its dot
 abbrev pub value_of : Number → ℤ
-value_of n = (if n.below then neg_ℤ (pos n.size) else pos n.size) *ℤ pos n.mantissa
+value_of n = (if n.below then neg_ℤ (pos n.size) else pos n.size) *ℤ pos n.resolution.mantissa
 
 -- how many values of n bits say that none is there, from the greatest down
 abbrev pub nones : ℕ → ℕ

@@ -7,7 +7,7 @@ use Rattle.n2k_table.specs.Inner.Number.{value_of}
 -- the answer as parts
 abbrev pub seen_parts : Seen → ShownParts
 seen_parts code.Absent = absent
-seen_parts (code.Number n) = number (value_of n) n.decimals
+seen_parts (code.Number n) = number (value_of n) n.resolution.decimals
 seen_parts (code.Name n) = name n.now
 seen_parts (code.Text t) = text t.now
 seen_parts (code.Bytes b) = bytes b.now
