@@ -89,7 +89,8 @@ pub record Came (idle : ℕ) (old new : Held) (left₀ left : Option (List ℕ))
   pub called : CallsAre calls₀ calls old.reads new.reads
   pub few : calls ≤ calls₀ + length came + idle
 
--- an answer, what it took of the source, and what is held after it: the one call that gives no byte finds the end or fails
+-- An answer, what it took of the source, and what is held after it. The one call that gives no byte finds the end or
+-- fails.
 abbrev pub Answers : Held → Held → Option (List ℕ) → Option (List ℕ) → ℕ → ℕ → Result Next Failed → Type 0
 Answers old new left₀ left calls₀ calls result = Came (idle_calls new.has_ended result) old new left₀ left calls₀ calls
     (λ whole. GivesNext whole (unanswered new) new.has_ended left result)

@@ -70,4 +70,5 @@ AnswersFound old new left₀ left calls₀ calls result =
 
 -- what came while no answer was found, by calls of which so many gave nothing
 abbrev pub Reads : ℕ → Held → Held → Option (List ℕ) → Option (List ℕ) → ℕ → ℕ → Type 0
-Reads idle old new left₀ left calls₀ calls = Came idle old new left₀ left calls₀ calls (λ whole. Stays whole (unanswered new))
+Reads idle old new left₀ left calls₀ calls =
+    Came idle old new left₀ left calls₀ calls (λ whole. Stays whole (unanswered new))

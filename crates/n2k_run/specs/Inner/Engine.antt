@@ -100,8 +100,8 @@ FailsKept writes₀ writes reports₀ reports (Err Write) = HasFailed writes₀ 
 FailsKept writes₀ writes reports₀ reports (Err Report) = HasFailed reports₀ reports × (writes ≡ writes₀)
 FailsKept writes₀ writes reports₀ reports _ = ⊥
 
--- What was made of these entries: of the first of them the texts and reports are written to the sinks, of the others they
--- are kept.
+-- What was made of these entries: of the first of them the texts and reports are written to the sinks, of the others
+-- they are kept.
 pub record Made {S : Type 0} (m : Making S) (s₀ s : S) (es : List Entry) (text report : List ℕ)
     (w₀ w e₀ e : Option (List ℕ)) : Type 0 where
   pub written : List Entry
