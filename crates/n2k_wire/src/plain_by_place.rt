@@ -227,7 +227,8 @@ fn set_read(
     requires prio { id.prio ≤ greatest_priority }
     requires pgn { id.pgn ≤ greatest_pgn }
     requires few { len ≤ longest_message }
-    ensures value { IfSome result (λ done. IsPackedOf packing stamp.now id (bytes_of len (columns text.now)) place.new) }
+    ensures value { IfSome result (λ done.
+        IsPackedOf packing stamp.now id (bytes_of len (columns text.now)) place.new) }
     ensures valid { IfSome result (λ done. IsEntry place.new) }
 {
     if len == 0 {
