@@ -260,6 +260,7 @@ def tear(boat, chance):
 def killed(program, room, chance):
     """Ten runs on one folder; in each the script and its n2kdec are killed at a random moment, or n2kdec, or all, or the sender."""
     boat, log = Boat(program, room), Log(chance, 3)
+    boat.environment["BOAT"] = boat.folder
     each, torn = len(log.lines) // 11, False
     for run in range(11):
         logger = boat.start(*sender(put(room, log.lines[run * each : (run + 1) * each]), 0.3, chance), start_new_session=True)
@@ -278,12 +279,12 @@ def killed(program, room, chance):
             tear(boat, chance)
             torn = True
         # A script that lives ends where n2kdec or the sender was killed. What is left of a script that was killed ends at
-        # the sender's next line where n2kdec was killed too, and else with the sender.
+        # the sender's next line where n2kdec was killed too, and else with the sender, which may have begun after the kill.
         if not victims:
             time.sleep(1)
             logger.terminate()
         if subprocess.run(["flock", "-w", "3", boat.folder, "true"], check=False).returncode:
-            kill(named(pids, os.path.basename(sys.executable)))
+            kill(named(left(boat), os.path.basename(sys.executable)))
         said = logger.communicate()[1]
         if way == "sender" and victims and logger.returncode not in (0, 1, 3) or way == "n2kdec" and victims and logger.returncode != 137:
             yield f"{way} killed: status {logger.returncode}, {said}"

@@ -10,8 +10,9 @@
 //! - `Join::counts` are the lines, messages, bad lines, unknown PGNs, broken and open groups so far (`Counts`).
 //! - `Join::save` writes the state of a join as text, and `Join::resume` goes on from one, or says why it is refused
 //!   (`StateFault`).
-//! - `Splitter::split` answers the frames of a message, under the sequence that its stream stands at, or refuses it
-//!   (`SplitFault`); they are made one at a time (`Frames`). `Splitter::message` appends them all.
+//! - `Splitter::message` appends the frames of a message, under the sequence of its stream, or refuses it
+//!   (`SplitFault`). For the messages of a log, one after the other, use `Splitter::split`, which lends a message's
+//!   frames one at a time (`Frames`).
 //! - `laws` has what holds of the definitions.
 //!
 //! What the messages of a log are is said over the whole log (specs/Messages): the frames of each key are cut into

@@ -55,7 +55,9 @@ pub record IsPartOf (t : TableParts) (o : Options) (s : State) (part : Part) : T
 abbrev pub HasPart : TableParts → Options → Result Part PartFault → State → Type 0
 HasPart t o (Ok part) s = IsPartOf t o s part
 HasPart t o (Err (Stopped fault part)) s = IsPartOf t o s part
-HasPart t o _ s = Unit {0}
+HasPart t o (Err (Refused fault)) s = Unit {0}
+HasPart t o (Err (Run fault)) s = Unit {0}
+HasPart t o (Err Memory) s = Unit {0}
 
 -- after such a run the join stands at a line, and can be saved
 abbrev pub StandsAtLine : Result (Unit {0}) RunFault → Type 0
@@ -84,7 +86,9 @@ pub record TellsRun (o : Output) (stands : List Entry → Type 0) (before after 
 abbrev pub IsOfKind : Result Part PartFault → Type 0
 IsOfKind (Err (Stopped fault part)) = (fault ≡ run_faults.Read) ⊎ (fault ≡ run_faults.TooManyLines)
 IsOfKind (Err (Run fault)) = (fault ≡ run_faults.Write) ⊎ ((fault ≡ run_faults.Report) ⊎ (fault ≡ run_faults.Memory))
-IsOfKind _ = Unit {0}
+IsOfKind (Err (Refused fault)) = Unit {0}
+IsOfKind (Err Memory) = Unit {0}
+IsOfKind (Ok part) = Unit {0}
 
 -- A state that was handed in is refused, by the first fault that stands in it or for want of memory; else it is the
 -- one that the part begins with.

@@ -7,7 +7,7 @@ use Rattle.n2k_join.specs.Counts.{most_lines}
 use Rattle.n2k_run.specs.declared.device.Sink.{Ghosts as OfSink}
 use Rattle.n2k_run.specs.declared.device.Source.{Ghosts as OfSource}
 use Rattle.n2k_run.specs.declared.fault.RunFault.{RunFault}
-use Rattle.n2k_run.specs.declared.fault.RunFault.TheVariants.{Read, Write, Report, TooManyLines}
+use Rattle.n2k_run.specs.declared.fault.RunFault.TheVariants.{Read, Write, Report, Memory, TooManyLines}
 use Rattle.n2k_run.specs.Device.{HasFailed}
 use Rattle.n2k_run.specs.Entries.{entries}
 use Rattle.n2k_run.specs.Lines.{whole_lines}
@@ -114,7 +114,9 @@ abbrev pub Ends : {T : Type 0} → Output → (List Entry → Type 0) → Device
 Ends o stands before after (Ok x) = IsWhole o stands before after
 Ends o stands before after (Err Read) = IsCut o stands before after
 Ends o stands before after (Err TooManyLines) = IsFull o stands before after
-Ends o stands before after _ = Unit {0}
+Ends o stands before after (Err Write) = Unit {0}
+Ends o stands before after (Err Report) = Unit {0}
+Ends o stands before after (Err Memory) = Unit {0}
 
 -- the sinks gained a front of the texts and a front of the reports of the whole log
 pub record HasFronts (o : Output) (before after : Devices) (log : List ℕ) : Type 0 where

@@ -7,8 +7,8 @@
 //! - `Definition::fields` gives each field's name and what it shows of the data (`Shown`): a number, the name
 //!   of a value, a text, bytes, or nothing. `Definition::repeat` gives the same of each set of fields that repeats
 //!   behind them (`Sets`), where the table says that something does.
-//! - `decimal_text` appends a number with its decimals, and `json_line` the line of a message; `json_line_in` does in
-//!   room that is kept from line to line (`LineRoom`).
+//! - `decimal_text` appends a number with its decimals, and `json_line` the line of a message. For the lines of a log,
+//!   one after the other, use `json_line_in`, which keeps the room in which a line is put together (`LineRoom`).
 //!
 //! A table that reads has no fault, and an answered fault stands in it. What a number field shows is its raw
 //! value, the sum of its bits times powers of two, taken as two's complement where it is signed, times a

@@ -58,8 +58,8 @@ pub(crate) fn are_digits(digits: &[u8]) -> bool
     digits.iter().all(|byte| byte.is_ascii_digit())
 }
 
-/// The eight bytes that sixteen hexadecimal digits spell, if all are digits. No branch goes by the kind of a digit:
-/// that would be mispredicted all the time, since the bytes of a bus are as good as random.
+/// The eight bytes that sixteen hexadecimal digits spell, if all are digits. No branch goes by the kind of a digit: it
+/// would be mispredicted all the time, since the bytes of a bus are as good as random.
 #[inline(always)]
 pub(crate) fn eight_bytes(digits: u8x16) -> Option<[u8; 8]>
     ensures hexadecimal { IfSome result (λ bytes. list_all is_ascii_hexdigit digits ≡ true) }

@@ -11,7 +11,8 @@ use crate::packet::Packet;
 use std::alloc::{AllocError, Global};
 use std::simd::prelude::*;
 
-/// Room for the line of a frame and for what is written behind it: 53 bytes at most stand before its last piece of 32.
+/// Room for the line of a frame, a plain one or candump's, and for what is written behind it: 53 bytes at most stand
+/// before the last piece of 32.
 const FRAME_ROOM: usize = 96;
 
 /// Room for any line and for what is written behind it: three bytes for each byte of data, and at most 58 more.

@@ -80,7 +80,14 @@ status_of TableSize = 2
 status_of StateSize = 2
 status_of (Table fault) = table_status fault
 status_of (State fault) = state_status fault
-status_of _ = 3
+status_of TableFile = 3
+status_of StateFile = 3
+status_of Read = 3
+status_of Write = 3
+status_of Report = 3
+status_of Memory = 3
+status_of Lines = 3
+status_of Save = 3
 
 -- what the program says of a run's fault
 abbrev pub fault_of_run : RunFault → Fault

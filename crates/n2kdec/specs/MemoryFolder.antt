@@ -99,6 +99,6 @@ fresh own new trouble = record { names = record { own = settled_as own; beside =
 abbrev pub Done : {T E : Type 0} → Names → Names → Result T E → Type 0
 Done done after result = (after ≡ done) × (is_ok result ≡ goes_well after)
 
--- or, for want of memory, nothing of it is done, and it fails
+-- a call is done and answered so; or, for want of memory, nothing of it is done, and it fails
 abbrev pub DoneOrRefused : {T E : Type 0} → Names → Names → Names → Result T E → Type 0
 DoneOrRefused before done after result = Done done after result ⊎ ((after ≡ begun before) × (is_ok result ≡ false))

@@ -168,7 +168,14 @@ pub fn status(fault: &Fault) -> u8
         | Fault::StateSize
         | Fault::Table(_)
         | Fault::State(_) => 2,
-        _ => 3,
+        Fault::TableFile
+        | Fault::StateFile
+        | Fault::Read
+        | Fault::Write
+        | Fault::Report
+        | Fault::Memory
+        | Fault::Lines
+        | Fault::Save => 3,
     }
 }
 

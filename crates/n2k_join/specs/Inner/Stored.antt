@@ -36,7 +36,7 @@ frame_of line packet frame = record {
 abbrev pub AreSequences : List (Stream × ℕ) → Type 0
 AreSequences held = (stream : Stream) → sequences held stream < most_sequences
 
--- a sequence and a number of frames are those of these frames
+-- what is kept of these frames: a sequence of three bits, and how many they are, one to 32
 pub record AreFrames (sequence count : ℕ) (frames : List PacketParts) : Type 0 where
   pub small : sequence < most_sequences
   pub counted : count ≡ length frames
