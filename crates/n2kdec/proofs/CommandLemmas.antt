@@ -17,7 +17,7 @@ use Rattle.n2k_run.specs.declared.fault.RunFault.TheVariants as run
 use Rattle.n2k_run.specs.declared.part.Part.{Part}
 use Rattle.n2k_table.specs.declared.fault.TableFault.{TableFault}
 use Rattle.n2kdec.specs.Inner.Closing.{Closes, ClosesWhole, SumsUp}
-use Rattle.n2kdec.specs.Commands.{BreaksOff, CannotBeSaved, Command, Ends, EndsByTable, HasDevice, HasTaken, HasTakenAll, IsCutOff, IsDone, IsRefusedOrStopped, IsSaved, IsStopped, IsUntouched, IsWritten, IsWrittenUnlessFailed, Replaces, Leaves, Place, SumsUpPart, entries_for, no_saving, place}
+use Rattle.n2kdec.specs.Commands.{BreaksOff, CannotBeSaved, Command, Ends, EndsByTable, HasDevice, HasTaken, HasTakenAll, IsCutOff, IsDone, IsRefusedOrStopped, IsSaved, IsStopped, IsUntouched, IsWritten, IsWrittenUnlessFailed, Replaces, Leaves, Place, SumsUpPart, Shelf, entries_for, no_saving, place}
 use Rattle.n2kdec.specs.Fault.{exit_status, fault_of_run}
 use Rattle.n2kdec.specs.declared.fault.Fault.{Fault}
 use Rattle.n2kdec.specs.declared.fault.Fault.TheVariants.{Memory, Report, Table}
@@ -46,7 +46,7 @@ some_written before after text (inr cut) = (cut.front.1.front, cut.front.1.appen
 -- the summary is written by a command that has no state
 pub closes_unsaved : (errors summed : Place) (counts : Counts) (r : Result ℕ Fault) → SumsUp errors summed counts r
     → Closes no_saving.before no_saving.after errors summed [] counts r
-closes_unsaved errors summed counts r said = inl (record { kept = tt; none_failed = refl }, said)
+closes_unsaved errors summed counts r said = inl (record { kept = refl; none_failed = refl }, said)
 
 -- a run ended, by which the devices stood so but for the errors, which then took a summary or a front of it
 module _ (c : Command) (stands : List Entry → Type 0) (before after : Devices) (errors : Place) where
@@ -122,7 +122,7 @@ module _ (c : Command) (stands : List Entry → Type 0) (before after : Devices)
       writes = ran.device.writes;
       reports = subst (λ n. HasFailed before.failed_reports n) (sym (same_failed follows.0)) ran.device.reports;
     },
-    ap (λ (p : Place). p.failed) follows.1,
+    ap (λ (p : Shelf). p.failed) follows.1,
   )
   device run.Memory ran follows = inl (none_failed follows.0 ran.device)
 
@@ -229,7 +229,7 @@ module _ (output : Output) (counts_of : List Entry → Counts) (before after : D
   said = place after.reported after.failed_reports
 
   nothing_follows : (stands : List Entry → Type 0) (f : RunFault) → said ≡ errors → Follows whole_command stands before after errors f
-  nothing_follows stands run.Read same = λ es is. (same, inl (record { kept = tt; none_failed = refl }))
+  nothing_follows stands run.Read same = λ es is. (same, inl (record { kept = refl; none_failed = refl }))
   nothing_follows stands run.TooManyLines same = λ es is. (same, refl)
   nothing_follows stands _ same = (same, refl)
 

@@ -28,7 +28,7 @@ use Rattle.n2k_run.proofs.Joined.{refused_memory}
 use Rattle.n2k_run.proofs.Parting.{told_ok, told_run, told_stopped}
 use Rattle.n2k_run.proofs.Running.{known_more}
 use Rattle.n2kdec.specs.Inner.Closing.{Closes, ClosesPart}
-use Rattle.n2kdec.specs.Commands.{CannotBeSaved, Command, Decodes, Ends, EndsUnlessRefused, IsJudged, IsSaved, IsStopped, IsWrittenUnlessFailed, Replaces, Place, PrintsRest, decode_to, place}
+use Rattle.n2kdec.specs.Commands.{CannotBeSaved, Command, Decodes, Ends, EndsUnlessRefused, IsJudged, IsSaved, IsStopped, IsWrittenUnlessFailed, Replaces, Place, PrintsRest, Shelf, decode_to, place}
 use Rattle.n2kdec.specs.Fault.{exit_status, fault_of_run}
 use Rattle.n2kdec.specs.declared.fault.Fault.{Fault}
 use Rattle.n2kdec.specs.declared.fault.Fault.TheVariants.{Save, State, Table}
@@ -46,7 +46,7 @@ unless c before after (Err fault) stopped = go fault stopped
     go (State refused) s = absurd s.leaves
     go f s = s
 
-module _ (o : Output) (stands_at : List Entry → StateOf) (t : TableParts) (options : Options) (before after : Devices) (errors keeper kept : Place) where
+module _ (o : Output) (stands_at : List Entry → StateOf) (t : TableParts) (options : Options) (before after : Devices) (errors : Place) (keeper kept : Shelf) where
   abbrev c : Command
   c = decode_to o stands_at keeper kept
 
@@ -92,7 +92,7 @@ module _ (o : Output) (stands_at : List Entry → StateOf) (t : TableParts) (opt
       (left_at_line c _ before after errors told.ran told.ended refl told.runs (closes.1.1, closes.1.0))
 
 -- what is judged before a log is read
-module _ (t : TableParts) (o : Options) (found : List TableFault) (none : found ≡ []) (handed : Option (List ℕ)) (errors said keeper kept : Place) where
+module _ (t : TableParts) (o : Options) (found : List TableFault) (none : found ≡ []) (handed : Option (List ℕ)) (errors said : Place) (keeper kept : Shelf) where
   abbrev IsJudgedSo : Result ℕ Fault → Type 0
   IsJudgedSo r = MatchResult r (λ status. (found ≡ []) × IsOk (begun t o handed)) (IsJudged found handed (begun t o handed))
 
@@ -117,7 +117,7 @@ module _ (t : TableParts) (o : Options) (found : List TableFault) (none : found 
   judged_by (Err part_faults.Memory) r begins closes = subst IsJudgedSo (sym closes.0) (none, begins)
 
 -- the run of a part by a table that is taken, which is then closed
-module _ (bytes : List ℕ) (o : Options) (handed : Option (List ℕ)) (before after : Devices) (errors keeper kept : Place) where
+module _ (bytes : List ℕ) (o : Options) (handed : Option (List ℕ)) (before after : Devices) (errors : Place) (keeper kept : Shelf) where
   abbrev t : TableParts
   t = table_of bytes
 

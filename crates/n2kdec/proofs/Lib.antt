@@ -2,6 +2,7 @@ pub mod AskedLemmas
 pub mod CommandLemmas
 pub mod DecodeLemmas
 pub mod Lines
+pub mod MachineLemmas
 pub mod Placing
 pub mod Replacing
 pub mod Rows

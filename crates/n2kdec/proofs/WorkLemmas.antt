@@ -14,7 +14,7 @@ use Rattle.n2k_run.specs.declared.fault.RunFault.{RunFault}
 use Rattle.n2k_run.specs.declared.fault.RunFault.TheVariants as run
 use Rattle.n2k_run.specs.declared.part.Part.{Part}
 use Rattle.n2k_table.specs.Table.{faults, kind, table as table_of}
-use Rattle.n2kdec.specs.Commands.{Command, Ends, EndsByTable, IsDone, IsRefusal, Performs, Place, TellsStatus, decode_command, entries_for, frames_command, place, plain_command}
+use Rattle.n2kdec.specs.Commands.{Command, Ends, EndsByTable, IsDone, IsRefusal, Performs, Place, Shelf, TellsStatus, decode_command, entries_for, frames_command, place, plain_command, shelf}
 use Rattle.n2kdec.specs.Fault.{exit_status, fault_of_run}
 use Rattle.n2kdec.specs.Inner.Closing.{Closes, ClosesPart, ClosesWhole, ClosesWork}
 use Rattle.n2kdec.specs.Words.{options_of}
@@ -27,7 +27,7 @@ use Rattle.n2kdec.specs.declared.work.Stop.{Stop}
 use Rattle.n2kdec.proofs.CommandLemmas.{ended_whole, past_table, refused_table}
 use Rattle.n2kdec.proofs.DecodeLemmas.{decoded, undecoded}
 
-module _ (before after : Devices) (errors keeper kept : Place) where
+module _ (before after : Devices) (errors : Place) (keeper kept : Shelf) where
   abbrev between : Devices
   between = record after { reported = errors.text; failed_reports = errors.failed }
 
@@ -66,7 +66,7 @@ known_for_all : {A : Type 0} (left : Option (List ℕ)) (P : A → List ℕ → 
 known_for_all None P each = tt
 known_for_all (Some log) P each = each
 
-pub tells_status : (words : Words) (bytes : List ℕ) (handed : Option (List ℕ)) (before after : Devices) (keeper kept : Place) (r : Result ℕ Fault) → Performs words bytes handed before after keeper kept r
+pub tells_status : (words : Words) (bytes : List ℕ) (handed : Option (List ℕ)) (before after : Devices) (keeper kept : Shelf) (r : Result ℕ Fault) → Performs words bytes handed before after keeper kept r
     → IfOk r (λ status. IfSome before.left (λ all. TellsStatus words bytes handed all status))
 tells_status words bytes handed before after keeper kept (Err f) done = tt
 tells_status (Plain log) bytes handed before after keeper kept (Ok status) done =
@@ -98,11 +98,11 @@ module _ (P Q R : Type 0) (both : P → Q → R) where
   by_sum errors summed part (Ok status) closes = tt
   by_sum errors summed part (Err f) closes = λ refusal. absurd (report_is_none f closes.0 refusal)
 
-  by_part : (keeper kept errors summed : Place) (part : Part) (r : Result ℕ Fault) → ClosesPart keeper kept errors summed (Ok part) r → IfErr r (λ fault. IsRefusal fault → R)
+  by_part : (keeper kept : Shelf) (errors summed : Place) (part : Part) (r : Result ℕ Fault) → ClosesPart keeper kept errors summed (Ok part) r → IfErr r (λ fault. IsRefusal fault → R)
   by_part keeper kept errors summed part r (inl closes) = by_sum errors summed part r closes.1
   by_part keeper kept errors summed part r (inr unsaved) = subst (λ x. IfErr x (λ fault. IsRefusal fault → R)) (sym unsaved.0) (λ refusal. absurd refusal)
 
-  pub unless_refused : (words : Words) (keeper kept errors summed : Place) (told : Result Part Stop) (r : Result ℕ Fault) → ClosesWork words keeper kept errors summed told r
+  pub unless_refused : (words : Words) (keeper kept : Shelf) (errors summed : Place) (told : Result Part Stop) (r : Result ℕ Fault) → ClosesWork words keeper kept errors summed told r
       → IfErr told (λ stop. IsRefusal stop.fault → (stop.part ≡ None) × P) → IfErr told (λ stop. stop.part ≡ None → Q) → IfErr r (λ fault. IsRefusal fault → R)
   unless_refused (Decode t resume save empty whole window log) keeper kept errors summed (Ok part) r closes first then = by_part keeper kept errors summed part r closes
   unless_refused (Decode t resume save empty whole window log) keeper kept errors summed (Err stop) r closes first then = by_stop stop r closes.0 first then

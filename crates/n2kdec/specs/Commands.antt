@@ -56,19 +56,40 @@ pub record IsCutOff (before after : Place) (text : List ℕ) : Type 0 where
 abbrev pub IsWrittenUnlessFailed : Place → Place → List ℕ → Type 0
 IsWrittenUnlessFailed before after text = IsWritten before after text ⊎ IsCutOff before after text
 
--- the state that is saved after entries, and the place where it is kept, before the command and after it
+-- a text that was kept, behind its name
+abbrev pub Kept : Type 0
+Kept = List ℕ × List ℕ
+
+-- What keeps a state: the name that the state is to have, if any; the texts that were kept, the first one first, where they are
+-- known; and how many of its calls have failed.
+pub record Shelf : Type 0 where
+  pub name : Option (List ℕ)
+  pub kept : Option (List Kept)
+  pub failed : ℕ
+
+abbrev pub shelf : Option (List ℕ) → Option (List Kept) → ℕ → Shelf
+shelf name kept failed = record { name = name; kept = kept; failed = failed }
+
+-- this text was kept under the name, once, and no other was; without a name none was
+abbrev pub KeepsUnder : Option (List ℕ) → Option (List Kept) → Option (List Kept) → List ℕ → Type 0
+KeepsUnder None before after text = after ≡ before
+KeepsUnder (Some name) None after text = Unit {0}
+KeepsUnder (Some name) (Some had) None text = ⊥
+KeepsUnder (Some name) (Some had) (Some all) text = all ≡ had ++ (name, text) ∷ []
+
+-- the state that is saved after entries, and what keeps it, before the command and after it
 pub record Saving : Type 0 where
   pub state : List Entry → List ℕ
-  pub before : Place
-  pub after : Place
+  pub before : Shelf
+  pub after : Shelf
 
 -- of a command that has no state
 abbrev pub no_saving : Saving
-no_saving = record { state = λ es. []; before = place None 0; after = place None 0 }
+no_saving = record { state = λ es. []; before = shelf None None 0; after = shelf None None 0 }
 
--- the place has this text in the stead of what it had
-pub record Replaces (before after : Place) (text : List ℕ) : Type 0 where
-  pub kept : IfSome after.text (λ now. now ≡ text)
+-- this text alone is kept, under the name
+pub record Replaces (before after : Shelf) (text : List ℕ) : Type 0 where
+  pub kept : KeepsUnder before.name before.kept after.kept text
   pub none_failed : after.failed ≡ before.failed
 
 -- the state after these entries is kept
@@ -103,7 +124,7 @@ frames_command t interface = record {
 }
 
 -- one that comes to this state with entries, and saves it from the one place to the other
-abbrev pub decode_to : Output → (List Entry → StateOf) → Place → Place → Command
+abbrev pub decode_to : Output → (List Entry → StateOf) → Shelf → Shelf → Command
 decode_to output stands_at before after = record {
   output = output;
   counts = λ es. (stands_at es).counts;
@@ -112,12 +133,12 @@ decode_to output stands_at before after = record {
 }
 
 -- after the entries of a log's front, of which the state was handed in: from a log's beginning there are none
-abbrev pub decode_command : TableParts → Options → List Entry → Place → Place → Command
+abbrev pub decode_command : TableParts → Options → List Entry → Shelf → Shelf → Command
 decode_command t options front before after =
     decode_to (output_after t options front) (λ es. state t.id options.window (kind t) (front ++ es)) before after
 
 -- from a state on, whether or not a log leads to it
-abbrev pub decode_from : TableParts → Options → StateOf → Place → Place → Command
+abbrev pub decode_from : TableParts → Options → StateOf → Shelf → Shelf → Command
 decode_from t options s before after =
     let making = join_making t options.empty in
     decode_to (output_from making options.packing s) (after_all making s) before after
@@ -272,7 +293,7 @@ EndsUnlessRefused c before after (Ok status) = IsDone c before after status
 -- After this front of a log and `more`, the whole stands: what is printed is exactly what the output and the reports of both
 -- have after those of the front, then the summary of both; the status is that of both, and their state is saved, from which
 -- the log can go on.
-pub record PrintsRest (t : TableParts) (o : Options) (front more : List ℕ) (before after : Devices) (keeper kept : Place) (status : ℕ) : Type 0 where
+pub record PrintsRest (t : TableParts) (o : Options) (front more : List ℕ) (before after : Devices) (keeper kept : Shelf) (status : ℕ) : Type 0 where
   pub text : List ℕ
   pub printed : Appends before.written after.written text
   pub output : out t o (front ++ more) ≡ out t o front ++ text
@@ -290,7 +311,7 @@ abbrev pub EndsByTable : List TableFault → Command → Devices → Devices →
 EndsByTable found c before after result = MatchResult result (λ status. (found ≡ []) × IsDone c before after status) (IsRefusedOrStopped found c before after)
 
 -- How `decode` ends, by the bytes of a table, with options, and from a state that is handed in.
-pub record Decodes (bytes : List ℕ) (o : Options) (handed : Option (List ℕ)) (before after : Devices) (keeper kept : Place) (result : Result ℕ Fault) : Type 0 where
+pub record Decodes (bytes : List ℕ) (o : Options) (handed : Option (List ℕ)) (before after : Devices) (keeper kept : Shelf) (result : Result ℕ Fault) : Type 0 where
   -- The table and the state are taken, or refused for what stands in them or for want of memory.
   pub judged : MatchResult result (λ status. (faults bytes ≡ []) × IsOk (begun (table_of bytes) o handed))
       (IsJudged (faults bytes) handed (begun (table_of bytes) o handed))
@@ -306,7 +327,7 @@ pub record Decodes (bytes : List ℕ) (o : Options) (handed : Option (List ℕ))
       → IfOk result (λ status. IfSome before.left (λ more. PrintsRest (table_of bytes) o front more before after keeper kept status))
 
 -- How the command ends that the words name, with the place of its state. Where it has none that place is left as it was.
-abbrev pub Performs : Words → List ℕ → Option (List ℕ) → Devices → Devices → Place → Place → Result ℕ Fault → Type 0
+abbrev pub Performs : Words → List ℕ → Option (List ℕ) → Devices → Devices → Shelf → Shelf → Result ℕ Fault → Type 0
 Performs (Plain log) bytes handed before after keeper kept result = (kept ≡ keeper) × Ends plain_command before after result
 Performs (Decode t resume save empty whole window log) bytes handed before after keeper kept result =
     Decodes bytes (options_of empty whole window) handed before after keeper kept result

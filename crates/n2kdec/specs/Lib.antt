@@ -2,7 +2,9 @@ pub mod Commands
 pub mod Fault
 pub mod Folder
 pub mod Inner
+pub mod Machine
 pub mod MemoryFolder
+pub mod MemoryMachine
 pub mod Replacement
 pub mod Standing
 pub mod Usage

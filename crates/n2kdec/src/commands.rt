@@ -1,11 +1,11 @@
 //! What the words name, done over its devices: what is printed, what is saved, and the status of it.
 ghost use Rattle.std.specs.Prelude.{◌≡◌, ◌≤◌, IfErr, IfOk, IfSome, None, OnErr, OnOk, option_map};
-ghost use Rattle.n2k_run.specs.Device.{HasFailed};
+ghost use Rattle.n2k_run.specs.Device.{CountsFailure, HasFailed};
 ghost use Rattle.n2k_run.specs.FramesOut.{IsInterface};
 ghost use Rattle.n2k_run.specs.Runs.{seen};
-ghost use Rattle.n2kdec.specs.Commands.{IsRefusal, Performs, TellsStatus, place};
+ghost use Rattle.n2kdec.specs.Commands.{IsRefusal, KeepsUnder, Performs, TellsStatus, place, shelf};
 ghost use Rattle.n2kdec.specs.Inner.Closing.{ClosesPart, ClosesWhole, ClosesWork, SumsUp};
-ghost use Rattle.n2kdec.specs.Words.{IsCommand, interface_word};
+ghost use Rattle.n2kdec.specs.Words.{IsCommand, interface_word, save_word};
 
 use crate::fault::{Fault, exit_status};
 use crate::keeper::Keeper;
@@ -31,15 +31,32 @@ struct Closing {
     summed: Result<u8, Fault>,
 }
 
+// Keeps a state under the name that the words have for it, where they have one.
+fn save<K: Keeper>(words: &Words, state: &[u8], keeper: &mut K) -> Result<(), Failed>
+    ensures kept { OnOk result (KeepsUnder (save_word words.now) (K.kept keeper.old) (K.kept keeper.new) state.now) }
+    ensures counted { CountsFailure (K.failed_calls keeper.old) (K.failed_calls keeper.new) result }
+{
+    match words.save() {
+        Some(name) => keeper.keep(name.as_str(), state),
+        None => Ok(()),
+    }
+}
+
 // Saves the state of a part, and then writes its summary, also where the state can't be saved.
-fn save_and_sum_up<K: Keeper, E: Sink>(part: &Part, keeper: &mut K, errors: &mut E) -> Closing
-    ensures kept { OnOk result.saved (IfSome (K.kept keeper.new) (λ text. text ≡ part.now.state.items)) }
+fn save_and_sum_up<K: Keeper, E: Sink>(
+    words: &Words,
+    part: &Part,
+    keeper: &mut K,
+    errors: &mut E,
+) -> Closing
+    ensures kept { OnOk result.saved (KeepsUnder (save_word words.now) (K.kept keeper.old) (K.kept keeper.new)
+        part.now.state.items) }
     ensures none_failed { OnOk result.saved (K.failed_calls keeper.new ≡ K.failed_calls keeper.old) }
     ensures failed { OnErr result.saved (HasFailed (K.failed_calls keeper.old) (K.failed_calls keeper.new)) }
     ensures summed { SumsUp (place (E.contents errors.old) (E.failed_calls errors.old))
         (place (E.contents errors.new) (E.failed_calls errors.new)) part.now.counts result.summed }
 {
-    let saved = keeper.keep(&part.state);
+    let saved = save(words, &part.state, keeper);
     let summed = sum_up(&part.counts, errors);
     Closing { saved, summed }
 }
@@ -47,12 +64,13 @@ fn save_and_sum_up<K: Keeper, E: Sink>(part: &Part, keeper: &mut K, errors: &mut
 // What follows the work of a command that has a state. Where it stands after whole lines it is summed up, and saved
 // unless it stands at the limit of lines; of two faults the first counts.
 fn close_part<K: Keeper, E: Sink>(
+    words: &Words,
     ended: Result<Part, Stop>,
     keeper: &mut K,
     errors: &mut E,
 ) -> Result<u8, Fault>
-    ensures closes { ClosesPart (place (K.kept keeper.old) (K.failed_calls keeper.old))
-        (place (K.kept keeper.new) (K.failed_calls keeper.new))
+    ensures closes { ClosesPart (shelf (save_word words.now) (K.kept keeper.old) (K.failed_calls keeper.old))
+        (shelf (save_word words.now) (K.kept keeper.new) (K.failed_calls keeper.new))
         (place (E.contents errors.old) (E.failed_calls errors.old))
         (place (E.contents errors.new) (E.failed_calls errors.new)) ended result }
     ensures untouched { IfErr ended (λ stop. stop.part ≡ None → (keeper.new ≡ keeper.old) × (errors.new ≡ errors.old)) }
@@ -60,7 +78,7 @@ fn close_part<K: Keeper, E: Sink>(
 {
     match ended {
         Ok(part) => {
-            let closing = save_and_sum_up(&part, keeper, errors);
+            let closing = save_and_sum_up(words, &part, keeper, errors);
             closing.saved.map_err(|_| Fault::Save)?;
             closing.summed
         }
@@ -68,7 +86,7 @@ fn close_part<K: Keeper, E: Sink>(
             match (&stop.part, stop.fault) {
                 (None, _) => {}
                 (Some(part), Fault::Read) => {
-                    let _ = save_and_sum_up(part, keeper, errors);
+                    let _ = save_and_sum_up(words, part, keeper, errors);
                 }
                 (Some(part), _) => {
                     let _ = sum_up(&part.counts, errors);
@@ -99,15 +117,15 @@ fn close<K: Keeper, E: Sink>(
     keeper: &mut K,
     errors: &mut E,
 ) -> Result<u8, Fault>
-    ensures closes { ClosesWork words.now (place (K.kept keeper.old) (K.failed_calls keeper.old))
-        (place (K.kept keeper.new) (K.failed_calls keeper.new))
+    ensures closes { ClosesWork words.now (shelf (save_word words.now) (K.kept keeper.old) (K.failed_calls keeper.old))
+        (shelf (save_word words.now) (K.kept keeper.new) (K.failed_calls keeper.new))
         (place (E.contents errors.old) (E.failed_calls errors.old))
         (place (E.contents errors.new) (E.failed_calls errors.new)) ended result }
     ensures untouched { IfErr ended (λ stop. stop.part ≡ None → (keeper.new ≡ keeper.old) × (errors.new ≡ errors.old)) }
     ensures at_most_one { IfOk result (λ status. status ≤ 1) }
 {
     match words {
-        Words::Decode { .. } => close_part(ended, keeper, errors),
+        Words::Decode { .. } => close_part(words, ended, keeper, errors),
         Words::Plain { .. } | Words::Frames { .. } | Words::Help(_) => close_whole(ended, errors),
     }
 }
@@ -138,8 +156,8 @@ pub fn perform<K: Keeper, R: Source, W: Sink, E: Sink>(
     ensures performs { let before = seen R.Source W.Sink E.Sink log.old output.old errors.old in
         let after = seen R.Source W.Sink E.Sink log.new output.new errors.new in
         Performs words.now table.now (option_map (λ bytes. bytes.now) state.entry) before after
-        (place (K.kept keeper.old) (K.failed_calls keeper.old))
-        (place (K.kept keeper.new) (K.failed_calls keeper.new)) result }
+        (shelf (save_word words.now) (K.kept keeper.old) (K.failed_calls keeper.old))
+        (shelf (save_word words.now) (K.kept keeper.new) (K.failed_calls keeper.new)) result }
     ensures status { IfOk result (λ status. IfSome (R.remaining log.old)
         (λ all. TellsStatus words.now table.now (option_map (λ bytes. bytes.now) state.entry) all status)) }
     ensures at_most_one { IfOk result (λ status. status ≤ 1) }

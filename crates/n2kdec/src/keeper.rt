@@ -1,6 +1,7 @@
 //! Where a state is kept after a run.
-ghost use Rattle.std.specs.Prelude.{◌≡◌, ℕ, List, Option, IfSome, OnOk};
+ghost use Rattle.std.specs.Prelude.{ℕ, List, Option, Some, OnOk};
 ghost use Rattle.n2k_run.specs.Device.{CountsFailure};
+ghost use Rattle.n2kdec.specs.Commands.{Kept, KeepsUnder};
 
 use n2k_run::Failed;
 
@@ -9,11 +10,11 @@ pub trait Keeper {
     /// How many of its calls have failed. At 2^64 - 1 the number stays.
     ghost failed_calls: { Self → ℕ };
 
-    /// The text that it has, where that is known.
-    ghost kept: { Self → Option (List ℕ) };
+    /// The texts that were kept, each behind its name and the first one first, where they are known.
+    ghost kept: { Self → Option (List Kept) };
 
-    /// Keeps a state in the place of what it had. `Failed` where it can't.
-    fn keep(&mut self, state: &[u8]) -> Result<(), Failed>
-        ensures bytes { OnOk result (IfSome (kept self.new) (λ text. text ≡ state.now)) }
+    /// Keeps a state under this name, in the place of what the name has. `Failed` where it can't.
+    fn keep(&mut self, name: &str, state: &[u8]) -> Result<(), Failed>
+        ensures bytes { OnOk result (KeepsUnder (Some name.now) (kept self.old) (kept self.new) state.now) }
         ensures counted { CountsFailure (failed_calls self.old) (failed_calls self.new) result };
 }

@@ -5,7 +5,6 @@ ghost use Rattle.std.specs.Io.KnownBytes.{Appends};
 use crate::keeper::Keeper;
 use crate::replacement::replace;
 use crate::system_folder::SystemFolder;
-use crate::word::Word;
 use n2k_run::Failed;
 use std::fs;
 use std::io::Write;
@@ -24,48 +23,36 @@ fn write_to(rt: &HostRuntime, name: &str, state: &[u8]) -> Result<(), Failed> {
 }
 
 // Writes a state in the place of what the name has.
-fn write_file(rt: &HostRuntime, name: &Word, state: &[u8]) -> Result<(), Failed> {
-    match SystemFolder::of(rt, name.as_str())? {
+fn write_file(rt: &HostRuntime, name: &str, state: &[u8]) -> Result<(), Failed> {
+    match SystemFolder::of(rt, name)? {
         Some(mut folder) => replace(&mut folder, state),
-        None => write_to(rt, name.as_str(), state),
+        None => write_to(rt, name, state),
     }
 }
 
-/// The file of `--save`. It is replaced only when there is a state to write, so it may be the file of `--resume`.
-/// Without the word nothing is kept.
+/// The files of the system as a keeper: a state takes the place of what its name has, which may be the file of
+/// `--resume`.
 #[derive(Drop)]
-pub struct StateFile<'a> {
+pub struct StateFiles<'a> {
     rt: &'a HostRuntime,
-    name: Option<&'a Word>,
     failed_calls: u64,
 }
 
-impl<'a> StateFile<'a> {
-    ghost use Rattle.std.specs.Prelude.{◌≡◌, None, is_ok, true};
+impl<'a> StateFiles<'a> {
+    ghost use Rattle.std.specs.Prelude.{◌≡◌};
 
-    /// The file of this name, or none. No call of it has failed.
-    pub fn new(rt: &'a HostRuntime, name: Option<&'a Word>) -> Self
-        ensures { ⟦<StateFile<'a> as Keeper>⟧.failed_calls result ≡ 0 }
+    /// The files of the system. No call of them has failed.
+    pub fn new(rt: &'a HostRuntime) -> Self
+        ensures { ⟦<StateFiles<'a> as Keeper>⟧.failed_calls result ≡ 0 }
     {
-        StateFile {
+        StateFiles {
             rt,
-            name,
             failed_calls: 0,
-        }
-    }
-
-    // Writes the state, where there is a file.
-    fn write(&self, state: &[u8]) -> Result<(), Failed>
-        ensures { self.now.name ≡ None → is_ok result ≡ true }
-    {
-        match self.name {
-            Some(name) => write_file(self.rt, name, state),
-            None => Ok(()),
         }
     }
 }
 
-impl<'a> Keeper for StateFile<'a> {
+impl<'a> Keeper for StateFiles<'a> {
     ghost use Rattle.std.specs.Prelude.{None};
 
     ghost failed_calls = { λ s. s.failed_calls };
@@ -73,8 +60,8 @@ impl<'a> Keeper for StateFile<'a> {
     // What a file has, nothing says.
     ghost kept = { λ _. None };
 
-    fn keep(&mut self, state: &[u8]) -> Result<(), Failed> {
-        let answer = self.write(state);
+    fn keep(&mut self, name: &str, state: &[u8]) -> Result<(), Failed> {
+        let answer = write_file(self.rt, name, state);
         if answer.is_err() {
             self.failed_calls = self.failed_calls.saturating_add(1);
         }

@@ -1,4 +1,6 @@
 use crate::fault::{Fault, exit_status, fault_text, status};
+use crate::memory_machine::{MemoryMachine, MemoryStore};
+use crate::running::run;
 use crate::word::{Word, Words};
 use crate::words::{interface, words};
 use crate::work::work;
@@ -6,7 +8,7 @@ use n2k_join::{Counts, StateFault};
 use n2k_run::{MemorySink, MemorySource};
 use n2k_table::TableFault;
 use std::alloc::{AllocError, AllocGlobal, Global};
-use std::process::Abort;
+use std::process::{Abort, ExitCode};
 use std::test::Fail;
 
 // Each fault, its line, and the status that goes with it.
@@ -446,6 +448,32 @@ fn works<R: Abort + AllocGlobal>(rt: &R, table: &[u8], example: &Example) -> Res
 fn words_are_worked(rt: HostRuntime) -> Result<(), Fail> {
     for example in &EXAMPLES {
         works(&rt, TABLE.as_bytes(), example)?;
+    }
+    Ok(())
+}
+
+// What was typed, over a machine in memory: the table and the log are the files that are named, and the state is kept
+// under its name.
+#[test]
+fn what_was_typed_is_run(rt: HostRuntime) -> Result<(), Fail> {
+    let alloc = rt.alloc();
+    let machine = MemoryMachine {
+        words: &[
+            "n2kdec", "decode", "--empty", "--table", "t", "--save", "s", "l",
+        ],
+        files: &[("l", COG_AND_SOG.as_bytes()), ("t", TABLE.as_bytes())],
+        input: b"",
+    };
+    let mut output = MemorySink::new(alloc, 100, 0);
+    let mut errors = MemorySink::new(alloc, 100, 0);
+    let mut store = MemoryStore::new(alloc);
+    let status = run(alloc, &machine, &mut output, &mut errors, &mut store);
+    assert_eq!(rt; status, ExitCode::SUCCESS);
+    assert_eq!(rt; output.bytes(), EXAMPLES[2].text.as_bytes());
+    assert_eq!(rt; store.kept().len(), 1);
+    for (name, text) in store.kept() {
+        assert_eq!(rt; name.as_str(), "s");
+        assert_eq!(rt; text.as_slice(), ONE_MESSAGE.as_bytes());
     }
     Ok(())
 }

@@ -4,7 +4,7 @@ use Rattle.n2k_join.specs.declared.counts.Counts.{Counts}
 use Rattle.n2k_run.specs.Device.{HasFailed}
 use Rattle.n2k_run.specs.Reports.{summary_text}
 use Rattle.n2k_run.specs.declared.part.Part.{Part}
-use Rattle.n2kdec.specs.Commands.{IsWritten, IsWrittenUnlessFailed, IsCutOff, Replaces, Place}
+use Rattle.n2kdec.specs.Commands.{IsWritten, IsWrittenUnlessFailed, IsCutOff, Replaces, Place, Shelf}
 use Rattle.n2kdec.specs.Fault.{exit_status}
 use Rattle.n2kdec.specs.declared.fault.Fault.{Fault}
 use Rattle.n2kdec.specs.declared.fault.Fault.TheVariants.{Read, Report, Save}
@@ -20,21 +20,21 @@ SumsUp before after counts result = MatchResult result
 
 -- A log was taken whole, and this text is to be kept: it is, and the summary gives the answer; or it can't be, and the
 -- summary is written all the same.
-abbrev pub Closes : Place → Place → Place → Place → List ℕ → Counts → Result ℕ Fault → Type 0
+abbrev pub Closes : Shelf → Shelf → Place → Place → List ℕ → Counts → Result ℕ Fault → Type 0
 Closes keeper kept errors summed text counts result =
     (Replaces keeper kept text × SumsUp errors summed counts result)
     ⊎ ((result ≡ Err Save) × HasFailed keeper.failed kept.failed × IsWrittenUnlessFailed errors summed (summary_text counts))
 
 -- What follows a stop. Without a Part nothing; after a failed read its state is kept, where it can be, and its counts are
 -- summed up; at the limit of lines they are summed up alone.
-abbrev pub FollowsStop : Place → Place → Place → Place → Option Part → Fault → Type 0
+abbrev pub FollowsStop : Shelf → Shelf → Place → Place → Option Part → Fault → Type 0
 FollowsStop keeper kept errors summed None fault = (kept ≡ keeper) × (summed ≡ errors)
 FollowsStop keeper kept errors summed (Some part) Read =
     (Replaces keeper kept part.state.items ⊎ HasFailed keeper.failed kept.failed) × IsWrittenUnlessFailed errors summed (summary_text part.counts)
 FollowsStop keeper kept errors summed (Some part) _ = (kept ≡ keeper) × IsWrittenUnlessFailed errors summed (summary_text part.counts)
 
 -- what follows the work of a command that has a state
-abbrev pub ClosesPart : Place → Place → Place → Place → Result Part Stop → Result ℕ Fault → Type 0
+abbrev pub ClosesPart : Shelf → Shelf → Place → Place → Result Part Stop → Result ℕ Fault → Type 0
 ClosesPart keeper kept errors summed (Ok part) result = Closes keeper kept errors summed part.state.items part.counts result
 ClosesPart keeper kept errors summed (Err stop) result = (result ≡ Err stop.fault) × FollowsStop keeper kept errors summed stop.part stop.fault
 
@@ -44,6 +44,6 @@ ClosesWhole errors summed (Ok part) result = SumsUp errors summed part.counts re
 ClosesWhole errors summed (Err stop) result = (result ≡ Err stop.fault) × (summed ≡ errors)
 
 -- what follows the work that the words name
-abbrev pub ClosesWork : Words → Place → Place → Place → Place → Result Part Stop → Result ℕ Fault → Type 0
+abbrev pub ClosesWork : Words → Shelf → Shelf → Place → Place → Result Part Stop → Result ℕ Fault → Type 0
 ClosesWork (Decode table resume save empty whole window log) keeper kept errors summed ended result = ClosesPart keeper kept errors summed ended result
 ClosesWork _ keeper kept errors summed ended result = (kept ≡ keeper) × ClosesWhole errors summed ended result

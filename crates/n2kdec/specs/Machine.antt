@@ -1,0 +1,180 @@
+-- What the program meets, and what comes of the words that were typed: the files that they name are read, their command is
+-- performed, its state is kept under the name that they have for it, and a fault is told.
+use Rattle.std.specs.Prelude.{◌≡◌, ◌⊎◌, ◌<◌, ◌≤◌, ℕ, Bool, List, [], Option, Some, None, IfSome, MatchResult, Result, Ok, Err, length}
+use Rattle.clap.specs.Words.{Text}
+use Rattle.n2k_run.specs.declared.device.Sink.{Ghosts as OfSink}
+use Rattle.n2k_run.specs.FramesOut.{IsInterface}
+use Rattle.n2k_run.specs.Runs.{Devices, devices}
+use Rattle.n2kdec.specs.Commands.{IsCutOff, IsWritten, IsWrittenUnlessFailed, Kept, Performs, Place, place, shelf}
+use Rattle.n2kdec.specs.Fault.{TellsFault, longest_file, status_of}
+use Rattle.n2kdec.specs.Words.{IsAskedBy, IsRefused, interface_word, log_word, resume_word, save_word, table_word}
+use Rattle.n2kdec.specs.declared.fault.Fault.{Fault}
+use Rattle.n2kdec.specs.declared.fault.Fault.TheVariants.{Words as WordsFault, Interface, TableSize, TableFile, StateSize, StateFile, Read, Memory, Write}
+use Rattle.n2kdec.specs.declared.keeper.Keeper.{Ghosts as OfKeeper}
+use Rattle.n2kdec.specs.declared.word.Words.{Words}
+use Rattle.n2kdec.specs.declared.word.Words.TheVariants.{Help}
+
+-- ---- what the program meets
+
+-- The words that were typed, the program's name first; the bytes of a file by its name; those of standard input; and whether
+-- standard error is a terminal: each where it is known.
+pub record World : Type 0 where
+  pub typed : Option (List Text)
+  pub file : Text → Option (List ℕ)
+  pub input : Option (List ℕ)
+  pub terminal : Option Bool
+
+-- one of which nothing is known
+abbrev pub unknown_world : World
+unknown_world = record { typed = None; file = λ name. None; input = None; terminal = None }
+
+-- What the program changes: the output, the errors, and what was kept under which name, with the number of calls that failed.
+pub record Outside : Type 0 where
+  pub output : Place
+  pub errors : Place
+  pub kept : Option (List Kept)
+  pub failed_keeps : ℕ
+
+abbrev pub outside : {W E K : Type 0} → OfSink W → OfSink E → OfKeeper K → W → E → K → Outside
+outside w e k output errors keeper = record {
+  output = place (w.contents output) (w.failed_calls output);
+  errors = place (e.contents errors) (e.failed_calls errors);
+  kept = k.kept keeper;
+  failed_keeps = k.failed_calls keeper;
+}
+
+-- ---- the files that the words name
+
+-- these are the bytes of the file of this name
+abbrev pub IsOfFile : World → Text → List ℕ → Type 0
+IsOfFile w name bytes = IfSome (w.file name) (λ known. bytes ≡ known)
+
+-- those of the table, or none where no table is named
+abbrev pub IsTable : World → Option Text → List ℕ → Type 0
+IsTable w None bytes = bytes ≡ []
+IsTable w (Some name) bytes = IsOfFile w name bytes
+
+-- those of the state to go on from, where one is named
+abbrev pub IsState : World → Option Text → Option (List ℕ) → Type 0
+IsState w None handed = handed ≡ None
+IsState w (Some name) None = ⊥
+IsState w (Some name) (Some bytes) = IsOfFile w name bytes
+
+-- the log: the file that is named, or standard input
+abbrev pub log_of : World → Option Text → Option (List ℕ)
+log_of w None = w.input
+log_of w (Some name) = w.file name
+
+-- the log's device behind the command, which has no use of it any more
+pub record LogAfter : Type 0 where
+  pub left : Option (List ℕ)
+  pub calls : ℕ
+  pub failed : ℕ
+
+-- the three devices of a command, where those of the output and the errors stand so
+abbrev pub with_log : Option (List ℕ) → ℕ → ℕ → Outside → Devices
+with_log left calls failed o = devices left calls failed o.output.text o.output.failed o.errors.text o.errors.failed
+
+-- the command that the words name is performed by these bytes of a table and of a state, over a log with these bytes
+pub record IsPerformedOver (words : Words) (table : List ℕ) (handed left : Option (List ℕ)) (before after : Outside) (result : Result ℕ Fault) : Type 0 where
+  pub log : LogAfter
+  pub performs : Performs words table handed (with_log left 0 0 before) (with_log log.left log.calls log.failed after)
+      (shelf (save_word words) before.kept before.failed_keeps) (shelf (save_word words) after.kept after.failed_keeps) result
+
+-- the bytes of a file that is named and known are not more than a file that is read whole may have
+abbrev pub IsReadable : World → Option Text → Type 0
+IsReadable w None = Unit {0}
+IsReadable w (Some name) = IfSome (w.file name) (λ bytes. length bytes ≤ longest_file)
+
+-- The command that the words name is performed by the bytes of the files that they name, over the log that they name, and
+-- its state is kept under the name that they have for it.
+pub record IsPerformed (w : World) (words : Words) (before after : Outside) (result : Result ℕ Fault) : Type 0 where
+  pub interface : IsInterface (interface_word words)
+  pub table : List ℕ
+  pub is_table : IsTable w (table_word words) table
+  pub handed : Option (List ℕ)
+  pub is_state : IsState w (resume_word words) handed
+  pub over : IsPerformedOver words table handed (log_of w (log_word words)) before after result
+
+-- a file is named, which has too many bytes where they are known
+abbrev pub IsTooLarge : World → Option Text → Type 0
+IsTooLarge w None = ⊥
+IsTooLarge w (Some name) = IfSome (w.file name) (λ bytes. longest_file < length bytes)
+
+-- a file is named
+abbrev pub IsNamed : Option Text → Type 0
+IsNamed None = ⊥
+IsNamed (Some name) = Unit {0}
+
+-- why a file is not read: those of the table, of the state and of the log come in this order
+abbrev pub IsUnread : World → Words → Fault → Type 0
+IsUnread w words TableSize = IsTooLarge w (table_word words)
+IsUnread w words TableFile = IsNamed (table_word words)
+IsUnread w words StateSize = IsReadable w (table_word words) × IsTooLarge w (resume_word words)
+IsUnread w words StateFile = IsReadable w (table_word words) × IsNamed (resume_word words)
+IsUnread w words Read = IsReadable w (table_word words) × IsReadable w (resume_word words) × IsNamed (log_word words)
+IsUnread w words Memory = Unit {0}
+IsUnread w words _ = ⊥
+
+-- why a command is not begun: the interface is judged before any file is opened
+abbrev pub IsUnbegun : World → Words → Fault → Type 0
+IsUnbegun w words Interface = IsInterface (interface_word words) → ⊥
+IsUnbegun w words fault = IsInterface (interface_word words) × IsUnread w words fault
+
+-- it is performed; or not begun, and all is as it was
+abbrev pub FollowsWords : World → Words → Outside → Outside → Result ℕ Fault → Type 0
+FollowsWords w words before after (Ok status) = IsPerformed w words before after (Ok status)
+FollowsWords w words before after (Err fault) = IsPerformed w words before after (Err fault) ⊎ ((after ≡ before) × IsUnbegun w words fault)
+
+-- ---- from the words that were typed to the status
+
+-- the text of the help or of the version is printed
+abbrev pub Shows : Text → Place → Place → Result ℕ Fault → Type 0
+Shows text before after result = MatchResult result
+    (λ status. (status ≡ 0) × IsWritten before after text)
+    (λ fault. (fault ≡ Write) × IsCutOff before after text)
+
+-- what these words ask for is done
+abbrev pub DoesWords : World → Words → Outside → Outside → Result ℕ Fault → Type 0
+DoesWords w (Help text) before after result = Shows text before.output after.output result × (after ≡ record before { output = after.output })
+DoesWords w words before after result = FollowsWords w words before after result
+
+-- what was typed asks for these words
+abbrev pub AsksFor : World → Words → Type 0
+AsksFor w words = IfSome w.typed (λ typed. IsAskedBy typed words)
+
+-- why no words come of what was typed
+abbrev pub IsUnasked : World → Fault → Type 0
+IsUnasked w WordsFault = IfSome w.typed IsRefused
+IsUnasked w Memory = Unit {0}
+IsUnasked w _ = ⊥
+
+-- what was typed is done; or it is refused, and all is as it was
+abbrev pub DoesTyped : World → Outside → Outside → Result ℕ Fault → Type 0
+DoesTyped w before after result =
+    ((words : Words) × AsksFor w words × DoesWords w words before after result)
+    ⊎ ((fault : Fault) × (result ≡ Err fault) × IsUnasked w fault × (after ≡ before))
+
+-- this is whether standard error is a terminal
+abbrev pub IsTerminal : World → Bool → Type 0
+IsTerminal w is_terminal = IfSome w.terminal (λ known. is_terminal ≡ known)
+
+-- a fault is told, where memory for its text is there
+abbrev pub IsTold : Bool → Fault → Place → Place → Type 0
+IsTold is_terminal fault before after = (after ≡ before) ⊎ ((text : List ℕ) × TellsFault is_terminal fault text × IsWrittenUnlessFailed before after text)
+
+abbrev pub Tells : World → Fault → Place → Place → Type 0
+Tells w fault before after = (is_terminal : Bool) × IsTerminal w is_terminal × IsTold is_terminal fault before after
+
+-- the status of a result, and what is told of it
+abbrev pub Concludes : World → Result ℕ Fault → Outside → Outside → ℕ → Type 0
+Concludes w (Ok told) before after status = (status ≡ told) × (after ≡ before)
+Concludes w (Err fault) before after status =
+    (status ≡ status_of fault) × Tells w fault before.errors after.errors × (after ≡ record before { errors = after.errors })
+
+-- The program: what was typed is done, and the status is that of it.
+pub record RunsTyped (w : World) (before after : Outside) (status : ℕ) : Type 0 where
+  pub result : Result ℕ Fault
+  pub done : Outside
+  pub does : DoesTyped w before done result
+  pub concludes : Concludes w result done after status

@@ -1,0 +1,304 @@
+//! From the words that were typed to the status that the program ends with, over any machine.
+ghost use Rattle.std.specs.Prelude.{◌≡◌, ◌⊎◌, ◌<◌, ◌≤◌, IfErr, IfOk, IfSome, OnOk, Some, length, map, option_map, string_bytes, vec_len};
+ghost use Rattle.std.specs.Process.{exit_status};
+ghost use Rattle.clap.specs.Walk.{texts};
+ghost use Rattle.n2k_run.specs.Device.{HasFailed};
+ghost use Rattle.n2k_run.specs.FramesOut.{IsInterface};
+ghost use Rattle.n2kdec.specs.Fault.{longest_file};
+ghost use Rattle.n2kdec.specs.Machine.{AsksFor, DoesTyped, FollowsWords, IsOfFile, IsPerformedOver, IsReadable, IsState, IsTable, IsTold, IsTooLarge, IsUnasked, IsUnbegun, RunsTyped, Shows, Tells, outside};
+ghost use Rattle.n2kdec.specs.Commands.{place};
+ghost use Rattle.n2kdec.specs.Words.{IsCommand, interface_word, resume_word, table_word};
+
+use crate::commands::perform;
+use crate::fault::{Fault, status};
+use crate::keeper::Keeper;
+use crate::machine::{Machine, Unopened};
+use crate::refusal::told;
+use crate::word::{Word, Words};
+use crate::words::{interface, words};
+use n2k_run::{BytesFault, Sink, Source, read_bytes, write_all};
+use std::alloc::{AllocError, Global};
+use std::process::ExitCode;
+
+// The most bytes of the file of a table, and of that of a state.
+const LONGEST_FILE: usize = 16_777_216;
+
+fn texts_of(alloc: Global, words: &[String]) -> Result<Vec<&str>, AllocError>
+    ensures { IfOk result (λ all. texts all.items ≡ map string_bytes words.now) }
+{
+    let mut all = Vec::new(alloc);
+    for word in words {
+        all.push(word.as_str())?;
+    }
+    Ok(all)
+}
+
+// What the words that were typed ask for.
+fn asked<M: Machine>(alloc: Global, machine: &M) -> Result<Words, Fault>
+    ensures asked { IfOk result (AsksFor (M.world machine.now)) }
+    ensures unasked { IfErr result (IsUnasked (M.world machine.now)) }
+{
+    let typed = machine.typed(alloc)?;
+    words(alloc, &texts_of(alloc, &typed)?)
+}
+
+// What a file that can't be opened comes to: memory where that was wanted, and else what is told of such a file.
+fn open_fault(why: Unopened, refused: Fault) -> Fault
+    ensures memory { why ≡ Unopened.Memory → result ≡ Fault.Memory }
+    ensures told { why ≡ Unopened.Refused → result ≡ refused }
+    ensures either { (result ≡ refused) ⊎ (result ≡ Fault.Memory) }
+{
+    match why {
+        Unopened::Memory => Fault::Memory,
+        Unopened::Refused => refused,
+    }
+}
+
+// Opens a file. One that can't be opened is `refused`.
+fn open<M: Machine>(machine: &M, file: &Word, refused: Fault) -> Result<M::File, Fault>
+    ensures bytes { IfOk result (λ opened. M.File.remaining opened ≡ (M.world machine.now).file file.now) }
+    ensures none_called { IfOk result (λ opened. M.File.calls opened ≡ 0) }
+    ensures none_failed { IfOk result (λ opened. M.File.failed_calls opened ≡ 0) }
+    ensures fault { IfErr result (λ fault. (fault ≡ refused) ⊎ (fault ≡ Fault.Memory)) }
+{
+    match machine.open(file.as_str()) {
+        Ok(file) => Ok(file),
+        Err(why) => Err(open_fault(why, refused)),
+    }
+}
+
+// The bytes of a file that is read whole, or the fault of one that is too large, of one of which a read failed, or of
+// memory.
+fn read_whole<R: Source>(
+    alloc: Global,
+    file: &mut R,
+    too_large: Fault,
+    unread: Fault,
+) -> Result<Vec<u8>, Fault>
+    ensures bytes { IfOk result (λ read. IfSome (R.remaining file.old) (λ bytes. read.items ≡ bytes)) }
+    ensures size { IfOk result (λ read. vec_len read ≤ longest_file) }
+    ensures none_failed { OnOk result (R.failed_calls file.new ≡ R.failed_calls file.old) }
+    ensures fault { IfErr result (λ fault.
+        ((fault ≡ unread) × HasFailed (R.failed_calls file.old) (R.failed_calls file.new))
+        ⊎ ((R.failed_calls file.new ≡ R.failed_calls file.old)
+        × (((fault ≡ too_large) × IfSome (R.remaining file.old) (λ bytes. longest_file < length bytes))
+        ⊎ (fault ≡ Fault.Memory)))) }
+{
+    match read_bytes(alloc, file, LONGEST_FILE) {
+        Ok(bytes) => Ok(bytes),
+        Err(BytesFault::TooLong) => Err(too_large),
+        Err(BytesFault::Read) => Err(unread),
+        Err(BytesFault::Memory) => Err(Fault::Memory),
+    }
+}
+
+// The bytes of the file of this name, or the fault of one that is too large, of one that can't be opened or read, or of
+// memory.
+fn read_file<M: Machine>(
+    alloc: Global,
+    machine: &M,
+    name: &Word,
+    too_large: Fault,
+    unread: Fault,
+) -> Result<Vec<u8>, Fault>
+    ensures bytes { IfOk result (λ read. IsOfFile (M.world machine.now) name.now read.items) }
+    ensures readable { OnOk result (IsReadable (M.world machine.now) (Some name.now)) }
+    ensures fault { IfErr result (λ fault. ((fault ≡ too_large) × IsTooLarge (M.world machine.now) (Some name.now))
+        ⊎ ((fault ≡ unread) ⊎ (fault ≡ Fault.Memory))) }
+{
+    let mut file = open(machine, name, unread)?;
+    read_whole(alloc, &mut file, too_large, unread)
+}
+
+// The bytes of the table that the words name; none where their command has no table.
+fn read_table<M: Machine>(alloc: Global, machine: &M, words: &Words) -> Result<Vec<u8>, Fault>
+    requires { IsInterface (interface_word words.now) }
+    ensures bytes { IfOk result (λ read. IsTable (M.world machine.now) (table_word words.now) read.items) }
+    ensures readable { OnOk result (IsReadable (M.world machine.now) (table_word words.now)) }
+    ensures fault { IfErr result (IsUnbegun (M.world machine.now) words.now) }
+{
+    match words.table() {
+        Some(name) => read_file(alloc, machine, name, Fault::TableSize, Fault::TableFile),
+        None => Ok(Vec::new(alloc)),
+    }
+}
+
+// The state to go on from, where one is named.
+fn read_state<M: Machine>(
+    alloc: Global,
+    machine: &M,
+    words: &Words,
+) -> Result<Option<Vec<u8>>, Fault>
+    requires interface { IsInterface (interface_word words.now) }
+    requires table { IsReadable (M.world machine.now) (table_word words.now) }
+    ensures readable { OnOk result (IsReadable (M.world machine.now) (resume_word words.now)) }
+    ensures bytes { IfOk result (λ read. IsState (M.world machine.now) (resume_word words.now)
+        (option_map (λ bytes. bytes.items) read)) }
+    ensures fault { IfErr result (IsUnbegun (M.world machine.now) words.now) }
+{
+    match words.resume() {
+        Some(name) => Ok(Some(read_file(
+            alloc,
+            machine,
+            name,
+            Fault::StateSize,
+            Fault::StateFile,
+        )?)),
+        None => Ok(None),
+    }
+}
+
+// Performs what the words name over a log of which no call was made.
+fn perform_over<R: Source + Drop, W: Sink, E: Sink, K: Keeper>(
+    alloc: Global,
+    words: &Words,
+    table: &[u8],
+    state: Option<&[u8]>,
+    log: R,
+    output: &mut W,
+    errors: &mut E,
+    keeper: &mut K,
+) -> Result<u8, Fault>
+    requires command { IsCommand words.now }
+    requires interface { IsInterface (interface_word words.now) }
+    requires none_called { R.calls log ≡ 0 }
+    requires none_failed { R.failed_calls log ≡ 0 }
+    ensures { IsPerformedOver words.now table.now (option_map (λ bytes. bytes.now) state.entry) (R.remaining log)
+        (outside W.Sink E.Sink K.Keeper output.old errors.old keeper.old)
+        (outside W.Sink E.Sink K.Keeper output.new errors.new keeper.new) result }
+{
+    let mut log = log;
+    perform(alloc, words, table, state, &mut log, output, errors, keeper)
+}
+
+// Performs what the words name over the log that they name, or over standard input.
+fn perform_log<M: Machine>(
+    alloc: Global,
+    machine: &M,
+    words: &Words,
+    table: &[u8],
+    state: Option<&[u8]>,
+    output: &mut M::Output,
+    errors: &mut M::Errors,
+    store: &mut M::Store,
+) -> Result<u8, Fault>
+    requires command { IsCommand words.now }
+    requires interface { IsInterface (interface_word words.now) }
+    requires table { IsTable (M.world machine.now) (table_word words.now) table.now }
+    requires readable { IsReadable (M.world machine.now) (table_word words.now) × IsReadable (M.world machine.now)
+        (resume_word words.now) }
+    requires state { IsState (M.world machine.now) (resume_word words.now) (option_map (λ bytes. bytes.now) state) }
+    ensures { FollowsWords (M.world machine.now) words.now
+        (outside M.Output.Sink M.Errors.Sink M.Store.Keeper output.old errors.old store.old)
+        (outside M.Output.Sink M.Errors.Sink M.Store.Keeper output.new errors.new store.new) result }
+{
+    match words.log() {
+        Some(name) => {
+            let log = open(machine, name, Fault::Read)?;
+            perform_over(alloc, words, table, state, log, output, errors, store)
+        }
+        None => {
+            let log = machine.input();
+            perform_over(alloc, words, table, state, log, output, errors, store)
+        }
+    }
+}
+
+// Performs what the words name over its files, which are opened in the order of the faults: the table's and the
+// state's, which are read whole, and then the log.
+fn perform_files<M: Machine>(
+    alloc: Global,
+    machine: &M,
+    words: &Words,
+    output: &mut M::Output,
+    errors: &mut M::Errors,
+    store: &mut M::Store,
+) -> Result<u8, Fault>
+    requires { IsCommand words.now }
+    ensures { FollowsWords (M.world machine.now) words.now
+        (outside M.Output.Sink M.Errors.Sink M.Store.Keeper output.old errors.old store.old)
+        (outside M.Output.Sink M.Errors.Sink M.Store.Keeper output.new errors.new store.new) result }
+{
+    interface(words)?;
+    let table = read_table(alloc, machine, words)?;
+    let resumed = read_state(alloc, machine, words)?;
+    let state = resumed.as_ref().map(|bytes| bytes.as_slice());
+    perform_log(alloc, machine, words, &table, state, output, errors, store)
+}
+
+// Prints the text of the help or of the version.
+fn show<W: Sink>(text: &Word, output: &mut W) -> Result<u8, Fault>
+    ensures { Shows text.now (place (W.contents output.old) (W.failed_calls output.old))
+        (place (W.contents output.new) (W.failed_calls output.new)) result }
+{
+    write_all(output, text.as_str().as_bytes()).map_err(|_| Fault::Write)?;
+    Ok(0)
+}
+
+// Does what was typed, and answers the status of what came to its end.
+fn do_typed<M: Machine>(
+    alloc: Global,
+    machine: &M,
+    output: &mut M::Output,
+    errors: &mut M::Errors,
+    store: &mut M::Store,
+) -> Result<u8, Fault>
+    ensures { DoesTyped (M.world machine.now)
+        (outside M.Output.Sink M.Errors.Sink M.Store.Keeper output.old errors.old store.old)
+        (outside M.Output.Sink M.Errors.Sink M.Store.Keeper output.new errors.new store.new) result }
+{
+    let words = asked(alloc, machine)?;
+    match &words {
+        Words::Help(text) => show(text, output),
+        Words::Plain { .. } | Words::Decode { .. } | Words::Frames { .. } => {
+            perform_files(alloc, machine, &words, output, errors, store)
+        }
+    }
+}
+
+// Tells a fault, where memory for its text is there.
+fn tell<E: Sink>(alloc: Global, fault: &Fault, is_terminal: bool, words: &[&str], errors: &mut E)
+    ensures { IsTold is_terminal fault.now (place (E.contents errors.old) (E.failed_calls errors.old))
+        (place (E.contents errors.new) (E.failed_calls errors.new)) }
+{
+    if let Ok(text) = told(alloc, fault, is_terminal, words) {
+        let _ = write_all(errors, &text);
+    }
+}
+
+// Tells a fault on a machine's errors.
+fn tell_on<M: Machine>(alloc: Global, machine: &M, fault: &Fault, errors: &mut M::Errors)
+    ensures { Tells (M.world machine.now) fault.now
+        (place (M.Errors.contents errors.old) (M.Errors.failed_calls errors.old))
+        (place (M.Errors.contents errors.new) (M.Errors.failed_calls errors.new)) }
+{
+    let is_terminal = machine.is_terminal();
+    let typed = if is_terminal {
+        machine.typed(alloc).unwrap_or(Vec::new(alloc))
+    } else {
+        Vec::new(alloc)
+    };
+    let words = texts_of(alloc, &typed).unwrap_or(Vec::new(alloc));
+    tell(alloc, fault, is_terminal, &words, errors);
+}
+
+/// Does what was typed, tells a fault, and answers the status that the program ends with.
+pub fn run<M: Machine>(
+    alloc: Global,
+    machine: &M,
+    output: &mut M::Output,
+    errors: &mut M::Errors,
+    store: &mut M::Store,
+) -> ExitCode
+    ensures { RunsTyped (M.world machine.now)
+        (outside M.Output.Sink M.Errors.Sink M.Store.Keeper output.old errors.old store.old)
+        (outside M.Output.Sink M.Errors.Sink M.Store.Keeper output.new errors.new store.new) (exit_status result) }
+{
+    match do_typed(alloc, machine, output, errors, store) {
+        Ok(status) => ExitCode::from(status),
+        Err(fault) => {
+            tell_on(alloc, machine, &fault, errors);
+            ExitCode::from(status(&fault))
+        }
+    }
+}
