@@ -87,17 +87,22 @@ unfolding words_of
 named_by_matches words rows r same names = subst (λ x. Names (named x) r) same names
 
 -- the parse failed, by a kind among those of the definition, or for want of memory
-pub asked_by_kind : (words : List Text) (kind : ErrorKind) (r : Result Words Fault) → (kind ≡ OutOfMemory) ⊎ IsAmong kind (fault_of program_app words) → AnswersKind kind r → IfOk r (IsAskedBy words)
-asked_by_kind words kind (Ok (Help text)) (inl memory) (inl is) = let bad : DisplayHelp ≡ OutOfMemory = sym is ∙ memory in cc
-asked_by_kind words kind (Ok (Help text)) (inl memory) (inr is) = let bad : DisplayVersion ≡ OutOfMemory = sym is.0 ∙ memory in cc
-asked_by_kind words kind (Ok (Help text)) (inr among) (inl is) = inl (subst (λ k. IsAmong k (fault_of program_app words)) is among)
-asked_by_kind words kind (Ok (Help text)) (inr among) (inr is) = inr (subst (λ k. IsAmong k (fault_of program_app words)) is.0 among, is.1)
-asked_by_kind words kind (Ok command) fails answers = absurd answers
-asked_by_kind words kind (Err e) fails answers = tt
+asked_by_kind : (words : List Text) (kind : ErrorKind) (shown : Option Text) (r : Result Words Fault) → (kind ≡ OutOfMemory) ⊎ IsAmong kind (fault_of program_app words) → AnswersKind kind shown r → IfOk r (IsAskedBy words)
+asked_by_kind words kind shown (Ok (Help text)) (inl memory) (inl is) = let bad : DisplayHelp ≡ OutOfMemory = sym is.0 ∙ memory in cc
+asked_by_kind words kind shown (Ok (Help text)) (inl memory) (inr is) = let bad : DisplayVersion ≡ OutOfMemory = sym is.0 ∙ memory in cc
+asked_by_kind words kind shown (Ok (Help text)) (inr among) (inl is) = inl (subst (λ k. IsAmong k (fault_of program_app words)) is.0 among)
+asked_by_kind words kind shown (Ok (Help text)) (inr among) (inr is) = inr (subst (λ k. IsAmong k (fault_of program_app words)) is.0 among, is.1)
+asked_by_kind words kind shown (Ok command) fails answers = absurd answers
+asked_by_kind words kind shown (Err e) fails answers = tt
 
-refusal_kind : (words : List Text) (kind : ErrorKind) → (kind ≡ OutOfMemory) ⊎ IsAmong kind (fault_of program_app words) → AnswersKind kind (Err fault.Words) → IsRefused words
-refusal_kind words kind (inl memory) answers = absurd (answers.2 memory)
-refusal_kind words kind (inr among) answers = inl (kind, among, answers.0, answers.1)
+-- the kind was told of the error
+pub asked_by_told : (words : List Text) (kind told : ErrorKind) (shown : Option Text) (r : Result Words Fault) → told ≡ kind → (kind ≡ OutOfMemory) ⊎ IsAmong kind (fault_of program_app words) → AnswersKind told shown r → IfOk r (IsAskedBy words)
+asked_by_told words kind told shown r is fails answers = asked_by_kind words kind shown r fails (subst (λ k. AnswersKind k shown r) is answers)
 
-pub refused_by_kind : (words : List Text) (kind : ErrorKind) (r : Result Words Fault) → (kind ≡ OutOfMemory) ⊎ IsAmong kind (fault_of program_app words) → AnswersKind kind r → IsErrOf r fault.Words → IsRefused words
-refused_by_kind words kind r fails answers is = refusal_kind words kind fails (subst (AnswersKind kind) is answers)
+refusal_kind : (words : List Text) (kind : ErrorKind) (shown : Option Text) → (kind ≡ OutOfMemory) ⊎ IsAmong kind (fault_of program_app words) → AnswersKind kind shown (Err fault.Words) → IsRefused words
+refusal_kind words kind shown (inl memory) answers = absurd (answers.2 memory)
+refusal_kind words kind shown (inr among) answers = inl (kind, among, answers.0, answers.1)
+
+pub refused_by_told : (words : List Text) (kind told : ErrorKind) (shown : Option Text) (r : Result Words Fault) → told ≡ kind → (kind ≡ OutOfMemory) ⊎ IsAmong kind (fault_of program_app words) → AnswersKind told shown r → IsErrOf r fault.Words → IsRefused words
+refused_by_told words kind told shown r is fails answers refused =
+    refusal_kind words kind shown fails (subst (AnswersKind kind shown) refused (subst (λ k. AnswersKind k shown r) is answers))

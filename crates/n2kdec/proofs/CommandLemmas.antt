@@ -63,7 +63,7 @@ module _ (c : Command) (stands : List Entry → Type 0) (before after : Devices)
   -- what follows the fault of a run: the summary of the lines that it has taken, or nothing
   abbrev pub Follows : RunFault → Type 0
   Follows run.Read = (es : List Entry) → stands es → SumsUpPart c.sums_up_a_part errors summed (summary_text (c.counts es))
-      × (IsSaved c.saving es ⊎ CannotBeSaved c.saving)
+      × (Replaces c.saving.before c.saving.after (c.saving.state es) errors.text ⊎ CannotBeSaved c.saving)
   Follows run.TooManyLines = (es : List Entry) → stands es → SumsUpPart c.sums_up_a_part errors summed (summary_text (c.counts es))
       × IsUntouched c.saving
   Follows _ = IsLeft
@@ -78,6 +78,12 @@ module _ (c : Command) (stands : List Entry → Type 0) (before after : Devices)
     report = gained.reported;
     summary = subst (λ n. said (place errors.text n) summed (summary_text (c.counts es))) held summary;
   }
+
+  -- what is kept before the summary is kept behind the reports
+  saved_behind : (es : List Entry) → Gained c.output before mid es → Replaces c.saving.before c.saving.after (c.saving.state es) errors.text ⊎ CannotBeSaved c.saving
+      → IsSaved c before es ⊎ CannotBeSaved c.saving
+  saved_behind es gained (inl keeps) = inl (errors.text, gained.reported, keeps)
+  saved_behind es gained (inr failed) = inr failed
 
   all_numbered : (es : List Entry) → c.output.counted + length es ≡ most_lines → AreNumbered c.output.counted es
   all_numbered es full = λ some. omega (arith, full)
@@ -97,7 +103,7 @@ module _ (c : Command) (stands : List Entry → Type 0) (before after : Devices)
   leaves : {T : Type 0} (f : RunFault) → Runs {T = T} c.output stands before mid (Err f) → Follows f → Leaves c before after (fault_of_run f)
   leaves run.Read ran follows =
       let said = follows _ ran.ends.holds in
-      record { came = ran.ends.came; given = ran.ends.given; taken = taken _ (SumsUpPart c.sums_up_a_part) ran.ends.numbered ran.ends.gained ran.device.reports said.0; saved = said.1 }
+      record { came = ran.ends.came; given = ran.ends.given; taken = taken _ (SumsUpPart c.sums_up_a_part) ran.ends.numbered ran.ends.gained ran.device.reports said.0; saved = saved_behind _ ran.ends.gained said.1 }
   leaves run.TooManyLines ran follows =
       let said = follows _ ran.ends.holds in
       let numbered = all_numbered ran.ends.taken ran.ends.full in
@@ -164,10 +170,10 @@ module _ (c : Command) (stands : List Entry → Type 0) (before after : Devices)
     abbrev es : List Entry
     es = entries_for c ran.ends.came
 
-    saved : Replaces c.saving.before c.saving.after text → IsSaved c.saving es
-    saved = subst (Replaces c.saving.before c.saving.after) counted.1
+    saved : Replaces c.saving.before c.saving.after text errors.text → IsSaved c before es
+    saved keeps = (errors.text, ran.ends.gained.reported, subst (λ t. Replaces c.saving.before c.saving.after t errors.text) counted.1 keeps)
 
-    done : (status : ℕ) → Replaces c.saving.before c.saving.after text → IsWritten errors summed (summary_text counts) → status ≡ exit_status counts → IsDone c before after status
+    done : (status : ℕ) → Replaces c.saving.before c.saving.after text errors.text → IsWritten errors summed (summary_text counts) → status ≡ exit_status counts → IsDone c before after status
     done status keeps whole is = record {
       came = ran.ends.came;
       given = ran.ends.given;
@@ -194,9 +200,9 @@ module _ (c : Command) (stands : List Entry → Type 0) (before after : Devices)
       closing = closing;
     }
 
-    unsummed : Replaces c.saving.before c.saving.after text → IsCutOff errors summed (summary_text counts) → IsStopped c before after Report
+    unsummed : Replaces c.saving.before c.saving.after text errors.text → IsCutOff errors summed (summary_text counts) → IsStopped c before after Report
     unsummed keeps cut = record {
-      leaves = inr (all_taken IsCutOff (IsSaved c.saving) cut (saved keeps));
+      leaves = inr (all_taken IsCutOff (IsSaved c before) cut (saved keeps));
       device = (
         record {
           reads = ran.device.reads;
@@ -208,7 +214,7 @@ module _ (c : Command) (stands : List Entry → Type 0) (before after : Devices)
       reports_first = first (inr cut);
     }
 
-    summed_up : (r : Result ℕ Fault) → Replaces c.saving.before c.saving.after text → SumsUp errors summed counts r → Ends c before after r
+    summed_up : (r : Result ℕ Fault) → Replaces c.saving.before c.saving.after text errors.text → SumsUp errors summed counts r → Ends c before after r
     summed_up (Ok status) keeps said = done status keeps said.0 said.1
     summed_up (Err fault) keeps said = subst (IsStopped c before after) (sym said.0) (unsummed keeps said.1)
 

@@ -28,7 +28,7 @@ use Rattle.n2k_run.proofs.Joined.{refused_memory}
 use Rattle.n2k_run.proofs.Parting.{told_ok, told_run, told_stopped}
 use Rattle.n2k_run.proofs.Running.{known_more}
 use Rattle.n2kdec.specs.Inner.Closing.{Closes, ClosesPart}
-use Rattle.n2kdec.specs.Commands.{CannotBeSaved, Command, Decodes, Ends, EndsUnlessRefused, IsJudged, IsSaved, IsStopped, IsWrittenUnlessFailed, Replaces, Place, PrintsRest, Shelf, decode_to, place}
+use Rattle.n2kdec.specs.Commands.{CannotBeSaved, Command, Decodes, Ends, EndsUnlessRefused, IsJudged, IsStopped, IsWrittenUnlessFailed, Replaces, Place, PrintsRest, Shelf, decode_to, place}
 use Rattle.n2kdec.specs.Fault.{exit_status, fault_of_run}
 use Rattle.n2kdec.specs.declared.fault.Fault.{Fault}
 use Rattle.n2kdec.specs.declared.fault.Fault.TheVariants.{Save, State, Table}
@@ -60,9 +60,9 @@ module _ (o : Output) (stands_at : List Entry → StateOf) (t : TableParts) (opt
       → IsWrittenUnlessFailed errors said (summary_text (c.counts es))
   summary_of part es is written = subst (λ n. IsWrittenUnlessFailed errors said (summary_text n)) is.counted written
 
-  saved_or_not : (part : Part) (es : List Entry) → IsPartOf t options (stands_at es) part → Replaces keeper kept part.state.items ⊎ HasFailed keeper.failed kept.failed
-      → IsSaved c.saving es ⊎ CannotBeSaved c.saving
-  saved_or_not part es is (inl keeps) = inl (subst (Replaces keeper kept) is.saved keeps)
+  saved_or_not : (part : Part) (es : List Entry) → IsPartOf t options (stands_at es) part → Replaces keeper kept part.state.items errors.text ⊎ HasFailed keeper.failed kept.failed
+      → Replaces keeper kept (c.saving.state es) errors.text ⊎ CannotBeSaved c.saving
+  saved_or_not part es is (inl keeps) = inl (subst (λ s. Replaces keeper kept s errors.text) is.saved keeps)
   saved_or_not part es is (inr failed) = inr failed
 
   -- what the run of a part and its closing come to
@@ -140,7 +140,7 @@ module _ (bytes : List ℕ) (o : Options) (handed : Option (List ℕ)) (before a
         on.reported (subst (λ n. Appends errors.text after.reported (summary_text n)) on.counted closes.1.0.written);
     told = on.told;
     answered = closes.1.1 ∙ ap exit_status on.counted;
-    saved = subst (Replaces keeper kept) on.saved closes.0;
+    saved = (errors.text, on.reported, subst (λ s. Replaces keeper kept s errors.text) on.saved closes.0);
     reads_back = subst (λ s. begun t o (Some s) ≡ Ok (state_after t o (front ++ log))) on.saved on.reads_back;
   }) goes.1
   rest_of front (Err fault) r goes closes =

@@ -56,9 +56,11 @@ pub record IsCutOff (before after : Place) (text : List ℕ) : Type 0 where
 abbrev pub IsWrittenUnlessFailed : Place → Place → List ℕ → Type 0
 IsWrittenUnlessFailed before after text = IsWritten before after text ⊎ IsCutOff before after text
 
--- a text that was kept, behind its name
-abbrev pub Kept : Type 0
-Kept = List ℕ × List ℕ
+-- a text that was kept: its name, and what the errors held then, where the keeper tells it
+pub record Kept : Type 0 where
+  pub name : List ℕ
+  pub text : List ℕ
+  pub said : Option (List ℕ)
 
 -- What keeps a state: the name that the state is to have, if any; the texts that were kept, the first one first, where they are
 -- known; and how many of its calls have failed.
@@ -70,12 +72,13 @@ pub record Shelf : Type 0 where
 abbrev pub shelf : Option (List ℕ) → Option (List Kept) → ℕ → Shelf
 shelf name kept failed = record { name = name; kept = kept; failed = failed }
 
--- this text was kept under the name, once, and no other was; without a name none was
-abbrev pub KeepsUnder : Option (List ℕ) → Option (List Kept) → Option (List Kept) → List ℕ → Type 0
-KeepsUnder None before after text = after ≡ before
-KeepsUnder (Some name) None after text = Unit {0}
-KeepsUnder (Some name) (Some had) None text = ⊥
-KeepsUnder (Some name) (Some had) (Some all) text = all ≡ had ++ (name, text) ∷ []
+-- this text was kept under the name, once, and no other was, while the errors held so much; without a name none was
+abbrev pub KeepsUnder : Option (List ℕ) → Option (List Kept) → Option (List Kept) → List ℕ → Option (List ℕ) → Type 0
+KeepsUnder None before after text held = after ≡ before
+KeepsUnder (Some name) None after text held = Unit {0}
+KeepsUnder (Some name) (Some had) None text held = ⊥
+KeepsUnder (Some name) (Some had) (Some all) text held =
+    (said : Option (List ℕ)) × IfSome said (λ told. held ≡ Some told) × (all ≡ had ++ record { name = name; text = text; said = said } ∷ [])
 
 -- the state that is saved after entries, and what keeps it, before the command and after it
 pub record Saving : Type 0 where
@@ -87,14 +90,14 @@ pub record Saving : Type 0 where
 abbrev pub no_saving : Saving
 no_saving = record { state = λ es. []; before = shelf None None 0; after = shelf None None 0 }
 
--- this text alone is kept, under the name
-pub record Replaces (before after : Shelf) (text : List ℕ) : Type 0 where
-  pub kept : KeepsUnder before.name before.kept after.kept text
+-- this text alone is kept, under the name, while the errors hold so much
+pub record Replaces (before after : Shelf) (text : List ℕ) (held : Option (List ℕ)) : Type 0 where
+  pub kept : KeepsUnder before.name before.kept after.kept text held
   pub none_failed : after.failed ≡ before.failed
 
--- the state after these entries is kept
-abbrev pub IsSaved : Saving → List Entry → Type 0
-IsSaved s es = Replaces s.before s.after (s.state es)
+-- it is kept when the errors have gained this report, and no more: the summary comes behind it
+abbrev pub ReplacesBehind : Shelf → Shelf → List ℕ → Option (List ℕ) → List ℕ → Type 0
+ReplacesBehind before after text had report = (held : Option (List ℕ)) × Appends had held report × Replaces before after text held
 
 -- it can't be kept
 abbrev pub CannotBeSaved : Saving → Type 0
@@ -147,6 +150,10 @@ decode_from t options s before after =
 abbrev pub entries_for : Command → List ℕ → List Entry
 entries_for c log = entries c.output.packing log
 
+-- the state after these entries is kept, behind their reports and before their summary
+abbrev pub IsSaved : Command → Devices → List Entry → Type 0
+IsSaved c before es = ReplacesBehind c.saving.before c.saving.after (c.saving.state es) before.reported (c.output.reports es)
+
 -- the reports of entries, and then their summary
 abbrev pub summed_up : Command → List Entry → List ℕ
 summed_up c es = c.output.reports es ++ summary_text (c.counts es)
@@ -165,7 +172,7 @@ pub record IsDone (c : Command) (before after : Devices) (answer : ℕ) : Type 0
   pub status : answer ≡ exit_status (c.counts (entries_for c came))
   pub at_most_one : answer ≤ 1
   pub none_failed : NoneFailed before after
-  pub saved : IsSaved c.saving (entries_for c came)
+  pub saved : IsSaved c before (entries_for c came)
 
 -- A command has printed and reported these entries, which have numbers that are counted. No call of the errors failed until
 -- then, and then they have of the summary what `summed` says.
@@ -196,7 +203,7 @@ pub record HasRead (c : Command) (before after : Devices) : Type 0 where
   pub came : List ℕ
   pub given : Consumes before.left after.left came
   pub taken : HasTaken c before after (entries_for c (whole_lines came)) (SumsUpPart c.sums_up_a_part)
-  pub saved : IsSaved c.saving (entries_for c (whole_lines came)) ⊎ CannotBeSaved c.saving
+  pub saved : IsSaved c before (entries_for c (whole_lines came)) ⊎ CannotBeSaved c.saving
 
 -- As many lines are taken as are counted, and the log, where its bytes are known, has more. Nothing is saved.
 pub record IsFull (c : Command) (before after : Devices) : Type 0 where
@@ -212,7 +219,7 @@ BreaksOff c before after = IsUntouched c.saving × IfSome before.left (HasFronts
 
 -- the log is printed and reported and the state after it saved, and only its summary is cut off
 abbrev pub LacksSummary : Command → Devices → Devices → Type 0
-LacksSummary c before after = HasTakenAll c before after IsCutOff (IsSaved c.saving)
+LacksSummary c before after = HasTakenAll c before after IsCutOff (IsSaved c before)
 
 -- the log is printed and reported, and the state after it can't be saved
 abbrev pub LacksState : Command → Devices → Devices → Type 0
@@ -301,7 +308,7 @@ pub record PrintsRest (t : TableParts) (o : Options) (front more : List ℕ) (be
   pub reported : Appends before.reported after.reported (report ++ summary_text (counts o.window (kind t) (entries o.packing (front ++ more))))
   pub told : reports t o (front ++ more) ≡ reports t o front ++ report
   pub answered : status ≡ exit_status (counts o.window (kind t) (entries o.packing (front ++ more)))
-  pub saved : Replaces keeper kept (save t o (front ++ more))
+  pub saved : ReplacesBehind keeper kept (save t o (front ++ more)) before.reported report
   pub reads_back : begun t o (Some (save t o (front ++ more))) ≡ Ok (state_after t o (front ++ more))
 
 -- ---- what the words name

@@ -3,6 +3,7 @@
 use Rattle.std.specs.Prelude.{◌≡◌, ◌⊎◌, ◌<◌, ◌≤◌, ℕ, Bool, List, [], Option, Some, None, IfSome, MatchResult, Result, Ok, Err, length}
 use Rattle.clap.specs.Words.{Text}
 use Rattle.n2k_run.specs.declared.device.Sink.{Ghosts as OfSink}
+use Rattle.n2k_run.specs.Device.{HasFailed}
 use Rattle.n2k_run.specs.FramesOut.{IsInterface}
 use Rattle.n2k_run.specs.Runs.{Devices, devices}
 use Rattle.n2kdec.specs.Commands.{IsCutOff, IsWritten, IsWrittenUnlessFailed, Kept, Performs, Place, place, shelf}
@@ -11,6 +12,9 @@ use Rattle.n2kdec.specs.Words.{IsAskedBy, IsRefused, interface_word, log_word, r
 use Rattle.n2kdec.specs.declared.fault.Fault.{Fault}
 use Rattle.n2kdec.specs.declared.fault.Fault.TheVariants.{Words as WordsFault, Interface, TableSize, TableFile, StateSize, StateFile, Read, Memory, Write}
 use Rattle.n2kdec.specs.declared.keeper.Keeper.{Ghosts as OfKeeper}
+use Rattle.n2kdec.specs.declared.machine.Outlets.{Outlets}
+use Rattle.n2kdec.specs.declared.machine.Unopened.{Unopened}
+use Rattle.n2kdec.specs.declared.machine.Unopened.TheVariants as unopened
 use Rattle.n2kdec.specs.declared.word.Words.{Words}
 use Rattle.n2kdec.specs.declared.word.Words.TheVariants.{Help}
 
@@ -28,19 +32,42 @@ pub record World : Type 0 where
 abbrev pub unknown_world : World
 unknown_world = record { typed = None; file = λ name. None; input = None; terminal = None }
 
--- What the program changes: the output, the errors, and what was kept under which name, with the number of calls that failed.
+-- the bytes of the file that is named, or those of standard input
+abbrev pub bytes_of : World → Option Text → Option (List ℕ)
+bytes_of w None = w.input
+bytes_of w (Some name) = w.file name
+
+-- a file is named
+abbrev pub IsNamed : Option Text → Type 0
+IsNamed None = ⊥
+IsNamed (Some name) = Unit {0}
+
+-- an opening that is refused, and it alone, is counted as failed; standard input is not refused
+abbrev pub CountsOpening : {T : Type 0} → Option Text → ℕ → ℕ → Result T Unopened → Type 0
+CountsOpening name before after (Ok file) = after ≡ before
+CountsOpening name before after (Err unopened.Memory) = after ≡ before
+CountsOpening name before after (Err unopened.Refused) = IsNamed name × HasFailed before after
+
+-- so many failed calls more are counted
+abbrev pub AddsFailures : ℕ → ℕ → ℕ → Type 0
+AddsFailures before after more = (more ≡ 0 → after ≡ before) × (0 < more → HasFailed before after)
+
+-- What the program changes: the output, the errors, and what was kept under which name, with the number of calls that failed;
+-- and how many openings and reads of files failed.
 pub record Outside : Type 0 where
   pub output : Place
   pub errors : Place
   pub kept : Option (List Kept)
   pub failed_keeps : ℕ
+  pub failed_reads : ℕ
 
-abbrev pub outside : {W E K : Type 0} → OfSink W → OfSink E → OfKeeper K → W → E → K → Outside
-outside w e k output errors keeper = record {
-  output = place (w.contents output) (w.failed_calls output);
-  errors = place (e.contents errors) (e.failed_calls errors);
-  kept = k.kept keeper;
-  failed_keeps = k.failed_calls keeper;
+abbrev pub outside : {W E K : Type 0} → OfSink W → OfSink E → OfKeeper K → ℕ → Outlets W E K → Outside
+outside w e k failed_reads outlets = record {
+  output = place (w.contents outlets.output) (w.failed_calls outlets.output);
+  errors = place (e.contents outlets.errors) (e.failed_calls outlets.errors);
+  kept = k.kept outlets.store;
+  failed_keeps = k.failed_calls outlets.store;
+  failed_reads = failed_reads;
 }
 
 -- ---- the files that the words name
@@ -60,11 +87,6 @@ IsState w None handed = handed ≡ None
 IsState w (Some name) None = ⊥
 IsState w (Some name) (Some bytes) = IsOfFile w name bytes
 
--- the log: the file that is named, or standard input
-abbrev pub log_of : World → Option Text → Option (List ℕ)
-log_of w None = w.input
-log_of w (Some name) = w.file name
-
 -- the log's device behind the command, which has no use of it any more
 pub record LogAfter : Type 0 where
   pub left : Option (List ℕ)
@@ -75,9 +97,11 @@ pub record LogAfter : Type 0 where
 abbrev pub with_log : Option (List ℕ) → ℕ → ℕ → Outside → Devices
 with_log left calls failed o = devices left calls failed o.output.text o.output.failed o.errors.text o.errors.failed
 
--- the command that the words name is performed by these bytes of a table and of a state, over a log with these bytes
+-- The command that the words name is performed by these bytes of a table and of a state, over a log with these bytes. The
+-- failed calls of the log are counted, so that a failed read is told of no log of which none failed.
 pub record IsPerformedOver (words : Words) (table : List ℕ) (handed left : Option (List ℕ)) (before after : Outside) (result : Result ℕ Fault) : Type 0 where
   pub log : LogAfter
+  pub counted : AddsFailures before.failed_reads after.failed_reads log.failed
   pub performs : Performs words table handed (with_log left 0 0 before) (with_log log.left log.calls log.failed after)
       (shelf (save_word words) before.kept before.failed_keeps) (shelf (save_word words) after.kept after.failed_keeps) result
 
@@ -94,37 +118,48 @@ pub record IsPerformed (w : World) (words : Words) (before after : Outside) (res
   pub is_table : IsTable w (table_word words) table
   pub handed : Option (List ℕ)
   pub is_state : IsState w (resume_word words) handed
-  pub over : IsPerformedOver words table handed (log_of w (log_word words)) before after result
+  pub over : IsPerformedOver words table handed (bytes_of w (log_word words)) before after result
 
 -- a file is named, which has too many bytes where they are known
 abbrev pub IsTooLarge : World → Option Text → Type 0
 IsTooLarge w None = ⊥
 IsTooLarge w (Some name) = IfSome (w.file name) (λ bytes. longest_file < length bytes)
 
--- a file is named
-abbrev pub IsNamed : Option Text → Type 0
-IsNamed None = ⊥
-IsNamed (Some name) = Unit {0}
+-- a file that is named can't be opened, or a read of it failed
+abbrev pub IsUnreadable : Option Text → ℕ → ℕ → Type 0
+IsUnreadable name before after = IsNamed name × HasFailed before after
 
--- why a file is not read: those of the table, of the state and of the log come in this order
-abbrev pub IsUnread : World → Words → Fault → Type 0
-IsUnread w words TableSize = IsTooLarge w (table_word words)
-IsUnread w words TableFile = IsNamed (table_word words)
-IsUnread w words StateSize = IsReadable w (table_word words) × IsTooLarge w (resume_word words)
-IsUnread w words StateFile = IsReadable w (table_word words) × IsNamed (resume_word words)
-IsUnread w words Read = IsReadable w (table_word words) × IsReadable w (resume_word words) × IsNamed (log_word words)
-IsUnread w words Memory = Unit {0}
-IsUnread w words _ = ⊥
+-- why no file of this name is opened: memory, or what is told of one that can't be
+abbrev pub IsUnopened : Option Text → Fault → ℕ → ℕ → Fault → Type 0
+IsUnopened name refused before after fault = ((fault ≡ Memory) × (after ≡ before)) ⊎ ((fault ≡ refused) × IsUnreadable name before after)
+
+-- why one is not read whole: that, or what is told of one that is too large
+abbrev pub IsUnreadFile : World → Option Text → Fault → Fault → ℕ → ℕ → Fault → Type 0
+IsUnreadFile w name too_large unread before after fault =
+    ((fault ≡ too_large) × IsTooLarge w name × (after ≡ before)) ⊎ IsUnopened name unread before after fault
+
+-- Why a file is not read, by what is counted of failed openings and reads: those of the table, of the state and of the log come
+-- in this order.
+abbrev pub IsUnread : World → Words → ℕ → ℕ → Fault → Type 0
+IsUnread w words before after TableSize = IsTooLarge w (table_word words) × (after ≡ before)
+IsUnread w words before after TableFile = IsUnreadable (table_word words) before after
+IsUnread w words before after StateSize = IsReadable w (table_word words) × IsTooLarge w (resume_word words) × (after ≡ before)
+IsUnread w words before after StateFile = IsReadable w (table_word words) × IsUnreadable (resume_word words) before after
+IsUnread w words before after Read = IsReadable w (table_word words) × IsReadable w (resume_word words) × IsUnreadable (log_word words) before after
+IsUnread w words before after Memory = after ≡ before
+IsUnread w words before after _ = ⊥
 
 -- why a command is not begun: the interface is judged before any file is opened
-abbrev pub IsUnbegun : World → Words → Fault → Type 0
-IsUnbegun w words Interface = IsInterface (interface_word words) → ⊥
-IsUnbegun w words fault = IsInterface (interface_word words) × IsUnread w words fault
+abbrev pub IsUnbegun : World → Words → ℕ → ℕ → Fault → Type 0
+IsUnbegun w words before after Interface = (IsInterface (interface_word words) → ⊥) × (after ≡ before)
+IsUnbegun w words before after fault = IsInterface (interface_word words) × IsUnread w words before after fault
 
--- it is performed; or not begun, and all is as it was
+-- it is performed; or not begun, and nothing is printed or kept
 abbrev pub FollowsWords : World → Words → Outside → Outside → Result ℕ Fault → Type 0
 FollowsWords w words before after (Ok status) = IsPerformed w words before after (Ok status)
-FollowsWords w words before after (Err fault) = IsPerformed w words before after (Err fault) ⊎ ((after ≡ before) × IsUnbegun w words fault)
+FollowsWords w words before after (Err fault) =
+    IsPerformed w words before after (Err fault)
+    ⊎ ((after ≡ record before { failed_reads = after.failed_reads }) × IsUnbegun w words before.failed_reads after.failed_reads fault)
 
 -- ---- from the words that were typed to the status
 

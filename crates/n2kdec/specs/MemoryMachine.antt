@@ -3,8 +3,13 @@ use Rattle.std.specs.Prelude.{ℕ, List, [], ◌∷◌, Option, Some, None, if�
 use Rattle.std.specs.Borrow.{Bor}
 use Rattle.std.specs.Str.{bytes_eq}
 use Rattle.clap.specs.Words.{Text}
+use Rattle.n2kdec.specs.Commands.{Kept}
 
 -- the bytes of the first file of this name
 abbrev pub bytes_under : Text → List (Bor Text × Bor (List ℕ)) → Option (List ℕ)
 bytes_under name [] = None
 bytes_under name (file ∷ files) = if bytes_eq file.0.now name then Some file.1.now else bytes_under name files
+
+-- a text that was kept under a name; what the errors held then is not noted
+abbrev pub kept_text : Text → List ℕ → Kept
+kept_text name text = record { name = name; text = text; said = None }

@@ -32,12 +32,18 @@ struct Closing {
 }
 
 // Keeps a state under the name that the words have for it, where they have one.
-fn save<K: Keeper>(words: &Words, state: &[u8], keeper: &mut K) -> Result<(), Failed>
-    ensures kept { OnOk result (KeepsUnder (save_word words.now) (K.kept keeper.old) (K.kept keeper.new) state.now) }
+fn save<K: Keeper, E: Sink>(
+    words: &Words,
+    state: &[u8],
+    keeper: &mut K,
+    errors: &E,
+) -> Result<(), Failed>
+    ensures kept { OnOk result (KeepsUnder (save_word words.now) (K.kept keeper.old) (K.kept keeper.new) state.now
+        (E.contents errors.now)) }
     ensures counted { CountsFailure (K.failed_calls keeper.old) (K.failed_calls keeper.new) result }
 {
     match words.save() {
-        Some(name) => keeper.keep(name.as_str(), state),
+        Some(name) => keeper.keep(name.as_str(), state, errors),
         None => Ok(()),
     }
 }
@@ -50,13 +56,13 @@ fn save_and_sum_up<K: Keeper, E: Sink>(
     errors: &mut E,
 ) -> Closing
     ensures kept { OnOk result.saved (KeepsUnder (save_word words.now) (K.kept keeper.old) (K.kept keeper.new)
-        part.now.state.items) }
+        part.now.state.items (E.contents errors.old)) }
     ensures none_failed { OnOk result.saved (K.failed_calls keeper.new ≡ K.failed_calls keeper.old) }
     ensures failed { OnErr result.saved (HasFailed (K.failed_calls keeper.old) (K.failed_calls keeper.new)) }
     ensures summed { SumsUp (place (E.contents errors.old) (E.failed_calls errors.old))
         (place (E.contents errors.new) (E.failed_calls errors.new)) part.now.counts result.summed }
 {
-    let saved = save(words, &part.state, keeper);
+    let saved = save(words, &part.state, keeper, errors);
     let summed = sum_up(&part.counts, errors);
     Closing { saved, summed }
 }

@@ -3,18 +3,20 @@ ghost use Rattle.std.specs.Prelude.{ℕ, List, Option, Some, OnOk};
 ghost use Rattle.n2k_run.specs.Device.{CountsFailure};
 ghost use Rattle.n2kdec.specs.Commands.{Kept, KeepsUnder};
 
-use n2k_run::Failed;
+use n2k_run::{Failed, Sink};
 
 /// A place where the state after a run is kept.
 pub trait Keeper {
     /// How many of its calls have failed. At 2^64 - 1 the number stays.
     ghost failed_calls: { Self → ℕ };
 
-    /// The texts that were kept, each behind its name and the first one first, where they are known.
+    /// The texts that were kept, each under its name and the first one first, where they are known.
     ghost kept: { Self → Option (List Kept) };
 
-    /// Keeps a state under this name, in the place of what the name has. `Failed` where it can't.
-    fn keep(&mut self, name: &str, state: &[u8]) -> Result<(), Failed>
-        ensures bytes { OnOk result (KeepsUnder (Some name.now) (kept self.old) (kept self.new) state.now) }
+    /// Keeps a state under this name, in the place of what the name has. `Failed` where it can't. The errors are lent, so
+    /// that a keeper may tell what they held then.
+    fn keep<E: Sink>(&mut self, name: &str, state: &[u8], errors: &E) -> Result<(), Failed>
+        ensures bytes { OnOk result (KeepsUnder (Some name.now) (kept self.old) (kept self.new) state.now
+            (E.contents errors.now)) }
         ensures counted { CountsFailure (failed_calls self.old) (failed_calls self.new) result };
 }

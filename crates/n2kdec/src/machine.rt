@@ -1,6 +1,6 @@
 //! What the program meets: the words that were typed, files, and the standard streams.
-ghost use Rattle.std.specs.Prelude.{◌≡◌, ◌⊎◌, None, IfErr, IfOk, IfSome, IsErrOf, map, string_bytes};
-ghost use Rattle.n2kdec.specs.Machine.{IsTerminal, World};
+ghost use Rattle.std.specs.Prelude.{◌≡◌, ◌⊎◌, ℕ, None, IfErr, IfOk, IfSome, IsErrOf, map, option_map, string_bytes};
+ghost use Rattle.n2kdec.specs.Machine.{AddsFailures, CountsOpening, IsTerminal, World, bytes_of};
 
 use crate::fault::Fault;
 use crate::keeper::Keeper;
@@ -16,14 +16,21 @@ pub enum Unopened {
     Refused,
 }
 
-/// What the program meets. The output, the errors and what keeps a state are of types of their own, so that one can't
-/// stand for the other.
-pub trait Machine {
-    /// An open file.
-    type File: Source + Drop;
+/// Where the program's texts go, each to a type of its own, so that one can't stand for the other.
+#[derive(Drop)]
+pub struct Outlets<W, E, K> {
+    /// Standard output.
+    pub output: W,
+    /// Standard error.
+    pub errors: E,
+    /// What keeps a state.
+    pub store: K,
+}
 
-    /// Standard input.
-    type Input: Source + Drop;
+/// What the program meets.
+pub trait Machine {
+    /// An open file, or standard input.
+    type File: Source + Drop;
 
     /// Standard output.
     type Output: Sink + Drop;
@@ -34,8 +41,11 @@ pub trait Machine {
     /// What keeps a state.
     type Store: Keeper + Drop;
 
-    /// What was typed, and the bytes that can be read, where they are known.
+    /// The words that were typed, and the bytes that can be read, where they are known. No call changes them.
     ghost world: { Self → World };
+
+    /// How many openings and reads of files have failed. At 2^64 - 1 the number stays.
+    ghost failed_reads: { Self → ℕ };
 
     /// The words that were typed, the program's name first. `Words` where one is no text.
     fn typed(&self, alloc: Global) -> Result<Vec<String>, Fault>
@@ -43,17 +53,20 @@ pub trait Machine {
         ensures fault { IfErr result (λ fault. (fault ≡ Fault.Words) ⊎ (fault ≡ Fault.Memory)) }
         ensures texts { IsErrOf result Fault.Words → (world self.now).typed ≡ None };
 
-    /// Opens the file of this name.
-    fn open(&self, name: &str) -> Result<Self::File, Unopened>
-        ensures bytes { IfOk result (λ file. Self.File.remaining file ≡ (world self.now).file name.now) }
+    /// Opens the file of this name; without a name standard input, which is always there.
+    fn open(&mut self, name: Option<&str>) -> Result<Self::File, Unopened>
+        ensures same { world self.new ≡ world self.old }
+        ensures bytes { IfOk result (λ file. Self.File.remaining file
+            ≡ bytes_of (world self.old) (option_map (λ text. text.now) name.entry)) }
         ensures none_called { IfOk result (λ file. Self.File.calls file ≡ 0) }
-        ensures none_failed { IfOk result (λ file. Self.File.failed_calls file ≡ 0) };
+        ensures none_failed { IfOk result (λ file. Self.File.failed_calls file ≡ 0) }
+        ensures counted { CountsOpening (option_map (λ text. text.now) name.entry) (failed_reads self.old)
+            (failed_reads self.new) result };
 
-    /// Standard input.
-    fn input(&self) -> Self::Input
-        ensures bytes { Self.Input.remaining result ≡ (world self.now).input }
-        ensures none_called { Self.Input.calls result ≡ 0 }
-        ensures none_failed { Self.Input.failed_calls result ≡ 0 };
+    /// Closes a file, and counts the calls of it that failed.
+    fn close(&mut self, file: Self::File)
+        ensures same { world self.new ≡ world self.old }
+        ensures counted { AddsFailures (failed_reads self.old) (failed_reads self.new) (Self.File.failed_calls file) };
 
     /// Whether standard error is a terminal.
     fn is_terminal(&self) -> bool

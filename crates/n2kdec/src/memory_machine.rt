@@ -1,13 +1,12 @@
 //! A machine in memory, for tests.
 ghost use Rattle.std.specs.Prelude.{◌≡◌, IfOk, map, option_map, string_bytes};
 ghost use Rattle.clap.specs.Walk.{texts};
-ghost use Rattle.n2kdec.specs.Commands.{Kept};
-ghost use Rattle.n2kdec.specs.MemoryMachine.{bytes_under};
+ghost use Rattle.n2kdec.specs.MemoryMachine.{bytes_under, kept_text};
 
 use crate::fault::Fault;
 use crate::keeper::Keeper;
 use crate::machine::{Machine, Unopened};
-use n2k_run::{Failed, MemorySink, MemorySource};
+use n2k_run::{Failed, MemorySink, MemorySource, Sink, Source};
 use std::alloc::{AllocError, Global};
 
 // How many bytes a call of a device moves at most.
@@ -36,6 +35,47 @@ fn copies(alloc: Global, words: &[&str]) -> Result<Vec<String>, AllocError>
     Ok(all)
 }
 
+/// An open file in memory.
+#[derive(Drop)]
+pub struct MemoryFile<'a> {
+    source: MemorySource<'a>,
+    failed_calls: u64,
+}
+
+impl<'a> MemoryFile<'a> {
+    ghost use Rattle.std.specs.Prelude.{◌≡◌, Some};
+
+    // One with these bytes, of which the call of this number fails; at 0 none does.
+    fn of(bytes: &'a [u8], fails_at: u64) -> Self
+        ensures bytes { Some result.source.left ≡ Some bytes.now }
+        ensures none_called { result.source.calls ≡ 0 }
+        ensures none_failed { result.failed_calls ≡ 0 }
+    {
+        MemoryFile {
+            source: MemorySource::new(bytes, PIECE, fails_at),
+            failed_calls: 0,
+        }
+    }
+}
+
+impl<'a> Source for MemoryFile<'a> {
+    ghost use Rattle.std.specs.Prelude.{Some};
+
+    ghost calls = { λ f. f.source.calls };
+
+    ghost failed_calls = { λ f. f.failed_calls };
+
+    ghost remaining = { λ f. Some f.source.left };
+
+    fn read(&mut self, buffer: &mut [u8]) -> Result<usize, Failed> {
+        let answer = self.source.read(buffer);
+        if answer.is_err() {
+            self.failed_calls = self.failed_calls.saturating_add(1);
+        }
+        answer
+    }
+}
+
 /// A machine with these words typed, these files, of two of one name the first, and these bytes to its input. Its
 /// errors are no terminal.
 #[derive(Drop)]
@@ -46,14 +86,16 @@ pub struct MemoryMachine<'a> {
     pub files: &'a [(&'a str, &'a [u8])],
     /// What the input has.
     pub input: &'a [u8],
+    /// The number of the call of each file that fails; 0 is none.
+    pub fails_at: u64,
+    /// How many openings and reads of files have failed.
+    pub failed_reads: u64,
 }
 
 impl<'a> Machine for MemoryMachine<'a> {
     ghost use Rattle.std.specs.Prelude.{Some, false};
 
-    type File = MemorySource<'a>;
-
-    type Input = MemorySource<'a>;
+    type File = MemoryFile<'a>;
 
     type Output = MemorySink;
 
@@ -68,19 +110,27 @@ impl<'a> Machine for MemoryMachine<'a> {
       terminal = Some false;
     } };
 
+    ghost failed_reads = { λ m. m.failed_reads };
+
     fn typed(&self, alloc: Global) -> Result<Vec<String>, Fault> {
         Ok(copies(alloc, self.words)?)
     }
 
-    fn open(&self, name: &str) -> Result<MemorySource<'a>, Unopened> {
+    fn open(&mut self, name: Option<&str>) -> Result<MemoryFile<'a>, Unopened> {
+        let Some(name) = name else {
+            return Ok(MemoryFile::of(self.input, self.fails_at));
+        };
         match bytes_under(self.files, name) {
-            Some(bytes) => Ok(MemorySource::new(bytes, PIECE, 0)),
-            None => Err(Unopened::Refused),
+            Some(bytes) => Ok(MemoryFile::of(bytes, self.fails_at)),
+            None => {
+                self.failed_reads = self.failed_reads.saturating_add(1);
+                Err(Unopened::Refused)
+            }
         }
     }
 
-    fn input(&self) -> MemorySource<'a> {
-        MemorySource::new(self.input, PIECE, 0)
+    fn close(&mut self, file: MemoryFile<'a>) {
+        self.failed_reads = self.failed_reads.saturating_add(file.failed_calls);
     }
 
     fn is_terminal(&self) -> bool {
@@ -116,8 +166,8 @@ impl MemoryStore {
     }
 
     fn push(&mut self, name: &str, text: &[u8]) -> Result<(), AllocError>
-        ensures kept { OnOk result (map {B = Kept} (λ k. (string_bytes k.0, k.1.items)) self.new.kept.items
-            ≡ map {B = Kept} (λ k. (string_bytes k.0, k.1.items)) self.old.kept.items ++ (name.now, text.now) ∷ []) }
+        ensures kept { OnOk result (map (λ k. kept_text (string_bytes k.0) k.1.items) self.new.kept.items
+            ≡ map (λ k. kept_text (string_bytes k.0) k.1.items) self.old.kept.items ++ kept_text name.now text.now ∷ []) }
         ensures same { self.new.failed_calls ≡ self.old.failed_calls }
     {
         let alloc = *self.kept.allocator();
@@ -132,9 +182,10 @@ impl Keeper for MemoryStore {
 
     ghost failed_calls = { λ s. s.failed_calls };
 
-    ghost kept = { λ s. Some (map {B = Kept} (λ k. (string_bytes k.0, k.1.items)) s.kept.items) };
+    // What the errors held is not noted.
+    ghost kept = { λ s. Some (map (λ k. kept_text (string_bytes k.0) k.1.items) s.kept.items) };
 
-    fn keep(&mut self, name: &str, state: &[u8]) -> Result<(), Failed> {
+    fn keep<E: Sink>(&mut self, name: &str, state: &[u8], _errors: &E) -> Result<(), Failed> {
         let answer = self.push(name, state).map_err(|_| Failed);
         if answer.is_err() {
             self.failed_calls = self.failed_calls.saturating_add(1);

@@ -5,14 +5,13 @@ ghost use Rattle.clap.specs.Walk.{texts};
 ghost use Rattle.n2k_run.specs.Device.{HasFailed};
 ghost use Rattle.n2k_run.specs.FramesOut.{IsInterface};
 ghost use Rattle.n2kdec.specs.Fault.{longest_file};
-ghost use Rattle.n2kdec.specs.Machine.{AsksFor, DoesTyped, FollowsWords, IsOfFile, IsPerformedOver, IsReadable, IsState, IsTable, IsTold, IsTooLarge, IsUnasked, IsUnbegun, RunsTyped, Shows, Tells, outside};
+ghost use Rattle.n2kdec.specs.Machine.{AsksFor, DoesTyped, FollowsWords, IsOfFile, IsReadable, IsState, IsTable, IsTold, IsUnasked, IsUnbegun, IsUnopened, IsUnreadFile, RunsTyped, Shows, Tells, bytes_of, outside};
 ghost use Rattle.n2kdec.specs.Commands.{place};
 ghost use Rattle.n2kdec.specs.Words.{IsCommand, interface_word, resume_word, table_word};
 
 use crate::commands::perform;
 use crate::fault::{Fault, status};
-use crate::keeper::Keeper;
-use crate::machine::{Machine, Unopened};
+use crate::machine::{Machine, Outlets, Unopened};
 use crate::refusal::told;
 use crate::word::{Word, Words};
 use crate::words::{interface, words};
@@ -42,28 +41,21 @@ fn asked<M: Machine>(alloc: Global, machine: &M) -> Result<Words, Fault>
     words(alloc, &texts_of(alloc, &typed)?)
 }
 
-// What a file that can't be opened comes to: memory where that was wanted, and else what is told of such a file.
-fn open_fault(why: Unopened, refused: Fault) -> Fault
-    ensures memory { why ≡ Unopened.Memory → result ≡ Fault.Memory }
-    ensures told { why ≡ Unopened.Refused → result ≡ refused }
-    ensures either { (result ≡ refused) ⊎ (result ≡ Fault.Memory) }
+// Opens the file of this name, or standard input. What can't be opened is `refused`.
+fn open<M: Machine>(machine: &mut M, name: Option<&Word>, refused: Fault) -> Result<M::File, Fault>
+    ensures same { M.world machine.new ≡ M.world machine.old }
+    ensures bytes { IfOk result (λ file. M.File.remaining file
+        ≡ bytes_of (M.world machine.old) (option_map (λ word. word.now) name.entry)) }
+    ensures none_called { IfOk result (λ file. M.File.calls file ≡ 0) }
+    ensures none_failed { IfOk result (λ file. M.File.failed_calls file ≡ 0) }
+    ensures counted { OnOk result (M.failed_reads machine.new ≡ M.failed_reads machine.old) }
+    ensures fault { IfErr result (IsUnopened (option_map (λ word. word.now) name.entry) refused
+        (M.failed_reads machine.old) (M.failed_reads machine.new)) }
 {
-    match why {
-        Unopened::Memory => Fault::Memory,
-        Unopened::Refused => refused,
-    }
-}
-
-// Opens a file. One that can't be opened is `refused`.
-fn open<M: Machine>(machine: &M, file: &Word, refused: Fault) -> Result<M::File, Fault>
-    ensures bytes { IfOk result (λ opened. M.File.remaining opened ≡ (M.world machine.now).file file.now) }
-    ensures none_called { IfOk result (λ opened. M.File.calls opened ≡ 0) }
-    ensures none_failed { IfOk result (λ opened. M.File.failed_calls opened ≡ 0) }
-    ensures fault { IfErr result (λ fault. (fault ≡ refused) ⊎ (fault ≡ Fault.Memory)) }
-{
-    match machine.open(file.as_str()) {
+    match machine.open(name.map(|word| word.as_str())) {
         Ok(file) => Ok(file),
-        Err(why) => Err(open_fault(why, refused)),
+        Err(Unopened::Memory) => Err(Fault::Memory),
+        Err(Unopened::Refused) => Err(refused),
     }
 }
 
@@ -96,26 +88,33 @@ fn read_whole<R: Source>(
 // memory.
 fn read_file<M: Machine>(
     alloc: Global,
-    machine: &M,
+    machine: &mut M,
     name: &Word,
     too_large: Fault,
     unread: Fault,
 ) -> Result<Vec<u8>, Fault>
-    ensures bytes { IfOk result (λ read. IsOfFile (M.world machine.now) name.now read.items) }
-    ensures readable { OnOk result (IsReadable (M.world machine.now) (Some name.now)) }
-    ensures fault { IfErr result (λ fault. ((fault ≡ too_large) × IsTooLarge (M.world machine.now) (Some name.now))
-        ⊎ ((fault ≡ unread) ⊎ (fault ≡ Fault.Memory))) }
+    ensures same { M.world machine.new ≡ M.world machine.old }
+    ensures bytes { IfOk result (λ read. IsOfFile (M.world machine.old) name.now read.items) }
+    ensures readable { OnOk result (IsReadable (M.world machine.old) (Some name.now)) }
+    ensures counted { OnOk result (M.failed_reads machine.new ≡ M.failed_reads machine.old) }
+    ensures fault { IfErr result (IsUnreadFile (M.world machine.old) (Some name.now) too_large unread
+        (M.failed_reads machine.old) (M.failed_reads machine.new)) }
 {
-    let mut file = open(machine, name, unread)?;
-    read_whole(alloc, &mut file, too_large, unread)
+    let mut file = open(machine, Some(name), unread)?;
+    let read = read_whole(alloc, &mut file, too_large, unread);
+    machine.close(file);
+    read
 }
 
 // The bytes of the table that the words name; none where their command has no table.
-fn read_table<M: Machine>(alloc: Global, machine: &M, words: &Words) -> Result<Vec<u8>, Fault>
+fn read_table<M: Machine>(alloc: Global, machine: &mut M, words: &Words) -> Result<Vec<u8>, Fault>
     requires { IsInterface (interface_word words.now) }
-    ensures bytes { IfOk result (λ read. IsTable (M.world machine.now) (table_word words.now) read.items) }
-    ensures readable { OnOk result (IsReadable (M.world machine.now) (table_word words.now)) }
-    ensures fault { IfErr result (IsUnbegun (M.world machine.now) words.now) }
+    ensures same { M.world machine.new ≡ M.world machine.old }
+    ensures bytes { IfOk result (λ read. IsTable (M.world machine.old) (table_word words.now) read.items) }
+    ensures readable { OnOk result (IsReadable (M.world machine.old) (table_word words.now)) }
+    ensures counted { OnOk result (M.failed_reads machine.new ≡ M.failed_reads machine.old) }
+    ensures fault { IfErr result (IsUnbegun (M.world machine.old) words.now (M.failed_reads machine.old)
+        (M.failed_reads machine.new)) }
 {
     match words.table() {
         Some(name) => read_file(alloc, machine, name, Fault::TableSize, Fault::TableFile),
@@ -126,15 +125,18 @@ fn read_table<M: Machine>(alloc: Global, machine: &M, words: &Words) -> Result<V
 // The state to go on from, where one is named.
 fn read_state<M: Machine>(
     alloc: Global,
-    machine: &M,
+    machine: &mut M,
     words: &Words,
 ) -> Result<Option<Vec<u8>>, Fault>
     requires interface { IsInterface (interface_word words.now) }
-    requires table { IsReadable (M.world machine.now) (table_word words.now) }
-    ensures readable { OnOk result (IsReadable (M.world machine.now) (resume_word words.now)) }
-    ensures bytes { IfOk result (λ read. IsState (M.world machine.now) (resume_word words.now)
+    requires table { IsReadable (M.world machine.old) (table_word words.now) }
+    ensures same { M.world machine.new ≡ M.world machine.old }
+    ensures bytes { IfOk result (λ read. IsState (M.world machine.old) (resume_word words.now)
         (option_map (λ bytes. bytes.items) read)) }
-    ensures fault { IfErr result (IsUnbegun (M.world machine.now) words.now) }
+    ensures readable { OnOk result (IsReadable (M.world machine.old) (resume_word words.now)) }
+    ensures counted { OnOk result (M.failed_reads machine.new ≡ M.failed_reads machine.old) }
+    ensures fault { IfErr result (IsUnbegun (M.world machine.old) words.now (M.failed_reads machine.old)
+        (M.failed_reads machine.new)) }
 {
     match words.resume() {
         Some(name) => Ok(Some(read_file(
@@ -148,82 +150,60 @@ fn read_state<M: Machine>(
     }
 }
 
-// Performs what the words name over a log of which no call was made.
-fn perform_over<R: Source + Drop, W: Sink, E: Sink, K: Keeper>(
-    alloc: Global,
-    words: &Words,
-    table: &[u8],
-    state: Option<&[u8]>,
-    log: R,
-    output: &mut W,
-    errors: &mut E,
-    keeper: &mut K,
-) -> Result<u8, Fault>
-    requires command { IsCommand words.now }
-    requires interface { IsInterface (interface_word words.now) }
-    requires none_called { R.calls log ≡ 0 }
-    requires none_failed { R.failed_calls log ≡ 0 }
-    ensures { IsPerformedOver words.now table.now (option_map (λ bytes. bytes.now) state.entry) (R.remaining log)
-        (outside W.Sink E.Sink K.Keeper output.old errors.old keeper.old)
-        (outside W.Sink E.Sink K.Keeper output.new errors.new keeper.new) result }
-{
-    let mut log = log;
-    perform(alloc, words, table, state, &mut log, output, errors, keeper)
-}
-
 // Performs what the words name over the log that they name, or over standard input.
 fn perform_log<M: Machine>(
     alloc: Global,
-    machine: &M,
+    machine: &mut M,
     words: &Words,
     table: &[u8],
     state: Option<&[u8]>,
-    output: &mut M::Output,
-    errors: &mut M::Errors,
-    store: &mut M::Store,
+    outlets: &mut Outlets<M::Output, M::Errors, M::Store>,
 ) -> Result<u8, Fault>
     requires command { IsCommand words.now }
     requires interface { IsInterface (interface_word words.now) }
-    requires table { IsTable (M.world machine.now) (table_word words.now) table.now }
-    requires readable { IsReadable (M.world machine.now) (table_word words.now) × IsReadable (M.world machine.now)
+    requires table { IsTable (M.world machine.old) (table_word words.now) table.now }
+    requires readable { IsReadable (M.world machine.old) (table_word words.now) × IsReadable (M.world machine.old)
         (resume_word words.now) }
-    requires state { IsState (M.world machine.now) (resume_word words.now) (option_map (λ bytes. bytes.now) state) }
-    ensures { FollowsWords (M.world machine.now) words.now
-        (outside M.Output.Sink M.Errors.Sink M.Store.Keeper output.old errors.old store.old)
-        (outside M.Output.Sink M.Errors.Sink M.Store.Keeper output.new errors.new store.new) result }
+    requires state { IsState (M.world machine.old) (resume_word words.now) (option_map (λ bytes. bytes.now) state) }
+    ensures same { M.world machine.new ≡ M.world machine.old }
+    ensures follows { FollowsWords (M.world machine.old) words.now
+        (outside M.Output.Sink M.Errors.Sink M.Store.Keeper (M.failed_reads machine.old) outlets.old)
+        (outside M.Output.Sink M.Errors.Sink M.Store.Keeper (M.failed_reads machine.new) outlets.new) result }
 {
-    match words.log() {
-        Some(name) => {
-            let log = open(machine, name, Fault::Read)?;
-            perform_over(alloc, words, table, state, log, output, errors, store)
-        }
-        None => {
-            let log = machine.input();
-            perform_over(alloc, words, table, state, log, output, errors, store)
-        }
-    }
+    let mut log = open(machine, words.log(), Fault::Read)?;
+    let answer = perform(
+        alloc,
+        words,
+        table,
+        state,
+        &mut log,
+        &mut outlets.output,
+        &mut outlets.errors,
+        &mut outlets.store,
+    );
+    machine.close(log);
+    answer
 }
 
 // Performs what the words name over its files, which are opened in the order of the faults: the table's and the
 // state's, which are read whole, and then the log.
 fn perform_files<M: Machine>(
     alloc: Global,
-    machine: &M,
+    machine: &mut M,
     words: &Words,
-    output: &mut M::Output,
-    errors: &mut M::Errors,
-    store: &mut M::Store,
+    outlets: &mut Outlets<M::Output, M::Errors, M::Store>,
 ) -> Result<u8, Fault>
     requires { IsCommand words.now }
-    ensures { FollowsWords (M.world machine.now) words.now
-        (outside M.Output.Sink M.Errors.Sink M.Store.Keeper output.old errors.old store.old)
-        (outside M.Output.Sink M.Errors.Sink M.Store.Keeper output.new errors.new store.new) result }
+    ensures same { M.world machine.new ≡ M.world machine.old }
+    ensures follows { FollowsWords (M.world machine.old) words.now
+        (outside M.Output.Sink M.Errors.Sink M.Store.Keeper (M.failed_reads machine.old) outlets.old)
+        (outside M.Output.Sink M.Errors.Sink M.Store.Keeper (M.failed_reads machine.new) outlets.new) result }
 {
     interface(words)?;
     let table = read_table(alloc, machine, words)?;
     let resumed = read_state(alloc, machine, words)?;
     let state = resumed.as_ref().map(|bytes| bytes.as_slice());
-    perform_log(alloc, machine, words, &table, state, output, errors, store)
+    perform_log(alloc, machine, words, &table, state, outlets)
 }
 
 // Prints the text of the help or of the version.
@@ -238,20 +218,19 @@ fn show<W: Sink>(text: &Word, output: &mut W) -> Result<u8, Fault>
 // Does what was typed, and answers the status of what came to its end.
 fn do_typed<M: Machine>(
     alloc: Global,
-    machine: &M,
-    output: &mut M::Output,
-    errors: &mut M::Errors,
-    store: &mut M::Store,
+    machine: &mut M,
+    outlets: &mut Outlets<M::Output, M::Errors, M::Store>,
 ) -> Result<u8, Fault>
-    ensures { DoesTyped (M.world machine.now)
-        (outside M.Output.Sink M.Errors.Sink M.Store.Keeper output.old errors.old store.old)
-        (outside M.Output.Sink M.Errors.Sink M.Store.Keeper output.new errors.new store.new) result }
+    ensures same { M.world machine.new ≡ M.world machine.old }
+    ensures does { DoesTyped (M.world machine.old)
+        (outside M.Output.Sink M.Errors.Sink M.Store.Keeper (M.failed_reads machine.old) outlets.old)
+        (outside M.Output.Sink M.Errors.Sink M.Store.Keeper (M.failed_reads machine.new) outlets.new) result }
 {
     let words = asked(alloc, machine)?;
     match &words {
-        Words::Help(text) => show(text, output),
+        Words::Help(text) => show(text, &mut outlets.output),
         Words::Plain { .. } | Words::Decode { .. } | Words::Frames { .. } => {
-            perform_files(alloc, machine, &words, output, errors, store)
+            perform_files(alloc, machine, &words, outlets)
         }
     }
 }
@@ -285,19 +264,18 @@ fn tell_on<M: Machine>(alloc: Global, machine: &M, fault: &Fault, errors: &mut M
 /// Does what was typed, tells a fault, and answers the status that the program ends with.
 pub fn run<M: Machine>(
     alloc: Global,
-    machine: &M,
-    output: &mut M::Output,
-    errors: &mut M::Errors,
-    store: &mut M::Store,
+    machine: &mut M,
+    outlets: &mut Outlets<M::Output, M::Errors, M::Store>,
 ) -> ExitCode
-    ensures { RunsTyped (M.world machine.now)
-        (outside M.Output.Sink M.Errors.Sink M.Store.Keeper output.old errors.old store.old)
-        (outside M.Output.Sink M.Errors.Sink M.Store.Keeper output.new errors.new store.new) (exit_status result) }
+    ensures { RunsTyped (M.world machine.old)
+        (outside M.Output.Sink M.Errors.Sink M.Store.Keeper (M.failed_reads machine.old) outlets.old)
+        (outside M.Output.Sink M.Errors.Sink M.Store.Keeper (M.failed_reads machine.new) outlets.new)
+        (exit_status result) }
 {
-    match do_typed(alloc, machine, output, errors, store) {
+    match do_typed(alloc, machine, outlets) {
         Ok(status) => ExitCode::from(status),
         Err(fault) => {
-            tell_on(alloc, machine, &fault, errors);
+            tell_on(alloc, machine, &fault, &mut outlets.errors);
             ExitCode::from(status(&fault))
         }
     }

@@ -5,7 +5,7 @@ ghost use Rattle.std.specs.Io.KnownBytes.{Appends};
 use crate::keeper::Keeper;
 use crate::replacement::replace;
 use crate::system_folder::SystemFolder;
-use n2k_run::Failed;
+use n2k_run::{Failed, Sink};
 use std::fs;
 use std::io::Write;
 
@@ -60,7 +60,7 @@ impl<'a> Keeper for StateFiles<'a> {
     // What a file has, nothing says.
     ghost kept = { λ _. None };
 
-    fn keep(&mut self, name: &str, state: &[u8]) -> Result<(), Failed> {
+    fn keep<E: Sink>(&mut self, name: &str, state: &[u8], _errors: &E) -> Result<(), Failed> {
         let answer = write_file(self.rt, name, state);
         if answer.is_err() {
             self.failed_calls = self.failed_calls.saturating_add(1);

@@ -5,29 +5,85 @@ ghost use Rattle.n2kdec.specs.Machine.{unknown_world};
 use crate::fault::Fault;
 use crate::machine::{Machine, Unopened};
 use crate::state_file::StateFiles;
-use n2k_run::{StdSink, StdSource};
+use n2k_run::{Failed, Source, StdSink, StdSource};
 use std::alloc::Global;
 use std::fs::File;
 use std::io::{ErrorKind, IsTerminal, Stderr, Stdin, Stdout};
 use std::{env, fs};
 
+// Where bytes are read from.
+#[derive(Drop)]
+enum Origin {
+    File(StdSource<File>),
+    Input(StdSource<Stdin>),
+}
+
+/// An open file, or standard input.
+#[derive(Drop)]
+pub struct Reader {
+    origin: Origin,
+    calls: u64,
+    failed_calls: u64,
+}
+
+impl Reader {
+    ghost use Rattle.std.specs.Prelude.{◌≡◌};
+
+    // One of which no call was made.
+    fn of(origin: Origin) -> Reader
+        ensures none_called { result.calls ≡ 0 }
+        ensures none_failed { result.failed_calls ≡ 0 }
+    {
+        Reader {
+            origin,
+            calls: 0,
+            failed_calls: 0,
+        }
+    }
+}
+
+impl Source for Reader {
+    ghost use Rattle.std.specs.Prelude.{None};
+
+    ghost calls = { λ r. r.calls };
+
+    ghost failed_calls = { λ r. r.failed_calls };
+
+    // What a file has, nothing says.
+    ghost remaining = { λ _. None };
+
+    fn read(&mut self, buffer: &mut [u8]) -> Result<usize, Failed> {
+        let answer = match &mut self.origin {
+            Origin::File(file) => file.read(buffer),
+            Origin::Input(input) => input.read(buffer),
+        };
+        self.calls = self.calls.saturating_add(1);
+        if answer.is_err() {
+            self.failed_calls = self.failed_calls.saturating_add(1);
+        }
+        answer
+    }
+}
+
 /// The running process.
 #[derive(Drop)]
 pub struct System<'a> {
     rt: &'a HostRuntime,
+    failed_reads: u64,
 }
 
 impl<'a> System<'a> {
     /// The process of this runtime.
     pub fn new(rt: &'a HostRuntime) -> Self {
-        System { rt }
+        System {
+            rt,
+            failed_reads: 0,
+        }
     }
 }
 
 impl<'a> Machine for System<'a> {
-    type File = StdSource<File>;
-
-    type Input = StdSource<Stdin>;
+    type File = Reader;
 
     type Output = StdSink<Stdout>;
 
@@ -37,6 +93,8 @@ impl<'a> Machine for System<'a> {
 
     ghost world = { λ _. unknown_world };
 
+    ghost failed_reads = { λ s. s.failed_reads };
+
     fn typed(&self, alloc: Global) -> Result<Vec<String>, Fault> {
         match env::args(self.rt) {
             Ok(given) => Ok(given.collect(alloc)?),
@@ -45,16 +103,22 @@ impl<'a> Machine for System<'a> {
         }
     }
 
-    fn open(&self, name: &str) -> Result<StdSource<File>, Unopened> {
+    fn open(&mut self, name: Option<&str>) -> Result<Reader, Unopened> {
+        let Some(name) = name else {
+            return Ok(Reader::of(Origin::Input(StdSource::new(self.rt.stdin()))));
+        };
         match fs::open(self.rt, name) {
-            Ok(file) => Ok(StdSource::new(file)),
+            Ok(file) => Ok(Reader::of(Origin::File(StdSource::new(file)))),
             Err(error) if error.kind() == ErrorKind::OutOfMemory => Err(Unopened::Memory),
-            Err(_) => Err(Unopened::Refused),
+            Err(_) => {
+                self.failed_reads = self.failed_reads.saturating_add(1);
+                Err(Unopened::Refused)
+            }
         }
     }
 
-    fn input(&self) -> StdSource<Stdin> {
-        StdSource::new(self.rt.stdin())
+    fn close(&mut self, file: Reader) {
+        self.failed_reads = self.failed_reads.saturating_add(file.failed_calls);
     }
 
     fn is_terminal(&self) -> bool {

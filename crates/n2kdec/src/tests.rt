@@ -1,4 +1,5 @@
 use crate::fault::{Fault, exit_status, fault_text, status};
+use crate::machine::Outlets;
 use crate::memory_machine::{MemoryMachine, MemoryStore};
 use crate::running::run;
 use crate::word::{Word, Words};
@@ -453,27 +454,36 @@ fn words_are_worked(rt: HostRuntime) -> Result<(), Fail> {
 }
 
 // What was typed, over a machine in memory: the table and the log are the files that are named, and the state is kept
-// under its name.
+// under its name. A file that can't be read is told where a call of it fails, or where there is none.
 #[test]
 fn what_was_typed_is_run(rt: HostRuntime) -> Result<(), Fail> {
     let alloc = rt.alloc();
-    let machine = MemoryMachine {
+    let mut machine = MemoryMachine {
         words: &[
             "n2kdec", "decode", "--empty", "--table", "t", "--save", "s", "l",
         ],
         files: &[("l", COG_AND_SOG.as_bytes()), ("t", TABLE.as_bytes())],
         input: b"",
+        fails_at: 0,
+        failed_reads: 0,
     };
-    let mut output = MemorySink::new(alloc, 100, 0);
-    let mut errors = MemorySink::new(alloc, 100, 0);
-    let mut store = MemoryStore::new(alloc);
-    let status = run(alloc, &machine, &mut output, &mut errors, &mut store);
-    assert_eq!(rt; status, ExitCode::SUCCESS);
-    assert_eq!(rt; output.bytes(), EXAMPLES[2].text.as_bytes());
-    assert_eq!(rt; store.kept().len(), 1);
-    for (name, text) in store.kept() {
+    let mut outlets = Outlets {
+        output: MemorySink::new(alloc, 100, 0),
+        errors: MemorySink::new(alloc, 100, 0),
+        store: MemoryStore::new(alloc),
+    };
+    assert_eq!(rt; run(alloc, &mut machine, &mut outlets), ExitCode::SUCCESS);
+    assert_eq!(rt; outlets.output.bytes(), EXAMPLES[2].text.as_bytes());
+    assert_eq!(rt; outlets.store.kept().len(), 1);
+    for (name, text) in outlets.store.kept() {
         assert_eq!(rt; name.as_str(), "s");
         assert_eq!(rt; text.as_slice(), ONE_MESSAGE.as_bytes());
     }
+    assert_eq!(rt; machine.failed_reads, 0);
+    machine.fails_at = 2;
+    assert_eq!(rt; run(alloc, &mut machine, &mut outlets), ExitCode::from(3));
+    assert_eq!(rt; machine.failed_reads, 1);
+    assert!(rt; outlets.errors.bytes().ends_with(b"n2kdec: table file\n"));
+    assert_eq!(rt; outlets.store.kept().len(), 1);
     Ok(())
 }

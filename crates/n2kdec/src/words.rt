@@ -3,7 +3,7 @@ ghost use Rattle.std.specs.Prelude.{◌≡◌, ◌⊎◌, true, false, IfOk, IfE
 ghost use Rattle.std.specs.Char.{is_ascii_digit};
 ghost use Rattle.std.specs.List.{list_all};
 ghost use Rattle.clap.specs.Walk.{texts};
-ghost use Rattle.clap.specs.Words.{first_of, found_of, kind_of, rows_of, subcommand_rows_of, takes};
+ghost use Rattle.clap.specs.Words.{first_of, found_of, rows_of, subcommand_rows_of, takes};
 ghost use Rattle.n2k_run.specs.FramesOut.{IsInterface};
 ghost use Rattle.n2kdec.specs.Inner.Parse.{AnswersKind};
 ghost use Rattle.n2kdec.specs.Usage.{program_app};
@@ -12,11 +12,12 @@ ghost use Rattle.n2kdec.specs.Words.{IsAskedBy, IsRefused, Names, decode_words, 
 use crate::fault::Fault;
 use crate::usage::{VERSION, program};
 use crate::word::{Word, Words};
+use clap::ArgMatches;
 use clap::error::ErrorKind;
-use clap::{ArgMatches, Error};
 use n2k_join::Window;
 use n2k_wire::is_interface;
 use std::alloc::{AllocError, Global};
+use std::fmt::Display;
 
 // The value of an argument, where it has one.
 #[tactic(auto, using(crate::proofs::Rows::value_of_rows))]
@@ -146,12 +147,13 @@ fn version(alloc: Global) -> Result<Word, AllocError>
     Word::new(alloc, text.as_str())
 }
 
-// What a parse that gave no matches comes to: a request for help or for the version is no fault.
-fn help_of(alloc: Global, error: &Error) -> Result<Words, Fault>
-    ensures answers { AnswersKind (kind_of error.now) result }
-    ensures memory { kind_of error.now ≡ ErrorKind.OutOfMemory → IsErrOf result Fault.Memory }
+// What a parse that gave no matches comes to, by the kind of its error: a request for help, which gets the text that the
+// error shows, or for the version is no fault.
+fn help_of<E: Display>(alloc: Global, kind: ErrorKind, error: &E) -> Result<Words, Fault>
+    ensures answers { AnswersKind kind (E.output error.now) result }
+    ensures memory { kind ≡ ErrorKind.OutOfMemory → IsErrOf result Fault.Memory }
 {
-    match error.kind() {
+    match kind {
         ErrorKind::DisplayHelp => {
             let text = error.to_string(alloc)?;
             Ok(Words::Help(Word::new(alloc, text.as_str())?))
@@ -174,7 +176,7 @@ pub fn words(alloc: Global, words: &[&str]) -> Result<Words, Fault>
 {
     match program(alloc)?.try_get_matches_from(words) {
         Ok(matches) => command_of(alloc, &matches),
-        Err(error) => help_of(alloc, &error),
+        Err(error) => help_of(alloc, error.kind(), &error),
     }
 }
 

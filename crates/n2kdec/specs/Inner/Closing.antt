@@ -22,7 +22,7 @@ SumsUp before after counts result = MatchResult result
 -- summary is written all the same.
 abbrev pub Closes : Shelf → Shelf → Place → Place → List ℕ → Counts → Result ℕ Fault → Type 0
 Closes keeper kept errors summed text counts result =
-    (Replaces keeper kept text × SumsUp errors summed counts result)
+    (Replaces keeper kept text errors.text × SumsUp errors summed counts result)
     ⊎ ((result ≡ Err Save) × HasFailed keeper.failed kept.failed × IsWrittenUnlessFailed errors summed (summary_text counts))
 
 -- What follows a stop. Without a Part nothing; after a failed read its state is kept, where it can be, and its counts are
@@ -30,7 +30,7 @@ Closes keeper kept errors summed text counts result =
 abbrev pub FollowsStop : Shelf → Shelf → Place → Place → Option Part → Fault → Type 0
 FollowsStop keeper kept errors summed None fault = (kept ≡ keeper) × (summed ≡ errors)
 FollowsStop keeper kept errors summed (Some part) Read =
-    (Replaces keeper kept part.state.items ⊎ HasFailed keeper.failed kept.failed) × IsWrittenUnlessFailed errors summed (summary_text part.counts)
+    (Replaces keeper kept part.state.items errors.text ⊎ HasFailed keeper.failed kept.failed) × IsWrittenUnlessFailed errors summed (summary_text part.counts)
 FollowsStop keeper kept errors summed (Some part) _ = (kept ≡ keeper) × IsWrittenUnlessFailed errors summed (summary_text part.counts)
 
 -- what follows the work of a command that has a state

@@ -1,6 +1,8 @@
 -- The parse is that of the definition, so the lemmas on the definition say what is asked.
+use Rattle.std.specs.declared.fmt.Display.{output-default}
 use Rattle.clap.specs.Words.{kind_of}
-use Rattle.n2kdec.proofs.AskedLemmas.{asked_by_kind, asked_by_matches, fails_as_defined, named_by_matches, refused_by_kind, refused_by_matches, rows_as_defined, takes_as_defined}
+use Rattle.clap.specs.declared.error.Error.{Error}
+use Rattle.n2kdec.proofs.AskedLemmas.{asked_by_told, asked_by_matches, fails_as_defined, named_by_matches, refused_by_told, refused_by_matches, rows_as_defined, takes_as_defined}
 use Rattle.n2kdec.proofs.words.words.Goals as goal
 
 pub returns-in-Ok-clause-asked : goal.returns-in-Ok-clause-asked
@@ -19,8 +21,8 @@ returns-in-Ok-clause-taken c takes =
 
 pub returns-in-Err-clause-asked : goal.returns-in-Err-clause-asked
 returns-in-Err-clause-asked c =
-    asked_by_kind _ (kind_of c.in-Err.error) c.help_of.result (fails_as_defined _ _ c.in-Err.error c.in_ok-program.ensures c.in-Err.ensures.kinds) c.help_of.ensures.answers
+    asked_by_told _ (kind_of c.in-Err.error) c.kind.result (output-default Error c.in-Err.error) c.help_of.result c.kind.ensures (fails_as_defined _ _ c.in-Err.error c.in_ok-program.ensures c.in-Err.ensures.kinds) c.help_of.ensures.answers
 
 pub returns-in-Err-clause-refused : goal.returns-in-Err-clause-refused
 returns-in-Err-clause-refused c =
-    refused_by_kind _ (kind_of c.in-Err.error) c.help_of.result (fails_as_defined _ _ c.in-Err.error c.in_ok-program.ensures c.in-Err.ensures.kinds) c.help_of.ensures.answers
+    refused_by_told _ (kind_of c.in-Err.error) c.kind.result (output-default Error c.in-Err.error) c.help_of.result c.kind.ensures (fails_as_defined _ _ c.in-Err.error c.in_ok-program.ensures c.in-Err.ensures.kinds) c.help_of.ensures.answers
