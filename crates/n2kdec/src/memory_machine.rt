@@ -12,13 +12,13 @@ use std::alloc::{AllocError, Global};
 // How many bytes a call of a device moves at most.
 const PIECE: usize = 100;
 
-// The bytes of the first file of this name.
-fn bytes_under<'a>(files: &[(&'a str, &'a [u8])], name: &str) -> Option<&'a [u8]>
-    ensures { option_map (λ bytes. bytes.now) result ≡ bytes_under name.now files.now }
+// The text of the first file of this name.
+fn text_under<'a>(files: &[(&'a str, &'a str)], name: &str) -> Option<&'a str>
+    ensures { option_map (λ text. text.now) result ≡ bytes_under name.now files.now }
 {
-    for (own, bytes) in files {
+    for (own, text) in files {
         if *own == name {
-            return Some(bytes);
+            return Some(text);
         }
     }
     None
@@ -83,9 +83,9 @@ pub struct MemoryMachine<'a> {
     /// The words, the program's name first.
     pub words: &'a [&'a str],
     /// The files, each behind its name.
-    pub files: &'a [(&'a str, &'a [u8])],
+    pub files: &'a [(&'a str, &'a str)],
     /// What the input has.
-    pub input: &'a [u8],
+    pub input: &'a str,
     /// The number of the call of each file that fails; 0 is none.
     pub fails_at: u64,
     /// How many openings and reads of files have failed.
@@ -118,10 +118,10 @@ impl<'a> Machine for MemoryMachine<'a> {
 
     fn open(&mut self, name: Option<&str>) -> Result<MemoryFile<'a>, Unopened> {
         let Some(name) = name else {
-            return Ok(MemoryFile::of(self.input, self.fails_at));
+            return Ok(MemoryFile::of(self.input.as_bytes(), self.fails_at));
         };
-        match bytes_under(self.files, name) {
-            Some(bytes) => Ok(MemoryFile::of(bytes, self.fails_at)),
+        match text_under(self.files, name) {
+            Some(text) => Ok(MemoryFile::of(text.as_bytes(), self.fails_at)),
             None => {
                 self.failed_reads = self.failed_reads.saturating_add(1);
                 Err(Unopened::Refused)

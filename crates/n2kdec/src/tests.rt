@@ -453,17 +453,21 @@ fn words_are_worked(rt: HostRuntime) -> Result<(), Fail> {
     Ok(())
 }
 
+const TYPED: [&str; 8] = [
+    "n2kdec", "decode", "--empty", "--table", "t", "--save", "s", "l",
+];
+
+const FILES: [(&str, &str); 2] = [("l", COG_AND_SOG), ("t", TABLE)];
+
 // What was typed, over a machine in memory: the table and the log are the files that are named, and the state is kept
 // under its name. A file that can't be read is told where a call of it fails, or where there is none.
 #[test]
 fn what_was_typed_is_run(rt: HostRuntime) -> Result<(), Fail> {
     let alloc = rt.alloc();
     let mut machine = MemoryMachine {
-        words: &[
-            "n2kdec", "decode", "--empty", "--table", "t", "--save", "s", "l",
-        ],
-        files: &[("l", COG_AND_SOG.as_bytes()), ("t", TABLE.as_bytes())],
-        input: b"",
+        words: &TYPED,
+        files: &FILES,
+        input: "",
         fails_at: 0,
         failed_reads: 0,
     };
