@@ -134,6 +134,16 @@ impl Keeper for MemoryStore {
 
     ghost kept = { λ s. Some (map {B = Kept} (λ k. (string_bytes k.0, k.1.items)) s.kept.items) };
 
+    fn admit(
+        &mut self,
+        _name: &str,
+        _table: Option<&str>,
+        _log: Option<&str>,
+        _state: Option<&str>,
+    ) -> Result<(), Failed> {
+        Ok(())
+    }
+
     fn keep(&mut self, name: &str, state: &[u8]) -> Result<(), Failed> {
         let answer = self.push(name, state).map_err(|_| Failed);
         if answer.is_err() {
