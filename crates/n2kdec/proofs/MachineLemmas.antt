@@ -1,9 +1,12 @@
 -- From what a call leaves to what the program leaves.
-use Rattle.std.proofs.Common.{◌≡◌, ℕ, List, Option, Result, Ok, Err, inl, subst}
-use Rattle.n2kdec.specs.Commands.{Performs, shelf}
-use Rattle.n2kdec.specs.Machine.{AddsFailures, FollowsWords, IsPerformed, IsPerformedOver, LogAfter, Outside, World, with_log}
-use Rattle.n2kdec.specs.Words.{save_word}
+use Rattle.std.proofs.Common.{◌≡◌, ℕ, List, Option, Result, Ok, Err, inl, inr, refl, subst, sym}
+use Rattle.n2k_run.specs.Device.{HasFailed}
+use Rattle.n2k_run.specs.FramesOut.{IsInterface}
+use Rattle.n2kdec.specs.Commands.{Kept, Performs, shelf}
+use Rattle.n2kdec.specs.Machine.{AddsFailures, FollowsWords, IsNamed, IsPerformed, IsPerformedOver, LogAfter, Outside, World, with_log}
+use Rattle.n2kdec.specs.Words.{interface_word, save_word}
 use Rattle.n2kdec.specs.declared.fault.Fault.{Fault}
+use Rattle.n2kdec.specs.declared.fault.Fault.TheVariants.{Save}
 use Rattle.n2kdec.specs.declared.word.Words.{Words}
 
 module _ (words : Words) (table : List ℕ) (handed : Option (List ℕ)) (before after : Outside) (log : LogAfter) (result : Result ℕ Fault) where
@@ -24,3 +27,21 @@ module _ (words : Words) (table : List ℕ) (handed : Option (List ℕ)) (before
 pub follows : (w : World) (words : Words) (before after : Outside) (result : Result ℕ Fault) → IsPerformed w words before after result → FollowsWords w words before after result
 follows w words before after (Ok status) done = done
 follows w words before after (Err fault) done = inl done
+
+abbrev pub having : Outside → Option (List Kept) → ℕ → Outside
+having o kept failed = record o { kept = kept; failed_keeps = failed }
+
+module _ (w : World) (words : Words) (o : Outside) (kept : Option (List Kept)) (failed : ℕ) where
+  -- what keeps a state refuses it
+  pub not_admitted : (fault : Fault) → IsInterface (interface_word words) → kept ≡ o.kept → IsNamed (save_word words) → fault ≡ Save → HasFailed o.failed_keeps failed
+      → FollowsWords w words o (having o kept failed) (Err fault)
+  not_admitted fault interface same named is counted =
+      subst (λ k. FollowsWords w words o (having o k failed) (Err fault)) (sym same)
+      (inr (inr (record { interface = interface; named = named; save = is; failed = counted; else_same = refl })))
+
+  -- it has no objection
+  pub admitted : (after : Outside) (result : Result ℕ Fault) → kept ≡ o.kept → failed ≡ o.failed_keeps → FollowsWords w words (having o kept failed) after result
+      → FollowsWords w words o after result
+  admitted after result same none_failed follows =
+      subst (λ n. FollowsWords w words (having o o.kept n) after result) none_failed
+      (subst (λ k. FollowsWords w words (having o k failed) after result) same follows)

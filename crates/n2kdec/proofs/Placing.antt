@@ -1,8 +1,13 @@
--- Calls of a folder, one after the other, up to one that fails.
-use Rattle.std.proofs.Common.{◌≡◌, ℕ, true, false, List, [], ◌∷◌, ◌++◌, Option, None, Some, IfSome, Result, Ok, Err, OnErr, is_ok, inl, inr, subst, ap, ◌∙◌}
-use Rattle.n2kdec.specs.Folder.{Call, Notes, create, write, sync, rename}
-use Rattle.n2kdec.specs.Inner.Placing.{IsStuck, Makes, written}
+-- Calls of a folder, one after the other, up to one that fails or is refused.
+use Rattle.std.proofs.Common.{◌≡◌, ◌⊎◌, ℕ, true, false, List, [], ◌∷◌, ◌++◌, Option, None, Some, IfErr, IfSome, OnOk, Result, Ok, Err, is_ok, inl, inr, refl, subst, sym, ap, ◌∙◌}
+use Rattle.n2kdec.specs.Folder.{Call, Content, Notes, create, created, empty, renamed, sync, turn, write}
+use Rattle.n2kdec.specs.Inner.Placing.{HasPlaced, IsStuck, Makes}
+use Rattle.n2kdec.specs.Replacement.{AreWritingTo, AtomicReplacement, FromTo, KeepsText, Overwrites, Overwriting, PutsInPlace, RefusedReplacement, WritesTo, filled}
+use Rattle.n2kdec.specs.declared.folder.Kind.TheVariants.{Alone, Shared, Special}
+use Rattle.n2kdec.specs.declared.folder.Name.{Name}
 use Rattle.n2kdec.specs.declared.folder.Name.TheVariants.{Own, New}
+use Rattle.n2kdec.specs.declared.folder.Unplaced.{Unplaced}
+use Rattle.n2kdec.specs.declared.folder.Unplaced.TheVariants.{Refused, Failed}
 
 -- one call more
 pub noted : (before between after : Option (List Call)) (made : List Call) (call : Call) → Makes before between made → Notes between after call → Makes before after (call ∷ made)
@@ -11,28 +16,99 @@ noted before between (Some all) made call so_far (calls, was, is) =
     let before_it = subst (λ known. IfSome known (λ these. (earlier : List Call) × (before ≡ Some earlier) × (these ≡ made ++ earlier))) was so_far in
     (before_it.0, before_it.1, is ∙ ap (λ these. call ∷ these) before_it.2)
 
-synced : (a b c d : Option (List Call)) (text : List ℕ) (done : _) → Notes a b (create New true) → Notes b c (write New text true) → Notes c d (sync New done) → Makes a d (sync New done ∷ written text)
-synced a b c d text done creating writing syncing = noted a c d (written text) _ (noted a b c (create New true ∷ []) _ creating writing) syncing
+-- what holds of these calls holds of those that were made
+pub known : (P : List Call → List Call → Type 0) (old new : Option (List Call)) (made : List Call) → Makes old new made
+    → ((before : List Call) → P before (made ++ before)) → FromTo old new P
+known P old None made makes holds = tt
+known P old (Some after) made (before, was, is) holds = (before, was, subst (λ calls. P before calls) (sym is) (holds before))
 
-pub stuck_at_create : {T E : Type 0} (a b : Option (List Call)) (text : List ℕ) (result : Result T E) → Notes a b (create New false) → OnErr result (IsStuck a b text)
-stuck_at_create a b text (Ok value) creating = tt
-stuck_at_create a b text (Err error) creating = inl creating
+-- ---- a new file
 
-pub stuck_at_write : {T E : Type 0} (a b c : Option (List Call)) (text : List ℕ) (result : Result T E) → Notes a b (create New true) → Notes b c (write New text false)
-    → OnErr result (IsStuck a c text)
-stuck_at_write a b c text (Ok value) creating writing = tt
-stuck_at_write a b c text (Err error) creating writing = inr (inl (noted a b c (create New true ∷ []) _ creating writing))
+pub stuck_at_create : (a b : Option (List Call)) (text : List ℕ) (why : Unplaced) → Notes a b (created {T = Unit {0}} New (Err why)) → IsStuck a b text why
+stuck_at_create a b text Refused creating = inl creating
+stuck_at_create a b text Failed creating = inl creating
 
-pub stuck_at_sync : {T E : Type 0} (a b c d : Option (List Call)) (text : List ℕ) (result : Result T E) → Notes a b (create New true) → Notes b c (write New text true)
-    → Notes c d (sync New false) → OnErr result (IsStuck a d text)
-stuck_at_sync a b c d text (Ok value) creating writing syncing = tt
-stuck_at_sync a b c d text (Err error) creating writing syncing = inr (inr (inl (synced a b c d text false creating writing syncing)))
+pub stuck_at_write : (a b c : Option (List Call)) (text : List ℕ) (why : Unplaced) → why ≡ Failed → Notes a b (create New true) → Notes b c (write New text false)
+    → IsStuck a c text why
+stuck_at_write a b c text why is creating writing =
+    subst (λ w. IsStuck a c text w) (sym is) (inr (inl (noted a b c (create New true ∷ []) _ creating writing)))
 
-pub stuck_at_rename : {T E : Type 0} (a b c d e : Option (List Call)) (text : List ℕ) (result : Result T E) → Notes a b (create New true) → Notes b c (write New text true)
-    → Notes c d (sync New true) → Notes d e (rename New Own (is_ok result)) → OnErr result (IsStuck a e text)
-stuck_at_rename a b c d e text (Ok value) creating writing syncing renaming = tt
-stuck_at_rename a b c d e text (Err error) creating writing syncing renaming =
-    inr (inr (inr (noted a d e (sync New true ∷ written text) _ (synced a b c d text true creating writing syncing) renaming)))
+synced : (a b c d : Option (List Call)) (text : List ℕ) (done : _) → Notes a b (create New true) → Notes b c (write New text true) → Notes c d (sync New done) → Makes a d (sync New done ∷ filled text)
+synced a b c d text done creating writing syncing = noted a c d (filled text) _ (noted a b c (create New true ∷ []) _ creating writing) syncing
+
+pub stuck_at_sync : (a b c d : Option (List Call)) (text : List ℕ) (why : Unplaced) → why ≡ Failed → Notes a b (create New true) → Notes b c (write New text true)
+    → Notes c d (sync New false) → IsStuck a d text why
+stuck_at_sync a b c d text why is creating writing syncing =
+    subst (λ w. IsStuck a d text w) (sym is) (inr (inr (inl (synced a b c d text false creating writing syncing))))
+
+pub stuck_at_rename : {T : Type 0} (a b c d e : Option (List Call)) (text : List ℕ) (result : Result T Unplaced) → Notes a b (create New true) → Notes b c (write New text true)
+    → Notes c d (sync New true) → Notes d e (renamed New Own result) → IfErr result (IsStuck a e text)
+stuck_at_rename a b c d e text (Ok moved) creating writing syncing renaming = tt
+stuck_at_rename a b c d e text (Err Refused) creating writing syncing renaming =
+    inr (noted a d e (sync New true ∷ filled text) _ (synced a b c d text true creating writing syncing) renaming)
+stuck_at_rename a b c d e text (Err Failed) creating writing syncing renaming =
+    inr (inr (inr (noted a d e (sync New true ∷ filled text) _ (synced a b c d text true creating writing syncing) renaming)))
+
+pub placed_at_rename : {T : Type 0} (a b c d e : Option (List Call)) (text : List ℕ) (result : Result T Unplaced) → Notes a b (create New true) → Notes b c (write New text true)
+    → Notes c d (sync New true) → Notes d e (renamed New Own result) → OnOk result (HasPlaced a e text)
+placed_at_rename a b c d e text (Ok moved) creating writing syncing renaming =
+    noted a d e (sync New true ∷ filled text) _ (synced a b c d text true creating writing syncing) renaming
+placed_at_rename a b c d e text (Err why) creating writing syncing renaming = tt
 
 -- for `place`, at each of its calls
-pub ruleset stuck = (stuck_at_create, stuck_at_write, stuck_at_sync, stuck_at_rename)
+pub ruleset stuck = (stuck_at_create, stuck_at_write, stuck_at_sync, stuck_at_rename, placed_at_rename)
+
+-- ---- what is written to
+
+pub unopened_to : {E : Type 0} (a b : Option (List Call)) (text : List ℕ) (why : E) → Notes a b (empty Own false) → WritesTo {T = Unit {0}} a b text (Err why)
+unopened_to a b text why opening = known _ a b (empty Own false ∷ []) opening (λ before. (empty Own false ∷ [], refl, inl refl))
+
+pub written_to : {T E : Type 0} (a b c : Option (List Call)) (text : List ℕ) (result : Result T E) → Notes a b (empty Own true) → Notes b c (write Own text (is_ok result))
+    → WritesTo a c text result
+written_to a b c text (Ok done) opening writing =
+    known _ a c (write Own text true ∷ empty Own true ∷ []) (noted a b c (empty Own true ∷ []) _ opening writing) (λ before. (write Own text true ∷ empty Own true ∷ [], refl, refl))
+written_to a b c text (Err why) opening writing =
+    known _ a c (write Own text false ∷ empty Own true ∷ []) (noted a b c (empty Own true ∷ []) _ opening writing)
+    (λ before. (write Own text false ∷ empty Own true ∷ [], refl, inr refl))
+
+-- for `write_to`
+pub ruleset writes_to = (unopened_to, written_to)
+
+-- ---- by what a name leads to
+
+-- a call before those of which this holds
+chained : (P : List Call → List Call → Type 0) (a b c : Option (List Call)) (call : Call) → Notes a b call → FromTo b c P
+    → FromTo a c (λ before after. FromTo (Some (call ∷ before)) (Some after) P)
+chained P a b None call first holds = tt
+chained P a b (Some after) call first (middle, was, holds) =
+    let before_it = subst (λ known. IfSome known (λ these. (earlier : List Call) × (a ≡ Some earlier) × (these ≡ call ∷ earlier))) was first in
+    (before_it.0, before_it.1, (call ∷ before_it.0, refl, subst (λ these. P these after) before_it.2 holds))
+
+pub kept_nowhere : {E : Type 0} (a b : Option (List Call)) (name text : List ℕ) (why : E) → Notes a b (turn name None) → KeepsText {T = Unit {0}} a b name text (Err why)
+kept_nowhere a None name text why turning = tt
+kept_nowhere a (Some all) name text why (calls, was, is) = (calls, was, (None, (ap (λ these. Some these) is, refl)))
+
+pub kept_alone : {T E : Type 0} (a b c : Option (List Call)) (name text : List ℕ) (result : Result T E) → Notes a b (turn name (Some Alone)) → PutsInPlace b c text result
+    → KeepsText a c name text result
+kept_alone a b None name text result turning keeping = tt
+kept_alone a b (Some all) name text result turning keeping =
+    let all_of = chained (λ before after. (first : Name → Content) → AtomicReplacement first before after text result ⊎ RefusedReplacement first before after text result)
+    a b (Some all) _ turning keeping in
+    (all_of.0, all_of.1, (Some Alone, all_of.2))
+
+pub kept_shared : {T E : Type 0} (a b c : Option (List Call)) (name text : List ℕ) (result : Result T E) → Notes a b (turn name (Some Shared)) → Overwrites b c text result
+    → KeepsText a c name text result
+kept_shared a b None name text result turning keeping = tt
+kept_shared a b (Some all) name text result turning keeping =
+    let all_of = chained (λ before after. (first : Name → Content) → Overwriting first before after text result) a b (Some all) _ turning keeping in
+    (all_of.0, all_of.1, (Some Shared, all_of.2))
+
+pub kept_special : {T E : Type 0} (a b c : Option (List Call)) (name text : List ℕ) (result : Result T E) → Notes a b (turn name (Some Special)) → WritesTo b c text result
+    → KeepsText a c name text result
+kept_special a b None name text result turning keeping = tt
+kept_special a b (Some all) name text result turning keeping =
+    let all_of = chained (λ before after. (made : List Call) × (after ≡ made ++ before) × AreWritingTo text result made) a b (Some all) _ turning keeping in
+    (all_of.0, all_of.1, (Some Special, all_of.2))
+
+-- for `keep_text`
+pub ruleset keeps = (kept_nowhere, kept_alone, kept_shared, kept_special)

@@ -1,11 +1,13 @@
--- What is there at each moment of a replacement.
-use Rattle.std.proofs.Common.{◌≡◌, ◌⊎◌, List, ℕ, Bool, true, false, [], ◌∷◌, ◌++◌, Option, None, Some, Result, Ok, Err, is_ok, refl, inl, inr, subst, sym, ap, ◌∙◌, ⊎_elim, arith}
-use Rattle.n2kdec.specs.Folder.{Call, MayHave, Content, MayBeLeft, Notes, create, write, sync, rename, sync_folder, remove, failures}
-use Rattle.n2kdec.specs.Inner.Placing.{HasPlaced, IsStuck, Makes, placed, written}
-use Rattle.n2kdec.specs.Replacement.{AtEachMoment, HasOldOrNew, IsGivenUp, AtomicReplacement, ReplacesAtomically}
+-- What is there at each moment of a replacement, and after a text is written over another.
+use Rattle.std.proofs.Common.{◌≡◌, ◌⊎◌, ◌<◌, List, ℕ, Bool, true, false, [], ◌∷◌, ◌++◌, Option, None, Some, Result, Ok, Err, is_ok, refl, inl, inr, subst, ap, ◌∙◌, ⊎_elim, arith}
+use Rattle.n2kdec.specs.Folder.{Call, Content, MayBeLeft, MayHave, Notes, create, empty, failures, refused, remove, rename, sync, sync_folder, write}
+use Rattle.n2kdec.specs.Inner.Placing.{HasPlaced, IsStuck, Makes, placed}
+use Rattle.n2kdec.specs.Replacement.{AreRefused, AreWritingOver, AtEachMoment, AtomicReplacement, HasOldOrNew, IsGivenUp, Overwrites, Overwriting, PutsInPlace, RefusedReplacement, WritesTo, filled}
 use Rattle.n2kdec.specs.declared.folder.Name.{Name}
 use Rattle.n2kdec.specs.declared.folder.Name.TheVariants.{Own, New}
-use Rattle.n2kdec.proofs.Placing.{noted}
+use Rattle.n2kdec.specs.declared.folder.Unplaced.{Unplaced}
+use Rattle.n2kdec.specs.declared.folder.Unplaced.TheVariants.{Refused, Failed}
+use Rattle.n2kdec.proofs.Placing.{known, noted}
 
 -- the text of a file
 text_of : Content → List ℕ
@@ -17,9 +19,9 @@ module _ (first : Name → Content) (before : List Call) (text : List ℕ) where
   IsSafe calls = HasOldOrNew first before text calls
 
   -- the new file, where the text is written to it
-  whole : (c : Content) → MayHave first (written text ++ before) New c → c ≡ Some text
+  whole : (c : Content) → MayHave first (filled text ++ before) New c → c ≡ Some text
   unfolding text_of
-  whole c (had, empty, is) = is ∙ ap (λ front. Some (text_of front ++ text)) empty
+  whole c (had, began, is) = is ∙ ap (λ front. Some (text_of front ++ text)) began
 
   -- nothing is done with the name yet
   aside : (calls : List Call) → ((c : Content) → MayHave first calls Own c → MayHave first before Own c) → ((c : Content) → MayBeLeft first calls Own c → MayBeLeft first before Own c) → IsSafe calls
@@ -36,22 +38,22 @@ module _ (first : Name → Content) (before : List Call) (text : List ℕ) where
   writing true = (creating true, aside _ (λ c is. is) (λ c is. is), aside _ (λ c is. is) (λ c is. is))
   writing false = (creating true, aside _ (λ c is. is) (λ c is. is), aside _ (λ c is. is) (λ c is. is))
 
-  syncing : (done : Bool) → AtEachMoment IsSafe (sync New done ∷ written text) before
+  syncing : (done : Bool) → AtEachMoment IsSafe (sync New done ∷ filled text) before
   syncing true = (writing true, aside _ (λ c is. is) (λ c is. is), aside _ (λ c is. is) (λ c is. is))
   syncing false = (writing true, aside _ (λ c is. is) (λ c is. is), aside _ (λ c is. is) (λ c is. is))
 
   -- what a cut leaves of the new file is the text, once that is synced
-  left_or_whole : (c : Content) → MayBeLeft first before Own c ⊎ ((kept : List ℕ) × MayHave first (written text ++ before) New (Some kept) × (c ≡ Some kept)) → MayBeLeft first before Own c ⊎ (c ≡ Some text)
+  left_or_whole : (c : Content) → MayBeLeft first before Own c ⊎ ((kept : List ℕ) × MayHave first (filled text ++ before) New (Some kept) × (c ≡ Some kept)) → MayBeLeft first before Own c ⊎ (c ≡ Some text)
   left_or_whole c (inl old) = inl old
   left_or_whole c (inr (kept, found, is)) = inr (is ∙ whole (Some kept) found)
 
-  unsure : IsSafe (rename New Own false ∷ sync New true ∷ written text ++ before)
+  unsure : IsSafe (rename New Own false ∷ sync New true ∷ filled text ++ before)
   unsure = record { found = λ c is. ⊎_elim (λ old. inl old) (λ new. inr (whole c new)) is; left = left_or_whole }
 
   moved : IsSafe (placed text ++ before)
   moved = record { found = λ c is. inr (whole c is); left = left_or_whole }
 
-  renaming : (done : Bool) → AtEachMoment IsSafe (rename New Own done ∷ sync New true ∷ written text) before
+  renaming : (done : Bool) → AtEachMoment IsSafe (rename New Own done ∷ sync New true ∷ filled text) before
   renaming true = (syncing true, unsure, moved)
   renaming false = (syncing true, unsure, unsure)
 
@@ -104,37 +106,130 @@ module _ (first : Name → Content) (before : List Call) (text : List ℕ) where
     answer = beside removed made one;
   }
 
--- the same for the calls that were made
-known : {T E : Type 0} (old new : Option (List Call)) (text : List ℕ) (result : Result T E) (made : List Call) → Makes old new made
-    → ((first : Name → Content) (before : List Call) → AtomicReplacement first before (made ++ before) text result) → ReplacesAtomically old new text result
-known old None text result made makes replaced = tt
-known old (Some after) text result made (before, was, is) replaced =
-    (before, was, λ first. subst (λ calls. AtomicReplacement first before calls text result) (sym is) (replaced first before))
+  -- the folder refuses, and the new file is taken away
+  refusing : (calls : List Call) → IsSafe calls → IsSafe (refused ∷ calls)
+  refusing calls safe = record { found = safe.found; left = safe.left }
 
--- in the two ways that the calls go
-pub replaces_placed : {T E : Type 0} (old between new : Option (List Call)) (text : List ℕ) (result : Result T E) → HasPlaced old between text
-    → Notes between new (sync_folder (is_ok result)) → ReplacesAtomically old new text result
-replaces_placed old between new text (Ok value) placing syncing =
-    known old new text _ (sync_folder true ∷ placed text) (noted old between new (placed text) _ placing syncing) (λ first before. done first before text value)
-replaces_placed old between new text (Err error) placing syncing =
-    known old new text _ (sync_folder false ∷ placed text) (noted old between new (placed text) _ placing syncing) (λ first before. unsettled first before text error)
+  refused_at : (gone : Bool) (made : List Call) → AtEachMoment IsSafe made before → AtEachMoment IsSafe (remove New gone ∷ refused ∷ made) before
+  refused_at gone made here =
+      let still = refusing (made ++ before) (last made here) in
+      ((here, still, still), removing false _ still, removing gone _ still)
+
+  gone_or_failed : (gone : Bool) (made : List Call) (c : Content) → MayHave first (remove New gone ∷ made ++ before) New c
+      → (c ≡ None) ⊎ (0 < failures (remove New gone ∷ made))
+  gone_or_failed true made c is = inl is
+  gone_or_failed false made c is = inr (omega arith)
+
+  refusal : {T E : Type 0} (result : Result T E) (after : List Call) (gone : Bool) (made : List Call) → AreRefused text (remove New gone ∷ refused ∷ made)
+      → AtEachMoment IsSafe made before → Overwriting first (remove New gone ∷ refused ∷ made ++ before) after text result
+      → RefusedReplacement first before after text result
+  refusal result after gone made are here over = record {
+    tried = remove New gone ∷ refused ∷ made;
+    refusal = are;
+    each_moment = refused_at gone made here;
+    beside = gone_or_failed gone (refused ∷ made);
+    overwriting = over;
+  }
+
+  -- the file, where the text is written over what it had
+  whole_over : (c : Content) → MayHave first (write Own text true ∷ empty Own true ∷ before) Own c → c ≡ Some text
+  unfolding text_of
+  whole_over c (had, began, is) = is ∙ ap (λ front. Some (text_of front ++ text)) began
+
+  left_over : (kept : List ℕ) → MayHave first (write Own text true ∷ empty Own true ∷ before) Own (Some kept) → kept ≡ text
+  unfolding text_of
+  left_over kept is = ap text_of (whole_over (Some kept) is)
+
+  overwritten : {T E : Type 0} (value : T) → Overwriting {T = T} {E = E} first before (sync Own true ∷ write Own text true ∷ empty Own true ∷ before) text (Ok value)
+  overwritten value = record { made = sync Own true ∷ write Own text true ∷ empty Own true ∷ []; calls = refl; order = refl; found = whole_over; left = left_over }
+
+  broken_off : {E : Type 0} (why : E) (made : List Call) → AreWritingOver {T = Unit {0}} text (Err why) made → Overwriting {T = Unit {0}} {E = E} first before (made ++ before) text (Err why)
+  broken_off why made are = record { made = made; calls = refl; order = are; found = tt; left = tt }
+
+-- in the three ways that the calls go
+pub placed_in : {T E : Type 0} (old between new : Option (List Call)) (text : List ℕ) (result : Result T E) → HasPlaced old between text
+    → Notes between new (sync_folder (is_ok result)) → PutsInPlace old new text result
+placed_in old between new text (Ok value) placing syncing =
+    known _ old new (sync_folder true ∷ placed text) (noted old between new (placed text) _ placing syncing) (λ before first. inl (done first before text value))
+placed_in old between new text (Err error) placing syncing =
+    known _ old new (sync_folder false ∷ placed text) (noted old between new (placed text) _ placing syncing) (λ before first. inl (unsettled first before text error))
 
 -- one of the four calls failed, and the new file was to be taken away
 taken_away : {E : Type 0} (old between new : Option (List Call)) (text : List ℕ) (error : E) (removed : Bool) (made : List Call) → Makes old between made
     → Notes between new (remove New removed) → ((first : Name → Content) (before : List Call) → AtEachMoment (HasOldOrNew first before text) made before)
-    → failures made ≡ 1 → ReplacesAtomically {T = Unit {0}} {E = E} old new text (Err error)
+    → failures made ≡ 1 → PutsInPlace {T = Unit {0}} {E = E} old new text (Err error)
 taken_away old between new text error removed made makes taking safe one =
-    known old new text _ (remove New removed ∷ made) (noted old between new made _ makes taking)
-    (λ first before. given_up first before text error removed made (safe first before) one)
+    known _ old new (remove New removed ∷ made) (noted old between new made _ makes taking)
+    (λ before first. inl (given_up first before text error removed made (safe first before) one))
 
-pub replaces_stuck : {T E F : Type 0} (old between new : Option (List Call)) (text : List ℕ) (error : E) (removed : Result T F)
-    → Notes between new (remove New (is_ok removed)) → IsStuck old between text → ReplacesAtomically {T = Unit {0}} {E = E} old new text (Err error)
-replaces_stuck old between new text error removed taking (inl made) =
-    taken_away old between new text error (is_ok removed) (create New false ∷ []) made taking (λ first before. creating first before text false) refl
-replaces_stuck old between new text error removed taking (inr (inl made)) =
-    taken_away old between new text error (is_ok removed) (write New text false ∷ create New true ∷ []) made taking (λ first before. writing first before text false) refl
-replaces_stuck old between new text error removed taking (inr (inr (inl made))) =
-    taken_away old between new text error (is_ok removed) (sync New false ∷ written text) made taking (λ first before. syncing first before text false) refl
-replaces_stuck old between new text error removed taking (inr (inr (inr made))) =
-    taken_away old between new text error (is_ok removed) (rename New Own false ∷ sync New true ∷ written text) made taking
+given_up_by : {E : Type 0} (old between new : Option (List Call)) (text : List ℕ) (error : E) (removed : Bool)
+    → Notes between new (remove New removed) → IsStuck old between text Failed → PutsInPlace {T = Unit {0}} {E = E} old new text (Err error)
+given_up_by old between new text error removed taking (inl made) =
+    taken_away old between new text error removed (create New false ∷ []) made taking (λ first before. creating first before text false) refl
+given_up_by old between new text error removed taking (inr (inl made)) =
+    taken_away old between new text error removed (write New text false ∷ create New true ∷ []) made taking (λ first before. writing first before text false) refl
+given_up_by old between new text error removed taking (inr (inr (inl made))) =
+    taken_away old between new text error removed (sync New false ∷ filled text) made taking (λ first before. syncing first before text false) refl
+given_up_by old between new text error removed taking (inr (inr (inr made))) =
+    taken_away old between new text error removed (rename New Own false ∷ sync New true ∷ filled text) made taking
     (λ first before. renaming first before text false) refl
+
+pub given_up_in : {T E F : Type 0} (old between new : Option (List Call)) (text : List ℕ) (error : E) (removed : Result T F) (why : Unplaced)
+    → Notes between new (remove New (is_ok removed)) → IsStuck old between text why → why ≡ Failed → PutsInPlace {T = Unit {0}} {E = E} old new text (Err error)
+given_up_in old between new text error removed why taking stuck is =
+    given_up_by old between new text error (is_ok removed) taking (subst (λ w. IsStuck old between text w) is stuck)
+
+-- the folder refused, and the text was written over the old one
+written_instead : {T E : Type 0} (old between new : Option (List Call)) (text : List ℕ) (result : Result T E) (gone : Bool) (made : List Call)
+    → AreRefused text (remove New gone ∷ refused ∷ made)
+    → ((first : Name → Content) (before : List Call) → AtEachMoment (HasOldOrNew first before text) made before)
+    → Makes old between (remove New gone ∷ refused ∷ made) → Overwrites between new text result → PutsInPlace old new text result
+written_instead old between None text result gone made are safe makes over = tt
+written_instead old between (Some after) text result gone made are safe makes (middle, was, over) =
+    let before_it = subst (λ known. Makes old known (remove New gone ∷ refused ∷ made)) was makes in (
+      before_it.0,
+      before_it.1,
+      λ first. inr (refusal first before_it.0 text result after gone made are (safe first before_it.0)
+          (subst (λ these. Overwriting first these after text result) before_it.2 (over first))),
+    )
+
+refused_by : {T E : Type 0} (old between taken new : Option (List Call)) (text : List ℕ) (result : Result T E) (gone : Bool)
+    → Notes between taken (remove New gone) → Overwrites taken new text result → IsStuck old between text Refused → PutsInPlace old new text result
+refused_by old between taken new text result gone taking over (inl made) =
+    written_instead old taken new text result gone [] (gone, inl refl) (λ first before. at_first first before text) (noted old between taken (refused ∷ []) _ made taking) over
+refused_by old between taken new text result gone taking over (inr made) =
+    written_instead old taken new text result gone (sync New true ∷ filled text) (gone, inr refl) (λ first before. syncing first before text true)
+    (noted old between taken (refused ∷ sync New true ∷ filled text) _ made taking) over
+
+pub refused_in : {T E U F : Type 0} (old between taken new : Option (List Call)) (text : List ℕ) (result : Result T E) (removed : Result U F) (why : Unplaced)
+    → Notes between taken (remove New (is_ok removed)) → Overwrites taken new text result → IsStuck old between text why → why ≡ Refused → PutsInPlace old new text result
+refused_in old between taken new text result removed why taking over stuck is =
+    refused_by old between taken new text result (is_ok removed) taking over (subst (λ w. IsStuck old between text w) is stuck)
+
+-- ---- a text over another
+
+-- what was written to is known
+poured : {T : Type 0} (E : Type 0) (a b : Option (List Call)) (text : List ℕ) (value : T) → WritesTo {E = E} a b text (Ok value)
+    → Makes a b (write Own text true ∷ empty Own true ∷ [])
+poured E a None text value to = tt
+poured E a (Some after) text value (before, was, (made, is, are)) = (before, was, is ∙ ap (λ these. these ++ before) are)
+
+pub broken_over : {E : Type 0} (a b : Option (List Call)) (text : List ℕ) (why : E) → WritesTo {T = Unit {0}} a b text (Err why) → Overwrites {T = Unit {0}} a b text (Err why)
+broken_over a None text why to = tt
+broken_over a (Some after) text why (before, was, (made, is, inl are)) =
+    (before, was, λ first. record { made = made; calls = is; order = inl are; found = tt; left = tt })
+broken_over a (Some after) text why (before, was, (made, is, inr are)) =
+    (before, was, λ first. record { made = made; calls = is; order = inr (inl are); found = tt; left = tt })
+
+pub synced_over : {E U : Type 0} (a b c : Option (List Call)) (text : List ℕ) (value : U) (result : Result (Unit {0}) E) → WritesTo {E = E} a b text (Ok value)
+    → Notes b c (sync Own (is_ok result)) → Overwrites a c text result
+synced_over {E} a b c text value (Ok all) to last_sync =
+    known _ a c (sync Own true ∷ write Own text true ∷ empty Own true ∷ [])
+    (noted a b c (write Own text true ∷ empty Own true ∷ []) _ (poured E a b text value to) last_sync) (λ before first. overwritten first before text all)
+synced_over {E} a b c text value (Err why) to last_sync =
+    known _ a c (sync Own false ∷ write Own text true ∷ empty Own true ∷ [])
+    (noted a b c (write Own text true ∷ empty Own true ∷ []) _ (poured E a b text value to) last_sync)
+    (λ before first. broken_off first before text why _ (inr (inr refl)))
+
+-- for `write_over`
+pub ruleset overwrites = (broken_over, synced_over)

@@ -1,6 +1,6 @@
 -- What the model of a folder says of wrong ways to replace a text.
 use Rattle.std.proofs.Common.{List, ℕ, true, false, [], ◌∷◌, Some, refl, inl, inr}
-use Rattle.n2kdec.specs.Folder.{Content, MayBeLeft, MayHave, create, rename, sync, write}
+use Rattle.n2kdec.specs.Folder.{Content, MayBeLeft, MayHave, create, empty, rename, sync, write}
 use Rattle.n2kdec.specs.Inner.Placing.{placed}
 use Rattle.n2kdec.specs.declared.folder.Name.{Name}
 use Rattle.n2kdec.specs.declared.folder.Name.TheVariants.{Own, New}
@@ -10,8 +10,8 @@ module _ (first : Name → Content) (text any : List ℕ) where
   emptied : MayHave first (create Own true ∷ []) Own (Some [])
   emptied = refl
 
-  -- and one that is written over may be left with any text
-  written_over : MayBeLeft first (write Own text true ∷ create Own true ∷ []) Own (Some any)
+  -- and one that is written over may be left with any text, until its folder is synced
+  written_over : MayBeLeft first (sync Own true ∷ write Own text true ∷ empty Own true ∷ []) Own (Some any)
   written_over = inr (any, refl)
 
   -- of a file that has the name before it is synced a cut may leave any text

@@ -3,10 +3,8 @@ pub mod Fault
 pub mod Folder
 pub mod Inner
 pub mod Machine
-pub mod MemoryFolder
 pub mod MemoryMachine
 pub mod Replacement
-pub mod Standing
 pub mod Usage
 pub mod Words
 pub mod Work

@@ -10,7 +10,7 @@ use Rattle.n2kdec.specs.Commands.{IsCutOff, IsWritten, IsWrittenUnlessFailed, Ke
 use Rattle.n2kdec.specs.Fault.{TellsFault, longest_file, status_of}
 use Rattle.n2kdec.specs.Words.{IsAskedBy, IsRefused, interface_word, log_word, resume_word, save_word, table_word}
 use Rattle.n2kdec.specs.declared.fault.Fault.{Fault}
-use Rattle.n2kdec.specs.declared.fault.Fault.TheVariants.{Words as WordsFault, Interface, TableSize, TableFile, StateSize, StateFile, Read, Memory, Write}
+use Rattle.n2kdec.specs.declared.fault.Fault.TheVariants.{Words as WordsFault, Interface, TableSize, TableFile, StateSize, StateFile, Read, Memory, Save, Write}
 use Rattle.n2kdec.specs.declared.keeper.Keeper.{Ghosts as OfKeeper}
 use Rattle.n2kdec.specs.declared.machine.Outlets.{Outlets}
 use Rattle.n2kdec.specs.declared.machine.Unopened.{Unopened}
@@ -154,12 +154,22 @@ abbrev pub IsUnbegun : World → Words → ℕ → ℕ → Fault → Type 0
 IsUnbegun w words before after Interface = (IsInterface (interface_word words) → ⊥) × (after ≡ before)
 IsUnbegun w words before after fault = IsInterface (interface_word words) × IsUnread w words before after fault
 
+-- The state can't be kept under the name that the words have for it, since that would harm a file that is read: what keeps a
+-- state counts a failed call, and all else is as it was.
+pub record IsNotAdmitted (words : Words) (before after : Outside) (fault : Fault) : Type 0 where
+  pub interface : IsInterface (interface_word words)
+  pub named : IsNamed (save_word words)
+  pub save : fault ≡ Save
+  pub failed : HasFailed before.failed_keeps after.failed_keeps
+  pub else_same : after ≡ record before { failed_keeps = after.failed_keeps }
+
 -- it is performed; or not begun, and nothing is printed or kept
 abbrev pub FollowsWords : World → Words → Outside → Outside → Result ℕ Fault → Type 0
 FollowsWords w words before after (Ok status) = IsPerformed w words before after (Ok status)
 FollowsWords w words before after (Err fault) =
     IsPerformed w words before after (Err fault)
     ⊎ ((after ≡ record before { failed_reads = after.failed_reads }) × IsUnbegun w words before.failed_reads after.failed_reads fault)
+    ⊎ IsNotAdmitted words before after fault
 
 -- ---- from the words that were typed to the status
 

@@ -1,5 +1,5 @@
 //! Where a state is kept after a run.
-ghost use Rattle.std.specs.Prelude.{ℕ, List, Option, Some, OnOk};
+ghost use Rattle.std.specs.Prelude.{◌≡◌, ℕ, List, Option, Some, OnOk};
 ghost use Rattle.n2k_run.specs.Device.{CountsFailure};
 ghost use Rattle.n2kdec.specs.Commands.{Kept, KeepsUnder};
 
@@ -12,6 +12,18 @@ pub trait Keeper {
 
     /// The texts that were kept, each under its name and the first one first, where they are known.
     ghost kept: { Self → Option (List Kept) };
+
+    /// Whether a run may keep a state under this name that reads these files: a table, a log, or standard input where
+    /// none is named, and a state to go on from. `Failed` where one of them would be harmed.
+    fn admit(
+        &mut self,
+        name: &str,
+        table: Option<&str>,
+        log: Option<&str>,
+        state: Option<&str>,
+    ) -> Result<(), Failed>
+        ensures same { kept self.new ≡ kept self.old }
+        ensures counted { CountsFailure (failed_calls self.old) (failed_calls self.new) result };
 
     /// Keeps a state under this name, in the place of what the name has. `Failed` where it can't. The errors are lent, so
     /// that a keeper may tell what they held then.

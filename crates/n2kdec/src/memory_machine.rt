@@ -185,6 +185,16 @@ impl Keeper for MemoryStore {
     // What the errors held is not noted.
     ghost kept = { λ s. Some (map (λ k. kept_text (string_bytes k.0) k.1.items) s.kept.items) };
 
+    fn admit(
+        &mut self,
+        _name: &str,
+        _table: Option<&str>,
+        _log: Option<&str>,
+        _state: Option<&str>,
+    ) -> Result<(), Failed> {
+        Ok(())
+    }
+
     fn keep<E: Sink>(&mut self, name: &str, state: &[u8], _errors: &E) -> Result<(), Failed> {
         let answer = self.push(name, state).map_err(|_| Failed);
         if answer.is_err() {

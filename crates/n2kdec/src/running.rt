@@ -5,12 +5,13 @@ ghost use Rattle.clap.specs.Walk.{texts};
 ghost use Rattle.n2k_run.specs.Device.{HasFailed};
 ghost use Rattle.n2k_run.specs.FramesOut.{IsInterface};
 ghost use Rattle.n2kdec.specs.Fault.{longest_file};
-ghost use Rattle.n2kdec.specs.Machine.{AsksFor, DoesTyped, FollowsWords, IsOfFile, IsReadable, IsState, IsTable, IsTold, IsUnasked, IsUnbegun, IsUnopened, IsUnreadFile, RunsTyped, Shows, Tells, bytes_of, outside};
+ghost use Rattle.n2kdec.specs.Machine.{AsksFor, DoesTyped, FollowsWords, IsNamed, IsOfFile, IsReadable, IsState, IsTable, IsTold, IsUnasked, IsUnbegun, IsUnopened, IsUnreadFile, RunsTyped, Shows, Tells, bytes_of, outside};
 ghost use Rattle.n2kdec.specs.Commands.{place};
-ghost use Rattle.n2kdec.specs.Words.{IsCommand, interface_word, resume_word, table_word};
+ghost use Rattle.n2kdec.specs.Words.{IsCommand, interface_word, resume_word, save_word, table_word};
 
 use crate::commands::perform;
 use crate::fault::{Fault, status};
+use crate::keeper::Keeper;
 use crate::machine::{Machine, Outlets, Unopened};
 use crate::refusal::told;
 use crate::word::{Word, Words};
@@ -185,8 +186,50 @@ fn perform_log<M: Machine>(
     answer
 }
 
+// Reads the files that the words name, and performs what they name.
+fn perform_admitted<M: Machine>(
+    alloc: Global,
+    machine: &mut M,
+    words: &Words,
+    outlets: &mut Outlets<M::Output, M::Errors, M::Store>,
+) -> Result<u8, Fault>
+    requires command { IsCommand words.now }
+    requires interface { IsInterface (interface_word words.now) }
+    ensures same { M.world machine.new ≡ M.world machine.old }
+    ensures follows { FollowsWords (M.world machine.old) words.now
+        (outside M.Output.Sink M.Errors.Sink M.Store.Keeper (M.failed_reads machine.old) outlets.old)
+        (outside M.Output.Sink M.Errors.Sink M.Store.Keeper (M.failed_reads machine.new) outlets.new) result }
+{
+    let table = read_table(alloc, machine, words)?;
+    let resumed = read_state(alloc, machine, words)?;
+    let state = resumed.as_ref().map(|bytes| bytes.as_slice());
+    perform_log(alloc, machine, words, &table, state, outlets)
+}
+
+// The text of a word that may be missing.
+fn text_of(word: Option<&Word>) -> Option<&str> {
+    Some(word?.as_str())
+}
+
+// Asks whether the state may be kept under the name that the words have for it, where they have one.
+fn admit<K: Keeper>(words: &Words, store: &mut K) -> Result<(), Fault>
+    ensures same { K.kept store.new ≡ K.kept store.old }
+    ensures none_failed { OnOk result (K.failed_calls store.new ≡ K.failed_calls store.old) }
+    ensures refused { IfErr result (λ fault. (fault ≡ Fault.Save) × IsNamed (save_word words.now)
+        × HasFailed (K.failed_calls store.old) (K.failed_calls store.new)) }
+{
+    let Some(name) = words.save() else {
+        return Ok(());
+    };
+    let (table, log, state) = (words.table(), words.log(), words.resume());
+    store
+        .admit(name.as_str(), text_of(table), text_of(log), text_of(state))
+        .map_err(|_| Fault::Save)
+}
+
 // Performs what the words name over its files, which are opened in the order of the faults: the table's and the
 // state's, which are read whole, and then the log.
+#[tactic(auto, using(crate::proofs::MachineLemmas::not_admitted, crate::proofs::MachineLemmas::admitted))]
 fn perform_files<M: Machine>(
     alloc: Global,
     machine: &mut M,
@@ -200,10 +243,8 @@ fn perform_files<M: Machine>(
         (outside M.Output.Sink M.Errors.Sink M.Store.Keeper (M.failed_reads machine.new) outlets.new) result }
 {
     interface(words)?;
-    let table = read_table(alloc, machine, words)?;
-    let resumed = read_state(alloc, machine, words)?;
-    let state = resumed.as_ref().map(|bytes| bytes.as_slice());
-    perform_log(alloc, machine, words, &table, state, outlets)
+    admit(words, &mut outlets.store)?;
+    perform_admitted(alloc, machine, words, outlets)
 }
 
 // Prints the text of the help or of the version.

@@ -89,7 +89,7 @@ impl<'a> Machine for System<'a> {
 
     type Errors = StdSink<Stderr>;
 
-    type Store = StateFiles<'a>;
+    type Store = StateFiles;
 
     ghost world = { λ _. unknown_world };
 

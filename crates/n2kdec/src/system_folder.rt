@@ -1,12 +1,12 @@
-//! The folder of a file of the system.
+//! The folders of the system's files. What a call of them does is trusted.
 ghost use Rattle.std.specs.Prelude.{◌≡◌, ◌++◌, IfOk, string_bytes};
 
-use crate::folder::{Folder, Name};
+use crate::folder::{Folder, Kind, Name, Unplaced};
 use n2k_run::Failed;
 use std::alloc::AllocError;
-use std::fs::{File, OpenOptions, Permissions};
+use std::fs::{File, Metadata, OpenOptions, Permissions};
 use std::io::{ErrorKind, Write};
-use std::os::unix::fs::PermissionsExt;
+use std::os::unix::fs::{MetadataExt, PermissionsExt};
 use std::path::Path;
 use std::{fs, io};
 
@@ -35,7 +35,7 @@ fn link(rt: &HostRuntime, path: &str) -> Result<Option<String>, Failed> {
 
 // The name behind all links; none where it stands for an open file, as `/dev/stdout` does.
 fn behind_links(rt: &HostRuntime, name: &str) -> Result<Option<String>, Failed> {
-    let mut path = text(rt, name, "")?;
+    let mut path = String::from_str(rt.alloc(), name).map_err(|_| Failed)?;
     for _ in 0..MOST_LINKS {
         if path.as_str().starts_with("/proc/") {
             return Ok(None);
@@ -48,145 +48,217 @@ fn behind_links(rt: &HostRuntime, name: &str) -> Result<Option<String>, Failed> 
     Err(Failed)
 }
 
-// One text behind the other.
-fn text(rt: &HostRuntime, front: &str, end: &str) -> Result<String, Failed>
-    ensures { IfOk result (λ text. string_bytes text ≡ front.now ++ end.now) }
-{
-    let mut text = String::new(rt.alloc());
-    if text.push_str(front).is_err() || text.push_str(end).is_err() {
-        return Err(Failed);
-    }
-    Ok(text)
-}
-
-// Takes a name away, where it is there.
-fn remove(rt: &HostRuntime, path: &str) -> Result<(), Failed> {
-    match fs::remove_file(rt, path) {
-        Err(error) if error.kind() == ErrorKind::NotFound => Ok(()),
-        answer => answer.map_err(|_| Failed),
+// What the file of a name is, over links; none where there is no such file.
+fn found(rt: &HostRuntime, name: &str) -> Result<Option<Metadata>, Failed> {
+    match fs::metadata(rt, name) {
+        Ok(found) => Ok(Some(found)),
+        Err(error) if error.kind() == ErrorKind::NotFound => Ok(None),
+        Err(_) => Err(Failed),
     }
 }
 
-// A new file, with the permissions of this mode.
-fn create(rt: &HostRuntime, path: &str, mode: Option<u32>) -> io::Result<File> {
-    let file = OpenOptions::new()
+// The name behind the links at a name, which had this, and what that is.
+fn led_to(rt: &HostRuntime, name: &str, was: Option<&Metadata>) -> Result<(String, Kind), Failed> {
+    let is_file = was.is_none_or(|was| was.is_file());
+    if is_file && let Some(own) = behind_links(rt, name)? {
+        let is_shared = was.is_some_and(|was| was.nlink() > 1);
+        return Ok((own, if is_shared { Kind::Shared } else { Kind::Alone }));
+    }
+    let own = String::from_str(rt.alloc(), name).map_err(|_| Failed)?;
+    Ok((own, Kind::Special))
+}
+
+// The device and the number of the regular file that a path leads to, over links; none where it leads to another thing.
+fn regular(rt: &HostRuntime, path: &str) -> io::Result<Option<(u64, u64)>> {
+    let found = fs::metadata(rt, path)?;
+    Ok(found.is_file().then(|| (found.dev(), found.ino())))
+}
+
+// The name of the new file beside that of this path: hidden, with the program's name, and the same for each run.
+fn name_beside(rt: &HostRuntime, path: &str) -> Result<String, Failed> {
+    let path = Path::new(path);
+    let name = path.file_name().ok_or(Failed)?;
+    let hidden = format!(in rt.alloc(); ".{name}.n2kdec-new").map_err(|_| Failed)?;
+    let beside = path.with_file_name(rt.alloc(), hidden.as_str());
+    Ok(beside.map_err(|_| Failed)?.into_string())
+}
+
+// Whether the folder doesn't allow what was asked of it, or the call failed.
+fn why(error: &io::Error) -> Unplaced {
+    match error.kind() {
+        ErrorKind::PermissionDenied
+        | ErrorKind::ReadOnlyFilesystem
+        | ErrorKind::InvalidFilename
+        | ErrorKind::ResourceBusy
+        | ErrorKind::IsADirectory => Unplaced::Refused,
+        _ => Unplaced::Failed,
+    }
+}
+
+// Makes a new file. A link of this name is not followed.
+fn make(rt: &HostRuntime, path: &str) -> io::Result<File> {
+    OpenOptions::new()
         .write(true)
         .create_new(true)
-        .open(rt, path)?;
-    if let Some(mode) = mode {
-        file.set_permissions(Permissions::from_mode(mode))?;
-    }
-    Ok(file)
+        .open(rt, path)
 }
 
-// The file that was made, and its name.
+// Makes a new file, in the place of what a cut left under its name.
+fn make_again(rt: &HostRuntime, path: &str) -> Result<File, Unplaced> {
+    match make(rt, path) {
+        Err(error) if error.kind() == ErrorKind::AlreadyExists => {
+            fs::remove_file(rt, path).map_err(|error| why(&error))?;
+            make(rt, path).map_err(|_| Unplaced::Failed)
+        }
+        answer => answer.map_err(|error| why(&error)),
+    }
+}
+
+// The file that is written to, and its name.
 #[derive(Drop)]
-struct Made {
+struct Opened {
     name: Name,
     file: File,
 }
 
-/// The folder of a file that can be replaced: its own name has no link behind it, and the new one is that with `.new`.
+// The two names of a folder, and the mode of the file that has the first, if one has.
 #[derive(Drop)]
-pub struct SystemFolder<'a> {
-    rt: &'a HostRuntime,
+struct Names {
     own: String,
     new: String,
     mode: Option<u32>,
-    made: Option<Made>,
 }
 
-impl<'a> SystemFolder<'a> {
-    ghost use Rattle.std.specs.Prelude.{◌≡◌, string_bytes};
+/// The folder of the file that it was turned to. The new file beside `boat` is `.boat.n2kdec-new`.
+#[derive(Drop)]
+pub struct SystemFolder {
+    rt: HostRuntime,
+    names: Option<Names>,
+    opened: Option<Opened>,
+}
 
-    /// The folder of the file that a name leads to, over links, or would lead to. None where that is no regular file,
-    /// or stands for an open one: such is written to directly.
-    pub fn of(rt: &'a HostRuntime, name: &str) -> Result<Option<SystemFolder<'a>>, Failed> {
-        let mode = match fs::metadata(rt, name) {
-            Ok(found) if !found.is_file() => return Ok(None),
-            Ok(found) => Some(found.permissions().mode()),
-            Err(error) if error.kind() == ErrorKind::NotFound => None,
-            Err(_) => return Err(Failed),
-        };
-        let Some(own) = behind_links(rt, name)? else {
-            return Ok(None);
-        };
-        let new = text(rt, own.as_str(), ".new")?;
-        Ok(Some(SystemFolder {
+impl SystemFolder {
+    /// One that is not turned to a file yet.
+    pub fn new(rt: HostRuntime) -> Self {
+        SystemFolder {
             rt,
-            own,
-            new,
-            mode,
-            made: None,
-        }))
-    }
-
-    fn path(&self, name: Name) -> &str
-        ensures own { name ≡ Name.Own → result.now ≡ string_bytes self.now.own }
-        ensures new { name ≡ Name.New → result.now ≡ string_bytes self.now.new }
-    {
-        match name {
-            Name::Own => self.own.as_str(),
-            Name::New => self.new.as_str(),
+            names: None,
+            opened: None,
         }
     }
 
-    // The file of this name, where this folder made it.
-    fn made(&mut self, name: Name) -> Result<&mut File, Failed> {
-        match &mut self.made {
-            Some(made) if made.name == name => Ok(&mut made.file),
+    fn path(&self, name: Name) -> Result<&str, Failed> {
+        match (&self.names, name) {
+            (Some(names), Name::Own) => Ok(names.own.as_str()),
+            (Some(names), Name::New) => Ok(names.new.as_str()),
+            (None, _) => Err(Failed),
+        }
+    }
+
+    fn mode(&self) -> Option<u32> {
+        self.names.as_ref()?.mode
+    }
+
+    // The file of this name, where this folder opened it.
+    fn opened(&mut self, name: Name) -> Result<&mut File, Failed> {
+        match &mut self.opened {
+            Some(opened) if opened.name == name => Ok(&mut opened.file),
             _ => Err(Failed),
         }
     }
 
     // The folder itself, opened.
-    fn open(&self) -> io::Result<File> {
-        match Path::new(self.own.as_str()).parent() {
-            Some(folder) if !folder.as_str().is_empty() => fs::open(self.rt, folder),
-            _ => fs::open(self.rt, "."),
-        }
+    fn open(&self) -> Result<File, Failed> {
+        let path = self.path(Name::Own)?;
+        let opened = match Path::new(path).parent() {
+            Some(folder) if !folder.as_str().is_empty() => fs::open(&self.rt, folder),
+            _ => fs::open(&self.rt, "."),
+        };
+        opened.map_err(|_| Failed)
     }
 }
 
 // What a file of the system has, no contract says.
-impl<'a> Folder for SystemFolder<'a> {
+impl Folder for SystemFolder {
     ghost use Rattle.std.specs.Prelude.{None};
 
     ghost calls = { λ _. None };
 
-    // What has the name is taken away first, so that no link at it is followed and no file is written to that has
-    // another name too.
-    fn create(&mut self, name: Name) -> Result<(), Failed> {
-        remove(self.rt, self.path(name))?;
-        let file = create(self.rt, self.path(name), self.mode).map_err(|_| Failed)?;
-        self.made = Some(Made { name, file });
+    ghost leads = { λ _ _ _. None };
+
+    fn turn(&mut self, name: &str) -> Result<Kind, Failed> {
+        self.opened = None;
+        self.names = None;
+        let was = found(&self.rt, name)?;
+        let (own, kind) = led_to(&self.rt, name, was.as_ref())?;
+        let new = name_beside(&self.rt, own.as_str())?;
+        let mode = was.map(|was| was.permissions().mode());
+        self.names = Some(Names { own, new, mode });
+        Ok(kind)
+    }
+
+    // Where one of the two can't be told, the paths are compared.
+    fn is_at(&self, name: Name, path: &str) -> bool {
+        let Ok(own) = self.path(name) else {
+            return false;
+        };
+        match (regular(&self.rt, own), regular(&self.rt, path)) {
+            (Ok(one), Ok(other)) => one.is_some() && one == other,
+            _ => own == path,
+        }
+    }
+
+    fn create(&mut self, name: Name) -> Result<(), Unplaced> {
+        let file = make_again(&self.rt, self.path(name)?)?;
+        if let Some(mode) = self.mode() {
+            let permissions = Permissions::from_mode(mode);
+            file.set_permissions(permissions).map_err(|_| Failed)?;
+        }
+        self.opened = Some(Opened { name, file });
+        Ok(())
+    }
+
+    // A file that is there is opened as it is: some folders let only its owner open it with a right to make it.
+    fn empty(&mut self, name: Name) -> Result<(), Failed> {
+        let is_new = self.mode().is_none();
+        let path = self.path(name)?;
+        let file = OpenOptions::new()
+            .write(true)
+            .truncate(true)
+            .create(is_new)
+            .open(&self.rt, path)
+            .map_err(|_| Failed)?;
+        self.opened = Some(Opened { name, file });
         Ok(())
     }
 
     fn write(&mut self, name: Name, text: &[u8]) -> Result<(), Failed> {
-        self.made(name)?.write_all(text).map_err(|_| Failed)
+        self.opened(name)?.write_all(text).map_err(|_| Failed)
     }
 
     fn sync(&mut self, name: Name) -> Result<(), Failed> {
-        self.made(name)?.sync_all().map_err(|_| Failed)
+        self.opened(name)?.sync_all().map_err(|_| Failed)
     }
 
-    fn rename(&mut self, from: Name, to: Name) -> Result<(), Failed> {
-        fs::rename(self.rt, self.path(from), self.path(to)).map_err(|_| Failed)?;
-        if let Some(made) = &mut self.made
-            && made.name == from
+    fn rename(&mut self, from: Name, to: Name) -> Result<(), Unplaced> {
+        let (old, new) = (self.path(from)?, self.path(to)?);
+        fs::rename(&self.rt, old, new).map_err(|error| why(&error))?;
+        if let Some(opened) = &mut self.opened
+            && opened.name == from
         {
-            made.name = to;
+            opened.name = to;
         }
         Ok(())
     }
 
     fn sync_folder(&mut self) -> Result<(), Failed> {
-        let folder = self.open().map_err(|_| Failed)?;
-        folder.sync_all().map_err(|_| Failed)
+        self.open()?.sync_all().map_err(|_| Failed)
     }
 
     fn remove(&mut self, name: Name) -> Result<(), Failed> {
-        remove(self.rt, self.path(name))
+        match fs::remove_file(&self.rt, self.path(name)?) {
+            Err(error) if error.kind() == ErrorKind::NotFound => Ok(()),
+            answer => answer.map_err(|_| Failed),
+        }
     }
 }

@@ -1,15 +1,14 @@
--- The calls by which a text comes to its name, up to the first that fails.
+-- The calls by which a text comes to its name, up to the first that fails or is refused.
 use Rattle.std.specs.Prelude.{◌≡◌, ◌⊎◌, ℕ, true, false, List, [], ◌∷◌, ◌++◌, Option, Some, IfSome}
-use Rattle.n2kdec.specs.Folder.{Call, create, write, sync, rename}
+use Rattle.n2kdec.specs.Folder.{Call, create, refused, rename, sync, write}
+use Rattle.n2kdec.specs.Replacement.{filled}
 use Rattle.n2kdec.specs.declared.folder.Name.TheVariants.{Own, New}
+use Rattle.n2kdec.specs.declared.folder.Unplaced.{Unplaced}
+use Rattle.n2kdec.specs.declared.folder.Unplaced.TheVariants.{Refused, Failed}
 
--- the new file has the text
-abbrev pub written : List ℕ → List Call
-written text = write New text true ∷ create New true ∷ []
-
--- and then the name
+-- the new file has the text, and then the name
 abbrev pub placed : List ℕ → List Call
-placed text = rename New Own true ∷ sync New true ∷ written text
+placed text = rename New Own true ∷ sync New true ∷ filled text
 
 -- these calls more, where the calls are known
 abbrev pub Makes : Option (List Call) → Option (List Call) → List Call → Type 0
@@ -18,10 +17,11 @@ Makes before after made = IfSome after (λ all. (calls : List Call) × (before �
 abbrev pub HasPlaced : Option (List Call) → Option (List Call) → List ℕ → Type 0
 HasPlaced before after text = Makes before after (placed text)
 
--- one of them failed, and none was made after it
-abbrev pub IsStuck : Option (List Call) → Option (List Call) → List ℕ → Type 0
-IsStuck before after text =
+-- one of them failed, or was refused, and none was made after it
+abbrev pub IsStuck : Option (List Call) → Option (List Call) → List ℕ → Unplaced → Type 0
+IsStuck before after text Failed =
     Makes before after (create New false ∷ [])
     ⊎ Makes before after (write New text false ∷ create New true ∷ [])
-    ⊎ Makes before after (sync New false ∷ written text)
-    ⊎ Makes before after (rename New Own false ∷ sync New true ∷ written text)
+    ⊎ Makes before after (sync New false ∷ filled text)
+    ⊎ Makes before after (rename New Own false ∷ sync New true ∷ filled text)
+IsStuck before after text Refused = Makes before after (refused ∷ []) ⊎ Makes before after (refused ∷ sync New true ∷ filled text)

@@ -1,6 +1,6 @@
-use crate::folder::{Folder, Name};
-use crate::memory_folder::{Extent, MemoryFolder, Trouble};
-use crate::replacement::replace;
+use super::memory_folder::{Extent, MemoryFolder, Trouble};
+use crate::folder::{Folder, Kind, Name};
+use crate::replacement::keep_text;
 use std::test::Fail;
 
 // How much of a call is done, and how much a cut leaves of what is not synced.
@@ -8,19 +8,19 @@ const EXTENTS: [Extent; 3] = [Extent::Nothing, Extent::Part, Extent::Whole];
 
 const OLD: &[u8] = b"the old state";
 
-const NEW: &[u8] = b"the new state";
+const NEW: &[u8] = b"the new state, which is longer";
 
 #[test]
 fn a_text_takes_the_place_of_another(rt: HostRuntime) -> Result<(), Fail> {
     for own in [None, Some(OLD)] {
         for new in [None, Some(b"from an earlier cut".as_slice())] {
-            let mut folder = MemoryFolder::new(rt.alloc(), own, new, Trouble::No)?;
-            assert!(rt; replace(&mut folder, NEW).is_ok());
+            let mut folder = MemoryFolder::new(rt.alloc(), Kind::Alone, own, new)?;
+            assert!(rt; keep_text(&mut folder, "boat", NEW).is_ok());
             for extent in EXTENTS {
                 assert_eq!(rt; folder.left(Name::Own, extent), Some(NEW));
                 assert_eq!(rt; folder.left(Name::New, extent), None);
             }
-            assert_eq!(rt; folder.calls(), 5);
+            assert_eq!(rt; folder.calls(), 6);
         }
     }
     Ok(())
@@ -28,12 +28,13 @@ fn a_text_takes_the_place_of_another(rt: HostRuntime) -> Result<(), Fail> {
 
 #[test]
 fn a_failure_in_each_call_leaves_the_old_text_or_the_new(rt: HostRuntime) -> Result<(), Fail> {
-    for call in 1..6u64 {
+    for call in 1..7u64 {
         for done in EXTENTS {
             let trouble = Trouble::Failure(call, done);
-            let mut folder = MemoryFolder::new(rt.alloc(), Some(OLD), None, trouble)?;
-            assert!(rt; replace(&mut folder, NEW).is_err(), "{trouble:?}");
-            let renamed = call == 5 || call == 4 && done == Extent::Whole;
+            let mut folder = MemoryFolder::new(rt.alloc(), Kind::Alone, Some(OLD), None)?;
+            folder.trouble = trouble;
+            assert!(rt; keep_text(&mut folder, "boat", NEW).is_err(), "{trouble:?}");
+            let renamed = call == 6 || call == 5 && done == Extent::Whole;
             let now = if renamed { NEW } else { OLD };
             assert_eq!(rt;
                 folder.left(Name::Own, Extent::Whole),
@@ -48,11 +49,12 @@ fn a_failure_in_each_call_leaves_the_old_text_or_the_new(rt: HostRuntime) -> Res
 
 #[test]
 fn a_cut_in_each_call_leaves_the_old_text_or_the_new(rt: HostRuntime) -> Result<(), Fail> {
-    for call in 1..6u64 {
+    for call in 1..7u64 {
         for done in EXTENTS {
             let trouble = Trouble::Cut(call, done);
-            let mut folder = MemoryFolder::new(rt.alloc(), Some(OLD), None, trouble)?;
-            assert!(rt; replace(&mut folder, NEW).is_err(), "{trouble:?}");
+            let mut folder = MemoryFolder::new(rt.alloc(), Kind::Alone, Some(OLD), None)?;
+            folder.trouble = trouble;
+            assert!(rt; keep_text(&mut folder, "boat", NEW).is_err(), "{trouble:?}");
             for extent in EXTENTS {
                 let left = folder.left(Name::Own, extent);
                 let is_whole = left == Some(OLD) || left == Some(NEW);
@@ -66,12 +68,76 @@ fn a_cut_in_each_call_leaves_the_old_text_or_the_new(rt: HostRuntime) -> Result<
 // What is not synced may be there in part, and a rename may be there or not.
 #[test]
 fn a_cut_before_the_syncs_may_leave_a_part_or_the_old_text(rt: HostRuntime) -> Result<(), Fail> {
-    let mut folder = MemoryFolder::new(rt.alloc(), Some(OLD), None, Trouble::No)?;
+    let mut folder = MemoryFolder::new(rt.alloc(), Kind::Alone, Some(OLD), None)?;
     assert!(rt; folder.create(Name::New).is_ok());
     assert!(rt; folder.write(Name::New, NEW).is_ok());
     assert!(rt; folder.rename(Name::New, Name::Own).is_ok());
     assert_eq!(rt; folder.left(Name::Own, Extent::Nothing), Some(OLD));
-    assert_eq!(rt; folder.left(Name::Own, Extent::Part), Some(&NEW[..6]));
+    assert_eq!(rt; folder.left(Name::Own, Extent::Part), Some(&NEW[..15]));
     assert_eq!(rt; folder.left(Name::Own, Extent::Whole), Some(NEW));
+    Ok(())
+}
+
+// Of the ways in which a text is written over another: the new file is refused (call 2), or that it takes the name
+// (call 5), or the file has other names. Each has the calls up to this one before it.
+const WAYS: [(Kind, u64, u64); 3] = [
+    (Kind::Alone, 2, 3),
+    (Kind::Alone, 5, 6),
+    (Kind::Shared, 0, 1),
+];
+
+#[test]
+fn a_text_is_written_over_another_where_the_folder_refuses(rt: HostRuntime) -> Result<(), Fail> {
+    for (kind, refused, before) in WAYS {
+        for own in [
+            None,
+            Some(OLD),
+            Some(b"a state with a longer text than the new one has".as_slice()),
+        ] {
+            let mut folder = MemoryFolder::new(rt.alloc(), kind, own, None)?;
+            folder.refused = refused;
+            assert!(rt; keep_text(&mut folder, "boat", NEW).is_ok());
+            assert_eq!(rt; folder.left(Name::Own, Extent::Part), Some(NEW));
+            assert_eq!(rt; folder.left(Name::New, Extent::Whole), None);
+            assert_eq!(rt; folder.calls(), before + 3);
+        }
+    }
+    Ok(())
+}
+
+// A failure before the folder refuses leaves the old text; one after it fails too, and may leave any text.
+#[test]
+fn a_failure_where_the_folder_refuses_is_told(rt: HostRuntime) -> Result<(), Fail> {
+    for (kind, refused, before) in WAYS {
+        for call in 1..before + 4 {
+            for done in EXTENTS {
+                let trouble = Trouble::Failure(call, done);
+                let mut folder = MemoryFolder::new(rt.alloc(), kind, Some(OLD), None)?;
+                folder.refused = refused;
+                folder.trouble = trouble;
+                // A call that is refused doesn't fail, and what becomes of the new file then is not told.
+                let passes = call == refused || refused > 0 && call == before;
+                let answer = keep_text(&mut folder, "boat", NEW);
+                assert_eq!(rt; answer.is_ok(), passes, "{refused} {trouble:?}");
+                if call <= before && !passes {
+                    assert_eq!(rt;
+                        folder.left(Name::Own, Extent::Whole),
+                        Some(OLD),
+                        "{refused} {trouble:?}"
+                    );
+                }
+            }
+        }
+    }
+    Ok(())
+}
+
+// What is no regular file is written to, and nothing is synced.
+#[test]
+fn what_is_no_regular_file_is_written_to(rt: HostRuntime) -> Result<(), Fail> {
+    let mut folder = MemoryFolder::new(rt.alloc(), Kind::Special, None, None)?;
+    assert!(rt; keep_text(&mut folder, "boat", NEW).is_ok());
+    assert_eq!(rt; folder.left(Name::Own, Extent::Whole), Some(NEW));
+    assert_eq!(rt; folder.calls(), 3);
     Ok(())
 }
