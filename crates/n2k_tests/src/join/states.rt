@@ -148,6 +148,13 @@ fn states_judged(rt: HostRuntime) -> Result<(), Fail> {
     one_change_each(&rt, &table, shortest_window(), &open, OF_OPEN)
 }
 
+// A state tells its window, and is read under no other.
+#[test]
+fn the_usual_window_under_the_shortest(rt: HostRuntime) -> Result<(), Fail> {
+    let table = sample(rt.alloc())?;
+    answers(&rt, &table, shortest_window(), EMPTY, "WindowDiffers")
+}
+
 // The state of a join is this one.
 fn saves<R: Abort + AllocGlobal>(rt: &R, join: &Join, state: &str) -> Result<(), Fail> {
     let wanted = spelled(rt.alloc(), state)?;

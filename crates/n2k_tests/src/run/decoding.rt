@@ -4,9 +4,11 @@ use super::options::{
     has_summary,
 };
 use crate::samples::{long_window, sample, shortest_window};
-use n2k_join::{Join, Window};
-use n2k_run::{MemorySink, MemorySource, run};
+use crate::table::tables::pairs_table;
+use n2k_join::Join;
+use n2k_run::{MemorySink, MemorySource, Options, run};
 use n2k_table::Table;
+use n2k_wire::Packing;
 use serde_json::Value;
 use std::alloc::{AllocError, Global};
 use std::process::Abort;
@@ -153,13 +155,13 @@ fn decodes<R: Abort + AllocGlobal>(
     table: &Table,
     log: &[u8],
     example: &Example,
-    window: Window,
+    options: Options,
     piece: usize,
 ) -> Result<(), Fail> {
     if piece == 0 {
         return Err("no piece".into());
     }
-    let mut join = Join::new(rt.alloc(), table, window);
+    let mut join = Join::new(rt.alloc(), table, options.window);
     let mut reader = MemorySource::new(log, piece, 0);
     let mut writer = MemorySink::new(rt.alloc(), piece, 0);
     let mut reporter = MemorySink::new(rt.alloc(), piece, 0);
@@ -167,7 +169,7 @@ fn decodes<R: Abort + AllocGlobal>(
         rt.alloc(),
         table,
         &mut join,
-        frames(window),
+        options,
         &mut reader,
         &mut writer,
         &mut reporter,
@@ -186,7 +188,7 @@ fn decodes_in_pieces<R: Abort + AllocGlobal>(
     example: &Example,
 ) -> Result<(), Fail> {
     for piece in &PIECES {
-        decodes(rt, table, log, example, long_window(), *piece)?;
+        decodes(rt, table, log, example, frames(long_window()), *piece)?;
     }
     Ok(())
 }
@@ -257,7 +259,54 @@ fn windows_that_end(rt: HostRuntime) -> Result<(), Fail> {
     let table = sample(rt.alloc())?;
     for (empty, example) in &UNDER_32 {
         let log = with_empty_lines(rt.alloc(), example.log, *empty)?;
-        decodes(&rt, &table, &log, example, shortest_window(), 7)?;
+        decodes(&rt, &table, &log, example, frames(shortest_window()), 7)?;
+    }
+    Ok(())
+}
+
+// Lines that are read whole, and whether absent fields are printed.
+const WHOLE: [(bool, Example); 2] = [
+    // pairs, and the last line of whole-among-frames
+    (
+        false,
+        Example {
+            log: "t,6,130822,5,255,9,01,0a,64,00,0b,9c,ff,0c,00
+t,6,130822,5,255,4,01,ff,ff,7f
+t,6,130822,5,255,1,01
+t,6,130822,5,255,0
+2020-01-01T00:00:00.000Z,7,130820,5,255,6,a3,99,01,41,42,43
+",
+            text: "{\"timestamp\":\"t\",\"prio\":6,\"src\":5,\"dst\":255,\"pgn\":130822,\"description\":\"Sample: Pairs\",\"fields\":{\"SID\":1,\"list\":[{\"Id\":10,\"Value\":10.0},{\"Id\":11,\"Value\":-10.0}]}}
+{\"timestamp\":\"t\",\"prio\":6,\"src\":5,\"dst\":255,\"pgn\":130822,\"description\":\"Sample: Pairs\",\"fields\":{\"SID\":1,\"list\":[{}]}}
+{\"timestamp\":\"t\",\"prio\":6,\"src\":5,\"dst\":255,\"pgn\":130822,\"description\":\"Sample: Pairs\",\"fields\":{\"SID\":1,\"list\":[]}}
+{\"timestamp\":\"t\",\"prio\":6,\"src\":5,\"dst\":255,\"pgn\":130822,\"description\":\"Sample: Pairs\",\"fields\":{\"list\":[]}}
+{\"timestamp\":\"2020-01-01T00:00:00.000Z\",\"prio\":7,\"src\":5,\"dst\":255,\"pgn\":130820,\"description\":\"Sample: Label\",\"fields\":{\"Maker\":419,\"Kind\":1}}
+",
+            reports: "",
+            summary: "lines 5 messages 5 bad 0 unknown 0 broken 0 open 0\n",
+        },
+    ),
+    (
+        true,
+        Example {
+            log: "t,6,130822,5,255,4,01,ff,ff,7f\n",
+            text: "{\"timestamp\":\"t\",\"prio\":6,\"src\":5,\"dst\":255,\"pgn\":130822,\"description\":\"Sample: Pairs\",\"fields\":{\"SID\":1,\"list\":[{\"Id\":null,\"Value\":null}]}}\n",
+            reports: "",
+            summary: "lines 1 messages 1 bad 0 unknown 0 broken 0 open 0\n",
+        },
+    ),
+];
+
+#[test]
+fn whole_messages(rt: HostRuntime) -> Result<(), Fail> {
+    let table = pairs_table(rt.alloc())?;
+    for (empty, example) in &WHOLE {
+        let options = Options {
+            packing: Packing::Whole,
+            empty: *empty,
+            window: long_window(),
+        };
+        decodes(&rt, &table, example.log.as_bytes(), example, options, 7)?;
     }
     Ok(())
 }

@@ -42,6 +42,8 @@ fn past_a_limit_of_bytes(rt: HostRuntime) -> Result<(), Fail> {
     let mut long = MemorySource::new(b"abcabc", 100, 0);
     let refused = read_bytes(rt.alloc(), &mut long, 2);
     assert!(rt; matches!(refused, Err(BytesFault::TooLong)));
+    let refused = read_bytes(rt.alloc(), &mut MemorySource::new(b"abc", 100, 0), 2);
+    assert!(rt; matches!(refused, Err(BytesFault::TooLong)));
     let rest = read_bytes(rt.alloc(), &mut long, 3)?;
     assert_eq!(rt; rest.as_slice(), b"abc".as_slice());
     Ok(())

@@ -121,22 +121,35 @@ fn refused_memory_in_a_part(rt: HostRuntime) {
     );
 }
 
-// overdue-old-state: a state of the old format is read, and its groups are broken at the next line.
-#[test]
-fn an_old_state_goes_on_or_is_refused(rt: HostRuntime) -> Result<(), Fail> {
-    let table = sample(rt.alloc())?;
-    let state = spelled(rt.alloc(), OVERDUE)?;
-    let options = frames(shortest_window());
+// A state of the old format of no lines.
+const OLD_EMPTY: &str =
+    "{'bad':0,'broken':0,'format':1,'groups':[],'lines':0,'messages':0,'table':'ID','unknown':0}";
+
+fn old_state_leaves_a_front<R: Abort + AllocGlobal>(
+    rt: &R,
+    table: &Table,
+    state: &str,
+    reports: &str,
+) -> Result<(), Fail> {
+    let state = spelled(rt.alloc(), state)?;
     part_leaves_a_front(
-        &rt,
-        &table,
-        options,
+        rt,
+        table,
+        frames(shortest_window()),
         Some(state.as_bytes()),
         "\n",
         "",
-        OVERDUE_REPORTS,
+        reports,
     );
     Ok(())
+}
+
+// overdue-old-state: a state of the old format is read, and its groups are broken at the next line. empty-state has none.
+#[test]
+fn an_old_state_goes_on_or_is_refused(rt: HostRuntime) -> Result<(), Fail> {
+    let table = sample(rt.alloc())?;
+    old_state_leaves_a_front(&rt, &table, OVERDUE, OVERDUE_REPORTS)?;
+    old_state_leaves_a_front(&rt, &table, OLD_EMPTY, "")
 }
 
 // two-sources-cut, after each line

@@ -21,7 +21,7 @@ struct Example {
     state: &'static str,
 }
 
-const EXAMPLES: [Example; 3] = [
+const EXAMPLES: [Example; 4] = [
     // empty-log
     Example {
         log: "",
@@ -37,6 +37,14 @@ const EXAMPLES: [Example; 3] = [
         reports: "",
         summary: "lines 4 messages 2 bad 0 unknown 0 broken 0 open 0\n",
         state: "{'bad':0,'broken':0,'format':2,'groups':[],'lines':4,'messages':2,'table':'ID','unknown':0,'window':10000}",
+    },
+    // whole-among-frames, its last line, as a frame
+    Example {
+        log: "2020-01-01T00:00:00.000Z,7,130820,5,255,6,a3,99,01,41,42,43\n",
+        text: "",
+        reports: "",
+        summary: "lines 1 messages 0 bad 0 unknown 0 broken 0 open 1\n",
+        state: "{'bad':0,'broken':0,'format':2,'groups':[{'dst':255,'first':1,'frames':[[3,'9901414243ffff']],'pgn':130820,'seq':5,'src':5}],'lines':1,'messages':0,'table':'ID','unknown':0,'window':10000}",
     },
     // Every kind of line: skipped, bad, single, whole, of an unknown PGN, fast packets of three senders, a broken group,
     // and one that stays open.

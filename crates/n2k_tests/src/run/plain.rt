@@ -107,7 +107,8 @@ fn reports_in<R: Abort + AllocGlobal>(
     rt: &R,
     log: &[u8],
     piece: usize,
-    reports: &[u8],
+    text: &str,
+    reports: &str,
     wanted: Counts,
 ) -> Result<(), Fail> {
     if piece == 0 {
@@ -117,20 +118,22 @@ fn reports_in<R: Abort + AllocGlobal>(
     let mut writer = MemorySink::new(rt.alloc(), 100, 0);
     let mut reporter = MemorySink::new(rt.alloc(), 100, 0);
     let counts = run_plain(rt.alloc(), &mut reader, &mut writer, &mut reporter)?;
-    assert_eq!(rt; reporter.bytes(), reports);
+    assert_eq!(rt; writer.bytes(), text.as_bytes());
+    assert_eq!(rt; reporter.bytes(), reports.as_bytes());
     assert_eq!(rt; counts, wanted);
     Ok(())
 }
 
-// A log whose reports and counts are these, whatever the pieces in which it comes.
+// A log whose text, reports and counts are these, whatever the pieces in which it comes.
 fn reports_in_pieces<R: Abort + AllocGlobal>(
     rt: &R,
     log: &[u8],
-    reports: &[u8],
+    text: &str,
+    reports: &str,
     wanted: Counts,
 ) -> Result<(), Fail> {
     for piece in &PIECES {
-        reports_in(rt, log, *piece, reports, wanted)?;
+        reports_in(rt, log, *piece, text, reports, wanted)?;
     }
     Ok(())
 }
@@ -167,7 +170,7 @@ fn long_lines(rt: HostRuntime) -> Result<(), Fail> {
         bad: 4,
         ..Counts::NONE
     };
-    reports_in_pieces(&rt, &log, LONG_REPORTS.as_bytes(), counts)
+    reports_in_pieces(&rt, &log, "", LONG_REPORTS, counts)
 }
 
 const TEN_LINES: &str = "
@@ -179,6 +182,11 @@ const TEN_LINES: &str = "
 (10) can0 1DFF0405#00
 x,8,127251,36,255,0
 hello
+";
+
+const TEN_TEXT: &str = "1970-01-01T00:00:10.000Z,7,130820,5,255,8,00,0b,a3,99,01,41,42,43
+1970-01-01T00:00:10.300Z,7,130820,5,255,0
+1970-01-01T00:00:10.400Z,7,130820,5,255,8,01,00,00,00,00,00,ff,ff
 ";
 
 const TEN_REPORTS: &str = "line 2 bad B1 long
@@ -207,7 +215,7 @@ fn ten_lines_of_which_seven_are_bad(rt: HostRuntime) -> Result<(), Fail> {
         bad: 7,
         ..Counts::NONE
     };
-    reports_in_pieces(&rt, &log, TEN_REPORTS.as_bytes(), counts)
+    reports_in_pieces(&rt, &log, TEN_TEXT, TEN_REPORTS, counts)
 }
 
 // What the lines of a block give is written before the next block is read: where the first write fails, the source

@@ -1,5 +1,5 @@
 //! Devices over the readers and writers of the standard library.
-use n2k_run::{Failed, Sink, StdSink, StdSource, read_bytes, write_all};
+use n2k_run::{Blocks, Failed, Sink, StdSink, StdSource, read_bytes, write_all};
 use std::alloc::{AllocError, Global};
 use std::io;
 use std::io::{ErrorKind, Read, Write};
@@ -90,17 +90,21 @@ impl<'a> Read for FewRead<'a> {
     }
 }
 
-// A writer that takes few bytes a call.
+// A writer that takes few bytes a call, and notes whether one was handed less than all that was left.
 #[derive(Drop)]
 struct FewWritten {
     held: Vec<u8>,
     calls: usize,
+    was_cut: bool,
 }
 
 impl Write for FewWritten {
     fn write(&mut self, piece: &[u8]) -> io::Result<usize> {
         let count = piece_of(self.calls).min(piece.len());
         self.calls = self.calls.saturating_add(1);
+        if piece.len() != COUNT.saturating_sub(self.held.len()) {
+            self.was_cut = true;
+        }
         self.held.write(&piece[..count])
     }
 
@@ -121,7 +125,8 @@ fn ten_thousand_reads(rt: HostRuntime) -> Result<(), Fail> {
     let bytes = read_bytes(rt.alloc(), &mut source, COUNT)?;
     drop(source);
     assert!(rt; bytes.as_slice() == wanted.as_slice());
-    assert!(rt; reader.calls > 10_000);
+    // With 28 bytes in seven calls, and one call that finds the end.
+    assert_eq!(rt; reader.calls, 11_253);
     Ok(())
 }
 
@@ -131,11 +136,70 @@ fn ten_thousand_writes(rt: HostRuntime) -> Result<(), Fail> {
     let mut writer = FewWritten {
         held: Vec::new(rt.alloc()),
         calls: 0,
+        was_cut: false,
     };
     let mut sink = StdSink::new(&mut writer);
     assert_eq!(rt; write_all(&mut sink, &wanted), Ok(()));
     drop(sink);
     assert!(rt; writer.held.as_slice() == wanted.as_slice());
-    assert!(rt; writer.calls > 10_000);
+    assert_eq!(rt; writer.calls, 11_252);
+    assert!(rt; !writer.was_cut);
+    Ok(())
+}
+
+// A reader that gives 1,050 bytes a call at most, and notes how many each call asks for.
+#[derive(Drop)]
+struct Noting<'a> {
+    left: &'a [u8],
+    asked: Vec<usize>,
+}
+
+impl<'a> Read for Noting<'a> {
+    fn read(&mut self, buffer: &mut [u8]) -> io::Result<usize> {
+        if self.asked.push(buffer.len()).is_err() {
+            return Err(io::Error::new(ErrorKind::OutOfMemory, "a growth"));
+        }
+        let count = buffer.len().min(1050);
+        self.left.read(&mut buffer[..count])
+    }
+}
+
+// So many lines of 100 bytes, and one of 9,001 bytes.
+const SHORT_LINES: usize = 42;
+
+fn short_lines_and_a_long_one(alloc: Global) -> Result<Vec<u8>, AllocError> {
+    let mut log = Vec::new(alloc);
+    let line = [b'x'; 99];
+    for _ in 0..SHORT_LINES {
+        log.extend_from_slice(&line)?;
+        log.push(b'\n')?;
+    }
+    log.extend_from_slice(&vec![in alloc; b'x'; 9000]?)?;
+    log.push(b'\n')?;
+    Ok(log)
+}
+
+// What is left of the block behind the half line that is kept, and behind the front of the long line. Once that front
+// fills the block it is let go, and each call asks for the whole block.
+const ASKED: [usize; 14] = [
+    4096, 4046, 4096, 4046, 4096, 3046, 1996, 946, 4096, 4096, 4096, 4096, 4096, 4096,
+];
+
+// No contract can say how much a read asks for: it has no word for what a source was asked.
+#[test]
+fn each_read_asks_for_the_rest_of_the_block(rt: HostRuntime) -> Result<(), Fail> {
+    let log = short_lines_and_a_long_one(rt.alloc())?;
+    let mut reader = Noting {
+        left: &log,
+        asked: Vec::new(rt.alloc()),
+    };
+    let mut source = StdSource::new(&mut reader);
+    let mut blocks = Blocks::new();
+    // The long line and the end are answered too.
+    for _ in 0..SHORT_LINES + 2 {
+        assert!(rt; blocks.next_line(&mut source).is_ok());
+    }
+    drop(source);
+    assert_eq!(rt; reader.asked.as_slice(), ASKED.as_slice());
     Ok(())
 }

@@ -175,6 +175,14 @@ fn pairs_in_format_1_key(rt: HostRuntime) -> Result<(), Fail> {
     answers(&rt, &text, "Key", "format 1")
 }
 
+// The sample without its last bracket.
+#[test]
+fn no_last_bracket(rt: HostRuntime) -> Result<(), Fail> {
+    let end = SAMPLE.rfind(']').ok_or("a bracket")?;
+    let (front, _) = SAMPLE.split_at(end);
+    answers(&rt, front, "NotToml", "no last bracket")
+}
+
 // The byte FF stands before the sample.
 #[test]
 fn no_utf8(rt: HostRuntime) -> Result<(), Fail> {
