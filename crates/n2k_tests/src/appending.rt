@@ -1,4 +1,4 @@
-//! Calls that append leave their vector byte for byte as it was where a growth is refused. `examples/refused-growth` lets
+//! Calls that append leave their vector byte for byte as it was where a growth is refused. `tests/faults/refused-growth` lets
 //! each growth fail in turn.
 use crate::samples::sample;
 use n2k_join::{Broken, Counts};
