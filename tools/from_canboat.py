@@ -5,8 +5,8 @@
     tools/from_canboat.py --compare tables/n2k.toml canboat.json
 
 The first prints a table of format 2, and on standard error what is in it and what was left out, by cause. The second
-prints where that table differs from another one, message by message. README.md tells what stays out (Python 3.11 or
-newer).
+prints where that table differs from another one, message by message. tables/README.md says what is left out (Python
+3.11 or newer).
 """
 import argparse
 import collections
