@@ -1,12 +1,12 @@
 #!/usr/bin/env python3
 """Prints canboat's PGN database, the file canboat.json of its versions 4 to 6, as a table.
 
-    tables/from_canboat.py canboat.json > canboat.toml
-    tables/from_canboat.py --compare tables/n2k.toml canboat.json
+    tools/from_canboat.py canboat.json > canboat.toml
+    tools/from_canboat.py --compare tables/n2k.toml canboat.json
 
 The first prints a table of format 2, and on standard error what is in it and what was left out, by cause. The second
-prints where that table differs from another one, message by message. README.md tells what stays out (Python 3.11 or
-newer).
+prints where that table differs from another one, message by message. tables/README.md says what is left out (Python
+3.11 or newer).
 """
 import argparse
 import collections
@@ -497,7 +497,7 @@ def lookup_lines(name, names):
 def head(value):
     """What the file says of itself, as comments."""
     top = Object(value, "canboat.json")
-    lines = comment("canboat's PGN database, made a table by tables/from_canboat.py. A unit stands behind each field "
+    lines = comment("canboat's PGN database, made a table by tools/from_canboat.py. A unit stands behind each field "
                     "that has one. Where the greatest value of a lookup only says that there is none, it has no name "
                     "here.")
     for name in ("Version", "License", "Copyright"):

@@ -2,7 +2,7 @@
 """Prints a log of frames over a whole table, for trials: each definition in turn, random fields and sets, eight senders
 mixed.
 
-    tables/random_log.py TABLE SEED LINES
+    tools/random_log.py TABLE SEED LINES
 
 All messages are whole. The same words print the same log (Python 3.11 or newer).
 """

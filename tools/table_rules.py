@@ -1,7 +1,7 @@
 """A table of n2kdec read with its places: TOML 1.1 as the program reads it, and the rules of docs/PROFILE.md.
 
-`tree(bytes)` is the document, `faults(bytes)` every fault with its line. tables/check prints them,
-examples/table_faults.py their names (Python 3.11 or newer).
+`tree(bytes)` is the document, `faults(bytes)` every fault with its line. tools/table-check prints them,
+tests/random/table_faults.py their names (Python 3.11 or newer).
 """
 import bisect
 import dataclasses

@@ -1,10 +1,10 @@
 # Takes JSON lines, gives JSON lines in degrees, °C and hPa, dates, times and older stamps as ISO text: jq -cf degrees.jq
 #
 # With --arg speed knots, m/s are knots. Which field has which unit is read from units.json; a table of your own wants
-# --slurpfile units FILE, of what `tables/units TABLE` prints. Angles, temperatures, pressures and speeds are rounded to
+# --slurpfile units FILE, of what `tools/units TABLE` prints. Angles, temperatures, pressures and speeds are rounded to
 # 3 decimals, rates of turn (degrees a second) to 6: finer than what is sent. A time past the day stays a number.
 include "n2k" {search: "./"};
-import "units" as $known {search: ["../tables", ".."]};
+import "units" as $known {search: ["..", "../../tables"]};
 
 # A rule: the name of a field, and a, b and c of round(a x + b) / c; or the name and what kind of text it is.
 def rule($speed):

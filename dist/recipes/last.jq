@@ -4,7 +4,7 @@
 # available now. The values of a list are not shown. Units are those of units.json; behind degrees.jq, --arg units degrees
 # names its units, and --arg units knots those with knots.
 include "n2k" {search: "./"};
-import "units" as $known {search: ["../tables", ".."]};
+import "units" as $known {search: ["..", "../../tables"]};
 
 def padded($width): . + (" " * ($width - length) // "");
 def shown: if type == "number" then tostring elif type == "string" then . else tojson end;

@@ -28,8 +28,8 @@ import time
 
 import lossy
 
-HERE = os.path.dirname(os.path.abspath(__file__))
-LOGGER, TABLE = f"{HERE}/logger", f"{HERE}/sample.toml"
+ROOT = os.path.dirname(os.path.dirname(os.path.dirname(os.path.abspath(__file__))))
+LOGGER, TABLE = f"{ROOT}/dist/n2k-logger", f"{ROOT}/examples/sample.toml"
 lossy.ROUNDS = 120
 ROUND = sum(lossy.FRAMES)
 

@@ -18,7 +18,7 @@ import subprocess
 import sys
 import tempfile
 
-HERE = os.path.dirname(os.path.abspath(__file__))
+SAMPLE = os.path.join(os.path.dirname(os.path.abspath(__file__)), "..", "..", "examples", "sample.toml")
 PGN = 130820
 FRAMES = [2, 5, 9, 17, 32]
 ROUNDS = 200
@@ -97,7 +97,7 @@ def printed(program, log, words):
     with tempfile.NamedTemporaryFile("w", suffix=".log") as file:
         file.writelines(line_of(*it) for it in enumerate(log, 1))
         file.flush()
-        command = [program, "decode", "--table", f"{HERE}/sample.toml", *words, file.name]
+        command = [program, "decode", "--table", SAMPLE, *words, file.name]
         ran = subprocess.run(command, capture_output=True, text=True, check=True)
     lines = [json.loads(it) for it in ran.stdout.splitlines()]
     return [(it["src"], bytes.fromhex(it["fields"]["Data"])) for it in lines], ran.stderr.splitlines()[:-1]

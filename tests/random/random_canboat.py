@@ -1,7 +1,7 @@
 #!/usr/bin/env python3
-"""Makes random files of the form of canboat.json, converts them with tables/from_canboat.py, and judges the tables.
+"""Makes random files of the form of canboat.json, converts them with tools/from_canboat.py, and judges the tables.
 
-    examples/random_canboat.py PROGRAM FIRST LAST
+    tests/random/random_canboat.py PROGRAM FIRST LAST
 
 One file for each seed from FIRST to LAST. Each table has to read without a fault, by table_faults.py and by PROGRAM,
 and its text has to read back as the table that it was made of. Of each file two damaged copies are converted too: each gets an error in words, or a table without a
@@ -18,7 +18,7 @@ import tomllib
 
 import table_faults
 
-sys.path.insert(0, os.path.join(os.path.dirname(os.path.abspath(__file__)), "..", "tables"))
+sys.path.insert(0, os.path.join(os.path.dirname(os.path.abspath(__file__)), "..", "..", "tools"))
 import from_canboat
 
 KINDS = ["NUMBER"] * 40 + ["LOOKUP"] * 16 + ["RESERVED"] * 8 + sorted(from_canboat.KNOWN)

@@ -1,7 +1,7 @@
 #!/usr/bin/env python3
-"""Holds tables/check against the program, on random tables with changes.
+"""Holds tools/table-check against the program, on random tables with changes.
 
-    examples/random_tables.py PROGRAM SEED COUNT
+    tests/random/random_tables.py PROGRAM SEED COUNT
 
 Each of COUNT tables is made by the seed and its number: a small one, or some messages of tables/n2k.toml, with one to
 four changes (spellings, kinds, ranges, doubles, missing and extra keys, damaged TOML), and spelled at random. PROGRAM
@@ -28,10 +28,10 @@ import tomllib
 import toml_writer
 from toml_writer import Raw, Writer
 
-sys.path.insert(0, os.path.join(os.path.dirname(os.path.abspath(__file__)), "..", "tables"))
+sys.path.insert(0, os.path.join(os.path.dirname(os.path.abspath(__file__)), "..", "..", "tools"))
 import table_rules
 
-N2K = os.path.join(os.path.dirname(os.path.abspath(__file__)), "..", "tables", "n2k.toml")
+N2K = os.path.join(os.path.dirname(os.path.abspath(__file__)), "..", "..", "tables", "n2k.toml")
 NO_MESSAGE = "lines 0 messages 0 bad 0 unknown 0 broken 0 open 0\n"
 WORDS = ["SID", "COG", "Value", "list", "Status 2", "é", "日本", "a\"b", "a'b", "a\\b", "two\nlines", "\0", "\x7f", "x" * 255,
          "# no comment", "'''", '"""', "]", "\t", "\u2028", "a.b", "\U0001F600", "\x1b", " "]

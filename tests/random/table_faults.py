@@ -1,16 +1,16 @@
 #!/usr/bin/env python3
 """Prints the classes of the faults of tables of format 1 and 2; nothing where a table reads.
 
-    examples/table_faults.py TABLE..
+    tests/random/table_faults.py TABLE..
 
-The rules are those of tables/table_rules.py, which tables/check prints with their places. They were written from
-docs/PROFILE.md alone, apart from the program and from tables/from_canboat.py, so that their tables can be judged by a
+The rules are those of tools/table_rules.py, which tools/table-check prints with their places. They were written from
+docs/PROFILE.md alone, apart from the program and from tools/from_canboat.py, so that their tables can be judged by a
 second reader (Python 3.11 or newer).
 """
 import os
 import sys
 
-sys.path.insert(0, os.path.join(os.path.dirname(os.path.abspath(__file__)), "..", "tables"))
+sys.path.insert(0, os.path.join(os.path.dirname(os.path.abspath(__file__)), "..", "..", "tools"))
 import table_rules
 
 

@@ -1,5 +1,5 @@
-//! Calls that append leave their vector byte for byte as it was where a growth is refused. `examples/refused-growth` lets
-//! each growth fail in turn.
+//! Calls that append leave their vector byte for byte as it was where a growth is refused. `tests/faults/refused-growth`
+//! lets each growth fail in turn.
 use crate::samples::sample;
 use n2k_join::{Broken, Counts};
 use n2k_run::{bad_text, broken_text, summary_text};

@@ -71,7 +71,7 @@ const LOGS: [&str; 9] = [
     EIGHT_UNDER_WAY,
 ];
 
-// `examples/refused-growth` lets each growth fail in turn.
+// `tests/faults/refused-growth` lets each growth fail in turn.
 #[test]
 fn refused_growth_changes_nothing(rt: HostRuntime) -> Result<(), Fail> {
     let Ok(table) = sample(rt.alloc()) else {

@@ -147,8 +147,8 @@ fn messages_that_are_not_sent(rt: HostRuntime) -> Result<(), Fail> {
     refuses(&rt, &table, "x,6,59904,1,255,0", SplitFault::Unknown)
 }
 
-// `examples/refused-growth` lets each growth fail in turn: then nothing is changed, and the message sent again has the
-// frames that it has with ample memory.
+// `tests/faults/refused-growth` lets each growth fail in turn: then nothing is changed, and the message sent again has
+// the frames that it has with ample memory.
 #[test]
 fn refused_memory_changes_nothing(rt: HostRuntime) {
     let alloc = rt.alloc();

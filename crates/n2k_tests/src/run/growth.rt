@@ -1,5 +1,5 @@
-//! What refused memory leaves of runs. `examples/refused-growth` lets each growth fail in turn: the answer is that with
-//! ample memory or a refusal, and what was written is a front of what ample memory gives.
+//! What refused memory leaves of runs. `tests/faults/refused-growth` lets each growth fail in turn: the answer is that
+//! with ample memory or a refusal, and what was written is a front of what ample memory gives.
 use super::options::{
     REPEAT_BREAKS, REPEAT_BREAKS_REPORT, REPEAT_BREAKS_TEXT, TWO_SOURCES, TWO_SOURCES_TEXT, frames,
 };

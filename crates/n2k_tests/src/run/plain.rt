@@ -232,8 +232,8 @@ fn a_block_is_written_before_the_next_is_read(rt: HostRuntime) -> Result<(), Fai
     Ok(())
 }
 
-// `examples/refused-growth` lets each growth of the run fail in turn: the answer is that with ample memory or a refusal,
-// and what was written is a front.
+// `tests/faults/refused-growth` lets each growth of the run fail in turn: the answer is that with ample memory or a
+// refusal, and what was written is a front.
 #[test]
 fn refused_memory_leaves_a_front(rt: HostRuntime) {
     let mut reader = MemorySource::new(TWO_SOURCES.as_bytes(), 60, 0);
