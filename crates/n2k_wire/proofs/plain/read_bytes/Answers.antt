@@ -2,7 +2,7 @@ use Rattle.std.proofs.Common.{◌≡◌, [], ◌∷◌, length, ap, sym, ◌∙�
 use Rattle.std.specs.Prelude.{◌==◌}
 use Rattle.std.proofs.lemmas.List.Splits.{length-slice_split}
 use Rattle.n2k_wire.specs.Plain.{columns}
-use Rattle.n2k_wire.specs.PrivateWords.{columns_left}
+use Rattle.n2k_wire.specs.Inner.Plain.{columns_left}
 use Rattle.n2k_wire.proofs.PlainLemmas.{reads_column, ends_column, pairs-end, bytes_of-pairs, bytes_of-other, bytes_of-bad}
 use Rattle.n2k_wire.proofs.plain.read_bytes.Goals as goal
 
