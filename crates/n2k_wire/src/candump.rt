@@ -128,7 +128,7 @@ fn read_identifier(digits: &[u8]) -> Result<Option<u32>, BadCause>
     }
 }
 
-// Whether nothing follows, or a space and any bytes.
+/// Whether nothing follows, or a space and any bytes.
 fn is_end(rest: &[u8]) -> bool
     ensures { result ≡ is_end rest.now }
 {

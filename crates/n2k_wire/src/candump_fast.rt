@@ -1,5 +1,5 @@
 //! A fast path; read `candump.rt` first. A candump line of eight bytes as `candump -L` writes it,
-//! `(1751608800.114221) can0 09F80103#FF..`, is read by place, and the text of its second is kept for the lines that
+//! `(1751608800.114221) can0 09F80103#FF..`, is read by position, and the text of its second is kept for the lines that
 //! follow. It promises only what it answers. Where it answers nothing, `candump.rt` reads the line, as it reads every
 //! candump line.
 ghost use Rattle.std.specs.Prelude.{◌≡◌, ◌≤◌, ◌<◌, ◌^◌, ◌++◌, ℕ, map, not, position, true, false, Some, Ok, IfSome};

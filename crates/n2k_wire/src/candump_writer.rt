@@ -64,7 +64,7 @@ impl ShortText {
         self.len = end;
     }
 
-    // Writes it at a place of a text, and answers the place behind it.
+    /// Writes it at a place of a text, and answers the place behind it.
     #[inline(always)]
     fn put(&self, text: &mut [u8], at: usize) -> usize
         requires { at + 32 ≤ length text.old }
@@ -76,7 +76,7 @@ impl ShortText {
     }
 }
 
-// What so many digits leave free of ten places.
+/// The zeros in front of a number of so many digits, which fill it to ten digits.
 fn filling_zeros(digits: usize) -> &'static [u8]
     ensures zeros { result.now ≡ drop digits (codes "0000000000") }
     ensures len { length result.now ≡ 10 - digits }
@@ -84,7 +84,7 @@ fn filling_zeros(digits: usize) -> &'static [u8]
     &ZEROS[digits.min(ZEROS.len())..]
 }
 
-// How the lines of a second begin, `(0000000010.`.
+/// How the lines of a second begin, `(0000000010.`.
 #[tactic(auto, using(crate::proofs::CandumpLemmas::seconds_short, crate::proofs::SharedSeconds::front_short, std::proofs::Common::append_assoc))]
 fn second_front(seconds: u64) -> ShortText
     requires { seconds ≤ last_second }
@@ -101,7 +101,7 @@ fn second_front(seconds: u64) -> ShortText
     front
 }
 
-// What stands between the milliseconds and the identifier, `000) can0 `.
+/// What stands between the milliseconds and the identifier, `000) can0 `.
 #[tactic(auto, using(std::proofs::Common::append_assoc))]
 fn behind_millis(interface: &[u8]) -> ShortText
     requires { length interface.now ≤ longest_interface }
@@ -114,7 +114,7 @@ fn behind_millis(interface: &[u8]) -> ShortText
     behind
 }
 
-// Whether what follows the second in a stamp is milliseconds and the end.
+/// Whether what follows the second in a stamp is milliseconds and the end.
 #[inline]
 fn are_millis(behind: &[u8; MILLIS_LEN]) -> bool
     ensures { result ≡ are_millis behind.now }
@@ -126,14 +126,14 @@ fn are_millis(behind: &[u8; MILLIS_LEN]) -> bool
 /// The second of the packet before.
 #[derive(Drop)]
 struct WrittenSecond {
-    // How its stamps begin.
+    /// How its stamps begin.
     stamp: [u8; SECOND_LEN],
-    // And its lines.
+    /// And its lines.
     line: ShortText,
 }
 
 impl WrittenSecond {
-    // The first that a candump line can name.
+    /// The first that a candump line can name.
     #[tactic(auto, using(crate::proofs::SharedSeconds::first_second))]
     fn new() -> WrittenSecond
         ensures { IsSecond result.stamp result.line }
@@ -144,7 +144,8 @@ impl WrittenSecond {
         }
     }
 
-    // Turns to the second of a stamp, and answers what follows it in the stamp. Mostly it is that of the packet before.
+    /// Goes on to the second of a stamp, and answers what follows it in the stamp. Mostly it is that of the packet
+    /// before.
     fn advance_to(&mut self, stamp: &[u8]) -> Option<[u8; MILLIS_LEN]>
         requires { IsSecond self.old.stamp self.old.line }
         ensures second { IsSecond self.new.stamp self.new.line }
@@ -168,7 +169,7 @@ impl WrittenSecond {
 #[derive(Drop)]
 pub struct CandumpLines<'a> {
     interface: &'a str,
-    // What stands behind the milliseconds.
+    /// What stands behind the milliseconds.
     behind: ShortText,
     second: WrittenSecond,
 }
@@ -186,8 +187,8 @@ impl<'a> Model for CandumpLines<'a> {
         × IsSecond l.second.stamp l.second.line };
 }
 
-// Writes bytes as digits in upper case at a place of a text, and answers the place behind them. `hex` writes lower case
-// without memory.
+/// Writes bytes as digits in upper case at a place of a text, and answers the place behind them. `hex` writes lower
+/// case without memory.
 #[tactic(auto, using(crate::proofs::CandumpLemmas::upper_of_lower, crate::proofs::CandumpLemmas::upper_len))]
 #[inline(always)]
 fn put_upper(text: &mut [u8], at: usize, bytes: &[u8]) -> usize
@@ -203,8 +204,8 @@ fn put_upper(text: &mut [u8], at: usize, bytes: &[u8]) -> usize
     end
 }
 
-// Writes the data and the LF at a place of the text, and answers the place behind them. Most frames have eight bytes,
-// and those cost less at a known length.
+/// Writes the data and the LF at a place of the text, and answers the place behind them. Most frames have eight bytes,
+/// and those cost less at a known length.
 fn put_data(text: &mut [u8], at: usize, payload: &[u8]) -> usize
     requires room { at + 2 * length payload.now < length text.old }
     ensures { take result text.new ≡ take at text.old ++ (encode_upper payload.now ++ codes "\n") }
@@ -216,31 +217,36 @@ fn put_data(text: &mut [u8], at: usize, payload: &[u8]) -> usize
     put(text, end, b"\n", 1)
 }
 
-// Writes a line at a place of the text, and answers the place behind it.
+/// A candump line in parts.
+#[derive(Clone, Copy)]
+struct LineParts<'a> {
+    /// What stands before the milliseconds.
+    front: &'a ShortText,
+    millis: &'a [u8; MILLIS_LEN],
+    /// What stands between the milliseconds and the identifier.
+    behind: &'a ShortText,
+    identifier: u32,
+    payload: &'a [u8],
+}
+
+/// Writes a line at a place of the text, and answers the place behind it.
 #[tactic(auto, using(std::proofs::Common::append_assoc))]
 #[inline(always)]
-fn write_line(
-    text: &mut [u8],
-    at: usize,
-    front: &ShortText,
-    millis: &[u8; MILLIS_LEN],
-    behind: &ShortText,
-    identifier: u32,
-    payload: &[u8],
-) -> usize
+fn write_line(text: &mut [u8], at: usize, parts: LineParts<'_>) -> usize
     requires room { at + 85 ≤ length text.old }
-    requires front { length front.now ≤ 14 }
-    requires behind { length behind.now ≤ 21 }
-    requires short { length payload.now ≤ frame_payload }
-    ensures { take result text.new ≡ take at text.old ++ (front.now ++ take 3 millis.now ++ behind.now
-        ++ encode_upper (to_be_bytes w32 identifier) ++ codes "#" ++ encode_upper payload.now ++ codes "\n") }
+    requires front { length parts.front.now ≤ 14 }
+    requires behind { length parts.behind.now ≤ 21 }
+    requires short { length parts.payload.now ≤ frame_payload }
+    ensures { let line = parts.entry in
+        take result text.new ≡ take at text.old ++ (line.front.now ++ take 3 line.millis.now ++ line.behind.now
+        ++ encode_upper (to_be_bytes w32 line.identifier) ++ codes "#" ++ encode_upper line.payload.now ++ codes "\n") }
 {
-    let at = front.put(text, at);
-    let at = put(text, at, millis, 3);
-    let at = behind.put(text, at);
-    let at = put_upper(text, at, &identifier.to_be_bytes());
+    let at = parts.front.put(text, at);
+    let at = put(text, at, parts.millis, 3);
+    let at = parts.behind.put(text, at);
+    let at = put_upper(text, at, &parts.identifier.to_be_bytes());
     let at = put(text, at, b"#", 1);
-    put_data(text, at, payload)
+    put_data(text, at, parts.payload)
 }
 
 impl<'a> CandumpLines<'a> {
@@ -280,15 +286,14 @@ impl<'a> CandumpLines<'a> {
         };
         let start = out.len();
         append_room(FRAME_PAYLOAD, out).map_err(|_| WireFault::Memory)?;
-        let end = write_line(
-            out.as_mut_slice(),
-            start,
-            &self.second.line,
-            &millis,
-            &self.behind,
+        let parts = LineParts {
+            front: &self.second.line,
+            millis: &millis,
+            behind: &self.behind,
             identifier,
-            packet.data(),
-        );
+            payload: packet.data(),
+        };
+        let end = write_line(out.as_mut_slice(), start, parts);
         out.truncate(end);
         Ok(())
     }

@@ -79,7 +79,7 @@ pub fn read_line(line: &[u8], packing: Packing) -> Entry
     entry
 }
 
-// The entry of a line, put where that of an earlier line was, so that no entry is moved.
+/// The entry of a line, put where that of an earlier line was, so that no entry is moved.
 #[tactic(auto, unfolding(crate::specs::Entry::entry))]
 fn read_line_into(line: &[u8], packing: Packing, out: &mut Entry)
     ensures entry { out.new ≡ entry line.now packing }
@@ -130,7 +130,7 @@ impl LineReader {
     }
 }
 
-// The entry of the line after those that the cache has seen.
+/// The entry of the line after those that the cache has seen.
 #[inline]
 fn read_next(cache: &mut SecondCache, line: &[u8], packing: Packing, out: &mut Entry)
     ensures entry { out.new ≡ entry line.now packing }
@@ -143,7 +143,7 @@ fn read_next(cache: &mut SecondCache, line: &[u8], packing: Packing, out: &mut E
     }
 }
 
-// The entry of a line of the usual form, of a candump line or of a plain line. Of another line it answers nothing.
+/// The entry of a candump line or a plain line of the common form. Of another line it answers nothing.
 #[inline]
 fn read_fast(cache: &mut SecondCache, line: &[u8], packing: Packing, out: &mut Entry) -> Option<()>
     ensures entry { IfSome result (λ done. out.new ≡ entry line.now packing) }

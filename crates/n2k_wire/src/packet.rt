@@ -43,14 +43,14 @@ impl Model for Packet {
         × (p.data_len ≤ 223) };
 }
 
-// A byte that a stamp may hold.
+/// A byte that a stamp may hold.
 fn is_stamp_byte(byte: u8) -> bool
     ensures { result ≡ is_stamp_byte byte }
 {
     (byte >= b' ') & (byte <= b'~') & (byte != b',')
 }
 
-// It looks at each byte, without a branch.
+/// It looks at each byte, without a branch.
 #[inline]
 fn are_stamp_bytes(text: &[u8]) -> bool
     ensures { result ≡ list_all is_stamp_byte text.now }
@@ -62,7 +62,7 @@ fn are_stamp_bytes(text: &[u8]) -> bool
     all
 }
 
-// A byte that a stamp may begin with.
+/// A byte that a stamp may begin with.
 fn is_stamp_start(byte: u8) -> bool
     ensures { result ≡ is_stamp_start byte }
 {

@@ -118,10 +118,8 @@ fn read_bytes(
             return None;
         };
         let (column, rest) = first_column(text);
-        match read_pair(column) {
-            Some(byte) => bytes.push(byte),
-            None => return None,
-        }
+        let byte = read_pair(column)?;
+        bytes.push(byte);
         left = rest;
     }
     match left {

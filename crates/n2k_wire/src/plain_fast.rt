@@ -1,5 +1,5 @@
 //! A fast path; read `plain.rt` first. A plain line with data,
-//! `2011-11-24-22:42:04.388,2,127251,36,255,8,7d,0b,7d,02,00,ff,ff,ff`, is read by place: the end of its stamp is
+//! `2011-11-24-22:42:04.388,2,127251,36,255,8,7d,0b,7d,02,00,ff,ff,ff`, is read by position: the end of its stamp is
 //! looked for among 32 bytes at once, that of a number at few places, and data are taken eight bytes at once. It
 //! promises only what it answers. Where it answers nothing, `plain.rt` reads the line, as it reads every plain line.
 ghost use Rattle.std.specs.Prelude.{◌≡◌, ◌≤◌, ◌+◌, ◌++◌, [], ◌∷◌, length, map, not, take, true, Some, IfSome, IsTrue};

@@ -40,7 +40,7 @@ pub(crate) fn put<const N: usize>(
     at + count
 }
 
-// `0` and the three digits of a number, from the low end of a word on.
+/// `0` and the three digits of a number, from the low end of a word on.
 #[inline(always)]
 fn digits_word(number: u32) -> u32
     requires { number < 1000 }
@@ -54,7 +54,7 @@ fn digits_word(number: u32) -> u32
     (word + 0x3030_3030) as u32
 }
 
-// How many zeros stand in front of a number that is written with three digits.
+/// How many zeros stand in front of a number that is written with three digits.
 #[inline(always)]
 fn leading_zeros(number: u8) -> u32
     ensures two { number < 10 → result ≡ 2 }
@@ -65,7 +65,7 @@ fn leading_zeros(number: u8) -> u32
     u32::from(number < 10) + u32::from(number < 100)
 }
 
-// A number as a piece of a plain line. The comma takes the place of the last zero.
+/// A number as a piece of a plain line. The comma takes the place of the last zero.
 #[inline(always)]
 fn small_piece(number: u8) -> ([u8; 4], usize)
     ensures piece { take result.1 result.0 ≡ number_piece number }
@@ -76,7 +76,7 @@ fn small_piece(number: u8) -> ([u8; 4], usize)
     ((digits - 4).to_le_bytes(), 4 - zeros as usize)
 }
 
-// A PGN as a piece of a plain line, in the same way.
+/// A PGN as a piece of a plain line, in the same way.
 #[inline(always)]
 fn pgn_piece(pgn: u32) -> ([u8; 8], usize)
     requires { (10000 ≤ pgn) × (pgn < 1000000) }
@@ -93,7 +93,7 @@ fn pgn_piece(pgn: u32) -> ([u8; 8], usize)
     }
 }
 
-// Writes a number of any length as a piece of the line.
+/// Writes a number of any length as a piece of the line.
 #[inline(never)]
 fn put_number(text: &mut [u8], at: usize, number: u32) -> usize
     requires { at + 11 ≤ length text.old }
@@ -109,7 +109,7 @@ fn put_number(text: &mut [u8], at: usize, number: u32) -> usize
     end
 }
 
-// Writes a PGN as a piece of the line. Those of the bus have five or six digits.
+/// Writes a PGN as a piece of the line. Those of the bus have five or six digits.
 #[inline(always)]
 fn put_pgn(text: &mut [u8], at: usize, pgn: u32) -> usize
     requires { at + 11 ≤ length text.old }
@@ -125,7 +125,7 @@ fn put_pgn(text: &mut [u8], at: usize, pgn: u32) -> usize
     }
 }
 
-// The digits of numbers below 16 in lower case.
+/// The digits of numbers below 16 in lower case.
 #[inline(always)]
 fn lower_digits(numbers: u8x16) -> u8x16
     ensures { result ≡ map lower_lane numbers }
@@ -136,7 +136,7 @@ fn lower_digits(numbers: u8x16) -> u8x16
     )
 }
 
-// What follows the destination in the line of eight bytes.
+/// What follows the destination in the line of eight bytes.
 #[inline(always)]
 fn end_piece(data: &[u8; FRAME_PAYLOAD]) -> [u8; 32]
     ensures { take 27 result ≡ number_piece 8 ++ flat_map byte_piece «data».now ++ codes "\n" }
@@ -156,7 +156,7 @@ fn end_piece(data: &[u8; FRAME_PAYLOAD]) -> [u8; 32]
     line.to_array()
 }
 
-// A byte as a piece of the line, and a byte that doesn't count.
+/// A byte as a piece of the line, and a byte that doesn't count.
 #[inline]
 fn byte_piece(byte: u8) -> [u8; 4]
     ensures { take 3 result ≡ byte_piece byte }
@@ -167,7 +167,7 @@ fn byte_piece(byte: u8) -> [u8; 4]
     [b',', high, low, 0]
 }
 
-// Writes bytes as pieces of the line.
+/// Writes bytes as pieces of the line.
 fn put_bytes(text: &mut [u8], at: usize, bytes: &[u8]) -> usize
     requires { at + 3 * length bytes.now + 1 ≤ length text.old }
     ensures bytes { take result text.new ≡ take at text.old ++ flat_map byte_piece bytes.now }
@@ -181,7 +181,7 @@ fn put_bytes(text: &mut [u8], at: usize, bytes: &[u8]) -> usize
     at
 }
 
-// Writes what follows the destination.
+/// Writes what follows the destination.
 #[inline(always)]
 fn put_end(text: &mut [u8], at: usize, data: &[u8]) -> usize
     requires room { at + 32 ≤ length text.old }
@@ -199,7 +199,7 @@ fn put_end(text: &mut [u8], at: usize, data: &[u8]) -> usize
     put(text, at, b"\n", 1)
 }
 
-// Writes the line at a place of the text, and answers the place behind it.
+/// Writes the line at a place of the text, and answers the place behind it.
 #[inline(always)]
 fn write_line(text: &mut [u8], at: usize, packet: &Packet) -> usize
     requires room { at + 85 ≤ length text.old }
