@@ -18,7 +18,7 @@ use crate::maker::Maker;
 use crate::options::{Options, know_window};
 use crate::texts::{bad_text, broken_text};
 use n2k_join::{Broken, Join, laws};
-use n2k_table::{LineRoom, Table, json_line_in};
+use n2k_table::{LineBuffer, Table, json_line_in};
 use n2k_wire::{BadCause, Entry, Packet};
 use std::alloc::{AllocError, Global};
 use std::mem;
@@ -71,7 +71,7 @@ fn push_message(
     table: &Table,
     message: Option<&Packet>,
     empty: bool,
-    room: &mut LineRoom,
+    room: &mut LineBuffer,
     text: &mut Vec<u8>,
 ) -> Result<(), AllocError>
     ensures { OnOk result (text.new.items ≡ text.old.items ++ message_line table.now empty
@@ -89,7 +89,7 @@ fn push_message(
 struct Joining {
     join: Join,
     joined: Option<Packet>,
-    room: LineRoom,
+    room: LineBuffer,
 }
 
 // Makes the JSON lines of the messages that a join gives.
@@ -175,7 +175,7 @@ pub fn run<R: Source, W: Sink, E: Sink>(
     let mut joining = Joining {
         join: mem::replace(join, Join::new(alloc, table, window)),
         joined: None,
-        room: LineRoom::new(alloc),
+        room: LineBuffer::new(alloc),
     };
     let ran = run_entries(
         alloc,

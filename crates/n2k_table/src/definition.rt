@@ -5,8 +5,7 @@ ghost use Rattle.n2k_table.specs.Table.{are_mixed, field_matches, has_mixed};
 ghost use Rattle.n2k_table.specs.Inner.Kinds.{pgn_kind};
 
 use crate::field::Field;
-use crate::repeat::Repeat;
-use crate::sets::Sets;
+use crate::repeat::{Repeat, Sets};
 use crate::shown::Fields;
 use std::marker::Model;
 
@@ -22,13 +21,13 @@ pub enum Kind {
 /// A definition, as the table keeps it.
 #[derive(Drop)]
 pub(crate) struct StoredDefinition {
-    pub(crate) number: u32,
+    pub(crate) pgn: u32,
     pub(crate) kind: Kind,
     pub(crate) description: String,
-    // What stands in a line between who sent the message and the members, kept since each line needs it.
+    /// What stands in a line between who sent the message and the members, kept since each line needs it.
     pub(crate) label: Vec<u8>,
-    // Whether a field asks for a value; most messages of most PGNs have none that does.
-    pub(crate) asks: bool,
+    /// Whether a field asks for a value; most messages of most PGNs have none that does.
+    pub(crate) has_match: bool,
     pub(crate) fields: Vec<Field>,
     pub(crate) repeat: Option<Repeat>,
 }
@@ -42,18 +41,18 @@ impl Model for StoredDefinition {
     ghost Value = { DefinitionParts };
 
     ghost view = { λ d. record {
-      number = d.number;
+      pgn = d.pgn;
       kind = d.kind;
       description = string_bytes d.description;
       fields = d.fields.items;
       repeat = d.repeat;
     } };
 
-    ghost invariant = { λ d. (d.label.items ≡ label_json d.number (string_bytes d.description))
-        × (d.asks ≡ list_any (λ f. is_some f.wanted) d.fields.items) };
+    ghost invariant = { λ d. (d.label.items ≡ label_json d.pgn (string_bytes d.description))
+        × (d.has_match ≡ list_any (λ f. is_some f.match_value) d.fields.items) };
 }
 
-// Whether the data have what the fields ask for.
+/// Whether the data have what the fields ask for.
 fn all_match(fields: &[Field], data: &[u8]) -> bool
     ensures { result ≡ list_all (field_matches «data».now) fields.now }
 {
@@ -65,10 +64,10 @@ impl StoredDefinition {
     ghost use Rattle.n2k_table.specs.Table.{matches};
 
     /// The PGN that it describes.
-    pub(crate) fn number(&self) -> u32
-        ensures { result ≡ self.now.number }
+    pub(crate) fn pgn(&self) -> u32
+        ensures { result ≡ self.now.pgn }
     {
-        self.number
+        self.pgn
     }
 
     /// How its messages are sent.
@@ -86,7 +85,7 @@ impl StoredDefinition {
     }
 
     fn label(&self) -> &[u8]
-        ensures { result.now ≡ label_json self.now.number self.now.description }
+        ensures { result.now ≡ label_json self.now.pgn self.now.description }
     {
         self.label.as_slice()
     }
@@ -110,14 +109,14 @@ impl StoredDefinition {
     pub(crate) fn matches(&self, data: &[u8]) -> bool
         ensures { result ≡ matches «data».now self.now }
     {
-        !self.asks || all_match(&self.fields, data)
+        !self.has_match || all_match(&self.fields, data)
     }
 
-    // Whether both describe one PGN, and name different kinds.
+    /// Whether both describe one PGN, and name different kinds.
     fn is_mixed_with(&self, other: &StoredDefinition) -> bool
         ensures { result ≡ are_mixed (pgn_kind self.now) (pgn_kind other.now) }
     {
-        self.number == other.number && self.kind != other.kind
+        self.pgn == other.pgn && self.kind != other.kind
     }
 }
 
@@ -141,7 +140,7 @@ impl<'a> Definition<'a> {
     ghost use Rattle.n2k_table.specs.Repeat.{all_sets};
 
     /// The view of a definition that the table keeps.
-    pub(crate) fn of(stored: &'a StoredDefinition) -> Definition<'a>
+    pub(crate) fn new(stored: &'a StoredDefinition) -> Definition<'a>
         ensures { result ≡ stored.now }
     {
         Definition { stored }
@@ -156,7 +155,7 @@ impl<'a> Definition<'a> {
 
     /// What stands in a line between who sent the message and the members.
     pub(crate) fn label(&self) -> &[u8]
-        ensures { result.now ≡ label_json self.now.number self.now.description }
+        ensures { result.now ≡ label_json self.now.pgn self.now.description }
     {
         self.stored.label()
     }
@@ -198,7 +197,7 @@ impl<'a> Definition<'a> {
     pub fn repeat(&self, data: &'a [u8]) -> Option<Sets<'a>>
         ensures { result ≡ option_map (λ r. all_sets r «data».now) self.now.repeat }
     {
-        Some(Sets::of(self.stored.repeat()?, data))
+        Some(Sets::new(self.stored.repeat()?, data))
     }
 }
 

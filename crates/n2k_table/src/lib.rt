@@ -8,7 +8,7 @@
 //!   of a value, a text, bytes, or nothing. `Definition::repeat` gives the same of each set of fields that repeats
 //!   behind them (`Sets`), where the table says that something does.
 //! - `decimal_text` appends a number with its decimals, and `json_line` the line of a message. For the lines of a log,
-//!   one after the other, use `json_line_in`, which keeps the room in which a line is put together (`LineRoom`).
+//!   one after the other, use `json_line_in`, which keeps the buffer in which a line is put together (`LineBuffer`).
 //!
 //! A table that reads has no fault, and an answered fault stands in it. What a number field shows is its raw
 //! value, the sum of its bits times powers of two, taken as two's complement where it is signed, times a
@@ -18,35 +18,35 @@
 
 mod bits;
 mod decimal;
+mod decimal_fast;
 mod definition;
 mod definition_reader;
 mod fault;
 mod field;
 mod field_reader;
-mod fields;
+mod field_value;
+mod fields_reader;
 mod head;
 mod index;
 pub mod laws;
 mod line;
+mod line_buffer;
 mod lookup;
 mod lookup_reader;
 mod number;
-mod padded;
+mod padded_text;
 mod repeat;
 mod resolution;
-mod seen;
-mod sets;
-mod short;
 mod shown;
 mod table;
-mod tail;
 mod text;
 mod tree;
 
 pub use decimal::decimal_text;
 pub use definition::{Definition, Kind};
 pub use fault::TableFault;
-pub use line::{LineRoom, json_line, json_line_in};
-pub use sets::Sets;
+pub use line::{json_line, json_line_in};
+pub use line_buffer::LineBuffer;
+pub use repeat::Sets;
 pub use shown::{Fields, Shown};
 pub use table::Table;

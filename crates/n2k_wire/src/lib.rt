@@ -12,7 +12,8 @@
 #![tactic(auto)]
 
 mod candump;
-mod candump_lines;
+mod candump_fast;
+mod candump_writer;
 mod digits;
 mod entry;
 mod fault;
@@ -21,17 +22,16 @@ pub mod laws;
 mod packet;
 mod pieces;
 mod plain;
-mod plain_by_place;
-mod plain_line;
+mod plain_fast;
+mod plain_writer;
 mod stamp;
-mod usual;
 
 pub use candump::{FRAME_PAYLOAD, is_interface};
-pub use candump_lines::{CandumpLines, candump_text};
+pub use candump_writer::{CandumpLines, candump_text};
 pub use entry::{BadCause, Entry, LONGEST_LINE, LineReader, Packing, read_line};
 pub use fault::WireFault;
 pub use identifier::{Id, join_id, split_id};
 pub use packet::{GREATEST_PGN, Packet};
 pub use plain::GREATEST_ADDRESS;
-pub use plain_line::plain_text;
+pub use plain_writer::plain_text;
 pub use stamp::UTC_LEN;

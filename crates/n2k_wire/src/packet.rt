@@ -2,7 +2,8 @@
 ghost use Rattle.std.specs.Prelude.{◌≡◌, ◌≤◌, length, take};
 ghost use Rattle.std.specs.List.{list_all};
 ghost use Rattle.std.specs.Option.{SomeIff};
-ghost use Rattle.n2k_wire.specs.Packet.{IsPacket, IsPacketParts, is_stamp, is_stamp_byte, is_stamp_start, longest_message, longest_stamp};
+ghost use Rattle.n2k_wire.specs.Packet.{IsPacket, IsPacketParts, is_stamp, is_stamp_byte, is_stamp_start};
+ghost use Rattle.n2k_wire.specs.Packet.{longest_message, longest_stamp};
 
 use crate::candump::FRAME_PAYLOAD;
 use crate::identifier::Id;
@@ -42,14 +43,14 @@ impl Model for Packet {
         × (p.data_len ≤ 223) };
 }
 
-// A byte that a stamp may hold.
+/// A byte that a stamp may hold.
 fn is_stamp_byte(byte: u8) -> bool
     ensures { result ≡ is_stamp_byte byte }
 {
     (byte >= b' ') & (byte <= b'~') & (byte != b',')
 }
 
-// It looks at each byte, without a branch.
+/// It looks at each byte, without a branch.
 #[inline]
 fn are_stamp_bytes(text: &[u8]) -> bool
     ensures { result ≡ list_all is_stamp_byte text.now }
@@ -61,7 +62,7 @@ fn are_stamp_bytes(text: &[u8]) -> bool
     all
 }
 
-// A byte that a stamp may begin with.
+/// A byte that a stamp may begin with.
 fn is_stamp_start(byte: u8) -> bool
     ensures { result ≡ is_stamp_start byte }
 {
@@ -94,12 +95,12 @@ impl Packet {
         if data.len() > LONGEST_MESSAGE {
             return None;
         }
-        Some(Packet::of_parts(stamp, id, data))
+        Some(Packet::from_parts(stamp, id, data))
     }
 
     /// The packet of parts that make one.
     #[inline]
-    pub(crate) fn of_parts(stamp: &[u8], id: Id, data: &[u8]) -> Packet
+    pub(crate) fn from_parts(stamp: &[u8], id: Id, data: &[u8]) -> Packet
         requires { IsPacket stamp.now id «data».now }
         ensures value { result ≡ record { stamp = stamp.now; id = id; payload = «data».now } }
         ensures valid { IsPacketParts result }
@@ -170,7 +171,7 @@ impl Packet {
 
     /// The stamp in its room, and how many bytes it has.
     #[inline]
-    pub(crate) fn stamp_in_room(&self) -> (&[u8; LONGEST_STAMP], usize)
+    pub(crate) fn stamp_buffer(&self) -> (&[u8; LONGEST_STAMP], usize)
         ensures value { take result.1 result.0.now ≡ self.now.stamp }
         ensures len { result.1 ≤ longest_stamp }
     {
