@@ -7,4 +7,4 @@ mod limits;
 mod lines;
 mod reading;
 mod shown;
-mod tables;
+pub(crate) mod tables;
