@@ -8,19 +8,20 @@ mod table;
 mod wire;
 
 use n2k_wire::{Entry, Packet, Packing, read_line};
+use std::test::Fail;
 
 // The packet of a line, as a frame.
-fn frame_in(line: &str) -> Option<Packet> {
+fn frame_in(line: &str) -> Result<Packet, Fail> {
     match read_line(line.as_bytes(), Packing::Frames) {
-        Entry::Frame(packet) => Some(packet),
-        _ => None,
+        Entry::Frame(packet) => Ok(packet),
+        _ => Err("no frame".into()),
     }
 }
 
 // The packet of a plain line, as a whole message.
-fn message_in(line: &str) -> Option<Packet> {
+fn message_in(line: &str) -> Result<Packet, Fail> {
     match read_line(line.as_bytes(), Packing::Whole) {
-        Entry::Whole(packet) => Some(packet),
-        _ => None,
+        Entry::Whole(packet) => Ok(packet),
+        _ => Err("no message".into()),
     }
 }

@@ -11,22 +11,15 @@ fn front_page(rt: HostRuntime) -> Result<(), Fail> {
     let alloc = rt.alloc();
     let table = sample_table(alloc)?;
     let mut join = Join::new(alloc, &table, Window::new(10_000).unwrap());
-    let frame = read_line(
-        "(11.0) can0 1DFF0405#4120202020202020".as_bytes(),
-        Packing::Frames,
-    );
+    let first = "(11.0) can0 1DFF0405#4120202020202020";
+    let second = "(12.0) can0 1DFF0405#400DA39903444546";
     assert_eq!(rt; join.expire(), None);
-    assert!(rt; join.line(&table, frame)?.message.is_none());
-    let frame = read_line(
-        "(12.0) can0 1DFF0405#400DA39903444546".as_bytes(),
-        Packing::Frames,
-    );
+    let step = join.line(&table, read_line(first.as_bytes(), Packing::Frames))?;
+    assert!(rt; step.message.is_none());
     assert_eq!(rt; join.expire(), None);
-    let step = join.line(&table, frame)?;
-    assert!(rt;
-        step.message
-            .is_some_and(|message| message.data().len() == 13)
-    );
+    let step = join.line(&table, read_line(second.as_bytes(), Packing::Frames))?;
+    let message = step.message.ok_or("a message")?;
+    assert_eq!(rt; message.data().len(), 13);
     Ok(())
 }
 
@@ -34,9 +27,11 @@ fn front_page(rt: HostRuntime) -> Result<(), Fail> {
 fn windows(rt: HostRuntime) {
     let window = Window::new(10_000).unwrap();
     assert_eq!(rt; window.get(), 10_000);
+    assert_eq!(rt; Window::new(31), None);
+
+    let window = Window::new(10_000).unwrap();
     assert!(rt; !window.is_in_order());
     assert!(rt; window.in_order().is_in_order());
-    assert_eq!(rt; Window::new(31), None);
 }
 
 #[test]
@@ -93,10 +88,8 @@ fn messages_lent(rt: HostRuntime) -> Result<(), Fail> {
     assert_eq!(rt; join.expire(), None);
     let entry = read_line("(1.0) can0 09F8027F#0500".as_bytes(), Packing::Frames);
     let step = join.lend(&table, &entry, &mut joined)?;
-    assert!(rt;
-        step.message
-            .is_some_and(|message| message.id().pgn == 129026)
-    );
+    let message = step.message.ok_or("a message")?;
+    assert_eq!(rt; message.id().pgn, 129026);
     Ok(())
 }
 
@@ -106,9 +99,8 @@ fn states(rt: HostRuntime) -> Result<(), Fail> {
     let table = sample_table(alloc)?;
     let join = Join::new(alloc, &table, Window::new(10_000).unwrap());
     let state = join.save(alloc)?;
-    assert!(rt;
-        state.starts_with("{\"bad\":0,\"broken\":0,\"format\":2,\"groups\":[],".as_bytes())
-    );
+    let front = "{\"bad\":0,\"broken\":0,\"format\":2,\"groups\":[],\"lines\":0,\"messages\":0,";
+    assert!(rt; state.starts_with(front.as_bytes()));
     let again = Join::resume(alloc, &table, join.window(), &state)?;
     assert_eq!(rt; again.counts(), join.counts());
     let refused = Join::resume(alloc, &table, Window::new(32).unwrap(), &state);
@@ -127,7 +119,7 @@ fn frames(rt: HostRuntime) -> Result<(), Fail> {
     let alloc = rt.alloc();
     let table = sample_table(alloc)?;
     let line = "1970-01-01T00:00:10.300Z,7,130820,5,255,11,a3,99,01,41,42,43,00,00,00,00,00";
-    let message = message_in(line).ok_or("a message")?;
+    let message = message_in(line)?;
     let mut splitter = Splitter::new(alloc);
     let frames = splitter.split(&table, &message)?;
     assert_eq!(rt; frames.count(), 2);
@@ -142,14 +134,12 @@ fn frames_in_a_vector(rt: HostRuntime) -> Result<(), Fail> {
     let alloc = rt.alloc();
     let table = sample_table(alloc)?;
     let line = "1970-01-01T00:00:10.300Z,7,130820,5,255,11,a3,99,01,41,42,43,00,00,00,00,00";
-    let message = message_in(line).ok_or("a message")?;
+    let message = message_in(line)?;
     let mut packets = Vec::new(alloc);
     let mut splitter = Splitter::new(alloc);
     assert_eq!(rt; splitter.message(&table, &message, &mut packets), Ok(2));
     assert_eq!(rt; packets.len(), 2);
-    assert_eq!(rt;
-        packets[0].data(),
-        [0, 11, 0xa3, 0x99, 1, 0x41, 0x42, 0x43].as_slice()
-    );
+    let first = [0, 11, 0xa3, 0x99, 1, 0x41, 0x42, 0x43];
+    assert_eq!(rt; packets[0].data(), first.as_slice());
     Ok(())
 }
