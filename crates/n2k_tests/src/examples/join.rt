@@ -56,6 +56,7 @@ fn open_since_1_and_2(alloc: Global) -> Result<String, Fail> {
 fn groups_that_expire(rt: HostRuntime) -> Result<(), Fail> {
     let alloc = rt.alloc();
     let table = sample_table(alloc)?;
+    // 50 lines were taken, and two groups are open.
     let state = open_since_1_and_2(alloc)?;
     let mut join = Join::resume(alloc, &table, Window::new(32).unwrap(), state.as_bytes())?;
     let mut opened = Vec::new(alloc);
@@ -94,13 +95,22 @@ fn messages_lent(rt: HostRuntime) -> Result<(), Fail> {
 }
 
 #[test]
-fn states(rt: HostRuntime) -> Result<(), Fail> {
+fn states_saved(rt: HostRuntime) -> Result<(), Fail> {
     let alloc = rt.alloc();
     let table = sample_table(alloc)?;
     let join = Join::new(alloc, &table, Window::new(10_000).unwrap());
     let state = join.save(alloc)?;
     let front = "{\"bad\":0,\"broken\":0,\"format\":2,\"groups\":[],\"lines\":0,\"messages\":0,";
     assert!(rt; state.starts_with(front.as_bytes()));
+    Ok(())
+}
+
+#[test]
+fn states_read(rt: HostRuntime) -> Result<(), Fail> {
+    let alloc = rt.alloc();
+    let table = sample_table(alloc)?;
+    let join = Join::new(alloc, &table, Window::new(10_000).unwrap());
+    let state = join.save(alloc)?;
     let again = Join::resume(alloc, &table, join.window(), &state)?;
     assert_eq!(rt; again.counts(), join.counts());
     let refused = Join::resume(alloc, &table, Window::new(32).unwrap(), &state);
