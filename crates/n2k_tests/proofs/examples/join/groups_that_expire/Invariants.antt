@@ -2,8 +2,8 @@
 use Rattle.std.proofs.Common.{length}
 use Rattle.n2k_tests.proofs.examples.join.groups_that_expire.Given as goal
 
-abbrev pub invariant-loop : goal.invariant-loop
-invariant-loop l = Unit {0}
+abbrev pub invariant-loop-group : goal.invariant-loop-group
+invariant-loop-group l = Unit {0}
 
-abbrev pub decreases-loop : goal.decreases-loop
-decreases-loop l = length l.join.groups
+abbrev pub decreases-loop-group : goal.decreases-loop-group
+decreases-loop-group l = length l.join.groups
