@@ -138,6 +138,19 @@ impl<'a> Maker for JsonLines<'a> {
 /// stands after the log at the end; the window of the options has to be its own. Whole, or until a fault, as
 /// `run_plain`: after `Read` the join stands after the last line whose LF was read, and after `TooManyLines` at the
 /// last number; after `Write`, `Report` and `Memory` it is spent.
+///
+/// ```rust
+/// let (table, options) = (sample_table(alloc)?, usual_options());
+/// let mut join = Join::new(alloc, &table, options.window);
+/// let mut log = StdSource::new("(1.0) can0 09F8027F#0500\nhello\n".as_bytes());
+/// let mut out = MemorySink::new(alloc, 4096, 0);
+/// let mut err = MemorySink::new(alloc, 4096, 0);
+/// run(
+///     alloc, &table, &mut join, options, &mut log, &mut out, &mut err,
+/// )?;
+/// assert_eq!(rt; (join.counts().messages, join.counts().bad), (1, 1));
+/// assert_eq!(rt; err.bytes(), "line 2 bad B3 form\n".as_bytes());
+/// ```
 pub fn run<R: Source, W: Sink, E: Sink>(
     alloc: Global,
     table: &Table,

@@ -98,6 +98,12 @@ fn push_decimal(value: i128, decimals: u8, line: &mut LineBuffer) -> Result<(), 
 /// `out` as it was.
 ///
 /// So -1 with 2 decimals is `-0.01`, 0 with 2 is `0.00`, and 5 with 0 is `5`.
+///
+/// ```rust
+/// let mut text = Vec::new(alloc);
+/// decimal_text(alloc, -123456, 3, &mut text)?;
+/// assert_eq!(rt; text.as_slice(), b"-123.456".as_slice());
+/// ```
 pub fn decimal_text(
     alloc: Global,
     value: i128,

@@ -147,6 +147,13 @@ impl<'a> Definition<'a> {
     }
 
     /// The text that names the message, 1 to 255 bytes, as the table has it. It takes no memory.
+    ///
+    /// ```rust
+    /// let table = sample_table(alloc)?;
+    /// let definition = table.choose(130820, &[0xa3, 0x99, 0x01]).ok_or("Label")?;
+    /// assert_eq!(rt; definition.description(), "Sample: Label");
+    /// assert!(rt; table.choose(130820, &[0x07, 0x98, 0x01]).is_none());
+    /// ```
     pub fn description(&self) -> &str
         ensures { result.now ≡ self.now.description }
     {
@@ -177,8 +184,16 @@ impl<'a> Definition<'a> {
     /// What each field of the definition's own shows of the data of a message (the bytes in the order of the bus),
     /// with its name, in printing order. It takes no memory.
     ///
-    /// ```text
-    /// for (name, shown) in definition.fields(packet.data()) { .. }
+    /// ```rust
+    /// let table = sample_table(alloc)?;
+    /// let data = [0x05, 0x00];
+    /// let definition = table.choose(129026, &data).ok_or("COG & SOG")?;
+    /// let mut fields = definition.fields(&data);
+    /// let (name, shown) = fields.next().ok_or("SID")?;
+    /// assert_eq!(rt; name, "SID");
+    /// assert!(rt; matches!(shown, Shown::Number { value: 5, .. }));
+    /// assert_eq!(rt; fields.next(), Some(("COG Reference", Shown::Name("True"))));
+    /// assert_eq!(rt; fields.next(), Some(("COG", Shown::Absent)));
     /// ```
     pub fn fields(&self, data: &'a [u8]) -> Fields<'a>
         ensures { result ≡ all_shown self.now.fields «data».now }
@@ -189,10 +204,17 @@ impl<'a> Definition<'a> {
     /// What each set shows of the data of a message, where the definition says that sets repeat in it; `None` where
     /// it doesn't. There are as many sets as lie wholly in the data, which may be none. It takes no memory.
     ///
-    /// ```text
-    /// for set in definition.repeat(packet.data())? {
-    ///     for (name, shown) in set { .. }
-    /// }
+    /// ```rust
+    /// let table = pairs_table(alloc)?;
+    /// let data = [0x01, 0x0a, 0x64, 0x00, 0x0b, 0x9c, 0xff];
+    /// let definition = table.choose(130822, &data).ok_or("Pairs")?;
+    /// let mut sets = definition.repeat(&data).ok_or("sets")?;
+    /// let mut first = sets.next().ok_or("a set")?;
+    /// let (name, shown) = first.next().ok_or("Id")?;
+    /// assert_eq!(rt; name, "Id");
+    /// assert!(rt; matches!(shown, Shown::Number { value: 10, .. }));
+    /// assert!(rt; sets.next().is_some());
+    /// assert!(rt; sets.next().is_none());
     /// ```
     pub fn repeat(&self, data: &'a [u8]) -> Option<Sets<'a>>
         ensures { result ≡ option_map (λ r. all_sets r «data».now) self.now.repeat }

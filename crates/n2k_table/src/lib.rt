@@ -1,5 +1,15 @@
 //! What the bits of a message mean: a table of messages read from TOML, field values, and JSON lines.
 //!
+//! ```rust
+//! let table = sample_table(alloc)?;
+//! let line = "2011-11-24-22:42:04.388,2,127251,36,255,8,7d,0b,7d,02,00,ff,ff,ff";
+//! let packet = frame_in(line)?;
+//! let mut text = Vec::new(alloc);
+//! json_line(alloc, &table, &packet, false, &mut text)?;
+//! let end = "\"description\":\"Rate of Turn\",\"fields\":{\"SID\":125,\"Rate\":0.00509634375}}\n";
+//! assert!(rt; text.ends_with(end.as_bytes()));
+//! ```
+//!
 //! - `Table::read` reads a table, or says which fault stands in it (`TableFault`). `Table::id` is the
 //!   SHA-256 of what was read.
 //! - `Table::kind` says how a PGN is sent, and `Table::choose` gives the `Definition` of a message: the first
@@ -14,6 +24,10 @@
 //! value, the sum of its bits times powers of two, taken as two's complement where it is signed, times a
 //! resolution that is kept as whole numbers. So each decimal that is printed is exact: nothing is rounded, and
 //! there is no floating-point number. A message that no definition matches is printed with its data as they are.
+//!
+//! Each example is a test of `n2k_tests`, in the same words. In them `rt` is the runtime that `main` or a test is
+//! handed, and `alloc` its allocator, `rt.alloc()`; `frame_in(line)` is the packet of a line's frame, and
+//! `sample_table` and `pairs_table` read tables of three and of four messages.
 #![tactic(auto)]
 
 mod bits;

@@ -268,9 +268,16 @@ fn push_line(
 /// object for each set that lies wholly in the data. A packet of an unknown PGN, and one that no definition of its PGN
 /// matches, is `Unmatched` and has its data as they are. A refused growth leaves `out` as it was.
 ///
-/// ```text
-/// {"timestamp":"2011-11-24-22:42:04.388","prio":2,"src":36,"dst":255,"pgn":127251,"description":"Rate of Turn","fields":{"SID":125,"Rate":0.00509634375}}
-/// {"timestamp":"2020-01-01T00:00:00.000Z","prio":7,"src":5,"dst":255,"pgn":130820,"description":"Unmatched","fields":{"Data":"07 98 01 41"}}
+/// ```rust
+/// let table = sample_table(alloc)?;
+/// let line = "2011-11-24-22:42:04.388,2,127251,36,255,8,7d,0b,7d,02,00,ff,ff,ff";
+/// let packet = frame_in(line)?;
+/// let mut text = Vec::new(alloc);
+/// json_line(alloc, &table, &packet, false, &mut text)?;
+/// let wanted = "{\"timestamp\":\"2011-11-24-22:42:04.388\",\"prio\":2,\"src\":36,\"dst\":255,\
+///     \"pgn\":127251,\"description\":\"Rate of Turn\",\
+///     \"fields\":{\"SID\":125,\"Rate\":0.00509634375}}\n";
+/// assert_eq!(rt; text.as_slice(), wanted.as_bytes());
 /// ```
 pub fn json_line(
     alloc: Global,
@@ -289,11 +296,15 @@ pub fn json_line(
 /// Appends what `json_line` does. It is put together in a buffer that the caller keeps from line to line, which costs
 /// less than a new one for each.
 ///
-/// ```text
+/// ```rust
+/// let table = sample_table(alloc)?;
+/// let packet = frame_in("(1.0) can0 09F8027F#0500")?;
 /// let mut line = LineBuffer::new(alloc);
-/// for packet in &packets {
-///     json_line_in(alloc, &table, packet, false, &mut line, &mut text)?;
-/// }
+/// let mut text = Vec::new(alloc);
+/// json_line_in(alloc, &table, &packet, false, &mut line, &mut text)?;
+/// json_line_in(alloc, &table, &packet, true, &mut line, &mut text)?;
+/// let end = "{\"SID\":5,\"COG Reference\":\"True\",\"COG\":null,\"SOG\":null}}\n";
+/// assert!(rt; text.ends_with(end.as_bytes()));
 /// ```
 #[tactic(auto, unfolding(crate::specs::Json::json))]
 pub fn json_line_in(

@@ -53,6 +53,14 @@ fn write_at<const N: usize>(room: &mut [u8; ROOM], at: usize, bytes: [u8; N])
 
 impl LineBuffer {
     /// Room for lines.
+    ///
+    /// ```rust
+    /// let table = sample_table(alloc)?;
+    /// let packet = frame_in("(1.0) can0 09F8027F#0500")?;
+    /// let mut line = LineBuffer::new(alloc);
+    /// let mut text = Vec::new(alloc);
+    /// json_line_in(alloc, &table, &packet, false, &mut line, &mut text)?;
+    /// ```
     pub fn new(alloc: Global) -> LineBuffer {
         LineBuffer {
             front: Vec::new(alloc),

@@ -171,9 +171,11 @@ impl Table {
     /// A document in which a fault stands is refused. Where it is no TOML or of another format, no other
     /// fault is looked for. Where several of the others stand, any of them may be answered.
     ///
-    /// ```text
-    /// let table = Table::read(alloc, b"format = 1\n")?;
+    /// ```rust
+    /// let table = Table::read(alloc, "format = 1\n".as_bytes())?;
     /// assert_eq!(rt; table.kind(129026), None);
+    /// let refused = Table::read(alloc, "format = 3\n".as_bytes());
+    /// assert!(rt; matches!(refused, Err(TableFault::Format)));
     /// ```
     pub fn read(alloc: Global, bytes: &[u8]) -> Result<Table, TableFault>
         ensures sound { IfOk result (λ t. (faults bytes.now ≡ []) × (t ≡ table bytes.now)) }
@@ -189,6 +191,12 @@ impl Table {
 
     /// The SHA-256 of the bytes that the table was read from, 32 bytes. Two spellings of one document have
     /// two ids. It takes no memory.
+    ///
+    /// ```rust
+    /// let table = sample_table(alloc)?;
+    /// // As `sha256sum` prints it: 6b85e2b2..
+    /// assert!(rt; table.id().starts_with(&[0x6b, 0x85, 0xe2, 0xb2]));
+    /// ```
     pub fn id(&self) -> [u8; 32]
         ensures { result ≡ self.now.id }
     {
@@ -217,6 +225,13 @@ impl Table {
 
     /// How the messages of a PGN are sent, as its definitions say; `None` where the table has none. It takes
     /// no memory.
+    ///
+    /// ```rust
+    /// let table = sample_table(alloc)?;
+    /// assert_eq!(rt; table.kind(129026), Some(Kind::Single));
+    /// assert_eq!(rt; table.kind(130820), Some(Kind::Fast));
+    /// assert_eq!(rt; table.kind(59904), None);
+    /// ```
     pub fn kind(&self, pgn: u32) -> Option<Kind>
         ensures { result ≡ kind self.now pgn }
     {
@@ -227,6 +242,13 @@ impl Table {
     /// The definition that describes a message of a PGN with these data (in the order of the bus): the first
     /// of the PGN in file order all of whose match fields lie in the data and have their value. `None` where
     /// there is none. It takes no memory.
+    ///
+    /// ```rust
+    /// let table = sample_table(alloc)?;
+    /// let definition = table.choose(130820, &[0xa3, 0x99, 0x01]).ok_or("Label")?;
+    /// assert_eq!(rt; definition.description(), "Sample: Label");
+    /// assert!(rt; table.choose(130820, &[0x07, 0x98, 0x01]).is_none());
+    /// ```
     pub fn choose(&self, pgn: u32, data: &[u8]) -> Option<Definition<'_>>
         ensures { result ≡ choice self.now pgn «data».now }
     {

@@ -55,6 +55,12 @@ fn are_interface_bytes(name: &[u8]) -> bool
 }
 
 /// Whether a text is the name of an interface: 1 to 15 bytes from `!` to `~`.
+///
+/// ```rust
+/// assert!(rt; is_interface(b"can0"));
+/// assert!(rt; !is_interface(b"can 0"));
+/// assert!(rt; !is_interface(b""));
+/// ```
 #[tactic(auto, unfolding(crate::specs::Candump::is_interface))]
 pub fn is_interface(name: &[u8]) -> bool
     ensures { result ≡ is_interface name.now }

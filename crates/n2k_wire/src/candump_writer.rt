@@ -251,6 +251,19 @@ fn write_line(text: &mut [u8], at: usize, parts: LineParts<'_>) -> usize
 
 impl<'a> CandumpLines<'a> {
     /// Lines at an interface of 1 to 15 bytes from `!` to `~`; `is_interface` is the test.
+    ///
+    /// ```rust
+    /// let id = split_id(0x18EA_FF01);
+    /// let stamp = "1970-01-01T00:00:10.300Z".as_bytes();
+    /// let packet = Packet::new(stamp, id, &[0x14, 0xf0, 0x01]).ok_or("a packet")?;
+    /// assert!(rt; is_interface(b"can0"));
+    /// let mut lines = CandumpLines::new("can0");
+    /// let mut text = Vec::new(alloc);
+    /// lines.append(alloc, &packet, &mut text)?;
+    /// lines.append(alloc, &packet, &mut text)?;
+    /// let wanted = "(0000000010.300000) can0 18EAFF01#14F001\n";
+    /// assert_eq!(rt; text.as_slice(), wanted.repeat(alloc, 2)?.as_bytes());
+    /// ```
     #[tactic(auto, using(crate::proofs::CandumpLemmas::interface_short))]
     pub fn new(interface: &'a str) -> CandumpLines<'a>
         requires { IsTrue (is_interface interface.now) }
@@ -266,6 +279,19 @@ impl<'a> CandumpLines<'a> {
     /// Appends a packet of at most 8 bytes, as `candump_text` does: `NoStamp` or `NoId` where that says so, or
     /// `Memory`. `out` is as it was where the answer is a fault, and what follows is appended as if that packet had
     /// not come.
+    ///
+    /// ```rust
+    /// let id = split_id(0x18EA_FF01);
+    /// let stamp = "1970-01-01T00:00:10.300Z".as_bytes();
+    /// let packet = Packet::new(stamp, id, &[0x14, 0xf0, 0x01]).ok_or("a packet")?;
+    /// assert!(rt; is_interface(b"can0"));
+    /// let mut lines = CandumpLines::new("can0");
+    /// let mut text = Vec::new(alloc);
+    /// lines.append(alloc, &packet, &mut text)?;
+    /// lines.append(alloc, &packet, &mut text)?;
+    /// let wanted = "(0000000010.300000) can0 18EAFF01#14F001\n";
+    /// assert_eq!(rt; text.as_slice(), wanted.repeat(alloc, 2)?.as_bytes());
+    /// ```
     #[tactic(auto, using(crate::proofs::CandumpLemmas::behind_short, crate::proofs::CandumpLemmas::no_stamp, crate::proofs::CandumpLemmas::no_id, crate::proofs::CandumpLemmas::no_memory, crate::proofs::CandumpLemmas::appended))]
     pub fn append(
         &mut self,
@@ -303,6 +329,17 @@ impl<'a> CandumpLines<'a> {
 /// from `!` to `~`: `(0000000010.300000) can0 1DFF0405#000BA39901414243` with its LF, digits in upper case.
 /// `NoStamp` where its stamp isn't `YYYY-MM-DDTHH:MM:SS.mmmZ` of a day that the calendar has from 1970 on, else
 /// `NoId` where `join_id` has no identifier for it. `out` is as it was where the answer is a fault.
+///
+/// ```rust
+/// let id = split_id(0x18EA_FF01);
+/// let stamp = "1970-01-01T00:00:10.300Z".as_bytes();
+/// let packet = Packet::new(stamp, id, &[0x14, 0xf0, 0x01]).ok_or("a packet")?;
+/// assert!(rt; is_interface(b"can0"));
+/// let mut text = Vec::new(alloc);
+/// candump_text(alloc, &packet, "can0", &mut text)?;
+/// let wanted = "(0000000010.300000) can0 18EAFF01#14F001\n";
+/// assert_eq!(rt; text.as_slice(), wanted.as_bytes());
+/// ```
 pub fn candump_text(
     alloc: Global,
     packet: &Packet,

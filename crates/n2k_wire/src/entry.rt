@@ -69,6 +69,15 @@ pub enum Entry {
 
 /// The entry of a line, which is handed in without its LF and CR. It takes no memory. For lines in a row a
 /// `LineReader` gives it at less cost.
+///
+/// ```rust
+/// let frame = read_line("(1.0) can0 18EAFF01#14F001".as_bytes(), Packing::Frames);
+/// assert!(rt; matches!(frame, Entry::Frame(packet) if packet.id().pgn == 59904));
+/// let note = read_line("# note".as_bytes(), Packing::Frames);
+/// assert!(rt; matches!(note, Entry::Skip));
+/// let piece = read_line("hello".as_bytes(), Packing::Frames);
+/// assert!(rt; matches!(piece, Entry::Bad(BadCause::Form)));
+/// ```
 pub fn read_line(line: &[u8], packing: Packing) -> Entry
     ensures entry { result ≡ entry line.now packing }
     ensures valid { IsEntry result }
@@ -99,11 +108,6 @@ fn read_line_into(line: &[u8], packing: Packing, out: &mut Entry)
 
 /// Reads lines one after the other, each into the room of the one before. Lines of one second mostly follow each other,
 /// and the text of the last second is kept, so that its date is worked out once.
-///
-/// ```text
-/// let mut reader = LineReader::new();
-/// let entry = reader.read(line, Packing::Frames);
-/// ```
 #[derive(Drop)]
 pub struct LineReader {
     cache: SecondCache,
@@ -112,6 +116,12 @@ pub struct LineReader {
 
 impl LineReader {
     /// Before the first line.
+    ///
+    /// ```rust
+    /// let mut reader = LineReader::new();
+    /// let entry = reader.read("(1.0) can0 18EAFF01#14F001".as_bytes(), Packing::Frames);
+    /// assert!(rt; matches!(entry, Entry::Frame(packet) if packet.id().pgn == 59904));
+    /// ```
     pub fn new() -> LineReader {
         LineReader {
             cache: SecondCache::new(),
@@ -120,6 +130,14 @@ impl LineReader {
     }
 
     /// The entry of a line, as `read_line` says it. It takes no memory.
+    ///
+    /// ```rust
+    /// let mut reader = LineReader::new();
+    /// let entry = reader.read("(1.0) can0 18EAFF01#14F001".as_bytes(), Packing::Frames);
+    /// assert!(rt; matches!(entry, Entry::Frame(packet) if packet.id().pgn == 59904));
+    /// let entry = reader.read("(10) can0 1DFF0405#00".as_bytes(), Packing::Frames);
+    /// assert!(rt; matches!(entry, Entry::Bad(BadCause::Stamp)));
+    /// ```
     pub fn read(&mut self, line: &[u8], packing: Packing) -> &Entry
         ensures entry { result.now ≡ entry line.now packing }
         ensures valid { IsEntry result.now }

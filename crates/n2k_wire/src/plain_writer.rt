@@ -236,6 +236,14 @@ pub(crate) fn append_room(bytes: usize, out: &mut Vec<u8>) -> Result<(), AllocEr
 
 /// Appends the plain line of a packet, `stamp,prio,pgn,src,dst,len,b0,b1,..` with its LF: numbers without
 /// leading zeros, each byte as two digits in lower case. `out` is as it was where memory is refused.
+///
+/// ```rust
+/// let packet = frame_in("(1.0) can0 18EAFF01#14F001")?;
+/// let mut text = Vec::new(alloc);
+/// plain_text(alloc, &packet, &mut text)?;
+/// let wanted = "1970-01-01T00:00:01.000Z,6,59904,1,255,3,14,f0,01\n";
+/// assert_eq!(rt; text.as_slice(), wanted.as_bytes());
+/// ```
 pub fn plain_text(_alloc: Global, packet: &Packet, out: &mut Vec<u8>) -> Result<(), AllocError>
     ensures ok { OnOk result (out.new.items ≡ out.old.items ++ plain_text packet.now) }
     ensures unchanged { OnErr result (out.new.items ≡ out.old.items) }
