@@ -109,6 +109,13 @@ fn counted(counts: Counts, outcome: &Outcome, is_message: bool, held: usize) -> 
 
 impl Join {
     /// Before the first line, with a table and a window. It takes no memory.
+    ///
+    /// ```rust
+    /// let table = sample_table(alloc)?;
+    /// let join = Join::new(alloc, &table, Window::new(10_000).unwrap());
+    /// assert_eq!(rt; join.window().get(), 10_000);
+    /// assert_eq!(rt; join.counts(), Counts::NONE);
+    /// ```
     pub fn new(alloc: Global, table: &Table, window: Window) -> Join
         ensures { result ≡ state table.now.id window (kind table.now) [] }
     {
@@ -121,6 +128,13 @@ impl Join {
     }
 
     /// What the lines so far count. It takes no memory.
+    ///
+    /// ```rust
+    /// let table = sample_table(alloc)?;
+    /// let join = Join::new(alloc, &table, Window::new(10_000).unwrap());
+    /// assert_eq!(rt; join.window().get(), 10_000);
+    /// assert_eq!(rt; join.counts(), Counts::NONE);
+    /// ```
     pub fn counts(&self) -> Counts
         ensures { result ≡ self.now.counts }
     {
@@ -129,6 +143,12 @@ impl Join {
     }
 
     /// What ends a group that isn't complete: the window that was handed in. It takes no memory.
+    ///
+    /// ```rust
+    /// let table = sample_table(alloc)?;
+    /// let join = Join::new(alloc, &table, Window::new(10_000).unwrap());
+    /// assert_eq!(rt; join.window().get(), 10_000);
+    /// ```
     pub fn window(&self) -> Window
         ensures { result ≡ self.now.rule }
     {
@@ -160,10 +180,16 @@ impl Join {
     ///
     /// It is called before each line until it answers `None`: each group that it breaks is one of that line.
     ///
-    /// ```text
+    /// ```rust
+    /// let table = sample_table(alloc)?;
+    /// // 50 lines were taken, and two groups are open.
+    /// let state = open_since_1_and_2(alloc)?;
+    /// let mut join = Join::resume(alloc, &table, Window::new(32).unwrap(), state.as_bytes())?;
+    /// let mut opened = Vec::new(alloc);
     /// while let Some(group) = join.expire() {
-    ///     told.push(group)?;
+    ///     opened.push(group.first)?;
     /// }
+    /// assert_eq!(rt; opened.as_slice(), [1, 2].as_slice());
     /// ```
     pub fn expire(&mut self) -> Option<Broken>
         ensures told { result ≡ option_map told_of (due self.old) }
@@ -229,8 +255,14 @@ impl Join {
     /// At 999,999,999,999,999 lines it is refused as too many. Memory is taken only where a group is opened of a
     /// key that has none open. After a refusal the join is as it was.
     ///
-    /// ```text
-    /// let step = join.line(&table, read_line(line, Packing::Frames))?;
+    /// ```rust
+    /// let table = sample_table(alloc)?;
+    /// let mut join = Join::new(alloc, &table, Window::new(10_000).unwrap());
+    /// assert_eq!(rt; join.expire(), None);
+    /// let entry = read_line("(10.3) can0 1DFF0405#".as_bytes(), Packing::Frames);
+    /// let step = join.line(&table, entry)?;
+    /// assert_eq!(rt; step.bad, Some(BadCause::Fast));
+    /// assert_eq!(rt; join.counts().bad, 1);
     /// ```
     pub fn line(&mut self, table: &Table, entry: Entry) -> Result<Step, JoinFault>
         requires short { IsShort entry }
@@ -256,9 +288,15 @@ impl Join {
     /// Takes the next line as `line` does, as an entry that stays where it is: the message is lent from it, or from
     /// `joined`, to which the message of a group is written. What `joined` held is let go.
     ///
-    /// ```text
+    /// ```rust
+    /// let table = sample_table(alloc)?;
+    /// let mut join = Join::new(alloc, &table, Window::new(10_000).unwrap());
     /// let mut joined = None;
+    /// assert_eq!(rt; join.expire(), None);
+    /// let entry = read_line("(1.0) can0 09F8027F#0500".as_bytes(), Packing::Frames);
     /// let step = join.lend(&table, &entry, &mut joined)?;
+    /// let message = step.message.ok_or("a message")?;
+    /// assert_eq!(rt; message.id().pgn, 129026);
     /// ```
     pub fn lend<'a>(
         &mut self,
@@ -315,8 +353,14 @@ impl Join {
     /// members and rules). Else the first fault is answered that stands, in the order of docs/PROFILE.md, or `Memory`
     /// where a growth was refused.
     ///
-    /// ```text
-    /// let join = Join::resume(alloc, &table, window, &state)?;
+    /// ```rust
+    /// let table = sample_table(alloc)?;
+    /// let join = Join::new(alloc, &table, Window::new(10_000).unwrap());
+    /// let state = join.save(alloc)?;
+    /// let again = Join::resume(alloc, &table, join.window(), &state)?;
+    /// assert_eq!(rt; again.counts(), join.counts());
+    /// let refused = Join::resume(alloc, &table, Window::new(32).unwrap(), &state);
+    /// assert!(rt; matches!(refused, Err(StateFault::WindowDiffers)));
     /// ```
     #[tactic(auto, unfolding(crate::specs::Resumed::judged))]
     pub fn resume(
@@ -354,6 +398,14 @@ impl Join {
     /// ones: so under the table that the join was made with, where its lines were taken with that one too. It is of
     /// format 2, but of format 1 where a group's window has ended: that state was read in format 1, and has taken no
     /// line since.
+    ///
+    /// ```rust
+    /// let table = sample_table(alloc)?;
+    /// let join = Join::new(alloc, &table, Window::new(10_000).unwrap());
+    /// let state = join.save(alloc)?;
+    /// let front = "{\"bad\":0,\"broken\":0,\"format\":2,\"groups\":[],\"lines\":0,\"messages\":0,";
+    /// assert!(rt; state.starts_with(front.as_bytes()));
+    /// ```
     pub fn save(&self, alloc: Global) -> Result<Vec<u8>, AllocError>
         ensures text { IfOk result (λ text. text.items ≡ state_text self.now) }
         ensures bounded { IfOk result (λ text. length text.items ≤ bare_bytes + group_bytes * length self.now.groups) }

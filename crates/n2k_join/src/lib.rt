@@ -1,5 +1,19 @@
 //! Groups of frames that make fast packets, and the counts of a log.
 //!
+//! ```rust
+//! let table = sample_table(alloc)?;
+//! let mut join = Join::new(alloc, &table, Window::new(10_000).unwrap());
+//! let first = "(11.0) can0 1DFF0405#4120202020202020";
+//! let second = "(12.0) can0 1DFF0405#400DA39903444546";
+//! assert_eq!(rt; join.expire(), None);
+//! let step = join.line(&table, read_line(first.as_bytes(), Packing::Frames))?;
+//! assert!(rt; step.message.is_none());
+//! assert_eq!(rt; join.expire(), None);
+//! let step = join.line(&table, read_line(second.as_bytes(), Packing::Frames))?;
+//! let message = step.message.ok_or("a message")?;
+//! assert_eq!(rt; message.data().len(), 13);
+//! ```
+//!
 //! - `Window` says what ends a group that isn't complete: a number of lines, and, where asked, the order of the
 //!   numbers.
 //! - `Join::new` is the join before the first line. Before each line `Join::expire` breaks the groups whose window
@@ -18,6 +32,10 @@
 //! What the messages of a log are is said over the whole log (specs/Messages): the frames of each key are cut into
 //! groups, and a complete group is a message. A join holds the open groups alone, and one line of it is one step of
 //! that definition, on a join of any state.
+//!
+//! Each example is a test of `n2k_tests`, in the same words. In them `rt` is the runtime that `main` or a test is
+//! handed, and `alloc` its allocator, `rt.alloc()`; `sample_table` reads a table in which 129026 is sent in single
+//! frames and 130820 in fast packets, and `message_in(line)` is the packet of a plain line.
 #![tactic(auto)]
 
 mod broken;

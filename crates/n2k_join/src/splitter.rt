@@ -138,6 +138,15 @@ fn set_piece(frame: &mut Packet, message: &Packet, sequence: u8, number: u8)
 
 impl<'a> Frames<'a> {
     /// How many they are, one at least.
+    ///
+    /// ```rust
+    /// let table = sample_table(alloc)?;
+    /// let line = "1970-01-01T00:00:10.300Z,7,130820,5,255,11,a3,99,01,41,42,43,00,00,00,00,00";
+    /// let message = message_in(line)?;
+    /// let mut splitter = Splitter::new(alloc);
+    /// let frames = splitter.split(&table, &message)?;
+    /// assert_eq!(rt; frames.count(), 2);
+    /// ```
     pub fn count(&self) -> u8
         ensures value { result ≡ length self.now }
         ensures some { 0 < result }
@@ -146,6 +155,18 @@ impl<'a> Frames<'a> {
     }
 
     /// The frame of this number, from 0 on. It may be made in `room`, whatever that holds.
+    ///
+    /// ```rust
+    /// let table = sample_table(alloc)?;
+    /// let line = "1970-01-01T00:00:10.300Z,7,130820,5,255,11,a3,99,01,41,42,43,00,00,00,00,00";
+    /// let message = message_in(line)?;
+    /// let mut splitter = Splitter::new(alloc);
+    /// let frames = splitter.split(&table, &message)?;
+    /// assert_eq!(rt; frames.count(), 2);
+    /// let mut room = message.with_data(&[]);
+    /// let last = frames.frame(1, &mut room);
+    /// assert_eq!(rt; last.data(), [1, 0, 0, 0, 0, 0, 0xff, 0xff].as_slice());
+    /// ```
     pub fn frame<'f>(&'f self, number: u8, room: &'f mut Packet) -> &'f Packet
         requires { number < length self.now }
         ensures { slice_get self.now number ≡ Some result.now }
@@ -193,6 +214,15 @@ fn append_frames(packets: &mut Vec<Packet>, message: &Packet, frames: &Frames)
 
 impl Splitter {
     /// A splitter before its first message: every stream begins with sequence 0. It takes no memory.
+    ///
+    /// ```rust
+    /// let table = sample_table(alloc)?;
+    /// let line = "1970-01-01T00:00:10.300Z,7,130820,5,255,11,a3,99,01,41,42,43,00,00,00,00,00";
+    /// let message = message_in(line)?;
+    /// let mut packets = Vec::new(alloc);
+    /// let mut splitter = Splitter::new(alloc);
+    /// assert_eq!(rt; splitter.message(&table, &message, &mut packets), Ok(2));
+    /// ```
     pub fn new(alloc: Global) -> Splitter
         ensures { sequences result ≡ first_sequences }
     {
@@ -230,6 +260,18 @@ impl Splitter {
     ///
     /// `Unknown`: the table doesn't have the PGN. `TooLong`: the PGN is single, and the data are over 8 bytes.
     /// `Memory`: a growth was refused. After each of them the splitter is as it was.
+    ///
+    /// ```rust
+    /// let table = sample_table(alloc)?;
+    /// let line = "1970-01-01T00:00:10.300Z,7,130820,5,255,11,a3,99,01,41,42,43,00,00,00,00,00";
+    /// let message = message_in(line)?;
+    /// let mut splitter = Splitter::new(alloc);
+    /// let frames = splitter.split(&table, &message)?;
+    /// assert_eq!(rt; frames.count(), 2);
+    /// let mut room = message.with_data(&[]);
+    /// let last = frames.frame(1, &mut room);
+    /// assert_eq!(rt; last.data(), [1, 0, 0, 0, 0, 0, 0xff, 0xff].as_slice());
+    /// ```
     pub fn split<'m>(
         &mut self,
         table: &Table,
@@ -266,6 +308,18 @@ impl Splitter {
 
     /// Appends the frames of a message, as `split` has them, and answers how many they are. Room is taken for all of
     /// them first, so after a fault the splitter and the vector are as they were.
+    ///
+    /// ```rust
+    /// let table = sample_table(alloc)?;
+    /// let line = "1970-01-01T00:00:10.300Z,7,130820,5,255,11,a3,99,01,41,42,43,00,00,00,00,00";
+    /// let message = message_in(line)?;
+    /// let mut packets = Vec::new(alloc);
+    /// let mut splitter = Splitter::new(alloc);
+    /// assert_eq!(rt; splitter.message(&table, &message, &mut packets), Ok(2));
+    /// assert_eq!(rt; packets.len(), 2);
+    /// let first = [0, 11, 0xa3, 0x99, 1, 0x41, 0x42, 0x43];
+    /// assert_eq!(rt; packets[0].data(), first.as_slice());
+    /// ```
     pub fn message(
         &mut self,
         table: &Table,

@@ -17,6 +17,11 @@ pub struct Stream {
 
 impl Stream {
     /// The stream of the messages with this identifier, whatever their priority.
+    ///
+    /// ```rust
+    /// let stream = Stream::of(split_id(0x1DFF_0405));
+    /// assert_eq!(rt; (stream.src, stream.pgn, stream.dst), (5, 130820, 255));
+    /// ```
     pub fn of(id: Id) -> Stream
         ensures { result ≡ stream_of id }
     {

@@ -36,8 +36,10 @@ impl Window {
 
     /// A window of so many lines, without an order of the numbers; `None` out of range.
     ///
-    /// ```text
-    /// let window = Window::new(10_000)?;
+    /// ```rust
+    /// let window = Window::new(10_000).unwrap();
+    /// assert_eq!(rt; window.get(), 10_000);
+    /// assert_eq!(rt; Window::new(31), None);
     /// ```
     pub fn new(lines: u32) -> Option<Window>
         ensures value { IfSome result (λ w. w ≡ record { window = lines; in_order = false }) }
@@ -53,6 +55,11 @@ impl Window {
     }
 
     /// The number of lines.
+    ///
+    /// ```rust
+    /// let window = Window::new(10_000).unwrap();
+    /// assert_eq!(rt; window.get(), 10_000);
+    /// ```
     pub fn get(self) -> u32
         ensures value { result ≡ self.window }
         ensures range { IsWindow self.window }
@@ -62,8 +69,10 @@ impl Window {
 
     /// This window, in order: for a log in which the frames of each message stand by rising number, as on a bus.
     ///
-    /// ```text
-    /// let window = Window::new(10_000)?.in_order();
+    /// ```rust
+    /// let window = Window::new(10_000).unwrap();
+    /// assert!(rt; !window.is_in_order());
+    /// assert!(rt; window.in_order().is_in_order());
     /// ```
     pub fn in_order(self) -> Window
         ensures { result ≡ record { window = self.window; in_order = true } }
@@ -75,6 +84,12 @@ impl Window {
     }
 
     /// Whether the order of the numbers ends a group.
+    ///
+    /// ```rust
+    /// let window = Window::new(10_000).unwrap();
+    /// assert!(rt; !window.is_in_order());
+    /// assert!(rt; window.in_order().is_in_order());
+    /// ```
     pub fn is_in_order(self) -> bool
         ensures { result ≡ self.in_order }
     {

@@ -89,6 +89,13 @@ impl Blocks {
     ghost use Rattle.n2k_run.specs.Inner.Reading.{Gains};
 
     /// Before the first read.
+    ///
+    /// ```rust
+    /// let mut source = StdSource::new("one\r\ntwo".as_bytes());
+    /// let mut blocks = Blocks::new();
+    /// let next = blocks.next_line(&mut source);
+    /// assert!(rt; matches!(next, Ok(Next::Line(line)) if line == b"one".as_slice()));
+    /// ```
     pub fn new() -> Self
         ensures { result ≡ record {
           kept = [];
@@ -131,6 +138,16 @@ impl Blocks {
     /// line's end is held, by calls that each ask for as much as the block takes: at most 10^12 over all answers.
     /// `Failed` where the source failed in this call, or where these reads are used up. No line is lost by it: a
     /// later call goes on where this one stood. It takes no memory.
+    ///
+    /// ```rust
+    /// let mut source = StdSource::new("one\r\ntwo".as_bytes());
+    /// let mut blocks = Blocks::new();
+    /// let next = blocks.next_line(&mut source);
+    /// assert!(rt; matches!(next, Ok(Next::Line(line)) if line == b"one".as_slice()));
+    /// let next = blocks.next_line(&mut source);
+    /// assert!(rt; matches!(next, Ok(Next::Line(line)) if line == b"two".as_slice()));
+    /// assert!(rt; matches!(blocks.next_line(&mut source), Ok(Next::End)));
+    /// ```
     #[inline(always)]
     pub fn next_line<R: Source>(&mut self, reader: &mut R) -> Result<Next<'_>, Failed>
         ensures* answers { sem 𝓛 (Rests the_row self.entry (λ new.

@@ -18,7 +18,7 @@ use crate::maker::Maker;
 use crate::options::{Options, know_window};
 use crate::texts::{bad_text, broken_text};
 use n2k_join::{Broken, Join, laws};
-use n2k_table::{LineRoom, Table, json_line_in};
+use n2k_table::{LineBuffer, Table, json_line_in};
 use n2k_wire::{BadCause, Entry, Packet};
 use std::alloc::{AllocError, Global};
 use std::mem;
@@ -71,7 +71,7 @@ fn push_message(
     table: &Table,
     message: Option<&Packet>,
     empty: bool,
-    room: &mut LineRoom,
+    room: &mut LineBuffer,
     text: &mut Vec<u8>,
 ) -> Result<(), AllocError>
     ensures { OnOk result (text.new.items ≡ text.old.items ++ message_line table.now empty
@@ -89,7 +89,7 @@ fn push_message(
 struct Joining {
     join: Join,
     joined: Option<Packet>,
-    room: LineRoom,
+    room: LineBuffer,
 }
 
 // Makes the JSON lines of the messages that a join gives.
@@ -138,6 +138,19 @@ impl<'a> Maker for JsonLines<'a> {
 /// stands after the log at the end; the window of the options has to be its own. Whole, or until a fault, as
 /// `run_plain`: after `Read` the join stands after the last line whose LF was read, and after `TooManyLines` at the
 /// last number; after `Write`, `Report` and `Memory` it is spent.
+///
+/// ```rust
+/// let (table, options) = (sample_table(alloc)?, usual_options());
+/// let mut join = Join::new(alloc, &table, options.window);
+/// let mut log = StdSource::new("(1.0) can0 09F8027F#0500\nhello\n".as_bytes());
+/// let mut out = MemorySink::new(alloc, 4096, 0);
+/// let mut err = MemorySink::new(alloc, 4096, 0);
+/// run(
+///     alloc, &table, &mut join, options, &mut log, &mut out, &mut err,
+/// )?;
+/// assert_eq!(rt; (join.counts().messages, join.counts().bad), (1, 1));
+/// assert_eq!(rt; err.bytes(), "line 2 bad B3 form\n".as_bytes());
+/// ```
 pub fn run<R: Source, W: Sink, E: Sink>(
     alloc: Global,
     table: &Table,
@@ -175,7 +188,7 @@ pub fn run<R: Source, W: Sink, E: Sink>(
     let mut joining = Joining {
         join: mem::replace(join, Join::new(alloc, table, window)),
         joined: None,
-        room: LineRoom::new(alloc),
+        room: LineBuffer::new(alloc),
     };
     let ran = run_entries(
         alloc,

@@ -21,6 +21,16 @@ pub trait Source {
     /// Puts the next bytes at the front of `buffer`, and answers how many there are: at most as many as
     /// the buffer takes, 0 only at the end or where the buffer takes none. `Failed` where the device
     /// failed; the bytes that it has left are then still those from before.
+    ///
+    /// ```rust
+    /// let mut source = MemorySource::new(b"abcde", 3, 2);
+    /// let mut buffer = [0; 8];
+    /// assert_eq!(rt; source.read(&mut buffer), Ok(3));
+    /// assert!(rt; buffer.starts_with(b"abc"));
+    /// assert_eq!(rt; source.read(&mut buffer), Err(Failed));
+    /// assert_eq!(rt; source.read(&mut buffer), Ok(2));
+    /// assert_eq!(rt; source.read(&mut buffer), Ok(0));
+    /// ```
     fn read(&mut self, buffer: &mut [u8]) -> Result<usize, Failed>
         ensures bound { IfOk result (λ n. n ≤ length buffer.new) }
         ensures bytes { ReadConsumes (remaining self.old) (remaining self.new) result buffer.new }
@@ -38,6 +48,14 @@ pub trait Sink {
 
     /// Takes bytes from the front of `piece`, and answers how many: 1 or more, unless the piece is empty.
     /// `Failed` where the device failed, and then it took none.
+    ///
+    /// ```rust
+    /// let mut sink = MemorySink::new(alloc, 3, 2);
+    /// assert_eq!(rt; sink.write(b"abcde"), Ok(3));
+    /// assert_eq!(rt; sink.write(b"de"), Err(Failed));
+    /// assert_eq!(rt; sink.write(b"de"), Ok(2));
+    /// assert_eq!(rt; sink.bytes(), b"abcde".as_slice());
+    /// ```
     fn write(&mut self, piece: &[u8]) -> Result<usize, Failed>
         ensures bound { IfOk result (λ n. n ≤ length piece.now) }
         ensures moves { IfOk result (λ n. 0 < length piece.now → 0 < n) }

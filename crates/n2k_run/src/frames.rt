@@ -216,12 +216,17 @@ impl<'a> Maker for FrameLines<'a> {
 /// A bad line is written in no part. The counts are those of lines, of messages written, and of bad lines. Faults as
 /// for `run_plain`.
 ///
-/// With a table in which 130820 is of kind `fast`, and the interface `can0`, the line
-/// `1970-01-01T00:00:10.300Z,7,130820,5,255,11,a3,99,01,41,42,43,00,00,00,00,00` gives
-///
-/// ```text
-/// (0000000010.300000) can0 1DFF0405#000BA39901414243
-/// (0000000010.300000) can0 1DFF0405#010000000000FFFF
+/// ```rust
+/// let table = sample_table(alloc)?;
+/// let line = "1970-01-01T00:00:10.300Z,7,130820,5,255,11,a3,99,01,41,42,43,00,00,00,00,00";
+/// let mut log = StdSource::new(line.as_bytes());
+/// let mut out = MemorySink::new(alloc, 4096, 0);
+/// let mut err = MemorySink::new(alloc, 4096, 0);
+/// assert!(rt; is_interface(b"can0"));
+/// run_frames(alloc, &table, Some("can0"), &mut log, &mut out, &mut err)?;
+/// let sent = "(0000000010.300000) can0 1DFF0405#000BA39901414243\n\
+///     (0000000010.300000) can0 1DFF0405#010000000000FFFF\n";
+/// assert_eq!(rt; out.bytes(), sent.as_bytes());
 /// ```
 pub fn run_frames<R: Source, W: Sink, E: Sink>(
     alloc: Global,

@@ -1,5 +1,21 @@
 //! Runs over devices: a log is read, its lines are taken one by one, and texts and reports are written.
 //!
+//! ```rust
+//! let table = sample_table(alloc)?;
+//! let options = Options {
+//!     packing: Packing::Frames,
+//!     empty: false,
+//!     window: Window::new(10_000).unwrap(),
+//! };
+//! let mut log = StdSource::new("(1.0) can0 09F8027F#00FCFFFF0000FFFF\n".as_bytes());
+//! let mut out = MemorySink::new(alloc, 4096, 0);
+//! let mut err = MemorySink::new(alloc, 4096, 0);
+//! let part = run_part(alloc, &table, None, options, &mut log, &mut out, &mut err)?;
+//! assert_eq!(rt; part.counts.messages, 1);
+//! let end = "\"fields\":{\"SID\":0,\"COG Reference\":\"True\",\"SOG\":0.00}}\n";
+//! assert!(rt; out.bytes().ends_with(end.as_bytes()));
+//! ```
+//!
 //! To decode a log use `run_part`: it begins the log or goes on from a saved state, and answers the state to save;
 //! `run_parts` does so for parts that lie in memory, `run` for a join that is at hand. To write a summary use
 //! `write_summary`, which takes no memory; `summary_text` appends one to a text. The theorem stands at `run_parts`,
@@ -21,6 +37,10 @@
 //! A run that answers Ok has written exactly the texts and reports of the log's lines, in their order. One that answers
 //! a fault has written a front of them, the reports first: the fault is that of the one device whose call failed, of
 //! memory, of 10^12 reads without an end, or of too many lines. What every run promises stands once, in specs/Runs.
+//!
+//! Each example is a test of `n2k_tests`, in the same words. In them `rt` is the runtime that `main` or a test is
+//! handed, and `alloc` its allocator, `rt.alloc()`; `sample_table` reads a table in which 129026 is sent in single
+//! frames and 130820 in fast packets, and `usual_options` are those of the example above.
 #![tactic(auto)]
 
 mod blocks;

@@ -36,6 +36,16 @@ impl<'a> MemorySource<'a> {
 
     /// A source that gives these bytes. A call moves `piece` bytes, or all that is asked or left if that is
     /// less; call number `fail_at`, counted from 1, fails (0: none does).
+    ///
+    /// ```rust
+    /// let mut source = MemorySource::new(b"abcde", 3, 2);
+    /// let mut buffer = [0; 8];
+    /// assert_eq!(rt; source.read(&mut buffer), Ok(3));
+    /// assert!(rt; buffer.starts_with(b"abc"));
+    /// assert_eq!(rt; source.read(&mut buffer), Err(Failed));
+    /// assert_eq!(rt; source.read(&mut buffer), Ok(2));
+    /// assert_eq!(rt; source.read(&mut buffer), Ok(0));
+    /// ```
     pub fn new(bytes: &'a [u8], piece: usize, fail_at: u64) -> Self
         requires { 0 < piece }
         ensures { result ≡ record {
@@ -126,6 +136,14 @@ impl MemorySink {
     /// A sink that holds nothing yet. A call moves `piece` bytes, or all that is handed in if that is less;
     /// call number `fail_at`, counted from 1, fails (0: none does), and so does a call for which the
     /// allocator has no memory.
+    ///
+    /// ```rust
+    /// let mut sink = MemorySink::new(alloc, 3, 2);
+    /// assert_eq!(rt; sink.write(b"abcde"), Ok(3));
+    /// assert_eq!(rt; sink.write(b"de"), Err(Failed));
+    /// assert_eq!(rt; sink.write(b"de"), Ok(2));
+    /// assert_eq!(rt; sink.bytes(), b"abcde".as_slice());
+    /// ```
     pub fn new(alloc: Global, piece: usize, fail_at: u64) -> Self
         requires { 0 < piece }
         ensures { result ≡ record { held = []; at_once = piece; fails_at = fail_at; failed_calls = 0 } }
@@ -139,6 +157,12 @@ impl MemorySink {
     }
 
     /// The bytes that were written.
+    ///
+    /// ```rust
+    /// let mut sink = MemorySink::new(alloc, 1, 0);
+    /// assert_eq!(rt; write_all(&mut sink, b"abc"), Ok(()));
+    /// assert_eq!(rt; sink.bytes(), b"abc".as_slice());
+    /// ```
     pub fn bytes(&self) -> &[u8]
         ensures { result.now ≡ self.now.held }
     {

@@ -124,9 +124,17 @@ fn finish(alloc: Global, join: &Join, ran: Result<(), RunFault>) -> Result<Part,
 /// last LF that was read, and a line that came in part is handed in again. After `Run` and `Memory` there is none,
 /// and a front of the part's texts and reports has been written.
 ///
-/// ```text
-/// let first = run_part(alloc, &table, None, options, &mut monday, &mut out, &mut err)?;
-/// let both = run_part(alloc, &table, Some(&first.state), options, &mut tuesday, &mut out, &mut err)?;
+/// ```rust
+/// let (table, options) = (sample_table(alloc)?, usual_options());
+/// let mut out = MemorySink::new(alloc, 4096, 0);
+/// let mut err = MemorySink::new(alloc, 4096, 0);
+/// let mut log = StdSource::new("(11.0) can0 1DFF0405#4120202020202020\n".as_bytes());
+/// let part = run_part(alloc, &table, None, options, &mut log, &mut out, &mut err)?;
+/// assert_eq!(rt; (part.counts.messages, part.counts.held), (0, 1));
+/// let mut log = StdSource::new("(12.0) can0 1DFF0405#400DA39903444546\n".as_bytes());
+/// let saved = Some(part.state.as_slice());
+/// let part = run_part(alloc, &table, saved, options, &mut log, &mut out, &mut err)?;
+/// assert_eq!(rt; (part.counts.messages, part.counts.held), (1, 0));
 /// ```
 pub fn run_part<R: Source, W: Sink, E: Sink>(
     alloc: Global,
@@ -198,8 +206,15 @@ fn next_part<W: Sink, E: Sink>(
 /// says. `RunFault::Read` is no answer where each part has fewer than 10^12 - 1 bytes: a part in memory does not
 /// fail, and its end is found.
 ///
-/// ```text
-/// let part = run_parts(alloc, &table, options, &[monday, tuesday], &mut out, &mut err)?;
+/// ```rust
+/// let (table, options) = (sample_table(alloc)?, usual_options());
+/// let mut out = MemorySink::new(alloc, 4096, 0);
+/// let mut err = MemorySink::new(alloc, 4096, 0);
+/// let monday = "(11.0) can0 1DFF0405#4120202020202020\n".as_bytes();
+/// let tuesday = "(12.0) can0 1DFF0405#400DA39903444546\n".as_bytes();
+/// let parts = [monday, tuesday];
+/// let part = run_parts(alloc, &table, options, &parts, &mut out, &mut err)?;
+/// assert_eq!(rt; (part.counts.lines, part.counts.messages), (2, 1));
 /// ```
 pub fn run_parts<W: Sink, E: Sink>(
     alloc: Global,

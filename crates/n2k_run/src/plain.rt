@@ -66,6 +66,16 @@ impl Maker for PlainLines {
 /// an allocation was refused, `TooManyLines` past 999,999,999,999,999 lines, and then those lines are printed and
 /// reported. After any fault a front of the texts and of the reports has been written. No device failed but the one
 /// that the fault tells of.
+///
+/// ```rust
+/// let mut log = StdSource::new("(1.0) can0 18EAFF01#14F001\n".as_bytes());
+/// let mut out = MemorySink::new(alloc, 4096, 0);
+/// let mut err = MemorySink::new(alloc, 4096, 0);
+/// let counts = run_plain(alloc, &mut log, &mut out, &mut err)?;
+/// assert_eq!(rt; counts.messages, 1);
+/// let line = "1970-01-01T00:00:01.000Z,6,59904,1,255,3,14,f0,01\n";
+/// assert_eq!(rt; out.bytes(), line.as_bytes());
+/// ```
 pub fn run_plain<R: Source, W: Sink, E: Sink>(
     alloc: Global,
     reader: &mut R,

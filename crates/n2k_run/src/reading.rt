@@ -41,6 +41,15 @@ fn read_more<R: Source>(
 /// device failed or 10^12 reads found no end; `Memory` where an allocation was refused. A failed call is told as
 /// nothing but `Read`. No more is asked of the source than tells whether the limit is passed: one byte more than the
 /// limit.
+///
+/// ```rust
+/// let mut source = MemorySource::new(b"abc", 1, 0);
+/// let bytes = read_bytes(alloc, &mut source, 3)?;
+/// assert_eq!(rt; bytes.as_slice(), b"abc".as_slice());
+/// let mut source = MemorySource::new(b"abc", 1, 0);
+/// let refused = read_bytes(alloc, &mut source, 2);
+/// assert!(rt; matches!(refused, Err(BytesFault::TooLong)));
+/// ```
 #[tactic(auto, using(crate::proofs::Finding::calls_more, crate::proofs::Finding::calls_end))]
 pub fn read_bytes<R: Source>(
     alloc: Global,

@@ -52,6 +52,13 @@ impl<R: Read> StdSource<R> {
     ghost use Rattle.std.specs.Prelude.{◌≡◌};
 
     /// A source that gives what the reader gives.
+    ///
+    /// ```rust
+    /// let mut source = StdSource::new("abc".as_bytes());
+    /// let mut buffer = [0; 8];
+    /// assert_eq!(rt; source.read(&mut buffer), Ok(3));
+    /// assert_eq!(rt; source.read(&mut buffer), Ok(0));
+    /// ```
     pub fn new(reader: R) -> Self
         ensures bytes { ⟦<StdSource<R> as Source>⟧.remaining result ≡ R.remaining reader }
         ensures none_called { ⟦<StdSource<R> as Source>⟧.calls result ≡ 0 }
@@ -93,6 +100,14 @@ impl<W: Write> StdSink<W> {
     ghost use Rattle.std.specs.Prelude.{◌≡◌};
 
     /// A sink whose bytes go to the writer.
+    ///
+    /// ```rust
+    /// let mut text = Vec::new(alloc);
+    /// let mut sink = StdSink::new(&mut text);
+    /// assert_eq!(rt; sink.write(b"abc"), Ok(3));
+    /// drop(sink);
+    /// assert_eq!(rt; text.as_slice(), b"abc".as_slice());
+    /// ```
     pub fn new(writer: W) -> Self
         ensures bytes { ⟦<StdSink<W> as Sink>⟧.contents result ≡ W.contents writer }
         ensures none_failed { ⟦<StdSink<W> as Sink>⟧.failed_calls result ≡ 0 }

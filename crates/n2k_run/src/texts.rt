@@ -49,6 +49,12 @@ fn push_count(text: &mut Vec<u8>, name: &[u8], number: u64) -> Result<(), AllocE
 
 /// Appends the report of a bad line, `line 3 bad B6 data` with an LF: the line's number, counted from 1, and
 /// the cause's number and word. `out` is as it was where memory is refused.
+///
+/// ```rust
+/// let mut text = Vec::new(alloc);
+/// bad_text(alloc, 3, BadCause::Data, &mut text)?;
+/// assert_eq!(rt; text.as_slice(), "line 3 bad B6 data\n".as_bytes());
+/// ```
 #[tactic(auto, using(std::proofs::Common::append_assoc), unfolding(crate::specs::Reports::bad_text))]
 pub fn bad_text(
     alloc: Global,
@@ -70,6 +76,20 @@ pub fn bad_text(
 /// Appends the report of a broken group, `line 3 broken pgn 130820 src 5 dst 255 seq 3 first 1` with an LF: the number
 /// of the line that breaks it, what its frames have in common, and the line that opened it. `out` is as it was where
 /// memory is refused.
+///
+/// ```rust
+/// let group = Broken {
+///     pgn: 130820,
+///     src: 5,
+///     dst: 255,
+///     seq: 3,
+///     first: 1,
+/// };
+/// let mut text = Vec::new(alloc);
+/// broken_text(alloc, 3, &group, &mut text)?;
+/// let report = "line 3 broken pgn 130820 src 5 dst 255 seq 3 first 1\n";
+/// assert_eq!(rt; text.as_slice(), report.as_bytes());
+/// ```
 #[tactic(auto, using(std::proofs::Common::append_assoc), unfolding(crate::specs::Reports::broken_text))]
 pub fn broken_text(
     alloc: Global,
@@ -120,6 +140,13 @@ fn summary(counts: &Counts) -> Summary
 
 /// Appends the summary of a run, `lines 3 messages 1 bad 0 unknown 0 broken 0 open 0` with an LF. `out` is as
 /// it was where memory is refused.
+///
+/// ```rust
+/// let mut text = Vec::new(alloc);
+/// summary_text(alloc, &Counts::NONE, &mut text)?;
+/// let summary = "lines 0 messages 0 bad 0 unknown 0 broken 0 open 0\n";
+/// assert_eq!(rt; text.as_slice(), summary.as_bytes());
+/// ```
 pub fn summary_text(_alloc: Global, counts: &Counts, out: &mut Vec<u8>) -> Result<(), AllocError>
     ensures ok { OnOk result (out.new.items ≡ out.old.items ++ summary_text counts.now) }
     ensures unchanged { OnErr result (out.new.items ≡ out.old.items) }
@@ -129,6 +156,13 @@ pub fn summary_text(_alloc: Global, counts: &Counts, out: &mut Vec<u8>) -> Resul
 
 /// Writes the summary of a run to a device. It takes no memory, so nothing but a failure of the device cuts it; then a
 /// front of it has been written.
+///
+/// ```rust
+/// let mut err = MemorySink::new(alloc, 4096, 0);
+/// assert_eq!(rt; write_summary(&Counts::NONE, &mut err), Ok(()));
+/// let summary = "lines 0 messages 0 bad 0 unknown 0 broken 0 open 0\n";
+/// assert_eq!(rt; err.bytes(), summary.as_bytes());
+/// ```
 pub fn write_summary<E: Sink>(counts: &Counts, errors: &mut E) -> Result<(), Failed>
     ensures written { OnOk result (Appends (E.contents errors.old) (E.contents errors.new) (summary_text counts.now)) }
     ensures front { OnErr result (AppendsFront (E.contents errors.old) (E.contents errors.new)

@@ -8,6 +8,12 @@ use crate::device::{Failed, Sink};
 
 /// Writes the whole text, by as many calls as the device asks for. Where the device fails, a front of the text has
 /// been written. It can fail only where there is something to write.
+///
+/// ```rust
+/// let mut sink = MemorySink::new(alloc, 1, 0);
+/// assert_eq!(rt; write_all(&mut sink, b"abc"), Ok(()));
+/// assert_eq!(rt; sink.bytes(), b"abc".as_slice());
+/// ```
 pub fn write_all<W: Sink>(writer: &mut W, text: &[u8]) -> Result<(), Failed>
     ensures written { OnOk result (Appends (W.contents writer.old) (W.contents writer.new) text.now) }
     ensures front { OnErr result (AppendsFront (W.contents writer.old) (W.contents writer.new) text.now) }

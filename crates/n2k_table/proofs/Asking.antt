@@ -3,14 +3,14 @@ use Rattle.std.proofs.Common.{◌≡◌, ℕ, true, false, ◌&&◌, List, [], �
 use Rattle.std.specs.List.{list_all, list_any}
 use Rattle.std.proofs.lemmas.Bool.{or_parts}
 use Rattle.n2k_table.specs.Field.{FieldParts}
-use Rattle.n2k_table.specs.Table.{has_wanted, field_matches}
+use Rattle.n2k_table.specs.Table.{has_match_value, field_matches}
 
-wants_nothing : (wanted : Option ℕ) (f : FieldParts) (payload : List ℕ) → is_some wanted ≡ false → has_wanted wanted f payload ≡ true
-wants_nothing None f payload none = refl
-wants_nothing (Some value) f payload none = absurd cc
+no_match_value : (match_value : Option ℕ) (f : FieldParts) (payload : List ℕ) → is_some match_value ≡ false → has_match_value match_value f payload ≡ true
+no_match_value None f payload none = refl
+no_match_value (Some value) f payload none = absurd cc
 
-pub none_asks : (payload : List ℕ) (fs : List FieldParts) → list_any (λ (f : FieldParts). is_some f.wanted) fs ≡ false → list_all (field_matches payload) fs ≡ true
-none_asks payload [] none = refl
-none_asks payload (f ∷ fs) none =
-    let parts = or_parts (is_some f.wanted) (list_any (λ (f : FieldParts). is_some f.wanted) fs) none in
-    ap (λ b. b && list_all (field_matches payload) fs) (wants_nothing f.wanted f payload parts.0) ∙ none_asks payload fs parts.1
+pub none_match : (payload : List ℕ) (fs : List FieldParts) → list_any (λ (f : FieldParts). is_some f.match_value) fs ≡ false → list_all (field_matches payload) fs ≡ true
+none_match payload [] none = refl
+none_match payload (f ∷ fs) none =
+    let parts = or_parts (is_some f.match_value) (list_any (λ (f : FieldParts). is_some f.match_value) fs) none in
+    ap (λ b. b && list_all (field_matches payload) fs) (no_match_value f.match_value f payload parts.0) ∙ none_match payload fs parts.1

@@ -8,10 +8,10 @@ use Rattle.toml.specs.Data.{Members}
 use Rattle.toml.specs.Parse.{parse_document}
 use Rattle.n2k_table.specs.declared.fault.TableFault.{TableFault}
 use Rattle.n2k_table.specs.declared.fault.TableFault.TheVariants.{NotToml}
-use Rattle.n2k_table.specs.Inner.Reading.{judged}
+use Rattle.n2k_table.specs.Inner.Reading.{first_fault_or}
 use Rattle.n2k_table.specs.Definition.{DefinitionParts}
 use Rattle.n2k_table.specs.Table.{document, document_faults, faults, table, top_faults, top_definitions}
-use Rattle.n2k_table.proofs.Each.{judged_err, judged_ok}
+use Rattle.n2k_table.proofs.Each.{first_fault_or_err, first_fault_or_ok}
 
 document_some : (bytes : List ℕ) (top : Members) → IsUtf8 bytes → parse_document bytes ≡ Some top → document bytes ≡ Some top
 document_some bytes top utf8 parsed = rw (is_utf8-from_IsUtf8 bytes utf8) parsed
@@ -24,20 +24,20 @@ document_none bytes refused =
     ]
 
 -- bytes that spell no document
-pub refused_bytes : {X : Type 0} (bytes : List ℕ) (x : X) → (IsUtf8 bytes → parse_document bytes ≡ None) → judged (faults bytes) x ≡ Err NotToml
-refused_bytes bytes x refused = ap (λ d. judged (document_faults d) x) (document_none bytes refused)
+pub refused_bytes : {X : Type 0} (bytes : List ℕ) (x : X) → (IsUtf8 bytes → parse_document bytes ≡ None) → first_fault_or (faults bytes) x ≡ Err NotToml
+refused_bytes bytes x refused = ap (λ d. first_fault_or (document_faults d) x) (document_none bytes refused)
 
 -- bytes whose document has a fault
 pub refused_document : {X Y : Type 0} (bytes : List ℕ) (top : Members) (f : TableFault) (x : X) (y : Y) → IsUtf8 bytes → parse_document bytes ≡ Some top
-    → judged (top_faults top) y ≡ Err f → judged (faults bytes) x ≡ Err f
+    → first_fault_or (top_faults top) y ≡ Err f → first_fault_or (faults bytes) x ≡ Err f
 refused_document bytes top f x y utf8 parsed first =
-    ap (λ d. judged (document_faults d) x) (document_some bytes top utf8 parsed) ∙ judged_err (top_faults top) y x f first
+    ap (λ d. first_fault_or (document_faults d) x) (document_some bytes top utf8 parsed) ∙ first_fault_or_err (top_faults top) y x f first
 
 -- bytes whose document has none
 pub read_document : (bytes : List ℕ) (top : Members) (definitions : List DefinitionParts) → IsUtf8 bytes → parse_document bytes ≡ Some top
-    → judged (top_faults top) (top_definitions top) ≡ Ok definitions
-    → judged (faults bytes) (table bytes) ≡ Ok (record { id = sha256 bytes; definitions = definitions })
+    → first_fault_or (top_faults top) (top_definitions top) ≡ Ok definitions
+    → first_fault_or (faults bytes) (table bytes) ≡ Ok (record { id = sha256 bytes; definitions = definitions })
 read_document bytes top definitions utf8 parsed read =
-    let p = judged_ok (top_faults top) (top_definitions top) definitions read in
+    let p = first_fault_or_ok (top_faults top) (top_definitions top) definitions read in
     let here = document_some bytes top utf8 parsed in
     rw (here, p.0, p.1)

@@ -10,30 +10,30 @@ use Rattle.n2k_table.specs.declared.fault.TableFault.{TableFault}
 use Rattle.n2k_table.specs.declared.fault.TableFault.TheVariants.{TooMany}
 use Rattle.n2k_table.specs.Fault.{unless}
 use Rattle.n2k_table.specs.Tree.{elements}
-use Rattle.n2k_table.specs.Inner.Reading.{judged}
+use Rattle.n2k_table.specs.Inner.Reading.{first_fault_or}
 
 -- what reading gives for each of some elements
 abbrev pub each : {X : Type 0} → (Data → List TableFault) → (Data → X) → List Data → Result (List X) TableFault
-each faults read ds = judged (flat_map faults ds) (map read ds)
+each faults read ds = first_fault_or (flat_map faults ds) (map read ds)
 
 -- what was read before, and what is still read
 abbrev pub after : {X : Type 0} → List X → Result (List X) TableFault → Result (List X) TableFault
 after front (Ok xs) = Ok (front ++ xs)
 after front (Err fault) = Err fault
 
-after_one : {X : Type 0} (front : List X) (x : X) (fs : List TableFault) (xs : List X) → after front (judged fs (x ∷ xs)) ≡ after (front ++ x ∷ []) (judged fs xs)
+after_one : {X : Type 0} (front : List X) (x : X) (fs : List TableFault) (xs : List X) → after front (first_fault_or fs (x ∷ xs)) ≡ after (front ++ x ∷ []) (first_fault_or fs xs)
 after_one front x [] xs = ap (λ ys. Ok ys) (sym (append_assoc front (x ∷ []) xs))
 after_one front x (f ∷ fs) xs = refl
 
-step : {X : Type 0} (front : List X) (x y : X) (fs gs : List TableFault) (xs : List X) → judged fs x ≡ Ok y
-    → after front (judged (fs ++ gs) (x ∷ xs)) ≡ after (front ++ y ∷ []) (judged gs xs)
+step : {X : Type 0} (front : List X) (x y : X) (fs gs : List TableFault) (xs : List X) → first_fault_or fs x ≡ Ok y
+    → after front (first_fault_or (fs ++ gs) (x ∷ xs)) ≡ after (front ++ y ∷ []) (first_fault_or gs xs)
 step front x y [] gs xs e =
     let same : x ≡ y = cc in
     rw (← same) (after_one front x gs xs)
 step front x y (f ∷ fs) gs xs e = absurd cc
 
-stop : {X Y : Type 0} (front : List Y) (x : X) (f : TableFault) (fs gs : List TableFault) (ys : List Y) → judged fs x ≡ Err f
-    → after front (judged (fs ++ gs) ys) ≡ Err f
+stop : {X Y : Type 0} (front : List Y) (x : X) (f : TableFault) (fs gs : List TableFault) (ys : List Y) → first_fault_or fs x ≡ Err f
+    → after front (first_fault_or (fs ++ gs) ys) ≡ Err f
 stop front x f [] gs ys e = absurd cc
 stop front x f (g ∷ fs) gs ys e =
     let same : g ≡ f = cc in
@@ -44,7 +44,7 @@ elements_here : (vs : List Value) (i : ℕ) (v : Value) → i < length vs → el
 elements_here vs i v lt = ap elements (items_view-drop vs i v lt)
 
 pub goes_on : {X : Type 0} (faults : Data → List TableFault) (read : Data → X) (front : List X) (vs : List Value) (i : ℕ) (v : Value) (x : X) (total : Result (List X) TableFault)
-    → i < length vs → v ≡ get_or vs i v → judged (faults (view v)) (read (view v)) ≡ Ok x
+    → i < length vs → v ≡ get_or vs i v → first_fault_or (faults (view v)) (read (view v)) ≡ Ok x
     → after front (each faults read (elements (items_view (drop i vs)))) ≡ total
     → after (front ++ x ∷ []) (each faults read (elements (items_view (drop (i + 1) vs)))) ≡ total
 goes_on faults read front vs i v x total lt at e so_far =
@@ -54,7 +54,7 @@ goes_on faults read front vs i v x total lt at e so_far =
     sym one ∙ sym (ap (λ ds. after front (each faults read ds)) here) ∙ so_far
 
 pub ends : {X : Type 0} (faults : Data → List TableFault) (read : Data → X) (front : List X) (vs : List Value) (i : ℕ) (v : Value) (f : TableFault) (total : Result (List X) TableFault)
-    → i < length vs → v ≡ get_or vs i v → judged (faults (view v)) (read (view v)) ≡ Err f
+    → i < length vs → v ≡ get_or vs i v → first_fault_or (faults (view v)) (read (view v)) ≡ Err f
     → after front (each faults read (elements (items_view (drop i vs)))) ≡ total → total ≡ Err f
 ends faults read front vs i v f total lt at e so_far =
     let rest = elements (items_view (drop (i + 1) vs)) in
@@ -69,21 +69,21 @@ is_done faults read front vs i total le so_far =
     sym so_far ∙ nothing ∙ ap (λ ys. Ok ys) (append-nil front)
 
 -- a fault stays whatever is read beside it
-pub judged_err : {X Y : Type 0} (fs : List TableFault) (x : X) (y : Y) (f : TableFault) → judged fs x ≡ Err f → judged fs y ≡ Err f
-judged_err [] x y f e = absurd cc
-judged_err (g ∷ fs) x y f e =
+pub first_fault_or_err : {X Y : Type 0} (fs : List TableFault) (x : X) (y : Y) (f : TableFault) → first_fault_or fs x ≡ Err f → first_fault_or fs y ≡ Err f
+first_fault_or_err [] x y f e = absurd cc
+first_fault_or_err (g ∷ fs) x y f e =
     let same : g ≡ f = cc in
     ap (λ h. Err h) same
 
 -- what is read has no fault
-pub judged_ok : {X : Type 0} (fs : List TableFault) (x y : X) → judged fs x ≡ Ok y → (fs ≡ []) × (x ≡ y)
-judged_ok [] x y e = (refl, cc)
-judged_ok (f ∷ fs) x y e = absurd cc
+pub first_fault_or_ok : {X : Type 0} (fs : List TableFault) (x y : X) → first_fault_or fs x ≡ Ok y → (fs ≡ []) × (x ≡ y)
+first_fault_or_ok [] x y e = (refl, cc)
+first_fault_or_ok (f ∷ fs) x y e = absurd cc
 
 -- a fault comes before those behind it
-pub judged_first : {X Y : Type 0} (fs gs : List TableFault) (f : TableFault) (x : X) (y : Y) → judged fs y ≡ Err f → judged (fs ++ gs) x ≡ Err f
-judged_first [] gs f x y e = absurd cc
-judged_first (g ∷ fs) gs f x y e =
+pub first_fault_or_first : {X Y : Type 0} (fs gs : List TableFault) (f : TableFault) (x : X) (y : Y) → first_fault_or fs y ≡ Err f → first_fault_or (fs ++ gs) x ≡ Err f
+first_fault_or_first [] gs f x y e = absurd cc
+first_fault_or_first (g ∷ fs) gs f x y e =
     let same : g ≡ f = cc in
     ap (λ h. Err h) same
 
@@ -91,22 +91,22 @@ judged_first (g ∷ fs) gs f x y e =
 abbrev pub listed : Bool → List TableFault → Bool → TableFault → List TableFault
 listed within fs kept late = unless within TooMany ++ fs ++ unless kept late
 
-pub listed_many : {X : Type 0} (within : Bool) (fs : List TableFault) (kept : Bool) (late : TableFault) (x : X) → within ≡ false → judged (listed within fs kept late) x ≡ Err TooMany
+pub listed_many : {X : Type 0} (within : Bool) (fs : List TableFault) (kept : Bool) (late : TableFault) (x : X) → within ≡ false → first_fault_or (listed within fs kept late) x ≡ Err TooMany
 listed_many within fs kept late x e = rw e
 
 pub listed_fault : {X Y : Type 0} (within : Bool) (fs : List TableFault) (kept : Bool) (late f : TableFault) (x : X) (y : Y)
-    → within ≡ true → judged fs y ≡ Err f → judged (listed within fs kept late) x ≡ Err f
+    → within ≡ true → first_fault_or fs y ≡ Err f → first_fault_or (listed within fs kept late) x ≡ Err f
 listed_fault within [] kept late f x y e h = absurd cc
 listed_fault within (g ∷ fs) kept late f x y e h =
     let same : g ≡ f = cc in
     rw (e, same)
 
 pub listed_late : {X : Type 0} (within : Bool) (fs : List TableFault) (kept : Bool) (late : TableFault) (x : X)
-    → within ≡ true → fs ≡ [] → kept ≡ false → judged (listed within fs kept late) x ≡ Err late
+    → within ≡ true → fs ≡ [] → kept ≡ false → first_fault_or (listed within fs kept late) x ≡ Err late
 listed_late within fs kept late x e none broken = rw (e, none, broken)
 
 pub listed_none : {X : Type 0} (within : Bool) (fs : List TableFault) (kept : Bool) (late : TableFault) (x : X)
-    → within ≡ true → fs ≡ [] → kept ≡ true → judged (listed within fs kept late) x ≡ Ok x
+    → within ≡ true → fs ≡ [] → kept ≡ true → first_fault_or (listed within fs kept late) x ≡ Ok x
 listed_none within fs kept late x e none keeps = rw (e, none, keeps)
 
 -- as many elements as values

@@ -9,7 +9,7 @@ use Rattle.std.proofs.lemmas.List.Folds.{list_all_at}
 use Rattle.std.proofs.Math.Bool.{and-true, and_assoc}
 use Rattle.std.proofs.Math.ListN.{drop_of_length-le}
 use Rattle.json.specs.Print.{escape_letter, escape_byte}
-use Rattle.n2k_table.specs.Text.{text_json, character, hex_digits, pair, pairs}
+use Rattle.n2k_table.specs.Text.{text_json, character, hex_digits, hex_pair, hex_pairs}
 use Rattle.n2k_table.specs.Inner.Line.{is_plain}
 
 is_not : (b : ℕ) → is_plain b ≡ true → (32 ≤ b) × (eqb b 34 ≡ false) × (eqb b 92 ≡ false)
@@ -65,11 +65,11 @@ escape-character b low high =
 
 -- the pairs after the first, each behind a space
 abbrev pub later_pairs : List ℕ → List ℕ
-later_pairs bytes = flat_map (λ b. 32 ∷ pair b) bytes
+later_pairs bytes = flat_map (λ b. 32 ∷ hex_pair b) bytes
 
-pub pairs-first : (b : ℕ) (bs : List ℕ) → pairs (b ∷ bs) ≡ pair b ++ later_pairs bs
-pairs-first b [] = refl
-pairs-first b (c ∷ cs) = ap (λ (t : List ℕ). pair b ++ (32 ∷ t)) (pairs-first c cs)
+pub hex_pairs-first : (b : ℕ) (bs : List ℕ) → hex_pairs (b ∷ bs) ≡ hex_pair b ++ later_pairs bs
+hex_pairs-first b [] = refl
+hex_pairs-first b (c ∷ cs) = ap (λ (t : List ℕ). hex_pair b ++ (32 ∷ t)) (hex_pairs-first c cs)
 
 -- digits are plain
 digit_plain : (d : ℕ) → d < 16 → is_plain (get_or hex_digits d 0) ≡ true
@@ -79,24 +79,24 @@ digit_plain d small =
       | inr other ↦ absurd (false≢true (sym (list_all_at is_plain hex_digits d 0 small other)))
     ]
 
-pair_plain : (b : ℕ) (rest : List ℕ) → b < 256 → list_all is_plain (pair b ++ rest) ≡ list_all is_plain rest
+pair_plain : (b : ℕ) (rest : List ℕ) → b < 256 → list_all is_plain (hex_pair b ++ rest) ≡ list_all is_plain rest
 pair_plain b rest small = rw (digit_plain (b / 16) (omega arith), digit_plain (b % 16) (omega arith)) refl
 
 later_plain : (bs : List ℕ) → ((i : ℕ) → get_or bs i 0 < 256) → list_all is_plain (later_pairs bs) ≡ true
 later_plain [] small = refl
 later_plain (b ∷ bs) small = pair_plain b (later_pairs bs) (small 0) ∙ later_plain bs (λ i. small (suc i))
 
-pairs_plain : (bs : List ℕ) → ((i : ℕ) → get_or bs i 0 < 256) → list_all is_plain (pairs bs) ≡ true
+pairs_plain : (bs : List ℕ) → ((i : ℕ) → get_or bs i 0 < 256) → list_all is_plain (hex_pairs bs) ≡ true
 pairs_plain [] small = refl
 pairs_plain (b ∷ bs) small =
-    ap (list_all is_plain) (pairs-first b bs) ∙ pair_plain b (later_pairs bs) (small 0) ∙ later_plain bs (λ i. small (suc i))
+    ap (list_all is_plain) (hex_pairs-first b bs) ∙ pair_plain b (later_pairs bs) (small 0) ∙ later_plain bs (λ i. small (suc i))
 
 pub text_json-plain : (text : List ℕ) → list_all is_plain text ≡ true → text_json text ≡ 34 ∷ (text ++ 34 ∷ [])
 unfolding text_json
 text_json-plain text plain = ap (λ (t : List ℕ). 34 ∷ (t ++ 34 ∷ [])) (escape-plain text plain)
 
-pub text_json-pairs : (bs : List ℕ) → ((i : ℕ) → get_or bs i 0 < 256) → text_json (pairs bs) ≡ 34 ∷ (pairs bs ++ 34 ∷ [])
-text_json-pairs bs small = text_json-plain (pairs bs) (pairs_plain bs small)
+pub text_json-hex_pairs : (bs : List ℕ) → ((i : ℕ) → get_or bs i 0 < 256) → text_json (hex_pairs bs) ≡ 34 ∷ (hex_pairs bs ++ 34 ∷ [])
+text_json-hex_pairs bs small = text_json-plain (hex_pairs bs) (pairs_plain bs small)
 
 -- whether all of some bytes pass, with those so far
 pub all_more : (p : ℕ → Bool) (bytes : List ℕ) (i : ℕ) (so_far : Bool) → i < length bytes → (so_far && list_all p (drop i bytes)) ≡ list_all p bytes

@@ -14,12 +14,12 @@ use Rattle.n2k_wire.specs.Steps.{◌>>=◌}
 use Rattle.n2k_table.specs.Fault.{fault_of, faults_in, value_or, unless}
 use Rattle.n2k_table.specs.Tree.{has_only_keys}
 use Rattle.n2k_table.specs.Resolution.{resolution_at}
-use Rattle.n2k_table.specs.Twice.{has_twice}
+use Rattle.n2k_table.specs.Duplicate.{has_duplicate}
 use Rattle.n2k_table.specs.Lookup.{LookupParts}
-use Rattle.n2k_table.specs.Field.{FieldParts, name_of, at_of, bits_of, byte_at_of, byte_bits_of, signed_of, wanted_of, lookup_of, ends_within, has_room_for_sign, fits_bits, is_there, number_faults, lookup_field_faults, byte_field_faults, faults_by_kind, field_by_kind, kind_of_field, members_or_none, field_faults, field, counted_name}
+use Rattle.n2k_table.specs.Field.{FieldParts, name_of, at_of, bits_of, byte_at_of, byte_bits_of, signed_of, match_value_of, lookup_of, ends_within, has_room_for_sign, fits_bits, is_there, number_faults, lookup_field_faults, byte_field_faults, faults_by_kind, field_by_kind, kind_of_field, members_or_none, field_faults, field, counted_name}
 use Rattle.n2k_table.specs.Fields.{fields_faults}
-use Rattle.n2k_table.specs.Inner.Reading.{judged}
-use Rattle.n2k_table.proofs.Each.{nil_parts, judged_ok, filter_map-counted}
+use Rattle.n2k_table.specs.Inner.Reading.{first_fault_or}
+use Rattle.n2k_table.proofs.Each.{nil_parts, first_fault_or_ok, filter_map-counted}
 use Rattle.n2k_table.proofs.Listed.{ok_without_fault, list_many, list_fault, list_late, list_read}
 
 nil_front : (xs ys : List TableFault) → xs ++ ys ≡ [] → xs ≡ []
@@ -35,13 +35,13 @@ named_number holder end f none =
     let a3 = a2 ++ fault_of bits in
     let a4 = a3 ++ fault_of (signed_of f) in
     let a5 = a4 ++ fault_of (resolution_at f) in
-    let a6 = a5 ++ fault_of (wanted_of holder f) in
+    let a6 = a5 ++ fault_of (match_value_of holder f) in
     let a7 = a6 ++ unless (ends_within end (at_of f) bits) Range in
     let a8 = a7 ++ unless (has_room_for_sign (signed_of f) bits) Range in
-    let p8 = nil_front a8 (unless (fits_bits (wanted_of holder f) bits) Range) none in
+    let p8 = nil_front a8 (unless (fits_bits (match_value_of holder f) bits) Range) none in
     let p7 = nil_front a7 (unless (has_room_for_sign (signed_of f) bits) Range) p8 in
     let p6 = nil_front a6 (unless (ends_within end (at_of f) bits) Range) p7 in
-    let p5 = nil_front a5 (fault_of (wanted_of holder f)) p6 in
+    let p5 = nil_front a5 (fault_of (match_value_of holder f)) p6 in
     let p4 = nil_front a4 (fault_of (resolution_at f)) p5 in
     let p3 = nil_front a3 (fault_of (signed_of f)) p4 in
     let p2 = nil_front a2 (fault_of bits) p3 in
@@ -55,15 +55,15 @@ named_lookup holder end names f none =
     let a1 = a0 ++ fault_of (name_of f) in
     let a2 = a1 ++ fault_of (at_of f) in
     let a3 = a2 ++ fault_of bits in
-    let a4 = a3 ++ fault_of (wanted_of holder f) in
+    let a4 = a3 ++ fault_of (match_value_of holder f) in
     let a5 = a4 ++ fault_of (lookup_of f) in
     let a6 = a5 ++ unless (ends_within end (at_of f) bits) Range in
-    let a7 = a6 ++ unless (fits_bits (wanted_of holder f) bits) Range in
+    let a7 = a6 ++ unless (fits_bits (match_value_of holder f) bits) Range in
     let p7 = nil_front a7 (unless (is_there names (lookup_of f)) Lookup) none in
-    let p6 = nil_front a6 (unless (fits_bits (wanted_of holder f) bits) Range) p7 in
+    let p6 = nil_front a6 (unless (fits_bits (match_value_of holder f) bits) Range) p7 in
     let p5 = nil_front a5 (unless (ends_within end (at_of f) bits) Range) p6 in
     let p4 = nil_front a4 (fault_of (lookup_of f)) p5 in
-    let p3 = nil_front a3 (fault_of (wanted_of holder f)) p4 in
+    let p3 = nil_front a3 (fault_of (match_value_of holder f)) p4 in
     let p2 = nil_front a2 (fault_of bits) p3 in
     let p1 = nil_front a1 (fault_of (at_of f)) p2 in
     (nil_parts a0 (fault_of (name_of f)) p1).1
@@ -98,34 +98,34 @@ module _ (holder : Holder) (end : Result ℕ TableFault) (names : List (List ℕ
   counted_name-without_fault d none = named holder end names lookups (kind_of_field d) (members_or_none d) none
 
   -- too many of them
-  pub fields_many : {X : Type 0} (ds : List Data) (x : X) → 256 < length ds → judged (fields_faults holder end names ds) x ≡ Err TooMany
-  fields_many ds x many = list_many 256 (field_faults holder end names) counted_name (field holder lookups) (λ (f : FieldParts). f.name) (has_twice bytes_eq) Twice ds x many
+  pub fields_many : {X : Type 0} (ds : List Data) (x : X) → 256 < length ds → first_fault_or (fields_faults holder end names ds) x ≡ Err TooMany
+  fields_many ds x many = list_many 256 (field_faults holder end names) counted_name (field holder lookups) (λ (f : FieldParts). f.name) (has_duplicate bytes_eq) Twice ds x many
 
   -- the first fault of one
   pub fields_fault : {X : Type 0} (ds : List Data) (f : TableFault) (x : X) → length ds ≤ 256
-      → judged (flat_map (field_faults holder end names) ds) (map (field holder lookups) ds) ≡ Err f → judged (fields_faults holder end names ds) x ≡ Err f
-  fields_fault ds f x few first = list_fault 256 (field_faults holder end names) counted_name (field holder lookups) (λ (f : FieldParts). f.name) (has_twice bytes_eq) Twice ds f x few first
+      → first_fault_or (flat_map (field_faults holder end names) ds) (map (field holder lookups) ds) ≡ Err f → first_fault_or (fields_faults holder end names ds) x ≡ Err f
+  fields_fault ds f x few first = list_fault 256 (field_faults holder end names) counted_name (field holder lookups) (λ (f : FieldParts). f.name) (has_duplicate bytes_eq) Twice ds f x few first
 
   -- a name that stands twice
-  pub fields_twice : (ds : List Data) (fields : List FieldParts) → length ds ≤ 256 → judged (flat_map (field_faults holder end names) ds) (map (field holder lookups) ds) ≡ Ok fields
-      → has_twice bytes_eq (map (λ (f : FieldParts). f.name) fields) ≡ true → judged (fields_faults holder end names ds) (map (field holder lookups) ds) ≡ Err Twice
+  pub fields_twice : (ds : List Data) (fields : List FieldParts) → length ds ≤ 256 → first_fault_or (flat_map (field_faults holder end names) ds) (map (field holder lookups) ds) ≡ Ok fields
+      → has_duplicate bytes_eq (map (λ (f : FieldParts). f.name) fields) ≡ true → first_fault_or (fields_faults holder end names ds) (map (field holder lookups) ds) ≡ Err Twice
   fields_twice ds fields few read twice =
-      list_late 256 (field_faults holder end names) counted_name (field holder lookups) (λ (f : FieldParts). f.name) (has_twice bytes_eq) Twice counted_name-without_fault ds fields few read twice
+      list_late 256 (field_faults holder end names) counted_name (field holder lookups) (λ (f : FieldParts). f.name) (has_duplicate bytes_eq) Twice counted_name-without_fault ds fields few read twice
 
   -- nothing
-  pub fields_read : (ds : List Data) (fields : List FieldParts) → length ds ≤ 256 → judged (flat_map (field_faults holder end names) ds) (map (field holder lookups) ds) ≡ Ok fields
-      → has_twice bytes_eq (map (λ (f : FieldParts). f.name) fields) ≡ false → judged (fields_faults holder end names ds) (map (field holder lookups) ds) ≡ Ok fields
+  pub fields_read : (ds : List Data) (fields : List FieldParts) → length ds ≤ 256 → first_fault_or (flat_map (field_faults holder end names) ds) (map (field holder lookups) ds) ≡ Ok fields
+      → has_duplicate bytes_eq (map (λ (f : FieldParts). f.name) fields) ≡ false → first_fault_or (fields_faults holder end names ds) (map (field holder lookups) ds) ≡ Ok fields
   fields_read ds fields few read once =
-      list_read 256 (field_faults holder end names) counted_name (field holder lookups) (λ (f : FieldParts). f.name) (has_twice bytes_eq) Twice counted_name-without_fault ds fields few read once
+      list_read 256 (field_faults holder end names) counted_name (field holder lookups) (λ (f : FieldParts). f.name) (has_duplicate bytes_eq) Twice counted_name-without_fault ds fields few read once
 
   -- the names of fields without a fault
-  pub names_read : (ds : List Data) (fields : List FieldParts) → judged (fields_faults holder end names ds) (map (field holder lookups) ds) ≡ Ok fields
+  pub names_read : (ds : List Data) (fields : List FieldParts) → first_fault_or (fields_faults holder end names ds) (map (field holder lookups) ds) ≡ Ok fields
       → filter_map counted_name ds ≡ map (λ (f : FieldParts). f.name) fields
   names_read ds fields read =
-      let p = judged_ok (fields_faults holder end names ds) (map (field holder lookups) ds) fields read in
+      let p = first_fault_or_ok (fields_faults holder end names ds) (map (field holder lookups) ds) fields read in
       let a0 = unless (leb (length ds) 256) TooMany in
       let a1 = a0 ++ flat_map (field_faults holder end names) ds in
-      let p1 = nil_parts a1 (unless (not (has_twice bytes_eq (filter_map counted_name ds))) Twice) p.0 in
+      let p1 = nil_parts a1 (unless (not (has_duplicate bytes_eq (filter_map counted_name ds))) Twice) p.0 in
       let p0 = nil_parts a0 (flat_map (field_faults holder end names) ds) p1.0 in
       filter_map-counted (field_faults holder end names) counted_name (field holder lookups) (λ (f : FieldParts). f.name) counted_name-without_fault ds p0.1
       ∙ ap (map (λ (f : FieldParts). f.name)) p.1

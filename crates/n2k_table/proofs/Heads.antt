@@ -8,9 +8,9 @@ use Rattle.itoa.proofs.Decimal.{decimal_two, decimal_pair}
 use Rattle.n2k_wire.specs.Packet.{PacketParts}
 use Rattle.n2k_table.specs.Definition.{DefinitionParts}
 use Rattle.n2k_table.specs.Table.{TableParts, is_of, matches, choice}
-use Rattle.n2k_table.specs.Text.{text_json, pairs}
+use Rattle.n2k_table.specs.Text.{text_json, hex_pairs}
 use Rattle.n2k_table.specs.Json.{comma, id_json, head_json, line_json, unmatched_json}
-use Rattle.n2k_table.specs.Inner.Line.{is_plain, is_usual, sender_json, seen_json, label_json}
+use Rattle.n2k_table.specs.Inner.Line.{is_plain, is_usual, sender_json, before_pgn_json, label_json}
 use Rattle.n2k_table.proofs.Escapes.{text_json-plain}
 
 -- numbers of up to three digits
@@ -50,8 +50,8 @@ line_lists ts st c1 p c2 s c3 d c4 g c5 de c6 ms = simp append_assoc
 
 -- the line of a message under a definition of its PGN
 pub matched_parts : (description : List ℕ) (ms : List (List ℕ)) (m : PacketParts)
-    → ((seen_json m ++ label_json m.id.pgn description) ++ join_with_byte comma ms) ++ codes "}}\n" ≡ line_json description ms m
-unfolding seen_json sender_json label_json head_json id_json
+    → ((before_pgn_json m ++ label_json m.id.pgn description) ++ join_with_byte comma ms) ++ codes "}}\n" ≡ line_json description ms m
+unfolding before_pgn_json sender_json label_json head_json id_json
 matched_parts description ms m =
     line_lists (codes "{\"timestamp\":") (text_json m.stamp) (codes ",\"prio\":") (decimal m.id.prio) (codes ",\"src\":") (decimal m.id.src) (codes ",\"dst\":") (decimal m.id.dst)
     (codes ",\"pgn\":") (decimal m.id.pgn) (codes ",\"description\":") (text_json description) (codes ",\"fields\":") (join_with_byte comma ms)
@@ -63,25 +63,25 @@ unmatched_lists ts st c1 p c2 s c3 d c4 g c5 de c6 key value = simp append_assoc
 
 -- the line of a message that no definition matches
 pub unmatched_parts : (m : PacketParts)
-    → ((((seen_json m ++ codes ",\"pgn\":") ++ decimal m.id.pgn) ++ codes ",\"description\":\"Unmatched\",\"fields\":{\"Data\":") ++ text_json (pairs m.payload)) ++ codes "}}\n" ≡ unmatched_json m
-unfolding seen_json sender_json head_json id_json
+    → ((((before_pgn_json m ++ codes ",\"pgn\":") ++ decimal m.id.pgn) ++ codes ",\"description\":\"Unmatched\",\"fields\":{\"Data\":") ++ text_json (hex_pairs m.payload)) ++ codes "}}\n" ≡ unmatched_json m
+unfolding before_pgn_json sender_json head_json id_json
 unmatched_parts m =
     let name : text_json (codes "Unmatched") ≡ codes "\"Unmatched\"" = text_json-plain (codes "Unmatched") refl in
     let key : text_json (codes "Data") ≡ codes "\"Data\"" = text_json-plain (codes "Data") refl in
     rw (name, key) (unmatched_lists (codes "{\"timestamp\":") (text_json m.stamp) (codes ",\"prio\":") (decimal m.id.prio) (codes ",\"src\":") (decimal m.id.src) (codes ",\"dst\":") (decimal m.id.dst)
-    (codes ",\"pgn\":") (decimal m.id.pgn) (codes ",\"description\":") (codes "\"Unmatched\"") (codes ",\"fields\":") (codes "\"Data\":") (text_json (pairs m.payload)))
+    (codes ",\"pgn\":") (decimal m.id.pgn) (codes ",\"description\":") (codes "\"Unmatched\"") (codes ",\"fields\":") (codes "\"Data\":") (text_json (hex_pairs m.payload)))
 
 found_number : (pgn : ℕ) (payload : List ℕ) (ds : List DefinitionParts)
-    → IfSome (find (λ (d : DefinitionParts). is_of pgn d && matches payload d) ds) (λ (d : DefinitionParts). d.number ≡ pgn)
+    → IfSome (find (λ (d : DefinitionParts). is_of pgn d && matches payload d) ds) (λ (d : DefinitionParts). d.pgn ≡ pgn)
 found_number pgn payload [] = tt
 found_number pgn payload (d ∷ ds) =
     elim (cases_Bool (is_of pgn d && matches payload d)) [
-      | inl found ↦ rw found (eqb-true d.number pgn (and_parts (is_of pgn d) (matches payload d) found).0)
+      | inl found ↦ rw found (eqb-true d.pgn pgn (and_parts (is_of pgn d) (matches payload d) found).0)
       | inr other ↦ rw other (found_number pgn payload ds)
     ]
 
 -- a definition that is chosen for a message describes its PGN
-pub choice_number : (t : TableParts) (pgn : ℕ) (payload : List ℕ) → IfSome (choice t pgn payload) (λ (d : DefinitionParts). d.number ≡ pgn)
+pub choice_number : (t : TableParts) (pgn : ℕ) (payload : List ℕ) → IfSome (choice t pgn payload) (λ (d : DefinitionParts). d.pgn ≡ pgn)
 choice_number t pgn payload = found_number pgn payload t.definitions
 
 -- three parts of two are appended in turn

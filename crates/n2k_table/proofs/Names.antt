@@ -13,17 +13,17 @@ use Rattle.toml.specs.View.{items_view}
 use Rattle.toml.specs.declared.value.Value.{Value}
 use Rattle.n2k_table.specs.declared.fault.TableFault.TheVariants.{Key, Twice}
 use Rattle.n2k_table.specs.Tree.{elements, as_elements}
-use Rattle.n2k_table.specs.Twice.{has_twice}
-use Rattle.n2k_table.specs.Inner.Entries.{seen, once}
+use Rattle.n2k_table.specs.Duplicate.{has_duplicate}
+use Rattle.n2k_table.specs.Inner.Entries.{entry_pair, once}
 use Rattle.n2k_table.specs.Lookup.{LookupParts, name_of_value, pair_in, pair_of}
 use Rattle.n2k_table.proofs.Each.{length-elements}
 
-pub name_of_value-seen : (value : ℕ) (es : List (ℕ × List ℕ)) → name_of_value (map seen es) value ≡ value_at (nat_eq value) es
-name_of_value-seen value [] = refl
-name_of_value-seen value (e ∷ es) =
+pub name_of_value-entry_pair : (value : ℕ) (es : List (ℕ × List ℕ)) → name_of_value (map entry_pair es) value ≡ value_at (nat_eq value) es
+name_of_value-entry_pair value [] = refl
+name_of_value-entry_pair value (e ∷ es) =
     elim (cases_Bool (nat_eq value e.0)) [
       | inl same ↦ rw same refl
-      | inr other ↦ rw other (name_of_value-seen value es)
+      | inr other ↦ rw other (name_of_value-entry_pair value es)
     ]
 
 -- an array that is not of two is no entry
@@ -42,7 +42,7 @@ abbrev pub values : List (ℕ × List ℕ) → List ℕ
 values entries = map (λ e. e.0) entries
 
 -- a value has a name where it is among the values
-pub is_some-among : (value : ℕ) (es : List (ℕ × List ℕ)) → is_some (value_at (nat_eq value) es) ≡ list_any (nat_eq value) (values (map seen es))
+pub is_some-among : (value : ℕ) (es : List (ℕ × List ℕ)) → is_some (value_at (nat_eq value) es) ≡ list_any (nat_eq value) (values (map entry_pair es))
 is_some-among value [] = refl
 is_some-among value (e ∷ es) =
     elim (cases_Bool (nat_eq value e.0)) [
@@ -54,7 +54,7 @@ same_turned : (a b : ℕ) → nat_eq a b ≡ nat_eq b a
 same_turned a b = grind (arith, nat_tests)
 
 -- a value among those before it stands twice
-pub twice_here : (v : ℕ) (ks rest : List ℕ) → list_any (nat_eq v) ks ≡ true → has_twice nat_eq (ks ++ v ∷ rest) ≡ true
+pub twice_here : (v : ℕ) (ks rest : List ℕ) → list_any (nat_eq v) ks ≡ true → has_duplicate nat_eq (ks ++ v ∷ rest) ≡ true
 twice_here v [] rest among = absurd (false≢true among)
 twice_here v (k ∷ ks) rest among =
     elim (cases_Bool (nat_eq v k)) [
@@ -79,10 +79,10 @@ none_later k v (x ∷ xs) other none =
     rw (p.0, none_later k v xs other p.1) refl
 
 -- a value that is not among them makes none stand twice
-pub once_more : (v : ℕ) (ks : List ℕ) → has_twice nat_eq ks ≡ false → list_any (nat_eq v) ks ≡ false → has_twice nat_eq (ks ++ v ∷ []) ≡ false
+pub once_more : (v : ℕ) (ks : List ℕ) → has_duplicate nat_eq ks ≡ false → list_any (nat_eq v) ks ≡ false → has_duplicate nat_eq (ks ++ v ∷ []) ≡ false
 once_more v [] single none = refl
 once_more v (k ∷ ks) single none =
-    let p = or_parts (list_any (nat_eq k) ks) (has_twice nat_eq ks) single in
+    let p = or_parts (list_any (nat_eq k) ks) (has_duplicate nat_eq ks) single in
     let q = or_parts (nat_eq v k) (list_any (nat_eq v) ks) none in
     rw (none_later k v ks (same_turned k v ∙ q.0) p.0, once_more v ks p.1 q.1) refl
 
@@ -100,32 +100,32 @@ find_next view p rs i r lt at fails =
     rw (here, fails) refl
 
 -- an entry whose value has a name already
-pub twice_entry : (es : List (ℕ × List ℕ)) (e : ℕ × List ℕ) (rest left all : List (ℕ × List ℕ)) → left ≡ e ∷ rest → map seen es ++ left ≡ all
+pub twice_entry : (es : List (ℕ × List ℕ)) (e : ℕ × List ℕ) (rest left all : List (ℕ × List ℕ)) → left ≡ e ∷ rest → map entry_pair es ++ left ≡ all
     → is_some (value_at (nat_eq e.0) es) ≡ true → once all ≡ Err Twice
 twice_entry es e rest left all is so_far found =
-    let among : list_any (nat_eq e.0) (values (map seen es)) ≡ true = sym (is_some-among e.0 es) ∙ found in
-    let whole : all ≡ map seen es ++ e ∷ rest = sym so_far ∙ ap (λ (l : List (ℕ × List ℕ)). map seen es ++ l) is in
-    let parts : values all ≡ values (map seen es) ++ e.0 ∷ values rest = ap values whole ∙ map-append (λ (p : ℕ × List ℕ). p.0) (map seen es) (e ∷ rest) in
-    rw (ap (has_twice nat_eq) parts ∙ twice_here e.0 (values (map seen es)) (values rest) among) refl
+    let among : list_any (nat_eq e.0) (values (map entry_pair es)) ≡ true = sym (is_some-among e.0 es) ∙ found in
+    let whole : all ≡ map entry_pair es ++ e ∷ rest = sym so_far ∙ ap (λ (l : List (ℕ × List ℕ)). map entry_pair es ++ l) is in
+    let parts : values all ≡ values (map entry_pair es) ++ e.0 ∷ values rest = ap values whole ∙ map-append (λ (p : ℕ × List ℕ). p.0) (map entry_pair es) (e ∷ rest) in
+    rw (ap (has_duplicate nat_eq) parts ∙ twice_here e.0 (values (map entry_pair es)) (values rest) among) refl
 
 module _ {S : Type 0} (m : IndexMap ℕ (List ℕ) S) (v : ℕ) (s : List ℕ) (none : value_at (nat_eq v) m.entries ≡ None) where
-  grown : map seen (insert_entry nat_eq m.entries v s) ≡ map seen m.entries ++ (v, s) ∷ []
-  grown = ap (map seen) (insert_entry-new nat_eq m v s none) ∙ map-append seen m.entries ((v, s) ∷ [])
+  grown : map entry_pair (insert_entry nat_eq m.entries v s) ≡ map entry_pair m.entries ++ (v, s) ∷ []
+  grown = ap (map entry_pair) (insert_entry-new nat_eq m v s none) ∙ map-append entry_pair m.entries ((v, s) ∷ [])
 
   -- an entry whose value has none so far
   pub one_more_entry : (es : List (ℕ × List ℕ)) (rest left all : List (ℕ × List ℕ)) → es ≡ insert_entry nat_eq m.entries v s → left ≡ (v, s) ∷ rest
-      → map seen m.entries ++ left ≡ all → map seen es ++ rest ≡ all
+      → map entry_pair m.entries ++ left ≡ all → map entry_pair es ++ rest ≡ all
   one_more_entry es rest left all is at so_far =
-      ap (λ (l : List (ℕ × List ℕ)). l ++ rest) (ap (map seen) is ∙ grown) ∙ append_assoc (map seen m.entries) ((v, s) ∷ []) rest
-      ∙ ap (λ (l : List (ℕ × List ℕ)). map seen m.entries ++ l) (sym at) ∙ so_far
+      ap (λ (l : List (ℕ × List ℕ)). l ++ rest) (ap (map entry_pair) is ∙ grown) ∙ append_assoc (map entry_pair m.entries) ((v, s) ∷ []) rest
+      ∙ ap (λ (l : List (ℕ × List ℕ)). map entry_pair m.entries ++ l) (sym at) ∙ so_far
 
-  pub still_once : (es : List (ℕ × List ℕ)) → es ≡ insert_entry nat_eq m.entries v s → has_twice nat_eq (values (map seen m.entries)) ≡ false
-      → has_twice nat_eq (values (map seen es)) ≡ false
+  pub still_once : (es : List (ℕ × List ℕ)) → es ≡ insert_entry nat_eq m.entries v s → has_duplicate nat_eq (values (map entry_pair m.entries)) ≡ false
+      → has_duplicate nat_eq (values (map entry_pair es)) ≡ false
   still_once es is single =
-      let among : list_any (nat_eq v) (values (map seen m.entries)) ≡ false = sym (is_some-among v m.entries) ∙ ap is_some none in
-      let parts : values (map seen es) ≡ values (map seen m.entries) ++ v ∷ [] =
-      ap values (ap (map seen) is ∙ grown) ∙ map-append (λ (p : ℕ × List ℕ). p.0) (map seen m.entries) ((v, s) ∷ []) in
-      ap (has_twice nat_eq) parts ∙ once_more v (values (map seen m.entries)) single among
+      let among : list_any (nat_eq v) (values (map entry_pair m.entries)) ≡ false = sym (is_some-among v m.entries) ∙ ap is_some none in
+      let parts : values (map entry_pair es) ≡ values (map entry_pair m.entries) ++ v ∷ [] =
+      ap values (ap (map entry_pair) is ∙ grown) ∙ map-append (λ (p : ℕ × List ℕ). p.0) (map entry_pair m.entries) ((v, s) ∷ []) in
+      ap (has_duplicate nat_eq) parts ∙ once_more v (values (map entry_pair m.entries)) single among
 
 pub is_none : {X : Type 0} (o : Option X) → is_some o ≡ false → o ≡ None
 is_none None none = refl

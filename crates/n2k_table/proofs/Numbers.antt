@@ -15,7 +15,7 @@ use Rattle.n2k_table.specs.Decimal.{minus, sign_of}
 use Rattle.n2k_table.specs.Field.{FieldParts}
 use Rattle.n2k_table.specs.Shown.{ShownParts, absent, number, says_none, shown_number, lies_inside, shown, shown_inside}
 use Rattle.n2k_table.specs.Inner.Kept.{HasRoom, meaning}
-use Rattle.n2k_table.specs.Inner.Number.{IsScale, nones, scaled, value_of}
+use Rattle.n2k_table.specs.Inner.Number.{IsScale, reserved_values, scaled, value_of}
 use Rattle.n2k_table.proofs.RawBits.{pow_le, twice_half}
 
 -- the product of a size and a mantissa, its sign apart
@@ -25,13 +25,13 @@ product true zero m = let none : 0 * m ≡ 0 = omega arith in pos-*ℤ-pos 0 m �
 product true (suc k) m = negsuc-*ℤ-pos k m
 
 -- the size of a number
-sized : (b : Bool) (k : ℕ) → k ≡ unsigned_abs (if b then neg_ℤ (pos k) else pos k)
-sized false k = refl
-sized true zero = refl
-sized true (suc k) = refl
+checked_text : (b : Bool) (k : ℕ) → k ≡ unsigned_abs (if b then neg_ℤ (pos k) else pos k)
+checked_text false k = refl
+checked_text true zero = refl
+checked_text true (suc k) = refl
 
 pub size_is : (n : Number) → n.size * n.resolution.mantissa ≡ unsigned_abs (value_of n)
-size_is n = sized n.below (n.size * n.resolution.mantissa) ∙ ap unsigned_abs (sym (product n.below n.size n.resolution.mantissa))
+size_is n = checked_text n.negative (n.size * n.resolution.mantissa) ∙ ap unsigned_abs (sym (product n.negative n.size n.resolution.mantissa))
 
 -- and its sign
 signed_so : (b : Bool) (k : ℕ) → (if b && nat_lt 0 k then minus ∷ [] else []) ≡ sign_of (if b then neg_ℤ (pos k) else pos k)
@@ -39,8 +39,8 @@ signed_so false k = refl
 signed_so true zero = refl
 signed_so true (suc k) = rw (lt-ltb 0 (suc k) (omega arith)) refl
 
-pub sign_is : (n : Number) → (if n.below && nat_lt 0 (n.size * n.resolution.mantissa) then minus ∷ [] else []) ≡ sign_of (value_of n)
-sign_is n = signed_so n.below (n.size * n.resolution.mantissa) ∙ ap sign_of (sym (product n.below n.size n.resolution.mantissa))
+pub sign_is : (n : Number) → (if n.negative && nat_lt 0 (n.size * n.resolution.mantissa) then minus ∷ [] else []) ≡ sign_of (value_of n)
+sign_is n = signed_so n.negative (n.size * n.resolution.mantissa) ∙ ap sign_of (sym (product n.negative n.size n.resolution.mantissa))
 
 -- the sign of a number whose sign does not
 pub sign_of_below : (x : ℤ) → (if lt_z x (pos 0) then minus ∷ [] else []) ≡ sign_of x
@@ -60,7 +60,7 @@ other_int m n isnt =
 
 -- the values that count are those up to the last
 counts : (n g r : ℕ) → r ≤ g → (2 ≤ n → 1 ≤ g) → (4 ≤ n → 2 ≤ g)
-    → nat_le r (g - nones n) ≡ not ((nat_le 2 n && int_eq (pos r) (pos g)) || (nat_le 4 n && int_eq (pos r) (pos (g - 1))))
+    → nat_le r (g - reserved_values n) ≡ not ((nat_le 2 n && int_eq (pos r) (pos g)) || (nat_le 4 n && int_eq (pos r) (pos (g - 1))))
 counts n g r inside one more =
     elim (cases_lt n 2) [
       | inl lt ↦ rw (lt-leb 4 n (omega arith), lt-leb 2 n lt) (le-leb r (g - 0) (omega arith))
@@ -118,34 +118,34 @@ turned true x y = refl
 turned false x y = refl
 
 shows_upto : (n r : ℕ) (s : Scale) → IsScale n s → r ≤ greatest s.signed n
-    → (if nat_le r s.last then number (pos r *ℤ pos s.resolution.mantissa) s.resolution.decimals else absent) ≡ shown_number s.signed s.resolution n r
+    → (if nat_le r s.max_valid then number (pos r *ℤ pos s.resolution.mantissa) s.resolution.decimals else absent) ≡ shown_number s.signed s.resolution n r
 shows_upto n r s h le =
     let g = greatest s.signed n in
     let shows = λ (v : ℤ). number (v *ℤ pos s.resolution.mantissa) s.resolution.decimals in
-    let last : nat_le r s.last ≡ not (says_none s.signed n (pos r)) =
-    ap (nat_le r) h.last ∙ counts n g r le (greatest_of_two s.signed n) (greatest_of_four s.signed n) in
+    let last : nat_le r s.max_valid ≡ not (says_none s.signed n (pos r)) =
+    ap (nat_le r) h.max_valid ∙ counts n g r le (greatest_of_two s.signed n) (greatest_of_four s.signed n) in
     ap (λ (b : Bool). if b then shows (pos r) else absent) last ∙ turned (says_none s.signed n (pos r)) (shows (pos r)) absent
     ∙ sym (ap (λ (v : ℤ). if says_none s.signed n v then absent else shows v) (value_upto s.signed n r le))
 
 shows_past : (signed : Bool) (n r : ℕ) (s : Scale) → s.signed ≡ signed → 1 ≤ n → IsScale n s → r < 2 ^ n → greatest signed n < r
-    → number (neg_ℤ (pos (s.all - r + 1)) *ℤ pos s.resolution.mantissa) s.resolution.decimals ≡ shown_number signed s.resolution n r
+    → number (neg_ℤ (pos (s.max_raw - r + 1)) *ℤ pos s.resolution.mantissa) s.resolution.decimals ≡ shown_number signed s.resolution n r
 shows_past false n r s is some h lt past = absurd (omega arith)
 shows_past true n r s is some h lt past =
     let k = 2 ^ n - 1 - r in
     let shows = λ (v : ℤ). number (v *ℤ pos s.resolution.mantissa) s.resolution.decimals in
     let none : says_none true n (neg_ℤ (pos (k + 1))) ≡ false =
     ap (λ j. says_none true n (neg_ℤ (pos j))) (let e : k + 1 ≡ suc k = omega arith in e) ∙ none_below (nat_le 2 n) (nat_le 4 n) in
-    ap (λ a. shows (neg_ℤ (pos (a - r + 1)))) h.all
+    ap (λ a. shows (neg_ℤ (pos (a - r + 1)))) h.max_raw
     ∙ sym (ap (λ (v : ℤ). if says_none true n v then absent else shows v) (value_past n r some past lt)
     ∙ ap (λ (b : Bool). if b then absent else shows (neg_ℤ (pos (k + 1)))) none)
 
 -- a raw value shows by what is kept what its bits show
 pub scaled_is : (n r : ℕ) (s : Scale) → 1 ≤ n → IsScale n s → r < 2 ^ n → scaled s r ≡ shown_number s.signed s.resolution n r
 scaled_is n r s some h lt =
-    let order : s.last ≤ s.greatest = omega (arith, h.last, h.greatest) in
-    elim (cases_lt s.greatest r) [
-      | inl past ↦ rw (lt-leb r s.last (omega (arith, order, past)), lt-leb r s.greatest past) (shows_past s.signed n r s refl some h lt (omega (arith, h.greatest)))
-      | inr le ↦ rw (le-leb r s.greatest le) (shows_upto n r s h (omega (arith, h.greatest)))
+    let order : s.max_valid ≤ s.max = omega (arith, h.max_valid, h.max) in
+    elim (cases_lt s.max r) [
+      | inl past ↦ rw (lt-leb r s.max_valid (omega (arith, order, past)), lt-leb r s.max past) (shows_past s.signed n r s refl some h lt (omega (arith, h.max)))
+      | inr le ↦ rw (le-leb r s.max le) (shows_upto n r s h (omega (arith, h.max)))
     ]
 
 -- a field shows so

@@ -17,9 +17,9 @@ use Rattle.n2k_table.specs.Tree.{has_only_keys}
 use Rattle.n2k_table.specs.Lookup.{LookupParts, lookups_faults}
 use Rattle.n2k_table.specs.Definition.{DefinitionParts, definition_faults, definition, counted_kind}
 use Rattle.n2k_table.specs.Table.{TableParts, format_of, is_same_kind, are_mixed, has_mixed, definitions_faults, lookups_of, lookup_names, definitions_of, definitions_in, formatted_faults, top_faults, top_lookups, document, document_faults, faults, top_definitions, table, is_of, kind}
-use Rattle.n2k_table.specs.Inner.Reading.{judged, GivesOrMemory}
+use Rattle.n2k_table.specs.Inner.Reading.{first_fault_or, ReaderGives}
 use Rattle.n2k_table.specs.Inner.Kinds.{pgn_kind}
-use Rattle.n2k_table.proofs.Each.{nil_parts, judged_ok}
+use Rattle.n2k_table.proofs.Each.{nil_parts, first_fault_or_ok}
 use Rattle.n2k_table.proofs.DefinitionFaults.{counted_kinds}
 
 -- the kind of a PGN by the first of some definitions
@@ -41,29 +41,29 @@ not_true false h = refl
 not_true true h = absurd (false≢true h)
 
 -- one more definition before them, with which none is mixed, changes no kind
-one : (e d : DefinitionParts) (rest : List DefinitionParts) → kind_in rest d.number ≡ Some d.kind → are_mixed (pgn_kind e) (pgn_kind d) ≡ false
-    → kind_in (e ∷ rest) d.number ≡ Some d.kind
+one : (e d : DefinitionParts) (rest : List DefinitionParts) → kind_in rest d.pgn ≡ Some d.kind → are_mixed (pgn_kind e) (pgn_kind d) ≡ false
+    → kind_in (e ∷ rest) d.pgn ≡ Some d.kind
 one e d rest known pure =
-    elim (cases_Bool (eqb e.number d.number)) [
+    elim (cases_Bool (eqb e.pgn d.pgn)) [
       | inl same ↦
           let other : not (is_same_kind e.kind d.kind) ≡ false = rw same at pure in
           rw same (ap (λ k. Some k) (same_kind e.kind d.kind (not_mixed (is_same_kind e.kind d.kind) other)))
       | inr differs ↦ rw differs known
     ]
 
-each_one : (e : DefinitionParts) (rest ds : List DefinitionParts) → AllByRecursion (λ d. kind_in rest d.number ≡ Some d.kind) ds
-    → list_any (are_mixed (pgn_kind e)) (map pgn_kind ds) ≡ false → AllByRecursion (λ d. kind_in (e ∷ rest) d.number ≡ Some d.kind) ds
+each_one : (e : DefinitionParts) (rest ds : List DefinitionParts) → AllByRecursion (λ d. kind_in rest d.pgn ≡ Some d.kind) ds
+    → list_any (are_mixed (pgn_kind e)) (map pgn_kind ds) ≡ false → AllByRecursion (λ d. kind_in (e ∷ rest) d.pgn ≡ Some d.kind) ds
 each_one e rest [] known pure = tt
 each_one e rest (d ∷ ds) known pure =
     let p = or_parts (are_mixed (pgn_kind e) (pgn_kind d)) (list_any (are_mixed (pgn_kind e)) (map pgn_kind ds)) pure in
     (one e d rest known.0 p.0, each_one e rest ds known.1 p.1)
 
 -- definitions of which none are mixed
-kinds_agree : (ds : List DefinitionParts) → has_mixed (map pgn_kind ds) ≡ false → AllByRecursion (λ d. kind_in ds d.number ≡ Some d.kind) ds
+kinds_agree : (ds : List DefinitionParts) → has_mixed (map pgn_kind ds) ≡ false → AllByRecursion (λ d. kind_in ds d.pgn ≡ Some d.kind) ds
 kinds_agree [] pure = tt
 kinds_agree (e ∷ ds) pure =
     let p = or_parts (list_any (are_mixed (pgn_kind e)) (map pgn_kind ds)) (has_mixed (map pgn_kind ds)) pure in
-    let itself : eqb e.number e.number ≡ true = grind (arith, nat_tests) in
+    let itself : eqb e.pgn e.pgn ≡ true = grind (arith, nat_tests) in
     (rw itself, each_one e ds ds (kinds_agree ds p.1) p.0)
 
 kept : (b : Bool) (fault : TableFault) → unless b fault ≡ [] → b ≡ true
@@ -99,14 +99,14 @@ document_pure None none = absurd cc
 document_pure (Some top) none = top_pure top none
 
 -- a table that is read
-pub one_kind : (bytes : List ℕ) → faults bytes ≡ [] → All (λ d. kind (table bytes) d.number ≡ Some d.kind) (table bytes).definitions
+pub one_kind : (bytes : List ℕ) → faults bytes ≡ [] → All (λ d. kind (table bytes) d.pgn ≡ Some d.kind) (table bytes).definitions
 one_kind bytes none =
-    All-from_recursion (λ d. kind (table bytes) d.number ≡ Some d.kind) (table bytes).definitions
+    All-from_recursion (λ d. kind (table bytes) d.pgn ≡ Some d.kind) (table bytes).definitions
     (kinds_agree (table bytes).definitions (document_pure (document bytes) none))
 
-pub read_kinds : (r : Result TableParts TableFault) (bytes : List ℕ) → GivesOrMemory (λ t. t) r (judged (faults bytes) (table bytes))
-    → IfOk r (λ t. All (λ d. kind t d.number ≡ Some d.kind) t.definitions)
+pub read_kinds : (r : Result TableParts TableFault) (bytes : List ℕ) → ReaderGives (λ t. t) r (first_fault_or (faults bytes) (table bytes))
+    → IfOk r (λ t. All (λ d. kind t d.pgn ≡ Some d.kind) t.definitions)
 read_kinds (Ok t) bytes given =
-    let p = judged_ok (faults bytes) (table bytes) t given in
-    subst (λ (t : TableParts). All (λ d. kind t d.number ≡ Some d.kind) t.definitions) p.1 (one_kind bytes p.0)
+    let p = first_fault_or_ok (faults bytes) (table bytes) t given in
+    subst (λ (t : TableParts). All (λ d. kind t d.pgn ≡ Some d.kind) t.definitions) p.1 (one_kind bytes p.0)
 read_kinds (Err fault) bytes given = tt

@@ -10,7 +10,7 @@ use Rattle.std.proofs.lemmas.List.{drop_more, length-append, get_or-map}
 use Rattle.indexmap.specs.IndexMap.{IndexMap, get}
 use Rattle.n2k_table.specs.Definition.{DefinitionParts}
 use Rattle.n2k_table.specs.Table.{is_of}
-use Rattle.n2k_table.specs.Inner.Index.{numbers, places_from, places, IsIndex}
+use Rattle.n2k_table.specs.Inner.Index.{pgns, places_from, places, IsIndex}
 
 -- a number that is not there has no place
 no_places : (number : ℕ) (ns : List ℕ) (i : ℕ) → ((k : ℕ) → k < length ns → nat_eq (get_or ns k 0) number ≡ false) → places_from i number ns ≡ []
@@ -43,18 +43,18 @@ index_done entries ns right all = record {
       ]));
 }
 
-pub length-numbers : (ds : List DefinitionParts) → length (numbers ds) ≡ length ds
-length-numbers [] = refl
-length-numbers (d ∷ ds) = ap suc (length-numbers ds)
+pub length-pgns : (ds : List DefinitionParts) → length (pgns ds) ≡ length ds
+length-pgns [] = refl
+length-pgns (d ∷ ds) = ap suc (length-pgns ds)
 
-number_here : (ds : List DefinitionParts) (i : ℕ) (d : DefinitionParts) → i < length ds → d ≡ get_or ds i d → get_or (numbers ds) i 0 ≡ d.number
-number_here ds i d lt at = get_or-map (λ (e : DefinitionParts). e.number) ds i d 0 lt ∙ ap (λ (e : DefinitionParts). e.number) (sym at)
+number_here : (ds : List DefinitionParts) (i : ℕ) (d : DefinitionParts) → i < length ds → d ≡ get_or ds i d → get_or (pgns ds) i 0 ≡ d.pgn
+number_here ds i d lt at = get_or-map (λ (e : DefinitionParts). e.pgn) ds i d 0 lt ∙ ap (λ (e : DefinitionParts). e.pgn) (sym at)
 
 -- one more number, which the map has
 pub index_kept : (entries : List (ℕ × Vec ℕ Global)) (ds : List DefinitionParts) (i : ℕ) (d : DefinitionParts) → i < length ds → d ≡ get_or ds i d
-    → HasFirst entries (numbers ds) i → is_some (value_at (nat_eq d.number) entries) ≡ true → HasFirst entries (numbers ds) (i + 1)
+    → HasFirst entries (pgns ds) i → is_some (value_at (nat_eq d.pgn) entries) ≡ true → HasFirst entries (pgns ds) (i + 1)
 index_kept entries ds i d lt at first here =
-    below_more (λ k. is_some (value_at (nat_eq (get_or (numbers ds) k 0)) entries) ≡ true) i first
+    below_more (λ k. is_some (value_at (nat_eq (get_or (pgns ds) k 0)) entries) ≡ true) i first
     (ap (λ n. is_some (value_at (nat_eq n) entries)) (number_here ds i d lt at) ∙ here)
 
 module _ {S : Type 0} (m n : IndexMap ℕ (Vec ℕ Global) S) (key : ℕ) (v : Vec ℕ Global) (updates : (q : ℕ) → get nat_eq n q ≡ cond (nat_eq key q) (Some v) (get nat_eq m q)) where
@@ -78,12 +78,12 @@ module _ {S : Type 0} (m n : IndexMap ℕ (Vec ℕ Global) S) (key : ℕ) (v : V
         | inr other ↦ ap is_some (updates number ∙ ap (λ b. cond b (Some v) (get nat_eq m number)) other) ∙ there
       ]
 
-  pub index_gained : (ds : List DefinitionParts) (i : ℕ) (d : DefinitionParts) → i < length ds → d ≡ get_or ds i d → d.number ≡ key
-      → HasFirst m.entries (numbers ds) i → HasFirst n.entries (numbers ds) (i + 1)
+  pub index_gained : (ds : List DefinitionParts) (i : ℕ) (d : DefinitionParts) → i < length ds → d ≡ get_or ds i d → d.pgn ≡ key
+      → HasFirst m.entries (pgns ds) i → HasFirst n.entries (pgns ds) (i + 1)
   index_gained ds i d lt at is first =
       let itself : nat_eq key key ≡ true = grind (arith, nat_tests) in
       let here : is_some (get nat_eq n key) ≡ true = ap is_some (updates key ∙ ap (λ b. cond b (Some v) (get nat_eq m key)) itself) in
-      below_more (λ k. is_some (value_at (nat_eq (get_or (numbers ds) k 0)) n.entries) ≡ true) i (λ k below. still_there (get_or (numbers ds) k 0) (first k below))
+      below_more (λ k. is_some (value_at (nat_eq (get_or (pgns ds) k 0)) n.entries) ≡ true) i (λ k below. still_there (get_or (pgns ds) k 0) (first k below))
       (ap (λ q. is_some (value_at (nat_eq q) n.entries)) (number_here ds i d lt at ∙ is) ∙ here)
 
 -- the first that passes among the definitions at these places
@@ -97,15 +97,15 @@ there (e ∷ es) d ds = there es d ds
 
 -- the first of a PGN that passes is found at the places of the PGN
 find_from : (p q : DefinitionParts → Bool) (pgn : ℕ) → ((d : DefinitionParts) → p d ≡ (is_of pgn d && q d)) → (front ds : List DefinitionParts)
-    → find p ds ≡ first_at q (front ++ ds) (places_from (length front) pgn (numbers ds))
+    → find p ds ≡ first_at q (front ++ ds) (places_from (length front) pgn (pgns ds))
 find_from p q pgn h front [] = refl
 find_from p q pgn h front (d ∷ ds) =
     let len : length (front ++ d ∷ []) ≡ suc (length front) = omega (arith, length-append front (d ∷ [])) in
     let moved : front ++ d ∷ ds ≡ (front ++ d ∷ []) ++ ds = sym (append_assoc front (d ∷ []) ds) in
-    let rest : find p ds ≡ first_at q (front ++ d ∷ ds) (places_from (suc (length front)) pgn (numbers ds)) =
-    find_from p q pgn h (front ++ d ∷ []) ds ∙ ap (λ (es : List DefinitionParts). first_at q es (places_from (length (front ++ d ∷ [])) pgn (numbers ds))) (sym moved)
-    ∙ ap (λ (n : ℕ). first_at q (front ++ d ∷ ds) (places_from n pgn (numbers ds))) len in
-    elim (cases_Bool (nat_eq d.number pgn)) [
+    let rest : find p ds ≡ first_at q (front ++ d ∷ ds) (places_from (suc (length front)) pgn (pgns ds)) =
+    find_from p q pgn h (front ++ d ∷ []) ds ∙ ap (λ (es : List DefinitionParts). first_at q es (places_from (length (front ++ d ∷ [])) pgn (pgns ds))) (sym moved)
+    ∙ ap (λ (n : ℕ). first_at q (front ++ d ∷ ds) (places_from n pgn (pgns ds))) len in
+    elim (cases_Bool (nat_eq d.pgn pgn)) [
       | inl same ↦
           let passes : p d ≡ q d = h d ∙ ap (λ b. b && q d) same in
           rw (same, there front d ds, passes) (ap (λ (o : Option DefinitionParts). cond (q d) (Some d) o) rest)
@@ -115,7 +115,7 @@ find_from p q pgn h front (d ∷ ds) =
     ]
 
 pub find_places : (p q : DefinitionParts → Bool) (pgn : ℕ) → ((d : DefinitionParts) → p d ≡ (is_of pgn d && q d)) → (ds : List DefinitionParts)
-    → find p ds ≡ first_at q ds (places pgn (numbers ds))
+    → find p ds ≡ first_at q ds (places pgn (pgns ds))
 find_places p q pgn h ds = find_from p q pgn h [] ds
 
 one_within : (i n : ℕ) (is : List ℕ) → ((j : ℕ) → j < length is → get_or is j 0 < suc i + n) → (k : ℕ) → k < length (i ∷ is) → get_or (i ∷ is) k 0 < i + suc n
@@ -143,11 +143,11 @@ first_here q ds is k d lt within at =
     let found : slice_get ds (get_or is k 0) ≡ Some d = slice_get-get_or ds (get_or is k 0) d within ∙ ap (λ e. Some e) (sym at) in
     rw (here, found) refl
 
-pub places_within : (is : List ℕ) (pgn : ℕ) (ds : List DefinitionParts) → is ≡ places pgn (numbers ds) → (k : ℕ) → k < length is → get_or is k 0 < length ds
+pub places_within : (is : List ℕ) (pgn : ℕ) (ds : List DefinitionParts) → is ≡ places pgn (pgns ds) → (k : ℕ) → k < length is → get_or is k 0 < length ds
 places_within is pgn ds same k lt =
-    let below : k < length (places pgn (numbers ds)) = rw same at lt in
-    let within : get_or (places pgn (numbers ds)) k 0 < 0 + length (numbers ds) = place_within pgn (numbers ds) 0 k below in
-    rw same (omega (arith, within, length-numbers ds))
+    let below : k < length (places pgn (pgns ds)) = rw same at lt in
+    let within : get_or (places pgn (pgns ds)) k 0 < 0 + length (pgns ds) = place_within pgn (pgns ds) 0 k below in
+    rw same (omega (arith, within, length-pgns ds))
 
 both_true : (b : Bool) → b ≡ (b && true)
 both_true true = refl
@@ -159,11 +159,11 @@ first_any : (ds : List DefinitionParts) (is : List ℕ) (r : Option ℕ) → sli
 first_any ds [] r at = rw (← at) refl
 first_any ds (i ∷ is) r at = rw (← at) refl
 
-pub no_kind : (pgn : ℕ) (ds : List DefinitionParts) (is : List ℕ) → is ≡ places pgn (numbers ds) → slice_get is 0 ≡ None → find (is_of pgn) ds ≡ None
+pub no_kind : (pgn : ℕ) (ds : List DefinitionParts) (is : List ℕ) → is ≡ places pgn (pgns ds) → slice_get is 0 ≡ None → find (is_of pgn) ds ≡ None
 no_kind pgn ds is same none =
     find_places (is_of pgn) (λ d. true) pgn (λ d. both_true (is_of pgn d)) ds ∙ ap (first_at (λ d. true) ds) (sym same) ∙ first_any ds is None none
 
-pub one_kind : (pgn : ℕ) (ds : List DefinitionParts) (is : List ℕ) (i : ℕ) (d : DefinitionParts) → is ≡ places pgn (numbers ds) → slice_get is 0 ≡ Some i
+pub one_kind : (pgn : ℕ) (ds : List DefinitionParts) (is : List ℕ) (i : ℕ) (d : DefinitionParts) → is ≡ places pgn (pgns ds) → slice_get is 0 ≡ Some i
     → i < length ds → d ≡ get_or ds i d → find (is_of pgn) ds ≡ Some d
 one_kind pgn ds is i d same first within at =
     let found : slice_get ds i ≡ Some d = slice_get-get_or ds i d within ∙ ap (λ e. Some e) (sym at) in

@@ -1,5 +1,6 @@
 -- What a table says of one message, and the faults that a definition may have.
-use Rattle.std.specs.Prelude.{ℕ, not, codes, List, [], ◌++◌, map, Option, Some, None, option_map, Result, Ok, Err, if◌then◌else◌}
+use Rattle.std.specs.Prelude.{ℕ, not, codes, List, [], ◌++◌, map, Option, Some, None, option_map, Result, Ok, Err}
+use Rattle.std.specs.Prelude.{if◌then◌else◌}
 use Rattle.std.specs.List.{list_any, filter_map}
 use Rattle.std.specs.Result.{result_ok}
 use Rattle.std.specs.Str.{bytes_eq}
@@ -15,7 +16,7 @@ use Rattle.n2k_table.specs.declared.tree.Holder.TheVariants.{Message}
 use Rattle.n2k_table.specs.declared.tree.Section.TheVariants.{Definition}
 use Rattle.n2k_wire.specs.Steps.{◌>>=◌}
 use Rattle.n2k_table.specs.Fault.{fault_of, faults_in, value_or, unless}
-use Rattle.n2k_table.specs.Tree.{has_only_keys, as_members, whole_at, any_text_at, text_at}
+use Rattle.n2k_table.specs.Tree.{has_only_keys, as_members, int_at, any_text_at, text_at}
 use Rattle.n2k_table.specs.Lookup.{LookupParts}
 use Rattle.n2k_table.specs.Field.{FieldParts, message_bits, members_or_none, field, counted_name}
 use Rattle.n2k_table.specs.Fields.{fields_of, fields_faults}
@@ -24,7 +25,7 @@ use Rattle.n2k_table.specs.Repeat.{RepeatParts, repeat_faults, repeat}
 -- a definition: the PGN that it describes, how that is sent, its own fields in printing order, and what repeats behind
 -- them, if something does
 pub record DefinitionParts : Type 0 where
-  pub number : ℕ
+  pub pgn : ℕ
   pub kind : Kind
   pub description : List ℕ
   pub fields : List FieldParts
@@ -32,7 +33,7 @@ pub record DefinitionParts : Type 0 where
 
 -- the values of a definition, each by itself
 abbrev pub number_of : Members → Result ℕ TableFault
-number_of = whole_at (codes "number") 0 greatest_pgn
+number_of = int_at (codes "number") 0 greatest_pgn
 
 -- how a PGN is sent: in single frames or as fast packets
 abbrev pub named_kind : List ℕ → Result Kind TableFault
@@ -69,7 +70,8 @@ own_names ds = filter_map counted_name ds
 -- The faults of a repeat, if there is one, beside fields of these names, by the names of the lookups that are there.
 abbrev pub repeat_beside_faults : List (List ℕ) → List (List ℕ) → Option Members → List TableFault
 repeat_beside_faults names own None = []
-repeat_beside_faults names own (Some m) = repeat_faults names m ++ unless (not (list_any (bytes_eq list_name) own)) Twice
+repeat_beside_faults names own (Some m) =
+    repeat_faults names m ++ unless (not (list_any (bytes_eq list_name) own)) Twice
 
 -- the faults of what a message shows: a definition's own fields, and its repeat
 unfoldable pub layout_faults : TableFormat → List (List ℕ) → Members → List TableFault
@@ -91,13 +93,15 @@ definition_faults format names d = faults_in (as_members d) (members_faults form
 
 -- what a message shows: a definition's own fields, and its repeat
 unfoldable pub layout : TableFormat → List LookupParts → Members → List FieldParts × Option RepeatParts
-layout format lookups m =
-    (map (field Message lookups) (value_or [] (fields_of m)), option_map (repeat lookups) (value_or None (repeat_of format m)))
+layout format lookups m = (
+  map (field Message lookups) (value_or [] (fields_of m)),
+  option_map (repeat lookups) (value_or None (repeat_of format m)),
+)
 
 -- The definition that the values spell, in a table of these lookups. Where one has a fault the table is refused.
 abbrev pub members_definition : TableFormat → List LookupParts → Members → DefinitionParts
 members_definition format lookups m = record {
-  number = value_or 0 (number_of m);
+  pgn = value_or 0 (number_of m);
   kind = value_or Single (kind_of m);
   description = value_or [] (description_of m);
   fields = (layout format lookups m).0;

@@ -1,5 +1,7 @@
 -- What a table says of one field, and the faults that a field may have.
-use Rattle.std.specs.Prelude.{ℕ, ℤ, pos, negsuc, ◌+◌, ◌^◌, ◌%◌, ◌==◌, Bool, true, false, not, ◌||◌, nat_le, nat_lt, codes, List, [], ◌++◌, Option, Some, None, option_map, unwrap_or, Result, Ok, Err, if◌then◌else◌}
+use Rattle.std.specs.Prelude.{ℕ, ℤ, pos, negsuc, ◌+◌, ◌^◌, ◌%◌, ◌==◌, Bool, true, false, not, ◌||◌, nat_le, nat_lt}
+use Rattle.std.specs.Prelude.{codes, List, [], ◌++◌, Option, Some, None, option_map, unwrap_or, Result, Ok, Err}
+use Rattle.std.specs.Prelude.{if◌then◌else◌}
 use Rattle.std.specs.List.{list_any, find}
 use Rattle.std.specs.Option.{ok_or}
 use Rattle.std.specs.Result.{result_ok}
@@ -16,7 +18,7 @@ use Rattle.n2k_table.specs.declared.tree.Section.TheVariants.{NumberField, Looku
 use Rattle.n2k_wire.specs.Steps.{◌>>=◌}
 use Rattle.n2k_table.specs.Fault.{fault_of, faults_in, value_or, unless}
 use Rattle.n2k_table.specs.Lookup.{LookupParts}
-use Rattle.n2k_table.specs.Tree.{has_only_keys, as_members, whole_at, any_text_at, text_at, truth_at}
+use Rattle.n2k_table.specs.Tree.{has_only_keys, as_members, int_at, any_text_at, text_at, bool_at}
 use Rattle.n2k_table.specs.Resolution.{resolution_at, one}
 
 -- the bits of the longest message
@@ -50,17 +52,17 @@ pub record FieldParts : Type 0 where
   pub at : ℕ
   pub bits : ℕ
   pub meaning : Meaning
-  pub wanted : Option ℕ
+  pub match_value : Option ℕ
 
 -- the values of a field, each by itself
 abbrev pub name_of : Members → Result (List ℕ) TableFault
 name_of = text_at (codes "name")
 
 abbrev pub at_of : Members → Result ℕ TableFault
-at_of = whole_at (codes "at") 0 last_bit
+at_of = int_at (codes "at") 0 last_bit
 
 abbrev pub bits_of : ℕ → Members → Result ℕ TableFault
-bits_of most = whole_at (codes "bits") 1 most
+bits_of most = int_at (codes "bits") 1 most
 
 -- a number of bits that makes whole bytes
 abbrev pub in_bytes : ℕ → Result ℕ TableFault
@@ -77,7 +79,7 @@ byte_bits_of f = do
   in_bytes bits
 
 abbrev pub signed_of : Members → Result Bool TableFault
-signed_of = truth_at (codes "signed")
+signed_of = bool_at (codes "signed")
 
 -- A raw value has no sign.
 abbrev pub raw_value : ℤ → Result (Option ℕ) TableFault
@@ -91,9 +93,9 @@ raw_or_none (Some d) = do
   raw_value z
 
 -- the raw value that a field asks for, if it asks for one: a field of a set can't
-abbrev pub wanted_of : Holder → Members → Result (Option ℕ) TableFault
-wanted_of Message f = raw_or_none (get_member (codes "match") f)
-wanted_of Set f = Ok None
+abbrev pub match_value_of : Holder → Members → Result (Option ℕ) TableFault
+match_value_of Message f = raw_or_none (get_member (codes "match") f)
+match_value_of Set f = Ok None
 
 -- the name of the lookup of a lookup field
 abbrev pub lookup_of : Members → Result (List ℕ) TableFault
@@ -120,8 +122,8 @@ is_of_bits None n = true
 is_of_bits (Some value) n = nat_lt value (2 ^ n)
 
 abbrev pub fits_bits : Result (Option ℕ) TableFault → Result ℕ TableFault → Bool
-fits_bits wanted bits = value_or true (do
-  w ← wanted
+fits_bits match_value bits = value_or true (do
+  w ← match_value
   n ← bits
   Ok (is_of_bits w n))
 
@@ -142,10 +144,10 @@ number_faults holder end f =
     ++ fault_of (bits_of most_number_bits f)
     ++ fault_of (signed_of f)
     ++ fault_of (resolution_at f)
-    ++ fault_of (wanted_of holder f)
+    ++ fault_of (match_value_of holder f)
     ++ unless (ends_within end (at_of f) (bits_of most_number_bits f)) Range
     ++ unless (has_room_for_sign (signed_of f) (bits_of most_number_bits f)) Range
-    ++ unless (fits_bits (wanted_of holder f) (bits_of most_number_bits f)) Range
+    ++ unless (fits_bits (match_value_of holder f) (bits_of most_number_bits f)) Range
 
 -- the faults of a lookup field, by the names of the lookups that are there
 abbrev pub lookup_field_faults : Holder → Result ℕ TableFault → List (List ℕ) → Members → List TableFault
@@ -154,10 +156,10 @@ lookup_field_faults holder end names f =
     ++ fault_of (name_of f)
     ++ fault_of (at_of f)
     ++ fault_of (bits_of most_lookup_bits f)
-    ++ fault_of (wanted_of holder f)
+    ++ fault_of (match_value_of holder f)
     ++ fault_of (lookup_of f)
     ++ unless (ends_within end (at_of f) (bits_of most_lookup_bits f)) Range
-    ++ unless (fits_bits (wanted_of holder f) (bits_of most_lookup_bits f)) Range
+    ++ unless (fits_bits (match_value_of holder f) (bits_of most_lookup_bits f)) Range
     ++ unless (is_there names (lookup_of f)) Lookup
 
 -- the faults of a field of text or bytes
@@ -176,7 +178,7 @@ number_field holder f = record {
   at = value_or 0 (at_of f);
   bits = value_or 0 (bits_of most_number_bits f);
   meaning = number (value_or false (signed_of f)) (value_or one (resolution_at f));
-  wanted = value_or None (wanted_of holder f);
+  match_value = value_or None (match_value_of holder f);
 }
 
 -- the entries of the lookup of that name
@@ -190,7 +192,7 @@ lookup_field holder lookups f = record {
   at = value_or 0 (at_of f);
   bits = value_or 0 (bits_of most_lookup_bits f);
   meaning = named (entries_named lookups (value_or [] (lookup_of f)));
-  wanted = value_or None (wanted_of holder f);
+  match_value = value_or None (match_value_of holder f);
 }
 
 -- the field of text or bytes that the values spell
@@ -200,7 +202,7 @@ byte_field meaning f = record {
   at = value_or 0 (byte_at_of f);
   bits = value_or 0 (byte_bits_of f);
   meaning = meaning;
-  wanted = None;
+  match_value = None;
 }
 
 -- the kinds of fields

@@ -9,7 +9,7 @@ use Rattle.n2k_table.specs.declared.tree.Holder.{Holder}
 use Rattle.n2k_table.specs.Fault.{unless}
 use Rattle.n2k_table.specs.Tree.{elements_at}
 use Rattle.n2k_table.specs.Field.{field_faults, counted_name}
-use Rattle.n2k_table.specs.Twice.{has_twice}
+use Rattle.n2k_table.specs.Duplicate.{has_duplicate}
 
 -- the most fields of a message, and of a set
 abbrev pub most_fields : ℕ
@@ -24,4 +24,4 @@ abbrev pub fields_faults : Holder → Result ℕ TableFault → List (List ℕ) 
 fields_faults holder end names ds =
     unless (nat_le (length ds) most_fields) TooMany
     ++ flat_map (field_faults holder end names) ds
-    ++ unless (not (has_twice bytes_eq (filter_map counted_name ds))) Twice
+    ++ unless (not (has_duplicate bytes_eq (filter_map counted_name ds))) Twice

@@ -1,11 +1,11 @@
 -- Words that only private clauses, invariants and proofs of this crate use.
 pub mod Digits
 pub mod Entries
+pub mod FieldValue
 pub mod Index
 pub mod Kept
 pub mod Kinds
 pub mod Line
+pub mod LineBuffer
 pub mod Number
 pub mod Reading
-pub mod Seen
-pub mod Tail

@@ -1,5 +1,6 @@
 -- The JSON line of a message.
-use Rattle.std.specs.Prelude.{ℕ, Bool, false, codes, decimal, List, [], ◌∷◌, ◌++◌, map, flat_map, Option, Some, None, if◌then◌else◌}
+use Rattle.std.specs.Prelude.{ℕ, Bool, false, codes, decimal, List, [], ◌∷◌, ◌++◌, map, flat_map, Option, Some, None}
+use Rattle.std.specs.Prelude.{if◌then◌else◌}
 use Rattle.std.specs.List.{filter_map, join_with_byte}
 use Rattle.n2k_wire.specs.Packet.{PacketParts}
 use Rattle.n2k_wire.specs.declared.identifier.Id.{Id}
@@ -8,7 +9,7 @@ use Rattle.n2k_table.specs.Repeat.{RepeatParts, all_sets}
 use Rattle.n2k_table.specs.Definition.{DefinitionParts, list_name}
 use Rattle.n2k_table.specs.Shown.{ShownParts, absent, number, name, text, bytes, all_shown}
 use Rattle.n2k_table.specs.Table.{TableParts, choice}
-use Rattle.n2k_table.specs.Text.{text_json, character, pairs}
+use Rattle.n2k_table.specs.Text.{text_json, character, hex_pairs}
 
 -- `,` and `:`
 abbrev pub comma : ℕ
@@ -23,7 +24,7 @@ value_json empty absent = if empty then Some (codes "null") else None
 value_json empty (number value decimals) = Some (dec value decimals)
 value_json empty (name n) = Some (text_json n)
 value_json empty (text numbers) = Some (text_json (flat_map character numbers))
-value_json empty (bytes payload) = Some (text_json (pairs payload))
+value_json empty (bytes payload) = Some (text_json (hex_pairs payload))
 
 -- a name and its value
 abbrev pub pair_json : List ℕ → Option (List ℕ) → Option (List ℕ)

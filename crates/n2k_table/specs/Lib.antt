@@ -1,6 +1,7 @@
 pub mod Bits
 pub mod Decimal
 pub mod Definition
+pub mod Duplicate
 pub mod Fault
 pub mod Field
 pub mod Fields
@@ -14,4 +15,3 @@ pub mod Shown
 pub mod Table
 pub mod Text
 pub mod Tree
-pub mod Twice

@@ -1,5 +1,6 @@
 -- What a table says of a lookup, the names of some values, and the faults that it may have.
-use Rattle.std.specs.Prelude.{ℕ, ℤ, pos, not, nat_eq, nat_le, codes, List, [], ◌∷◌, ◌++◌, length, map, flat_map, Option, Result, Ok, Err}
+use Rattle.std.specs.Prelude.{ℕ, ℤ, pos, not, nat_eq, nat_le, codes, List, [], ◌∷◌, ◌++◌, length, map, flat_map, Option}
+use Rattle.std.specs.Prelude.{Result, Ok, Err}
 use Rattle.std.specs.List.{filter_map}
 use Rattle.std.specs.Map.{lookup as value_at}
 use Rattle.std.specs.Option.{ok_or}
@@ -11,8 +12,8 @@ use Rattle.n2k_table.specs.declared.fault.TableFault.TheVariants.{Key, Twice, To
 use Rattle.n2k_table.specs.declared.tree.Section.TheVariants.{Lookup}
 use Rattle.n2k_wire.specs.Steps.{◌>>=◌}
 use Rattle.n2k_table.specs.Fault.{fault_of, faults_in, value_or, unless}
-use Rattle.n2k_table.specs.Tree.{has_only_keys, as_members, as_elements, text_at, sized, in_range, elements_at}
-use Rattle.n2k_table.specs.Twice.{has_twice}
+use Rattle.n2k_table.specs.Tree.{has_only_keys, as_members, as_elements, text_at, checked_text, in_range, elements_at}
+use Rattle.n2k_table.specs.Duplicate.{has_duplicate}
 
 -- the most lookups of a table
 abbrev pub most_lookups : ℕ
@@ -55,7 +56,7 @@ abbrev pub value_in : ℤ × List ℕ → Result ℕ TableFault
 value_in pair = in_range 0 greatest_value pair.0
 
 abbrev pub name_in : ℤ × List ℕ → Result (List ℕ) TableFault
-name_in pair = sized pair.1
+name_in pair = checked_text pair.1
 
 abbrev pub pair_faults : ℤ × List ℕ → List TableFault
 pair_faults pair = fault_of (value_in pair) ++ fault_of (name_in pair)
@@ -68,8 +69,8 @@ entry_faults d = faults_in (pair_of d) pair_faults
 abbrev pub pair_entry : ℤ × List ℕ → ℕ × List ℕ
 pair_entry pair = (value_or 0 (value_in pair), value_or [] (name_in pair))
 
-abbrev pub entry : Data → ℕ × List ℕ
-entry d = pair_entry (value_or (pos 0, []) (pair_of d))
+abbrev pub lookup_entry : Data → ℕ × List ℕ
+lookup_entry d = pair_entry (value_or (pos 0, []) (pair_of d))
 
 -- the value under which an entry counts: one of a pair, where the value has no fault
 abbrev pub counted_value : Data → Option ℕ
@@ -87,7 +88,7 @@ abbrev pub entries_faults : List Data → List TableFault
 entries_faults ds =
     unless (nat_le (length ds) most_entries) TooMany
     ++ flat_map entry_faults ds
-    ++ unless (not (has_twice nat_eq (filter_map counted_value ds))) Twice
+    ++ unless (not (has_duplicate nat_eq (filter_map counted_value ds))) Twice
 
 -- the faults of a lookup
 abbrev pub lookup_members_faults : Members → List TableFault
@@ -103,7 +104,7 @@ lookup_faults d = faults_in (as_members d) lookup_members_faults
 abbrev pub members_lookup : Members → LookupParts
 members_lookup m = record {
   name = value_or [] (lookup_name_of m);
-  entries = map entry (value_or [] (entries_of m));
+  entries = map lookup_entry (value_or [] (entries_of m));
 }
 
 abbrev pub lookup : Data → LookupParts
@@ -118,4 +119,4 @@ abbrev pub lookups_faults : List Data → List TableFault
 lookups_faults ds =
     unless (nat_le (length ds) most_lookups) TooMany
     ++ flat_map lookup_faults ds
-    ++ unless (not (has_twice bytes_eq (filter_map counted_lookup ds))) Twice
+    ++ unless (not (has_duplicate bytes_eq (filter_map counted_lookup ds))) Twice

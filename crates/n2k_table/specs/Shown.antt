@@ -1,5 +1,6 @@
 -- What a field shows of a message.
-use Rattle.std.specs.Prelude.{ℕ, ℤ, pos, ◌*ℤ◌, ◌+◌, ◌*◌, ◌-◌, ◌/◌, ◌==◌, Bool, false, ◌&&◌, ◌||◌, nat_le, List, [], ◌∷◌, length, map, slice_range, Option, Some, None, if◌then◌else◌}
+use Rattle.std.specs.Prelude.{ℕ, ℤ, pos, ◌*ℤ◌, ◌+◌, ◌*◌, ◌-◌, ◌/◌, ◌==◌, Bool, false, ◌&&◌, ◌||◌, nat_le, List, [], ◌∷◌}
+use Rattle.std.specs.Prelude.{length, map, slice_range, Option, Some, None, if◌then◌else◌}
 use Rattle.std.specs.List.{list_all}
 use Rattle.std.specs.Ordering.{int_eq}
 use Rattle.n2k_table.specs.declared.resolution.Resolution.{Resolution}
@@ -71,8 +72,10 @@ field_bytes f payload = slice_range payload (f.at / 8) ((f.at + f.bits) / 8)
 
 -- what a field that lies inside the data shows, by what it means
 abbrev pub shown_inside : Meaning → FieldParts → List ℕ → ShownParts
-shown_inside (means.number signed resolution) f payload = shown_number signed resolution f.bits (raw payload f.at f.bits)
-shown_inside (means.named entries) f payload = shown_name (name_of_value entries (raw payload f.at f.bits)) f.bits (raw payload f.at f.bits)
+shown_inside (means.number signed resolution) f payload =
+    shown_number signed resolution f.bits (raw payload f.at f.bits)
+shown_inside (means.named entries) f payload =
+    shown_name (name_of_value entries (raw payload f.at f.bits)) f.bits (raw payload f.at f.bits)
 shown_inside means.text f payload = shown_text (trimmed (field_bytes f payload))
 shown_inside means.bytes f payload = bytes (field_bytes f payload)
 

@@ -1,5 +1,6 @@
 -- The faults that stand in the bytes of a table, the table that they spell, and what is looked up in it.
-use Rattle.std.specs.Prelude.{ℕ, Bool, true, false, not, ◌&&◌, ◌||◌, ◌==◌, nat_le, codes, List, [], ◌∷◌, ◌++◌, length, map, flat_map, Option, Some, None, option_map, unwrap_or, Result, Ok, Err, if◌then◌else◌}
+use Rattle.std.specs.Prelude.{ℕ, Bool, true, false, not, ◌&&◌, ◌||◌, ◌==◌, nat_le, codes, List, [], ◌∷◌, ◌++◌, length}
+use Rattle.std.specs.Prelude.{map, flat_map, Option, Some, None, option_map, unwrap_or, Result, Ok, Err, if◌then◌else◌}
 use Rattle.std.specs.List.{list_all, list_any, filter_map, find}
 use Rattle.std.specs.Str.{is_utf8}
 use Rattle.sha2.specs.Sha256.{sha256}
@@ -13,7 +14,7 @@ use Rattle.n2k_table.specs.declared.tree.TableFormat.{TableFormat}
 use Rattle.n2k_table.specs.declared.tree.TableFormat.TheVariants.{One, Two}
 use Rattle.n2k_table.specs.declared.tree.Section.TheVariants.{Document}
 use Rattle.n2k_table.specs.Fault.{faults_in, value_or, unless}
-use Rattle.n2k_table.specs.Tree.{has_only_keys, whole_at, elements_or_none}
+use Rattle.n2k_table.specs.Tree.{has_only_keys, int_at, elements_or_none}
 use Rattle.n2k_table.specs.Bits.{raw}
 use Rattle.n2k_table.specs.Lookup.{LookupParts, lookup, lookups_faults, counted_lookup}
 use Rattle.n2k_table.specs.Field.{FieldParts}
@@ -44,7 +45,7 @@ as_format (Err fault) = Err Format
 
 -- the format that the top level says it is of
 abbrev pub format_of : Members → Result TableFormat TableFault
-format_of top = as_format (whole_at (codes "format") 1 newest_format top)
+format_of top = as_format (int_at (codes "format") 1 newest_format top)
 
 abbrev pub is_same_kind : Kind → Kind → Bool
 is_same_kind Single Single = true
@@ -119,19 +120,19 @@ table bytes = record {
 
 -- the definition describes the PGN
 abbrev pub is_of : ℕ → DefinitionParts → Bool
-is_of pgn d = d.number == pgn
+is_of pgn d = d.pgn == pgn
 
 -- how a PGN is sent: as any of its definitions says, and nothing where there is none
 abbrev pub kind : TableParts → ℕ → Option Kind
 kind t pgn = option_map (λ d. d.kind) (find (is_of pgn) t.definitions)
 
 -- a field has the raw value that it asks for, or asks for none
-abbrev pub has_wanted : Option ℕ → FieldParts → List ℕ → Bool
-has_wanted None f payload = true
-has_wanted (Some value) f payload = lies_inside f payload && raw payload f.at f.bits == value
+abbrev pub has_match_value : Option ℕ → FieldParts → List ℕ → Bool
+has_match_value None f payload = true
+has_match_value (Some value) f payload = lies_inside f payload && raw payload f.at f.bits == value
 
 abbrev pub field_matches : List ℕ → FieldParts → Bool
-field_matches payload f = has_wanted f.wanted f payload
+field_matches payload f = has_match_value f.match_value f payload
 
 -- the data have what the fields of a definition ask for
 abbrev pub matches : List ℕ → DefinitionParts → Bool

@@ -18,13 +18,13 @@ abbrev pub hex_digits : List ℕ
 hex_digits = codes "0123456789ABCDEF"
 
 -- a byte as two hexadecimal digits
-abbrev pub pair : ℕ → List ℕ
-pair b = slice_index hex_digits (b / 16) ∷ slice_index hex_digits (b % 16) ∷ []
+abbrev pub hex_pair : ℕ → List ℕ
+hex_pair b = slice_index hex_digits (b / 16) ∷ slice_index hex_digits (b % 16) ∷ []
 
 -- the space
 abbrev pub space : ℕ
 space = 32
 
 -- bytes as pairs of digits, with a space between
-abbrev pub pairs : List ℕ → List ℕ
-pairs bytes = join_with_byte space (map pair bytes)
+abbrev pub hex_pairs : List ℕ → List ℕ
+hex_pairs bytes = join_with_byte space (map hex_pair bytes)

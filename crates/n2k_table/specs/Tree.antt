@@ -1,9 +1,11 @@
 -- One value of a TOML table: of which kind it is, and whether it lies in its range.
-use Rattle.std.specs.Prelude.{ℕ, ℤ, pos, negsuc, Bool, true, false, ◌&&◌, nat_le, codes, List, [], ◌∷◌, length, Option, Some, None, Result, Ok, Err, if◌then◌else◌}
+use Rattle.std.specs.Prelude.{ℕ, ℤ, pos, negsuc, Bool, true, false, ◌&&◌, nat_le, codes, List, [], ◌∷◌, length, Option}
+use Rattle.std.specs.Prelude.{Some, None, Result, Ok, Err, if◌then◌else◌}
 use Rattle.std.specs.Option.{ok_or}
 use Rattle.std.specs.Str.{bytes_eq}
 use Rattle.std.specs.List.{list_any}
-use Rattle.toml.specs.Data.{Data, Items, no_items, item, Members, no_members, member, get_member, as_integer, as_str, as_bool, as_array, as_table}
+use Rattle.toml.specs.Data.{Data, Items, no_items, item, Members, no_members, member, get_member, as_integer, as_str}
+use Rattle.toml.specs.Data.{as_bool, as_array, as_table}
 use Rattle.n2k_table.specs.declared.fault.TableFault.{TableFault}
 use Rattle.n2k_table.specs.declared.fault.TableFault.TheVariants.{Key, Range, Text}
 use Rattle.n2k_table.specs.declared.tree.TableFormat.{TableFormat}
@@ -11,7 +13,8 @@ use Rattle.n2k_table.specs.declared.tree.TableFormat.TheVariants.{One, Two}
 use Rattle.n2k_table.specs.declared.tree.Holder.{Holder}
 use Rattle.n2k_table.specs.declared.tree.Holder.TheVariants.{Message, Set}
 use Rattle.n2k_table.specs.declared.tree.Section.{Section}
-use Rattle.n2k_table.specs.declared.tree.Section.TheVariants.{Document, Lookup, Definition, Repeat, NumberField, LookupField, ByteField}
+use Rattle.n2k_table.specs.declared.tree.Section.TheVariants.{Document, Lookup, Definition, Repeat, NumberField}
+use Rattle.n2k_table.specs.declared.tree.Section.TheVariants.{LookupField, ByteField}
 use Rattle.n2k_wire.specs.Steps.{◌>>=◌}
 
 -- the most bytes of a name or a description
@@ -34,7 +37,8 @@ keys Document = codes "format" ∷ codes "lookup" ∷ codes "pgn" ∷ []
 keys Lookup = codes "name" ∷ codes "entries" ∷ []
 keys (Definition format) = codes "number" ∷ codes "kind" ∷ codes "description" ∷ codes "fields" ∷ repeat_keys format
 keys Repeat = codes "at" ∷ codes "bits" ∷ codes "fields" ∷ []
-keys (NumberField holder) = codes "name" ∷ codes "kind" ∷ codes "at" ∷ codes "bits" ∷ codes "signed" ∷ codes "resolution" ∷ match_keys holder
+keys (NumberField holder) =
+    codes "name" ∷ codes "kind" ∷ codes "at" ∷ codes "bits" ∷ codes "signed" ∷ codes "resolution" ∷ match_keys holder
 keys (LookupField holder) = codes "name" ∷ codes "kind" ∷ codes "at" ∷ codes "bits" ∷ codes "lookup" ∷ match_keys holder
 keys ByteField = codes "name" ∷ codes "kind" ∷ codes "at" ∷ codes "bits" ∷ []
 
@@ -47,8 +51,8 @@ has_only_keys section no_members = true
 has_only_keys section (member key d ms) = is_key section key && has_only_keys section ms
 
 -- the value at a key that has to be there
-abbrev pub required : List ℕ → Members → Result Data TableFault
-required key ms = ok_or (get_member key ms) Key
+abbrev pub get_required : List ℕ → Members → Result Data TableFault
+get_required key ms = ok_or (get_member key ms) Key
 
 -- a value that has to be a table
 abbrev pub as_members : Data → Result Members TableFault
@@ -59,34 +63,34 @@ abbrev pub in_range : ℕ → ℕ → ℤ → Result ℕ TableFault
 in_range least most (pos n) = if nat_le least n && nat_le n most then Ok n else Err Range
 in_range least most (negsuc n) = Err Range
 
-abbrev pub whole_at : List ℕ → ℕ → ℕ → Members → Result ℕ TableFault
-whole_at key least most ms = do
-  d ← required key ms
+abbrev pub int_at : List ℕ → ℕ → ℕ → Members → Result ℕ TableFault
+int_at key least most ms = do
+  d ← get_required key ms
   z ← ok_or (as_integer d) Key
   in_range least most z
 
 -- a text of any length
 abbrev pub any_text_at : List ℕ → Members → Result (List ℕ) TableFault
 any_text_at key ms = do
-  d ← required key ms
+  d ← get_required key ms
   ok_or (as_str d) Key
 
 -- a text of 1 to 255 bytes
-abbrev pub sized : List ℕ → Result (List ℕ) TableFault
-sized text = if nat_le 1 (length text) && nat_le (length text) longest_text then Ok text else Err Text
+abbrev pub checked_text : List ℕ → Result (List ℕ) TableFault
+checked_text text = if nat_le 1 (length text) && nat_le (length text) longest_text then Ok text else Err Text
 
 abbrev pub text_at : List ℕ → Members → Result (List ℕ) TableFault
 text_at key ms = do
   text ← any_text_at key ms
-  sized text
+  checked_text text
 
 -- a truth value, false where the key is missing
-abbrev pub truth_or_false : Option Data → Result Bool TableFault
-truth_or_false None = Ok false
-truth_or_false (Some d) = ok_or (as_bool d) Key
+abbrev pub bool_or_false : Option Data → Result Bool TableFault
+bool_or_false None = Ok false
+bool_or_false (Some d) = ok_or (as_bool d) Key
 
-abbrev pub truth_at : List ℕ → Members → Result Bool TableFault
-truth_at key ms = truth_or_false (get_member key ms)
+abbrev pub bool_at : List ℕ → Members → Result Bool TableFault
+bool_at key ms = bool_or_false (get_member key ms)
 
 -- the elements of an array, as a list
 abbrev pub elements : Items → List Data
@@ -100,7 +104,7 @@ as_elements d = do
 
 abbrev pub elements_at : List ℕ → Members → Result (List Data) TableFault
 elements_at key ms = do
-  d ← required key ms
+  d ← get_required key ms
   as_elements d
 
 -- no element where the key is missing

@@ -5,8 +5,8 @@ ghost use Rattle.n2k_table.specs.Bits.{raw, greatest};
 /// The most bits that lie in the eight bytes from the byte of their first bit on.
 const MOST_AT_ONCE: u32 = 56;
 
-// The raw value of any bits, by the bytes in which they lie, from the last down. It is not inlined: few fields are read
-// so, those of more than 56 bits, and those of data with fewer than eight bytes.
+/// The raw value of any bits, by the bytes in which they lie, from the last down. It is not inlined: few fields are
+/// read so, those of more than 56 bits, and those of data with fewer than eight bytes.
 #[cold]
 #[inline(never)]
 fn raw_by_bytes(data: &[u8], at: u32, bits: u32) -> u64
@@ -44,7 +44,7 @@ pub(crate) fn raw(data: &[u8], at: u32, bits: u32) -> u64
     raw_by_bytes(data, at, bits)
 }
 
-// Half of the values of some bits.
+/// Half of the values of some bits.
 fn half(bits: u32) -> u64
     requires some { 1 ≤ bits }
     requires room { bits ≤ 64 }

@@ -4,14 +4,14 @@ ghost use Rattle.n2k_table.specs.Decimal.{IsDecimal, dec, dotted, minus, padded_
 ghost use Rattle.n2k_table.specs.Inner.Digits.{filled};
 ghost use Rattle.n2k_table.specs.Inner.Number.{value_of};
 
+use crate::decimal_fast::{MOST_DECIMALS, push_short};
+use crate::line_buffer::LineBuffer;
 use crate::number::Number;
-use crate::short::{MOST_DECIMALS, push_short};
-use crate::tail::Tail;
 use itoa::Buffer;
 use std::alloc::{AllocError, Global};
 
-// Appends digits with the dot before the last `decimals` of them.
-fn push_dotted(digits: &[u8], decimals: usize, line: &mut Tail) -> Result<(), AllocError>
+/// Appends digits with the dot before the last `decimals` of them.
+fn push_dotted(digits: &[u8], decimals: usize, line: &mut LineBuffer) -> Result<(), AllocError>
     requires { decimals ≤ length digits.now }
     ensures { OnOk result (line.new.items ≡ line.old.items ++ dotted decimals digits.now) }
 {
@@ -24,8 +24,8 @@ fn push_dotted(digits: &[u8], decimals: usize, line: &mut Tail) -> Result<(), Al
     Ok(())
 }
 
-// Appends digits that all stand after the dot, behind a zero before it and zeros to fill the decimals.
-fn push_filled(digits: &[u8], decimals: usize, line: &mut Tail) -> Result<(), AllocError>
+/// Appends digits that all stand after the dot, behind a zero before it and zeros to fill the decimals.
+fn push_filled(digits: &[u8], decimals: usize, line: &mut LineBuffer) -> Result<(), AllocError>
     requires { length digits.now ≤ decimals }
     ensures { OnOk result (line.new.items ≡ line.old.items ++ filled decimals digits.now) }
 {
@@ -37,21 +37,21 @@ fn push_filled(digits: &[u8], decimals: usize, line: &mut Tail) -> Result<(), Al
     Ok(())
 }
 
-// Appends a minus sign, or nothing.
+/// Appends a minus sign, or nothing.
 #[inline(always)]
-fn push_minus(below: bool, line: &mut Tail) -> Result<(), AllocError>
-    ensures { OnOk result (line.new.items ≡ line.old.items ++ (if below then minus ∷ [] else [])) }
+fn push_minus(negative: bool, line: &mut LineBuffer) -> Result<(), AllocError>
+    ensures { OnOk result (line.new.items ≡ line.old.items ++ (if negative then minus ∷ [] else [])) }
 {
-    if below {
+    if negative {
         line.push(b'-')?;
     }
     Ok(())
 }
 
-// Appends the decimal text of `size / 10^decimals`, of any number of digits. It is not inlined: few have so many.
+/// Appends the decimal text of `size / 10^decimals`, of any number of digits. It is not inlined: few have so many.
 #[cold]
 #[inline(never)]
-fn push_long(size: u128, decimals: usize, line: &mut Tail) -> Result<(), AllocError>
+fn push_long(size: u128, decimals: usize, line: &mut LineBuffer) -> Result<(), AllocError>
     ensures { OnOk result (line.new.items ≡ line.old.items ++ dotted decimals (padded_digits size decimals)) }
 {
     let mut buffer = Buffer::new();
@@ -63,9 +63,9 @@ fn push_long(size: u128, decimals: usize, line: &mut Tail) -> Result<(), AllocEr
     }
 }
 
-// Appends the decimal text of `size / 10^decimals`.
+/// Appends the decimal text of `size / 10^decimals`.
 #[inline(always)]
-fn push_size(size: u128, decimals: usize, line: &mut Tail) -> Result<(), AllocError>
+fn push_size(size: u128, decimals: usize, line: &mut LineBuffer) -> Result<(), AllocError>
     ensures { OnOk result (line.new.items ≡ line.old.items ++ dotted decimals (padded_digits size decimals)) }
 {
     match u64::try_from(size) {
@@ -76,16 +76,16 @@ fn push_size(size: u128, decimals: usize, line: &mut Tail) -> Result<(), AllocEr
 
 /// Appends the decimal text of a number.
 #[inline(always)]
-pub(crate) fn push_number(number: Number, line: &mut Tail) -> Result<(), AllocError>
+pub(crate) fn push_number(number: Number, line: &mut LineBuffer) -> Result<(), AllocError>
     ensures { OnOk result (line.new.items ≡ line.old.items ++ dec (value_of number) number.resolution.decimals) }
 {
     let size = u128::from(number.size) * u128::from(number.resolution.mantissa);
-    push_minus(number.below & (size > 0), line)?;
+    push_minus(number.negative & (size > 0), line)?;
     push_size(size, usize::from(number.resolution.decimals), line)
 }
 
-// Appends the decimal text of `value / 10^decimals`.
-fn push_decimal(value: i128, decimals: u8, line: &mut Tail) -> Result<(), AllocError>
+/// Appends the decimal text of `value / 10^decimals`.
+fn push_decimal(value: i128, decimals: u8, line: &mut LineBuffer) -> Result<(), AllocError>
     ensures { OnOk result (line.new.items ≡ line.old.items ++ dec value decimals) }
 {
     push_minus(value < 0, line)?;
@@ -98,6 +98,12 @@ fn push_decimal(value: i128, decimals: u8, line: &mut Tail) -> Result<(), AllocE
 /// `out` as it was.
 ///
 /// So -1 with 2 decimals is `-0.01`, 0 with 2 is `0.00`, and 5 with 0 is `5`.
+///
+/// ```rust
+/// let mut text = Vec::new(alloc);
+/// decimal_text(alloc, -123456, 3, &mut text)?;
+/// assert_eq!(rt; text.as_slice(), b"-123.456".as_slice());
+/// ```
 pub fn decimal_text(
     alloc: Global,
     value: i128,
@@ -111,7 +117,8 @@ pub fn decimal_text(
     ensures decimal { IsDecimal value decimals (dec value decimals) }
     ensures only { (text : List ℕ) → IsDecimal value decimals text → text ≡ dec value decimals }
 {
-    let mut line = Tail::new(alloc);
+    let mut line = LineBuffer::new(alloc);
+    line.begin(alloc);
     let written = push_decimal(value, decimals, &mut line);
     line.end(written, out)
 }

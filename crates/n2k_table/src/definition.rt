@@ -5,8 +5,7 @@ ghost use Rattle.n2k_table.specs.Table.{are_mixed, field_matches, has_mixed};
 ghost use Rattle.n2k_table.specs.Inner.Kinds.{pgn_kind};
 
 use crate::field::Field;
-use crate::repeat::Repeat;
-use crate::sets::Sets;
+use crate::repeat::{Repeat, Sets};
 use crate::shown::Fields;
 use std::marker::Model;
 
@@ -22,13 +21,13 @@ pub enum Kind {
 /// A definition, as the table keeps it.
 #[derive(Drop)]
 pub(crate) struct StoredDefinition {
-    pub(crate) number: u32,
+    pub(crate) pgn: u32,
     pub(crate) kind: Kind,
     pub(crate) description: String,
-    // What stands in a line between who sent the message and the members, kept since each line needs it.
+    /// What stands in a line between who sent the message and the members, kept since each line needs it.
     pub(crate) label: Vec<u8>,
-    // Whether a field asks for a value; most messages of most PGNs have none that does.
-    pub(crate) asks: bool,
+    /// Whether a field asks for a value; most messages of most PGNs have none that does.
+    pub(crate) has_match: bool,
     pub(crate) fields: Vec<Field>,
     pub(crate) repeat: Option<Repeat>,
 }
@@ -42,18 +41,18 @@ impl Model for StoredDefinition {
     ghost Value = { DefinitionParts };
 
     ghost view = { λ d. record {
-      number = d.number;
+      pgn = d.pgn;
       kind = d.kind;
       description = string_bytes d.description;
       fields = d.fields.items;
       repeat = d.repeat;
     } };
 
-    ghost invariant = { λ d. (d.label.items ≡ label_json d.number (string_bytes d.description))
-        × (d.asks ≡ list_any (λ f. is_some f.wanted) d.fields.items) };
+    ghost invariant = { λ d. (d.label.items ≡ label_json d.pgn (string_bytes d.description))
+        × (d.has_match ≡ list_any (λ f. is_some f.match_value) d.fields.items) };
 }
 
-// Whether the data have what the fields ask for.
+/// Whether the data have what the fields ask for.
 fn all_match(fields: &[Field], data: &[u8]) -> bool
     ensures { result ≡ list_all (field_matches «data».now) fields.now }
 {
@@ -65,10 +64,10 @@ impl StoredDefinition {
     ghost use Rattle.n2k_table.specs.Table.{matches};
 
     /// The PGN that it describes.
-    pub(crate) fn number(&self) -> u32
-        ensures { result ≡ self.now.number }
+    pub(crate) fn pgn(&self) -> u32
+        ensures { result ≡ self.now.pgn }
     {
-        self.number
+        self.pgn
     }
 
     /// How its messages are sent.
@@ -86,7 +85,7 @@ impl StoredDefinition {
     }
 
     fn label(&self) -> &[u8]
-        ensures { result.now ≡ label_json self.now.number self.now.description }
+        ensures { result.now ≡ label_json self.now.pgn self.now.description }
     {
         self.label.as_slice()
     }
@@ -110,14 +109,14 @@ impl StoredDefinition {
     pub(crate) fn matches(&self, data: &[u8]) -> bool
         ensures { result ≡ matches «data».now self.now }
     {
-        !self.asks || all_match(&self.fields, data)
+        !self.has_match || all_match(&self.fields, data)
     }
 
-    // Whether both describe one PGN, and name different kinds.
+    /// Whether both describe one PGN, and name different kinds.
     fn is_mixed_with(&self, other: &StoredDefinition) -> bool
         ensures { result ≡ are_mixed (pgn_kind self.now) (pgn_kind other.now) }
     {
-        self.number == other.number && self.kind != other.kind
+        self.pgn == other.pgn && self.kind != other.kind
     }
 }
 
@@ -141,13 +140,20 @@ impl<'a> Definition<'a> {
     ghost use Rattle.n2k_table.specs.Repeat.{all_sets};
 
     /// The view of a definition that the table keeps.
-    pub(crate) fn of(stored: &'a StoredDefinition) -> Definition<'a>
+    pub(crate) fn new(stored: &'a StoredDefinition) -> Definition<'a>
         ensures { result ≡ stored.now }
     {
         Definition { stored }
     }
 
     /// The text that names the message, 1 to 255 bytes, as the table has it. It takes no memory.
+    ///
+    /// ```rust
+    /// let table = sample_table(alloc)?;
+    /// let definition = table.choose(130820, &[0xa3, 0x99, 0x01]).ok_or("Label")?;
+    /// assert_eq!(rt; definition.description(), "Sample: Label");
+    /// assert!(rt; table.choose(130820, &[0x07, 0x98, 0x01]).is_none());
+    /// ```
     pub fn description(&self) -> &str
         ensures { result.now ≡ self.now.description }
     {
@@ -156,7 +162,7 @@ impl<'a> Definition<'a> {
 
     /// What stands in a line between who sent the message and the members.
     pub(crate) fn label(&self) -> &[u8]
-        ensures { result.now ≡ label_json self.now.number self.now.description }
+        ensures { result.now ≡ label_json self.now.pgn self.now.description }
     {
         self.stored.label()
     }
@@ -178,8 +184,14 @@ impl<'a> Definition<'a> {
     /// What each field of the definition's own shows of the data of a message (the bytes in the order of the bus),
     /// with its name, in printing order. It takes no memory.
     ///
-    /// ```text
-    /// for (name, shown) in definition.fields(packet.data()) { .. }
+    /// ```rust
+    /// let table = sample_table(alloc)?;
+    /// let data = [0x05, 0x00];
+    /// let definition = table.choose(129026, &data).ok_or("COG & SOG")?;
+    /// let mut fields = definition.fields(&data);
+    /// assert!(rt; matches!(fields.next(), Some(("SID", Shown::Number { value: 5, .. }))));
+    /// assert_eq!(rt; fields.next(), Some(("COG Reference", Shown::Name("True"))));
+    /// assert_eq!(rt; fields.next(), Some(("COG", Shown::Absent)));
     /// ```
     pub fn fields(&self, data: &'a [u8]) -> Fields<'a>
         ensures { result ≡ all_shown self.now.fields «data».now }
@@ -190,15 +202,20 @@ impl<'a> Definition<'a> {
     /// What each set shows of the data of a message, where the definition says that sets repeat in it; `None` where
     /// it doesn't. There are as many sets as lie wholly in the data, which may be none. It takes no memory.
     ///
-    /// ```text
-    /// for set in definition.repeat(packet.data())? {
-    ///     for (name, shown) in set { .. }
-    /// }
+    /// ```rust
+    /// let table = pairs_table(alloc)?;
+    /// let data = [0x01, 0x0a, 0x64, 0x00, 0x0b, 0x9c, 0xff];
+    /// let definition = table.choose(130822, &data).ok_or("Pairs")?;
+    /// let mut sets = definition.repeat(&data).ok_or("sets")?;
+    /// let mut first = sets.next().ok_or("a set")?;
+    /// assert!(rt; matches!(first.next(), Some(("Id", Shown::Number { value: 10, .. }))));
+    /// assert!(rt; sets.next().is_some());
+    /// assert!(rt; sets.next().is_none());
     /// ```
     pub fn repeat(&self, data: &'a [u8]) -> Option<Sets<'a>>
         ensures { result ≡ option_map (λ r. all_sets r «data».now) self.now.repeat }
     {
-        Some(Sets::of(self.stored.repeat()?, data))
+        Some(Sets::new(self.stored.repeat()?, data))
     }
 }
 

@@ -3,24 +3,25 @@ ghost use Rattle.std.specs.Prelude.{◌≡◌, IfOk, is_some, map, option_map};
 ghost use Rattle.std.specs.List.{list_any};
 ghost use Rattle.toml.specs.View.{view, table_view};
 ghost use Rattle.n2k_wire.specs.Views.{Gives};
-ghost use Rattle.n2k_table.specs.Inner.Reading.{GivesOrMemory, judged};
+ghost use Rattle.n2k_table.specs.Inner.Reading.{ReaderGives, first_fault_or};
 ghost use Rattle.n2k_table.specs.Lookup.{LookupParts};
 ghost use Rattle.n2k_table.specs.Inner.Line.{label_json};
 ghost use Rattle.n2k_table.specs.Field.{FieldParts};
 ghost use Rattle.n2k_table.specs.Repeat.{repeat};
-ghost use Rattle.n2k_table.specs.Definition.{named_kind, repeat_of, repeat_beside_faults, layout_faults, layout, members_faults, members_definition, definition_faults, definition};
+ghost use Rattle.n2k_table.specs.Definition.{named_kind, repeat_of, repeat_beside_faults, layout_faults, layout};
+ghost use Rattle.n2k_table.specs.Definition.{members_faults, members_definition, definition_faults, definition};
 
 use crate::definition::{Kind, StoredDefinition};
 use crate::fault::TableFault;
 use crate::field::Field;
 use crate::field_reader::{MESSAGE_BITS, Span};
-use crate::fields::{is_named, read_fields};
+use crate::fields_reader::{is_named, read_fields};
 use crate::lookup::Lookups;
 use crate::repeat::{Repeat, read_repeat};
 use crate::text::text_json;
 use crate::tree::{
-    Holder, Section, TableFormat, any_text_at, as_members, elements_at, found, has_only_keys,
-    text_at, whole_at,
+    Holder, Section, TableFormat, any_text_at, as_members, elements_at, get, has_only_keys, int_at,
+    text_at,
 };
 use itoa::Buffer;
 use n2k_wire::GREATEST_PGN;
@@ -30,17 +31,17 @@ use toml::{Table, Value};
 /// The name of the member that holds the sets of a message.
 const LIST: &str = "list";
 
-// Where the fields of a message stand.
+/// Where the fields of a message stand.
 const MESSAGE: Span = Span {
     holder: Holder::Message,
     bits: MESSAGE_BITS,
 };
 
-// Whether a field asks for a value.
-fn any_asks(fields: &[Field]) -> bool
-    ensures { result ≡ list_any (λ f. is_some f.wanted) fields.now }
+/// Whether a field asks for a value.
+fn any_has_match(fields: &[Field]) -> bool
+    ensures { result ≡ list_any (λ f. is_some f.match_value) fields.now }
 {
-    fields.iter().any(|field| field.asks())
+    fields.iter().any(|field| field.has_match())
 }
 
 fn named_kind(text: &str) -> Result<Kind, TableFault>
@@ -53,37 +54,37 @@ fn named_kind(text: &str) -> Result<Kind, TableFault>
     }
 }
 
-// What the definition of a PGN puts into a line before the members.
+/// What the definition of a PGN puts into a line before the members.
 #[tactic(auto, using(std::proofs::Common::append_assoc), unfolding(crate::specs::Inner::Line::label_json))]
-fn label_of(alloc: Global, number: u32, description: &str) -> Result<Vec<u8>, AllocError>
-    ensures { IfOk result (λ label. label.items ≡ label_json number description.now) }
+fn label_of(alloc: Global, pgn: u32, description: &str) -> Result<Vec<u8>, AllocError>
+    ensures { IfOk result (λ label. label.items ≡ label_json pgn description.now) }
 {
     let mut buffer = Buffer::new();
     let description = text_json(alloc, description)?;
     let mut label = Vec::new(alloc);
     label.extend_from_slice(b",\"pgn\":")?;
-    label.extend_from_slice(buffer.format(number).as_bytes())?;
+    label.extend_from_slice(buffer.format(pgn).as_bytes())?;
     label.extend_from_slice(b",\"description\":")?;
     label.extend_from_slice(&description)?;
     label.extend_from_slice(b",\"fields\":{")?;
     Ok(label)
 }
 
-// The repeat of a definition, if it has one.
+/// The repeat of a definition, if it has one.
 fn repeat_at(format: TableFormat, table: &Table) -> Result<Option<&Table>, TableFault>
     ensures { Gives (λ repeat. option_map (λ t. table_view t.now) repeat) result
         (repeat_of format (table_view table.now)) }
 {
     match format {
         TableFormat::One => Ok(None),
-        TableFormat::Two => match found(table, "repeat") {
+        TableFormat::Two => match get(table, "repeat") {
             None => Ok(None),
             Some(value) => Ok(Some(as_members(value)?)),
         },
     }
 }
 
-// Reads what repeats behind these fields, if something does.
+/// Reads what repeats behind these fields, if something does.
 fn read_beside(
     alloc: Global,
     lookups: &Lookups,
@@ -93,8 +94,8 @@ fn read_beside(
     ensures { let names = map (λ (lookup : LookupParts). lookup.name) lookups.now in
         let own = map (λ (field : FieldParts). field.name) fields.now in
         let m = option_map (λ t. table_view t.now) table.entry in
-        GivesOrMemory (λ r. r) result
-        (judged (repeat_beside_faults names own m) (option_map (repeat lookups.now) m)) }
+        ReaderGives (λ r. r) result
+        (first_fault_or (repeat_beside_faults names own m) (option_map (repeat lookups.now) m)) }
 {
     let Some(table) = table else {
         return Ok(None);
@@ -106,7 +107,7 @@ fn read_beside(
     Ok(Some(repeat))
 }
 
-// Reads what a message shows: its fields, and what repeats behind them.
+/// Reads what a message shows: its fields, and what repeats behind them.
 fn read_layout(
     alloc: Global,
     lookups: &Lookups,
@@ -115,8 +116,8 @@ fn read_layout(
 ) -> Result<(Vec<Field>, Option<Repeat>), TableFault>
     ensures { let names = map (λ (lookup : LookupParts). lookup.name) lookups.now in
         let m = table_view table.now in
-        GivesOrMemory (λ l. (l.0.items, l.1)) result
-        (judged (layout_faults format names m) (layout format lookups.now m)) }
+        ReaderGives (λ l. (l.0.items, l.1)) result
+        (first_fault_or (layout_faults format names m) (layout format lookups.now m)) }
 {
     let fields = read_fields(alloc, lookups, MESSAGE, elements_at(table, "fields")?)?;
     let repeat = read_beside(alloc, lookups, &fields, repeat_at(format, table)?)?;
@@ -131,22 +132,22 @@ fn read_members(
 ) -> Result<StoredDefinition, TableFault>
     ensures { let names = map (λ (lookup : LookupParts). lookup.name) lookups.now in
         let m = table_view table.now in
-        GivesOrMemory (λ stored. stored) result
-        (judged (members_faults format names m) (members_definition format lookups.now m)) }
+        ReaderGives (λ stored. stored) result
+        (first_fault_or (members_faults format names m) (members_definition format lookups.now m)) }
 {
     if !has_only_keys(table, Section::Definition(format)) {
         return Err(TableFault::Key);
     }
-    let number = whole_at(table, "number", 0, GREATEST_PGN)?;
+    let pgn = int_at(table, "number", 0, GREATEST_PGN)?;
     let kind = named_kind(any_text_at(table, "kind")?)?;
     let description = text_at(table, "description")?;
     let (fields, repeat) = read_layout(alloc, lookups, format, table)?;
     Ok(StoredDefinition {
-        number,
+        pgn,
         kind,
         description: String::from_str(alloc, description)?,
-        label: label_of(alloc, number, description)?,
-        asks: any_asks(&fields),
+        label: label_of(alloc, pgn, description)?,
+        has_match: any_has_match(&fields),
         fields,
         repeat,
     })
@@ -161,8 +162,8 @@ pub(crate) fn read_definition(
 ) -> Result<StoredDefinition, TableFault>
     ensures { let names = map (λ (lookup : LookupParts). lookup.name) lookups.now in
         let d = view value.now in
-        GivesOrMemory (λ stored. stored) result
-        (judged (definition_faults format names d) (definition format lookups.now d)) }
+        ReaderGives (λ stored. stored) result
+        (first_fault_or (definition_faults format names d) (definition format lookups.now d)) }
 {
     read_members(alloc, lookups, format, as_members(value)?)
 }

@@ -2,11 +2,11 @@
 ghost use Rattle.std.specs.Prelude.{◌≡◌, ◌≤◌, ◌+◌, ◌*◌, length};
 
 use crate::bits::raw;
+use crate::field_value::{FieldValue, name_value, text_value};
+use crate::line_buffer::LineBuffer;
 use crate::lookup::Lookup;
 use crate::number::Scale;
-use crate::padded::Padded;
-use crate::seen::{Seen, seen_name, seen_text};
-use crate::tail::Tail;
+use crate::padded_text::PaddedText;
 use std::alloc::AllocError;
 use std::marker::Model;
 use std::rc::Rc;
@@ -17,7 +17,7 @@ pub(crate) enum Meaning {
     /// A number, in two's complement where it is signed, times its resolution.
     Number(Scale),
     /// A value that a lookup gives names for. The fields of a table share its lookups.
-    Named(Rc<Lookup>),
+    Lookup(Rc<Lookup>),
     /// A text, each byte the character of its number.
     Text,
     /// Bytes as they are.
@@ -29,12 +29,12 @@ pub(crate) enum Meaning {
 #[derive(Drop)]
 pub(crate) struct Field {
     pub(crate) name: String,
-    // What stands before the value in a line, with a comma, kept since each line needs it.
-    pub(crate) key: Padded,
+    /// What stands before the value in a line, with a comma, kept since each line needs it.
+    pub(crate) key: PaddedText,
     pub(crate) at: u32,
     pub(crate) bits: u32,
     pub(crate) meaning: Meaning,
-    pub(crate) wanted: Option<u64>,
+    pub(crate) match_value: Option<u64>,
 }
 
 impl Model for Field {
@@ -49,16 +49,16 @@ impl Model for Field {
       at = f.at;
       bits = f.bits;
       meaning = seen_meaning f.meaning;
-      wanted = f.wanted;
+      match_value = f.match_value;
     } };
 
-    ghost invariant = { λ f. IsKept (string_bytes f.name) f.key f.at f.bits f.meaning f.wanted };
+    ghost invariant = { λ f. IsKept (string_bytes f.name) f.key f.at f.bits f.meaning f.match_value };
 }
 
 impl Field {
     ghost use Rattle.std.specs.Prelude.{◌++◌, is_some, OnOk};
     ghost use Rattle.n2k_table.specs.Inner.Line.{key_json};
-    ghost use Rattle.n2k_table.specs.Inner.Seen.{seen_parts};
+    ghost use Rattle.n2k_table.specs.Inner.FieldValue.{value_parts};
     ghost use Rattle.n2k_table.specs.Shown.{lies_inside, field_bytes, shown};
     ghost use Rattle.n2k_table.specs.Table.{field_matches};
 
@@ -71,18 +71,18 @@ impl Field {
 
     /// Appends what stands before the value in a line, with a comma where a member stands before.
     #[inline(always)]
-    pub(crate) fn push_key(&self, later: bool, line: &mut Tail) -> Result<(), AllocError>
+    pub(crate) fn push_key(&self, later: bool, line: &mut LineBuffer) -> Result<(), AllocError>
         ensures { OnOk result (line.new.items ≡ line.old.items ++ key_json later self.now.name) }
     {
         let from = if later { 0 } else { 1 };
         self.key.push_from(from, line)
     }
 
-    /// Whether it asks for a raw value.
-    pub(crate) fn asks(&self) -> bool
-        ensures { result ≡ is_some self.now.wanted }
+    /// Whether it has a match value.
+    pub(crate) fn has_match(&self) -> bool
+        ensures { result ≡ is_some self.now.match_value }
     {
-        self.wanted.is_some()
+        self.match_value.is_some()
     }
 
     fn lies_inside(&self, data: &[u8]) -> bool
@@ -95,13 +95,13 @@ impl Field {
     pub(crate) fn matches(&self, data: &[u8]) -> bool
         ensures { result ≡ field_matches «data».now self.now }
     {
-        match self.wanted {
+        match self.match_value {
             None => true,
-            Some(wanted) => self.lies_inside(data) && raw(data, self.at, self.bits) == wanted,
+            Some(value) => self.lies_inside(data) && raw(data, self.at, self.bits) == value,
         }
     }
 
-    // The bytes of a field that begins and ends with a byte.
+    /// The bytes of a field that begins and ends with a byte.
     fn bytes<'a>(&self, data: &'a [u8]) -> &'a [u8]
         requires { self.now.at + self.now.bits ≤ 8 * length «data».now }
         ensures { result.now ≡ field_bytes self.now «data».now }
@@ -114,23 +114,23 @@ impl Field {
     /// What the field shows of the data of a message or of a set: nothing where it does not lie wholly inside. Each
     /// answer is returned where it is made, so that none is put together in memory.
     #[inline(always)]
-    pub(crate) fn seen<'a>(&'a self, data: &'a [u8]) -> Seen<'a>
-        ensures { seen_parts result ≡ shown self.now «data».now }
+    pub(crate) fn value<'a>(&'a self, data: &'a [u8]) -> FieldValue<'a>
+        ensures { value_parts result ≡ shown self.now «data».now }
     {
         if !self.lies_inside(data) {
-            return Seen::Absent;
+            return FieldValue::Absent;
         }
         match &self.meaning {
             Meaning::Number(scale) => {
                 let raw = raw(data, self.at, self.bits);
                 return scale.number(raw);
             }
-            Meaning::Named(lookup) => {
+            Meaning::Lookup(lookup) => {
                 let raw = raw(data, self.at, self.bits);
-                return seen_name(lookup.name_of(raw), self.bits, raw);
+                return name_value(lookup.name_of(raw), self.bits, raw);
             }
-            Meaning::Text => return seen_text(self.bytes(data)),
-            Meaning::Bytes => return Seen::Bytes(self.bytes(data)),
+            Meaning::Text => return text_value(self.bytes(data)),
+            Meaning::Bytes => return FieldValue::Bytes(self.bytes(data)),
         }
     }
 }

@@ -2,9 +2,9 @@
 ghost use Rattle.std.specs.Prelude.{◌≡◌, ◌++◌, ◌≤◌, true, codes, decimal, take, OnOk};
 ghost use Rattle.std.specs.List.{list_all};
 ghost use Rattle.n2k_table.specs.Text.{text_json};
-ghost use Rattle.n2k_table.specs.Inner.Line.{is_plain, is_usual, sender_json, seen_json};
+ghost use Rattle.n2k_table.specs.Inner.Line.{is_plain, is_usual, sender_json, before_pgn_json};
 
-use crate::tail::Tail;
+use crate::line_buffer::LineBuffer;
 use crate::text::push_text;
 use n2k_wire::{Id, Packet, UTC_LEN};
 use std::alloc::AllocError;
@@ -18,7 +18,7 @@ const LABEL: usize = 7;
 /// Room for them and a number of up to three digits.
 const PART: usize = LABEL + 3;
 
-// A label and a number behind it, padded, and how many bytes count. One copy costs less than two.
+/// A label and a number behind it, padded, and how many bytes count. One copy costs less than two.
 #[inline(always)]
 fn padded_part(label: &[u8; LABEL], number: u8) -> ([u8; PART], usize)
     ensures text { take result.1 result.0 ≡ label.now ++ decimal number }
@@ -35,18 +35,18 @@ fn padded_part(label: &[u8; LABEL], number: u8) -> ([u8; PART], usize)
     }
 }
 
-// Appends a label, and a number behind it.
+/// Appends a label, and a number behind it.
 #[inline(always)]
-fn push_part(label: &[u8; LABEL], number: u8, line: &mut Tail) -> Result<(), AllocError>
+fn push_part(label: &[u8; LABEL], number: u8, line: &mut LineBuffer) -> Result<(), AllocError>
     ensures { OnOk result (line.new.items ≡ line.old.items ++ (label.now ++ decimal number)) }
 {
     let (padded, count) = padded_part(label, number);
     line.put(&padded, count)
 }
 
-// The same of a priority, which has one digit.
+/// Appends a priority, which has one digit, behind its label.
 #[inline(always)]
-fn push_priority(prio: u8, line: &mut Tail) -> Result<(), AllocError>
+fn push_priority(prio: u8, line: &mut LineBuffer) -> Result<(), AllocError>
     requires { prio ≤ 7 }
     ensures { OnOk result (line.new.items ≡ line.old.items ++ (codes ",\"prio\":" ++ decimal prio)) }
 {
@@ -56,9 +56,9 @@ fn push_priority(prio: u8, line: &mut Tail) -> Result<(), AllocError>
     )
 }
 
-// Appends who sent what to whom, up to the PGN.
+/// Appends who sent what to whom, up to the PGN.
 #[inline(always)]
-fn push_sender(id: Id, line: &mut Tail) -> Result<(), AllocError>
+fn push_sender(id: Id, line: &mut LineBuffer) -> Result<(), AllocError>
     requires { id.prio ≤ 7 }
     ensures { OnOk result (line.new.items ≡ line.old.items ++ sender_json id) }
 {
@@ -67,9 +67,9 @@ fn push_sender(id: Id, line: &mut Tail) -> Result<(), AllocError>
     push_part(b",\"dst\":", id.dst, line)
 }
 
-// Appends a stamp's bytes, those of a candump line's at once.
+/// Appends a stamp's bytes, those of a candump line's at once.
 #[inline(always)]
-fn push_stamp(stamp: &[u8], line: &mut Tail) -> Result<(), AllocError>
+fn push_stamp(stamp: &[u8], line: &mut LineBuffer) -> Result<(), AllocError>
     ensures { OnOk result (line.new.items ≡ line.old.items ++ stamp.now) }
 {
     match stamp.as_array::<UTC_LEN>() {
@@ -78,9 +78,9 @@ fn push_stamp(stamp: &[u8], line: &mut Tail) -> Result<(), AllocError>
     }
 }
 
-// Appends a stamp as a text, where each byte of it stands for itself.
+/// Appends a stamp as a text, where each byte of it stands for itself.
 #[inline(always)]
-fn push_usual_stamp(stamp: &[u8], line: &mut Tail) -> Result<(), AllocError>
+fn push_usual_stamp(stamp: &[u8], line: &mut LineBuffer) -> Result<(), AllocError>
     requires { list_all is_plain stamp.now ≡ true }
     ensures { OnOk result (line.new.items ≡ line.old.items ++ (codes "{\"timestamp\":" ++ text_json stamp.now)) }
 {
@@ -89,15 +89,15 @@ fn push_usual_stamp(stamp: &[u8], line: &mut Tail) -> Result<(), AllocError>
     line.push(b'"')
 }
 
-// A digit, an upper letter or one of few other bytes. Each stands for itself, and one range is tested faster than all
-// that do.
+/// A digit, an upper letter or one of few other bytes. Each stands for itself, and one range is tested faster than all
+/// that do.
 fn is_usual_byte(byte: u8) -> bool
     ensures { result ≡ is_usual byte }
 {
     (byte >= b'-') & (byte <= b'Z')
 }
 
-// Whether each byte is one. It looks at each, so that sixteen are compared at once.
+/// Whether each byte is one. It looks at each, so that sixteen are compared at once.
 #[inline(always)]
 fn are_usual(bytes: &[u8; AT_ONCE]) -> bool
     ensures { result ≡ list_all is_usual bytes.now }
@@ -109,8 +109,8 @@ fn are_usual(bytes: &[u8; AT_ONCE]) -> bool
     all
 }
 
-// Whether a stamp has such bytes alone, sixteen to thirty-two of them: its first sixteen and its last sixteen are all
-// of it.
+/// Whether a stamp has such bytes alone, sixteen to thirty-two of them: its first sixteen and its last sixteen are all
+/// of it.
 #[inline(always)]
 fn is_usual_stamp(stamp: &[u8]) -> bool
     ensures { result ≡ true → list_all is_plain stamp.now ≡ true }
@@ -125,17 +125,17 @@ fn is_usual_stamp(stamp: &[u8]) -> bool
     }
 }
 
-// Appends any stamp as a text.
+/// Appends any stamp as a text.
 #[inline(never)]
-fn push_other_stamp(stamp: &[u8], line: &mut Tail) -> Result<(), AllocError>
+fn push_other_stamp(stamp: &[u8], line: &mut LineBuffer) -> Result<(), AllocError>
     ensures { OnOk result (line.new.items ≡ line.old.items ++ (codes "{\"timestamp\":" ++ text_json stamp.now)) }
 {
     line.extend_from_slice(b"{\"timestamp\":")?;
     push_text(stamp, line)
 }
 
-// Appends when a message was seen. Of most stamps a comparison takes sixteen bytes.
-fn push_time(stamp: &[u8], line: &mut Tail) -> Result<(), AllocError>
+/// Appends when a message was seen. Of most stamps a comparison takes sixteen bytes.
+fn push_time(stamp: &[u8], line: &mut LineBuffer) -> Result<(), AllocError>
     ensures { OnOk result (line.new.items ≡ line.old.items ++ (codes "{\"timestamp\":" ++ text_json stamp.now)) }
 {
     if is_usual_stamp(stamp) {
@@ -146,9 +146,9 @@ fn push_time(stamp: &[u8], line: &mut Tail) -> Result<(), AllocError>
 }
 
 /// Appends what stands before the PGN.
-#[tactic(auto, using(std::proofs::Common::append_assoc), unfolding(crate::specs::Inner::Line::seen_json))]
-pub(crate) fn push_seen(packet: &Packet, line: &mut Tail) -> Result<(), AllocError>
-    ensures { OnOk result (line.new.items ≡ line.old.items ++ seen_json packet.now) }
+#[tactic(auto, using(std::proofs::Common::append_assoc), unfolding(crate::specs::Inner::Line::before_pgn_json))]
+pub(crate) fn push_head(packet: &Packet, line: &mut LineBuffer) -> Result<(), AllocError>
+    ensures { OnOk result (line.new.items ≡ line.old.items ++ before_pgn_json packet.now) }
 {
     push_time(packet.stamp(), line)?;
     push_sender(packet.id(), line)

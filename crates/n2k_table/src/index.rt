@@ -1,6 +1,6 @@
 //! Where the definitions of a PGN stand, found without walking all of them.
 ghost use Rattle.std.specs.Prelude.{◌≡◌, ◌<◌, length, IfOk};
-ghost use Rattle.n2k_table.specs.Inner.Index.{numbers, places, places_in, IsIndex};
+ghost use Rattle.n2k_table.specs.Inner.Index.{pgns, places, places_in, IsIndex};
 
 use crate::definition::StoredDefinition;
 use indexmap::IndexMap;
@@ -10,15 +10,15 @@ use std::marker::Model;
 /// How many PGNs are told apart without a hash.
 const QUICK: usize = 8192;
 
-// For each PGN the places of its definitions, in file order.
+/// For each PGN the places of its definitions, in file order.
 type PlacesByPgn = IndexMap<u32, Vec<usize>>;
 
 /// Where the definitions of each PGN stand.
 #[derive(Drop)]
 pub(crate) struct Index {
     places: PlacesByPgn,
-    // For the mixed bits of a PGN where it may stand in the map. Whoever goes by it compares the PGN; that costs less
-    // than a hash.
+    /// For the mixed bits of a PGN where it may stand in the map. Whoever goes by it compares the PGN; that costs less
+    /// than a hash.
     quick: Vec<u16>,
 }
 
@@ -33,30 +33,30 @@ impl Model for Index {
     ghost invariant = { λ i. length i.quick.items ≡ 8192 };
 }
 
-// The places of the definitions of a PGN.
+/// The places of the definitions of a PGN.
 fn places_of(
     alloc: Global,
     definitions: &[StoredDefinition],
     pgn: u32,
 ) -> Result<Vec<usize>, AllocError>
-    ensures { IfOk result (λ v. v.items ≡ places pgn (numbers definitions.now)) }
+    ensures { IfOk result (λ v. v.items ≡ places pgn (pgns definitions.now)) }
 {
     let mut places = Vec::new(alloc);
     for (place, definition) in definitions.iter().enumerate() {
-        if definition.number() == pgn {
+        if definition.pgn() == pgn {
             places.push(place)?;
         }
     }
     Ok(places)
 }
 
-// The places of all definitions.
+/// The places of all definitions.
 fn all_places(alloc: Global, definitions: &[StoredDefinition]) -> Result<PlacesByPgn, AllocError>
-    ensures { IfOk result (λ index. IsIndex index.entries (numbers definitions.now)) }
+    ensures { IfOk result (λ index. IsIndex index.entries (pgns definitions.now)) }
 {
     let mut index = IndexMap::new(alloc);
     for definition in definitions {
-        let pgn = definition.number();
+        let pgn = definition.pgn();
         if index.contains_key(&pgn) {
             continue;
         }
@@ -65,23 +65,23 @@ fn all_places(alloc: Global, definitions: &[StoredDefinition]) -> Result<PlacesB
     Ok(index)
 }
 
-// The bits of a PGN by which it is told apart: its lowest 13, changed by those above them. By the lowest alone PGNs
-// whose lower 16 bits are the same would be one.
+/// The bits of a PGN by which it is told apart: its lowest 13, changed by those above them. By the lowest alone PGNs
+/// whose lower 16 bits are the same would be one.
 #[inline(always)]
-fn mixed(pgn: u32) -> usize
+fn slot_of(pgn: u32) -> usize
     ensures { result < 8192 }
 {
     (pgn ^ (pgn >> 13)) as usize % QUICK
 }
 
-// Where each PGN stands in the map, by its mixed bits; the last of those that have the same.
+/// Where each PGN stands in the map, by its mixed bits; the last of those that have the same.
 fn quick_of(alloc: Global, places: &PlacesByPgn) -> Result<Vec<u16>, AllocError>
     ensures { IfOk result (λ quick. length quick.items ≡ 8192) }
 {
     let mut quick = vec![in alloc; 0u16; QUICK]?;
     for (at, pgn) in places.keys().enumerate() {
         if let Ok(at) = u16::try_from(at) {
-            quick[mixed(*pgn)] = at;
+            quick[slot_of(*pgn)] = at;
         }
     }
     Ok(quick)
@@ -89,14 +89,14 @@ fn quick_of(alloc: Global, places: &PlacesByPgn) -> Result<Vec<u16>, AllocError>
 
 /// The places of all definitions.
 pub(crate) fn index_of(alloc: Global, definitions: &[StoredDefinition]) -> Result<Index, AllocError>
-    ensures { IfOk result (λ index. IsIndex index (numbers definitions.now)) }
+    ensures { IfOk result (λ index. IsIndex index (pgns definitions.now)) }
 {
     let places = all_places(alloc, definitions)?;
     let quick = quick_of(alloc, &places)?;
     Ok(Index { places, quick })
 }
 
-// The places of a PGN, found by its hash. It is not inlined: few PGNs are looked up so.
+/// The places of a PGN, found by its hash. It is not inlined: few PGNs are looked up so.
 #[inline(never)]
 fn places_by_hash(places: &PlacesByPgn, pgn: u32) -> &[usize]
     ensures { result.now ≡ places_in places.now.entries pgn }
@@ -111,7 +111,7 @@ fn places_by_hash(places: &PlacesByPgn, pgn: u32) -> &[usize]
 pub(crate) fn places_at(index: &Index, pgn: u32) -> &[usize]
     ensures { result.now ≡ places_in index.now pgn }
 {
-    let at = index.quick[mixed(pgn)];
+    let at = index.quick[slot_of(pgn)];
     match index.places.get_index(usize::from(at)) {
         Some((found, places)) if *found == pgn => places.as_slice(),
         _ => places_by_hash(&index.places, pgn),

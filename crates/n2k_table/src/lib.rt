@@ -1,5 +1,15 @@
 //! What the bits of a message mean: a table of messages read from TOML, field values, and JSON lines.
 //!
+//! ```rust
+//! let table = sample_table(alloc)?;
+//! let line = "2011-11-24-22:42:04.388,2,127251,36,255,8,7d,0b,7d,02,00,ff,ff,ff";
+//! let packet = frame_in(line)?;
+//! let mut text = Vec::new(alloc);
+//! json_line(alloc, &table, &packet, false, &mut text)?;
+//! let end = "\"description\":\"Rate of Turn\",\"fields\":{\"SID\":125,\"Rate\":0.00509634375}}\n";
+//! assert!(rt; text.ends_with(end.as_bytes()));
+//! ```
+//!
 //! - `Table::read` reads a table, or says which fault stands in it (`TableFault`). `Table::id` is the
 //!   SHA-256 of what was read.
 //! - `Table::kind` says how a PGN is sent, and `Table::choose` gives the `Definition` of a message: the first
@@ -8,45 +18,49 @@
 //!   of a value, a text, bytes, or nothing. `Definition::repeat` gives the same of each set of fields that repeats
 //!   behind them (`Sets`), where the table says that something does.
 //! - `decimal_text` appends a number with its decimals, and `json_line` the line of a message. For the lines of a log,
-//!   one after the other, use `json_line_in`, which keeps the room in which a line is put together (`LineRoom`).
+//!   one after the other, use `json_line_in`, which keeps the buffer in which a line is put together (`LineBuffer`).
 //!
 //! A table that reads has no fault, and an answered fault stands in it. What a number field shows is its raw
 //! value, the sum of its bits times powers of two, taken as two's complement where it is signed, times a
 //! resolution that is kept as whole numbers. So each decimal that is printed is exact: nothing is rounded, and
 //! there is no floating-point number. A message that no definition matches is printed with its data as they are.
+//!
+//! Each example is a test of `n2k_tests`, in the same words. In them `rt` is the runtime that `main` or a test is
+//! handed, and `alloc` its allocator, `rt.alloc()`; `frame_in(line)` is the packet of a line's frame, and
+//! `sample_table` and `pairs_table` read tables of three and of four messages.
 #![tactic(auto)]
 
 mod bits;
 mod decimal;
+mod decimal_fast;
 mod definition;
 mod definition_reader;
 mod fault;
 mod field;
 mod field_reader;
-mod fields;
+mod field_value;
+mod fields_reader;
 mod head;
 mod index;
 pub mod laws;
 mod line;
+mod line_buffer;
 mod lookup;
 mod lookup_reader;
 mod number;
-mod padded;
+mod padded_text;
 mod repeat;
 mod resolution;
-mod seen;
-mod sets;
-mod short;
 mod shown;
 mod table;
-mod tail;
 mod text;
 mod tree;
 
 pub use decimal::decimal_text;
 pub use definition::{Definition, Kind};
 pub use fault::TableFault;
-pub use line::{LineRoom, json_line, json_line_in};
-pub use sets::Sets;
+pub use line::{json_line, json_line_in};
+pub use line_buffer::LineBuffer;
+pub use repeat::Sets;
 pub use shown::{Fields, Shown};
 pub use table::Table;

@@ -1,38 +1,62 @@
 //! The JSON line of a message.
-ghost use Rattle.std.specs.Prelude.{◌≡◌, ◌++◌, ◌+◌, ◌*◌, ◌≤◌, ◌||◌, true, is_some, nat_lt, codes, if◌then◌else◌, decimal, length, map, IfOk, IfSome, OnOk, OnErr, Some};
+ghost use Rattle.std.specs.Prelude.{◌≡◌, ◌++◌, ◌+◌, ◌*◌, ◌≤◌, ◌||◌, true, is_some, nat_lt, codes, if◌then◌else◌};
+ghost use Rattle.std.specs.Prelude.{decimal, length, map, IfOk, IfSome, OnOk, OnErr, Some};
 ghost use Rattle.n2k_table.specs.Shown.{shown, all_shown};
 ghost use Rattle.std.specs.List.{flat_map, join_with_byte};
 ghost use Rattle.n2k_table.specs.Repeat.{set_shown, all_sets};
-ghost use Rattle.n2k_table.specs.Json.{comma, member_json, members, set_json, list_json, message_members, unmatched_json, chosen_json, json};
-ghost use Rattle.n2k_table.specs.Inner.Line.{has_members, key_json, member_text};
-ghost use Rattle.n2k_table.specs.Text.{text_json, character, pairs};
+ghost use Rattle.n2k_table.specs.Json.{comma, member_json, members, set_json, list_json, message_members};
+ghost use Rattle.n2k_table.specs.Json.{unmatched_json, chosen_json, json};
+ghost use Rattle.n2k_table.specs.Inner.Line.{are_null, has_members, key_json, member_text};
+ghost use Rattle.n2k_table.specs.Text.{text_json, character, hex_pairs};
 
 use crate::decimal::push_number;
 use crate::definition::Definition;
 use crate::field::Field;
-use crate::head::push_seen;
+use crate::field_value::FieldValue;
+use crate::head::push_head;
+use crate::line_buffer::LineBuffer;
 use crate::repeat::Repeat;
-use crate::seen::Seen;
 use crate::table::Table;
-use crate::tail::Tail;
 use crate::text::{push_characters, push_pairs};
 use itoa::Buffer;
 use n2k_wire::Packet;
 use std::alloc::{AllocError, Global};
 
-// Appends a label, and a number behind it.
-fn push_labelled(label: &[u8], number: u32, line: &mut Tail) -> Result<(), AllocError>
-    ensures { OnOk result (line.new.items ≡ line.old.items ++ label.now ++ decimal number) }
-{
-    let mut buffer = Buffer::new();
-    line.extend_from_slice(label)?;
-    line.extend_from_slice(buffer.format(number).as_bytes())
+/// What a line has of a field that shows nothing.
+#[derive(Clone, Copy)]
+enum AbsentFields {
+    /// No member.
+    LeftOut,
+    /// A member that is `null`.
+    Null,
 }
 
-// Appends the value of a member that is there, behind its key: `null`, a text, or bytes. They are not inlined: most
-// fields are numbers and names.
+impl AbsentFields {
+    /// `null` where the callers of `json_line` ask for empty fields.
+    fn new(empty: bool) -> AbsentFields
+        ensures { are_null result ≡ empty }
+    {
+        if empty {
+            AbsentFields::Null
+        } else {
+            AbsentFields::LeftOut
+        }
+    }
+}
+
+/// Appends the PGN of a packet that no definition matches.
+fn push_pgn(pgn: u32, line: &mut LineBuffer) -> Result<(), AllocError>
+    ensures { OnOk result (line.new.items ≡ line.old.items ++ codes ",\"pgn\":" ++ decimal pgn) }
+{
+    let mut buffer = Buffer::new();
+    line.extend_from_slice(b",\"pgn\":")?;
+    line.extend_from_slice(buffer.format(pgn).as_bytes())
+}
+
+/// Appends the value of a member that is there, behind its key: `null`, a text, or bytes. They are not inlined: most
+/// fields are numbers and names.
 #[inline(never)]
-fn push_null(field: &Field, later: bool, line: &mut Tail) -> Result<(), AllocError>
+fn push_null(field: &Field, later: bool, line: &mut LineBuffer) -> Result<(), AllocError>
     ensures { OnOk result (line.new.items ≡ line.old.items ++ (key_json later field.now.name ++ codes "null")) }
 {
     field.push_key(later, line)?;
@@ -40,7 +64,12 @@ fn push_null(field: &Field, later: bool, line: &mut Tail) -> Result<(), AllocErr
 }
 
 #[inline(never)]
-fn push_text(field: &Field, text: &[u8], later: bool, line: &mut Tail) -> Result<(), AllocError>
+fn push_text(
+    field: &Field,
+    text: &[u8],
+    later: bool,
+    line: &mut LineBuffer,
+) -> Result<(), AllocError>
     ensures { OnOk result (line.new.items
         ≡ line.old.items ++ (key_json later field.now.name ++ text_json (flat_map character text.now))) }
 {
@@ -49,156 +78,169 @@ fn push_text(field: &Field, text: &[u8], later: bool, line: &mut Tail) -> Result
 }
 
 #[inline(never)]
-fn push_bytes(field: &Field, bytes: &[u8], later: bool, line: &mut Tail) -> Result<(), AllocError>
+fn push_bytes(
+    field: &Field,
+    bytes: &[u8],
+    later: bool,
+    line: &mut LineBuffer,
+) -> Result<(), AllocError>
     ensures { OnOk result (line.new.items
-        ≡ line.old.items ++ (key_json later field.now.name ++ text_json (pairs bytes.now))) }
+        ≡ line.old.items ++ (key_json later field.now.name ++ text_json (hex_pairs bytes.now))) }
 {
     field.push_key(later, line)?;
     push_pairs(bytes, line)
 }
 
-// Appends a field as a member of an object, after a comma where a member stands before, and answers whether one stands
-// before the next. What it shows goes from branch to branch, and is never put together in memory.
+/// Appends a field as a member of an object, after a comma where a member stands before, and answers whether one stands
+/// before the next. What it shows goes from branch to branch, and is never put together in memory.
 #[inline(always)]
 fn push_member(
     field: &Field,
     data: &[u8],
-    empty: bool,
+    absent: AbsentFields,
     later: bool,
-    line: &mut Tail,
+    line: &mut LineBuffer,
 ) -> Result<bool, AllocError>
-    ensures { let member = member_json empty (field.now.name, shown field.now «data».now) in
+    ensures { let member = member_json (are_null absent) (field.now.name, shown field.now «data».now) in
         IfOk result (λ more. (line.new.items ≡ line.old.items ++ member_text later member)
         × (more ≡ (later || is_some member))) }
 {
-    match field.seen(data) {
-        Seen::Absent if !empty => return Ok(later),
-        Seen::Absent => push_null(field, later, line)?,
-        Seen::Number(number) => {
+    match field.value(data) {
+        FieldValue::Absent => match absent {
+            AbsentFields::LeftOut => return Ok(later),
+            AbsentFields::Null => push_null(field, later, line)?,
+        },
+        FieldValue::Number(number) => {
             field.push_key(later, line)?;
             push_number(number, line)?;
         }
-        Seen::Name(name) => {
+        FieldValue::Name(name) => {
             field.push_key(later, line)?;
             name.push_json(line)?;
         }
-        Seen::Text(text) => push_text(field, text, later, line)?,
-        Seen::Bytes(bytes) => push_bytes(field, bytes, later, line)?,
+        FieldValue::Text(text) => push_text(field, text, later, line)?,
+        FieldValue::Bytes(bytes) => push_bytes(field, bytes, later, line)?,
     }
     Ok(true)
 }
 
-// Appends the fields as the members of an object, of a message or of a set, and answers whether one stands
-// before the next. It is inlined for the message and for sets, since a call for each line costs more.
+/// Appends the fields as the members of an object, of a message or of a set, and answers whether one stands
+/// before the next. It is inlined for the message and for sets, since a call for each line costs more.
 #[inline(always)]
 fn push_members(
     fields: &[Field],
     data: &[u8],
-    empty: bool,
-    line: &mut Tail,
+    absent: AbsentFields,
+    line: &mut LineBuffer,
 ) -> Result<bool, AllocError>
-    ensures { let ms = members empty (all_shown fields.now «data».now) in
+    ensures { let ms = members (are_null absent) (all_shown fields.now «data».now) in
         IfOk result (λ later. (line.new.items ≡ line.old.items ++ join_with_byte comma ms) × (later ≡ has_members ms)) }
 {
     let mut later = false;
     for field in fields {
-        later = push_member(field, data, empty, later, line)?;
+        later = push_member(field, data, absent, later, line)?;
     }
     Ok(later)
 }
 
-// Appends a set as an object, after a comma where a set stands before.
+/// Appends a set as an object, after a comma where a set stands before.
 fn push_set(
     repeat: &Repeat,
     data: &[u8],
     number: usize,
-    empty: bool,
-    line: &mut Tail,
+    absent: AbsentFields,
+    line: &mut LineBuffer,
 ) -> Result<(), AllocError>
     requires { repeat.now.at + number * repeat.now.bits + repeat.now.bits ≤ 8 * length «data».now }
-    ensures { let set = set_json empty (set_shown repeat.now «data».now number) in
+    ensures { let set = set_json (are_null absent) (set_shown repeat.now «data».now number) in
         OnOk result (line.new.items ≡ line.old.items ++ member_text (nat_lt 0 number) (Some set)) }
 {
     line.extend_from_slice(if number > 0 { b",{" } else { b"{" })?;
-    push_members(repeat.fields(), repeat.set(data, number), empty, line)?;
+    push_members(repeat.fields(), repeat.set(data, number), absent, line)?;
     line.push(b'}')
 }
 
-// Appends the sets, a comma between each.
-fn push_sets(repeat: &Repeat, data: &[u8], empty: bool, line: &mut Tail) -> Result<(), AllocError>
-    ensures { let sets = map (set_json empty) (all_sets repeat.now «data».now) in
+/// Appends the sets, a comma between each.
+fn push_sets(
+    repeat: &Repeat,
+    data: &[u8],
+    absent: AbsentFields,
+    line: &mut LineBuffer,
+) -> Result<(), AllocError>
+    ensures { let sets = map (set_json (are_null absent)) (all_sets repeat.now «data».now) in
         OnOk result (line.new.items ≡ line.old.items ++ join_with_byte comma sets) }
 {
     let count = repeat.count(data);
     for number in 0..count {
-        push_set(repeat, data, number, empty, line)?;
+        push_set(repeat, data, number, absent, line)?;
     }
     Ok(())
 }
 
-// What stands before the sets, with a comma where a member stands before.
+/// What stands before the sets, with a comma where a member stands before.
 fn list_key(later: bool) -> &'static [u8]
     ensures { result.now ≡ (if later then codes ",\"list\":[" else codes "\"list\":[") }
 {
     if later { b",\"list\":[" } else { b"\"list\":[" }
 }
 
-// Appends the sets as a member, after a comma where a member stands before. Most messages have none.
+/// Appends the sets as a member, after a comma where a member stands before. Most messages have none.
 #[inline(never)]
 fn push_list(
     repeat: &Repeat,
     data: &[u8],
-    empty: bool,
+    absent: AbsentFields,
     later: bool,
-    line: &mut Tail,
+    line: &mut LineBuffer,
 ) -> Result<(), AllocError>
-    ensures { let list = list_json empty (all_sets repeat.now «data».now) in
+    ensures { let list = list_json (are_null absent) (all_sets repeat.now «data».now) in
         OnOk result (line.new.items ≡ line.old.items ++ member_text later (Some list)) }
 {
     line.extend_from_slice(list_key(later))?;
-    push_sets(repeat, data, empty, line)?;
+    push_sets(repeat, data, absent, line)?;
     line.push(b']')
 }
 
-// Appends the members of a message: the fields, and last what repeats behind them.
+/// Appends the members of a message: the fields, and last what repeats behind them.
 fn push_fields(
     definition: &Definition<'_>,
     data: &[u8],
-    empty: bool,
-    line: &mut Tail,
+    absent: AbsentFields,
+    line: &mut LineBuffer,
 ) -> Result<(), AllocError>
-    ensures { let ms = message_members empty definition.now «data».now in
+    ensures { let ms = message_members (are_null absent) definition.now «data».now in
         OnOk result (line.new.items ≡ line.old.items ++ join_with_byte comma ms) }
 {
-    let later = push_members(definition.stored_fields(), data, empty, line)?;
+    let later = push_members(definition.stored_fields(), data, absent, line)?;
     match definition.stored_repeat() {
         None => Ok(()),
-        Some(repeat) => push_list(repeat, data, empty, later, line),
+        Some(repeat) => push_list(repeat, data, absent, later, line),
     }
 }
 
-// Appends the line of a message under a definition of its PGN.
+/// Appends the line of a message under a definition of its PGN.
 fn push_matched(
     definition: &Definition<'_>,
     packet: &Packet,
-    empty: bool,
-    line: &mut Tail,
+    absent: AbsentFields,
+    line: &mut LineBuffer,
 ) -> Result<(), AllocError>
-    requires { definition.now.number ≡ packet.now.id.pgn }
-    ensures { OnOk result (line.new.items ≡ line.old.items ++ chosen_json (Some definition.now) packet.now empty) }
+    requires { definition.now.pgn ≡ packet.now.id.pgn }
+    ensures { OnOk result (line.new.items
+        ≡ line.old.items ++ chosen_json (Some definition.now) packet.now (are_null absent)) }
 {
-    push_seen(packet, line)?;
+    push_head(packet, line)?;
     line.extend_from_slice(definition.label())?;
-    push_fields(definition, packet.data(), empty, line)?;
+    push_fields(definition, packet.data(), absent, line)?;
     line.put(b"}}\n", 3)
 }
 
-// Appends the line of a message that no definition matches: its data as they are.
-fn push_unmatched(packet: &Packet, line: &mut Tail) -> Result<(), AllocError>
+/// Appends the line of a message that no definition matches: its data as they are.
+fn push_unmatched(packet: &Packet, line: &mut LineBuffer) -> Result<(), AllocError>
     ensures { OnOk result (line.new.items ≡ line.old.items ++ unmatched_json packet.now) }
 {
-    push_seen(packet, line)?;
-    push_labelled(b",\"pgn\":", packet.id().pgn, line)?;
+    push_head(packet, line)?;
+    push_pgn(packet.id().pgn, line)?;
     line.extend_from_slice(b",\"description\":\"Unmatched\",\"fields\":{\"Data\":")?;
     push_pairs(packet.data(), line)?;
     line.put(b"}}\n", 3)
@@ -207,30 +249,16 @@ fn push_unmatched(packet: &Packet, line: &mut Tail) -> Result<(), AllocError>
 fn push_line(
     definition: Option<Definition<'_>>,
     packet: &Packet,
-    empty: bool,
-    line: &mut Tail,
+    absent: AbsentFields,
+    line: &mut LineBuffer,
 ) -> Result<(), AllocError>
-    requires { IfSome definition (λ d. d.number ≡ packet.now.id.pgn) }
-    ensures { OnOk result (line.new.items ≡ line.old.items ++ chosen_json definition.entry packet.now empty) }
+    requires { IfSome definition (λ d. d.pgn ≡ packet.now.id.pgn) }
+    ensures { OnOk result (line.new.items
+        ≡ line.old.items ++ chosen_json definition.entry packet.now (are_null absent)) }
 {
     match definition {
-        Some(definition) => push_matched(&definition, packet, empty, line),
+        Some(definition) => push_matched(&definition, packet, absent, line),
         None => push_unmatched(packet, line),
-    }
-}
-
-/// Room in which lines are put together, one after the other. It holds nothing that counts between two of them.
-#[derive(Drop)]
-pub struct LineRoom {
-    line: Tail,
-}
-
-impl LineRoom {
-    /// Room for lines.
-    pub fn new(alloc: Global) -> LineRoom {
-        LineRoom {
-            line: Tail::new(alloc),
-        }
     }
 }
 
@@ -240,9 +268,16 @@ impl LineRoom {
 /// object for each set that lies wholly in the data. A packet of an unknown PGN, and one that no definition of its PGN
 /// matches, is `Unmatched` and has its data as they are. A refused growth leaves `out` as it was.
 ///
-/// ```text
-/// {"timestamp":"2011-11-24-22:42:04.388","prio":2,"src":36,"dst":255,"pgn":127251,"description":"Rate of Turn","fields":{"SID":125,"Rate":0.00509634375}}
-/// {"timestamp":"2020-01-01T00:00:00.000Z","prio":7,"src":5,"dst":255,"pgn":130820,"description":"Unmatched","fields":{"Data":"07 98 01 41"}}
+/// ```rust
+/// let table = sample_table(alloc)?;
+/// let line = "2011-11-24-22:42:04.388,2,127251,36,255,8,7d,0b,7d,02,00,ff,ff,ff";
+/// let packet = frame_in(line)?;
+/// let mut text = Vec::new(alloc);
+/// json_line(alloc, &table, &packet, false, &mut text)?;
+/// let wanted = "{\"timestamp\":\"2011-11-24-22:42:04.388\",\"prio\":2,\"src\":36,\"dst\":255,\
+///     \"pgn\":127251,\"description\":\"Rate of Turn\",\
+///     \"fields\":{\"SID\":125,\"Rate\":0.00509634375}}\n";
+/// assert_eq!(rt; text.as_slice(), wanted.as_bytes());
 /// ```
 pub fn json_line(
     alloc: Global,
@@ -254,18 +289,22 @@ pub fn json_line(
     ensures appends { OnOk result (out.new.items ≡ out.old.items ++ json table.now packet.now empty) }
     ensures unchanged { OnErr result (out.new.items ≡ out.old.items) }
 {
-    let mut room = LineRoom::new(alloc);
-    json_line_in(alloc, table, packet, empty, &mut room, out)
+    let mut line = LineBuffer::new(alloc);
+    json_line_in(alloc, table, packet, empty, &mut line, out)
 }
 
-/// Appends what `json_line` does. It is put together in room that the caller keeps from line to line, which costs less
-/// than new room for each.
+/// Appends what `json_line` does. It is put together in a buffer that the caller keeps from line to line, which costs
+/// less than a new one for each.
 ///
-/// ```text
-/// let mut room = LineRoom::new(alloc);
-/// for packet in &packets {
-///     json_line_in(alloc, &table, packet, false, &mut room, &mut text)?;
-/// }
+/// ```rust
+/// let table = sample_table(alloc)?;
+/// let packet = frame_in("(1.0) can0 09F8027F#0500")?;
+/// let mut line = LineBuffer::new(alloc);
+/// let mut text = Vec::new(alloc);
+/// json_line_in(alloc, &table, &packet, false, &mut line, &mut text)?;
+/// json_line_in(alloc, &table, &packet, true, &mut line, &mut text)?;
+/// let end = "{\"SID\":5,\"COG Reference\":\"True\",\"COG\":null,\"SOG\":null}}\n";
+/// assert!(rt; text.ends_with(end.as_bytes()));
 /// ```
 #[tactic(auto, unfolding(crate::specs::Json::json))]
 pub fn json_line_in(
@@ -273,15 +312,14 @@ pub fn json_line_in(
     table: &Table,
     packet: &Packet,
     empty: bool,
-    room: &mut LineRoom,
+    line: &mut LineBuffer,
     out: &mut Vec<u8>,
 ) -> Result<(), AllocError>
     ensures appends { OnOk result (out.new.items ≡ out.old.items ++ json table.now packet.now empty) }
     ensures unchanged { OnErr result (out.new.items ≡ out.old.items) }
 {
     let definition = table.choose(packet.id().pgn, packet.data());
-    let line = &mut room.line;
     line.begin(alloc);
-    let written = push_line(definition, packet, empty, line);
+    let written = push_line(definition, packet, AbsentFields::new(empty), line);
     line.end(written, out)
 }

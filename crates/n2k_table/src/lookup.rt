@@ -3,8 +3,8 @@ ghost use Rattle.std.specs.Prelude.{◌≡◌, nat_eq, option_map, IfOk, find};
 ghost use Rattle.std.specs.Map.{lookup as value_at};
 ghost use Rattle.std.specs.Str.{bytes_eq};
 
-use crate::padded::Padded;
-use crate::tail::Tail;
+use crate::line_buffer::LineBuffer;
+use crate::padded_text::PaddedText;
 use crate::text::text_json;
 use indexmap::IndexMap;
 use std::alloc::{AllocError, Global};
@@ -15,8 +15,8 @@ use std::rc::Rc;
 #[derive(Drop)]
 pub(crate) struct Name {
     text: String,
-    // As JSON, kept since each line that shows it needs it.
-    json: Padded,
+    /// As JSON, kept since each line that shows it needs it.
+    json: PaddedText,
 }
 
 impl Model for Name {
@@ -35,12 +35,12 @@ impl Name {
     ghost use Rattle.n2k_table.specs.Text.{text_json};
 
     /// A name of that text.
-    pub(crate) fn of(alloc: Global, text: &str) -> Result<Name, AllocError>
+    pub(crate) fn new(alloc: Global, text: &str) -> Result<Name, AllocError>
         ensures { IfOk result (λ name. name ≡ text.now) }
     {
         Ok(Name {
             text: String::from_str(alloc, text)?,
-            json: Padded::of(text_json(alloc, text)?),
+            json: PaddedText::new(text_json(alloc, text)?),
         })
     }
 
@@ -53,7 +53,7 @@ impl Name {
 
     /// Appends the text as JSON.
     #[inline(always)]
-    pub(crate) fn push_json(&self, line: &mut Tail) -> Result<(), AllocError>
+    pub(crate) fn push_json(&self, line: &mut LineBuffer) -> Result<(), AllocError>
         ensures { OnOk result (line.new.items ≡ line.old.items ++ text_json self.now) }
     {
         self.json.push(line)
@@ -64,7 +64,7 @@ impl Name {
 #[derive(Drop)]
 pub(crate) struct Lookup {
     pub(crate) name: String,
-    // In file order.
+    /// In file order.
     pub(crate) names: IndexMap<u64, Name>,
 }
 
@@ -116,8 +116,8 @@ impl Lookup {
     }
 }
 
-// The name of a value, found by its hash. It is not inlined: most lookups name the values from 0 on in their order,
-// and then a name stands at the place of its value.
+/// The name of a value, found by its hash. It is not inlined: most lookups name the values from 0 on in their order,
+/// and then a name stands at the place of its value.
 #[inline(never)]
 fn name_by_hash(names: &IndexMap<u64, Name>, value: u64) -> Option<&Name>
     ensures { option_map (λ name. name.now) result ≡ value_at (nat_eq value) names.now.entries }

@@ -4,15 +4,18 @@ ghost use Rattle.std.specs.List.{list_any};
 ghost use Rattle.std.specs.Str.{bytes_eq};
 ghost use Rattle.toml.specs.View.{view, table_view, array_view};
 ghost use Rattle.n2k_wire.specs.Views.{Gives};
-ghost use Rattle.n2k_table.specs.Inner.Reading.{GivesOrMemory, judged};
+ghost use Rattle.n2k_table.specs.Inner.Reading.{ReaderGives, first_fault_or};
 ghost use Rattle.n2k_table.specs.Tree.{elements};
-ghost use Rattle.n2k_table.specs.Twice.{has_twice};
-ghost use Rattle.n2k_table.specs.Inner.Entries.{seen_entries, once};
-ghost use Rattle.n2k_table.specs.Lookup.{pair_of, entry_faults, entry, entries_faults, lookup_members_faults, members_lookup, lookup_faults, lookup, lookups_faults};
+ghost use Rattle.n2k_table.specs.Duplicate.{has_duplicate};
+ghost use Rattle.n2k_table.specs.Inner.Entries.{map_entries, once};
+ghost use Rattle.n2k_table.specs.Lookup.{pair_of, entry_faults, lookup_entry, entries_faults, lookup_members_faults};
+ghost use Rattle.n2k_table.specs.Lookup.{members_lookup, lookup_faults, lookup, lookups_faults};
 
 use crate::fault::TableFault;
 use crate::lookup::{Lookup, Lookups, Name};
-use crate::tree::{Section, as_elements, as_members, elements_at, has_only_keys, sized, text_at};
+use crate::tree::{
+    Section, as_elements, as_members, checked_text, elements_at, has_only_keys, text_at,
+};
 use indexmap::IndexMap;
 use std::alloc::{AllocError, Global};
 use std::marker::Model;
@@ -41,7 +44,7 @@ impl Model for NamedValue {
     ghost view = { λ e. (e.value, e.name) };
 }
 
-// The integer and the text of an entry.
+/// The integer and the text of an entry.
 fn pair(value: &Value) -> Result<(i64, &str), TableFault>
     ensures { Gives (λ pair. (pair.0, pair.1.now)) result (pair_of (view value.now)) }
 {
@@ -59,23 +62,24 @@ fn pair(value: &Value) -> Result<(i64, &str), TableFault>
 
 fn read_entry(alloc: Global, value: &Value) -> Result<NamedValue, TableFault>
     ensures { let d = view value.now in
-        GivesOrMemory (λ entry. entry) result (judged (entry_faults d) (entry d)) }
+        ReaderGives (λ entry. entry) result (first_fault_or (entry_faults d) (lookup_entry d)) }
 {
     let (number, text) = pair(value)?;
     let Ok(value) = u32::try_from(number) else {
         return Err(TableFault::Range);
     };
-    let name = sized(text)?;
+    let name = checked_text(text)?;
     Ok(NamedValue {
         value: u64::from(value),
-        name: Name::of(alloc, name)?,
+        name: Name::new(alloc, name)?,
     })
 }
 
-// The entries, up to a first fault among theirs.
+/// The entries, up to a first fault among theirs.
 fn each_entry(alloc: Global, values: &Array) -> Result<Vec<NamedValue>, TableFault>
     ensures { let ds = elements (array_view values.now) in
-        GivesOrMemory (λ entries. entries.items) result (judged (flat_map entry_faults ds) (map entry ds)) }
+        ReaderGives (λ entries. entries.items) result
+        (first_fault_or (flat_map entry_faults ds) (map lookup_entry ds)) }
 {
     let mut entries = Vec::new(alloc);
     for value in values {
@@ -84,9 +88,9 @@ fn each_entry(alloc: Global, values: &Array) -> Result<Vec<NamedValue>, TableFau
     Ok(entries)
 }
 
-// The entries as a map, where no value stands twice.
+/// The entries as a map, where no value stands twice.
 fn by_value(alloc: Global, entries: Vec<NamedValue>) -> Result<IndexMap<u64, Name>, TableFault>
-    ensures { GivesOrMemory seen_entries result (once entries.items) }
+    ensures { ReaderGives map_entries result (once entries.items) }
 {
     let mut names = IndexMap::new(alloc);
     for entry in entries {
@@ -100,7 +104,7 @@ fn by_value(alloc: Global, entries: Vec<NamedValue>) -> Result<IndexMap<u64, Nam
 
 fn read_entries(alloc: Global, values: &Array) -> Result<IndexMap<u64, Name>, TableFault>
     ensures { let ds = elements (array_view values.now) in
-        GivesOrMemory seen_entries result (judged (entries_faults ds) (map entry ds)) }
+        ReaderGives map_entries result (first_fault_or (entries_faults ds) (map lookup_entry ds)) }
 {
     if values.len() > MOST_ENTRIES {
         return Err(TableFault::TooMany);
@@ -110,7 +114,7 @@ fn read_entries(alloc: Global, values: &Array) -> Result<IndexMap<u64, Name>, Ta
 
 fn lookup_members(alloc: Global, table: &Table) -> Result<Lookup, TableFault>
     ensures { let m = table_view table.now in
-        GivesOrMemory (λ lookup. lookup) result (judged (lookup_members_faults m) (members_lookup m)) }
+        ReaderGives (λ lookup. lookup) result (first_fault_or (lookup_members_faults m) (members_lookup m)) }
 {
     if !has_only_keys(table, Section::Lookup) {
         return Err(TableFault::Key);
@@ -123,18 +127,18 @@ fn lookup_members(alloc: Global, table: &Table) -> Result<Lookup, TableFault>
     })
 }
 
-// Reads a lookup.
+/// Reads a lookup.
 fn read_lookup(alloc: Global, value: &Value) -> Result<Lookup, TableFault>
     ensures { let d = view value.now in
-        GivesOrMemory (λ lookup. lookup) result (judged (lookup_faults d) (lookup d)) }
+        ReaderGives (λ lookup. lookup) result (first_fault_or (lookup_faults d) (lookup d)) }
 {
     lookup_members(alloc, as_members(value)?)
 }
 
-// The lookups, up to a first fault among theirs.
+/// The lookups, up to a first fault among theirs.
 fn each_lookup(alloc: Global, values: &Array) -> Result<Vec<Lookup>, TableFault>
     ensures { let ds = elements (array_view values.now) in
-        GivesOrMemory (λ lookups. lookups.items) result (judged (flat_map lookup_faults ds) (map lookup ds)) }
+        ReaderGives (λ lookups. lookups.items) result (first_fault_or (flat_map lookup_faults ds) (map lookup ds)) }
 {
     let mut lookups = Vec::new(alloc);
     for value in values {
@@ -143,7 +147,7 @@ fn each_lookup(alloc: Global, values: &Array) -> Result<Vec<Lookup>, TableFault>
     Ok(lookups)
 }
 
-// Whether a lookup has the name.
+/// Whether a lookup has the name.
 fn is_named(lookups: &[Lookup], name: &str) -> bool
     ensures { let names = map (λ lookup. lookup.name) lookups.now in
         result ≡ list_any (bytes_eq name.now) names }
@@ -156,9 +160,9 @@ fn is_named(lookups: &[Lookup], name: &str) -> bool
     false
 }
 
-// Whether two lookups have one name.
-fn is_twice(lookups: &[Lookup]) -> bool
-    ensures { result ≡ has_twice bytes_eq (map (λ lookup. lookup.name) lookups.now) }
+/// Whether two lookups have one name.
+fn has_duplicate(lookups: &[Lookup]) -> bool
+    ensures { result ≡ has_duplicate bytes_eq (map (λ lookup. lookup.name) lookups.now) }
 {
     let mut rest = lookups;
     while let Some((lookup, others)) = rest.split_first() {
@@ -183,13 +187,13 @@ fn shared(alloc: Global, lookups: Vec<Lookup>) -> Result<Lookups, AllocError>
 /// Reads the lookups of a table.
 pub(crate) fn read_lookups(alloc: Global, values: &Array) -> Result<Lookups, TableFault>
     ensures { let ds = elements (array_view values.now) in
-        GivesOrMemory (λ lookups. lookups) result (judged (lookups_faults ds) (map lookup ds)) }
+        ReaderGives (λ lookups. lookups) result (first_fault_or (lookups_faults ds) (map lookup ds)) }
 {
     if values.len() > MOST_LOOKUPS {
         return Err(TableFault::TooMany);
     }
     let lookups = each_lookup(alloc, values)?;
-    if is_twice(&lookups) {
+    if has_duplicate(&lookups) {
         return Err(TableFault::Twice);
     }
     Ok(shared(alloc, lookups)?)

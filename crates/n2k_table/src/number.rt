@@ -1,17 +1,17 @@
 //! What some bits show as a number.
 ghost use Rattle.std.specs.Prelude.{◌≡◌, ◌≤◌};
-ghost use Rattle.n2k_table.specs.Inner.Number.{nones, scaled, value_of, IsScale};
-ghost use Rattle.n2k_table.specs.Inner.Seen.{seen_parts};
+ghost use Rattle.n2k_table.specs.Inner.Number.{reserved_values, scaled, value_of, IsScale};
+ghost use Rattle.n2k_table.specs.Inner.FieldValue.{value_parts};
 
 use crate::bits::greatest;
+use crate::field_value::FieldValue;
 use crate::resolution::Resolution;
-use crate::seen::Seen;
 
 /// A number, its sign apart: a size times a resolution, or as far below zero.
 #[derive(Clone, Copy)]
 pub(crate) struct Number {
     /// Whether it is below zero, where it is not zero.
-    pub(crate) below: bool,
+    pub(crate) negative: bool,
     /// How far the value of its bits is from zero.
     pub(crate) size: u64,
     /// What that is multiplied with.
@@ -24,7 +24,7 @@ impl Number {
         ensures { result ≡ value_of self }
     {
         let size = i128::from(self.size) * i128::from(self.resolution.mantissa);
-        if self.below { -size } else { size }
+        if self.negative { -size } else { size }
     }
 }
 
@@ -36,16 +36,16 @@ pub(crate) struct Scale {
     /// What the value of the bits is multiplied with.
     pub(crate) resolution: Resolution,
     /// The greatest value that counts.
-    pub(crate) last: u64,
+    pub(crate) max_valid: u64,
     /// The greatest value. Those between say that none is there, and raw values above it are below zero.
-    pub(crate) greatest: u64,
+    pub(crate) max: u64,
     /// The greatest raw value.
-    pub(crate) all: u64,
+    pub(crate) max_raw: u64,
 }
 
-// How many values of so many bits say that none is there.
-fn nones(bits: u32) -> u64
-    ensures { result ≡ nones bits }
+/// How many values of so many bits say that none is there.
+fn reserved_values(bits: u32) -> u64
+    ensures { result ≡ reserved_values bits }
 {
     match bits {
         0..=1 => 0,
@@ -56,43 +56,43 @@ fn nones(bits: u32) -> u64
 
 impl Scale {
     /// How bits make a number by a resolution.
-    pub(crate) fn of(signed: bool, bits: u32, resolution: Resolution) -> Scale
+    pub(crate) fn new(signed: bool, bits: u32, resolution: Resolution) -> Scale
         requires some { 1 ≤ bits }
         requires room { bits ≤ 64 }
         ensures signed { result.signed ≡ signed }
         ensures resolution { result.resolution ≡ resolution }
         ensures kept { IsScale bits result }
     {
-        let all = greatest(false, bits);
-        let greatest = greatest(signed, bits);
+        let max_raw = greatest(false, bits);
+        let max = greatest(signed, bits);
         Scale {
             signed,
             resolution,
-            last: greatest.saturating_sub(nones(bits)),
-            greatest,
-            all,
+            max_valid: max.saturating_sub(reserved_values(bits)),
+            max,
+            max_raw,
         }
     }
 
     /// What bits of that raw value show.
     #[inline(always)]
-    pub(crate) fn number<'a>(&self, raw: u64) -> Seen<'a>
-        requires { raw ≤ self.now.all }
-        ensures { seen_parts result ≡ scaled self.now raw }
+    pub(crate) fn number<'a>(&self, raw: u64) -> FieldValue<'a>
+        requires { raw ≤ self.now.max_raw }
+        ensures { value_parts result ≡ scaled self.now raw }
     {
-        if raw <= self.last {
-            return Seen::Number(Number {
-                below: false,
+        if raw <= self.max_valid {
+            return FieldValue::Number(Number {
+                negative: false,
                 size: raw,
                 resolution: self.resolution,
             });
         }
-        if raw <= self.greatest {
-            return Seen::Absent;
+        if raw <= self.max {
+            return FieldValue::Absent;
         }
-        Seen::Number(Number {
-            below: true,
-            size: self.all - raw + 1,
+        FieldValue::Number(Number {
+            negative: true,
+            size: self.max_raw - raw + 1,
             resolution: self.resolution,
         })
     }

@@ -1,15 +1,16 @@
-//! What repeats in a message.
+//! What repeats in a message, and what its sets show.
 ghost use Rattle.std.specs.Prelude.{◌≡◌, ◌≤◌, ◌<◌, ◌+◌, ◌*◌, ℕ, length, map};
 ghost use Rattle.toml.specs.View.{table_view};
-ghost use Rattle.n2k_table.specs.Inner.Reading.{GivesOrMemory, judged};
+ghost use Rattle.n2k_table.specs.Inner.Reading.{ReaderGives, first_fault_or};
 ghost use Rattle.n2k_table.specs.Lookup.{LookupParts};
-ghost use Rattle.n2k_table.specs.Repeat.{set_count, set_bytes, repeat_faults, repeat};
+ghost use Rattle.n2k_table.specs.Repeat.{set_count, set_bytes, all_sets, repeat_faults, repeat};
 
 use crate::fault::TableFault;
 use crate::field::Field;
 use crate::field_reader::{MESSAGE_BITS, Span, byte_at, byte_bits};
-use crate::fields::read_fields;
+use crate::fields_reader::read_fields;
 use crate::lookup::Lookups;
+use crate::shown::Fields;
 use crate::tree::{Holder, Section, elements_at, has_only_keys};
 use std::alloc::Global;
 use std::marker::Model;
@@ -18,7 +19,7 @@ use toml::Table;
 /// A set of fields that stands again and again, from a byte of the data on.
 #[derive(Drop)]
 pub(crate) struct Repeat {
-    // The first byte of the first set, and the bytes of a set.
+    /// The first byte of the first set, and the bytes of a set.
     first: u32,
     size: u32,
     fields: Vec<Field>,
@@ -63,6 +64,65 @@ impl Repeat {
     }
 }
 
+/// What the sets of a message show: the `Fields` of each, in their order, and then `None` for good. A last part that is
+/// shorter than a set is none. It borrows the table and the data, and takes no memory.
+#[derive(Drop)]
+pub struct Sets<'a> {
+    repeat: &'a Repeat,
+    data: &'a [u8],
+    /// The number of the next set, and how many are left.
+    next: usize,
+    left: usize,
+}
+
+impl<'a> Model for Sets<'a> {
+    ghost use Rattle.std.specs.Prelude.{List, ℕ, ◌+◌, ◌*◌, ◌≤◌, ◌<◌, length, map};
+    ghost use Rattle.std.specs.List.{range_with_len};
+    ghost use Rattle.n2k_table.specs.Repeat.{set_shown};
+    ghost use Rattle.n2k_table.specs.Shown.{ShownParts};
+
+    ghost Value = { List (List (List ℕ × ShownParts)) };
+
+    ghost view = { λ s. map (set_shown s.repeat.now s.«data».now) (range_with_len s.next s.left) };
+
+    ghost invariant = { λ s. (s.next + s.left ≤ length s.«data».now)
+        × (0 < s.left → s.repeat.now.at + (s.next + s.left) * s.repeat.now.bits ≤ 8 * length s.«data».now) };
+}
+
+impl<'a> Sets<'a> {
+    /// What the sets in the data show.
+    pub(crate) fn new(repeat: &'a Repeat, data: &'a [u8]) -> Sets<'a>
+        ensures { result ≡ all_sets repeat.now «data».now }
+    {
+        Sets {
+            repeat,
+            data,
+            next: 0,
+            left: repeat.count(data),
+        }
+    }
+}
+
+impl<'a> Iterator for Sets<'a> {
+    ghost use Rattle.std.specs.Iterator.{YieldsFirstBy, item_count};
+
+    type Item = Fields<'a>;
+
+    ghost next_gives = { YieldsFirstBy (λ fields. fields) (λ sets. sets) };
+
+    ghost remaining = { item_count (λ sets. sets) };
+
+    fn next(&mut self) -> Option<Fields<'a>> {
+        if self.left == 0 {
+            return None;
+        }
+        let set = self.repeat.set(self.data, self.next);
+        self.next += 1;
+        self.left -= 1;
+        Some(Fields::new(self.repeat.fields(), set))
+    }
+}
+
 /// Reads what repeats, in a table of these lookups.
 pub(crate) fn read_repeat(
     alloc: Global,
@@ -71,7 +131,7 @@ pub(crate) fn read_repeat(
 ) -> Result<Repeat, TableFault>
     ensures { let names = map (λ (lookup : LookupParts). lookup.name) lookups.now in
         let m = table_view table.now in
-        GivesOrMemory (λ r. r) result (judged (repeat_faults names m) (repeat lookups.now m)) }
+        ReaderGives (λ r. r) result (first_fault_or (repeat_faults names m) (repeat lookups.now m)) }
 {
     if !has_only_keys(table, Section::Repeat) {
         return Err(TableFault::Key);

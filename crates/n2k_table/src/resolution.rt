@@ -9,9 +9,9 @@ ghost use Rattle.n2k_wire.specs.Views.{Gives};
 ghost use Rattle.n2k_table.specs.Resolution.{is_digits, parts, of_parts, resolution, resolution_at};
 ghost use Rattle.n2k_table.specs.Inner.Digits.{ArePartsOfDigits};
 
+use crate::decimal_fast::MOST_DECIMALS;
 use crate::fault::TableFault;
-use crate::short::MOST_DECIMALS;
-use crate::tree::found;
+use crate::tree::get;
 use toml::Table;
 
 /// What the raw value of a number field is multiplied with: `mantissa / 10^decimals`.
@@ -37,7 +37,7 @@ fn are_digits(text: &[u8]) -> bool
     text.iter().all(|byte| byte.is_ascii_digit())
 }
 
-// Whether a text is 1 to `most` decimal digits.
+/// Whether a text is 1 to `most` decimal digits.
 fn is_digits(most: usize, text: &[u8]) -> bool
     ensures { result ≡ is_digits most text.now }
 {
@@ -51,7 +51,7 @@ fn dot_of(text: &[u8]) -> Option<usize>
     text.iter().position(|byte| *byte == b'.')
 }
 
-// The number that digits make after those that made `before`, where it has 32 bits at most.
+/// The number that digits make after those that made `before`, where it has 32 bits at most.
 fn read_on(before: u32, digits: &[u8]) -> Option<u32>
     requires { list_all is_ascii_digit digits.now ≡ true }
     ensures { let number = digits_value_after 10 before digits.now in
@@ -65,7 +65,7 @@ fn read_on(before: u32, digits: &[u8]) -> Option<u32>
     Some(number)
 }
 
-// The digits before the dot and those after it.
+/// The digits before the dot and those after it.
 fn parts(text: &[u8]) -> Result<(&[u8], &[u8]), TableFault>
     ensures value { Gives (λ p. (p.0.now, p.1.now)) result (parts text.now) }
     ensures digits { IfOk result (λ p. ArePartsOfDigits p.0.now p.1.now) }
@@ -85,7 +85,7 @@ fn parts(text: &[u8]) -> Result<(&[u8], &[u8]), TableFault>
     }
 }
 
-// The resolution that the digits before and after the dot make.
+/// The resolution that the digits before and after the dot make.
 fn of_parts(whole: &[u8], decimals: &[u8]) -> Result<Resolution, TableFault>
     requires { ArePartsOfDigits whole.now decimals.now }
     ensures { Gives (λ resolution. resolution) result (of_parts whole.now decimals.now) }
@@ -117,7 +117,7 @@ fn of_text(text: &str) -> Result<Resolution, TableFault>
 pub(crate) fn resolution_at(table: &Table) -> Result<Resolution, TableFault>
     ensures { Gives (λ resolution. resolution) result (resolution_at (table_view table.now)) }
 {
-    match found(table, "resolution") {
+    match get(table, "resolution") {
         None => Ok(ONE),
         Some(value) => of_text(value.as_str().ok_or(TableFault::Key)?),
     }

@@ -65,6 +65,6 @@ impl<'a> Iterator for Fields<'a> {
     fn next(&mut self) -> Option<(&'a str, Shown<'a>)> {
         let (field, rest) = self.rest.split_first()?;
         self.rest = rest;
-        Some((field.name(), field.seen(self.data).shown()))
+        Some((field.name(), field.value(self.data).shown()))
     }
 }

@@ -4,10 +4,10 @@ ghost use Rattle.std.specs.Prelude.{◌≡◌, ◌++◌, ◌<◌, ◌%◌, IfOk,
 ghost use Rattle.std.specs.List.{list_all, flat_map};
 ghost use Rattle.std.specs.Option.{IfSome};
 ghost use Rattle.json.specs.Print.{escape_letter, escape_byte};
-ghost use Rattle.n2k_table.specs.Text.{text_json, pair, pairs, character};
+ghost use Rattle.n2k_table.specs.Text.{text_json, hex_pair, hex_pairs, character};
 ghost use Rattle.n2k_table.specs.Inner.Line.{is_plain};
 
-use crate::tail::Tail;
+use crate::line_buffer::LineBuffer;
 use serde_json::Value;
 use std::alloc::{AllocError, Global};
 
@@ -22,14 +22,14 @@ pub(crate) fn text_json(alloc: Global, text: &str) -> Result<Vec<u8>, AllocError
     Value::String(String::from_str(alloc, text)?).to_vec(alloc)
 }
 
-// A byte that stands for itself in a text.
+/// A byte that stands for itself in a text.
 fn is_plain(byte: u8) -> bool
     ensures { result ≡ is_plain byte }
 {
     (byte >= b' ') & (byte != b'"') & (byte != b'\\')
 }
 
-// Whether each byte stands for itself. It looks at each, so that several are compared at once.
+/// Whether each byte stands for itself. It looks at each, so that several are compared at once.
 fn are_plain(text: &[u8]) -> bool
     ensures { result ≡ list_all is_plain text.now }
 {
@@ -40,7 +40,7 @@ fn are_plain(text: &[u8]) -> bool
     all
 }
 
-// The letter that stands for a byte behind a backslash, if one does.
+/// The letter that stands for a byte behind a backslash, if one does.
 fn escape_letter(byte: u8) -> Option<u8>
     ensures value { unwrap_or result 0 ≡ escape_letter byte }
     ensures some { IfSome result (λ letter. 0 < letter) }
@@ -56,7 +56,7 @@ fn escape_letter(byte: u8) -> Option<u8>
     }
 }
 
-// The last digit of an escape, for a byte below the space.
+/// The last digit of an escape, for a byte below the space.
 fn escape_digit(byte: u8) -> u8
     requires { byte < 32 }
     ensures { result ≡ digit_char (byte % 16) }
@@ -69,9 +69,9 @@ fn escape_digit(byte: u8) -> u8
     }
 }
 
-// Appends what stands in a text for a byte.
+/// Appends what stands in a text for a byte.
 #[tactic(auto, unfolding(json::specs::Print::escape_byte))]
-fn push_escaped(byte: u8, line: &mut Tail) -> Result<(), AllocError>
+fn push_escaped(byte: u8, line: &mut LineBuffer) -> Result<(), AllocError>
     ensures { OnOk result (line.new.items ≡ line.old.items ++ escape_byte byte) }
 {
     match escape_letter(byte) {
@@ -84,7 +84,7 @@ fn push_escaped(byte: u8, line: &mut Tail) -> Result<(), AllocError>
     }
 }
 
-fn push_each(text: &[u8], line: &mut Tail) -> Result<(), AllocError>
+fn push_each(text: &[u8], line: &mut LineBuffer) -> Result<(), AllocError>
     ensures { OnOk result (line.new.items ≡ line.old.items ++ flat_map escape_byte text.now) }
 {
     for byte in text {
@@ -93,8 +93,8 @@ fn push_each(text: &[u8], line: &mut Tail) -> Result<(), AllocError>
     Ok(())
 }
 
-// Appends what stands between the quotes of a text.
-fn push_inner(text: &[u8], line: &mut Tail) -> Result<(), AllocError>
+/// Appends what stands between the quotes of a text.
+fn push_inner(text: &[u8], line: &mut LineBuffer) -> Result<(), AllocError>
     ensures { OnOk result (line.new.items ≡ line.old.items ++ flat_map escape_byte text.now) }
 {
     if are_plain(text) {
@@ -106,7 +106,7 @@ fn push_inner(text: &[u8], line: &mut Tail) -> Result<(), AllocError>
 
 /// Appends a text.
 #[tactic(auto, using(std::proofs::Common::append_assoc), unfolding(crate::specs::Text::text_json))]
-pub(crate) fn push_text(text: &[u8], line: &mut Tail) -> Result<(), AllocError>
+pub(crate) fn push_text(text: &[u8], line: &mut LineBuffer) -> Result<(), AllocError>
     ensures { OnOk result (line.new.items ≡ line.old.items ++ text_json text.now) }
 {
     line.push(b'"')?;
@@ -114,8 +114,8 @@ pub(crate) fn push_text(text: &[u8], line: &mut Tail) -> Result<(), AllocError>
     line.push(b'"')
 }
 
-// Appends what stands in a text for the character of a number.
-fn push_character(byte: u8, line: &mut Tail) -> Result<(), AllocError>
+/// Appends what stands in a text for the character of a number.
+fn push_character(byte: u8, line: &mut LineBuffer) -> Result<(), AllocError>
     ensures { OnOk result (line.new.items ≡ line.old.items ++ flat_map escape_byte (character byte)) }
 {
     if byte < 0x80 {
@@ -125,7 +125,7 @@ fn push_character(byte: u8, line: &mut Tail) -> Result<(), AllocError>
     }
 }
 
-fn push_inner_characters(numbers: &[u8], line: &mut Tail) -> Result<(), AllocError>
+fn push_inner_characters(numbers: &[u8], line: &mut LineBuffer) -> Result<(), AllocError>
     ensures { OnOk result (line.new.items ≡ line.old.items ++ flat_map escape_byte (flat_map character numbers.now)) }
 {
     for number in numbers {
@@ -136,7 +136,7 @@ fn push_inner_characters(numbers: &[u8], line: &mut Tail) -> Result<(), AllocErr
 
 /// Appends the text of the characters that have these numbers.
 #[tactic(auto, using(std::proofs::Common::append_assoc), unfolding(crate::specs::Text::text_json))]
-pub(crate) fn push_characters(numbers: &[u8], line: &mut Tail) -> Result<(), AllocError>
+pub(crate) fn push_characters(numbers: &[u8], line: &mut LineBuffer) -> Result<(), AllocError>
     ensures { OnOk result (line.new.items ≡ line.old.items ++ text_json (flat_map character numbers.now)) }
 {
     line.push(b'"')?;
@@ -144,17 +144,17 @@ pub(crate) fn push_characters(numbers: &[u8], line: &mut Tail) -> Result<(), All
     line.push(b'"')
 }
 
-// Appends a byte as two digits.
-fn push_pair(byte: u8, line: &mut Tail) -> Result<(), AllocError>
-    ensures { OnOk result (line.new.items ≡ line.old.items ++ pair byte) }
+/// Appends a byte as two digits.
+fn push_pair(byte: u8, line: &mut LineBuffer) -> Result<(), AllocError>
+    ensures { OnOk result (line.new.items ≡ line.old.items ++ hex_pair byte) }
 {
     let high = DIGITS[usize::from(byte / 16)];
     let low = DIGITS[usize::from(byte % 16)];
     line.extend_from_slice(&[high, low])
 }
 
-fn push_inner_pairs(bytes: &[u8], line: &mut Tail) -> Result<(), AllocError>
-    ensures { OnOk result (line.new.items ≡ line.old.items ++ pairs bytes.now) }
+fn push_inner_pairs(bytes: &[u8], line: &mut LineBuffer) -> Result<(), AllocError>
+    ensures { OnOk result (line.new.items ≡ line.old.items ++ hex_pairs bytes.now) }
 {
     let Some((first, rest)) = bytes.split_first() else {
         return Ok(());
@@ -169,8 +169,8 @@ fn push_inner_pairs(bytes: &[u8], line: &mut Tail) -> Result<(), AllocError>
 
 /// Appends the text of bytes: two digits each, and a space between.
 #[tactic(auto, using(std::proofs::Common::append_assoc))]
-pub(crate) fn push_pairs(bytes: &[u8], line: &mut Tail) -> Result<(), AllocError>
-    ensures { OnOk result (line.new.items ≡ line.old.items ++ text_json (pairs bytes.now)) }
+pub(crate) fn push_pairs(bytes: &[u8], line: &mut LineBuffer) -> Result<(), AllocError>
+    ensures { OnOk result (line.new.items ≡ line.old.items ++ text_json (hex_pairs bytes.now)) }
 {
     line.push(b'"')?;
     push_inner_pairs(bytes, line)?;

@@ -6,8 +6,10 @@ ghost use Rattle.toml.specs.Data.{get_member};
 ghost use Rattle.toml.specs.View.{view, table_view, array_view};
 ghost use Rattle.n2k_wire.specs.Views.{Gives};
 ghost use Rattle.n2k_table.specs.declared.tree.Section.TheVariants.{ByteField};
-ghost use Rattle.n2k_table.specs.Tree.{is_key, has_only_keys, required, as_members, whole_at, any_text_at, sized, text_at, truth_at, elements, as_elements, elements_at, elements_or_none};
-ghost use Rattle.n2k_table.specs.Inner.Reading.{elements_of};
+ghost use Rattle.n2k_table.specs.Tree.{is_key, has_only_keys, get_required, as_members, int_at, any_text_at};
+ghost use Rattle.n2k_table.specs.Tree.{checked_text, text_at, bool_at, elements, as_elements, elements_at};
+ghost use Rattle.n2k_table.specs.Tree.{elements_or_none};
+ghost use Rattle.n2k_table.specs.Inner.Reading.{elements_or_empty};
 
 use crate::fault::TableFault;
 use toml::value::Array;
@@ -25,7 +27,7 @@ pub(crate) enum TableFormat {
     Two,
 }
 
-/// What a field stands in.
+/// What a field is part of.
 #[derive(Clone, Copy)]
 pub(crate) enum Holder {
     /// A message. A field may ask for a value there.
@@ -66,7 +68,7 @@ pub(crate) enum FieldKind {
     Bytes,
 }
 
-// Whether a key is one that each field has.
+/// Whether a key is one that each field has.
 fn is_field_key(key: &str) -> bool
     ensures { result ≡ is_key ByteField key.now }
 {
@@ -76,7 +78,7 @@ fn is_field_key(key: &str) -> bool
 impl TableFormat {
     ghost use Rattle.n2k_table.specs.Tree.{repeat_keys};
 
-    // Whether a key is one that only some formats have.
+    /// Whether a key is one that only some formats have.
     fn has_key(self, key: &str) -> bool
         ensures { result ≡ list_any (bytes_eq key.now) (repeat_keys self) }
     {
@@ -90,7 +92,7 @@ impl TableFormat {
 impl Holder {
     ghost use Rattle.n2k_table.specs.Tree.{match_keys};
 
-    // Whether a key is one by which a field asks for a value.
+    /// Whether a key is one by which a field asks for a value.
     fn has_key(self, key: &str) -> bool
         ensures { result ≡ list_any (bytes_eq key.now) (match_keys self) }
     {
@@ -142,17 +144,17 @@ pub(crate) fn has_only_keys(table: &Table, section: Section) -> bool
 }
 
 /// The value at a key, if it is there.
-pub(crate) fn found<'a>(table: &'a Table, key: &str) -> Option<&'a Value>
+pub(crate) fn get<'a>(table: &'a Table, key: &str) -> Option<&'a Value>
     ensures { option_map (λ value. view value.now) result ≡ get_member key.now (table_view table.now) }
 {
     table.get(key)
 }
 
-// The value at a key that has to be there.
-fn required<'a>(table: &'a Table, key: &str) -> Result<&'a Value, TableFault>
-    ensures { Gives (λ value. view value.now) result (required key.now (table_view table.now)) }
+/// The value at a key that has to be there.
+fn get_required<'a>(table: &'a Table, key: &str) -> Result<&'a Value, TableFault>
+    ensures { Gives (λ value. view value.now) result (get_required key.now (table_view table.now)) }
 {
-    found(table, key).ok_or(TableFault::Key)
+    get(table, key).ok_or(TableFault::Key)
 }
 
 /// A value that has to be a table.
@@ -163,11 +165,13 @@ pub(crate) fn as_members(value: &Value) -> Result<&Table, TableFault>
 }
 
 /// An integer from `least` to `most`, at a key that has to be there.
-pub(crate) fn whole_at(table: &Table, key: &str, least: u32, most: u32) -> Result<u32, TableFault>
-    ensures value { Gives (λ number. number) result (whole_at key.now least most (table_view table.now)) }
+pub(crate) fn int_at(table: &Table, key: &str, least: u32, most: u32) -> Result<u32, TableFault>
+    ensures value { Gives (λ number. number) result (int_at key.now least most (table_view table.now)) }
     ensures range { IfOk result (λ number. (least ≤ number) × (number ≤ most)) }
 {
-    let integer = required(table, key)?.as_integer().ok_or(TableFault::Key)?;
+    let integer = get_required(table, key)?
+        .as_integer()
+        .ok_or(TableFault::Key)?;
     match u32::try_from(integer) {
         Ok(number) if least <= number && number <= most => Ok(number),
         _ => Err(TableFault::Range),
@@ -178,12 +182,12 @@ pub(crate) fn whole_at(table: &Table, key: &str, least: u32, most: u32) -> Resul
 pub(crate) fn any_text_at<'a>(table: &'a Table, key: &str) -> Result<&'a str, TableFault>
     ensures { Gives (λ text. text.now) result (any_text_at key.now (table_view table.now)) }
 {
-    required(table, key)?.as_str().ok_or(TableFault::Key)
+    get_required(table, key)?.as_str().ok_or(TableFault::Key)
 }
 
 /// A text that has 1 to 255 bytes.
-pub(crate) fn sized(text: &str) -> Result<&str, TableFault>
-    ensures { Gives (λ text. text.now) result (sized text.now) }
+pub(crate) fn checked_text(text: &str) -> Result<&str, TableFault>
+    ensures { Gives (λ text. text.now) result (checked_text text.now) }
 {
     if text.is_empty() || text.len() > LONGEST_TEXT {
         return Err(TableFault::Text);
@@ -195,14 +199,14 @@ pub(crate) fn sized(text: &str) -> Result<&str, TableFault>
 pub(crate) fn text_at<'a>(table: &'a Table, key: &str) -> Result<&'a str, TableFault>
     ensures { Gives (λ text. text.now) result (text_at key.now (table_view table.now)) }
 {
-    sized(any_text_at(table, key)?)
+    checked_text(any_text_at(table, key)?)
 }
 
 /// A truth value, false where the key is missing.
-pub(crate) fn truth_at(table: &Table, key: &str) -> Result<bool, TableFault>
-    ensures { Gives (λ truth. truth) result (truth_at key.now (table_view table.now)) }
+pub(crate) fn bool_at(table: &Table, key: &str) -> Result<bool, TableFault>
+    ensures { Gives (λ truth. truth) result (bool_at key.now (table_view table.now)) }
 {
-    match found(table, key) {
+    match get(table, key) {
         None => Ok(false),
         Some(value) => value.as_bool().ok_or(TableFault::Key),
     }
@@ -219,7 +223,7 @@ pub(crate) fn as_elements(value: &Value) -> Result<&Array, TableFault>
 pub(crate) fn elements_at<'a>(table: &'a Table, key: &str) -> Result<&'a Array, TableFault>
     ensures { Gives (λ array. elements (array_view array.now)) result (elements_at key.now (table_view table.now)) }
 {
-    as_elements(required(table, key)?)
+    as_elements(get_required(table, key)?)
 }
 
 /// The elements of an array, `None` where the key is missing.
@@ -227,9 +231,9 @@ pub(crate) fn elements_if_there<'a>(
     table: &'a Table,
     key: &str,
 ) -> Result<Option<&'a Array>, TableFault>
-    ensures { Gives elements_of result (elements_or_none (get_member key.now (table_view table.now))) }
+    ensures { Gives elements_or_empty result (elements_or_none (get_member key.now (table_view table.now))) }
 {
-    match found(table, key) {
+    match get(table, key) {
         None => Ok(None),
         Some(value) => Ok(Some(as_elements(value)?)),
     }

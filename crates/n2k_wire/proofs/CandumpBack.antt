@@ -16,7 +16,7 @@ use Rattle.n2k_wire.specs.declared.entry.Entry.{Entry}
 use Rattle.n2k_wire.specs.declared.entry.Entry.TheVariants as entries
 use Rattle.n2k_wire.specs.declared.fault.WireFault.TheVariants.{NoStamp, NoId}
 use Rattle.n2k_wire.specs.declared.entry.Packing.{Packing}
-use Rattle.n2k_wire.specs.Candump.{stamped, framed, is_interface, is_interface_byte, identifier, is_other_frame, is_ending, digits_len, payload, frame_of, candump}
+use Rattle.n2k_wire.specs.Candump.{stamped, framed, is_interface, is_interface_byte, identifier, is_other_frame, is_ending, digits_len, payload, frame_or_skip, candump}
 use Rattle.n2k_wire.specs.Digits.{decimal_digit, decimal_after, decimal_number}
 use Rattle.n2k_wire.specs.Entry.{entry, settled}
 use Rattle.n2k_wire.specs.Identifier.{join, split}
@@ -25,7 +25,7 @@ use Rattle.n2k_wire.specs.Pieces.{cut_at, after_byte, skip_spaces}
 use Rattle.n2k_wire.specs.Stamp.{Moment, moment, three_digits, millis_digits, utc_text, utc_moment}
 use Rattle.n2k_wire.specs.Steps.{or_cause}
 use Rattle.n2k_wire.specs.Texts.{second_digits, candump_line, candump_parts, candump_text}
-use Rattle.n2k_wire.specs.PrivateWords.{IsMoment}
+use Rattle.n2k_wire.specs.Inner.Stamp.{IsMoment}
 use Rattle.n2k_wire.proofs.CandumpLemmas.{name_parts, seconds_short}
 use Rattle.n2k_wire.proofs.DigitLemmas.{after-none}
 use Rattle.n2k_wire.proofs.HexDigits.{all_digits}
@@ -225,8 +225,8 @@ payload_read bytes ok short =
     rw (len, few, drop-length (encode_upper bytes), no_ending, take-length (encode_upper bytes), decode_of-encode_upper bytes ok) refl
 
 frame_read : (seen : Moment) (n : ℕ) (bytes : List ℕ) → IsBytes bytes → length bytes ≤ 8
-    → frame_of seen (Some n) (encode_upper bytes) ≡ Ok (entries.Frame (record { stamp = utc_text seen; id = split n; payload = bytes }))
-unfolding frame_of
+    → frame_or_skip seen (Some n) (encode_upper bytes) ≡ Ok (entries.Frame (record { stamp = utc_text seen; id = split n; payload = bytes }))
+unfolding frame_or_skip
 frame_read seen n bytes ok short = rw (no_other_frame (encode_upper bytes) (upper_hexes bytes ok), payload_read bytes ok short) refl
 
 -- ---- the line
@@ -255,7 +255,7 @@ candump_entry rest packing short =
     rw fits refl
 
 candump_by : (line outer text digits behind : List ℕ) (seen : Moment) (n : ℕ) (found : Entry) → stamped line ≡ Some (outer, text) → moment outer ≡ Some seen → framed text ≡ Some (digits, behind)
-    → identifier digits ≡ Ok (Some n) → frame_of seen (Some n) behind ≡ Ok found → candump line ≡ Ok found
+    → identifier digits ≡ Ok (Some n) → frame_or_skip seen (Some n) behind ≡ Ok found → candump line ≡ Ok found
 unfolding candump
 candump_by line outer text digits behind seen n found es em ef ei er = rw (es, em, ef, ei, er) refl
 

@@ -1,5 +1,5 @@
 -- Writing the parts of a candump line.
-use Rattle.std.proofs.Common.{◌≡◌, ℕ, zero, suc, ◌+◌, ◌*◌, ◌/◌, ◌%◌, ◌≤◌, List, [], ◌∷◌, ◌++◌, length, map, take, slice_index, refl, sym, ap, ◌∙◌, append_assoc, arith, Some, None, Ok, Err, codes, ◌-◌, ◌<◌, true, ltb, leb}
+use Rattle.std.proofs.Common.{◌≡◌, ℕ, zero, suc, ◌+◌, ◌*◌, ◌/◌, ◌%◌, ◌≤◌, List, [], ◌∷◌, ◌++◌, length, map, take, slice_index, refl, sym, ap, ◌∙◌, append_assoc, arith, Some, None, Ok, Err, codes, ◌<◌, true, ltb, leb}
 use Rattle.std.specs.Prelude.{decimal, IsTrue, ◌&&◌}
 use Rattle.std.proofs.lemmas.Bool.{and_parts, leb-true, ltb-true}
 use Rattle.std.specs.List.{list_all}
@@ -16,7 +16,7 @@ use Rattle.n2k_wire.specs.Candump.{is_interface, is_interface_byte}
 use Rattle.n2k_wire.specs.declared.fault.WireFault.TheVariants.{NoStamp, NoId, Memory}
 use Rattle.n2k_wire.specs.Identifier.{join}
 use Rattle.n2k_wire.specs.Packet.{PacketParts}
-use Rattle.n2k_wire.specs.PrivateWords.{behind_millis, second_front, IsStampText}
+use Rattle.n2k_wire.specs.Inner.Stamp.{IsStampText, behind_millis, second_front}
 use Rattle.n2k_wire.specs.Stamp.{Moment, millis_digits, utc_moment}
 use Rattle.n2k_wire.specs.Texts.{Appends, candump_line, candump_parts, candump_text}
 

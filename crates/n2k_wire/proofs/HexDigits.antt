@@ -12,7 +12,7 @@ use Rattle.std.proofs.Math.Seq.{drop-cons}
 use Rattle.std.proofs.Math.ListN.{drop_of_length-le}
 use lib.Lanes.{Each1, mask_l, pick_l, sel_l, top, zip2}
 use Rattle.hex.specs.Hex.{hex_digit_value, decode_pairs, decode_of}
-use Rattle.n2k_wire.specs.PrivateWords.{hex_value}
+use Rattle.n2k_wire.specs.Inner.Digits.{hex_value}
 use Rattle.n2k_wire.specs.Plain.{pair}
 use Rattle.n2k_wire.proofs.TextLemmas.{listed, listed_all}
 

@@ -3,7 +3,7 @@ use Rattle.std.proofs.Common.{◌≡◌, ℕ, ◌+◌, ◌*◌, ◌/◌, ◌%◌
 use Rattle.std.specs.Prelude.{◌==◌, if◌then◌else◌}
 use Rattle.std.proofs.lemmas.Bool.{and_parts, cases_Bool, lt-ltb, ltb-true, eq-eqb, eqb-true}
 use Rattle.n2k_wire.specs.declared.identifier.Id.{Id}
-use Rattle.n2k_wire.specs.Identifier.{split, join, is_joinable, is_addressed, format_of, low_byte, specific_of, source, pdu_specific, pdu_format, data_page, priority, everyone}
+use Rattle.n2k_wire.specs.Identifier.{split, join, is_joinable, is_addressed, format_of_pgn, low_byte, specific_of, source, pdu_specific, pdu_format, data_page, priority, everyone}
 
 -- a sum of priority, page and format, specific byte and source
 abbrev sum_of : ℕ → ℕ → ℕ → ℕ → ℕ
@@ -99,7 +99,7 @@ module _ (n : ℕ) (bits : n < 2 ^ 29) where
   joins_one : ltb (pdu_format n) 240 ≡ true → join one_address ≡ Some n
   unfolding one_address
   joins_one test =
-      let format : format_of (data_page n * 2 ^ 16 + pdu_format n * 2 ^ 8) ≡ pdu_format n = omega arith in
+      let format : format_of_pgn (data_page n * 2 ^ 16 + pdu_format n * 2 ^ 8) ≡ pdu_format n = omega arith in
       let addressed : is_addressed (data_page n * 2 ^ 16 + pdu_format n * 2 ^ 8) ≡ true = rw format test in
       let low : (low_byte (data_page n * 2 ^ 16 + pdu_format n * 2 ^ 8) == 0) ≡ true = eq-eqb _ _ (omega arith) in
       joins one_address n (omega arith) (omega arith) (rw addressed low) (rw addressed (omega arith))
@@ -107,7 +107,7 @@ module _ (n : ℕ) (bits : n < 2 ^ 29) where
   joins_all : ltb (pdu_format n) 240 ≡ false → join for_all ≡ Some n
   unfolding for_all
   joins_all test =
-      let format : format_of (data_page n * 2 ^ 16 + pdu_format n * 2 ^ 8 + pdu_specific n) ≡ pdu_format n = omega arith in
+      let format : format_of_pgn (data_page n * 2 ^ 16 + pdu_format n * 2 ^ 8 + pdu_specific n) ≡ pdu_format n = omega arith in
       let broadcast : is_addressed (data_page n * 2 ^ 16 + pdu_format n * 2 ^ 8 + pdu_specific n) ≡ false = rw format test in
       joins for_all n (omega arith) (omega arith) (rw broadcast refl) (rw broadcast (omega arith))
 

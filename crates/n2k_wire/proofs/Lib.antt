@@ -9,12 +9,12 @@ pub mod Columns
 pub mod PlainLemmas
 pub mod ReadBack
 pub mod TextLemmas
-pub mod Clocks
+pub mod SecondCaches
 pub mod SharedSeconds
-pub mod UsualFrames
-pub mod UsualLanes
-pub mod PlainByPlace
-pub mod UsualStamps
+pub mod FastFrames
+pub mod FastLanes
+pub mod PlainFast
+pub mod FastStamps
 pub mod PlainTexts
 pub mod UtcBack
 pub mod CleanTexts

@@ -13,7 +13,7 @@ use Rattle.n2k_wire.specs.declared.entry.Entry.TheVariants as entries
 use Rattle.n2k_wire.specs.declared.entry.Packing.{Packing}
 use Rattle.n2k_wire.specs.declared.entry.Packing.TheVariants as packings
 use Rattle.n2k_wire.specs.declared.identifier.Id.{Id}
-use Rattle.n2k_wire.specs.Candump.{stamped, framed, identifier, is_ending, is_other_frame, digits_len, payload, frame_of, candump}
+use Rattle.n2k_wire.specs.Candump.{stamped, framed, identifier, is_ending, is_other_frame, digits_len, payload, frame_or_skip, candump}
 use Rattle.n2k_wire.specs.Digits.{decimal_number}
 use Rattle.n2k_wire.specs.Entry.{IsEntry, IsShort, entry, is_candump, is_skipped, longest_line, settled}
 use Rattle.n2k_wire.specs.Identifier.{split, pdu_format}
@@ -21,7 +21,7 @@ use Rattle.n2k_wire.specs.Packet.{PacketParts, IsPacketParts, is_stamp}
 use Rattle.n2k_wire.specs.Plain.{Header, columns, number_to, pair, pairs, header, id_of, bytes_of, packed, packet_of, packet_of_columns, plain, plain_packet}
 use Rattle.n2k_wire.specs.Stamp.{Moment, moment, utc_text}
 use Rattle.n2k_wire.specs.Steps.{or_cause, holds_or, some_if}
-use Rattle.n2k_wire.specs.PrivateWords.{IsMoment}
+use Rattle.n2k_wire.specs.Inner.Stamp.{IsMoment}
 use Rattle.n2k_wire.proofs.UtcBack.{found, if_some, with_ok, with_some}
 use Rattle.n2k_wire.proofs.UtcStamps.{utc_is_stamp, moment_is_one}
 
@@ -108,8 +108,8 @@ bytes_fit len more bytes e =
 
 -- ---- candump lines
 
-frame_is_entry : (seen : Moment) (known : Option ℕ) (text : List ℕ) (e : Entry) → IsMoment seen → frame_of seen known text ≡ Ok e → IsEntry e
-unfolding frame_of
+frame_is_entry : (seen : Moment) (known : Option ℕ) (text : List ℕ) (e : Entry) → IsMoment seen → frame_or_skip seen known text ≡ Ok e → IsEntry e
+unfolding frame_or_skip
 frame_is_entry seen None text e is gives = let same : entries.Skip ≡ e = cc in subst IsEntry same tt
 frame_is_entry seen (Some n) text e is gives =
     elim (cases_Bool (is_other_frame text)) [

@@ -7,7 +7,7 @@ use Rattle.std.proofs.lemmas.Bool.{agree_below_at, cases_Bool, cases_lt, eqb-tru
 use Rattle.std.proofs.lemmas.Nat.{and_mask}
 use Rattle.hex.specs.Hex.{encode_with, lower_digits}
 use Rattle.n2k_wire.specs.Packet.{PacketParts}
-use Rattle.n2k_wire.specs.PrivateWords.{lower_lane}
+use Rattle.n2k_wire.specs.Inner.Digits.{lower_lane}
 use Rattle.std.proofs.lemmas.List.{length-take-le, take-take}
 use lib.Lanes.{pick_l, sel_l, top, zip2}
 use Rattle.itoa.proofs.Decimal.{decimal_two, decimal_four}

@@ -8,12 +8,12 @@ use Rattle.std.proofs.lemmas.List.{length-append, length-take-le}
 use Rattle.std.proofs.Math.Seq.{drop-append_seam}
 use Rattle.n2k_wire.specs.Calendar.{day_number}
 use Rattle.n2k_wire.specs.Digits.{decimal_digit, decimal_after, decimal_number}
-use Rattle.n2k_wire.specs.PrivateWords.{are_millis, second_front, IsSecond, IsStampText}
+use Rattle.n2k_wire.specs.Inner.Stamp.{IsSecond, IsStampText, are_millis, second_front}
 use Rattle.n2k_wire.specs.Stamp.{Moment, day_at_start, has_utc_form, millis_digits, number_at, second_behind_date, utc_moment}
 use Rattle.n2k_wire.specs.Steps.{some_if}
 use Rattle.n2k_wire.specs.Texts.{second_digits}
 use Rattle.n2k_wire.proofs.CandumpBack.{length-seconds}
-use Rattle.n2k_wire.proofs.Clocks.{number_read}
+use Rattle.n2k_wire.proofs.SecondCaches.{number_read}
 use Rattle.n2k_wire.proofs.UtcBack.{eight, if_some, moment_is, number_parts, three_back, with_some}
 
 part_same : (place digits : ℕ) (s b c : List ℕ) → place + digits ≤ length s → take digits (drop place (s ++ b)) ≡ take digits (drop place (s ++ c))

@@ -10,7 +10,7 @@ use Rattle.n2k_wire.specs.Calendar.{day_number, is_date, year_of, month_of, day_
 use Rattle.n2k_wire.specs.Digits.{decimal_digit, decimal_after, decimal_number}
 use Rattle.n2k_wire.specs.Stamp.{Moment, two_digits, four_digits, millis_digits, date_text, time_text, utc_text, has_utc_form, number_at, day_at_start, second_behind_date, utc_moment}
 use Rattle.n2k_wire.specs.Steps.{◌>>=◌, or_cause, some_if}
-use Rattle.n2k_wire.specs.PrivateWords.{IsMoment}
+use Rattle.n2k_wire.specs.Inner.Stamp.{IsMoment}
 use Rattle.n2k_wire.proofs.CalendarLemmas.{IsDateOf, date_of_number, to_last_day}
 use Rattle.n2k_wire.proofs.TextLemmas.{listed, listed_all}
 

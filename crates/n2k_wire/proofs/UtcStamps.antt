@@ -11,7 +11,7 @@ use Rattle.n2k_wire.specs.Digits.{decimal_after, decimal_number}
 use Rattle.n2k_wire.specs.Packet.{is_stamp, is_stamp_byte}
 use Rattle.n2k_wire.specs.Pieces.{cut_at}
 use Rattle.n2k_wire.specs.Stamp.{Moment, two_digits, four_digits, millis_digits, date_text, time_text, utc_text, moment, three_digits}
-use Rattle.n2k_wire.specs.PrivateWords.{IsMoment}
+use Rattle.n2k_wire.specs.Inner.Stamp.{IsMoment}
 use Rattle.n2k_wire.proofs.UtcBack.{with_some, if_some, after_cons, after_nil, number_parts}
 
 -- ---- the date of a day has digits enough

@@ -1,5 +1,6 @@
 -- Lines of can-utils' `candump -L`: `(seconds.fraction) interface ID#DATA`.
-use Rattle.std.specs.Prelude.{ℕ, ◌*◌, not, ◌==◌, ◌&&◌, ◌||◌, nat_lt, nat_le, Bool, true, false, if◌then◌else◌, List, [], ◌∷◌, length, take, drop, Option, Some, None, option_map, option_and_then, Result, Ok, Err}
+use Rattle.std.specs.Prelude.{ℕ, ◌*◌, not, ◌==◌, ◌&&◌, ◌||◌, nat_lt, nat_le, Bool, true, false, if◌then◌else◌, List, []}
+use Rattle.std.specs.Prelude.{◌∷◌, length, take, drop, Option, Some, None, option_map, option_and_then, Result, Ok, Err}
 use Rattle.std.specs.Char.{is_ascii_hexdigit}
 use Rattle.std.specs.Int.{w32, from_be_bytes}
 use Rattle.std.specs.List.{list_all, position_or_len}
@@ -38,7 +39,8 @@ stamped line = option_and_then (cut_at 41) (after_byte 40 line)
 -- to its first `#` and behind it.
 unfoldable pub framed : List ℕ → Option (List ℕ × List ℕ)
 framed text =
-    option_and_then (λ named. option_and_then (cut_at 35) (option_and_then skip_spaces (some_if (is_interface named.0) named.1)))
+    option_and_then (λ named. option_and_then (cut_at 35)
+    (option_and_then skip_spaces (some_if (is_interface named.0) named.1)))
     (option_and_then (cut_at 32) (option_and_then skip_spaces (after_byte 32 text)))
 
 -- The 29 bits of an extended identifier. None where the frame is skipped: an identifier of 3 digits (11 bits),
@@ -83,11 +85,12 @@ is_other_frame [] = false
 is_other_frame (b ∷ rest) = (b == 35) || (b == 82) || (b == 114)
 
 -- the frame of a known identifier, or one that is skipped
-unfoldable pub frame_of : Moment → Option ℕ → List ℕ → Result Entry BadCause
-frame_of seen None text = Ok entries.Skip
-frame_of seen (Some n) text =
+unfoldable pub frame_or_skip : Moment → Option ℕ → List ℕ → Result Entry BadCause
+frame_or_skip seen None text = Ok entries.Skip
+frame_or_skip seen (Some n) text =
     if is_other_frame text then Ok entries.Skip
-    else (or_cause causes.Data (payload text) >>= (λ bytes. Ok (entries.Frame (record { stamp = utc_text seen; id = split n; payload = bytes }))))
+    else (or_cause causes.Data (payload text)
+    >>= (λ bytes. Ok (entries.Frame (record { stamp = utc_text seen; id = split n; payload = bytes }))))
 
 -- the entry of a candump line, or the first of its causes
 unfoldable pub candump : List ℕ → Result Entry BadCause
@@ -96,4 +99,4 @@ candump line = do
   seen ← or_cause causes.Stamp (moment outer.0)
   inner ← or_cause causes.Form (framed outer.1)
   known ← identifier inner.0
-  frame_of seen known inner.1
+  frame_or_skip seen known inner.1

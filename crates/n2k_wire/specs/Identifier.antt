@@ -45,21 +45,22 @@ split n =
     }
 
 -- the PDU format and the PDU specific byte that a PGN holds
-abbrev pub format_of : ℕ → ℕ
-format_of pgn = pgn / 2 ^ 8 % 2 ^ 8
+abbrev pub format_of_pgn : ℕ → ℕ
+format_of_pgn pgn = pgn / 2 ^ 8 % 2 ^ 8
 
 abbrev pub low_byte : ℕ → ℕ
 low_byte pgn = pgn % 2 ^ 8
 
 -- whether a PGN is one of PDUs for one address
 abbrev pub is_addressed : ℕ → Bool
-is_addressed pgn = nat_lt (format_of pgn) first_broadcast_format
+is_addressed pgn = nat_lt (format_of_pgn pgn) first_broadcast_format
 
 -- Whether an identifier of 29 bits says this: the priority has three bits and the PGN eighteen; of a PDU1 the PGN has
 -- no low byte, and a PDU2 is for all.
 unfoldable pub is_joinable : Id → Bool
 is_joinable id =
-    nat_lt id.prio (2 ^ 3) && nat_lt id.pgn (2 ^ 18) && (if is_addressed id.pgn then low_byte id.pgn == 0 else id.dst == everyone)
+    nat_lt id.prio (2 ^ 3) && nat_lt id.pgn (2 ^ 18)
+    && (if is_addressed id.pgn then low_byte id.pgn == 0 else id.dst == everyone)
 
 -- the PDU specific byte: in a PDU1 the destination, in a PDU2 the low byte of the PGN
 abbrev pub specific_of : Id → ℕ

@@ -3,10 +3,10 @@ pub mod Candump
 pub mod Digits
 pub mod Entry
 pub mod Identifier
+pub mod Inner
 pub mod Packet
 pub mod Pieces
 pub mod Plain
-pub mod PrivateWords
 pub mod Stamp
 pub mod Steps
 pub mod Texts

@@ -56,8 +56,8 @@ pub record IsPacket (stamp : List ℕ) (id : Id) (payload : List ℕ) : Type 0 w
   pub pgn_ok : id.pgn ≤ greatest_pgn
   pub payload_ok : length payload ≤ longest_message
 
--- Parts that a packet can have: they make one, its addresses are of eight bits, and its data are bytes. The types of the
--- code say the last two, but a law over parts that needs them takes this as its premise.
+-- Parts that a packet can have: they make one, its addresses are of eight bits, and its data are bytes. The types of
+-- the code say the last two, but a law over parts that needs them takes this as its premise.
 pub record IsPacketParts (p : PacketParts) : Type 0 where
   pub packet_ok : IsPacket p.stamp p.id p.payload
   pub src_ok : p.id.src ≤ 255

@@ -1,5 +1,6 @@
 -- The parts of a line, by the bytes that stand between them.
-use Rattle.std.specs.Prelude.{ℕ, ◌+◌, not, ◌==◌, if◌then◌else◌, List, [], ◌∷◌, take, drop, Option, Some, None, option_map, position}
+use Rattle.std.specs.Prelude.{ℕ, ◌+◌, not, ◌==◌, if◌then◌else◌, List, [], ◌∷◌, take, drop, Option, Some, None}
+use Rattle.std.specs.Prelude.{option_map, position}
 
 -- what stands before the first such byte, and what stands after it
 unfoldable pub cut_at : ℕ → List ℕ → Option (List ℕ × List ℕ)

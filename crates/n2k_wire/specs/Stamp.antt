@@ -1,5 +1,6 @@
 -- Stamps of candump lines, `seconds.fraction` since 1970, and the UTC text that packets keep of them.
-use Rattle.std.specs.Prelude.{ℕ, ◌+◌, ◌*◌, ◌/◌, ◌%◌, ◌==◌, ◌&&◌, nat_lt, nat_le, Bool, List, [], ◌∷◌, ◌++◌, length, slice_index, take, drop, Option, Some, codes, option_and_then}
+use Rattle.std.specs.Prelude.{ℕ, ◌+◌, ◌*◌, ◌/◌, ◌%◌, ◌==◌, ◌&&◌, nat_lt, nat_le, Bool, List, [], ◌∷◌, ◌++◌, length}
+use Rattle.std.specs.Prelude.{slice_index, take, drop, Option, Some, codes, option_and_then}
 use Rattle.n2k_wire.specs.Calendar.{day_number, is_date, year_of, month_of, day_of_month}
 use Rattle.n2k_wire.specs.Digits.{decimal_number}
 use Rattle.n2k_wire.specs.Pieces.{cut_at}
@@ -64,7 +65,8 @@ time_text second =
 -- `YYYY-MM-DDTHH:MM:SS.mmmZ`
 unfoldable pub utc_text : Moment → List ℕ
 utc_text m =
-    date_text (m.seconds / seconds_of_day) ++ codes "T" ++ time_text (m.seconds % seconds_of_day) ++ codes "." ++ millis_digits m.millis ++ codes "Z"
+    date_text (m.seconds / seconds_of_day) ++ codes "T" ++ time_text (m.seconds % seconds_of_day)
+    ++ codes "." ++ millis_digits m.millis ++ codes "Z"
 
 -- the bytes of such a text
 abbrev pub utc_len : ℕ
@@ -73,7 +75,9 @@ utc_len = 24
 -- whether the bytes that are no digits stand in their places
 abbrev pub has_utc_form : List ℕ → Bool
 has_utc_form text =
-    (length text == utc_len) && (slice_index text 4 == 45) && (slice_index text 7 == 45) && (slice_index text 10 == 84) && (slice_index text 13 == 58) && (slice_index text 16 == 58) && (slice_index text 19 == 46) && (slice_index text 23 == 90)
+    (length text == utc_len) && (slice_index text 4 == 45) && (slice_index text 7 == 45)
+    && (slice_index text 10 == 84) && (slice_index text 13 == 58) && (slice_index text 16 == 58)
+    && (slice_index text 19 == 46) && (slice_index text 23 == 90)
 
 -- the number of so many decimal digits from a place on
 abbrev pub number_at : ℕ → ℕ → List ℕ → Option ℕ

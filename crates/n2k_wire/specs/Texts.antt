@@ -21,7 +21,8 @@ number_piece n = 44 ∷ decimal n
 -- `stamp,prio,pgn,src,dst,len,b0,b1,..`
 unfoldable pub plain_line : PacketParts → List ℕ
 plain_line p =
-    p.stamp ++ number_piece p.id.prio ++ number_piece p.id.pgn ++ number_piece p.id.src ++ number_piece p.id.dst ++ number_piece (length p.payload) ++ flat_map byte_piece p.payload
+    p.stamp ++ number_piece p.id.prio ++ number_piece p.id.pgn ++ number_piece p.id.src ++ number_piece p.id.dst
+    ++ number_piece (length p.payload) ++ flat_map byte_piece p.payload
 
 -- the same with its LF
 abbrev pub plain_text : PacketParts → List ℕ
@@ -34,7 +35,9 @@ second_digits n = drop (length (decimal n)) (codes "0000000000") ++ decimal n
 -- `(0000000010.300000) can0 1DFF0405#000BA39901414243`, of a moment, the 29 bits of an identifier and the data
 unfoldable pub candump_line : List ℕ → Moment → ℕ → List ℕ → List ℕ
 candump_line interface seen identifier payload =
-    codes "(" ++ second_digits seen.seconds ++ codes "." ++ millis_digits seen.millis ++ codes "000) " ++ interface ++ codes " " ++ encode_upper (to_be_bytes w32 identifier) ++ codes "#" ++ encode_upper payload
+    codes "(" ++ second_digits seen.seconds ++ codes "." ++ millis_digits seen.millis ++ codes "000) "
+    ++ interface ++ codes " "
+    ++ encode_upper (to_be_bytes w32 identifier) ++ codes "#" ++ encode_upper payload
 
 -- What candump writes of a packet in front of its data: the moment of its stamp and its identifier. The first that
 -- isn't there is the fault.

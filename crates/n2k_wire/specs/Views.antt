@@ -1,5 +1,5 @@
--- What a function answered is what a definition says, where the answer is seen as contracts see it. The crates above use
--- these words too.
+-- What a function answered is what a definition says, where the answer is seen as contracts see it. The crates above
+-- use these words too.
 use Rattle.std.specs.Prelude.{◌≡◌, Option, Some, None, Result, Ok, Err}
 
 -- A value that was answered is, seen by `view`, the one that the definition gives, and a refusal is its refusal.

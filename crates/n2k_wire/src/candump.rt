@@ -2,11 +2,14 @@
 ghost use Rattle.std.specs.Prelude.{◌≡◌, ◌≤◌, ◌<◌, ◌^◌, IfSome, IfOk, length, not, position, option_map};
 ghost use Rattle.std.specs.Char.{is_ascii_hexdigit};
 ghost use Rattle.std.specs.List.{list_all};
-ghost use Rattle.n2k_wire.specs.Candump.{candump, frame_payload, is_interface_byte, is_interface, stamped, framed, of_number, identifier, is_end, is_ending, digits_len, payload, is_other_frame, frame_of};
+ghost use Rattle.n2k_wire.specs.Candump.{candump, frame_payload, is_interface_byte, is_interface, stamped, framed};
+ghost use Rattle.n2k_wire.specs.Candump.{of_number, identifier, is_end, is_ending, digits_len, payload, is_other_frame};
+ghost use Rattle.n2k_wire.specs.Candump.{frame_or_skip};
 ghost use Rattle.std.specs.Int.{w32, from_be_bytes};
 ghost use Rattle.std.specs.Result.{result_ok};
 ghost use Rattle.hex.specs.Hex.{decode_of};
-ghost use Rattle.n2k_wire.specs.PrivateWords.{candump_entry, plain_moment, IsMoment};
+ghost use Rattle.n2k_wire.specs.Inner.Candump.{candump_entry};
+ghost use Rattle.n2k_wire.specs.Inner.Stamp.{IsMoment, plain_moment};
 ghost use Rattle.n2k_wire.specs.Views.{Finds, Gives};
 ghost use Rattle.n2k_wire.specs.Entry.{IsEntry, settled};
 ghost use Rattle.n2k_wire.specs.Packet.{IsPacket};
@@ -52,6 +55,12 @@ fn are_interface_bytes(name: &[u8]) -> bool
 }
 
 /// Whether a text is the name of an interface: 1 to 15 bytes from `!` to `~`.
+///
+/// ```rust
+/// assert!(rt; is_interface(b"can0"));
+/// assert!(rt; !is_interface(b"can 0"));
+/// assert!(rt; !is_interface(b""));
+/// ```
 #[tactic(auto, unfolding(crate::specs::Candump::is_interface))]
 pub fn is_interface(name: &[u8]) -> bool
     ensures { result ≡ is_interface name.now }
@@ -125,7 +134,7 @@ fn read_identifier(digits: &[u8]) -> Result<Option<u32>, BadCause>
     }
 }
 
-// Whether nothing follows, or a space and any bytes.
+/// Whether nothing follows, or a space and any bytes.
 fn is_end(rest: &[u8]) -> bool
     ensures { result ≡ is_end rest.now }
 {
@@ -149,7 +158,7 @@ fn is_ending(rest: &[u8]) -> bool
     }
 }
 
-fn place_of_other(text: &[u8]) -> Option<usize>
+fn find_non_hex(text: &[u8]) -> Option<usize>
     ensures { result ≡ position (λ b. not (is_ascii_hexdigit b)) text.now }
 {
     text.iter().position(|byte| !byte.is_ascii_hexdigit())
@@ -161,7 +170,7 @@ fn digits_len(text: &[u8]) -> usize
     ensures value { result ≡ digits_len text.now }
     ensures within { result ≤ length text.now }
 {
-    match place_of_other(text) {
+    match find_non_hex(text) {
         Some(at) => at,
         None => text.len(),
     }
@@ -196,11 +205,15 @@ fn read_payload(text: &[u8]) -> Option<ArrayVec<u8, FRAME_PAYLOAD>>
 
 /// The frame of these parts, or none where it is skipped.
 #[inline]
-#[tactic(auto, unfolding(crate::specs::Candump::frame_of))]
-fn frame_of(seen: Moment, known: Option<u32>, text: &[u8]) -> Result<Option<CandumpFrame>, BadCause>
+#[tactic(auto, unfolding(crate::specs::Candump::frame_or_skip))]
+fn frame_or_skip(
+    seen: Moment,
+    known: Option<u32>,
+    text: &[u8],
+) -> Result<Option<CandumpFrame>, BadCause>
     requires moment { IsMoment (plain_moment seen) }
     requires bits { IfSome known (λ n. n < 2 ^ 29) }
-    ensures entry { Gives candump_entry result (frame_of (plain_moment seen) known text.now) }
+    ensures entry { Gives candump_entry result (frame_or_skip (plain_moment seen) known text.now) }
     ensures valid { IfOk result (λ frame. IfSome frame (λ f. IsPacket f.stamp f.id f.«data».items)) }
     ensures short { IfOk result (λ frame. IfSome frame (λ f. length f.«data».items ≤ frame_payload)) }
 {
@@ -229,17 +242,17 @@ fn read_frame(line: &[u8]) -> Result<Option<CandumpFrame>, BadCause>
     let seen = read_moment(stamp).ok_or(BadCause::Stamp)?;
     let (digits, text) = read_framed(text).ok_or(BadCause::Form)?;
     let known = read_identifier(digits)?;
-    frame_of(seen, known, text)
+    frame_or_skip(seen, known, text)
 }
 
 /// The entry of a candump line, put where that of an earlier line was.
-pub(crate) fn read_candump(line: &[u8], place: &mut Entry)
-    ensures entry { place.new ≡ settled (candump line.now) }
-    ensures valid { IsEntry place.new }
+pub(crate) fn read_candump(line: &[u8], out: &mut Entry)
+    ensures entry { out.new ≡ settled (candump line.now) }
+    ensures valid { IsEntry out.new }
 {
     match read_frame(line) {
-        Ok(Some(frame)) => set_frame(place, &frame.stamp, frame.id, frame.data.as_slice()),
-        Ok(None) => *place = Entry::Skip,
-        Err(cause) => *place = Entry::Bad(cause),
+        Ok(Some(frame)) => set_frame(out, &frame.stamp, frame.id, frame.data.as_slice()),
+        Ok(None) => *out = Entry::Skip,
+        Err(cause) => *out = Entry::Bad(cause),
     }
 }

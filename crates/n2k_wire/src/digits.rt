@@ -30,10 +30,8 @@ fn decimal_digits(digits: &[u8]) -> Option<u64>
 {
     let mut number = 0u64;
     for byte in digits {
-        match decimal_digit(*byte) {
-            Some(digit) => number = 10 * number + digit,
-            None => return None,
-        }
+        let digit = decimal_digit(*byte)?;
+        number = 10 * number + digit;
     }
     Some(number)
 }

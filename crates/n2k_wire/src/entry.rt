@@ -6,11 +6,11 @@ ghost use Rattle.n2k_wire.specs.Packet.{IsPacket};
 ghost use Rattle.n2k_wire.specs.declared.entry.Entry.TheVariants as entries;
 
 use crate::candump::{FRAME_PAYLOAD, read_candump};
+use crate::candump_fast::{SecondCache, read_candump_fast};
 use crate::identifier::Id;
 use crate::packet::Packet;
 use crate::plain::read_plain;
-use crate::plain_by_place::read_plain_by_place;
-use crate::usual::{Clock, read_usual};
+use crate::plain_fast::read_plain_fast;
 
 /// The most bytes of a line, without its LF and CR. Comments count too.
 pub const LONGEST_LINE: usize = 2048;
@@ -69,132 +69,150 @@ pub enum Entry {
 
 /// The entry of a line, which is handed in without its LF and CR. It takes no memory. For lines in a row a
 /// `LineReader` gives it at less cost.
+///
+/// ```rust
+/// let frame = read_line("(1.0) can0 18EAFF01#14F001".as_bytes(), Packing::Frames);
+/// assert!(rt; matches!(frame, Entry::Frame(packet) if packet.id().pgn == 59904));
+/// let note = read_line("# note".as_bytes(), Packing::Frames);
+/// assert!(rt; matches!(note, Entry::Skip));
+/// let piece = read_line("hello".as_bytes(), Packing::Frames);
+/// assert!(rt; matches!(piece, Entry::Bad(BadCause::Form)));
+/// ```
 pub fn read_line(line: &[u8], packing: Packing) -> Entry
     ensures entry { result ≡ entry line.now packing }
     ensures valid { IsEntry result }
     ensures short { IsShort result }
 {
-    let mut place = Entry::Skip;
-    read_line_into(line, packing, &mut place);
-    place
+    let mut entry = Entry::Skip;
+    read_line_into(line, packing, &mut entry);
+    entry
 }
 
-// The entry of a line, put where that of an earlier line was, so that no entry is moved.
+/// The entry of a line, put where that of an earlier line was, so that no entry is moved.
 #[tactic(auto, unfolding(crate::specs::Entry::entry))]
-fn read_line_into(line: &[u8], packing: Packing, place: &mut Entry)
-    ensures entry { place.new ≡ entry line.now packing }
-    ensures valid { IsEntry place.new }
-    ensures short { IsShort place.new }
+fn read_line_into(line: &[u8], packing: Packing, out: &mut Entry)
+    ensures entry { out.new ≡ entry line.now packing }
+    ensures valid { IsEntry out.new }
+    ensures short { IsShort out.new }
 {
     if line.len() > LONGEST_LINE {
-        *place = Entry::Bad(BadCause::Long);
+        *out = Entry::Bad(BadCause::Long);
         return;
     }
     match line {
-        [] | [b'#', ..] => *place = Entry::Skip,
-        [b'(', ..] => read_candump(line, place),
-        _ => read_plain(line, packing, place),
+        [] | [b'#', ..] => *out = Entry::Skip,
+        [b'(', ..] => read_candump(line, out),
+        _ => read_plain(line, packing, out),
     }
 }
 
 /// Reads lines one after the other, each into the room of the one before. Lines of one second mostly follow each other,
 /// and the text of the last second is kept, so that its date is worked out once.
-///
-/// ```text
-/// let mut reader = LineReader::new();
-/// let entry = reader.read(line, Packing::Frames);
-/// ```
 #[derive(Drop)]
 pub struct LineReader {
-    clock: Clock,
+    cache: SecondCache,
     entry: Entry,
 }
 
 impl LineReader {
     /// Before the first line.
+    ///
+    /// ```rust
+    /// let mut reader = LineReader::new();
+    /// let entry = reader.read("(1.0) can0 18EAFF01#14F001".as_bytes(), Packing::Frames);
+    /// assert!(rt; matches!(entry, Entry::Frame(packet) if packet.id().pgn == 59904));
+    /// ```
     pub fn new() -> LineReader {
         LineReader {
-            clock: Clock::new(),
+            cache: SecondCache::new(),
             entry: Entry::Skip,
         }
     }
 
     /// The entry of a line, as `read_line` says it. It takes no memory.
+    ///
+    /// ```rust
+    /// let mut reader = LineReader::new();
+    /// let entry = reader.read("(1.0) can0 18EAFF01#14F001".as_bytes(), Packing::Frames);
+    /// assert!(rt; matches!(entry, Entry::Frame(packet) if packet.id().pgn == 59904));
+    /// let entry = reader.read("(10) can0 1DFF0405#00".as_bytes(), Packing::Frames);
+    /// assert!(rt; matches!(entry, Entry::Bad(BadCause::Stamp)));
+    /// ```
     pub fn read(&mut self, line: &[u8], packing: Packing) -> &Entry
         ensures entry { result.now ≡ entry line.now packing }
         ensures valid { IsEntry result.now }
         ensures short { IsShort result.now }
     {
-        read_next(&mut self.clock, line, packing, &mut self.entry);
+        read_next(&mut self.cache, line, packing, &mut self.entry);
         &self.entry
     }
 }
 
-// The entry of the line after those that the clock has seen.
+/// The entry of the line after those that the cache has seen.
 #[inline]
-fn read_next(clock: &mut Clock, line: &[u8], packing: Packing, place: &mut Entry)
-    ensures entry { place.new ≡ entry line.now packing }
-    ensures valid { IsEntry place.new }
-    ensures short { IsShort place.new }
+fn read_next(cache: &mut SecondCache, line: &[u8], packing: Packing, out: &mut Entry)
+    ensures entry { out.new ≡ entry line.now packing }
+    ensures valid { IsEntry out.new }
+    ensures short { IsShort out.new }
 {
-    match read_by_place(clock, line, packing, place) {
+    match read_fast(cache, line, packing, out) {
         Some(()) => {}
-        None => read_line_into(line, packing, place),
+        None => read_line_into(line, packing, out),
     }
 }
 
-// The entry of a line of the usual form, of a candump line or of a plain line. Of another line it answers nothing.
+/// The entry of a candump line or a plain line of the common form. Of another line it answers nothing.
 #[inline]
-fn read_by_place(clock: &mut Clock, line: &[u8], packing: Packing, place: &mut Entry) -> Option<()>
-    ensures entry { IfSome result (λ done. place.new ≡ entry line.now packing) }
-    ensures valid { IfSome result (λ done. IsEntry place.new) }
-    ensures short { IfSome result (λ done. IsShort place.new) }
+fn read_fast(cache: &mut SecondCache, line: &[u8], packing: Packing, out: &mut Entry) -> Option<()>
+    ensures entry { IfSome result (λ done. out.new ≡ entry line.now packing) }
+    ensures valid { IfSome result (λ done. IsEntry out.new) }
+    ensures short { IfSome result (λ done. IsShort out.new) }
 {
     match line {
-        [b'(', ..] => read_usual(clock, line, place),
-        _ => read_plain_by_place(line, packing, place),
+        [b'(', ..] => read_candump_fast(cache, line, out),
+        _ => read_plain_fast(line, packing, out),
     }
 }
 
 /// Makes an entry the frame of these parts, in the room of the packet that it has, if it is a frame.
-pub(crate) fn set_frame(place: &mut Entry, stamp: &[u8], id: Id, data: &[u8])
+pub(crate) fn set_frame(out: &mut Entry, stamp: &[u8], id: Id, data: &[u8])
     requires parts { IsPacket stamp.now id «data».now }
     requires short { length «data».now ≤ frame_payload }
-    ensures value { place.new ≡ entries.Frame (record { stamp = stamp.now; id = id; payload = «data».now }) }
-    ensures valid { IsEntry place.new }
+    ensures value { out.new ≡ entries.Frame (record { stamp = stamp.now; id = id; payload = «data».now }) }
+    ensures valid { IsEntry out.new }
 {
-    match place {
+    match out {
         Entry::Frame(packet) => packet.set_parts(stamp, id, data),
-        _ => *place = Entry::Frame(Packet::of_parts(stamp, id, data)),
+        _ => *out = Entry::Frame(Packet::from_parts(stamp, id, data)),
     }
 }
 
 /// `set_frame` of a stamp and data whose lengths are known, so that they are moved and not copied byte by byte.
 #[inline]
-pub(crate) fn set_usual<const N: usize>(
-    place: &mut Entry,
+pub(crate) fn set_frame_fast<const N: usize>(
+    out: &mut Entry,
     stamp: &[u8; N],
     id: Id,
     data: &[u8; FRAME_PAYLOAD],
 )
     requires { IsPacket stamp.now id «data».now }
-    ensures value { place.new ≡ entries.Frame (record { stamp = stamp.now; id = id; payload = «data».now }) }
-    ensures valid { IsEntry place.new }
+    ensures value { out.new ≡ entries.Frame (record { stamp = stamp.now; id = id; payload = «data».now }) }
+    ensures valid { IsEntry out.new }
 {
-    match place {
+    match out {
         Entry::Frame(packet) => packet.set_parts(stamp, id, data),
-        _ => set_frame(place, stamp, id, data),
+        _ => set_frame(out, stamp, id, data),
     }
 }
 
 /// Makes an entry the whole message of these parts, in the room of the packet that it has, if it is one.
-pub(crate) fn set_whole(place: &mut Entry, stamp: &[u8], id: Id, data: &[u8])
+pub(crate) fn set_whole(out: &mut Entry, stamp: &[u8], id: Id, data: &[u8])
     requires { IsPacket stamp.now id «data».now }
-    ensures value { place.new ≡ entries.Whole (record { stamp = stamp.now; id = id; payload = «data».now }) }
-    ensures valid { IsEntry place.new }
+    ensures value { out.new ≡ entries.Whole (record { stamp = stamp.now; id = id; payload = «data».now }) }
+    ensures valid { IsEntry out.new }
 {
-    match place {
+    match out {
         Entry::Whole(packet) => packet.set_parts(stamp, id, data),
-        _ => *place = Entry::Whole(Packet::of_parts(stamp, id, data)),
+        _ => *out = Entry::Whole(Packet::from_parts(stamp, id, data)),
     }
 }

@@ -27,6 +27,11 @@ const EVERYONE: u8 = 255;
 const GREATEST_BUS_PGN: u32 = 0x3_ffff;
 
 /// What the 29 bits of an identifier say (ISO 11783-3).
+///
+/// ```rust
+/// let id = split_id(0x09F8_027F);
+/// assert_eq!(rt; (id.prio, id.pgn, id.src, id.dst), (2, 129026, 127, 255));
+/// ```
 #[tactic(auto, unfolding(crate::specs::Identifier::split))]
 pub fn split_id(identifier: u32) -> Id
     requires { identifier < 2 ^ 29 }
@@ -91,6 +96,12 @@ fn specific_of(id: &Id) -> u8
 /// The 29 bits of the identifier that says this (ISO 11783-3). `None` where no identifier does: the priority is over
 /// 7, the PGN has more than 18 bits, a PGN for one address (PDU1) has a low byte, or one for all (PDU2) has another
 /// destination than 255.
+///
+/// ```rust
+/// let id = split_id(0x09F8_027F);
+/// assert_eq!(rt; join_id(&id), Some(0x09F8_027F));
+/// assert_eq!(rt; join_id(&Id { dst: 9, ..id }), None);
+/// ```
 #[tactic(auto, unfolding(crate::specs::Identifier::join, crate::specs::Identifier::is_joinable))]
 pub fn join_id(id: &Id) -> Option<u32>
     ensures value { result ≡ join id.now }

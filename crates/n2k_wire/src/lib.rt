@@ -1,5 +1,17 @@
 //! Lines of a log, CAN identifiers, packets, and the texts of packets.
 //!
+//! ```rust
+//! let line = "(1502979132.106111) can0 09F8027F#00FCFFFF0000FFFF";
+//! let Entry::Frame(packet) = read_line(line.as_bytes(), Packing::Frames) else {
+//!     return Err("no frame".into());
+//! };
+//! assert_eq!(rt; (packet.id().pgn, packet.data().len()), (129026, 8));
+//! let mut text = Vec::new(alloc);
+//! plain_text(alloc, &packet, &mut text)?;
+//! let wanted = "2017-08-17T14:12:12.106Z,2,129026,127,255,8,00,fc,ff,ff,00,00,ff,ff\n";
+//! assert_eq!(rt; text.as_slice(), wanted.as_bytes());
+//! ```
+//!
 //! - `read_line` says what one line of a log is (`Entry`): a frame or a whole message as a `Packet`, a line to skip,
 //!   or a bad line with its cause (`BadCause`). A line is one of `candump -L` or a plain line. For the lines of a log,
 //!   one after the other, use a `LineReader`: it answers the same, and moves no packet.
@@ -9,10 +21,14 @@
 //!   `is_interface` is the test of an interface's name. `laws` has what ties these calls together.
 //!
 //! No other call takes memory. Each answer is a stated function of the bytes that were given.
+//!
+//! Each example is a test of `n2k_tests`, in the same words. In them `rt` is the runtime that `main` or a test is
+//! handed, and `alloc` its allocator, `rt.alloc()`; `frame_in(line)` is the packet of a line's frame.
 #![tactic(auto)]
 
 mod candump;
-mod candump_lines;
+mod candump_fast;
+mod candump_writer;
 mod digits;
 mod entry;
 mod fault;
@@ -21,17 +37,16 @@ pub mod laws;
 mod packet;
 mod pieces;
 mod plain;
-mod plain_by_place;
-mod plain_line;
+mod plain_fast;
+mod plain_writer;
 mod stamp;
-mod usual;
 
 pub use candump::{FRAME_PAYLOAD, is_interface};
-pub use candump_lines::{CandumpLines, candump_text};
+pub use candump_writer::{CandumpLines, candump_text};
 pub use entry::{BadCause, Entry, LONGEST_LINE, LineReader, Packing, read_line};
 pub use fault::WireFault;
 pub use identifier::{Id, join_id, split_id};
 pub use packet::{GREATEST_PGN, Packet};
 pub use plain::GREATEST_ADDRESS;
-pub use plain_line::plain_text;
+pub use plain_writer::plain_text;
 pub use stamp::UTC_LEN;

@@ -2,7 +2,8 @@
 ghost use Rattle.std.specs.Prelude.{◌≡◌, ◌≤◌, length, take};
 ghost use Rattle.std.specs.List.{list_all};
 ghost use Rattle.std.specs.Option.{SomeIff};
-ghost use Rattle.n2k_wire.specs.Packet.{IsPacket, IsPacketParts, is_stamp, is_stamp_byte, is_stamp_start, longest_message, longest_stamp};
+ghost use Rattle.n2k_wire.specs.Packet.{IsPacket, IsPacketParts, is_stamp, is_stamp_byte, is_stamp_start};
+ghost use Rattle.n2k_wire.specs.Packet.{longest_message, longest_stamp};
 
 use crate::candump::FRAME_PAYLOAD;
 use crate::identifier::Id;
@@ -42,14 +43,14 @@ impl Model for Packet {
         × (p.data_len ≤ 223) };
 }
 
-// A byte that a stamp may hold.
+/// A byte that a stamp may hold.
 fn is_stamp_byte(byte: u8) -> bool
     ensures { result ≡ is_stamp_byte byte }
 {
     (byte >= b' ') & (byte <= b'~') & (byte != b',')
 }
 
-// It looks at each byte, without a branch.
+/// It looks at each byte, without a branch.
 #[inline]
 fn are_stamp_bytes(text: &[u8]) -> bool
     ensures { result ≡ list_all is_stamp_byte text.now }
@@ -61,7 +62,7 @@ fn are_stamp_bytes(text: &[u8]) -> bool
     all
 }
 
-// A byte that a stamp may begin with.
+/// A byte that a stamp may begin with.
 fn is_stamp_start(byte: u8) -> bool
     ensures { result ≡ is_stamp_start byte }
 {
@@ -84,6 +85,13 @@ pub(crate) fn is_stamp(text: &[u8]) -> bool
 impl Packet {
     /// The packet of these parts. `None` where the stamp isn't a stamp, the priority is over 7, the PGN over
     /// 16777215, or the data are over 223 bytes.
+    ///
+    /// ```rust
+    /// let id = split_id(0x18EA_FF01);
+    /// let packet = Packet::new(b"12:00:01", id, &[0x14, 0xf0, 0x01]).ok_or("a packet")?;
+    /// assert_eq!(rt; packet.stamp(), b"12:00:01".as_slice());
+    /// assert!(rt; Packet::new(b"12,00,01", id, &[]).is_none());
+    /// ```
     pub fn new(stamp: &[u8], id: Id, data: &[u8]) -> Option<Packet>
         ensures { SomeIff result (IsPacket stamp.now id «data».now)
             (record { stamp = stamp.now; id = id; payload = «data».now }) }
@@ -94,12 +102,12 @@ impl Packet {
         if data.len() > LONGEST_MESSAGE {
             return None;
         }
-        Some(Packet::of_parts(stamp, id, data))
+        Some(Packet::from_parts(stamp, id, data))
     }
 
     /// The packet of parts that make one.
     #[inline]
-    pub(crate) fn of_parts(stamp: &[u8], id: Id, data: &[u8]) -> Packet
+    pub(crate) fn from_parts(stamp: &[u8], id: Id, data: &[u8]) -> Packet
         requires { IsPacket stamp.now id «data».now }
         ensures value { result ≡ record { stamp = stamp.now; id = id; payload = «data».now } }
         ensures valid { IsPacketParts result }
@@ -118,6 +126,13 @@ impl Packet {
     }
 
     /// The packet with this stamp and identifier and these data, of at most 223 bytes.
+    ///
+    /// ```rust
+    /// let packet = frame_in("(1.0) can0 18EAFF01#14F001")?;
+    /// let longer = packet.with_data(&[0x20; 9]);
+    /// assert_eq!(rt; longer.stamp(), packet.stamp());
+    /// assert_eq!(rt; longer.data(), [0x20; 9].as_slice());
+    /// ```
     #[inline]
     pub fn with_data(&self, data: &[u8]) -> Packet
         requires { length «data».now ≤ longest_message }
@@ -135,6 +150,14 @@ impl Packet {
     }
 
     /// Makes it a frame of a message, with these data, in its own place.
+    ///
+    /// ```rust
+    /// let message = frame_in("(2.0) can0 1DFF0405#")?;
+    /// let mut frame = frame_in("(1.0) can0 18EAFF01#14F001")?;
+    /// frame.set_frame(&message, &[0, 11, 0xa3, 0x99, 1, 0x41, 0x42, 0x43]);
+    /// assert_eq!(rt; frame.id(), message.id());
+    /// assert_eq!(rt; frame.data().len(), 8);
+    /// ```
     #[inline]
     pub fn set_frame(&mut self, message: &Packet, data: &[u8; FRAME_PAYLOAD])
         ensures { self.new ≡ record { stamp = message.now.stamp; id = message.now.id; payload = «data».now } }
@@ -161,6 +184,11 @@ impl Packet {
     }
 
     /// The stamp, as text.
+    ///
+    /// ```rust
+    /// let packet = frame_in("(1.0) can0 18EAFF01#14F001")?;
+    /// assert_eq!(rt; packet.stamp(), "1970-01-01T00:00:01.000Z".as_bytes());
+    /// ```
     pub fn stamp(&self) -> &[u8]
         ensures value { result.now ≡ self.now.stamp }
         ensures valid { IsPacket self.now.stamp self.now.id self.now.payload }
@@ -170,7 +198,7 @@ impl Packet {
 
     /// The stamp in its room, and how many bytes it has.
     #[inline]
-    pub(crate) fn stamp_in_room(&self) -> (&[u8; LONGEST_STAMP], usize)
+    pub(crate) fn stamp_buffer(&self) -> (&[u8; LONGEST_STAMP], usize)
         ensures value { take result.1 result.0.now ≡ self.now.stamp }
         ensures len { result.1 ≤ longest_stamp }
     {
@@ -178,6 +206,11 @@ impl Packet {
     }
 
     /// The identifier.
+    ///
+    /// ```rust
+    /// let packet = frame_in("(1.0) can0 18EAFF01#14F001")?;
+    /// assert_eq!(rt; (packet.id().pgn, packet.id().src), (59904, 1));
+    /// ```
     pub fn id(&self) -> Id
         ensures value { result ≡ self.now.id }
         ensures valid { IsPacket self.now.stamp self.now.id self.now.payload }
@@ -186,6 +219,11 @@ impl Packet {
     }
 
     /// The data, in the order of the bus.
+    ///
+    /// ```rust
+    /// let packet = frame_in("(1.0) can0 18EAFF01#14F001")?;
+    /// assert_eq!(rt; packet.data(), [0x14, 0xf0, 0x01].as_slice());
+    /// ```
     pub fn data(&self) -> &[u8]
         ensures value { result.now ≡ self.now.payload }
         ensures valid { IsPacket self.now.stamp self.now.id self.now.payload }

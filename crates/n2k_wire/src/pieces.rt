@@ -4,13 +4,13 @@ ghost use Rattle.n2k_wire.specs.Views.{Finds};
 ghost use Rattle.n2k_wire.specs.Pieces.{cut_at, after_byte, skip_spaces};
 
 #[tactic(auto, using(crate::proofs::FirstPlaces::first_place))]
-fn place_of(byte: u8, bytes: &[u8]) -> Option<usize>
+fn find_byte(byte: u8, bytes: &[u8]) -> Option<usize>
     ensures { result ≡ position (λ b. b == byte) bytes.now }
 {
     memchr::memchr(byte, bytes)
 }
 
-fn place_of_other(byte: u8, bytes: &[u8]) -> Option<usize>
+fn find_other_byte(byte: u8, bytes: &[u8]) -> Option<usize>
     ensures { result ≡ position (λ b. not (b == byte)) bytes.now }
 {
     bytes.iter().position(|b| *b != byte)
@@ -21,10 +21,8 @@ fn place_of_other(byte: u8, bytes: &[u8]) -> Option<usize>
 pub(crate) fn cut_at(separator: u8, bytes: &[u8]) -> Option<(&[u8], &[u8])>
     ensures { Finds (λ x. (x.0.now, x.1.now)) result (cut_at separator bytes.now) }
 {
-    match place_of(separator, bytes) {
-        Some(at) => Some((bytes.split_at(at).0, bytes.split_at(at + 1).1)),
-        None => None,
-    }
+    let at = find_byte(separator, bytes)?;
+    Some((bytes.split_at(at).0, bytes.split_at(at + 1).1))
 }
 
 /// What follows this byte, where the bytes begin with it.
@@ -43,8 +41,6 @@ pub(crate) fn after_byte(first: u8, bytes: &[u8]) -> Option<&[u8]>
 pub(crate) fn skip_spaces(bytes: &[u8]) -> Option<&[u8]>
     ensures { Finds (λ x. x.now) result (skip_spaces bytes.now) }
 {
-    match place_of_other(b' ', bytes) {
-        Some(at) => Some(bytes.split_at(at).1),
-        None => None,
-    }
+    let at = find_other_byte(b' ', bytes)?;
+    Some(bytes.split_at(at).1)
 }

@@ -1,7 +1,8 @@
 //! Plain lines: `stamp,prio,pgn,src,dst,len,b0,b1,..`, the format that canboat's programs read and write.
 ghost use Rattle.std.specs.Prelude.{◌≡◌, ◌≤◌, [], ◌∷◌, length, IfSome, IfOk};
-ghost use Rattle.n2k_wire.specs.Plain.{plain, plain_packet, columns, number_to, pair, header, id_of, bytes_of, is_frame, packed};
-ghost use Rattle.n2k_wire.specs.PrivateWords.{columns_left, plain_header};
+ghost use Rattle.n2k_wire.specs.Plain.{plain, plain_packet, columns, number_to, pair, header, id_of, bytes_of};
+ghost use Rattle.n2k_wire.specs.Plain.{is_frame, packed};
+ghost use Rattle.n2k_wire.specs.Inner.Plain.{columns_left, plain_header};
 ghost use Rattle.n2k_wire.specs.Views.{Finds, Gives};
 ghost use Rattle.n2k_wire.specs.Entry.{IsEntry, settled};
 ghost use Rattle.n2k_wire.specs.Packet.{IsPacket, greatest_pgn, greatest_priority, longest_message};
@@ -117,10 +118,8 @@ fn read_bytes(
             return None;
         };
         let (column, rest) = first_column(text);
-        match read_pair(column) {
-            Some(byte) => bytes.push(byte),
-            None => return None,
-        }
+        let byte = read_pair(column)?;
+        bytes.push(byte);
         left = rest;
     }
     match left {
@@ -162,26 +161,26 @@ fn read_packet<'a>(
 }
 
 /// Makes an entry that of a plain line with these parts, in the room of the packet that it has, if it is of its kind.
-pub(crate) fn set_packed(place: &mut Entry, packing: Packing, stamp: &[u8], id: Id, data: &[u8])
+pub(crate) fn set_packed(out: &mut Entry, packing: Packing, stamp: &[u8], id: Id, data: &[u8])
     requires { IsPacket stamp.now id «data».now }
-    ensures value { place.new ≡ packed packing (record { stamp = stamp.now; id = id; payload = «data».now }) }
-    ensures valid { IsEntry place.new }
+    ensures value { out.new ≡ packed packing (record { stamp = stamp.now; id = id; payload = «data».now }) }
+    ensures valid { IsEntry out.new }
 {
     if is_frame(packing, data.len()) {
-        set_frame(place, stamp, id, data);
+        set_frame(out, stamp, id, data);
     } else {
-        set_whole(place, stamp, id, data);
+        set_whole(out, stamp, id, data);
     }
 }
 
 /// The entry of a plain line, put where that of an earlier line was.
-pub(crate) fn read_plain(line: &[u8], packing: Packing, place: &mut Entry)
-    ensures entry { place.new ≡ settled (plain packing line.now) }
-    ensures valid { IsEntry place.new }
+pub(crate) fn read_plain(line: &[u8], packing: Packing, out: &mut Entry)
+    ensures entry { out.new ≡ settled (plain packing line.now) }
+    ensures valid { IsEntry out.new }
 {
     let mut data = ArrayVec::new();
     match read_packet(line, &mut data) {
-        Ok((stamp, id)) => set_packed(place, packing, stamp, id, data.as_slice()),
-        Err(cause) => *place = Entry::Bad(cause),
+        Ok((stamp, id)) => set_packed(out, packing, stamp, id, data.as_slice()),
+        Err(cause) => *out = Entry::Bad(cause),
     }
 }

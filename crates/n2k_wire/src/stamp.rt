@@ -5,8 +5,9 @@ ghost use Rattle.jiff_core.specs.Date.{epoch_day};
 ghost use Rattle.n2k_wire.specs.Steps.{some_if};
 ghost use Rattle.std.specs.List.{list_all};
 ghost use Rattle.n2k_wire.specs.Packet.{is_stamp, is_stamp_byte};
-ghost use Rattle.n2k_wire.specs.PrivateWords.{plain_moment, IsMoment, last_day};
-ghost use Rattle.n2k_wire.specs.Stamp.{seconds_of_day, utc_len, moment, three_digits, two_digits, date_text, time_text, utc_text, has_utc_form, number_at, day_at_start, second_behind_date, utc_moment};
+ghost use Rattle.n2k_wire.specs.Inner.Stamp.{IsMoment, last_day, plain_moment};
+ghost use Rattle.n2k_wire.specs.Stamp.{seconds_of_day, utc_len, moment, three_digits, two_digits, date_text, time_text};
+ghost use Rattle.n2k_wire.specs.Stamp.{utc_text, has_utc_form, number_at, day_at_start, second_behind_date, utc_moment};
 ghost use Rattle.n2k_wire.specs.Calendar.{day_number, is_date, year_of, month_of, day_of_month};
 ghost use Rattle.n2k_wire.specs.Views.{Finds};
 

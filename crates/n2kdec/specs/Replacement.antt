@@ -1,6 +1,6 @@
 -- How a text comes to a name: it takes the place of another, so that at each moment one of the two is there, whole; or, where the
 -- folder does not allow that, it is written over the file itself.
-use Rattle.std.specs.Prelude.{◌≡◌, ◌⊎◌, ◌<◌, ◌++◌, ℕ, Bool, true, false, List, [], ◌∷◌, Option, Some, None, IfSome, Result, Ok, Err, IsErr, OnOk, MatchResult}
+use Rattle.std.specs.Prelude.{◌≡◌, ◌⊎◌, ◌<◌, ◌++◌, ℕ, Bool, true, false, List, [], ◌∷◌, Option, Some, None, IfSome, codes, Result, Ok, Err, IsErr, OnOk, MatchResult}
 use Rattle.n2kdec.specs.Folder.{Call, Content, FileMayBeLeft, MayBeLeft, MayHave, create, cut_short, empty, failures, refused, remove, sync, turn, write}
 use Rattle.n2kdec.specs.declared.folder.Kind.{Kind}
 use Rattle.n2kdec.specs.declared.folder.Kind.TheVariants.{Alone, Shared, Special}
@@ -109,6 +109,11 @@ KeepsText old new name text result =
     FromTo old new (λ before after. (kind : Option Kind) × KeepsBy kind (Some (turn name kind ∷ before)) (Some after) text result)
 
 -- ---- what a run reads
+
+-- the path of the log: without one that of standard input
+abbrev pub read_log : Option (List ℕ) → List ℕ
+read_log None = codes "/dev/stdin"
+read_log (Some path) = path
 
 -- this path, where one is given, is not known to lead to the file
 abbrev pub IsApart : (List ℕ → Option Bool) → Option (List ℕ) → Type 0

@@ -3,7 +3,6 @@ ghost use Rattle.std.specs.Prelude.{◌≡◌, ◌⊎◌, ℕ, None, IfErr, IfOk
 ghost use Rattle.n2kdec.specs.Machine.{AddsFailures, CountsOpening, IsTerminal, World, bytes_of};
 
 use crate::fault::Fault;
-use crate::keeper::Keeper;
 use n2k_run::{Sink, Source};
 use std::alloc::Global;
 
@@ -37,9 +36,6 @@ pub trait Machine {
 
     /// Standard error.
     type Errors: Sink + Drop;
-
-    /// What keeps a state.
-    type Store: Keeper + Drop;
 
     /// The words that were typed, and the bytes that can be read, where they are known. No call changes them.
     ghost world: { Self → World };

@@ -101,8 +101,6 @@ impl<'a> Machine for MemoryMachine<'a> {
 
     type Errors = MemorySink;
 
-    type Store = MemoryStore;
-
     ghost world = { λ m. record {
       typed = Some (texts m.words.now);
       file = λ name. bytes_under name m.files.now;

@@ -152,13 +152,13 @@ fn read_state<M: Machine>(
 }
 
 // Performs what the words name over the log that they name, or over standard input.
-fn perform_log<M: Machine>(
+fn perform_log<M: Machine, K: Keeper>(
     alloc: Global,
     machine: &mut M,
     words: &Words,
     table: &[u8],
     state: Option<&[u8]>,
-    outlets: &mut Outlets<M::Output, M::Errors, M::Store>,
+    outlets: &mut Outlets<M::Output, M::Errors, K>,
 ) -> Result<u8, Fault>
     requires command { IsCommand words.now }
     requires interface { IsInterface (interface_word words.now) }
@@ -168,8 +168,8 @@ fn perform_log<M: Machine>(
     requires state { IsState (M.world machine.old) (resume_word words.now) (option_map (λ bytes. bytes.now) state) }
     ensures same { M.world machine.new ≡ M.world machine.old }
     ensures follows { FollowsWords (M.world machine.old) words.now
-        (outside M.Output.Sink M.Errors.Sink M.Store.Keeper (M.failed_reads machine.old) outlets.old)
-        (outside M.Output.Sink M.Errors.Sink M.Store.Keeper (M.failed_reads machine.new) outlets.new) result }
+        (outside M.Output.Sink M.Errors.Sink K.Keeper (M.failed_reads machine.old) outlets.old)
+        (outside M.Output.Sink M.Errors.Sink K.Keeper (M.failed_reads machine.new) outlets.new) result }
 {
     let mut log = open(machine, words.log(), Fault::Read)?;
     let answer = perform(
@@ -187,18 +187,18 @@ fn perform_log<M: Machine>(
 }
 
 // Reads the files that the words name, and performs what they name.
-fn perform_admitted<M: Machine>(
+fn perform_admitted<M: Machine, K: Keeper>(
     alloc: Global,
     machine: &mut M,
     words: &Words,
-    outlets: &mut Outlets<M::Output, M::Errors, M::Store>,
+    outlets: &mut Outlets<M::Output, M::Errors, K>,
 ) -> Result<u8, Fault>
     requires command { IsCommand words.now }
     requires interface { IsInterface (interface_word words.now) }
     ensures same { M.world machine.new ≡ M.world machine.old }
     ensures follows { FollowsWords (M.world machine.old) words.now
-        (outside M.Output.Sink M.Errors.Sink M.Store.Keeper (M.failed_reads machine.old) outlets.old)
-        (outside M.Output.Sink M.Errors.Sink M.Store.Keeper (M.failed_reads machine.new) outlets.new) result }
+        (outside M.Output.Sink M.Errors.Sink K.Keeper (M.failed_reads machine.old) outlets.old)
+        (outside M.Output.Sink M.Errors.Sink K.Keeper (M.failed_reads machine.new) outlets.new) result }
 {
     let table = read_table(alloc, machine, words)?;
     let resumed = read_state(alloc, machine, words)?;
@@ -230,17 +230,17 @@ fn admit<K: Keeper>(words: &Words, store: &mut K) -> Result<(), Fault>
 // Performs what the words name over its files, which are opened in the order of the faults: the table's and the
 // state's, which are read whole, and then the log.
 #[tactic(auto, using(crate::proofs::MachineLemmas::not_admitted, crate::proofs::MachineLemmas::admitted))]
-fn perform_files<M: Machine>(
+fn perform_files<M: Machine, K: Keeper>(
     alloc: Global,
     machine: &mut M,
     words: &Words,
-    outlets: &mut Outlets<M::Output, M::Errors, M::Store>,
+    outlets: &mut Outlets<M::Output, M::Errors, K>,
 ) -> Result<u8, Fault>
     requires { IsCommand words.now }
     ensures same { M.world machine.new ≡ M.world machine.old }
     ensures follows { FollowsWords (M.world machine.old) words.now
-        (outside M.Output.Sink M.Errors.Sink M.Store.Keeper (M.failed_reads machine.old) outlets.old)
-        (outside M.Output.Sink M.Errors.Sink M.Store.Keeper (M.failed_reads machine.new) outlets.new) result }
+        (outside M.Output.Sink M.Errors.Sink K.Keeper (M.failed_reads machine.old) outlets.old)
+        (outside M.Output.Sink M.Errors.Sink K.Keeper (M.failed_reads machine.new) outlets.new) result }
 {
     interface(words)?;
     admit(words, &mut outlets.store)?;
@@ -257,15 +257,15 @@ fn show<W: Sink>(text: &Word, output: &mut W) -> Result<u8, Fault>
 }
 
 // Does what was typed, and answers the status of what came to its end.
-fn do_typed<M: Machine>(
+fn do_typed<M: Machine, K: Keeper>(
     alloc: Global,
     machine: &mut M,
-    outlets: &mut Outlets<M::Output, M::Errors, M::Store>,
+    outlets: &mut Outlets<M::Output, M::Errors, K>,
 ) -> Result<u8, Fault>
     ensures same { M.world machine.new ≡ M.world machine.old }
     ensures does { DoesTyped (M.world machine.old)
-        (outside M.Output.Sink M.Errors.Sink M.Store.Keeper (M.failed_reads machine.old) outlets.old)
-        (outside M.Output.Sink M.Errors.Sink M.Store.Keeper (M.failed_reads machine.new) outlets.new) result }
+        (outside M.Output.Sink M.Errors.Sink K.Keeper (M.failed_reads machine.old) outlets.old)
+        (outside M.Output.Sink M.Errors.Sink K.Keeper (M.failed_reads machine.new) outlets.new) result }
 {
     let words = asked(alloc, machine)?;
     match &words {
@@ -303,14 +303,14 @@ fn tell_on<M: Machine>(alloc: Global, machine: &M, fault: &Fault, errors: &mut M
 }
 
 /// Does what was typed, tells a fault, and answers the status that the program ends with.
-pub fn run<M: Machine>(
+pub fn run<M: Machine, K: Keeper>(
     alloc: Global,
     machine: &mut M,
-    outlets: &mut Outlets<M::Output, M::Errors, M::Store>,
+    outlets: &mut Outlets<M::Output, M::Errors, K>,
 ) -> ExitCode
     ensures { RunsTyped (M.world machine.old)
-        (outside M.Output.Sink M.Errors.Sink M.Store.Keeper (M.failed_reads machine.old) outlets.old)
-        (outside M.Output.Sink M.Errors.Sink M.Store.Keeper (M.failed_reads machine.new) outlets.new)
+        (outside M.Output.Sink M.Errors.Sink K.Keeper (M.failed_reads machine.old) outlets.old)
+        (outside M.Output.Sink M.Errors.Sink K.Keeper (M.failed_reads machine.new) outlets.new)
         (exit_status result) }
 {
     match do_typed(alloc, machine, outlets) {

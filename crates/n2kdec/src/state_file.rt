@@ -1,12 +1,11 @@
 //! The files that keep the state after a run.
-ghost use Rattle.std.specs.Prelude.{◌≡◌, true, OnOk, option_map};
+ghost use Rattle.std.specs.Prelude.{◌≡◌, Some, true, OnOk, option_map};
 ghost use Rattle.n2k_run.specs.Device.{CountsFailure};
-ghost use Rattle.n2kdec.specs.Replacement.{HarmsNone, IsApart, KeepsText};
+ghost use Rattle.n2kdec.specs.Replacement.{HarmsNone, IsApart, KeepsText, read_log};
 
 use crate::folder::{Folder, Name};
 use crate::keeper::Keeper;
 use crate::replacement::keep_text;
-use crate::system_folder::SystemFolder;
 use n2k_run::{Failed, Sink};
 
 // The file that standard input is.
@@ -43,68 +42,43 @@ fn harms_none<F: Folder>(
         && is_apart(folder, Name::New, state)
 }
 
-// Whether a run may keep a state under this name that reads these files. One that may not counts as a failed call.
-fn admit_in<F: Folder>(
-    folder: &mut F,
-    failed_calls: &mut u64,
-    name: &str,
-    table: Option<&str>,
-    log: Option<&str>,
-    state: Option<&str>,
-) -> Result<(), Failed>
-    ensures harmless { OnOk result (HarmsNone (F.leads folder.new) (option_map (λ path. path.now) table.entry)
-        (option_map (λ path. path.now) log.entry) (option_map (λ path. path.now) state.entry)) }
-    ensures counted { CountsFailure failed_calls.old failed_calls.new result }
-{
-    if harms_none(folder, name, table, log, state) {
-        return Ok(());
-    }
-    *failed_calls = failed_calls.saturating_add(1);
-    Err(Failed)
-}
-
-// Keeps a state in the file that a name leads to, and counts a failed call.
-fn keep_in<F: Folder>(
-    folder: &mut F,
-    failed_calls: &mut u64,
-    name: &str,
-    state: &[u8],
-) -> Result<(), Failed>
-    ensures calls { KeepsText (F.calls folder.old) (F.calls folder.new) name.now state.now result }
-    ensures counted { CountsFailure failed_calls.old failed_calls.new result }
-{
-    let answer = keep_text(folder, name, state);
-    if answer.is_err() {
-        *failed_calls = failed_calls.saturating_add(1);
-    }
-    answer
-}
-
-/// The system's files as a keeper: a state takes the place of what its name has, which may be the file of `--resume`.
+/// The files of a folder as a keeper: a state takes the place of what its name has, which may be the file of `--resume`.
 #[derive(Drop)]
-pub struct StateFiles {
-    folder: SystemFolder,
+pub struct StateFiles<F> {
+    folder: F,
     failed_calls: u64,
 }
 
-impl StateFiles {
+impl<F: Folder> StateFiles<F> {
     /// The files of this folder. No call of them has failed.
-    pub fn new(folder: SystemFolder) -> Self
-        ensures { ⟦<StateFiles as Keeper>⟧.failed_calls result ≡ 0 }
+    pub fn new(folder: F) -> Self
+        ensures { ⟦<StateFiles<F> as Keeper>⟧.failed_calls result ≡ 0 }
     {
         StateFiles {
             folder,
             failed_calls: 0,
         }
     }
+
+    // Counts a call, where it failed, and answers it.
+    fn count(&mut self, answer: Result<(), Failed>) -> Result<(), Failed>
+        ensures folder { self.new.folder ≡ self.old.folder }
+        ensures answered { result ≡ answer }
+        ensures counted { CountsFailure self.old.failed_calls self.new.failed_calls result }
+    {
+        if answer.is_err() {
+            self.failed_calls = self.failed_calls.saturating_add(1);
+        }
+        answer
+    }
 }
 
-impl Keeper for StateFiles {
+impl<F: Folder> Keeper for StateFiles<F> {
     ghost use Rattle.std.specs.Prelude.{None};
 
     ghost failed_calls = { λ s. s.failed_calls };
 
-    // What a file has, nothing says.
+    // What a file has, nothing says: which calls were made of the folder, `keep` does.
     ghost kept = { λ _. None };
 
     fn admit(
@@ -113,20 +87,24 @@ impl Keeper for StateFiles {
         table: Option<&str>,
         log: Option<&str>,
         state: Option<&str>,
-    ) -> Result<(), Failed> {
-        let StateFiles {
-            folder,
-            failed_calls,
-        } = self;
+    ) -> Result<(), Failed>
+        ensures harmless { OnOk result (HarmsNone (F.leads self.new.folder) (option_map (λ path. path.now) table.entry)
+            (Some (read_log (option_map (λ path. path.now) log.entry))) (option_map (λ path. path.now) state.entry)) }
+        ensures counted { CountsFailure self.old.failed_calls self.new.failed_calls result }
+    {
         let log = log.unwrap_or(STANDARD_INPUT);
-        admit_in(folder, failed_calls, name, table, Some(log), state)
+        if harms_none(&mut self.folder, name, table, Some(log), state) {
+            self.count(Ok(()))
+        } else {
+            self.count(Err(Failed))
+        }
     }
 
-    fn keep<E: Sink>(&mut self, name: &str, state: &[u8], _errors: &E) -> Result<(), Failed> {
-        let StateFiles {
-            folder,
-            failed_calls,
-        } = self;
-        keep_in(folder, failed_calls, name, state)
+    fn keep<E: Sink>(&mut self, name: &str, state: &[u8], _errors: &E) -> Result<(), Failed>
+        ensures calls { KeepsText (F.calls self.old.folder) (F.calls self.new.folder) name.now state.now result }
+        ensures counted { CountsFailure self.old.failed_calls self.new.failed_calls result }
+    {
+        let kept = keep_text(&mut self.folder, name, state);
+        self.count(kept)
     }
 }

@@ -4,7 +4,6 @@ ghost use Rattle.n2kdec.specs.Machine.{unknown_world};
 
 use crate::fault::Fault;
 use crate::machine::{Machine, Unopened};
-use crate::state_file::StateFiles;
 use n2k_run::{Failed, Source, StdSink, StdSource};
 use std::alloc::Global;
 use std::fs::File;
@@ -88,8 +87,6 @@ impl<'a> Machine for System<'a> {
     type Output = StdSink<Stdout>;
 
     type Errors = StdSink<Stderr>;
-
-    type Store = StateFiles;
 
     ghost world = { λ _. unknown_world };
 

@@ -12,4 +12,5 @@ filled e ds = nought ∷ dot ∷ (replicate (e - length ds) nought ++ ds)
 -- digits alone, and not too many after the dot
 abbrev pub ArePartsOfDigits : List ℕ → List ℕ → Type 0
 ArePartsOfDigits whole decimals =
-    (list_all is_ascii_digit whole ≡ true) × (list_all is_ascii_digit decimals ≡ true) × (length decimals ≤ most_decimals)
+    (list_all is_ascii_digit whole ≡ true) × (list_all is_ascii_digit decimals ≡ true)
+    × (length decimals ≤ most_decimals)

@@ -9,28 +9,29 @@ use Rattle.n2k_table.specs.Inner.Number.{IsScale}
 -- what the bits mean, as contracts see it
 abbrev pub meaning : CodeMeaning → Meaning
 meaning (code.Number scale) = number scale.signed scale.resolution
-meaning (code.Named lookup) = named lookup.value.entries
+meaning (code.Lookup lookup) = named lookup.value.entries
 meaning code.Text = text
 meaning code.Bytes = bytes
 
 -- a text or bytes
 abbrev pub IsByteMeaning : CodeMeaning → Type 0
 IsByteMeaning (code.Number scale) = ⊥
-IsByteMeaning (code.Named lookup) = ⊥
+IsByteMeaning (code.Lookup lookup) = ⊥
 IsByteMeaning code.Text = Unit {0}
 IsByteMeaning code.Bytes = Unit {0}
 
 -- so many bits can have the meaning, and what is kept of a number is of so many
 abbrev pub HasRoom : CodeMeaning → ℕ → Type 0
 HasRoom (code.Number scale) bits = (bits ≤ most_number_bits) × IsScale bits scale
-HasRoom (code.Named lookup) bits = bits ≤ most_number_bits
+HasRoom (code.Lookup lookup) bits = bits ≤ most_number_bits
 HasRoom code.Text bits = Unit {0}
 HasRoom code.Bytes bits = Unit {0}
 
 -- What the code keeps of each field: what stands before its value too, and a place that a message can have.
-pub record IsKept (name before_value : List ℕ) (at bits : ℕ) (meaning : CodeMeaning) (wanted : Option ℕ) : Type 0 where
+pub record IsKept (name before_value : List ℕ) (at bits : ℕ) (meaning : CodeMeaning) (match_value : Option ℕ) :
+    Type 0 where
   pub key : before_value ≡ key_json true name
   pub inside : at + bits ≤ message_bits
   pub some : 1 ≤ bits
   pub room : HasRoom meaning bits
-  pub room_wanted : IfSome wanted (λ _. bits ≤ most_number_bits)
+  pub room_match : IfSome match_value (λ _. bits ≤ most_number_bits)

@@ -5,4 +5,4 @@ use Rattle.n2k_table.specs.Definition.{DefinitionParts}
 
 -- the PGN of a definition, and how it says that the PGN is sent
 abbrev pub pgn_kind : DefinitionParts → ℕ × Kind
-pgn_kind d = (d.number, d.kind)
+pgn_kind d = (d.pgn, d.kind)

@@ -1,7 +1,10 @@
 -- A JSON line as the code appends it: bytes that stand for themselves, and the parts of a line.
-use Rattle.std.specs.Prelude.{ℕ, ◌==◌, Bool, true, false, not, ◌&&◌, nat_le, codes, decimal, List, [], ◌∷◌, ◌++◌, Option, Some, None, if◌then◌else◌}
+use Rattle.std.specs.Prelude.{ℕ, ◌==◌, Bool, true, false, not, ◌&&◌, nat_le, codes, decimal, List, [], ◌∷◌, ◌++◌}
+use Rattle.std.specs.Prelude.{Option, Some, None, if◌then◌else◌}
 use Rattle.n2k_wire.specs.Packet.{PacketParts}
 use Rattle.n2k_wire.specs.declared.identifier.Id.{Id}
+use Rattle.n2k_table.specs.declared.line.AbsentFields.{AbsentFields}
+use Rattle.n2k_table.specs.declared.line.AbsentFields.TheVariants.{LeftOut, Null}
 use Rattle.n2k_table.specs.Text.{text_json}
 use Rattle.n2k_table.specs.Json.{comma, colon}
 
@@ -15,15 +18,22 @@ is_usual b = nat_le 45 b && nat_le b 90
 
 -- who sent what to whom, up to the PGN
 unfoldable pub sender_json : Id → List ℕ
-sender_json id = codes ",\"prio\":" ++ decimal id.prio ++ codes ",\"src\":" ++ decimal id.src ++ codes ",\"dst\":" ++ decimal id.dst
+sender_json id =
+    codes ",\"prio\":" ++ decimal id.prio ++ codes ",\"src\":" ++ decimal id.src ++ codes ",\"dst\":" ++ decimal id.dst
 
 -- what stands before the PGN
-unfoldable pub seen_json : PacketParts → List ℕ
-seen_json m = codes "{\"timestamp\":" ++ text_json m.stamp ++ sender_json m.id
+unfoldable pub before_pgn_json : PacketParts → List ℕ
+before_pgn_json m = codes "{\"timestamp\":" ++ text_json m.stamp ++ sender_json m.id
 
 -- what a definition puts between that and the members
 unfoldable pub label_json : ℕ → List ℕ → List ℕ
-label_json pgn description = codes ",\"pgn\":" ++ decimal pgn ++ codes ",\"description\":" ++ text_json description ++ codes ",\"fields\":{"
+label_json pgn description =
+    codes ",\"pgn\":" ++ decimal pgn ++ codes ",\"description\":" ++ text_json description ++ codes ",\"fields\":{"
+
+-- whether a field that shows nothing is a member that is `null`
+abbrev pub are_null : AbsentFields → Bool
+are_null LeftOut = false
+are_null Null = true
 
 -- a member stands before the next
 abbrev pub has_members : List (List ℕ) → Bool

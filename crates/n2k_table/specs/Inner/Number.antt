@@ -7,21 +7,21 @@ use Rattle.n2k_table.specs.Shown.{ShownParts, absent, number}
 
 -- the number without its dot
 abbrev pub value_of : Number → ℤ
-value_of n = (if n.below then neg_ℤ (pos n.size) else pos n.size) *ℤ pos n.resolution.mantissa
+value_of n = (if n.negative then neg_ℤ (pos n.size) else pos n.size) *ℤ pos n.resolution.mantissa
 
 -- how many values of n bits say that none is there, from the greatest down
-abbrev pub nones : ℕ → ℕ
-nones n = if nat_le 4 n then 2 else if nat_le 2 n then 1 else 0
+abbrev pub reserved_values : ℕ → ℕ
+reserved_values n = if nat_le 4 n then 2 else if nat_le 2 n then 1 else 0
 
 -- What is kept of a number of n bits: the greatest value that counts, the greatest value, and the greatest raw value.
 pub record IsScale (n : ℕ) (s : Scale) : Type 0 where
-  pub last : s.last ≡ greatest s.signed n - nones n
-  pub greatest : s.greatest ≡ greatest s.signed n
-  pub all : s.all ≡ 2 ^ n - 1
+  pub max_valid : s.max_valid ≡ greatest s.signed n - reserved_values n
+  pub max : s.max ≡ greatest s.signed n
+  pub max_raw : s.max_raw ≡ 2 ^ n - 1
 
 -- what a raw value shows by that
 abbrev pub scaled : Scale → ℕ → ShownParts
 scaled s r =
-    if nat_le r s.last then number (pos r *ℤ pos s.resolution.mantissa) s.resolution.decimals
-    else if nat_le r s.greatest then absent
-    else number (neg_ℤ (pos (s.all - r + 1)) *ℤ pos s.resolution.mantissa) s.resolution.decimals
+    if nat_le r s.max_valid then number (pos r *ℤ pos s.resolution.mantissa) s.resolution.decimals
+    else if nat_le r s.max then absent
+    else number (neg_ℤ (pos (s.max_raw - r + 1)) *ℤ pos s.resolution.mantissa) s.resolution.decimals

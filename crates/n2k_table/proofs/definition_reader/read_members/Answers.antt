@@ -9,5 +9,5 @@ pub returns-in_err-fields : goal.returns-in_err-fields
 returns-in_err-fields c =
     let p = err_from_is_err_and c.from_residual-in_err-fields.result c.from_residual-in_err-fields.ensures.1 in
     rw (p.1, p.2) (λ other.
-    members_layout_fault c.args.format (map (λ (l : LookupParts). l.name) c.args.lookups.now) c.args.lookups.now (table_view c.args.table.now) c.in_ok-number.number c.in_ok-kind.kind c.in_ok-description.description.now c.in_err-fields.field-0.0 _ _
-    (search rules) c.in_ok-number.ensures.value (search rules) c.in_ok-description.ensures (c.in_err-fields.ensures other))
+    members_layout_fault c.args.format (map (λ (l : LookupParts). l.name) c.args.lookups.now) c.args.lookups.now (table_view c.args.table.now) c.in_ok-pgn.pgn c.in_ok-kind.kind c.in_ok-description.description.now c.in_err-fields.field-0.0 _ _
+    (search rules) c.in_ok-pgn.ensures.value (search rules) c.in_ok-description.ensures (c.in_err-fields.ensures other))

@@ -4,6 +4,7 @@ use Rattle.n2k_table.specs.Shown.{all_shown}
 use Rattle.n2k_table.specs.Repeat.{RepeatParts, all_sets}
 use Rattle.n2k_table.specs.Json.{members, list_json, repeat_members}
 use Rattle.n2k_table.proofs.Members.{on_ok, with_last}
+use Rattle.n2k_table.specs.Inner.Line.{are_null}
 use Rattle.n2k_table.proofs.line.push_fields.Goals as goal
 
 pub returns-in-Some : goal.returns-in-Some
@@ -11,8 +12,8 @@ returns-in-Some c =
     let d = c.args.definition.now in
     let payload = c.args.«data».now in
     let line = c.args.line.now.items in
-    let own = members c.args.empty (all_shown d.fields payload) in
+    let own = members (are_null c.args.absent) (all_shown d.fields payload) in
     let there : Some c.in-Some.repeat.now ≡ d.repeat = c.in-Some.ensures in
     let before = rw c.stored_fields.ensures at c.in_ok-later.ensures in
-    on_ok c.push_list.result (λ last. with_last own (list_json c.args.empty (all_sets c.in-Some.repeat.now payload)) line _ _ _ before.0 before.1 last
-    ∙ ap (λ (r : Option RepeatParts). line ++ join_with_byte 44 (own ++ repeat_members c.args.empty r payload)) there) c.push_list.ensures
+    on_ok c.push_list.result (λ last. with_last own (list_json (are_null c.args.absent) (all_sets c.in-Some.repeat.now payload)) line _ _ _ before.0 before.1 last
+    ∙ ap (λ (r : Option RepeatParts). line ++ join_with_byte 44 (own ++ repeat_members (are_null c.args.absent) r payload)) there) c.push_list.ensures

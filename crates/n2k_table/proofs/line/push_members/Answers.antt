@@ -3,18 +3,19 @@ use Rattle.std.specs.List.{filter_map}
 use Rattle.n2k_table.specs.Shown.{all_shown}
 use Rattle.n2k_table.specs.Json.{member_json}
 use Rattle.n2k_table.proofs.Members.{members_from-joined, is_done, goes_on, flag_is_done, flag_goes_on}
+use Rattle.n2k_table.specs.Inner.Line.{are_null}
 use Rattle.n2k_table.proofs.line.push_members.Goals as goal
 
 pub returns : goal.returns
 returns c =
-    let members = filter_map (member_json c.args.empty) (all_shown c.args.fields.now c.args.«data».now) in (
-      is_done c.args.empty c.loop-field.later c.args.fields.now c.args.«data».now c.loop-field.field-index c.loop-field.line.items _ c.loop-field-test.false c.loop-field.invariant.0
+    let members = filter_map (member_json (are_null c.args.absent)) (all_shown c.args.fields.now c.args.«data».now) in (
+      is_done (are_null c.args.absent) c.loop-field.later c.args.fields.now c.args.«data».now c.loop-field.field-index c.loop-field.line.items _ c.loop-field-test.false c.loop-field.invariant.0
           ∙ ap (λ (ms : List ℕ). c.args.line.now.items ++ ms) (members_from-joined members),
-      flag_is_done c.args.empty c.loop-field.later _ c.args.fields.now c.args.«data».now c.loop-field.field-index c.loop-field-test.false c.loop-field.invariant.1,
+      flag_is_done (are_null c.args.absent) c.loop-field.later _ c.args.fields.now c.args.«data».now c.loop-field.field-index c.loop-field-test.false c.loop-field.invariant.1,
     )
 
 pub loop-field-preserved : goal.loop-field-preserved
 loop-field-preserved c = (
-  rw c.in_ok-later.ensures.1 (rw c.in_ok-later.ensures.0 (goes_on c.args.empty c.loop-field.later c.args.fields.now c.args.«data».now c.loop-field.field-index c.field-item.result c.loop-field.line.items _ c.loop-field-test.true c.field-item.is c.loop-field.invariant.0)),
-  rw c.in_ok-later.ensures.1 (flag_goes_on c.args.empty c.loop-field.later _ c.args.fields.now c.args.«data».now c.loop-field.field-index c.field-item.result c.loop-field-test.true c.field-item.is c.loop-field.invariant.1),
+  rw c.in_ok-later.ensures.1 (rw c.in_ok-later.ensures.0 (goes_on (are_null c.args.absent) c.loop-field.later c.args.fields.now c.args.«data».now c.loop-field.field-index c.field-item.result c.loop-field.line.items _ c.loop-field-test.true c.field-item.is c.loop-field.invariant.0)),
+  rw c.in_ok-later.ensures.1 (flag_goes_on (are_null c.args.absent) c.loop-field.later _ c.args.fields.now c.args.«data».now c.loop-field.field-index c.field-item.result c.loop-field-test.true c.field-item.is c.loop-field.invariant.1),
 )

@@ -3,12 +3,12 @@ use Rattle.std.proofs.Common.{◌≡◌, ◌++◌, ◌||◌, false, drop}
 use Rattle.std.specs.List.{filter_map}
 use Rattle.n2k_table.specs.Json.{member_json}
 use Rattle.n2k_table.specs.Shown.{all_shown}
-use Rattle.n2k_table.specs.Inner.Line.{has_members}
+use Rattle.n2k_table.specs.Inner.Line.{are_null, has_members}
 use Rattle.n2k_table.proofs.Members.{members_from}
 use Rattle.n2k_table.proofs.line.push_members.Given as goal
 
 abbrev pub invariant-loop-field : goal.invariant-loop-field
 invariant-loop-field l =
-    (l.line.items ++ members_from l.later (filter_map (member_json l.empty) (all_shown (drop l.field-index l.fields) l.«data»))
-    ≡ l.fn.line.items ++ members_from false (filter_map (member_json l.empty) (all_shown l.fields l.«data»)))
-    × ((l.later || has_members (filter_map (member_json l.empty) (all_shown (drop l.field-index l.fields) l.«data»))) ≡ has_members (filter_map (member_json l.empty) (all_shown l.fields l.«data»)))
+    (l.line.items ++ members_from l.later (filter_map (member_json (are_null l.absent)) (all_shown (drop l.field-index l.fields) l.«data»))
+    ≡ l.fn.line.items ++ members_from false (filter_map (member_json (are_null l.absent)) (all_shown l.fields l.«data»)))
+    × ((l.later || has_members (filter_map (member_json (are_null l.absent)) (all_shown (drop l.field-index l.fields) l.«data»))) ≡ has_members (filter_map (member_json (are_null l.absent)) (all_shown l.fields l.«data»)))

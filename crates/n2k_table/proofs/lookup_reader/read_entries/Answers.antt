@@ -2,9 +2,9 @@ use Rattle.std.proofs.Common.{sym, subst, Result, List, ℕ, arith}
 use Rattle.std.proofs.lemmas.Result.{err_from_is_err_and}
 use Rattle.toml.specs.View.{array_view}
 use Rattle.n2k_table.specs.declared.fault.TableFault.{TableFault}
-use Rattle.n2k_table.specs.Inner.Reading.{GivesOrMemory}
+use Rattle.n2k_table.specs.Inner.Reading.{ReaderGives}
 use Rattle.n2k_table.specs.Tree.{elements}
-use Rattle.n2k_table.specs.Inner.Entries.{seen_entries}
+use Rattle.n2k_table.specs.Inner.Entries.{map_entries}
 use Rattle.n2k_table.proofs.Each.{length-elements}
 use Rattle.n2k_table.proofs.LookupFaults.{entries_many, entries_fault, entries_once}
 use Rattle.n2k_table.proofs.lookup_reader.read_entries.Goals as goal
@@ -21,4 +21,4 @@ returns-in_err-each_entry c =
 pub returns : goal.returns
 returns c =
     let whole = entries_once (elements (array_view c.args.values.now)) c.in_ok-each_entry.field-0.items (omega (arith, length-elements c.args.values.now.items)) c.in_ok-each_entry.ensures in
-    subst (λ (r : Result (List (ℕ × List ℕ)) TableFault). GivesOrMemory seen_entries c.by_value.result r) (sym whole) c.by_value.ensures
+    subst (λ (r : Result (List (ℕ × List ℕ)) TableFault). ReaderGives map_entries c.by_value.result r) (sym whole) c.by_value.ensures

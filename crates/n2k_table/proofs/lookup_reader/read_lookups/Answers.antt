@@ -15,13 +15,13 @@ returns-in_err-lookups c =
     let p = err_from_is_err_and c.from_residual.result c.from_residual.ensures.1 in
     rw (p.1, p.2) (λ other. lookups_fault (elements (array_view c.args.values.now)) c.in_err-lookups.field-0.0 _ (omega (arith, length-elements c.args.values.now.items)) (c.in_err-lookups.ensures other))
 
-pub returns-then-is_twice : goal.returns-then-is_twice
-returns-then-is_twice c = λ other.
+pub returns-then-has_duplicate : goal.returns-then-has_duplicate
+returns-then-has_duplicate c = λ other.
     lookups_twice (elements (array_view c.args.values.now)) c.in_ok-lookups.lookups.items (omega (arith, length-elements c.args.values.now.items)) c.in_ok-lookups.ensures
-    (rw (← c.deref.ensures.value) (sym c.if-is_twice.ensures))
+    (rw (← c.deref.ensures.value) (sym c.if-has_duplicate.ensures))
 
 pub returns : goal.returns
 returns c =
     rw c.in_ok-shared.ensures
     (lookups_read (elements (array_view c.args.values.now)) c.in_ok-lookups.lookups.items (omega (arith, length-elements c.args.values.now.items)) c.in_ok-lookups.ensures
-    (rw (← c.deref.ensures.value) (sym c.if-is_twice.ensures)))
+    (rw (← c.deref.ensures.value) (sym c.if-has_duplicate.ensures)))

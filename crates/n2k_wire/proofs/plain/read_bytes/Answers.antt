@@ -2,7 +2,7 @@ use Rattle.std.proofs.Common.{◌≡◌, [], ◌∷◌, length, ap, sym, ◌∙�
 use Rattle.std.specs.Prelude.{◌==◌}
 use Rattle.std.proofs.lemmas.List.Splits.{length-slice_split}
 use Rattle.n2k_wire.specs.Plain.{columns}
-use Rattle.n2k_wire.specs.PrivateWords.{columns_left}
+use Rattle.n2k_wire.specs.Inner.Plain.{columns_left}
 use Rattle.n2k_wire.proofs.PlainLemmas.{reads_column, ends_column, pairs-end, bytes_of-pairs, bytes_of-other, bytes_of-bad}
 use Rattle.n2k_wire.proofs.plain.read_bytes.Goals as goal
 
@@ -14,11 +14,11 @@ returns-in_default-clause-value c =
     bytes_of-other c.args.len (columns_left c.args.more) (λ e. omega arith)
 
 -- a column is no byte
-pub returns-in-None-clause-value : goal.returns-in-None-clause-value
-returns-in-None-clause-value c =
+pub returns-in_err-byte-clause-value : goal.returns-in_err-byte-clause-value
+returns-in_err-byte-clause-value c =
     let first : columns_left c.loop.left ≡ c.first_column.result.0.now ∷ columns_left c.first_column.result.1 = ap columns_left c.in-Some.is ∙ c.first_column.ensures in
     let read = rw first at c.loop.invariant.read in
-    bytes_of-bad c.args.len (columns_left c.args.more) (sym read ∙ ends_column c.loop.bytes.items _ _ c.in-None.ensures)
+    rw c.from_residual.ensures (bytes_of-bad c.args.len (columns_left c.args.more) (sym read ∙ ends_column c.loop.bytes.items _ _ c.in_err-byte.ensures))
 
 pub loop-preserved : goal.loop-preserved
 loop-preserved c =
@@ -28,7 +28,7 @@ loop-preserved c =
     record {
       taken = omega (arith, c.push.ensures.len);
       columns = omega arith;
-      read = rw c.push.ensures.items (sym (reads_column c.loop.bytes.items (c.in-Some-read_pair.byte ∷ []) _ _ c.in-Some-read_pair.ensures) ∙ read);
+      read = rw c.push.ensures.items (sym (reads_column c.loop.bytes.items (c.in_ok-byte.byte ∷ []) _ _ c.in_ok-byte.ensures) ∙ read);
     }
 
 -- there are too many columns
@@ -38,8 +38,8 @@ returns-in-Some-left-clause-value c =
     let count = rw some at c.loop.invariant.columns in
     bytes_of-other c.args.len (columns_left c.args.more) (λ e. omega (arith, length-slice_split (λ b. b == 44) c.in-Some-left.field-0.now))
 
-pub returns-in-None-left-clause-value : goal.returns-in-None-left-clause-value
-returns-in-None-left-clause-value c =
-    let none : columns_left c.loop.left ≡ [] = ap columns_left c.in-None-left.is in
+pub returns-in-None-clause-value : goal.returns-in-None-clause-value
+returns-in-None-clause-value c =
+    let none : columns_left c.loop.left ≡ [] = ap columns_left c.in-None.is in
     let all : length (columns_left c.args.more) ≡ c.args.len = omega (arith, rw none at c.loop.invariant.columns) in
     bytes_of-pairs c.args.len (columns_left c.args.more) all ∙ (sym (rw none at c.loop.invariant.read) ∙ pairs-end c.loop.bytes.items)

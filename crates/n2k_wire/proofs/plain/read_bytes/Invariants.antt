@@ -1,6 +1,6 @@
 use Rattle.std.proofs.Common.{◌≡◌, ◌+◌, length}
 use Rattle.n2k_wire.specs.Plain.{pairs}
-use Rattle.n2k_wire.specs.PrivateWords.{columns_left}
+use Rattle.n2k_wire.specs.Inner.Plain.{columns_left}
 use Rattle.n2k_wire.proofs.PlainLemmas.{with_front}
 use Rattle.n2k_wire.proofs.plain.read_bytes.Given as goal
 

@@ -8,7 +8,7 @@ returns-clause-follows g c =
     let w = g.M.Machine.world c.args.machine.now in
     let log = c.perform-answer.new.log in
     let opened = c.in_ok-log.ensures in
-    let after = outside g.M.Output.Sink g.M.Errors.Sink g.M.Store.Keeper (g.M.Machine.failed_reads c.close.new.self)
+    let after = outside g.M.Output.Sink g.M.Errors.Sink g.K.Keeper (g.M.Machine.failed_reads c.close.new.self)
     record { output = c.perform-answer.new.output; errors = c.perform-answer.new.errors; store = c.perform-answer.new.keeper } in
     follows w c.args.words.now _ after c.perform-answer.result (record {
       interface = c.requires.interface;

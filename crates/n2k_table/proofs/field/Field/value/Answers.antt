@@ -1,0 +1,14 @@
+use Rattle.std.proofs.Common.{refl, sym, ap, ◌∙◌}
+use Rattle.n2k_table.specs.Field.{FieldParts}
+use Rattle.n2k_table.specs.Shown.{lies_inside, shown}
+use Rattle.n2k_table.proofs.Numbers.{field_shows}
+use Rattle.n2k_table.proofs.field.Field.value.Goals as goal
+
+pub returns-in-Number : goal.returns-in-Number
+returns-in-Number c =
+    let payload = c.args.«data».now in
+    let kept = c.self.invariant in
+    let inside = ap (λ (f : FieldParts). lies_inside f payload) c.self.view_is ∙ sym c.if-not-lies_inside.ensures in
+    c.number.ensures
+    ∙ field_shows _ payload c.self.inside.meaning c.in-Number.scale c.raw-raw.result refl c.in-Number.is kept.some kept.room c.raw-raw.ensures.value c.raw-raw.ensures.range inside
+    ∙ ap (λ (f : FieldParts). shown f payload) c.self.view_is

@@ -1,0 +1,98 @@
+//! What a field shows, as it is printed.
+ghost use Rattle.std.specs.Prelude.{◌≡◌, ◌≤◌, option_map};
+ghost use Rattle.n2k_table.specs.Inner.FieldValue.{value_parts};
+ghost use Rattle.n2k_table.specs.Shown.{shown_parts, shown_name, shown_text, is_filling, trimmed};
+
+use crate::bits::greatest;
+use crate::lookup::Name;
+use crate::number::Number;
+use crate::resolution::ONE;
+use crate::shown::Shown;
+
+/// What a field shows. It is `Shown` with what a line needs: a name comes with its JSON, and a number in parts.
+#[derive(Clone, Copy)]
+pub(crate) enum FieldValue<'a> {
+    /// Nothing.
+    Absent,
+    /// A number.
+    Number(Number),
+    /// The name of a value.
+    Name(&'a Name),
+    /// A text, without the bytes that fill it up.
+    Text(&'a [u8]),
+    /// Bytes as they are.
+    Bytes(&'a [u8]),
+}
+
+impl<'a> FieldValue<'a> {
+    /// What it is to a caller of this crate.
+    pub(crate) fn shown(self) -> Shown<'a>
+        ensures { shown_parts result ≡ value_parts self.entry }
+    {
+        match self {
+            FieldValue::Absent => Shown::Absent,
+            FieldValue::Number(number) => Shown::Number {
+                value: number.value(),
+                decimals: number.resolution.decimals,
+            },
+            FieldValue::Name(name) => Shown::Name(name.text()),
+            FieldValue::Text(text) => Shown::Text(text),
+            FieldValue::Bytes(bytes) => Shown::Bytes(bytes),
+        }
+    }
+}
+
+/// What bits of that raw value show by the name of the value, if it has one. Where it has none, the greatest, from two
+/// bits on, says that none is there.
+#[inline(always)]
+pub(crate) fn name_value<'a>(name: Option<&'a Name>, bits: u32, raw: u64) -> FieldValue<'a>
+    requires some { 1 ≤ bits }
+    requires room { bits ≤ 64 }
+    ensures { value_parts result ≡ shown_name (option_map (λ n. n.now) name.entry) bits raw }
+{
+    if let Some(name) = name {
+        return FieldValue::Name(name);
+    }
+    if bits >= 2 && raw == greatest(false, bits) {
+        return FieldValue::Absent;
+    }
+    FieldValue::Number(Number {
+        negative: false,
+        size: raw,
+        resolution: ONE,
+    })
+}
+
+/// A byte that fills a text up.
+fn is_filling(byte: u8) -> bool
+    ensures { result ≡ is_filling byte }
+{
+    byte == 0x00 || byte == 0xff || byte == b'@' || byte == b' '
+}
+
+/// A text up to its last byte that does not fill it up.
+#[inline(never)]
+fn trimmed(text: &[u8]) -> &[u8]
+    ensures { result.now ≡ trimmed text.now }
+{
+    let mut kept = text;
+    while let Some((last, front)) = kept.split_last() {
+        if !is_filling(*last) {
+            break;
+        }
+        kept = front;
+    }
+    kept
+}
+
+/// What the bytes of a text show: nothing where all of them fill it up.
+#[inline(always)]
+pub(crate) fn text_value(text: &[u8]) -> FieldValue<'_>
+    ensures { value_parts result ≡ shown_text (trimmed text.now) }
+{
+    let kept = trimmed(text);
+    if kept.is_empty() {
+        return FieldValue::Absent;
+    }
+    FieldValue::Text(kept)
+}

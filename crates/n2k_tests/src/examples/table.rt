@@ -1,0 +1,115 @@
+//! Examples of `n2k_table`.
+use super::frame_in;
+use crate::samples::sample as sample_table;
+use crate::table::tables::pairs_table;
+use n2k_table::{
+    Kind, LineBuffer, Shown, Table, TableFault, decimal_text, json_line, json_line_in,
+};
+use std::test::Fail;
+
+#[test]
+fn front_page(rt: HostRuntime) -> Result<(), Fail> {
+    let alloc = rt.alloc();
+    let table = sample_table(alloc)?;
+    let line = "2011-11-24-22:42:04.388,2,127251,36,255,8,7d,0b,7d,02,00,ff,ff,ff";
+    let packet = frame_in(line)?;
+    let mut text = Vec::new(alloc);
+    json_line(alloc, &table, &packet, false, &mut text)?;
+    let end = "\"description\":\"Rate of Turn\",\"fields\":{\"SID\":125,\"Rate\":0.00509634375}}\n";
+    assert!(rt; text.ends_with(end.as_bytes()));
+    Ok(())
+}
+
+#[test]
+fn tables_read(rt: HostRuntime) -> Result<(), Fail> {
+    let alloc = rt.alloc();
+    let table = Table::read(alloc, "format = 1\n".as_bytes())?;
+    assert_eq!(rt; table.kind(129026), None);
+    let refused = Table::read(alloc, "format = 3\n".as_bytes());
+    assert!(rt; matches!(refused, Err(TableFault::Format)));
+    Ok(())
+}
+
+#[test]
+fn what_a_table_says(rt: HostRuntime) -> Result<(), Fail> {
+    let alloc = rt.alloc();
+    let table = sample_table(alloc)?;
+    // As `sha256sum` prints it: 6b85e2b2..
+    assert!(rt; table.id().starts_with(&[0x6b, 0x85, 0xe2, 0xb2]));
+
+    let table = sample_table(alloc)?;
+    assert_eq!(rt; table.kind(129026), Some(Kind::Single));
+    assert_eq!(rt; table.kind(130820), Some(Kind::Fast));
+    assert_eq!(rt; table.kind(59904), None);
+
+    let table = sample_table(alloc)?;
+    let definition = table.choose(130820, &[0xa3, 0x99, 0x01]).ok_or("Label")?;
+    assert_eq!(rt; definition.description(), "Sample: Label");
+    assert!(rt; table.choose(130820, &[0x07, 0x98, 0x01]).is_none());
+    Ok(())
+}
+
+#[test]
+fn fields(rt: HostRuntime) -> Result<(), Fail> {
+    let alloc = rt.alloc();
+    let table = sample_table(alloc)?;
+    let data = [0x05, 0x00];
+    let definition = table.choose(129026, &data).ok_or("COG & SOG")?;
+    let mut fields = definition.fields(&data);
+    assert!(rt; matches!(fields.next(), Some(("SID", Shown::Number { value: 5, .. }))));
+    assert_eq!(rt; fields.next(), Some(("COG Reference", Shown::Name("True"))));
+    assert_eq!(rt; fields.next(), Some(("COG", Shown::Absent)));
+    Ok(())
+}
+
+#[test]
+fn sets(rt: HostRuntime) -> Result<(), Fail> {
+    let alloc = rt.alloc();
+    let table = pairs_table(alloc)?;
+    let data = [0x01, 0x0a, 0x64, 0x00, 0x0b, 0x9c, 0xff];
+    let definition = table.choose(130822, &data).ok_or("Pairs")?;
+    let mut sets = definition.repeat(&data).ok_or("sets")?;
+    let mut first = sets.next().ok_or("a set")?;
+    assert!(rt; matches!(first.next(), Some(("Id", Shown::Number { value: 10, .. }))));
+    assert!(rt; sets.next().is_some());
+    assert!(rt; sets.next().is_none());
+    Ok(())
+}
+
+#[test]
+fn decimals(rt: HostRuntime) -> Result<(), Fail> {
+    let alloc = rt.alloc();
+    let mut text = Vec::new(alloc);
+    decimal_text(alloc, -123456, 3, &mut text)?;
+    assert_eq!(rt; text.as_slice(), b"-123.456".as_slice());
+    Ok(())
+}
+
+#[test]
+fn json_lines(rt: HostRuntime) -> Result<(), Fail> {
+    let alloc = rt.alloc();
+    let table = sample_table(alloc)?;
+    let line = "2011-11-24-22:42:04.388,2,127251,36,255,8,7d,0b,7d,02,00,ff,ff,ff";
+    let packet = frame_in(line)?;
+    let mut text = Vec::new(alloc);
+    json_line(alloc, &table, &packet, false, &mut text)?;
+    let wanted = "{\"timestamp\":\"2011-11-24-22:42:04.388\",\"prio\":2,\"src\":36,\"dst\":255,\
+        \"pgn\":127251,\"description\":\"Rate of Turn\",\
+        \"fields\":{\"SID\":125,\"Rate\":0.00509634375}}\n";
+    assert_eq!(rt; text.as_slice(), wanted.as_bytes());
+    Ok(())
+}
+
+#[test]
+fn json_lines_in_a_row(rt: HostRuntime) -> Result<(), Fail> {
+    let alloc = rt.alloc();
+    let table = sample_table(alloc)?;
+    let packet = frame_in("(1.0) can0 09F8027F#0500")?;
+    let mut line = LineBuffer::new(alloc);
+    let mut text = Vec::new(alloc);
+    json_line_in(alloc, &table, &packet, false, &mut line, &mut text)?;
+    json_line_in(alloc, &table, &packet, true, &mut line, &mut text)?;
+    let end = "{\"SID\":5,\"COG Reference\":\"True\",\"COG\":null,\"SOG\":null}}\n";
+    assert!(rt; text.ends_with(end.as_bytes()));
+    Ok(())
+}

@@ -1,0 +1,136 @@
+//! Examples of `n2k_wire`.
+use super::frame_in;
+use n2k_wire::{
+    BadCause, CandumpLines, Entry, Id, LineReader, Packet, Packing, candump_text, is_interface,
+    join_id, plain_text, read_line, split_id,
+};
+use std::test::Fail;
+
+#[test]
+fn front_page(rt: HostRuntime) -> Result<(), Fail> {
+    let alloc = rt.alloc();
+    let line = "(1502979132.106111) can0 09F8027F#00FCFFFF0000FFFF";
+    let Entry::Frame(packet) = read_line(line.as_bytes(), Packing::Frames) else {
+        return Err("no frame".into());
+    };
+    assert_eq!(rt; (packet.id().pgn, packet.data().len()), (129026, 8));
+    let mut text = Vec::new(alloc);
+    plain_text(alloc, &packet, &mut text)?;
+    let wanted = "2017-08-17T14:12:12.106Z,2,129026,127,255,8,00,fc,ff,ff,00,00,ff,ff\n";
+    assert_eq!(rt; text.as_slice(), wanted.as_bytes());
+    Ok(())
+}
+
+#[test]
+fn lines(rt: HostRuntime) {
+    let frame = read_line("(1.0) can0 18EAFF01#14F001".as_bytes(), Packing::Frames);
+    assert!(rt; matches!(frame, Entry::Frame(packet) if packet.id().pgn == 59904));
+    let note = read_line("# note".as_bytes(), Packing::Frames);
+    assert!(rt; matches!(note, Entry::Skip));
+    let piece = read_line("hello".as_bytes(), Packing::Frames);
+    assert!(rt; matches!(piece, Entry::Bad(BadCause::Form)));
+}
+
+#[test]
+fn lines_in_a_row(rt: HostRuntime) {
+    let mut reader = LineReader::new();
+    let entry = reader.read("(1.0) can0 18EAFF01#14F001".as_bytes(), Packing::Frames);
+    assert!(rt; matches!(entry, Entry::Frame(packet) if packet.id().pgn == 59904));
+    let entry = reader.read("(10) can0 1DFF0405#00".as_bytes(), Packing::Frames);
+    assert!(rt; matches!(entry, Entry::Bad(BadCause::Stamp)));
+}
+
+#[test]
+fn identifiers(rt: HostRuntime) {
+    let id = split_id(0x09F8_027F);
+    assert_eq!(rt; (id.prio, id.pgn, id.src, id.dst), (2, 129026, 127, 255));
+
+    let id = split_id(0x09F8_027F);
+    assert_eq!(rt; join_id(&id), Some(0x09F8_027F));
+    assert_eq!(rt; join_id(&Id { dst: 9, ..id }), None);
+}
+
+#[test]
+fn new_packets(rt: HostRuntime) -> Result<(), Fail> {
+    let id = split_id(0x18EA_FF01);
+    let packet = Packet::new(b"12:00:01", id, &[0x14, 0xf0, 0x01]).ok_or("a packet")?;
+    assert_eq!(rt; packet.stamp(), b"12:00:01".as_slice());
+    assert!(rt; Packet::new(b"12,00,01", id, &[]).is_none());
+    Ok(())
+}
+
+#[test]
+fn parts_of_a_packet(rt: HostRuntime) -> Result<(), Fail> {
+    let packet = frame_in("(1.0) can0 18EAFF01#14F001")?;
+    assert_eq!(rt; packet.stamp(), "1970-01-01T00:00:01.000Z".as_bytes());
+
+    let packet = frame_in("(1.0) can0 18EAFF01#14F001")?;
+    assert_eq!(rt; (packet.id().pgn, packet.id().src), (59904, 1));
+
+    let packet = frame_in("(1.0) can0 18EAFF01#14F001")?;
+    assert_eq!(rt; packet.data(), [0x14, 0xf0, 0x01].as_slice());
+    Ok(())
+}
+
+#[test]
+fn other_data(rt: HostRuntime) -> Result<(), Fail> {
+    let packet = frame_in("(1.0) can0 18EAFF01#14F001")?;
+    let longer = packet.with_data(&[0x20; 9]);
+    assert_eq!(rt; longer.stamp(), packet.stamp());
+    assert_eq!(rt; longer.data(), [0x20; 9].as_slice());
+
+    let message = frame_in("(2.0) can0 1DFF0405#")?;
+    let mut frame = frame_in("(1.0) can0 18EAFF01#14F001")?;
+    frame.set_frame(&message, &[0, 11, 0xa3, 0x99, 1, 0x41, 0x42, 0x43]);
+    assert_eq!(rt; frame.id(), message.id());
+    assert_eq!(rt; frame.data().len(), 8);
+    Ok(())
+}
+
+#[test]
+fn plain_texts(rt: HostRuntime) -> Result<(), Fail> {
+    let alloc = rt.alloc();
+    let packet = frame_in("(1.0) can0 18EAFF01#14F001")?;
+    let mut text = Vec::new(alloc);
+    plain_text(alloc, &packet, &mut text)?;
+    let wanted = "1970-01-01T00:00:01.000Z,6,59904,1,255,3,14,f0,01\n";
+    assert_eq!(rt; text.as_slice(), wanted.as_bytes());
+    Ok(())
+}
+
+#[test]
+fn interfaces(rt: HostRuntime) {
+    assert!(rt; is_interface(b"can0"));
+    assert!(rt; !is_interface(b"can 0"));
+    assert!(rt; !is_interface(b""));
+}
+
+#[test]
+fn candump_texts(rt: HostRuntime) -> Result<(), Fail> {
+    let alloc = rt.alloc();
+    let id = split_id(0x18EA_FF01);
+    let stamp = "1970-01-01T00:00:10.300Z".as_bytes();
+    let packet = Packet::new(stamp, id, &[0x14, 0xf0, 0x01]).ok_or("a packet")?;
+    assert!(rt; is_interface(b"can0"));
+    let mut text = Vec::new(alloc);
+    candump_text(alloc, &packet, "can0", &mut text)?;
+    let wanted = "(0000000010.300000) can0 18EAFF01#14F001\n";
+    assert_eq!(rt; text.as_slice(), wanted.as_bytes());
+    Ok(())
+}
+
+#[test]
+fn candump_texts_in_a_row(rt: HostRuntime) -> Result<(), Fail> {
+    let alloc = rt.alloc();
+    let id = split_id(0x18EA_FF01);
+    let stamp = "1970-01-01T00:00:10.300Z".as_bytes();
+    let packet = Packet::new(stamp, id, &[0x14, 0xf0, 0x01]).ok_or("a packet")?;
+    assert!(rt; is_interface(b"can0"));
+    let mut lines = CandumpLines::new("can0");
+    let mut text = Vec::new(alloc);
+    lines.append(alloc, &packet, &mut text)?;
+    lines.append(alloc, &packet, &mut text)?;
+    let wanted = "(0000000010.300000) can0 18EAFF01#14F001\n";
+    assert_eq!(rt; text.as_slice(), wanted.repeat(alloc, 2)?.as_bytes());
+    Ok(())
+}

@@ -1,0 +1,47 @@
+-- A stamp in which the separators stand where `candump` puts them.
+use Rattle.std.proofs.Common.{◌≡◌, ℕ, ◌≤◌, true, leb, not, List, [], ◌∷◌, ◌++◌, Some, refl, ap, ◌∙◌, inl, inr}
+use Rattle.std.specs.Prelude.{◌==◌}
+use Rattle.std.specs.Char.{is_ascii_digit}
+use Rattle.std.specs.List.{list_all}
+use Rattle.std.proofs.lemmas.Bool.{cases_Bool, le-leb, eqb-true}
+use Rattle.std.proofs.lemmas.List.Folds.{list_all-append}
+use Rattle.n2k_wire.specs.Candump.{stamped}
+use Rattle.n2k_wire.specs.Digits.{decimal_number}
+use Rattle.n2k_wire.specs.Pieces.{cut_at, after_byte}
+use Rattle.n2k_wire.specs.Inner.Candump.{stamp_behind}
+use Rattle.n2k_wire.specs.Stamp.{moment, three_digits, utc_text}
+use Rattle.n2k_wire.proofs.CandumpBack.{cut_behind, digits_alone, is_other, none_of}
+use Rattle.n2k_wire.proofs.UtcBack.{number_parts}
+
+pub number_digits : (most n : ℕ) (text : List ℕ) → decimal_number most text ≡ Some n → list_all is_ascii_digit text ≡ true
+number_digits most n text e = digits_alone 0 n text (number_parts most n text e).1
+
+pub follows : (byte : ℕ) (text rest : List ℕ) → after_byte byte text ≡ Some rest → text ≡ byte ∷ rest
+unfolding after_byte
+follows byte [] rest e = absurd cc
+follows byte (b ∷ text) rest e =
+    elim (cases_Bool (b == byte)) [
+      | inl same ↦ let is : Some text ≡ Some rest = rw same at e in let one : b ≡ byte = eqb-true b byte same in cc
+      | inr other ↦ absurd (let none = rw other at e in cc)
+    ]
+
+-- the separators stand where they were looked for, and nowhere before
+pub usual : (line inner stamp behind text seconds point fraction : List ℕ) (s f m : ℕ)
+    → after_byte 40 line ≡ Some inner → inner ≡ stamp ++ behind → after_byte 41 behind ≡ Some text
+    → stamp ≡ seconds ++ point → after_byte 46 point ≡ Some fraction
+    → decimal_number 12 seconds ≡ Some s → decimal_number 9 fraction ≡ Some f → decimal_number 3 (three_digits fraction) ≡ Some m → s ≤ 253402300799
+    → stamp_behind line ≡ Some (utc_text (record { seconds = s; millis = m }), text)
+unfolding stamp_behind stamped moment
+usual line inner stamp behind text seconds point fraction s f m opened inner_is closed stamp_is pointed whole part third small =
+    let ds = number_digits 12 s seconds whole in
+    let fs = number_digits 9 f fraction part in
+    let stamp_at : stamp ≡ seconds ++ (46 ∷ fraction) = stamp_is ∙ ap (λ (t : List ℕ). seconds ++ t) (follows 46 point fraction pointed) in
+    let inner_at : inner ≡ stamp ++ (41 ∷ text) = inner_is ∙ ap (λ (t : List ℕ). stamp ++ t) (follows 41 behind text closed) in
+    let none_dot = none_of is_ascii_digit (λ b. b == 46) (is_other is_ascii_digit 46 refl) seconds ds in
+    let front = none_of is_ascii_digit (λ b. b == 41) (is_other is_ascii_digit 41 refl) seconds ds in
+    let back = none_of is_ascii_digit (λ b. b == 41) (is_other is_ascii_digit 41 refl) fraction fs in
+    let none_end : list_all (λ b. not (b == 41)) stamp ≡ true = rw stamp_at (list_all-append (λ b. not (b == 41)) seconds (46 ∷ fraction) ∙ rw (front, back) refl) in
+    let outer : cut_at 41 inner ≡ Some (stamp, text) = ap (cut_at 41) inner_at ∙ cut_behind 41 stamp text none_end in
+    let parts : cut_at 46 stamp ≡ Some (seconds, fraction) = ap (cut_at 46) stamp_at ∙ cut_behind 46 seconds fraction none_dot in
+    let last : leb s 253402300799 ≡ true = le-leb _ _ small in
+    rw (opened, outer, parts, whole, part, third, last) refl

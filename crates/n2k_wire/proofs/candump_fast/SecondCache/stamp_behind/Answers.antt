@@ -1,0 +1,24 @@
+use Rattle.std.proofs.Common.{◌≡◌, Some, refl, sym, ◌∙◌}
+use Rattle.std.specs.Prelude.{IsTrue}
+use Rattle.n2k_wire.specs.Packet.{is_stamp}
+use Rattle.n2k_wire.specs.Inner.Candump.{stamp_behind}
+use Rattle.n2k_wire.proofs.SecondCaches.{first_chunk, stamped_text}
+use Rattle.n2k_wire.proofs.candump_fast.SecondCache.stamp_behind.Goals as goal
+use Rattle.n2k_wire.proofs.candump_fast.SecondCache.stamp_behind.Goals.{After-with_millis}
+
+stamped : (c : After-with_millis) → (stamp_behind c.args.line.now ≡ Some (c.with_millis.result, c.in_ok-text.text.now)) × IsTrue (is_stamp c.with_millis.result)
+stamped c =
+    let front = c.in_ok-front.ensures.cases in
+    let fraction = c.in_ok-fraction.ensures.cases in
+    let outer = first_chunk 12 c.args.line.now c.in_ok-front.front.now c.in_ok-front.behind.now front.0 front.1 front.2 in
+    let inner = first_chunk 6 c.in_ok-front.behind.now c.in_ok-fraction.fraction.now c.in_ok-fraction.behind.now fraction.0 fraction.1 fraction.2 in
+    let cache = c.advance_to.new.self in
+    let line_is = outer.1 ∙ (rw (← inner.1, c.in_ok-advance_to.ensures) refl) in
+    stamped_text c.args.line.now cache.front c.in_ok-fraction.fraction.now c.in_ok-fraction.behind.now c.in_ok-text.text.now cache.text c.with_millis.result cache.seconds
+    cache.is_front cache.seconds_fit cache.is_text (sym c.if-not-are_digits.ensures) inner.0 line_is c.in_ok-text.ensures c.with_millis.ensures
+
+pub returns-clause-value : goal.returns-clause-value
+returns-clause-value c = (stamped (goal.at.returns-clause-value c).After-with_millis).0
+
+pub returns-clause-stamp : goal.returns-clause-stamp
+returns-clause-stamp c = (stamped (goal.at.returns-clause-stamp c).After-with_millis).1

@@ -1,5 +1,0 @@
-use Rattle.n2k_wire.proofs.SharedSeconds.{first_second}
-use Rattle.n2k_wire.proofs.candump_lines.Second.new.Goals as goal
-
-pub returns : goal.returns
-returns c = rw c.second_front.ensures.value first_second

@@ -1,5 +1,0 @@
-use Rattle.n2k_wire.proofs.Clocks.{first_front}
-use Rattle.n2k_wire.proofs.usual.Clock.new.Goals as goal
-
-pub invariant_of-result-clause-is_front : goal.invariant_of-result-clause-is_front
-invariant_of-result-clause-is_front c = first_front

@@ -1,0 +1,44 @@
+-- Moments and seconds, and how the lines and stamps of a second begin, as the code keeps them.
+use Rattle.std.specs.Prelude.{◌≡◌, ◌≤◌, ℕ, ◌==◌, ◌&&◌, Bool, true, List, ◌++◌, length, slice_index, take, Option}
+use Rattle.std.specs.Prelude.{Some, codes}
+use Rattle.std.specs.Char.{is_ascii_digit}
+use Rattle.std.specs.List.{list_all}
+use Rattle.n2k_wire.specs.declared.stamp.Moment as moments_of_code
+use Rattle.n2k_wire.specs.Stamp.{Moment, last_second, millis_digits, utc_moment}
+use Rattle.n2k_wire.specs.Texts.{second_digits}
+
+-- the day number of 31 December 9999
+abbrev pub last_day : ℕ
+last_day = 2932896
+
+-- a moment that a stamp can name
+pub record IsMoment (m : Moment) : Type 0 where
+  pub seconds_fit : m.seconds ≤ last_second
+  pub millis_fit : m.millis ≤ 999
+
+-- a moment of the code
+abbrev pub plain_moment : moments_of_code.Moment → Moment
+plain_moment m = record { seconds = m.seconds; millis = m.millis }
+
+-- how the candump lines of a second begin
+abbrev pub second_front : ℕ → List ℕ
+second_front seconds = codes "(" ++ second_digits seconds ++ codes "."
+
+-- what stands in a candump line between the milliseconds and the identifier
+abbrev pub behind_millis : List ℕ → List ℕ
+behind_millis interface = codes "000) " ++ interface ++ codes " "
+
+-- whether the last four bytes of a stamp are its milliseconds and `Z`
+abbrev pub are_millis : List ℕ → Bool
+are_millis behind = list_all is_ascii_digit (take 3 behind) && (slice_index behind 3 == 90)
+
+-- a text is how the candump line of a moment that was found begins, up to its milliseconds
+abbrev pub IsStampText : Option Moment → List ℕ → Type 0
+IsStampText found text =
+    (seen : Moment) × (found ≡ Some seen) × (text ≡ second_front seen.seconds ++ millis_digits seen.millis)
+
+-- The stamps that begin so are those of one second, and its candump lines begin so.
+pub record IsSecond (stamp line : List ℕ) : Type 0 where
+  pub shared : (behind : List ℕ) → length behind ≡ 4 → are_millis behind ≡ true
+      → IsStampText (utc_moment (stamp ++ behind)) (line ++ take 3 behind)
+  pub short : length line ≤ 14

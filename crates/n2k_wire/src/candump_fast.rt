@@ -1,0 +1,239 @@
+//! A fast path; read `candump.rt` first. A candump line of eight bytes as `candump -L` writes it,
+//! `(1751608800.114221) can0 09F80103#FF..`, is read by position, and the text of its second is kept for the lines that
+//! follow. It promises only what it answers. Where it answers nothing, `candump.rt` reads the line, as it reads every
+//! candump line.
+ghost use Rattle.std.specs.Prelude.{◌≡◌, ◌≤◌, ◌<◌, ◌^◌, ◌++◌, ℕ, map, not, position, true, false, Some, Ok, IfSome};
+ghost use Rattle.std.specs.Prelude.{IsTrue};
+ghost use Rattle.std.specs.Char.{is_ascii_hexdigit};
+ghost use Rattle.std.specs.Int.{w32, w64, to_le_bytes};
+ghost use Rattle.std.specs.List.{list_all};
+ghost use Rattle.std.specs.Simd.Lanes.{mask_l};
+ghost use Rattle.n2k_wire.specs.Candump.{is_interface_byte, identifier, is_other_frame, payload};
+ghost use Rattle.n2k_wire.specs.Entry.{entry, IsEntry, IsShort};
+ghost use Rattle.n2k_wire.specs.declared.entry.Packing.{Packing};
+ghost use Rattle.n2k_wire.specs.Packet.{is_stamp};
+ghost use Rattle.n2k_wire.specs.Inner.Candump.{IsFramed, IsSecondFront, stamp_behind};
+ghost use Rattle.n2k_wire.specs.Stamp.{last_second, millis_digits, three_digits, utc_text};
+
+use crate::candump::{FIRST_ERROR_FRAME, LONGEST_INTERFACE};
+use crate::digits::{are_digits, decimal_number, eight_bytes};
+use crate::entry::{Entry, set_frame_fast};
+use crate::identifier::split_id;
+use crate::pieces::after_byte;
+use crate::stamp::{Moment, UTC_LEN, utc_text};
+use std::simd::prelude::*;
+
+/// The bytes of `(1751608800.`.
+const FRONT: usize = 12;
+
+/// The digits of the seconds.
+const SECONDS: usize = 10;
+
+/// The digits of the fraction.
+const FRACTION: usize = 6;
+
+/// The digits of an extended identifier.
+const WORD_DIGITS: usize = 8;
+
+/// The least bytes of such a line, and the most.
+const SHORTEST: usize = 47;
+
+const LONGEST: usize = 61;
+
+/// The bytes in which the end of an interface's name is looked for.
+const LANES: usize = 16;
+
+/// The second of the line that was read last.
+#[derive(Drop)]
+pub(crate) struct SecondCache {
+    /// What a line of that second begins with.
+    front: [u8; FRONT],
+    seconds: u64,
+    /// The UTC text of the second's begin.
+    text: [u8; UTC_LEN],
+    ghost is_front: { IsSecondFront front seconds },
+    ghost seconds_fit: { seconds ≤ last_second },
+    ghost is_text: { text ≡ utc_text (record { seconds = seconds; millis = 0 }) },
+}
+
+impl SecondCache {
+    pub(crate) fn new() -> SecondCache {
+        SecondCache {
+            front: *b"(0000000000.",
+            seconds: 0,
+            text: utc_text(Moment {
+                seconds: 0,
+                millis: 0,
+            }),
+        }
+    }
+
+    /// Turns to the second of the lines with this front, if it is such a front.
+    #[inline(never)]
+    fn recompute(&mut self, front: &[u8; FRONT]) -> Option<()>
+        ensures { IfSome result (λ done. self.new.front ≡ front.now) }
+    {
+        let inner = after_byte(b'(', front)?;
+        let (digits, point) = inner.split_at(SECONDS);
+        after_byte(b'.', point)?;
+        let seconds = decimal_number(12, digits)?;
+        self.front = *front;
+        self.seconds = seconds;
+        self.text = utc_text(Moment { seconds, millis: 0 });
+        Some(())
+    }
+
+    /// Goes on to the second of the lines with this front. Mostly it is that of the line before.
+    #[inline]
+    fn advance_to(&mut self, front: &[u8; FRONT]) -> Option<()>
+        ensures { IfSome result (λ done. self.new.front ≡ front.now) }
+    {
+        if are_same(front, &self.front) {
+            Some(())
+        } else {
+            self.recompute(front)
+        }
+    }
+
+    /// The UTC text of a line's stamp, and what follows the stamp.
+    #[inline]
+    fn stamp_behind<'a>(&mut self, line: &'a [u8]) -> Option<([u8; UTC_LEN], &'a [u8])>
+        ensures value { IfSome result (λ x. stamp_behind line.now ≡ Some (x.0, x.1.now)) }
+        ensures stamp { IfSome result (λ x. IsTrue (is_stamp x.0)) }
+    {
+        let (front, behind) = line.split_first_chunk::<FRONT>()?;
+        let (fraction, behind) = behind.split_first_chunk::<FRACTION>()?;
+        let text = after_byte(b')', behind)?;
+        if !are_digits(fraction) {
+            return None;
+        }
+        self.advance_to(front)?;
+        Some((with_millis(&self.text, fraction), text))
+    }
+}
+
+/// A front as two words.
+#[inline(always)]
+fn front_words(front: &[u8; FRONT]) -> (u64, u32)
+    ensures { front.now ≡ to_le_bytes w64 result.0 ++ to_le_bytes w32 result.1 }
+{
+    let [a, b, c, d, e, f, g, h, i, j, k, l] = *front;
+    (
+        u64::from_le_bytes([a, b, c, d, e, f, g, h]),
+        u32::from_le_bytes([i, j, k, l]),
+    )
+}
+
+/// Whether two fronts are the same.
+#[inline(always)]
+fn are_same(front: &[u8; FRONT], other: &[u8; FRONT]) -> bool
+    ensures { IsTrue result → front.now ≡ other.now }
+{
+    let (start, end) = front_words(front);
+    let (other_start, other_end) = front_words(other);
+    start == other_start && end == other_end
+}
+
+/// The text of a second with the milliseconds that a fraction begins with.
+#[tactic(auto, using(crate::proofs::SecondCaches::millis_put))]
+#[inline]
+fn with_millis(text: &[u8; UTC_LEN], fraction: &[u8; FRACTION]) -> [u8; UTC_LEN]
+    ensures { (seconds m : ℕ) → text.now ≡ utc_text (record { seconds = seconds; millis = 0 })
+        → millis_digits m ≡ three_digits fraction.now
+        → result ≡ utc_text (record { seconds = seconds; millis = m }) }
+{
+    let mut text = *text;
+    text[20] = fraction[0];
+    text[21] = fraction[1];
+    text[22] = fraction[2];
+    text
+}
+
+/// A bit for each byte that an interface's name can't have.
+#[tactic(auto, using(crate::proofs::FastLanes::mask_is))]
+#[inline(always)]
+fn mask_of_others(lanes: u8x16) -> u64
+    ensures { result ≡ mask_l (map (λ b. not (is_interface_byte b)) lanes) }
+{
+    let shifted = lanes - u8x16::splat(b'!');
+    shifted.simd_gt(u8x16::splat(b'~' - b'!')).to_bitmask()
+}
+
+/// Where the first such byte stands, if it is among the first sixteen of a text. They are looked at all at once.
+#[inline(always)]
+fn interface_end(text: &[u8]) -> Option<usize>
+    ensures { IfSome result (λ at. position (λ b. not (is_interface_byte b)) text.now ≡ Some at) }
+{
+    if text.len() < LANES {
+        return None;
+    }
+    let mask = mask_of_others(u8x16::from_slice(text));
+    let at = mask.trailing_zeros() as usize;
+    if at < LANES { Some(at) } else { None }
+}
+
+/// The 29 bits of an identifier of eight digits.
+#[inline]
+fn fast_identifier(digits: &[u8; WORD_DIGITS]) -> Option<u32>
+    ensures hexadecimal { IfSome result (λ n. list_all is_ascii_hexdigit digits.now ≡ true) }
+    ensures value { IfSome result (λ n. identifier digits.now ≡ Ok (Some n)) }
+    ensures bits { IfSome result (λ n. n < 2 ^ 29) }
+{
+    let twice: u8x16 = u8x8::from_array(*digits).swizzle([
+        0, 1, 2, 3, 4, 5, 6, 7, 0, 1, 2, 3, 4, 5, 6, 7,
+    ]);
+    let [a, b, c, d, ..] = eight_bytes(twice)?;
+    let number = u32::from_be_bytes([a, b, c, d]);
+    if number < FIRST_ERROR_FRAME {
+        Some(number)
+    } else {
+        None
+    }
+}
+
+/// The identifier and what follows the `#`, where one space stands on each side of the interface, and eight digits
+/// before the `#`.
+#[inline]
+fn fast_framed(text: &[u8]) -> Option<(u32, &[u8])>
+    ensures value { IfSome result (λ x. IsFramed text.now x.0 x.1.now) }
+    ensures bits { IfSome result (λ x. x.0 < 2 ^ 29) }
+{
+    let named = after_byte(b' ', text)?;
+    let at = interface_end(named)?;
+    if at == 0 || at > LONGEST_INTERFACE {
+        return None;
+    }
+    let (_, rest) = named.split_at(at);
+    let inner = after_byte(b' ', rest)?;
+    let (digits, behind) = inner.split_first_chunk::<WORD_DIGITS>()?;
+    let identifier = fast_identifier(digits)?;
+    let data = after_byte(b'#', behind)?;
+    Some((identifier, data))
+}
+
+/// The eight bytes of a frame's data.
+#[tactic(auto, using(crate::proofs::CandumpBack::no_other_frame, crate::proofs::FastFrames::payload_of))]
+#[inline]
+fn fast_payload(text: &[u8]) -> Option<[u8; 8]>
+    ensures frame { IfSome result (λ bytes. is_other_frame text.now ≡ false) }
+    ensures value { IfSome result (λ bytes. payload text.now ≡ Some bytes) }
+{
+    let digits = text.as_array::<16>()?;
+    eight_bytes(u8x16::from_array(*digits))
+}
+
+/// Puts the entry of such a line where that of an earlier line was. Of another line it answers nothing.
+pub(crate) fn read_candump_fast(cache: &mut SecondCache, line: &[u8], out: &mut Entry) -> Option<()>
+    ensures entry { IfSome result (λ done. (packing : Packing) → out.new ≡ entry line.now packing) }
+    ensures valid { IfSome result (λ done. IsEntry out.new) }
+    ensures short { IfSome result (λ done. IsShort out.new) }
+{
+    if line.len() < SHORTEST || line.len() > LONGEST {
+        return None;
+    }
+    let (stamp, text) = cache.stamp_behind(line)?;
+    let (identifier, text) = fast_framed(text)?;
+    let data = fast_payload(text)?;
+    set_frame_fast(out, &stamp, split_id(identifier), &data);
+    Some(())
+}

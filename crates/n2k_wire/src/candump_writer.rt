@@ -1,0 +1,355 @@
+//! Packets as candump lines, `(0000000010.300000) can0 1DFF0405#000BA39901414243`, written where they go as plain lines
+//! are. Most packets of a log share the second of the one before, so how its stamps and its lines begin is kept.
+ghost use Rattle.std.specs.Prelude.{◌≡◌, ◌+◌, ◌-◌, ◌*◌, ◌<◌, ◌≤◌, ◌++◌, [], codes, drop, length, take, IfSome, IfNone};
+ghost use Rattle.std.specs.Prelude.{IsTrue, OnErr};
+ghost use Rattle.std.specs.Int.{w32, to_be_bytes};
+ghost use Rattle.hex.specs.Hex.{encode_upper};
+ghost use Rattle.n2k_wire.specs.Candump.{frame_payload, is_interface, longest_interface};
+ghost use Rattle.n2k_wire.specs.Inner.Stamp.{IsSecond, IsStampText, are_millis, behind_millis, second_front};
+ghost use Rattle.n2k_wire.specs.Stamp.{last_second, utc_moment};
+ghost use Rattle.n2k_wire.specs.Texts.{Appends, candump_text};
+
+use crate::candump::FRAME_PAYLOAD;
+use crate::digits::are_digits;
+use crate::fault::WireFault;
+use crate::identifier::join_id;
+use crate::packet::Packet;
+use crate::plain_writer::{append_room, put};
+use crate::stamp::read_utc;
+use std::alloc::Global;
+use std::marker::Model;
+
+/// The bytes of a stamp in front of its milliseconds, `1970-01-01T00:00:10.`.
+const SECOND_LEN: usize = 20;
+
+/// The bytes behind them, `300Z`.
+const MILLIS_LEN: usize = 4;
+
+/// As many zeros as the seconds of a candump line have digits at least.
+const ZEROS: [u8; 10] = *b"0000000000";
+
+/// A short text and room behind it. It is copied with its room, since a copy of known length costs less.
+#[derive(Drop)]
+struct ShortText {
+    bytes: [u8; 32],
+    len: usize,
+}
+
+impl Model for ShortText {
+    ghost use Rattle.std.specs.Prelude.{◌≤◌, List, ℕ, take};
+
+    ghost Value = { List ℕ };
+
+    ghost view = { λ p. take p.len p.bytes };
+
+    ghost invariant = { λ p. p.len ≤ 32 };
+}
+
+impl ShortText {
+    fn new() -> ShortText
+        ensures { result ≡ [] }
+    {
+        ShortText {
+            bytes: [0; 32],
+            len: 0,
+        }
+    }
+
+    fn push(&mut self, text: &[u8])
+        requires { length self.old + length text.now ≤ 32 }
+        ensures { self.new ≡ self.old ++ text.now }
+    {
+        let end = self.len + text.len();
+        self.bytes[self.len..end].copy_from_slice(text);
+        self.len = end;
+    }
+
+    /// Writes it at a place of a text, and answers the place behind it.
+    #[inline(always)]
+    fn put(&self, text: &mut [u8], at: usize) -> usize
+        requires { at + 32 ≤ length text.old }
+        ensures bytes { take result text.new ≡ take at text.old ++ self.now }
+        ensures end { result ≡ at + length self.now }
+        ensures len { length text.new ≡ length text.old }
+    {
+        put(text, at, &self.bytes, self.len)
+    }
+}
+
+/// The zeros in front of a number of so many digits, which fill it to ten digits.
+fn filling_zeros(digits: usize) -> &'static [u8]
+    ensures zeros { result.now ≡ drop digits (codes "0000000000") }
+    ensures len { length result.now ≡ 10 - digits }
+{
+    &ZEROS[digits.min(ZEROS.len())..]
+}
+
+/// How the lines of a second begin, `(0000000010.`.
+#[tactic(auto, using(crate::proofs::CandumpLemmas::seconds_short, crate::proofs::SharedSeconds::front_short, std::proofs::Common::append_assoc))]
+fn second_front(seconds: u64) -> ShortText
+    requires { seconds ≤ last_second }
+    ensures value { result ≡ second_front seconds }
+    ensures len { length result ≤ 14 }
+{
+    let mut buffer = itoa::Buffer::new();
+    let digits = buffer.format(seconds).as_bytes();
+    let mut front = ShortText::new();
+    front.push(b"(");
+    front.push(filling_zeros(digits.len()));
+    front.push(digits);
+    front.push(b".");
+    front
+}
+
+/// What stands between the milliseconds and the identifier, `000) can0 `.
+#[tactic(auto, using(std::proofs::Common::append_assoc))]
+fn behind_millis(interface: &[u8]) -> ShortText
+    requires { length interface.now ≤ longest_interface }
+    ensures { result ≡ behind_millis interface.now }
+{
+    let mut behind = ShortText::new();
+    behind.push(b"000) ");
+    behind.push(interface);
+    behind.push(b" ");
+    behind
+}
+
+/// Whether what follows the second in a stamp is milliseconds and the end.
+#[inline]
+fn are_millis(behind: &[u8; MILLIS_LEN]) -> bool
+    ensures { result ≡ are_millis behind.now }
+{
+    let [a, b, c, end] = *behind;
+    are_digits(&[a, b, c]) && end == b'Z'
+}
+
+/// The second of the packet before.
+#[derive(Drop)]
+struct WrittenSecond {
+    /// How its stamps begin.
+    stamp: [u8; SECOND_LEN],
+    /// And its lines.
+    line: ShortText,
+}
+
+impl WrittenSecond {
+    /// The first that a candump line can name.
+    #[tactic(auto, using(crate::proofs::SharedSeconds::first_second))]
+    fn new() -> WrittenSecond
+        ensures { IsSecond result.stamp result.line }
+    {
+        WrittenSecond {
+            stamp: *b"1970-01-01T00:00:00.",
+            line: second_front(0),
+        }
+    }
+
+    /// Goes on to the second of a stamp, and answers what follows it in the stamp. Mostly it is that of the packet
+    /// before.
+    fn advance_to(&mut self, stamp: &[u8]) -> Option<[u8; MILLIS_LEN]>
+        requires { IsSecond self.old.stamp self.old.line }
+        ensures second { IsSecond self.new.stamp self.new.line }
+        ensures some { IfSome result (λ behind. IsStampText (utc_moment stamp.now) (self.new.line ++ take 3 behind)) }
+        ensures none { IfNone result (utc_moment stamp.now ≡ None) }
+    {
+        let (front, behind) = stamp.split_first_chunk::<SECOND_LEN>()?;
+        let behind = behind.as_array::<MILLIS_LEN>()?;
+        if *front == self.stamp && are_millis(behind) {
+            return Some(*behind);
+        }
+        let seen = read_utc(stamp)?;
+        self.stamp = *front;
+        self.line = second_front(seen.seconds);
+        Some(*behind)
+    }
+}
+
+/// Appends packets in a row as `candump -L` writes frames that came in at one interface, as `candump_text` does, at
+/// less cost where a packet has the second of the one before.
+#[derive(Drop)]
+pub struct CandumpLines<'a> {
+    interface: &'a str,
+    /// What stands behind the milliseconds.
+    behind: ShortText,
+    second: WrittenSecond,
+}
+
+impl<'a> Model for CandumpLines<'a> {
+    ghost use Rattle.std.specs.Prelude.{◌≡◌, List, ℕ, IsTrue};
+    ghost use Rattle.n2k_wire.specs.Candump.{is_interface};
+    ghost use Rattle.n2k_wire.specs.Inner.Stamp.{IsSecond, behind_millis};
+
+    ghost Value = { List ℕ };
+
+    ghost view = { λ l. l.interface.now };
+
+    ghost invariant = { λ l. IsTrue (is_interface l.interface.now) × (l.behind ≡ behind_millis l.interface.now)
+        × IsSecond l.second.stamp l.second.line };
+}
+
+/// Writes bytes as digits in upper case at a place of a text, and answers the place behind them. `hex` writes lower
+/// case without memory.
+#[tactic(auto, using(crate::proofs::CandumpLemmas::upper_of_lower, crate::proofs::CandumpLemmas::upper_len))]
+#[inline(always)]
+fn put_upper(text: &mut [u8], at: usize, bytes: &[u8]) -> usize
+    requires room { at + 2 * length bytes.now ≤ length text.old }
+    ensures bytes { take result text.new ≡ take at text.old ++ encode_upper bytes.now }
+    ensures end { result ≡ at + 2 * length bytes.now }
+    ensures len { length text.new ≡ length text.old }
+{
+    let end = at + 2 * bytes.len();
+    let digits = &mut text[at..end];
+    let _ = hex::encode_to_slice(bytes, digits);
+    digits.make_ascii_uppercase();
+    end
+}
+
+/// Writes the data and the LF at a place of the text, and answers the place behind them. Most frames have eight bytes,
+/// and those cost less at a known length.
+fn put_data(text: &mut [u8], at: usize, payload: &[u8]) -> usize
+    requires room { at + 2 * length payload.now < length text.old }
+    ensures { take result text.new ≡ take at text.old ++ (encode_upper payload.now ++ codes "\n") }
+{
+    let end = match payload.as_array::<FRAME_PAYLOAD>() {
+        Some(eight) => put_upper(text, at, eight),
+        None => put_upper(text, at, payload),
+    };
+    put(text, end, b"\n", 1)
+}
+
+/// A candump line in parts.
+#[derive(Clone, Copy)]
+struct LineParts<'a> {
+    /// What stands before the milliseconds.
+    front: &'a ShortText,
+    millis: &'a [u8; MILLIS_LEN],
+    /// What stands between the milliseconds and the identifier.
+    behind: &'a ShortText,
+    identifier: u32,
+    payload: &'a [u8],
+}
+
+/// Writes a line at a place of the text, and answers the place behind it.
+#[tactic(auto, using(std::proofs::Common::append_assoc))]
+#[inline(always)]
+fn write_line(text: &mut [u8], at: usize, parts: LineParts<'_>) -> usize
+    requires room { at + 85 ≤ length text.old }
+    requires front { length parts.front.now ≤ 14 }
+    requires behind { length parts.behind.now ≤ 21 }
+    requires short { length parts.payload.now ≤ frame_payload }
+    ensures { let line = parts.entry in
+        take result text.new ≡ take at text.old ++ (line.front.now ++ take 3 line.millis.now ++ line.behind.now
+        ++ encode_upper (to_be_bytes w32 line.identifier) ++ codes "#" ++ encode_upper line.payload.now ++ codes "\n") }
+{
+    let at = parts.front.put(text, at);
+    let at = put(text, at, parts.millis, 3);
+    let at = parts.behind.put(text, at);
+    let at = put_upper(text, at, &parts.identifier.to_be_bytes());
+    let at = put(text, at, b"#", 1);
+    put_data(text, at, parts.payload)
+}
+
+impl<'a> CandumpLines<'a> {
+    /// Lines at an interface of 1 to 15 bytes from `!` to `~`; `is_interface` is the test.
+    ///
+    /// ```rust
+    /// let id = split_id(0x18EA_FF01);
+    /// let stamp = "1970-01-01T00:00:10.300Z".as_bytes();
+    /// let packet = Packet::new(stamp, id, &[0x14, 0xf0, 0x01]).ok_or("a packet")?;
+    /// assert!(rt; is_interface(b"can0"));
+    /// let mut lines = CandumpLines::new("can0");
+    /// let mut text = Vec::new(alloc);
+    /// lines.append(alloc, &packet, &mut text)?;
+    /// lines.append(alloc, &packet, &mut text)?;
+    /// let wanted = "(0000000010.300000) can0 18EAFF01#14F001\n";
+    /// assert_eq!(rt; text.as_slice(), wanted.repeat(alloc, 2)?.as_bytes());
+    /// ```
+    #[tactic(auto, using(crate::proofs::CandumpLemmas::interface_short))]
+    pub fn new(interface: &'a str) -> CandumpLines<'a>
+        requires { IsTrue (is_interface interface.now) }
+        ensures { result ≡ interface.now }
+    {
+        CandumpLines {
+            interface,
+            behind: behind_millis(interface.as_bytes()),
+            second: WrittenSecond::new(),
+        }
+    }
+
+    /// Appends a packet of at most 8 bytes, as `candump_text` does: `NoStamp` or `NoId` where that says so, or
+    /// `Memory`. `out` is as it was where the answer is a fault, and what follows is appended as if that packet had
+    /// not come.
+    ///
+    /// ```rust
+    /// let id = split_id(0x18EA_FF01);
+    /// let stamp = "1970-01-01T00:00:10.300Z".as_bytes();
+    /// let packet = Packet::new(stamp, id, &[0x14, 0xf0, 0x01]).ok_or("a packet")?;
+    /// assert!(rt; is_interface(b"can0"));
+    /// let mut lines = CandumpLines::new("can0");
+    /// let mut text = Vec::new(alloc);
+    /// lines.append(alloc, &packet, &mut text)?;
+    /// lines.append(alloc, &packet, &mut text)?;
+    /// let wanted = "(0000000010.300000) can0 18EAFF01#14F001\n";
+    /// assert_eq!(rt; text.as_slice(), wanted.repeat(alloc, 2)?.as_bytes());
+    /// ```
+    #[tactic(auto, using(crate::proofs::CandumpLemmas::behind_short, crate::proofs::CandumpLemmas::no_stamp, crate::proofs::CandumpLemmas::no_id, crate::proofs::CandumpLemmas::no_memory, crate::proofs::CandumpLemmas::appended))]
+    pub fn append(
+        &mut self,
+        _alloc: Global,
+        packet: &Packet,
+        out: &mut Vec<u8>,
+    ) -> Result<(), WireFault>
+        requires short { length packet.now.payload ≤ frame_payload }
+        ensures text { Appends (candump_text self.old packet.now) result out.old.items out.new.items }
+        ensures unchanged { OnErr result (out.new.items ≡ out.old.items) }
+        ensures interface { self.new ≡ self.old }
+    {
+        let Some(millis) = self.second.advance_to(packet.stamp()) else {
+            return Err(WireFault::NoStamp);
+        };
+        let Some(identifier) = join_id(&packet.id()) else {
+            return Err(WireFault::NoId);
+        };
+        let start = out.len();
+        append_room(FRAME_PAYLOAD, out).map_err(|_| WireFault::Memory)?;
+        let parts = LineParts {
+            front: &self.second.line,
+            millis: &millis,
+            behind: &self.behind,
+            identifier,
+            payload: packet.data(),
+        };
+        let end = write_line(out.as_mut_slice(), start, parts);
+        out.truncate(end);
+        Ok(())
+    }
+}
+
+/// Appends a packet of at most 8 bytes as `candump -L` writes a frame that came in at an interface of 1 to 15 bytes
+/// from `!` to `~`: `(0000000010.300000) can0 1DFF0405#000BA39901414243` with its LF, digits in upper case.
+/// `NoStamp` where its stamp isn't `YYYY-MM-DDTHH:MM:SS.mmmZ` of a day that the calendar has from 1970 on, else
+/// `NoId` where `join_id` has no identifier for it. `out` is as it was where the answer is a fault.
+///
+/// ```rust
+/// let id = split_id(0x18EA_FF01);
+/// let stamp = "1970-01-01T00:00:10.300Z".as_bytes();
+/// let packet = Packet::new(stamp, id, &[0x14, 0xf0, 0x01]).ok_or("a packet")?;
+/// assert!(rt; is_interface(b"can0"));
+/// let mut text = Vec::new(alloc);
+/// candump_text(alloc, &packet, "can0", &mut text)?;
+/// let wanted = "(0000000010.300000) can0 18EAFF01#14F001\n";
+/// assert_eq!(rt; text.as_slice(), wanted.as_bytes());
+/// ```
+pub fn candump_text(
+    alloc: Global,
+    packet: &Packet,
+    interface: &str,
+    out: &mut Vec<u8>,
+) -> Result<(), WireFault>
+    requires short { length packet.now.payload ≤ frame_payload }
+    requires interface { IsTrue (is_interface interface.now) }
+    ensures text { Appends (candump_text interface.now packet.now) result out.old.items out.new.items }
+    ensures unchanged { OnErr result (out.new.items ≡ out.old.items) }
+{
+    CandumpLines::new(interface).append(alloc, packet, out)
+}
