@@ -5,8 +5,8 @@ use Rattle.std.specs.Io.{IsEmptyOrEndsWith}
 use Rattle.std.proofs.lemmas.Grind.{flat_map-append}
 use Rattle.n2k_wire.specs.declared.entry.Entry.{Entry}
 use Rattle.n2k_table.specs.Table.{TableParts, kind}
-use Rattle.n2k_join.specs.declared.state_fault.StateFault.{StateFault}
-use Rattle.n2k_join.specs.declared.state_fault.StateFault.TheVariants as state_faults
+use Rattle.n2k_join.specs.declared.fault.StateFault.{StateFault}
+use Rattle.n2k_join.specs.declared.fault.StateFault.TheVariants as state_faults
 use Rattle.n2k_join.specs.Counts.{most_lines}
 use Rattle.n2k_join.specs.Messages.{broken, cause_in, entry_at, numbers}
 use Rattle.n2k_join.specs.State.{state}

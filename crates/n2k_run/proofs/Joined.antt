@@ -32,7 +32,7 @@ use Rattle.n2k_run.proofs.LogSteps.{LogLaws}
 use Rattle.n2k_run.proofs.Parting.{KeepsFast, begun-under, memory_alone, part-of, told_ok, told_stopped}
 
 -- before the first part
-pub empty-of : (laws : KeepsFast) (t : TableParts) (o : Options) → IsWindow o.window.window → (join : State) {E : Type 0} (result : Result Part E) → IsId t.id → join ≡ state t.id o.window (kind t) [] → IfOk result (Saves join) → IfOk result (IsPartOf t o (state t.id o.window (kind t) []))
+pub empty-of : (laws : KeepsFast) (t : TableParts) (o : Options) → IsWindow o.window.lines → (join : State) {E : Type 0} (result : Result Part E) → IsId t.id → join ≡ state t.id o.window (kind t) [] → IfOk result (Saves join) → IfOk result (IsPartOf t o (state t.id o.window (kind t) []))
 empty-of laws t o window join (Ok part) id is saves = part-of laws t o window (state t.id o.window (kind t) []) part id (begun-under laws t o window None (state t.id o.window (kind t) []) refl) (subst (λ s. Saves s part) is saves)
 empty-of laws t o window join (Err e) id is saves = tt
 

@@ -15,7 +15,7 @@ use Rattle.n2k_run.specs.declared.options.Options.{Options}
 use Rattle.n2k_run.specs.Decoded.{cause_at, join_making, message_line, numbers_after, output_after, report_at, text_at}
 use Rattle.n2k_run.specs.Making.{after_all, given_from, texts_from, reports_from}
 use Rattle.n2k_run.specs.Reports.{broken_text, cause_report, line_report}
-use Rattle.n2k_join.specs.Window.{Rule, IsWindow}
+use Rattle.n2k_join.specs.Window.{Window, IsWindow}
 use Rattle.n2k_run.specs.Inner.Engine.{MovesOn}
 use Rattle.n2k_run.specs.Inner.Overdue.{BreaksOverdue}
 use Rattle.n2k_run.specs.Runs.{output_from}
@@ -66,13 +66,13 @@ entry_next front e es =
     ap (entry_at (front ++ e ∷ es)) at ∙ at_place front e es
 
 -- The laws of the join on a log, with what ends its groups.
-pub record LogLaws (rule : Rule) : Type 0 where
-  pub agree : (id : List ℕ) (kind : ℕ → Option Kind) (es : List Entry) (e : Entry) → StepsAgree id rule kind es e
-  pub stay : (kind : ℕ → Option Kind) (es : List Entry) (e : Entry) → LinesStay rule kind es e
+pub record LogLaws (w : Window) : Type 0 where
+  pub agree : (id : List ℕ) (kind : ℕ → Option Kind) (es : List Entry) (e : Entry) → StepsAgree id w kind es e
+  pub stay : (kind : ℕ → Option Kind) (es : List Entry) (e : Entry) → LinesStay w kind es e
 
-pub log_laws : (rule : Rule) → IsWindow rule.window → ((id : List ℕ) (rule : Rule) (kind : ℕ → Option Kind) (es : List Entry) (e : Entry) → IsWindow rule.window → StepsAgree id rule kind es e)
-    → ((rule : Rule) (kind : ℕ → Option Kind) (es : List Entry) (e : Entry) → IsWindow rule.window → LinesStay rule kind es e) → LogLaws rule
-log_laws rule is agree stay = record { agree = λ id kind es e. agree id rule kind es e is; stay = λ kind es e. stay rule kind es e is }
+pub log_laws : (w : Window) → IsWindow w.lines → ((id : List ℕ) (w : Window) (kind : ℕ → Option Kind) (es : List Entry) (e : Entry) → IsWindow w.lines → StepsAgree id w kind es e)
+    → ((w : Window) (kind : ℕ → Option Kind) (es : List Entry) (e : Entry) → IsWindow w.lines → LinesStay w kind es e) → LogLaws w
+log_laws w is agree stay = record { agree = λ id kind es e. agree id w kind es e is; stay = λ kind es e. stay w kind es e is }
 
 module _ (t : TableParts) (o : Options) (laws : LogLaws o.window) (id : List ℕ) where
   pub messages_stay : (es fs : List Entry) (i : ℕ) → 1 ≤ i → i ≤ length es → message o.window (kind t) (es ++ fs) i ≡ message o.window (kind t) es i

@@ -15,8 +15,8 @@ use Rattle.n2k_table.specs.declared.definition.Kind.{Kind}
 use Rattle.n2k_table.specs.declared.definition.Kind.TheVariants.{Single, Fast}
 use Rattle.n2k_table.specs.Table.{TableParts, kind}
 use Rattle.n2k_join.specs.declared.counts.Counts.{Counts}
-use Rattle.n2k_join.specs.declared.split_fault.SplitFault.{SplitFault}
-use Rattle.n2k_join.specs.declared.split_fault.SplitFault.TheVariants as unsplit
+use Rattle.n2k_join.specs.declared.fault.SplitFault.{SplitFault}
+use Rattle.n2k_join.specs.declared.fault.SplitFault.TheVariants as unsplit
 use Rattle.n2k_join.specs.Counts.{most_lines}
 use Rattle.n2k_join.specs.Pieces.{Sequences, first_sequences, frames_of_sending, pieces_by, raised, sendings, sendings_after, sequence_after, split, split_from, stream_of, written}
 use Rattle.n2k_join.specs.Splitter.{refusal}

@@ -17,8 +17,8 @@ use Rattle.n2k_wire.specs.Texts.{plain_text, candump_parts, candump_text}
 use Rattle.n2k_table.specs.declared.definition.Kind.{Kind}
 use Rattle.n2k_table.specs.Table.{TableParts, kind}
 use Rattle.n2k_join.specs.declared.counts.Counts.{Counts}
-use Rattle.n2k_join.specs.declared.split_fault.SplitFault.{SplitFault}
-use Rattle.n2k_join.specs.declared.split_fault.SplitFault.TheVariants as unsplit
+use Rattle.n2k_join.specs.declared.fault.SplitFault.{SplitFault}
+use Rattle.n2k_join.specs.declared.fault.SplitFault.TheVariants as unsplit
 use Rattle.n2k_join.specs.Pieces.{Sending, sendings, frames_of_sending}
 use Rattle.n2k_join.specs.Splitter.{refusal}
 use Rattle.n2k_run.specs.Entries.{entries}

@@ -6,11 +6,11 @@ use Rattle.std.specs.Io.{IsEmptyOrEndsWith}
 use Rattle.std.specs.Io.KnownBytes.{Appends, Consumes, IsAtEnd}
 use Rattle.n2k_wire.specs.declared.entry.Entry.{Entry}
 use Rattle.n2k_table.specs.Table.{TableParts, kind}
-use Rattle.n2k_join.specs.declared.state_fault.StateFault.{StateFault}
-use Rattle.n2k_join.specs.declared.state_fault.StateFault.TheVariants as state_faults
+use Rattle.n2k_join.specs.declared.fault.StateFault.{StateFault}
+use Rattle.n2k_join.specs.declared.fault.StateFault.TheVariants as state_faults
 use Rattle.n2k_join.specs.Counts.{most_lines}
 use Rattle.n2k_join.specs.Messages.{counts}
-use Rattle.n2k_join.specs.Resumed.{judged}
+use Rattle.n2k_join.specs.Resumed.{resumed}
 use Rattle.n2k_join.specs.Saved.{state_text}
 use Rattle.n2k_join.specs.State.{State, state}
 use Rattle.n2k_run.specs.declared.fault.RunFault.{RunFault}
@@ -33,7 +33,7 @@ use Rattle.n2k_run.specs.Writing.{AppendsFront}
 -- spell under the table and the window, or the reason why they are refused.
 abbrev pub begun : TableParts → Options → Option (List ℕ) → Result State StateFault
 begun t o None = Ok (state t.id o.window (kind t) [])
-begun t o (Some bytes) = judged (kind t) t.id o.window bytes
+begun t o (Some bytes) = resumed (kind t) t.id o.window bytes
 
 -- the state that a log leads to
 abbrev pub state_after : TableParts → Options → List ℕ → State

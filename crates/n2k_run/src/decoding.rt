@@ -160,7 +160,7 @@ pub fn run<R: Source, W: Sink, E: Sink>(
     writer: &mut W,
     reporter: &mut E,
 ) -> Result<(), RunFault>
-    requires window { join.old.rule ≡ options.window }
+    requires window { join.old.window ≡ options.window }
 
     // From any join: the texts and reports of the steps of the log's entries, one after the other.
     ensures steps { let before = seen R.Source W.Sink E.Sink reader.old writer.old reporter.old in

@@ -21,7 +21,7 @@ use n2k_wire::Packing;
 /// A log over which messages are scattered, and which gives no message alone, prints these messages: as many lines as
 /// there are messages, and each key's in their order. None is lost, none invented.
 pub fn replayed()
-    ensures { (t : TableParts) (ms : List PacketParts) (o : Options) (log : List ℕ) → IsWindow o.window.window
+    ensures { (t : TableParts) (ms : List PacketParts) (o : Options) (log : List ℕ) → IsWindow o.window.lines
         → IsScattered o.window (kind t) ms (entries o.packing log) → IsMute (kind t) (entries o.packing log)
         → PrintsBack t ms o log }
 {
@@ -32,7 +32,7 @@ pub fn replayed()
 /// What is written is read back: fast packets of the table's PGNs, written as plain lines of frames in their order,
 /// are a log that prints these messages.
 pub fn written_then_read()
-    ensures { (t : TableParts) (ms : List PacketParts) (o : Options) → IsWindow o.window.window
+    ensures { (t : TableParts) (ms : List PacketParts) (o : Options) → IsWindow o.window.lines
         → o.packing ≡ Packing.Frames → All IsPacketParts ms
         → All (λ (m : PacketParts). kind t m.id.pgn ≡ Some Fast) ms
         → PrintsBack t ms o (flat_map plain_text (written (kind t) ms)) }
@@ -61,7 +61,7 @@ pub fn printed_in_order()
 /// What is saved after the front of a log reads back, under the same table: a part begins with the state that the
 /// front leads to, for every front with no more lines than are counted.
 pub fn saved_front_reads_back()
-    ensures { (t : TableParts) (o : Options) (front : List ℕ) → IsWindow o.window.window → IsId t.id
+    ensures { (t : TableParts) (o : Options) (front : List ℕ) → IsWindow o.window.lines → IsId t.id
         → length (entries o.packing front) ≤ most_lines
         → begun t o (Some (save t o front)) ≡ Ok (state_after t o front) }
 {

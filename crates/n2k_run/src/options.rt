@@ -18,7 +18,7 @@ pub struct Options {
 
 // What the type says of the window.
 pub(crate) fn know_window(options: &Options)
-    ensures { IsWindow options.now.window.window }
+    ensures { IsWindow options.now.window.lines }
 {
     let _lines = options.window.get();
 }

@@ -70,7 +70,7 @@ fn begin(
 ) -> Result<Join, StateFault>
     ensures state { GivesOrMemory (λ join. join) result (begun table.now options.now
         (option_map (λ bytes. bytes.now) saved.entry)) }
-    ensures window { IfOk result (λ join. join.rule ≡ options.now.window) }
+    ensures window { IfOk result (λ join. join.window ≡ options.now.window) }
     ensures handed { IsErr result → IsSome (option_map (λ bytes. bytes.now) saved.entry) }
 {
     laws::groups_stay_fast();

@@ -1,7 +1,7 @@
 -- What the steps of a run of a part answer, and the source of a part that lies in memory.
 use Rattle.std.specs.Prelude.{◌≡◌, ℕ, List, Option, Result, Ok, Err}
 use Rattle.n2k_table.specs.declared.definition.Kind.{Kind}
-use Rattle.n2k_join.specs.Resumed.{judged}
+use Rattle.n2k_join.specs.Resumed.{resumed}
 use Rattle.n2k_join.specs.Saved.{IsId, state_text}
 use Rattle.n2k_join.specs.State.{State, AreFast}
 use Rattle.n2k_run.specs.declared.fault.RunFault.{RunFault}
@@ -20,7 +20,7 @@ pub record Saves (s : State) (part : Part) : Type 0 where
   pub saved : part.state.items ≡ state_text s
   pub counted : part.counts ≡ s.counts
   pub reads_back : (kind : ℕ → Option Kind) → AreFast kind s.groups → IsId s.id
-      → judged kind s.id s.rule (state_text s) ≡ Ok s
+      → resumed kind s.id s.window (state_text s) ≡ Ok s
 
 abbrev pub HasSaved : Result Part PartFault → State → Type 0
 HasSaved (Ok part) s = Saves s part

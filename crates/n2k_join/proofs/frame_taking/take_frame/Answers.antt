@@ -3,8 +3,8 @@ use Rattle.n2k_join.specs.Frames.{Frame}
 use Rattle.n2k_join.specs.Inner.Stored.{key_of, frame_of, lost}
 use Rattle.n2k_join.specs.Inner.Slots.{groups_in}
 use Rattle.n2k_join.proofs.JoinLemmas.{none_at_all, on_err}
-use Rattle.n2k_join.proofs.IndexedLemmas.{entry_at, there-bars, none-lost}
-use Rattle.n2k_join.proofs.taking.take_frame.Goals as goal
+use Rattle.n2k_join.proofs.IndexedLemmas.{entry_at, there-rejects, none-lost}
+use Rattle.n2k_join.proofs.frame_taking.take_frame.Goals as goal
 
 pub returns-in_err-open_last-clause-memory : goal.returns-in_err-open_last-clause-memory
 returns-in_err-open_last-clause-memory c =
@@ -22,7 +22,7 @@ reopen_at-requires-clause-there c =
     let es = c.args.groups.now.entries in
     let place = sym c.in-Some.ensures in
     let at = entry_at es c.in-Some.at c.index.result.now c.index.ensures in
-    there-bars c.args.in_order x es c.in-Some.at c.index.result.now c.requires.apart place at true (sym (c.bars.ensures (key_of at.key)) ∙ c.if-bars.true)
+    there-rejects c.args.in_order x es c.in-Some.at c.index.result.now c.requires.apart place at true (sym (c.rejects.ensures (key_of at.key)) ∙ c.if-rejects.true)
 
 pub join_at-requires-clause-missing : goal.join_at-requires-clause-missing
 join_at-requires-clause-missing c =
@@ -30,7 +30,7 @@ join_at-requires-clause-missing c =
     let es = c.args.groups.now.entries in
     let place = sym c.in-Some.ensures in
     let at = entry_at es c.in-Some.at c.index.result.now c.index.ensures in
-    there-bars c.args.in_order x es c.in-Some.at c.index.result.now c.requires.apart place at false (sym (c.bars.ensures (key_of at.key)) ∙ c.if-bars.false)
+    there-rejects c.args.in_order x es c.in-Some.at c.index.result.now c.requires.apart place at false (sym (c.rejects.ensures (key_of at.key)) ∙ c.if-rejects.false)
 
 pub returns-clause-broken : goal.returns-clause-broken
 returns-clause-broken c =
@@ -38,4 +38,4 @@ returns-clause-broken c =
     let es = c.args.groups.now.entries in
     let place = sym c.in-Some.ensures in
     let at = entry_at es c.in-Some.at c.index.result.now c.index.ensures in
-    none-lost c.args.in_order x es c.in-Some.at c.index.result.now c.requires.apart place at (sym (c.bars.ensures (key_of at.key)) ∙ c.if-bars.false)
+    none-lost c.args.in_order x es c.in-Some.at c.index.result.now c.requires.apart place at (sym (c.rejects.ensures (key_of at.key)) ∙ c.if-rejects.false)

@@ -6,13 +6,13 @@ use Rattle.n2k_join.specs.Inner.Stored.{key_of, frame_of, gained}
 use Rattle.n2k_join.specs.Inner.Slots.{groups_in, group_in}
 use Rattle.n2k_join.proofs.JoinLemmas.{none_at_all, message-begun}
 use Rattle.n2k_join.proofs.IndexedLemmas.{opens-last, opens-done}
-use Rattle.n2k_join.proofs.taking.open_last.Goals as goal
+use Rattle.n2k_join.proofs.frame_taking.open_last.Goals as goal
 
 pub returns-then-is_complete-clause-message : goal.returns-then-is_complete-clause-message
 returns-then-is_complete-clause-message c =
     let x : Frame = frame_of c.args.line c.args.packet.now c.args.frame.now in
     let key = key_of c.args.frame.now.key in
-    c.give.ensures key
+    c.write_message.ensures key
     ∙ sym (ap (λ b. cond b (Some (record { stamp = x.stamp; id = x.id; payload = data_of (held_of (group_in key c.open-begun.result)) })) None) (sym (c.is_complete.ensures key) ∙ c.if-is_complete.true))
     ∙ message-begun x (group_in key c.open-begun.result) c.args.frame.now.piece.small (c.open-begun.ensures c.args.packet.now)
     ∙ sym (ap (gained c.args.in_order x) (none_at_all c.args.in_order x (groups_in c.args.groups.now.entries) c.requires.place).0)

@@ -1,7 +1,7 @@
 use Rattle.std.proofs.Common.{◌∙◌}
 use Rattle.n2k_join.specs.Frames.{same_key}
 use Rattle.n2k_join.proofs.IndexedLemmas.{place-key}
-use Rattle.n2k_join.proofs.taking.place_of.Goals as goal
+use Rattle.n2k_join.proofs.frame_taking.place_of.Goals as goal
 
 pub returns : goal.returns
 unfolding same_key

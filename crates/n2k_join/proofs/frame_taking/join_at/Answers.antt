@@ -3,7 +3,7 @@ use Rattle.n2k_join.specs.Frames.{Frame}
 use Rattle.n2k_join.specs.Inner.Stored.{key_of, frame_of}
 use Rattle.n2k_join.specs.Inner.Slots.{groups_in}
 use Rattle.n2k_join.proofs.IndexedLemmas.{entry_at, has_place, empty, joins-stay, joins-go, gives-message}
-use Rattle.n2k_join.proofs.taking.join_at.Goals as goal
+use Rattle.n2k_join.proofs.frame_taking.join_at.Goals as goal
 
 pub take-requires : goal.take-requires
 take-requires c =
@@ -21,7 +21,7 @@ returns-then-is_complete c =
     record {
       message = λ line.
           let x : Frame = frame_of line c.args.packet.now c.args.frame.now in
-          c.give.ensures (key_of at.key)
+          c.write_message.ensures (key_of at.key)
           ∙ gives-message c.args.in_order x es c.args.at v c.requires.apart c.requires.place at c.take.new.self c.args.frame.now.piece c.requires.«open» c.args.frame.now.piece.small refl refl
           (has_place c.args.in_order x es c.args.at v c.requires.apart c.requires.place at c.requires.missing) (c.take.ensures.taken (key_of at.key)) true done;
       groups = λ line.

@@ -3,23 +3,24 @@ ghost use Rattle.std.specs.Prelude.{◌≡◌, ℕ, Some, None, ◌<◌, ◌≤�
 ghost use Rattle.std.specs.List.{AllByRecursion};
 ghost use Rattle.n2k_join.specs.Frames.{same_key};
 ghost use Rattle.n2k_join.specs.State.{IsOpen, AreApart};
-ghost use Rattle.n2k_join.specs.Inner.Stored.{bars, key_of, frame_of, of_the_key, groups_after, gained, lost};
+ghost use Rattle.n2k_join.specs.Inner.Stored.{rejects, key_of, frame_of, of_the_key, groups_after, gained, lost};
 ghost use Rattle.n2k_join.specs.Inner.Slots.{groups_in};
 
-use crate::broken::Broken;
 use crate::piece::{FastFrame, FrameKey, OpenGroup};
+use crate::step::Broken;
 use indexmap::IndexMap;
 use n2k_wire::Packet;
 use std::alloc::AllocError;
 
-// The place of the group of a key.
+/// The place of the group of a key.
 fn place_of(groups: &IndexMap<FrameKey, OpenGroup>, key: &FrameKey) -> Option<usize>
     ensures { result ≡ position (λ g. same_key (key_of key.now) g.key) (groups_in groups.now.entries) }
 {
     groups.get_index_of(key)
 }
 
-// Begins the group of a frame whose key has none, as the last, or gives its message where the frame completes it alone.
+/// Begins the group of a frame whose key has none, as the last, or writes its message where the frame completes it
+/// alone.
 fn open_last(
     in_order: bool,
     groups: &mut IndexMap<FrameKey, OpenGroup>,
@@ -38,15 +39,15 @@ fn open_last(
 {
     let begun = OpenGroup::open(line, frame);
     if begun.is_complete() {
-        begun.give(packet, joined);
+        begun.write_message(packet, joined);
         return Ok(());
     }
     groups.insert(frame.key, begun)?;
     Ok(())
 }
 
-// Takes a frame into the group of its key, which has a place for it. Where that completes it, it goes and gives its
-// message.
+/// Takes a frame into the group of its key, which has a place for it. Where that completes it, it goes and its message is
+/// written.
 fn join_at(
     in_order: bool,
     groups: &mut IndexMap<FrameKey, OpenGroup>,
@@ -59,7 +60,7 @@ fn join_at(
     requires apart { AreApart (groups_in groups.old.entries) }
     requires place { position (λ g. same_key (key_of frame.now.key) g.key) (groups_in groups.old.entries) ≡ Some at }
     requires missing { IfSome (of_the_key (key_of frame.now.key) (groups_in groups.old.entries))
-        (λ o. bars in_order frame.now.piece.number o ≡ false) }
+        (λ o. rejects in_order frame.now.piece.number o ≡ false) }
     requires none { joined.old ≡ None }
     ensures message { (line : ℕ) → let x = frame_of line packet.now frame.now in
         joined.new ≡ gained in_order x (of_the_key x.key (groups_in groups.old.entries)) }
@@ -71,13 +72,13 @@ fn join_at(
     };
     group.take(frame.piece);
     if group.is_complete() {
-        group.give(packet, joined);
+        group.write_message(packet, joined);
         groups.shift_remove_index(at);
     }
 }
 
-// Ends the group of a frame's key, which has no place for it, and begins another with the frame: in the same memory,
-// and as the last. Where the frame completes it alone, it goes and gives its message.
+/// Ends the group of a frame's key, which has no place for it, and begins another with the frame: in the same memory,
+/// and as the last. Where the frame completes it alone, it goes and its message is written.
 fn reopen_at(
     in_order: bool,
     groups: &mut IndexMap<FrameKey, OpenGroup>,
@@ -91,7 +92,7 @@ fn reopen_at(
     requires apart { AreApart (groups_in groups.old.entries) }
     requires place { position (λ g. same_key (key_of frame.now.key) g.key) (groups_in groups.old.entries) ≡ Some at }
     requires there { IfSome (of_the_key (key_of frame.now.key) (groups_in groups.old.entries))
-        (λ o. bars in_order frame.now.piece.number o ≡ true) }
+        (λ o. rejects in_order frame.now.piece.number o ≡ true) }
     requires none { joined.old ≡ None }
     ensures message { let x = frame_of line packet.now frame.now in
         joined.new ≡ gained in_order x (of_the_key x.key (groups_in groups.old.entries)) }
@@ -107,7 +108,7 @@ fn reopen_at(
     let fresh = OpenGroup::open(line, frame);
     *group = fresh;
     if fresh.is_complete() {
-        fresh.give(packet, joined);
+        fresh.write_message(packet, joined);
         groups.shift_remove_index(at);
     } else {
         groups.move_index(at, groups.len() - 1);
@@ -141,7 +142,7 @@ pub(crate) fn take_frame(
         open_last(in_order, groups, line, frame, packet, joined)?;
         return Ok(None);
     };
-    if groups[at].bars(in_order, frame.piece.number) {
+    if groups[at].rejects(in_order, frame.piece.number) {
         return Ok(Some(reopen_at(in_order, groups, at, line, frame, packet, joined)));
     }
     join_at(in_order, groups, at, frame, packet, joined);

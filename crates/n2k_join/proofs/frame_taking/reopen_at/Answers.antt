@@ -4,7 +4,7 @@ use Rattle.n2k_join.specs.Frames.{Frame, Key}
 use Rattle.n2k_join.specs.Inner.Stored.{key_of, frame_of}
 use Rattle.n2k_join.specs.Inner.Slots.{groups_in, group_in}
 use Rattle.n2k_join.proofs.IndexedLemmas.{entry_at, key-there, length-there, length-written, ends-written, ends-last, begun-message, breaks}
-use Rattle.n2k_join.proofs.taking.reopen_at.Goals as goal
+use Rattle.n2k_join.proofs.frame_taking.reopen_at.Goals as goal
 
 pub returns-then-is_complete : goal.returns-then-is_complete
 returns-then-is_complete c =
@@ -16,7 +16,7 @@ returns-then-is_complete c =
     let is = ap (λ (k : Key). group_in k w) (sym (key-there c.args.in_order x es c.args.at v c.requires.apart c.requires.place at)) ∙ c.open-fresh.ensures c.args.packet.now in
     let done = sym (c.is_complete.ensures (key_of at.key)) ∙ c.if-is_complete.true in
     record {
-      message = c.give.ensures (key_of at.key) ∙ begun-message c.args.in_order x es c.args.at v c.requires.apart c.requires.place at w c.requires.there c.args.frame.now.piece.small is true done;
+      message = c.write_message.ensures (key_of at.key) ∙ begun-message c.args.in_order x es c.args.at v c.requires.apart c.requires.place at w c.requires.there c.args.frame.now.piece.small is true done;
       broken = ap Some c.broken-broken.ensures ∙ breaks c.args.in_order x es c.args.at v c.requires.apart c.requires.place at w c.requires.there c.args.frame.now.piece.small is c.requires.«open»;
       groups = ap groups_in c.shift_remove_index.ensures.entries ∙ ends-written c.args.in_order x es c.args.at v c.requires.apart c.requires.place at w c.requires.there c.args.frame.now.piece.small is done;
     }

@@ -4,7 +4,7 @@ use Rattle.n2k_join.specs.Groups.{has_from, has_number}
 use Rattle.n2k_join.specs.State.{held_of}
 use Rattle.n2k_join.specs.Inner.Slots.{group_in}
 use Rattle.n2k_join.proofs.SlotLemmas.{carried-slots, from-mask}
-use Rattle.n2k_join.proofs.piece.OpenGroup.bars.Goals as goal
+use Rattle.n2k_join.proofs.piece.OpenGroup.rejects.Goals as goal
 
 pub returns-then-in_order : goal.returns-then-in_order
 returns-then-in_order c key =

@@ -4,7 +4,7 @@ use Rattle.std.proofs.lemmas.Result.{err_from_is_err_and}
 use Rattle.n2k_table.specs.Table.{kind}
 use Rattle.n2k_join.specs.Inner.Slots.{group_at, groups_in}
 use Rattle.n2k_join.proofs.ValidStates.{rules_broken, groups_broken, all_hold, is_state}
-use Rattle.n2k_join.proofs.join.Join.of_state.Goals as goal
+use Rattle.n2k_join.proofs.join.Join.from_state.Goals as goal
 
 pub returns-then-not-rules_hold : goal.returns-then-not-rules_hold
 returns-then-not-rules_hold c = λ _.

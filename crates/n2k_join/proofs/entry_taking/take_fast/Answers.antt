@@ -5,7 +5,7 @@ use Rattle.n2k_join.specs.Step.{opens_by}
 use Rattle.n2k_join.specs.Inner.Stored.{key_of}
 use Rattle.n2k_join.specs.Inner.Slots.{groups_in}
 use Rattle.n2k_join.proofs.JoinLemmas.{none-listed, on_err}
-use Rattle.n2k_join.proofs.outcome.take_fast.Goals as goal
+use Rattle.n2k_join.proofs.entry_taking.take_fast.Goals as goal
 
 pub returns-in_err-broken-clause-memory : goal.returns-in_err-broken-clause-memory
 returns-in_err-broken-clause-memory c =

@@ -9,12 +9,12 @@ ghost use Rattle.n2k_join.specs.State.{IsOpen, AreApart};
 ghost use Rattle.n2k_join.specs.Step.{opens_by};
 ghost use Rattle.n2k_join.specs.Inner.Stored.{gives_by, leaves_by};
 ghost use Rattle.n2k_join.specs.Inner.Slots.{groups_in};
-ghost use Rattle.n2k_join.specs.Inner.Told.{packet_in, told, told_message};
+ghost use Rattle.n2k_join.specs.Inner.Taken.{given_of_taken, packet_in, taken_message};
 
-use crate::broken::Broken;
 use crate::frame::fast_frame;
+use crate::frame_taking::take_frame;
 use crate::piece::{FrameKey, OpenGroup};
-use crate::taking::take_frame;
+use crate::step::Broken;
 use indexmap::IndexMap;
 use n2k_table::{Kind, Table};
 use n2k_wire::{BadCause, Entry, Packet};
@@ -23,7 +23,7 @@ use std::alloc::AllocError;
 /// What a line gives. A packet is large, so that the line's own stays in its entry, and one of a group is written to
 /// where the caller wants it.
 #[derive(Drop)]
-pub(crate) struct Outcome {
+pub(crate) struct Taken {
     /// Whether the line's own packet is its message.
     pub(crate) is_own: bool,
     /// Why it is bad.
@@ -34,11 +34,11 @@ pub(crate) struct Outcome {
     pub(crate) is_unknown: bool,
 }
 
-impl Outcome {
-    fn of_nothing(is_unknown: bool) -> Outcome
+impl Taken {
+    fn nothing(is_unknown: bool) -> Taken
         ensures { result ≡ record { is_own = false; bad = None; broken = None; is_unknown = is_unknown } }
     {
-        Outcome {
+        Taken {
             is_own: false,
             bad: None,
             broken: None,
@@ -46,10 +46,10 @@ impl Outcome {
         }
     }
 
-    fn of_own() -> Outcome
+    fn own() -> Taken
         ensures { result ≡ record { is_own = true; bad = None; broken = None; is_unknown = false } }
     {
-        Outcome {
+        Taken {
             is_own: true,
             bad: None,
             broken: None,
@@ -57,10 +57,10 @@ impl Outcome {
         }
     }
 
-    fn of_bad(cause: BadCause) -> Outcome
+    fn bad_line(cause: BadCause) -> Taken
         ensures { result ≡ record { is_own = false; bad = Some cause; broken = None; is_unknown = false } }
     {
-        Outcome {
+        Taken {
             is_own: false,
             bad: Some(cause),
             broken: None,
@@ -74,7 +74,7 @@ impl Outcome {
         entry: &'a Entry,
         joined: &'a Option<Packet>,
     ) -> Option<&'a Packet>
-        ensures { option_map (λ p. p.now) result ≡ told_message self.now (packet_in entry.now) joined.now }
+        ensures { option_map (λ p. p.now) result ≡ taken_message self.now (packet_in entry.now) joined.now }
     {
         if self.is_own {
             packet_in(entry)
@@ -83,15 +83,15 @@ impl Outcome {
         }
     }
 
-    /// Whether there is one.
+    /// Whether the entry gives a message.
     pub(crate) fn is_message(&self, entry: &Entry, joined: &Option<Packet>) -> bool
-        ensures { result ≡ is_some (told_message self.now (packet_in entry.now) joined.now) }
+        ensures { result ≡ is_some (taken_message self.now (packet_in entry.now) joined.now) }
     {
         self.message(entry, joined).is_some()
     }
 }
 
-// The packet of an entry, if it has one.
+/// The packet of an entry, if it has one.
 fn packet_in(entry: &Entry) -> Option<&Packet>
     ensures { option_map (λ p. p.now) result ≡ packet_in entry.now }
 {
@@ -111,7 +111,7 @@ pub(crate) fn packet_of(entry: Entry) -> Option<Packet>
     }
 }
 
-// A frame of a fast PGN.
+/// Takes a frame of a fast PGN into the open groups.
 #[tactic(auto, unfolding(crate::specs::Frames::fast_frame))]
 fn take_fast(
     in_order: bool,
@@ -119,11 +119,11 @@ fn take_fast(
     line: u64,
     packet: &Packet,
     joined: &mut Option<Packet>,
-) -> Result<Outcome, AllocError>
+) -> Result<Taken, AllocError>
     requires open { AllByRecursion IsOpen (groups_in groups.old.entries) }
     requires apart { AreApart (groups_in groups.old.entries) }
     requires none { joined.old ≡ None }
-    ensures given { IfOk result (λ o. told o (Some packet.now) joined.new
+    ensures given { IfOk result (λ o. given_of_taken o (Some packet.now) joined.new
         ≡ gives_by in_order None (fast_cause (Some Fast) packet.now) (groups_in groups.old.entries)
         (fast_frame line packet.now)) }
     ensures unknown { IfOk result (λ o. o.is_unknown ≡ false) }
@@ -133,10 +133,10 @@ fn take_fast(
     ensures memory { OnErr result (opens_by (groups_in groups.old.entries) (fast_frame line packet.now) ≡ true) }
 {
     let Some(frame) = fast_frame(packet) else {
-        return Ok(Outcome::of_bad(BadCause::Fast));
+        return Ok(Taken::bad_line(BadCause::Fast));
     };
     let broken = take_frame(in_order, groups, line, &frame, packet, joined)?;
-    Ok(Outcome {
+    Ok(Taken {
         is_own: false,
         bad: None,
         broken,
@@ -152,12 +152,12 @@ pub(crate) fn take_entry(
     table: &Table,
     entry: &Entry,
     joined: &mut Option<Packet>,
-) -> Result<Outcome, AllocError>
+) -> Result<Taken, AllocError>
     requires open { AllByRecursion IsOpen (groups_in groups.old.entries) }
     requires apart { AreApart (groups_in groups.old.entries) }
     requires none { joined.old ≡ None }
     ensures given { let k = kind table.now in
-        IfOk result (λ o. told o (packet_in entry.now) joined.new
+        IfOk result (λ o. given_of_taken o (packet_in entry.now) joined.new
         ≡ gives_by in_order (alone k entry.now) (cause_in k entry.now) (groups_in groups.old.entries)
         (frame_in k line entry.now)) }
     ensures unknown { IfOk result (λ o. o.is_unknown ≡ is_unknown (kind table.now) entry.now) }
@@ -168,16 +168,16 @@ pub(crate) fn take_entry(
         ≡ true) }
 {
     match entry {
-        Entry::Skip => Ok(Outcome::of_nothing(false)),
-        Entry::Bad(cause) => Ok(Outcome::of_bad(*cause)),
+        Entry::Skip => Ok(Taken::nothing(false)),
+        Entry::Bad(cause) => Ok(Taken::bad_line(*cause)),
         Entry::Frame(packet) => match table.kind(packet.id().pgn) {
-            None => Ok(Outcome::of_nothing(true)),
-            Some(Kind::Single) => Ok(Outcome::of_own()),
+            None => Ok(Taken::nothing(true)),
+            Some(Kind::Single) => Ok(Taken::own()),
             Some(Kind::Fast) => take_fast(in_order, groups, line, packet, joined),
         },
         Entry::Whole(packet) => match table.kind(packet.id().pgn) {
-            None => Ok(Outcome::of_nothing(true)),
-            Some(_) => Ok(Outcome::of_own()),
+            None => Ok(Taken::nothing(true)),
+            Some(_) => Ok(Taken::own()),
         },
     }
 }
