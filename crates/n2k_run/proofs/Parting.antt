@@ -18,11 +18,11 @@ use Rattle.n2k_run.specs.declared.part.Part.{Part}
 use Rattle.n2k_run.specs.declared.part.PartFault.{PartFault}
 use Rattle.n2k_run.specs.declared.part.PartFault.TheVariants.{State as Refused, Stopped, Run}
 use Rattle.n2k_run.specs.declared.options.Options.{Options}
-use Rattle.n2k_run.specs.Decoded.{join_making, output_after}
+use Rattle.n2k_run.specs.Decoded.{join_fold, output_after}
 use Rattle.n2k_run.specs.Entries.{entries}
 use Rattle.n2k_run.specs.Inner.Parts.{Finishes, HasSaved, Saves}
-use Rattle.n2k_run.specs.Making.{after_all}
-use Rattle.n2k_run.specs.Parts.{BeginsBy, HasPart, IsPartOf, OnRefusal, Ran, StandsAtLine, TellsRun, begun}
+use Rattle.n2k_run.specs.Fold.{after_all}
+use Rattle.n2k_run.specs.Parts.{BeginsBy, HasPart, IsPartOf, OnRefusal, Ran, EndsAtLine, TellsRun, begun}
 use Rattle.n2k_run.specs.Runs.{Devices, HasFronts, Output, Runs, output_from}
 use Rattle.n2k_run.proofs.Calls.{none_read, within_one}
 use Rattle.n2k_run.proofs.Ending.{of_log, runs_more, runs_same}
@@ -58,7 +58,7 @@ unbegun o stands before fault none = record {
 
 module _ (o : Output) (before after : Devices) where
   -- where a run stands at a line, the sinks gained fronts of what is made of the log
-  pub line_fronts : (stands : List Entry → Type 0) (ran : Result (Unit {0}) RunFault) → StandsAtLine ran → Runs o stands before after ran → IfSome before.left (HasFronts o before after)
+  pub line_fronts : (stands : List Entry → Type 0) (ran : Result (Unit {0}) RunFault) → EndsAtLine ran → Runs o stands before after ran → IfSome before.left (HasFronts o before after)
   line_fronts stands (Ok x) line runs = of_log o stands before after _ runs.ends (record {
     printed = all_gained before.written after.written (o.texts (entries o.packing runs.ends.came)) runs.ends.gained.printed;
     reported = all_gained before.reported after.reported (o.reports (entries o.packing runs.ends.came)) runs.ends.gained.reported;
@@ -128,7 +128,7 @@ module _ (laws : KeepsFast) (t : TableParts) (o : Options) (window : IsWindow o.
   unfolding step_after
   step-window s e = refl
 
-  pub after-under : (s : State) (es : List Entry) → IsUnder t o s → IsUnder t o (after_all (join_making t o.empty) s es)
+  pub after-under : (s : State) (es : List Entry) → IsUnder t o s → IsUnder t o (after_all (join_fold t o.empty) s es)
   after-under s [] under = under
   after-under s (e ∷ es) under = after-under (step_after (kind t) s e) es (record {
     fast = laws.step (kind t) s e (subst (λ (r : Window). IsWindow r.lines) (sym under.same_window) window) under.fast;
@@ -155,23 +155,23 @@ module _ (laws : KeepsFast) (t : TableParts) (o : Options) (window : IsWindow o.
 
   -- the steps from the state that the part began with
   pub steps_of : (handed : Option (List ℕ)) (join join' : State) (before after : Devices) (ran : Result (Unit {0}) RunFault) (result : Result Part PartFault) → IsId t.id → begun t o handed ≡ Ok join
-      → Runs (output_from (join_making t o.empty) o.packing join) (λ es. join' ≡ after_all (join_making t o.empty) join es) before after ran → HasSaved result join' → Finishes result ran
-      → (s : State) → begun t o handed ≡ Ok s → TellsRun (output_from (join_making t o.empty) o.packing s) (λ es. HasPart t o result (after_all (join_making t o.empty) s es)) before after result
+      → Runs (output_from (join_fold t o.empty) o.packing join) (λ es. join' ≡ after_all (join_fold t o.empty) join es) before after ran → HasSaved result join' → Finishes result ran
+      → (s : State) → begun t o handed ≡ Ok s → TellsRun (output_from (join_fold t o.empty) o.packing s) (λ es. HasPart t o result (after_all (join_fold t o.empty) s es)) before after result
   steps_of handed join join' before after ran result id began runs saved finishes s is =
       let same : join ≡ s = same_state _ _ (sym began ∙ is) in
       let under : IsUnder t o join = begun-under handed join began in
-      let made : Output = output_from (join_making t o.empty) o.packing join in
-      let stands : List Entry → Type 0 = λ es. HasPart t o result (after_all (join_making t o.empty) join es) in
-      subst (λ (s : State). TellsRun (output_from (join_making t o.empty) o.packing s) (λ es. HasPart t o result (after_all (join_making t o.empty) s es)) before after result) same (record {
+      let made : Output = output_from (join_fold t o.empty) o.packing join in
+      let stands : List Entry → Type 0 = λ es. HasPart t o result (after_all (join_fold t o.empty) join es) in
+      subst (λ (s : State). TellsRun (output_from (join_fold t o.empty) o.packing s) (λ es. HasPart t o result (after_all (join_fold t o.empty) s es)) before after result) same (record {
         ran = ran;
         ended = finished result ran finishes;
-        runs = runs_more made (λ es. join' ≡ after_all (join_making t o.empty) join es) stands before after ran runs
+        runs = runs_more made (λ es. join' ≡ after_all (join_fold t o.empty) join es) stands before after ran runs
             (λ es at. subst (HasPart t o result) at (has_part join' result id (subst (IsUnder t o) (sym at) (after-under join es under)) saved));
       })
 
 -- from the state of a log: what the whole log says
 pub log_of : (t : TableParts) (o : Options) → LogLaws o.window → (before after : Devices) (result : Result Part PartFault) (front : List Entry)
-    → TellsRun (output_from (join_making t o.empty) o.packing (state t.id o.window (kind t) front)) (λ es. HasPart t o result (after_all (join_making t o.empty) (state t.id o.window (kind t) front) es)) before after result
+    → TellsRun (output_from (join_fold t o.empty) o.packing (state t.id o.window (kind t) front)) (λ es. HasPart t o result (after_all (join_fold t o.empty) (state t.id o.window (kind t) front) es)) before after result
     → TellsRun (output_after t o front) (λ es. HasPart t o result (state t.id o.window (kind t) (front ++ es))) before after result
 log_of t o laws before after result front steps =
     let same = output_after-is t o laws t.id front in
@@ -179,7 +179,7 @@ log_of t o laws before after result front steps =
     record {
       ran = steps.ran;
       ended = steps.ended;
-      runs = runs_more (output_after t o front) (λ es. HasPart t o result (after_all (join_making t o.empty) (state t.id o.window (kind t) front) es)) (λ es. HasPart t o result (state t.id o.window (kind t) (front ++ es))) before after steps.ran runs
+      runs = runs_more (output_after t o front) (λ es. HasPart t o result (after_all (join_fold t o.empty) (state t.id o.window (kind t) front) es)) (λ es. HasPart t o result (state t.id o.window (kind t) (front ++ es))) before after steps.ran runs
           (λ es has. subst (HasPart t o result) (state_after t o laws t.id front es) has);
     }
 

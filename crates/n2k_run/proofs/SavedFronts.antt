@@ -14,7 +14,8 @@ use Rattle.n2k_join.specs.Window.{Window, IsWindow}
 use Rattle.n2k_run.specs.declared.options.Options.{Options}
 use Rattle.n2k_run.specs.Entries.{entries}
 use Rattle.n2k_run.specs.Lines.{lines}
-use Rattle.n2k_run.specs.Parts.{begun, save, state_after}
+use Rattle.n2k_run.specs.Headline.{save, state_after}
+use Rattle.n2k_run.specs.Parts.{begun}
 
 -- the laws that it follows from
 pub record SavedLaws : Type 0 where

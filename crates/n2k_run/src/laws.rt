@@ -13,7 +13,8 @@ ghost use Rattle.n2k_run.specs.declared.options.Options.{Options};
 ghost use Rattle.n2k_run.specs.Decoded.{out, out_of};
 ghost use Rattle.n2k_run.specs.Entries.{entries};
 ghost use Rattle.n2k_run.specs.InOrder.{EachTellsOne};
-ghost use Rattle.n2k_run.specs.Parts.{begun, entries_of, save, state_after};
+ghost use Rattle.n2k_run.specs.Headline.{save, state_after};
+ghost use Rattle.n2k_run.specs.Parts.{begun, entries_of_parts};
 ghost use Rattle.n2k_run.specs.Replayed.{PrintsBack};
 
 use n2k_wire::Packing;
@@ -44,7 +45,7 @@ pub fn written_then_read()
     n2k_join::laws::arrives_whole();
 }
 
-/// In order each line that a log prints tells one message: one that is a line of the log by itself, or one whose
+/// In order each line that a log prints is of one message: one that is a line of the log by itself, or one whose
 /// frames the log has by rising number with no other frame of their key between them, with the stamp, the priority
 /// and the identifier of the last. The log is the whole one, from its first line, whether it is run at once or in
 /// parts; parts need not be cut at lines.
@@ -52,7 +53,7 @@ pub fn printed_in_order()
     ensures log { (t : TableParts) (o : Options) (log : List ℕ) → o.window.in_order ≡ true
         → EachTellsOne t o (entries o.packing log) (out t o log) }
     ensures parts { (t : TableParts) (o : Options) (parts : List (List ℕ)) → o.window.in_order ≡ true
-        → EachTellsOne t o (entries_of o parts) (out_of t o (entries_of o parts)) }
+        → EachTellsOne t o (entries_of_parts o parts) (out_of t o (entries_of_parts o parts)) }
 {
     n2k_table::laws::json_is_one_line();
     n2k_join::laws::consecutive_frames();

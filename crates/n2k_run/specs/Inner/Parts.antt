@@ -8,7 +8,7 @@ use Rattle.n2k_run.specs.declared.fault.RunFault.{RunFault}
 use Rattle.n2k_run.specs.declared.part.Part.{Part}
 use Rattle.n2k_run.specs.declared.part.PartFault.{PartFault}
 use Rattle.n2k_run.specs.declared.part.PartFault.TheVariants.{State as Refused, Stopped, Run, Memory}
-use Rattle.n2k_run.specs.Parts.{StandsAtLine}
+use Rattle.n2k_run.specs.Parts.{EndsAtLine}
 
 -- a part that lies in memory: the bytes that are left of it, and the calls that were made of its source
 pub record PartLeft : Type 0 where
@@ -32,5 +32,5 @@ abbrev pub Finishes : Result Part PartFault → Result (Unit {0}) RunFault → T
 Finishes (Ok part) ran = ran ≡ Ok tt
 Finishes (Err (Stopped fault part)) ran = ran ≡ Err fault
 Finishes (Err (Run fault)) ran = ran ≡ Err fault
-Finishes (Err Memory) ran = StandsAtLine ran
+Finishes (Err Memory) ran = EndsAtLine ran
 Finishes (Err (Refused fault)) ran = ⊥

@@ -1,6 +1,6 @@
 use Rattle.std.proofs.Common.{sym, ◌∙◌, arith}
 use Rattle.n2k_run.proofs.SentLines.{moves_bad}
-use Rattle.n2k_run.proofs.frames.FrameLinesMaker.take.Goals as goal
+use Rattle.n2k_run.proofs.frames.FrameLinesEntryHandler.take.Goals as goal
 
 pub returns-in_ok-bad_text-in-Bad-clause-taken : goal.returns-in_ok-bad_text-in-Bad-clause-taken
 returns-in_ok-bad_text-in-Bad-clause-taken c =

@@ -2,7 +2,7 @@ use Rattle.std.proofs.Common.{ap}
 use Rattle.n2k_join.specs.declared.counts.Counts.{Counts}
 use Rattle.n2k_join.specs.Step.{with_message}
 use Rattle.n2k_run.proofs.LogSteps.{join_moves}
-use Rattle.n2k_run.proofs.decoding.JsonLinesMaker.take.Goals as goal
+use Rattle.n2k_run.proofs.decoding.JsonLinesEntryHandler.take.Goals as goal
 
 pub returns-clause-taken : goal.returns-clause-taken
 returns-clause-taken c =
