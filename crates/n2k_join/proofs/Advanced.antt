@@ -2,24 +2,24 @@
 -- may be opened.
 use Rattle.std.proofs.Common.{cond, List, [], ◌∷◌, ◌++◌, Option, Some, None, option_to_list, filter_map}
 use Rattle.n2k_join.specs.Frames.{same_key, Frame}
-use Rattle.n2k_join.specs.Groups.{Ends, complete}
+use Rattle.n2k_join.specs.Groups.{EndTest, complete}
 use Rattle.n2k_join.specs.Open.{Group}
 use Rattle.n2k_join.specs.State.{held_of}
 pub use Rattle.n2k_join.specs.Inner.Stored.{with_frame, begun, of_the_key}
 
 -- what stays open of a group of the frame's key
-abbrev pub joined : Ends → Frame → Group → Option Group
+abbrev pub joined : EndTest → Frame → Group → Option Group
 joined ends x o = cond (ends (held_of o) x) None (cond (complete (held_of o ++ x ∷ [])) None (Some (with_frame o x)))
 
 -- what stays open of a group
-abbrev pub taken : Ends → Frame → Group → Option Group
+abbrev pub taken : EndTest → Frame → Group → Option Group
 taken ends x o = cond (same_key x.key o.key) (joined ends x o) (Some o)
 
 -- the group that a frame opens, where this is the open one of its key
-abbrev pub opened : Ends → Frame → Option Group → Option Group
+abbrev pub opened : EndTest → Frame → Option Group → Option Group
 opened ends x None = begun x
 opened ends x (Some o) = cond (ends (held_of o) x) (begun x) None
 
 -- the open groups after a frame
-unfoldable pub advanced : Ends → List Group → Frame → List Group
+unfoldable pub advanced : EndTest → List Group → Frame → List Group
 advanced ends groups x = filter_map (taken ends x) groups ++ option_to_list (opened ends x (of_the_key x.key groups))

@@ -8,14 +8,14 @@ use Rattle.std.proofs.lemmas.List.Sums.{sum_by_push}
 use Rattle.n2k_wire.specs.declared.entry.Entry.{Entry}
 use Rattle.n2k_wire.specs.Packet.{PacketParts}
 use Rattle.n2k_table.specs.declared.definition.Kind.{Kind}
-use Rattle.n2k_join.specs.declared.broken.Broken.{Broken}
+use Rattle.n2k_join.specs.declared.step.Broken.{Broken}
 use Rattle.n2k_join.specs.Frames.{Key, Frame, of_key, frame_in, frames}
 use Rattle.n2k_join.specs.Groups.{within, complete, incomplete}
 use Rattle.n2k_join.specs.Open.{Group, group_of, open_groups, is_waiting, waiting, ended, open_within}
-use Rattle.n2k_join.specs.Messages.{Keyed, message_of, alone, cause_in, gathered, told_of, broken_with, message, broken, entry_at, is_unknown, numbers, counts}
-use Rattle.n2k_join.specs.State.{Given, state, held_of, step_after, counted, one_if, IsOpen, AreOpen}
+use Rattle.n2k_join.specs.Messages.{Keyed, message_of, alone, cause_in, gathered, as_broken, broken_with, message, broken, entry_at, is_unknown, numbers, counts}
+use Rattle.n2k_join.specs.State.{Given, state, held_of, step_after, counts_after, one_if, IsOpen, AreOpen}
 use Rattle.n2k_join.specs.Laws.{StepsAgree}
-use Rattle.n2k_join.specs.Window.{Rule, IsWindow}
+use Rattle.n2k_join.specs.Window.{Window, IsWindow}
 use Rattle.n2k_join.proofs.Advanced.{of_the_key, advanced}
 use Rattle.n2k_join.proofs.BrokenGroups.{told_if, runs_out, breaks, broken-none, broken-last}
 use Rattle.n2k_join.proofs.Carried.{carried-push, data_of-same}
@@ -38,7 +38,7 @@ kept_of k s = option_map held_of (option_map (group_of k) (option_and_then incom
 abbrev message_from : Frame → List Frame → Option PacketParts
 message_from x g = option_map (message_of x) (cond (complete g) (Some g) None)
 
-module _ (w : Rule) (some : 0 < w.window) where
+module _ (w : Window) (some : 0 < w.lines) where
   message-joined : (x : Frame) (g : List Frame) → IsFine g → message_from x (g ++ x ∷ []) ≡ message_from x (held_of (group_of x.key g) ++ x ∷ [])
   message-joined x g fine =
       let h = held_of (group_of x.key g) in
@@ -74,7 +74,7 @@ module _ (w : Rule) (some : 0 < w.window) where
 
 -- ---- what the last line of a log gives
 
-module _ (w : Rule) (some : 0 < w.window) (kind : ℕ → Option Kind) (es : List Entry) (e : Entry) where
+module _ (w : Window) (some : 0 < w.lines) (kind : ℕ → Option Kind) (es : List Entry) (e : Entry) where
   -- what the longer log's last line gives
   abbrev pub last_given : Given
   last_given = record { message = message w kind (es ++ e ∷ []) (length es + 1); cause = cause_in kind e; broken = broken w kind (es ++ e ∷ []) (length es + 1) }
@@ -99,7 +99,7 @@ module _ (w : Rule) (some : 0 < w.window) (kind : ℕ → Option Kind) (es : Lis
   log-wait = all-waiting w (length es) (open_groups (within w) (length es) (frames kind es))
 
   -- of a log whose last line has no frame
-  last-none : frame_in kind (length es + 1) e ≡ None → last_given ≡ record { message = alone kind e; cause = cause_in kind e; broken = map told_of (ended w (length es + 1) log_groups) }
+  last-none : frame_in kind (length es + 1) e ≡ None → last_given ≡ record { message = alone kind e; cause = cause_in kind e; broken = map as_broken (ended w (length es + 1) log_groups) }
   unfolding given_of
   last-none none =
       let log = frames-log kind es in
@@ -112,8 +112,8 @@ module _ (w : Rule) (some : 0 < w.window) (kind : ℕ → Option Kind) (es : Lis
       ((ap (λ fs. broken_with w fs (n + 1)) fs ∙ broken-none w some n (frames kind es) log
       ∙ told-waiting w some n t (open_groups (within w) n (frames kind es)) (λ o past. runs_out-past w some n o past)
       ∙ told-front w some n 1 t log_groups (all-map (λ (g : Group). is_waiting w n g ≡ true) (λ (g : Group). is_waiting w (n + 1) g ≡ false → t g ≡ true) log_groups (λ o now next. runs_out-now w some n o now next) log-wait) log-open.rise
-      ∙ ap (λ bs. map told_of (ended w (n + 1) log_groups) ++ bs) (none-run_out w some (n + 1) log_kept (all-waiting w (n + 1) log_groups))
-      ∙ append-nil (map told_of (ended w (n + 1) log_groups))) i)
+      ∙ ap (λ bs. map as_broken (ended w (n + 1) log_groups) ++ bs) (none-run_out w some (n + 1) log_kept (all-waiting w (n + 1) log_groups))
+      ∙ append-nil (map as_broken (ended w (n + 1) log_groups))) i)
 
   groups-none : frame_in kind (length es + 1) e ≡ None → open_within w (length (es ++ e ∷ [])) (frames kind (es ++ e ∷ [])) ≡ log_kept
   groups-none none =
@@ -123,7 +123,7 @@ module _ (w : Rule) (some : 0 < w.window) (kind : ℕ → Option Kind) (es : Lis
 
   -- and of one with a frame
   last-frame : (x : Frame) → frame_in kind (length es + 1) e ≡ Some x
-      → last_given ≡ record { message = frame_message w x log_kept; cause = None; broken = map told_of (ended w (length es + 1) log_groups) ++ filter_map (told_if w some (breaks w some x)) log_kept }
+      → last_given ≡ record { message = frame_message w x log_kept; cause = None; broken = map as_broken (ended w (length es + 1) log_groups) ++ filter_map (told_if w some (breaks w some x)) log_kept }
   unfolding given_of
   last-frame x found =
       let log = frames-log kind es in
@@ -145,14 +145,14 @@ module _ (w : Rule) (some : 0 < w.window) (kind : ℕ → Option Kind) (es : Lis
       ∙ ap (λ l. frame_message w x (waiting w l all)) only.line
       ∙ ap (frame_message w x) (sym (waiting-later w n all)) in
       let t = breaks w some x in
-      let broken_is : broken_with w (frames kind (es ++ e ∷ [])) (n + 1) ≡ map told_of (ended w (n + 1) log_groups) ++ filter_map (told_if w some t) log_kept =
+      let broken_is : broken_with w (frames kind (es ++ e ∷ [])) (n + 1) ≡ map as_broken (ended w (n + 1) log_groups) ++ filter_map (told_if w some t) log_kept =
       ap (λ fs. broken_with w fs (n + 1)) fs ∙ broken-last w some n (frames kind es) x log only.line
       ∙ told-waiting w some n t all (λ o p. breaks-past w some n x o only.line p)
       ∙ told-front w some n 1 t log_groups
       (all-map (λ (g : Group). IsOpen g × (is_waiting w n g ≡ true)) (λ (g : Group). is_waiting w (n + 1) g ≡ false → t g ≡ true) log_groups (λ o h next. breaks-now w some n x o only.line h.0 h.1 next) (all-zip IsOpen (λ (g : Group). is_waiting w n g ≡ true) log_groups log-open.each log-wait))
       log-open.rise in
       (λ i. given_of (gathered_is i) ((last-alone ∙ only.alone) i) (broken_is i))
-      ∙ (λ i. record { message = (message_alone w x (completed (within w) s x) ∙ message_is) i; cause = only.cause i; broken = map told_of (ended w (n + 1) log_groups) ++ filter_map (told_if w some t) log_kept })
+      ∙ (λ i. record { message = (message_alone w x (completed (within w) s x) ∙ message_is) i; cause = only.cause i; broken = map as_broken (ended w (n + 1) log_groups) ++ filter_map (told_if w some t) log_kept })
 
   groups-frame : (x : Frame) → frame_in kind (length es + 1) e ≡ Some x → open_within w (length (es ++ e ∷ [])) (frames kind (es ++ e ∷ [])) ≡ advanced (within w) log_kept x
   groups-frame x found =
@@ -191,7 +191,7 @@ module _ (w : Rule) (some : 0 < w.window) (kind : ℕ → Option Kind) (es : Lis
   one_more : (p : Entry → Bool) → count_by p (es ++ e ∷ []) ≡ count_by p es + one_if (p e)
   one_more p = sum_by_push (λ x. cond (p x) 1 0) es e ∙ ap (λ n. count_by p es + n) (one_is (p e))
 
-  pub counts-push : counts w kind (es ++ e ∷ []) ≡ counted kind (counts w kind es) e last_given (length (open_within w (length (es ++ e ∷ [])) (frames kind (es ++ e ∷ []))))
+  pub counts-push : counts w kind (es ++ e ∷ []) ≡ counts_after kind (counts w kind es) e last_given (length (open_within w (length (es ++ e ∷ [])) (frames kind (es ++ e ∷ []))))
   counts-push = λ i. record {
     lines = length-append es (e ∷ []) i;
     messages = messages-push i;
@@ -214,9 +214,9 @@ module _ (w : Rule) (some : 0 < w.window) (kind : ℕ → Option Kind) (es : Lis
         by (Some x) is = agrees _ _ (step-frame kind (state id w kind es) e some log-open x is) (last-frame x is) (groups-frame x is)
 
     pub after_longer : step_after kind (state id w kind es) e ≡ state id w kind (es ++ e ∷ [])
-    after_longer = steps_to_longer.after ∙ (λ i. record { id = id; rule = w; counts = sym counts-push i; groups = open_within w (length (es ++ e ∷ [])) (frames kind (es ++ e ∷ [])) })
+    after_longer = steps_to_longer.after ∙ (λ i. record { id = id; window = w; counts = sym counts-push i; groups = open_within w (length (es ++ e ∷ [])) (frames kind (es ++ e ∷ [])) })
 
-pub steps_agree : (id : List ℕ) (w : Rule) (kind : ℕ → Option Kind) (es : List Entry) (e : Entry) → IsWindow w.window → StepsAgree id w kind es e
+pub steps_agree : (id : List ℕ) (w : Window) (kind : ℕ → Option Kind) (es : List Entry) (e : Entry) → IsWindow w.lines → StepsAgree id w kind es e
 steps_agree id w kind es e is =
-    let some : 0 < w.window = omega (arith, is.least) in
+    let some : 0 < w.lines = omega (arith, is.least) in
     record { after = after_longer w some kind es e id; given = (steps_to_longer w some kind es e id).given }

@@ -8,11 +8,11 @@ use Rattle.n2k_wire.specs.Packet.{PacketParts}
 use Rattle.n2k_wire.specs.declared.entry.Entry.{Entry}
 use Rattle.n2k_table.specs.declared.definition.Kind.{Kind}
 use Rattle.n2k_join.specs.Frames.{Key, same_key, Frame, frames, of_key, frame_at}
-use Rattle.n2k_join.specs.Groups.{Ends, within, first, complete, cut, last_line, data_of, incomplete, open_of}
+use Rattle.n2k_join.specs.Groups.{EndTest, within, first, complete, cut, last_line, data_of, incomplete, open_of}
 use Rattle.n2k_join.specs.Messages.{Keyed, message_of, is_done_at, gathered_by, gathered, alone, entry_at, broken_of, broken_among, broken_by, broken_begun, broken_with}
 use Rattle.n2k_join.specs.Open.{where_begun, begun_at, open_groups, waiting, open_within}
 use Rattle.n2k_join.specs.Pieces.{Sending, last_piece}
-use Rattle.n2k_join.specs.Scattered.{joined, IsPieceOf, IsStretchOf, IsStretchWithin, FallInto, sendings_of, IsScattered}
+use Rattle.n2k_join.specs.Scattered.{all_frames, IsPieceOf, IsStretchOf, IsStretchWithin, FallInto, sendings_of, IsScattered}
 use Rattle.n2k_join.specs.Arrival.{Brings, ArriveWhole}
 use Rattle.n2k_join.proofs.Keys.{of_key-keeps}
 use Rattle.n2k_join.proofs.PieceFrames.{piece_says}
@@ -20,7 +20,7 @@ use Rattle.n2k_join.proofs.WholePieces.{data_pieces}
 use Rattle.n2k_join.proofs.Stretches.{IsStretch, cut_stretches, GoesOn, goes_on-within, stretch_pieces}
 use Rattle.n2k_join.proofs.Lines.{RiseFrom, frames-rise, line_of}
 use Rattle.n2k_join.proofs.GroupLines.{IsGroup, IsDone, LastFrame, last_frame, done_found}
-use Rattle.n2k_join.specs.Window.{Rule}
+use Rattle.n2k_join.specs.Window.{Window}
 use Rattle.n2k_join.proofs.Rising.{filter_map-none, all-map, all-zip, all-joined, rise-filter, look-all, all_with}
 use Rattle.n2k_join.proofs.Held.{all-any}
 
@@ -53,7 +53,7 @@ pub key-rise : (kind : ℕ → Option Kind) (es : List Entry) (k : Key) → Rise
 key-rise kind es k = rise-filter line_of (λ (f : Frame). same_key k f.key) 1 (frames kind es) (frames-rise kind 1 es)
 
 -- the group that is done at its last line, is gathered there
-pub gathered_group : (ends : Ends) (fs : List Frame) (k : Key) (g : List Frame) (f : Frame) → last_line g ≡ f.line → StandsAt fs k f → find (is_done_at (last_line g)) (cut ends (of_key k fs)) ≡ Some g → gathered ends fs (last_line g) ≡ Some (record { key = k; message = message_of f g })
+pub gathered_group : (ends : EndTest) (fs : List Frame) (k : Key) (g : List Frame) (f : Frame) → last_line g ≡ f.line → StandsAt fs k f → find (is_done_at (last_line g)) (cut ends (of_key k fs)) ≡ Some g → gathered ends fs (last_line g) ≡ Some (record { key = k; message = message_of f g })
 unfolding gathered
 gathered_group ends fs k g f at stands found =
     ap (λ l. option_and_then (gathered_by ends fs) (frame_at l fs)) at
@@ -66,7 +66,7 @@ message_is : (m : PacketParts) (f : Frame) (g : List Frame) → f.stamp ≡ m.st
 message_is m f g stamp id payload = λ i. record { stamp = stamp i; id = id i; payload = payload i }
 
 -- the group is a sending's stretch, goes on to its end, and is found at its last line among the groups of its key
-pub record Comes (ends : Ends) (kind : ℕ → Option Kind) (es : List Entry) (k : Key) (x : Sending) (g : List Frame) : Type 0 where
+pub record Comes (ends : EndTest) (kind : ℕ → Option Kind) (es : List Entry) (k : Key) (x : Sending) (g : List Frame) : Type 0 where
   pub stretch : IsStretchOf x g
   pub goes_on : GoesOn ends g
   pub stands : AllByRecursion (StandsAt (frames kind es) k) g
@@ -75,11 +75,11 @@ pub record Comes (ends : Ends) (kind : ℕ → Option Kind) (es : List Entry) (k
 abbrev pub pieces_in : (x : Sending) (g : List Frame) → IsStretchOf x g → AllByRecursion (IsPieceOf x) g
 pieces_in x g is = recursion_from_All (IsPieceOf x) g is.pieces.each
 
-abbrev pub as_stretch : (ends : Ends) (x : Sending) (g : List Frame) → IsStretchOf x g → GoesOn ends g → IsStretch ends g
+abbrev pub as_stretch : (ends : EndTest) (x : Sending) (g : List Frame) → IsStretchOf x g → GoesOn ends g → IsStretch ends g
 as_stretch ends x g is goes = stretch_pieces ends x g (pieces_in x g is) is.pieces.apart is.whole goes
 
 -- all pieces of a message are gathered as that message
-pub gathers : (ends : Ends) (kind : ℕ → Option Kind) (es : List Entry) (k : Key) (x : Sending) (g : List Frame) → Comes ends kind es k x g → gathered ends (frames kind es) (last_line g) ≡ Some (record { key = k; message = x.message })
+pub gathers : (ends : EndTest) (kind : ℕ → Option Kind) (es : List Entry) (k : Key) (x : Sending) (g : List Frame) → Comes ends kind es k x g → gathered ends (frames kind es) (last_line g) ≡ Some (record { key = k; message = x.message })
 gathers ends kind es k x g comes =
     let pieces = pieces_in x g comes.stretch in
     let last : LastFrame (λ f. StandsAt (frames kind es) k f × IsPieceOf x f) g =
@@ -89,7 +89,7 @@ gathers ends kind es k x g comes =
     ∙ ap (λ m. Some (record { key = k; message = m })) (message_is x.message last.frame g says.stamp says.id (data_pieces x g pieces comes.stretch.pieces.apart comes.stretch.whole))
 
 -- and bring it
-pub brings : (w : Rule) (kind : ℕ → Option Kind) (es : List Entry) (k : Key) (x : Sending) (g : List Frame) → Comes (within w) kind es k x g → Brings w kind es x g
+pub brings : (w : Window) (kind : ℕ → Option Kind) (es : List Entry) (k : Key) (x : Sending) (g : List Frame) → Comes (within w) kind es k x g → Brings w kind es x g
 brings w kind es k x g comes = record {
   stretch = comes.stretch;
   whole = (as_stretch (within w) x g comes.stretch comes.goes_on).whole;
@@ -98,15 +98,15 @@ brings w kind es k x g comes = record {
 }
 
 -- the groups of a key are the stretches of its messages
-pub record Settled (ends : Ends) (kind : ℕ → Option Kind) (ms : List PacketParts) (es : List Entry) (k : Key) : Type 0 where
+pub record Settled (ends : EndTest) (kind : ℕ → Option Kind) (ms : List PacketParts) (es : List Entry) (k : Key) : Type 0 where
   pub groups : List (List Frame)
   pub cut_is : cut ends (of_key k (frames kind es)) ≡ groups
   pub nonempty : AllByRecursion IsGroup groups
-  pub rise : RiseFrom 1 (joined groups)
+  pub rise : RiseFrom 1 (all_frames groups)
   pub each : AllZip (Comes ends kind es k) (sendings_of k ms) groups
 
 -- each message of a scattered log is settled: its stretch goes on to its end, and so is a group
-pub settles : (w : Rule) (kind : ℕ → Option Kind) (ms : List PacketParts) (es : List Entry) → IsScattered w kind ms es → (k : Key) → Settled (within w) kind ms es k
+pub settles : (w : Window) (kind : ℕ → Option Kind) (ms : List PacketParts) (es : List Entry) → IsScattered w kind ms es → (k : Key) → Settled (within w) kind ms es k
 settles w kind ms es scattered k =
     let fs = of_key k (frames kind es) in
     let xs = sendings_of k ms in
@@ -118,12 +118,12 @@ settles w kind ms es scattered k =
     (λ x g is. (
       is.stretch,
       goes_on-within w (last_piece x.message + 1) g is.stretch.pieces.apart is.ordered
-          (recursion_from_All (λ (f : Frame). f.line < first g + w.window) g is.in_time),
+          (recursion_from_All (λ (f : Frame). f.line < first g + w.lines) g is.in_time),
     )) xs gs falls.each in
     let whole : AllByRecursion (IsStretch (within w)) gs =
     zip-all Fits (IsStretch (within w)) (λ x g is. as_stretch (within w) x g is.0 is.1) xs gs on in
     let cut_is : cut (within w) fs ≡ gs = ap (cut (within w)) falls.one_behind_the_other ∙ cut_stretches (within w) gs whole in
-    let rise : RiseFrom 1 (joined gs) = subst (RiseFrom 1) falls.one_behind_the_other (key-rise kind es k) in
+    let rise : RiseFrom 1 (all_frames gs) = subst (RiseFrom 1) falls.one_behind_the_other (key-rise kind es k) in
     let Stand : List Frame → Type 0 = AllByRecursion (StandsAt (frames kind es) k) in
     let standing : AllByRecursion Stand gs =
     all-joined (StandsAt (frames kind es) k) gs (subst Stand falls.one_behind_the_other (stand kind es k)) in
@@ -145,20 +145,20 @@ settles w kind ms es scattered k =
           xs gs on both;
     }
 
-pub brought : (w : Rule) (kind : ℕ → Option Kind) (ms : List PacketParts) (es : List Entry) → IsScattered w kind ms es → (k : Key) → AllZip (Brings w kind es) (sendings_of k ms) (cut (within w) (of_key k (frames kind es)))
+pub brought : (w : Window) (kind : ℕ → Option Kind) (ms : List PacketParts) (es : List Entry) → IsScattered w kind ms es → (k : Key) → AllZip (Brings w kind es) (sendings_of k ms) (cut (within w) (of_key k (frames kind es)))
 brought w kind ms es scattered k =
     let at = settles w kind ms es scattered k in
     subst (AllZip (Brings w kind es) (sendings_of k ms)) (sym at.cut_is) (zip-map (Comes (within w) kind es k) (Brings w kind es) (brings w kind es k) (sendings_of k ms) at.groups at.each)
 
 -- no group of any key is incomplete
-abbrev pub AllWhole : Ends → List Frame → Type 0
+abbrev pub AllWhole : EndTest → List Frame → Type 0
 AllWhole ends fs = (k : Key) → AllByRecursion (λ g. complete g ≡ true) (cut ends (of_key k fs))
 
-broken_among-none : (w : Rule) (begun line : ℕ) (gs : List (List Frame)) → AllByRecursion (λ g. complete g ≡ true) gs → broken_among w begun line gs ≡ None
+broken_among-none : (w : Window) (begun line : ℕ) (gs : List (List Frame)) → AllByRecursion (λ g. complete g ≡ true) gs → broken_among w begun line gs ≡ None
 broken_among-none w begun line [] each = refl
 broken_among-none w begun line (g ∷ gs) each = rw each.0 (broken_among-none w begun line gs each.1)
 
-pub none_broken : (w : Rule) (fs : List Frame) → AllWhole (within w) fs → (line : ℕ) → broken_with w fs line ≡ []
+pub none_broken : (w : Window) (fs : List Frame) → AllWhole (within w) fs → (line : ℕ) → broken_with w fs line ≡ []
 unfolding broken_with
 none_broken w fs whole line = filter_map-none (broken_begun w fs line) (λ begun. by_frame (frame_at begun fs)) (range_with_len 1 line)
   where
@@ -170,7 +170,7 @@ none_last : (o : Option (List Frame)) (gs : List (List Frame)) → option_and_th
 none_last o [] e each = e
 none_last o (g ∷ gs) e each = none_last (Some g) gs (rw each.0 refl) each.1
 
-pub none_open : (ends : Ends) (fs : List Frame) (n : ℕ) → AllWhole ends fs → open_groups ends n fs ≡ []
+pub none_open : (ends : EndTest) (fs : List Frame) (n : ℕ) → AllWhole ends fs → open_groups ends n fs ≡ []
 unfolding open_groups begun_at
 none_open ends fs n whole = filter_map-none (begun_at ends fs) (λ line. by_frame line (frame_at line fs)) (range_with_len 1 n)
   where
@@ -178,11 +178,11 @@ none_open ends fs n whole = filter_map-none (begun_at ends fs) (λ line. by_fram
     by_frame line None = refl
     by_frame line (Some f) = ap (option_and_then (where_begun line f.key)) (none_last None (cut ends (of_key f.key fs)) refl (whole f.key))
 
-none_open-within : (w : Rule) (fs : List Frame) (n : ℕ) → AllWhole (within w) fs → open_within w n fs ≡ []
+none_open-within : (w : Window) (fs : List Frame) (n : ℕ) → AllWhole (within w) fs → open_within w n fs ≡ []
 unfolding waiting
 none_open-within w fs n whole = ap (waiting w n) (none_open (within w) fs n whole)
 
-pub arrive : (w : Rule) (kind : ℕ → Option Kind) (ms : List PacketParts) (es : List Entry) → IsScattered w kind ms es → ArriveWhole w kind ms es
+pub arrive : (w : Window) (kind : ℕ → Option Kind) (ms : List PacketParts) (es : List Entry) → IsScattered w kind ms es → ArriveWhole w kind ms es
 arrive w kind ms es scattered =
     let whole : AllWhole (within w) (frames kind es) = λ k. zip-all (Brings w kind es) (λ g. complete g ≡ true) (λ x g is. is.whole) _ _ (brought w kind ms es scattered k) in
     record {

@@ -16,7 +16,7 @@ use Rattle.n2k_join.specs.Groups.{within}
 use Rattle.n2k_join.specs.Messages.{Keyed, alone, single_by, cause_in, fast_cause, is_unknown, gathered, message, broken_with, broken, entry_at, counts}
 use Rattle.n2k_join.specs.Open.{open_within}
 use Rattle.n2k_join.specs.Laws.{BadAlone}
-use Rattle.n2k_join.specs.Window.{Rule}
+use Rattle.n2k_join.specs.Window.{Window}
 
 -- an entry that gives nothing but its cause
 record IsNothing (kind : ℕ → Option Kind) (e : Entry) : Type 0 where
@@ -44,7 +44,7 @@ bad-nothing kind (entries.Frame packet) bad = by_kind (kind packet.id.pgn) refl 
     by_kind (Some Single) k bad = absurd (false≢true bad)
     by_kind (Some Fast) k bad = by_test (is_fast_payload packet.payload) refl k bad
 
-module _ (w : Rule) (kind : ℕ → Option Kind) (e : Entry) (nothing : IsNothing kind e) where
+module _ (w : Window) (kind : ℕ → Option Kind) (e : Entry) (nothing : IsNothing kind e) where
   frames_from-same : (n : ℕ) (front back : List Entry) → frames_from kind n (front ++ e ∷ back) ≡ frames_from kind n (front ++ entries.Skip ∷ back)
   frames_from-same n [] back = ap (λ o. cons_option o (frames_from kind (n + 1) back)) (nothing.no_frame n)
   frames_from-same n (f ∷ front) back = ap (cons_option (frame_in kind n f)) (frames_from-same (n + 1) front back)
@@ -95,7 +95,7 @@ module _ (w : Rule) (kind : ℕ → Option Kind) (e : Entry) (nothing : IsNothin
     held = length (open-same front back i);
   }
 
-pub bad_alone : (w : Rule) (kind : ℕ → Option Kind) (front : List Entry) (e : Entry) (back : List Entry) → is_some (cause_in kind e) ≡ true → BadAlone w kind front e back
+pub bad_alone : (w : Window) (kind : ℕ → Option Kind) (front : List Entry) (e : Entry) (back : List Entry) → is_some (cause_in kind e) ≡ true → BadAlone w kind front e back
 bad_alone w kind front e back bad =
     let nothing = bad-nothing kind e bad in
     record {

@@ -4,11 +4,11 @@ use Rattle.std.specs.Prelude.{IfSome}
 use Rattle.std.specs.List.{range_with_len, last_or, AllByRecursion}
 use Rattle.std.proofs.lemmas.List.{append-nil}
 use Rattle.std.proofs.lemmas.Bool.{eqb-true, eq-eqb, ne_eqb, or_parts, leb-true, leb-false, and_right, and_left}
-use Rattle.n2k_join.specs.declared.broken.Broken.{Broken}
+use Rattle.n2k_join.specs.declared.step.Broken.{Broken}
 use Rattle.n2k_join.specs.Frames.{Key, same_key, Frame, of_key, frame_at}
 use Rattle.n2k_join.specs.Groups.{closes, misfits, is_late, within, complete, incomplete, cut, first}
 use Rattle.n2k_join.specs.Open.{Group, group_of, where_begun, begun_at, open_groups}
-use Rattle.n2k_join.specs.Messages.{broken_of, told_of, broken_among, broken_by, broken_begun, broken_with}
+use Rattle.n2k_join.specs.Messages.{broken_of, as_broken, broken_among, broken_by, broken_begun, broken_with}
 use Rattle.n2k_join.specs.State.{held_of}
 use Rattle.n2k_join.proofs.Carried.{same_bool}
 use Rattle.n2k_join.proofs.Cuts.{grown, last-cut, within-ends}
@@ -16,17 +16,17 @@ use Rattle.n2k_join.proofs.Given.{IsUpTo, first-le, up_to, cut_of_same, cut_of_o
 use Rattle.n2k_join.proofs.Keys.{same_key-refl, same_key-sym}
 use Rattle.n2k_join.proofs.Opened.{IsLog, IsFine, none_at, at_last, at_line, open_at, begun_at-key, so_far-fine, numbers_of_key, ends-kept, first-push}
 use Rattle.n2k_join.proofs.Rising.{find-passes, filter_map-range, filter_map-push, filter_map-fused, range-push, last-all, of_cond}
-use Rattle.n2k_join.specs.Window.{Rule}
+use Rattle.n2k_join.specs.Window.{Window}
 
 -- ---- the groups of a key
 
 -- whether a group that isn't complete is broken at a line, where no group comes after it
-abbrev ends_at : Rule → ℕ → ℕ → List Frame → Bool
-ends_at w j line g = not (complete g) && ((first g == j) && (first g + w.window == line))
+abbrev ends_at : Window → ℕ → ℕ → List Frame → Bool
+ends_at w j line g = not (complete g) && ((first g == j) && (first g + w.lines == line))
 
 -- and where the frame is the next of its key
-abbrev ends_by : Rule → ℕ → Frame → List Frame → Bool
-ends_by w j x g = not (complete g) && ((first g == j) && (within w g x && nat_le x.line (first g + w.window)))
+abbrev ends_by : Window → ℕ → Frame → List Frame → Bool
+ends_by w j x g = not (complete g) && ((first g == j) && (within w g x && nat_le x.line (first g + w.lines)))
 
 -- the last group, where it passes
 abbrev last_if : (List Frame → Bool) → Option (List Frame) → Option (List Frame)
@@ -37,48 +37,48 @@ no_and : (a b c : Bool) → c ≡ false → (not a && (b && c)) ≡ false
 no_and a b c e = and_right (not a) (b && c) (and_right b c e)
 
 -- a group that another follows is broken at that one's line or before
-passed : (w : Rule) (j line : ℕ) (g h : List Frame) (gs : List (List Frame)) → first h < line
+passed : (w : Window) (j line : ℕ) (g h : List Frame) (gs : List (List Frame)) → first h < line
     → broken_among w j line (g ∷ h ∷ gs) ≡ broken_among w j line (h ∷ gs)
 passed w j line g h gs l =
-    let other = ne_eqb (min (first g + w.window) (first h)) line (λ e. omega (arith, l, e)) in
+    let other = ne_eqb (min (first g + w.lines) (first h)) line (λ e. omega (arith, l, e)) in
     ap (λ b. cond b (Some g) (broken_among w j line (h ∷ gs)))
-    (no_and (complete g) (first g == j) (min (first g + w.window) (first h) == line) other)
+    (no_and (complete g) (first g == j) (min (first g + w.lines) (first h) == line) other)
 
 -- the last group is not broken before its window ends
-among-open : (w : Rule) (j i : ℕ) (g : List Frame) → i < first g + w.window → broken_among w j i (g ∷ []) ≡ None
+among-open : (w : Window) (j i : ℕ) (g : List Frame) → i < first g + w.lines → broken_among w j i (g ∷ []) ≡ None
 among-open w j i g l =
     ap (λ b. cond b (Some g) None)
-    (no_and (complete g) (first g == j) (first g + w.window == i) (ne_eqb (first g + w.window) i (λ e. omega (arith, e, l))))
+    (no_and (complete g) (first g == j) (first g + w.lines == i) (ne_eqb (first g + w.lines) i (λ e. omega (arith, e, l))))
 
 -- with no frame of the key at the line
-among-last : (w : Rule) (n j line : ℕ) (gs : List (List Frame)) → AllByRecursion (IsUpTo n) gs → n < line → broken_among w j line gs ≡ last_if (ends_at w j line) (last_or None gs)
+among-last : (w : Window) (n j line : ℕ) (gs : List (List Frame)) → AllByRecursion (IsUpTo n) gs → n < line → broken_among w j line gs ≡ last_if (ends_at w j line) (last_or None gs)
 among-last w n j line [] up l = refl
 among-last w n j line (g ∷ []) up l = refl
 among-last w n j line (g ∷ h ∷ gs) up l = passed w j line g h gs (omega (arith, first-le n h up.1.0, l)) ∙ among-last w n j line (h ∷ gs) up.1 l
 
 -- with one
-among-one : (w : Rule) (j : ℕ) (g : List Frame) (x : Frame) → 0 < w.window → 0 < length g → broken_among w j x.line (grown (within w) (g ∷ []) x) ≡ cond (ends_by w j x g) (Some g) None
+among-one : (w : Window) (j : ℕ) (g : List Frame) (x : Frame) → 0 < w.lines → 0 < length g → broken_among w j x.line (grown (within w) (g ∷ []) x) ≡ cond (ends_by w j x g) (Some g) None
 among-one w j g x some nonempty = by (complete g) refl (within w g x) refl
   where
     alone : broken_among w j x.line ((x ∷ []) ∷ []) ≡ None
     alone = among-open w j x.line (x ∷ []) (omega (arith, some))
 
-    by_line : (b : Bool) → nat_le x.line (first g + w.window) ≡ b → (min (first g + w.window) x.line == x.line) ≡ b
-    by_line true e = eq-eqb _ _ (omega (arith, leb-true x.line (first g + w.window) e))
-    by_line false e = ne_eqb _ _ (λ f. omega (arith, leb-false x.line (first g + w.window) e, f))
+    by_line : (b : Bool) → nat_le x.line (first g + w.lines) ≡ b → (min (first g + w.lines) x.line == x.line) ≡ b
+    by_line true e = eq-eqb _ _ (omega (arith, leb-true x.line (first g + w.lines) e))
+    by_line false e = ne_eqb _ _ (λ f. omega (arith, leb-false x.line (first g + w.lines) e, f))
 
     by : (c : Bool) → complete g ≡ c → (e : Bool) → within w g x ≡ e
-        → broken_among w j x.line (cond (c || e) (g ∷ (x ∷ []) ∷ []) ((g ++ x ∷ []) ∷ [])) ≡ cond (not c && ((first g == j) && (e && nat_le x.line (first g + w.window)))) (Some g) None
-    by true t e f = ap (λ c. cond (not c && ((first g == j) && (min (first g + w.window) x.line == x.line))) (Some g) (broken_among w j x.line ((x ∷ []) ∷ []))) t ∙ alone
+        → broken_among w j x.line (cond (c || e) (g ∷ (x ∷ []) ∷ []) ((g ++ x ∷ []) ∷ [])) ≡ cond (not c && ((first g == j) && (e && nat_le x.line (first g + w.lines)))) (Some g) None
+    by true t e f = ap (λ c. cond (not c && ((first g == j) && (min (first g + w.lines) x.line == x.line))) (Some g) (broken_among w j x.line ((x ∷ []) ∷ []))) t ∙ alone
     by false t true f =
-        (λ i. cond (not (t i) && ((first g == j) && by_line (nat_le x.line (first g + w.window)) refl i)) (Some g) (alone i))
+        (λ i. cond (not (t i) && ((first g == j) && by_line (nat_le x.line (first g + w.lines)) refl i)) (Some g) (alone i))
     by false t false f =
         let late : is_late w g x ≡ false = (or_parts (misfits w g x) (is_late w g x) f).1 in
-        let before : x.line < first g + w.window = leb-false (first g + w.window) x.line late in
+        let before : x.line < first g + w.lines = leb-false (first g + w.lines) x.line late in
         among-open w j x.line (g ++ x ∷ []) (omega (arith, first-push g x nonempty, before))
         ∙ sym (ap (λ b. cond b (Some g) None) (and_right (first g == j) false refl))
 
-among-grown : (w : Rule) (n j : ℕ) (gs : List (List Frame)) (x : Frame) → 0 < w.window → AllByRecursion (IsUpTo n) gs → n < x.line → broken_among w j x.line (grown (within w) gs x) ≡ last_if (ends_by w j x) (last_or None gs)
+among-grown : (w : Window) (n j : ℕ) (gs : List (List Frame)) (x : Frame) → 0 < w.lines → AllByRecursion (IsUpTo n) gs → n < x.line → broken_among w j x.line (grown (within w) gs x) ≡ last_if (ends_by w j x) (last_or None gs)
 among-grown w n j [] x some up l = among-open w j x.line (x ∷ []) (omega (arith, some))
 among-grown w n j (g ∷ []) x some up l = among-one w j g x some up.0.nonempty
 among-grown w n j (g ∷ h ∷ []) x some up l = by (closes (within w) h x) ∙ among-one w j h x some up.1.0.nonempty
@@ -89,53 +89,53 @@ among-grown w n j (g ∷ h ∷ []) x some up l = by (closes (within w) h x) ∙ 
 among-grown w n j (g ∷ h ∷ k ∷ gs) x some up l = passed w j x.line g h (grown (within w) (k ∷ gs) x) (omega (arith, first-le n h up.1.0, l)) ∙ among-grown w n j (h ∷ k ∷ gs) x some up.1 l
 
 -- the group that a frame begins isn't broken at its line
-among-own : (w : Rule) (n : ℕ) (gs : List (List Frame)) (x : Frame) → 0 < w.window → AllByRecursion (IsUpTo n) gs → n < x.line → broken_among w x.line x.line (grown (within w) gs x) ≡ None
+among-own : (w : Window) (n : ℕ) (gs : List (List Frame)) (x : Frame) → 0 < w.lines → AllByRecursion (IsUpTo n) gs → n < x.line → broken_among w x.line x.line (grown (within w) gs x) ≡ None
 among-own w n gs x some up l = among-grown w n x.line gs x some up l ∙ by (last_or None gs) (last-all (IsUpTo n) None gs tt up)
   where
     by : (o : Option (List Frame)) → IfSome o (IsUpTo n) → last_if (ends_by w x.line x) o ≡ None
     by None h = refl
     by (Some g) h =
         let other = ne_eqb (first g) x.line (λ e. omega (arith, first-le n g h, l, e)) in
-        let in_time = within w g x && nat_le x.line (first g + w.window) in
+        let in_time = within w g x && nat_le x.line (first g + w.lines) in
         ap (λ b. cond b (Some g) None) (and_right (not (complete g)) _ (and_left (first g == x.line) in_time other))
 
 -- Earlier lines keep what is broken at them.
-among-stays_one : (w : Rule) (j i : ℕ) (g : List Frame) (x : Frame) → 0 < w.window → 0 < length g → i < x.line → broken_among w j i (grown (within w) (g ∷ []) x) ≡ broken_among w j i (g ∷ [])
+among-stays_one : (w : Window) (j i : ℕ) (g : List Frame) (x : Frame) → 0 < w.lines → 0 < length g → i < x.line → broken_among w j i (grown (within w) (g ∷ []) x) ≡ broken_among w j i (g ∷ [])
 among-stays_one w j i g x some nonempty l = by (complete g) refl (within w g x) refl
   where
     alone : broken_among w j i ((x ∷ []) ∷ []) ≡ None
     alone = among-open w j i (x ∷ []) (omega (arith, l))
 
-    at_line : (min (first g + w.window) x.line == i) ≡ (first g + w.window == i)
+    at_line : (min (first g + w.lines) x.line == i) ≡ (first g + w.lines == i)
     at_line =
-        same_bool _ _ (λ e. eq-eqb _ _ (omega (arith, l, eqb-true (min (first g + w.window) x.line) i e)))
-        (λ e. eq-eqb _ _ (omega (arith, l, eqb-true (first g + w.window) i e)))
+        same_bool _ _ (λ e. eq-eqb _ _ (omega (arith, l, eqb-true (min (first g + w.lines) x.line) i e)))
+        (λ e. eq-eqb _ _ (omega (arith, l, eqb-true (first g + w.lines) i e)))
 
     by : (c : Bool) → complete g ≡ c → (e : Bool) → within w g x ≡ e
-        → broken_among w j i (cond (c || e) (g ∷ (x ∷ []) ∷ []) ((g ++ x ∷ []) ∷ [])) ≡ cond (not (complete g) && ((first g == j) && (first g + w.window == i))) (Some g) None
+        → broken_among w j i (cond (c || e) (g ∷ (x ∷ []) ∷ []) ((g ++ x ∷ []) ∷ [])) ≡ cond (not (complete g) && ((first g == j) && (first g + w.lines == i))) (Some g) None
     by true t e f = λ k. cond (not (complete g) && ((first g == j) && at_line k)) (Some g) (alone k)
     by false t true f = λ k. cond (not (complete g) && ((first g == j) && at_line k)) (Some g) (alone k)
     by false t false f =
         let late : is_late w g x ≡ false = (or_parts (misfits w g x) (is_late w g x) f).1 in
-        let before : x.line < first g + w.window = leb-false (first g + w.window) x.line late in
+        let before : x.line < first g + w.lines = leb-false (first g + w.lines) x.line late in
         among-open w j i (g ++ x ∷ []) (omega (arith, first-push g x nonempty, before, l))
         ∙ sym (among-open w j i g (omega (arith, before, l)))
 
-among-stays : (w : Rule) (n j i : ℕ) (gs : List (List Frame)) (x : Frame) → 0 < w.window → AllByRecursion (IsUpTo n) gs → i < x.line → broken_among w j i (grown (within w) gs x) ≡ broken_among w j i gs
+among-stays : (w : Window) (n j i : ℕ) (gs : List (List Frame)) (x : Frame) → 0 < w.lines → AllByRecursion (IsUpTo n) gs → i < x.line → broken_among w j i (grown (within w) gs x) ≡ broken_among w j i gs
 among-stays w n j i [] x some up l = among-open w j i (x ∷ []) (omega (arith, l))
 among-stays w n j i (g ∷ []) x some up l = among-stays_one w j i g x some up.0.nonempty l
 among-stays w n j i (g ∷ h ∷ []) x some up l = by (closes (within w) h x) refl (among-stays_one w j i h x some up.1.0.nonempty l)
   where
     by : (b : Bool) → closes (within w) h x ≡ b → broken_among w j i (cond b (h ∷ (x ∷ []) ∷ []) ((h ++ x ∷ []) ∷ [])) ≡ broken_among w j i (h ∷ [])
         → broken_among w j i (g ∷ cond b (h ∷ (x ∷ []) ∷ []) ((h ++ x ∷ []) ∷ [])) ≡ broken_among w j i (g ∷ h ∷ [])
-    by true e rest = ap (λ o. cond (not (complete g) && ((first g == j) && (min (first g + w.window) (first h) == i))) (Some g) o) rest
-    by false e rest = λ k. cond (not (complete g) && ((first g == j) && (min (first g + w.window) (first-push h x up.1.0.nonempty k) == i))) (Some g) (rest k)
+    by true e rest = ap (λ o. cond (not (complete g) && ((first g == j) && (min (first g + w.lines) (first h) == i))) (Some g) o) rest
+    by false e rest = λ k. cond (not (complete g) && ((first g == j) && (min (first g + w.lines) (first-push h x up.1.0.nonempty k) == i))) (Some g) (rest k)
 among-stays w n j i (g ∷ h ∷ k ∷ gs) x some up l =
-    ap (λ o. cond (not (complete g) && ((first g == j) && (min (first g + w.window) (first h) == i))) (Some g) o) (among-stays w n j i (h ∷ k ∷ gs) x some up.1 l)
+    ap (λ o. cond (not (complete g) && ((first g == j) && (min (first g + w.lines) (first h) == i))) (Some g) o) (among-stays w n j i (h ∷ k ∷ gs) x some up.1 l)
 
 -- ---- the groups of a log
 
-module _ (w : Rule) (some : 0 < w.window) where
+module _ (w : Window) (some : 0 < w.lines) where
   begun-stays : (n : ℕ) (fs : List Frame) (x : Frame) (i j : ℕ) → IsLog n fs → i < x.line → (x.line ≡ j → ⊥) → broken_begun w (fs ++ x ∷ []) i j ≡ broken_begun w fs i j
   begun-stays n fs x i j log l other = ap (option_and_then (broken_by w (fs ++ x ∷ []) i)) (at_line j fs x other) ∙ by (frame_at j fs)
     where
@@ -156,13 +156,13 @@ module _ (w : Rule) (some : 0 < w.window) where
 
   -- of an open group, whether it is: with no frame at the line, and with one
   abbrev pub runs_out : ℕ → Group → Bool
-  runs_out line o = o.first + w.window == line
+  runs_out line o = o.first + w.lines == line
 
   abbrev pub breaks : Frame → Group → Bool
-  breaks x o = cond (same_key x.key o.key) (within w (held_of o) x && nat_le x.line (o.first + w.window)) (o.first + w.window == x.line)
+  breaks x o = cond (same_key x.key o.key) (within w (held_of o) x && nat_le x.line (o.first + w.lines)) (o.first + w.lines == x.line)
 
   abbrev pub told_if : (Group → Bool) → Group → Option Broken
-  told_if t o = cond (t o) (Some (told_of o)) None
+  told_if t o = cond (t o) (Some (as_broken o)) None
 
   -- the group of a key that is last and begins at a line, where it passes
   told_at : (t : List Frame → Bool) (u : Group → Bool) (k : Key) (j : ℕ) → (o : Option (List Frame)) → ((g : List Frame) → o ≡ Some g → complete g ≡ false → first g ≡ j → t g ≡ u (group_of k g))
@@ -174,7 +174,7 @@ module _ (w : Rule) (some : 0 < w.window) where
           → option_map (broken_of k) (cond (not c && (b && t g)) (Some g) None) ≡ option_and_then (told_if u) (option_and_then (where_begun j k) (cond c None (Some g)))
       by true c b e = refl
       by false c true e =
-          of_cond (option_map (broken_of k)) (t g) (Some g) None ∙ ap (λ b. cond b (Some (told_of (group_of k g))) None) (same g refl c (eqb-true (first g) j e))
+          of_cond (option_map (broken_of k)) (t g) (Some g) None ∙ ap (λ b. cond b (Some (as_broken (group_of k g))) None) (same g refl c (eqb-true (first g) j e))
           ∙ sym (ap (λ b. option_and_then (told_if u) (cond b (Some (group_of k g)) None)) e)
       by false c false e = sym (ap (λ b. option_and_then (told_if u) (cond b (Some (group_of k g)) None)) e)
 
@@ -186,7 +186,7 @@ module _ (w : Rule) (some : 0 < w.window) where
       by (Some f) e =
           let at : f.line ≡ j = eqb-true f.line j (find-passes (λ (f : Frame). f.line == j) fs f e) in
           ap (option_map (broken_of f.key)) (among-last w n f.line line (cut (within w) (of_key f.key fs)) (up_to (within w) n f.key fs log) l)
-          ∙ told_at (λ g. first g + w.window == line) (runs_out line) f.key f.line (last_or None (cut (within w) (of_key f.key fs))) (λ g is c b. refl)
+          ∙ told_at (λ g. first g + w.lines == line) (runs_out line) f.key f.line (last_or None (cut (within w) (of_key f.key fs))) (λ g is c b. refl)
           ∙ ap (λ i. option_and_then (told_if (runs_out line)) (option_and_then (where_begun i f.key) (option_and_then incomplete (last_or None (cut (within w) (of_key f.key fs)))))) at
 
   begun-frame : (n : ℕ) (fs : List Frame) (x : Frame) (j : ℕ) → IsLog n fs → n < x.line → (x.line ≡ j → ⊥) → broken_begun w (fs ++ x ∷ []) x.line j ≡ option_and_then (told_if (breaks x)) (begun_at (within w) fs j)
@@ -203,14 +203,14 @@ module _ (w : Rule) (some : 0 < w.window) where
       keyed f true e =
           ap (λ gs. option_map (broken_of f.key) (broken_among w f.line x.line gs)) (cut_of_same (within w) f.key fs x e)
           ∙ ap (option_map (broken_of f.key)) (among-grown w n f.line (cut (within w) (of_key f.key fs)) x some (up_to (within w) n f.key fs log) l)
-          ∙ told_at (λ g. within w g x && nat_le x.line (first g + w.window)) (breaks x) f.key f.line (last_or None (cut (within w) (of_key f.key fs)))
-          (λ g is c b. ap (λ t. t && nat_le x.line (first g + w.window)) (sym (ends-kept (within w) (within-ends w some) f.key g x (fine f.key g is)))
-          ∙ sym (ap (λ t. cond t (within w (held_of (group_of f.key g)) x && nat_le x.line (first g + w.window)) (first g + w.window == x.line)) (same_key-sym x.key f.key ∙ e)))
+          ∙ told_at (λ g. within w g x && nat_le x.line (first g + w.lines)) (breaks x) f.key f.line (last_or None (cut (within w) (of_key f.key fs)))
+          (λ g is c b. ap (λ t. t && nat_le x.line (first g + w.lines)) (sym (ends-kept (within w) (within-ends w some) f.key g x (fine f.key g is)))
+          ∙ sym (ap (λ t. cond t (within w (held_of (group_of f.key g)) x && nat_le x.line (first g + w.lines)) (first g + w.lines == x.line)) (same_key-sym x.key f.key ∙ e)))
       keyed f false e =
           ap (λ gs. option_map (broken_of f.key) (broken_among w f.line x.line gs)) (cut_of_other (within w) f.key fs x e)
           ∙ ap (option_map (broken_of f.key)) (among-last w n f.line x.line (cut (within w) (of_key f.key fs)) (up_to (within w) n f.key fs log) l)
-          ∙ told_at (λ g. first g + w.window == x.line) (breaks x) f.key f.line (last_or None (cut (within w) (of_key f.key fs)))
-          (λ g is c b. sym (ap (λ t. cond t (within w (held_of (group_of f.key g)) x && nat_le x.line (first g + w.window)) (first g + w.window == x.line)) (same_key-sym x.key f.key ∙ e)))
+          ∙ told_at (λ g. first g + w.lines == x.line) (breaks x) f.key f.line (last_or None (cut (within w) (of_key f.key fs)))
+          (λ g is c b. sym (ap (λ t. cond t (within w (held_of (group_of f.key g)) x && nat_le x.line (first g + w.lines)) (first g + w.lines == x.line)) (same_key-sym x.key f.key ∙ e)))
 
       by : (o : Option Frame) → frame_at j fs ≡ o → option_and_then (broken_by w (fs ++ x ∷ []) x.line) o ≡ option_and_then (told_if (breaks x)) (option_and_then (λ (k : Key). open_at (within w) (within-ends w some) k fs j) (option_map (λ (f : Frame). f.key) o))
       by None e = refl

@@ -10,19 +10,19 @@ use Rattle.std.proofs.lemmas.Option.{none-some, same_Some}
 use Rattle.n2k_wire.specs.declared.entry.Entry.{Entry}
 use Rattle.n2k_table.specs.declared.definition.Kind.{Kind}
 use Rattle.n2k_join.specs.Frames.{Frame}
-use Rattle.n2k_join.specs.Groups.{Ends, EndsRepeats, closes, complete, repeats, misfits, falls_back, is_late, within, has_twice, cut_from, cut, HasEnded, IsFirstGroup, first}
+use Rattle.n2k_join.specs.Groups.{EndTest, EndsRepeats, closes, complete, repeats, misfits, falls_back, is_late, within, has_twice, cut_from, cut, HasEnded, IsFirstGroup, first}
 use Rattle.n2k_join.specs.Laws.{CutJoins, HasFirstGroup, CutFirst, IsSettled, CutGrows, HasSettled}
 use Rattle.n2k_join.proofs.Carried.{has_twice-push}
 use Rattle.n2k_join.proofs.Cuts.{grown, cut-push, cut-joined, cut-keeps, cut-nonempty}
 use Rattle.n2k_join.proofs.Logs.{message-before, broken-before}
 use Rattle.n2k_join.specs.Messages.{message, broken}
-use Rattle.n2k_join.specs.Window.{Rule}
+use Rattle.n2k_join.specs.Window.{Window}
 
 -- no group is empty
 abbrev AreGroups : List (List Frame) → Type 0
 AreGroups gs = AllByRecursion (λ (g : List Frame). 0 < length g) gs
 
-pub cut_joins : (ends : Ends) (fs : List Frame) → EndsRepeats ends → CutJoins ends fs
+pub cut_joins : (ends : EndTest) (fs : List Frame) → EndsRepeats ends → CutJoins ends fs
 cut_joins ends fs is = record {
   joined = cut-joined ends fs;
   nonempty = All-from_recursion (λ (g : List Frame). 0 < length g) (cut ends fs) (cut-nonempty ends fs);
@@ -36,21 +36,21 @@ cut_joins ends fs is = record {
     more : (g : List Frame) (x : Frame) → closes ends g x ≡ false → has_twice g ≡ false → has_twice (g ++ x ∷ []) ≡ false
     more g x c h = has_twice-push g x h ∙ unrepeated g x (repeats g x) c refl
 
-pub rule_repeats : (rule : Rule) → EndsRepeats (within rule)
-rule_repeats rule = record { repeated = λ g x e. or_left (misfits rule g x) (is_late rule g x) (or_left (repeats g x) (rule.in_order && falls_back g x) e) }
+pub window_repeats : (w : Window) → EndsRepeats (within w)
+window_repeats w = record { repeated = λ g x e. or_left (misfits w g x) (is_late w g x) (or_left (repeats g x) (w.in_order && falls_back g x) e) }
 
 -- ---- the first group
 
-is_last : (ends : Ends) (f : Frame) (front rest : List Frame) → HasEnded ends (f ∷ front) rest → cut_from ends (f ∷ front) rest ≡ (f ∷ front) ∷ cut ends rest
+is_last : (ends : EndTest) (f : Frame) (front rest : List Frame) → HasEnded ends (f ∷ front) rest → cut_from ends (f ∷ front) rest ≡ (f ∷ front) ∷ cut ends rest
 unfolding cut
 is_last ends f front [] ended = refl
 is_last ends f front (x ∷ rest) ended = ap (λ b. cond b ((f ∷ front) ∷ cut_from ends (x ∷ []) rest) (cut_from ends ((f ∷ front) ++ x ∷ []) rest)) ended
 
 -- no shorter front of a group has ended
-abbrev NoneEnds : Ends → List Frame → Type 0
+abbrev NoneEnds : EndTest → List Frame → Type 0
 NoneEnds ends group = (f g : Frame) (front back : List Frame) → group ≡ (f ∷ front) ++ (g ∷ back) → closes ends (f ∷ front) g ≡ false
 
-goes_on : (ends : Ends) (f : Frame) (front more rest group : List Frame) → group ≡ (f ∷ front) ++ more → NoneEnds ends group → HasEnded ends group rest → cut_from ends (f ∷ front) (more ++ rest) ≡ group ∷ cut ends rest
+goes_on : (ends : EndTest) (f : Frame) (front more rest group : List Frame) → group ≡ (f ∷ front) ++ more → NoneEnds ends group → HasEnded ends group rest → cut_from ends (f ∷ front) (more ++ rest) ≡ group ∷ cut ends rest
 goes_on ends f front [] rest group e none ended =
     let is : group ≡ f ∷ front = e ∙ append-nil (f ∷ front) in
     is_last ends f front rest (subst (λ g. HasEnded ends g rest) is ended) ∙ ap (λ g. g ∷ cut ends rest) (sym is)
@@ -58,7 +58,7 @@ goes_on ends f front (x ∷ more) rest group e none ended =
     ap (λ b. cond b ((f ∷ front) ∷ cut_from ends (x ∷ []) (more ++ rest)) (cut_from ends ((f ∷ front) ++ x ∷ []) (more ++ rest))) (none f x front more e)
     ∙ goes_on ends f (front ++ x ∷ []) more rest group (e ∙ sym (append_assoc (f ∷ front) (x ∷ []) more)) none ended
 
-pub first_follows : (ends : Ends) (fs group rest : List Frame) → IsFirstGroup ends fs group rest → cut ends fs ≡ group ∷ cut ends rest
+pub first_follows : (ends : EndTest) (fs group rest : List Frame) → IsFirstGroup ends fs group rest → cut ends fs ≡ group ∷ cut ends rest
 unfolding cut
 first_follows ends fs group rest is = ap (cut ends) is.joined ∙ by group refl is.nonempty
   where
@@ -80,7 +80,7 @@ last_or_none (x ∷ xs) = by (last_or_none xs)
     by (inl e) = inr (record { before = []; last = x; is = ap (λ t. x ∷ t) e })
     by (inr h) = inr (record { before = x ∷ h.before; last = h.last; is = ap (λ t. x ∷ t) h.is })
 
-none_more : (ends : Ends) (f : Frame) (front : List Frame) (x : Frame) → NoneEnds ends (f ∷ front) → closes ends (f ∷ front) x ≡ false → NoneEnds ends ((f ∷ front) ++ x ∷ [])
+none_more : (ends : EndTest) (f : Frame) (front : List Frame) (x : Frame) → NoneEnds ends (f ∷ front) → closes ends (f ∷ front) x ≡ false → NoneEnds ends ((f ∷ front) ++ x ∷ [])
 none_more ends f front x none open_still h g before back e = by (last_or_none back)
   where
     by : (back ≡ []) ⊎ HasLast back → closes ends (h ∷ before) g ≡ false
@@ -91,10 +91,10 @@ none_more ends f front x none open_still h g before back e = by (last_or_none ba
         let same = same_from_push (f ∷ front) ((h ∷ before) ++ (g ∷ l.before)) x l.last (e ∙ ap (λ t. (h ∷ before) ++ (g ∷ t)) l.is ∙ sym (append_assoc (h ∷ before) (g ∷ l.before) (l.last ∷ []))) in
         none h g before l.before same.0
 
-none_alone : (ends : Ends) (f : Frame) → NoneEnds ends (f ∷ [])
+none_alone : (ends : EndTest) (f : Frame) → NoneEnds ends (f ∷ [])
 none_alone ends f h g before back e = absurd (omega (arith, ap length e, length-append (h ∷ before) (g ∷ back)))
 
-first_from : (ends : Ends) (f : Frame) (front rest : List Frame) → NoneEnds ends (f ∷ front) → HasFirstGroup ends ((f ∷ front) ++ rest)
+first_from : (ends : EndTest) (f : Frame) (front rest : List Frame) → NoneEnds ends (f ∷ front) → HasFirstGroup ends ((f ∷ front) ++ rest)
 first_from ends f front [] none = record { group = f ∷ front; rest = []; is = record { joined = refl; nonempty = omega arith; ended = tt; shortest = none } }
 first_from ends f front (x ∷ rest) none = by (closes ends (f ∷ front) x) refl (first_from ends f (front ++ x ∷ []) rest)
   where
@@ -102,7 +102,7 @@ first_from ends f front (x ∷ rest) none = by (closes ends (f ∷ front) x) ref
     by true e later = record { group = f ∷ front; rest = x ∷ rest; is = record { joined = refl; nonempty = omega arith; ended = e; shortest = none } }
     by false e later = subst (HasFirstGroup ends) (append_assoc (f ∷ front) (x ∷ []) rest) (later (none_more ends f front x none e))
 
-pub cut_first : (ends : Ends) (fs : List Frame) → CutFirst ends fs
+pub cut_first : (ends : EndTest) (fs : List Frame) → CutFirst ends fs
 unfolding cut
 cut_first ends fs = record { none = refl; begins = begins fs; follows = first_follows ends fs }
   where
@@ -112,7 +112,7 @@ cut_first ends fs = record { none = refl; begins = begins fs; follows = first_fo
 
 -- ---- with a frame more
 
-grown-stays : (ends : Ends) (gs : List (List Frame)) (x : Frame) (i : ℕ) (g : List Frame) → slice_get gs i ≡ Some g → IsSettled gs i g → slice_get (grown ends gs x) i ≡ Some g
+grown-stays : (ends : EndTest) (gs : List (List Frame)) (x : Frame) (i : ℕ) (g : List Frame) → slice_get gs i ≡ Some g → IsSettled gs i g → slice_get (grown ends gs x) i ≡ Some g
 grown-stays ends [] x i g e settled = absurd (none-some g e)
 grown-stays ends (h ∷ []) x zero g e settled = by settled
   where
@@ -127,7 +127,7 @@ grown-stays ends (h ∷ k ∷ gs) x (suc i) g e settled = grown-stays ends (k �
     by (inl done) = inl done
     by (inr l) = inr (omega (arith, l))
 
-grown-length : (ends : Ends) (gs : List (List Frame)) (x : Frame) → length gs ≤ length (grown ends gs x)
+grown-length : (ends : EndTest) (gs : List (List Frame)) (x : Frame) → length gs ≤ length (grown ends gs x)
 grown-length ends [] x = omega arith
 grown-length ends (g ∷ []) x = by (closes ends g x)
   where
@@ -136,7 +136,7 @@ grown-length ends (g ∷ []) x = by (closes ends g x)
     by false = omega arith
 grown-length ends (g ∷ h ∷ gs) x = omega (arith, grown-length ends (h ∷ gs) x)
 
-grown-begins : (ends : Ends) (gs : List (List Frame)) (x : Frame) (i : ℕ) (g : List Frame) → AreGroups gs → slice_get gs i ≡ Some g → option_map first (slice_get (grown ends gs x) i) ≡ Some (first g)
+grown-begins : (ends : EndTest) (gs : List (List Frame)) (x : Frame) (i : ℕ) (g : List Frame) → AreGroups gs → slice_get gs i ≡ Some g → option_map first (slice_get (grown ends gs x) i) ≡ Some (first g)
 grown-begins ends [] x i g some e = absurd (none-some g e)
 grown-begins ends ([] ∷ gs) x i g some e = absurd (omega (arith, some.0))
 grown-begins ends ((f ∷ h) ∷ []) x zero g some e = by (closes ends (f ∷ h) x)
@@ -148,14 +148,14 @@ grown-begins ends ((f ∷ h) ∷ []) x (suc i) g some e = absurd (none-some g e)
 grown-begins ends ((f ∷ h) ∷ k ∷ gs) x zero g some e = ap (option_map first) e
 grown-begins ends ((f ∷ h) ∷ k ∷ gs) x (suc i) g some e = grown-begins ends (k ∷ gs) x i g some.1 e
 
-grows-push : (ends : Ends) (fs : List Frame) (x : Frame) → CutGrows ends fs (x ∷ [])
+grows-push : (ends : EndTest) (fs : List Frame) (x : Frame) → CutGrows ends fs (x ∷ [])
 grows-push ends fs x = record {
   stays = λ place group at settled. ap (λ gs. slice_get gs place) (cut-push ends fs x) ∙ grown-stays ends (cut ends fs) x place group at settled;
   begins = λ place group at. ap (λ gs. option_map first (slice_get gs place)) (cut-push ends fs x) ∙ grown-begins ends (cut ends fs) x place group (cut-nonempty ends fs) at;
   no_fewer = omega (arith, grown-length ends (cut ends fs) x, ap length (cut-push ends fs x));
 }
 
-pub cut_grows : (ends : Ends) (fs back : List Frame) → CutGrows ends fs back
+pub cut_grows : (ends : EndTest) (fs back : List Frame) → CutGrows ends fs back
 cut_grows ends fs [] =
     let same = append-nil fs in
     record {
@@ -184,15 +184,15 @@ cut_grows ends fs (x ∷ back) =
 
 -- ---- what follows a front of a log
 
-pub settles : (rule : Rule) → 0 < rule.window → (kind : ℕ → Option Kind) (front back : List Entry) → HasSettled rule kind front back
-settles rule some kind front [] =
+pub settles : (w : Window) → 0 < w.lines → (kind : ℕ → Option Kind) (front back : List Entry) → HasSettled w kind front back
+settles w some kind front [] =
     let same = append-nil front in
-    record { messages = λ line l u. ap (λ es. message rule kind es line) same; broken_groups = λ line u. ap (λ es. broken rule kind es line) same }
-settles rule some kind front (e ∷ back) =
-    let rest = settles rule some kind (front ++ e ∷ []) back in
+    record { messages = λ line l u. ap (λ es. message w kind es line) same; broken_groups = λ line u. ap (λ es. broken w kind es line) same }
+settles w some kind front (e ∷ back) =
+    let rest = settles w some kind (front ++ e ∷ []) back in
     let same : front ++ (e ∷ back) ≡ (front ++ e ∷ []) ++ back = sym (append_assoc front (e ∷ []) back) in
     let long = length-append front (e ∷ []) in
     record {
-      messages = λ line l u. ap (λ es. message rule kind es line) same ∙ rest.messages line l (omega (arith, u, long)) ∙ message-before (within rule) kind front e line l u;
-      broken_groups = λ line u. ap (λ es. broken rule kind es line) same ∙ rest.broken_groups line (omega (arith, u, long)) ∙ broken-before rule some kind front e line u;
+      messages = λ line l u. ap (λ es. message w kind es line) same ∙ rest.messages line l (omega (arith, u, long)) ∙ message-before (within w) kind front e line l u;
+      broken_groups = λ line u. ap (λ es. broken w kind es line) same ∙ rest.broken_groups line (omega (arith, u, long)) ∙ broken-before w some kind front e line u;
     }

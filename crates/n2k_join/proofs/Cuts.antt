@@ -4,16 +4,16 @@ use Rattle.std.specs.Prelude.{fold, is_some, IfSome, nat_lt}
 use Rattle.std.specs.List.{last_or, flat_map, AllByRecursion}
 use Rattle.std.proofs.lemmas.List.Sums.{fold_push}
 use Rattle.n2k_join.specs.Frames.{Frame}
-use Rattle.n2k_join.specs.Window.{Rule}
+use Rattle.n2k_join.specs.Window.{Window}
 use Rattle.n2k_join.proofs.Carried.{same_bool, has_number-cons}
 use Rattle.std.proofs.lemmas.Bool.{or_left, or_right, or_from, lt-leb, le-leb, leb-true, le-ltb, eqb-true, eq-eqb, false≢true, and_right}
-use Rattle.n2k_join.specs.Groups.{Ends, closes, repeats, has_from, falls_back, misfits, is_late, within, cut_from, cut, carried, has_number, first}
+use Rattle.n2k_join.specs.Groups.{EndTest, closes, repeats, has_from, falls_back, misfits, is_late, within, cut_from, cut, carried, has_number, first}
 use Rattle.n2k_join.proofs.Rising.{all-joined, last-all}
 use Rattle.std.proofs.lemmas.List.{length-append}
 
 -- A test that ends groups: a number that comes again ends, and what else does depends on what a group carries and where
 -- it began alone, and not on frames of the line where it began.
-pub record IsEnding (ends : Ends) : Type 0 where
+pub record IsEnding (ends : EndTest) : Type 0 where
   pub repeated : (g : List Frame) (x : Frame) → has_number x.number g ≡ true → ends g x ≡ true
   pub alike : (g h : List Frame) (x : Frame) → carried g ≡ carried h → first g ≡ first h → ends g x ≡ ends h x
   pub own_line : (g : List Frame) (x : Frame) → first g ≡ x.line → has_number x.number g ≡ false → ends g x ≡ false
@@ -51,36 +51,36 @@ has_from-same n g h same = same_bool (has_from n g) (has_from n h) (there g h sa
     there : (g h : List Frame) → carried g ≡ carried h → has_from n g ≡ true → has_from n h ≡ true
     there g h same e = let a = from_has n g e in has-from n a.number h a.least (ap (λ c. is_some (c a.number)) (sym same) ∙ a.has)
 
--- A rule with a window of at least one line is such a test, too.
-pub within-ends : (rule : Rule) → 0 < rule.window → IsEnding (within rule)
-within-ends rule some = record {
-  repeated = λ g x e. or_left (misfits rule g x) (is_late rule g x) (or_left (repeats g x) (rule.in_order && falls_back g x) e);
-  alike = λ g h x e f. λ i. (is_some (e i x.number) || (rule.in_order && (nat_lt (f i) x.line && has_from-same x.number g h e i))) || nat_le (f i + rule.window) x.line;
-  own_line = λ g x e h. or_from (misfits rule g x) (is_late rule g x) (fits g x e h) (lt-leb (first g + rule.window) x.line (omega (arith, e, some)));
+-- A window of at least one line is such a test, too.
+pub within-ends : (w : Window) → 0 < w.lines → IsEnding (within w)
+within-ends w some = record {
+  repeated = λ g x e. or_left (misfits w g x) (is_late w g x) (or_left (repeats g x) (w.in_order && falls_back g x) e);
+  alike = λ g h x e f. λ i. (is_some (e i x.number) || (w.in_order && (nat_lt (f i) x.line && has_from-same x.number g h e i))) || nat_le (f i + w.lines) x.line;
+  own_line = λ g x e h. or_from (misfits w g x) (is_late w g x) (fits g x e h) (lt-leb (first g + w.lines) x.line (omega (arith, e, some)));
 }
   where
-    fits : (g : List Frame) (x : Frame) → first g ≡ x.line → has_number x.number g ≡ false → misfits rule g x ≡ false
-    fits g x e h = or_from (repeats g x) (rule.in_order && falls_back g x) h (and_right rule.in_order (falls_back g x) (ap (λ b. b && has_from x.number g) (le-ltb (first g) x.line (omega (arith, e)))))
+    fits : (g : List Frame) (x : Frame) → first g ≡ x.line → has_number x.number g ≡ false → misfits w g x ≡ false
+    fits g x e h = or_from (repeats g x) (w.in_order && falls_back g x) h (and_right w.in_order (falls_back g x) (ap (λ b. b && has_from x.number g) (le-ltb (first g) x.line (omega (arith, e)))))
 
 -- the group that a frame joins or begins, where this is the group so far
-abbrev pub next : Ends → Option (List Frame) → Frame → List Frame
+abbrev pub next : EndTest → Option (List Frame) → Frame → List Frame
 next ends None x = x ∷ []
 next ends (Some g) x = cond (closes ends g x) (x ∷ []) (g ++ x ∷ [])
 
-abbrev pub taken_in : Ends → Option (List Frame) → Frame → Option (List Frame)
+abbrev pub taken_in : EndTest → Option (List Frame) → Frame → Option (List Frame)
 taken_in ends g x = Some (next ends g x)
 
 -- the last group of the frames of a key
-unfoldable pub so_far : Ends → List Frame → Option (List Frame)
+unfoldable pub so_far : EndTest → List Frame → Option (List Frame)
 so_far ends fs = fold (taken_in ends) None fs
 
 -- the groups with one frame more
-abbrev pub grown : Ends → List (List Frame) → Frame → List (List Frame)
+abbrev pub grown : EndTest → List (List Frame) → Frame → List (List Frame)
 grown ends [] x = (x ∷ []) ∷ []
 grown ends (g ∷ []) x = cond (closes ends g x) (g ∷ (x ∷ []) ∷ []) ((g ++ x ∷ []) ∷ [])
 grown ends (g ∷ h ∷ gs) x = g ∷ grown ends (h ∷ gs) x
 
-module _ (ends : Ends) where
+module _ (ends : EndTest) where
   grown-cons : (g h fs : List Frame) (x : Frame) → grown ends (g ∷ cut_from ends h fs) x ≡ g ∷ grown ends (cut_from ends h fs) x
   grown-cons g h [] x = refl
   grown-cons g h (f ∷ fs) x =

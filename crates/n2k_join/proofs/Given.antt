@@ -3,7 +3,7 @@ use Rattle.std.proofs.Common.{◌≡◌, ◌==◌, ◌≤◌, ◌<◌, ℕ, Bool
 use Rattle.std.specs.List.{last_or, AllByRecursion}
 use Rattle.std.proofs.lemmas.Bool.{eqb-true, eq-eqb, ne_eqb, or_parts}
 use Rattle.n2k_join.specs.Frames.{Key, same_key, Frame, of_key, frame_at}
-use Rattle.n2k_join.specs.Groups.{Ends, closes, complete, cut, first, last_line}
+use Rattle.n2k_join.specs.Groups.{EndTest, closes, complete, cut, first, last_line}
 use Rattle.n2k_join.specs.Messages.{Keyed, message_of, is_done_at, gathered_by, gathered}
 use Rattle.n2k_join.proofs.Cuts.{next, so_far, grown, cut-push, last-cut, cut-all, cut-nonempty}
 use Rattle.n2k_join.proofs.Keys.{same_key-refl, of_key-same, of_key-other, of_key-keeps}
@@ -43,7 +43,7 @@ pub message_by : (x : Frame) (b : Bool) (g : List Frame) → option_map (message
 message_by x true g = refl
 message_by x false g = refl
 
-module _ (ends : Ends) where
+module _ (ends : EndTest) where
   -- what the frame completes
   abbrev pub completed : Option (List Frame) → Frame → Option (List Frame)
   completed s x = cond (complete (next ends s x)) (Some (next ends s x)) None

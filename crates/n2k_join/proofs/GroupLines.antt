@@ -6,7 +6,7 @@ use Rattle.std.proofs.lemmas.Bool.{eq-eqb, ne_eqb, and_right}
 use Rattle.n2k_join.specs.Frames.{Frame}
 use Rattle.n2k_join.specs.Groups.{complete, first, last_line}
 use Rattle.n2k_join.specs.Messages.{is_done_at}
-use Rattle.n2k_join.specs.Scattered.{joined}
+use Rattle.n2k_join.specs.Scattered.{all_frames}
 use Rattle.n2k_join.proofs.Lines.{RiseFrom, line_of}
 use Rattle.n2k_join.proofs.Rising.{all-joined, rise-least, all_with}
 
@@ -39,21 +39,21 @@ pub first_above : (n : ℕ) (g : List Frame) → IsGroup g → AllByRecursion (�
 first_above n [] some each = absurd (omega (arith, some))
 first_above n (f ∷ g) some each = each.0
 
-pub lasts_above : (n : ℕ) (gs : List (List Frame)) → AllByRecursion IsGroup gs → RiseFrom n (joined gs) → AllByRecursion (λ g. n ≤ last_line g) gs
+pub lasts_above : (n : ℕ) (gs : List (List Frame)) → AllByRecursion IsGroup gs → RiseFrom n (all_frames gs) → AllByRecursion (λ g. n ≤ last_line g) gs
 lasts_above n gs some rise =
     all_with IsGroup (AllByRecursion (λ (f : Frame). n ≤ f.line)) (λ g. n ≤ last_line g) (λ g here each.
     let last = last_frame (λ (f : Frame). n ≤ f.line) g here each in
     subst (λ l. n ≤ l) (sym last.at) last.holds)
-    gs some (all-joined _ gs (rise-least line_of n (joined gs) rise))
+    gs some (all-joined _ gs (rise-least line_of n (all_frames gs) rise))
 
 -- a complete group is the one that is done at its last line
 abbrev pub IsDone : List (List Frame) → List Frame → Type 0
 IsDone gs g = complete g ≡ true → find (is_done_at (last_line g)) gs ≡ Some g
 
-pub done_found : (n : ℕ) (gs : List (List Frame)) → AllByRecursion IsGroup gs → RiseFrom n (joined gs) → AllByRecursion (IsDone gs) gs
+pub done_found : (n : ℕ) (gs : List (List Frame)) → AllByRecursion IsGroup gs → RiseFrom n (all_frames gs) → AllByRecursion (IsDone gs) gs
 done_found n [] some rise = tt
 done_found n (g ∷ gs) some rise =
-    let after : RiseFrom (last_line g + 1) (joined gs) = rise-after n g (joined gs) some.0 rise in (
+    let after : RiseFrom (last_line g + 1) (all_frames gs) = rise-after n g (all_frames gs) some.0 rise in (
       (λ whole. rw (whole, eq-eqb (last_line g) (last_line g) refl) refl),
       all_with (λ h. last_line g + 1 ≤ last_line h) (IsDone gs) (IsDone (g ∷ gs))
           (λ h above found whole. rw (ne_eqb (last_line g) (last_line h) (λ same. omega arith), and_right (complete g) false refl) (found whole))

@@ -11,10 +11,10 @@ use Rattle.std.proofs.lemmas.List.Elements.{recursion_from_All}
 use Rattle.n2k_wire.specs.declared.entry.Entry.{Entry}
 use Rattle.n2k_table.specs.declared.definition.Kind.{Kind}
 use Rattle.n2k_join.specs.Frames.{Key, Frame, frames_from, frames, of_key}
-use Rattle.n2k_join.specs.Groups.{Ends, has_number, has_from, falls_back, has_twice, repeats, misfits, is_late, within, complete, closes, cut_from, cut, open_of, first, last_line, incomplete}
+use Rattle.n2k_join.specs.Groups.{EndTest, has_number, has_from, falls_back, has_twice, repeats, misfits, is_late, within, complete, closes, cut_from, cut, open_of, first, last_line, incomplete}
 use Rattle.n2k_join.specs.Messages.{is_done_at, broken_of, broken_line, broken_among, broken_by, broken_begun, broken_with, broken}
 use Rattle.n2k_join.specs.Pieces.{Sending, last_piece}
-use Rattle.n2k_join.specs.Scattered.{key_of_sending, joined, IsPieceOf}
+use Rattle.n2k_join.specs.Scattered.{key_of_sending, all_frames, IsPieceOf}
 use Rattle.n2k_join.specs.Arrival.{Brings, ComesNext, LeavesZero, Heals}
 use Rattle.n2k_join.proofs.Cuts.{cut-all, cut-joined, cut-nonempty}
 use Rattle.n2k_join.proofs.Keys.{of_key-append, of_key-keeps}
@@ -24,13 +24,13 @@ use Rattle.n2k_join.proofs.Stretches.{IsStretch, cut_stretch, goes_on-within, st
 use Rattle.n2k_join.proofs.Lines.{RiseFrom, frames-rise, line_of}
 use Rattle.n2k_join.proofs.GroupLines.{IsGroup, IsDone, first_above, done_found}
 use Rattle.n2k_join.proofs.Arriving.{StandsAt, stand, key-rise, brings}
-use Rattle.n2k_join.specs.Window.{Rule}
+use Rattle.n2k_join.specs.Window.{Window}
 use Rattle.n2k_join.proofs.Carried.{has_number-cons}
 use Rattle.n2k_join.proofs.Rising.{last-all, all-front, all-back, all-joined, rise-least, rise-rest}
 use Rattle.n2k_join.specs.State.{Rise}
 
 -- where the group so far ends before a frame, the frames before it and those from it on are cut by themselves
-cut_splits_from : (ends : Ends) (o : Option (List Frame)) (g fs : List Frame) (x : Frame) (rest : List Frame)
+cut_splits_from : (ends : EndTest) (o : Option (List Frame)) (g fs : List Frame) (x : Frame) (rest : List Frame)
     → ((h : List Frame) → last_or o (cut_from ends g fs) ≡ Some h → closes ends h x ≡ true)
     → cut_from ends g (fs ++ (x ∷ rest)) ≡ cut_from ends g fs ++ cut_from ends (x ∷ []) rest
 cut_splits_from ends o g [] x rest last = rw (last g refl) refl
@@ -42,28 +42,28 @@ cut_splits_from ends o g (f ∷ fs) x rest last =
       | false ↦ λ last. cut_splits_from ends o (g ++ f ∷ []) fs x rest last
     ]) last
 
-pub cut_splits : (ends : Ends) (fs : List Frame) (x : Frame) (rest : List Frame) → ((h : List Frame) → last_or None (cut ends fs) ≡ Some h → closes ends h x ≡ true) → cut ends (fs ++ (x ∷ rest)) ≡ cut ends fs ++ cut ends (x ∷ rest)
+pub cut_splits : (ends : EndTest) (fs : List Frame) (x : Frame) (rest : List Frame) → ((h : List Frame) → last_or None (cut ends fs) ≡ Some h → closes ends h x ≡ true) → cut ends (fs ++ (x ∷ rest)) ≡ cut ends fs ++ cut ends (x ∷ rest)
 unfolding cut
 cut_splits ends [] x rest last = refl
 cut_splits ends (f ∷ fs) x rest last = cut_splits_from ends None (f ∷ []) fs x rest last
 
 -- the groups' first lines rise
-firsts_rise : (n : ℕ) (gs : List (List Frame)) → AllByRecursion IsGroup gs → RiseFrom n (joined gs) → Rise first n gs
+firsts_rise : (n : ℕ) (gs : List (List Frame)) → AllByRecursion IsGroup gs → RiseFrom n (all_frames gs) → Rise first n gs
 firsts_rise n [] some rise = tt
 firsts_rise n ([] ∷ gs) some rise = absurd (omega (arith, some.0))
 firsts_rise n ((f ∷ g) ∷ gs) some rise =
-    (rise.0, firsts_rise (f.line + 1) gs some.1 (rise-rest line_of (f.line + 1) g (joined gs) rise.1))
+    (rise.0, firsts_rise (f.line + 1) gs some.1 (rise-rest line_of (f.line + 1) g (all_frames gs) rise.1))
 
 -- The last group of the front of a cut, where it isn't complete, is broken where its window ends or the group after it begins.
-broken_among-at : (w : Rule) (n : ℕ) (a : List (List Frame)) (left g : List Frame) (later : List (List Frame)) → Rise first n (a ++ (left ∷ g ∷ later)) → complete left ≡ false
-    → broken_among w (first left) (min (first left + w.window) (first g)) (a ++ (left ∷ g ∷ later)) ≡ Some left
+broken_among-at : (w : Window) (n : ℕ) (a : List (List Frame)) (left g : List Frame) (later : List (List Frame)) → Rise first n (a ++ (left ∷ g ∷ later)) → complete left ≡ false
+    → broken_among w (first left) (min (first left + w.lines) (first g)) (a ++ (left ∷ g ∷ later)) ≡ Some left
 broken_among-at w n [] left g later rise c =
-    λ i. cond (not (c i) && (eq-eqb (first left) (first left) refl i && eq-eqb (min (first left + w.window) (first g)) (min (first left + w.window) (first g)) refl i)) (Some left) (broken_among w (first left) (min (first left + w.window) (first g)) (g ∷ later))
+    λ i. cond (not (c i) && (eq-eqb (first left) (first left) refl i && eq-eqb (min (first left + w.lines) (first g)) (min (first left + w.lines) (first g)) refl i)) (Some left) (broken_among w (first left) (min (first left + w.lines) (first g)) (g ∷ later))
 broken_among-at w n (h ∷ a) left g later rise c =
     let apart : first h + 1 ≤ first left = (rise-rest first (first h + 1) a (left ∷ g ∷ later) rise.1).0 in
     let other : (first h == first left) ≡ false = ne_eqb (first h) (first left) (λ same. omega (arith, same, apart)) in
-    (λ i. cond (not (complete h) && (other i && (broken_line w h (a ++ (left ∷ g ∷ later)) == min (first left + w.window) (first g)))) (Some h) (broken_among w (first left) (min (first left + w.window) (first g)) (a ++ (left ∷ g ∷ later))))
-    ∙ ap (λ b. cond b (Some h) (broken_among w (first left) (min (first left + w.window) (first g)) (a ++ (left ∷ g ∷ later)))) (and_right (not (complete h)) false refl)
+    (λ i. cond (not (complete h) && (other i && (broken_line w h (a ++ (left ∷ g ∷ later)) == min (first left + w.lines) (first g)))) (Some h) (broken_among w (first left) (min (first left + w.lines) (first g)) (a ++ (left ∷ g ∷ later))))
+    ∙ ap (λ b. cond b (Some h) (broken_among w (first left) (min (first left + w.lines) (first g)) (a ++ (left ∷ g ∷ later)))) (and_right (not (complete h)) false refl)
     ∙ broken_among-at w (first h + 1) a left g later rise.1 c
 
 -- a list that has a last item ends with it
@@ -93,7 +93,7 @@ given_among {Y} h y i a (suc n) l u e = by (a == i) refl (given_among h y i (a +
     by false t rest = there (h a) (rest (omega (arith, l, eqb-false a i t)) (omega (arith, u)) e)
 
 -- the group of a key's cut that begins at its first line, where it is broken at a line
-broken_where : (w : Rule) (fs : List Frame) (k : Key) (left : List Frame) (line : ℕ) → IsGroup left → AllByRecursion (StandsAt fs k) left → broken_among w (first left) line (cut (within w) (of_key k fs)) ≡ Some left
+broken_where : (w : Window) (fs : List Frame) (k : Key) (left : List Frame) (line : ℕ) → IsGroup left → AllByRecursion (StandsAt fs k) left → broken_among w (first left) line (cut (within w) (of_key k fs)) ≡ Some left
     → broken_begun w fs line (first left) ≡ Some (broken_of k left)
 broken_where w fs k [] line some stands is = absurd (omega (arith, some))
 broken_where w fs k (f ∷ left) line some stands is =
@@ -131,8 +131,8 @@ some-from [] some = absurd (omega (arith, some))
 some-from (f ∷ h) some = or_left _ _ (le-leb 0 f.number (omega arith))
 
 -- what stood open with a frame 0, was complete, or has waited too long ends before another frame 0
-ends_before : (w : Rule) (n : ℕ) (o : Option (List Frame)) (h : List Frame) (f : Frame) → IfSome o (IsUpTo n) → f.number ≡ 0 → n < f.line → IfSome (option_and_then incomplete o) (λ g. w.in_order ≡ false → n < first g + w.window → has_number 0 g ≡ true) → o ≡ Some h → closes (within w) h f ≡ true
-ends_before w n o h f up zeroth past open_has last = by_test (complete h) refl (subst (λ (v : Option (List Frame)). IfSome (option_and_then incomplete v) (λ g. w.in_order ≡ false → n < first g + w.window → has_number 0 g ≡ true)) last open_has)
+ends_before : (w : Window) (n : ℕ) (o : Option (List Frame)) (h : List Frame) (f : Frame) → IfSome o (IsUpTo n) → f.number ≡ 0 → n < f.line → IfSome (option_and_then incomplete o) (λ g. w.in_order ≡ false → n < first g + w.lines → has_number 0 g ≡ true) → o ≡ Some h → closes (within w) h f ≡ true
+ends_before w n o h f up zeroth past open_has last = by_test (complete h) refl (subst (λ (v : Option (List Frame)). IfSome (option_and_then incomplete v) (λ g. w.in_order ≡ false → n < first g + w.lines → has_number 0 g ≡ true)) last open_has)
   where
     is_up : IsUpTo n h
     is_up = subst (λ (v : Option (List Frame)). IfSome v (IsUpTo n)) last up
@@ -142,15 +142,15 @@ ends_before w n o h f up zeroth past open_has last = by_test (complete h) refl (
         let before : first h ≤ n = first-le n h is_up in
         and_from (nat_lt (first h) f.line) (has_from f.number h) (lt-ltb (first h) f.line (omega (arith, before, past))) (ap (λ m. has_from m h) zeroth ∙ some-from h is_up.nonempty)
 
-    by_time : (n < first h + w.window) ⊎ (first h + w.window ≤ n) → (n < first h + w.window → has_number 0 h ≡ true) → within w h f ≡ true
+    by_time : (n < first h + w.lines) ⊎ (first h + w.lines ≤ n) → (n < first h + w.lines → has_number 0 h ≡ true) → within w h f ≡ true
     by_time (inl l) has = or_left (misfits w h f) (is_late w h f) (or_left (repeats h f) (w.in_order && falls_back h f) (ap (λ n. has_number n h) zeroth ∙ has l))
-    by_time (inr l) has = or_right (misfits w h f) (is_late w h f) (le-leb (first h + w.window) f.line (omega (arith, l, past)))
+    by_time (inr l) has = or_right (misfits w h f) (is_late w h f) (le-leb (first h + w.lines) f.line (omega (arith, l, past)))
 
-    by_order : (b : Bool) → w.in_order ≡ b → (w.in_order ≡ false → n < first h + w.window → has_number 0 h ≡ true) → within w h f ≡ true
+    by_order : (b : Bool) → w.in_order ≡ b → (w.in_order ≡ false → n < first h + w.lines → has_number 0 h ≡ true) → within w h f ≡ true
     by_order true t has = or_left (misfits w h f) (is_late w h f) (or_right (repeats h f) (w.in_order && falls_back h f) (and_from w.in_order (falls_back h f) t falls))
-    by_order false t has = by_time (cases_lt n (first h + w.window)) (has t)
+    by_order false t has = by_time (cases_lt n (first h + w.lines)) (has t)
 
-    by_test : (b : Bool) → complete h ≡ b → IfSome (if b then None else Some h) (λ g. w.in_order ≡ false → n < first g + w.window → has_number 0 g ≡ true) → closes (within w) h f ≡ true
+    by_test : (b : Bool) → complete h ≡ b → IfSome (if b then None else Some h) (λ g. w.in_order ≡ false → n < first g + w.lines → has_number 0 g ≡ true) → closes (within w) h f ≡ true
     by_test true e has = or_left _ _ e
     by_test false e has = or_right _ _ (by_order w.in_order refl has)
 
@@ -163,11 +163,11 @@ next_past kind front back k f g next =
     let past = subst (AllByRecursion (λ (i : Frame). (1 + length front ≤ i.line) × (i.key ≡ k))) same (of_key-keeps (λ (i : Frame). 1 + length front ≤ i.line) k later (rise-least line_of (1 + length front) later (frames-rise kind (1 + length front) back))) in
     omega (arith, past.0.0)
 
--- what stands open has a frame 0, where the rule doesn't ask for the order of the numbers
-abbrev HasZero : Rule → (ℕ → Option Kind) → List Entry → Sending → Type 0
-HasZero w kind front x = IfSome (open_of (within w) (key_of_sending x) (frames kind front)) (λ last. w.in_order ≡ false → length front < first last + w.window → has_number 0 last ≡ true)
+-- what stands open has a frame 0, where the window isn't in order
+abbrev HasZero : Window → (ℕ → Option Kind) → List Entry → Sending → Type 0
+HasZero w kind front x = IfSome (open_of (within w) (key_of_sending x) (frames kind front)) (λ last. w.in_order ≡ false → length front < first last + w.lines → has_number 0 last ≡ true)
 
-heals_by : (w : Rule) (kind : ℕ → Option Kind) (front back : List Entry) (x : Sending) (group after : List Frame) → ComesNext w kind front back x group after → HasZero w kind front x → Heals w kind front back x group
+heals_by : (w : Window) (kind : ℕ → Option Kind) (front back : List Entry) (x : Sending) (group after : List Frame) → ComesNext w kind front back x group after → HasZero w kind front x → Heals w kind front back x group
 unfolding broken_with
 heals_by w kind front back x [] after comes left_open = absurd (let none : 0 ≡ last_piece x.message + 1 = rising-length 0 _ [] comes.rising in omega arith)
 heals_by w kind front back x (f ∷ g) after comes left_open =
@@ -177,7 +177,7 @@ heals_by w kind front back x (f ∷ g) after comes left_open =
     let pieces : AllByRecursion (IsPieceOf x) (f ∷ g) = recursion_from_All (IsPieceOf x) (f ∷ g) comes.each in
     let apart : has_twice (f ∷ g) ≡ false = rising-apart 0 _ (f ∷ g) comes.rising in
     let full : length (f ∷ g) ≡ last_piece x.message + 1 = rising-length 0 _ (f ∷ g) comes.rising in
-    let goes_on = goes_on-within w (last_piece x.message + 1) (f ∷ g) apart (λ _. comes.rising) (recursion_from_All (λ (i : Frame). i.line < first (f ∷ g) + w.window) (f ∷ g) comes.in_time) in
+    let goes_on = goes_on-within w (last_piece x.message + 1) (f ∷ g) apart (λ _. comes.rising) (recursion_from_All (λ (i : Frame). i.line < first (f ∷ g) + w.lines) (f ∷ g) comes.in_time) in
     let stretch : IsStretch (within w) (f ∷ g) = stretch_pieces (within w) x (f ∷ g) pieces apart full goes_on in
     let zeroth : f.number ≡ 0 = rising-first (last_piece x.message + 1) f g (omega arith) comes.rising in
     let gs = cut (within w) before ++ ((f ∷ g) ∷ cut (within w) after) in
@@ -186,7 +186,7 @@ heals_by w kind front back x (f ∷ g) after comes left_open =
     ∙ (cut_splits (within w) before f (g ++ after) (λ h last. ends_before w (length front) (last_or None (cut (within w) before)) h f (last-all (IsUpTo (length front)) None (cut (within w) before) tt (up_to (within w) (length front) k (frames kind front) (frames-log kind front))) zeroth (next_past kind front back k f (g ++ after) comes.next) left_open last)
     ∙ ap (λ l. cut (within w) before ++ l) (cut_stretch (within w) (f ∷ g) after stretch)) in
     let some : AllByRecursion IsGroup gs = subst (AllByRecursion IsGroup) cuts (cut-nonempty (within w) (of_key k (frames kind es))) in
-    let rise : RiseFrom 1 (joined gs) = subst (λ hs. RiseFrom 1 (joined hs)) cuts (subst (RiseFrom 1) (sym (cut-joined (within w) (of_key k (frames kind es)))) (key-rise kind es k)) in
+    let rise : RiseFrom 1 (all_frames gs) = subst (λ hs. RiseFrom 1 (all_frames hs)) cuts (subst (RiseFrom 1) (sym (cut-joined (within w) (of_key k (frames kind es)))) (key-rise kind es k)) in
     let done : IsDone gs (f ∷ g) = (all-back (IsDone gs) (cut (within w) before) ((f ∷ g) ∷ cut (within w) after) (done_found 1 gs some rise)).0 in
     let standing : AllByRecursion (StandsAt (frames kind es) k) (f ∷ g) =
     all-front (StandsAt (frames kind es) k) (f ∷ g) after (all-back (StandsAt (frames kind es) k) before ((f ∷ g) ++ after) (subst (AllByRecursion (StandsAt (frames kind es) k)) comes.next (stand kind es k))) in
@@ -195,15 +195,15 @@ heals_by w kind front back x (f ∷ g) after comes left_open =
     brings w kind es k x (f ∷ g) (record { stretch = record { pieces = record { each = comes.each; apart = apart }; whole = full }; goes_on = goes_on; stands = standing; found = ap (find (is_done_at (last_line (f ∷ g)))) cuts ∙ done stretch.whole }) in
     record {
       given = brought.given;
-      breaks = by_open (last_or None (cut (within w) before)) refl (firsts_rise 1 gs some rise) some all_stand (all-joined _ gs (rise-least line_of 1 (joined gs) rise)) cuts;
+      breaks = by_open (last_or None (cut (within w) before)) refl (firsts_rise 1 gs some rise) some all_stand (all-joined _ gs (rise-least line_of 1 (all_frames gs) rise)) cuts;
     }
   where
     told : Option (List Frame) → Type 0
-    told o = IfSome o (λ left. Contains (broken w kind (front ++ back) (min (first left + w.window) f.line)) (broken_of (key_of_sending x) left))
+    told o = IfSome o (λ left. Contains (broken w kind (front ++ back) (min (first left + w.lines) f.line)) (broken_of (key_of_sending x) left))
 
     at_left : (left : List Frame) (b : List (List Frame)) (gs : List (List Frame)) → gs ≡ b ++ (left ∷ (f ∷ g) ∷ cut (within w) after) → complete left ≡ false → Rise first 1 gs → AllByRecursion IsGroup gs
         → AllByRecursion (AllByRecursion (StandsAt (frames kind (front ++ back)) (key_of_sending x))) gs → AllByRecursion (AllByRecursion (λ (i : Frame). 1 ≤ i.line)) gs → cut (within w) (of_key (key_of_sending x) (frames kind (front ++ back))) ≡ gs
-        → Contains (broken w kind (front ++ back) (min (first left + w.window) f.line)) (broken_of (key_of_sending x) left)
+        → Contains (broken w kind (front ++ back) (min (first left + w.lines) f.line)) (broken_of (key_of_sending x) left)
     at_left left b gs e c rise some stands lines cuts =
         let later = (f ∷ g) ∷ cut (within w) after in
         let rise' : Rise first 1 (b ++ (left ∷ later)) = subst (Rise first 1) e rise in
@@ -212,10 +212,10 @@ heals_by w kind front back x (f ∷ g) after comes left_open =
         let lines' : AllByRecursion (λ (i : Frame). 1 ≤ i.line) left = (all-back (AllByRecursion (λ (i : Frame). 1 ≤ i.line)) b (left ∷ later) (subst (AllByRecursion (AllByRecursion (λ (i : Frame). 1 ≤ i.line))) e lines)).0 in
         let from : 1 ≤ first left = first_above 1 left some' lines' in
         let before : first left + 1 ≤ f.line = (rise-rest first 1 b (left ∷ (f ∷ g) ∷ cut (within w) after) rise').1.0 in
-        let up_to : first left < 1 + min (first left + w.window) f.line = omega (arith, before) in
-        given_among (broken_begun w (frames kind (front ++ back)) (min (first left + w.window) f.line)) (broken_of (key_of_sending x) left) (first left) 1 (min (first left + w.window) f.line) from up_to
-        (broken_where w (frames kind (front ++ back)) (key_of_sending x) left (min (first left + w.window) f.line) some' stands'
-        (ap (broken_among w (first left) (min (first left + w.window) f.line)) (cuts ∙ e) ∙ broken_among-at w 1 b left (f ∷ g) (cut (within w) after) rise' c))
+        let up_to : first left < 1 + min (first left + w.lines) f.line = omega (arith, before) in
+        given_among (broken_begun w (frames kind (front ++ back)) (min (first left + w.lines) f.line)) (broken_of (key_of_sending x) left) (first left) 1 (min (first left + w.lines) f.line) from up_to
+        (broken_where w (frames kind (front ++ back)) (key_of_sending x) left (min (first left + w.lines) f.line) some' stands'
+        (ap (broken_among w (first left) (min (first left + w.lines) f.line)) (cuts ∙ e) ∙ broken_among-at w 1 b left (f ∷ g) (cut (within w) after) rise' c))
 
     by_open : (o : Option (List Frame)) → last_or None (cut (within w) (of_key (key_of_sending x) (frames kind front))) ≡ o
         → Rise first 1 (cut (within w) (of_key (key_of_sending x) (frames kind front)) ++ ((f ∷ g) ∷ cut (within w) after))
@@ -234,17 +234,17 @@ heals_by w kind front back x (f ∷ g) after comes left_open =
             at_left left ew.0 (cut (within w) (of_key (key_of_sending x) (frames kind front)) ++ ((f ∷ g) ∷ cut (within w) after))
             (ap (λ hs. hs ++ ((f ∷ g) ∷ cut (within w) after)) ew.1 ∙ append_assoc ew.0 (left ∷ []) ((f ∷ g) ∷ cut (within w) after)) c rise some stands lines cuts
 
-pub heals : (w : Rule) (kind : ℕ → Option Kind) (front back : List Entry) (x : Sending) (group after : List Frame) → ComesNext w kind front back x group after → LeavesZero w kind front x → Heals w kind front back x group
+pub heals : (w : Window) (kind : ℕ → Option Kind) (front back : List Entry) (x : Sending) (group after : List Frame) → ComesNext w kind front back x group after → LeavesZero w kind front x → Heals w kind front back x group
 heals w kind front back x group after comes has = heals_by w kind front back x group after comes (by (open_of (within w) (key_of_sending x) (frames kind front)) has)
   where
-    by : (o : Option (List Frame)) → IfSome o (λ last. length front < first last + w.window → has_number 0 last ≡ true) → IfSome o (λ last. w.in_order ≡ false → length front < first last + w.window → has_number 0 last ≡ true)
+    by : (o : Option (List Frame)) → IfSome o (λ last. length front < first last + w.lines → has_number 0 last ≡ true) → IfSome o (λ last. w.in_order ≡ false → length front < first last + w.lines → has_number 0 last ≡ true)
     by None h = tt
     by (Some g) h = λ e. h
 
--- with a rule that asks for the order nothing is asked of what stands open
-pub heals_in_order : (w : Rule) (kind : ℕ → Option Kind) (front back : List Entry) (x : Sending) (group after : List Frame) → w.in_order ≡ true → ComesNext w kind front back x group after → Heals w kind front back x group
+-- with a window in order what is open may be anything
+pub heals_in_order : (w : Window) (kind : ℕ → Option Kind) (front back : List Entry) (x : Sending) (group after : List Frame) → w.in_order ≡ true → ComesNext w kind front back x group after → Heals w kind front back x group
 heals_in_order w kind front back x group after order comes = heals_by w kind front back x group after comes (by (open_of (within w) (key_of_sending x) (frames kind front)))
   where
-    by : (o : Option (List Frame)) → IfSome o (λ last. w.in_order ≡ false → length front < first last + w.window → has_number 0 last ≡ true)
+    by : (o : Option (List Frame)) → IfSome o (λ last. w.in_order ≡ false → length front < first last + w.lines → has_number 0 last ≡ true)
     by None = tt
     by (Some g) = λ e. absurd (true≢false (sym order ∙ e))

@@ -9,7 +9,7 @@ use Rattle.std.specs.List.{AllByRecursion, range_with_len, filter_map}
 use Rattle.std.proofs.lemmas.List.{map-append, length-map, length-reverse}
 use Rattle.std.proofs.lemmas.Bool.{eqb-true, eq-eqb, ne_eqb, or_from, cases_lt, false≢true, or_left}
 use Rattle.n2k_join.specs.Frames.{Key, Frame, most_frames}
-use Rattle.n2k_join.specs.Groups.{Ends, complete, carried, has_number, has_twice, first}
+use Rattle.n2k_join.specs.Groups.{EndTest, complete, carried, has_number, has_twice, first}
 use Rattle.n2k_join.specs.Open.{Piece, Group, piece_at, pieces_of, group_of}
 use Rattle.n2k_join.specs.State.{held_frame, held_of, Rise, IsOpen}
 use Rattle.n2k_join.proofs.Cuts.{next, so_far, so_far-push, IsEnding}
@@ -190,7 +190,7 @@ group_of-held o is = λ i. record {
   pieces = pieces-held o o.pieces is.rise is.numbers i;
 }
 
-module _ (ends : Ends) (is_ending : IsEnding ends) where
+module _ (ends : EndTest) (is_ending : IsEnding ends) where
   so_far-pieces : (o : Group) (least : ℕ) (p : Piece) (ps : List Piece) → Rise number_of least (p ∷ ps) → so_far ends (held_frames o (p ∷ ps)) ≡ Some (held_frames o (p ∷ ps))
   unfolding so_far
   so_far-pieces o least p [] r = refl

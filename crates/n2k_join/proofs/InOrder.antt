@@ -1,4 +1,4 @@
--- With a rule that asks for the order of the numbers each complete group is of consecutive frames.
+-- With a window in order each complete group is of consecutive frames.
 use Rattle.std.proofs.Common.{◌≡◌, ◌==◌, ℕ, zero, suc, ◌+◌, ◌<◌, ◌≤◌, ◌&&◌, Bool, true, false, cond, not, List, [], ◌∷◌, ◌++◌, length, map, refl, sym, ap, ◌∙◌, subst, arith, append_assoc, nat_le, Option, Some}
 use Rattle.std.specs.Prelude.{nat_lt, find, is_some}
 use Rattle.std.specs.List.{range_with_len, AllByRecursion}
@@ -11,10 +11,10 @@ use Rattle.n2k_table.specs.declared.definition.Kind.{Kind}
 use Rattle.n2k_join.specs.Frames.{Key, Frame, frames, of_key, frame_at}
 use Rattle.n2k_join.specs.Groups.{carried, has_number, has_twice, has_all, is_within, last_number, total, complete, first, last_line, repeats, has_from, falls_back, misfits, is_late, within, closes, cut_from, cut}
 use Rattle.n2k_join.specs.Messages.{Keyed, message_of, is_done_at, gathered_by, gathered}
-use Rattle.n2k_join.specs.Scattered.{joined}
+use Rattle.n2k_join.specs.Scattered.{all_frames}
 use Rattle.n2k_join.specs.State.{Rise}
 use Rattle.n2k_join.specs.Consecutive.{AreConsecutive, GroupsConsecutive, ComesOfConsecutive}
-use Rattle.n2k_join.specs.Window.{Rule}
+use Rattle.n2k_join.specs.Window.{Window}
 use Rattle.n2k_join.proofs.Arriving.{key-rise, StandsAt, stand}
 use Rattle.n2k_join.proofs.Lines.{RiseFrom, line_of}
 use Rattle.n2k_join.proofs.GroupLines.{last_frame, IsGroup}
@@ -40,29 +40,29 @@ first-before n (f ∷ g) x rest some r =
     let past : f.line + 1 ≤ x.line = (rise-rest line_of (f.line + 1) g (x ∷ rest) r.1).0 in
     omega (arith, past)
 
-module _ (rule : Rule) (order : rule.in_order ≡ true) where
+module _ (w : Window) (order : w.in_order ≡ true) where
   -- what joins a group is above all of its numbers
-  fits : (g : List Frame) (x : Frame) → first g < x.line → closes (within rule) g x ≡ false → has_from x.number g ≡ false
+  fits : (g : List Frame) (x : Frame) → first g < x.line → closes (within w) g x ≡ false → has_from x.number g ≡ false
   fits g x l e =
-      let misfit : misfits rule g x ≡ false = (or_parts (misfits rule g x) (is_late rule g x) (or_parts (complete g) (within rule g x) e).1).0 in
-      let back : (rule.in_order && falls_back g x) ≡ false = (or_parts (repeats g x) (rule.in_order && falls_back g x) misfit).1 in
+      let misfit : misfits w g x ≡ false = (or_parts (misfits w g x) (is_late w g x) (or_parts (complete g) (within w g x) e).1).0 in
+      let back : (w.in_order && falls_back g x) ≡ false = (or_parts (repeats g x) (w.in_order && falls_back g x) misfit).1 in
       let both : (nat_lt (first g) x.line && has_from x.number g) ≡ false = ap (λ b. b && falls_back g x) (sym order) ∙ back in
       ap (λ b. b && has_from x.number g) (sym (lt-ltb (first g) x.line l)) ∙ both
 
-  cut_from-numbers : (n : ℕ) (g fs : List Frame) → 0 < length g → Numbers 0 g → RiseFrom n (g ++ fs) → AllByRecursion (Numbers 0) (cut_from (within rule) g fs)
+  cut_from-numbers : (n : ℕ) (g fs : List Frame) → 0 < length g → Numbers 0 g → RiseFrom n (g ++ fs) → AllByRecursion (Numbers 0) (cut_from (within w) g fs)
   cut_from-numbers n g [] some r lines = (r, tt)
   cut_from-numbers n g (f ∷ fs) some r lines =
-      by (closes (within rule) g f) refl
+      by (closes (within w) g f) refl
       (cut_from-numbers n (f ∷ []) fs (omega arith) (omega arith, tt) (rise-rest line_of n g (f ∷ fs) lines))
       (λ h. cut_from-numbers n (g ++ f ∷ []) fs (omega (arith, length-append g (f ∷ []))) h (subst (RiseFrom n) (sym (append_assoc g (f ∷ []) fs)) lines))
     where
-      by : (b : Bool) → closes (within rule) g f ≡ b → AllByRecursion (Numbers 0) (cut_from (within rule) (f ∷ []) fs) → (Numbers 0 (g ++ f ∷ []) → AllByRecursion (Numbers 0) (cut_from (within rule) (g ++ f ∷ []) fs))
-          → AllByRecursion (Numbers 0) (cond b (g ∷ cut_from (within rule) (f ∷ []) fs) (cut_from (within rule) (g ++ f ∷ []) fs))
+      by : (b : Bool) → closes (within w) g f ≡ b → AllByRecursion (Numbers 0) (cut_from (within w) (f ∷ []) fs) → (Numbers 0 (g ++ f ∷ []) → AllByRecursion (Numbers 0) (cut_from (within w) (g ++ f ∷ []) fs))
+          → AllByRecursion (Numbers 0) (cond b (g ∷ cut_from (within w) (f ∷ []) fs) (cut_from (within w) (g ++ f ∷ []) fs))
       by true e ended grown = (r, ended)
       by false e ended grown = grown (numbers-push 0 g f r (omega arith) (fits g f (first-before n g f fs some lines) e))
 
   -- the numbers of each group rise
-  cut-numbers : (n : ℕ) (fs : List Frame) → RiseFrom n fs → AllByRecursion (Numbers 0) (cut (within rule) fs)
+  cut-numbers : (n : ℕ) (fs : List Frame) → RiseFrom n fs → AllByRecursion (Numbers 0) (cut (within w) fs)
   unfolding cut
   cut-numbers n [] r = tt
   cut-numbers n (f ∷ fs) r = cut_from-numbers n (f ∷ []) fs (omega arith) (omega arith, tt) r
@@ -116,22 +116,22 @@ record StandsIn (fs g : List Frame) : Type 0 where
   after : List Frame
   is : fs ≡ before ++ (g ++ after)
 
-in_places : (fs before : List Frame) (gs : List (List Frame)) → fs ≡ before ++ joined gs → AllByRecursion (StandsIn fs) gs
+in_places : (fs before : List Frame) (gs : List (List Frame)) → fs ≡ before ++ all_frames gs → AllByRecursion (StandsIn fs) gs
 in_places fs before [] e = tt
-in_places fs before (g ∷ gs) e = (record { before = before; after = joined gs; is = e }, in_places fs (before ++ g) gs (e ∙ sym (append_assoc before g (joined gs))))
+in_places fs before (g ∷ gs) e = (record { before = before; after = all_frames gs; is = e }, in_places fs (before ++ g) gs (e ∙ sym (append_assoc before g (all_frames gs))))
 
 abbrev Whole : Key → List Frame → List Frame → Type 0
 Whole key fs g = complete g ≡ true → AreConsecutive key fs g
 
-all_whole : (rule : Rule) → rule.in_order ≡ true → (kind : ℕ → Option Kind) (es : List Entry) (key : Key) → AllByRecursion (Whole key (frames kind es)) (cut (within rule) (of_key key (frames kind es)))
-all_whole rule order kind es key =
+all_whole : (w : Window) → w.in_order ≡ true → (kind : ℕ → Option Kind) (es : List Entry) (key : Key) → AllByRecursion (Whole key (frames kind es)) (cut (within w) (of_key key (frames kind es)))
+all_whole w order kind es key =
     let fs = of_key key (frames kind es) in
     all_with (StandsIn fs) (Numbers 0) (Whole key (frames kind es))
     (λ g place numbers done. record { before = place.before; after = place.after; together = place.is; in_order = whole-range g numbers done })
-    (cut (within rule) fs) (in_places fs [] (cut (within rule) fs) (sym (cut-joined (within rule) fs))) (cut-numbers rule order 1 fs (key-rise kind es key))
+    (cut (within w) fs) (in_places fs [] (cut (within w) fs) (sym (cut-joined (within w) fs))) (cut-numbers w order 1 fs (key-rise kind es key))
 
-pub groups_consecutive : (rule : Rule) → rule.in_order ≡ true → (kind : ℕ → Option Kind) (es : List Entry) (key : Key) → GroupsConsecutive rule kind es key
-groups_consecutive rule order kind es key = All-from_recursion (Whole key (frames kind es)) (cut (within rule) (of_key key (frames kind es))) (all_whole rule order kind es key)
+pub groups_consecutive : (w : Window) → w.in_order ≡ true → (kind : ℕ → Option Kind) (es : List Entry) (key : Key) → GroupsConsecutive w kind es key
+groups_consecutive w order kind es key = All-from_recursion (Whole key (frames kind es)) (cut (within w) (of_key key (frames kind es))) (all_whole w order kind es key)
 
 -- ---- the message of a group
 
@@ -152,18 +152,18 @@ ends-at kind es key g f is some found =
     (end.before, end.is ∙ ap (λ l. end.before ++ l ∷ []) same)
 
 -- each message that a group gives is of one
-pub comes_of_consecutive : (rule : Rule) → rule.in_order ≡ true → (kind : ℕ → Option Kind) (es : List Entry) (line : ℕ) (m : Keyed) → gathered (within rule) (frames kind es) line ≡ Some m → ComesOfConsecutive kind es line m
+pub comes_of_consecutive : (w : Window) → w.in_order ≡ true → (kind : ℕ → Option Kind) (es : List Entry) (line : ℕ) (m : Keyed) → gathered (within w) (frames kind es) line ≡ Some m → ComesOfConsecutive kind es line m
 unfolding gathered
-comes_of_consecutive rule order kind es line m e =
+comes_of_consecutive w order kind es line m e =
     let fs = frames kind es in
-    option_and_then_some (gathered_by (within rule) fs) (frame_at line fs) m e (λ f stands gathers.
+    option_and_then_some (gathered_by (within w) fs) (frame_at line fs) m e (λ f stands gathers.
     option_map_some (λ (group : List Frame). let k : Keyed = record { key = f.key; message = message_of f group } in k)
-    (find (is_done_at f.line) (cut (within rule) (of_key f.key fs))) m gathers (λ g found is.
-    let gs = cut (within rule) (of_key f.key fs) in
+    (find (is_done_at f.line) (cut (within w) (of_key f.key fs))) m gathers (λ g found is.
+    let gs = cut (within w) (of_key f.key fs) in
     let at : f.line ≡ line = eqb-true f.line line (find-passes (λ (g : Frame). g.line == line) fs f stands) in
     let done = and_parts (complete g) (last_line g == f.line) (find-passes (is_done_at f.line) gs g found) in
     let one : AreConsecutive f.key fs g =
-    find-all (Whole f.key fs) (is_done_at f.line) gs g (all_whole rule order kind es f.key) found done.0 in
+    find-all (Whole f.key fs) (is_done_at f.line) gs g (all_whole w order kind es f.key) found done.0 in
     let there : last_line g ≡ line = eqb-true (last_line g) f.line done.1 ∙ at in
     let ends = ends-at kind es f.key g f one (whole-group g done.0) (ap (λ l. frame_at l fs) there ∙ stands) in
     record {

@@ -15,10 +15,10 @@ use Rattle.n2k_join.specs.Groups.{complete, has_number, data_of}
 use Rattle.n2k_join.specs.Messages.{message_of}
 use Rattle.n2k_join.specs.Open.{Group, pieces_of, group_of}
 use Rattle.n2k_join.specs.State.{held_frame, held_of, IsOpen, AreApart}
-use Rattle.n2k_join.specs.Inner.Stored.{bars, key_of, piece_of, with_frame, of_the_key, begun, groups_after, gained, lost}
+use Rattle.n2k_join.specs.Inner.Stored.{rejects, key_of, piece_of, with_frame, of_the_key, begun, groups_after, gained, lost}
 use Rattle.n2k_join.specs.Inner.Slots.{slot_of, group_in, group_at, groups_in}
 use Rattle.n2k_join.proofs.SlotLemmas.{carried-slots}
-use Rattle.n2k_join.proofs.JoinLemmas.{position-None, none_at_all, groups-begun, at_place, found-place, key-place, with_piece, complete-with_frame, joins-done, joins-left, after-repeats, data_of-with_frame, bars-missing, broken-held, message-begun, gained-at, lost-at}
+use Rattle.n2k_join.proofs.JoinLemmas.{position-None, none_at_all, groups-begun, at_place, found-place, key-place, with_piece, complete-with_frame, joins-done, joins-left, after-repeats, data_of-with_frame, rejects-missing, broken-held, message-begun, gained-at, lost-at}
 use Rattle.std.proofs.lemmas.List.Edits.{insert_end, length-remove}
 use Rattle.std.proofs.lemmas.List.Elements.{All-get_or, All-from_recursion}
 use Rattle.n2k_join.proofs.Rising.{none_from}
@@ -138,25 +138,25 @@ module _ (order : Bool) (x : Frame) (es : List (FrameKey × OpenGroup)) (i : ℕ
   length-there = omega (arith, (at_place order x (groups_in es) i there apart place stands).0, length-map es group_at)
 
   -- a number for which there is a place has an empty slot
-  pub has_place : IfSome (of_the_key x.key (groups_in es)) (λ (o : Group). bars order x.number o ≡ false) → bars order x.number (group_at (at.key, v)) ≡ false
-  has_place free = subst (λ o. IfSome o (λ (g : Group). bars order x.number g ≡ false)) found-there free
+  pub has_place : IfSome (of_the_key x.key (groups_in es)) (λ (o : Group). rejects order x.number o ≡ false) → rejects order x.number (group_at (at.key, v)) ≡ false
+  has_place free = subst (λ o. IfSome o (λ (g : Group). rejects order x.number g ≡ false)) found-there free
 
-  pub empty : x.number < most_frames → bars order x.number (group_at (at.key, v)) ≡ false → slot_of v x.number ≡ None
+  pub empty : x.number < most_frames → rejects order x.number (group_at (at.key, v)) ≡ false → slot_of v x.number ≡ None
   empty small free =
       none_from (slot_of v x.number)
-      (sym (ap is_some (carried-slots (key_of at.key) v x.number small)) ∙ bars-missing order x.number there free)
+      (sym (ap is_some (carried-slots (key_of at.key) v x.number small)) ∙ rejects-missing order x.number there free)
 
   -- what it says is what the group of the key says
-  pub there-bars : (b : Bool) → bars order x.number (group_at (at.key, v)) ≡ b → IfSome (of_the_key x.key (groups_in es)) (λ (o : Group). bars order x.number o ≡ b)
-  there-bars b e = subst (λ o. IfSome o (λ (g : Group). bars order x.number g ≡ b)) (sym found-there) e
+  pub there-rejects : (b : Bool) → rejects order x.number (group_at (at.key, v)) ≡ b → IfSome (of_the_key x.key (groups_in es)) (λ (o : Group). rejects order x.number o ≡ b)
+  there-rejects b e = subst (λ o. IfSome o (λ (g : Group). rejects order x.number g ≡ b)) (sym found-there) e
 
-  pub none-lost : bars order x.number (group_at (at.key, v)) ≡ false → None ≡ lost order x (of_the_key x.key (groups_in es))
+  pub none-lost : rejects order x.number (group_at (at.key, v)) ≡ false → None ≡ lost order x (of_the_key x.key (groups_in es))
   none-lost e = sym (lost-at order x (groups_in es) i there apart place stands false e)
 
   -- A frame for which it has no place ends it, and the group that the frame begins goes last, or gives its message.
-  module _ (w : OpenGroup) (barred : IfSome (of_the_key x.key (groups_in es)) (λ (o : Group). bars order x.number o ≡ true)) (small : x.number < most_frames) (is : group_in (key_of at.key) w ≡ group_of x.key (x ∷ [])) where
-    ends_it : bars order x.number (group_at (at.key, v)) ≡ true
-    ends_it = subst (λ o. IfSome o (λ (g : Group). bars order x.number g ≡ true)) found-there barred
+  module _ (w : OpenGroup) (barred : IfSome (of_the_key x.key (groups_in es)) (λ (o : Group). rejects order x.number o ≡ true)) (small : x.number < most_frames) (is : group_in (key_of at.key) w ≡ group_of x.key (x ∷ [])) where
+    ends_it : rejects order x.number (group_at (at.key, v)) ≡ true
+    ends_it = subst (λ o. IfSome o (λ (g : Group). rejects order x.number g ≡ true)) found-there barred
 
     after : groups_after order (groups_in es) x ≡ (take i (groups_in es) ++ drop (i + 1) (groups_in es)) ++ option_to_list (begun x)
     after = after-repeats order x (groups_in es) i there apart place stands ends_it
@@ -198,10 +198,10 @@ module _ (order : Bool) (x : Frame) (es : List (FrameKey × OpenGroup)) (i : ℕ
         ∙ sym after
 
   module _ (w : OpenGroup) (p : StoredPiece) (fit : AllByRecursion IsOpen (groups_in es)) (small : x.number < most_frames) (number : p.number ≡ x.number) (bytes : p.bytes ≡ x.bytes)
-      (free : bars order x.number (group_at (at.key, v)) ≡ false)
+      (free : rejects order x.number (group_at (at.key, v)) ≡ false)
       (taken : group_at (at.key, w) ≡ record (group_at (at.key, v)) { pieces = pieces_of (held_of (group_at (at.key, v)) ++ held_frame (group_at (at.key, v)) (piece_of p) ∷ []) }) where
     missing : has_number x.number (held_of (group_at (at.key, v))) ≡ false
-    missing = bars-missing order x.number there free
+    missing = rejects-missing order x.number there free
 
     pub grown : group_at (at.key, w) ≡ with_frame (group_at (at.key, v)) x
     grown = taken ∙ (λ j. record there { pieces = pieces_of (held_of there ++ held_frame there (record { number = number j; bytes = bytes j }) ∷ []) }) ∙ with_piece there x

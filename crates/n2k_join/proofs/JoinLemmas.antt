@@ -7,12 +7,12 @@ use Rattle.std.proofs.lemmas.Bool.{ltb-false, false≢true, false_from_ne_true}
 use Rattle.std.proofs.lemmas.List.{append-nil, take-set, drop-set-lt, set_split}
 use Rattle.std.proofs.lemmas.List.Quantifiers.{position-Some}
 use Rattle.std.proofs.lemmas.Option.{none-some, cond_some, slice_get_read}
-use Rattle.n2k_join.specs.Messages.{broken_of, told_of}
+use Rattle.n2k_join.specs.Messages.{broken_of, as_broken}
 use Rattle.n2k_join.specs.Frames.{Key, same_key, Frame, most_frames}
 use Rattle.n2k_join.specs.Groups.{complete, has_number, data_of, first}
 use Rattle.n2k_join.specs.Open.{Piece, Group, pieces_of, group_of}
 use Rattle.n2k_join.specs.State.{held_frame, held_of, IsOpen, AreApart}
-use Rattle.n2k_join.specs.Inner.Stored.{bars, with_frame, joined, taken, begun, of_the_key, opened, groups_after, message_if, gained, lost}
+use Rattle.n2k_join.specs.Inner.Stored.{rejects, with_frame, joined, taken, begun, of_the_key, opened, groups_after, message_if, gained, lost}
 use Rattle.n2k_join.proofs.Carried.{carried-append, has_twice-push, data_of-same, pieces_of-same}
 use Rattle.n2k_join.proofs.Cuts.{has-from}
 use Rattle.n2k_join.proofs.Held.{carried-kept, has_twice-held, length-held, all-held, all-reverse, first-held}
@@ -142,17 +142,17 @@ module _ (order : Bool) (x : Frame) (gs : List Group) (i : ℕ) (o : Group) (apa
   after-place = ap (λ hs. hs ++ option_to_list (opened order x (of_the_key x.key gs))) taken-place ∙ ap (λ (p : Option Group). (take i gs ++ (option_to_list (joined order x o) ++ drop (suc i) gs)) ++ option_to_list (opened order x p)) found-place
 
   -- what the frame gains and breaks, by whether the group has no place for it
-  pub gained-at : (b : Bool) → bars order x.number o ≡ b
+  pub gained-at : (b : Bool) → rejects order x.number o ≡ b
       → gained order x (of_the_key x.key gs) ≡ cond b (message_if x (x ∷ [])) (message_if x (held_of o ++ x ∷ []))
   gained-at b is =
       ap (gained order x) found-place ∙ ap (λ b. cond b (message_if x (x ∷ [])) (message_if x (held_of o ++ x ∷ []))) is
 
-  pub lost-at : (b : Bool) → bars order x.number o ≡ b
+  pub lost-at : (b : Bool) → rejects order x.number o ≡ b
       → lost order x (of_the_key x.key gs) ≡ cond b (Some (broken_of x.key (held_of o))) None
   lost-at b is = ap (lost order x) found-place ∙ ap (λ b. cond b (Some (broken_of x.key (held_of o))) None) is
 
   -- the group has a place for it: the frame joins it
-  module _ (missing : bars order x.number o ≡ false) where
+  module _ (missing : rejects order x.number o ≡ false) where
     after-joins : groups_after order gs x ≡ take i gs ++ (option_to_list (cond (complete (held_of o ++ x ∷ [])) None (Some (with_frame o x))) ++ drop (suc i) gs)
     after-joins =
         after-place
@@ -176,7 +176,7 @@ module _ (order : Bool) (x : Frame) (gs : List Group) (i : ℕ) (o : Group) (apa
         ∙ sym after-joins
 
   -- the group has none: the frame breaks it
-  module _ (there : bars order x.number o ≡ true) where
+  module _ (there : rejects order x.number o ≡ true) where
     pub after-repeats : groups_after order gs x ≡ (take i gs ++ drop (i + 1) gs) ++ option_to_list (begun x)
     after-repeats =
         let suc_is : suc i ≡ i + 1 = omega arith in
@@ -185,12 +185,12 @@ module _ (order : Bool) (x : Frame) (gs : List Group) (i : ℕ) (o : Group) (apa
         ∙ ap (λ j. (take i gs ++ drop j gs) ++ option_to_list (begun x)) suc_is
 
 -- a group that has a place for a number lacks it
-pub bars-missing : (order : Bool) (n : ℕ) (o : Group) → bars order n o ≡ false → has_number n (held_of o) ≡ false
-bars-missing false n o e = e
-bars-missing true n o e = false_from_ne_true (has_number n (held_of o)) (λ h. false≢true (sym e ∙ has-from n n (held_of o) (omega arith) h))
+pub rejects-missing : (order : Bool) (n : ℕ) (o : Group) → rejects order n o ≡ false → has_number n (held_of o) ≡ false
+rejects-missing false n o e = e
+rejects-missing true n o e = false_from_ne_true (has_number n (held_of o)) (λ h. false≢true (sym e ∙ has-from n n (held_of o) (omega arith) h))
 
 -- what is told of an open group
-pub broken-held : (o : Group) (key : Key) → IsOpen o → key ≡ o.key → told_of o ≡ broken_of key (held_of o)
+pub broken-held : (o : Group) (key : Key) → IsOpen o → key ≡ o.key → as_broken o ≡ broken_of key (held_of o)
 broken-held o key fit of =
     (λ i. record { pgn = o.key.pgn; src = o.key.src; dst = o.key.dst; seq = o.key.sequence; first = sym (first-held o o.pieces fit.nonempty) i })
     ∙ ap (λ (k : Key). broken_of k (held_of o)) (sym of)

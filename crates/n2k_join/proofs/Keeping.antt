@@ -16,11 +16,11 @@ use Rattle.n2k_table.specs.declared.definition.Kind.{Kind}
 use Rattle.n2k_table.specs.declared.definition.Kind.TheVariants.{Single, Fast}
 use Rattle.n2k_join.specs.Counts.{most_lines}
 use Rattle.n2k_join.specs.Frames.{Key, Frame, most_frames, filler, has_total, is_fast_payload, frame_with, frame_in}
-use Rattle.n2k_join.specs.Groups.{Ends, within, carried}
+use Rattle.n2k_join.specs.Groups.{EndTest, within, carried}
 use Rattle.n2k_join.specs.Open.{Piece, Group, piece_at, pieces_of, begun_at, open_groups, is_waiting, waiting, ended}
-use Rattle.n2k_join.specs.Messages.{alone, single_by, whole_by, cause_in, fast_cause, told_of, is_unknown}
-use Rattle.n2k_join.specs.State.{State, state, Given, held_of, held, next_line, overdue, step_frames, step_given, step_groups, step_after, counted, one_if, AreCounts, IsKey, IsPiece, HasParts, Rise, AreOpen, IsState, AreFast, AreWaiting}
-use Rattle.n2k_join.specs.Window.{Rule, IsWindow}
+use Rattle.n2k_join.specs.Messages.{alone, single_by, whole_by, cause_in, fast_cause, as_broken, is_unknown}
+use Rattle.n2k_join.specs.State.{State, state, Given, held_of, held, next_line, overdue, step_frames, step_given, step_groups, step_after, counts_after, one_if, AreCounts, IsKey, IsPiece, HasParts, Rise, AreOpen, IsState, AreFast, AreWaiting}
+use Rattle.n2k_join.specs.Window.{Window, IsWindow}
 use Rattle.n2k_join.proofs.BrokenGroups.{told_if, breaks}
 use Rattle.n2k_join.proofs.Cuts.{IsEnding, so_far, within-ends}
 use Rattle.n2k_join.proofs.Lines.{frame_in-line, frame_of_packet}
@@ -111,7 +111,7 @@ key_part : (P : Key → Type 0) (k : Key) (g : List Frame) → AllByRecursion (�
 key_part P k [] all some = absurd (omega (arith, some))
 key_part P k (f ∷ g) all some = subst P all.0.1 all.0.0
 
-module _ (ends : Ends) (is_ending : IsEnding ends) where
+module _ (ends : EndTest) (is_ending : IsEnding ends) where
   begun_at-parts : (fs : List Frame) (i : ℕ) (o : Group) → AllByRecursion IsFramePart fs → begun_at ends fs i ≡ Some o → HasParts o
   begun_at-parts fs i o parts is =
       let begun = begun_group ends is_ending fs i o is in
@@ -196,7 +196,7 @@ pub record GivesOnce (kind : ℕ → Option Kind) (s : State) (e : Entry) (gives
   pub groups : length gives.broken + length leaves ≤ length s.groups + 1
 
 counted-kept : (kind : ℕ → Option Kind) (s : State) (e : Entry) (gives : Given) (leaves : List Group) → AreCounts s.counts → s.counts.held ≡ length s.groups → s.counts.lines < most_lines → GivesOnce kind s e gives leaves
-    → AreCounts (counted kind s.counts e gives (length leaves))
+    → AreCounts (counts_after kind s.counts e gives (length leaves))
 counted-kept kind s e gives leaves are held below once = record {
   lines = omega (arith, below);
   given = omega (arith, are.given, once.one);
@@ -204,7 +204,7 @@ counted-kept kind s e gives leaves are held below once = record {
 }
 
 module _ (kind : ℕ → Option Kind) (s : State) (e : Entry) (is : IsState s) where
-  window-some : 0 < s.rule.window
+  window-some : 0 < s.window.lines
   window-some = omega (arith, is.window.least)
 
   step-open : AreOpen s.counts.lines (kept s)
@@ -222,7 +222,7 @@ module _ (kind : ℕ → Option Kind) (s : State) (e : Entry) (is : IsState s) w
 
   kept-parts : AllByRecursion HasParts (kept s)
   unfolding waiting
-  kept-parts = all-filter HasParts (is_waiting s.rule (next_line s)) s.groups is.parts
+  kept-parts = all-filter HasParts (is_waiting s.window (next_line s)) s.groups is.parts
 
   step-parts : IsEntry e → AllByRecursion IsFramePart (step_frames kind s e)
   step-parts valid =
@@ -234,8 +234,8 @@ module _ (kind : ℕ → Option Kind) (s : State) (e : Entry) (is : IsState s) w
   unfolding step_after
   step-once = by (frame_in kind (next_line s) e) refl
     where
-      split : length (ended s.rule (next_line s) s.groups) + length (kept s) ≡ length s.groups
-      split = ended-counted s.rule window-some (next_line s) s.groups
+      split : length (ended s.window (next_line s) s.groups) + length (kept s) ≡ length s.groups
+      split = ended-counted s.window window-some (next_line s) s.groups
 
       both : (gives : Given) (leaves : List Group) → StepsTo kind s e gives leaves → GivesOnce kind s e gives leaves → GivesOnce kind s e (step_given kind s e) (step_groups kind s e)
       both gives leaves steps once = subst (λ gs. GivesOnce kind s e (step_given kind s e) gs) (ap (λ (t : State). t.groups) (sym steps.after)) (subst (λ g. GivesOnce kind s e g leaves) (sym steps.given) once)
@@ -243,16 +243,16 @@ module _ (kind : ℕ → Option Kind) (s : State) (e : Entry) (is : IsState s) w
       by : (o : Option Frame) → frame_in kind (next_line s) e ≡ o → GivesOnce kind s e (step_given kind s e) (step_groups kind s e)
       by None none = both _ _ (step-none kind s e window-some is.groups none) (record {
         one = one_of kind e;
-        groups = omega (arith, split, length-map (overdue s) told_of);
+        groups = omega (arith, split, length-map (overdue s) as_broken);
       })
       by (Some x) found = both _ _ (step-frame kind s e window-some is.groups x found) (record {
         one =
-            let message = one-le (is_some (frame_message s.rule x (kept s))) in
+            let message = one-le (is_some (frame_message s.window x (kept s))) in
             let unknown : one_if (is_unknown kind e) ≡ 0 = ap one_if (only_frame kind (next_line s) e x found).known in
             omega (arith, message, unknown);
         groups =
-            let wait : AllByRecursion (λ (g : Group). is_waiting s.rule x.line g ≡ true) (kept s) = subst (λ l. AllByRecursion (λ (g : Group). is_waiting s.rule l g ≡ true) (kept s)) (sym (only_frame kind (next_line s) e x found).line) (kept-wait kind s e window-some is.groups) in
-            omega (arith, split, length-map (overdue s) told_of, advanced-counted s.rule window-some x (kept s) step-open.each wait, length-append (map told_of (overdue s)) (filter_map (told_if s.rule window-some (breaks s.rule window-some x)) (kept s)));
+            let wait : AllByRecursion (λ (g : Group). is_waiting s.window x.line g ≡ true) (kept s) = subst (λ l. AllByRecursion (λ (g : Group). is_waiting s.window l g ≡ true) (kept s)) (sym (only_frame kind (next_line s) e x found).line) (kept-wait kind s e window-some is.groups) in
+            omega (arith, split, length-map (overdue s) as_broken, advanced-counted s.window window-some x (kept s) step-open.each wait, length-append (map as_broken (overdue s)) (filter_map (told_if s.window window-some (breaks s.window window-some x)) (kept s)));
       })
 
   -- after one more line the state is again one that a join can have
@@ -262,41 +262,41 @@ module _ (kind : ℕ → Option Kind) (s : State) (e : Entry) (is : IsState s) w
     window = is.window;
     counted = counted-kept kind s e (step_given kind s e) (step_groups kind s e) is.counted is.held below step-once;
     held = refl;
-    groups = open_within-open s.rule (next_line s) window-some (step_frames kind s e) step-log;
-    parts = all-filter HasParts (is_waiting s.rule (next_line s)) (open_groups (within s.rule) (next_line s) (step_frames kind s e))
-        (open_groups-parts (within s.rule) (within-ends s.rule window-some) (next_line s) (step_frames kind s e) (step-parts valid));
+    groups = open_within-open s.window (next_line s) window-some (step_frames kind s e) step-log;
+    parts = all-filter HasParts (is_waiting s.window (next_line s)) (open_groups (within s.window) (next_line s) (step_frames kind s e))
+        (open_groups-parts (within s.window) (within-ends s.window window-some) (next_line s) (step_frames kind s e) (step-parts valid));
   }
 
 -- and no group's window has ended
 pub step-waits : (kind : ℕ → Option Kind) (s : State) (e : Entry) → AreWaiting (step_after kind s e)
 unfolding step_after
 step-waits kind s e =
-    all-map (λ (g : Group). is_waiting s.rule (next_line s) g ≡ true) (λ (g : Group). next_line s < g.first + s.rule.window) (step_groups kind s e) (λ g w. ltb-true (next_line s) (g.first + s.rule.window) w)
-    (all-waiting s.rule (next_line s) (open_groups (within s.rule) (next_line s) (step_frames kind s e)))
+    all-map (λ (g : Group). is_waiting s.window (next_line s) g ≡ true) (λ (g : Group). next_line s < g.first + s.window.lines) (step_groups kind s e) (λ g w. ltb-true (next_line s) (g.first + s.window.lines) w)
+    (all-waiting s.window (next_line s) (open_groups (within s.window) (next_line s) (step_frames kind s e)))
 
 -- ---- how many groups are open
 
 -- Where no group's window has ended, no more groups are open than the window has lines: each began at a line of its own.
-pub few-open : (s : State) → IsState s → AreWaiting s → length s.groups ≤ s.rule.window
-few-open s is wait = by (cases_lt s.counts.lines s.rule.window)
+pub few-open : (s : State) → IsState s → AreWaiting s → length s.groups ≤ s.window.lines
+few-open s is wait = by (cases_lt s.counts.lines s.window.lines)
   where
     starts : (a b : ℕ) (gs : List Group) → Rise (λ (g : Group). g.first) b gs → AllByRecursion (λ (g : Group). a ≤ g.first) gs → Rise (λ (g : Group). g.first) a gs
     starts a b [] r all = tt
     starts a b (g ∷ gs) r all = (all.0, r.1)
 
-    by : (s.counts.lines < s.rule.window) ⊎ (s.rule.window ≤ s.counts.lines) → length s.groups ≤ s.rule.window
+    by : (s.counts.lines < s.window.lines) ⊎ (s.window.lines ≤ s.counts.lines) → length s.groups ≤ s.window.lines
     by (inl l) =
-        rise-few (λ (g : Group). g.first) 1 s.rule.window s.groups is.groups.rise
-        (all-map (λ (g : Group). g.first ≤ s.counts.lines) (λ (g : Group). g.first < 1 + s.rule.window) s.groups (λ g u. omega (arith, u, l)) is.groups.begun)
+        rise-few (λ (g : Group). g.first) 1 s.window.lines s.groups is.groups.rise
+        (all-map (λ (g : Group). g.first ≤ s.counts.lines) (λ (g : Group). g.first < 1 + s.window.lines) s.groups (λ g u. omega (arith, u, l)) is.groups.begun)
     by (inr l) =
-        let least = s.counts.lines - s.rule.window + 1 in
-        rise-few (λ (g : Group). g.first) least s.rule.window s.groups (starts least 1 s.groups is.groups.rise (all-map (λ (g : Group). s.counts.lines < g.first + s.rule.window) (λ (g : Group). least ≤ g.first) s.groups (λ g u. omega (arith, u, l)) wait))
-        (all-map (λ (g : Group). g.first ≤ s.counts.lines) (λ (g : Group). g.first < least + s.rule.window) s.groups (λ g u. omega (arith, u, l)) is.groups.begun)
+        let least = s.counts.lines - s.window.lines + 1 in
+        rise-few (λ (g : Group). g.first) least s.window.lines s.groups (starts least 1 s.groups is.groups.rise (all-map (λ (g : Group). s.counts.lines < g.first + s.window.lines) (λ (g : Group). least ≤ g.first) s.groups (λ g u. omega (arith, u, l)) wait))
+        (all-map (λ (g : Group). g.first ≤ s.counts.lines) (λ (g : Group). g.first < least + s.window.lines) s.groups (λ g u. omega (arith, u, l)) is.groups.begun)
 
 -- before the first line
-pub state-new : (id : List ℕ) (rule : Rule) (kind : ℕ → Option Kind) → IsWindow rule.window → IsState (state id rule kind [])
+pub state-new : (id : List ℕ) (w : Window) (kind : ℕ → Option Kind) → IsWindow w.lines → IsState (state id w kind [])
 unfolding open_groups waiting
-state-new id rule kind is = record {
+state-new id w kind is = record {
   window = is;
   counted = record { lines = omega arith; given = omega arith; broken = omega arith };
   held = refl;
@@ -305,14 +305,14 @@ state-new id rule kind is = record {
 }
 
 -- groups of fast PGNs stay such
-pub step-fast : (kind : ℕ → Option Kind) (s : State) (e : Entry) → 0 < s.rule.window → AreFast kind s.groups → AreFast kind (step_after kind s e).groups
+pub step-fast : (kind : ℕ → Option Kind) (s : State) (e : Entry) → 0 < s.window.lines → AreFast kind s.groups → AreFast kind (step_after kind s e).groups
 unfolding step_after waiting
 step-fast kind s e some fast =
-    all-filter (λ (g : Group). kind g.key.pgn ≡ Some Fast) (is_waiting s.rule (next_line s)) (open_groups (within s.rule) (next_line s) (step_frames kind s e))
-    (open_groups-keys (within s.rule) (within-ends s.rule some) (λ (k : Key). kind k.pgn ≡ Some Fast) (next_line s) (step_frames kind s e)
+    all-filter (λ (g : Group). kind g.key.pgn ≡ Some Fast) (is_waiting s.window (next_line s)) (open_groups (within s.window) (next_line s) (step_frames kind s e))
+    (open_groups-keys (within s.window) (within-ends s.window some) (λ (k : Key). kind k.pgn ≡ Some Fast) (next_line s) (step_frames kind s e)
     (all-append (λ (f : Frame). kind f.key.pgn ≡ Some Fast) (held (kept s)) (option_to_list (frame_in kind (next_line s) e))
     (all-flat_map (λ (f : Frame). kind f.key.pgn ≡ Some Fast) held_of (kept s) (all-map (λ (g : Group). kind g.key.pgn ≡ Some Fast) (λ (g : Group). AllByRecursion (λ (f : Frame). kind f.key.pgn ≡ Some Fast) (held_of g)) (kept s) (λ g k. held_of-any (λ (f : Frame). kind f.key.pgn ≡ Some Fast) g (λ p. k))
-    (all-filter (λ (g : Group). kind g.key.pgn ≡ Some Fast) (is_waiting s.rule (next_line s)) s.groups fast)))
+    (all-filter (λ (g : Group). kind g.key.pgn ≡ Some Fast) (is_waiting s.window (next_line s)) s.groups fast)))
     (all-option (λ (f : Frame). kind f.key.pgn ≡ Some Fast) (frame_in kind (next_line s) e)
     (frame_in-fast kind (next_line s) e))))
 
@@ -324,17 +324,17 @@ pub record IsLogState (kind : ℕ → Option Kind) (s : State) : Type 0 where
   pub fast : AreFast kind s.groups
   pub waits : AreWaiting s
 
-state-from : (id : List ℕ) (rule : Rule) (kind : ℕ → Option Kind) (front es : List Entry) → 0 < rule.window → IsLogState kind (state id rule kind front) → AllByRecursion IsEntry es → length front + length es ≤ most_lines → IsLogState kind (state id rule kind (front ++ es))
-state-from id rule kind front [] some so_far entries_valid few = subst (λ es. IsLogState kind (state id rule kind es)) (sym (append-nil front)) so_far
-state-from id rule kind front (e ∷ es) some so_far entries_valid few =
-    let next : IsLogState kind (state id rule kind (front ++ e ∷ [])) = subst (IsLogState kind) (after_longer rule some kind front e id) (record {
-      valid = step-keeps kind (state id rule kind front) e so_far.valid entries_valid.0 (omega (arith, few));
-      fast = step-fast kind (state id rule kind front) e some so_far.fast;
-      waits = step-waits kind (state id rule kind front) e;
+state-from : (id : List ℕ) (w : Window) (kind : ℕ → Option Kind) (front es : List Entry) → 0 < w.lines → IsLogState kind (state id w kind front) → AllByRecursion IsEntry es → length front + length es ≤ most_lines → IsLogState kind (state id w kind (front ++ es))
+state-from id w kind front [] some so_far entries_valid few = subst (λ es. IsLogState kind (state id w kind es)) (sym (append-nil front)) so_far
+state-from id w kind front (e ∷ es) some so_far entries_valid few =
+    let next : IsLogState kind (state id w kind (front ++ e ∷ [])) = subst (IsLogState kind) (after_longer w some kind front e id) (record {
+      valid = step-keeps kind (state id w kind front) e so_far.valid entries_valid.0 (omega (arith, few));
+      fast = step-fast kind (state id w kind front) e some so_far.fast;
+      waits = step-waits kind (state id w kind front) e;
     }) in
-    subst (λ es. IsLogState kind (state id rule kind es)) (append_assoc front (e ∷ []) es) (state-from id rule kind (front ++ e ∷ []) es some next entries_valid.1 (omega (arith, few, length-append front (e ∷ []))))
+    subst (λ es. IsLogState kind (state id w kind es)) (append_assoc front (e ∷ []) es) (state-from id w kind (front ++ e ∷ []) es some next entries_valid.1 (omega (arith, few, length-append front (e ∷ []))))
 
-pub state-valid : (id : List ℕ) (rule : Rule) (kind : ℕ → Option Kind) (es : List Entry) → IsWindow rule.window → AllByRecursion IsEntry es → length es ≤ most_lines → IsLogState kind (state id rule kind es)
+pub state-valid : (id : List ℕ) (w : Window) (kind : ℕ → Option Kind) (es : List Entry) → IsWindow w.lines → AllByRecursion IsEntry es → length es ≤ most_lines → IsLogState kind (state id w kind es)
 unfolding open_groups waiting
-state-valid id rule kind es is entries_valid few =
-    state-from id rule kind [] es (omega (arith, is.least)) (record { valid = state-new id rule kind is; fast = tt; waits = tt }) entries_valid (omega (arith, few))
+state-valid id w kind es is entries_valid few =
+    state-from id w kind [] es (omega (arith, is.least)) (record { valid = state-new id w kind is; fast = tt; waits = tt }) entries_valid (omega (arith, few))

@@ -4,25 +4,25 @@ use Rattle.std.specs.Prelude.{is_some}
 use Rattle.std.specs.List.{AllByRecursion, cons_option}
 use Rattle.n2k_wire.specs.declared.entry.Entry.{Entry}
 use Rattle.n2k_table.specs.declared.definition.Kind.{Kind}
-use Rattle.n2k_join.specs.declared.broken.Broken.{Broken}
+use Rattle.n2k_join.specs.declared.step.Broken.{Broken}
 use Rattle.n2k_join.specs.declared.counts.Counts.{Counts}
 use Rattle.n2k_wire.specs.Packet.{PacketParts}
 use Rattle.n2k_join.specs.declared.step.Step.{Step}
 use Rattle.n2k_join.specs.Step.{given_of, due}
 use Rattle.n2k_join.specs.Frames.{same_key, Frame, frame_in}
 use Rattle.n2k_join.specs.Groups.{within, complete}
-use Rattle.n2k_join.specs.Messages.{message_of, told_of, alone, cause_in, is_unknown}
+use Rattle.n2k_join.specs.Messages.{message_of, as_broken, alone, cause_in, is_unknown}
 use Rattle.n2k_join.specs.Open.{Group, is_waiting, ended}
-use Rattle.n2k_join.specs.State.{State, Given, held_of, next_line, overdue, one_if, counted, step_after, IsOpen, AreOpen, IsState, step_given}
-use Rattle.n2k_join.specs.Inner.Stored.{bars, with_frame, taken, begun, opened, of_the_key, groups_after, message_if, gained, gives_by, leaves_by}
+use Rattle.n2k_join.specs.State.{State, Given, held_of, next_line, overdue, one_if, counts_after, step_after, IsOpen, AreOpen, IsState, step_given}
+use Rattle.n2k_join.specs.Inner.Stored.{rejects, with_frame, taken, begun, opened, of_the_key, groups_after, message_if, gained, gives_by, leaves_by}
 use Rattle.n2k_join.proofs.Advanced.{advanced, taken as advanced-taken, opened as advanced-opened}
 use Rattle.n2k_join.proofs.BrokenGroups.{told_if, breaks}
 use Rattle.n2k_join.proofs.Given.{completed, message_by}
 use Rattle.n2k_join.proofs.Overdue.{one-broken}
 use Rattle.n2k_join.proofs.Rising.{find-all, all-zip, all-map}
 use Rattle.n2k_join.proofs.Steps.{StepsTo, kept, frame_message, only_frame, step-none, step-frame}
-use Rattle.n2k_join.proofs.Windows.{waiting-all, waits-ends, misfits-bars}
-use Rattle.n2k_join.specs.Window.{Rule}
+use Rattle.n2k_join.proofs.Windows.{waiting-all, waits-ends, misfits-rejects}
+use Rattle.n2k_join.specs.Window.{Window}
 use Rattle.n2k_join.specs.Counts.{most_lines}
 use Rattle.n2k_join.proofs.Expiring.{none_due}
 
@@ -34,42 +34,42 @@ message_with x g false true e = message_by x (complete (x ∷ [])) (x ∷ [])
 message_with x g false false e = message_by x (complete (g ++ x ∷ [])) (g ++ x ∷ [])
 
 -- a group that can be open, waits at a line, and began before it
-abbrev WaitsAt : Rule → ℕ → Group → Type 0
+abbrev WaitsAt : Window → ℕ → Group → Type 0
 WaitsAt w line o = IsOpen o × (is_waiting w line o ≡ true) × (o.first < line)
 
-bars-at : (w : Rule) (x : Frame) (o : Group) → WaitsAt w x.line o → within w (held_of o) x ≡ bars w.in_order x.number o
-bars-at w x o fit = waits-ends w x o fit.0 fit.1 ∙ misfits-bars w x o fit.0 fit.2
+rejects-at : (w : Window) (x : Frame) (o : Group) → WaitsAt w x.line o → within w (held_of o) x ≡ rejects w.in_order x.number o
+rejects-at w x o fit = waits-ends w x o fit.0 fit.1 ∙ misfits-rejects w x o fit.0 fit.2
 
 -- the message of a frame with the open group of its key, which waits
-frame-message : (w : Rule) (x : Frame) (gs : List Group) (o : Option Group) → of_the_key x.key gs ≡ o → IfSome o (WaitsAt w x.line) → frame_message w x gs ≡ gained w.in_order x o
+frame-message : (w : Window) (x : Frame) (gs : List Group) (o : Option Group) → of_the_key x.key gs ≡ o → IfSome o (WaitsAt w x.line) → frame_message w x gs ≡ gained w.in_order x o
 frame-message w x gs None e fit = ap (λ o. option_map (message_of x) (completed (within w) (option_map held_of o) x)) e ∙ message_by x (complete (x ∷ [])) (x ∷ [])
 frame-message w x gs (Some o) e fit =
     ap (λ o. option_map (message_of x) (completed (within w) (option_map held_of o) x)) e
-    ∙ ap (λ r. let h = cond (complete (held_of o) || r) (x ∷ []) (held_of o ++ x ∷ []) in option_map (message_of x) (cond (complete h) (Some h) None)) (bars-at w x o fit)
-    ∙ message_with x (held_of o) (complete (held_of o)) (bars w.in_order x.number o) fit.0.incomplete
+    ∙ ap (λ r. let h = cond (complete (held_of o) || r) (x ∷ []) (held_of o ++ x ∷ []) in option_map (message_of x) (cond (complete h) (Some h) None)) (rejects-at w x o fit)
+    ∙ message_with x (held_of o) (complete (held_of o)) (rejects w.in_order x.number o) fit.0.incomplete
 
-found-fit : (w : Rule) (x : Frame) (gs : List Group) → AllByRecursion (WaitsAt w x.line) gs → (o : Option Group) → of_the_key x.key gs ≡ o → IfSome o (WaitsAt w x.line)
+found-fit : (w : Window) (x : Frame) (gs : List Group) → AllByRecursion (WaitsAt w x.line) gs → (o : Option Group) → of_the_key x.key gs ≡ o → IfSome o (WaitsAt w x.line)
 found-fit w x gs all None e = tt
 found-fit w x gs all (Some g) e = find-all (WaitsAt w x.line) (λ (h : Group). same_key x.key h.key) gs g all e
 
 -- groups that wait go on as the frame's number says
-same-taken : (w : Rule) (x : Frame) (gs : List Group) → AllByRecursion (WaitsAt w x.line) gs → filter_map (advanced-taken (within w) x) gs ≡ filter_map (taken w.in_order x) gs
+same-taken : (w : Window) (x : Frame) (gs : List Group) → AllByRecursion (WaitsAt w x.line) gs → filter_map (advanced-taken (within w) x) gs ≡ filter_map (taken w.in_order x) gs
 same-taken w x [] all = refl
 same-taken w x (g ∷ gs) all =
-    ap (λ r. cons_option (cond (same_key x.key g.key) (cond r None (cond (complete (held_of g ++ x ∷ [])) None (Some (with_frame g x)))) (Some g)) (filter_map (advanced-taken (within w) x) gs)) (bars-at w x g all.0)
+    ap (λ r. cons_option (cond (same_key x.key g.key) (cond r None (cond (complete (held_of g ++ x ∷ [])) None (Some (with_frame g x)))) (Some g)) (filter_map (advanced-taken (within w) x) gs)) (rejects-at w x g all.0)
     ∙ ap (cons_option (taken w.in_order x g)) (same-taken w x gs all.1)
 
-same-opened : (w : Rule) (x : Frame) (o : Option Group) → IfSome o (WaitsAt w x.line) → advanced-opened (within w) x o ≡ opened w.in_order x o
+same-opened : (w : Window) (x : Frame) (o : Option Group) → IfSome o (WaitsAt w x.line) → advanced-opened (within w) x o ≡ opened w.in_order x o
 same-opened w x None fit = refl
-same-opened w x (Some o) fit = ap (λ r. cond r (begun x) None) (bars-at w x o fit)
+same-opened w x (Some o) fit = ap (λ r. cond r (begun x) None) (rejects-at w x o fit)
 
-same-groups : (w : Rule) (x : Frame) (gs : List Group) → AllByRecursion (WaitsAt w x.line) gs → advanced (within w) gs x ≡ groups_after w.in_order gs x
+same-groups : (w : Window) (x : Frame) (gs : List Group) → AllByRecursion (WaitsAt w x.line) gs → advanced (within w) gs x ≡ groups_after w.in_order gs x
 unfolding advanced groups_after
 same-groups w x gs all =
     (λ i. same-taken w x gs all i ++ option_to_list (same-opened w x (of_the_key x.key gs) (found-fit w x gs all (of_the_key x.key gs) refl) i))
 
 -- where no group's window has ended, none is broken by it, and all are held
-none-overdue : (w : Rule) (line : ℕ) (gs : List Group) → ended w line gs ≡ [] → AllByRecursion (λ (g : Group). is_waiting w line g ≡ true) gs
+none-overdue : (w : Window) (line : ℕ) (gs : List Group) → ended w line gs ≡ [] → AllByRecursion (λ (g : Group). is_waiting w line g ≡ true) gs
 unfolding ended
 none-overdue w line [] e = tt
 none-overdue w line (g ∷ gs) e = by (is_waiting w line g) refl e (none-overdue w line gs)
@@ -80,43 +80,43 @@ none-overdue w line (g ∷ gs) e = by (is_waiting w line g) refl e (none-overdue
     by false is e rest = absurd cc
 
 -- The step on a state whose groups can be open, none of which is overdue.
-line-steps : (kind : ℕ → Option Kind) (s : State) (e : Entry) → 0 < s.rule.window → AreOpen s.counts.lines s.groups → overdue s ≡ []
-    → let o = frame_in kind (next_line s) e in StepsTo kind s e (gives_by s.rule.in_order (alone kind e) (cause_in kind e) s.groups o) (leaves_by s.rule.in_order s.groups o)
+line-steps : (kind : ℕ → Option Kind) (s : State) (e : Entry) → 0 < s.window.lines → AreOpen s.counts.lines s.groups → overdue s ≡ []
+    → let o = frame_in kind (next_line s) e in StepsTo kind s e (gives_by s.window.in_order (alone kind e) (cause_in kind e) s.groups o) (leaves_by s.window.in_order s.groups o)
 line-steps kind s e some are none_over = by (frame_in kind (next_line s) e) refl
   where
-    wait : AllByRecursion (λ (g : Group). is_waiting s.rule (next_line s) g ≡ true) s.groups
-    wait = none-overdue s.rule (next_line s) s.groups none_over
+    wait : AllByRecursion (λ (g : Group). is_waiting s.window (next_line s) g ≡ true) s.groups
+    wait = none-overdue s.window (next_line s) s.groups none_over
 
     kept_is : kept s ≡ s.groups
-    kept_is = waiting-all s.rule (next_line s) s.groups wait
+    kept_is = waiting-all s.window (next_line s) s.groups wait
 
     earlier : AllByRecursion (λ (g : Group). g.first < next_line s) s.groups
     earlier = all-map (λ (g : Group). g.first ≤ s.counts.lines) (λ (g : Group). g.first < next_line s) s.groups (λ g l. omega (arith, l)) are.begun
 
-    fit : AllByRecursion (WaitsAt s.rule (next_line s)) s.groups
+    fit : AllByRecursion (WaitsAt s.window (next_line s)) s.groups
     fit =
-        all-map (λ (g : Group). (IsOpen g × (is_waiting s.rule (next_line s) g ≡ true)) × (g.first < next_line s)) (WaitsAt s.rule (next_line s)) s.groups (λ g h. (h.0.0, h.0.1, h.1))
-        (all-zip (λ (g : Group). IsOpen g × (is_waiting s.rule (next_line s) g ≡ true)) (λ (g : Group). g.first < next_line s) s.groups (all-zip IsOpen (λ (g : Group). is_waiting s.rule (next_line s) g ≡ true) s.groups are.each wait) earlier)
+        all-map (λ (g : Group). (IsOpen g × (is_waiting s.window (next_line s) g ≡ true)) × (g.first < next_line s)) (WaitsAt s.window (next_line s)) s.groups (λ g h. (h.0.0, h.0.1, h.1))
+        (all-zip (λ (g : Group). IsOpen g × (is_waiting s.window (next_line s) g ≡ true)) (λ (g : Group). g.first < next_line s) s.groups (all-zip IsOpen (λ (g : Group). is_waiting s.window (next_line s) g ≡ true) s.groups are.each wait) earlier)
 
-    told_none : map told_of (overdue s) ≡ []
-    told_none = ap (map told_of) none_over
+    told_none : map as_broken (overdue s) ≡ []
+    told_none = ap (map as_broken) none_over
 
     change : (g h : Given) (a b : List Group) → g ≡ h → a ≡ b → StepsTo kind s e g a → StepsTo kind s e h b
     change g h a b p q steps = subst (λ gs. StepsTo kind s e h gs) q (subst (λ g. StepsTo kind s e g a) p steps)
 
-    by : (o : Option Frame) → frame_in kind (next_line s) e ≡ o → StepsTo kind s e (gives_by s.rule.in_order (alone kind e) (cause_in kind e) s.groups o) (leaves_by s.rule.in_order s.groups o)
+    by : (o : Option Frame) → frame_in kind (next_line s) e ≡ o → StepsTo kind s e (gives_by s.window.in_order (alone kind e) (cause_in kind e) s.groups o) (leaves_by s.window.in_order s.groups o)
     by None none = change _ _ _ _ (ap (λ b. record { message = alone kind e; cause = cause_in kind e; broken = b }) told_none) kept_is (step-none kind s e some are none)
     by (Some x) found =
         let at : next_line s ≡ x.line = sym (only_frame kind (next_line s) e x found).line in
-        let fit_x : AllByRecursion (WaitsAt s.rule x.line) s.groups = subst (λ l. AllByRecursion (WaitsAt s.rule l) s.groups) at fit in
-        let wait_x : AllByRecursion (λ (g : Group). is_waiting s.rule x.line g ≡ true) s.groups = subst (λ l. AllByRecursion (λ (g : Group). is_waiting s.rule l g ≡ true) s.groups) at wait in
+        let fit_x : AllByRecursion (WaitsAt s.window x.line) s.groups = subst (λ l. AllByRecursion (WaitsAt s.window l) s.groups) at fit in
+        let wait_x : AllByRecursion (λ (g : Group). is_waiting s.window x.line g ≡ true) s.groups = subst (λ l. AllByRecursion (λ (g : Group). is_waiting s.window l g ≡ true) s.groups) at wait in
         change _ _ _ _
         (λ i. record {
-          message = (ap (frame_message s.rule x) kept_is ∙ frame-message s.rule x s.groups (of_the_key x.key s.groups) refl (found-fit s.rule x s.groups fit_x (of_the_key x.key s.groups) refl)) i;
+          message = (ap (frame_message s.window x) kept_is ∙ frame-message s.window x s.groups (of_the_key x.key s.groups) refl (found-fit s.window x s.groups fit_x (of_the_key x.key s.groups) refl)) i;
           cause = None;
-          broken = (ap (λ bs. bs ++ filter_map (told_if s.rule some (breaks s.rule some x)) (kept s)) told_none ∙ ap (filter_map (told_if s.rule some (breaks s.rule some x))) kept_is ∙ one-broken s.rule some x s.groups are.each wait_x (subst (λ l. AllByRecursion (λ (g : Group). g.first < l) s.groups) at earlier) are.apart) i;
+          broken = (ap (λ bs. bs ++ filter_map (told_if s.window some (breaks s.window some x)) (kept s)) told_none ∙ ap (filter_map (told_if s.window some (breaks s.window some x))) kept_is ∙ one-broken s.window some x s.groups are.each wait_x (subst (λ l. AllByRecursion (λ (g : Group). g.first < l) s.groups) at earlier) are.apart) i;
         })
-        (ap (λ gs. advanced (within s.rule) gs x) kept_is ∙ same-groups s.rule x s.groups fit_x)
+        (ap (λ gs. advanced (within s.window) gs x) kept_is ∙ same-groups s.window x s.groups fit_x)
         (step-frame kind s e some are x found)
 
 -- one group at most is told
@@ -126,7 +126,7 @@ length-told (Some b) = refl
 
 -- What a line gives and leaves, by what the code knows before: the state is one that a join can have, and none is due.
 module _ (kind : ℕ → Option Kind) (s t : State) (e : Entry) (order : Bool) (state : IsState s) (is : s ≡ t)
-    (ready : due t ≡ None) (below : s.counts.lines ≡ most_lines → ⊥) (same : order ≡ s.rule.in_order) where
+    (ready : due t ≡ None) (below : s.counts.lines ≡ most_lines → ⊥) (same : order ≡ s.window.in_order) where
   abbrev gives : Given
   gives = gives_by order (alone kind e) (cause_in kind e) s.groups (frame_in kind (next_line s) e)
 
@@ -153,9 +153,9 @@ module _ (kind : ℕ → Option Kind) (s t : State) (e : Entry) (order : Bool) (
         broken = s.counts.broken + one_if (is_some step.broken);
         held = n;
       }
-      → record { id = s.id; rule = s.rule; counts = r; groups = gs } ≡ step_after kind s e
+      → record { id = s.id; window = s.window; counts = r; groups = gs } ≡ step_after kind s e
   line-leads step unknown n gs r given known groups count is_r =
-      let counted_is : r ≡ counted kind s.counts e (given_of step) (length gs) = is_r ∙ (λ i. record {
+      let counted_is : r ≡ counts_after kind s.counts e (given_of step) (length gs) = is_r ∙ (λ i. record {
         lines = s.counts.lines + 1;
         messages = s.counts.messages + one_if (is_some step.message);
         bad = s.counts.bad + one_if (is_some step.bad);
@@ -163,11 +163,11 @@ module _ (kind : ℕ → Option Kind) (s t : State) (e : Entry) (order : Bool) (
         broken = s.counts.broken + sym (length-told step.broken) i;
         held = count i;
       }) in
-      ap (λ (c : Counts). record { id = s.id; rule = s.rule; counts = c; groups = gs }) counted_is
+      ap (λ (c : Counts). record { id = s.id; window = s.window; counts = c; groups = gs }) counted_is
       ∙ (λ i. record {
         id = s.id;
-        rule = s.rule;
-        counts = counted kind s.counts e (given i) (length (groups i));
+        window = s.window;
+        counts = counts_after kind s.counts e (given i) (length (groups i));
         groups = groups i;
       })
       ∙ sym steps.after

@@ -8,14 +8,14 @@ use Rattle.std.proofs.lemmas.List.Sums.{sum_by-cons}
 use Rattle.n2k_wire.specs.declared.entry.Entry.{Entry}
 use Rattle.n2k_table.specs.declared.definition.Kind.{Kind}
 use Rattle.n2k_join.specs.Frames.{Frame, most_frames, frame_in, frames_from, frames, frame_at}
-use Rattle.n2k_join.specs.Groups.{Ends}
+use Rattle.n2k_join.specs.Groups.{EndTest}
 use Rattle.n2k_join.specs.Messages.{Keyed, gathered, broken_with, message_with, alone, entry_at}
 use Rattle.n2k_join.proofs.BrokenGroups.{broken-stays}
 use Rattle.n2k_join.proofs.Given.{gathered-stays}
 use Rattle.n2k_join.proofs.Lines.{frames-rise, frame_in-line, frame_of_packet, line_of}
 use Rattle.n2k_join.proofs.Opened.{IsLog, key_at}
 use Rattle.n2k_join.proofs.Rising.{all-map, all-zip, look-all, rise-least}
-use Rattle.n2k_join.specs.Window.{Rule}
+use Rattle.n2k_join.specs.Window.{Window}
 
 -- What holds of the frame of each entry holds of all frames.
 pub frames-all : (P : Frame → Type 0) (kind : ℕ → Option Kind) (n : ℕ) (es : List Entry)
@@ -107,15 +107,15 @@ frames-before F kind es e stays = ap F (frames-push kind es e) ∙ by (frame_in 
     by (Some x) line = stays x (line x refl)
 
 -- earlier lines keep what they gave
-gathered-before : (ends : Ends) (kind : ℕ → Option Kind) (es : List Entry) (e : Entry) (i : ℕ) → i ≤ length es → gathered ends (frames kind (es ++ e ∷ [])) i ≡ gathered ends (frames kind es) i
+gathered-before : (ends : EndTest) (kind : ℕ → Option Kind) (es : List Entry) (e : Entry) (i : ℕ) → i ≤ length es → gathered ends (frames kind (es ++ e ∷ [])) i ≡ gathered ends (frames kind es) i
 gathered-before ends kind es e i u =
     frames-before (λ fs. gathered ends fs i) kind es e
     (λ x at. gathered-stays ends (frames kind es) x i (λ t. omega (arith, t, at, u)))
 
-pub message-before : (ends : Ends) (kind : ℕ → Option Kind) (es : List Entry) (e : Entry) (i : ℕ) → 1 ≤ i → i ≤ length es → message_with ends kind (es ++ e ∷ []) i ≡ message_with ends kind es i
+pub message-before : (ends : EndTest) (kind : ℕ → Option Kind) (es : List Entry) (e : Entry) (i : ℕ) → 1 ≤ i → i ≤ length es → message_with ends kind (es ++ e ∷ []) i ≡ message_with ends kind es i
 message-before ends kind es e i l u = λ j. option_or (option_map (λ (m : Keyed). m.message) (gathered-before ends kind es e i u j)) (option_and_then (alone kind) (entry_at-before es e i l u j))
 
-pub broken-before : (w : Rule) → 0 < w.window → (kind : ℕ → Option Kind) (es : List Entry) (e : Entry) (i : ℕ) → i ≤ length es → broken_with w (frames kind (es ++ e ∷ [])) i ≡ broken_with w (frames kind es) i
+pub broken-before : (w : Window) → 0 < w.lines → (kind : ℕ → Option Kind) (es : List Entry) (e : Entry) (i : ℕ) → i ≤ length es → broken_with w (frames kind (es ++ e ∷ [])) i ≡ broken_with w (frames kind es) i
 broken-before w some kind es e i u =
     frames-before (λ fs. broken_with w fs i) kind es e
     (λ x at. broken-stays w some (length es) (frames kind es) x i (frames-log kind es) (omega (arith, at, u)))

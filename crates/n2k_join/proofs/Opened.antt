@@ -8,7 +8,7 @@ use Rattle.std.proofs.lemmas.List.Folds.{find-append}
 use Rattle.std.proofs.lemmas.Bool.{eqb-true, eq-eqb, ne_eqb, or_parts, false≢true, false_from_ne_true}
 use Rattle.std.proofs.lemmas.Option.{none-some, same_Some, option_and_then_some, cond_some}
 use Rattle.n2k_join.specs.Frames.{Key, same_key, Frame, of_key, frame_at, most_frames}
-use Rattle.n2k_join.specs.Groups.{Ends, closes, complete, cut, has_number, has_twice, first, incomplete, open_of}
+use Rattle.n2k_join.specs.Groups.{EndTest, closes, complete, cut, has_number, has_twice, first, incomplete, open_of}
 use Rattle.n2k_join.specs.Open.{Group, group_of, where_begun, begun_at, open_groups}
 use Rattle.n2k_join.specs.State.{held_of}
 use Rattle.n2k_join.proofs.Advanced.{with_frame, joined, taken, begun, of_the_key, opened, advanced}
@@ -35,7 +35,7 @@ pub record IsFine (g : List Frame) : Type 0 where
   pub nonempty : 0 < length g
 
 -- an open group is what is kept of the group so far of its key, which isn't complete
-pub record IsBegun (ends : Ends) (fs : List Frame) (o : Group) : Type 0 where
+pub record IsBegun (ends : EndTest) (fs : List Frame) (o : Group) : Type 0 where
   pub group : List Frame
   pub so_far_is : so_far ends (of_key o.key fs) ≡ Some group
   pub once : has_twice group ≡ false
@@ -91,7 +91,7 @@ with_frame-kept k g x fine = λ i. record {
 pub numbers_of_key : (k : Key) (fs : List Frame) → AreNumbered fs → AreNumbered (of_key k fs)
 numbers_of_key k fs all = all-map _ (λ (f : Frame). f.number < most_frames) (of_key k fs) (λ f h. h.0) (of_key-keeps (λ (f : Frame). f.number < most_frames) k fs all)
 
-module _ (ends : Ends) (is_ending : IsEnding ends) where
+module _ (ends : EndTest) (is_ending : IsEnding ends) where
   -- the open group of a key, where it begins at a line
   abbrev pub open_at : Key → List Frame → ℕ → Option Group
   open_at k fs i = option_and_then (where_begun i k) (open_of ends k fs)

@@ -3,11 +3,11 @@ use Rattle.std.proofs.Common.{◌≡◌, ◌==◌, ◌≤◌, ◌<◌, ◌+◌, 
 use Rattle.std.specs.List.{cons_option, AllByRecursion}
 use Rattle.std.proofs.lemmas.List.{length-append}
 use Rattle.std.proofs.lemmas.Bool.{eq-eqb, ne_eqb, lt-leb, le-leb, ltb-true, ltb-false, or_right}
-use Rattle.n2k_join.specs.declared.broken.Broken.{Broken}
+use Rattle.n2k_join.specs.declared.step.Broken.{Broken}
 use Rattle.n2k_join.specs.Frames.{Key, same_key, Frame}
 use Rattle.n2k_join.specs.Groups.{misfits, is_late, within, complete}
 use Rattle.n2k_join.specs.Open.{Group, is_waiting, waiting, ended}
-use Rattle.n2k_join.specs.Messages.{broken_of, told_of}
+use Rattle.n2k_join.specs.Messages.{broken_of, as_broken}
 use Rattle.n2k_join.specs.State.{held_of, Rise, IsOpen, AreApart}
 use Rattle.n2k_join.specs.Inner.Stored.{lost}
 use Rattle.n2k_join.proofs.Advanced.{with_frame, taken, begun, of_the_key, opened, advanced}
@@ -15,29 +15,29 @@ use Rattle.n2k_join.proofs.BrokenGroups.{runs_out, breaks, told_if}
 use Rattle.n2k_join.proofs.Cuts.{next}
 use Rattle.n2k_join.proofs.Keys.{same_key-true}
 use Rattle.n2k_join.proofs.Rising.{all-map}
-use Rattle.n2k_join.proofs.Windows.{ended-ends, waits-ends, misfits-bars, later-wait, key-waiting}
-use Rattle.n2k_join.specs.Window.{Rule}
+use Rattle.n2k_join.proofs.Windows.{ended-ends, waits-ends, misfits-rejects, later-wait, key-waiting}
+use Rattle.n2k_join.specs.Window.{Window}
 use Rattle.std.proofs.Math.Bool.{and-true}
 use Rattle.std.proofs.lemmas.List.Filters.{length-filter_both}
 use Rattle.n2k_join.proofs.JoinLemmas.{broken-held}
 
-module _ (w : Rule) (some : 0 < w.window) where
+module _ (w : Window) (some : 0 < w.lines) where
   -- ---- the tests on groups
 
   pub runs_out-later : (line : ℕ) (o : Group) → is_waiting w line o ≡ true → runs_out w some line o ≡ false
-  runs_out-later line o e = let l : line < o.first + w.window = ltb-true _ _ e in ne_eqb (o.first + w.window) line (λ f. omega (arith, l, f))
+  runs_out-later line o e = let l : line < o.first + w.lines = ltb-true _ _ e in ne_eqb (o.first + w.lines) line (λ f. omega (arith, l, f))
 
   pub runs_out-past : (n : ℕ) (o : Group) → is_waiting w n o ≡ false → runs_out w some (n + 1) o ≡ false
-  runs_out-past n o e = let l : o.first + w.window ≤ n = ltb-false _ _ e in ne_eqb (o.first + w.window) (n + 1) (λ f. omega (arith, l, f))
+  runs_out-past n o e = let l : o.first + w.lines ≤ n = ltb-false _ _ e in ne_eqb (o.first + w.lines) (n + 1) (λ f. omega (arith, l, f))
 
   pub runs_out-now : (n : ℕ) (o : Group) → is_waiting w n o ≡ true → is_waiting w (n + 1) o ≡ false → runs_out w some (n + 1) o ≡ true
-  runs_out-now n o e f = let l : n < o.first + w.window = ltb-true _ _ e in let m : o.first + w.window ≤ n + 1 = ltb-false _ _ f in eq-eqb (o.first + w.window) (n + 1) (omega (arith, l, m))
+  runs_out-now n o e f = let l : n < o.first + w.lines = ltb-true _ _ e in let m : o.first + w.lines ≤ n + 1 = ltb-false _ _ f in eq-eqb (o.first + w.lines) (n + 1) (omega (arith, l, m))
 
   pub breaks-past : (n : ℕ) (x : Frame) (o : Group) → x.line ≡ n + 1 → is_waiting w n o ≡ false → breaks w some x o ≡ false
   breaks-past n x o at e =
-      let l : o.first + w.window ≤ n = ltb-false _ _ e in
-      let none : nat_le x.line (o.first + w.window) ≡ false = lt-leb x.line (o.first + w.window) (omega (arith, l, at)) in
-      let other : (o.first + w.window == x.line) ≡ false = ne_eqb (o.first + w.window) x.line (λ f. omega (arith, l, f, at)) in
+      let l : o.first + w.lines ≤ n = ltb-false _ _ e in
+      let none : nat_le x.line (o.first + w.lines) ≡ false = lt-leb x.line (o.first + w.lines) (omega (arith, l, at)) in
+      let other : (o.first + w.lines == x.line) ≡ false = ne_eqb (o.first + w.lines) x.line (λ f. omega (arith, l, f, at)) in
       (λ i. cond (same_key x.key o.key) (within w (held_of o) x && none i) (other i))
       ∙ by (same_key x.key o.key) (within w (held_of o) x)
     where
@@ -48,10 +48,10 @@ module _ (w : Rule) (some : 0 < w.window) where
 
   pub breaks-now : (n : ℕ) (x : Frame) (o : Group) → x.line ≡ n + 1 → IsOpen o → is_waiting w n o ≡ true → is_waiting w (n + 1) o ≡ false → breaks w some x o ≡ true
   breaks-now n x o at is e f =
-      let l : n < o.first + w.window = ltb-true _ _ e in
-      let m : o.first + w.window ≤ n + 1 = ltb-false _ _ f in
-      let up_to : nat_le x.line (o.first + w.window) ≡ true = le-leb x.line (o.first + w.window) (omega (arith, l, at)) in
-      let here : (o.first + w.window == x.line) ≡ true = eq-eqb (o.first + w.window) x.line (omega (arith, l, m, at)) in
+      let l : n < o.first + w.lines = ltb-true _ _ e in
+      let m : o.first + w.lines ≤ n + 1 = ltb-false _ _ f in
+      let up_to : nat_le x.line (o.first + w.lines) ≡ true = le-leb x.line (o.first + w.lines) (omega (arith, l, at)) in
+      let here : (o.first + w.lines == x.line) ≡ true = eq-eqb (o.first + w.lines) x.line (omega (arith, l, m, at)) in
       let ends : within w (held_of o) x ≡ true = ended-ends w x o is (ap (λ k. is_waiting w k o) at ∙ f) in
       (λ i. cond (same_key x.key o.key) (ends i && up_to i) (here i)) ∙ by (same_key x.key o.key)
     where
@@ -61,16 +61,16 @@ module _ (w : Rule) (some : 0 < w.window) where
 
   pub breaks-later : (x : Frame) (o : Group) → IsOpen o → is_waiting w x.line o ≡ true → breaks w some x o ≡ cond (same_key x.key o.key) (misfits w (held_of o) x) false
   breaks-later x o is e =
-      let l : x.line < o.first + w.window = ltb-true _ _ e in
-      let up_to : nat_le x.line (o.first + w.window) ≡ true = le-leb x.line (o.first + w.window) (omega (arith, l)) in
-      let other : (o.first + w.window == x.line) ≡ false = ne_eqb (o.first + w.window) x.line (λ f. omega (arith, l, f)) in
+      let l : x.line < o.first + w.lines = ltb-true _ _ e in
+      let up_to : nat_le x.line (o.first + w.lines) ≡ true = le-leb x.line (o.first + w.lines) (omega (arith, l)) in
+      let other : (o.first + w.lines == x.line) ≡ false = ne_eqb (o.first + w.lines) x.line (λ f. omega (arith, l, f)) in
       (λ i. cond (same_key x.key o.key) (waits-ends w x o is e i && up_to i) (other i)) ∙ ap (λ b. cond (same_key x.key o.key) b false) (and-true (misfits w (held_of o) x))
 
   -- ---- the groups that are told
 
   told-none : (t : Group → Bool) (gs : List Group) → AllByRecursion (λ o. t o ≡ false) gs → filter_map (told_if w some t) gs ≡ []
   told-none t [] all = refl
-  told-none t (g ∷ gs) all = ap (λ b. cons_option (cond b (Some (told_of g)) None) (filter_map (told_if w some t) gs)) all.0 ∙ told-none t gs all.1
+  told-none t (g ∷ gs) all = ap (λ b. cons_option (cond b (Some (as_broken g)) None) (filter_map (told_if w some t) gs)) all.0 ∙ told-none t gs all.1
 
   -- groups whose window had ended before aren't
   pub told-waiting : (n : ℕ) (t : Group → Bool) (gs : List Group) → ((o : Group) → is_waiting w n o ≡ false → t o ≡ false) → filter_map (told_if w some t) gs ≡ filter_map (told_if w some t) (waiting w n gs)
@@ -81,24 +81,24 @@ module _ (w : Rule) (some : 0 < w.window) where
       by : (b : Bool) → is_waiting w n g ≡ b → filter_map (told_if w some t) gs ≡ filter_map (told_if w some t) (filter (is_waiting w n) gs)
           → filter_map (told_if w some t) (g ∷ gs) ≡ filter_map (told_if w some t) (cond b (g ∷ filter (is_waiting w n) gs) (filter (is_waiting w n) gs))
       by true e rest = ap (cons_option (told_if w some t g)) rest
-      by false e rest = ap (λ b. cons_option (cond b (Some (told_of g)) None) (filter_map (told_if w some t) gs)) (past g e) ∙ rest
+      by false e rest = ap (λ b. cons_option (cond b (Some (as_broken g)) None) (filter_map (told_if w some t) gs)) (past g e) ∙ rest
 
   -- Those whose window ends at the line are a front of the groups, since their first lines rise.
   pub told-front : (n least : ℕ) (t : Group → Bool) (gs : List Group) → AllByRecursion (λ o. is_waiting w (n + 1) o ≡ false → t o ≡ true) gs → Rise (λ (g : Group). g.first) least gs
-      → filter_map (told_if w some t) gs ≡ map told_of (ended w (n + 1) gs) ++ filter_map (told_if w some t) (waiting w (n + 1) gs)
+      → filter_map (told_if w some t) gs ≡ map as_broken (ended w (n + 1) gs) ++ filter_map (told_if w some t) (waiting w (n + 1) gs)
   unfolding waiting ended
   told-front n least t [] now rise = refl
   told-front n least t (g ∷ gs) now rise = by (is_waiting w (n + 1) g) refl (told-front n (g.first + 1) t gs now.1 rise.1)
     where
       by : (b : Bool) → is_waiting w (n + 1) g ≡ b
-          → filter_map (told_if w some t) gs ≡ map told_of (ended w (n + 1) gs) ++ filter_map (told_if w some t) (filter (is_waiting w (n + 1)) gs)
-          → filter_map (told_if w some t) (g ∷ gs) ≡ map told_of (cond (not b) (g ∷ ended w (n + 1) gs) (ended w (n + 1) gs)) ++ filter_map (told_if w some t) (cond b (g ∷ filter (is_waiting w (n + 1)) gs) (filter (is_waiting w (n + 1)) gs))
+          → filter_map (told_if w some t) gs ≡ map as_broken (ended w (n + 1) gs) ++ filter_map (told_if w some t) (filter (is_waiting w (n + 1)) gs)
+          → filter_map (told_if w some t) (g ∷ gs) ≡ map as_broken (cond (not b) (g ∷ ended w (n + 1) gs) (ended w (n + 1) gs)) ++ filter_map (told_if w some t) (cond b (g ∷ filter (is_waiting w (n + 1)) gs) (filter (is_waiting w (n + 1)) gs))
       by true e rest =
-          let l : n + 1 < g.first + w.window = ltb-true _ _ e in
+          let l : n + 1 < g.first + w.lines = ltb-true _ _ e in
           let none : ended w (n + 1) gs ≡ [] = later-wait w (n + 1) (g.first + 1) gs rise.1 (omega (arith, l)) in
-          ap (cons_option (told_if w some t g)) (rest ∙ ap (λ hs. map told_of hs ++ filter_map (told_if w some t) (filter (is_waiting w (n + 1)) gs)) none)
-          ∙ sym (ap (λ hs. map told_of hs ++ filter_map (told_if w some t) (g ∷ filter (is_waiting w (n + 1)) gs)) none)
-      by false e rest = ap (λ b. cons_option (cond b (Some (told_of g)) None) (filter_map (told_if w some t) gs)) (now.0 e) ∙ ap (λ bs. told_of g ∷ bs) rest
+          ap (cons_option (told_if w some t g)) (rest ∙ ap (λ hs. map as_broken hs ++ filter_map (told_if w some t) (filter (is_waiting w (n + 1)) gs)) none)
+          ∙ sym (ap (λ hs. map as_broken hs ++ filter_map (told_if w some t) (g ∷ filter (is_waiting w (n + 1)) gs)) none)
+      by false e rest = ap (λ b. cons_option (cond b (Some (as_broken g)) None) (filter_map (told_if w some t) gs)) (now.0 e) ∙ ap (λ bs. as_broken g ∷ bs) rest
 
   -- ---- groups that wait
 
@@ -119,7 +119,7 @@ module _ (w : Rule) (some : 0 < w.window) where
       rest : List Broken
       rest = filter_map (told_if w some (breaks w some x)) gs
 
-      by_test : (r : Bool) → told_of g ≡ broken_of x.key (held_of g) → cons_option (cond r (Some (told_of g)) None) [] ≡ option_to_list (cond r (Some (broken_of x.key (held_of g))) None)
+      by_test : (r : Bool) → as_broken g ≡ broken_of x.key (held_of g) → cons_option (cond r (Some (as_broken g)) None) [] ≡ option_to_list (cond r (Some (broken_of x.key (held_of g))) None)
       by_test true e = ap (λ b. b ∷ []) e
       by_test false e = refl
 
@@ -128,11 +128,11 @@ module _ (w : Rule) (some : 0 < w.window) where
       by true e later =
           let others = all-map (λ (h : Group). same_key g.key h.key ≡ false) (λ (h : Group). same_key x.key h.key ≡ false) gs (λ h t. ap (λ (k : Key). same_key k h.key) (same_key-true x.key g.key e) ∙ t) apart.0 in
           ap (cons_option (told_if w some (breaks w some x) g)) (told-none (breaks w some x) gs (others-quiet x gs each.1 wait.1 others))
-          ∙ ap (λ b. cons_option (cond b (Some (told_of g)) None) []) (breaks-later x g each.0 wait.0 ∙ ap (λ b. cond b (misfits w (held_of g) x) false) e)
+          ∙ ap (λ b. cons_option (cond b (Some (as_broken g)) None) []) (breaks-later x g each.0 wait.0 ∙ ap (λ b. cond b (misfits w (held_of g) x) false) e)
           ∙ by_test (misfits w (held_of g) x) (broken-held g x.key each.0 (same_key-true x.key g.key e))
-          ∙ ap (λ r. option_to_list (cond r (Some (broken_of x.key (held_of g))) None)) (misfits-bars w x g each.0 begun.0)
+          ∙ ap (λ r. option_to_list (cond r (Some (broken_of x.key (held_of g))) None)) (misfits-rejects w x g each.0 begun.0)
       by false e later =
-          ap (λ b. cons_option (cond b (Some (told_of g)) None) (filter_map (told_if w some (breaks w some x)) gs)) (breaks-later x g each.0 wait.0 ∙ ap (λ b. cond b (misfits w (held_of g) x) false) e)
+          ap (λ b. cons_option (cond b (Some (as_broken g)) None) (filter_map (told_if w some (breaks w some x)) gs)) (breaks-later x g each.0 wait.0 ∙ ap (λ b. cond b (misfits w (held_of g) x) false) e)
           ∙ later
 
   -- ---- the group that a frame joins or begins
@@ -173,17 +173,17 @@ module _ (w : Rule) (some : 0 < w.window) where
 
       by : (b : Bool) → b ≡ cond (same_key x.key g.key) (misfits w (held_of g) x) false → (s : Bool) → same_key x.key g.key ≡ s → (r : Bool) → misfits w (held_of g) x ≡ r
           → length (filter_map (told_if w some (breaks w some x)) gs) + length (filter_map (taken (within w) x) gs) ≤ length gs
-          → length (cons_option (cond b (Some (told_of g)) None) (filter_map (told_if w some (breaks w some x)) gs)) + length (cons_option (taken (within w) x g) (filter_map (taken (within w) x) gs)) ≤ length (g ∷ gs)
+          → length (cons_option (cond b (Some (as_broken g)) None) (filter_map (told_if w some (breaks w some x)) gs)) + length (cons_option (taken (within w) x g) (filter_map (taken (within w) x) gs)) ≤ length (g ∷ gs)
       by b is true s true r rest =
           let go : length (cons_option (taken (within w) x g) (filter_map (taken (within w) x) gs)) ≡ length (filter_map (taken (within w) x) gs) = ap (λ o. length (cons_option o (filter_map (taken (within w) x) gs))) (taken_none s r) in
-          omega (arith, go, rest, length-cons (cond b (Some (told_of g)) None) (filter_map (told_if w some (breaks w some x)) gs))
+          omega (arith, go, rest, length-cons (cond b (Some (as_broken g)) None) (filter_map (told_if w some (breaks w some x)) gs))
       by b is true s false r rest =
           let no : b ≡ false = is ∙ (λ i. cond (s i) (r i) false) in
-          let none : length (cons_option (cond b (Some (told_of g)) None) (filter_map (told_if w some (breaks w some x)) gs)) ≡ length (filter_map (told_if w some (breaks w some x)) gs) = ap (λ b. length (cons_option (cond b (Some (told_of g)) None) (filter_map (told_if w some (breaks w some x)) gs))) no in
+          let none : length (cons_option (cond b (Some (as_broken g)) None) (filter_map (told_if w some (breaks w some x)) gs)) ≡ length (filter_map (told_if w some (breaks w some x)) gs) = ap (λ b. length (cons_option (cond b (Some (as_broken g)) None) (filter_map (told_if w some (breaks w some x)) gs))) no in
           omega (arith, none, rest, length-cons (taken (within w) x g) (filter_map (taken (within w) x) gs))
       by b is false s r t rest =
           let no : b ≡ false = is ∙ ap (λ s. cond s (misfits w (held_of g) x) false) s in
-          let none : length (cons_option (cond b (Some (told_of g)) None) (filter_map (told_if w some (breaks w some x)) gs)) ≡ length (filter_map (told_if w some (breaks w some x)) gs) = ap (λ b. length (cons_option (cond b (Some (told_of g)) None) (filter_map (told_if w some (breaks w some x)) gs))) no in
+          let none : length (cons_option (cond b (Some (as_broken g)) None) (filter_map (told_if w some (breaks w some x)) gs)) ≡ length (filter_map (told_if w some (breaks w some x)) gs) = ap (λ b. length (cons_option (cond b (Some (as_broken g)) None) (filter_map (told_if w some (breaks w some x)) gs))) no in
           omega (arith, none, rest, length-cons (taken (within w) x g) (filter_map (taken (within w) x) gs))
 
   -- so a frame leaves and breaks one more at most than there were

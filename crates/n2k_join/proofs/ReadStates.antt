@@ -11,15 +11,15 @@ use Rattle.n2k_wire.specs.declared.entry.Entry.{Entry}
 use Rattle.n2k_wire.specs.Entry.{IsEntry}
 use Rattle.n2k_table.specs.declared.definition.Kind.{Kind}
 use Rattle.n2k_table.specs.declared.definition.Kind.TheVariants.{Single, Fast}
-use Rattle.n2k_join.specs.declared.state_fault.StateFault.TheVariants.{NotJson, TableDiffers, WindowDiffers, Invalid}
+use Rattle.n2k_join.specs.declared.fault.StateFault.TheVariants.{NotJson, TableDiffers, WindowDiffers, Invalid}
 use Rattle.n2k_join.specs.Counts.{most_lines}
 use Rattle.n2k_join.specs.Frames.{same_key, Key, most_frames}
 use Rattle.n2k_join.specs.Open.{Group, Piece}
 use Rattle.n2k_wire.specs.Steps.{or_cause}
-use Rattle.n2k_join.specs.Resumed.{counts_hold, firsts_rise, format_in, group_holds, groups_hold, is_fast, is_valid, judged, key_holds, parsed, state_of, waits_hold, pieces_rise}
+use Rattle.n2k_join.specs.Resumed.{counts_hold, firsts_rise, format_in, group_holds, groups_hold, is_valid, resumed, key_holds, parsed, read_state, waits_hold, pieces_rise, is_fast_pgn}
 use Rattle.n2k_join.specs.Saved.{IsId, state_text, are_waiting}
 use Rattle.n2k_join.specs.State.{State, state, AreFast, IsState, HasParts, IsKey, IsPiece, IsOpen, AreWaiting, step_after}
-use Rattle.n2k_join.specs.Window.{Rule, IsWindow}
+use Rattle.n2k_join.specs.Window.{Window, IsWindow}
 use Rattle.n2k_join.proofs.Keeping.{state-valid, few-open, step-keeps, step-waits}
 use Rattle.n2k_join.proofs.Spelled.{if_ok-then, if_ok-held, if_ok-valid, if_ok-of, IsSpelled, state-spelled}
 use Rattle.n2k_join.proofs.StateReads.{state_back}
@@ -28,13 +28,13 @@ use Rattle.n2k_join.specs.Rules.{HasSeven, HasShape, RulesAreOne}
 use Rattle.n2k_join.proofs.SavedGroups.{total_from}
 use Rattle.n2k_join.proofs.ValidStates.{valid_state, state_valid, in_time-from, in_time-to}
 use Rattle.serde_json.specs.Data.{Data}
-use Rattle.n2k_join.specs.declared.saved.place.Place.{Place}
-use Rattle.n2k_join.specs.declared.saved.place.Place.TheVariants as places
-use Rattle.n2k_join.specs.Bounds.{TellsWindow, HoldsFew}
+use Rattle.n2k_join.specs.declared.saved.object.StateFormat.{StateFormat}
+use Rattle.n2k_join.specs.declared.saved.object.StateFormat.TheVariants.{WithoutWindow, WithWindow}
+use Rattle.n2k_join.specs.Bounds.{HasWindow, HoldsFew}
 use Rattle.n2k_join.proofs.Rising.{all-map, rise-few}
 use Rattle.n2k_join.proofs.StateBound.{state-short}
 
-is_fast-true : (k : Option Kind) → is_fast k ≡ true → k ≡ Some Fast
+is_fast-true : (k : Option Kind) → is_fast_pgn k ≡ true → k ≡ Some Fast
 is_fast-true None h = absurd (false≢true h)
 is_fast-true (Some Single) h = absurd (false≢true h)
 is_fast-true (Some Fast) h = refl
@@ -47,66 +47,66 @@ groups-fast kind (g ∷ gs) h =
     let key = and_parts (key_holds kind g.key) _ all.0 in
     let ranges = and_parts _ _ key.0 in
     let rest = and_parts (not (list_any (λ (other : Group). same_key g.key other.key) gs)) (groups_hold kind gs) all.1 in
-    (is_fast-true (kind g.key.pgn) (and_parts (is_fast (kind g.key.pgn)) _ ranges.1).0, groups-fast kind gs rest.1)
+    (is_fast-true (kind g.key.pgn) (and_parts (is_fast_pgn (kind g.key.pgn)) _ ranges.1).0, groups-fast kind gs rest.1)
 
 pub valid-fast : (kind : ℕ → Option Kind) (s : State) → is_valid kind s ≡ true → AreFast kind s.groups
 unfolding is_valid
 valid-fast kind s h = groups-fast kind s.groups (and_parts (firsts_rise 1 s.counts.lines s.groups) (groups_hold kind s.groups) (and_parts (counts_hold s.counts) _ h).1).1
 
 -- a text that spells a state of the format that tells its window, read as that format
-told_format : (o : Option Data) (d : Data) (format : Place) → or_cause NotJson o ≡ Ok d → format_in d ≡ Ok format
-    → IfSome o (λ d. format_in d ≡ Ok places.WindowState) → format ≡ places.WindowState
-told_format None d format read is tells = cc
-told_format (Some e) d format read is tells = cc
+told_format : (o : Option Data) (d : Data) (format : StateFormat) → or_cause NotJson o ≡ Ok d → format_in d ≡ Ok format
+    → IfSome o (λ d. format_in d ≡ Ok WithWindow) → format ≡ WithWindow
+told_format None d format read is with_window = cc
+told_format (Some e) d format read is with_window = cc
 
 -- A text that is read spells a state of the table and the window that were handed in, which keeps the rules.
 -- Where it tells its window, no group's window has ended.
-pub record IsRead (kind : ℕ → Option Kind) (id : List ℕ) (rule : Rule) (bytes : List ℕ) (s : State) : Type 0 where
+pub record IsRead (kind : ℕ → Option Kind) (id : List ℕ) (w : Window) (bytes : List ℕ) (s : State) : Type 0 where
   pub same_table : s.id ≡ id
-  pub same_rule : s.rule ≡ rule
-  pub spelled : IsSpelled rule s
+  pub same_window : s.window ≡ w
+  pub spelled : IsSpelled w s
   pub valid : is_valid kind s ≡ true
-  pub waits : TellsWindow bytes → are_waiting s ≡ true
+  pub waits : HasWindow bytes → are_waiting s ≡ true
 
-reads : (kind : ℕ → Option Kind) (id : List ℕ) (rule : Rule) (bytes : List ℕ) → IfOk (judged kind id rule bytes) (IsRead kind id rule bytes)
-unfolding judged
-reads kind id rule bytes =
+reads : (kind : ℕ → Option Kind) (id : List ℕ) (w : Window) (bytes : List ℕ) → IfOk (resumed kind id w bytes) (IsRead kind id w bytes)
+unfolding resumed
+reads kind id w bytes =
     if_ok-then Read (or_cause NotJson (parsed bytes)) _ (λ d read. if_ok-then Read (format_in d) _ (λ format is.
-    if_ok-then Read (state_of format rule d) _ (λ s spelled.
+    if_ok-then Read (read_state format w d) _ (λ s spelled.
     if_ok-held Read TableDiffers (bytes_eq s.id id) _ (λ table.
-    if_ok-held Read WindowDiffers (s.rule.window == rule.window) _ (λ window.
+    if_ok-held Read WindowDiffers (s.window.lines == w.lines) _ (λ window.
     if_ok-held Read Invalid (waits_hold format s) _ (λ in_time.
     if_ok-valid Read (is_valid kind s) s (λ valid.
-    is_read s (if_ok-of (IsSpelled rule) (state_of format rule d) s (state-spelled format rule d) spelled)
+    is_read s (if_ok-of (IsSpelled w) (read_state format w d) s (state-spelled format w d) spelled)
     table window valid
-    (λ tells. subst (λ (f : Place). waits_hold f s ≡ true) (told_format (parsed bytes) d format read is tells) in_time))))))))
+    (λ with_window. subst (λ (f : StateFormat). waits_hold f s ≡ true) (told_format (parsed bytes) d format read is with_window) in_time))))))))
   where
     Read : State → Type 0
-    Read s = IsRead kind id rule bytes s
+    Read s = IsRead kind id w bytes s
 
-    is_read : (s : State) → IsSpelled rule s → bytes_eq s.id id ≡ true → (s.rule.window == rule.window) ≡ true → is_valid kind s ≡ true
-        → (TellsWindow bytes → are_waiting s ≡ true) → Read s
+    is_read : (s : State) → IsSpelled w s → bytes_eq s.id id ≡ true → (s.window.lines == w.lines) ≡ true → is_valid kind s ≡ true
+        → (HasWindow bytes → are_waiting s ≡ true) → Read s
     is_read s spelled table window valid waits =
-        let same_window : s.rule.window ≡ rule.window = eqb-true s.rule.window rule.window window in
+        let same_window : s.window.lines ≡ w.lines = eqb-true s.window.lines w.lines window in
         record {
           same_table = (bytes_eq-Decides s.id id).0 table;
-          same_rule = λ i. record { window = same_window i; in_order = spelled.order i };
+          same_window = λ i. record { lines = same_window i; in_order = spelled.order i };
           spelled = spelled;
           valid = valid;
           waits = waits;
         }
 
-pub read-spelled : (kind : ℕ → Option Kind) (id : List ℕ) (rule : Rule) (bytes : List ℕ) (s : State) → judged kind id rule bytes ≡ Ok s
-    → IsRead kind id rule bytes s
-read-spelled kind id rule bytes s is =
-    if_ok-of (IsRead kind id rule bytes) (judged kind id rule bytes) s (reads kind id rule bytes) is
+pub read-spelled : (kind : ℕ → Option Kind) (id : List ℕ) (w : Window) (bytes : List ℕ) (s : State) → resumed kind id w bytes ≡ Ok s
+    → IsRead kind id w bytes s
+read-spelled kind id w bytes s is =
+    if_ok-of (IsRead kind id w bytes) (resumed kind id w bytes) s (reads kind id w bytes) is
 
 -- what is saved after a log reads back
-pub log_back : (kind : ℕ → Option Kind) (id : List ℕ) (rule : Rule) (es : List Entry) → IsWindow rule.window → IsId id → All IsEntry es → length es ≤ most_lines
-    → judged kind id rule (state_text (state id rule kind es)) ≡ Ok (state id rule kind es)
-log_back kind id rule es window is valid few =
-    let stands = state-valid id rule kind es window (recursion_from_All IsEntry es valid) few in
-    state_back kind (state id rule kind es) stands.valid stands.fast is
+pub log_back : (kind : ℕ → Option Kind) (id : List ℕ) (w : Window) (es : List Entry) → IsWindow w.lines → IsId id → All IsEntry es → length es ≤ most_lines
+    → resumed kind id w (state_text (state id w kind es)) ≡ Ok (state id w kind es)
+log_back kind id w es window is valid few =
+    let stands = state-valid id w kind es window (recursion_from_All IsEntry es valid) few in
+    state_back kind (state id w kind es) stands.valid stands.fast is
 
 -- ---- the rules of a valid state, as they are asked, and those that the state of a join keeps
 
@@ -153,10 +153,10 @@ rules-one kind s is = record {
 }
 
 -- a text that is read spells a state that a join can have
-pub read-state : (kind : ℕ → Option Kind) (id : List ℕ) (rule : Rule) (bytes : List ℕ) (s : State) → IsWindow rule.window → judged kind id rule bytes ≡ Ok s → IsState s
-read-state kind id rule bytes s window is =
-    let read = read-spelled kind id rule bytes s is in
-    let own : IsWindow s.rule.window = subst (λ (r : Rule). IsWindow r.window) (sym read.same_rule) window in
+pub read-state : (kind : ℕ → Option Kind) (id : List ℕ) (w : Window) (bytes : List ℕ) (s : State) → IsWindow w.lines → resumed kind id w bytes ≡ Ok s → IsState s
+read-state kind id w bytes s window is =
+    let read = read-spelled kind id w bytes s is in
+    let own : IsWindow s.window.lines = subst (λ (r : Window). IsWindow r.lines) (sym read.same_window) window in
     valid-state kind s (record { window = own; held = read.spelled.held; frames = read.spelled.frames }) read.valid
 
 -- ---- what it holds at the most
@@ -170,14 +170,14 @@ holds_few s is waits id =
     let short = state-short s is id in
     record { waiting = waits; groups = few; frames = few-frames s.groups is.groups.each; saved = omega (arith, few, short) }
 
-pub few_resumed : (kind : ℕ → Option Kind) (id : List ℕ) (rule : Rule) (bytes : List ℕ) (s : State) → IsWindow rule.window → IsId id
-    → TellsWindow bytes → judged kind id rule bytes ≡ Ok s → HoldsFew s
-few_resumed kind id rule bytes s window known tells is =
-    let read = read-spelled kind id rule bytes s is in
-    holds_few s (read-state kind id rule bytes s window is) (in_time-from s (read.waits tells)) (subst IsId (sym read.same_table) known)
+pub few_resumed : (kind : ℕ → Option Kind) (id : List ℕ) (w : Window) (bytes : List ℕ) (s : State) → IsWindow w.lines → IsId id
+    → HasWindow bytes → resumed kind id w bytes ≡ Ok s → HoldsFew s
+few_resumed kind id w bytes s window known with_window is =
+    let read = read-spelled kind id w bytes s is in
+    holds_few s (read-state kind id w bytes s window is) (in_time-from s (read.waits with_window)) (subst IsId (sym read.same_table) known)
 
-pub few_after : (kind : ℕ → Option Kind) (id : List ℕ) (rule : Rule) (bytes : List ℕ) (s : State) (e : Entry) → IsWindow rule.window → IsId id → judged kind id rule bytes ≡ Ok s → IsEntry e → s.counts.lines < most_lines → HoldsFew (step_after kind s e)
+pub few_after : (kind : ℕ → Option Kind) (id : List ℕ) (w : Window) (bytes : List ℕ) (s : State) (e : Entry) → IsWindow w.lines → IsId id → resumed kind id w bytes ≡ Ok s → IsEntry e → s.counts.lines < most_lines → HoldsFew (step_after kind s e)
 unfolding step_after
-few_after kind id rule bytes s e window known is valid below =
-    let read = read-spelled kind id rule bytes s is in
-    holds_few (step_after kind s e) (step-keeps kind s e (read-state kind id rule bytes s window is) valid below) (step-waits kind s e) (subst IsId (sym read.same_table) known)
+few_after kind id w bytes s e window known is valid below =
+    let read = read-spelled kind id w bytes s is in
+    holds_few (step_after kind s e) (step-keeps kind s e (read-state kind id w bytes s window is) valid below) (step-waits kind s e) (subst IsId (sym read.same_table) known)

@@ -11,10 +11,10 @@ use Rattle.n2k_wire.specs.Packet.{PacketParts}
 use Rattle.n2k_wire.specs.declared.entry.Entry.{Entry}
 use Rattle.n2k_table.specs.declared.definition.Kind.{Kind}
 use Rattle.n2k_join.specs.Frames.{Key, same_key, Frame, frames, of_key, frame_at}
-use Rattle.n2k_join.specs.Groups.{Ends, within, complete, cut, last_line}
+use Rattle.n2k_join.specs.Groups.{EndTest, within, complete, cut, last_line}
 use Rattle.n2k_join.specs.Messages.{Keyed, message_of, is_done_at, gathered_by, gathered, alone, message, numbers}
 use Rattle.n2k_join.specs.Pieces.{Sending, sendings, sendings_after}
-use Rattle.n2k_join.specs.Scattered.{key_of_sending, joined, sendings_of, IsScattered, IsMute}
+use Rattle.n2k_join.specs.Scattered.{key_of_sending, all_frames, sendings_of, IsScattered, IsMute}
 use Rattle.n2k_join.specs.Replay.{messages, gathered_messages, given_to, sent_to, Replays}
 use Rattle.n2k_join.proofs.Keys.{same_key-true, same_key-refl}
 use Rattle.n2k_join.proofs.KeyCounts.{same_length}
@@ -22,7 +22,7 @@ use Rattle.n2k_join.proofs.Rising.{find-passes, find-all, find-none, filter_map-
 use Rattle.n2k_join.proofs.Lines.{RiseFrom}
 use Rattle.n2k_join.proofs.GroupLines.{IsGroup, rise-after, last_frame, lasts_above}
 use Rattle.n2k_join.proofs.Arriving.{StandsAt, Comes, gathers, Settled, settles, zip-map, zip-all, as_stretch}
-use Rattle.n2k_join.specs.Window.{Rule}
+use Rattle.n2k_join.specs.Window.{Window}
 use Rattle.n2k_join.specs.State.{Rise}
 use Rattle.n2k_join.proofs.Carried.{option_or_none}
 
@@ -92,7 +92,7 @@ abbrev made : Frame → Option (List Frame) → Option Keyed
 made f o = option_map (λ group. record { key = f.key; message = message_of f group }) o
 
 -- where no group of the key ends at the line, the line gathers nothing of the key
-none_of_key : (ends : Ends) (fs : List Frame) (k : Key) (gs : List (List Frame)) (line : ℕ) → cut ends (of_key k fs) ≡ gs → AllByRecursion (λ g. (last_line g == line) ≡ false) gs → kept k (gathered ends fs line) ≡ None
+none_of_key : (ends : EndTest) (fs : List Frame) (k : Key) (gs : List (List Frame)) (line : ℕ) → cut ends (of_key k fs) ≡ gs → AllByRecursion (λ g. (last_line g == line) ≡ false) gs → kept k (gathered ends fs line) ≡ None
 unfolding gathered
 none_of_key ends fs k gs line cut_is none = by_frame (frame_at line fs) refl
   where
@@ -134,19 +134,19 @@ map-filter_map {Y = Y} g h (x ∷ xs) = by_given (h x) (map-filter_map g h xs)
     by_given (Some y) ih = ap (λ l. g y ∷ l) ih
 
 -- the lines of groups rise, and lie within the log
-lasts_rise : (n : ℕ) (gs : List (List Frame)) → AllByRecursion IsGroup gs → RiseFrom n (joined gs) → Rise last_line n gs
+lasts_rise : (n : ℕ) (gs : List (List Frame)) → AllByRecursion IsGroup gs → RiseFrom n (all_frames gs) → Rise last_line n gs
 lasts_rise n [] some rise = tt
 lasts_rise n (g ∷ gs) some rise =
     let above = lasts_above n (g ∷ gs) some rise in
-    (above.0, lasts_rise (last_line g + 1) gs some.1 (rise-after n g (joined gs) some.0 rise))
+    (above.0, lasts_rise (last_line g + 1) gs some.1 (rise-after n g (all_frames gs) some.0 rise))
 
-comes-within : (ends : Ends) (kind : ℕ → Option Kind) (es : List Entry) (k : Key) (x : Sending) (g : List Frame) → Comes ends kind es k x g → last_line g < 1 + length es
+comes-within : (ends : EndTest) (kind : ℕ → Option Kind) (es : List Entry) (k : Key) (x : Sending) (g : List Frame) → Comes ends kind es k x g → last_line g < 1 + length es
 comes-within ends kind es k x g comes =
     let last = last_frame (StandsAt (frames kind es) k) g (as_stretch ends x g comes.stretch comes.goes_on).nonempty comes.stands in
     subst (λ l. l < 1 + length es) (sym last.at) (find-all (λ (f : Frame). f.line < 1 + length es) (λ (f : Frame). f.line == last.frame.line) (frames kind es) last.frame (frames-below kind 1 es) last.holds.0)
 
 -- of a key a line gathers what is sent under the key and ends there
-line_of_key : (ends : Ends) (kind : ℕ → Option Kind) (ms : List PacketParts) (es : List Entry) (k : Key) (at : Settled ends kind ms es k) (i : ℕ) → kept k (gathered ends (frames kind es) i) ≡ option_map (keyed k) (at_line (sendings_of k ms) at.groups i)
+line_of_key : (ends : EndTest) (kind : ℕ → Option Kind) (ms : List PacketParts) (es : List Entry) (k : Key) (at : Settled ends kind ms es k) (i : ℕ) → kept k (gathered ends (frames kind es) i) ≡ option_map (keyed k) (at_line (sendings_of k ms) at.groups i)
 line_of_key ends kind ms es k at i = by_line (at_line-cases (gathered ends (frames kind es)) k (sendings_of k ms) at.groups i (zip-map (Comes ends kind es k) _ (gathers ends kind es k) (sendings_of k ms) at.groups at.each))
   where
     own : (x : Sending) → kept k (Some (keyed k x)) ≡ Some (keyed k x)
@@ -157,7 +157,7 @@ line_of_key ends kind ms es k at i = by_line (at_line-cases (gathered ends (fram
     by_line (inr there) = none_of_key ends (frames kind es) k at.groups i at.cut_is there.1 ∙ sym (ap (option_map (keyed k)) there.0)
 
 -- what the groups of a key give, is what was sent under it, in order
-pub gathered_of_key : (ends : Ends) (kind : ℕ → Option Kind) (ms : List PacketParts) (es : List Entry) (k : Key) → Settled ends kind ms es k → filter (λ (m : Keyed). same_key k m.key) (filter_map (gathered ends (frames kind es)) (numbers es)) ≡ map (keyed k) (sendings_of k ms)
+pub gathered_of_key : (ends : EndTest) (kind : ℕ → Option Kind) (ms : List PacketParts) (es : List Entry) (k : Key) → Settled ends kind ms es k → filter (λ (m : Keyed). same_key k m.key) (filter_map (gathered ends (frames kind es)) (numbers es)) ≡ map (keyed k) (sendings_of k ms)
 gathered_of_key ends kind ms es k at =
     let inside : AllByRecursion (λ g. last_line g < 1 + length es) at.groups = zip-all (Comes ends kind es k) (λ g. last_line g < 1 + length es) (comes-within ends kind es k) (sendings_of k ms) at.groups at.each in
     filter-filter_map k (gathered ends (frames kind es)) (numbers es)
@@ -169,7 +169,7 @@ messages-keyed : (k : Key) (xs : List Sending) → map (λ (m : Keyed). m.messag
 messages-keyed k [] = refl
 messages-keyed k (x ∷ xs) = ap (λ l. x.message ∷ l) (messages-keyed k xs)
 
-pub gives_in_order : (w : Rule) (kind : ℕ → Option Kind) (ms : List PacketParts) (es : List Entry) → IsScattered w kind ms es → (k : Key) → given_to k w kind es ≡ sent_to k ms
+pub gives_in_order : (w : Window) (kind : ℕ → Option Kind) (ms : List PacketParts) (es : List Entry) → IsScattered w kind ms es → (k : Key) → given_to k w kind es ≡ sent_to k ms
 gives_in_order w kind ms es scattered k = ap (map (λ (m : Keyed). m.message)) (gathered_of_key (within w) kind ms es k (settles w kind ms es scattered k)) ∙ messages-keyed k (sendings_of k ms)
 
 -- where no entry gives a message alone, every message is a group's
@@ -178,11 +178,11 @@ entry-mute kind [] i mute = refl
 entry-mute kind (e ∷ es) zero mute = mute.0
 entry-mute kind (e ∷ es) (suc i) mute = entry-mute kind es i mute.1
 
-line-mute : (w : Rule) (kind : ℕ → Option Kind) (es : List Entry) (i : ℕ) → AllByRecursion (λ (e : Entry). alone kind e ≡ None) es → message w kind es i ≡ option_map (λ (m : Keyed). m.message) (gathered (within w) (frames kind es) i)
+line-mute : (w : Window) (kind : ℕ → Option Kind) (es : List Entry) (i : ℕ) → AllByRecursion (λ (e : Entry). alone kind e ≡ None) es → message w kind es i ≡ option_map (λ (m : Keyed). m.message) (gathered (within w) (frames kind es) i)
 line-mute w kind es zero mute = option_or_none _
 line-mute w kind es (suc i) mute = ap (option_or (option_map (λ (m : Keyed). m.message) (gathered (within w) (frames kind es) (suc i)))) (entry-mute kind es i mute) ∙ option_or_none _
 
-pub by_groups : (w : Rule) (kind : ℕ → Option Kind) (es : List Entry) → IsMute kind es → messages w kind es ≡ map (λ (m : Keyed). m.message) (gathered_messages w kind es)
+pub by_groups : (w : Window) (kind : ℕ → Option Kind) (es : List Entry) → IsMute kind es → messages w kind es ≡ map (λ (m : Keyed). m.message) (gathered_messages w kind es)
 by_groups w kind es mute =
     filter_map-range (message w kind es) (λ i. option_map (λ (m : Keyed). m.message) (gathered (within w) (frames kind es) i)) 1 (length es) (λ i l u. line-mute w kind es i (recursion_from_All _ es mute))
     ∙ sym (map-filter_map (λ (m : Keyed). m.message) (gathered (within w) (frames kind es)) (numbers es))
@@ -192,13 +192,13 @@ length-sendings earlier [] = refl
 length-sendings earlier (m ∷ ms) = ap suc (length-sendings (earlier ++ m ∷ []) ms)
 
 -- as many as were sent
-pub gathers_all : (w : Rule) (kind : ℕ → Option Kind) (ms : List PacketParts) (es : List Entry) → IsScattered w kind ms es → length (gathered_messages w kind es) ≡ length ms
+pub gathers_all : (w : Window) (kind : ℕ → Option Kind) (ms : List PacketParts) (es : List Entry) → IsScattered w kind ms es → length (gathered_messages w kind es) ≡ length ms
 gathers_all w kind ms es scattered =
     same_length (λ (m : Keyed). m.key) key_of_sending (length (gathered_messages w kind es)) (gathered_messages w kind es) (sendings ms) (omega arith)
     (λ k. ap length (gathered_of_key (within w) kind ms es k (settles w kind ms es scattered k)) ∙ length-map (sendings_of k ms) (keyed k))
     ∙ length-sendings [] ms
 
-pub replays : (w : Rule) (kind : ℕ → Option Kind) (ms : List PacketParts) (es : List Entry) → IsScattered w kind ms es → IsMute kind es → Replays w kind ms es
+pub replays : (w : Window) (kind : ℕ → Option Kind) (ms : List PacketParts) (es : List Entry) → IsScattered w kind ms es → IsMute kind es → Replays w kind ms es
 replays w kind ms es scattered mute = record {
   as_many = ap length (by_groups w kind es mute) ∙ (length-map (gathered_messages w kind es) (λ (m : Keyed). m.message) ∙ gathers_all w kind ms es scattered);
   by_groups = by_groups w kind es mute;

@@ -7,7 +7,7 @@ use Rattle.std.proofs.lemmas.List.Folds.{find-append}
 use Rattle.std.proofs.lemmas.Bool.{eqb-true, eq-eqb, ne_eqb, eqb-false, false_from_ne_true}
 use Rattle.std.proofs.lemmas.Option.{same_Some}
 use Rattle.n2k_join.specs.Frames.{Key, same_key, Frame, of_key, frame_at, most_frames}
-use Rattle.n2k_join.specs.Groups.{Ends, first, incomplete, open_of}
+use Rattle.n2k_join.specs.Groups.{EndTest, first, incomplete, open_of}
 use Rattle.n2k_join.specs.Open.{Piece, Group, group_of, where_begun, begun_at, open_groups}
 use Rattle.n2k_join.specs.State.{held_frame, held_of, held, Rise, IsOpen, AreApart, AreOpen}
 use Rattle.n2k_join.proofs.Cuts.{IsEnding, so_far}
@@ -75,7 +75,7 @@ held-own (g ∷ gs) apart = (
       (all-zip (λ (h : Group). same_key g.key h.key ≡ false) (λ (h : Group). of_key h.key (held gs) ≡ held_of h) gs apart.0 (held-own gs apart.1)),
 )
 
-module _ (ends : Ends) (is_ending : IsEnding ends) where
+module _ (ends : EndTest) (is_ending : IsEnding ends) where
   -- each of the groups is the open one of its key
   pub open_of-held : (n : ℕ) (gs : List Group) → AreOpen n gs → AllByRecursion (λ (g : Group). open_of ends g.key (held gs) ≡ Some (held_of g)) gs
   open_of-held n gs are =

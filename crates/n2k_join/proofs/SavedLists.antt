@@ -8,8 +8,8 @@ use Rattle.serde_json.specs.Data.{Data}
 use Rattle.serde_json.specs.Written.{items_outline}
 use Rattle.serde_json.specs.View.{items_of, members_view}
 use Rattle.serde_json.specs.declared.value.Value.{Value}
-use Rattle.n2k_join.specs.declared.saved.place.Place.{Place}
-use Rattle.n2k_join.specs.declared.state_fault.StateFault.{StateFault}
+use Rattle.n2k_join.specs.declared.saved.object.Object.{Object}
+use Rattle.n2k_join.specs.declared.fault.StateFault.{StateFault}
 use Rattle.n2k_join.specs.Inner.SavedTokens.{tokens_of}
 use Rattle.n2k_join.specs.Resumed.{elements, is_name, has_only}
 
@@ -24,7 +24,7 @@ after xs (Ok ys) = Ok (xs ++ ys)
 after xs (Err fault) = Err fault
 
 -- the names of an object, in its map and in its view
-pub has_only-view : (place : Place) (es : List (String Global × Value)) → has_only place (members_view es) ≡ list_all (λ k. is_name place (string_bytes k)) (keys_of es)
+pub has_only-view : (place : Object) (es : List (String Global × Value)) → has_only place (members_view es) ≡ list_all (λ k. is_name place (string_bytes k)) (keys_of es)
 has_only-view place [] = refl
 has_only-view place (e ∷ es) = ap (λ (b : Bool). is_name place (string_bytes e.0) && b) (has_only-view place es)
 

@@ -86,16 +86,16 @@ open_written o o1 o2 o3 o4 gs p1 p2 p3 p4 =
     ∙ ap (λ ts. o ++ (Token.key (codes "groups") ∷ (Token.begin_array ∷ ts))) (sym (items_tokens-map group_tree gs))
 
 -- the state, as it is written
-pub state_written : (o o1 o2 o3 o4 o5 : List Token) (s : State) (tells : Bool) → tells ≡ are_waiting s
-    → o1 ≡ o ++ Token.begin_object ∷ [] → o2 ≡ o1 ++ front_tokens tells s.counts → o3 ≡ o2 ++ open_tokens s.groups
-    → o4 ≡ o3 ++ back_tokens tells s.id s.rule.window s.counts → o5 ≡ o4 ++ Token.end_object ∷ []
+pub state_written : (o o1 o2 o3 o4 o5 : List Token) (s : State) (with_window : Bool) → with_window ≡ are_waiting s
+    → o1 ≡ o ++ Token.begin_object ∷ [] → o2 ≡ o1 ++ front_tokens with_window s.counts → o3 ≡ o2 ++ open_tokens s.groups
+    → o4 ≡ o3 ++ back_tokens with_window s.id s.window.lines s.counts → o5 ≡ o4 ++ Token.end_object ∷ []
     → o5 ≡ o ++ tokens_of (state_tree s)
 unfolding tree_by
-state_written o o1 o2 o3 o4 o5 s tells is p1 p2 p3 p4 p5 =
-    six_written o (Token.begin_object ∷ []) (front_tokens tells s.counts) (open_tokens s.groups) (back_tokens tells s.id s.rule.window s.counts) (Token.end_object ∷ []) [] o1 o2 o3 o4 o5 o5 p1 p2 p3 p4 p5 (sym (append-nil o5))
-    ∙ ap (λ ts. o ++ ts) (as_tree tells ∙ ap (λ b. tokens_of (tree_by b s)) is)
+state_written o o1 o2 o3 o4 o5 s with_window is p1 p2 p3 p4 p5 =
+    six_written o (Token.begin_object ∷ []) (front_tokens with_window s.counts) (open_tokens s.groups) (back_tokens with_window s.id s.window.lines s.counts) (Token.end_object ∷ []) [] o1 o2 o3 o4 o5 o5 p1 p2 p3 p4 p5 (sym (append-nil o5))
+    ∙ ap (λ ts. o ++ ts) (as_tree with_window ∙ ap (λ b. tokens_of (tree_by b s)) is)
   where
-    as_tree : (tells : Bool) → (Token.begin_object ∷ []) ++ (front_tokens tells s.counts ++ (open_tokens s.groups ++ (back_tokens tells s.id s.rule.window s.counts ++ (Token.end_object ∷ [] ++ [])))) ≡ tokens_of (tree_by tells s)
+    as_tree : (with_window : Bool) → (Token.begin_object ∷ []) ++ (front_tokens with_window s.counts ++ (open_tokens s.groups ++ (back_tokens with_window s.id s.window.lines s.counts ++ (Token.end_object ∷ [] ++ [])))) ≡ tokens_of (tree_by with_window s)
     as_tree true = refl
     as_tree false = refl
 
@@ -121,9 +121,9 @@ unfolding groups_tokens
 groups_written all now left none is = sym (is ∙ ap (λ es. now ++ groups_tokens (groups_in es)) none ∙ append-nil now)
 
 -- the members behind the open groups, as they are written
-pub back_written : (o o1 o2 o3 o4 : List Token) (tells : Bool) (id : List ℕ) (window : ℕ) (c : Counts)
-    → o1 ≡ o ++ lines_tokens c → o2 ≡ o1 ++ table_tokens id → o3 ≡ o2 ++ count_tokens (codes "unknown") c.unknown → o4 ≡ o3 ++ window_tokens tells window
-    → o4 ≡ o ++ back_tokens tells id window c
-back_written o o1 o2 o3 o4 tells id window c p1 p2 p3 p4 =
-    six_written o (lines_tokens c) (table_tokens id) (count_tokens (codes "unknown") c.unknown) (window_tokens tells window) [] [] o1 o2 o3 o4 o4 o4 p1 p2 p3 p4 (sym (append-nil o4)) (sym (append-nil o4))
-    ∙ ap (λ ts. o ++ (lines_tokens c ++ (table_tokens id ++ (count_tokens (codes "unknown") c.unknown ++ ts)))) (append-nil (window_tokens tells window))
+pub back_written : (o o1 o2 o3 o4 : List Token) (with_window : Bool) (id : List ℕ) (window : ℕ) (c : Counts)
+    → o1 ≡ o ++ lines_tokens c → o2 ≡ o1 ++ table_tokens id → o3 ≡ o2 ++ count_tokens (codes "unknown") c.unknown → o4 ≡ o3 ++ window_tokens with_window window
+    → o4 ≡ o ++ back_tokens with_window id window c
+back_written o o1 o2 o3 o4 with_window id window c p1 p2 p3 p4 =
+    six_written o (lines_tokens c) (table_tokens id) (count_tokens (codes "unknown") c.unknown) (window_tokens with_window window) [] [] o1 o2 o3 o4 o4 o4 p1 p2 p3 p4 (sym (append-nil o4)) (sym (append-nil o4))
+    ∙ ap (λ ts. o ++ (lines_tokens c ++ (table_tokens id ++ (count_tokens (codes "unknown") c.unknown ++ ts)))) (append-nil (window_tokens with_window window))

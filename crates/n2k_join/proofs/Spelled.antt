@@ -8,16 +8,17 @@ use Rattle.hex.proofs.HexLemmas.{decode_of-ok, decode_sized-ok, decode_sized-twi
 use Rattle.serde_json.specs.Data.{Data}
 use Rattle.serde_json.specs.Find.{as_str}
 use Rattle.n2k_wire.specs.Steps.{◌>>=◌, or_cause, holds_or}
-use Rattle.n2k_join.specs.declared.saved.place.Place.{Place}
-use Rattle.n2k_join.specs.declared.saved.place.Place.TheVariants as places
-use Rattle.n2k_join.specs.declared.state_fault.StateFault.{StateFault}
-use Rattle.n2k_join.specs.declared.state_fault.StateFault.TheVariants.{Shape}
+use Rattle.n2k_join.specs.declared.saved.object.Object.TheVariants as objects
+use Rattle.n2k_join.specs.declared.saved.object.StateFormat.{StateFormat}
+use Rattle.n2k_join.specs.declared.saved.object.StateFormat.TheVariants.{WithoutWindow, WithWindow}
+use Rattle.n2k_join.specs.declared.fault.StateFault.{StateFault}
+use Rattle.n2k_join.specs.declared.fault.StateFault.TheVariants.{Shape}
 use Rattle.n2k_join.specs.Frames.{frame_bytes}
 use Rattle.n2k_join.specs.Open.{Group}
-use Rattle.n2k_join.specs.Resumed.{as_whole, counts_of, digits_of, each, elements_of, group_of, groups_at, id_at, key_of, members_at, piece_in, piece_of, pieces_at, required, state_of, valid_if, whole_at, window_at}
+use Rattle.n2k_join.specs.Resumed.{as_int, read_counts, digits_of, each, elements_of, read_group, read_groups, read_id, read_key, members_at, piece_in, read_piece, read_pieces, required, read_state, valid_if, int_at, read_window}
 use Rattle.n2k_join.specs.Rules.{HasSeven}
 use Rattle.n2k_join.specs.State.{State}
-use Rattle.n2k_join.specs.Window.{Rule}
+use Rattle.n2k_join.specs.Window.{Window}
 use Rattle.n2k_join.proofs.SavedGroups.{small_bytes}
 
 -- ---- facts of what is read, reading by reading
@@ -63,13 +64,13 @@ unfolding AreSeven
 piece_in-seven [] = tt
 piece_in-seven (a ∷ []) = tt
 piece_in-seven (a ∷ b ∷ []) =
-    if_ok-then HasSeven (or_cause Shape (as_whole a)) _ (λ number e. if_ok-then HasSeven (digits_of frame_bytes b) _ (λ bytes is.
+    if_ok-then HasSeven (or_cause Shape (as_int a)) _ (λ number e. if_ok-then HasSeven (digits_of frame_bytes b) _ (λ bytes is.
     let seven = if_ok-of AreSeven (digits_of frame_bytes b) bytes (digits-seven b) is in
     record { seven = seven.0; are_bytes = seven.1 }))
 piece_in-seven (a ∷ b ∷ c ∷ ds) = tt
 
-piece-seven : (d : Data) → IfOk (piece_of d) HasSeven
-unfolding piece_of
+piece-seven : (d : Data) → IfOk (read_piece d) HasSeven
+unfolding read_piece
 piece-seven d = if_ok-then HasSeven (elements_of d) piece_in (λ ds e. piece_in-seven ds)
 
 each-holds : {A : Type 0} (holds : A → Type 0) (f : Data → Result A StateFault) → ((d : Data) → IfOk (f d) holds) → (ds : List Data) → IfOk (each f ds) (AllByRecursion holds)
@@ -78,36 +79,36 @@ each-holds holds f one (d ∷ ds) =
     if_ok-then (AllByRecursion holds) (f d) _ (λ x is. if_ok-then (AllByRecursion holds) (each f ds) _ (λ xs are.
     (if_ok-of holds (f d) x (one d) is, if_ok-of (AllByRecursion holds) (each f ds) xs (each-holds holds f one ds) are)))
 
-pieces-seven : (d : Data) → IfOk (pieces_at d) (AllByRecursion HasSeven)
-unfolding pieces_at
+pieces-seven : (d : Data) → IfOk (read_pieces d) (AllByRecursion HasSeven)
+unfolding read_pieces
 pieces-seven d =
-    if_ok-then (AllByRecursion HasSeven) (required (codes "frames") d) _ (λ e is. if_ok-then (AllByRecursion HasSeven) (elements_of e) (each piece_of) (λ ds is. each-holds HasSeven piece_of piece-seven ds))
+    if_ok-then (AllByRecursion HasSeven) (required (codes "frames") d) _ (λ e is. if_ok-then (AllByRecursion HasSeven) (elements_of e) (each read_piece) (λ ds is. each-holds HasSeven read_piece piece-seven ds))
 
 HasFrames : Group → Type 0
 HasFrames g = AllByRecursion HasSeven g.pieces
 
-group-frames : (d : Data) → IfOk (group_of d) HasFrames
-unfolding group_of HasFrames
+group-frames : (d : Data) → IfOk (read_group d) HasFrames
+unfolding read_group HasFrames
 group-frames d =
-    if_ok-then HasFrames (members_at places.Group d) _ (λ known e. if_ok-then HasFrames (key_of d) _ (λ key e. if_ok-then HasFrames (whole_at (codes "first") d) _ (λ first e.
-    if_ok-then HasFrames (pieces_at d) _ (λ pieces is. if_ok-of (AllByRecursion HasSeven) (pieces_at d) pieces (pieces-seven d) is))))
+    if_ok-then HasFrames (members_at objects.Group d) _ (λ known e. if_ok-then HasFrames (read_key d) _ (λ key e. if_ok-then HasFrames (int_at (codes "first") d) _ (λ first e.
+    if_ok-then HasFrames (read_pieces d) _ (λ pieces is. if_ok-of (AllByRecursion HasSeven) (read_pieces d) pieces (pieces-seven d) is))))
 
-groups-frames : (d : Data) → IfOk (groups_at d) (AllByRecursion HasFrames)
-unfolding groups_at
+groups-frames : (d : Data) → IfOk (read_groups d) (AllByRecursion HasFrames)
+unfolding read_groups
 groups-frames d =
-    if_ok-then (AllByRecursion HasFrames) (required (codes "groups") d) _ (λ e is. if_ok-then (AllByRecursion HasFrames) (elements_of e) (each group_of) (λ ds is. each-holds HasFrames group_of group-frames ds))
+    if_ok-then (AllByRecursion HasFrames) (required (codes "groups") d) _ (λ e is. if_ok-then (AllByRecursion HasFrames) (elements_of e) (each read_group) (λ ds is. each-holds HasFrames read_group group-frames ds))
 
 -- ---- states
 
 -- It has as many groups as it counts, frames of seven bytes, and what is handed in as the order of frames.
-pub record IsSpelled (rule : Rule) (s : State) : Type 0 where
-  pub order : s.rule.in_order ≡ rule.in_order
+pub record IsSpelled (w : Window) (s : State) : Type 0 where
+  pub order : s.window.in_order ≡ w.in_order
   pub held : s.counts.held ≡ length s.groups
   pub frames : AllByRecursion (λ (g : Group). AllByRecursion HasSeven g.pieces) s.groups
 
-pub state-spelled : (format : Place) (rule : Rule) (d : Data) → IfOk (state_of format rule d) (IsSpelled rule)
-unfolding state_of HasFrames
-state-spelled format rule d =
-    if_ok-then (IsSpelled rule) (members_at format d) _ (λ known e. if_ok-then (IsSpelled rule) (counts_of d) _ (λ counts e. if_ok-then (IsSpelled rule) (id_at d) _ (λ id e.
-    if_ok-then (IsSpelled rule) (groups_at d) _ (λ groups is. if_ok-then (IsSpelled rule) (window_at format rule.window d) _ (λ window e.
-    record { order = refl; held = refl; frames = if_ok-of (AllByRecursion HasFrames) (groups_at d) groups (groups-frames d) is })))))
+pub state-spelled : (format : StateFormat) (w : Window) (d : Data) → IfOk (read_state format w d) (IsSpelled w)
+unfolding read_state HasFrames
+state-spelled format w d =
+    if_ok-then (IsSpelled w) (members_at (objects.State format) d) _ (λ known e. if_ok-then (IsSpelled w) (read_counts d) _ (λ counts e. if_ok-then (IsSpelled w) (read_id d) _ (λ id e.
+    if_ok-then (IsSpelled w) (read_groups d) _ (λ groups is. if_ok-then (IsSpelled w) (read_window format w.lines d) _ (λ window e.
+    record { order = refl; held = refl; frames = if_ok-of (AllByRecursion HasFrames) (read_groups d) groups (groups-frames d) is })))))

@@ -145,11 +145,11 @@ group_short g parts is begun =
 
 -- ---- the state
 
-format_short : (tells : Bool) → length (compact_text (whole (format_by tells))) ≤ 1
+format_short : (with_window : Bool) → length (compact_text (whole (format_by with_window))) ≤ 1
 format_short true = number_short 1 2 (omega arith) (omega arith) (omega arith)
 format_short false = number_short 1 1 (omega arith) (omega arith) (omega arith)
 
-window_short : (tells : Bool) (window : ℕ) → IsWindow window → AreShort (window_member tells window) 18
+window_short : (with_window : Bool) (window : ℕ) → IsWindow window → AreShort (window_member with_window window) 18
 unfolding escape_byte
 window_short true window is =
     let digits = number_short 7 window (omega arith) (omega (arith, is.most)) (omega (arith, is.most)) in
@@ -174,7 +174,7 @@ state-short s is known =
     let count : (k : ℕ) → k ≤ s.counts.lines → length (compact_text (whole k)) ≤ 15 =
     λ k l. count_short k (omega (arith, l, most)) in
     let unknown = count s.counts.unknown (omega (arith, given)) in
-    let window = window_short (are_waiting s) s.rule.window is.window in
+    let window = window_short (are_waiting s) s.window.lines is.window in
     let m-unknown = member_short (codes "unknown") (whole s.counts.unknown) 9 15 refl unknown window in
     let m-table = member_short (codes "table") (string (encode_lower s.id)) 7 66 refl id m-unknown in
     let messages = count s.counts.messages (omega (arith, given)) in
@@ -192,9 +192,9 @@ state-short s is known =
 
 -- the same of a text whose groups were lent, as the state's owner sees it
 pub saved-short : (s view : State) (lent : List Group) (text : List ℕ) → IsState s → IsId s.id → lent ≡ s.groups → s ≡ view
-    → text ≡ state_text (record { id = s.id; rule = s.rule; counts = s.counts; groups = lent }) → length text ≤ bare_bytes + group_bytes * length view.groups
+    → text ≡ state_text (record { id = s.id; window = s.window; counts = s.counts; groups = lent }) → length text ≤ bare_bytes + group_bytes * length view.groups
 saved-short s view lent text is known same seen written =
-    let named = λ (gs : List Group). let made : State = record { id = s.id; rule = s.rule; counts = s.counts; groups = gs } in made in
+    let named = λ (gs : List Group). let made : State = record { id = s.id; window = s.window; counts = s.counts; groups = gs } in made in
     let all : text ≡ state_text s = written ∙ ap (λ gs. state_text (named gs)) same in
     let short = state-short s is known in
     subst (λ (v : State). length text ≤ bare_bytes + group_bytes * length v.groups) seen (subst (λ t. length t ≤ bare_bytes + group_bytes * length s.groups) (sym all) short)

@@ -12,16 +12,16 @@ use Rattle.serde_json.specs.View.{items_of}
 use Rattle.serde_json.specs.Written.{outline, items_outline}
 use Rattle.serde_json.proofs.Numbers.{number_of-decimal}
 use Rattle.n2k_join.specs.Open.{Piece, Group}
-use Rattle.n2k_join.specs.Resumed.{each, elements, format_in, piece_of, group_of, key_of, pieces_at, groups_at, counts_of, id_at, is_valid, state_of, state_of_parts, judged, parsed, valid_if, waits_hold}
+use Rattle.n2k_join.specs.Resumed.{each, elements, format_in, read_piece, read_group, read_key, read_pieces, read_groups, read_counts, read_id, is_valid, read_state, state_of_parts, resumed, parsed, valid_if, waits_hold}
 use Rattle.n2k_join.specs.Saved.{IsId, are_waiting, saved_format, old_format, list, piece_tree, group_tree, state_text, format_by, window_member, tree_by, whole}
 use Rattle.n2k_join.specs.State.{State, IsState, AreCounts, AreFast, AreWaiting, IsKey, IsPiece, IsOpen, HasParts}
-use Rattle.n2k_join.specs.Window.{Rule, IsWindow}
+use Rattle.n2k_join.specs.Window.{Window, IsWindow}
 use Rattle.n2k_join.specs.declared.counts.Counts.{Counts}
-use Rattle.n2k_join.specs.declared.saved.place.Place.{Place}
-use Rattle.n2k_join.specs.declared.saved.place.Place.TheVariants as places
+use Rattle.n2k_join.specs.declared.saved.object.StateFormat.{StateFormat}
+use Rattle.n2k_join.specs.declared.saved.object.StateFormat.TheVariants.{WithoutWindow, WithWindow}
 use Rattle.n2k_wire.specs.Steps.{◌>>=◌, or_cause, holds_or}
-use Rattle.n2k_join.specs.declared.state_fault.StateFault.{StateFault}
-use Rattle.n2k_join.specs.declared.state_fault.StateFault.TheVariants.{NotJson, TableDiffers, WindowDiffers, Invalid}
+use Rattle.n2k_join.specs.declared.fault.StateFault.{StateFault}
+use Rattle.n2k_join.specs.declared.fault.StateFault.TheVariants.{NotJson, TableDiffers, WindowDiffers, Invalid}
 use Rattle.n2k_table.specs.declared.definition.Kind.{Kind}
 use Rattle.n2k_join.proofs.ValidStates.{state_valid, parsed_some, in_time-to}
 use Rattle.n2k_join.specs.Counts.{most_lines}
@@ -80,8 +80,8 @@ piece-tree p is = record {
   back = rw (number_of-decimal p.number (omega (arith, is.small))) refl;
 }
 
-pub piece-reads : (p : Piece) → IsHeld p → piece_of (piece_tree p) ≡ Ok p
-unfolding piece_of piece_tree
+pub piece-reads : (p : Piece) → IsHeld p → read_piece (piece_tree p) ≡ Ok p
+unfolding read_piece piece_tree
 piece-reads p is = rw (decode_sized-encode_lower p.bytes 7 is.piece.seven (bytes_at p.bytes is.piece.are_bytes)) refl
 
 -- each of a list is read back
@@ -121,9 +121,9 @@ group-tree g is =
       back = rw (number_of-decimal g.key.dst (omega (arith, is.key.dst)), number_of-decimal g.first (omega (arith, is.first)), frames.back, number_of-decimal g.key.pgn (omega (arith, is.key.pgn)), number_of-decimal g.key.sequence (omega (arith, is.key.sequence)), number_of-decimal g.key.src (omega (arith, is.key.src))) refl;
     }
 
-pub group-reads : (g : Group) → IsKept g → group_of (group_tree g) ≡ Ok g
-unfolding group_of key_of pieces_at group_tree
-group-reads g is = rw (each-reads piece_tree piece_of g.pieces (all-map IsHeld (λ p. piece_of (piece_tree p) ≡ Ok p) g.pieces piece-reads is.pieces)) refl
+pub group-reads : (g : Group) → IsKept g → read_group (group_tree g) ≡ Ok g
+unfolding read_group read_key read_pieces group_tree
+group-reads g is = rw (each-reads piece_tree read_piece g.pieces (all-map IsHeld (λ p. read_piece (piece_tree p) ≡ Ok p) g.pieces piece-reads is.pieces)) refl
 
 -- what a state of a table holds, all that its text needs
 kept_groups : (s : State) → IsState s → AllByRecursion IsKept s.groups
@@ -139,8 +139,8 @@ kept_groups s is =
     (all-zip IsOpen (λ (g : Group). g.first ≤ s.counts.lines) s.groups is.groups.each is.groups.begun))
 
 -- the place of a state that tells its window or doesn't
-abbrev place_by : Bool → Place
-place_by tells = if tells then places.WindowState else places.State
+abbrev format_of : Bool → StateFormat
+format_of with_window = if with_window then WithWindow else WithoutWindow
 
 -- the trees of the groups
 groups-tree : (s : State) → IsState s → IsTree 4 (list (map group_tree s.groups))
@@ -163,34 +163,34 @@ counts-small c are = record {
   unknown = omega (arith, are.lines, are.given);
 }
 
-format-small : (tells : Bool) → format_by tells < 2 ^ 64
+format-small : (with_window : Bool) → format_by with_window < 2 ^ 64
 format-small true = omega arith
 format-small false = omega arith
 
-last-plain : (tells : Bool) (s : State) → IsWindow s.rule.window → ArePlainTexts (window_member tells s.rule.window)
-last-plain true s is = plain_member (codes "window") (whole s.rule.window) refl (omega (arith, is.most)) plain_none
+last-plain : (with_window : Bool) (s : State) → IsWindow s.window.lines → ArePlainTexts (window_member with_window s.window.lines)
+last-plain true s is = plain_member (codes "window") (whole s.window.lines) refl (omega (arith, is.most)) plain_none
 last-plain false s is = plain_none
 
-tree-plain : (tells : Bool) (s : State) → IsState s → IsPlain (tree_by tells s)
+tree-plain : (with_window : Bool) (s : State) → IsState s → IsPlain (tree_by with_window s)
 unfolding tree_by
-tree-plain tells s is =
+tree-plain with_window s is =
     let small = counts-small s.counts is.counted in
-    let last = last-plain tells s is.window in
+    let last = last-plain with_window s is.window in
     let unknown = plain_member (codes "unknown") (whole s.counts.unknown) refl small.unknown last in
     let table = plain_member (codes "table") (string (encode_lower s.id)) refl (IsUtf8-encode_lower s.id) unknown in
     let messages = plain_member (codes "messages") (whole s.counts.messages) refl small.messages table in
     let lines = plain_member (codes "lines") (whole s.counts.lines) refl small.lines messages in
     let groups = plain_member (codes "groups") (list (map group_tree s.groups)) refl (groups-tree s is).plain lines in
-    let format = plain_member (codes "format") (whole (format_by tells)) refl (format-small tells) groups in
+    let format = plain_member (codes "format") (whole (format_by with_window)) refl (format-small with_window) groups in
     let broken = plain_member (codes "broken") (whole s.counts.broken) refl small.broken format in
     (plain_member (codes "bad") (whole s.counts.bad) refl small.bad broken).each
 
-tree-shallow : (tells : Bool) (s : State) → IsState s → depth (outline (tree_by tells s)) ≤ 5
+tree-shallow : (with_window : Bool) (s : State) → IsState s → depth (outline (tree_by with_window s)) ≤ 5
 unfolding tree_by
 tree-shallow true s is = let more = (groups-tree s is).shallow in omega arith
 tree-shallow false s is = let more = (groups-tree s is).shallow in omega arith
 
-tree-back : (tells : Bool) (s : State) → IsState s → of_json (outline (tree_by tells s)) ≡ Some (tree_by tells s)
+tree-back : (with_window : Bool) (s : State) → IsState s → of_json (outline (tree_by with_window s)) ≡ Some (tree_by with_window s)
 unfolding tree_by
 tree-back true s is =
     let small = counts-small s.counts is.counted in
@@ -202,7 +202,7 @@ tree-back true s is =
       number_of-decimal s.counts.lines small.lines,
       number_of-decimal s.counts.messages small.messages,
       number_of-decimal s.counts.unknown small.unknown,
-      number_of-decimal s.rule.window (omega (arith, is.window.most)),
+      number_of-decimal s.window.lines (omega (arith, is.window.most)),
     ) refl
 tree-back false s is =
     let small = counts-small s.counts is.counted in
@@ -217,101 +217,101 @@ tree-back false s is =
     ) refl
 
 -- the state that is read where this is handed in
-abbrev read_under : Bool → Rule → State → State
-read_under tells rule s = record { id = s.id; rule = record { window = if tells then s.rule.window else rule.window; in_order = rule.in_order }; counts = s.counts; groups = s.groups }
+abbrev read_under : Bool → Window → State → State
+read_under with_window w s = record { id = s.id; window = record { lines = if with_window then s.window.lines else w.lines; in_order = w.in_order }; counts = s.counts; groups = s.groups }
 
 -- the groups of its text
-groups-back : (s : State) → IsState s → each group_of (elements (items_of (map group_tree s.groups))) ≡ Ok s.groups
+groups-back : (s : State) → IsState s → each read_group (elements (items_of (map group_tree s.groups))) ≡ Ok s.groups
 groups-back s is =
-    each-reads group_tree group_of s.groups
-    (all-map IsKept (λ (g : Group). group_of (group_tree g) ≡ Ok g) s.groups group-reads (kept_groups s is))
+    each-reads group_tree read_group s.groups
+    (all-map IsKept (λ (g : Group). read_group (group_tree g) ≡ Ok g) s.groups group-reads (kept_groups s is))
 
-pub state-reads : (tells : Bool) (rule : Rule) (s : State) → IsState s → IsId s.id → state_of (place_by tells) rule (tree_by tells s) ≡ Ok (read_under tells rule s)
-unfolding state_of counts_of id_at groups_at tree_by
-state-reads true rule s is id =
+pub state-reads : (with_window : Bool) (w : Window) (s : State) → IsState s → IsId s.id → read_state (format_of with_window) w (tree_by with_window s) ≡ Ok (read_under with_window w s)
+unfolding read_state read_counts read_id read_groups tree_by
+state-reads true w s is id =
     rw (decode_sized-encode_lower s.id 32 id.long id.are_bytes, groups-back s is)
-    (ap (λ n. Ok (record { id = s.id; rule = record { window = s.rule.window; in_order = rule.in_order }; counts = record s.counts { held = n }; groups = s.groups })) (sym is.held))
-state-reads false rule s is id =
+    (ap (λ n. Ok (record { id = s.id; window = record { lines = s.window.lines; in_order = w.in_order }; counts = record s.counts { held = n }; groups = s.groups })) (sym is.held))
+state-reads false w s is id =
     rw (decode_sized-encode_lower s.id 32 id.long id.are_bytes, groups-back s is)
-    (ap (λ n. Ok (record { id = s.id; rule = rule; counts = record s.counts { held = n }; groups = s.groups })) (sym is.held))
+    (ap (λ n. Ok (record { id = s.id; window = w; counts = record s.counts { held = n }; groups = s.groups })) (sym is.held))
 
 bytes_eq-same : (bs : List ℕ) → bytes_eq bs bs ≡ true
 bytes_eq-same bs = (bytes_eq-Decides bs bs).1 refl
 
 -- what remains to be asked of a text once its members are read
-abbrev asked : (ℕ → Option Kind) → List ℕ → Rule → Place → State → Result State StateFault
-asked kind id rule format s = do
+abbrev asked : (ℕ → Option Kind) → List ℕ → Window → StateFormat → State → Result State StateFault
+asked kind id w format s = do
   same ← holds_or TableDiffers (bytes_eq s.id id)
-  as_long ← holds_or WindowDiffers (s.rule.window == rule.window)
+  as_long ← holds_or WindowDiffers (s.window.lines == w.lines)
   in_time ← holds_or Invalid (waits_hold format s)
   valid_if (is_valid kind s) s
 
-text-asked : (kind : ℕ → Option Kind) (id : List ℕ) (rule : Rule) (s : State) → IsState s → IsId s.id
-    → judged kind id rule (state_text s) ≡ asked kind id rule (place_by (are_waiting s)) (read_under (are_waiting s) rule s)
-unfolding judged tree_by state_text
-text-asked kind id rule s is known = by (are_waiting s)
+text-asked : (kind : ℕ → Option Kind) (id : List ℕ) (w : Window) (s : State) → IsState s → IsId s.id
+    → resumed kind id w (state_text s) ≡ asked kind id w (format_of (are_waiting s)) (read_under (are_waiting s) w s)
+unfolding resumed tree_by state_text
+text-asked kind id w s is known = by (are_waiting s)
   where
-    text : (tells : Bool) → or_cause NotJson (parsed (compact_text (tree_by tells s))) ≡ Ok (tree_by tells s)
-    text tells =
-        let plain = tree-plain tells s is in
-        let depth_ok : depth (outline (tree_by tells s)) ≤ 127 = let few = tree-shallow tells s is in omega arith in
-        parsed_some (compact_text (tree_by tells s)) (tree_by tells s) (text_utf8 (tree_by tells s) plain) (compact_reads (tree_by tells s) plain depth_ok (tree-back tells s is))
+    text : (with_window : Bool) → or_cause NotJson (parsed (compact_text (tree_by with_window s))) ≡ Ok (tree_by with_window s)
+    text with_window =
+        let plain = tree-plain with_window s is in
+        let depth_ok : depth (outline (tree_by with_window s)) ≤ 127 = let few = tree-shallow with_window s is in omega arith in
+        parsed_some (compact_text (tree_by with_window s)) (tree_by with_window s) (text_utf8 (tree_by with_window s) plain) (compact_reads (tree_by with_window s) plain depth_ok (tree-back with_window s is))
 
-    by : (tells : Bool) → judged kind id rule (compact_text (tree_by tells s)) ≡ asked kind id rule (place_by tells) (read_under tells rule s)
-    by true = rw (text true) (rw (state-reads true rule s is known) refl)
-    by false = rw (text false) (rw (state-reads false rule s is known) refl)
+    by : (with_window : Bool) → resumed kind id w (compact_text (tree_by with_window s)) ≡ asked kind id w (format_of with_window) (read_under with_window w s)
+    by true = rw (text true) (rw (state-reads true w s is known) refl)
+    by false = rw (text false) (rw (state-reads false w s is known) refl)
 
-waits-there : (s : State) → are_waiting s ≡ true → waits_hold places.WindowState s ≡ true
+waits-there : (s : State) → are_waiting s ≡ true → waits_hold WithWindow s ≡ true
 waits-there s e = cc
 
 -- The text of a valid state, whose groups are of fast PGNs of its table, spells that state under its window, whether the
 -- order of frames is asked for or not.
 pub state_under : (kind : ℕ → Option Kind) (s : State) (order : Bool) → IsState s → AreFast kind s.groups → IsId s.id
-    → judged kind s.id (record { window = s.rule.window; in_order = order }) (state_text s) ≡ Ok (record { id = s.id; rule = record { window = s.rule.window; in_order = order }; counts = s.counts; groups = s.groups })
+    → resumed kind s.id (record { lines = s.window.lines; in_order = order }) (state_text s) ≡ Ok (record { id = s.id; window = record { lines = s.window.lines; in_order = order }; counts = s.counts; groups = s.groups })
 unfolding is_valid
-state_under kind s order is fast id = text-asked kind s.id rule s is id ∙ by (are_waiting s) refl
+state_under kind s order is fast id = text-asked kind s.id w s is id ∙ by (are_waiting s) refl
   where
-    rule : Rule
-    rule = record { window = s.rule.window; in_order = order }
+    w : Window
+    w = record { lines = s.window.lines; in_order = order }
 
     ruled : State
-    ruled = record { id = s.id; rule = rule; counts = s.counts; groups = s.groups }
+    ruled = record { id = s.id; window = w; counts = s.counts; groups = s.groups }
 
-    answers : (place : Place) → waits_hold place ruled ≡ true → asked kind s.id rule place ruled ≡ Ok ruled
+    answers : (place : StateFormat) → waits_hold place ruled ≡ true → asked kind s.id w place ruled ≡ Ok ruled
     answers place waits =
         let valid : is_valid kind ruled ≡ true = state_valid kind s is fast in
-        rw (bytes_eq-same s.id) (rw (eq-eqb s.rule.window s.rule.window refl) (rw waits (rw valid refl)))
+        rw (bytes_eq-same s.id) (rw (eq-eqb s.window.lines s.window.lines refl) (rw waits (rw valid refl)))
 
-    by : (tells : Bool) → are_waiting s ≡ tells
-        → asked kind s.id rule (place_by tells) (read_under tells rule s) ≡ Ok ruled
-    by true e = answers places.WindowState (waits-there s e)
-    by false e = answers places.State refl
+    by : (with_window : Bool) → are_waiting s ≡ with_window
+        → asked kind s.id w (format_of with_window) (read_under with_window w s) ≡ Ok ruled
+    by true e = answers WithWindow (waits-there s e)
+    by false e = answers WithoutWindow refl
 
-pub state_back : (kind : ℕ → Option Kind) (s : State) → IsState s → AreFast kind s.groups → IsId s.id → judged kind s.id s.rule (state_text s) ≡ Ok s
-state_back kind s is fast id = state_under kind s s.rule.in_order is fast id
+pub state_back : (kind : ℕ → Option Kind) (s : State) → IsState s → AreFast kind s.groups → IsId s.id → resumed kind s.id s.window (state_text s) ≡ Ok s
+state_back kind s is fast id = state_under kind s s.window.in_order is fast id
 
 -- Under another window it is refused, where it tells its own.
-pub state_elsewhere : (kind : ℕ → Option Kind) (s : State) (rule : Rule) → IsState s → AreWaiting s → IsId s.id → (s.rule.window ≡ rule.window → ⊥)
-    → judged kind s.id rule (state_text s) ≡ Err WindowDiffers
-state_elsewhere kind s rule is waits id other =
-    let refused : asked kind s.id rule places.WindowState (read_under true rule s) ≡ Err WindowDiffers =
-    rw (bytes_eq-same s.id) (rw (ne_eqb s.rule.window rule.window other) refl) in
-    text-asked kind s.id rule s is id
-    ∙ ap (λ tells. asked kind s.id rule (place_by tells) (read_under tells rule s)) (in_time-to s waits) ∙ refused
+pub state_elsewhere : (kind : ℕ → Option Kind) (s : State) (w : Window) → IsState s → AreWaiting s → IsId s.id → (s.window.lines ≡ w.lines → ⊥)
+    → resumed kind s.id w (state_text s) ≡ Err WindowDiffers
+state_elsewhere kind s w is waits id other =
+    let refused : asked kind s.id w WithWindow (read_under true w s) ≡ Err WindowDiffers =
+    rw (bytes_eq-same s.id) (rw (ne_eqb s.window.lines w.lines other) refl) in
+    text-asked kind s.id w s is id
+    ∙ ap (λ with_window. asked kind s.id w (format_of with_window) (read_under with_window w s)) (in_time-to s waits) ∙ refused
 
 -- What a text is read as, once each question but that of the rules is answered.
-pub judged-by : (kind : ℕ → Option Kind) (id bytes : List ℕ) (rule : Rule) (d : Data) (format : Place) (s : State)
-    → or_cause NotJson (parsed bytes) ≡ Ok d → format_in d ≡ Ok format → state_of format rule d ≡ Ok s
-    → bytes_eq s.id id ≡ true → (s.rule.window == rule.window) ≡ true → waits_hold format s ≡ true
-    → judged kind id rule bytes ≡ valid_if (is_valid kind s) s
-unfolding judged
-judged-by kind id bytes rule d format s text place spells table window waits = rw text (rw place (rw spells (rw table (rw window (rw waits refl)))))
+pub resumed-by : (kind : ℕ → Option Kind) (id bytes : List ℕ) (w : Window) (d : Data) (format : StateFormat) (s : State)
+    → or_cause NotJson (parsed bytes) ≡ Ok d → format_in d ≡ Ok format → read_state format w d ≡ Ok s
+    → bytes_eq s.id id ≡ true → (s.window.lines == w.lines) ≡ true → waits_hold format s ≡ true
+    → resumed kind id w bytes ≡ valid_if (is_valid kind s) s
+unfolding resumed
+resumed-by kind id bytes w d format s text place spells table window waits = rw text (rw place (rw spells (rw table (rw window (rw waits refl)))))
 
 -- a state that was read is made of its parts and the window that was handed in, where both are one
-pub of-parts : (s : State) (id : List ℕ) (window : ℕ) (order : Bool) (counts : Counts) (gs lent : List Group) (rule : Rule)
-    → record { id = id; rule = record { window = window; in_order = order }; counts = record counts { held = length gs }; groups = gs } ≡ s
-    → s.rule.window ≡ rule.window → s.rule.in_order ≡ rule.in_order → lent ≡ gs → s ≡ state_of_parts id rule counts lent
-of-parts s id window order counts gs lent rule view same_window same_order same =
-    let with_rule = λ (u : State). let v : State = record { id = u.id; rule = rule; counts = u.counts; groups = u.groups } in v in
-    let ruled : s ≡ with_rule s = λ i. record { id = s.id; rule = record { window = same_window i; in_order = same_order i }; counts = s.counts; groups = s.groups } in
-    ruled ∙ ap with_rule (sym view) ∙ ap (state_of_parts id rule counts) (sym same)
+pub of-parts : (s : State) (id : List ℕ) (window : ℕ) (order : Bool) (counts : Counts) (gs lent : List Group) (w : Window)
+    → record { id = id; window = record { lines = window; in_order = order }; counts = record counts { held = length gs }; groups = gs } ≡ s
+    → s.window.lines ≡ w.lines → s.window.in_order ≡ w.in_order → lent ≡ gs → s ≡ state_of_parts id w counts lent
+of-parts s id window order counts gs lent w view same_window same_order same =
+    let with_rule = λ (u : State). let v : State = record { id = u.id; window = w; counts = u.counts; groups = u.groups } in v in
+    let ruled : s ≡ with_rule s = λ i. record { id = s.id; window = record { lines = same_window i; in_order = same_order i }; counts = s.counts; groups = s.groups } in
+    ruled ∙ ap with_rule (sym view) ∙ ap (state_of_parts id w counts) (sym same)

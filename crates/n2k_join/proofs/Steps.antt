@@ -10,12 +10,12 @@ use Rattle.n2k_wire.specs.declared.entry.BadCause.TheVariants as causes
 use Rattle.n2k_wire.specs.declared.entry.Entry.{Entry}
 use Rattle.n2k_wire.specs.Packet.{PacketParts}
 use Rattle.n2k_table.specs.declared.definition.Kind.{Kind}
-use Rattle.n2k_join.specs.declared.broken.Broken.{Broken}
+use Rattle.n2k_join.specs.declared.step.Broken.{Broken}
 use Rattle.n2k_join.specs.Frames.{Key, same_key, Frame, of_key, frame_in}
-use Rattle.n2k_join.specs.Groups.{Ends, within}
+use Rattle.n2k_join.specs.Groups.{EndTest, within}
 use Rattle.n2k_join.specs.Open.{Group, open_groups, is_waiting, waiting, open_within}
-use Rattle.n2k_join.specs.Messages.{Keyed, message_of, alone, single_by, cause_in, fast_cause, gathered, told_of, broken_with, is_unknown}
-use Rattle.n2k_join.specs.State.{State, Given, held_of, held, next_line, overdue, step_frames, step_given, step_groups, step_after, counted, IsOpen, AreOpen}
+use Rattle.n2k_join.specs.Messages.{Keyed, message_of, alone, single_by, cause_in, fast_cause, gathered, as_broken, broken_with, is_unknown}
+use Rattle.n2k_join.specs.State.{State, Given, held_of, held, next_line, overdue, step_frames, step_given, step_groups, step_after, counts_after, IsOpen, AreOpen}
 use Rattle.n2k_join.proofs.Advanced.{of_the_key, advanced}
 use Rattle.n2k_join.proofs.BrokenGroups.{told_if, runs_out, breaks, broken-none, broken-last}
 use Rattle.n2k_join.proofs.Cuts.{IsEnding, so_far, within-ends}
@@ -27,7 +27,7 @@ use Rattle.n2k_join.proofs.Overdue.{none-run_out}
 use Rattle.n2k_join.proofs.Resumed.{held-log, held-own, held-other, open_groups-held}
 use Rattle.n2k_join.proofs.Rising.{find-passes, find-all, passes_none, all-map, all-zip}
 use Rattle.n2k_join.proofs.Windows.{open-waiting, waits-before, waiting-all, all-waiting, open_within-push, open_within-none}
-use Rattle.n2k_join.specs.Window.{Rule}
+use Rattle.n2k_join.specs.Window.{Window}
 use Rattle.n2k_join.proofs.Lines.{frame_of_packet, frame_in-line}
 
 -- ---- what an entry is
@@ -53,7 +53,7 @@ only_frame kind line e x is =
 
 -- ---- what a key's held frames are
 
-so_far-of_key : (ends : Ends) → IsEnding ends → (n : ℕ) (k : Key) (gs : List Group) → AreOpen n gs → so_far ends (of_key k (held gs)) ≡ option_map held_of (of_the_key k gs)
+so_far-of_key : (ends : EndTest) → IsEnding ends → (n : ℕ) (k : Key) (gs : List Group) → AreOpen n gs → so_far ends (of_key k (held gs)) ≡ option_map held_of (of_the_key k gs)
 unfolding so_far
 so_far-of_key ends is_ending n k gs are = by (of_the_key k gs) refl
   where
@@ -69,78 +69,78 @@ so_far-of_key ends is_ending n k gs are = by (of_the_key k gs) refl
 -- What an entry gives, and the groups that it leaves open; so the state after it is this.
 pub record StepsTo (kind : ℕ → Option Kind) (s : State) (e : Entry) (gives : Given) (leaves : List Group) : Type 0 where
   pub given : step_given kind s e ≡ gives
-  pub after : step_after kind s e ≡ record { id = s.id; rule = s.rule; counts = counted kind s.counts e gives (length leaves); groups = leaves }
+  pub after : step_after kind s e ≡ record { id = s.id; window = s.window; counts = counts_after kind s.counts e gives (length leaves); groups = leaves }
 
 steps_to : (kind : ℕ → Option Kind) (s : State) (e : Entry) (given : Given) (groups : List Group) → step_given kind s e ≡ given → step_groups kind s e ≡ groups → StepsTo kind s e given groups
 unfolding step_after
 steps_to kind s e given groups g h = record {
   given = g;
-  after = λ i. record { id = s.id; rule = s.rule; counts = counted kind s.counts e (g i) (length (h i)); groups = h i };
+  after = λ i. record { id = s.id; window = s.window; counts = counts_after kind s.counts e (g i) (length (h i)); groups = h i };
 }
 
 -- the groups that still wait at the next line
 abbrev pub kept : State → List Group
-kept s = waiting s.rule (next_line s) s.groups
+kept s = waiting s.window (next_line s) s.groups
 
 -- the message of a frame, with these groups open
-abbrev pub frame_message : Rule → Frame → List Group → Option PacketParts
+abbrev pub frame_message : Window → Frame → List Group → Option PacketParts
 frame_message w x gs = option_map (message_of x) (completed (within w) (option_map held_of (of_the_key x.key gs)) x)
 
 given_by : (p : Option Keyed) (a : Option PacketParts) (c : Option BadCause) (b : List Broken) → Given
 given_by p a c b = record { message = option_or (option_map (λ (m : Keyed). m.message) p) a; cause = c; broken = b }
 
-pub message_alone : (w : Rule) (x : Frame) (c : Option (List Frame)) → option_or (option_map (λ (m : Keyed). m.message) (option_map (keyed (within w) x) c)) None ≡ option_map (message_of x) c
+pub message_alone : (w : Window) (x : Frame) (c : Option (List Frame)) → option_or (option_map (λ (m : Keyed). m.message) (option_map (keyed (within w) x) c)) None ≡ option_map (message_of x) c
 message_alone w x None = refl
 message_alone w x (Some g) = refl
 
-module _ (kind : ℕ → Option Kind) (s : State) (e : Entry) (some : 0 < s.rule.window) (are : AreOpen s.counts.lines s.groups) where
+module _ (kind : ℕ → Option Kind) (s : State) (e : Entry) (some : 0 < s.window.lines) (are : AreOpen s.counts.lines s.groups) where
   -- what a frame gives, and what it breaks beside the groups whose window ends
   abbrev pub frame_gives : Frame → Given
   frame_gives x = record {
-    message = frame_message s.rule x (kept s);
+    message = frame_message s.window x (kept s);
     cause = None;
-    broken = map told_of (overdue s) ++ filter_map (told_if s.rule some (breaks s.rule some x)) (kept s);
+    broken = map as_broken (overdue s) ++ filter_map (told_if s.window some (breaks s.window some x)) (kept s);
   }
 
   pub kept-open : AreOpen s.counts.lines (kept s)
-  kept-open = open-waiting s.rule (next_line s) s.counts.lines s.groups are
+  kept-open = open-waiting s.window (next_line s) s.counts.lines s.groups are
 
   kept-log : IsLog s.counts.lines (held (kept s))
   kept-log = held-log s.counts.lines (kept s) kept-open
 
-  pub kept-wait : AllByRecursion (λ (g : Group). is_waiting s.rule (next_line s) g ≡ true) (kept s)
-  kept-wait = all-waiting s.rule (next_line s) s.groups
+  pub kept-wait : AllByRecursion (λ (g : Group). is_waiting s.window (next_line s) g ≡ true) (kept s)
+  kept-wait = all-waiting s.window (next_line s) s.groups
 
-  kept-groups : open_groups (within s.rule) s.counts.lines (held (kept s)) ≡ kept s
-  kept-groups = open_groups-held (within s.rule) (within-ends s.rule some) s.counts.lines (kept s) kept-open
+  kept-groups : open_groups (within s.window) s.counts.lines (held (kept s)) ≡ kept s
+  kept-groups = open_groups-held (within s.window) (within-ends s.window some) s.counts.lines (kept s) kept-open
 
   -- what is held of them has them open, at the last line and at the next
-  kept-now : open_within s.rule s.counts.lines (held (kept s)) ≡ kept s
+  kept-now : open_within s.window s.counts.lines (held (kept s)) ≡ kept s
   kept-now =
-      ap (waiting s.rule s.counts.lines) kept-groups
-      ∙ waiting-all s.rule s.counts.lines (kept s) (all-map (λ (g : Group). is_waiting s.rule (next_line s) g ≡ true) (λ (g : Group). is_waiting s.rule s.counts.lines g ≡ true) (kept s) (λ g e. waits-before s.rule s.counts.lines g e) kept-wait)
+      ap (waiting s.window s.counts.lines) kept-groups
+      ∙ waiting-all s.window s.counts.lines (kept s) (all-map (λ (g : Group). is_waiting s.window (next_line s) g ≡ true) (λ (g : Group). is_waiting s.window s.counts.lines g ≡ true) (kept s) (λ g e. waits-before s.window s.counts.lines g e) kept-wait)
 
-  kept-next : waiting s.rule (next_line s) (open_within s.rule s.counts.lines (held (kept s))) ≡ kept s
-  kept-next = ap (waiting s.rule (next_line s)) kept-now ∙ waiting-all s.rule (next_line s) (kept s) kept-wait
+  kept-next : waiting s.window (next_line s) (open_within s.window s.counts.lines (held (kept s))) ≡ kept s
+  kept-next = ap (waiting s.window (next_line s)) kept-now ∙ waiting-all s.window (next_line s) (kept s) kept-wait
 
   -- an entry without a frame leaves them
-  pub step-none : frame_in kind (next_line s) e ≡ None → StepsTo kind s e (record { message = alone kind e; cause = cause_in kind e; broken = map told_of (overdue s) }) (kept s)
+  pub step-none : frame_in kind (next_line s) e ≡ None → StepsTo kind s e (record { message = alone kind e; cause = cause_in kind e; broken = map as_broken (overdue s) }) (kept s)
   unfolding step_given given_by
   step-none none =
-      let w = s.rule in
+      let w = s.window in
       let fs : step_frames kind s e ≡ held (kept s) = ap (λ o. held (kept s) ++ option_to_list o) none ∙ append-nil (held (kept s)) in
       let quiet : broken_with w (held (kept s)) (next_line s) ≡ [] = broken-none w some s.counts.lines (held (kept s)) kept-log ∙ ap (filter_map (told_if w some (runs_out w some (next_line s)))) kept-groups ∙ none-run_out w some (next_line s) (kept s) kept-wait in
       steps_to kind s e _ _
       (λ i. given_by
       ((ap (λ fs. gathered (within w) fs (next_line s)) fs ∙ gathered-none (within w) s.counts.lines (next_line s) (held (kept s)) kept-log (omega arith)) i) (alone kind e) (cause_in kind e)
-      ((ap (λ fs. map told_of (overdue s) ++ broken_with w fs (next_line s)) fs ∙ ap (λ bs. map told_of (overdue s) ++ bs) quiet ∙ append-nil (map told_of (overdue s))) i))
+      ((ap (λ fs. map as_broken (overdue s) ++ broken_with w fs (next_line s)) fs ∙ ap (λ bs. map as_broken (overdue s) ++ bs) quiet ∙ append-nil (map as_broken (overdue s))) i))
       (ap (λ fs. open_within w (next_line s) fs) fs ∙ open_within-none w s.counts.lines some (held (kept s)) kept-log ∙ kept-next)
 
   -- One with a frame gives what the frame gives with the open group of its key, and the groups advance.
-  pub step-frame : (x : Frame) → frame_in kind (next_line s) e ≡ Some x → StepsTo kind s e (frame_gives x) (advanced (within s.rule) (kept s) x)
+  pub step-frame : (x : Frame) → frame_in kind (next_line s) e ≡ Some x → StepsTo kind s e (frame_gives x) (advanced (within s.window) (kept s) x)
   unfolding step_given given_by
   step-frame x found =
-      let w = s.rule in
+      let w = s.window in
       let only = only_frame kind (next_line s) e x found in
       let fs : step_frames kind s e ≡ held (kept s) ++ x ∷ [] = ap (λ o. held (kept s) ++ option_to_list o) found in
       let past : s.counts.lines < x.line = omega (arith, only.line) in
@@ -150,6 +150,6 @@ module _ (kind : ℕ → Option Kind) (s : State) (e : Entry) (some : 0 < s.rule
       let broken_is : broken_with w (step_frames kind s e) (next_line s) ≡ filter_map (told_if w some (breaks w some x)) (kept s) =
       ap (λ fs. broken_with w fs (next_line s)) fs ∙ broken-last w some s.counts.lines (held (kept s)) x kept-log only.line ∙ ap (filter_map (told_if w some (breaks w some x))) kept-groups in
       steps_to kind s e _ _
-      ((λ i. given_by (message_is i) (only.alone i) (only.cause i) (map told_of (overdue s) ++ broken_is i))
-      ∙ ap (λ m. record { message = m; cause = None; broken = map told_of (overdue s) ++ filter_map (told_if w some (breaks w some x)) (kept s) }) (message_alone w x (completed (within w) (option_map held_of (of_the_key x.key (kept s))) x)))
+      ((λ i. given_by (message_is i) (only.alone i) (only.cause i) (map as_broken (overdue s) ++ broken_is i))
+      ∙ ap (λ m. record { message = m; cause = None; broken = map as_broken (overdue s) ++ filter_map (told_if w some (breaks w some x)) (kept s) }) (message_alone w x (completed (within w) (option_map held_of (of_the_key x.key (kept s))) x)))
       (ap (λ fs. open_within w (next_line s) fs) fs ∙ open_within-push w s.counts.lines some (held (kept s)) x kept-log only.line ∙ ap (λ gs. advanced (within w) gs x) kept-next)

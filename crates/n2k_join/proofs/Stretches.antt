@@ -4,23 +4,23 @@ use Rattle.std.specs.Prelude.{◌==◌, nat_lt}
 use Rattle.std.specs.List.{AllByRecursion, range_with_len}
 use Rattle.std.proofs.lemmas.Bool.{or_parts, or_from, and_right, eq-eqb, ne_eqb, lt-leb, or_left}
 use Rattle.n2k_join.specs.Frames.{Frame}
-use Rattle.n2k_join.specs.Groups.{Ends, has_number, has_twice, complete, repeats, has_from, falls_back, misfits, is_late, within, first, closes, cut, HasEnded}
+use Rattle.n2k_join.specs.Groups.{EndTest, has_number, has_twice, complete, repeats, has_from, falls_back, misfits, is_late, within, first, closes, cut, HasEnded}
 use Rattle.n2k_join.specs.Pieces.{last_piece, Sending}
-use Rattle.n2k_join.specs.Scattered.{IsPieceOf, joined}
+use Rattle.n2k_join.specs.Scattered.{IsPieceOf, all_frames}
 use Rattle.n2k_join.proofs.WholePieces.{complete_pieces}
-use Rattle.n2k_join.specs.Window.{Rule}
+use Rattle.n2k_join.specs.Window.{Window}
 use Rattle.n2k_join.proofs.Carried.{has_number-cons, eqb-sym}
 use Rattle.n2k_join.proofs.CutLaws.{first_follows}
 use Rattle.n2k_join.proofs.Rising.{all-front, all-back}
 
 -- frames that are complete, and don't end before the last
-pub record IsStretch (ends : Ends) (g : List Frame) : Type 0 where
+pub record IsStretch (ends : EndTest) (g : List Frame) : Type 0 where
   pub nonempty : 0 < length g
   pub whole : complete g ≡ true
   pub goes_on : (f h : Frame) (front back : List Frame) → g ≡ (f ∷ front) ++ (h ∷ back) → closes ends (f ∷ front) h ≡ false
 
 -- a stretch at the front is the first group
-pub cut_stretch : (ends : Ends) (g rest : List Frame) → IsStretch ends g → cut ends (g ++ rest) ≡ g ∷ cut ends rest
+pub cut_stretch : (ends : EndTest) (g rest : List Frame) → IsStretch ends g → cut ends (g ++ rest) ≡ g ∷ cut ends rest
 cut_stretch ends g rest is =
     first_follows ends (g ++ rest) g rest
     (record { joined = refl; nonempty = is.nonempty; ended = ended rest; shortest = is.goes_on })
@@ -30,10 +30,10 @@ cut_stretch ends g rest is =
     ended (f ∷ rest) = or_left (complete g) (ends g f) is.whole
 
 -- stretches one behind the other are the groups
-pub cut_stretches : (ends : Ends) (gs : List (List Frame)) → AllByRecursion (IsStretch ends) gs → cut ends (joined gs) ≡ gs
+pub cut_stretches : (ends : EndTest) (gs : List (List Frame)) → AllByRecursion (IsStretch ends) gs → cut ends (all_frames gs) ≡ gs
 unfolding cut
 cut_stretches ends [] each = refl
-cut_stretches ends (g ∷ gs) each = cut_stretch ends g (joined gs) each.0 ∙ ap (λ l. g ∷ l) (cut_stretches ends gs each.1)
+cut_stretches ends (g ∷ gs) each = cut_stretch ends g (all_frames gs) each.0 ∙ ap (λ l. g ∷ l) (cut_stretches ends gs each.1)
 
 -- what holds of a front, where no number comes twice
 has_number-push : (n : ℕ) (fs back : List Frame) (h : Frame) → has_number n (fs ++ (h ∷ back)) ≡ false → (has_number n fs ≡ false) × ((h.number == n) ≡ false)
@@ -54,7 +54,7 @@ apart-front (f ∷ fs) back h e =
     (or_from _ _ mine.0 rest.0, has_number-cons f fs h.number ∙ or_from _ _ (eqb-sym f.number h.number ∙ mine.1) rest.1)
 
 -- the frames go on together: no front of them ends before the frame after it
-pub record GoesOn (ends : Ends) (g : List Frame) : Type 0 where
+pub record GoesOn (ends : EndTest) (g : List Frame) : Type 0 where
   pub on : (f h : Frame) (front back : List Frame) → g ≡ (f ∷ front) ++ (h ∷ back) → ends (f ∷ front) h ≡ false
 
 -- of frames whose numbers rise one by one none falls back
@@ -69,12 +69,12 @@ above a (suc n) (f ∷ front) h back numbers =
     (omega (arith, later.0), or_from _ _ (lt-leb h.number f.number (omega (arith, here, later.0))) later.1)
 
 -- no number falls back, and no window ends before the last of them
-pub goes_on-within : (w : Rule) (n : ℕ) (g : List Frame) → has_twice g ≡ false → (w.in_order ≡ true → map (λ (f : Frame). f.number) g ≡ range_with_len 0 n) → AllByRecursion (λ (f : Frame). f.line < first g + w.window) g → GoesOn (within w) g
+pub goes_on-within : (w : Window) (n : ℕ) (g : List Frame) → has_twice g ≡ false → (w.in_order ≡ true → map (λ (f : Frame). f.number) g ≡ range_with_len 0 n) → AllByRecursion (λ (f : Frame). f.line < first g + w.lines) g → GoesOn (within w) g
 goes_on-within w n g apart ordered each = record {
   on = λ f h front back e.
-      let l : h.line < first g + w.window = (all-back (λ (i : Frame). i.line < first g + w.window) (f ∷ front) (h ∷ back) (subst (AllByRecursion (λ (i : Frame). i.line < first g + w.window)) e each)).0 in
+      let l : h.line < first g + w.lines = (all-back (λ (i : Frame). i.line < first g + w.lines) (f ∷ front) (h ∷ back) (subst (AllByRecursion (λ (i : Frame). i.line < first g + w.lines)) e each)).0 in
       let same : first g ≡ f.line = ap first e in
-      or_from (misfits w (f ∷ front) h) (is_late w (f ∷ front) h) (or_from (repeats (f ∷ front) h) (w.in_order && falls_back (f ∷ front) h) (apart-front (f ∷ front) back h (ap has_twice (sym e) ∙ apart)).1 (rises f h front back e w.in_order refl)) (lt-leb (f.line + w.window) h.line (omega (arith, l, same)));
+      or_from (misfits w (f ∷ front) h) (is_late w (f ∷ front) h) (or_from (repeats (f ∷ front) h) (w.in_order && falls_back (f ∷ front) h) (apart-front (f ∷ front) back h (ap has_twice (sym e) ∙ apart)).1 (rises f h front back e w.in_order refl)) (lt-leb (f.line + w.lines) h.line (omega (arith, l, same)));
 }
   where
     rises : (f h : Frame) (front back : List Frame) → g ≡ (f ∷ front) ++ (h ∷ back) → (b : Bool) → w.in_order ≡ b → (b && falls_back (f ∷ front) h) ≡ false
@@ -82,7 +82,7 @@ goes_on-within w n g apart ordered each = record {
     rises f h front back e false t = refl
 
 -- all pieces of a message are a stretch, where they go on together
-pub stretch_pieces : (ends : Ends) (x : Sending) (g : List Frame) → AllByRecursion (IsPieceOf x) g → has_twice g ≡ false → length g ≡ last_piece x.message + 1 → GoesOn ends g → IsStretch ends g
+pub stretch_pieces : (ends : EndTest) (x : Sending) (g : List Frame) → AllByRecursion (IsPieceOf x) g → has_twice g ≡ false → length g ≡ last_piece x.message + 1 → GoesOn ends g → IsStretch ends g
 stretch_pieces ends x g each apart full goes = record {
   nonempty = omega arith;
   whole = complete_pieces x g each apart ∙ eq-eqb _ _ full;

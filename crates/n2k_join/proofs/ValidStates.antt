@@ -8,18 +8,18 @@ use Rattle.serde_json.specs.Read.{read}
 use Rattle.n2k_table.specs.declared.definition.Kind.{Kind}
 use Rattle.n2k_table.specs.declared.definition.Kind.TheVariants.{Fast}
 use Rattle.n2k_join.specs.declared.counts.Counts.{Counts}
-use Rattle.n2k_join.specs.declared.state_fault.StateFault.{StateFault}
-use Rattle.n2k_join.specs.declared.state_fault.StateFault.TheVariants.{NotJson, Invalid}
+use Rattle.n2k_join.specs.declared.fault.StateFault.{StateFault}
+use Rattle.n2k_join.specs.declared.fault.StateFault.TheVariants.{NotJson, Invalid}
 use Rattle.n2k_wire.specs.Plain.{greatest_address}
 use Rattle.n2k_wire.specs.Packet.{longest_message}
 use Rattle.n2k_join.specs.Frames.{Key, same_key, most_frames}
 use Rattle.n2k_join.specs.Groups.{complete}
 use Rattle.n2k_join.specs.Open.{Piece, Group, is_waiting}
 use Rattle.n2k_wire.specs.Steps.{or_cause}
-use Rattle.n2k_join.specs.Resumed.{parsed, counts_hold, firsts_rise, group_holds, groups_hold, is_valid, is_some_list, pieces_rise, state_of_parts, valid_if, total_holds, key_holds, is_fast}
+use Rattle.n2k_join.specs.Resumed.{parsed, counts_hold, firsts_rise, group_holds, groups_hold, is_valid, is_some_list, pieces_rise, state_of_parts, valid_if, total_holds, key_holds, is_fast_pgn}
 use Rattle.n2k_join.specs.Inner.Apart.{numbers_hold}
 use Rattle.n2k_join.specs.State.{State, IsState, AreCounts, AreApart, AreFast, IsOpen, IsKey, IsPiece, HasParts, Rise, held_of, AreWaiting}
-use Rattle.n2k_join.specs.Window.{Rule, IsWindow}
+use Rattle.n2k_join.specs.Window.{Window, IsWindow}
 use Rattle.std.proofs.lemmas.Bool.{le-leb, lt-ltb, and_from, ne_eqb, and_parts, leb-true, not-true, ltb-true}
 use Rattle.n2k_join.proofs.SavedGroups.{rise_from, small_from}
 use Rattle.std.proofs.lemmas.List.Folds.{list_any_none}
@@ -82,7 +82,7 @@ groups_from kind (g ∷ gs) h =
     let apart = none_any (λ (other : Group). same_key g.key other.key) gs (not-true _ more.0) in
     ((open_from kind g hs.0, rest.0), (apart, rest.1))
 
-pub valid_state : (kind : ℕ → Option Kind) (s : State) → IsWindow s.rule.window → counts_hold s.counts ≡ true → firsts_rise 1 s.counts.lines s.groups ≡ true → groups_hold kind s.groups ≡ true
+pub valid_state : (kind : ℕ → Option Kind) (s : State) → IsWindow s.window.lines → counts_hold s.counts ≡ true → firsts_rise 1 s.counts.lines s.groups ≡ true → groups_hold kind s.groups ≡ true
     → s.counts.held ≡ length s.groups → AllByRecursion HasParts s.groups → IsState s
 valid_state kind s window counts firsts groups held parts =
     let rises = firsts_from 1 s.counts.lines s.groups firsts in
@@ -91,29 +91,29 @@ valid_state kind s window counts firsts groups held parts =
 
 -- ---- no group's window has ended
 
-waits_from : (rule : Rule) (lines : ℕ) (gs : List Group) → list_all (is_waiting rule lines) gs ≡ true → AllByRecursion (λ (g : Group). lines < g.first + rule.window) gs
-waits_from rule lines [] h = tt
-waits_from rule lines (g ∷ gs) h = let parts = and_parts _ _ h in (ltb-true lines (g.first + rule.window) parts.0, waits_from rule lines gs parts.1)
+waits_from : (w : Window) (lines : ℕ) (gs : List Group) → list_all (is_waiting w lines) gs ≡ true → AllByRecursion (λ (g : Group). lines < g.first + w.lines) gs
+waits_from w lines [] h = tt
+waits_from w lines (g ∷ gs) h = let parts = and_parts _ _ h in (ltb-true lines (g.first + w.lines) parts.0, waits_from w lines gs parts.1)
 
-waits_to : (rule : Rule) (lines : ℕ) (gs : List Group) → AllByRecursion (λ (g : Group). lines < g.first + rule.window) gs → list_all (is_waiting rule lines) gs ≡ true
-waits_to rule lines [] h = refl
-waits_to rule lines (g ∷ gs) h = and_from _ _ (lt-ltb lines (g.first + rule.window) h.0) (waits_to rule lines gs h.1)
+waits_to : (w : Window) (lines : ℕ) (gs : List Group) → AllByRecursion (λ (g : Group). lines < g.first + w.lines) gs → list_all (is_waiting w lines) gs ≡ true
+waits_to w lines [] h = refl
+waits_to w lines (g ∷ gs) h = and_from _ _ (lt-ltb lines (g.first + w.lines) h.0) (waits_to w lines gs h.1)
 
 pub in_time-from : (s : State) → are_waiting s ≡ true → AreWaiting s
-in_time-from s h = waits_from s.rule s.counts.lines s.groups h
+in_time-from s h = waits_from s.window s.counts.lines s.groups h
 
 pub in_time-to : (s : State) → AreWaiting s → are_waiting s ≡ true
-in_time-to s h = waits_to s.rule s.counts.lines s.groups h
+in_time-to s h = waits_to s.window s.counts.lines s.groups h
 
--- ---- the rules judged in turn
+-- ---- the rules resumed in turn
 
 holds_from : (b : Bool) (gs stored : List Group) → valid_if b gs ≡ Ok stored → (b ≡ true) × (stored ≡ gs)
 holds_from true gs stored h = (refl, cc)
 holds_from false gs stored h = cc
 
-module _ (kind : ℕ → Option Kind) (id : List ℕ) (rule : Rule) (c : Counts) (gs : List Group) (r : Bool) (is : r ≡ numbers_hold c gs) where
+module _ (kind : ℕ → Option Kind) (id : List ℕ) (w : Window) (c : Counts) (gs : List Group) (r : Bool) (is : r ≡ numbers_hold c gs) where
   abbrev spelled : State
-  spelled = state_of_parts id rule c gs
+  spelled = state_of_parts id w c gs
 
   valid_by : is_valid kind spelled ≡ (r && groups_hold kind gs)
   unfolding is_valid
@@ -140,18 +140,18 @@ module _ (kind : ℕ → Option Kind) (id : List ℕ) (rule : Rule) (c : Counts)
 
   module _ (stored : List Group) (held : ℕ) (is_true : r ≡ true) (holds : valid_if (groups_hold kind gs) gs ≡ Ok stored) (len : held ≡ length stored) where
     abbrev reached : State
-    reached = record { id = id; rule = rule; counts = record c { held = held }; groups = stored }
+    reached = record { id = id; window = w; counts = record c { held = held }; groups = stored }
 
     hold : (groups_hold kind gs ≡ true) × (stored ≡ gs)
     hold = holds_from (groups_hold kind gs) gs stored holds
 
     same : spelled ≡ reached
-    same = ap (state_of_parts id rule c) (sym hold.1) ∙ ap (λ n. let s : State = record { id = id; rule = rule; counts = record c { held = n }; groups = stored } in s) (sym len)
+    same = ap (state_of_parts id w c) (sym hold.1) ∙ ap (λ n. let s : State = record { id = id; window = w; counts = record c { held = n }; groups = stored } in s) (sym len)
 
     pub all_hold : valid_if (is_valid kind spelled) spelled ≡ Ok reached
     all_hold = ap (λ b. valid_if b spelled) (valid_groups is_true ∙ hold.0) ∙ ap Ok same
 
-    pub is_state : IsWindow rule.window → AllByRecursion HasParts stored → IsState reached
+    pub is_state : IsWindow w.lines → AllByRecursion HasParts stored → IsState reached
     is_state window parts =
         let rules = and_parts (counts_hold (record c { held = length gs })) (firsts_rise 1 c.lines gs) (sym is ∙ is_true) in
         valid_state kind reached window (ap (λ (s : State). counts_hold s.counts) (sym same) ∙ rules.0) (ap (firsts_rise 1 c.lines) hold.1 ∙ rules.1) (ap (groups_hold kind) hold.1 ∙ hold.0) len parts
@@ -183,7 +183,7 @@ unfolding key_holds
 key_to kind k is fast =
     let src : k.src ≤ greatest_address = omega (arith, is.src) in
     let dst : k.dst ≤ greatest_address = omega (arith, is.dst) in
-    and_from _ _ (le-leb _ _ is.pgn) (and_from _ _ (ap is_fast fast) (and_from _ _ (le-leb _ _ src) (and_from _ _ (le-leb _ _ dst) (lt-ltb _ _ is.sequence))))
+    and_from _ _ (le-leb _ _ is.pgn) (and_from _ _ (ap is_fast_pgn fast) (and_from _ _ (le-leb _ _ src) (and_from _ _ (le-leb _ _ dst) (lt-ltb _ _ is.sequence))))
 
 list_to : (ps : List Piece) → 0 < length ps → is_some_list ps ≡ true
 list_to [] h = absurd (omega (arith, h))

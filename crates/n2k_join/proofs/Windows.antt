@@ -6,10 +6,10 @@ use Rattle.std.proofs.lemmas.List.Elements.{filter-append, filter_passes, recurs
 use Rattle.std.proofs.lemmas.Bool.{ltb-true, ltb-false, lt-ltb, lt-leb, le-leb, or_right}
 use Rattle.std.proofs.lemmas.Option.{none-some, same_Some}
 use Rattle.n2k_join.specs.Frames.{Key, same_key, Frame}
-use Rattle.n2k_join.specs.Groups.{Ends, repeats, has_number, has_from, falls_back, misfits, is_late, within, complete, first}
+use Rattle.n2k_join.specs.Groups.{EndTest, repeats, has_number, has_from, falls_back, misfits, is_late, within, complete, first}
 use Rattle.n2k_join.specs.Open.{Group, group_of, open_groups, is_waiting, waiting, open_within, ended}
 use Rattle.n2k_join.specs.State.{held_of, Rise, IsOpen, AreApart, AreOpen}
-use Rattle.n2k_join.specs.Inner.Stored.{bars}
+use Rattle.n2k_join.specs.Inner.Stored.{rejects}
 use Rattle.n2k_join.proofs.Advanced.{with_frame, taken, begun, of_the_key, opened, advanced}
 use Rattle.n2k_join.proofs.Cuts.{within-ends, has-from}
 use Rattle.n2k_join.proofs.Held.{first-held}
@@ -17,7 +17,7 @@ use Rattle.n2k_join.proofs.Keys.{same_key-true}
 use Rattle.n2k_join.proofs.Opened.{IsLog, open_groups-push, open_groups-none}
 use Rattle.n2k_join.proofs.Resumed.{open_groups-open, first_of}
 use Rattle.n2k_join.proofs.Rising.{find-none, all-map, rise-filter}
-use Rattle.n2k_join.specs.Window.{Rule}
+use Rattle.n2k_join.specs.Window.{Window}
 use Rattle.std.proofs.Math.Bool.{or-false}
 
 -- ---- a part of some groups that can be open can be open
@@ -49,17 +49,17 @@ open-filter n t gs are = record {
   apart = apart-filter t gs are.apart;
 }
 
-pub open-waiting : (w : Rule) (line n : ℕ) (gs : List Group) → AreOpen n gs → AreOpen n (waiting w line gs)
+pub open-waiting : (w : Window) (line n : ℕ) (gs : List Group) → AreOpen n gs → AreOpen n (waiting w line gs)
 unfolding waiting
 open-waiting w line n gs are = open-filter n (is_waiting w line) gs are
 
 -- ---- what the window has ended
 
 -- a group that waits at a line waited at those before
-pub waits-before : (w : Rule) (line : ℕ) (g : Group) → is_waiting w (line + 1) g ≡ true → is_waiting w line g ≡ true
-waits-before w line g e = let l : line + 1 < g.first + w.window = ltb-true _ _ e in lt-ltb line (g.first + w.window) (omega (arith, l))
+pub waits-before : (w : Window) (line : ℕ) (g : Group) → is_waiting w (line + 1) g ≡ true → is_waiting w line g ≡ true
+waits-before w line g e = let l : line + 1 < g.first + w.lines = ltb-true _ _ e in lt-ltb line (g.first + w.lines) (omega (arith, l))
 
-pub waiting-later : (w : Rule) (n : ℕ) (gs : List Group) → waiting w (n + 1) (waiting w n gs) ≡ waiting w (n + 1) gs
+pub waiting-later : (w : Window) (n : ℕ) (gs : List Group) → waiting w (n + 1) (waiting w n gs) ≡ waiting w (n + 1) gs
 unfolding waiting
 waiting-later w n [] = refl
 waiting-later w n (g ∷ gs) = by (is_waiting w n g) refl (is_waiting w (n + 1) g) refl (waiting-later w n gs)
@@ -68,30 +68,30 @@ waiting-later w n (g ∷ gs) = by (is_waiting w n g) refl (is_waiting w (n + 1) 
         → filter (is_waiting w (n + 1)) (cond b (g ∷ filter (is_waiting w n) gs) (filter (is_waiting w n) gs)) ≡ cond c (g ∷ filter (is_waiting w (n + 1)) gs) (filter (is_waiting w (n + 1)) gs)
     by true e true f rest = ap (λ t. cond t (g ∷ filter (is_waiting w (n + 1)) (filter (is_waiting w n) gs)) (filter (is_waiting w (n + 1)) (filter (is_waiting w n) gs))) f ∙ ap (λ hs. g ∷ hs) rest
     by true e false f rest = ap (λ t. cond t (g ∷ filter (is_waiting w (n + 1)) (filter (is_waiting w n) gs)) (filter (is_waiting w (n + 1)) (filter (is_waiting w n) gs))) f ∙ rest
-    by false e true f rest = absurd (let l : n + 1 < g.first + w.window = ltb-true _ _ f in let m : g.first + w.window ≤ n = ltb-false _ _ e in omega (arith, l, m))
+    by false e true f rest = absurd (let l : n + 1 < g.first + w.lines = ltb-true _ _ f in let m : g.first + w.lines ≤ n = ltb-false _ _ e in omega (arith, l, m))
     by false e false f rest = rest
 
 -- groups that begin later than one that waits wait
-pub later-wait : (w : Rule) (line least : ℕ) (gs : List Group) → Rise (λ (g : Group). g.first) least gs → line < least + w.window → ended w line gs ≡ []
+pub later-wait : (w : Window) (line least : ℕ) (gs : List Group) → Rise (λ (g : Group). g.first) least gs → line < least + w.lines → ended w line gs ≡ []
 unfolding ended
 later-wait w line least [] rise l = refl
 later-wait w line least (g ∷ gs) rise l =
-    ap (λ b. cond (not b) (g ∷ filter (λ (g : Group). not (is_waiting w line g)) gs) (filter (λ (g : Group). not (is_waiting w line g)) gs)) (lt-ltb line (g.first + w.window) (omega (arith, rise.0, l)))
+    ap (λ b. cond (not b) (g ∷ filter (λ (g : Group). not (is_waiting w line g)) gs) (filter (λ (g : Group). not (is_waiting w line g)) gs)) (lt-ltb line (g.first + w.lines) (omega (arith, rise.0, l)))
     ∙ later-wait w line (g.first + 1) gs rise.1 (omega (arith, rise.0, l))
 
 -- groups that all wait
-pub waiting-all : (w : Rule) (line : ℕ) (gs : List Group) → AllByRecursion (λ (g : Group). is_waiting w line g ≡ true) gs → waiting w line gs ≡ gs
+pub waiting-all : (w : Window) (line : ℕ) (gs : List Group) → AllByRecursion (λ (g : Group). is_waiting w line g ≡ true) gs → waiting w line gs ≡ gs
 unfolding waiting
 waiting-all w line gs all = filter-passed (is_waiting w line) gs all
 
-pub all-waiting : (w : Rule) (line : ℕ) (gs : List Group) → AllByRecursion (λ (g : Group). is_waiting w line g ≡ true) (waiting w line gs)
+pub all-waiting : (w : Window) (line : ℕ) (gs : List Group) → AllByRecursion (λ (g : Group). is_waiting w line g ≡ true) (waiting w line gs)
 unfolding waiting
 all-waiting w line gs = all-passed (is_waiting w line) gs
 
 -- ---- a frame's step and the window
 
 -- a group that goes on keeps its first line
-taken-first : (ends : Ends) (x : Frame) (g h : Group) → taken ends x g ≡ Some h → h.first ≡ g.first
+taken-first : (ends : EndTest) (x : Frame) (g h : Group) → taken ends x g ≡ Some h → h.first ≡ g.first
 taken-first ends x g h e = by (same_key x.key g.key) (ends (held_of g) x) (complete (held_of g ++ x ∷ [])) e
   where
     by : (a b c : Bool) → cond a (cond b None (cond c None (Some (with_frame g x)))) (Some g) ≡ Some h → h.first ≡ g.first
@@ -100,7 +100,7 @@ taken-first ends x g h e = by (same_key x.key g.key) (ends (held_of g) x) (compl
     by true false false e = ap first_of (sym (same_Some (with_frame g x) h e))
     by false b c e = ap first_of (sym (same_Some g h e))
 
-waiting-taken : (ends : Ends) (w : Rule) (line : ℕ) (x : Frame) (gs : List Group) → filter (is_waiting w line) (filter_map (taken ends x) gs) ≡ filter_map (taken ends x) (filter (is_waiting w line) gs)
+waiting-taken : (ends : EndTest) (w : Window) (line : ℕ) (x : Frame) (gs : List Group) → filter (is_waiting w line) (filter_map (taken ends x) gs) ≡ filter_map (taken ends x) (filter (is_waiting w line) gs)
 waiting-taken ends w line x [] = refl
 waiting-taken ends w line x (g ∷ gs) = by (taken ends x g) refl (is_waiting w line g) refl (waiting-taken ends w line x gs)
   where
@@ -112,7 +112,7 @@ waiting-taken ends w line x (g ∷ gs) = by (taken ends x g) refl (is_waiting w 
     by None e true f same = same ∙ sym (ap (λ o. cons_option o (filter_map (taken ends x) (filter (is_waiting w line) gs))) e)
     by None e false f same = same
     by (Some h) e b f same =
-        ap (λ t. cond t (h ∷ filter (is_waiting w line) (filter_map (taken ends x) gs)) (filter (is_waiting w line) (filter_map (taken ends x) gs))) (ap (λ n. nat_lt line (n + w.window)) (taken-first ends x g h e) ∙ f)
+        ap (λ t. cond t (h ∷ filter (is_waiting w line) (filter_map (taken ends x) gs)) (filter (is_waiting w line) (filter_map (taken ends x) gs))) (ap (λ n. nat_lt line (n + w.lines)) (taken-first ends x g h e) ∙ f)
         ∙ by_test b
       where
         by_test : (b : Bool) → cond b (h ∷ filter (is_waiting w line) (filter_map (taken ends x) gs)) (filter (is_waiting w line) (filter_map (taken ends x) gs)) ≡ filter_map (taken ends x) (cond b (g ∷ filter (is_waiting w line) gs) (filter (is_waiting w line) gs))
@@ -120,22 +120,22 @@ waiting-taken ends w line x (g ∷ gs) = by (taken ends x g) refl (is_waiting w 
         by_test false = same
 
 -- a frame at the line at which a group's window has ended ends it
-pub ended-ends : (w : Rule) (x : Frame) (g : Group) → IsOpen g → is_waiting w x.line g ≡ false → within w (held_of g) x ≡ true
+pub ended-ends : (w : Window) (x : Frame) (g : Group) → IsOpen g → is_waiting w x.line g ≡ false → within w (held_of g) x ≡ true
 ended-ends w x g is e =
     let at : first (held_of g) ≡ g.first = first-held g g.pieces is.nonempty in
-    let past : g.first + w.window ≤ x.line = ltb-false x.line (g.first + w.window) e in
-    or_right (misfits w (held_of g) x) (is_late w (held_of g) x) (le-leb (first (held_of g) + w.window) x.line (omega (arith, at, past)))
+    let past : g.first + w.lines ≤ x.line = ltb-false x.line (g.first + w.lines) e in
+    or_right (misfits w (held_of g) x) (is_late w (held_of g) x) (le-leb (first (held_of g) + w.lines) x.line (omega (arith, at, past)))
 
 -- and one before that ends it where its number is in it
-pub waits-ends : (w : Rule) (x : Frame) (g : Group) → IsOpen g → is_waiting w x.line g ≡ true → within w (held_of g) x ≡ misfits w (held_of g) x
+pub waits-ends : (w : Window) (x : Frame) (g : Group) → IsOpen g → is_waiting w x.line g ≡ true → within w (held_of g) x ≡ misfits w (held_of g) x
 waits-ends w x g is e =
     let at : first (held_of g) ≡ g.first = first-held g g.pieces is.nonempty in
-    let before : x.line < g.first + w.window = ltb-true x.line (g.first + w.window) e in
-    ap (λ b. misfits w (held_of g) x || b) (lt-leb (first (held_of g) + w.window) x.line (omega (arith, at, before))) ∙ or-false (misfits w (held_of g) x)
+    let before : x.line < g.first + w.lines = ltb-true x.line (g.first + w.lines) e in
+    ap (λ b. misfits w (held_of g) x || b) (lt-leb (first (held_of g) + w.lines) x.line (omega (arith, at, before))) ∙ or-false (misfits w (held_of g) x)
 
 -- what the code asks of a group of an earlier line
-pub misfits-bars : (w : Rule) (x : Frame) (g : Group) → IsOpen g → g.first < x.line → misfits w (held_of g) x ≡ bars w.in_order x.number g
-misfits-bars w x g is l = by w.in_order
+pub misfits-rejects : (w : Window) (x : Frame) (g : Group) → IsOpen g → g.first < x.line → misfits w (held_of g) x ≡ rejects w.in_order x.number g
+misfits-rejects w x g is l = by w.in_order
   where
     later : nat_lt (first (held_of g)) x.line ≡ true
     later = let at : first (held_of g) ≡ g.first = first-held g g.pieces is.nonempty in lt-ltb (first (held_of g)) x.line (omega (arith, at, l))
@@ -149,7 +149,7 @@ misfits-bars w x g is l = by w.in_order
     by false = or-false (repeats (held_of g) x)
 
 -- What tells a group whose window has ended from none as little, finds the same group of a key among those that wait.
-pub key-waiting : {X : Type 0} (w : Rule) (x : Frame) (F : Option Group → X)
+pub key-waiting : {X : Type 0} (w : Window) (x : Frame) (F : Option Group → X)
     → ((g : Group) → IsOpen g → is_waiting w x.line g ≡ false → F (Some g) ≡ F None)
     → (gs : List Group) → AllByRecursion IsOpen gs → AreApart gs
     → F (of_the_key x.key gs) ≡ F (of_the_key x.key (waiting w x.line gs))
@@ -176,18 +176,18 @@ key-waiting w x F as_none (g ∷ gs) each apart =
         as_none g each.0 e ∙ sym (ap F (find-none (λ (h : Group). same_key x.key h.key) left (others f)))
     by false e false f rest = rest
 
-opened-waiting : (w : Rule) (x : Frame) (gs : List Group) → AllByRecursion IsOpen gs → AreApart gs
+opened-waiting : (w : Window) (x : Frame) (gs : List Group) → AllByRecursion IsOpen gs → AreApart gs
     → opened (within w) x (of_the_key x.key gs) ≡ opened (within w) x (of_the_key x.key (waiting w x.line gs))
 opened-waiting w x =
     key-waiting w x (opened (within w) x) (λ g is e. ap (λ t. cond t (begun x) None) (ended-ends w x g is e))
 
 -- a group that a frame opens waits
-begun-waits : (ends : Ends) (w : Rule) (x : Frame) (o : Option Group) → 0 < w.window → filter (is_waiting w x.line) (option_to_list (opened ends x o)) ≡ option_to_list (opened ends x o)
+begun-waits : (ends : EndTest) (w : Window) (x : Frame) (o : Option Group) → 0 < w.lines → filter (is_waiting w x.line) (option_to_list (opened ends x o)) ≡ option_to_list (opened ends x o)
 begun-waits ends w x o some = by o
   where
     alone : (b : Bool) → filter (is_waiting w x.line) (option_to_list (cond b None (Some (group_of x.key (x ∷ []))))) ≡ option_to_list (cond b None (Some (group_of x.key (x ∷ []))))
     alone true = refl
-    alone false = ap (λ t. cond t (group_of x.key (x ∷ []) ∷ []) []) (lt-ltb x.line (x.line + w.window) (omega (arith, some)))
+    alone false = ap (λ t. cond t (group_of x.key (x ∷ []) ∷ []) []) (lt-ltb x.line (x.line + w.lines) (omega (arith, some)))
 
     by_test : (g : Group) (b : Bool) → filter (is_waiting w x.line) (option_to_list (cond b (begun x) None)) ≡ option_to_list (cond b (begun x) None)
     by_test g true = alone (complete (x ∷ []))
@@ -198,7 +198,7 @@ begun-waits ends w x o some = by o
     by (Some g) = by_test g (ends (held_of g) x)
 
 -- The groups whose window ends at the frame's line go, and then the frame is taken.
-pub advanced-waiting : (w : Rule) (x : Frame) (gs : List Group) → 0 < w.window → AllByRecursion IsOpen gs → AreApart gs → waiting w x.line (advanced (within w) gs x) ≡ advanced (within w) (waiting w x.line gs) x
+pub advanced-waiting : (w : Window) (x : Frame) (gs : List Group) → 0 < w.lines → AllByRecursion IsOpen gs → AreApart gs → waiting w x.line (advanced (within w) gs x) ≡ advanced (within w) (waiting w x.line gs) x
 unfolding advanced waiting
 advanced-waiting w x gs some each apart =
     filter-append (is_waiting w x.line) (filter_map (taken (within w) x) gs) (option_to_list (opened (within w) x (of_the_key x.key gs)))
@@ -207,7 +207,7 @@ advanced-waiting w x gs some each apart =
 
 -- ---- one line more
 
-module _ (w : Rule) (n : ℕ) (some : 0 < w.window) where
+module _ (w : Window) (n : ℕ) (some : 0 < w.lines) where
   -- a log with a frame at its next line
   pub open_within-push : (fs : List Frame) (x : Frame) → IsLog n fs → x.line ≡ n + 1 → open_within w (n + 1) (fs ++ x ∷ []) ≡ advanced (within w) (waiting w (n + 1) (open_within w n fs)) x
   open_within-push fs x log at =

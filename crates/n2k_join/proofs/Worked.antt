@@ -18,10 +18,10 @@ use Rattle.n2k_join.specs.Pieces.{piece_bytes, same_stream, Sending}
 use Rattle.n2k_join.specs.Scattered.{IsPieceOf, IsStretchWithin, FallInto, IsScattered}
 use Rattle.n2k_join.specs.Arrival.{ComesNext, LeavesZero}
 use Rattle.n2k_join.specs.State.{State, state, step_given, step_after}
-use Rattle.n2k_join.specs.Window.{Rule}
+use Rattle.n2k_join.specs.Window.{Window}
 use Rattle.n2k_join.proofs.Keys.{same_key-true}
 use Rattle.std.specs.Prelude.{flat_map}
-use Rattle.n2k_join.specs.declared.broken.Broken.{Broken}
+use Rattle.n2k_join.specs.declared.step.Broken.{Broken}
 use Rattle.n2k_join.specs.Replay.{messages}
 
 -- 130820 is sent in fast packets, 129026 in single frames, and nothing is known of other PGNs
@@ -29,14 +29,14 @@ kind : ℕ → Option Kind
 kind pgn = if pgn == 130820 then Some Fast else if pgn == 129026 then Some Single else None
 
 -- a window that ends no group of a few lines, the shortest one, and the order of the numbers
-abbrev rule : Rule
-rule = record { window = 10_000; in_order = false }
+abbrev w : Window
+w = record { lines = 10_000; in_order = false }
 
-abbrev shortest : Rule
-shortest = record { window = 32; in_order = false }
+abbrev shortest : Window
+shortest = record { lines = 32; in_order = false }
 
-abbrev ordered : Rule
-ordered = record { window = 10_000; in_order = true }
+abbrev ordered : Window
+ordered = record { lines = 10_000; in_order = true }
 
 -- a packet to all, with a stamp of one byte
 abbrev packet : ℕ → ℕ → ℕ → List ℕ → PacketParts
@@ -57,7 +57,7 @@ abbrev lines_only : ℕ → ℕ → ℕ → ℕ → ℕ → ℕ → Counts
 lines_only l m b u r h = record { lines = l; messages = m; bad = b; unknown = u; broken = r; held = h }
 
 -- what a log gives: its messages, the groups that are broken at its lines, and its counts
-abbrev Gives : Rule → List Entry → List PacketParts → List Broken → Counts → Type 0
+abbrev Gives : Window → List Entry → List PacketParts → List Broken → Counts → Type 0
 Gives by es given lost counted =
     (messages by kind es ≡ given) × (flat_map (broken by kind es) (numbers es) ≡ lost) × (counts by kind es ≡ counted)
 
@@ -86,12 +86,12 @@ two_sources =
     ∷ frame 5 4 (0x01 ∷ filled_end zeros)
     ∷ []
 
-two_sources-given : Gives rule two_sources (whole 6 3 2 blanks ∷ whole 5 4 1 zeros ∷ []) [] (lines_only 4 2 0 0 0 0)
+two_sources-given : Gives w two_sources (whole 6 3 2 blanks ∷ whole 5 4 1 zeros ∷ []) [] (lines_only 4 2 0 0 0 0)
 unfolding kind fast_frame same_key complete cut data_of gathered broken_with pieces_of begun_at open_groups waiting
 two_sources-given = (refl, refl, refl)
 
 -- frames 1 and 0 of a total of 13
-reversed : message rule kind (frame 5 1 (0x41 ∷ spaces) ∷ frame 5 2 (start 0x40 13 3) ∷ []) 2 ≡ Some (whole 5 2 3 spaces)
+reversed : message w kind (frame 5 1 (0x41 ∷ spaces) ∷ frame 5 2 (start 0x40 13 3) ∷ []) 2 ≡ Some (whole 5 2 3 spaces)
 unfolding kind fast_frame same_key complete cut data_of gathered
 reversed = refl
 
@@ -105,7 +105,7 @@ repeated =
     ∷ frame 5 5 (0x62 ∷ spaces)
     ∷ []
 
-repeated-given : Gives rule repeated (whole 5 5 4 (spaces ++ spaces) ∷ []) (group 5 3 1 ∷ []) (lines_only 5 1 0 0 1 0)
+repeated-given : Gives w repeated (whole 5 5 4 (spaces ++ spaces) ∷ []) (group 5 3 1 ∷ []) (lines_only 5 1 0 0 1 0)
 unfolding kind fast_frame same_key complete cut data_of gathered broken_with pieces_of begun_at open_groups waiting
 repeated-given = (refl, refl, refl)
 
@@ -122,16 +122,16 @@ totals =
     ∷ frame 5 1 (1 ∷ [])
     ∷ []
 
-short_totals : counts rule kind totals ≡ lines_only 8 4 0 0 0 1
+short_totals : counts w kind totals ≡ lines_only 8 4 0 0 0 1
 unfolding kind fast_frame same_key complete cut data_of gathered broken_with pieces_of begun_at open_groups waiting
 short_totals = refl
 
-empty_total : message rule kind (frame 5 1 (0 ∷ 0 ∷ []) ∷ []) 1 ≡ Some (packet 130820 5 1 [])
+empty_total : message w kind (frame 5 1 (0 ∷ 0 ∷ []) ∷ []) 1 ≡ Some (packet 130820 5 1 [])
 unfolding kind fast_frame same_key complete cut data_of gathered
 empty_total = refl
 
 -- A frame 0 that comes again breaks a group and may be complete alone.
-again : Gives rule (frame 5 1 (start 0 11 1) ∷ frame 5 2 (start 0 6 1) ∷ []) (whole 5 2 1 [] ∷ []) (group 5 0 1 ∷ []) (lines_only 2 1 0 0 1 0)
+again : Gives w (frame 5 1 (start 0 11 1) ∷ frame 5 2 (start 0 6 1) ∷ []) (whole 5 2 1 [] ∷ []) (group 5 0 1 ∷ []) (lines_only 2 1 0 0 1 0)
 unfolding kind fast_frame same_key complete cut data_of gathered broken_with pieces_of begun_at open_groups waiting
 again = (refl, refl, refl)
 
@@ -139,7 +139,7 @@ again = (refl, refl, refl)
 abbrev longest : List Entry
 longest = frame 5 1 (0 ∷ 223 ∷ range_with_len 1 6) ∷ map (λ n. frame 5 n (n ∷ range_with_len (7 * n) 7)) (range_with_len 1 31)
 
-longest-given : Gives rule longest (packet 130820 5 31 (range_with_len 1 223) ∷ []) [] (lines_only 32 1 0 0 0 0)
+longest-given : Gives w longest (packet 130820 5 31 (range_with_len 1 223) ∷ []) [] (lines_only 32 1 0 0 0 0)
 unfolding kind fast_frame same_key complete cut data_of gathered broken_with pieces_of begun_at open_groups waiting
 longest-given = (refl, refl, refl)
 
@@ -147,11 +147,11 @@ longest-given = (refl, refl, refl)
 abbrev extra_frame : List Entry
 extra_frame = frame 5 1 (start 0x80 13 6) ∷ frame 5 2 (0x83 ∷ spaces) ∷ frame 5 3 (0x81 ∷ spaces) ∷ frame 5 4 (start 0x80 13 6) ∷ []
 
-extra_frame-counts : counts rule kind extra_frame ≡ lines_only 4 0 0 0 1 1
+extra_frame-counts : counts w kind extra_frame ≡ lines_only 4 0 0 0 1 1
 unfolding kind fast_frame same_key complete cut data_of gathered broken_with pieces_of begun_at open_groups waiting
 extra_frame-counts = refl
 
-extra_frame-open : (state [] rule kind extra_frame).groups ≡ record {
+extra_frame-open : (state [] w kind extra_frame).groups ≡ record {
   first = 4;
   key = record { src = 5; dst = 255; pgn = 130820; sequence = 4 };
   pieces = record { number = 0; bytes = 13 ∷ 0xA3 ∷ 0x99 ∷ 6 ∷ 0x41 ∷ 0x42 ∷ 0x43 ∷ [] } ∷ [];
@@ -160,17 +160,17 @@ unfolding kind fast_frame same_key complete cut pieces_of begun_at open_groups w
 extra_frame-open = refl
 
 -- A new sequence ends no older group: eight messages of one stream may be under way.
-eight_under_way : counts rule kind (map (λ n. frame 5 n (start (32 * n) 11 n)) (range_with_len 0 8))
+eight_under_way : counts w kind (map (λ n. frame 5 n (start (32 * n) 11 n)) (range_with_len 0 8))
     ≡ lines_only 8 0 0 0 0 8
 unfolding kind fast_frame same_key complete cut data_of gathered broken_with pieces_of begun_at open_groups waiting
 eight_under_way = refl
 
 -- A stale frame 1 is taken for one of a later message; a short last frame is filled.
-mixed : message rule kind (frame 5 1 (0x01 ∷ spaces) ∷ frame 5 9 (start 0x00 13 3) ∷ []) 2 ≡ Some (whole 5 9 3 spaces)
+mixed : message w kind (frame 5 1 (0x01 ∷ spaces) ∷ frame 5 9 (start 0x00 13 3) ∷ []) 2 ≡ Some (whole 5 9 3 spaces)
 unfolding kind fast_frame same_key complete cut data_of gathered
 mixed = refl
 
-filled : message rule kind (frame 5 1 (start 0x00 8 3) ∷ frame 5 2 (0x01 ∷ 7 ∷ []) ∷ []) 2 ≡ Some (whole 5 2 3 (7 ∷ 255 ∷ []))
+filled : message w kind (frame 5 1 (start 0x00 8 3) ∷ frame 5 2 (0x01 ∷ 7 ∷ []) ∷ []) 2 ≡ Some (whole 5 2 3 (7 ∷ 255 ∷ []))
 unfolding kind fast_frame same_key complete cut data_of gathered
 filled = refl
 
@@ -208,7 +208,7 @@ first_lost-given : Gives ordered first_lost (whole 5 3 3 spaces ∷ []) (group 5
 unfolding kind fast_frame same_key complete cut data_of gathered broken_with pieces_of begun_at open_groups waiting
 first_lost-given = (refl, refl, refl)
 
-first_lost-mixed : counts rule kind first_lost ≡ lines_only 3 1 0 0 0 1
+first_lost-mixed : counts w kind first_lost ≡ lines_only 3 1 0 0 0 1
 unfolding kind fast_frame same_key complete cut data_of gathered broken_with pieces_of begun_at open_groups waiting
 first_lost-mixed = refl
 
@@ -229,7 +229,7 @@ other_lines =
     ∷ frame 5 11 (0x01 ∷ zeros)
     ∷ []
 
-other_lines-given : Gives rule other_lines
+other_lines-given : Gives w other_lines
     (packet 129026 1 8 (0x15 ∷ []) ∷ packet 130820 5 9 (7 ∷ 0x98 ∷ []) ∷ whole 5 11 1 zeros ∷ [])
     [] (lines_only 11 3 4 2 0 0)
 unfolding kind fast_frame same_key complete cut data_of gathered broken_with pieces_of begun_at open_groups waiting
@@ -242,7 +242,7 @@ other_lines-given = (refl, refl, refl)
 abbrev held_open : ℕ → List Piece → State
 held_open lines pieces = record {
   id = [];
-  rule = rule;
+  window = w;
   counts = lines_only lines 0 0 0 0 1;
   groups = record { first = 2; key = record { src = 5; dst = 255; pgn = 130820; sequence = 0 }; pieces = pieces } ∷ [];
 }
@@ -296,7 +296,7 @@ sent_second = record { sequence = 0; message = whole 5 2 2 zeros }
 abbrev whole_frames : List Frame
 whole_frames = opening 2 0 2 ∷ closing 4 0 2 zeros ∷ []
 
-comes_next : ComesNext rule kind lost then_whole sent_second whole_frames []
+comes_next : ComesNext w kind lost then_whole sent_second whole_frames []
 unfolding kind fast_frame same_key complete cut piece_bytes
 comes_next = record {
   next = refl;
@@ -305,7 +305,7 @@ comes_next = record {
   in_time = All-from_recursion (λ (f : Frame). f.line < 10_002) whole_frames (omega arith, (omega arith, tt));
 }
 
-leaves_zero : LeavesZero rule kind lost sent_second
+leaves_zero : LeavesZero w kind lost sent_second
 unfolding kind fast_frame same_key complete cut
 leaves_zero = λ _. refl
 
@@ -336,7 +336,7 @@ frames_0 = closing 2 0 1 zeros ∷ opening 4 0 1 ∷ []
 abbrev frames_1 : List Frame
 frames_1 = closing 1 1 2 blanks ∷ opening 6 1 2 ∷ []
 
-within_0 : IsStretchWithin rule sent_0 frames_0
+within_0 : IsStretchWithin w sent_0 frames_0
 unfolding fast_frame piece_bytes
 within_0 = record {
   stretch = record {
@@ -347,7 +347,7 @@ within_0 = record {
   ordered = λ e. absurd (false≢true e);
 }
 
-within_1 : IsStretchWithin rule sent_1 frames_1
+within_1 : IsStretchWithin w sent_1 frames_1
 unfolding fast_frame piece_bytes
 within_1 = record {
   stretch = record {
@@ -362,7 +362,7 @@ within_1 = record {
 abbrev kept : {A : Type 0} → Bool → A → List A → List A
 kept b x xs = if b then x ∷ xs else xs
 
-interleaved-scattered : IsScattered rule kind (sent_0.message ∷ sent_1.message ∷ []) interleaved
+interleaved-scattered : IsScattered w kind (sent_0.message ∷ sent_1.message ∷ []) interleaved
 unfolding kind fast_frame same_stream
 interleaved-scattered = record {
   fast = All-from_recursion (λ (m : PacketParts). kind m.id.pgn ≡ Some Fast) (sent_0.message ∷ sent_1.message ∷ []) (refl, (refl, tt));
@@ -370,7 +370,7 @@ interleaved-scattered = record {
 }
   where
     by : (key : Key) (b c : Bool) → same_key key (key_of 0) ≡ b → same_key key (key_of 1) ≡ c
-        → FallInto rule (kept b sent_0 (kept c sent_1 []))
+        → FallInto w (kept b sent_0 (kept c sent_1 []))
         (kept c (closing 1 1 2 blanks) (kept b (closing 2 0 1 zeros)
         (kept b (opening 4 0 1) (kept c (opening 6 1 2) []))))
     by key true true e f =

@@ -24,7 +24,7 @@ use Rattle.n2k_join.proofs.GroupLines.{IsGroup, first_above}
 use Rattle.n2k_join.proofs.Lines.{frames-rise, line_of}
 use Rattle.n2k_join.proofs.Logs.{frames-below, frames_from-append}
 use Rattle.n2k_join.proofs.Healing.{rising-apart, rising-length}
-use Rattle.n2k_join.specs.Window.{Rule}
+use Rattle.n2k_join.specs.Window.{Window}
 use Rattle.n2k_join.proofs.Keeping.{AreBytes, filled}
 
 -- a sending that a packet of the program and a sequence make
@@ -102,21 +102,21 @@ short kind x can =
     length-map (frames_of_sending kind x) (λ p. entries.Frame p) ∙ ap (λ k. length (pieces_as k x.message x.sequence)) can.fast ∙ length-map-range_with_len (piece x.message x.sequence) 0 (last_piece x.message + 1) in
     omega (arith, count, can.packet.packet_ok.payload_ok)
 
-in_time : (kind : ℕ → Option Kind) (w : Rule) (line : ℕ) (x : Sending) → 32 ≤ w.window → IsSending kind x → IsGroup (frames_at kind line x) → AllByRecursion (λ (f : Frame). f.line < first (frames_at kind line x) + w.window) (frames_at kind line x)
+in_time : (kind : ℕ → Option Kind) (w : Window) (line : ℕ) (x : Sending) → 32 ≤ w.lines → IsSending kind x → IsGroup (frames_at kind line x) → AllByRecursion (λ (f : Frame). f.line < first (frames_at kind line x) + w.lines) (frames_at kind line x)
 unfolding frames_at
 in_time kind w line x long can some =
     let es = as_entries (frames_of_sending kind x) in
     let from : line ≤ first (frames_from kind line es) = first_above line (frames_from kind line es) some (rise-least line_of line (frames_from kind line es) (frames-rise kind line es)) in
-    all-map (λ (f : Frame). f.line < line + length es) (λ (f : Frame). f.line < first (frames_from kind line es) + w.window) (frames_from kind line es) (λ f l. omega (arith, l, from, short kind x can, long)) (frames-below kind line es)
+    all-map (λ (f : Frame). f.line < line + length es) (λ (f : Frame). f.line < first (frames_from kind line es) + w.lines) (frames_from kind line es) (λ f l. omega (arith, l, from, short kind x can, long)) (frames-below kind line es)
 
-one_more : (w : Rule) (k : Key) (x : Sending) (xs : List Sending) (g fs : List Frame) → IsStretchWithin w x g → FallInto w xs fs → FallInto w (x ∷ xs) (g ++ fs)
+one_more : (w : Window) (k : Key) (x : Sending) (xs : List Sending) (g fs : List Frame) → IsStretchWithin w x g → FallInto w xs fs → FallInto w (x ∷ xs) (g ++ fs)
 one_more w k x xs g fs is falls = record {
   stretches = g ∷ falls.stretches;
   one_behind_the_other = ap (λ l. g ++ l) falls.one_behind_the_other;
   each = (is, falls.each);
 }
 
-fall : (w : Rule) → 32 ≤ w.window → (kind : ℕ → Option Kind) (k : Key) (line : ℕ) (xs : List Sending) → AllByRecursion (IsSending kind) xs → FallInto w (filter (λ (x : Sending). same_key k (key_of_sending x)) xs) (of_key k (sent_frames kind line xs))
+fall : (w : Window) → 32 ≤ w.lines → (kind : ℕ → Option Kind) (k : Key) (line : ℕ) (xs : List Sending) → AllByRecursion (IsSending kind) xs → FallInto w (filter (λ (x : Sending). same_key k (key_of_sending x)) xs) (of_key k (sent_frames kind line xs))
 unfolding sent_frames frames_at
 fall w long kind k line [] can = record { stretches = []; one_behind_the_other = refl; each = tt }
 fall w long kind k line (x ∷ xs) can =
@@ -142,7 +142,7 @@ fall w long kind k line (x ∷ xs) can =
 
     by_key : (b : Bool) → same_key k (key_of_sending x) ≡ b → FallInto w (filter (λ (y : Sending). same_key k (key_of_sending y)) xs) (of_key k (sent_frames kind (line + length (as_entries (frames_of_sending kind x))) xs))
         → FallInto w (cond b (x ∷ filter (λ (y : Sending). same_key k (key_of_sending y)) xs) (filter (λ (y : Sending). same_key k (key_of_sending y)) xs)) (of_key k (frames_at kind line x) ++ of_key k (sent_frames kind (line + length (as_entries (frames_of_sending kind x))) xs))
-    by_key true e falls = rw (of_key-all k (frames_at kind line x) (own_key kind line x can.0 k true e)) (one_more w k x _ (frames_at kind line x) _ (record { stretch = stretch; in_time = All-from_recursion (λ (f : Frame). f.line < first (frames_at kind line x) + w.window) (frames_at kind line x) (in_time kind w line x long can.0 some); ordered = λ _. in_order.rising }) falls)
+    by_key true e falls = rw (of_key-all k (frames_at kind line x) (own_key kind line x can.0 k true e)) (one_more w k x _ (frames_at kind line x) _ (record { stretch = stretch; in_time = All-from_recursion (λ (f : Frame). f.line < first (frames_at kind line x) + w.lines) (frames_at kind line x) (in_time kind w line x long can.0 some); ordered = λ _. in_order.rising }) falls)
     by_key false e falls = rw (of_key-none k (frames_at kind line x) (own_key kind line x can.0 k false e)) falls
 
 -- each message of a fast PGN is sent, under a sequence of three bits
@@ -150,7 +150,7 @@ are_sendings : (kind : ℕ → Option Kind) (earlier ms : List PacketParts) → 
 are_sendings kind earlier [] fast are = tt
 are_sendings kind earlier (m ∷ ms) fast are = (record { fast = fast.0; packet = are.0; sequence = omega arith }, are_sendings kind (earlier ++ m ∷ []) ms fast.1 are.1)
 
-pub written_scattered : (w : Rule) → 32 ≤ w.window → (kind : ℕ → Option Kind) (ms : List PacketParts) → All IsPacketParts ms → All (λ (m : PacketParts). kind m.id.pgn ≡ Some Fast) ms → IsScattered w kind ms (as_entries (written kind ms))
+pub written_scattered : (w : Window) → 32 ≤ w.lines → (kind : ℕ → Option Kind) (ms : List PacketParts) → All IsPacketParts ms → All (λ (m : PacketParts). kind m.id.pgn ≡ Some Fast) ms → IsScattered w kind ms (as_entries (written kind ms))
 unfolding sent_frames
 written_scattered w long kind ms are fast = record {
   fast = fast;
@@ -214,7 +214,7 @@ all_entries kind (x ∷ xs) is =
 pub written_entries : (kind : ℕ → Option Kind) (ms : List PacketParts) → All IsPacketParts ms → All (λ (m : PacketParts). kind m.id.pgn ≡ Some Fast) ms → AllByRecursion (IsPieceEntry kind) (as_entries (written kind ms))
 written_entries kind ms are fast = all_entries kind (sendings ms) (are_sendings kind [] ms (recursion_from_All _ ms fast) (recursion_from_All _ ms are))
 
-pub written_log : (w : Rule) → 32 ≤ w.window → (kind : ℕ → Option Kind) (ms : List PacketParts) → All IsPacketParts ms → All (λ (m : PacketParts). kind m.id.pgn ≡ Some Fast) ms → WrittenLog w kind ms
+pub written_log : (w : Window) → 32 ≤ w.lines → (kind : ℕ → Option Kind) (ms : List PacketParts) → All IsPacketParts ms → All (λ (m : PacketParts). kind m.id.pgn ≡ Some Fast) ms → WrittenLog w kind ms
 written_log w long kind ms are fast =
     let entries = written_entries kind ms are fast in
     record {

@@ -1,21 +1,21 @@
 -- What a state holds at the most, one that was read among them.
 use Rattle.std.specs.Prelude.{◌≡◌, ◌≤◌, ℕ, ◌+◌, ◌*◌, List, length, Ok, IfSome}
 use Rattle.std.specs.List.{AllByRecursion}
-use Rattle.n2k_join.specs.declared.saved.place.Place.TheVariants as places
+use Rattle.n2k_join.specs.declared.saved.object.StateFormat.TheVariants.{WithWindow}
 use Rattle.n2k_join.specs.Frames.{most_frames}
 use Rattle.n2k_join.specs.Open.{Group}
 use Rattle.n2k_join.specs.Resumed.{format_in, parsed}
 use Rattle.n2k_join.specs.Saved.{state_text, bare_bytes, group_bytes}
 use Rattle.n2k_join.specs.State.{State, AreWaiting}
 
--- the text is of the format that tells its window
-abbrev pub TellsWindow : List ℕ → Type 0
-TellsWindow bytes = IfSome (parsed bytes) (λ d. format_in d ≡ Ok places.WindowState)
+-- the text is of the format with a window
+abbrev pub HasWindow : List ℕ → Type 0
+HasWindow bytes = IfSome (parsed bytes) (λ d. format_in d ≡ Ok WithWindow)
 
 -- Few groups are open: none whose window has ended, so no more than the window has lines; each has few frames; and what is
 -- saved of them is short.
 pub record HoldsFew (s : State) : Type 0 where
   pub waiting : AreWaiting s
-  pub groups : length s.groups ≤ s.rule.window
+  pub groups : length s.groups ≤ s.window.lines
   pub frames : AllByRecursion (λ (g : Group). length g.pieces ≤ most_frames) s.groups
-  pub saved : length (state_text s) ≤ bare_bytes + group_bytes * s.rule.window
+  pub saved : length (state_text s) ≤ bare_bytes + group_bytes * s.window.lines

@@ -7,21 +7,21 @@ use Rattle.n2k_table.specs.declared.definition.Kind.{Kind}
 use Rattle.n2k_join.specs.Frames.{Key, Frame, frames, of_key}
 use Rattle.n2k_join.specs.Groups.{within, complete, cut, total, last_number, last_line, data_of}
 use Rattle.n2k_join.specs.Messages.{Keyed, message_of}
-use Rattle.n2k_join.specs.Window.{Rule}
+use Rattle.n2k_join.specs.Window.{Window}
 
--- The frames stand one behind the other among the key's frames of a log, and their numbers are 0 to the last, in that order.
+-- The frames come one behind the other among the key's frames of a log, and their numbers are 0 to the last, in that order.
 pub record AreConsecutive (key : Key) (fs group : List Frame) : Type 0 where
   pub before : List Frame
   pub after : List Frame
   pub together : of_key key fs ≡ before ++ (group ++ after)
   pub in_order : map (λ (f : Frame). f.number) group ≡ range_with_len 0 (last_number (total group) + 1)
 
--- so is each complete group of a key
-abbrev pub GroupsConsecutive : Rule → (ℕ → Option Kind) → List Entry → Key → Type 0
-GroupsConsecutive rule kind es key = All (λ (group : List Frame). complete group ≡ true → AreConsecutive key (frames kind es) group) (cut (within rule) (of_key key (frames kind es)))
+-- The frames of each complete group of a key are consecutive.
+abbrev pub GroupsConsecutive : Window → (ℕ → Option Kind) → List Entry → Key → Type 0
+GroupsConsecutive window kind es key = All (λ (group : List Frame). complete group ≡ true → AreConsecutive key (frames kind es) group) (cut (within window) (of_key key (frames kind es)))
 
 -- The message of a line has the data of such a group, and the stamp, the priority and the identifier of its last frame,
--- which stands at the line.
+-- which is that of the line.
 pub record ComesOfConsecutive (kind : ℕ → Option Kind) (es : List Entry) (line : ℕ) (m : Keyed) : Type 0 where
   pub group : List Frame
   pub consecutive : AreConsecutive m.key (frames kind es) group

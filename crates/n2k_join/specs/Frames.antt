@@ -37,7 +37,7 @@ pub record Key : Type 0 where
 unfoldable pub same_key : Key → Key → Bool
 same_key a b = (a.src == b.src) && ((a.dst == b.dst) && ((a.pgn == b.pgn) && (a.sequence == b.sequence)))
 
--- a frame of a fast packet: the line where it stands, its key and number, its seven bytes, and its line's stamp and identifier
+-- a frame of a fast packet: its line, its key and number, its seven bytes, and its line's stamp and identifier
 pub record Frame : Type 0 where
   pub line : ℕ
   pub key : Key

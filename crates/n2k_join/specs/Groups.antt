@@ -1,11 +1,11 @@
 -- How the frames of one key fall into groups, and what a group's message holds. A group ends where it is complete, or
--- where the frame after it can't join it. Whether a frame can't is a test (`Ends`), which every word that cuts takes as an
--- argument. By a rule it can't where its number is in the group, where the group's window has ended, and, in order, where
+-- where the frame after it can't join it. Whether a frame can't is a test (`EndTest`), which every word that cuts takes as an
+-- argument. By a window it can't where its number is in the group, where the group's window has ended, and, in order, where
 -- its number isn't greater than each number in the group.
 use Rattle.std.specs.Prelude.{◌≡◌, ◌<◌, ℕ, ◌+◌, length, ◌/◌, ◌==◌, nat_le, nat_lt, slice_index_or, Bool, true, false, not, ◌&&◌, ◌||◌, if◌then◌else◌, List, [], ◌∷◌, ◌++◌, take, drop, flat_map, Option, Some, None, unwrap_or, option_and_then, is_some}
 use Rattle.std.specs.List.{range_with_len, list_all, last_or}
 use Rattle.n2k_join.specs.Frames.{Key, Frame, frame_bytes, of_key}
-use Rattle.n2k_join.specs.Window.{Rule}
+use Rattle.n2k_join.specs.Window.{Window}
 
 -- the bytes that frames carry under a number
 abbrev pub carried : List Frame → ℕ → Option (List ℕ)
@@ -16,7 +16,7 @@ carried (f ∷ fs) number = if f.number == number then Some f.bytes else carried
 abbrev pub has_number : ℕ → List Frame → Bool
 has_number number fs = is_some (carried fs number)
 
--- some number stands twice
+-- some number comes twice
 abbrev pub has_twice : List Frame → Bool
 has_twice [] = false
 has_twice (f ∷ fs) = has_number f.number fs || has_twice fs
@@ -40,14 +40,14 @@ has_all last group = list_all (λ n. has_number n group) (range_with_len 0 (last
 abbrev pub is_within : ℕ → List Frame → Bool
 is_within last group = list_all (λ (f : Frame). nat_le f.number last) group
 
--- A group is complete: no number stands twice, 0 is among them, and they are exactly those that the total asks for.
+-- A group is complete: no number comes twice, 0 is among them, and they are exactly those that the total needs.
 unfoldable pub complete : List Frame → Bool
 complete group =
     not (has_twice group) && (has_number 0 group && (has_all (last_number (total group)) group && is_within (last_number (total group)) group))
 
 -- a test whether a group that isn't complete ends before a frame
-abbrev pub Ends : Type 0
-Ends = List Frame → Frame → Bool
+abbrev pub EndTest : Type 0
+EndTest = List Frame → Frame → Bool
 
 -- the line of a group's first frame, and of its last
 abbrev pub first : List Frame → ℕ
@@ -60,11 +60,11 @@ last_line (f ∷ []) = f.line
 last_line (f ∷ g ∷ fs) = last_line (g ∷ fs)
 
 -- the frame's number is in it
-abbrev pub repeats : Ends
+abbrev pub repeats : EndTest
 repeats group f = has_number f.number group
 
 -- a number that comes again ends a group
-pub record EndsRepeats (ends : Ends) : Type 0 where
+pub record EndsRepeats (ends : EndTest) : Type 0 where
   pub repeated : (group : List Frame) (f : Frame) → repeats group f ≡ true → ends group f ≡ true
 
 -- some frame's number is this one, or above it
@@ -74,42 +74,42 @@ has_from number (f ∷ fs) = nat_le number f.number || has_from number fs
 
 -- The frame's number isn't greater than each number in it. The frames that a state holds of a group stand at its first
 -- line, and end nothing among themselves.
-abbrev pub falls_back : Ends
+abbrev pub falls_back : EndTest
 falls_back group f = nat_lt (first group) f.line && has_from f.number group
 
 -- the group has no place for the frame: its number is in it, or, in order, it falls back
-abbrev pub misfits : Rule → Ends
-misfits rule group f = repeats group f || (rule.in_order && falls_back group f)
+abbrev pub misfits : Window → EndTest
+misfits window group f = repeats group f || (window.in_order && falls_back group f)
 
--- the frame stands where the group's window has ended, so many lines after its first
-abbrev pub is_late : Rule → Ends
-is_late rule group f = nat_le (first group + rule.window) f.line
+-- the frame comes where the group's window has ended, so many lines after its first
+abbrev pub is_late : Window → EndTest
+is_late window group f = nat_le (first group + window.lines) f.line
 
--- what ends a group that isn't complete, by the rule
-abbrev pub within : Rule → Ends
-within rule group f = misfits rule group f || is_late rule group f
+-- what ends a group that isn't complete, by the window
+abbrev pub within : Window → EndTest
+within window group f = misfits window group f || is_late window group f
 
 -- a group ends before a frame
-abbrev pub closes : Ends → List Frame → Frame → Bool
+abbrev pub closes : EndTest → List Frame → Frame → Bool
 closes ends group f = complete group || ends group f
 
 -- the groups of frames of one key, the first of them beginning with these
-abbrev pub cut_from : Ends → List Frame → List Frame → List (List Frame)
+abbrev pub cut_from : EndTest → List Frame → List Frame → List (List Frame)
 cut_from ends group [] = group ∷ []
 cut_from ends group (f ∷ fs) = if closes ends group f then group ∷ cut_from ends (f ∷ []) fs else cut_from ends (group ++ f ∷ []) fs
 
 -- the groups of frames of one key, in order
-unfoldable pub cut : Ends → List Frame → List (List Frame)
+unfoldable pub cut : EndTest → List Frame → List (List Frame)
 cut ends [] = []
 cut ends (f ∷ fs) = cut_from ends (f ∷ []) fs
 
 -- A front of frames is a group that has ended: it is complete, or no frame follows, or it ends before the one that does.
-abbrev pub HasEnded : Ends → List Frame → List Frame → Type 0
+abbrev pub HasEnded : EndTest → List Frame → List Frame → Type 0
 HasEnded ends group [] = Unit {0}
 HasEnded ends group (f ∷ rest) = closes ends group f ≡ true
 
 -- What the first group of frames is: the shortest front, not an empty one, that has ended.
-pub record IsFirstGroup (ends : Ends) (fs group rest : List Frame) : Type 0 where
+pub record IsFirstGroup (ends : EndTest) (fs group rest : List Frame) : Type 0 where
   pub joined : fs ≡ group ++ rest
   pub nonempty : 0 < length group
   pub ended : HasEnded ends group rest
@@ -120,7 +120,7 @@ abbrev pub incomplete : List Frame → Option (List Frame)
 incomplete group = if complete group then None else Some group
 
 -- The open group of a key: the last one, where it isn't complete. Its window may have ended since.
-abbrev pub open_of : Ends → Key → List Frame → Option (List Frame)
+abbrev pub open_of : EndTest → Key → List Frame → Option (List Frame)
 open_of ends key fs = option_and_then incomplete (last_or None (cut ends (of_key key fs)))
 
 -- the bytes of frame `number` of a group

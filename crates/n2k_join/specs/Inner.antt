@@ -3,4 +3,4 @@ pub mod Apart
 pub mod SavedTokens
 pub mod Slots
 pub mod Stored
-pub mod Told
+pub mod Taken

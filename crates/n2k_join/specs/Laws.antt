@@ -4,28 +4,28 @@ use Rattle.n2k_wire.specs.declared.entry.Entry.{Entry}
 use Rattle.n2k_wire.specs.declared.entry.Entry.TheVariants as entries
 use Rattle.n2k_table.specs.declared.definition.Kind.{Kind}
 use Rattle.n2k_join.specs.Frames.{Frame, frames}
-use Rattle.n2k_join.specs.Groups.{Ends, has_twice, complete, cut, IsFirstGroup, first}
-use Rattle.n2k_join.specs.Messages.{message, cause_in, told_of, broken, counts}
+use Rattle.n2k_join.specs.Groups.{EndTest, has_twice, complete, cut, IsFirstGroup, first}
+use Rattle.n2k_join.specs.Messages.{message, cause_in, as_broken, broken, counts}
 use Rattle.n2k_join.specs.Open.{Group, open_within}
 use Rattle.n2k_join.specs.State.{State, state, step_given, step_after}
 use Rattle.n2k_join.specs.Step.{expired}
-use Rattle.n2k_join.specs.Window.{Rule}
+use Rattle.n2k_join.specs.Window.{Window}
 
 -- The groups that frames are cut into are the frames in their order; none is empty, and none has a number twice.
-pub record CutJoins (ends : Ends) (fs : List Frame) : Type 0 where
+pub record CutJoins (ends : EndTest) (fs : List Frame) : Type 0 where
   pub joined : flat_map (λ (group : List Frame). group) (cut ends fs) ≡ fs
   pub nonempty : All (λ (group : List Frame). 0 < length group) (cut ends fs)
   pub once : All (λ (group : List Frame). has_twice group ≡ false) (cut ends fs)
 
 -- frames begin with a first group
-pub record HasFirstGroup (ends : Ends) (fs : List Frame) : Type 0 where
+pub record HasFirstGroup (ends : EndTest) (fs : List Frame) : Type 0 where
   pub group : List Frame
   pub rest : List Frame
   pub is : IsFirstGroup ends fs group rest
 
 -- No frames have no groups; the first group of others is the shortest front that has ended, and the rest is cut likewise.
 -- So this says what the groups are.
-pub record CutFirst (ends : Ends) (fs : List Frame) : Type 0 where
+pub record CutFirst (ends : EndTest) (fs : List Frame) : Type 0 where
   pub none : cut ends [] ≡ []
   pub begins : 0 < length fs → HasFirstGroup ends fs
   pub follows : (group rest : List Frame) → IsFirstGroup ends fs group rest → cut ends fs ≡ group ∷ cut ends rest
@@ -36,36 +36,36 @@ IsSettled groups place group = (complete group ≡ true) ⊎ (place + 1 < length
 
 -- Frames that follow leave each settled group in its place, and each group begins where it began, so that what was broken
 -- is broken at the same line. The number of groups never falls.
-pub record CutGrows (ends : Ends) (fs back : List Frame) : Type 0 where
+pub record CutGrows (ends : EndTest) (fs back : List Frame) : Type 0 where
   pub stays : (place : ℕ) (group : List Frame) → slice_get (cut ends fs) place ≡ Some group → IsSettled (cut ends fs) place group → slice_get (cut ends (fs ++ back)) place ≡ Some group
   pub begins : (place : ℕ) (group : List Frame) → slice_get (cut ends fs) place ≡ Some group → option_map first (slice_get (cut ends (fs ++ back)) place) ≡ Some (first group)
   pub no_fewer : length (cut ends fs) ≤ length (cut ends (fs ++ back))
 
 -- What the lines of a front of a log gave is settled: whatever follows, they give the same messages and the same broken groups.
-pub record HasSettled (rule : Rule) (kind : ℕ → Option Kind) (front back : List Entry) : Type 0 where
-  pub messages : (line : ℕ) → 1 ≤ line → line ≤ length front → message rule kind (front ++ back) line ≡ message rule kind front line
-  pub broken_groups : (line : ℕ) → line ≤ length front → broken rule kind (front ++ back) line ≡ broken rule kind front line
+pub record HasSettled (window : Window) (kind : ℕ → Option Kind) (front back : List Entry) : Type 0 where
+  pub messages : (line : ℕ) → 1 ≤ line → line ≤ length front → message window kind (front ++ back) line ≡ message window kind front line
+  pub broken_groups : (line : ℕ) → line ≤ length front → broken window kind (front ++ back) line ≡ broken window kind front line
 
 -- The step from the state of a log is the state of the log with the entry, and gives what that one's last line gives.
-pub record StepsAgree (id : List ℕ) (rule : Rule) (kind : ℕ → Option Kind) (es : List Entry) (e : Entry) : Type 0 where
-  pub after : step_after kind (state id rule kind es) e ≡ state id rule kind (es ++ e ∷ [])
-  pub given : step_given kind (state id rule kind es) e ≡ record {
-    message = message rule kind (es ++ e ∷ []) (length es + 1);
+pub record StepsAgree (id : List ℕ) (window : Window) (kind : ℕ → Option Kind) (es : List Entry) (e : Entry) : Type 0 where
+  pub after : step_after kind (state id window kind es) e ≡ state id window kind (es ++ e ∷ [])
+  pub given : step_given kind (state id window kind es) e ≡ record {
+    message = message window kind (es ++ e ∷ []) (length es + 1);
     cause = cause_in kind e;
-    broken = broken rule kind (es ++ e ∷ []) (length es + 1);
+    broken = broken window kind (es ++ e ∷ []) (length es + 1);
   }
 
 -- With an entry more each earlier line gives what it gave.
-pub record LinesStay (rule : Rule) (kind : ℕ → Option Kind) (es : List Entry) (e : Entry) : Type 0 where
-  pub messages : (line : ℕ) → 1 ≤ line → line ≤ length es → message rule kind (es ++ e ∷ []) line ≡ message rule kind es line
-  pub broken_groups : (line : ℕ) → line ≤ length es → broken rule kind (es ++ e ∷ []) line ≡ broken rule kind es line
+pub record LinesStay (window : Window) (kind : ℕ → Option Kind) (es : List Entry) (e : Entry) : Type 0 where
+  pub messages : (line : ℕ) → 1 ≤ line → line ≤ length es → message window kind (es ++ e ∷ []) line ≡ message window kind es line
+  pub broken_groups : (line : ℕ) → line ≤ length es → broken window kind (es ++ e ∷ []) line ≡ broken window kind es line
 
 -- Where an entry is bad: with a skipped line in its place only the count of bad lines changes.
-pub record BadAlone (rule : Rule) (kind : ℕ → Option Kind) (front : List Entry) (e : Entry) (back : List Entry) : Type 0 where
-  pub messages : (line : ℕ) → message rule kind (front ++ e ∷ back) line ≡ message rule kind (front ++ entries.Skip ∷ back) line
-  pub broken_groups : (line : ℕ) → broken rule kind (front ++ e ∷ back) line ≡ broken rule kind (front ++ entries.Skip ∷ back) line
-  pub open_still : open_within rule (length (front ++ e ∷ back)) (frames kind (front ++ e ∷ back)) ≡ open_within rule (length (front ++ entries.Skip ∷ back)) (frames kind (front ++ entries.Skip ∷ back))
-  pub counted : counts rule kind (front ++ e ∷ back) ≡ record (counts rule kind (front ++ entries.Skip ∷ back)) { bad = (counts rule kind (front ++ entries.Skip ∷ back)).bad + 1 }
+pub record BadAlone (window : Window) (kind : ℕ → Option Kind) (front : List Entry) (e : Entry) (back : List Entry) : Type 0 where
+  pub messages : (line : ℕ) → message window kind (front ++ e ∷ back) line ≡ message window kind (front ++ entries.Skip ∷ back) line
+  pub broken_groups : (line : ℕ) → broken window kind (front ++ e ∷ back) line ≡ broken window kind (front ++ entries.Skip ∷ back) line
+  pub open_still : open_within window (length (front ++ e ∷ back)) (frames kind (front ++ e ∷ back)) ≡ open_within window (length (front ++ entries.Skip ∷ back)) (frames kind (front ++ entries.Skip ∷ back))
+  pub counted : counts window kind (front ++ e ∷ back) ≡ record (counts window kind (front ++ entries.Skip ∷ back)) { bad = (counts window kind (front ++ entries.Skip ∷ back)).bad + 1 }
 
 -- A group that is due may be broken before its line is taken: the step from the state without it leads to the same state,
 -- and gives the same but for that group, which is the first of those that the line breaks.
@@ -74,5 +74,5 @@ pub record ExpiresFirst (kind : ℕ → Option Kind) (s : State) (e : Entry) (gr
   pub given : step_given kind s e ≡ record {
     message = (step_given kind (expired s) e).message;
     cause = (step_given kind (expired s) e).cause;
-    broken = told_of group ∷ (step_given kind (expired s) e).broken;
+    broken = as_broken group ∷ (step_given kind (expired s) e).broken;
   }

@@ -9,12 +9,12 @@ use Rattle.n2k_wire.specs.declared.entry.Entry.TheVariants as entries
 use Rattle.n2k_wire.specs.Packet.{PacketParts}
 use Rattle.n2k_table.specs.declared.definition.Kind.{Kind}
 use Rattle.n2k_table.specs.declared.definition.Kind.TheVariants.{Single, Fast}
-use Rattle.n2k_join.specs.declared.broken.Broken.{Broken}
+use Rattle.n2k_join.specs.declared.step.Broken.{Broken}
 use Rattle.n2k_join.specs.declared.counts.Counts.{Counts}
 use Rattle.n2k_join.specs.Frames.{Key, Frame, is_fast_payload, frames, of_key, frame_at}
-use Rattle.n2k_join.specs.Groups.{Ends, within, complete, cut, first, last_line, data_of}
+use Rattle.n2k_join.specs.Groups.{EndTest, within, complete, cut, first, last_line, data_of}
 use Rattle.n2k_join.specs.Open.{Group, open_within}
-use Rattle.n2k_join.specs.Window.{Rule}
+use Rattle.n2k_join.specs.Window.{Window}
 
 -- a message, and the key of the group that gave it
 pub record Keyed : Type 0 where
@@ -25,16 +25,16 @@ pub record Keyed : Type 0 where
 abbrev pub message_of : Frame → List Frame → PacketParts
 message_of f group = record { stamp = f.stamp; id = f.id; payload = data_of group }
 
--- the group is complete, and its last frame stands at the line
+-- the group is complete, and its last frame is that of the line
 abbrev pub is_done_at : ℕ → List Frame → Bool
 is_done_at line group = complete group && (last_line group == line)
 
 -- what the frame makes complete among the groups of its key
-abbrev pub gathered_by : Ends → List Frame → Frame → Option Keyed
+abbrev pub gathered_by : EndTest → List Frame → Frame → Option Keyed
 gathered_by ends fs f = option_map (λ group. record { key = f.key; message = message_of f group }) (find (is_done_at f.line) (cut ends (of_key f.key fs)))
 
 -- the message of the group that the frame at a line completes
-unfoldable pub gathered : Ends → List Frame → ℕ → Option Keyed
+unfoldable pub gathered : EndTest → List Frame → ℕ → Option Keyed
 gathered ends fs line = option_and_then (gathered_by ends fs) (frame_at line fs)
 
 -- the entry of a line
@@ -60,12 +60,12 @@ alone kind (entries.Whole packet) = whole_by (kind packet.id.pgn) packet
 alone kind _ = None
 
 -- the message that a line gives: of the group that it completes, or of its entry alone
-abbrev pub message_with : Ends → (ℕ → Option Kind) → List Entry → ℕ → Option PacketParts
+abbrev pub message_with : EndTest → (ℕ → Option Kind) → List Entry → ℕ → Option PacketParts
 message_with ends kind es line =
     option_or (option_map (λ (m : Keyed). m.message) (gathered ends (frames kind es) line)) (option_and_then (alone kind) (entry_at es line))
 
-abbrev pub message : Rule → (ℕ → Option Kind) → List Entry → ℕ → Option PacketParts
-message rule = message_with (within rule)
+abbrev pub message : Window → (ℕ → Option Kind) → List Entry → ℕ → Option PacketParts
+message window = message_with (within window)
 
 -- why the line of a frame is bad, by its PGN's kind: under a fast PGN its data may not be those of a fast packet's frame
 abbrev pub fast_cause : Option Kind → PacketParts → Option BadCause
@@ -79,39 +79,39 @@ cause_in kind (entries.Bad cause) = Some cause
 cause_in kind (entries.Frame packet) = fast_cause (kind packet.id.pgn) packet
 cause_in kind _ = None
 
--- what is told of a broken group
+-- what is reported of a broken group, by its key and frames
 abbrev pub broken_of : Key → List Frame → Broken
 broken_of key group = record { pgn = key.pgn; src = key.src; dst = key.dst; seq = key.sequence; first = first group }
 
--- the same of what is kept of it
-abbrev pub told_of : Group → Broken
-told_of group = record { pgn = group.key.pgn; src = group.key.src; dst = group.key.dst; seq = group.key.sequence; first = group.first }
+-- what is reported of a broken group, by what a state keeps of it
+abbrev pub as_broken : Group → Broken
+as_broken group = record { pgn = group.key.pgn; src = group.key.src; dst = group.key.dst; seq = group.key.sequence; first = group.first }
 
 -- The line at which a group that isn't complete is broken, where these groups come after it: that at which its window
 -- ends, or that of the frame after it, whichever is first.
-abbrev pub broken_line : Rule → List Frame → List (List Frame) → ℕ
-broken_line rule group [] = first group + rule.window
-broken_line rule group (next ∷ groups) = min (first group + rule.window) (first next)
+abbrev pub broken_line : Window → List Frame → List (List Frame) → ℕ
+broken_line window group [] = first group + window.lines
+broken_line window group (next ∷ groups) = min (first group + window.lines) (first next)
 
 -- of the groups of a key the one that begins at line `begun`, where it is broken at line `line`
-abbrev pub broken_among : Rule → ℕ → ℕ → List (List Frame) → Option (List Frame)
-broken_among rule begun line [] = None
-broken_among rule begun line (group ∷ groups) =
-    if not (complete group) && ((first group == begun) && (broken_line rule group groups == line)) then Some group else broken_among rule begun line groups
+abbrev pub broken_among : Window → ℕ → ℕ → List (List Frame) → Option (List Frame)
+broken_among window begun line [] = None
+broken_among window begun line (group ∷ groups) =
+    if not (complete group) && ((first group == begun) && (broken_line window group groups == line)) then Some group else broken_among window begun line groups
 
-abbrev pub broken_by : Rule → List Frame → ℕ → Frame → Option Broken
-broken_by rule fs line f = option_map (broken_of f.key) (broken_among rule f.line line (cut (within rule) (of_key f.key fs)))
+abbrev pub broken_by : Window → List Frame → ℕ → Frame → Option Broken
+broken_by window fs line f = option_map (broken_of f.key) (broken_among window f.line line (cut (within window) (of_key f.key fs)))
 
 -- the group that the frame at line `begun` opened, where it is broken at line `line`
-abbrev pub broken_begun : Rule → List Frame → ℕ → ℕ → Option Broken
-broken_begun rule fs line begun = option_and_then (broken_by rule fs line) (frame_at begun fs)
+abbrev pub broken_begun : Window → List Frame → ℕ → ℕ → Option Broken
+broken_begun window fs line begun = option_and_then (broken_by window fs line) (frame_at begun fs)
 
 -- the groups that are broken at a line of the log, by the lines that opened them
-unfoldable pub broken_with : Rule → List Frame → ℕ → List Broken
-broken_with rule fs line = filter_map (broken_begun rule fs line) (range_with_len 1 line)
+unfoldable pub broken_with : Window → List Frame → ℕ → List Broken
+broken_with window fs line = filter_map (broken_begun window fs line) (range_with_len 1 line)
 
-abbrev pub broken : Rule → (ℕ → Option Kind) → List Entry → ℕ → List Broken
-broken rule kind es line = broken_with rule (frames kind es) line
+abbrev pub broken : Window → (ℕ → Option Kind) → List Entry → ℕ → List Broken
+broken window kind es line = broken_with window (frames kind es) line
 
 -- the PGN of an entry isn't in the table
 abbrev pub is_unknown : (ℕ → Option Kind) → Entry → Bool
@@ -124,12 +124,12 @@ abbrev pub numbers : List Entry → List ℕ
 numbers es = range_with_len 1 (length es)
 
 -- lines, skipped ones too; those that give a message; bad ones; those of an unknown PGN; groups broken, and groups open at the end
-abbrev pub counts : Rule → (ℕ → Option Kind) → List Entry → Counts
-counts rule kind es = record {
+abbrev pub counts : Window → (ℕ → Option Kind) → List Entry → Counts
+counts window kind es = record {
   lines = length es;
-  messages = count_by (λ line. is_some (message rule kind es line)) (numbers es);
+  messages = count_by (λ line. is_some (message window kind es line)) (numbers es);
   bad = count_by (λ e. is_some (cause_in kind e)) es;
   unknown = count_by (is_unknown kind) es;
-  broken = sum_by (λ line. length (broken rule kind es line)) (numbers es);
-  held = length (open_within rule (length es) (frames kind es));
+  broken = sum_by (λ line. length (broken window kind es line)) (numbers es);
+  held = length (open_within window (length es) (frames kind es));
 }

@@ -1,10 +1,10 @@
--- What stands open after a log's frames, and what is kept of it: of each open group its key, the line that opened it,
+-- What is open after a log's frames, and what is kept of it: of each open group its key, the line that opened it,
 -- and what its frames carry, by rising number. Neither their order nor their stamps matter any more.
 use Rattle.std.specs.Prelude.{ℕ, ◌+◌, ◌==◌, nat_lt, Bool, not, if◌then◌else◌, List, filter, filter_map, Option, Some, None, option_map, option_and_then}
 use Rattle.std.specs.List.{range_with_len}
 use Rattle.n2k_join.specs.Frames.{Key, Frame, most_frames, frame_at}
-use Rattle.n2k_join.specs.Groups.{Ends, within, carried, first, open_of}
-use Rattle.n2k_join.specs.Window.{Rule}
+use Rattle.n2k_join.specs.Groups.{EndTest, within, carried, first, open_of}
+use Rattle.n2k_join.specs.Window.{Window}
 
 -- a frame's number and its seven bytes
 pub record Piece : Type 0 where
@@ -34,25 +34,25 @@ abbrev pub where_begun : ℕ → Key → List Frame → Option Group
 where_begun line key group = if first group == line then Some (group_of key group) else None
 
 -- the group that the frame at a line opened, where it is still open
-unfoldable pub begun_at : Ends → List Frame → ℕ → Option Group
+unfoldable pub begun_at : EndTest → List Frame → ℕ → Option Group
 begun_at ends fs line = option_and_then (λ (f : Frame). option_and_then (where_begun line f.key) (open_of ends f.key fs)) (frame_at line fs)
 
 -- the groups of the keys that are last and not complete after the frames of `lines` lines, by the lines that opened them
-unfoldable pub open_groups : Ends → ℕ → List Frame → List Group
+unfoldable pub open_groups : EndTest → ℕ → List Frame → List Group
 open_groups ends lines fs = filter_map (begun_at ends fs) (range_with_len 1 lines)
 
 -- the group's window ends after this line
-abbrev pub is_waiting : Rule → ℕ → Group → Bool
-is_waiting rule line group = nat_lt line (group.first + rule.window)
+abbrev pub is_waiting : Window → ℕ → Group → Bool
+is_waiting window line group = nat_lt line (group.first + window.lines)
 
 -- those of some groups whose window ends after this line
-unfoldable pub waiting : Rule → ℕ → List Group → List Group
-waiting rule line groups = filter (is_waiting rule line) groups
+unfoldable pub waiting : Window → ℕ → List Group → List Group
+waiting window line groups = filter (is_waiting window line) groups
 
 -- and those whose window has ended at it, or before
-unfoldable pub ended : Rule → ℕ → List Group → List Group
-ended rule line groups = filter (λ (g : Group). not (is_waiting rule line g)) groups
+unfoldable pub ended : Window → ℕ → List Group → List Group
+ended window line groups = filter (λ (g : Group). not (is_waiting window line g)) groups
 
 -- the groups that are open after the frames of `lines` lines: their window hasn't ended either
-abbrev pub open_within : Rule → ℕ → List Frame → List Group
-open_within rule lines fs = waiting rule lines (open_groups (within rule) lines fs)
+abbrev pub open_within : Window → ℕ → List Frame → List Group
+open_within window lines fs = waiting window lines (open_groups (within window) lines fs)

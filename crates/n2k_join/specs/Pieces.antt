@@ -76,6 +76,7 @@ Sequences = Stream → ℕ
 abbrev pub first_sequences : Sequences
 first_sequences stream = 0
 
+-- the PGN of this kind is sent in fast packets
 abbrev pub is_fast : Option Kind → Bool
 is_fast (Some Fast) = true
 is_fast (Some Single) = false

@@ -1,7 +1,7 @@
 -- What the readers of a saved state answer.
 use Rattle.std.specs.Prelude.{◌≡◌, ◌≢◌, Result, Ok, Err}
-use Rattle.n2k_join.specs.declared.state_fault.StateFault.{StateFault}
-use Rattle.n2k_join.specs.declared.state_fault.StateFault.TheVariants.{Memory}
+use Rattle.n2k_join.specs.declared.fault.StateFault.{StateFault}
+use Rattle.n2k_join.specs.declared.fault.StateFault.TheVariants.{Memory}
 
 -- What a reader answers, seen by view, is what reading gives, unless memory ran out.
 abbrev pub GivesOrMemory : {X Y : Type 0} → (X → Y) → Result X StateFault → Result Y StateFault → Type 0

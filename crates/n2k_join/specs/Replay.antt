@@ -8,26 +8,26 @@ use Rattle.n2k_join.specs.Groups.{within}
 use Rattle.n2k_join.specs.Messages.{Keyed, gathered, message, numbers}
 use Rattle.n2k_join.specs.Pieces.{Sending}
 use Rattle.n2k_join.specs.Scattered.{sendings_of}
-use Rattle.n2k_join.specs.Window.{Rule}
+use Rattle.n2k_join.specs.Window.{Window}
 
 -- the messages that a log gives, in the order of its lines
-abbrev pub messages : Rule → (ℕ → Option Kind) → List Entry → List PacketParts
-messages rule kind es = filter_map (message rule kind es) (numbers es)
+abbrev pub messages : Window → (ℕ → Option Kind) → List Entry → List PacketParts
+messages window kind es = filter_map (message window kind es) (numbers es)
 
 -- those that its groups give
-abbrev pub gathered_messages : Rule → (ℕ → Option Kind) → List Entry → List Keyed
-gathered_messages rule kind es = filter_map (gathered (within rule) (frames kind es)) (numbers es)
+abbrev pub gathered_messages : Window → (ℕ → Option Kind) → List Entry → List Keyed
+gathered_messages window kind es = filter_map (gathered (within window) (frames kind es)) (numbers es)
 
 -- those that the groups of a key give
-abbrev pub given_to : Key → Rule → (ℕ → Option Kind) → List Entry → List PacketParts
-given_to key rule kind es = map (λ (m : Keyed). m.message) (filter (λ (m : Keyed). same_key key m.key) (gathered_messages rule kind es))
+abbrev pub given_to : Key → Window → (ℕ → Option Kind) → List Entry → List PacketParts
+given_to key window kind es = map (λ (m : Keyed). m.message) (filter (λ (m : Keyed). same_key key m.key) (gathered_messages window kind es))
 
 -- of a list of messages those whose frames have the key
 abbrev pub sent_to : Key → List PacketParts → List PacketParts
 sent_to key ms = map (λ (x : Sending). x.message) (sendings_of key ms)
 
 -- The log gives the messages: as many as they are, each by a group, and each key's in their order.
-pub record Replays (rule : Rule) (kind : ℕ → Option Kind) (ms : List PacketParts) (es : List Entry) : Type 0 where
-  pub as_many : length (messages rule kind es) ≡ length ms
-  pub by_groups : messages rule kind es ≡ map (λ (m : Keyed). m.message) (gathered_messages rule kind es)
-  pub in_order : (key : Key) → given_to key rule kind es ≡ sent_to key ms
+pub record Replays (window : Window) (kind : ℕ → Option Kind) (ms : List PacketParts) (es : List Entry) : Type 0 where
+  pub as_many : length (messages window kind es) ≡ length ms
+  pub by_groups : messages window kind es ≡ map (λ (m : Keyed). m.message) (gathered_messages window kind es)
+  pub in_order : (key : Key) → given_to key window kind es ≡ sent_to key ms

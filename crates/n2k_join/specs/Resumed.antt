@@ -13,10 +13,12 @@ use Rattle.n2k_wire.specs.Plain.{greatest_address}
 use Rattle.n2k_table.specs.declared.definition.Kind.{Kind}
 use Rattle.n2k_table.specs.declared.definition.Kind.TheVariants.{Single, Fast}
 use Rattle.n2k_join.specs.declared.counts.Counts.{Counts}
-use Rattle.n2k_join.specs.declared.state_fault.StateFault.{StateFault}
-use Rattle.n2k_join.specs.declared.state_fault.StateFault.TheVariants.{NotJson, Format, Shape, TableDiffers, WindowDiffers, Invalid}
-use Rattle.n2k_join.specs.declared.saved.place.Place.{Place}
-use Rattle.n2k_join.specs.declared.saved.place.Place.TheVariants as places
+use Rattle.n2k_join.specs.declared.fault.StateFault.{StateFault}
+use Rattle.n2k_join.specs.declared.fault.StateFault.TheVariants.{NotJson, Format, Shape, TableDiffers, WindowDiffers, Invalid}
+use Rattle.n2k_join.specs.declared.saved.object.Object.{Object}
+use Rattle.n2k_join.specs.declared.saved.object.Object.TheVariants as objects
+use Rattle.n2k_join.specs.declared.saved.object.StateFormat.{StateFormat}
+use Rattle.n2k_join.specs.declared.saved.object.StateFormat.TheVariants.{WithoutWindow, WithWindow}
 use Rattle.n2k_join.specs.Counts.{most_lines}
 use Rattle.n2k_join.specs.Frames.{Key, same_key, frame_bytes, most_frames, most_sequences}
 use Rattle.n2k_join.specs.Groups.{complete}
@@ -24,43 +26,43 @@ use Rattle.n2k_join.specs.Open.{Piece, Group}
 use Rattle.n2k_join.specs.State.{State, held_of}
 use Rattle.n2k_join.specs.Saved.{saved_format, old_format, are_waiting}
 use Rattle.n2k_wire.specs.Steps.{◌>>=◌, or_cause, holds_or}
-use Rattle.n2k_join.specs.Window.{Rule}
+use Rattle.n2k_join.specs.Window.{Window}
 
 -- the members of a state without a window
 abbrev pub state_names : List (List ℕ)
 state_names = codes "bad" ∷ codes "broken" ∷ codes "format" ∷ codes "groups" ∷ codes "lines" ∷ codes "messages" ∷ codes "table" ∷ codes "unknown" ∷ []
 
--- the members that an object has, by its place
-abbrev pub names : Place → List (List ℕ)
-names places.State = state_names
-names places.WindowState = state_names ++ codes "window" ∷ []
-names places.Group = codes "dst" ∷ codes "first" ∷ codes "frames" ∷ codes "pgn" ∷ codes "seq" ∷ codes "src" ∷ []
+-- the members that an object has
+abbrev pub names : Object → List (List ℕ)
+names (objects.State WithoutWindow) = state_names
+names (objects.State WithWindow) = state_names ++ codes "window" ∷ []
+names objects.Group = codes "dst" ∷ codes "first" ∷ codes "frames" ∷ codes "pgn" ∷ codes "seq" ∷ codes "src" ∷ []
 
-abbrev pub is_name : Place → List ℕ → Bool
-is_name place name = list_any (λ n. bytes_eq name n) (names place)
+abbrev pub is_name : Object → List ℕ → Bool
+is_name object name = list_any (λ n. bytes_eq name n) (names object)
 
-abbrev pub has_only : Place → Members → Bool
-has_only place no_members = true
-has_only place (member name d ms) = is_name place name && has_only place ms
+abbrev pub has_only : Object → Members → Bool
+has_only object no_members = true
+has_only object (member name d ms) = is_name object name && has_only object ms
 
--- An object without any member but those of its place. That each of those is there, the readers of the members say.
-abbrev pub members_at : Place → Data → Result (Unit {0}) StateFault
-members_at place d = do
+-- The value is an object without any member but those of this one. That each of these is there, the readers of the members say.
+abbrev pub members_at : Object → Data → Result (Unit {0}) StateFault
+members_at object d = do
   ms ← or_cause Shape (as_object d)
-  holds_or Shape (has_only place ms)
+  holds_or Shape (has_only object ms)
 
 -- the value of a member that has to be there
 abbrev pub required : List ℕ → Data → Result Data StateFault
 required name d = or_cause Shape (get name d)
 
 -- a whole number from 0 to 2^64 - 1
-abbrev pub as_whole : Data → Option ℕ
-as_whole d = option_and_then as_u64 (as_number d)
+abbrev pub as_int : Data → Option ℕ
+as_int d = option_and_then as_u64 (as_number d)
 
-abbrev pub whole_at : List ℕ → Data → Result ℕ StateFault
-whole_at name d = do
+abbrev pub int_at : List ℕ → Data → Result ℕ StateFault
+int_at name d = do
   e ← required name d
-  or_cause Shape (as_whole e)
+  or_cause Shape (as_int e)
 
 -- so many bytes as hexadecimal digits of either case
 abbrev pub digits_of : ℕ → Data → Result (List ℕ) StateFault
@@ -89,88 +91,88 @@ each f (d ∷ ds) = do
 -- a frame is an array of two: its number, and its seven bytes
 abbrev pub piece_in : List Data → Result Piece StateFault
 piece_in (first ∷ second ∷ []) = do
-  number ← or_cause Shape (as_whole first)
+  number ← or_cause Shape (as_int first)
   bytes ← digits_of frame_bytes second
   Ok (record { number = number; bytes = bytes })
 piece_in _ = Err Shape
 
-unfoldable pub piece_of : Data → Result Piece StateFault
-piece_of d = do
+unfoldable pub read_piece : Data → Result Piece StateFault
+read_piece d = do
   ds ← elements_of d
   piece_in ds
 
-unfoldable pub key_of : Data → Result Key StateFault
-key_of d = do
-  dst ← whole_at (codes "dst") d
-  pgn ← whole_at (codes "pgn") d
-  sequence ← whole_at (codes "seq") d
-  src ← whole_at (codes "src") d
+unfoldable pub read_key : Data → Result Key StateFault
+read_key d = do
+  dst ← int_at (codes "dst") d
+  pgn ← int_at (codes "pgn") d
+  sequence ← int_at (codes "seq") d
+  src ← int_at (codes "src") d
   Ok (record { src = src; dst = dst; pgn = pgn; sequence = sequence })
 
-unfoldable pub pieces_at : Data → Result (List Piece) StateFault
-pieces_at d = do
+unfoldable pub read_pieces : Data → Result (List Piece) StateFault
+read_pieces d = do
   e ← required (codes "frames") d
   ds ← elements_of e
-  each piece_of ds
+  each read_piece ds
 
-unfoldable pub group_of : Data → Result Group StateFault
-group_of d = do
-  known ← members_at places.Group d
-  key ← key_of d
-  first ← whole_at (codes "first") d
-  pieces ← pieces_at d
+unfoldable pub read_group : Data → Result Group StateFault
+read_group d = do
+  known ← members_at objects.Group d
+  key ← read_key d
+  first ← int_at (codes "first") d
+  pieces ← read_pieces d
   Ok (record { first = first; key = key; pieces = pieces })
 
-unfoldable pub groups_at : Data → Result (List Group) StateFault
-groups_at d = do
+unfoldable pub read_groups : Data → Result (List Group) StateFault
+read_groups d = do
   e ← required (codes "groups") d
   ds ← elements_of e
-  each group_of ds
+  each read_group ds
 
 -- The counts that are written. That of the open groups is not: it is their number.
-unfoldable pub counts_of : Data → Result Counts StateFault
-counts_of d = do
-  bad ← whole_at (codes "bad") d
-  broken ← whole_at (codes "broken") d
-  lines ← whole_at (codes "lines") d
-  messages ← whole_at (codes "messages") d
-  unknown ← whole_at (codes "unknown") d
+unfoldable pub read_counts : Data → Result Counts StateFault
+read_counts d = do
+  bad ← int_at (codes "bad") d
+  broken ← int_at (codes "broken") d
+  lines ← int_at (codes "lines") d
+  messages ← int_at (codes "messages") d
+  unknown ← int_at (codes "unknown") d
   Ok (record { lines = lines; messages = messages; bad = bad; unknown = unknown; broken = broken; held = 0 })
 
-unfoldable pub id_at : Data → Result (List ℕ) StateFault
-id_at d = do
+unfoldable pub read_id : Data → Result (List ℕ) StateFault
+read_id d = do
   e ← required (codes "table") d
   digits_of 32 e
 
 -- a state whose count of open groups is their number
-abbrev pub state_of_parts : List ℕ → Rule → Counts → List Group → State
-state_of_parts id rule counts groups = record { id = id; rule = rule; counts = record counts { held = length groups }; groups = groups }
+abbrev pub state_of_parts : List ℕ → Window → Counts → List Group → State
+state_of_parts id window counts groups = record { id = id; window = window; counts = record counts { held = length groups }; groups = groups }
 
 -- The window of a state, by its format: it is that which is handed in, where the state doesn't tell one.
-abbrev pub window_at : Place → ℕ → Data → Result ℕ StateFault
-window_at places.WindowState window d = whole_at (codes "window") d
-window_at _ window d = Ok window
+abbrev pub read_window : StateFormat → ℕ → Data → Result ℕ StateFault
+read_window WithWindow lines d = int_at (codes "window") d
+read_window WithoutWindow lines d = Ok lines
 
--- The state that a value of a format spells, whatever its numbers. Whether the order of frames is asked for is as handed in.
-unfoldable pub state_of : Place → Rule → Data → Result State StateFault
-state_of format rule d = do
-  known ← members_at format d
-  counts ← counts_of d
-  id ← id_at d
-  groups ← groups_at d
-  window ← window_at format rule.window d
-  Ok (state_of_parts id (record { window = window; in_order = rule.in_order }) counts groups)
+-- The state that a value of a format spells, whatever its numbers. Whether the window is in order is as handed in.
+unfoldable pub read_state : StateFormat → Window → Data → Result State StateFault
+read_state format window d = do
+  known ← members_at (objects.State format) d
+  counts ← read_counts d
+  id ← read_id d
+  groups ← read_groups d
+  lines ← read_window format window.lines d
+  Ok (state_of_parts id (record { lines = lines; in_order = window.in_order }) counts groups)
 
--- the format of a value, as the place of its members
-abbrev pub is_whole : ℕ → Option ℕ → Bool
-is_whole n None = false
-is_whole n (Some m) = m == n
+abbrev pub is_int : ℕ → Option ℕ → Bool
+is_int n None = false
+is_int n (Some m) = m == n
 
-abbrev pub format_numbered : Option ℕ → Result Place StateFault
-format_numbered n = if is_whole old_format n then Ok places.State else if is_whole saved_format n then Ok places.WindowState else Err Format
+abbrev pub format_numbered : Option ℕ → Result StateFormat StateFault
+format_numbered n = if is_int old_format n then Ok WithoutWindow else if is_int saved_format n then Ok WithWindow else Err Format
 
-abbrev pub format_in : Data → Result Place StateFault
-format_in d = format_numbered (option_and_then as_whole (get (codes "format") d))
+-- the format that a value has
+abbrev pub format_in : Data → Result StateFormat StateFault
+format_in d = format_numbered (option_and_then as_int (get (codes "format") d))
 
 -- The rules of a valid state.
 -- Each line counts once at most as a message, as bad or as unknown, and opens one group at most, which is broken or open.
@@ -182,14 +184,15 @@ unfoldable pub firsts_rise : ℕ → ℕ → List Group → Bool
 firsts_rise least lines [] = true
 firsts_rise least lines (g ∷ gs) = nat_le least g.first && (nat_le g.first lines && firsts_rise (g.first + 1) lines gs)
 
-abbrev pub is_fast : Option Kind → Bool
-is_fast None = false
-is_fast (Some Single) = false
-is_fast (Some Fast) = true
+-- the table sends a PGN of this kind in fast packets
+abbrev pub is_fast_pgn : Option Kind → Bool
+is_fast_pgn None = false
+is_fast_pgn (Some Single) = false
+is_fast_pgn (Some Fast) = true
 
 -- a key is one that frames of the table's fast PGNs can have
 unfoldable pub key_holds : (ℕ → Option Kind) → Key → Bool
-key_holds kind k = nat_le k.pgn greatest_pgn && (is_fast (kind k.pgn) && (nat_le k.src greatest_address && (nat_le k.dst greatest_address && nat_lt k.sequence most_sequences)))
+key_holds kind k = nat_le k.pgn greatest_pgn && (is_fast_pgn (kind k.pgn) && (nat_le k.src greatest_address && (nat_le k.dst greatest_address && nat_lt k.sequence most_sequences)))
 
 -- a frame 0 has a total that isn't too large
 abbrev pub total_holds : ℕ → List ℕ → Bool
@@ -218,10 +221,10 @@ groups_hold kind (g ∷ gs) = group_holds kind g && (not (list_any (λ (other : 
 unfoldable pub is_valid : (ℕ → Option Kind) → State → Bool
 is_valid kind s = counts_hold s.counts && (firsts_rise 1 s.counts.lines s.groups && groups_hold kind s.groups)
 
--- beside these, a state that tells its window has no group whose window has ended
-abbrev pub waits_hold : Place → State → Bool
-waits_hold places.WindowState s = are_waiting s
-waits_hold _ s = true
+-- beside these, a state with its window has no group whose window has ended
+abbrev pub waits_hold : StateFormat → State → Bool
+waits_hold WithWindow s = are_waiting s
+waits_hold WithoutWindow s = true
 
 -- a value where the test holds, and else Invalid
 abbrev pub valid_if : {A : Type 0} → Bool → A → Result A StateFault
@@ -232,14 +235,14 @@ valid_if false x = Err Invalid
 abbrev pub parsed : List ℕ → Option Data
 parsed bytes = if is_utf8 bytes then read bytes else None
 
--- The state that the bytes spell under a table and a window, or the first fault that stands in them. A window that the
--- bytes tell is never taken on in the place of the one that is handed in.
-unfoldable pub judged : (ℕ → Option Kind) → List ℕ → Rule → List ℕ → Result State StateFault
-judged kind id rule bytes = do
+-- The state that the bytes spell under a table and a window, or the first fault that is found in them. A window that the
+-- bytes have is never taken on in the place of the one that is handed in.
+unfoldable pub resumed : (ℕ → Option Kind) → List ℕ → Window → List ℕ → Result State StateFault
+resumed kind id window bytes = do
   d ← or_cause NotJson (parsed bytes)
   format ← format_in d
-  s ← state_of format rule d
+  s ← read_state format window d
   same ← holds_or TableDiffers (bytes_eq s.id id)
-  as_long ← holds_or WindowDiffers (s.rule.window == rule.window)
+  as_long ← holds_or WindowDiffers (s.window.lines == window.lines)
   in_time ← holds_or Invalid (waits_hold format s)
   valid_if (is_valid kind s) s

@@ -1,4 +1,4 @@
--- The rules of a valid state stand in two forms: as tests, which the reader of a text asks in turn, and as what holds of the
+-- The rules of a valid state have two forms: as tests, which the reader of a text makes in turn, and as what holds of the
 -- state of every join. They are one.
 use Rattle.std.specs.Prelude.{◌≡◌, ◌<◌, ◌↔◌, ℕ, true, length, Option}
 use Rattle.std.specs.List.{AllByRecursion}
@@ -17,7 +17,7 @@ pub record HasSeven (piece : Piece) : Type 0 where
 
 -- A state whose numbers may be any, as a text spells one that is read under a window.
 pub record HasShape (s : State) : Type 0 where
-  pub window : IsWindow s.rule.window
+  pub window : IsWindow s.window.lines
   pub held : s.counts.held ≡ length s.groups
   pub frames : AllByRecursion (λ (g : Group). AllByRecursion HasSeven g.pieces) s.groups
 

@@ -1,5 +1,5 @@
--- The text of a saved state: one JSON object, as `serde_json` writes it. It is compact, and the members of each object stand
--- in the order of their names. It tells the window, but not whether the order of frames is asked for.
+-- The text of a saved state: one JSON object, as `serde_json` writes it. It is compact, and the members of each object are
+-- in the order of their names. It has the lines of the window, but not whether that is in order.
 use Rattle.std.specs.Prelude.{◌≡◌, ℕ, Bool, if◌then◌else◌, List, length, map, codes}
 use Rattle.std.specs.List.{list_all}
 use Rattle.serde_json.specs.Data.{Data, Members, number, unsigned, string, array, object, no_items, item, no_members, member}
@@ -13,7 +13,7 @@ use Rattle.n2k_join.specs.State.{State}
 abbrev pub whole : ℕ → Data
 whole n = number (unsigned n)
 
--- the format of a state that tells its window, and of one that doesn't
+-- the format of a state with its window, and of one without
 abbrev pub saved_format : ℕ
 saved_format = 2
 
@@ -22,14 +22,14 @@ old_format = 1
 
 -- No group's window has ended. Where one has, the state was read in the old format and no line has been taken since.
 abbrev pub are_waiting : State → Bool
-are_waiting s = list_all (is_waiting s.rule s.counts.lines) s.groups
+are_waiting s = list_all (is_waiting s.window s.counts.lines) s.groups
 
--- the format of a state that tells its window or doesn't, and its last member
+-- the format of a state with its window or without, and its last member
 abbrev pub format_by : Bool → ℕ
-format_by tells = if tells then saved_format else old_format
+format_by with_window = if with_window then saved_format else old_format
 
 abbrev pub window_member : Bool → ℕ → Members
-window_member tells window = if tells then member (codes "window") (whole window) no_members else no_members
+window_member with_window window = if with_window then member (codes "window") (whole window) no_members else no_members
 
 -- a list of values
 abbrev pub list : List Data → Data
@@ -49,19 +49,19 @@ group_tree g = object (
     member (codes "seq") (whole g.key.sequence) (
     member (codes "src") (whole g.key.src) no_members))))))
 
--- a state that tells its window or doesn't
+-- a state with its window or without
 unfoldable pub tree_by : Bool → State → Data
-tree_by tells s = object (
+tree_by with_window s = object (
     member (codes "bad") (whole s.counts.bad) (
     member (codes "broken") (whole s.counts.broken) (
-    member (codes "format") (whole (format_by tells)) (
+    member (codes "format") (whole (format_by with_window)) (
     member (codes "groups") (list (map group_tree s.groups)) (
     member (codes "lines") (whole s.counts.lines) (
     member (codes "messages") (whole s.counts.messages) (
     member (codes "table") (string (encode_lower s.id)) (
-    member (codes "unknown") (whole s.counts.unknown) (window_member tells s.rule.window)))))))))
+    member (codes "unknown") (whole s.counts.unknown) (window_member with_window s.window.lines)))))))))
 
--- The state as it is saved. With a group whose window has ended it would not be read if it told its window; so it doesn't.
+-- The state as it is saved. With a group whose window has ended it would not be read if it had its window; so it is saved without.
 abbrev pub state_tree : State → Data
 state_tree s = tree_by (are_waiting s) s
 

@@ -1,4 +1,4 @@
--- Logs in which the frames of messages stand mixed: each message's frames in any order, and messages of different keys
+-- Logs in which the frames of messages are mixed: each message's frames in any order, and messages of different keys
 -- between one another.
 use Rattle.std.specs.Prelude.{◌≡◌, ℕ, ◌+◌, ◌≤◌, ◌<◌, false, true, List, map, length, filter, flat_map, Option, Some, None}
 use Rattle.std.specs.List.{All, AllZip, range_with_len}
@@ -12,7 +12,7 @@ use Rattle.n2k_join.specs.Frames.{Key, same_key, Frame, fast_frame, frames, of_k
 use Rattle.n2k_join.specs.Groups.{has_twice, first}
 use Rattle.n2k_join.specs.Messages.{alone}
 use Rattle.n2k_join.specs.Pieces.{piece, last_piece, Sending, sendings, written}
-use Rattle.n2k_join.specs.Window.{Rule}
+use Rattle.n2k_join.specs.Window.{Window}
 
 -- the key of a sending's frames
 abbrev pub key_of_sending : Sending → Key
@@ -33,31 +33,31 @@ pub record IsStretchOf (x : Sending) (fs : List Frame) : Type 0 where
   pub pieces : ArePieces x fs
   pub whole : length fs ≡ last_piece x.message + 1
 
--- A stretch, all of whose frames stand before its window ends; where the rule asks for their order, by rising number.
-pub record IsStretchWithin (rule : Rule) (x : Sending) (fs : List Frame) : Type 0 where
+-- A stretch, all of whose frames come before its window ends; in order, by rising number.
+pub record IsStretchWithin (window : Window) (x : Sending) (fs : List Frame) : Type 0 where
   pub stretch : IsStretchOf x fs
-  pub in_time : All (λ (f : Frame). f.line < first fs + rule.window) fs
-  pub ordered : rule.in_order ≡ true → map (λ (f : Frame). f.number) fs ≡ range_with_len 0 (last_piece x.message + 1)
+  pub in_time : All (λ (f : Frame). f.line < first fs + window.lines) fs
+  pub ordered : window.in_order ≡ true → map (λ (f : Frame). f.number) fs ≡ range_with_len 0 (last_piece x.message + 1)
 
--- lists of frames, one behind the other
-abbrev pub joined : List (List Frame) → List Frame
-joined groups = flat_map (λ (group : List Frame). group) groups
+-- the frames of all groups, one group behind the other
+abbrev pub all_frames : List (List Frame) → List Frame
+all_frames groups = flat_map (λ (group : List Frame). group) groups
 
 -- the frames fall into one stretch a sending, in the order of the sendings
-pub record FallInto (rule : Rule) (xs : List Sending) (fs : List Frame) : Type 0 where
+pub record FallInto (window : Window) (xs : List Sending) (fs : List Frame) : Type 0 where
   pub stretches : List (List Frame)
-  pub one_behind_the_other : fs ≡ joined stretches
-  pub each : AllZip (IsStretchWithin rule) xs stretches
+  pub one_behind_the_other : fs ≡ all_frames stretches
+  pub each : AllZip (IsStretchWithin window) xs stretches
 
 -- of a list of messages those whose frames have the key, with their sequence
 abbrev pub sendings_of : Key → List PacketParts → List Sending
 sendings_of key ms = filter (λ (x : Sending). same_key key (key_of_sending x)) (sendings ms)
 
 -- The frames of the messages are scattered over the log: the messages are fast packets, and the frames of each key fall
--- into the stretches of that key's messages, in their order, each within the window. Other entries may stand between.
-pub record IsScattered (rule : Rule) (kind : ℕ → Option Kind) (ms : List PacketParts) (es : List Entry) : Type 0 where
+-- into the stretches of that key's messages, in their order, each within the window. Other entries may come between.
+pub record IsScattered (window : Window) (kind : ℕ → Option Kind) (ms : List PacketParts) (es : List Entry) : Type 0 where
   pub fast : All (λ (m : PacketParts). kind m.id.pgn ≡ Some Fast) ms
-  pub falls : (key : Key) → FallInto rule (sendings_of key ms) (of_key key (frames kind es))
+  pub falls : (key : Key) → FallInto window (sendings_of key ms) (of_key key (frames kind es))
 
 -- no entry gives a message alone
 abbrev pub IsMute : (ℕ → Option Kind) → List Entry → Type 0
@@ -68,7 +68,7 @@ abbrev pub as_entries : List PacketParts → List Entry
 as_entries packets = map (λ p. entries.Frame p) packets
 
 -- The frames that are written, a line each and in their order, make such a log, and it gives no message alone.
-pub record WrittenLog (rule : Rule) (kind : ℕ → Option Kind) (ms : List PacketParts) : Type 0 where
+pub record WrittenLog (window : Window) (kind : ℕ → Option Kind) (ms : List PacketParts) : Type 0 where
   pub entries : All IsEntry (as_entries (written kind ms))
   pub mute : IsMute kind (as_entries (written kind ms))
-  pub scattered : IsScattered rule kind ms (as_entries (written kind ms))
+  pub scattered : IsScattered window kind ms (as_entries (written kind ms))

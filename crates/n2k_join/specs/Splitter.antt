@@ -5,8 +5,8 @@ use Rattle.n2k_wire.specs.Packet.{PacketParts}
 use Rattle.n2k_wire.specs.Candump.{frame_payload}
 use Rattle.n2k_table.specs.declared.definition.Kind.{Kind}
 use Rattle.n2k_table.specs.declared.definition.Kind.TheVariants.{Single, Fast}
-use Rattle.n2k_join.specs.declared.split_fault.SplitFault.{SplitFault}
-use Rattle.n2k_join.specs.declared.split_fault.SplitFault.TheVariants.{Unknown, TooLong}
+use Rattle.n2k_join.specs.declared.fault.SplitFault.{SplitFault}
+use Rattle.n2k_join.specs.declared.fault.SplitFault.TheVariants.{Unknown, TooLong}
 use Rattle.n2k_join.specs.Pieces.{Stream, same_stream, Sequences}
 
 -- The sequences that a splitter holds, by streams: 0 for a stream without one.

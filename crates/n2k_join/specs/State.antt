@@ -8,29 +8,29 @@ use Rattle.n2k_wire.specs.declared.entry.Entry.{Entry}
 use Rattle.n2k_wire.specs.Packet.{PacketParts, greatest_pgn, longest_message}
 use Rattle.n2k_table.specs.declared.definition.Kind.{Kind}
 use Rattle.n2k_table.specs.declared.definition.Kind.TheVariants.{Fast}
-use Rattle.n2k_join.specs.declared.broken.Broken.{Broken}
+use Rattle.n2k_join.specs.declared.step.Broken.{Broken}
 use Rattle.n2k_join.specs.declared.counts.Counts.{Counts}
 use Rattle.n2k_join.specs.Counts.{most_lines}
 use Rattle.n2k_join.specs.Frames.{Key, same_key, Frame, most_frames, most_sequences, frame_bytes, frames, frame_in}
 use Rattle.n2k_join.specs.Groups.{within, complete}
 use Rattle.n2k_join.specs.Open.{ended, waiting, open_within}
 pub use Rattle.n2k_join.specs.Open.{Piece, Group}
-use Rattle.n2k_join.specs.Messages.{Keyed, gathered, alone, cause_in, told_of, broken_with, is_unknown, counts}
-use Rattle.n2k_join.specs.Window.{Rule, IsWindow}
+use Rattle.n2k_join.specs.Messages.{Keyed, gathered, alone, cause_in, as_broken, broken_with, is_unknown, counts}
+use Rattle.n2k_join.specs.Window.{Window, IsWindow}
 
 -- which table the lines were read with, what ends a group, what the lines count, and the open groups by rising
 -- first line
 pub record State : Type 0 where
   pub id : List ℕ
-  pub rule : Rule
+  pub window : Window
   pub counts : Counts
   pub groups : List Group
 
--- the state after a log, under a rule and with the table of this id
-abbrev pub state : List ℕ → Rule → (ℕ → Option Kind) → List Entry → State
-state id rule kind es = record { id = id; rule = rule; counts = counts rule kind es; groups = open_within rule (length es) (frames kind es) }
+-- the state after a log, under a window and with the table of this id
+abbrev pub state : List ℕ → Window → (ℕ → Option Kind) → List Entry → State
+state id window kind es = record { id = id; window = window; counts = counts window kind es; groups = open_within window (length es) (frames kind es) }
 
--- A piece as a frame. It stands at the group's first line; a state holds no stamp, since a message takes that of the line
+-- A piece as a frame. Its line is the group's first; a state holds no stamp, since a message takes that of the line
 -- that completes it.
 abbrev pub held_frame : Group → Piece → Frame
 held_frame group piece = record {
@@ -42,7 +42,7 @@ held_frame group piece = record {
   id = record { prio = 0; pgn = group.key.pgn; src = group.key.src; dst = group.key.dst };
 }
 
--- The frames of an open group, by falling number: so frame 0, which tells the total, comes last, and no front is complete.
+-- The frames of an open group, by falling number: so frame 0, which has the total, comes last, and no front is complete.
 abbrev pub held_of : Group → List Frame
 held_of group = map (held_frame group) (reverse group.pieces)
 
@@ -62,23 +62,23 @@ next_line s = s.counts.lines + 1
 
 -- the groups whose window ends at the next line, if not before: they are broken there before its frame is taken
 abbrev pub overdue : State → List Group
-overdue s = ended s.rule (next_line s) s.groups
+overdue s = ended s.window (next_line s) s.groups
 
 -- the frames that a state holds of the other groups, followed by the one of the next entry
 abbrev pub step_frames : (ℕ → Option Kind) → State → Entry → List Frame
-step_frames kind s e = held (waiting s.rule (next_line s) s.groups) ++ option_to_list (frame_in kind (next_line s) e)
+step_frames kind s e = held (waiting s.window (next_line s) s.groups) ++ option_to_list (frame_in kind (next_line s) e)
 
 -- what the next entry gives
 unfoldable pub step_given : (ℕ → Option Kind) → State → Entry → Given
 step_given kind s e = record {
-  message = option_or (option_map (λ (m : Keyed). m.message) (gathered (within s.rule) (step_frames kind s e) (next_line s))) (alone kind e);
+  message = option_or (option_map (λ (m : Keyed). m.message) (gathered (within s.window) (step_frames kind s e) (next_line s))) (alone kind e);
   cause = cause_in kind e;
-  broken = map told_of (overdue s) ++ broken_with s.rule (step_frames kind s e) (next_line s);
+  broken = map as_broken (overdue s) ++ broken_with s.window (step_frames kind s e) (next_line s);
 }
 
 -- the open groups after it
 abbrev pub step_groups : (ℕ → Option Kind) → State → Entry → List Group
-step_groups kind s e = open_within s.rule (next_line s) (step_frames kind s e)
+step_groups kind s e = open_within s.window (next_line s) (step_frames kind s e)
 
 -- one for a value, none for its absence
 abbrev pub one_if : Bool → ℕ
@@ -86,8 +86,8 @@ one_if true = 1
 one_if false = 0
 
 -- the counts with one more entry, which gave this and left so many groups open
-abbrev pub counted : (ℕ → Option Kind) → Counts → Entry → Given → ℕ → Counts
-counted kind c e given held = record {
+abbrev pub counts_after : (ℕ → Option Kind) → Counts → Entry → Given → ℕ → Counts
+counts_after kind c e given held = record {
   lines = c.lines + 1;
   messages = c.messages + one_if (is_some given.message);
   bad = c.bad + one_if (is_some given.cause);
@@ -100,8 +100,8 @@ counted kind c e given held = record {
 unfoldable pub step_after : (ℕ → Option Kind) → State → Entry → State
 step_after kind s e = record {
   id = s.id;
-  rule = s.rule;
-  counts = counted kind s.counts e (step_given kind s e) (length (step_groups kind s e));
+  window = s.window;
+  counts = counts_after kind s.counts e (step_given kind s e) (length (step_groups kind s e));
   groups = step_groups kind s e;
 }
 
@@ -155,9 +155,9 @@ pub record AreOpen (lines : ℕ) (groups : List Group) : Type 0 where
   pub apart : AreApart groups
 
 -- A state that a join can have, whether or not a log leads to it. That its id is 32 bytes, the join's type says. That its
--- groups are of fast PGNs is not asked: the next line may be read with another table.
+-- groups are of fast PGNs is not needed: the next line may be read with another table.
 pub record IsState (s : State) : Type 0 where
-  pub window : IsWindow s.rule.window
+  pub window : IsWindow s.window.lines
   pub counted : AreCounts s.counts
   pub held : s.counts.held ≡ length s.groups
   pub groups : AreOpen s.counts.lines s.groups
@@ -167,6 +167,6 @@ pub record IsState (s : State) : Type 0 where
 abbrev pub AreFast : (ℕ → Option Kind) → List Group → Type 0
 AreFast kind groups = AllByRecursion (λ (g : Group). kind g.key.pgn ≡ Some Fast) groups
 
--- No group's window has ended. So it is of the state of a log, and of each state after a line.
+-- No group's window has ended. The state of a log is such, and each state after a line.
 abbrev pub AreWaiting : State → Type 0
-AreWaiting s = AllByRecursion (λ (g : Group). s.counts.lines < g.first + s.rule.window) s.groups
+AreWaiting s = AllByRecursion (λ (g : Group). s.counts.lines < g.first + s.window.lines) s.groups

@@ -32,22 +32,22 @@ opens kind s e = opens_by s.groups (frame_in kind (next_line s) e)
 abbrev pub due : State → Option Group
 due s = if s.counts.lines == most_lines then None else slice_get (overdue s) 0
 
--- the state where that one is broken: it is the first of the open groups, since these stand by rising first line
+-- the state where that one is broken: it is the first of the open groups, since these are ordered by first line
 unfoldable pub expired : State → State
 expired s = record {
   id = s.id;
-  rule = s.rule;
+  window = s.window;
   counts = record s.counts { broken = s.counts.broken + 1; held = s.counts.held - 1 };
   groups = drop 1 s.groups;
 }
 
--- What an answer tells of a line that a join takes in the state `old`, and which state it leaves. Taken, the line is a step of
+-- What an answer says of a line that a join takes in the state `old`, and which state it leaves. Taken, the line is a step of
 -- the definition. It is refused exactly at the most lines, or for want of memory where it opens a group; then nothing changes.
 pub record TakesLine {Answer : Type 0} (gives : Answer → Given) (kind : ℕ → Option Kind) (old new : State) (e : Entry) (result : Result Answer JoinFault) : Type 0 where
   pub given : IfOk result (λ answer. gives answer ≡ step_given kind old e)
   pub after : OnOk result (new ≡ step_after kind old e)
   pub waiting : OnOk result (AreWaiting new)
-  pub few_open : OnOk result (length new.groups ≤ new.rule.window)
+  pub few_open : OnOk result (length new.groups ≤ new.window.lines)
   pub unchanged : OnErr result (new ≡ old)
   pub few : OnOk result (old.counts.lines < most_lines)
   pub full : IsErrOf result TooManyLines ↔ (old.counts.lines ≡ most_lines)

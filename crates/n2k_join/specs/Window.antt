@@ -10,11 +10,11 @@ longest_window = 1_000_000
 
 -- What ends a group that isn't complete, beside a number that comes twice: so many lines from its first frame's on, that
 -- one counted; and, in order, a frame whose number isn't greater than each number in it.
-pub record Rule : Type 0 where
-  pub window : ℕ
+pub record Window : Type 0 where
+  pub lines : ℕ
   pub in_order : Bool
 
 -- a number of lines that a window can have
-pub record IsWindow (window : ℕ) : Type 0 where
-  pub least : shortest_window ≤ window
-  pub most : window ≤ longest_window
+pub record IsWindow (lines : ℕ) : Type 0 where
+  pub least : shortest_window ≤ lines
+  pub most : lines ≤ longest_window

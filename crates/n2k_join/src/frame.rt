@@ -27,7 +27,7 @@ fn byte_or_filler(bytes: &[u8], at: usize) -> u8
     }
 }
 
-// The bytes after the header, filled up to seven.
+/// The bytes after the header, filled up to seven.
 fn seven_bytes(rest: &[u8]) -> [u8; 7]
     ensures { result ≡ seven_bytes rest.now }
 {

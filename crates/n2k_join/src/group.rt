@@ -5,14 +5,14 @@ ghost use Rattle.n2k_join.specs.Frames.{Key, most_frames};
 ghost use Rattle.n2k_join.specs.Groups.{has_from, complete, data_of};
 ghost use Rattle.n2k_join.specs.Open.{pieces_of, group_of};
 ghost use Rattle.n2k_join.specs.State.{held_frame, held_of};
-ghost use Rattle.n2k_join.specs.Inner.Stored.{bars, key_of, piece_of, frame_of};
+ghost use Rattle.n2k_join.specs.Inner.Stored.{rejects, key_of, piece_of, frame_of};
 ghost use Rattle.n2k_join.specs.Inner.Slots.{slot_of, group_in};
 
-use crate::broken::Broken;
 use crate::piece::{FastFrame, FrameKey, OpenGroup, StoredPiece};
+use crate::step::Broken;
 use n2k_wire::Packet;
 
-// Whether a mask has the bits up to the last, and no other.
+/// Whether a mask has the bits up to the last, and no other.
 fn is_ones(mask: u32, last: u8) -> bool
     requires { last < most_frames }
     ensures value { result ≡ (mask == 2 ^ (last + 1) - 1) }
@@ -21,7 +21,7 @@ fn is_ones(mask: u32, last: u8) -> bool
     u64::from(mask) == (1 << u32::from(last + 1)) - 1
 }
 
-// Whether a mask has a bit from the one of a number on.
+/// Whether a mask has a bit from the one of a number on.
 fn is_any_from(mask: u32, number: u8) -> bool
     requires { number < most_frames }
     ensures value { result ≡ not (mask / 2 ^ number == 0) }
@@ -31,7 +31,7 @@ fn is_any_from(mask: u32, number: u8) -> bool
 }
 
 impl OpenGroup {
-    /// A group before its first frame, which stands at a line.
+    /// A group before its first frame, which is that of line `first`.
     pub(crate) fn new(first: u64) -> OpenGroup
         ensures first { result.first ≡ first }
         ensures mask { result.mask ≡ 0 }
@@ -61,11 +61,11 @@ impl OpenGroup {
         self.mask >> u32::from(number) & 1 == 1
     }
 
-    /// Whether it has no place for a frame of the number: that is there, or, where messages are sent in order, it isn't
-    /// greater than each of its own.
-    pub(crate) fn bars(&self, in_order: bool, number: u8) -> bool
+    /// Whether the group has no place for a frame of the number: that is there, or, where messages are sent in order,
+    /// it isn't greater than each of its own.
+    pub(crate) fn rejects(&self, in_order: bool, number: u8) -> bool
         requires { number < most_frames }
-        ensures { (key : Key) → result ≡ bars in_order number (group_in key self.now) }
+        ensures { (key : Key) → result ≡ rejects in_order number (group_in key self.now) }
     {
         if in_order {
             is_any_from(self.mask, number)
@@ -74,7 +74,7 @@ impl OpenGroup {
         }
     }
 
-    /// What its frame of a number carries.
+    /// What the group's frame of a number carries.
     pub(crate) fn carried(&self, number: u8) -> Option<&[u8; 7]>
         requires { number < most_frames }
         ensures { option_map (λ bytes. bytes.now) result ≡ slot_of self.now number }
@@ -100,7 +100,7 @@ impl OpenGroup {
         self.mask |= 1 << u32::from(number);
     }
 
-    /// Whether its numbers are exactly those of the message.
+    /// Whether the group has exactly the numbers of its message.
     pub(crate) fn is_complete(&self) -> bool
         ensures { (key : Key) → result ≡ complete (held_of (group_in key self.now)) }
     {
@@ -112,7 +112,7 @@ impl OpenGroup {
 
     /// Writes the message of the group, which is complete, to `joined`, with the stamp and identifier of the packet
     /// that completed it.
-    pub(crate) fn give(&self, packet: &Packet, joined: &mut Option<Packet>)
+    pub(crate) fn write_message(&self, packet: &Packet, joined: &mut Option<Packet>)
         requires { (key : Key) → complete (held_of (group_in key self.now)) ≡ true }
         ensures { (key : Key) → joined.new ≡ Some (record {
           stamp = packet.now.stamp;
@@ -125,7 +125,7 @@ impl OpenGroup {
         *joined = Packet::new(packet.stamp(), packet.id(), &sent[1..1 + total]);
     }
 
-    /// What is told of it, whose key this is, where it ends without a message.
+    /// What is reported of the group, whose key this is, where it ends without a message.
     pub(crate) fn broken(&self, key: &FrameKey) -> Broken
         ensures { result ≡ record {
           pgn = key.now.pgn;

@@ -7,27 +7,25 @@ ghost use Rattle.n2k_wire.specs.Entry.{IsShort, IsEntry};
 ghost use Rattle.n2k_wire.specs.Packet.{IsPacket, IsPacketParts};
 ghost use Rattle.n2k_join.specs.Counts.{most_lines};
 ghost use Rattle.n2k_join.specs.Open.{Group};
-ghost use Rattle.n2k_join.specs.Messages.{told_of};
+ghost use Rattle.n2k_join.specs.Messages.{as_broken};
 ghost use Rattle.n2k_join.specs.State.{state, step_given, step_after, AreCounts, AreFast, AreWaiting, one_if};
 ghost use Rattle.n2k_join.specs.Refusal.{GivesOrMemory};
-ghost use Rattle.n2k_join.specs.Resumed.{is_valid, judged, state_of_parts, valid_if};
+ghost use Rattle.n2k_join.specs.Resumed.{is_valid, resumed, state_of_parts, valid_if};
 ghost use Rattle.n2k_join.specs.Saved.{IsId, state_text, bare_bytes, group_bytes};
 ghost use Rattle.n2k_join.specs.Step.{given_of, with_message, opens, due, expired, TakesLine};
 ghost use Rattle.n2k_join.specs.Laws.{ExpiresFirst};
-ghost use Rattle.n2k_join.specs.Inner.Told.{packet_in, told};
+ghost use Rattle.n2k_join.specs.Inner.Taken.{given_of_taken, packet_in};
 
-use crate::broken::Broken;
 use crate::counts::{Counts, MOST_LINES};
-use crate::fault::JoinFault;
+use crate::entry_taking::{Taken, packet_of, take_entry};
+use crate::fault::{JoinFault, StateFault};
 use crate::laws;
-use crate::outcome::{Outcome, packet_of, take_entry};
 use crate::piece::{FrameKey, OpenGroup};
 use crate::saved::{
     SpelledGroup, SpelledState, format_in, parsed, read_state, rules_hold, state_text,
     stored_groups, waits_hold,
 };
-use crate::state_fault::StateFault;
-use crate::step::{LentStep, Step};
+use crate::step::{Broken, LentStep, Step};
 use crate::window::{Window, is_waiting};
 use indexmap::IndexMap;
 use n2k_table::Table;
@@ -51,30 +49,35 @@ impl Model for Join {
 
     ghost Value = { State };
 
-    ghost view = { λ j. record { id = j.id; rule = j.window; counts = j.counts; groups = groups_in j.groups.entries } };
+    ghost view = { λ j. record {
+      id = j.id;
+      window = j.window;
+      counts = j.counts;
+      groups = groups_in j.groups.entries;
+    } };
 
     ghost invariant = { λ j. IsState (record {
       id = j.id;
-      rule = j.window;
+      window = j.window;
       counts = j.counts;
       groups = groups_in j.groups.entries;
     }) };
 }
 
-// What the types say of the parts of a packet.
+/// What the types say of the parts of a packet.
 fn know_parts(stamp: &[u8], id: Id, data: &[u8])
     requires { IsPacket stamp.now id «data».now }
     ensures { IsPacketParts (record { stamp = stamp.now; id = id; payload = «data».now }) }
 {}
 
-// What the types say of a packet.
+/// What the types say of a packet.
 fn know_packet(packet: &Packet)
     ensures { IsPacketParts packet.now }
 {
     know_parts(packet.stamp(), packet.id(), packet.data());
 }
 
-// What the types say of an entry.
+/// What the types say of an entry.
 fn know_entry(entry: &Entry)
     ensures { IsShort entry.now → IsEntry entry.now }
 {
@@ -84,25 +87,25 @@ fn know_entry(entry: &Entry)
     }
 }
 
-// The counts after a line, which gives a message or none.
-fn counted(counts: Counts, outcome: &Outcome, is_message: bool, held: usize) -> Counts
+/// The counts after a line, which gives a message or none.
+fn counts_after(counts: Counts, taken: &Taken, is_message: bool, held: usize) -> Counts
     requires are { AreCounts counts }
     requires below { counts.lines < most_lines }
     ensures { result ≡ record {
       lines = counts.lines + 1;
       messages = counts.messages + one_if is_message;
-      bad = counts.bad + one_if (is_some outcome.now.bad);
-      unknown = counts.unknown + one_if outcome.now.is_unknown;
-      broken = counts.broken + one_if (is_some outcome.now.broken);
+      bad = counts.bad + one_if (is_some taken.now.bad);
+      unknown = counts.unknown + one_if taken.now.is_unknown;
+      broken = counts.broken + one_if (is_some taken.now.broken);
       held = held;
     } }
 {
     Counts {
         lines: counts.lines + 1,
         messages: counts.messages + u64::from(is_message),
-        bad: counts.bad + u64::from(outcome.bad.is_some()),
-        unknown: counts.unknown + u64::from(outcome.is_unknown),
-        broken: counts.broken + u64::from(outcome.broken.is_some()),
+        bad: counts.bad + u64::from(taken.bad.is_some()),
+        unknown: counts.unknown + u64::from(taken.is_unknown),
+        broken: counts.broken + u64::from(taken.broken.is_some()),
         held: held as u64,
     }
 }
@@ -150,15 +153,15 @@ impl Join {
     /// assert_eq!(rt; join.window().get(), 10_000);
     /// ```
     pub fn window(&self) -> Window
-        ensures { result ≡ self.now.rule }
+        ensures { result ≡ self.now.window }
     {
         let Join { window, .. } = self;
         *window
     }
 
-    // The oldest open group, as it is told, where its window ends at the next line, if not before.
+    /// The oldest open group, as it is reported, where its window ends at the next line, if not before.
     fn oldest_due(&self) -> Option<Broken>
-        ensures { result ≡ option_map told_of (due self.now) }
+        ensures { result ≡ option_map as_broken (due self.now) }
     {
         if self.counts.lines == MOST_LINES {
             return None;
@@ -175,7 +178,7 @@ impl Join {
     }
 
     /// Breaks the oldest of the open groups whose window ends at the next line, if not before, and answers what is
-    /// told of it. `None` where there is none, or where no more lines are counted; the join is then as it was. It
+    /// reported of it. `None` where there is none, or where no more lines are counted; the join is then as it was. It
     /// takes no memory.
     ///
     /// It is called before each line until it answers `None`: each group that it breaks is one of that line.
@@ -192,7 +195,7 @@ impl Join {
     /// assert_eq!(rt; opened.as_slice(), [1, 2].as_slice());
     /// ```
     pub fn expire(&mut self) -> Option<Broken>
-        ensures told { result ≡ option_map told_of (due self.old) }
+        ensures broken { result ≡ option_map as_broken (due self.old) }
         ensures after { IsSome result → self.new ≡ expired self.old }
         ensures unchanged { IsNone result → self.new ≡ self.old }
         ensures one_step { (kind : ℕ → Option Kind) (e : Entry) (group : Group) → due self.old ≡ Some group
@@ -217,17 +220,17 @@ impl Join {
         Some(broken)
     }
 
-    // Takes the next line, as its entry. The message of a group that it completes goes to `joined`.
+    /// Takes the next line, as its entry. The message of a group that it completes goes to `joined`.
     fn take(
         &mut self,
         table: &Table,
         entry: &Entry,
         joined: &mut Option<Packet>,
-    ) -> Result<Outcome, JoinFault>
+    ) -> Result<Taken, JoinFault>
         requires short { IsShort entry.now }
         requires expired { due self.old ≡ None }
         requires none { joined.old ≡ None }
-        ensures { TakesLine (λ o. told o (packet_in entry.now) joined.new)
+        ensures { TakesLine (λ o. given_of_taken o (packet_in entry.now) joined.new)
             (kind table.now) self.old self.new entry.now result }
     {
         if self.counts.lines == MOST_LINES {
@@ -235,7 +238,7 @@ impl Join {
         }
         know_entry(entry);
         let line = self.counts.lines + 1;
-        let outcome = take_entry(
+        let taken = take_entry(
             self.window.is_in_order(),
             &mut self.groups,
             line,
@@ -243,9 +246,9 @@ impl Join {
             entry,
             joined,
         )?;
-        let is_message = outcome.is_message(entry, joined);
-        self.counts = counted(self.counts, &outcome, is_message, self.groups.len());
-        Ok(outcome)
+        let is_message = taken.is_message(entry, joined);
+        self.counts = counts_after(self.counts, &taken, is_message, self.groups.len());
+        Ok(taken)
     }
 
     /// Takes the next line, as its entry, and answers what it gives: the message that it is or completes, why it is
@@ -270,13 +273,13 @@ impl Join {
         ensures { TakesLine given_of (kind table.now) self.old self.new entry result }
     {
         let mut joined = None;
-        let outcome = self.take(table, &entry, &mut joined)?;
-        let Outcome {
+        let taken = self.take(table, &entry, &mut joined)?;
+        let Taken {
             is_own,
             bad,
             broken,
             ..
-        } = outcome;
+        } = taken;
         let message = if is_own { packet_of(entry) } else { joined };
         Ok(Step {
             message,
@@ -312,16 +315,17 @@ impl Join {
         if joined.is_some() {
             *joined = None;
         }
-        let outcome = self.take(table, entry, joined)?;
+        let taken = self.take(table, entry, joined)?;
         Ok(Step {
-            message: outcome.message(entry, joined),
-            bad: outcome.bad,
-            broken: outcome.broken,
+            message: taken.message(entry, joined),
+            bad: taken.bad,
+            broken: taken.broken,
         })
     }
 
-    // The join of a state that was read, where it can be one under the table. The count of open groups is their number.
-    fn of_state(
+    /// The join of a state that was read, where it can be one under the table. The count of open groups is their
+    /// number.
+    fn from_state(
         alloc: Global,
         table: &Table,
         id: [u8; 32],
@@ -346,11 +350,11 @@ impl Join {
     }
 
     /// The join that a saved state spells, under the table and the window that it was saved with. It goes on where that
-    /// one stood. A state of format 1 tells no window: it is read under the one that is handed in. Whether a group ends
+    /// one ended. A state of format 1 has no window: it is read under the one that is handed in. Whether a group ends
     /// before a lower number is not saved: that is as handed in, too.
     ///
     /// Any JSON text is taken that spells a valid state, whether or not a log leads to it (docs/PROFILE.md has its
-    /// members and rules). Else the first fault is answered that stands, in the order of docs/PROFILE.md, or `Memory`
+    /// members and rules). Else the first fault is answered that is found, in the order of docs/PROFILE.md, or `Memory`
     /// where a growth was refused.
     ///
     /// ```rust
@@ -362,14 +366,14 @@ impl Join {
     /// let refused = Join::resume(alloc, &table, Window::new(32).unwrap(), &state);
     /// assert!(rt; matches!(refused, Err(StateFault::WindowDiffers)));
     /// ```
-    #[tactic(auto, unfolding(crate::specs::Resumed::judged))]
+    #[tactic(auto, unfolding(crate::specs::Resumed::resumed))]
     pub fn resume(
         alloc: Global,
         table: &Table,
         window: Window,
         bytes: &[u8],
     ) -> Result<Join, StateFault>
-        ensures { GivesOrMemory (λ join. join) result (judged (kind table.now) table.now.id window bytes.now) }
+        ensures { GivesOrMemory (λ join. join) result (resumed (kind table.now) table.now.id window bytes.now) }
     {
         let value = parsed(alloc, bytes)?;
         let format = format_in(&value)?;
@@ -389,7 +393,7 @@ impl Join {
             groups,
             ..
         } = state;
-        Join::of_state(alloc, table, id, window, counts, &groups)
+        Join::from_state(alloc, table, id, window, counts, &groups)
     }
 
     /// The text of its state, from which `resume` goes on: JSON, as docs/PROFILE.md has it, without an LF.
@@ -410,7 +414,7 @@ impl Join {
         ensures text { IfOk result (λ text. text.items ≡ state_text self.now) }
         ensures bounded { IfOk result (λ text. length text.items ≤ bare_bytes + group_bytes * length self.now.groups) }
         ensures reads_back { (kind : ℕ → Option Kind) → AreFast kind self.now.groups → IsId self.now.id
-            → judged kind self.now.id self.now.rule (state_text self.now) ≡ Ok self.now }
+            → resumed kind self.now.id self.now.window (state_text self.now) ≡ Ok self.now }
     {
         laws::state_reads_back();
         state_text(alloc, &self.id, self.window, &self.counts, &self.groups)

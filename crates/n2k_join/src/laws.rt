@@ -8,63 +8,63 @@ ghost use Rattle.n2k_table.specs.declared.definition.Kind.TheVariants.{Fast};
 ghost use Rattle.n2k_join.specs.Counts.{most_lines};
 ghost use Rattle.n2k_join.specs.Pieces.{Sending, split, written};
 ghost use Rattle.n2k_join.specs.Frames.{Key, Frame, frames};
-ghost use Rattle.n2k_join.specs.Groups.{Ends, EndsRepeats, within};
+ghost use Rattle.n2k_join.specs.Groups.{EndTest, EndsRepeats, within};
 ghost use Rattle.n2k_join.specs.Scattered.{IsScattered, IsMute, WrittenLog, key_of_sending};
 ghost use Rattle.n2k_join.specs.Replay.{Replays};
 ghost use Rattle.n2k_join.specs.Messages.{Keyed, cause_in, gathered};
 ghost use Rattle.n2k_join.specs.Laws.{CutJoins, CutFirst, CutGrows, HasSettled, StepsAgree, LinesStay, BadAlone, ExpiresFirst};
 ghost use Rattle.n2k_join.specs.Open.{Group};
 ghost use Rattle.n2k_join.specs.Step.{due};
-ghost use Rattle.n2k_join.specs.Resumed.{judged};
+ghost use Rattle.n2k_join.specs.Resumed.{resumed};
 ghost use Rattle.n2k_join.specs.Rules.{HasShape, RulesAreOne};
-ghost use Rattle.n2k_join.specs.declared.state_fault.StateFault.TheVariants.{WindowDiffers};
+ghost use Rattle.n2k_join.specs.declared.fault.StateFault.TheVariants.{WindowDiffers};
 ghost use Rattle.n2k_join.specs.Saved.{IsId, state_text};
 ghost use Rattle.n2k_join.specs.State.{State, IsState, AreFast, AreWaiting, state, step_after};
-ghost use Rattle.n2k_join.specs.Window.{Rule, IsWindow};
+ghost use Rattle.n2k_join.specs.Window.{Window, IsWindow};
 ghost use Rattle.n2k_join.specs.Arrival.{PiecesJoin, FillsAllFrames, ArriveWhole, ComesNext, LeavesZero, Heals};
 ghost use Rattle.n2k_join.specs.Consecutive.{GroupsConsecutive, ComesOfConsecutive};
-ghost use Rattle.n2k_join.specs.Bounds.{TellsWindow, HoldsFew};
+ghost use Rattle.n2k_join.specs.Bounds.{HasWindow, HoldsFew};
 ghost use Rattle.n2k_join.specs.UnderWay.{EightUnderWay, AreOfOneStream};
 
 /// The groups that frames are cut into are the frames in their order; none is empty, and none has a number twice. So
-/// it is of every test that ends a group at a number that comes again, and each rule is one.
+/// it is of every test that ends a group at a number that comes again, and each window's test is one.
 pub fn cut_joins()
-    ensures joins { (ends : Ends) (fs : List Frame) → EndsRepeats ends → CutJoins ends fs }
-    ensures rules { (rule : Rule) → EndsRepeats (within rule) }
+    ensures joins { (ends : EndTest) (fs : List Frame) → EndsRepeats ends → CutJoins ends fs }
+    ensures windows { (window : Window) → EndsRepeats (within window) }
 {}
 
 /// What the groups are, in other words: no frames have none; of others the first is the shortest front that has ended,
 /// because it is complete, or no frame follows, or it ends before the next one; and the rest is cut likewise.
 pub fn cut_first()
-    ensures { (ends : Ends) (fs : List Frame) → CutFirst ends fs }
+    ensures { (ends : EndTest) (fs : List Frame) → CutFirst ends fs }
 {}
 
 /// Frames that follow leave each group that is complete, and each that is broken, as it was, and broken at the same
 /// line. So what the lines of a log gave is settled, whatever follows them.
 pub fn cut_grows()
-    ensures grows { (ends : Ends) (fs back : List Frame) → CutGrows ends fs back }
-    ensures settled { (rule : Rule) (kind : ℕ → Option Kind) (front back : List Entry) → IsWindow rule.window
-        → HasSettled rule kind front back }
+    ensures grows { (ends : EndTest) (fs back : List Frame) → CutGrows ends fs back }
+    ensures settled { (window : Window) (kind : ℕ → Option Kind) (front back : List Entry) → IsWindow window.lines
+        → HasSettled window kind front back }
 {}
 
 /// The step knows only the state, and yet agrees with the whole log: from the state of a log it leads to the state of
 /// the log with the entry, and gives the message, the cause and the broken groups of that one's last line.
 pub fn steps_agree()
-    ensures { (id : List ℕ) (rule : Rule) (kind : ℕ → Option Kind) (es : List Entry) (e : Entry)
-        → IsWindow rule.window → StepsAgree id rule kind es e }
+    ensures { (id : List ℕ) (window : Window) (kind : ℕ → Option Kind) (es : List Entry) (e : Entry)
+        → IsWindow window.lines → StepsAgree id window kind es e }
 {}
 
 /// One entry more leaves each earlier line what it gave.
 pub fn lines_stay()
-    ensures { (rule : Rule) (kind : ℕ → Option Kind) (es : List Entry) (e : Entry) → IsWindow rule.window
-        → LinesStay rule kind es e }
+    ensures { (window : Window) (kind : ℕ → Option Kind) (es : List Entry) (e : Entry) → IsWindow window.lines
+        → LinesStay window kind es e }
 {}
 
 /// A bad line is bad alone: with an empty line in its place every message, every broken group and every open group
 /// stays, and so does every count but that of bad lines, which is one less.
 pub fn bad_alone()
-    ensures { (rule : Rule) (kind : ℕ → Option Kind) (front : List Entry) (e : Entry) (back : List Entry)
-        → is_some (cause_in kind e) ≡ true → BadAlone rule kind front e back }
+    ensures { (window : Window) (kind : ℕ → Option Kind) (front : List Entry) (e : Entry) (back : List Entry)
+        → is_some (cause_in kind e) ≡ true → BadAlone window kind front e back }
 {}
 
 /// What a new splitter makes of messages, with one counter a stream, is what the whole list says: each message's
@@ -74,7 +74,7 @@ pub fn splits_written()
 {}
 
 /// A stream's messages are kept apart by their numbers: of those of one sender, PGN and receiver, any eight that
-/// follow one another in a list have different keys, whatever other messages stand between them. Messages that differ
+/// follow one another in a list have different keys, whatever other messages come between them. Messages that differ
 /// in sender, PGN or receiver never have one key.
 pub fn eight_under_way()
     ensures apart { (ms : List PacketParts) → EightUnderWay ms }
@@ -92,17 +92,17 @@ pub fn pieces_join()
 /// Messages whose frames are scattered over a log arrive whole, each key's in their order: no group is broken, and none
 /// stays open. Where no entry gives a message alone, the log gives these messages and no other.
 pub fn arrives_whole()
-    ensures whole { (rule : Rule) (kind : ℕ → Option Kind) (ms : List PacketParts) (es : List Entry)
-        → IsWindow rule.window → IsScattered rule kind ms es → ArriveWhole rule kind ms es }
-    ensures given_back { (rule : Rule) (kind : ℕ → Option Kind) (ms : List PacketParts) (es : List Entry)
-        → IsWindow rule.window → IsScattered rule kind ms es → IsMute kind es → Replays rule kind ms es }
+    ensures whole { (window : Window) (kind : ℕ → Option Kind) (ms : List PacketParts) (es : List Entry)
+        → IsWindow window.lines → IsScattered window kind ms es → ArriveWhole window kind ms es }
+    ensures given_back { (window : Window) (kind : ℕ → Option Kind) (ms : List PacketParts) (es : List Entry)
+        → IsWindow window.lines → IsScattered window kind ms es → IsMute kind es → Replays window kind ms es }
 {}
 
 /// The frames of fast packets that are written, a line each and in their order, make a log over which the messages are
 /// scattered, and which gives no message alone: so `arrives_whole` speaks of it.
 pub fn written_is_scattered()
-    ensures { (rule : Rule) (kind : ℕ → Option Kind) (ms : List PacketParts) → IsWindow rule.window
-        → All IsPacketParts ms → All (λ (m : PacketParts). kind m.id.pgn ≡ Some Fast) ms → WrittenLog rule kind ms }
+    ensures { (window : Window) (kind : ℕ → Option Kind) (ms : List PacketParts) → IsWindow window.lines
+        → All IsPacketParts ms → All (λ (m : PacketParts). kind m.id.pgn ≡ Some Fast) ms → WrittenLog window kind ms }
 {}
 
 /// A key heals: where the next frames of a key are the pieces of one message by rising number, within the window, and
@@ -110,76 +110,76 @@ pub fn written_is_scattered()
 /// open is broken at the line of its first, or where its own window ends before. So with a sender in rising order a
 /// lost frame other than frame 0 costs its own message alone.
 pub fn heals()
-    ensures { (rule : Rule) (kind : ℕ → Option Kind) (front back : List Entry) (x : Sending)
-        (group after : List Frame) → IsWindow rule.window → ComesNext rule kind front back x group after
-        → LeavesZero rule kind front x → Heals rule kind front back x group }
+    ensures { (window : Window) (kind : ℕ → Option Kind) (front back : List Entry) (x : Sending)
+        (group after : List Frame) → IsWindow window.lines → ComesNext window kind front back x group after
+        → LeavesZero window kind front x → Heals window kind front back x group }
 {}
 
-/// In order a key heals whatever was lost: nothing is asked of what it has open.
+/// In order a key heals whatever was lost: what it has open may be anything.
 pub fn heals_in_order()
-    ensures { (rule : Rule) (kind : ℕ → Option Kind) (front back : List Entry) (x : Sending)
-        (group after : List Frame) → rule.in_order ≡ true → ComesNext rule kind front back x group after
-        → Heals rule kind front back x group }
+    ensures { (window : Window) (kind : ℕ → Option Kind) (front back : List Entry) (x : Sending)
+        (group after : List Frame) → window.in_order ≡ true → ComesNext window kind front back x group after
+        → Heals window kind front back x group }
 {}
 
-/// In order the frames of each message of a group stand in the log in the order of their numbers, 0 to the last, with
+/// In order the frames of each message of a group come in the log in the order of their numbers, 0 to the last, with
 /// no other frame of the key between them.
 pub fn consecutive_frames()
-    ensures groups { (rule : Rule) (kind : ℕ → Option Kind) (es : List Entry) (key : Key) → rule.in_order ≡ true
-        → GroupsConsecutive rule kind es key }
-    ensures messages { (rule : Rule) (kind : ℕ → Option Kind) (es : List Entry) (line : ℕ) (m : Keyed)
-        → rule.in_order ≡ true → gathered (within rule) (frames kind es) line ≡ Some m
+    ensures groups { (window : Window) (kind : ℕ → Option Kind) (es : List Entry) (key : Key) → window.in_order ≡ true
+        → GroupsConsecutive window kind es key }
+    ensures messages { (window : Window) (kind : ℕ → Option Kind) (es : List Entry) (line : ℕ) (m : Keyed)
+        → window.in_order ≡ true → gathered (within window) (frames kind es) line ≡ Some m
         → ComesOfConsecutive kind es line m }
 {}
 
-/// The rules of a valid state are one: those that a text is asked for, and those that the state of each join keeps.
+/// The rules of a valid state are one: those that a text has to meet, and those that the state of each join keeps.
 /// So each text that is read spells a state that a join can have.
 pub fn rules_are_one()
     ensures one { (kind : ℕ → Option Kind) (s : State) → HasShape s → RulesAreOne kind s }
-    ensures read { (kind : ℕ → Option Kind) (id : List ℕ) (rule : Rule) (bytes : List ℕ) (s : State)
-        → IsWindow rule.window → judged kind id rule bytes ≡ Ok s → IsState s }
+    ensures read { (kind : ℕ → Option Kind) (id : List ℕ) (window : Window) (bytes : List ℕ) (s : State)
+        → IsWindow window.lines → resumed kind id window bytes ≡ Ok s → IsState s }
 {}
 
-/// The text of a state, read under its own table and window, gives that state, with the order of frames as it is
-/// asked for: for every state that a join can have, whose open groups are of fast PGNs of the table. Under another
+/// The text of a state, read under its own table and window, gives that state, with the order of frames as the
+/// window has it: for every state that a join can have, whose open groups are of fast PGNs of the table. Under another
 /// window it is refused, where no group's window has ended.
 pub fn state_reads_back()
     ensures same { (kind : ℕ → Option Kind) (s : State) → IsState s → AreFast kind s.groups → IsId s.id
-        → judged kind s.id s.rule (state_text s) ≡ Ok s }
+        → resumed kind s.id s.window (state_text s) ≡ Ok s }
     ensures any_order { (kind : ℕ → Option Kind) (s : State) (order : Bool) → IsState s → AreFast kind s.groups
         → IsId s.id
-        → judged kind s.id (record { window = s.rule.window; in_order = order }) (state_text s)
+        → resumed kind s.id (record { lines = s.window.lines; in_order = order }) (state_text s)
         ≡ Ok (record {
           id = s.id;
-          rule = record { window = s.rule.window; in_order = order };
+          window = record { lines = s.window.lines; in_order = order };
           counts = s.counts;
           groups = s.groups;
         }) }
-    ensures other_window { (kind : ℕ → Option Kind) (s : State) (rule : Rule) → IsState s → AreWaiting s → IsId s.id
-        → s.rule.window ≢ rule.window → judged kind s.id rule (state_text s) ≡ Err WindowDiffers }
+    ensures other_window { (kind : ℕ → Option Kind) (s : State) (window : Window) → IsState s → AreWaiting s → IsId s.id
+        → s.window.lines ≢ window.lines → resumed kind s.id window (state_text s) ≡ Err WindowDiffers }
 {}
 
 /// So a join that goes on under one table is read back: before the first line no group is open; those of a state that
 /// was read are of fast PGNs of the table that it was read with, whose id it has; and each further line leaves them
 /// such.
 pub fn groups_stay_fast()
-    ensures new { (kind : ℕ → Option Kind) (id : List ℕ) (rule : Rule) → AreFast kind (state id rule kind []).groups }
-    ensures read { (kind : ℕ → Option Kind) (id : List ℕ) (rule : Rule) (bytes : List ℕ) (s : State)
-        → judged kind id rule bytes ≡ Ok s → AreFast kind s.groups }
-    ensures same_table { (kind : ℕ → Option Kind) (id : List ℕ) (rule : Rule) (bytes : List ℕ) (s : State)
-        → judged kind id rule bytes ≡ Ok s → s.id ≡ id }
-    ensures same_rule { (kind : ℕ → Option Kind) (id : List ℕ) (rule : Rule) (bytes : List ℕ) (s : State)
-        → judged kind id rule bytes ≡ Ok s → s.rule ≡ rule }
-    ensures step { (kind : ℕ → Option Kind) (s : State) (e : Entry) → IsWindow s.rule.window → AreFast kind s.groups
+    ensures new { (kind : ℕ → Option Kind) (id : List ℕ) (window : Window) → AreFast kind (state id window kind []).groups }
+    ensures read { (kind : ℕ → Option Kind) (id : List ℕ) (window : Window) (bytes : List ℕ) (s : State)
+        → resumed kind id window bytes ≡ Ok s → AreFast kind s.groups }
+    ensures same_table { (kind : ℕ → Option Kind) (id : List ℕ) (window : Window) (bytes : List ℕ) (s : State)
+        → resumed kind id window bytes ≡ Ok s → s.id ≡ id }
+    ensures same_window { (kind : ℕ → Option Kind) (id : List ℕ) (window : Window) (bytes : List ℕ) (s : State)
+        → resumed kind id window bytes ≡ Ok s → s.window ≡ window }
+    ensures step { (kind : ℕ → Option Kind) (s : State) (e : Entry) → IsWindow s.window.lines → AreFast kind s.groups
         → AreFast kind (step_after kind s e).groups }
 {}
 
 /// What is saved after a log reads back: for every log of entries that lines can be, with no more lines than are
 /// counted.
 pub fn saved_log_reads_back()
-    ensures { (kind : ℕ → Option Kind) (id : List ℕ) (rule : Rule) (es : List Entry) → IsWindow rule.window → IsId id
+    ensures { (kind : ℕ → Option Kind) (id : List ℕ) (window : Window) (es : List Entry) → IsWindow window.lines → IsId id
         → All IsEntry es → length es ≤ most_lines
-        → judged kind id rule (state_text (state id rule kind es)) ≡ Ok (state id rule kind es) }
+        → resumed kind id window (state_text (state id window kind es)) ≡ Ok (state id window kind es) }
 {}
 
 /// A group whose window ends at the next line is broken before that line is taken, or at it: so `Join::expire` until it
@@ -191,15 +191,15 @@ pub fn expires_first()
 
 /// Where no group's window has ended, no more groups are open than the window has lines.
 pub fn few_open()
-    ensures { (s : State) → IsState s → AreWaiting s → length s.groups ≤ s.rule.window }
+    ensures { (s : State) → IsState s → AreWaiting s → length s.groups ≤ s.window.lines }
 {}
 
-/// So it is of a state that was read: where its text tells its window, few groups are open at once, and whatever its
+/// A state that was read is such, too: where its text has its window, few groups are open at once, and whatever its
 /// format, few are after a line. What is saved then is short, too.
 pub fn few_resumed()
-    ensures read { (kind : ℕ → Option Kind) (id : List ℕ) (rule : Rule) (bytes : List ℕ) (s : State)
-        → IsWindow rule.window → IsId id → TellsWindow bytes → judged kind id rule bytes ≡ Ok s → HoldsFew s }
-    ensures after_a_line { (kind : ℕ → Option Kind) (id : List ℕ) (rule : Rule) (bytes : List ℕ) (s : State)
-        (e : Entry) → IsWindow rule.window → IsId id → judged kind id rule bytes ≡ Ok s → IsEntry e
+    ensures read { (kind : ℕ → Option Kind) (id : List ℕ) (window : Window) (bytes : List ℕ) (s : State)
+        → IsWindow window.lines → IsId id → HasWindow bytes → resumed kind id window bytes ≡ Ok s → HoldsFew s }
+    ensures after_a_line { (kind : ℕ → Option Kind) (id : List ℕ) (window : Window) (bytes : List ℕ) (s : State)
+        (e : Entry) → IsWindow window.lines → IsId id → resumed kind id window bytes ≡ Ok s → IsEntry e
         → s.counts.lines < most_lines → HoldsFew (step_after kind s e) }
 {}

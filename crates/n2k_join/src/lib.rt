@@ -14,8 +14,8 @@
 //! assert_eq!(rt; message.data().len(), 13);
 //! ```
 //!
-//! - `Window` says what ends a group that isn't complete: a number of lines, and, where asked, the order of the
-//!   numbers.
+//! - `Window` says what ends a group that isn't complete: a number of lines, and, in order, a number that doesn't
+//!   rise.
 //! - `Join::new` is the join before the first line. Before each line `Join::expire` breaks the groups whose window
 //!   ends at it, one a call. `Join::line` then takes the line, as its entry: it answers the message that the line is or
 //!   completes, why it is bad, and the group that its frame breaks (`Step`, `Broken`). A line that can't be taken
@@ -38,31 +38,25 @@
 //! frames and 130820 in fast packets, and `message_in(line)` is the packet of a plain line.
 #![tactic(auto)]
 
-mod broken;
 mod counts;
+mod entry_taking;
 mod fault;
 mod frame;
+mod frame_taking;
 mod group;
 mod join;
 pub mod laws;
-mod outcome;
 mod piece;
 mod saved;
-mod split_fault;
 mod splitter;
-mod state_fault;
 mod step;
 mod stream;
-mod taking;
 mod window;
 
-pub use broken::Broken;
 pub use counts::{Counts, MOST_LINES};
-pub use fault::JoinFault;
+pub use fault::{JoinFault, SplitFault, StateFault};
 pub use join::Join;
-pub use split_fault::SplitFault;
 pub use splitter::{Frames, Splitter};
-pub use state_fault::StateFault;
-pub use step::{LentStep, Step};
+pub use step::{Broken, LentStep, Step};
 pub use stream::Stream;
 pub use window::Window;

@@ -1,6 +1,6 @@
 //! The saved state: its text, and the reading of one.
 
-mod place;
+mod object;
 mod reader;
 mod resume;
 mod rules;
@@ -14,8 +14,8 @@ pub(crate) use rules::{rules_hold, waits_hold};
 pub(crate) use spelled::{SpelledGroup, SpelledState};
 pub(crate) use text::state_text;
 
-/// The format of a state that tells its window.
+/// The format of a state with its window.
 pub(crate) const SAVED_FORMAT: u64 = 2;
 
-/// The format of one that doesn't.
+/// The format of a state without its window.
 pub(crate) const OLD_FORMAT: u64 = 1;

@@ -4,13 +4,13 @@ ghost use Rattle.n2k_wire.specs.Candump.{frame_payload};
 ghost use Rattle.n2k_wire.specs.Packet.{longest_message};
 ghost use Rattle.n2k_table.specs.Table.{kind};
 ghost use Rattle.n2k_table.specs.declared.definition.Kind.TheVariants.{Fast};
-ghost use Rattle.n2k_join.specs.declared.split_fault.SplitFault.TheVariants.{Memory};
+ghost use Rattle.n2k_join.specs.declared.fault.SplitFault.TheVariants.{Memory};
 ghost use Rattle.n2k_join.specs.Frames.{most_frames, most_sequences};
 ghost use Rattle.n2k_join.specs.Pieces.{sent_byte, piece, piece_bytes, pieces_as, pieces_by, Stream, same_stream, stream_of, raised, first_sequences};
 ghost use Rattle.n2k_join.specs.Splitter.{sequences, refusal};
 
+use crate::fault::SplitFault;
 use crate::frame::{FILLER, MOST_FRAMES, MOST_SEQUENCES};
-use crate::split_fault::SplitFault;
 use crate::stream::Stream;
 use indexmap::IndexMap;
 use n2k_table::{Kind, Table};
@@ -25,7 +25,7 @@ const FRAME_BYTES: usize = 7;
 /// receiver, from 0 to 7 and again from 0.
 #[derive(Drop)]
 pub struct Splitter {
-    // The sequence of the next message of each stream that has had one.
+    /// The sequence of the next message of each stream that has had one.
     next: IndexMap<Stream, u8>,
 }
 
@@ -63,7 +63,7 @@ impl<'a> Model for Frames<'a> {
     ghost invariant = { λ f. AreFrames f.sequence f.count (pieces_as (Some f.kind) f.message.now f.sequence) };
 }
 
-// The byte at a place of what the frames carry: the length of the data, the data, and then the filler.
+/// The byte at a place of what the frames carry: the length of the data, the data, and then the filler.
 fn sent_byte(data: &[u8], place: usize) -> u8
     requires short { length «data».now ≤ longest_message }
     ensures value { result ≡ sent_byte «data».now place }
@@ -77,7 +77,7 @@ fn sent_byte(data: &[u8], place: usize) -> u8
     }
 }
 
-// The seven bytes of a frame that the data fill.
+/// The seven bytes of a frame that the data fill.
 fn full_piece(data: &[u8], number: u8) -> Option<[u8; 7]>
     requires { length «data».now ≤ longest_message }
     ensures { IfSome result (λ bytes. bytes ≡ piece_bytes «data».now number) }
@@ -103,7 +103,7 @@ fn full_piece(data: &[u8], number: u8) -> Option<[u8; 7]>
     Some(*seven)
 }
 
-// The seven bytes of any frame, place by place.
+/// The seven bytes of any frame, place by place.
 #[tactic(auto, using(crate::proofs::PieceBytes::bytes_by_place), unfolding(crate::specs::Pieces::piece_bytes))]
 fn piece_by_place(data: &[u8], number: u8) -> [u8; 7]
     requires { length «data».now ≤ longest_message }
@@ -114,7 +114,7 @@ fn piece_by_place(data: &[u8], number: u8) -> [u8; 7]
     [at(0), at(1), at(2), at(3), at(4), at(5), at(6)]
 }
 
-// The seven bytes that a frame carries.
+/// The seven bytes that a frame carries.
 fn piece_bytes(data: &[u8], number: u8) -> [u8; 7]
     requires { length «data».now ≤ longest_message }
     ensures { result ≡ piece_bytes «data».now number }
@@ -125,7 +125,7 @@ fn piece_bytes(data: &[u8], number: u8) -> [u8; 7]
     }
 }
 
-// Makes a packet frame `number` of a message, in its own place.
+/// Makes a packet frame `number` of a message, in its own place.
 fn set_piece(frame: &mut Packet, message: &Packet, sequence: u8, number: u8)
     requires sequence { sequence < most_sequences }
     requires number { number < most_frames }
@@ -181,7 +181,7 @@ impl<'a> Frames<'a> {
     }
 }
 
-// How a message is sent.
+/// How a message is sent.
 fn kind_of(table: &Table, message: &Packet) -> Result<Kind, SplitFault>
     ensures kind { IfOk result (λ k. kind table.now message.now.id.pgn ≡ Some k) }
     ensures fits { OnOk result (refusal (kind table.now message.now.id.pgn) message.now ≡ None) }
@@ -200,7 +200,7 @@ fn kind_of(table: &Table, message: &Packet) -> Result<Kind, SplitFault>
     }
 }
 
-// Appends frames for which there is room.
+/// Appends frames for which there is room.
 fn append_frames(packets: &mut Vec<Packet>, message: &Packet, frames: &Frames)
     requires { vec_len packets.old + length frames.now ≤ vec_capacity packets.old }
     ensures { packets.new.items ≡ packets.old.items ++ frames.now }
@@ -231,7 +231,7 @@ impl Splitter {
         }
     }
 
-    // Takes the sequence of a stream's next message, and the message after that gets the next one.
+    /// Takes the sequence of a stream's next message, and the message after that gets the next one.
     fn take_sequence(&mut self, stream: Stream) -> Result<u8, SplitFault>
         ensures sequence { IfOk result (λ n. n ≡ sequences self.old stream) }
         ensures small { IfOk result (λ n. n < most_sequences) }

@@ -5,7 +5,7 @@ ghost use Rattle.n2k_join.specs.Window.{IsWindow};
 use std::marker::Model;
 
 /// What ends a group of frames that isn't complete, beside a number that comes twice: its window, a number of lines
-/// from 32 to 1,000,000, and, where that is asked, the order of its frames' numbers.
+/// from 32 to 1,000,000, and, where it is in order, the order of its frames' numbers.
 ///
 /// A group is broken so many lines after its first frame's line, skipped and bad lines counted. In order, it is
 /// broken too by a frame of its key whose number isn't greater than each number in it.
@@ -16,15 +16,15 @@ pub struct Window {
 }
 
 impl Model for Window {
-    ghost use Rattle.n2k_join.specs.Window.{IsWindow, Rule};
+    ghost use Rattle.n2k_join.specs.Window.{IsWindow, Window};
 
-    ghost Value = { Rule };
+    ghost Value = { Window };
 
-    ghost view = { λ w. record { window = w.lines; in_order = w.in_order } };
+    ghost view = { λ w. record { lines = w.lines; in_order = w.in_order } };
 
     ghost invariant = { λ w. IsWindow w.lines };
 
-    ghost inverse = { λ r. record { lines = r.window; in_order = r.in_order } };
+    ghost inverse = { λ r. record { lines = r.lines; in_order = r.in_order } };
 }
 
 impl Window {
@@ -42,7 +42,7 @@ impl Window {
     /// assert_eq!(rt; Window::new(31), None);
     /// ```
     pub fn new(lines: u32) -> Option<Window>
-        ensures value { IfSome result (λ w. w ≡ record { window = lines; in_order = false }) }
+        ensures value { IfSome result (λ w. w ≡ record { lines = lines; in_order = false }) }
         ensures range { IsSome result ↔ IsWindow lines }
     {
         if lines < Window::SHORTEST || lines > Window::LONGEST {
@@ -61,13 +61,13 @@ impl Window {
     /// assert_eq!(rt; window.get(), 10_000);
     /// ```
     pub fn get(self) -> u32
-        ensures value { result ≡ self.window }
-        ensures range { IsWindow self.window }
+        ensures value { result ≡ self.lines }
+        ensures range { IsWindow self.lines }
     {
         self.lines
     }
 
-    /// This window, in order: for a log in which the frames of each message stand by rising number, as on a bus.
+    /// This window, in order: for a log in which the frames of each message come by rising number, as on a bus.
     ///
     /// ```rust
     /// let window = Window::new(10_000).unwrap();
@@ -75,7 +75,7 @@ impl Window {
     /// assert!(rt; window.in_order().is_in_order());
     /// ```
     pub fn in_order(self) -> Window
-        ensures { result ≡ record { window = self.window; in_order = true } }
+        ensures { result ≡ record { lines = self.lines; in_order = true } }
     {
         Window {
             lines: self.lines,

@@ -7,7 +7,7 @@ use Rattle.n2k_wire.specs.Entry.{longest_line}
 use Rattle.n2k_run.specs.declared.blocks.Found.{Found}
 use Rattle.n2k_run.specs.declared.blocks.Found.TheVariants.{Line, Long, End}
 use Rattle.n2k_run.specs.Blocks.{Held, FirstLine, HasFeed, HasNoFeed, passed, unanswered}
-use Rattle.n2k_run.specs.Inner.Block.{EndsAt, Finds, FindsEnd, Judges, MakesRoom}
+use Rattle.n2k_run.specs.Inner.Block.{EndsAt, FindsLine, FindsEnd, Judges, MakesRoom}
 use Rattle.n2k_run.specs.Lines.{is_line_feed, without_return}
 
 -- a byte that ends no line
@@ -105,7 +105,7 @@ none = λ k d below. absurd (omega (arith, below))
 
 -- the line that is answered is the first of all that is unanswered
 pub finds : (passing : Bool) (kept piece : List ℕ) (new : Held) (found : Found) (left : Option (List ℕ)) → HasNoFeed piece → Judges passing (without_return piece) new.line found → EndsPiece (if passing then passed else []) kept piece (unanswered new) new.has_ended left
-    → Finds ((if passing then passed else []) ++ kept) new left found
+    → FindsLine ((if passing then passed else []) ++ kept) new left found
 finds false kept piece new Line left no_feed judged ends = (first_of [] kept piece new.line _ _ left none no_feed ends judged.1, rw judged.1 judged.2)
 finds false kept piece new Long left no_feed judged ends = (without_return piece, first_of [] kept piece _ _ _ left none no_feed ends refl, elim judged [ inl p ↦ cc | inr p ↦ p ])
 finds true kept piece new Line left no_feed judged ends = cc

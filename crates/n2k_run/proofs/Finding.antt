@@ -9,9 +9,9 @@ use Rattle.n2k_wire.specs.Entry.{longest_line}
 use Rattle.n2k_run.specs.declared.blocks.Found.{Found}
 use Rattle.n2k_run.specs.declared.blocks.Found.TheVariants.{Line, Long, End}
 use Rattle.n2k_run.specs.declared.device.Failed.{Failed}
-use Rattle.n2k_run.specs.Blocks.{Held, FirstLine, FirstLong, HasNoFeed, Replaces, Stays, CallsAre, passed, unanswered}
+use Rattle.n2k_run.specs.Blocks.{Held, FirstLine, FirstLong, HasNoFeed, ReplacesLong, Stays, CallsAre, passed, unanswered}
 use Rattle.n2k_run.specs.Device.{one_more}
-use Rattle.n2k_run.specs.Inner.Block.{Finds, MakesRoom, Reads, AnswersFound}
+use Rattle.n2k_run.specs.Inner.Block.{FindsLine, MakesRoom, Reads, AnswersFound}
 use Rattle.n2k_run.specs.Lines.{without_return}
 use Rattle.n2k_run.specs.Reading.{OutlastsReads, most_reads}
 use Rattle.n2k_run.specs.Inner.Reading.{Gains}
@@ -121,7 +121,7 @@ reads_round idle old loop taken made new left₀ left left' calls₀ calls calls
     reads_more idle old made new left₀ left left' calls₀ calls calls' (reads_room old taken made left₀ left calls₀ calls here no_feed room room_reads) gains gave passing reads called
 
 -- a first line of what stands for the bytes is one of the bytes
-long_first : (whole bytes line rest : List ℕ) (ended : Bool) (left : Option (List ℕ)) (r : Replaces whole bytes) → FirstLine bytes line rest ended left → FirstLong whole rest ended left × (longest_line < length line)
+long_first : (whole bytes line rest : List ℕ) (ended : Bool) (left : Option (List ℕ)) (r : ReplacesLong whole bytes) → FirstLine bytes line rest ended left → FirstLong whole rest ended left × (longest_line < length line)
 long_first whole bytes line rest ended left r f =
     let feed : (ended ≡ false) × (bytes ≡ f.piece ++ (10 ∷ rest)) → FirstLong whole rest ended left × (longest_line < length line) = λ e.
     let parts = split_past passed r.rest f.piece rest passed-no_feed (sym r.bytes_are ∙ e.1) in
@@ -140,17 +140,17 @@ long_first whole bytes line rest ended left r f =
     ((without_return whole, record { piece = whole; line_is = refl; no_feed = none; ends = inr (e.0, e.1, refl, omega (arith, size), e.4) }, long_piece whole size), over) in
     elim f.ends [ inl e ↦ feed e | inr e ↦ end e ]
 
-finds_replaced : (whole bytes : List ℕ) (new : Held) (left : Option (List ℕ)) (found : Found) → Replaces whole bytes → Finds bytes new left found → Finds whole new left found
+finds_replaced : (whole bytes : List ℕ) (new : Held) (left : Option (List ℕ)) (found : Found) → ReplacesLong whole bytes → FindsLine bytes new left found → FindsLine whole new left found
 finds_replaced whole bytes new left Line r f = absurd (omega (arith, f.1, (long_first whole bytes new.line (unanswered new) new.has_ended left r f.0).1))
 finds_replaced whole bytes new left Long r f = (long_first whole bytes f.0 (unanswered new) new.has_ended left r f.1).0
 finds_replaced whole bytes new left End r f = absurd (omega (arith, ap length f.2, ap length r.bytes_are, length-append passed r.rest, length-passed))
 
-finds_whole : (whole bytes : List ℕ) (new : Held) (left : Option (List ℕ)) (found : Found) → Stays whole bytes → Finds bytes new left found → Finds whole new left found
-finds_whole whole bytes new left found (inl same) f = subst (λ b. Finds b new left found) same f
+finds_whole : (whole bytes : List ℕ) (new : Held) (left : Option (List ℕ)) (found : Found) → Stays whole bytes → FindsLine bytes new left found → FindsLine whole new left found
+finds_whole whole bytes new left found (inl same) f = subst (λ b. FindsLine b new left found) same f
 finds_whole whole bytes new left found (inr r) f = finds_replaced whole bytes new left found r f
 
 -- the line is there
-pub found_line : (idle : ℕ) (old mid new : Held) (left₀ left : Option (List ℕ)) (calls₀ calls : ℕ) (found : Found) → Reads idle old mid left₀ left calls₀ calls → Finds (unanswered mid) new left found → new.reads ≡ mid.reads → idle ≤ (if new.has_ended then 1 else 0)
+pub found_line : (idle : ℕ) (old mid new : Held) (left₀ left : Option (List ℕ)) (calls₀ calls : ℕ) (found : Found) → Reads idle old mid left₀ left calls₀ calls → FindsLine (unanswered mid) new left found → new.reads ≡ mid.reads → idle ≤ (if new.has_ended then 1 else 0)
     → AnswersFound old new left₀ left calls₀ calls (Ok found)
 found_line idle old mid new left₀ left calls₀ calls found so_far finds reads ended = record {
   came = so_far.came;

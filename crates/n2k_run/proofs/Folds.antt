@@ -1,9 +1,9 @@
 -- What is made of entries, and of more entries after them.
 use Rattle.std.proofs.Common.{◌≡◌, ℕ, List, [], ◌∷◌, ◌++◌, refl, sym, ap, ◌∙◌, append_assoc}
 use Rattle.n2k_wire.specs.declared.entry.Entry.{Entry}
-use Rattle.n2k_run.specs.Making.{Making, after_all, given_from}
+use Rattle.n2k_run.specs.Fold.{Fold, after_all, given_from}
 
-module _ {S : Type 0} (m : Making S) where
+module _ {S : Type 0} (m : Fold S) where
   pub after-append : (s : S) (es fs : List Entry) → after_all m s (es ++ fs) ≡ after_all m (after_all m s es) fs
   after-append s [] fs = refl
   after-append s (e ∷ es) fs = after-append (m.after s e) es fs

@@ -5,8 +5,8 @@ use Rattle.std.specs.Io.{IsEmptyOrEndsWith}
 use Rattle.std.proofs.lemmas.Grind.{flat_map-append}
 use Rattle.n2k_wire.specs.declared.entry.Entry.{Entry}
 use Rattle.n2k_table.specs.Table.{TableParts, kind}
-use Rattle.n2k_join.specs.declared.state_fault.StateFault.{StateFault}
-use Rattle.n2k_join.specs.declared.state_fault.StateFault.TheVariants as state_faults
+use Rattle.n2k_join.specs.declared.fault.StateFault.{StateFault}
+use Rattle.n2k_join.specs.declared.fault.StateFault.TheVariants as state_faults
 use Rattle.n2k_join.specs.Counts.{most_lines}
 use Rattle.n2k_join.specs.Messages.{broken, cause_in, entry_at, numbers}
 use Rattle.n2k_join.specs.State.{state}
@@ -18,7 +18,8 @@ use Rattle.n2k_run.specs.declared.part.PartFault.TheVariants.{State as Refused, 
 use Rattle.n2k_run.specs.Decoded.{cause_at, message_line, numbers_after, out, out_of, output_after, report_at, reports, reports_of, text_at}
 use Rattle.n2k_run.specs.Entries.{entries}
 use Rattle.n2k_run.specs.Lines.{line_feed, whole_lines}
-use Rattle.n2k_run.specs.Parts.{Continues, GoesOn, GoesOnPartly, GoesOnToLimit, HasPart, IsOfKind, IsPartOf, TellsRun, save, state_after}
+use Rattle.n2k_run.specs.Headline.{save, state_after}
+use Rattle.n2k_run.specs.Parts.{Continues, GoesOn, GoesOnPartly, GoesOnToLimit, HasPart, IsOfKind, IsPartOf, TellsRun}
 use Rattle.n2k_run.specs.Reports.{line_report}
 use Rattle.n2k_run.specs.Runs.{Devices, Gained, HasFronts}
 use Rattle.n2k_run.proofs.Fronts.{entries-append}
@@ -103,7 +104,7 @@ module _ (t : TableParts) (o : Options) (laws : LogLaws o.window) where
           output = output-on more;
           report = (output_after t o (entries o.packing front)).reports (entries o.packing more);
           reported = gained.reported;
-          told = reports-on more;
+          all_reports = reports-on more;
           saved = save-on more part stands;
           counted = stands.counted;
           reads_back = stands.reads_back;
@@ -116,7 +117,7 @@ module _ (t : TableParts) (o : Options) (laws : LogLaws o.window) where
       output = output-on more;
       report = (output_after t o (entries o.packing front)).reports (entries o.packing more);
       reported = fronts.reported;
-      told = reports-on more;
+      all_reports = reports-on more;
     }
 
     -- where the log has more lines than are counted
@@ -132,7 +133,7 @@ module _ (t : TableParts) (o : Options) (laws : LogLaws o.window) where
           more = cut.more;
           whole_lines = cut.whole;
           full = ap length (both cut.bytes ∙ ap (λ x. entries o.packing front ++ x) cut.entries_are) ∙ length-append (entries o.packing front) es ∙ full;
-          stands = goes_on cut.bytes before after part
+          goes_on = goes_on cut.bytes before after part
               (subst (λ x. Gained (output_after t o (entries o.packing front)) before after x) (sym cut.entries_are) gained)
               (subst (λ x. IsPartOf t o (state t.id o.window (kind t) (entries o.packing front ++ x)) part) (sym cut.entries_are) stands);
         }

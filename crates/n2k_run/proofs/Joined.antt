@@ -18,7 +18,8 @@ use Rattle.n2k_run.specs.declared.part.PartFault.TheVariants.{State as Refused, 
 use Rattle.n2k_run.specs.Decoded.{out, out_of, output_after, reports, reports_of}
 use Rattle.n2k_run.specs.Entries.{entries}
 use Rattle.n2k_run.specs.Inner.Parts.{PartLeft, Saves}
-use Rattle.n2k_run.specs.Parts.{AreCutAtLines, AreWithinReads, BeginsBy, EndsParts, IsNotRead, IsPartOf, OnRefusal, PrintsLog, RefusedByMemory, RunsPart, TakesAll, TellsRun, begun, entries_of, save, with_source, HasPart}
+use Rattle.n2k_run.specs.Headline.{AreCutAtLines, PrintsLog, save}
+use Rattle.n2k_run.specs.Parts.{AreWithinReads, BeginsBy, EndsParts, IsNotRead, IsPartOf, OnRefusal, RefusedByMemory, RunsPart, TakesAll, TellsRun, begun, entries_of_parts, with_source, HasPart}
 use Rattle.n2k_run.specs.declared.fault.RunFault.{RunFault}
 use Rattle.n2k_run.specs.declared.fault.RunFault.TheVariants.{Read}
 use Rattle.n2k_run.specs.Device.{HasFailed}
@@ -32,7 +33,7 @@ use Rattle.n2k_run.proofs.LogSteps.{LogLaws}
 use Rattle.n2k_run.proofs.Parting.{KeepsFast, begun-under, memory_alone, part-of, told_ok, told_stopped}
 
 -- before the first part
-pub empty-of : (laws : KeepsFast) (t : TableParts) (o : Options) → IsWindow o.window.window → (join : State) {E : Type 0} (result : Result Part E) → IsId t.id → join ≡ state t.id o.window (kind t) [] → IfOk result (Saves join) → IfOk result (IsPartOf t o (state t.id o.window (kind t) []))
+pub empty-of : (laws : KeepsFast) (t : TableParts) (o : Options) → IsWindow o.window.lines → (join : State) {E : Type 0} (result : Result Part E) → IsId t.id → join ≡ state t.id o.window (kind t) [] → IfOk result (Saves join) → IfOk result (IsPartOf t o (state t.id o.window (kind t) []))
 empty-of laws t o window join (Ok part) id is saves = part-of laws t o window (state t.id o.window (kind t) []) part id (begun-under laws t o window None (state t.id o.window (kind t) []) refl) (subst (λ s. Saves s part) is saves)
 empty-of laws t o window join (Err e) id is saves = tt
 
@@ -46,17 +47,17 @@ none_taken t o before part is = record {
   leads_to = is;
 }
 
-entries_next : (o : Options) (done : List (List ℕ)) (met : List ℕ) → entries_of o (done ++ met ∷ []) ≡ entries_of o done ++ entries o.packing met
-entries_next o done met = flat_map-append (entries o.packing) done (met ∷ []) ∙ ap (λ es. entries_of o done ++ es) (append-nil (entries o.packing met))
+entries_next : (o : Options) (done : List (List ℕ)) (met : List ℕ) → entries_of_parts o (done ++ met ∷ []) ≡ entries_of_parts o done ++ entries o.packing met
+entries_next o done met = flat_map-append (entries o.packing) done (met ∷ []) ∙ ap (λ es. entries_of_parts o done ++ es) (append-nil (entries o.packing met))
 
 module _ (t : TableParts) (o : Options) (laws : LogLaws o.window) where
   -- one part more was taken whole
-  pub next_taken : (done : List (List ℕ)) (met : List ℕ) (before between after : Devices) (last next : Part) → TakesAll t o done before between last → RunsPart t o (entries_of o done) met between after (Ok next) → TakesAll t o (done ++ met ∷ []) before after next
+  pub next_taken : (done : List (List ℕ)) (met : List ℕ) (before between after : Devices) (last next : Part) → TakesAll t o done before between last → RunsPart t o (entries_of_parts o done) met between after (Ok next) → TakesAll t o (done ++ met ∷ []) before after next
   next_taken done met before between after last next so_far run =
-      let front = entries_of o done in
+      let front = entries_of_parts o done in
       let es = entries o.packing met in
-      let all : front ++ es ≡ entries_of o (done ++ met ∷ []) = sym (entries_next o done met) in
-      let ran = told_ok _ _ _ _ next run.told in
+      let all : front ++ es ≡ entries_of_parts o (done ++ met ∷ []) = sym (entries_next o done met) in
+      let ran = told_ok _ _ _ _ next run.run in
       let gained = of_log _ _ _ _ (λ log. Gained (output_after t o front) (with_source between (Some met) 0 0) (with_source after run.left run.calls 0) (entries o.packing log)) ran.ends ran.ends.gained in
       let text : Appends before.written after.written (out_of t o (front ++ es)) =
       subst (Appends before.written after.written) (sym (out_of-append t o laws front es)) (Appends-trans before.written between.written after.written _ _ so_far.taken.printed gained.printed) in
@@ -83,7 +84,7 @@ pub runs_part : (t : TableParts) (o : Options) (front : List Entry) (met : List 
 runs_part t o front met reader before after left calls result is told untouched = record {
   left = left;
   calls = calls;
-  told = subst (λ (s : PartLeft). TellsRun (output_after t o front) (λ es. HasPart t o result (state t.id o.window (kind t) (front ++ es))) (with_source before (Some s.left) s.calls 0) (with_source after left calls 0) result) is told;
+  run = subst (λ (s : PartLeft). TellsRun (output_after t o front) (λ es. HasPart t o result (state t.id o.window (kind t) (front ++ es))) (with_source before (Some s.left) s.calls 0) (with_source after left calls 0) result) is told;
   untouched = untouched;
 }
 
@@ -101,12 +102,12 @@ not_stopped o stands met before after left calls few runs =
 pub not_read : (t : TableParts) (o : Options) (parts : List (List ℕ)) (before after : Devices) (result : Result Part PartFault) → AreWithinReads parts → EndsParts t o parts before after result → IsNotRead result
 not_read t o parts before after (Err (Stopped fault part)) few (inl end) = cc
 not_read t o parts before after (Err (Stopped fault part)) few (inr end) = λ is.
-    let front : List Entry = entries_of o end.done in
+    let front : List Entry = entries_of_parts o end.done in
     let stands : List Entry → Type 0 = λ es. HasPart t o (Err (Stopped fault part)) (state t.id o.window (kind t) (front ++ es)) in
     let source : Devices = with_source end.between (Some end.met) 0 0 in
     let read : Devices = with_source after end.runs.left end.runs.calls 0 in
     let runs : Runs {T = Unit {0}} (output_after t o front) stands source read (Err Read) =
-    subst (λ (f : RunFault). Runs {T = Unit {0}} (output_after t o front) stands source read (Err f)) is (told_stopped (output_after t o front) source read stands fault part end.runs.told) in
+    subst (λ (f : RunFault). Runs {T = Unit {0}} (output_after t o front) stands source read (Err f)) is (told_stopped (output_after t o front) source read stands fault part end.runs.run) in
     let few_bytes : length end.met + 1 < most_reads = part_met (λ met. length met + 1 < most_reads) parts end.done end.met end.later few end.parts_are in
     not_stopped (output_after t o front) stands end.met end.between after end.runs.left end.runs.calls few_bytes runs
 not_read t o parts before after _ few end = tt
@@ -119,7 +120,7 @@ split_parts parts i d within =
 
 -- ---- a log that was cut after lines
 
-cut_entries : (o : Options) (parts : List (List ℕ)) → AreCutAtLines parts → entries_of o parts ≡ entries o.packing (concat parts)
+cut_entries : (o : Options) (parts : List (List ℕ)) → AreCutAtLines parts → entries_of_parts o parts ≡ entries o.packing (concat parts)
 cut_entries o [] cut = refl
 cut_entries o (part ∷ []) cut = append-nil (entries o.packing part) ∙ ap (entries o.packing) (sym (append-nil part))
 cut_entries o (part ∷ next ∷ parts) cut =

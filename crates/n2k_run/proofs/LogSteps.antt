@@ -12,10 +12,10 @@ use Rattle.n2k_join.specs.Laws.{StepsAgree, LinesStay}
 use Rattle.n2k_join.specs.Messages.{message, broken, cause_in, entry_at}
 use Rattle.n2k_join.specs.State.{Given, State, state, step_after, step_given}
 use Rattle.n2k_run.specs.declared.options.Options.{Options}
-use Rattle.n2k_run.specs.Decoded.{cause_at, join_making, message_line, numbers_after, output_after, report_at, text_at}
-use Rattle.n2k_run.specs.Making.{after_all, given_from, texts_from, reports_from}
+use Rattle.n2k_run.specs.Decoded.{cause_at, join_fold, message_line, numbers_after, output_after, report_at, text_at}
+use Rattle.n2k_run.specs.Fold.{after_all, given_from, texts_from, reports_from}
 use Rattle.n2k_run.specs.Reports.{broken_text, cause_report, line_report}
-use Rattle.n2k_join.specs.Window.{Rule, IsWindow}
+use Rattle.n2k_join.specs.Window.{Window, IsWindow}
 use Rattle.n2k_run.specs.Inner.Engine.{MovesOn}
 use Rattle.n2k_run.specs.Inner.Overdue.{BreaksOverdue}
 use Rattle.n2k_run.specs.Runs.{output_from}
@@ -30,7 +30,7 @@ lines_after k s e = refl
 -- texts.
 pub join_moves : (t : TableParts) (empty : Bool) (s mid s' : State) (e : Entry) (step : Step PacketParts) (n : ℕ) (text text' report due told report' : List ℕ) → n ≡ s'.counts.lines → given_of step ≡ step_given (kind t) mid e → s' ≡ step_after (kind t) mid e → mid.counts.lines < most_lines
     → BreaksOverdue s mid report due → told ≡ due ++ flat_map (broken_text n) (option_to_list step.broken) → report' ≡ told ++ cause_report n step.bad → text' ≡ text ++ message_line t empty step.message
-    → MovesOn (join_making t empty) s s' e text text' report report'
+    → MovesOn (join_fold t empty) s s' e text text' report report'
 join_moves t empty s mid s' e step n text text' report due told report' number given after few overdue broken cause message =
     let counted : s'.counts.lines ≡ mid.counts.lines + 1 = ap (λ (x : State). x.counts.lines) after ∙ lines_after (kind t) mid e in
     let same : mid.counts.lines ≡ s.counts.lines = overdue.same_lines in
@@ -66,13 +66,13 @@ entry_next front e es =
     ap (entry_at (front ++ e ∷ es)) at ∙ at_place front e es
 
 -- The laws of the join on a log, with what ends its groups.
-pub record LogLaws (rule : Rule) : Type 0 where
-  pub agree : (id : List ℕ) (kind : ℕ → Option Kind) (es : List Entry) (e : Entry) → StepsAgree id rule kind es e
-  pub stay : (kind : ℕ → Option Kind) (es : List Entry) (e : Entry) → LinesStay rule kind es e
+pub record LogLaws (w : Window) : Type 0 where
+  pub agree : (id : List ℕ) (kind : ℕ → Option Kind) (es : List Entry) (e : Entry) → StepsAgree id w kind es e
+  pub stay : (kind : ℕ → Option Kind) (es : List Entry) (e : Entry) → LinesStay w kind es e
 
-pub log_laws : (rule : Rule) → IsWindow rule.window → ((id : List ℕ) (rule : Rule) (kind : ℕ → Option Kind) (es : List Entry) (e : Entry) → IsWindow rule.window → StepsAgree id rule kind es e)
-    → ((rule : Rule) (kind : ℕ → Option Kind) (es : List Entry) (e : Entry) → IsWindow rule.window → LinesStay rule kind es e) → LogLaws rule
-log_laws rule is agree stay = record { agree = λ id kind es e. agree id rule kind es e is; stay = λ kind es e. stay rule kind es e is }
+pub log_laws : (w : Window) → IsWindow w.lines → ((id : List ℕ) (w : Window) (kind : ℕ → Option Kind) (es : List Entry) (e : Entry) → IsWindow w.lines → StepsAgree id w kind es e)
+    → ((w : Window) (kind : ℕ → Option Kind) (es : List Entry) (e : Entry) → IsWindow w.lines → LinesStay w kind es e) → LogLaws w
+log_laws w is agree stay = record { agree = λ id kind es e. agree id w kind es e is; stay = λ kind es e. stay w kind es e is }
 
 module _ (t : TableParts) (o : Options) (laws : LogLaws o.window) (id : List ℕ) where
   pub messages_stay : (es fs : List Entry) (i : ℕ) → 1 ≤ i → i ≤ length es → message o.window (kind t) (es ++ fs) i ≡ message o.window (kind t) es i
@@ -89,10 +89,10 @@ module _ (t : TableParts) (o : Options) (laws : LogLaws o.window) (id : List ℕ
       ∙ broken_stay (es ++ f ∷ []) fs i (omega (arith, high, length-append es (f ∷ [])))
       ∙ (laws.stay (kind t) es f).broken_groups i high
 
-  pub state_after : (front es : List Entry) → after_all (join_making t o.empty) (state id o.window (kind t) front) es ≡ state id o.window (kind t) (front ++ es)
+  pub state_after : (front es : List Entry) → after_all (join_fold t o.empty) (state id o.window (kind t) front) es ≡ state id o.window (kind t) (front ++ es)
   state_after front [] = ap (state id o.window (kind t)) (sym (append-nil front))
   state_after front (e ∷ es) =
-      ap (λ s. after_all (join_making t o.empty) s es) (laws.agree id (kind t) front e).after
+      ap (λ s. after_all (join_fold t o.empty) s es) (laws.agree id (kind t) front e).after
       ∙ state_after (front ++ e ∷ []) es
       ∙ ap (state id o.window (kind t)) (append_assoc front (e ∷ []) es)
 
@@ -116,29 +116,29 @@ module _ (t : TableParts) (o : Options) (laws : LogLaws o.window) (id : List ℕ
 
   -- so is what is given of all the next entries
   given_after : (given : State → Entry → List ℕ) (at : List Entry → ℕ → List ℕ) → ((front : List Entry) (e : Entry) (es : List Entry) → given (state id o.window (kind t) front) e ≡ at (front ++ e ∷ es) (length front + 1)) → (front es : List Entry)
-      → given_from given (join_making t o.empty) (state id o.window (kind t) front) es ≡ flat_map (at (front ++ es)) (numbers_after front es)
+      → given_from given (join_fold t o.empty) (state id o.window (kind t) front) es ≡ flat_map (at (front ++ es)) (numbers_after front es)
   given_after given at here front [] = refl
   given_after given at here front (e ∷ es) =
       let next : length (front ++ e ∷ []) + 1 ≡ length front + 1 + 1 = omega (arith, length-append front (e ∷ [])) in
       let rest =
-      ap (λ s. given_from given (join_making t o.empty) s es) (laws.agree id (kind t) front e).after
+      ap (λ s. given_from given (join_fold t o.empty) s es) (laws.agree id (kind t) front e).after
       ∙ given_after given at here (front ++ e ∷ []) es
       ∙ ap (λ xs. flat_map (at xs) (range_with_len (length (front ++ e ∷ []) + 1) (length es))) (append_assoc front (e ∷ []) es)
       ∙ ap (λ n. flat_map (at (front ++ e ∷ es)) (range_with_len n (length es))) next in
-      ap (λ x. x ++ given_from given (join_making t o.empty) (step_after (kind t) (state id o.window (kind t) front) e) es) (here front e es)
+      ap (λ x. x ++ given_from given (join_fold t o.empty) (step_after (kind t) (state id o.window (kind t) front) e) es) (here front e es)
       ∙ ap (λ r. at (front ++ e ∷ es) (length front + 1) ++ r) rest
 
-  pub texts_after : (front es : List Entry) → texts_from (join_making t o.empty) (state id o.window (kind t) front) es ≡ flat_map (text_at t o (front ++ es)) (numbers_after front es)
-  texts_after = given_after (join_making t o.empty).text (text_at t o) (λ front e es. ap (message_line t o.empty) (message_next front e es))
+  pub texts_after : (front es : List Entry) → texts_from (join_fold t o.empty) (state id o.window (kind t) front) es ≡ flat_map (text_at t o (front ++ es)) (numbers_after front es)
+  texts_after = given_after (join_fold t o.empty).text (text_at t o) (λ front e es. ap (message_line t o.empty) (message_next front e es))
 
-  report_next : (front : List Entry) (e : Entry) (es : List Entry) → (join_making t o.empty).report (state id o.window (kind t) front) e ≡ report_at t o (front ++ e ∷ es) (length front + 1)
+  report_next : (front : List Entry) (e : Entry) (es : List Entry) → (join_fold t o.empty).report (state id o.window (kind t) front) e ≡ report_at t o (front ++ e ∷ es) (length front + 1)
   report_next front e es =
       ap (λ g. line_report (length front + 1) g (step_given (kind t) (state id o.window (kind t) front) e).cause) (broken_next front e es)
       ∙ ap (line_report (length front + 1) (broken o.window (kind t) (front ++ e ∷ es) (length front + 1))) (cause_next front e es)
 
-  pub reports_after : (front es : List Entry) → reports_from (join_making t o.empty) (state id o.window (kind t) front) es ≡ flat_map (report_at t o (front ++ es)) (numbers_after front es)
-  reports_after = given_after (join_making t o.empty).report (report_at t o) report_next
+  pub reports_after : (front es : List Entry) → reports_from (join_fold t o.empty) (state id o.window (kind t) front) es ≡ flat_map (report_at t o (front ++ es)) (numbers_after front es)
+  reports_after = given_after (join_fold t o.empty).report (report_at t o) report_next
 
 -- a run from a log's state makes what the whole log says
-pub output_after-is : (t : TableParts) (o : Options) → LogLaws o.window → (id : List ℕ) (front : List Entry) → output_from (join_making t o.empty) o.packing (state id o.window (kind t) front) ≡ output_after t o front
+pub output_after-is : (t : TableParts) (o : Options) → LogLaws o.window → (id : List ℕ) (front : List Entry) → output_from (join_fold t o.empty) o.packing (state id o.window (kind t) front) ≡ output_after t o front
 output_after-is t o laws id front = output_same o.packing (length front) _ _ _ _ (texts_after t o laws id front) (reports_after t o laws id front)

@@ -4,10 +4,10 @@ use Rattle.std.specs.List.{flat_map}
 use Rattle.std.proofs.lemmas.Option.{same_Some}
 use Rattle.n2k_wire.specs.declared.entry.Entry.{Entry}
 use Rattle.n2k_table.specs.declared.definition.Kind.{Kind}
-use Rattle.n2k_join.specs.declared.broken.Broken.{Broken}
+use Rattle.n2k_join.specs.declared.step.Broken.{Broken}
 use Rattle.n2k_join.specs.Counts.{most_lines}
 use Rattle.n2k_join.specs.Laws.{ExpiresFirst}
-use Rattle.n2k_join.specs.Messages.{told_of}
+use Rattle.n2k_join.specs.Messages.{as_broken}
 use Rattle.n2k_join.specs.Open.{Group}
 use Rattle.n2k_join.specs.State.{State, Given, next_line, step_given, step_after}
 use Rattle.n2k_join.specs.Step.{due, expired}
@@ -22,21 +22,21 @@ none_broken s report = record { after = λ kind e. refl; message = λ kind e. re
 record FoundDue (s : State) (b : Broken) : Type 0 where
   pub group : Group
   pub is : due s ≡ Some group
-  pub told : told_of group ≡ b
+  pub told : as_broken group ≡ b
 
-found_due : (s : State) (b : Broken) → option_map told_of (due s) ≡ Some b → FoundDue s b
+found_due : (s : State) (b : Broken) → option_map as_broken (due s) ≡ Some b → FoundDue s b
 found_due s b e = by (due s) refl e
   where
-    by : (o : Option Group) → due s ≡ o → option_map told_of o ≡ Some b → FoundDue s b
+    by : (o : Option Group) → due s ≡ o → option_map as_broken o ≡ Some b → FoundDue s b
     by None is e = cc
-    by (Some g) is e = record { group = g; is = is; told = same_Some (told_of g) b e }
+    by (Some g) is e = record { group = g; is = is; told = same_Some (as_broken g) b e }
 
 -- a group that is broken so counts no line
 pub lines_stay : (s : State) → (expired s).counts.lines ≡ s.counts.lines
 unfolding expired
 lines_stay s = refl
 
-pub one_broken : (s t u : State) (b : Broken) (n : ℕ) (report told told' : List ℕ) → BreaksOverdue s t report told → option_map told_of (due t) ≡ Some b → u ≡ expired t → t.counts.lines < most_lines → n ≡ t.counts.lines → told' ≡ told ++ broken_text (n + 1) b
+pub one_broken : (s t u : State) (b : Broken) (n : ℕ) (report told told' : List ℕ) → BreaksOverdue s t report told → option_map as_broken (due t) ≡ Some b → u ≡ expired t → t.counts.lines < most_lines → n ≡ t.counts.lines → told' ≡ told ++ broken_text (n + 1) b
     → ((kind : ℕ → Option Kind) (e : Entry) (group : Group) → due t ≡ Some group → ExpiresFirst kind t e group) → BreaksOverdue s u report told'
 one_broken s t u b n report told told' so_far is after few number said step =
     let found = found_due t b is in

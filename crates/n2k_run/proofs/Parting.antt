@@ -6,23 +6,23 @@ use Rattle.std.proofs.KnownBytes.{Appends-nil}
 use Rattle.n2k_wire.specs.declared.entry.Entry.{Entry}
 use Rattle.n2k_table.specs.declared.definition.Kind.{Kind}
 use Rattle.n2k_table.specs.Table.{TableParts, kind}
-use Rattle.n2k_join.specs.declared.state_fault.StateFault.{StateFault}
-use Rattle.n2k_join.specs.declared.state_fault.StateFault.TheVariants as state_faults
-use Rattle.n2k_join.specs.Resumed.{judged}
+use Rattle.n2k_join.specs.declared.fault.StateFault.{StateFault}
+use Rattle.n2k_join.specs.declared.fault.StateFault.TheVariants as state_faults
+use Rattle.n2k_join.specs.Resumed.{resumed}
 use Rattle.n2k_join.specs.Saved.{IsId, state_text}
 use Rattle.n2k_join.specs.State.{State, state, AreFast, step_after}
-use Rattle.n2k_join.specs.Window.{Rule, IsWindow}
+use Rattle.n2k_join.specs.Window.{Window, IsWindow}
 use Rattle.n2k_run.specs.declared.fault.RunFault.{RunFault}
 use Rattle.n2k_run.specs.declared.fault.RunFault.TheVariants as run_faults
 use Rattle.n2k_run.specs.declared.part.Part.{Part}
 use Rattle.n2k_run.specs.declared.part.PartFault.{PartFault}
 use Rattle.n2k_run.specs.declared.part.PartFault.TheVariants.{State as Refused, Stopped, Run}
 use Rattle.n2k_run.specs.declared.options.Options.{Options}
-use Rattle.n2k_run.specs.Decoded.{join_making, output_after}
+use Rattle.n2k_run.specs.Decoded.{join_fold, output_after}
 use Rattle.n2k_run.specs.Entries.{entries}
 use Rattle.n2k_run.specs.Inner.Parts.{Finishes, HasSaved, Saves}
-use Rattle.n2k_run.specs.Making.{after_all}
-use Rattle.n2k_run.specs.Parts.{BeginsBy, HasPart, IsPartOf, OnRefusal, Ran, StandsAtLine, TellsRun, begun}
+use Rattle.n2k_run.specs.Fold.{after_all}
+use Rattle.n2k_run.specs.Parts.{BeginsBy, HasPart, IsPartOf, OnRefusal, Ran, EndsAtLine, TellsRun, begun}
 use Rattle.n2k_run.specs.Runs.{Devices, HasFronts, Output, Runs, output_from}
 use Rattle.n2k_run.proofs.Calls.{none_read, within_one}
 use Rattle.n2k_run.proofs.Ending.{of_log, runs_more, runs_same}
@@ -58,7 +58,7 @@ unbegun o stands before fault none = record {
 
 module _ (o : Output) (before after : Devices) where
   -- where a run stands at a line, the sinks gained fronts of what is made of the log
-  pub line_fronts : (stands : List Entry → Type 0) (ran : Result (Unit {0}) RunFault) → StandsAtLine ran → Runs o stands before after ran → IfSome before.left (HasFronts o before after)
+  pub line_fronts : (stands : List Entry → Type 0) (ran : Result (Unit {0}) RunFault) → EndsAtLine ran → Runs o stands before after ran → IfSome before.left (HasFronts o before after)
   line_fronts stands (Ok x) line runs = of_log o stands before after _ runs.ends (record {
     printed = all_gained before.written after.written (o.texts (entries o.packing runs.ends.came)) runs.ends.gained.printed;
     reported = all_gained before.reported after.reported (o.reports (entries o.packing runs.ends.came)) runs.ends.gained.reported;
@@ -96,20 +96,20 @@ not_refused _ ran P finishes = tt
 pub record IsUnder (t : TableParts) (o : Options) (s : State) : Type 0 where
   pub fast : AreFast (kind t) s.groups
   pub same_table : s.id ≡ t.id
-  pub same_window : s.rule ≡ o.window
+  pub same_window : s.window ≡ o.window
 
 -- what the join's laws say of states under a table
 pub record KeepsFast : Type 0 where
-  pub new : (kind : ℕ → Option Kind) (id : List ℕ) (rule : Rule) → AreFast kind (state id rule kind []).groups
-  pub read : (kind : ℕ → Option Kind) (id : List ℕ) (rule : Rule) (bytes : List ℕ) (s : State) → judged kind id rule bytes ≡ Ok s → AreFast kind s.groups
-  pub same_table : (kind : ℕ → Option Kind) (id : List ℕ) (rule : Rule) (bytes : List ℕ) (s : State) → judged kind id rule bytes ≡ Ok s → s.id ≡ id
-  pub same_rule : (kind : ℕ → Option Kind) (id : List ℕ) (rule : Rule) (bytes : List ℕ) (s : State) → judged kind id rule bytes ≡ Ok s → s.rule ≡ rule
-  pub step : (kind : ℕ → Option Kind) (s : State) (e : Entry) → IsWindow s.rule.window → AreFast kind s.groups → AreFast kind (step_after kind s e).groups
+  pub new : (kind : ℕ → Option Kind) (id : List ℕ) (w : Window) → AreFast kind (state id w kind []).groups
+  pub read : (kind : ℕ → Option Kind) (id : List ℕ) (w : Window) (bytes : List ℕ) (s : State) → resumed kind id w bytes ≡ Ok s → AreFast kind s.groups
+  pub same_table : (kind : ℕ → Option Kind) (id : List ℕ) (w : Window) (bytes : List ℕ) (s : State) → resumed kind id w bytes ≡ Ok s → s.id ≡ id
+  pub same_window : (kind : ℕ → Option Kind) (id : List ℕ) (w : Window) (bytes : List ℕ) (s : State) → resumed kind id w bytes ≡ Ok s → s.window ≡ w
+  pub step : (kind : ℕ → Option Kind) (s : State) (e : Entry) → IsWindow s.window.lines → AreFast kind s.groups → AreFast kind (step_after kind s e).groups
 
 same_state : (s s' : State) → (let r : Result State StateFault = Ok s in r) ≡ Ok s' → s ≡ s'
 same_state s s' is = cc
 
-module _ (laws : KeepsFast) (t : TableParts) (o : Options) (window : IsWindow o.window.window) where
+module _ (laws : KeepsFast) (t : TableParts) (o : Options) (window : IsWindow o.window.lines) where
   pub begun-under : (handed : Option (List ℕ)) (s : State) → begun t o handed ≡ Ok s → IsUnder t o s
   begun-under None s is =
       let same : state t.id o.window (kind t) [] ≡ s = same_state _ _ is in
@@ -117,23 +117,23 @@ module _ (laws : KeepsFast) (t : TableParts) (o : Options) (window : IsWindow o.
   begun-under (Some bytes) s is = record {
     fast = laws.read (kind t) t.id o.window bytes s is;
     same_table = laws.same_table (kind t) t.id o.window bytes s is;
-    same_window = laws.same_rule (kind t) t.id o.window bytes s is;
+    same_window = laws.same_window (kind t) t.id o.window bytes s is;
   }
 
   step-id : (s : State) (e : Entry) → (step_after (kind t) s e).id ≡ s.id
   unfolding step_after
   step-id s e = refl
 
-  step-rule : (s : State) (e : Entry) → (step_after (kind t) s e).rule ≡ s.rule
+  step-window : (s : State) (e : Entry) → (step_after (kind t) s e).window ≡ s.window
   unfolding step_after
-  step-rule s e = refl
+  step-window s e = refl
 
-  pub after-under : (s : State) (es : List Entry) → IsUnder t o s → IsUnder t o (after_all (join_making t o.empty) s es)
+  pub after-under : (s : State) (es : List Entry) → IsUnder t o s → IsUnder t o (after_all (join_fold t o.empty) s es)
   after-under s [] under = under
   after-under s (e ∷ es) under = after-under (step_after (kind t) s e) es (record {
-    fast = laws.step (kind t) s e (subst (λ (r : Rule). IsWindow r.window) (sym under.same_window) window) under.fast;
+    fast = laws.step (kind t) s e (subst (λ (r : Window). IsWindow r.lines) (sym under.same_window) window) under.fast;
     same_table = step-id s e ∙ under.same_table;
-    same_window = step-rule s e ∙ under.same_window;
+    same_window = step-window s e ∙ under.same_window;
   })
 
   pub part-of : (s : State) (part : Part) → IsId t.id → IsUnder t o s → Saves s part → IsPartOf t o s part
@@ -142,9 +142,9 @@ module _ (laws : KeepsFast) (t : TableParts) (o : Options) (window : IsWindow o.
     counted = saves.counted;
     reads_back =
         let is_id : IsId s.id = subst IsId (sym under.same_table) id in
-        ap (λ text. judged (kind t) t.id o.window text) saves.saved
-        ∙ ap (λ i. judged (kind t) i o.window (state_text s)) (sym under.same_table)
-        ∙ ap (λ r. judged (kind t) s.id r (state_text s)) (sym under.same_window)
+        ap (λ text. resumed (kind t) t.id o.window text) saves.saved
+        ∙ ap (λ i. resumed (kind t) i o.window (state_text s)) (sym under.same_table)
+        ∙ ap (λ r. resumed (kind t) s.id r (state_text s)) (sym under.same_window)
         ∙ saves.reads_back (kind t) under.fast is_id;
   }
 
@@ -155,23 +155,23 @@ module _ (laws : KeepsFast) (t : TableParts) (o : Options) (window : IsWindow o.
 
   -- the steps from the state that the part began with
   pub steps_of : (handed : Option (List ℕ)) (join join' : State) (before after : Devices) (ran : Result (Unit {0}) RunFault) (result : Result Part PartFault) → IsId t.id → begun t o handed ≡ Ok join
-      → Runs (output_from (join_making t o.empty) o.packing join) (λ es. join' ≡ after_all (join_making t o.empty) join es) before after ran → HasSaved result join' → Finishes result ran
-      → (s : State) → begun t o handed ≡ Ok s → TellsRun (output_from (join_making t o.empty) o.packing s) (λ es. HasPart t o result (after_all (join_making t o.empty) s es)) before after result
+      → Runs (output_from (join_fold t o.empty) o.packing join) (λ es. join' ≡ after_all (join_fold t o.empty) join es) before after ran → HasSaved result join' → Finishes result ran
+      → (s : State) → begun t o handed ≡ Ok s → TellsRun (output_from (join_fold t o.empty) o.packing s) (λ es. HasPart t o result (after_all (join_fold t o.empty) s es)) before after result
   steps_of handed join join' before after ran result id began runs saved finishes s is =
       let same : join ≡ s = same_state _ _ (sym began ∙ is) in
       let under : IsUnder t o join = begun-under handed join began in
-      let made : Output = output_from (join_making t o.empty) o.packing join in
-      let stands : List Entry → Type 0 = λ es. HasPart t o result (after_all (join_making t o.empty) join es) in
-      subst (λ (s : State). TellsRun (output_from (join_making t o.empty) o.packing s) (λ es. HasPart t o result (after_all (join_making t o.empty) s es)) before after result) same (record {
+      let made : Output = output_from (join_fold t o.empty) o.packing join in
+      let stands : List Entry → Type 0 = λ es. HasPart t o result (after_all (join_fold t o.empty) join es) in
+      subst (λ (s : State). TellsRun (output_from (join_fold t o.empty) o.packing s) (λ es. HasPart t o result (after_all (join_fold t o.empty) s es)) before after result) same (record {
         ran = ran;
         ended = finished result ran finishes;
-        runs = runs_more made (λ es. join' ≡ after_all (join_making t o.empty) join es) stands before after ran runs
+        runs = runs_more made (λ es. join' ≡ after_all (join_fold t o.empty) join es) stands before after ran runs
             (λ es at. subst (HasPart t o result) at (has_part join' result id (subst (IsUnder t o) (sym at) (after-under join es under)) saved));
       })
 
 -- from the state of a log: what the whole log says
 pub log_of : (t : TableParts) (o : Options) → LogLaws o.window → (before after : Devices) (result : Result Part PartFault) (front : List Entry)
-    → TellsRun (output_from (join_making t o.empty) o.packing (state t.id o.window (kind t) front)) (λ es. HasPart t o result (after_all (join_making t o.empty) (state t.id o.window (kind t) front) es)) before after result
+    → TellsRun (output_from (join_fold t o.empty) o.packing (state t.id o.window (kind t) front)) (λ es. HasPart t o result (after_all (join_fold t o.empty) (state t.id o.window (kind t) front) es)) before after result
     → TellsRun (output_after t o front) (λ es. HasPart t o result (state t.id o.window (kind t) (front ++ es))) before after result
 log_of t o laws before after result front steps =
     let same = output_after-is t o laws t.id front in
@@ -179,7 +179,7 @@ log_of t o laws before after result front steps =
     record {
       ran = steps.ran;
       ended = steps.ended;
-      runs = runs_more (output_after t o front) (λ es. HasPart t o result (after_all (join_making t o.empty) (state t.id o.window (kind t) front) es)) (λ es. HasPart t o result (state t.id o.window (kind t) (front ++ es))) before after steps.ran runs
+      runs = runs_more (output_after t o front) (λ es. HasPart t o result (after_all (join_fold t o.empty) (state t.id o.window (kind t) front) es)) (λ es. HasPart t o result (state t.id o.window (kind t) (front ++ es))) before after steps.ran runs
           (λ es has. subst (HasPart t o result) (state_after t o laws t.id front es) has);
     }
 

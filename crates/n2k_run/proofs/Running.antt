@@ -10,11 +10,11 @@ use Rattle.n2k_run.specs.Blocks.{Held, CallsAre, unanswered}
 use Rattle.n2k_run.specs.Device.{HasFailed}
 use Rattle.n2k_run.specs.Entries.{entries}
 use Rattle.n2k_run.specs.Lines.{whole_lines}
-use Rattle.n2k_run.specs.Making.{Making, after_all, given_from, texts_from, reports_from}
+use Rattle.n2k_run.specs.Fold.{Fold, after_all, given_from, texts_from, reports_from}
 use Rattle.n2k_run.specs.Reading.{ReadsBytes}
 use Rattle.n2k_run.specs.Runs.{AreNumbered, Devices, Ends, Gained, HasDevice, HasFronts, IsCut, IsFull, NoneFailed, Output, ReportsFirst, Runs, output_from}
 use Rattle.n2k_run.specs.Writing.{AppendsFront}
-use Rattle.n2k_run.specs.Inner.Engine.{FailsKept, Made, MovesOn, ReadsNext, Stands, StandsStill, TakesNext, WritesKept}
+use Rattle.n2k_run.specs.Inner.Engine.{FailsPending, Made, MovesOn, ReadsNext, BetweenLines, Unmoved, TakesNext, WritesPending}
 use Rattle.n2k_run.proofs.Calls.{ended_within_one, none_read as no_calls, reads_on}
 use Rattle.n2k_run.proofs.Finding.{calls_end}
 use Rattle.n2k_run.proofs.Folds.{after-append, given-append}
@@ -42,9 +42,9 @@ known_more None P Q follows p = tt
 known_more (Some log) P Q follows p = follows log p
 
 -- A sink failed once the next line had its fault: then something was kept, so that the fault is none of the source.
-pub none_read : {S : Type 0} (m : Making S) (packing : Packing) (s s' : S) (held held' : Held) (text text' report report' : List ℕ) (left₀ left : Option (List ℕ)) (failed₀ failed : ℕ) (w w' e e' : Option (List ℕ)) (fault sink : RunFault)
+pub none_read : {S : Type 0} (m : Fold S) (packing : Packing) (s s' : S) (held held' : Held) (text text' report report' : List ℕ) (left₀ left : Option (List ℕ)) (failed₀ failed : ℕ) (w w' e e' : Option (List ℕ)) (fault sink : RunFault)
     → TakesNext {T = Unit {0}} m packing s s' held held' left₀ left text text' report report' (Err fault) → (fault ≡ Memory → ⊥) → ReadsNext {T = Unit {0}} held' failed₀ failed (Err fault)
-    → WritesKept {T = Unit {0}} text' report' w w' e e' (Err sink) → failed ≡ failed₀
+    → WritesPending {T = Unit {0}} text' report' w w' e e' (Err sink) → failed ≡ failed₀
 none_read m packing s s' held held' text text' report report' left₀ left failed₀ failed w w' e e' Read Write next not_memory reads out = absurd (omega (arith, ap length next.2, out.2))
 none_read m packing s s' held held' text text' report report' left₀ left failed₀ failed w w' e e' Read Report next not_memory reads out = absurd (omega (arith, ap length next.3, out.2))
 none_read m packing s s' held held' text text' report report' left₀ left failed₀ failed w w' e e' Read _ next not_memory reads out = absurd out
@@ -52,7 +52,7 @@ none_read m packing s s' held held' text text' report report' left₀ left faile
 none_read m packing s s' held held' text text' report report' left₀ left failed₀ failed w w' e e' Memory sink next not_memory reads out = reads
 none_read m packing s s' held held' text text' report report' left₀ left failed₀ failed w w' e e' _ sink next not_memory reads out = absurd next
 
-module _ {S : Type 0} (m : Making S) (packing : Packing) (s₀ : S) (before : Devices) where
+module _ {S : Type 0} (m : Fold S) (packing : Packing) (s₀ : S) (before : Devices) where
   abbrev o : Output
   o = output_from m packing s₀
 
@@ -74,7 +74,7 @@ module _ {S : Type 0} (m : Making S) (packing : Packing) (s₀ : S) (before : De
   MadeOf s es text report now = Made m s₀ s es text report before.written now.written before.reported now.reported
 
   -- nothing is made yet
-  pub begins : (held : Held) (text report : List ℕ) → held ≡ record { kept = []; is_passing = false; has_ended = false; reads = 0; line = []; room = 4096 } → text ≡ [] → report ≡ [] → Stands m packing s₀ s₀ held text report before before
+  pub begins : (held : Held) (text report : List ℕ) → held ≡ record { kept = []; is_passing = false; has_ended = false; reads = 0; line = []; room = 4096 } → text ≡ [] → report ≡ [] → BetweenLines m packing s₀ s₀ held text report before before
   begins held text report is none_text none_report =
       let none : unanswered held ≡ [] = rw is refl in
       record {
@@ -114,10 +114,10 @@ module _ {S : Type 0} (m : Making S) (packing : Packing) (s₀ : S) (before : De
     numbered = made.numbered;
   }
 
-  pub writes : (s : S) (held : Held) (text report : List ℕ) (now : Devices) (w' e' : Option (List ℕ)) (fw' fe' : ℕ) (text' report' : List ℕ) → Stands m packing s₀ s held text report before now
+  pub writes : (s : S) (held : Held) (text report : List ℕ) (now : Devices) (w' e' : Option (List ℕ)) (fw' fe' : ℕ) (text' report' : List ℕ) → BetweenLines m packing s₀ s held text report before now
       → Appends now.written w' text × Appends now.reported e' report → (fw' ≡ now.failed_writes) × (fe' ≡ now.failed_reports) → (text' ≡ []) × (report' ≡ [])
-      → Stands m packing s₀ s held text' report' before (record now { written = w'; failed_writes = fw'; reported = e'; failed_reports = fe' })
-  writes s held text report now w' e' fw' fe' text' report' stands out none_failed none_kept =
+      → BetweenLines m packing s₀ s held text' report' before (record now { written = w'; failed_writes = fw'; reported = e'; failed_reports = fe' })
+  writes s held text report now w' e' fw' fe' text' report' stands out none_failed none_pending =
       let after : Devices = record now { written = w'; failed_writes = fw'; reported = e'; failed_reports = fe' } in
       let made : MadeOf s (entries packing stands.front) [] [] after = made_written s _ text report now after stands.made out.0 out.1 in
       record {
@@ -125,7 +125,7 @@ module _ {S : Type 0} (m : Making S) (packing : Packing) (s₀ : S) (before : De
         came = stands.came;
         whole = stands.whole;
         end = stands.end;
-        made = rw (none_kept.0, none_kept.1) made;
+        made = rw (none_pending.0, none_pending.1) made;
         called = stands.called;
         reads = stands.reads;
         none_failed = record { reads = stands.none_failed.reads; writes = none_failed.0 ∙ stands.none_failed.writes; reports = none_failed.1 ∙ stands.none_failed.reports };
@@ -149,7 +149,7 @@ module _ {S : Type 0} (m : Making S) (packing : Packing) (s₀ : S) (before : De
         numbered = λ some. omega (arith, moves.few, made.counted, length-append es (x ∷ []));
       }
 
-  made_still : (s s' : S) (es : List Entry) (text text' report report' : List ℕ) (now : Devices) → MadeOf s es text report now → StandsStill s s' text text' report report' → MadeOf s' es text' report' now
+  made_still : (s s' : S) (es : List Entry) (text text' report report' : List ℕ) (now : Devices) → MadeOf s es text report now → Unmoved s s' text text' report report' → MadeOf s' es text' report' now
   made_still s s' es text text' report report' now made still = rw (still.same_state, still.same_text, still.same_report) made
 
   -- the source after a call, the sinks as they were
@@ -162,9 +162,9 @@ module _ {S : Type 0} (m : Making S) (packing : Packing) (s₀ : S) (before : De
   calls_trans c₀ c c' r₀ r r' (rise, inr p) (rises, inl q) = (omega (arith, rise, rises), inr (omega (arith, p, q, rises)))
   calls_trans c₀ c c' r₀ r r' (rise, inr p) (rises, inr q) = (omega (arith, rise, rises), inr q)
 
-  pub takes : (s s' : S) (held held' : Held) (text text' report report' : List ℕ) (now : Devices) (left : Option (List ℕ)) (calls failed : ℕ) → Stands m packing s₀ s held text report before now → held.has_ended ≡ false
+  pub takes : (s s' : S) (held held' : Held) (text text' report report' : List ℕ) (now : Devices) (left : Option (List ℕ)) (calls failed : ℕ) → BetweenLines m packing s₀ s held text report before now → held.has_ended ≡ false
       → TakesNext {T = Unit {0}} m packing s s' held held' now.left left text text' report report' (Ok tt) → failed ≡ now.failed_reads → CallsAre now.calls calls held.reads held'.reads → ReadsBytes (if held'.has_ended then 1 else 0) now.left left now.calls calls
-      → Stands m packing s₀ s' held' text' report' before (read_on now left calls failed)
+      → BetweenLines m packing s₀ s' held' text' report' before (read_on now left calls failed)
   takes s s' held held' text text' report report' now left calls failed stands on next none_failed called calls_more =
       let calls_are = calls_trans before.calls now.calls calls 0 held.reads held'.reads stands.called called in
       let reads = reads_on held.has_ended _ before.left now.left left before.calls now.calls calls on stands.reads calls_more in
@@ -264,7 +264,7 @@ module _ {S : Type 0} (m : Making S) (packing : Packing) (s₀ : S) (before : De
 
   -- a sink failed
   pub sink_end : (stands : List Entry → Type 0) (s : S) (es : List Entry) (text report : List ℕ) (now after : Devices) (fault : RunFault) → MadeOf s es text report now → Leads packing before.left es → after.failed_reads ≡ before.failed_reads → now.failed_writes ≡ before.failed_writes → now.failed_reports ≡ before.failed_reports
-      → WritesKept {T = Unit {0}} text report now.written after.written now.reported after.reported (Err fault) → FailsKept {T = Unit {0}} now.failed_writes after.failed_writes now.failed_reports after.failed_reports (Err fault)
+      → WritesPending {T = Unit {0}} text report now.written after.written now.reported after.reported (Err fault) → FailsPending {T = Unit {0}} now.failed_writes after.failed_writes now.failed_reports after.failed_reports (Err fault)
       → ReadsBytes 1 before.left after.left before.calls after.calls
       → Runs {T = Unit {0}} o stands before after (Err fault)
   sink_end stands s es text report now after Write made lead reads writes reports out fails calls =
@@ -276,18 +276,18 @@ module _ {S : Type 0} (m : Making S) (packing : Packing) (s₀ : S) (before : De
       (record { reads = reads; writes = fails.1 ∙ writes; reports = subst (λ n. HasFailed n after.failed_reports) reports fails.0 }) calls
   sink_end stands s es text report now after _ made lead reads writes reports out fails calls = absurd out
 
-  pub lead_of : (s : S) (held : Held) (text report : List ℕ) (now : Devices) (stands : Stands m packing s₀ s held text report before now) → Leads packing before.left (entries packing stands.front)
+  pub lead_of : (s : S) (held : Held) (text report : List ℕ) (now : Devices) (stands : BetweenLines m packing s₀ s held text report before now) → Leads packing before.left (entries packing stands.front)
   lead_of s held text report now stands = leads packing before.left now.left stands.front (unanswered held) held.has_ended stands.came stands.whole stands.end
 
   -- the calls up to here, and with those for the next line
-  pub calls_here : (s : S) (held : Held) (text report : List ℕ) (now : Devices) → Stands m packing s₀ s held text report before now → ReadsBytes 1 before.left now.left before.calls now.calls
+  pub calls_here : (s : S) (held : Held) (text report : List ℕ) (now : Devices) → BetweenLines m packing s₀ s held text report before now → ReadsBytes 1 before.left now.left before.calls now.calls
   calls_here s held text report now stands = ended_within_one held.has_ended before.left now.left before.calls now.calls stands.reads
 
-  pub calls_next : (s : S) (held : Held) (text report : List ℕ) (now : Devices) (left : Option (List ℕ)) (calls : ℕ) → Stands m packing s₀ s held text report before now → held.has_ended ≡ false → ReadsBytes 1 now.left left now.calls calls → ReadsBytes 1 before.left left before.calls calls
+  pub calls_next : (s : S) (held : Held) (text report : List ℕ) (now : Devices) (left : Option (List ℕ)) (calls : ℕ) → BetweenLines m packing s₀ s held text report before now → held.has_ended ≡ false → ReadsBytes 1 now.left left now.calls calls → ReadsBytes 1 before.left left before.calls calls
   calls_next s held text report now left calls stands on next = reads_on held.has_ended 1 before.left now.left left before.calls now.calls calls on stands.reads next
 
   -- memory was refused: nothing more is written
-  pub memory_end : (stands : List Entry → Type 0) (s : S) (held : Held) (text report : List ℕ) (now : Devices) (left : Option (List ℕ)) (calls failed : ℕ) → Stands m packing s₀ s held text report before now → held.has_ended ≡ false → ReadsBytes 1 now.left left now.calls calls → failed ≡ now.failed_reads → Runs {T = Unit {0}} o stands before (read_on now left calls failed) (Err Memory)
+  pub memory_end : (stands : List Entry → Type 0) (s : S) (held : Held) (text report : List ℕ) (now : Devices) (left : Option (List ℕ)) (calls failed : ℕ) → BetweenLines m packing s₀ s held text report before now → held.has_ended ≡ false → ReadsBytes 1 now.left left now.calls calls → failed ≡ now.failed_reads → Runs {T = Unit {0}} o stands before (read_on now left calls failed) (Err Memory)
   memory_end stands s held text report now left calls failed stood on next none_failed =
       let es = entries packing stood.front in
       let after = read_on now left calls failed in
@@ -295,7 +295,7 @@ module _ {S : Type 0} (m : Making S) (packing : Packing) (s₀ : S) (before : De
       (record { reads = none_failed ∙ stood.none_failed.reads; writes = stood.none_failed.writes; reports = stood.none_failed.reports }) (calls_next s held text report now left calls stood on next)
 
   -- the end of the log
-  pub whole_end : (s : S) (held : Held) (text report : List ℕ) (now : Devices) (w' e' : Option (List ℕ)) (fw' fe' : ℕ) → Stands m packing s₀ s held text report before now → held.has_ended ≡ true
+  pub whole_end : (s : S) (held : Held) (text report : List ℕ) (now : Devices) (w' e' : Option (List ℕ)) (fw' fe' : ℕ) → BetweenLines m packing s₀ s held text report before now → held.has_ended ≡ true
       → Appends now.written w' text × Appends now.reported e' report → (fw' ≡ now.failed_writes) × (fe' ≡ now.failed_reports)
       → Runs {T = Unit {0}} o (λ es. s ≡ after_all m s₀ es) before (record now { written = w'; failed_writes = fw'; reported = e'; failed_reports = fe' }) (Ok tt)
   whole_end s held text report now w' e' fw' fe' stands ended out none_failed =
@@ -320,8 +320,8 @@ module _ {S : Type 0} (m : Making S) (packing : Packing) (s₀ : S) (before : De
         reads = calls_here s held text report now stands;
       }
 
-  pub last_end : (s : S) (held : Held) (text report : List ℕ) (now : Devices) (w' e' : Option (List ℕ)) (fw' fe' : ℕ) (result : Result (Unit {0}) RunFault) → Stands m packing s₀ s held text report before now → held.has_ended ≡ true
-      → WritesKept text report now.written w' now.reported e' result → FailsKept now.failed_writes fw' now.failed_reports fe' result
+  pub last_end : (s : S) (held : Held) (text report : List ℕ) (now : Devices) (w' e' : Option (List ℕ)) (fw' fe' : ℕ) (result : Result (Unit {0}) RunFault) → BetweenLines m packing s₀ s held text report before now → held.has_ended ≡ true
+      → WritesPending text report now.written w' now.reported e' result → FailsPending now.failed_writes fw' now.failed_reports fe' result
       → Runs o (λ es. s ≡ after_all m s₀ es) before (record now { written = w'; failed_writes = fw'; reported = e'; failed_reports = fe' }) result
   last_end s held text report now w' e' fw' fe' (Ok x) stands ended out fails = whole_end s held text report now w' e' fw' fe' stands ended out fails
   last_end s held text report now w' e' fw' fe' (Err fault) stands ended out fails =
@@ -329,7 +329,7 @@ module _ {S : Type 0} (m : Making S) (packing : Packing) (s₀ : S) (before : De
       sink_end (λ es. s ≡ after_all m s₀ es) s (entries packing stands.front) text report now after fault stands.made (lead_of s held text report now stands) stands.none_failed.reads stands.none_failed.writes stands.none_failed.reports out fails (calls_here s held text report now stands)
 
   -- a fault of the next line, where nothing moved
-  pub still_made : (s s' : S) (held held' : Held) (text text' report report' : List ℕ) (now : Devices) (left : Option (List ℕ)) (calls failed : ℕ) (fault : RunFault) → Stands m packing s₀ s held text report before now → TakesNext {T = Unit {0}} m packing s s' held held' now.left left text text' report report' (Err fault) → (fault ≡ Memory → ⊥)
+  pub still_made : (s s' : S) (held held' : Held) (text text' report report' : List ℕ) (now : Devices) (left : Option (List ℕ)) (calls failed : ℕ) (fault : RunFault) → BetweenLines m packing s₀ s held text report before now → TakesNext {T = Unit {0}} m packing s s' held held' now.left left text text' report report' (Err fault) → (fault ≡ Memory → ⊥)
       → (es : List Entry) → MadeOf s es text report now → MadeOf s' es text' report' (read_on now left calls failed)
   still_made s s' held held' text text' report report' now left calls failed Read stands next not_memory es made = made_still s s' es text text' report report' now made next.1
   still_made s s' held held' text text' report report' now left calls failed TooManyLines stands next not_memory es made = made_still s s' es text text' report report' now made next.2
@@ -337,7 +337,7 @@ module _ {S : Type 0} (m : Making S) (packing : Packing) (s₀ : S) (before : De
   still_made s s' held held' text text' report report' now left calls failed _ stands next not_memory es made = absurd next
 
   -- the source failed, or gave no end: the lines whose end came are written
-  cut_end : (s s' : S) (held held' : Held) (text text' report report' : List ℕ) (now after : Devices) (stands : Stands m packing s₀ s held text report before now) → held.has_ended ≡ false
+  cut_end : (s s' : S) (held held' : Held) (text text' report report' : List ℕ) (now after : Devices) (stands : BetweenLines m packing s₀ s held text report before now) → held.has_ended ≡ false
       → (next : TakesNext {T = Unit {0}} m packing s s' held held' now.left after.left text text' report report' (Err Read))
       → MadeOf s' (entries packing stands.front) [] [] after
       → IsCut o (λ es. s' ≡ after_all m s₀ es) before after
@@ -354,7 +354,7 @@ module _ {S : Type 0} (m : Making S) (packing : Packing) (s₀ : S) (before : De
       }
 
   -- no more lines are counted, and one more came
-  full_end : (s s' : S) (held held' : Held) (text text' report report' : List ℕ) (now after : Devices) (stands : Stands m packing s₀ s held text report before now) → held.has_ended ≡ false
+  full_end : (s s' : S) (held held' : Held) (text text' report report' : List ℕ) (now after : Devices) (stands : BetweenLines m packing s₀ s held text report before now) → held.has_ended ≡ false
       → (next : TakesNext {T = Unit {0}} m packing s s' held held' now.left after.left text text' report report' (Err TooManyLines))
       → MadeOf s' (entries packing stands.front) [] [] after
       → IsFull o (λ es. s' ≡ after_all m s₀ es) before after
@@ -369,7 +369,7 @@ module _ {S : Type 0} (m : Making S) (packing : Packing) (s₀ : S) (before : De
         holds = made.state;
       }
 
-  fault_ends : (s s' : S) (held held' : Held) (text text' report report' : List ℕ) (now after : Devices) (fault : RunFault) (stands : Stands m packing s₀ s held text report before now) → held.has_ended ≡ false
+  fault_ends : (s s' : S) (held held' : Held) (text text' report report' : List ℕ) (now after : Devices) (fault : RunFault) (stands : BetweenLines m packing s₀ s held text report before now) → held.has_ended ≡ false
       → (next : TakesNext {T = Unit {0}} m packing s s' held held' now.left after.left text text' report report' (Err fault)) → (fault ≡ Memory → ⊥)
       → MadeOf s' (entries packing stands.front) [] [] after
       → Ends {T = Unit {0}} o (λ es. s' ≡ after_all m s₀ es) before after (Err fault)
@@ -390,7 +390,7 @@ module _ {S : Type 0} (m : Making S) (packing : Packing) (s₀ : S) (before : De
   fault_device now after s s' held held' text text' report report' Report none hold called next reads = absurd next
   fault_device now after s s' held held' text text' report report' _ none hold called next reads = record { reads = reads ∙ none.reads; writes = hold.0 ∙ none.writes; reports = hold.1 ∙ none.reports }
 
-  pub fault_end : (s s' : S) (held held' : Held) (text text' report report' : List ℕ) (now : Devices) (left : Option (List ℕ)) (calls failed : ℕ) (w' e' : Option (List ℕ)) (fw' fe' : ℕ) (fault : RunFault) → Stands m packing s₀ s held text report before now → held.has_ended ≡ false
+  pub fault_end : (s s' : S) (held held' : Held) (text text' report report' : List ℕ) (now : Devices) (left : Option (List ℕ)) (calls failed : ℕ) (w' e' : Option (List ℕ)) (fw' fe' : ℕ) (fault : RunFault) → BetweenLines m packing s₀ s held text report before now → held.has_ended ≡ false
       → TakesNext {T = Unit {0}} m packing s s' held held' now.left left text text' report report' (Err fault) → (fault ≡ Memory → ⊥) → ReadsNext {T = Unit {0}} held' now.failed_reads failed (Err fault) → CallsAre now.calls calls held.reads held'.reads → ReadsBytes 1 now.left left now.calls calls
       → Appends now.written w' text' × Appends now.reported e' report' → (fw' ≡ now.failed_writes) × (fe' ≡ now.failed_reports)
       → Runs {T = Unit {0}} o (λ es. s' ≡ after_all m s₀ es) before (record now { left = left; calls = calls; failed_reads = failed; written = w'; failed_writes = fw'; reported = e'; failed_reports = fe' }) (Err fault)

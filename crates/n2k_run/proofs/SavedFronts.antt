@@ -7,25 +7,26 @@ use Rattle.n2k_wire.specs.Entry.{entry, IsEntry}
 use Rattle.n2k_table.specs.declared.definition.Kind.{Kind}
 use Rattle.n2k_table.specs.Table.{TableParts, kind}
 use Rattle.n2k_join.specs.Counts.{most_lines}
-use Rattle.n2k_join.specs.Resumed.{judged}
+use Rattle.n2k_join.specs.Resumed.{resumed}
 use Rattle.n2k_join.specs.Saved.{IsId, state_text}
 use Rattle.n2k_join.specs.State.{state}
-use Rattle.n2k_join.specs.Window.{Rule, IsWindow}
+use Rattle.n2k_join.specs.Window.{Window, IsWindow}
 use Rattle.n2k_run.specs.declared.options.Options.{Options}
 use Rattle.n2k_run.specs.Entries.{entries}
 use Rattle.n2k_run.specs.Lines.{lines}
-use Rattle.n2k_run.specs.Parts.{begun, save, state_after}
+use Rattle.n2k_run.specs.Headline.{save, state_after}
+use Rattle.n2k_run.specs.Parts.{begun}
 
 -- the laws that it follows from
 pub record SavedLaws : Type 0 where
   pub are_entries : (line : List ℕ) (packing : Packing) → IsEntry (entry line packing)
-  pub log_back : (kind : ℕ → Option Kind) (id : List ℕ) (rule : Rule) (es : List Entry) → IsWindow rule.window → IsId id → All IsEntry es → length es ≤ most_lines → judged kind id rule (state_text (state id rule kind es)) ≡ Ok (state id rule kind es)
+  pub log_back : (kind : ℕ → Option Kind) (id : List ℕ) (w : Window) (es : List Entry) → IsWindow w.lines → IsId id → All IsEntry es → length es ≤ most_lines → resumed kind id w (state_text (state id w kind es)) ≡ Ok (state id w kind es)
 
 all_are : SavedLaws → (packing : Packing) (texts : List (List ℕ)) → All IsEntry (map (λ line. entry line packing) texts)
 all_are laws packing [] = All-nil IsEntry
 all_are laws packing (text ∷ texts) =
     All-cons IsEntry (entry text packing) (map (λ line. entry line packing) texts) (laws.are_entries text packing) (all_are laws packing texts)
 
-pub front_back : SavedLaws → (t : TableParts) (o : Options) (front : List ℕ) → IsWindow o.window.window → IsId t.id → length (entries o.packing front) ≤ most_lines → begun t o (Some (save t o front)) ≡ Ok (state_after t o front)
+pub front_back : SavedLaws → (t : TableParts) (o : Options) (front : List ℕ) → IsWindow o.window.lines → IsId t.id → length (entries o.packing front) ≤ most_lines → begun t o (Some (save t o front)) ≡ Ok (state_after t o front)
 unfolding save
 front_back laws t o front window id few = laws.log_back (kind t) t.id o.window (entries o.packing front) window id (all_are laws o.packing (lines front)) few

@@ -19,8 +19,8 @@ use Rattle.n2k_wire.specs.Steps.{◌>>=◌}
 use Rattle.n2k_wire.specs.Texts.{Appends, candump_line, candump_parts}
 use Rattle.n2k_table.specs.declared.definition.Kind.{Kind}
 use Rattle.n2k_table.specs.declared.definition.Kind.TheVariants.{Single, Fast}
-use Rattle.n2k_join.specs.declared.split_fault.SplitFault.{SplitFault}
-use Rattle.n2k_join.specs.declared.split_fault.SplitFault.TheVariants as unsplit
+use Rattle.n2k_join.specs.declared.fault.SplitFault.{SplitFault}
+use Rattle.n2k_join.specs.declared.fault.SplitFault.TheVariants as unsplit
 use Rattle.n2k_join.specs.Pieces.{Sequences, last_piece, piece, piece_bytes, pieces_as, pieces_by, raised, sent_byte, stream_of}
 use Rattle.n2k_join.specs.Splitter.{refusal}
 use Rattle.n2k_run.specs.declared.frames.Outcome.{Outcome}

@@ -15,19 +15,19 @@ use Rattle.n2k_table.specs.declared.definition.Kind.{Kind}
 use Rattle.n2k_table.specs.declared.definition.Kind.TheVariants.{Single, Fast}
 use Rattle.n2k_table.specs.Table.{TableParts, kind}
 use Rattle.n2k_join.specs.declared.counts.Counts.{Counts}
-use Rattle.n2k_join.specs.declared.split_fault.SplitFault.{SplitFault}
-use Rattle.n2k_join.specs.declared.split_fault.SplitFault.TheVariants as unsplit
+use Rattle.n2k_join.specs.declared.fault.SplitFault.{SplitFault}
+use Rattle.n2k_join.specs.declared.fault.SplitFault.TheVariants as unsplit
 use Rattle.n2k_join.specs.Counts.{most_lines}
 use Rattle.n2k_join.specs.Pieces.{Sequences, first_sequences, frames_of_sending, pieces_by, raised, sendings, sendings_after, sequence_after, split, split_from, stream_of, written}
 use Rattle.n2k_join.specs.Splitter.{refusal}
 use Rattle.n2k_run.specs.declared.frames.Outcome.TheVariants.{Skipped, Written, Bad}
-use Rattle.n2k_run.specs.FramesOut.{frame_counts_of, frame_lines, frame_reports_from, frame_texts, frames_output, interface_cause, is_refused, is_sent, line_cause, message_cause, sending_text, split_cause, split_messages}
-use Rattle.n2k_run.specs.Making.{after_all, texts_from, reports_from}
+use Rattle.n2k_run.specs.FramesOut.{frame_counts_of, frame_lines, frame_reports_from, frame_texts, frames_output, interface_cause, is_refused, is_written, line_cause, message_cause, sending_text, split_cause, split_messages}
+use Rattle.n2k_run.specs.Fold.{after_all, texts_from, reports_from}
 use Rattle.n2k_run.specs.Reports.{cause_report}
 use Rattle.n2k_run.specs.Runs.{output_from}
 use Rattle.n2k_run.specs.Inner.Engine.{MovesOn}
 use Rattle.n2k_run.proofs.Ending.{output_same}
-use Rattle.n2k_run.specs.Inner.Sending.{Sent, counted, held_after, line_text, outcome, outcome_by, sending}
+use Rattle.n2k_run.specs.Inner.Sending.{Sent, frame_counts_after, held_after, line_text, outcome, outcome_by, sending_fold}
 
 -- a refusal is never for want of memory
 refusal_by : (k : Option Kind) (m : PacketParts) → refusal k m ≡ Some unsplit.Memory → ⊥
@@ -54,9 +54,9 @@ both_lists a b c d e f = ap (λ t. t ++ c) e ∙ ap (λ t. b ++ t) f
 
 module _ (kind : ℕ → Option Kind) (interface : Option (List ℕ)) where
   -- a line was taken
-  pub moves : (s : Sent) (held' : Sequences) (m b : ℕ) (e : Entry) (t t' r r' : List ℕ) → held' ≡ held_after kind s.held e → m ≡ s.counts.messages + (if is_sent kind interface e then 1 else 0) → b ≡ s.counts.bad + (if is_refused kind interface e then 1 else 0)
+  pub moves : (s : Sent) (held' : Sequences) (m b : ℕ) (e : Entry) (t t' r r' : List ℕ) → held' ≡ held_after kind s.held e → m ≡ s.counts.messages + (if is_written kind interface e then 1 else 0) → b ≡ s.counts.bad + (if is_refused kind interface e then 1 else 0)
       → t' ≡ t ++ line_text kind interface s.held e → r' ≡ r ++ cause_report (s.counts.lines + 1) (line_cause kind interface e) → s.counts.lines < most_lines
-      → MovesOn (sending kind interface) s (record { held = held'; counts = record s.counts { lines = s.counts.lines + 1; messages = m; bad = b } }) e t t' r r'
+      → MovesOn (sending_fold kind interface) s (record { held = held'; counts = record s.counts { lines = s.counts.lines + 1; messages = m; bad = b } }) e t t' r r'
   moves s held' m b e t t' r r' held messages bad text report few = record {
     state_after = rw (held, messages, bad) refl;
     text_after = text;
@@ -68,7 +68,7 @@ module _ (kind : ℕ → Option Kind) (interface : Option (List ℕ)) where
   -- a bad line has that cause, and isn't sent
   record IsBadLine (e : Entry) (cause : BadCause) : Type 0 where
     cause_is : line_cause kind interface e ≡ Some cause
-    not_sent : is_sent kind interface e ≡ false
+    not_sent : is_written kind interface e ≡ false
 
   bad_line : (e : Entry) (cause : BadCause) → outcome kind interface e ≡ Bad cause → IsBadLine e cause
   bad_line lines.Skip cause is = absurd (skipped_bad is)
@@ -84,7 +84,7 @@ module _ (kind : ℕ → Option Kind) (interface : Option (List ℕ)) where
   -- a bad line was taken
   pub moves_bad : (s : Sent) (held' : Sequences) (e : Entry) (cause : BadCause) (t t' r r' : List ℕ) → outcome kind interface e ≡ Bad cause → held' ≡ held_after kind s.held e
       → t' ≡ t ++ line_text kind interface s.held e → r' ≡ r ++ cause_report (s.counts.lines + 1) (Some cause) → s.counts.lines < most_lines
-      → MovesOn (sending kind interface) s (record { held = held'; counts = record s.counts { lines = s.counts.lines + 1; messages = s.counts.messages; bad = s.counts.bad + 1 } }) e t t' r r'
+      → MovesOn (sending_fold kind interface) s (record { held = held'; counts = record s.counts { lines = s.counts.lines + 1; messages = s.counts.messages; bad = s.counts.bad + 1 } }) e t t' r r'
   moves_bad s held' e cause t t' r r' is held text report few =
       let bad = bad_line e cause is in
       moves s held' s.counts.messages (s.counts.bad + 1) e t t' r r' held (rw bad.not_sent (omega arith)) (rw bad.cause_is refl) text (rw bad.cause_is report) few
@@ -128,58 +128,58 @@ module _ (kind : ℕ → Option Kind) (interface : Option (List ℕ)) where
     stood earlier c = record { held = held_by first_sequences earlier; counts = c }
 
     -- a message, whether it is split or refused
-    texts_whole : (earlier : List PacketParts) (c : Counts) (m : PacketParts) (es : List Entry) → ((front : List PacketParts) → texts_from (sending kind interface) (stood front c) es ≡ flat_map (sending_text kind interface) (sendings_after front (split_messages kind es)))
+    texts_whole : (earlier : List PacketParts) (c : Counts) (m : PacketParts) (es : List Entry) → ((front : List PacketParts) → texts_from (sending_fold kind interface) (stood front c) es ≡ flat_map (sending_text kind interface) (sendings_after front (split_messages kind es)))
         → (refused : Option SplitFault) → (refused ≡ Some unsplit.Memory → ⊥)
-        → cond (is_none (option_or (split_cause refused) (interface_cause interface m))) (frame_texts interface (pieces_by kind m (held_by first_sequences earlier (stream_of m.id)))) [] ++ texts_from (sending kind interface) (record { held = cond (is_none refused) (raised kind (held_by first_sequences earlier) (stream_of m.id)) (held_by first_sequences earlier); counts = c }) es
+        → cond (is_none (option_or (split_cause refused) (interface_cause interface m))) (frame_texts interface (pieces_by kind m (held_by first_sequences earlier (stream_of m.id)))) [] ++ texts_from (sending_fold kind interface) (record { held = cond (is_none refused) (raised kind (held_by first_sequences earlier) (stream_of m.id)) (held_by first_sequences earlier); counts = c }) es
         ≡ flat_map (sending_text kind interface) (sendings_after earlier (cons_option (cond (is_none refused) (Some m) None) (split_messages kind es)))
     texts_whole earlier c m es rest None never =
         let here = ap (λ ps. cond (is_none (interface_cause interface m)) (frame_texts interface ps) []) (pieces_same earlier m) in
-        let next = ap (λ held. texts_from (sending kind interface) (record { held = held; counts = c }) es) (sym (held_by-push first_sequences earlier m)) in
+        let next = ap (λ held. texts_from (sending_fold kind interface) (record { held = held; counts = c }) es) (sym (held_by-push first_sequences earlier m)) in
         both_lists _ _ _ _ here (next ∙ rest (earlier ++ m ∷ []))
     texts_whole earlier c m es rest (Some unsplit.Unknown) never = rest earlier
     texts_whole earlier c m es rest (Some unsplit.TooLong) never = rest earlier
     texts_whole earlier c m es rest (Some unsplit.Memory) never = absurd (never refl)
 
-    texts_after : (earlier : List PacketParts) (c : Counts) (es : List Entry) → texts_from (sending kind interface) (stood earlier c) es ≡ flat_map (sending_text kind interface) (sendings_after earlier (split_messages kind es))
+    texts_after : (earlier : List PacketParts) (c : Counts) (es : List Entry) → texts_from (sending_fold kind interface) (stood earlier c) es ≡ flat_map (sending_text kind interface) (sendings_after earlier (split_messages kind es))
     texts_after earlier c [] = refl
-    texts_after earlier c (lines.Skip ∷ es) = texts_after earlier (counted kind interface c lines.Skip) es
-    texts_after earlier c (lines.Bad cause ∷ es) = texts_after earlier (counted kind interface c (lines.Bad cause)) es
-    texts_after earlier c (lines.Frame packet ∷ es) = texts_after earlier (counted kind interface c (lines.Frame packet)) es
+    texts_after earlier c (lines.Skip ∷ es) = texts_after earlier (frame_counts_after kind interface c lines.Skip) es
+    texts_after earlier c (lines.Bad cause ∷ es) = texts_after earlier (frame_counts_after kind interface c (lines.Bad cause)) es
+    texts_after earlier c (lines.Frame packet ∷ es) = texts_after earlier (frame_counts_after kind interface c (lines.Frame packet)) es
     texts_after earlier c (lines.Whole m ∷ es) =
-        texts_whole earlier (counted kind interface c (lines.Whole m)) m es (λ front. texts_after front (counted kind interface c (lines.Whole m)) es) (refusal (kind m.id.pgn) m) (refusal_by (kind m.id.pgn) m)
+        texts_whole earlier (frame_counts_after kind interface c (lines.Whole m)) m es (λ front. texts_after front (frame_counts_after kind interface c (lines.Whole m)) es) (refusal (kind m.id.pgn) m) (refusal_by (kind m.id.pgn) m)
 
-    pub texts_are : (c : Counts) (es : List Entry) → texts_from (sending kind interface) (record { held = first_sequences; counts = c }) es ≡ frame_lines kind interface es
+    pub texts_are : (c : Counts) (es : List Entry) → texts_from (sending_fold kind interface) (record { held = first_sequences; counts = c }) es ≡ frame_lines kind interface es
     texts_are c es = texts_after [] c es
 
-  pub reports_are : (s : Sent) (n : ℕ) (es : List Entry) → n ≡ s.counts.lines + 1 → reports_from (sending kind interface) s es ≡ frame_reports_from n kind interface es
+  pub reports_are : (s : Sent) (n : ℕ) (es : List Entry) → n ≡ s.counts.lines + 1 → reports_from (sending_fold kind interface) s es ≡ frame_reports_from n kind interface es
   reports_are s n [] is = refl
   reports_are s n (e ∷ es) is =
-      rw is (ap (λ r. cause_report (s.counts.lines + 1) (line_cause kind interface e) ++ r) (reports_are (record { held = held_after kind s.held e; counts = counted kind interface s.counts e }) (s.counts.lines + 1 + 1) es refl))
+      rw is (ap (λ r. cause_report (s.counts.lines + 1) (line_cause kind interface e) ++ r) (reports_are (record { held = held_after kind s.held e; counts = frame_counts_after kind interface s.counts e }) (s.counts.lines + 1 + 1) es refl))
 
   one_more : (test : Entry → Bool) (n : ℕ) (e : Entry) (es : List Entry) → (n + cond (test e) 1 0) + count_by test es ≡ n + count_by test (e ∷ es)
   one_more test n e es = omega (arith, sum_by-cons (λ x. cond (test x) 1 0) e es)
 
-  counts_after : (s : Sent) (es : List Entry) → (after_all (sending kind interface) s es).counts ≡ record s.counts {
+  counts_after : (s : Sent) (es : List Entry) → (after_all (sending_fold kind interface) s es).counts ≡ record s.counts {
     lines = s.counts.lines + length es;
-    messages = s.counts.messages + count_by (is_sent kind interface) es;
+    messages = s.counts.messages + count_by (is_written kind interface) es;
     bad = s.counts.bad + count_by (is_refused kind interface) es;
   }
   counts_after s [] = counts_are s.counts.lines s.counts.messages s.counts.bad _ _ _ (omega arith) (omega arith) (omega arith) s.counts
   counts_after s (e ∷ es) =
-      counts_after (record { held = held_after kind s.held e; counts = counted kind interface s.counts e }) es
-      ∙ counts_are _ _ _ _ _ _ (omega arith) (one_more (is_sent kind interface) s.counts.messages e es) (one_more (is_refused kind interface) s.counts.bad e es) s.counts
+      counts_after (record { held = held_after kind s.held e; counts = frame_counts_after kind interface s.counts e }) es
+      ∙ counts_are _ _ _ _ _ _ (omega arith) (one_more (is_written kind interface) s.counts.messages e es) (one_more (is_refused kind interface) s.counts.bad e es) s.counts
 
   -- a run from the start
-  pub counts_are_those : (held : Sequences) (es : List Entry) → (after_all (sending kind interface) (record { held = held; counts = record { lines = 0; messages = 0; bad = 0; unknown = 0; broken = 0; held = 0 } }) es).counts ≡ frame_counts_of kind interface es
+  pub counts_are_those : (held : Sequences) (es : List Entry) → (after_all (sending_fold kind interface) (record { held = held; counts = record { lines = 0; messages = 0; bad = 0; unknown = 0; broken = 0; held = 0 } }) es).counts ≡ frame_counts_of kind interface es
   counts_are_those held es =
       let none : Counts = record { lines = 0; messages = 0; bad = 0; unknown = 0; broken = 0; held = 0 } in
       counts_after (record { held = held; counts = none }) es ∙ counts_are _ _ _ _ _ _ (omega arith) (omega arith) (omega arith) none
 
 -- what a run makes from the start is what the whole log says
 pub output_is : (t : TableParts) (interface : Option (List ℕ)) (held : Sequences) → held ≡ first_sequences → ((ms : List PacketParts) → split (kind t) ms ≡ written (kind t) ms)
-    → output_from (sending (kind t) interface) Whole (record { held = held; counts = record { lines = 0; messages = 0; bad = 0; unknown = 0; broken = 0; held = 0 } }) ≡ frames_output t interface
+    → output_from (sending_fold (kind t) interface) Whole (record { held = held; counts = record { lines = 0; messages = 0; bad = 0; unknown = 0; broken = 0; held = 0 } }) ≡ frames_output t interface
 output_is t interface held is law =
     let none : Counts = record { lines = 0; messages = 0; bad = 0; unknown = 0; broken = 0; held = 0 } in
     output_same Whole 0 _ (frame_lines (kind t) interface) _ (frame_reports_from 1 (kind t) interface)
-    (λ es. ap (λ held. texts_from (sending (kind t) interface) (record { held = held; counts = none }) es) is ∙ texts_are (kind t) interface law none es)
+    (λ es. ap (λ held. texts_from (sending_fold (kind t) interface) (record { held = held; counts = none }) es) is ∙ texts_are (kind t) interface law none es)
     (λ es. reports_are (kind t) interface (record { held = held; counts = none }) 1 es refl)

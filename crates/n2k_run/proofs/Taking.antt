@@ -10,8 +10,8 @@ use Rattle.n2k_run.specs.declared.blocks.Next.TheVariants.{Line, Long}
 use Rattle.n2k_run.specs.declared.fault.RunFault.{RunFault}
 use Rattle.n2k_run.specs.declared.fault.RunFault.TheVariants.{Memory, TooManyLines}
 use Rattle.n2k_run.specs.Blocks.{Held, Answers}
-use Rattle.n2k_run.specs.Making.{Making}
-use Rattle.n2k_run.specs.Inner.Engine.{NextEntry, Takes, TakesNext}
+use Rattle.n2k_run.specs.Fold.{Fold}
+use Rattle.n2k_run.specs.Inner.Engine.{NextEntry, TakesEntry, TakesNext}
 
 -- a line over the limit has the entry of one
 long_entry : (line : List ℕ) (packing : Packing) → longest_line < length line → Bad causes.Long ≡ entry line packing
@@ -20,17 +20,17 @@ long_entry line packing long =
     let test : nat_lt longest_line (length line) ≡ true = lt-ltb longest_line (length line) long in
     rw test refl
 
-module _ {S : Type 0} (m : Making S) (packing : Packing) (s s' : S) (old new : Held) (left₀ left : Option (List ℕ)) (text text' report report' : List ℕ) where
-  takes_entry : {T : Type 0} (x : Entry) (result : Result T RunFault) → NextEntry packing old new left₀ left x → Takes m s s' x text text' report report' result → TakesNext m packing s s' old new left₀ left text text' report report' result
+module _ {S : Type 0} (m : Fold S) (packing : Packing) (s s' : S) (old new : Held) (left₀ left : Option (List ℕ)) (text text' report report' : List ℕ) where
+  takes_entry : {T : Type 0} (x : Entry) (result : Result T RunFault) → NextEntry packing old new left₀ left x → TakesEntry m s s' x text text' report report' result → TakesNext m packing s s' old new left₀ left text text' report report' result
   takes_entry x (Ok y) next takes = inl (x, next, takes)
   takes_entry x (Err Memory) next takes = tt
   takes_entry x (Err TooManyLines) next takes = (x, next, takes.0, takes.1)
   takes_entry x _ next takes = absurd takes
 
-  pub takes_line : {T : Type 0} (line : Bor (List ℕ)) (x : Entry) (calls₀ calls : ℕ) (result : Result T RunFault) → Answers old new left₀ left calls₀ calls (Ok (Line line)) → x ≡ entry line.now packing → Takes m s s' x text text' report report' result → TakesNext m packing s s' old new left₀ left text text' report report' result
+  pub takes_line : {T : Type 0} (line : Bor (List ℕ)) (x : Entry) (calls₀ calls : ℕ) (result : Result T RunFault) → Answers old new left₀ left calls₀ calls (Ok (Line line)) → x ≡ entry line.now packing → TakesEntry m s s' x text text' report report' result → TakesNext m packing s s' old new left₀ left text text' report report' result
   takes_line line x calls₀ calls result a is takes =
       takes_entry x result (record { came = a.came; given = a.given; line = line.now; first = a.answer.0; entry_is = is }) takes
 
-  pub takes_long : {T : Type 0} (calls₀ calls : ℕ) (result : Result T RunFault) → Answers old new left₀ left calls₀ calls (Ok Long) → Takes m s s' (Bad causes.Long) text text' report report' result → TakesNext m packing s s' old new left₀ left text text' report report' result
+  pub takes_long : {T : Type 0} (calls₀ calls : ℕ) (result : Result T RunFault) → Answers old new left₀ left calls₀ calls (Ok Long) → TakesEntry m s s' (Bad causes.Long) text text' report report' result → TakesNext m packing s s' old new left₀ left text text' report report' result
   takes_long calls₀ calls result a takes =
       takes_entry (Bad causes.Long) result (record { came = a.came; given = a.given; line = a.answer.0; first = a.answer.1; entry_is = long_entry a.answer.0 packing a.answer.2 }) takes

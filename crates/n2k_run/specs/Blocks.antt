@@ -40,7 +40,7 @@ HasFeed bytes = (piece : List ℕ) × (rest : List ℕ) × (bytes ≡ piece ++ l
 abbrev pub HasNoFeed : List ℕ → Type 0
 HasNoFeed bytes = All (λ byte. is_line_feed byte ≡ false) bytes
 
--- The bytes begin with this line, and the rest stands after it: it ends at a line feed, or at the end of the source,
+-- The bytes begin with this line, and the rest comes after it: it ends at a line feed, or at the end of the source,
 -- where nothing is left.
 pub record FirstLine (bytes line rest : List ℕ) (has_ended : Bool) (left : Option (List ℕ)) : Type 0 where
   pub piece : List ℕ
@@ -49,14 +49,14 @@ pub record FirstLine (bytes line rest : List ℕ) (has_ended : Bool) (left : Opt
   pub ends : ((has_ended ≡ false) × (bytes ≡ piece ++ line_feed ∷ rest))
       ⊎ (IsAtEnd left × (has_ended ≡ true) × (bytes ≡ piece) × (0 < length piece) × (rest ≡ []))
 
--- such a line that is over the limit
+-- The bytes begin with a line that is over the limit.
 abbrev pub FirstLong : List ℕ → List ℕ → Bool → Option (List ℕ) → Type 0
 FirstLong bytes rest has_ended left =
     (line : List ℕ) × FirstLine bytes line rest has_ended left × (longest_line < length line)
 
 -- Nothing was answered: the bytes are what they were, or a front of them that no line of the limit can have was
 -- replaced by what stands for it.
-pub record Replaces (whole bytes : List ℕ) : Type 0 where
+pub record ReplacesLong (whole bytes : List ℕ) : Type 0 where
   pub front : List ℕ
   pub rest : List ℕ
   pub whole_is : whole ≡ front ++ rest
@@ -65,7 +65,7 @@ pub record Replaces (whole bytes : List ℕ) : Type 0 where
   pub long : longest_line + 1 < length front
 
 abbrev pub Stays : List ℕ → List ℕ → Type 0
-Stays whole bytes = (bytes ≡ whole) ⊎ Replaces whole bytes
+Stays whole bytes = (bytes ≡ whole) ⊎ ReplacesLong whole bytes
 
 -- What an answer says of all the bytes that it was given of: those unanswered before, and those that came.
 abbrev pub GivesNext : List ℕ → List ℕ → Bool → Option (List ℕ) → Result Next Failed → Type 0
@@ -75,7 +75,7 @@ GivesNext whole rest has_ended left (Ok Long) = FirstLong whole rest has_ended l
 GivesNext whole rest has_ended left (Ok End) = IsAtEnd left × (has_ended ≡ true) × (whole ≡ []) × (rest ≡ [])
 GivesNext whole rest has_ended left (Err failed) = HasNoFeed whole × Stays whole rest
 
--- the calls of a source are those that were counted, unless their number stands at its greatest
+-- the calls of a source are those that were counted, unless their number is at its greatest
 abbrev pub CallsAre : ℕ → ℕ → ℕ → ℕ → Type 0
 CallsAre calls₀ calls reads₀ reads = (reads₀ ≤ reads) × ((calls + reads₀ ≡ calls₀ + reads) ⊎ (2 ^ 64 - 1 ≤ calls))
 
@@ -102,7 +102,7 @@ AnswersLine bytes rest (Ok Long) = (long : List ℕ) × (lines bytes ≡ long �
 AnswersLine bytes rest (Ok End) = (bytes ≡ []) × (rest ≡ [])
 AnswersLine bytes rest (Err failed) = Stays bytes rest
 
--- that, where the source's bytes are known
+-- an answer, where the source's bytes are known
 abbrev pub AnswersKnown : Held → Held → Option (List ℕ) → Option (List ℕ) → Result Next Failed → Type 0
 AnswersKnown old new left₀ left result =
     IfSome left₀ (λ bytes. (rest : List ℕ) × (left ≡ Some rest)

@@ -11,7 +11,7 @@ use Rattle.n2k_join.specs.Messages.{message, broken, cause_in, entry_at, numbers
 use Rattle.n2k_join.specs.State.{State, next_line, step_given, step_after}
 use Rattle.n2k_run.specs.declared.options.Options.{Options}
 use Rattle.n2k_run.specs.Entries.{entries}
-use Rattle.n2k_run.specs.Making.{Making}
+use Rattle.n2k_run.specs.Fold.{Fold}
 use Rattle.n2k_run.specs.Reports.{line_report}
 use Rattle.n2k_run.specs.Runs.{Output}
 
@@ -61,8 +61,8 @@ output_after t o front = record {
 }
 
 -- what a run makes of an entry at a time, on a join of any state
-abbrev pub join_making : TableParts → Bool → Making State
-join_making t empty = record {
+abbrev pub join_fold : TableParts → Bool → Fold State
+join_fold t empty = record {
   text = λ s e. message_line t empty (step_given (kind t) s e).message;
   report = λ s e. line_report (next_line s) (step_given (kind t) s e).broken (step_given (kind t) s e).cause;
   after = step_after (kind t);

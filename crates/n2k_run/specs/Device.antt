@@ -1,4 +1,4 @@
--- What a call of a device says of failure: each failed call is counted, and a device's count tells whether it failed.
+-- What a call of a device says of failure: each failed call is counted, and a device's count shows whether it failed.
 use Rattle.std.specs.Prelude.{◌≡◌, ◌⊎◌, ◌==◌, ◌<◌, ◌+◌, ◌-◌, ◌^◌, ℕ, if◌then◌else◌, Result, MatchResult}
 
 -- one more failed call; at 2^64 - 1 the number stays
@@ -9,6 +9,6 @@ one_more failed = if failed == 2 ^ 64 - 1 then failed else failed + 1
 abbrev pub CountsFailure : {T E : Type 0} → ℕ → ℕ → Result T E → Type 0
 CountsFailure old new result = MatchResult result (λ _. new ≡ old) (λ _. new ≡ one_more old)
 
--- a device failed in a call where the number of its failed calls rose or stands at 2^64 - 1
+-- a device failed in a call where the number of its failed calls rose or is at 2^64 - 1
 abbrev pub HasFailed : ℕ → ℕ → Type 0
 HasFailed old new = (old < new) ⊎ (old ≡ 2 ^ 64 - 1)

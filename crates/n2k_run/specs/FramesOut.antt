@@ -17,8 +17,8 @@ use Rattle.n2k_wire.specs.Texts.{plain_text, candump_parts, candump_text}
 use Rattle.n2k_table.specs.declared.definition.Kind.{Kind}
 use Rattle.n2k_table.specs.Table.{TableParts, kind}
 use Rattle.n2k_join.specs.declared.counts.Counts.{Counts}
-use Rattle.n2k_join.specs.declared.split_fault.SplitFault.{SplitFault}
-use Rattle.n2k_join.specs.declared.split_fault.SplitFault.TheVariants as unsplit
+use Rattle.n2k_join.specs.declared.fault.SplitFault.{SplitFault}
+use Rattle.n2k_join.specs.declared.fault.SplitFault.TheVariants as unsplit
 use Rattle.n2k_join.specs.Pieces.{Sending, sendings, frames_of_sending}
 use Rattle.n2k_join.specs.Splitter.{refusal}
 use Rattle.n2k_run.specs.Entries.{entries}
@@ -29,7 +29,7 @@ use Rattle.n2k_run.specs.Runs.{Output}
 abbrev pub interface_of : Option (Bor (List ℕ)) → Option (List ℕ)
 interface_of handed = option_map (λ (name : Bor (List ℕ)). name.now) handed
 
--- it has the form of one
+-- the name of an interface has the form of one
 abbrev pub IsInterface : Option (List ℕ) → Type 0
 IsInterface interface = IfSome interface (λ name. IsTrue (is_interface name))
 
@@ -60,7 +60,7 @@ interface_cause (Some interface) m = candump_cause (candump_parts m)
 abbrev pub message_cause : (ℕ → Option Kind) → Option (List ℕ) → PacketParts → Option BadCause
 message_cause kind interface m = option_or (split_cause (refusal (kind m.id.pgn) m)) (interface_cause interface m)
 
--- why a line is bad; a frame stands where a message is wanted
+-- why a line is bad; a frame comes where a message is wanted
 abbrev pub line_cause : (ℕ → Option Kind) → Option (List ℕ) → Entry → Option BadCause
 line_cause kind interface lines.Skip = None
 line_cause kind interface (lines.Bad cause) = Some cause
@@ -101,11 +101,11 @@ frame_reports_from first kind interface es =
     flat_map (λ numbered. cause_report numbered.0 (line_cause kind interface numbered.1)) (enumerate_from first es)
 
 -- a line that is a message, and is written
-abbrev pub is_sent : (ℕ → Option Kind) → Option (List ℕ) → Entry → Bool
-is_sent kind interface lines.Skip = false
-is_sent kind interface (lines.Bad cause) = false
-is_sent kind interface (lines.Frame packet) = false
-is_sent kind interface (lines.Whole packet) = is_none (message_cause kind interface packet)
+abbrev pub is_written : (ℕ → Option Kind) → Option (List ℕ) → Entry → Bool
+is_written kind interface lines.Skip = false
+is_written kind interface (lines.Bad cause) = false
+is_written kind interface (lines.Frame packet) = false
+is_written kind interface (lines.Whole packet) = is_none (message_cause kind interface packet)
 
 -- a line that has a cause
 abbrev pub is_refused : (ℕ → Option Kind) → Option (List ℕ) → Entry → Bool
@@ -115,7 +115,7 @@ is_refused kind interface e = is_some (line_cause kind interface e)
 abbrev pub frame_counts_of : (ℕ → Option Kind) → Option (List ℕ) → List Entry → Counts
 frame_counts_of kind interface es = record {
   lines = length es;
-  messages = count_by (is_sent kind interface) es;
+  messages = count_by (is_written kind interface) es;
   bad = count_by (is_refused kind interface) es;
   unknown = 0;
   broken = 0;

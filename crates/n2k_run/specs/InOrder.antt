@@ -1,4 +1,4 @@
--- What is printed in order, the rule for a log that was taken at the bus: each line tells a message that is one by
+-- What is printed in order, the rule for a log that was taken at the bus: each line is of a message that is one by
 -- itself, or one of frames that the log has by rising number, with none of their key between.
 use Rattle.std.specs.Prelude.{◌≡◌, ◌⊎◌, ℕ, true, List, [], ◌∷◌, ◌++◌, All, Some}
 use Rattle.std.specs.Io.KnownBytes.{Appends}
@@ -22,7 +22,7 @@ pub record ComesAlone (t : TableParts) (es : List Entry) (m : PacketParts) : Typ
   pub is : alone (kind t) entry ≡ Some m
 
 -- The message is made of these frames: the log has them by rising number, from 0 to the last, with no other frame of
--- their key between them; they are those that its length asks for; and it has their data, with the stamp, the
+-- their key between them; they are those that its length needs; and it has their data, with the stamp, the
 -- priority and the identifier of the last.
 pub record ComesInOrder (t : TableParts) (es : List Entry) (m : PacketParts) : Type 0 where
   pub key : Key

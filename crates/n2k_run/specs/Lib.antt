@@ -3,11 +3,12 @@ pub mod Decoded
 pub mod Device
 pub mod Entries
 pub mod Fault
+pub mod Fold
 pub mod FramesOut
+pub mod Headline
 pub mod InOrder
 pub mod Inner
 pub mod Lines
-pub mod Making
 pub mod Memory
 pub mod Parts
 pub mod Plain

@@ -6,7 +6,7 @@ use Rattle.std.specs.List.{slice_split, suffix_len}
 abbrev pub line_feed : ℕ
 line_feed = 10
 
--- the byte that may stand before it
+-- the byte that may come before it
 abbrev pub carriage_return : ℕ
 carriage_return = 13
 
@@ -29,6 +29,6 @@ without_return piece =
 abbrev pub lines : List ℕ → List (List ℕ)
 lines bytes = map without_return (without_last_empty (slice_split is_line_feed bytes))
 
--- the bytes up to and with the last line feed: all but those that stand after it, none where there is no line feed
+-- the bytes up to and with the last line feed: all but those that come after it, none where there is no line feed
 abbrev pub whole_lines : List ℕ → List ℕ
 whole_lines bytes = take (length bytes - suffix_len (λ byte. not (is_line_feed byte)) bytes) bytes

@@ -7,7 +7,7 @@ pub record Supply : Type 0 where
   -- the bytes that it has left
   pub left : List ℕ
   -- how many bytes a call moves at most
-  pub at_once : ℕ
+  pub chunk : ℕ
   -- which call from here on fails, counted from 1; 0 where none does
   pub fails_at : ℕ
   -- how many calls were made
@@ -20,7 +20,7 @@ pub record Store : Type 0 where
   -- the bytes that it holds
   pub held : List ℕ
   -- how many bytes a call moves at most
-  pub at_once : ℕ
+  pub chunk : ℕ
   -- which call from here on fails, counted from 1; 0 where none does
   pub fails_at : ℕ
   -- how many calls have failed

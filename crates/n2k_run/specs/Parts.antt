@@ -6,11 +6,11 @@ use Rattle.std.specs.Io.{IsEmptyOrEndsWith}
 use Rattle.std.specs.Io.KnownBytes.{Appends, Consumes, IsAtEnd}
 use Rattle.n2k_wire.specs.declared.entry.Entry.{Entry}
 use Rattle.n2k_table.specs.Table.{TableParts, kind}
-use Rattle.n2k_join.specs.declared.state_fault.StateFault.{StateFault}
-use Rattle.n2k_join.specs.declared.state_fault.StateFault.TheVariants as state_faults
+use Rattle.n2k_join.specs.declared.fault.StateFault.{StateFault}
+use Rattle.n2k_join.specs.declared.fault.StateFault.TheVariants as state_faults
 use Rattle.n2k_join.specs.Counts.{most_lines}
 use Rattle.n2k_join.specs.Messages.{counts}
-use Rattle.n2k_join.specs.Resumed.{judged}
+use Rattle.n2k_join.specs.Resumed.{resumed}
 use Rattle.n2k_join.specs.Saved.{state_text}
 use Rattle.n2k_join.specs.State.{State, state}
 use Rattle.n2k_run.specs.declared.fault.RunFault.{RunFault}
@@ -19,10 +19,11 @@ use Rattle.n2k_run.specs.declared.options.Options.{Options}
 use Rattle.n2k_run.specs.declared.part.Part.{Part}
 use Rattle.n2k_run.specs.declared.part.PartFault.{PartFault}
 use Rattle.n2k_run.specs.declared.part.PartFault.TheVariants.{State as Refused, Stopped, Run, Memory}
-use Rattle.n2k_run.specs.Decoded.{join_making, out, out_of, output_after, reports, reports_of}
+use Rattle.n2k_run.specs.Decoded.{join_fold, out, out_of, output_after, reports, reports_of}
 use Rattle.n2k_run.specs.Entries.{entries}
 use Rattle.n2k_run.specs.Lines.{line_feed, whole_lines}
-use Rattle.n2k_run.specs.Making.{after_all}
+use Rattle.n2k_run.specs.Fold.{after_all}
+use Rattle.n2k_run.specs.Headline.{save, state_after}
 use Rattle.n2k_run.specs.Reading.{most_reads}
 use Rattle.n2k_run.specs.Runs.{Devices, Output, Runs, output_from}
 use Rattle.n2k_run.specs.Writing.{AppendsFront}
@@ -33,19 +34,11 @@ use Rattle.n2k_run.specs.Writing.{AppendsFront}
 -- spell under the table and the window, or the reason why they are refused.
 abbrev pub begun : TableParts → Options → Option (List ℕ) → Result State StateFault
 begun t o None = Ok (state t.id o.window (kind t) [])
-begun t o (Some bytes) = judged (kind t) t.id o.window bytes
-
--- the state that a log leads to
-abbrev pub state_after : TableParts → Options → List ℕ → State
-state_after t o log = state t.id o.window (kind t) (entries o.packing log)
-
--- what is saved after a log
-unfoldable pub save : TableParts → Options → List ℕ → List ℕ
-save t o log = state_text (state_after t o log)
+begun t o (Some bytes) = resumed (kind t) t.id o.window bytes
 
 -- ---- what a part answers
 
--- The part that leads to this state: its text is saved, its counts are told, and the next part can go on from it.
+-- The part that leads to this state: its text is saved, its counts are given, and the next part can go on from it.
 pub record IsPartOf (t : TableParts) (o : Options) (s : State) (part : Part) : Type 0 where
   pub saved : part.state.items ≡ state_text s
   pub counted : part.counts ≡ s.counts
@@ -59,30 +52,30 @@ HasPart t o (Err (Refused fault)) s = Unit {0}
 HasPart t o (Err (Run fault)) s = Unit {0}
 HasPart t o (Err Memory) s = Unit {0}
 
--- after such a run the join stands at a line, and can be saved
-abbrev pub StandsAtLine : Result (Unit {0}) RunFault → Type 0
-StandsAtLine (Ok x) = Unit {0}
-StandsAtLine (Err run_faults.Read) = Unit {0}
-StandsAtLine (Err run_faults.TooManyLines) = Unit {0}
-StandsAtLine _ = ⊥
+-- after such a run the join is at a line, and can be saved
+abbrev pub EndsAtLine : Result (Unit {0}) RunFault → Type 0
+EndsAtLine (Ok x) = Unit {0}
+EndsAtLine (Err run_faults.Read) = Unit {0}
+EndsAtLine (Err run_faults.TooManyLines) = Unit {0}
+EndsAtLine _ = ⊥
 
--- How the run ended of which an answer tells: so as the answer says, or at a line where its state could not be saved.
+-- How the run of an answer ended: as the answer says, or at a line where its state could not be saved.
 -- Where the state that was handed in is refused, nothing was run, and this is as after want of memory.
 abbrev pub Ran : Result Part PartFault → Result (Unit {0}) RunFault → Type 0
 Ran (Ok part) ran = ran ≡ Ok tt
 Ran (Err (Stopped fault part)) ran = ran ≡ Err fault
 Ran (Err (Run fault)) ran = ran ≡ Err fault
 Ran (Err (Refused fault)) ran = ran ≡ Err run_faults.Memory
-Ran (Err Memory) ran = StandsAtLine ran
+Ran (Err Memory) ran = EndsAtLine ran
 
--- what every run promises holds of the run of which an answer tells
-pub record TellsRun (o : Output) (stands : List Entry → Type 0) (before after : Devices)
+-- what every run promises holds of the run of an answer
+pub record TellsRun (o : Output) (also : List Entry → Type 0) (before after : Devices)
     (result : Result Part PartFault) : Type 0 where
   pub ran : Result (Unit {0}) RunFault
   pub ended : Ran result ran
-  pub runs : Runs o stands before after ran
+  pub runs : Runs o also before after ran
 
--- Each kind of refusal has its faults: a Part is answered where the run stands at a line, and none where it is spent.
+-- Each kind of refusal has its faults: a Part is answered where the run is at a line, and none where it is spent.
 abbrev pub IsOfKind : Result Part PartFault → Type 0
 IsOfKind (Err (Stopped fault part)) = (fault ≡ run_faults.Read) ⊎ (fault ≡ run_faults.TooManyLines)
 IsOfKind (Err (Run fault)) = (fault ≡ run_faults.Write) ⊎ ((fault ≡ run_faults.Report) ⊎ (fault ≡ run_faults.Memory))
@@ -90,7 +83,7 @@ IsOfKind (Err (Refused fault)) = Unit {0}
 IsOfKind (Err Memory) = Unit {0}
 IsOfKind (Ok part) = Unit {0}
 
--- A state that was handed in is refused, by the first fault that stands in it or for want of memory; else it is the
+-- A state that was handed in is refused, by the first fault that is in it or for want of memory; else it is the
 -- one that the part begins with.
 abbrev pub BeginsBy : TableParts → Options → Option (List ℕ) → Result Part PartFault → Type 0
 BeginsBy t o handed (Err (Refused fault)) =
@@ -114,7 +107,7 @@ pub record IsFront (t : TableParts) (o : Options) (front : List ℕ) (handed : O
   pub whole_lines : IsEmptyOrEndsWith front line_feed
   pub leads_to : begun t o handed ≡ Ok (state_after t o front)
 
--- After the front and `more` the whole stands: the sinks gained exactly what the output and the reports of both have
+-- After the front and `more` both are printed: the sinks gained exactly what the output and the reports of both have
 -- after those of the front, and the Part is what is saved, and what is counted, after both.
 pub record GoesOn (t : TableParts) (o : Options) (front more : List ℕ) (before after : Devices)
     (part : Part) : Type 0 where
@@ -123,10 +116,10 @@ pub record GoesOn (t : TableParts) (o : Options) (front more : List ℕ) (before
   pub output : out t o (front ++ more) ≡ out t o front ++ text
   pub report : List ℕ
   pub reported : Appends before.reported after.reported report
-  pub told : reports t o (front ++ more) ≡ reports t o front ++ report
+  pub all_reports : reports t o (front ++ more) ≡ reports t o front ++ report
   pub saved : part.state.items ≡ save t o (front ++ more)
   pub counted : part.counts ≡ counts o.window (kind t) (entries o.packing (front ++ more))
-  -- and where both are empty or end with a line, the log can be cut here too
+  -- where both are empty or end with a line, the log can be cut here too
   pub reads_back : begun t o (Some part.state.items) ≡ Ok (state_after t o (front ++ more))
 
 -- the sinks gained fronts of what the output and the reports of both have after those of the front
@@ -136,10 +129,10 @@ pub record GoesOnPartly (t : TableParts) (o : Options) (front more : List ℕ) (
   pub output : out t o (front ++ more) ≡ out t o front ++ text
   pub report : List ℕ
   pub reported : AppendsFront before.reported after.reported report
-  pub told : reports t o (front ++ more) ≡ reports t o front ++ report
+  pub all_reports : reports t o (front ++ more) ≡ reports t o front ++ report
 
 -- After TooManyLines: the front and the lines that were taken of the log are as many as are counted, the log has
--- more, and what stands is whole up to the last of them.
+-- more, and what is printed is whole up to the last of them.
 pub record GoesOnToLimit (t : TableParts) (o : Options) (front log : List ℕ) (before after : Devices)
     (part : Part) : Type 0 where
   pub taken : List ℕ
@@ -148,9 +141,9 @@ pub record GoesOnToLimit (t : TableParts) (o : Options) (front log : List ℕ) (
   pub more : 0 < length rest
   pub whole_lines : IsEmptyOrEndsWith taken line_feed
   pub full : length (entries o.packing (front ++ taken)) ≡ most_lines
-  pub stands : GoesOn t o front taken before after part
+  pub goes_on : GoesOn t o front taken before after part
 
--- What a part answers after this front of a log. With Ok the whole stands; after Read what stands is whole up to the
+-- What a part answers after this front of a log. With Ok all is printed; after Read what is printed is whole up to the
 -- last line that came, and after TooManyLines up to the last that is counted.
 abbrev pub Continues : TableParts → Options → List ℕ → Devices → Devices → Result Part PartFault → Type 0
 Continues t o front before after (Ok part) =
@@ -168,7 +161,7 @@ Continues t o front before after _ = IfSome before.left (λ log. GoesOnPartly t 
 -- From a state that is handed in, or, where there is none, from a log's beginning.
 pub record RunsFrom (t : TableParts) (o : Options) (handed : Option (List ℕ)) (before after : Devices)
     (result : Result Part PartFault) : Type 0 where
-  -- Each kind of refusal has its faults. A state is refused for what stands in it, or for want of memory, and then no
+  -- Each kind of refusal has its faults. A state is refused for what is in it, or for want of memory, and then no
   -- device is touched.
   pub fault_kinds : IsOfKind result
   pub begins : BeginsBy t o handed result
@@ -176,8 +169,8 @@ pub record RunsFrom (t : TableParts) (o : Options) (handed : Option (List ℕ)) 
   -- From any state that reads, whether or not a log leads to it: the texts and reports of the steps of the part's
   -- entries.
   pub steps : (s : State) → begun t o handed ≡ Ok s
-      → TellsRun (output_from (join_making t o.empty) o.packing s)
-      (λ es. HasPart t o result (after_all (join_making t o.empty) s es)) before after result
+      → TellsRun (output_from (join_fold t o.empty) o.packing s)
+      (λ es. HasPart t o result (after_all (join_fold t o.empty) s es)) before after result
   -- From the state that these entries lead to: what the whole log says of the lines after them.
   pub log : (front : List Entry) → begun t o handed ≡ Ok (state t.id o.window (kind t) front)
       → TellsRun (output_after t o front) (λ es. HasPart t o result (state t.id o.window (kind t) (front ++ es)))
@@ -189,31 +182,25 @@ pub record RunsFrom (t : TableParts) (o : Options) (handed : Option (List ℕ)) 
 -- ---- parts that lie in memory
 
 -- the entries of the lines of parts, in their order
-abbrev pub entries_of : Options → List (List ℕ) → List Entry
-entries_of o parts = flat_map (entries o.packing) parts
-
--- a log was cut into these parts after lines: each but the last is empty or ends with a line
-abbrev pub AreCutAtLines : List (List ℕ) → Type 0
-AreCutAtLines [] = Unit {0}
-AreCutAtLines (part ∷ []) = Unit {0}
-AreCutAtLines (part ∷ next ∷ parts) = IsEmptyOrEndsWith part line_feed × AreCutAtLines (next ∷ parts)
+abbrev pub entries_of_parts : Options → List (List ℕ) → List Entry
+entries_of_parts o parts = flat_map (entries o.packing) parts
 
 -- the devices with a source that has these bytes left, was called so often, and failed so often
 abbrev pub with_source : Devices → Option (List ℕ) → ℕ → ℕ → Devices
 with_source devices left calls failed_reads = record devices { left = left; calls = calls; failed_reads = failed_reads }
 
 -- these parts were taken whole: the sinks gained what their entries make, and no call of them failed
-pub record Takes (t : TableParts) (o : Options) (parts : List (List ℕ)) (before after : Devices) : Type 0 where
-  pub printed : Appends before.written after.written (out_of t o (entries_of o parts))
-  pub reported : Appends before.reported after.reported (reports_of t o (entries_of o parts))
+pub record TakesParts (t : TableParts) (o : Options) (parts : List (List ℕ)) (before after : Devices) : Type 0 where
+  pub printed : Appends before.written after.written (out_of t o (entries_of_parts o parts))
+  pub reported : Appends before.reported after.reported (reports_of t o (entries_of_parts o parts))
   pub writes : after.failed_writes ≡ before.failed_writes
   pub report_writes : after.failed_reports ≡ before.failed_reports
 
--- and the Part is where these lead to
+-- these parts were taken whole, and the Part is what they lead to
 pub record TakesAll (t : TableParts) (o : Options) (parts : List (List ℕ)) (before after : Devices)
     (part : Part) : Type 0 where
-  pub taken : Takes t o parts before after
-  pub leads_to : IsPartOf t o (state t.id o.window (kind t) (entries_of o parts)) part
+  pub taken : TakesParts t o parts before after
+  pub leads_to : IsPartOf t o (state t.id o.window (kind t) (entries_of_parts o parts)) part
 
 -- The run of a part that lies in memory, after these entries: no call of its source failed. Where the state can't be
 -- read for want of memory, nothing of the part was written.
@@ -221,7 +208,7 @@ pub record RunsPart (t : TableParts) (o : Options) (front : List Entry) (met : L
     (result : Result Part PartFault) : Type 0 where
   pub left : Option (List ℕ)
   pub calls : ℕ
-  pub told : TellsRun (output_after t o front) (λ es. HasPart t o result (state t.id o.window (kind t) (front ++ es)))
+  pub run : TellsRun (output_after t o front) (λ es. HasPart t o result (state t.id o.window (kind t) (front ++ es)))
       (with_source before (Some met) 0 0) (with_source after left calls 0) result
   pub untouched : OnRefusal result (after ≡ before)
 
@@ -233,8 +220,8 @@ pub record EndsAtPart (t : TableParts) (o : Options) (parts : List (List ℕ)) (
   pub later : List (List ℕ)
   pub parts_are : parts ≡ done ++ met ∷ later
   pub between : Devices
-  pub taken : Takes t o done before between
-  pub runs : RunsPart t o (entries_of o done) met between after result
+  pub taken : TakesParts t o done before between
+  pub runs : RunsPart t o (entries_of_parts o done) met between after result
 
 -- how a run over parts ends; before the first part memory may be refused
 abbrev pub EndsParts : TableParts → Options → List (List ℕ) → Devices → Devices → Result Part PartFault → Type 0
@@ -250,11 +237,3 @@ AreWithinReads parts = All (λ part. length part + 1 < most_reads) parts
 abbrev pub IsNotRead : Result Part PartFault → Type 0
 IsNotRead (Err (Stopped fault part)) = fault ≡ run_faults.Read → ⊥
 IsNotRead _ = Unit {0}
-
--- the whole log was printed: the sinks gained its output and its reports, and the Part is what is saved and counted
--- after it
-pub record PrintsLog (t : TableParts) (o : Options) (log : List ℕ) (before after : Devices) (part : Part) : Type 0 where
-  pub printed : Appends before.written after.written (out t o log)
-  pub reported : Appends before.reported after.reported (reports t o log)
-  pub saved : part.state.items ≡ save t o log
-  pub counted : part.counts ≡ counts o.window (kind t) (entries o.packing log)

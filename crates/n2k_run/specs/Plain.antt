@@ -11,14 +11,14 @@ use Rattle.n2k_run.specs.Reports.{bad_reports_from}
 use Rattle.n2k_run.specs.Runs.{Output}
 
 -- the plain line of a frame or of a whole message
-abbrev pub plain_line : Entry → List ℕ
-plain_line (Frame packet) = plain_text packet
-plain_line (Whole packet) = plain_text packet
-plain_line _ = []
+abbrev pub entry_line : Entry → List ℕ
+entry_line (Frame packet) = plain_text packet
+entry_line (Whole packet) = plain_text packet
+entry_line _ = []
 
 -- the plain lines of these entries, in their order
 abbrev pub plain_lines : List Entry → List ℕ
-plain_lines es = flat_map plain_line es
+plain_lines es = flat_map entry_line es
 
 -- a report for each bad line
 abbrev pub plain_reports_of : List Entry → List ℕ

@@ -5,7 +5,7 @@ use Rattle.n2k_wire.specs.declared.entry.BadCause.{BadCause}
 use Rattle.n2k_wire.specs.declared.entry.BadCause.TheVariants as causes
 use Rattle.n2k_wire.specs.declared.entry.Entry.{Entry}
 use Rattle.n2k_wire.specs.declared.entry.Entry.TheVariants.{Bad}
-use Rattle.n2k_join.specs.declared.broken.Broken.{Broken}
+use Rattle.n2k_join.specs.declared.step.Broken.{Broken}
 use Rattle.n2k_join.specs.declared.counts.Counts.{Counts}
 
 -- a cause's number and word

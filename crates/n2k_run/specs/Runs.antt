@@ -11,7 +11,7 @@ use Rattle.n2k_run.specs.declared.fault.RunFault.TheVariants.{Read, Write, Repor
 use Rattle.n2k_run.specs.Device.{HasFailed}
 use Rattle.n2k_run.specs.Entries.{entries}
 use Rattle.n2k_run.specs.Lines.{whole_lines}
-use Rattle.n2k_run.specs.Making.{Making, texts_from, reports_from}
+use Rattle.n2k_run.specs.Fold.{Fold, texts_from, reports_from}
 use Rattle.n2k_run.specs.Reading.{OutlastsReads, ReadsBytes}
 use Rattle.n2k_run.specs.Writing.{AppendsFront}
 
@@ -25,7 +25,7 @@ pub record Output : Type 0 where
   pub reports : List Entry → List ℕ
 
 -- what a run makes from a state on
-abbrev pub output_from : {S : Type 0} → Making S → Packing → S → Output
+abbrev pub output_from : {S : Type 0} → Fold S → Packing → S → Output
 output_from m packing s = record {
   packing = packing;
   counted = m.lines s;
@@ -47,7 +47,7 @@ pub record Devices : Type 0 where
   pub reported : Option (List ℕ)
   pub failed_reports : ℕ
 
--- those, in the order in which a run takes them
+-- the devices of a run, in the order in which it takes them
 abbrev pub devices : Option (List ℕ) → ℕ → ℕ → Option (List ℕ) → ℕ → Option (List ℕ) → ℕ → Devices
 devices left calls failed_reads written failed_writes reported failed_reports = record {
   left = left;
@@ -66,7 +66,7 @@ seen r w e reader writer reporter =
     devices (r.remaining reader) (r.calls reader) (r.failed_calls reader) (w.contents writer) (w.failed_calls writer)
     (e.contents reporter) (e.failed_calls reporter)
 
--- those of runs over parts in memory, of which each has a source of its own: the sinks alone
+-- the devices of runs over parts in memory, of which each has a source of its own: the sinks alone
 abbrev pub sinks_seen : {W E : Type 0} → OfSink W → OfSink E → W → E → Devices
 sinks_seen w e writer reporter =
     devices None 0 0 (w.contents writer) (w.failed_calls writer) (e.contents reporter) (e.failed_calls reporter)
@@ -81,42 +81,42 @@ abbrev pub AreNumbered : ℕ → List Entry → Type 0
 AreNumbered counted es = 0 < length es → counted + length es ≤ most_lines
 
 -- The run came to its end: bytes came until the source had no more, and of all their entries the texts and reports were
--- written. Where the source's bytes are known, these are all that it had. `stands` says what else holds where a run has
+-- written. Where the source's bytes are known, these are all that it had. `also` says what else holds where a run has
 -- taken these entries.
-pub record IsWhole (o : Output) (stands : List Entry → Type 0) (before after : Devices) : Type 0 where
+pub record IsWhole (o : Output) (also : List Entry → Type 0) (before after : Devices) : Type 0 where
   pub came : List ℕ
   pub given : Consumes before.left after.left came
   pub at_end : IsAtEnd after.left
   pub numbered : AreNumbered o.counted (entries o.packing came)
   pub gained : Gained o before after (entries o.packing came)
-  pub holds : stands (entries o.packing came)
+  pub holds : also (entries o.packing came)
 
--- After Read the run stands after the last line whose LF came: it has taken the lines up to there, and no more.
-pub record IsCut (o : Output) (stands : List Entry → Type 0) (before after : Devices) : Type 0 where
+-- After Read the run is after the last line whose LF came: it has taken the lines up to there, and no more.
+pub record IsCut (o : Output) (also : List Entry → Type 0) (before after : Devices) : Type 0 where
   pub came : List ℕ
   pub given : Consumes before.left after.left came
   pub numbered : AreNumbered o.counted (entries o.packing (whole_lines came))
   pub gained : Gained o before after (entries o.packing (whole_lines came))
-  pub holds : stands (entries o.packing (whole_lines came))
+  pub holds : also (entries o.packing (whole_lines came))
 
--- After TooManyLines the run stands at the last number: it has taken as many lines as are counted, and the bytes, where
+-- After TooManyLines the run is at the last number: it has taken as many lines as are counted, and the bytes, where
 -- they are known, have one more.
-pub record IsFull (o : Output) (stands : List Entry → Type 0) (before after : Devices) : Type 0 where
+pub record IsFull (o : Output) (also : List Entry → Type 0) (before after : Devices) : Type 0 where
   pub taken : List Entry
   pub full : o.counted + length taken ≡ most_lines
   pub left : IfSome before.left (λ log. (next : Entry) × (more : List Entry)
       × (entries o.packing log ≡ taken ++ next ∷ more))
   pub gained : Gained o before after taken
-  pub holds : stands taken
+  pub holds : also taken
 
 -- how a run ends
 abbrev pub Ends : {T : Type 0} → Output → (List Entry → Type 0) → Devices → Devices → Result T RunFault → Type 0
-Ends o stands before after (Ok x) = IsWhole o stands before after
-Ends o stands before after (Err Read) = IsCut o stands before after
-Ends o stands before after (Err TooManyLines) = IsFull o stands before after
-Ends o stands before after (Err Write) = Unit {0}
-Ends o stands before after (Err Report) = Unit {0}
-Ends o stands before after (Err Memory) = Unit {0}
+Ends o also before after (Ok x) = IsWhole o also before after
+Ends o also before after (Err Read) = IsCut o also before after
+Ends o also before after (Err TooManyLines) = IsFull o also before after
+Ends o also before after (Err Write) = Unit {0}
+Ends o also before after (Err Report) = Unit {0}
+Ends o also before after (Err Memory) = Unit {0}
 
 -- the sinks gained a front of the texts and a front of the reports of the whole log
 pub record HasFronts (o : Output) (before after : Devices) (log : List ℕ) : Type 0 where
@@ -124,7 +124,7 @@ pub record HasFronts (o : Output) (before after : Devices) (log : List ℕ) : Ty
   pub reported : AppendsFront before.reported after.reported (o.reports (entries o.packing log))
 
 -- Reports go before texts: the reports of the lines up to some line are all written, and what is written of texts is a
--- front of those of the same lines. So no text stands where the report of its own line or of an earlier one is missing.
+-- front of those of the same lines. So no text is written where the report of its own line or of an earlier one is missing.
 pub record ReportsFirst (o : Output) (before after : Devices) (log : List ℕ) : Type 0 where
   pub taken : List Entry
   pub left : List Entry
@@ -158,7 +158,7 @@ pub record ReportFails (before after : Devices) : Type 0 where
   pub reports : HasFailed before.failed_reports after.failed_reports
 
 -- A fault of a device is that device's own, or for Read that no end was found by 10^12 reads, and no other device
--- failed. No failure of a device is told as another fault, or as none.
+-- failed. No failure of a device is reported as another fault, or as none.
 abbrev pub HasDevice : {T : Type 0} → Devices → Devices → Result T RunFault → Type 0
 HasDevice before after (Err Read) = ReadFails before after
 HasDevice before after (Err Write) = WriteFails before after
@@ -166,9 +166,9 @@ HasDevice before after (Err Report) = ReportFails before after
 HasDevice before after _ = NoneFailed before after
 
 -- what every run promises
-pub record Runs {T : Type 0} (o : Output) (stands : List Entry → Type 0) (before after : Devices)
+pub record Runs {T : Type 0} (o : Output) (also : List Entry → Type 0) (before after : Devices)
     (result : Result T RunFault) : Type 0 where
-  pub ends : Ends o stands before after result
+  pub ends : Ends o also before after result
   pub fronts : OnErr result (IfSome before.left (λ log. HasFronts o before after log))
   pub reports_first : IfSome before.left (λ log. ReportsFirst o before after log)
   pub device : HasDevice before after result

@@ -26,7 +26,7 @@ pub enum Next<'a> {
     End,
 }
 
-// What was found at the front of the unanswered bytes. A line is then lent by `line`.
+/// What was found at the front of the unanswered bytes. A line is then lent by `line`.
 enum Found {
     Line,
     Long,
@@ -41,7 +41,7 @@ pub struct Blocks {
     line_end: usize,
     start: usize,
     end: usize,
-    // Where the first LF of what is kept stands, counted from `start`.
+    /// The place of the first LF of what is kept, counted from `start`.
     feed: Option<usize>,
     is_passing: bool,
     has_ended: bool,
@@ -53,14 +53,14 @@ impl Model for Blocks {
 
     ghost Value = { Held };
 
-    ghost use Rattle.n2k_run.specs.Inner.Block.{HasPlaces, held_of};
+    ghost use Rattle.n2k_run.specs.Inner.Block.{HasPlaces, block_view};
 
-    ghost view = { held_of };
+    ghost view = { block_view };
 
     ghost invariant = { HasPlaces };
 }
 
-// The piece, without one carriage return at its end.
+/// The piece, without one carriage return at its end.
 fn without_return(piece: &[u8]) -> &[u8]
     ensures { result.now ≡ without_return piece.now }
 {
@@ -70,7 +70,7 @@ fn without_return(piece: &[u8]) -> &[u8]
     }
 }
 
-// Where the first LF stands.
+/// The place of the first LF.
 fn line_end(bytes: &[u8]) -> Option<usize>
     ensures { FindsEnd bytes.now result }
 {
@@ -84,7 +84,7 @@ impl Blocks {
     ghost use Rattle.n2k_run.specs.contracts.blocks.Blocks.{the_row};
     ghost use Rattle.n2k_run.specs.Blocks.{unanswered, HasFeed, HasNoFeed, Answers, AnswersKnown};
     ghost use Rattle.n2k_run.specs.Device.{CountsFailure, HasFailed, one_more};
-    ghost use Rattle.n2k_run.specs.Inner.Block.{AnswersFound, Finds, Judges, MakesRoom};
+    ghost use Rattle.n2k_run.specs.Inner.Block.{AnswersFound, FindsLine, Judges, MakesRoom};
     ghost use Rattle.n2k_run.specs.Reading.{most_reads};
     ghost use Rattle.n2k_run.specs.Inner.Reading.{Gains};
 
@@ -135,7 +135,7 @@ impl Blocks {
     }
 
     /// The next line of the bytes that are unanswered, and then of those that the source has. It is read where no
-    /// line's end is held, by calls that each ask for as much as the block takes: at most 10^12 over all answers.
+    /// line's end is held, by calls that each have room for as much as the block takes: at most 10^12 over all answers.
     /// `Failed` where the source failed in this call, or where these reads are used up. No line is lost by it: a
     /// later call goes on where this one stood. It takes no memory.
     ///
@@ -166,14 +166,14 @@ impl Blocks {
         }
     }
 
-    // The line that was found last.
+    /// The line that was found last.
     fn line(&self) -> &[u8]
         ensures { result.now ≡ self.now.line }
     {
         &self.block[self.line_start..self.line_end]
     }
 
-    // Finds the next line, which mostly is held, and reads where it isn't.
+    /// Finds the next line, which mostly is held, and reads where it isn't.
     #[inline(always)]
     fn find_line<R: Source>(&mut self, reader: &mut R) -> Result<Found, Failed>
         ensures found { AnswersFound self.old self.new (R.remaining reader.old) (R.remaining reader.new)
@@ -189,7 +189,7 @@ impl Blocks {
         }
     }
 
-    // Reads until a line is found. It stands apart from `find_line`, since few lines come this way.
+    /// Reads until a line is found. It is a function of its own, since few lines come this way.
     #[inline(never)]
     fn read_line<R: Source>(&mut self, reader: &mut R) -> Result<Found, Failed>
         ensures found { AnswersFound self.old self.new (R.remaining reader.old) (R.remaining reader.new)
@@ -213,11 +213,11 @@ impl Blocks {
         }
     }
 
-    // Takes the first line, where its end is held.
+    /// Takes the first line, where its end is held.
     fn take_line(&mut self) -> Option<Found>
         ensures none { IfNone result ((self.new ≡ self.old) × HasNoFeed self.old.kept) }
         ensures found { IfSome result (λ found. (left : Option (List ℕ))
-            → Finds (unanswered self.old) self.new left found) }
+            → FindsLine (unanswered self.old) self.new left found) }
         ensures reads { self.new.reads ≡ self.old.reads }
     {
         let size = self.feed?;
@@ -225,10 +225,10 @@ impl Blocks {
         Some(self.answer(size, 1))
     }
 
-    // Takes all that is left at the end of the source, where no line ends in it.
+    /// Takes all that is left at the end of the source, where no line ends in it.
     fn take_rest(&mut self) -> Found
         requires { HasNoFeed self.old.kept }
-        ensures found { (left : Option (List ℕ)) → IsAtEnd left → Finds (unanswered self.old) self.new left result }
+        ensures found { (left : Option (List ℕ)) → IsAtEnd left → FindsLine (unanswered self.old) self.new left result }
         ensures ended { self.new.has_ended ≡ true }
         ensures reads { self.new.reads ≡ self.old.reads }
     {
@@ -240,7 +240,7 @@ impl Blocks {
         self.answer(size, 0)
     }
 
-    // Answers the first `size` bytes that are kept, and lets go of `past` bytes after them.
+    /// Answers the first `size` bytes that are kept, and lets go of `past` bytes after them.
     fn answer(&mut self, size: usize, past: usize) -> Found
         requires { size + past ≤ length self.old.kept }
         ensures found { Judges self.old.is_passing (without_return (take size self.old.kept)) self.new.line result }
@@ -259,7 +259,7 @@ impl Blocks {
         if is_long { Found::Long } else { Found::Line }
     }
 
-    // Makes room for a read: what is kept goes to the front of the block, or is let go where a line can't be so long.
+    /// Makes room for a read: what is kept goes to the front of the block, or is let go where a line can't be so long.
     fn make_room(&mut self)
         requires { HasNoFeed self.old.kept }
         ensures stays { MakesRoom (unanswered self.old) (unanswered self.new) }
@@ -277,7 +277,7 @@ impl Blocks {
         }
     }
 
-    // Moves what is kept to the front of the block.
+    /// Moves what is kept to the front of the block.
     fn shift(&mut self)
         ensures kept { self.new.kept ≡ self.old.kept }
         ensures passing { self.new.is_passing ≡ self.old.is_passing }
@@ -291,7 +291,7 @@ impl Blocks {
         self.start = 0;
     }
 
-    // One read, behind what is kept: how many bytes came.
+    /// One read, behind what is kept: how many bytes came.
     fn read_some<R: Source>(&mut self, reader: &mut R) -> Result<usize, Failed>
         requires room { 0 < self.old.room }
         requires few { self.old.reads < most_reads }

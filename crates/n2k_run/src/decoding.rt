@@ -5,16 +5,15 @@ ghost use Rattle.n2k_wire.specs.declared.entry.Entry.{Entry};
 ghost use Rattle.n2k_table.specs.Table.{kind};
 ghost use Rattle.n2k_join.specs.State.{state};
 ghost use Rattle.n2k_join.specs.Step.{due};
-ghost use Rattle.n2k_run.specs.Decoded.{join_making, message_line, output_after};
+ghost use Rattle.n2k_run.specs.Decoded.{join_fold, message_line, output_after};
 ghost use Rattle.n2k_run.specs.Inner.Overdue.{BreaksOverdue};
-ghost use Rattle.n2k_run.specs.Making.{after_all};
+ghost use Rattle.n2k_run.specs.Fold.{after_all};
 ghost use Rattle.n2k_run.specs.Reports.{broken_text, cause_report};
 ghost use Rattle.n2k_run.specs.Runs.{Runs, output_from, seen};
 
 use crate::device::{Sink, Source};
-use crate::engine::run_entries;
+use crate::engine::{EntryHandler, run_entries};
 use crate::fault::RunFault;
-use crate::maker::Maker;
 use crate::options::{Options, know_window};
 use crate::texts::{bad_text, broken_text};
 use n2k_join::{Broken, Join, laws};
@@ -23,7 +22,7 @@ use n2k_wire::{BadCause, Entry, Packet};
 use std::alloc::{AllocError, Global};
 use std::mem;
 
-// Breaks the groups whose window ends at the next line, the oldest first, and reports them.
+/// Breaks the groups whose window ends at the next line, the oldest first, and reports them.
 fn break_overdue(alloc: Global, join: &mut Join, report: &mut Vec<u8>) -> Result<(), AllocError>
     ensures none_due { OnOk result (due join.new ≡ None) }
     ensures breaks { OnOk result (BreaksOverdue join.old join.new report.old.items report.new.items) }
@@ -35,7 +34,7 @@ fn break_overdue(alloc: Global, join: &mut Join, report: &mut Vec<u8>) -> Result
     Ok(())
 }
 
-// The report of the group that a line's frame breaks.
+/// The report of the group that a line's frame breaks.
 fn push_broken(
     alloc: Global,
     line: u64,
@@ -50,7 +49,7 @@ fn push_broken(
     }
 }
 
-// The report of why a line is bad.
+/// The report of why a line is bad.
 fn push_cause(
     alloc: Global,
     line: u64,
@@ -65,7 +64,7 @@ fn push_cause(
     }
 }
 
-// The JSON line of the message that a line gives.
+/// The JSON line of the message that a line gives.
 fn push_message(
     alloc: Global,
     table: &Table,
@@ -83,8 +82,8 @@ fn push_message(
     }
 }
 
-// A join, and what is kept from line to line: the message of a group is written to the place of the one before, and
-// each line is put together in the same room. Both are large, and new ones would be zeroed for each line.
+/// A join, and what is kept from line to line: the message of a group is written to the place of the one before, and
+/// each line is put together in the same room. Both are large, and new ones would be zeroed for each line.
 #[derive(Drop)]
 struct Joining {
     join: Join,
@@ -92,17 +91,17 @@ struct Joining {
     room: LineBuffer,
 }
 
-// Makes the JSON lines of the messages that a join gives.
+/// Makes the JSON lines of the messages that a join gives.
 #[derive(Drop)]
 struct JsonLines<'a> {
     table: &'a Table,
     empty: bool,
 }
 
-impl<'a> Maker for JsonLines<'a> {
+impl<'a> EntryHandler for JsonLines<'a> {
     ghost use Rattle.std.specs.Prelude.{⊤};
     ghost use Rattle.n2k_join.specs.State.{State};
-    ghost use Rattle.n2k_run.specs.Decoded.{join_making};
+    ghost use Rattle.n2k_run.specs.Decoded.{join_fold};
 
     type State = Joining;
 
@@ -110,7 +109,7 @@ impl<'a> Maker for JsonLines<'a> {
 
     ghost known = { λ joining. joining.join };
 
-    ghost making = { λ s. join_making s.table.now s.empty };
+    ghost fold = { λ s. join_fold s.table.now s.empty };
 
     ghost is_ready = { λ _ _. ⊤ };
 
@@ -134,9 +133,9 @@ impl<'a> Maker for JsonLines<'a> {
 }
 
 /// Prints the JSON line of each message of a log to `writer`, in the order of the lines that give them, and to
-/// `reporter` for each line the groups that it breaks and why it is bad. The join goes on from where it stands, and
-/// stands after the log at the end; the window of the options has to be its own. Whole, or until a fault, as
-/// `run_plain`: after `Read` the join stands after the last line whose LF was read, and after `TooManyLines` at the
+/// `reporter` for each line the groups that it breaks and why it is bad. The join goes on from where it is, and is
+/// after the log at the end; the window of the options has to be its own. Whole, or until a fault, as
+/// `run_plain`: after `Read` the join is after the last line whose LF was read, and after `TooManyLines` at the
 /// last number; after `Write`, `Report` and `Memory` it is spent.
 ///
 /// ```rust
@@ -160,16 +159,16 @@ pub fn run<R: Source, W: Sink, E: Sink>(
     writer: &mut W,
     reporter: &mut E,
 ) -> Result<(), RunFault>
-    requires window { join.old.rule ≡ options.window }
+    requires window { join.old.window ≡ options.window }
 
     // From any join: the texts and reports of the steps of the log's entries, one after the other.
     ensures steps { let before = seen R.Source W.Sink E.Sink reader.old writer.old reporter.old in
         let after = seen R.Source W.Sink E.Sink reader.new writer.new reporter.new in
-        let making = join_making table.now options.empty in
-        Runs (output_from making options.packing join.old)
-        (λ es. join.new ≡ after_all making join.old es) before after result }
+        let fold = join_fold table.now options.empty in
+        Runs (output_from fold options.packing join.old)
+        (λ es. join.new ≡ after_all fold join.old es) before after result }
 
-    // From a join that stands after these entries, with this table: what the whole log says of the lines after them.
+    // From a join that has taken these entries, with this table: what the whole log says of the lines after them.
     ensures log { (front : List Entry) → join.old ≡ state table.now.id options.window (kind table.now) front →
         let before = seen R.Source W.Sink E.Sink reader.old writer.old reporter.old in
         let after = seen R.Source W.Sink E.Sink reader.new writer.new reporter.new in
@@ -184,7 +183,7 @@ pub fn run<R: Source, W: Sink, E: Sink>(
         empty,
         window,
     } = options;
-    let maker = JsonLines { table, empty };
+    let handler = JsonLines { table, empty };
     let mut joining = Joining {
         join: mem::replace(join, Join::new(alloc, table, window)),
         joined: None,
@@ -192,7 +191,7 @@ pub fn run<R: Source, W: Sink, E: Sink>(
     };
     let ran = run_entries(
         alloc,
-        &maker,
+        &handler,
         packing,
         &mut joining,
         reader,

@@ -1,55 +1,128 @@
-//! The engine of the runs: the lines of a log are lent from a block, and their entries are taken one by one.
+//! The engine of the runs: the lines of a log are lent from a block, and a handler takes their entries one by one.
 ghost use Rattle.std.specs.Prelude.{◌≡◌, ◌⊎◌, [], OnOk};
 ghost use Rattle.n2k_run.specs.Blocks.{CallsAre, HasFeed};
-ghost use Rattle.n2k_run.specs.Making.{after_all};
+ghost use Rattle.n2k_run.specs.Fold.{Fold, after_all};
+ghost use Rattle.n2k_wire.specs.Entry.{IsShort};
 ghost use Rattle.n2k_run.specs.Reading.{ReadsBytes, idle_calls};
 ghost use Rattle.n2k_run.specs.Runs.{Runs, output_from, seen};
 ghost use Rattle.n2k_wire.specs.declared.entry.BadCause.TheVariants.{Long};
 ghost use Rattle.n2k_wire.specs.declared.entry.Entry.TheVariants.{Bad};
-ghost use Rattle.n2k_run.specs.Inner.Engine.{Takes, TakesNext, ReadsNext};
+ghost use Rattle.n2k_run.specs.Inner.Engine.{FailsPending, ReadsNext, TakesEntry, TakesNext, WritesPending};
 
 use crate::blocks::{Blocks, Next};
 use crate::device::{Failed, Sink, Source};
 use crate::fault::RunFault;
-use crate::kept::Kept;
-use crate::maker::Maker;
+use crate::writing::write_all;
 use n2k_wire::{BadCause, Entry, LineReader, Packing};
 use std::alloc::Global;
 
-// Takes a line that is too long. An entry is large, so that the few of these have a place of their own.
-fn take_long<M: Maker>(
-    alloc: Global,
-    maker: &M,
-    state: &mut M::State,
-    kept: &mut Kept,
-) -> Result<(), RunFault>
-    requires { M.is_ready maker.now state.old }
-    ensures taken { Takes (M.making maker.now) (M.known state.old) (M.known state.new) (Bad Long) kept.old.text.items
-        kept.new.text.items kept.old.report.items kept.new.report.items result }
-    ensures ready { OnOk result (M.is_ready maker.now state.new) }
-{
-    let entry = Entry::Bad(BadCause::Long);
-    maker.take(alloc, state, &entry, &mut kept.text, &mut kept.report)
+/// What takes the entries of a log one after the other, and makes texts and reports of them.
+pub(crate) trait EntryHandler {
+    /// What it knows of the entries that it took.
+    type State;
+
+    /// What definitions know of a state.
+    ghost Known: { Type 0 };
+
+    /// A state, as definitions know it.
+    ghost known: { Self.State → Known };
+
+    /// What is made of each entry, by the state that it is taken in.
+    ghost fold: { Self → Fold Known };
+
+    /// A state in which it can take an entry.
+    ghost is_ready: { Self → Self.State → Type 0 };
+
+    /// Takes the entry of the next line, and appends its text and its report. `TooManyLines` where no more lines
+    /// are counted, and then nothing has changed; `Memory` where an allocation was refused.
+    fn take(
+        &self,
+        alloc: Global,
+        state: &mut Self::State,
+        entry: &Entry,
+        text: &mut Vec<u8>,
+        report: &mut Vec<u8>,
+    ) -> Result<(), RunFault>
+        requires short { IsShort entry.now }
+        requires ready { is_ready self.now state.old }
+        ensures taken { TakesEntry (fold self.now) (known state.old) (known state.new) entry.now text.old.items
+            text.new.items report.old.items report.new.items result }
+        ensures ready { OnOk result (is_ready self.now state.new) };
 }
 
-// Takes the next line of the log. Where the block holds no line's end it is read, and that may have to wait: so
-// nothing may be kept then.
-fn take_next<M: Maker, R: Source>(
+/// The texts and reports that a run has made and not written yet.
+#[derive(Drop)]
+pub(crate) struct Pending {
+    pub(crate) text: Vec<u8>,
+    pub(crate) report: Vec<u8>,
+}
+
+impl Pending {
+    /// Nothing is pending.
+    pub(crate) fn new(alloc: Global) -> Self
+        ensures text { result.text.items ≡ [] }
+        ensures report { result.report.items ≡ [] }
+    {
+        Pending {
+            text: Vec::new(alloc),
+            report: Vec::new(alloc),
+        }
+    }
+
+    /// Writes what is pending, the reports first. Where a device fails, a front of its text has been written.
+    pub(crate) fn write<W: Sink, E: Sink>(
+        &mut self,
+        writer: &mut W,
+        reporter: &mut E,
+    ) -> Result<(), RunFault>
+        ensures written { WritesPending self.old.text.items self.old.report.items (W.contents writer.old)
+            (W.contents writer.new) (E.contents reporter.old) (E.contents reporter.new) result }
+        ensures device { FailsPending (W.failed_calls writer.old) (W.failed_calls writer.new)
+            (E.failed_calls reporter.old) (E.failed_calls reporter.new) result }
+        ensures none_pending { OnOk result ((self.new.text.items ≡ []) × (self.new.report.items ≡ [])) }
+    {
+        write_all(reporter, &self.report).map_err(|_| RunFault::Report)?;
+        self.report.clear();
+        write_all(writer, &self.text).map_err(|_| RunFault::Write)?;
+        self.text.clear();
+        Ok(())
+    }
+}
+
+/// Takes a line that is too long. An entry is large, so that the few of these have a place of their own.
+fn take_long<H: EntryHandler>(
     alloc: Global,
-    maker: &M,
+    handler: &H,
+    state: &mut H::State,
+    pending: &mut Pending,
+) -> Result<(), RunFault>
+    requires { H.is_ready handler.now state.old }
+    ensures taken { TakesEntry (H.fold handler.now) (H.known state.old) (H.known state.new) (Bad Long) pending.old.text.items
+        pending.new.text.items pending.old.report.items pending.new.report.items result }
+    ensures ready { OnOk result (H.is_ready handler.now state.new) }
+{
+    let entry = Entry::Bad(BadCause::Long);
+    handler.take(alloc, state, &entry, &mut pending.text, &mut pending.report)
+}
+
+/// Takes the next line of the log. Where the block holds no line's end it is read, and that may have to wait: so
+/// nothing may be pending then.
+fn take_next<H: EntryHandler, R: Source>(
+    alloc: Global,
+    handler: &H,
     packing: Packing,
-    state: &mut M::State,
+    state: &mut H::State,
     blocks: &mut Blocks,
     reader: &mut R,
     lines: &mut LineReader,
-    kept: &mut Kept,
+    pending: &mut Pending,
 ) -> Result<(), RunFault>
-    requires ready { M.is_ready maker.now state.old }
-    requires written { HasFeed blocks.old.kept ⊎ ((kept.old.text.items ≡ []) × (kept.old.report.items ≡ [])) }
-    ensures taken { TakesNext (M.making maker.now) packing (M.known state.old) (M.known state.new) blocks.old
+    requires ready { H.is_ready handler.now state.old }
+    requires written { HasFeed blocks.old.kept ⊎ ((pending.old.text.items ≡ []) × (pending.old.report.items ≡ [])) }
+    ensures taken { TakesNext (H.fold handler.now) packing (H.known state.old) (H.known state.new) blocks.old
         blocks.new (R.remaining reader.old) (R.remaining reader.new)
-        kept.old.text.items kept.new.text.items kept.old.report.items kept.new.report.items result }
-    ensures ready { OnOk result (M.is_ready maker.now state.new) }
+        pending.old.text.items pending.new.text.items pending.old.report.items pending.new.report.items result }
+    ensures ready { OnOk result (H.is_ready handler.now state.new) }
     ensures device { ReadsNext blocks.new (R.failed_calls reader.old) (R.failed_calls reader.new) result }
     ensures reads { ReadsBytes (idle_calls blocks.new.has_ended result) (R.remaining reader.old)
         (R.remaining reader.new) (R.calls reader.old) (R.calls reader.new) }
@@ -58,57 +131,57 @@ fn take_next<M: Maker, R: Source>(
     match blocks.next_line(reader) {
         Ok(Next::Line(line)) => {
             let entry = lines.read(line, packing);
-            maker.take(alloc, state, entry, &mut kept.text, &mut kept.report)
+            handler.take(alloc, state, entry, &mut pending.text, &mut pending.report)
         }
-        Ok(Next::Long) => take_long(alloc, maker, state, kept),
+        Ok(Next::Long) => take_long(alloc, handler, state, pending),
         Ok(Next::End) => Ok(()),
         Err(Failed) => Err(RunFault::Read),
     }
 }
 
-/// The run of a maker over a log, from a state on: what every run promises.
-pub(crate) fn run_entries<M: Maker, R: Source, W: Sink, E: Sink>(
+/// The run of a handler over a log, from a state on: what every run promises.
+pub(crate) fn run_entries<H: EntryHandler, R: Source, W: Sink, E: Sink>(
     alloc: Global,
-    maker: &M,
+    handler: &H,
     packing: Packing,
-    state: &mut M::State,
+    state: &mut H::State,
     reader: &mut R,
     writer: &mut W,
     reporter: &mut E,
 ) -> Result<(), RunFault>
-    requires { M.is_ready maker.now state.old }
+    requires { H.is_ready handler.now state.old }
     ensures runs { let before = seen R.Source W.Sink E.Sink reader.old writer.old reporter.old in
         let after = seen R.Source W.Sink E.Sink reader.new writer.new reporter.new in
-        Runs (output_from (M.making maker.now) packing (M.known state.old))
-        (λ es. M.known state.new ≡ after_all (M.making maker.now) (M.known state.old) es) before after result }
-    ensures ready { OnOk result (M.is_ready maker.now state.new) }
+        Runs (output_from (H.fold handler.now) packing (H.known state.old))
+        (λ es. H.known state.new ≡ after_all (H.fold handler.now) (H.known state.old) es) before after result }
+    ensures ready { OnOk result (H.is_ready handler.now state.new) }
 {
     let mut blocks = Blocks::new();
-    let mut kept = Kept::new(alloc);
+    let mut pending = Pending::new(alloc);
     let mut lines = LineReader::new();
     'lines: while !blocks.has_ended() {
         if !blocks.has_line() {
-            kept.write(writer, reporter)?;
+            pending.write(writer, reporter)?;
         }
         match take_next(
             alloc,
-            maker,
+            handler,
             packing,
             state,
             &mut blocks,
             reader,
             &mut lines,
-            &mut kept,
+            &mut pending,
         ) {
             Ok(()) => {}
             Err(fault) => match fault {
                 RunFault::Memory => return Err(fault),
                 _ => {
-                    kept.write(writer, reporter)?;
+                    pending.write(writer, reporter)?;
                     return Err(fault);
                 }
             },
         }
     }
-    kept.write(writer, reporter)
+    pending.write(writer, reporter)
 }

@@ -12,27 +12,26 @@ ghost use Rattle.n2k_run.specs.Runs.{Runs, seen};
 ghost use Rattle.n2k_run.specs.Inner.Sending.{SentLine, SentMessage, frame_line};
 
 use crate::device::{Sink, Source};
-use crate::engine::run_entries;
+use crate::engine::{EntryHandler, run_entries};
 use crate::fault::RunFault;
-use crate::maker::Maker;
 use crate::texts::bad_text;
 use n2k_join::{Counts, MOST_LINES, SplitFault, Splitter, laws};
 use n2k_table::Table;
 use n2k_wire::{BadCause, CandumpLines, Entry, Id, Packet, Packing, WireFault, plain_text};
 use std::alloc::{AllocError, Global};
 
-// What becomes of a line.
+/// What becomes of a line.
 #[derive(Clone, Copy)]
 enum Outcome {
-    // It stands for nothing.
+    /// It is no message, and not bad.
     Skipped,
-    // It is a message, and its frames are written.
+    /// It is a message, and its frames are written.
     Written,
-    // It is bad, for this cause.
+    /// It is bad, for this cause.
     Bad(BadCause),
 }
 
-// Appends the line of a frame: a plain one, or at an interface the one that candump writes.
+/// Appends the line of a frame: a plain one, or at an interface the one that candump writes.
 fn append_line(
     alloc: Global,
     lines: &mut Option<CandumpLines>,
@@ -50,7 +49,7 @@ fn append_line(
     }
 }
 
-// What becomes of a message whose frames have no lines.
+/// What becomes of a message whose frames have no lines.
 fn refused(fault: WireFault) -> Result<Outcome, AllocError>
     ensures { IfOk result (λ made. Some made ≡ option_map Bad (fault_cause fault)) }
 {
@@ -61,24 +60,24 @@ fn refused(fault: WireFault) -> Result<Outcome, AllocError>
     }
 }
 
-// What sends messages one after the other.
+/// What sends messages one after the other.
 #[derive(Drop)]
 struct Sender<'a> {
     splitter: Splitter,
-    // The lines at the interface, where one is handed in.
+    /// The lines at the interface, where one is handed in.
     lines: Option<CandumpLines<'a>>,
-    // Room for a frame.
+    /// Room for a frame.
     frame: Packet,
 }
 
-// What a run has sent so far.
+/// What a run has sent so far.
 #[derive(Drop)]
 struct Sending<'a> {
     sender: Sender<'a>,
     counts: Counts,
 }
 
-// Makes the lines of the frames of messages, plain ones or those that candump writes at an interface.
+/// Makes the lines of the frames of messages, plain ones or those that candump writes at an interface.
 #[derive(Drop)]
 struct FrameLines<'a> {
     table: &'a Table,
@@ -86,7 +85,7 @@ struct FrameLines<'a> {
 }
 
 impl<'a> FrameLines<'a> {
-    // What sends the first message.
+    /// What sends the first message.
     fn sender(&self, alloc: Global) -> Sender<'a>
         requires { IsInterface (interface_of self.now.interface) }
         ensures splitter { sequences result.splitter ≡ first_sequences }
@@ -108,7 +107,7 @@ impl<'a> FrameLines<'a> {
         }
     }
 
-    // Sends a message: it is split, and the lines of its frames are written, all or none.
+    /// Sends a message: it is split, and the lines of its frames are written, all or none.
     fn send(
         &self,
         alloc: Global,
@@ -138,7 +137,7 @@ impl<'a> FrameLines<'a> {
         Ok(Outcome::Written)
     }
 
-    // What becomes of the entry of a line.
+    /// What becomes of the entry of a line.
     fn outcome(
         &self,
         alloc: Global,
@@ -160,12 +159,12 @@ impl<'a> FrameLines<'a> {
     }
 }
 
-impl<'a> Maker for FrameLines<'a> {
+impl<'a> EntryHandler for FrameLines<'a> {
     ghost use Rattle.std.specs.Prelude.{◌≡◌};
     ghost use Rattle.n2k_table.specs.Table.{kind};
     ghost use Rattle.n2k_join.specs.Splitter.{sequences};
     ghost use Rattle.n2k_run.specs.FramesOut.{interface_of};
-    ghost use Rattle.n2k_run.specs.Inner.Sending.{AreFrameCounts, Sent, sending};
+    ghost use Rattle.n2k_run.specs.Inner.Sending.{AreFrameCounts, Sent, sending_fold};
 
     type State = Sending<'a>;
 
@@ -173,7 +172,7 @@ impl<'a> Maker for FrameLines<'a> {
 
     ghost known = { λ s. record { held = sequences s.sender.splitter; counts = s.counts } };
 
-    ghost making = { λ m. sending (kind m.table.now) (interface_of m.interface) };
+    ghost fold = { λ m. sending_fold (kind m.table.now) (interface_of m.interface) };
 
     ghost is_ready = { λ m s. (s.sender.lines ≡ interface_of m.interface) × AreFrameCounts s.counts };
 
@@ -252,14 +251,14 @@ pub fn run_frames<R: Source, W: Sink, E: Sink>(
         × (counts ≡ frames_counts table.now (interface_of interface.entry) log))) }
 {
     laws::splits_written();
-    let maker = FrameLines { table, interface };
+    let handler = FrameLines { table, interface };
     let mut state = Sending {
-        sender: maker.sender(alloc),
+        sender: handler.sender(alloc),
         counts: Counts::NONE,
     };
     match run_entries(
         alloc,
-        &maker,
+        &handler,
         Packing::Whole,
         &mut state,
         reader,

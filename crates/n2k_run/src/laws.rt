@@ -13,7 +13,8 @@ ghost use Rattle.n2k_run.specs.declared.options.Options.{Options};
 ghost use Rattle.n2k_run.specs.Decoded.{out, out_of};
 ghost use Rattle.n2k_run.specs.Entries.{entries};
 ghost use Rattle.n2k_run.specs.InOrder.{EachTellsOne};
-ghost use Rattle.n2k_run.specs.Parts.{begun, entries_of, save, state_after};
+ghost use Rattle.n2k_run.specs.Headline.{save, state_after};
+ghost use Rattle.n2k_run.specs.Parts.{begun, entries_of_parts};
 ghost use Rattle.n2k_run.specs.Replayed.{PrintsBack};
 
 use n2k_wire::Packing;
@@ -21,7 +22,7 @@ use n2k_wire::Packing;
 /// A log over which messages are scattered, and which gives no message alone, prints these messages: as many lines as
 /// there are messages, and each key's in their order. None is lost, none invented.
 pub fn replayed()
-    ensures { (t : TableParts) (ms : List PacketParts) (o : Options) (log : List ℕ) → IsWindow o.window.window
+    ensures { (t : TableParts) (ms : List PacketParts) (o : Options) (log : List ℕ) → IsWindow o.window.lines
         → IsScattered o.window (kind t) ms (entries o.packing log) → IsMute (kind t) (entries o.packing log)
         → PrintsBack t ms o log }
 {
@@ -32,7 +33,7 @@ pub fn replayed()
 /// What is written is read back: fast packets of the table's PGNs, written as plain lines of frames in their order,
 /// are a log that prints these messages.
 pub fn written_then_read()
-    ensures { (t : TableParts) (ms : List PacketParts) (o : Options) → IsWindow o.window.window
+    ensures { (t : TableParts) (ms : List PacketParts) (o : Options) → IsWindow o.window.lines
         → o.packing ≡ Packing.Frames → All IsPacketParts ms
         → All (λ (m : PacketParts). kind t m.id.pgn ≡ Some Fast) ms
         → PrintsBack t ms o (flat_map plain_text (written (kind t) ms)) }
@@ -44,7 +45,7 @@ pub fn written_then_read()
     n2k_join::laws::arrives_whole();
 }
 
-/// In order each line that a log prints tells one message: one that is a line of the log by itself, or one whose
+/// In order each line that a log prints is of one message: one that is a line of the log by itself, or one whose
 /// frames the log has by rising number with no other frame of their key between them, with the stamp, the priority
 /// and the identifier of the last. The log is the whole one, from its first line, whether it is run at once or in
 /// parts; parts need not be cut at lines.
@@ -52,7 +53,7 @@ pub fn printed_in_order()
     ensures log { (t : TableParts) (o : Options) (log : List ℕ) → o.window.in_order ≡ true
         → EachTellsOne t o (entries o.packing log) (out t o log) }
     ensures parts { (t : TableParts) (o : Options) (parts : List (List ℕ)) → o.window.in_order ≡ true
-        → EachTellsOne t o (entries_of o parts) (out_of t o (entries_of o parts)) }
+        → EachTellsOne t o (entries_of_parts o parts) (out_of t o (entries_of_parts o parts)) }
 {
     n2k_table::laws::json_is_one_line();
     n2k_join::laws::consecutive_frames();
@@ -61,7 +62,7 @@ pub fn printed_in_order()
 /// What is saved after the front of a log reads back, under the same table: a part begins with the state that the
 /// front leads to, for every front with no more lines than are counted.
 pub fn saved_front_reads_back()
-    ensures { (t : TableParts) (o : Options) (front : List ℕ) → IsWindow o.window.window → IsId t.id
+    ensures { (t : TableParts) (o : Options) (front : List ℕ) → IsWindow o.window.lines → IsId t.id
         → length (entries o.packing front) ≤ most_lines
         → begun t o (Some (save t o front)) ≡ Ok (state_after t o front) }
 {

@@ -18,7 +18,7 @@
 //!
 //! To decode a log use `run_part`: it begins the log or goes on from a saved state, and answers the state to save;
 //! `run_parts` does so for parts that lie in memory, `run` for a join that is at hand. To write a summary use
-//! `write_summary`, which takes no memory; `summary_text` appends one to a text. The theorem stands at `run_parts`,
+//! `write_summary`, which takes no memory; `summary_text` appends one to a text. The theorem is that of `run_parts`,
 //! clause `headline`: a log that was cut after lines prints in parts what one run over it prints.
 //!
 //! - `run` prints the JSON line of each message that a log gives, `run_plain` each frame and each whole message as its
@@ -32,11 +32,11 @@
 //! - `read_bytes` reads a source whole, up to a limit; `write_all` writes a text whole. `bad_text` and `broken_text`
 //!   are the reports of a line.
 //! - `laws` say what is printed of messages that were scattered over a log, or written and then read, and what each
-//!   line printed tells where the order of frames is asked for.
+//!   line printed says where the window is in order.
 //!
 //! A run that answers Ok has written exactly the texts and reports of the log's lines, in their order. One that answers
 //! a fault has written a front of them, the reports first: the fault is that of the one device whose call failed, of
-//! memory, of 10^12 reads without an end, or of too many lines. What every run promises stands once, in specs/Runs.
+//! memory, of 10^12 reads without an end, or of too many lines. What every run promises is written once, in specs/Runs.
 //!
 //! Each example is a test of `n2k_tests`, in the same words. In them `rt` is the runtime that `main` or a test is
 //! handed, and `alloc` its allocator, `rt.alloc()`; `sample_table` reads a table in which 129026 is sent in single
@@ -49,9 +49,7 @@ mod device;
 mod engine;
 mod fault;
 mod frames;
-mod kept;
 pub mod laws;
-mod maker;
 mod memory;
 mod options;
 mod part;

@@ -1,4 +1,4 @@
-//! Devices in memory, for tests: they move as many bytes a call as they are told, and fail where they are told.
+//! Devices in memory, for tests: they move so many bytes a call, and fail at the call that they are made for.
 
 use crate::device::{Failed, Sink, Source};
 use std::alloc::Global;
@@ -8,7 +8,7 @@ use std::marker::Model;
 #[derive(Drop)]
 pub struct MemorySource<'a> {
     left: &'a [u8],
-    at_once: usize,
+    chunk: usize,
     fails_at: u64,
     calls: u64,
     failed_calls: u64,
@@ -22,19 +22,19 @@ impl<'a> Model for MemorySource<'a> {
 
     ghost view = { λ s. record {
       left = s.left.now;
-      at_once = s.at_once;
+      chunk = s.chunk;
       fails_at = s.fails_at;
       calls = s.calls;
       failed_calls = s.failed_calls;
     } };
 
-    ghost invariant = { λ s. 0 < s.at_once };
+    ghost invariant = { λ s. 0 < s.chunk };
 }
 
 impl<'a> MemorySource<'a> {
     ghost use Rattle.std.specs.Prelude.{◌≡◌, ◌<◌};
 
-    /// A source that gives these bytes. A call moves `piece` bytes, or all that is asked or left if that is
+    /// A source that gives these bytes. A call moves `chunk` bytes, or all that is wanted or left if that is
     /// less; call number `fail_at`, counted from 1, fails (0: none does).
     ///
     /// ```rust
@@ -46,11 +46,11 @@ impl<'a> MemorySource<'a> {
     /// assert_eq!(rt; source.read(&mut buffer), Ok(2));
     /// assert_eq!(rt; source.read(&mut buffer), Ok(0));
     /// ```
-    pub fn new(bytes: &'a [u8], piece: usize, fail_at: u64) -> Self
-        requires { 0 < piece }
+    pub fn new(bytes: &'a [u8], chunk: usize, fail_at: u64) -> Self
+        requires { 0 < chunk }
         ensures { result ≡ record {
           left = bytes.now;
-          at_once = piece;
+          chunk = chunk;
           fails_at = fail_at;
           calls = 0;
           failed_calls = 0;
@@ -58,7 +58,7 @@ impl<'a> MemorySource<'a> {
     {
         MemorySource {
             left: bytes,
-            at_once: piece,
+            chunk,
             fails_at: fail_at,
             calls: 0,
             failed_calls: 0,
@@ -85,7 +85,7 @@ impl<'a> Source for MemorySource<'a> {
         ensures counted { CountsFailure self.old.failed_calls self.new.failed_calls result }
 
         ensures fails { IsErr result ↔ (self.old.fails_at ≡ 1) }
-        ensures count { IfOk result (λ n. n ≡ min self.old.at_once (min (length buffer.old) (length self.old.left))) }
+        ensures count { IfOk result (λ n. n ≡ min self.old.chunk (min (length buffer.old) (length self.old.left))) }
         ensures given { IfOk result (λ n. take n buffer.new ≡ take n self.old.left) }
         ensures device { IfOk result (λ n. self.new ≡ after_read self.old n) }
         ensures failed_device { OnErr result (self.new ≡ after_failed_read self.old) }
@@ -97,7 +97,7 @@ impl<'a> Source for MemorySource<'a> {
             self.failed_calls = self.failed_calls.saturating_add(1);
             return Err(Failed);
         }
-        let count = self.at_once.min(buffer.len()).min(self.left.len());
+        let count = self.chunk.min(buffer.len()).min(self.left.len());
         let (given, left) = self.left.split_at(count);
         buffer[..count].copy_from_slice(given);
         self.left = left;
@@ -109,7 +109,7 @@ impl<'a> Source for MemorySource<'a> {
 #[derive(Drop)]
 pub struct MemorySink {
     held: Vec<u8>,
-    at_once: usize,
+    chunk: usize,
     fails_at: u64,
     failed_calls: u64,
 }
@@ -122,18 +122,18 @@ impl Model for MemorySink {
 
     ghost view = { λ s. record {
       held = s.held.items;
-      at_once = s.at_once;
+      chunk = s.chunk;
       fails_at = s.fails_at;
       failed_calls = s.failed_calls;
     } };
 
-    ghost invariant = { λ s. 0 < s.at_once };
+    ghost invariant = { λ s. 0 < s.chunk };
 }
 
 impl MemorySink {
     ghost use Rattle.std.specs.Prelude.{◌≡◌, ◌<◌, []};
 
-    /// A sink that holds nothing yet. A call moves `piece` bytes, or all that is handed in if that is less;
+    /// A sink that holds nothing yet. A call moves `chunk` bytes, or all that is handed in if that is less;
     /// call number `fail_at`, counted from 1, fails (0: none does), and so does a call for which the
     /// allocator has no memory.
     ///
@@ -144,13 +144,13 @@ impl MemorySink {
     /// assert_eq!(rt; sink.write(b"de"), Ok(2));
     /// assert_eq!(rt; sink.bytes(), b"abcde".as_slice());
     /// ```
-    pub fn new(alloc: Global, piece: usize, fail_at: u64) -> Self
-        requires { 0 < piece }
-        ensures { result ≡ record { held = []; at_once = piece; fails_at = fail_at; failed_calls = 0 } }
+    pub fn new(alloc: Global, chunk: usize, fail_at: u64) -> Self
+        requires { 0 < chunk }
+        ensures { result ≡ record { held = []; chunk = chunk; fails_at = fail_at; failed_calls = 0 } }
     {
         MemorySink {
             held: Vec::new(alloc),
-            at_once: piece,
+            chunk,
             fails_at: fail_at,
             failed_calls: 0,
         }
@@ -188,13 +188,13 @@ impl Sink for MemorySink {
 
         // It also fails where memory is refused.
         ensures fails { self.old.fails_at ≡ 1 → IsErr result }
-        ensures count { IfOk result (λ n. n ≡ min self.old.at_once (length piece.now)) }
+        ensures count { IfOk result (λ n. n ≡ min self.old.chunk (length piece.now)) }
         ensures device { IfOk result (λ n. self.new ≡ after_write self.old (take n piece.now)) }
         ensures failed_device { OnErr result (self.new ≡ after_failed_write self.old) }
     {
         let fails = self.fails_at == 1;
         self.fails_at = self.fails_at.saturating_sub(1);
-        let count = self.at_once.min(piece.len());
+        let count = self.chunk.min(piece.len());
         if fails || self.held.extend_from_slice(&piece[..count]).is_err() {
             self.failed_calls = self.failed_calls.saturating_add(1);
             return Err(Failed);

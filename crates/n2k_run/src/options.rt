@@ -1,4 +1,4 @@
-//! What a run can be asked for.
+//! The options of a run.
 ghost use Rattle.n2k_join.specs.Window.{IsWindow};
 
 use n2k_join::Window;
@@ -12,13 +12,13 @@ pub struct Options {
     /// Whether an absent field is printed, as `null`.
     pub empty: bool,
     /// What ends a group that isn't complete: that so many lines have passed since its first, and, where the window
-    /// asks for their order, a frame whose number doesn't rise.
+    /// is in order, a frame whose number doesn't rise.
     pub window: Window,
 }
 
-// What the type says of the window.
+/// What the type says of the window.
 pub(crate) fn know_window(options: &Options)
-    ensures { IsWindow options.now.window.window }
+    ensures { IsWindow options.now.window.lines }
 {
     let _lines = options.window.get();
 }

@@ -8,7 +8,8 @@ ghost use Rattle.n2k_join.specs.Saved.{IsId};
 ghost use Rattle.n2k_join.specs.State.{State, state};
 ghost use Rattle.n2k_run.specs.InOrder.{PrintsInOrder};
 ghost use Rattle.n2k_run.specs.Inner.Parts.{Finishes, HasSaved, Saves};
-ghost use Rattle.n2k_run.specs.Parts.{AreCutAtLines, AreWithinReads, EndsParts, IsNotRead, IsOfKind, IsPartOf, OnRefusal, PrintsLog, RefusedByMemory, RunsFrom, RunsPart, begun, entries_of};
+ghost use Rattle.n2k_run.specs.Headline.{AreCutAtLines, PrintsLog};
+ghost use Rattle.n2k_run.specs.Parts.{AreWithinReads, EndsParts, IsNotRead, IsOfKind, IsPartOf, OnRefusal, RefusedByMemory, RunsFrom, RunsPart, begun, entries_of_parts};
 ghost use Rattle.n2k_run.specs.Runs.{seen, sinks_seen};
 
 use crate::decoding::run;
@@ -22,7 +23,7 @@ use n2k_table::Table;
 use std::alloc::{AllocError, Global};
 use thiserror::Error;
 
-/// What stands after a log, or after a part of it: the text from which the next part goes on, and what all lines so
+/// What is left of a log, or of a part of it: the text from which the next part goes on, and what all lines so
 /// far count.
 #[derive(Debug, Drop)]
 pub struct Part {
@@ -61,7 +62,7 @@ impl From<AllocError> for PartFault {
     }
 }
 
-// The join that a part begins with.
+/// The join that a part begins with.
 fn begin(
     alloc: Global,
     table: &Table,
@@ -70,7 +71,7 @@ fn begin(
 ) -> Result<Join, StateFault>
     ensures state { GivesOrMemory (λ join. join) result (begun table.now options.now
         (option_map (λ bytes. bytes.now) saved.entry)) }
-    ensures window { IfOk result (λ join. join.rule ≡ options.now.window) }
+    ensures window { IfOk result (λ join. join.window ≡ options.now.window) }
     ensures handed { IsErr result → IsSome (option_map (λ bytes. bytes.now) saved.entry) }
 {
     laws::groups_stay_fast();
@@ -80,14 +81,14 @@ fn begin(
     }
 }
 
-// What the type says of a table's id.
+/// What the type says of a table's id.
 fn know_id(table: &Table)
     ensures { IsId table.now.id }
 {
     let _id = table.id();
 }
 
-// The state and the counts of a join.
+/// The state and the counts of a join.
 fn part_of(alloc: Global, join: &Join) -> Result<Part, AllocError>
     ensures { IfOk result (Saves join.now) }
 {
@@ -97,7 +98,7 @@ fn part_of(alloc: Global, join: &Join) -> Result<Part, AllocError>
     })
 }
 
-// What is answered after a run that left the join so.
+/// What is answered after a run that left the join so.
 fn finish(alloc: Global, join: &Join, ran: Result<(), RunFault>) -> Result<Part, PartFault>
     ensures part { HasSaved result join.now }
     ensures ran { Finishes result ran }
@@ -120,7 +121,7 @@ fn finish(alloc: Global, join: &Join, ran: Result<(), RunFault>) -> Result<Part,
 ///
 /// The state has to be of the same table and the same window, and the other options have to be those of the parts
 /// before. A state that can't be taken is refused before anything is read or written. After `Stopped` the log can go
-/// on from the Part, which stands after the last line that was taken: after `Read` the next part begins behind the
+/// on from the Part, which is that of the last line that was taken: after `Read` the next part begins behind the
 /// last LF that was read, and a line that came in part is handed in again. After `Run` and `Memory` there is none,
 /// and a front of the part's texts and reports has been written.
 ///
@@ -164,7 +165,7 @@ pub fn run_part<R: Source, W: Sink, E: Sink>(
     finish(alloc, &join, ran)
 }
 
-// The Part of the empty log.
+/// The Part of the empty log.
 fn empty_part(alloc: Global, table: &Table, options: &Options) -> Result<Part, AllocError>
     ensures { IfOk result (IsPartOf table.now options.now (state table.now.id options.now.window (kind table.now) [])) }
 {
@@ -175,7 +176,7 @@ fn empty_part(alloc: Global, table: &Table, options: &Options) -> Result<Part, A
     part_of(alloc, &join)
 }
 
-// Runs the next part, which lies in memory.
+/// Runs the next part, which lies in memory.
 fn next_part<W: Sink, E: Sink>(
     alloc: Global,
     table: &Table,
@@ -239,11 +240,11 @@ pub fn run_parts<W: Sink, E: Sink>(
         let after = sinks_seen W.Sink E.Sink writer.new reporter.new in
         IfOk result (PrintsLog table.now options (concat (map (λ part. part.now) parts.now)) before after) }
 
-    // In order each line that was printed tells one message: a line by itself, or frames in order with nothing between.
+    // In order each line that was printed is of one message: a line by itself, or frames in order with nothing between.
     ensures in_order { options.window.in_order ≡ true →
         let before = sinks_seen W.Sink E.Sink writer.old reporter.old in
         let after = sinks_seen W.Sink E.Sink writer.new reporter.new in
-        IfOk result (λ _. PrintsInOrder table.now options (entries_of options (map (λ part. part.now) parts.now))
+        IfOk result (λ _. PrintsInOrder table.now options (entries_of_parts options (map (λ part. part.now) parts.now))
         before after) }
 {
     laws::steps_agree();

@@ -5,23 +5,22 @@ ghost use Rattle.n2k_run.specs.Plain.{plain_counts, plain_counts_of, plain_out, 
 ghost use Rattle.n2k_run.specs.Runs.{Runs, seen};
 
 use crate::device::{Sink, Source};
-use crate::engine::run_entries;
+use crate::engine::{EntryHandler, run_entries};
 use crate::fault::RunFault;
-use crate::maker::Maker;
 use crate::texts::bad_text;
 use n2k_join::{Counts, MOST_LINES};
 use n2k_wire::{Entry, Packing, plain_text};
 use std::alloc::Global;
 
-// Makes plain lines, and counts what it took.
+/// Makes plain lines, and counts what it took.
 struct PlainLines;
 
-impl Maker for PlainLines {
+impl EntryHandler for PlainLines {
     ghost use Rattle.std.specs.Prelude.{false};
     ghost use Rattle.n2k_join.specs.declared.counts.Counts.{Counts};
     ghost use Rattle.n2k_run.specs.Entries.{is_packet};
-    ghost use Rattle.n2k_run.specs.Inner.Counting.{AreLineCounts, counting};
-    ghost use Rattle.n2k_run.specs.Plain.{plain_line};
+    ghost use Rattle.n2k_run.specs.Inner.Counting.{AreLineCounts, counting_fold};
+    ghost use Rattle.n2k_run.specs.Plain.{entry_line};
 
     type State = Counts;
 
@@ -29,7 +28,7 @@ impl Maker for PlainLines {
 
     ghost known = { λ counts. counts };
 
-    ghost making = { λ _. counting plain_line is_packet (λ _. false) };
+    ghost fold = { λ _. counting_fold entry_line is_packet (λ _. false) };
 
     ghost is_ready = { λ _ counts. AreLineCounts counts };
 
@@ -65,7 +64,7 @@ impl Maker for PlainLines {
 /// lines whose LF was read are printed and reported; `Write` and `Report` where that sink failed, `Memory` where
 /// an allocation was refused, `TooManyLines` past 999,999,999,999,999 lines, and then those lines are printed and
 /// reported. After any fault a front of the texts and of the reports has been written. No device failed but the one
-/// that the fault tells of.
+/// that the fault names.
 ///
 /// ```rust
 /// let mut log = StdSource::new("(1.0) can0 18EAFF01#14F001\n".as_bytes());

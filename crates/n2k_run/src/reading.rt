@@ -13,8 +13,8 @@ use std::alloc::Global;
 /// The most reads of one call. A source that has not ended by then counts as one that can't be read.
 pub const MOST_READS: u64 = 1_000_000_000_000;
 
-// One read into the block, whose bytes go to the end of the input: how many there are. Room is made
-// first, so that a refused allocation loses no byte.
+/// One read into the block, whose bytes go to the end of the input: how many there are. Room is made
+/// first, so that a refused allocation loses no byte.
 fn read_more<R: Source>(
     reader: &mut R,
     block: &mut [u8],
@@ -38,8 +38,8 @@ fn read_more<R: Source>(
 }
 
 /// All bytes of a source that has at most `limit` of them. `TooLong` where it has more; `Read` where the
-/// device failed or 10^12 reads found no end; `Memory` where an allocation was refused. A failed call is told as
-/// nothing but `Read`. No more is asked of the source than tells whether the limit is passed: one byte more than the
+/// device failed or 10^12 reads found no end; `Memory` where an allocation was refused. A failed call is reported
+/// as `Read` alone. No more is read of the source than shows whether the limit is passed: one byte more than the
 /// limit.
 ///
 /// ```rust
@@ -72,7 +72,7 @@ pub fn read_bytes<R: Source>(
     let mut block = [0; BLOCK];
     let mut bytes = Vec::new(alloc);
     for _reads in 0..MOST_READS {
-        // One byte past the limit tells that there are too many.
+        // One byte past the limit shows that there are too many.
         let wanted = (limit - bytes.len()).min(BLOCK - 1) + 1;
         if read_more(reader, &mut block[..wanted], &mut bytes)? == 0 {
             return Ok(bytes);

@@ -5,10 +5,10 @@ ghost use Rattle.std.specs.Io.KnownBytes.{ReadConsumes, WriteAppends};
 use crate::device::{Failed, Sink, Source};
 use std::io::{ErrorKind, Read, Write};
 
-// How often a call is made that signals interrupt, before it counts as failed.
+/// How often a call is made that signals interrupt, before it counts as failed.
 const MOST_TRIES: u32 = 1000;
 
-// One read, made again where a signal interrupts it.
+/// One read, made again where a signal interrupts it.
 fn read_retrying<R: Read>(reader: &mut R, buffer: &mut [u8]) -> Result<usize, Failed>
     ensures bound { IfOk result (λ n. n ≤ length buffer.new) }
     ensures bytes { ReadConsumes (R.remaining reader.old) (R.remaining reader.new) result buffer.new }
@@ -23,7 +23,7 @@ fn read_retrying<R: Read>(reader: &mut R, buffer: &mut [u8]) -> Result<usize, Fa
     Err(Failed)
 }
 
-// One write, made again where a signal interrupts it. A writer that takes nothing of some bytes has failed.
+/// One write, made again where a signal interrupts it. A writer that takes nothing of some bytes has failed.
 fn write_retrying<W: Write>(writer: &mut W, piece: &[u8]) -> Result<usize, Failed>
     ensures bound { IfOk result (λ n. n ≤ length piece.now) }
     ensures moves { IfOk result (λ n. 0 < length piece.now → 0 < n) }

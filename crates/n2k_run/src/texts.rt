@@ -18,7 +18,7 @@ const SUMMARY_ROOM: usize = 165;
 
 type Summary = ArrayVec<u8, SUMMARY_ROOM>;
 
-// A cause's number and word.
+/// A cause's number and word.
 fn cause_text(cause: BadCause) -> &'static [u8]
     ensures { result.now ≡ cause_text cause }
 {
@@ -38,7 +38,7 @@ fn cause_text(cause: BadCause) -> &'static [u8]
     }
 }
 
-// Appends a name and a number.
+/// Appends a name and a number.
 fn push_count(text: &mut Vec<u8>, name: &[u8], number: u64) -> Result<(), AllocError>
     ensures { OnOk result (text.new.items ≡ text.old.items ++ name.now ++ decimal number) }
 {
@@ -111,7 +111,7 @@ pub fn broken_text(
     out.extend_from_slice(&text)
 }
 
-// Appends a name and what was counted under it.
+/// Appends a name and what was counted under it.
 fn push_total(text: &mut Summary, name: &[u8], number: u64)
     requires { array_vec_len text.old + length name.now + 20 ≤ 165 }
     ensures items { text.new.items ≡ text.old.items ++ name.now ++ decimal number }
@@ -122,7 +122,7 @@ fn push_total(text: &mut Summary, name: &[u8], number: u64)
     let _ = text.try_extend_from_slice(buffer.format(number).as_bytes());
 }
 
-// The summary of a run. It takes no memory.
+/// The summary of a run. It takes no memory.
 #[tactic(auto, using(std::proofs::Common::append_assoc), unfolding(crate::specs::Reports::summary_text))]
 fn summary(counts: &Counts) -> Summary
     ensures { result.items ≡ summary_text counts.now }

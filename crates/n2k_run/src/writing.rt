@@ -6,7 +6,7 @@ ghost use Rattle.n2k_run.specs.Writing.{AppendsFront};
 
 use crate::device::{Failed, Sink};
 
-/// Writes the whole text, by as many calls as the device asks for. Where the device fails, a front of the text has
+/// Writes the whole text, by as many calls as the device needs. Where the device fails, a front of the text has
 /// been written. It can fail only where there is something to write.
 ///
 /// ```rust

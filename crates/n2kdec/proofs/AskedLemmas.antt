@@ -9,7 +9,7 @@ use Rattle.clap.specs.declared.parser.matches.ArgMatches.{ArgMatches}
 use Rattle.clap.specs.declared.error.kind.ErrorKind.{ErrorKind}
 use Rattle.clap.specs.declared.error.kind.ErrorKind.TheVariants.{DisplayHelp, DisplayVersion, OutOfMemory}
 use Rattle.clap.proofs.OnLiterals.{clap_on_literals}
-use Rattle.n2k_join.specs.Window.{Rule}
+use Rattle.n2k_join.specs.Window.{Window}
 use Rattle.n2kdec.specs.declared.fault.Fault.{Fault}
 use Rattle.n2kdec.specs.declared.fault.Fault.TheVariants as fault
 use Rattle.n2kdec.specs.declared.word.Words.{Words}
@@ -54,7 +54,7 @@ mapped_is_no_help : (f : Text → Words) → ((t : Text) → is_help (Some (f t)
 mapped_is_no_help f none None = refl
 mapped_is_no_help f none (Some t) = none t
 
-checked_is_no_help : (f : Text → Rule → Words) → ((t : Text) (window : Rule) → is_help (Some (f t window)) ≡ false) → (window : Option Rule) (table : Option Text)
+checked_is_no_help : (f : Text → Window → Words) → ((t : Text) (window : Window) → is_help (Some (f t window)) ≡ false) → (window : Option Window) (table : Option Text)
     → is_help (option_and_then (λ t. option_map (f t) window) table) ≡ false
 checked_is_no_help f none window None = refl
 checked_is_no_help f none None (Some t) = refl

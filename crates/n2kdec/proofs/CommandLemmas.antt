@@ -8,7 +8,7 @@ use Rattle.n2k_run.specs.Device.{HasFailed}
 use Rattle.n2k_run.specs.Reports.{summary_text}
 use Rattle.n2k_run.specs.Writing.{AppendsFront}
 use Rattle.n2k_run.specs.Runs.{AreNumbered, Devices, Gained, HasFronts, NoneFailed, Output, ReportsFirst, Runs}
-use Rattle.n2k_run.specs.Parts.{StandsAtLine}
+use Rattle.n2k_run.specs.Parts.{EndsAtLine}
 use Rattle.n2k_run.proofs.Parting.{line_fronts}
 use Rattle.n2k_run.proofs.Running.{known_more}
 use Rattle.n2k_join.specs.Counts.{most_lines}
@@ -151,13 +151,13 @@ module _ (c : Command) (stands : List Entry → Type 0) (before after : Devices)
   left_by_run f ran follows same = stopped_by_run f ran follows ([], subst (λ e. Appends errors.text e []) (same_text same) (Appends-nil errors.text))
 
   -- a run stands at a line, but memory for its state was refused
-  line_device : (ran : Result (Unit {0}) RunFault) → StandsAtLine ran → c.sums_up_a_part ≡ true → summed ≡ errors → Runs c.output stands before mid ran → HasDevice c before after Memory
+  line_device : (ran : Result (Unit {0}) RunFault) → EndsAtLine ran → c.sums_up_a_part ≡ true → summed ≡ errors → Runs c.output stands before mid ran → HasDevice c before after Memory
   line_device (Ok x) line part same runs = inl (none_failed same runs.device)
   line_device (Err run.Read) line part same runs = inr (part, record { reads = runs.device.reads; writes = runs.device.writes; reports = same_failed same ∙ runs.device.reports })
   line_device (Err run.TooManyLines) line part same runs = inl (none_failed same runs.device)
   line_device _ line part same runs = absurd line
 
-  pub left_at_line : (ran : Result (Unit {0}) RunFault) → StandsAtLine ran → c.sums_up_a_part ≡ true → Runs c.output stands before mid ran → IsLeft → IsStopped c before after Memory
+  pub left_at_line : (ran : Result (Unit {0}) RunFault) → EndsAtLine ran → c.sums_up_a_part ≡ true → Runs c.output stands before mid ran → IsLeft → IsStopped c before after Memory
   left_at_line ran line part runs left = record {
     leaves = breaks_off left (line_fronts c.output before mid stands ran line runs);
     device = line_device ran line part left.0 runs;

@@ -7,13 +7,14 @@ use Rattle.n2k_wire.specs.declared.entry.Entry.{Entry}
 use Rattle.n2k_join.specs.declared.counts.Counts.{Counts}
 use Rattle.n2k_join.specs.Messages.{counts}
 use Rattle.n2k_join.specs.State.{State as StateOf, state}
-use Rattle.n2k_join.specs.declared.state_fault.StateFault.{StateFault}
-use Rattle.n2k_join.specs.declared.state_fault.StateFault.TheVariants as state_faults
-use Rattle.n2k_run.specs.Decoded.{join_making, output_after}
+use Rattle.n2k_join.specs.declared.fault.StateFault.{StateFault}
+use Rattle.n2k_join.specs.declared.fault.StateFault.TheVariants as state_faults
+use Rattle.n2k_run.specs.Decoded.{join_fold, output_after}
 use Rattle.n2k_run.specs.Device.{HasFailed}
 use Rattle.n2k_run.specs.Entries.{entries}
-use Rattle.n2k_run.specs.Making.{after_all}
-use Rattle.n2k_run.specs.Parts.{BeginsBy, Continues, HasPart, IsOfKind, IsPartOf, RefusedByMemory, RunsFrom, TellsRun, begun, state_after}
+use Rattle.n2k_run.specs.Fold.{after_all}
+use Rattle.n2k_run.specs.Headline.{state_after}
+use Rattle.n2k_run.specs.Parts.{BeginsBy, Continues, HasPart, IsOfKind, IsPartOf, RefusedByMemory, RunsFrom, TellsRun, begun}
 use Rattle.n2k_run.specs.Reports.{summary_text}
 use Rattle.n2k_run.specs.Runs.{Devices, Output, output_from}
 use Rattle.n2k_run.specs.declared.fault.RunFault.{RunFault}
@@ -150,7 +151,7 @@ module _ (bytes : List ℕ) (o : Options) (handed : Option (List ℕ)) (before a
       → Decodes bytes o handed before after keeper kept r
   decoded ended r none runs closes = record {
     judged = judged_by t o (faults bytes) none handed errors told keeper kept ended r runs.begins closes;
-    steps = λ s is. closed (output_from (join_making t o.empty) o.packing s) (after_all (join_making t o.empty) s) t o before after errors keeper kept ended r
+    steps = λ s is. closed (output_from (join_fold t o.empty) o.packing s) (after_all (join_fold t o.empty) s) t o before after errors keeper kept ended r
         runs.fault_kinds (refused_memory t o handed s ended is runs.begins) (runs.steps s is) closes;
     log = λ front is. closed (output_after t o front) (λ es. state t.id o.window (kind_of t) (front ++ es)) t o before after errors keeper kept ended r
         runs.fault_kinds (refused_memory t o handed _ ended is runs.begins) (runs.log front is) closes;

@@ -1,7 +1,7 @@
 -- From what is done by the table that was read, and with the words that were matched, to what the words name.
 use Rattle.std.proofs.Common.{◌≡◌, ◌≢◌, ℕ, Bool, List, [], Option, Ok, Err, Result, subst, sym, refl, inr}
 use Rattle.std.specs.Prelude.{Contains}
-use Rattle.n2k_join.specs.Window.{Rule}
+use Rattle.n2k_join.specs.Window.{Window}
 use Rattle.n2k_run.specs.Runs.{Devices}
 use Rattle.n2k_run.specs.declared.options.Options.{Options}
 use Rattle.n2k_run.specs.declared.part.Part.{Part}
@@ -41,7 +41,7 @@ module _ (words : Words) (bytes : List ℕ) (handed : Option (List ℕ)) (before
   pub works_plain : (log : Option (List ℕ)) → words ≡ Plain log → DoesPlain before after r → Works words bytes handed before after r
   works_plain log is does = subst (λ w. Works w bytes handed before after r) (sym is) does
 
-  pub works_decode : (t : List ℕ) (resume save : Option (List ℕ)) (empty whole : Bool) (window : Rule) (log : Option (List ℕ)) (o : Options)
+  pub works_decode : (t : List ℕ) (resume save : Option (List ℕ)) (empty whole : Bool) (window : Window) (log : Option (List ℕ)) (o : Options)
       → words ≡ Decode t resume save empty whole window log → o ≡ options_of empty whole window
       → ByTable bytes before after r (λ t. DoesDecode t o handed before after r) → Works words bytes handed before after r
   works_decode t resume save empty whole window log o is chosen does =

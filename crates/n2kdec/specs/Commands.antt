@@ -6,19 +6,20 @@ use Rattle.n2k_table.specs.Table.{TableParts, faults, kind, table as table_of}
 use Rattle.n2k_table.specs.declared.fault.TableFault.{TableFault}
 use Rattle.n2k_table.specs.declared.fault.TableFault.TheVariants as table
 use Rattle.n2k_join.specs.declared.counts.Counts.{Counts}
-use Rattle.n2k_join.specs.declared.state_fault.StateFault.{StateFault}
-use Rattle.n2k_join.specs.declared.state_fault.StateFault.TheVariants as state_faults
+use Rattle.n2k_join.specs.declared.fault.StateFault.{StateFault}
+use Rattle.n2k_join.specs.declared.fault.StateFault.TheVariants as state_faults
 use Rattle.n2k_join.specs.Counts.{most_lines}
 use Rattle.n2k_join.specs.Messages.{counts}
 use Rattle.n2k_join.specs.Saved.{state_text}
 use Rattle.n2k_join.specs.State.{State as StateOf, state}
-use Rattle.n2k_run.specs.Decoded.{join_making, out, output_after, reports}
+use Rattle.n2k_run.specs.Decoded.{join_fold, out, output_after, reports}
 use Rattle.n2k_run.specs.Device.{HasFailed}
 use Rattle.n2k_run.specs.Entries.{entries}
 use Rattle.n2k_run.specs.FramesOut.{frame_counts_of, frames_counts, frames_output}
 use Rattle.n2k_run.specs.Lines.{whole_lines}
-use Rattle.n2k_run.specs.Making.{after_all}
-use Rattle.n2k_run.specs.Parts.{IsFront, begun, save, state_after}
+use Rattle.n2k_run.specs.Fold.{after_all}
+use Rattle.n2k_run.specs.Headline.{save, state_after}
+use Rattle.n2k_run.specs.Parts.{IsFront, begun}
 use Rattle.n2k_run.specs.Plain.{plain_counts, plain_counts_of, plain_output}
 use Rattle.n2k_run.specs.Reading.{OutlastsReads}
 use Rattle.n2k_run.specs.Reports.{summary_text}
@@ -143,8 +144,8 @@ decode_command t options front before after =
 -- from a state on, whether or not a log leads to it
 abbrev pub decode_from : TableParts → Options → StateOf → Shelf → Shelf → Command
 decode_from t options s before after =
-    let making = join_making t options.empty in
-    decode_to (output_from making options.packing s) (after_all making s) before after
+    let fold = join_fold t options.empty in
+    decode_to (output_from fold options.packing s) (after_all fold s) before after
 
 -- the entries of a log, as a command reads it
 abbrev pub entries_for : Command → List ℕ → List Entry

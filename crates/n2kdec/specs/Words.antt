@@ -8,7 +8,7 @@ use Rattle.std.specs.Str.Parse.{digits_value}
 use Rattle.clap.specs.Words.{IsAmong, Row, Text, fault_of, first_of, subcommand_of}
 use Rattle.clap.specs.declared.error.kind.ErrorKind.{ErrorKind}
 use Rattle.clap.specs.declared.error.kind.ErrorKind.TheVariants.{DisplayHelp, DisplayVersion}
-use Rattle.n2k_join.specs.Window.{Rule, shortest_window, longest_window}
+use Rattle.n2k_join.specs.Window.{Window, shortest_window, longest_window}
 use Rattle.n2k_run.specs.declared.options.Options.{Options}
 use Rattle.n2k_wire.specs.declared.entry.Packing.TheVariants as packed
 use Rattle.n2kdec.specs.declared.usage.TheConstants.{VERSION}
@@ -37,8 +37,8 @@ lines_by None = Some usual_window
 lines_by (Some text) = lines_in text
 
 -- what ends a group; none where the words tell of a window that can't be one
-abbrev pub window_of : List Row → Option Rule
-window_of rows = option_map (λ lines. record { window = lines; in_order = flag_of (codes "in-order") rows }) (lines_by (first_of (codes "window") rows))
+abbrev pub window_of : List Row → Option Window
+window_of rows = option_map (λ lines. record { lines = lines; in_order = flag_of (codes "in-order") rows }) (lines_by (first_of (codes "window") rows))
 
 -- the values of a subcommand's words; `decode` and `frames` have a table
 abbrev pub plain_words : List Row → Option Words
@@ -132,5 +132,5 @@ interface_word (Frames table candump log) = candump
 interface_word _ = None
 
 -- the options that the words `--empty`, `--whole`, `--window` and `--in-order` stand for
-abbrev pub options_of : Bool → Bool → Rule → Options
+abbrev pub options_of : Bool → Bool → Window → Options
 options_of empty whole window = record { packing = if whole then packed.Whole else packed.Frames; empty = empty; window = window }

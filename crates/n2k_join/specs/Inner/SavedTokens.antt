@@ -46,7 +46,7 @@ open_tokens gs = Token.key (codes "groups") ∷ tokens_of (list (map group_tree 
 
 -- the members before them, and those behind them
 abbrev pub front_tokens : Bool → Counts → List Token
-front_tokens tells c = count_tokens (codes "bad") c.bad ++ count_tokens (codes "broken") c.broken ++ count_tokens (codes "format") (format_by tells)
+front_tokens with_window c = count_tokens (codes "bad") c.bad ++ count_tokens (codes "broken") c.broken ++ count_tokens (codes "format") (format_by with_window)
 
 abbrev pub lines_tokens : Counts → List Token
 lines_tokens c = count_tokens (codes "lines") c.lines ++ count_tokens (codes "messages") c.messages
@@ -56,12 +56,12 @@ table_tokens id = Token.key (codes "table") ∷ Token.string (encode_lower id) �
 
 -- the last of them, where the format has it
 abbrev pub window_tokens : Bool → ℕ → List Token
-window_tokens tells window = if tells then count_tokens (codes "window") window else []
+window_tokens with_window window = if with_window then count_tokens (codes "window") window else []
 
 abbrev pub back_tokens : Bool → List ℕ → ℕ → Counts → List Token
-back_tokens tells id window c = lines_tokens c ++ table_tokens id ++ count_tokens (codes "unknown") c.unknown ++ window_tokens tells window
+back_tokens with_window id window c = lines_tokens c ++ table_tokens id ++ count_tokens (codes "unknown") c.unknown ++ window_tokens with_window window
 
 -- these tokens were written behind those from before, and nothing else changed
-pub record Appends {E : Type 0} (result : Result (Unit {0}) E) (old new : Written) (added : List Token) : Type 0 where
+pub record AppendsTokens {E : Type 0} (result : Result (Unit {0}) E) (old new : Written) (added : List Token) : Type 0 where
   pub tokens : OnOk result (new.tokens ≡ old.tokens ++ added)
   pub before : new.before ≡ old.before

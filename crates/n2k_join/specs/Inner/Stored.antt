@@ -1,7 +1,7 @@
 -- What the code keeps, as the definitions see it.
 use Rattle.std.specs.Prelude.{ℕ, ◌≡◌, ◌<◌, ◌≤◌, Bool, List, [], ◌∷◌, ◌++◌, length, if◌then◌else◌, Option, Some, None, filter_map, find, option_to_list}
 use Rattle.std.specs.List.{list_all}
-use Rattle.n2k_join.specs.declared.broken.Broken.{Broken}
+use Rattle.n2k_join.specs.declared.step.Broken.{Broken}
 use Rattle.n2k_wire.specs.Packet.{PacketParts}
 use Rattle.n2k_wire.specs.declared.entry.BadCause.{BadCause}
 use Rattle.n2k_join.specs.declared.piece.FrameKey.{FrameKey}
@@ -54,12 +54,12 @@ abbrev pub message_if : Frame → List Frame → Option PacketParts
 message_if x group = if complete group then Some (message_of x group) else None
 
 -- A group has no place for a number: it is in it, or, where messages are sent in order, it isn't greater than each of its own.
-abbrev pub bars : Bool → ℕ → Group → Bool
-bars in_order number o = if in_order then has_from number (held_of o) else has_number number (held_of o)
+abbrev pub rejects : Bool → ℕ → Group → Bool
+rejects in_order number o = if in_order then has_from number (held_of o) else has_number number (held_of o)
 
 -- what stays open of a group of the frame's key
 abbrev pub joined : Bool → Frame → Group → Option Group
-joined in_order x o = if bars in_order x.number o then None else (if complete (held_of o ++ x ∷ []) then None else Some (with_frame o x))
+joined in_order x o = if rejects in_order x.number o then None else (if complete (held_of o ++ x ∷ []) then None else Some (with_frame o x))
 
 -- what stays open of a group
 abbrev pub taken : Bool → Frame → Group → Option Group
@@ -76,7 +76,7 @@ of_the_key key groups = find (λ (o : Group). same_key key o.key) groups
 -- the group that a frame opens, where this is the open one of its key
 abbrev pub opened : Bool → Frame → Option Group → Option Group
 opened in_order x None = begun x
-opened in_order x (Some o) = if bars in_order x.number o then begun x else None
+opened in_order x (Some o) = if rejects in_order x.number o then begun x else None
 
 -- the open groups after a frame
 unfoldable pub groups_after : Bool → List Group → Frame → List Group
@@ -85,12 +85,12 @@ groups_after in_order groups x = filter_map (taken in_order x) groups ++ option_
 -- the message that a frame completes, where this is the open group of its key
 abbrev pub gained : Bool → Frame → Option Group → Option PacketParts
 gained in_order x None = message_if x (x ∷ [])
-gained in_order x (Some o) = if bars in_order x.number o then message_if x (x ∷ []) else message_if x (held_of o ++ x ∷ [])
+gained in_order x (Some o) = if rejects in_order x.number o then message_if x (x ∷ []) else message_if x (held_of o ++ x ∷ [])
 
 -- the group that a frame breaks
 abbrev pub lost : Bool → Frame → Option Group → Option Broken
 lost in_order x None = None
-lost in_order x (Some o) = if bars in_order x.number o then Some (broken_of x.key (held_of o)) else None
+lost in_order x (Some o) = if rejects in_order x.number o then Some (broken_of x.key (held_of o)) else None
 
 -- What a line gives, by its frame. Without one that is a message alone, or a cause.
 abbrev pub gives_by : Bool → Option PacketParts → Option BadCause → List Group → Option Frame → Given

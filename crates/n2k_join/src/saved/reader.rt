@@ -3,38 +3,38 @@ ghost use Rattle.std.specs.Prelude.{◌≡◌, map, IfOk};
 ghost use Rattle.serde_json.specs.View.{view};
 ghost use Rattle.n2k_wire.specs.Views.{Gives};
 ghost use Rattle.n2k_join.specs.Refusal.{GivesOrMemory};
-ghost use Rattle.n2k_join.specs.Resumed.{window_at, each, piece_of, key_of, pieces_at, group_of, groups_at, counts_of, id_at, state_of};
+ghost use Rattle.n2k_join.specs.Resumed.{read_window, each, read_piece, read_key, read_pieces, read_group, read_groups, read_counts, read_id, read_state};
 
 use crate::counts::Counts;
-use crate::saved::place::Place;
+use crate::fault::StateFault;
+use crate::saved::object::{Object, StateFormat};
 use crate::saved::spelled::{SpelledGroup, SpelledKey, SpelledPiece, SpelledState};
-use crate::saved::value::{as_whole, digits_of, elements_of, members_at, required, whole_at};
-use crate::state_fault::StateFault;
+use crate::saved::value::{as_int, digits_of, elements_of, int_at, members_at, required};
 use crate::window::Window;
 use serde_json::Value;
 use std::alloc::Global;
 
-#[tactic(auto, unfolding(crate::specs::Resumed::piece_of))]
+#[tactic(auto, unfolding(crate::specs::Resumed::read_piece))]
 fn read_piece(value: &Value) -> Result<SpelledPiece, StateFault>
-    ensures { Gives (λ piece. piece) result (piece_of (view value.now)) }
+    ensures { Gives (λ piece. piece) result (read_piece (view value.now)) }
 {
     match elements_of(value)?.as_slice() {
         [number, bytes] => Ok(SpelledPiece {
-            number: as_whole(number)?,
+            number: as_int(number)?,
             bytes: digits_of::<7>(bytes)?,
         }),
         _ => Err(StateFault::Shape),
     }
 }
 
-#[tactic(auto, unfolding(crate::specs::Resumed::key_of))]
+#[tactic(auto, unfolding(crate::specs::Resumed::read_key))]
 fn read_key(value: &Value) -> Result<SpelledKey, StateFault>
-    ensures { Gives (λ key. key) result (key_of (view value.now)) }
+    ensures { Gives (λ key. key) result (read_key (view value.now)) }
 {
-    let dst = whole_at("dst", value)?;
-    let pgn = whole_at("pgn", value)?;
-    let sequence = whole_at("seq", value)?;
-    let src = whole_at("src", value)?;
+    let dst = int_at("dst", value)?;
+    let pgn = int_at("pgn", value)?;
+    let sequence = int_at("seq", value)?;
+    let src = int_at("src", value)?;
     Ok(SpelledKey {
         src,
         dst,
@@ -43,9 +43,9 @@ fn read_key(value: &Value) -> Result<SpelledKey, StateFault>
     })
 }
 
-// Each of these values as a frame.
+/// Each of these values as a frame.
 fn each_piece(alloc: Global, values: &Vec<Value>) -> Result<Vec<SpelledPiece>, StateFault>
-    ensures { GivesOrMemory (λ pieces. pieces.items) result (each piece_of (map view values.now.items)) }
+    ensures { GivesOrMemory (λ pieces. pieces.items) result (each read_piece (map view values.now.items)) }
 {
     let mut pieces = Vec::new(alloc);
     for value in values {
@@ -54,27 +54,27 @@ fn each_piece(alloc: Global, values: &Vec<Value>) -> Result<Vec<SpelledPiece>, S
     Ok(pieces)
 }
 
-#[tactic(auto, unfolding(crate::specs::Resumed::pieces_at))]
+#[tactic(auto, unfolding(crate::specs::Resumed::read_pieces))]
 fn read_pieces(alloc: Global, value: &Value) -> Result<Vec<SpelledPiece>, StateFault>
-    ensures { GivesOrMemory (λ pieces. pieces.items) result (pieces_at (view value.now)) }
+    ensures { GivesOrMemory (λ pieces. pieces.items) result (read_pieces (view value.now)) }
 {
     each_piece(alloc, elements_of(required("frames", value)?)?)
 }
 
-#[tactic(auto, unfolding(crate::specs::Resumed::group_of))]
+#[tactic(auto, unfolding(crate::specs::Resumed::read_group))]
 fn read_group(alloc: Global, value: &Value) -> Result<SpelledGroup, StateFault>
-    ensures { GivesOrMemory (λ group. group) result (group_of (view value.now)) }
+    ensures { GivesOrMemory (λ group. group) result (read_group (view value.now)) }
 {
-    members_at(Place::Group, value)?;
+    members_at(Object::Group, value)?;
     let key = read_key(value)?;
-    let first = whole_at("first", value)?;
+    let first = int_at("first", value)?;
     let pieces = read_pieces(alloc, value)?;
     Ok(SpelledGroup { first, key, pieces })
 }
 
-// Each of these values as a group.
+/// Each of these values as a group.
 fn each_group(alloc: Global, values: &Vec<Value>) -> Result<Vec<SpelledGroup>, StateFault>
-    ensures { GivesOrMemory (λ groups. groups.items) result (each group_of (map view values.now.items)) }
+    ensures { GivesOrMemory (λ groups. groups.items) result (each read_group (map view values.now.items)) }
 {
     let mut groups = Vec::new(alloc);
     for value in values {
@@ -83,22 +83,22 @@ fn each_group(alloc: Global, values: &Vec<Value>) -> Result<Vec<SpelledGroup>, S
     Ok(groups)
 }
 
-#[tactic(auto, unfolding(crate::specs::Resumed::groups_at))]
+#[tactic(auto, unfolding(crate::specs::Resumed::read_groups))]
 fn read_groups(alloc: Global, value: &Value) -> Result<Vec<SpelledGroup>, StateFault>
-    ensures { GivesOrMemory (λ groups. groups.items) result (groups_at (view value.now)) }
+    ensures { GivesOrMemory (λ groups. groups.items) result (read_groups (view value.now)) }
 {
     each_group(alloc, elements_of(required("groups", value)?)?)
 }
 
-#[tactic(auto, unfolding(crate::specs::Resumed::counts_of))]
+#[tactic(auto, unfolding(crate::specs::Resumed::read_counts))]
 fn read_counts(value: &Value) -> Result<Counts, StateFault>
-    ensures { Gives (λ counts. counts) result (counts_of (view value.now)) }
+    ensures { Gives (λ counts. counts) result (read_counts (view value.now)) }
 {
-    let bad = whole_at("bad", value)?;
-    let broken = whole_at("broken", value)?;
-    let lines = whole_at("lines", value)?;
-    let messages = whole_at("messages", value)?;
-    let unknown = whole_at("unknown", value)?;
+    let bad = int_at("bad", value)?;
+    let broken = int_at("broken", value)?;
+    let lines = int_at("lines", value)?;
+    let messages = int_at("messages", value)?;
+    let unknown = int_at("unknown", value)?;
     Ok(Counts {
         lines,
         messages,
@@ -109,43 +109,43 @@ fn read_counts(value: &Value) -> Result<Counts, StateFault>
     })
 }
 
-#[tactic(auto, unfolding(crate::specs::Resumed::id_at))]
+#[tactic(auto, unfolding(crate::specs::Resumed::read_id))]
 fn read_id(value: &Value) -> Result<[u8; 32], StateFault>
-    ensures { Gives (λ id. id) result (id_at (view value.now)) }
+    ensures { Gives (λ id. id) result (read_id (view value.now)) }
 {
     digits_of::<32>(required("table", value)?)
 }
 
-// The window of a state: that which is handed in, where the state doesn't tell one.
-fn read_window(format: Place, window: u32, value: &Value) -> Result<u64, StateFault>
-    ensures { Gives (λ n. n) result (window_at format window (view value.now)) }
+/// The window of a state: that which is handed in, where the state doesn't tell one.
+fn read_window(format: StateFormat, window: u32, value: &Value) -> Result<u64, StateFault>
+    ensures { Gives (λ n. n) result (read_window format window (view value.now)) }
 {
     match format {
-        Place::WindowState => whole_at("window", value),
-        _ => Ok(u64::from(window)),
+        StateFormat::WithWindow => int_at("window", value),
+        StateFormat::WithoutWindow => Ok(u64::from(window)),
     }
 }
 
 /// The state that a value of a format spells, whatever its numbers.
-#[tactic(auto, unfolding(crate::specs::Resumed::state_of))]
+#[tactic(auto, unfolding(crate::specs::Resumed::read_state))]
 pub(crate) fn read_state(
     alloc: Global,
-    format: Place,
-    rule: Window,
+    format: StateFormat,
+    window: Window,
     value: &Value,
 ) -> Result<SpelledState, StateFault>
-    ensures value { GivesOrMemory (λ state. state) result (state_of format rule (view value.now)) }
-    ensures order { IfOk result (λ state. state.rule.in_order ≡ rule.in_order) }
+    ensures value { GivesOrMemory (λ state. state) result (read_state format window (view value.now)) }
+    ensures order { IfOk result (λ state. state.window.in_order ≡ window.in_order) }
 {
-    members_at(format, value)?;
+    members_at(Object::State(format), value)?;
     let counts = read_counts(value)?;
     let id = read_id(value)?;
     let groups = read_groups(alloc, value)?;
-    let window = read_window(format, rule.get(), value)?;
+    let lines = read_window(format, window.get(), value)?;
     Ok(SpelledState {
         id,
-        window,
-        in_order: rule.is_in_order(),
+        window: lines,
+        in_order: window.is_in_order(),
         counts,
         groups,
     })

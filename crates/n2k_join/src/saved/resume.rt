@@ -15,18 +15,18 @@ ghost use Rattle.std.specs.List.{AllByRecursion};
 ghost use Rattle.n2k_join.specs.Inner.Stored.{key_of};
 ghost use Rattle.n2k_join.specs.Inner.Slots.{group_in, group_at, groups_in};
 
+use crate::fault::StateFault;
 use crate::piece::{FrameKey, OpenGroup};
-use crate::saved::place::Place;
+use crate::saved::object::StateFormat;
 use crate::saved::rules::{key_holds, stored_piece};
 use crate::saved::spelled::{SpelledGroup, SpelledKey, SpelledPiece};
 use crate::saved::{OLD_FORMAT, SAVED_FORMAT};
-use crate::state_fault::StateFault;
 use indexmap::IndexMap;
 use n2k_table::Table;
 use serde_json::Value;
 use std::alloc::Global;
 
-// The group of these frames, where they can be a group's.
+/// The group of these frames, where they can be a group's.
 #[tactic(auto, unfolding(crate::specs::Resumed::pieces_rise))]
 fn stored_pieces(first: u64, pieces: &[SpelledPiece]) -> Option<OpenGroup>
     ensures value { (key : Key) → SomeUnder (group_in key) result (pieces_rise 0 pieces.now)
@@ -43,7 +43,7 @@ fn stored_pieces(first: u64, pieces: &[SpelledPiece]) -> Option<OpenGroup>
     Some(group)
 }
 
-// A key whose parts are small enough.
+/// A key whose parts are small enough.
 fn stored_key(key: &SpelledKey) -> FrameKey
     requires src { key.now.src ≤ greatest_address }
     requires dst { key.now.dst ≤ greatest_address }
@@ -60,7 +60,7 @@ fn stored_key(key: &SpelledKey) -> FrameKey
     }
 }
 
-// An open group with its key, where it can be one under the table.
+/// An open group with its key, where it can be one under the table.
 #[tactic(auto, unfolding(crate::specs::Resumed::group_holds, crate::specs::Resumed::key_holds))]
 fn stored_group(table: &Table, group: &SpelledGroup) -> Option<(FrameKey, OpenGroup)>
     ensures value { SomeUnder group_at result (group_holds (kind table.now) group.now) group.now }
@@ -108,16 +108,16 @@ pub(crate) fn parsed(alloc: Global, bytes: &[u8]) -> Result<Value, StateFault>
     }
 }
 
-/// The format of a value, as the place of its members.
-pub(crate) fn format_in(value: &Value) -> Result<Place, StateFault>
-    ensures { Gives (λ place. place) result (format_in (view value.now)) }
+/// The format of a state's value.
+pub(crate) fn format_in(value: &Value) -> Result<StateFormat, StateFault>
+    ensures { Gives (λ format. format) result (format_in (view value.now)) }
 {
     let Some(format) = value.get("format") else {
         return Err(StateFault::Format);
     };
     match format.as_u64() {
-        Some(OLD_FORMAT) => Ok(Place::State),
-        Some(SAVED_FORMAT) => Ok(Place::WindowState),
+        Some(OLD_FORMAT) => Ok(StateFormat::WithoutWindow),
+        Some(SAVED_FORMAT) => Ok(StateFormat::WithWindow),
         _ => Err(StateFault::Format),
     }
 }

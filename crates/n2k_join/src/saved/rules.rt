@@ -10,12 +10,12 @@ ghost use Rattle.n2k_join.specs.Frames.{most_frames};
 ghost use Rattle.n2k_join.specs.Inner.Apart.{SomeUnder};
 ghost use Rattle.n2k_join.specs.State.{IsPiece};
 ghost use Rattle.n2k_join.specs.Inner.Stored.{piece_of};
-ghost use Rattle.n2k_join.specs.Resumed.{counts_hold, firsts_rise, waits_hold, is_fast, key_holds, total_holds, piece_holds};
+ghost use Rattle.n2k_join.specs.Resumed.{counts_hold, firsts_rise, waits_hold, key_holds, total_holds, piece_holds, is_fast_pgn};
 
 use crate::counts::{Counts, MOST_LINES};
 use crate::frame::{LONGEST_MESSAGE, MOST_FRAMES, MOST_SEQUENCES};
 use crate::piece::StoredPiece;
-use crate::saved::place::Place;
+use crate::saved::object::StateFormat;
 use crate::saved::spelled::{SpelledGroup, SpelledKey, SpelledPiece, SpelledState};
 use crate::window::is_waiting;
 use n2k_table::{Kind, Table};
@@ -57,7 +57,7 @@ pub(crate) fn rules_hold(counts: &Counts, groups: &[SpelledGroup]) -> bool
     counts_hold(counts, groups.len() as u64) && firsts_rise(counts.lines, groups)
 }
 
-// Whether no group's window has ended.
+/// Whether no group's window has ended.
 fn are_waiting(state: &SpelledState) -> bool
     ensures { result ≡ are_waiting state.now }
 {
@@ -69,19 +69,19 @@ fn are_waiting(state: &SpelledState) -> bool
     true
 }
 
-/// Whether no group's window has ended, where the state tells its window.
-pub(crate) fn waits_hold(format: Place, state: &SpelledState) -> bool
+/// Whether no group's window has ended, where the state has its window.
+pub(crate) fn waits_hold(format: StateFormat, state: &SpelledState) -> bool
     ensures { result ≡ waits_hold format state.now }
 {
     match format {
-        Place::WindowState => are_waiting(state),
-        _ => true,
+        StateFormat::WithWindow => are_waiting(state),
+        StateFormat::WithoutWindow => true,
     }
 }
 
-fn is_fast(table: &Table, pgn: u64) -> bool
+fn is_fast_pgn(table: &Table, pgn: u64) -> bool
     requires { pgn ≤ greatest_pgn }
-    ensures { result ≡ is_fast (kind table.now pgn) }
+    ensures { result ≡ is_fast_pgn (kind table.now pgn) }
 {
     match table.kind(pgn as u32) {
         Some(Kind::Fast) => true,
@@ -95,24 +95,24 @@ pub(crate) fn key_holds(table: &Table, key: &SpelledKey) -> bool
     ensures { result ≡ key_holds (kind table.now) key.now }
 {
     key.pgn <= u64::from(GREATEST_PGN)
-        && (is_fast(table, key.pgn)
+        && (is_fast_pgn(table, key.pgn)
             && (key.src <= GREATEST_ADDRESS
                 && (key.dst <= GREATEST_ADDRESS && key.sequence < u64::from(MOST_SEQUENCES))))
 }
 
-// Whether a frame has a total that isn't too large, where it has the number 0.
+/// Whether a frame has a total that isn't too large, where it has the number 0.
 fn total_holds(number: u64, bytes: &[u8; 7]) -> bool
     ensures { result ≡ total_holds number bytes.now }
 {
     number != 0 || bytes[0] <= LONGEST_MESSAGE
 }
 
-// What the type says of bytes.
+/// What the type says of bytes.
 fn know_bytes(bytes: &[u8])
     ensures { AllByRecursion (λ byte. byte < 256) bytes.now }
 {}
 
-// The piece of a number and its bytes.
+/// The piece of a number and its bytes.
 fn piece_of_parts(number: u8, bytes: &[u8; 7]) -> StoredPiece
     requires small { number < most_frames }
     requires total { total_holds number bytes.now ≡ true }

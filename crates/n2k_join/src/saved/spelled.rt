@@ -1,4 +1,4 @@
-//! What a text spells as a state, before the rules of a valid state are asked: its numbers may be any.
+//! What a text spells as a state, before the rules of a valid state are tested: its numbers may be any.
 
 use crate::counts::Counts;
 use std::marker::Model;
@@ -51,7 +51,7 @@ impl Model for SpelledGroup {
     ghost view = { λ g. record { first = g.first; key = g.key; pieces = g.pieces.items } };
 }
 
-/// A state. The count of open groups is their number. Where its text tells no window, that is the one which is handed
+/// A state. The count of open groups is their number. Where its text has no window, that is the one which is handed
 /// in, as the order of frames always is.
 #[derive(Drop)]
 pub(crate) struct SpelledState {
@@ -70,7 +70,7 @@ impl Model for SpelledState {
 
     ghost view = { λ s. record {
       id = s.id;
-      rule = record { window = s.window; in_order = s.in_order };
+      window = record { lines = s.window; in_order = s.in_order };
       counts = record s.counts { held = length s.groups.items };
       groups = s.groups.items;
     } };

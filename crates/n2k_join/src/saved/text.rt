@@ -5,7 +5,7 @@ ghost use Rattle.json.specs.Token.{Token};
 ghost use Rattle.n2k_join.specs.Frames.{most_frames};
 ghost use Rattle.n2k_join.specs.Open.{piece_at};
 ghost use Rattle.n2k_join.specs.Saved.{piece_tree, group_tree, state_tree, state_text, IsId};
-ghost use Rattle.n2k_join.specs.Inner.SavedTokens.{Appends, tokens_of, count_tokens, piece_tokens, pieces_tokens, frames_tokens, key_tokens, groups_tokens, open_tokens, front_tokens, lines_tokens, table_tokens, back_tokens, window_tokens};
+ghost use Rattle.n2k_join.specs.Inner.SavedTokens.{AppendsTokens, tokens_of, count_tokens, piece_tokens, pieces_tokens, frames_tokens, key_tokens, groups_tokens, open_tokens, front_tokens, lines_tokens, table_tokens, back_tokens, window_tokens};
 ghost use Rattle.std.specs.List.{list_all};
 ghost use Rattle.n2k_join.specs.Open.{is_waiting};
 ghost use Rattle.n2k_join.specs.Inner.Stored.{key_of};
@@ -24,13 +24,13 @@ use std::str;
 
 /// Writes a member that is a whole number.
 fn push_count(name: &str, number: u64, out: &mut Writer) -> Result<(), AllocError>
-    ensures { Appends result out.old out.new (count_tokens name.now number) }
+    ensures { AppendsTokens result out.old out.new (count_tokens name.now number) }
 {
     out.key(name)?;
     out.u64(number)
 }
 
-// Digits as text.
+/// The digits, which are UTF-8, as text.
 fn text_of(digits: &[u8]) -> &str
     requires { IsUtf8 digits.now }
     ensures { result.now ≡ digits.now }
@@ -38,7 +38,7 @@ fn text_of(digits: &[u8]) -> &str
     str::from_utf8(digits).unwrap()
 }
 
-// Writes bytes as hexadecimal digits, two for each.
+/// Writes bytes as hexadecimal digits, two for each.
 #[tactic(auto, using(crate::proofs::SavedDigits::digits))]
 fn push_digits<const COUNT: usize, const DIGITS: usize>(
     bytes: &[u8; COUNT],
@@ -46,7 +46,7 @@ fn push_digits<const COUNT: usize, const DIGITS: usize>(
 ) -> Result<(), AllocError>
     requires two { DIGITS ≡ 2 * COUNT }
     requires few { DIGITS ≤ 64 }
-    ensures { Appends result out.old out.new (Token.string (encode_lower bytes.now) ∷ []) }
+    ensures { AppendsTokens result out.old out.new (Token.string (encode_lower bytes.now) ∷ []) }
 {
     let mut digits = [0; DIGITS];
     let _ = hex::encode_to_slice(bytes, &mut digits);
@@ -56,7 +56,7 @@ fn push_digits<const COUNT: usize, const DIGITS: usize>(
 /// Writes a frame of a group: its number and its bytes.
 #[tactic(auto, unfolding(crate::specs::Saved::piece_tree))]
 fn push_piece(number: u8, bytes: &[u8; 7], out: &mut Writer) -> Result<(), AllocError>
-    ensures { Appends result out.old out.new (tokens_of (piece_tree (record { number = number; bytes = bytes.now }))) }
+    ensures { AppendsTokens result out.old out.new (tokens_of (piece_tree (record { number = number; bytes = bytes.now }))) }
 {
     out.begin_array()?;
     out.u64(u64::from(number))?;
@@ -64,10 +64,10 @@ fn push_piece(number: u8, bytes: &[u8; 7], out: &mut Writer) -> Result<(), Alloc
     out.end_array()
 }
 
-// Writes the frame of a number, where the group has it.
+/// Writes the frame of a number, where the group has it.
 fn push_numbered(group: &OpenGroup, number: u8, out: &mut Writer) -> Result<(), AllocError>
     requires { number < most_frames }
-    ensures { Appends result out.old out.new (piece_tokens (piece_at (slot_of group.now) number)) }
+    ensures { AppendsTokens result out.old out.new (piece_tokens (piece_at (slot_of group.now) number)) }
 {
     match group.carried(number) {
         Some(bytes) => push_piece(number, bytes, out),
@@ -75,9 +75,9 @@ fn push_numbered(group: &OpenGroup, number: u8, out: &mut Writer) -> Result<(), 
     }
 }
 
-// Writes the frames of a group, by rising number.
+/// Writes the frames of a group, by rising number.
 fn push_pieces(group: &OpenGroup, out: &mut Writer) -> Result<(), AllocError>
-    ensures { Appends result out.old out.new (pieces_tokens (pieces_in group.now)) }
+    ensures { AppendsTokens result out.old out.new (pieces_tokens (pieces_in group.now)) }
 {
     for number in 0..MOST_FRAMES {
         push_numbered(group, number, out)?;
@@ -85,9 +85,9 @@ fn push_pieces(group: &OpenGroup, out: &mut Writer) -> Result<(), AllocError>
     Ok(())
 }
 
-// Writes the frames of a group as a member.
+/// Writes the frames of a group as a member.
 fn push_frames(group: &OpenGroup, out: &mut Writer) -> Result<(), AllocError>
-    ensures { Appends result out.old out.new (frames_tokens (pieces_in group.now)) }
+    ensures { AppendsTokens result out.old out.new (frames_tokens (pieces_in group.now)) }
 {
     out.key("frames")?;
     out.begin_array()?;
@@ -96,18 +96,18 @@ fn push_frames(group: &OpenGroup, out: &mut Writer) -> Result<(), AllocError>
     Ok(())
 }
 
-// Writes what the frames of a group have in common, but for the destination.
+/// Writes what the frames of a group have in common, but for the destination.
 fn push_key(key: &FrameKey, out: &mut Writer) -> Result<(), AllocError>
-    ensures { Appends result out.old out.new (key_tokens (key_of key.now)) }
+    ensures { AppendsTokens result out.old out.new (key_tokens (key_of key.now)) }
 {
     push_count("pgn", u64::from(key.pgn), out)?;
     push_count("seq", u64::from(key.sequence), out)?;
     push_count("src", u64::from(key.src), out)
 }
 
-// Writes an open group.
+/// Writes an open group.
 fn push_group(key: &FrameKey, group: &OpenGroup, out: &mut Writer) -> Result<(), AllocError>
-    ensures { Appends result out.old out.new (tokens_of (group_tree (group_in (key_of key.now) group.now))) }
+    ensures { AppendsTokens result out.old out.new (tokens_of (group_tree (group_in (key_of key.now) group.now))) }
 {
     out.begin_object()?;
     push_count("dst", u64::from(key.dst), out)?;
@@ -118,9 +118,9 @@ fn push_group(key: &FrameKey, group: &OpenGroup, out: &mut Writer) -> Result<(),
     Ok(())
 }
 
-// Writes the open groups as a member.
+/// Writes the open groups as a member.
 fn push_groups(groups: &IndexMap<FrameKey, OpenGroup>, out: &mut Writer) -> Result<(), AllocError>
-    ensures { Appends result out.old out.new (groups_tokens (groups_in groups.now.entries)) }
+    ensures { AppendsTokens result out.old out.new (groups_tokens (groups_in groups.now.entries)) }
 {
     for (key, group) in groups.iter() {
         push_group(key, group, out)?;
@@ -128,9 +128,9 @@ fn push_groups(groups: &IndexMap<FrameKey, OpenGroup>, out: &mut Writer) -> Resu
     Ok(())
 }
 
-// Writes the member `groups`.
+/// Writes the member `groups`.
 fn push_open(groups: &IndexMap<FrameKey, OpenGroup>, out: &mut Writer) -> Result<(), AllocError>
-    ensures { Appends result out.old out.new (open_tokens (groups_in groups.now.entries)) }
+    ensures { AppendsTokens result out.old out.new (open_tokens (groups_in groups.now.entries)) }
 {
     out.key("groups")?;
     out.begin_array()?;
@@ -139,61 +139,65 @@ fn push_open(groups: &IndexMap<FrameKey, OpenGroup>, out: &mut Writer) -> Result
     Ok(())
 }
 
-// Writes the members before `groups`, of a state that tells its window or doesn't.
-fn push_front(tells: bool, counts: &Counts, out: &mut Writer) -> Result<(), AllocError>
-    ensures { Appends result out.old out.new (front_tokens tells counts.now) }
+/// Writes the members before `groups`, of a state with its window or without.
+fn push_front(with_window: bool, counts: &Counts, out: &mut Writer) -> Result<(), AllocError>
+    ensures { AppendsTokens result out.old out.new (front_tokens with_window counts.now) }
 {
-    let format = if tells { SAVED_FORMAT } else { OLD_FORMAT };
+    let format = if with_window {
+        SAVED_FORMAT
+    } else {
+        OLD_FORMAT
+    };
     push_count("bad", counts.bad, out)?;
     push_count("broken", counts.broken, out)?;
     push_count("format", format, out)
 }
 
-// Writes the member `table`.
+/// Writes the member `table`.
 fn push_table(id: &[u8; 32], out: &mut Writer) -> Result<(), AllocError>
-    ensures { Appends result out.old out.new (table_tokens id.now) }
+    ensures { AppendsTokens result out.old out.new (table_tokens id.now) }
 {
     out.key("table")?;
     push_digits::<32, 64>(id, out)
 }
 
-// Writes the counts of lines and messages.
+/// Writes the counts of lines and messages.
 fn push_lines(counts: &Counts, out: &mut Writer) -> Result<(), AllocError>
-    ensures { Appends result out.old out.new (lines_tokens counts.now) }
+    ensures { AppendsTokens result out.old out.new (lines_tokens counts.now) }
 {
     push_count("lines", counts.lines, out)?;
     push_count("messages", counts.messages, out)
 }
 
-// Writes the member `window`, where the state tells it.
-fn push_window(tells: bool, window: u32, out: &mut Writer) -> Result<(), AllocError>
-    ensures { Appends result out.old out.new (window_tokens tells window) }
+/// Writes the member `window`, where the state has it.
+fn push_window(with_window: bool, window: u32, out: &mut Writer) -> Result<(), AllocError>
+    ensures { AppendsTokens result out.old out.new (window_tokens with_window window) }
 {
-    if tells {
+    if with_window {
         push_count("window", u64::from(window), out)
     } else {
         Ok(())
     }
 }
 
-// Writes the members behind `groups`.
+/// Writes the members behind `groups`.
 fn push_back(
-    tells: bool,
+    with_window: bool,
     id: &[u8; 32],
     window: Window,
     counts: &Counts,
     out: &mut Writer,
 ) -> Result<(), AllocError>
-    ensures { Appends result out.old out.new (back_tokens tells id.now window.window counts.now) }
+    ensures { AppendsTokens result out.old out.new (back_tokens with_window id.now window.lines counts.now) }
 {
     push_lines(counts, out)?;
     push_table(id, out)?;
     push_count("unknown", counts.unknown, out)?;
-    push_window(tells, window.get(), out)?;
+    push_window(with_window, window.get(), out)?;
     Ok(())
 }
 
-// Whether no group's window has ended.
+/// Whether no group's window has ended.
 fn are_waiting(window: Window, lines: u64, groups: &IndexMap<FrameKey, OpenGroup>) -> bool
     ensures { result ≡ list_all (is_waiting window lines) (groups_in groups.now.entries) }
 {
@@ -206,7 +210,7 @@ fn are_waiting(window: Window, lines: u64, groups: &IndexMap<FrameKey, OpenGroup
     true
 }
 
-// Writes a state, which tells its window where no group's has ended.
+/// Writes a state: with its window, where no group's has ended.
 fn push_state(
     id: &[u8; 32],
     window: Window,
@@ -214,18 +218,18 @@ fn push_state(
     groups: &IndexMap<FrameKey, OpenGroup>,
     out: &mut Writer,
 ) -> Result<(), AllocError>
-    ensures { Appends result out.old out.new (tokens_of (state_tree (record {
+    ensures { AppendsTokens result out.old out.new (tokens_of (state_tree (record {
       id = id.now;
-      rule = window;
+      window = window;
       counts = counts.now;
       groups = groups_in groups.now.entries;
     }))) }
 {
-    let tells = are_waiting(window, counts.lines, groups);
+    let with_window = are_waiting(window, counts.lines, groups);
     out.begin_object()?;
-    push_front(tells, counts, out)?;
+    push_front(with_window, counts, out)?;
     push_open(groups, out)?;
-    push_back(tells, id, window, counts, out)?;
+    push_back(with_window, id, window, counts, out)?;
     out.end_object()?;
     Ok(())
 }
@@ -241,7 +245,7 @@ pub(crate) fn state_text(
     ensures id { IsId id.now }
     ensures text { IfOk result (λ text. text.items ≡ state_text (record {
       id = id.now;
-      rule = window;
+      window = window;
       counts = counts.now;
       groups = groups_in groups.now.entries;
     })) }

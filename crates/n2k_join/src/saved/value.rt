@@ -3,30 +3,30 @@ ghost use Rattle.std.specs.Prelude.{◌≡◌, map};
 ghost use Rattle.serde_json.specs.View.{view, members_view};
 ghost use Rattle.n2k_wire.specs.Views.{Gives};
 ghost use Rattle.n2k_wire.specs.Steps.{or_cause};
-ghost use Rattle.n2k_join.specs.Resumed.{has_only, members_at, required, as_whole, whole_at, digits_of, elements_of};
+ghost use Rattle.n2k_join.specs.Resumed.{has_only, members_at, required, as_int, int_at, digits_of, elements_of};
 
-use crate::saved::place::Place;
-use crate::state_fault::StateFault;
+use crate::fault::StateFault;
+use crate::saved::object::Object;
 use serde_json::{Map, Value};
 
-// Whether each member is one of the place.
-fn has_only(members: &Map<String, Value>, place: Place) -> bool
-    ensures { result ≡ has_only place (members_view members.now.entries) }
+/// Whether each member is one of the object.
+fn has_only(members: &Map<String, Value>, object: Object) -> bool
+    ensures { result ≡ has_only object (members_view members.now.entries) }
 {
     for name in members.keys() {
-        if !place.has(name.as_str()) {
+        if !object.has(name.as_str()) {
             return false;
         }
     }
     true
 }
 
-/// An object that has no member but those of the place.
-pub(crate) fn members_at(place: Place, value: &Value) -> Result<(), StateFault>
-    ensures { Gives (λ done. done) result (members_at place (view value.now)) }
+/// Refuses a value that is no object, or that has a member which the object hasn't.
+pub(crate) fn members_at(object: Object, value: &Value) -> Result<(), StateFault>
+    ensures { Gives (λ done. done) result (members_at object (view value.now)) }
 {
     let members = value.as_object().ok_or(StateFault::Shape)?;
-    if !has_only(members, place) {
+    if !has_only(members, object) {
         return Err(StateFault::Shape);
     }
     Ok(())
@@ -40,17 +40,17 @@ pub(crate) fn required<'a>(name: &str, value: &'a Value) -> Result<&'a Value, St
 }
 
 /// The whole number that a value is.
-pub(crate) fn as_whole(value: &Value) -> Result<u64, StateFault>
-    ensures { Gives (λ number. number) result (or_cause StateFault.Shape (as_whole (view value.now))) }
+pub(crate) fn as_int(value: &Value) -> Result<u64, StateFault>
+    ensures { Gives (λ number. number) result (or_cause StateFault.Shape (as_int (view value.now))) }
 {
     value.as_u64().ok_or(StateFault::Shape)
 }
 
 /// The whole number at a name.
-pub(crate) fn whole_at(name: &str, value: &Value) -> Result<u64, StateFault>
-    ensures { Gives (λ number. number) result (whole_at name.now (view value.now)) }
+pub(crate) fn int_at(name: &str, value: &Value) -> Result<u64, StateFault>
+    ensures { Gives (λ number. number) result (int_at name.now (view value.now)) }
 {
-    as_whole(required(name, value)?)
+    as_int(required(name, value)?)
 }
 
 /// The bytes that hexadecimal digits spell.

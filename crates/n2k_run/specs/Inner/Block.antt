@@ -1,4 +1,4 @@
--- How a block stands: its places in order, and what each private step of it does.
+-- A block: its places in order, and what each private step of it does.
 use Rattle.std.specs.Prelude.{◌≡◌, ◌⊎◌, ◌<◌, ◌≤◌, ◌+◌, ◌-◌, ℕ, Bool, true, false, List, [], ◌∷◌, ◌++◌, length, take, drop, slice_range, Option, MatchOption, Result, Ok, Err}
 use Rattle.std.specs.Io.KnownBytes.{IsAtEnd}
 use Rattle.n2k_wire.specs.Entry.{longest_line}
@@ -14,7 +14,7 @@ use Rattle.n2k_run.specs.Reading.{idle_calls, most_reads}
 abbrev pub block_bytes : ℕ
 block_bytes = 4096
 
--- the first line feed stands at that place
+-- the first line feed is at that place
 pub record EndsAt (bytes : List ℕ) (end : ℕ) : Type 0 where
   pub within : end < length bytes
   pub no_feed : HasNoFeed (take end bytes)
@@ -32,8 +32,8 @@ pub record HasPlaces (block : Inside) : Type 0 where
   pub finds : FindsEnd (slice_range block.block block.start block.end) block.feed
   pub few_reads : block.reads ≤ most_reads
 
-abbrev pub held_of : Inside → Held
-held_of block = record {
+abbrev pub block_view : Inside → Held
+block_view block = record {
   kept = slice_range block.block block.start block.end;
   is_passing = block.is_passing;
   has_ended = block.has_ended;
@@ -52,16 +52,16 @@ Judges was_passing text line End = ⊥
 abbrev pub MakesRoom : List ℕ → List ℕ → Type 0
 MakesRoom old new = (new ≡ old) ⊎ ((longest_line + 1 < length old) × (new ≡ passed))
 
--- what an answer is, where the line that it lends stands beside it
-abbrev pub Finds : List ℕ → Held → Option (List ℕ) → Found → Type 0
-Finds whole new left Line =
+-- what an answer is, where the line that it lends is beside it
+abbrev pub FindsLine : List ℕ → Held → Option (List ℕ) → Found → Type 0
+FindsLine whole new left Line =
     FirstLine whole new.line (unanswered new) new.has_ended left × (length new.line ≤ longest_line)
-Finds whole new left Long = FirstLong whole (unanswered new) new.has_ended left
-Finds whole new left End = IsAtEnd left × (new.has_ended ≡ true) × (whole ≡ []) × (unanswered new ≡ [])
+FindsLine whole new left Long = FirstLong whole (unanswered new) new.has_ended left
+FindsLine whole new left End = IsAtEnd left × (new.has_ended ≡ true) × (whole ≡ []) × (unanswered new ≡ [])
 
 -- an answer whose line is lent later
 abbrev pub GivesFound : List ℕ → Held → Option (List ℕ) → Result Found Failed → Type 0
-GivesFound whole new left (Ok found) = Finds whole new left found
+GivesFound whole new left (Ok found) = FindsLine whole new left found
 GivesFound whole new left (Err failed) = HasNoFeed whole × Stays whole (unanswered new)
 
 abbrev pub AnswersFound : Held → Held → Option (List ℕ) → Option (List ℕ) → ℕ → ℕ → Result Found Failed → Type 0

@@ -4,7 +4,7 @@ use Rattle.n2k_wire.specs.declared.entry.Entry.{Entry}
 use Rattle.n2k_join.specs.declared.counts.Counts.{Counts}
 use Rattle.n2k_join.specs.Counts.{most_lines}
 use Rattle.n2k_run.specs.Entries.{is_bad}
-use Rattle.n2k_run.specs.Making.{Making}
+use Rattle.n2k_run.specs.Fold.{Fold}
 use Rattle.n2k_run.specs.Reports.{bad_report}
 
 -- no count is above that of the lines, and no more lines are counted than there can be
@@ -15,8 +15,8 @@ pub record AreLineCounts (c : Counts) : Type 0 where
   pub unknown : c.unknown ≤ c.lines
 
 -- the counts with one more entry
-abbrev pub counted : (Entry → Bool) → (Entry → Bool) → Counts → Entry → Counts
-counted is_message is_unknown c e = record c {
+abbrev pub line_counts_after : (Entry → Bool) → (Entry → Bool) → Counts → Entry → Counts
+line_counts_after is_message is_unknown c e = record c {
   lines = c.lines + 1;
   messages = c.messages + (if is_message e then 1 else 0);
   bad = c.bad + (if is_bad e then 1 else 0);
@@ -24,8 +24,8 @@ counted is_message is_unknown c e = record c {
 }
 
 -- the counts with all of these
-abbrev pub counted_all : (Entry → Bool) → (Entry → Bool) → Counts → List Entry → Counts
-counted_all is_message is_unknown c es = record c {
+abbrev pub all_line_counts_after : (Entry → Bool) → (Entry → Bool) → Counts → List Entry → Counts
+all_line_counts_after is_message is_unknown c es = record c {
   lines = c.lines + length es;
   messages = c.messages + count_by is_message es;
   bad = c.bad + count_by is_bad es;
@@ -33,10 +33,10 @@ counted_all is_message is_unknown c es = record c {
 }
 
 -- each entry gives its text alone, and a report where it is bad
-abbrev pub counting : (Entry → List ℕ) → (Entry → Bool) → (Entry → Bool) → Making Counts
-counting text is_message is_unknown = record {
+abbrev pub counting_fold : (Entry → List ℕ) → (Entry → Bool) → (Entry → Bool) → Fold Counts
+counting_fold text is_message is_unknown = record {
   text = λ c e. text e;
   report = λ c e. bad_report (c.lines + 1) e;
-  after = counted is_message is_unknown;
+  after = line_counts_after is_message is_unknown;
   lines = λ c. c.lines;
 }

@@ -1,4 +1,4 @@
--- How the engine of the runs stands between two lines, and what each step of it does.
+-- The engine of the runs between two lines, and what each step of it does.
 use Rattle.std.specs.Prelude.{◌≡◌, ◌⊎◌, ◌<◌, ◌+◌, ℕ, true, false, if◌then◌else◌, List, [], ◌++◌, length, Option, Result, Ok, Err}
 use Rattle.std.specs.Io.{IsEmptyOrEndsWith}
 use Rattle.std.specs.Io.KnownBytes.{Appends, Consumes, IsAtEnd}
@@ -12,13 +12,13 @@ use Rattle.n2k_run.specs.Blocks.{Held, CallsAre, FirstLine, HasNoFeed, unanswere
 use Rattle.n2k_run.specs.Device.{HasFailed}
 use Rattle.n2k_run.specs.Entries.{entries}
 use Rattle.n2k_run.specs.Lines.{line_feed}
-use Rattle.n2k_run.specs.Making.{Making, after_all, texts_from, reports_from}
+use Rattle.n2k_run.specs.Fold.{Fold, after_all, texts_from, reports_from}
 use Rattle.n2k_run.specs.Reading.{ReadsBytes, most_reads}
 use Rattle.n2k_run.specs.Runs.{AreNumbered, Devices, NoneFailed}
 use Rattle.n2k_run.specs.Writing.{AppendsFront}
 
--- a maker took an entry: the state, the text and the report moved on
-pub record MovesOn {S : Type 0} (m : Making S) (s s' : S) (x : Entry)
+-- a handler took an entry: the state, the text and the report moved on
+pub record MovesOn {S : Type 0} (m : Fold S) (s s' : S) (x : Entry)
     (text text' report report' : List ℕ) : Type 0 where
   pub state_after : s' ≡ m.after s x
   pub text_after : text' ≡ text ++ m.text s x
@@ -26,20 +26,20 @@ pub record MovesOn {S : Type 0} (m : Making S) (s s' : S) (x : Entry)
   pub counted : m.lines s' ≡ m.lines s + 1
   pub few : m.lines s < most_lines
 
--- nothing moved
-pub record StandsStill {S : Type 0} (s s' : S) (text text' report report' : List ℕ) : Type 0 where
+-- the state, the text and the report are as they were
+pub record Unmoved {S : Type 0} (s s' : S) (text text' report report' : List ℕ) : Type 0 where
   pub same_state : s' ≡ s
   pub same_text : text' ≡ text
   pub same_report : report' ≡ report
 
--- what a maker answers on an entry
-abbrev pub Takes : {S T : Type 0} → Making S → S → S → Entry → List ℕ → List ℕ → List ℕ → List ℕ → Result T RunFault
+-- what a handler answers on an entry
+abbrev pub TakesEntry : {S T : Type 0} → Fold S → S → S → Entry → List ℕ → List ℕ → List ℕ → List ℕ → Result T RunFault
     → Type 0
-Takes m s s' x text text' report report' (Ok y) = MovesOn m s s' x text text' report report'
-Takes m s s' x text text' report report' (Err TooManyLines) =
-    StandsStill s s' text text' report report' × (m.lines s ≡ most_lines)
-Takes m s s' x text text' report report' (Err Memory) = Unit {0}
-Takes m s s' x text text' report report' _ = ⊥
+TakesEntry m s s' x text text' report report' (Ok y) = MovesOn m s s' x text text' report report'
+TakesEntry m s s' x text text' report report' (Err TooManyLines) =
+    Unmoved s s' text text' report report' × (m.lines s ≡ most_lines)
+TakesEntry m s s' x text text' report report' (Err Memory) = Unit {0}
+TakesEntry m s s' x text text' report report' _ = ⊥
 
 -- the next line of the log, and its entry
 pub record NextEntry (packing : Packing) (old new : Held) (left₀ left : Option (List ℕ)) (x : Entry) : Type 0 where
@@ -49,7 +49,7 @@ pub record NextEntry (packing : Packing) (old new : Held) (left₀ left : Option
   pub first : FirstLine (unanswered old ++ came) line (unanswered new) new.has_ended left
   pub entry_is : x ≡ entry line packing
 
--- there is none
+-- the log has no next line
 pub record NoneNext (old new : Held) (left₀ left : Option (List ℕ)) : Type 0 where
   pub came : List ℕ
   pub given : Consumes left₀ left came
@@ -58,51 +58,51 @@ pub record NoneNext (old new : Held) (left₀ left : Option (List ℕ)) : Type 0
   pub has_ended : new.has_ended ≡ true
   pub at_end : IsAtEnd left
 
--- it didn't come
+-- the next line didn't come
 pub record FailsNext (old : Held) (left₀ left : Option (List ℕ)) : Type 0 where
   pub came : List ℕ
   pub given : Consumes left₀ left came
   pub none : HasNoFeed (unanswered old ++ came)
 
 -- what is done at the next line
-abbrev pub TakesNext : {S T : Type 0} → Making S → Packing → S → S → Held → Held → Option (List ℕ) → Option (List ℕ)
+abbrev pub TakesNext : {S T : Type 0} → Fold S → Packing → S → S → Held → Held → Option (List ℕ) → Option (List ℕ)
     → List ℕ → List ℕ → List ℕ → List ℕ → Result T RunFault → Type 0
 TakesNext m packing s s' old new left₀ left text text' report report' (Ok y) =
     ((x : Entry) × NextEntry packing old new left₀ left x × MovesOn m s s' x text text' report report')
-    ⊎ (NoneNext old new left₀ left × StandsStill s s' text text' report report')
+    ⊎ (NoneNext old new left₀ left × Unmoved s s' text text' report report')
 TakesNext m packing s s' old new left₀ left text text' report report' (Err TooManyLines) =
-    (x : Entry) × NextEntry packing old new left₀ left x × StandsStill s s' text text' report report'
+    (x : Entry) × NextEntry packing old new left₀ left x × Unmoved s s' text text' report report'
     × (m.lines s ≡ most_lines)
 TakesNext m packing s s' old new left₀ left text text' report report' (Err Read) =
-    FailsNext old left₀ left × StandsStill s s' text text' report report' × (text' ≡ []) × (report' ≡ [])
+    FailsNext old left₀ left × Unmoved s s' text text' report report' × (text' ≡ []) × (report' ≡ [])
 TakesNext m packing s s' old new left₀ left text text' report report' (Err Memory) = Unit {0}
 TakesNext m packing s s' old new left₀ left text text' report report' _ = ⊥
 
--- the source's failures at it: none where a line or the end was found, also where the maker refuses the line
+-- the source's failures at it: none where a line or the end was found, also where the handler refuses the line
 abbrev pub ReadsNext : {T : Type 0} → Held → ℕ → ℕ → Result T RunFault → Type 0
 ReadsNext new failed₀ failed (Err Read) = HasFailed failed₀ failed ⊎ ((new.reads ≡ most_reads) × (failed ≡ failed₀))
 ReadsNext new failed₀ failed (Err Write) = Unit {0}
 ReadsNext new failed₀ failed (Err Report) = Unit {0}
 ReadsNext new failed₀ failed _ = failed ≡ failed₀
 
--- what is kept is written, the reports first; a sink that fails had something to write
-abbrev pub WritesKept : {T : Type 0} → List ℕ → List ℕ → Option (List ℕ) → Option (List ℕ) → Option (List ℕ)
+-- what is pending is written, the reports first; a sink that fails had something to write
+abbrev pub WritesPending : {T : Type 0} → List ℕ → List ℕ → Option (List ℕ) → Option (List ℕ) → Option (List ℕ)
     → Option (List ℕ) → Result T RunFault → Type 0
-WritesKept text report w w' e e' (Ok x) = Appends w w' text × Appends e e' report
-WritesKept text report w w' e e' (Err Report) = (w' ≡ w) × AppendsFront e e' report × (0 < length report)
-WritesKept text report w w' e e' (Err Write) = AppendsFront w w' text × Appends e e' report × (0 < length text)
-WritesKept text report w w' e e' _ = ⊥
+WritesPending text report w w' e e' (Ok x) = Appends w w' text × Appends e e' report
+WritesPending text report w w' e e' (Err Report) = (w' ≡ w) × AppendsFront e e' report × (0 < length report)
+WritesPending text report w w' e e' (Err Write) = AppendsFront w w' text × Appends e e' report × (0 < length text)
+WritesPending text report w w' e e' _ = ⊥
 
 -- the sinks' failures at it
-abbrev pub FailsKept : {T : Type 0} → ℕ → ℕ → ℕ → ℕ → Result T RunFault → Type 0
-FailsKept writes₀ writes reports₀ reports (Ok x) = (writes ≡ writes₀) × (reports ≡ reports₀)
-FailsKept writes₀ writes reports₀ reports (Err Write) = HasFailed writes₀ writes × (reports ≡ reports₀)
-FailsKept writes₀ writes reports₀ reports (Err Report) = HasFailed reports₀ reports × (writes ≡ writes₀)
-FailsKept writes₀ writes reports₀ reports _ = ⊥
+abbrev pub FailsPending : {T : Type 0} → ℕ → ℕ → ℕ → ℕ → Result T RunFault → Type 0
+FailsPending writes₀ writes reports₀ reports (Ok x) = (writes ≡ writes₀) × (reports ≡ reports₀)
+FailsPending writes₀ writes reports₀ reports (Err Write) = HasFailed writes₀ writes × (reports ≡ reports₀)
+FailsPending writes₀ writes reports₀ reports (Err Report) = HasFailed reports₀ reports × (writes ≡ writes₀)
+FailsPending writes₀ writes reports₀ reports _ = ⊥
 
 -- What was made of these entries: of the first of them the texts and reports are written to the sinks, of the others
 -- they are kept.
-pub record Made {S : Type 0} (m : Making S) (s₀ s : S) (es : List Entry) (text report : List ℕ)
+pub record Made {S : Type 0} (m : Fold S) (s₀ s : S) (es : List Entry) (text report : List ℕ)
     (w₀ w e₀ e : Option (List ℕ)) : Type 0 where
   pub written : List Entry
   pub kept : List Entry
@@ -116,11 +116,11 @@ pub record Made {S : Type 0} (m : Making S) (s₀ s : S) (es : List Entry) (text
   pub numbered : AreNumbered (m.lines s₀) es
 
 -- The engine between two lines: what came of the log is what was taken and what the block holds.
-pub record Stands {S : Type 0} (m : Making S) (packing : Packing) (s₀ s : S) (held : Held) (text report : List ℕ)
+pub record BetweenLines {S : Type 0} (m : Fold S) (packing : Packing) (s₀ s : S) (held : Held) (text report : List ℕ)
     (before now : Devices) : Type 0 where
   pub front : List ℕ
   pub came : Consumes before.left now.left (front ++ unanswered held)
-  -- it ends with a line, unless the log has ended
+  -- what was taken ends with a line, unless the log has ended
   pub whole : held.has_ended ≡ false → IsEmptyOrEndsWith front line_feed
   pub end : held.has_ended ≡ true → (unanswered held ≡ []) × IsAtEnd now.left
   pub made : Made m s₀ s (entries packing front) text report before.written now.written before.reported now.reported

@@ -1,14 +1,14 @@
 -- What the steps of a run of a part answer, and the source of a part that lies in memory.
 use Rattle.std.specs.Prelude.{◌≡◌, ℕ, List, Option, Result, Ok, Err}
 use Rattle.n2k_table.specs.declared.definition.Kind.{Kind}
-use Rattle.n2k_join.specs.Resumed.{judged}
+use Rattle.n2k_join.specs.Resumed.{resumed}
 use Rattle.n2k_join.specs.Saved.{IsId, state_text}
 use Rattle.n2k_join.specs.State.{State, AreFast}
 use Rattle.n2k_run.specs.declared.fault.RunFault.{RunFault}
 use Rattle.n2k_run.specs.declared.part.Part.{Part}
 use Rattle.n2k_run.specs.declared.part.PartFault.{PartFault}
 use Rattle.n2k_run.specs.declared.part.PartFault.TheVariants.{State as Refused, Stopped, Run, Memory}
-use Rattle.n2k_run.specs.Parts.{StandsAtLine}
+use Rattle.n2k_run.specs.Parts.{EndsAtLine}
 
 -- a part that lies in memory: the bytes that are left of it, and the calls that were made of its source
 pub record PartLeft : Type 0 where
@@ -20,7 +20,7 @@ pub record Saves (s : State) (part : Part) : Type 0 where
   pub saved : part.state.items ≡ state_text s
   pub counted : part.counts ≡ s.counts
   pub reads_back : (kind : ℕ → Option Kind) → AreFast kind s.groups → IsId s.id
-      → judged kind s.id s.rule (state_text s) ≡ Ok s
+      → resumed kind s.id s.window (state_text s) ≡ Ok s
 
 abbrev pub HasSaved : Result Part PartFault → State → Type 0
 HasSaved (Ok part) s = Saves s part
@@ -32,5 +32,5 @@ abbrev pub Finishes : Result Part PartFault → Result (Unit {0}) RunFault → T
 Finishes (Ok part) ran = ran ≡ Ok tt
 Finishes (Err (Stopped fault part)) ran = ran ≡ Err fault
 Finishes (Err (Run fault)) ran = ran ≡ Err fault
-Finishes (Err Memory) ran = StandsAtLine ran
+Finishes (Err Memory) ran = EndsAtLine ran
 Finishes (Err (Refused fault)) ran = ⊥

@@ -14,8 +14,8 @@ use Rattle.n2k_join.specs.Pieces.{Sequences, pieces_by, raised, stream_of}
 use Rattle.n2k_join.specs.Splitter.{refusal}
 use Rattle.n2k_run.specs.declared.frames.Outcome.{Outcome}
 use Rattle.n2k_run.specs.declared.frames.Outcome.TheVariants.{Skipped, Written, Bad}
-use Rattle.n2k_run.specs.FramesOut.{frame_texts, is_refused, is_sent, line_cause, message_cause}
-use Rattle.n2k_run.specs.Making.{Making}
+use Rattle.n2k_run.specs.FramesOut.{frame_texts, is_refused, is_written, line_cause, message_cause}
+use Rattle.n2k_run.specs.Fold.{Fold}
 use Rattle.n2k_run.specs.Reports.{cause_report}
 
 -- what is known of the lines before: the sequence of each stream's next message, and what was counted
@@ -84,18 +84,18 @@ pub record SentLine (kind : ℕ → Option Kind) (interface : Option (List ℕ))
   pub text_is : text' ≡ text ++ line_text kind interface held e
 
 -- the counts with one more line
-abbrev pub counted : (ℕ → Option Kind) → Option (List ℕ) → Counts → Entry → Counts
-counted kind interface c e = record c {
+abbrev pub frame_counts_after : (ℕ → Option Kind) → Option (List ℕ) → Counts → Entry → Counts
+frame_counts_after kind interface c e = record c {
   lines = c.lines + 1;
-  messages = c.messages + (if is_sent kind interface e then 1 else 0);
+  messages = c.messages + (if is_written kind interface e then 1 else 0);
   bad = c.bad + (if is_refused kind interface e then 1 else 0);
 }
 
 -- each line gives the lines of its message's frames, and a report where it is bad
-abbrev pub sending : (ℕ → Option Kind) → Option (List ℕ) → Making Sent
-sending kind interface = record {
+abbrev pub sending_fold : (ℕ → Option Kind) → Option (List ℕ) → Fold Sent
+sending_fold kind interface = record {
   text = λ s e. line_text kind interface s.held e;
   report = λ s e. cause_report (s.counts.lines + 1) (line_cause kind interface e);
-  after = λ s e. record { held = held_after kind s.held e; counts = counted kind interface s.counts e };
+  after = λ s e. record { held = held_after kind s.held e; counts = frame_counts_after kind interface s.counts e };
   lines = λ s. s.counts.lines;
 }

@@ -2,4 +2,4 @@ use Rattle.n2k_join.proofs.InOrder.{groups_consecutive, comes_of_consecutive}
 use Rattle.n2k_join.proofs.laws.consecutive_frames.Goals as goal
 
 pub returns : goal.returns
-returns c = record { groups = λ rule kind es key order. groups_consecutive rule order kind es key; messages = λ rule kind es line m order given. comes_of_consecutive rule order kind es line m given }
+returns c = record { groups = λ w kind es key order. groups_consecutive w order kind es key; messages = λ w kind es line m order given. comes_of_consecutive w order kind es line m given }

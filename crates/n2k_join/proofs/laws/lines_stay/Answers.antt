@@ -4,4 +4,4 @@ use Rattle.n2k_join.proofs.Logs.{message-before, broken-before}
 use Rattle.n2k_join.proofs.laws.lines_stay.Goals as goal
 
 pub returns : goal.returns
-returns c = λ rule kind es e is. let some : 0 < rule.window = omega (arith, is.least) in record { messages = message-before (within rule) kind es e; broken_groups = broken-before rule some kind es e }
+returns c = λ w kind es e is. let some : 0 < w.lines = omega (arith, is.least) in record { messages = message-before (within w) kind es e; broken_groups = broken-before w some kind es e }

@@ -13,4 +13,4 @@ overflow_add-line c =
 pub loop-group-preserved : goal.loop-group-preserved
 loop-group-preserved c =
     let same = ap (λ (k : Counts). k.lines) (c.counts-line.ensures ∙ ap (λ s. s.counts) (c.in-Some.ensures.after refl)) ∙ lines_stay c.loop-group.join in
-    one_broken c.args.join.now c.loop-group.join c.expire.new.self c.in-Some.group c.counts-line.result.lines c.args.report.now.items c.loop-group.report.items c.broken_text.new.out.items c.loop-group.invariant (sym c.in-Some.ensures.told) (c.in-Some.ensures.after refl) (c.in-Some.ensures.few refl) same c.in_ok-broken_text.ensures.ok c.in-Some.ensures.one_step
+    one_broken c.args.join.now c.loop-group.join c.expire.new.self c.in-Some.group c.counts-line.result.lines c.args.report.now.items c.loop-group.report.items c.broken_text.new.out.items c.loop-group.invariant (sym c.in-Some.ensures.broken) (c.in-Some.ensures.after refl) (c.in-Some.ensures.few refl) same c.in_ok-broken_text.ensures.ok c.in-Some.ensures.one_step

@@ -1,7 +1,7 @@
 use Rattle.std.proofs.Common.{◌∙◌, ap}
 use Rattle.n2k_join.specs.State.{State}
-use Rattle.n2k_run.specs.Decoded.{join_making, output_after}
-use Rattle.n2k_run.specs.Making.{after_all}
+use Rattle.n2k_run.specs.Decoded.{join_fold, output_after}
+use Rattle.n2k_run.specs.Fold.{after_all}
 use Rattle.n2k_run.specs.Runs.{output_from}
 use Rattle.n2k_run.proofs.LogSteps.{log_laws, output_after-is, state_after}
 use Rattle.n2k_run.proofs.Ending.{runs_same, runs_more}
@@ -13,14 +13,14 @@ returns-clause-log g c = λ front is.
     let o = c.args.options in
     let laws = log_laws o.window c.know_window.ensures c.steps_agree.ensures c.lines_stay.ensures in
     let was = c.replace.ensures.value ∙ is in
-    let same = ap (output_from (join_making t o.empty) o.packing) was ∙ output_after-is t o laws t.id front in
+    let same = ap (output_from (join_fold t o.empty) o.packing) was ∙ output_after-is t o laws t.id front in
     let runs = runs_same _ _ _ _ _ _ same c.run_entries-ran.ensures.runs in
-    runs_more (output_after t o front) _ _ _ _ c.run_entries-ran.result runs (λ es stands. stands ∙ ap (λ (s : State). after_all (join_making t o.empty) s es) was ∙ state_after t o laws t.id front es)
+    runs_more (output_after t o front) _ _ _ _ c.run_entries-ran.result runs (λ es stands. stands ∙ ap (λ (s : State). after_all (join_fold t o.empty) s es) was ∙ state_after t o laws t.id front es)
 
 pub returns-clause-steps : goal.returns-clause-steps
 returns-clause-steps g c =
     let t = c.args.table.now in
     let o = c.args.options in
     let was = c.replace.ensures.value in
-    let runs = runs_same _ _ _ _ _ _ (ap (output_from (join_making t o.empty) o.packing) was) c.run_entries-ran.ensures.runs in
-    runs_more (output_from (join_making t o.empty) o.packing c.args.join.now) _ _ _ _ c.run_entries-ran.result runs (λ es stands. stands ∙ ap (λ (s : State). after_all (join_making t o.empty) s es) was)
+    let runs = runs_same _ _ _ _ _ _ (ap (output_from (join_fold t o.empty) o.packing) was) c.run_entries-ran.ensures.runs in
+    runs_more (output_from (join_fold t o.empty) o.packing c.args.join.now) _ _ _ _ c.run_entries-ran.result runs (λ es stands. stands ∙ ap (λ (s : State). after_all (join_fold t o.empty) s es) was)

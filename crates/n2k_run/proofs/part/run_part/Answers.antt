@@ -35,7 +35,7 @@ returns-clause-runs g c =
       new = c.groups_stay_fast.ensures.new;
       read = c.groups_stay_fast.ensures.read;
       same_table = c.groups_stay_fast.ensures.same_table;
-      same_rule = c.groups_stay_fast.ensures.same_rule;
+      same_window = c.groups_stay_fast.ensures.same_window;
       step = c.groups_stay_fast.ensures.step;
     } in
     let window = c.know_window.ensures in

@@ -1,7 +1,7 @@
 use Rattle.std.proofs.Common.{Err, ℕ, List, [], map, take, drop, suc, get_or, Bor, sym, subst, arith, inr}
 use Rattle.std.proofs.lemmas.List.{map_more, take_all}
 use Rattle.n2k_run.specs.Decoded.{out_of}
-use Rattle.n2k_run.specs.Parts.{TakesAll, entries_of}
+use Rattle.n2k_run.specs.Parts.{TakesAll, entries_of_parts}
 use Rattle.n2k_run.specs.Runs.{sinks_seen}
 use Rattle.n2k_run.proofs.Joined.{next_taken, not_read, prints_log, split_parts}
 use Rattle.n2k_run.proofs.LogSteps.{log_laws}
@@ -20,7 +20,7 @@ returns-in-Err-clause-log g c =
       parts_are = split_parts parts i none c.loop-part-test.true;
       between = sinks_seen g.W.Sink g.E.Sink c.loop-part.writer c.loop-part.reporter;
       taken = c.loop-part.invariant.taken;
-      runs = c.in-Err.ensures.log (entries_of c.args.options (map now (take i parts))) c.loop-part.invariant.leads_to;
+      runs = c.in-Err.ensures.log (entries_of_parts c.args.options (map now (take i parts))) c.loop-part.invariant.leads_to;
     })
 
 pub returns-in-Err-clause-never_read : goal.returns-in-Err-clause-never_read
@@ -35,7 +35,7 @@ loop-part-preserved g c =
     let before = sinks_seen g.W.Sink g.E.Sink c.args.writer.now c.args.reporter.now in
     let after = sinks_seen g.W.Sink g.E.Sink c.next_part.new.writer c.next_part.new.reporter in
     let laws = log_laws c.args.options.window c.know_window.ensures c.steps_agree.ensures c.lines_stay.ensures in
-    let run = c.in-Ok.ensures.log (entries_of c.args.options (map now (take i parts))) c.loop-part.invariant.leads_to in
+    let run = c.in-Ok.ensures.log (entries_of_parts c.args.options (map now (take i parts))) c.loop-part.invariant.leads_to in
     subst (λ ps. TakesAll c.args.table.now c.args.options ps before after c.in-Ok.next) (sym (map_more now parts i none c.loop-part-test.true)) (next_taken _ _ laws (map now (take i parts)) _ _ _ _ _ _ c.loop-part.invariant run)
 
 pub returns-clause-log : goal.returns-clause-log
@@ -53,7 +53,7 @@ pub returns-clause-in_order : goal.returns-clause-in_order
 returns-clause-in_order g c = λ order.
     let parts = map (λ (part : Bor (List ℕ)). part.now) c.args.parts.now in
     record {
-      text = out_of c.args.table.now c.args.options (entries_of c.args.options parts);
+      text = out_of c.args.table.now c.args.options (entries_of_parts c.args.options parts);
       gained = (returns-clause-log g c).taken.printed;
       each_line = c.printed_in_order.ensures.parts c.args.table.now c.args.options parts order;
     }

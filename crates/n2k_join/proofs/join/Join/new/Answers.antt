@@ -7,7 +7,7 @@ pub returns : goal.returns
 unfolding open_groups waiting
 returns c = λ i. record {
   id = c.id.ensures i;
-  rule = c.args.window;
+  window = c.args.window;
   counts = record { lines = 0; messages = 0; bad = 0; unknown = 0; broken = 0; held = 0 };
   groups = ap groups_in c.new.ensures.empty i;
 }

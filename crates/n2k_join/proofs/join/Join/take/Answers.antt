@@ -6,37 +6,37 @@ use Rattle.n2k_wire.specs.Packet.{PacketParts}
 use Rattle.n2k_join.specs.declared.step.Step.{Step}
 use Rattle.n2k_join.specs.State.{State, step_after, IsState, AreWaiting}
 use Rattle.n2k_join.specs.Inner.Slots.{group_at, groups_in}
-use Rattle.n2k_join.specs.Inner.Told.{packet_in, told_message}
+use Rattle.n2k_join.specs.Inner.Taken.{packet_in, taken_message}
 use Rattle.n2k_join.proofs.Keeping.{step-keeps, step-waits, few-open}
 use Rattle.n2k_join.proofs.LineLemmas.{line-gives, line-leads}
 use Rattle.n2k_join.proofs.join.Join.take.Goals as goal
 
 pub invariant_of-self-2 : goal.invariant_of-self-2
 invariant_of-self-2 c =
-    let s : State = record { id = c.self.inside.id; rule = c.self.inside.window; counts = c.self.inside.counts; groups = groups_in c.self.inside.groups.entries } in
+    let s : State = record { id = c.self.inside.id; window = c.self.inside.window; counts = c.self.inside.counts; groups = groups_in c.self.inside.groups.entries } in
     let below : s.counts.lines < most_lines = omega (arith, c.self.invariant.counted.lines, c.if-self-eq-MOST_LINES.false) in
-    let o = c.in_ok-outcome.outcome in
-    let step : Step PacketParts = record { message = told_message o (packet_in c.args.entry.now) c.take_entry.new.joined; bad = o.bad; broken = o.broken } in
+    let o = c.in_ok-taken.taken in
+    let step : Step PacketParts = record { message = taken_message o (packet_in c.args.entry.now) c.take_entry.new.joined; bad = o.bad; broken = o.broken } in
     let held : c.len.result ≡ length (groups_in c.take_entry.new.groups.entries) = c.len.ensures.len ∙ sym (length-map c.take_entry.new.groups.entries group_at) in
-    let gives = c.in_ok-outcome.ensures in
-    let leads = line-leads (kind c.args.table.now) s c.args.self.now c.args.entry.now c.is_in_order.result c.self.invariant c.self.view_is c.requires.expired c.if-self-eq-MOST_LINES.false c.is_in_order.ensures step o.is_unknown c.len.result (groups_in c.take_entry.new.groups.entries) c.counted-self-inside.result gives.given gives.unknown gives.groups held (rw c.is_message-is_message.ensures at c.counted-self-inside.ensures) in
+    let gives = c.in_ok-taken.ensures in
+    let leads = line-leads (kind c.args.table.now) s c.args.self.now c.args.entry.now c.is_in_order.result c.self.invariant c.self.view_is c.requires.expired c.if-self-eq-MOST_LINES.false c.is_in_order.ensures step o.is_unknown c.len.result (groups_in c.take_entry.new.groups.entries) c.counts_after-self-inside.result gives.given gives.unknown gives.groups held (rw c.is_message-is_message.ensures at c.counts_after-self-inside.ensures) in
     subst IsState (sym leads) (step-keeps (kind c.args.table.now) s c.args.entry.now c.self.invariant (c.know_entry.ensures c.requires.short) below)
 
 pub returns : goal.returns
 returns c =
-    let s : State = record { id = c.self.inside.id; rule = c.self.inside.window; counts = c.self.inside.counts; groups = groups_in c.self.inside.groups.entries } in
+    let s : State = record { id = c.self.inside.id; window = c.self.inside.window; counts = c.self.inside.counts; groups = groups_in c.self.inside.groups.entries } in
     let below : s.counts.lines < most_lines = omega (arith, c.self.invariant.counted.lines, c.if-self-eq-MOST_LINES.false) in
-    let o = c.in_ok-outcome.outcome in
-    let step : Step PacketParts = record { message = told_message o (packet_in c.args.entry.now) c.take_entry.new.joined; bad = o.bad; broken = o.broken } in
+    let o = c.in_ok-taken.taken in
+    let step : Step PacketParts = record { message = taken_message o (packet_in c.args.entry.now) c.take_entry.new.joined; bad = o.bad; broken = o.broken } in
     let held : c.len.result ≡ length (groups_in c.take_entry.new.groups.entries) = c.len.ensures.len ∙ sym (length-map c.take_entry.new.groups.entries group_at) in
-    let gives = c.in_ok-outcome.ensures in
-    let leads = line-leads (kind c.args.table.now) s c.args.self.now c.args.entry.now c.is_in_order.result c.self.invariant c.self.view_is c.requires.expired c.if-self-eq-MOST_LINES.false c.is_in_order.ensures step o.is_unknown c.len.result (groups_in c.take_entry.new.groups.entries) c.counted-self-inside.result gives.given gives.unknown gives.groups held (rw c.is_message-is_message.ensures at c.counted-self-inside.ensures) in
+    let gives = c.in_ok-taken.ensures in
+    let leads = line-leads (kind c.args.table.now) s c.args.self.now c.args.entry.now c.is_in_order.result c.self.invariant c.self.view_is c.requires.expired c.if-self-eq-MOST_LINES.false c.is_in_order.ensures step o.is_unknown c.len.result (groups_in c.take_entry.new.groups.entries) c.counts_after-self-inside.result gives.given gives.unknown gives.groups held (rw c.is_message-is_message.ensures at c.counts_after-self-inside.ensures) in
     let keeps : IsState (step_after (kind c.args.table.now) s c.args.entry.now) = step-keeps (kind c.args.table.now) s c.args.entry.now c.self.invariant (c.know_entry.ensures c.requires.short) below in
     record {
       given = line-gives (kind c.args.table.now) s c.args.self.now c.args.entry.now c.is_in_order.result c.self.invariant c.self.view_is c.requires.expired c.if-self-eq-MOST_LINES.false c.is_in_order.ensures gives.given;
       after = leads ∙ ap (λ t. step_after (kind c.args.table.now) t c.args.entry.now) c.self.view_is;
       waiting = subst AreWaiting (sym leads) (step-waits (kind c.args.table.now) s c.args.entry.now);
-      few_open = subst (λ (t : State). length t.groups ≤ t.rule.window) (sym leads) (few-open (step_after (kind c.args.table.now) s c.args.entry.now) keeps (step-waits (kind c.args.table.now) s c.args.entry.now));
+      few_open = subst (λ (t : State). length t.groups ≤ t.window.lines) (sym leads) (few-open (step_after (kind c.args.table.now) s c.args.entry.now) keeps (step-waits (kind c.args.table.now) s c.args.entry.now));
       unchanged = tt;
       few = subst (λ (t : State). t.counts.lines < most_lines) c.self.view_is below;
       full = (λ bad. absurd cc, λ full. absurd (c.if-self-eq-MOST_LINES.false (ap (λ (t : State). t.counts.lines) c.self.view_is ∙ full)));

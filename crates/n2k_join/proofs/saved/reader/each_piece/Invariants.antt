@@ -1,10 +1,10 @@
 -- The pieces so far, and what reading gives for the values that are left.
 use Rattle.std.proofs.Common.{◌≡◌, drop, map}
 use Rattle.serde_json.specs.View.{view}
-use Rattle.n2k_join.specs.Resumed.{each, piece_of}
+use Rattle.n2k_join.specs.Resumed.{each, read_piece}
 use Rattle.n2k_join.proofs.SavedLists.{after}
 use Rattle.n2k_join.proofs.saved.reader.each_piece.Given as goal
 
 abbrev pub invariant-loop-value : goal.invariant-loop-value
 invariant-loop-value l =
-    after l.pieces.items (each piece_of (map view (drop l.value-index l.values.items))) ≡ each piece_of (map view l.values.items)
+    after l.pieces.items (each read_piece (map view (drop l.value-index l.values.items))) ≡ each read_piece (map view l.values.items)

@@ -6,4 +6,4 @@ use Rattle.n2k_join.specs.Saved.{are_waiting}
 use Rattle.n2k_join.proofs.saved.rules.are_waiting.Given as goal
 
 abbrev pub invariant-loop-group : goal.invariant-loop-group
-invariant-loop-group l = list_all (is_waiting l.state.rule l.state.counts.lines) (drop l.group-index l.state.groups) ≡ are_waiting l.state
+invariant-loop-group l = list_all (is_waiting l.state.window l.state.counts.lines) (drop l.group-index l.state.groups) ≡ are_waiting l.state

@@ -9,4 +9,4 @@ abbrev pub invariant-loop-name : goal.invariant-loop-name
 invariant-loop-name l =
     (goal.iterator-loop-name).can_next l.name-iterator ×
     (goal.iterator-loop-name).is_finite l.name-iterator ×
-    (list_all (λ k. is_name l.place (string_bytes k)) l.name-iterator ≡ has_only l.place (members_view l.members.entries))
+    (list_all (λ k. is_name l.object (string_bytes k)) l.name-iterator ≡ has_only l.object (members_view l.members.entries))
