@@ -4,15 +4,15 @@ use Rattle.n2k_run.specs.Device.{HasFailed}
 use Rattle.n2k_run.specs.FramesOut.{IsInterface}
 use Rattle.n2kdec.specs.Commands.{Kept, Performs, shelf}
 use Rattle.n2kdec.specs.Machine.{AddsFailures, FollowsWords, IsNamed, IsPerformed, IsPerformedOver, LogAfter, Outside, World, with_log}
-use Rattle.n2kdec.specs.Words.{interface_word, save_word}
+use Rattle.n2kdec.specs.Words.{interface_name, save_name}
 use Rattle.n2kdec.specs.declared.fault.Fault.{Fault}
 use Rattle.n2kdec.specs.declared.fault.Fault.TheVariants.{Save}
-use Rattle.n2kdec.specs.declared.word.Words.{Words}
+use Rattle.n2kdec.specs.declared.words.Words.{Words}
 
 module _ (words : Words) (table : List ℕ) (handed : Option (List ℕ)) (before after : Outside) (log : LogAfter) (result : Result ℕ Fault) where
   abbrev pub PerformsAfter : Option (List ℕ) → ℕ → ℕ → Type 0
   PerformsAfter left calls failed = Performs words table handed (with_log left calls failed before) (with_log log.left log.calls log.failed after)
-      (shelf (save_word words) before.kept before.failed_keeps) (shelf (save_word words) after.kept after.failed_keeps) result
+      (shelf (save_name words) before.kept before.failed_keeps) (shelf (save_name words) after.kept after.failed_keeps) result
 
   -- over a log of which no call was made, when so many reads had failed
   pub performed_over : (left known : Option (List ℕ)) (calls failed had : ℕ) → left ≡ known → calls ≡ 0 → failed ≡ 0 → had ≡ before.failed_reads
@@ -33,7 +33,7 @@ having o kept failed = record o { kept = kept; failed_keeps = failed }
 
 module _ (w : World) (words : Words) (o : Outside) (kept : Option (List Kept)) (failed : ℕ) where
   -- what keeps a state refuses it
-  pub not_admitted : (fault : Fault) → IsInterface (interface_word words) → kept ≡ o.kept → IsNamed (save_word words) → fault ≡ Save → HasFailed o.failed_keeps failed
+  pub not_admitted : (fault : Fault) → IsInterface (interface_name words) → kept ≡ o.kept → IsNamed (save_name words) → fault ≡ Save → HasFailed o.failed_keeps failed
       → FollowsWords w words o (having o kept failed) (Err fault)
   not_admitted fault interface same named is counted =
       subst (λ k. FollowsWords w words o (having o k failed) (Err fault)) (sym same)

@@ -10,16 +10,16 @@ use std::os::unix::fs::{MetadataExt, PermissionsExt};
 use std::path::Path;
 use std::{fs, io};
 
-// As many links are followed, one to the next, as the system follows.
+/// As many links are followed, one to the next, as the system follows.
 const MOST_LINKS: usize = 40;
 
-// The text of a path beside another, or of one from the root.
+/// The text of a path beside another, or of one from the root.
 fn beside(rt: &HostRuntime, path: &str, target: Path<'_>) -> Result<String, AllocError> {
     let folder = Path::new(path).parent().unwrap_or(Path::new(""));
     Ok(folder.join(rt.alloc(), target)?.into_string())
 }
 
-// What the link of this name leads to; none where it is no link.
+/// What the link of this name leads to; none where it is no link.
 fn link(rt: &HostRuntime, path: &str) -> Result<Option<String>, Failed> {
     match fs::read_link(rt, path) {
         Ok(target) => {
@@ -33,7 +33,7 @@ fn link(rt: &HostRuntime, path: &str) -> Result<Option<String>, Failed> {
     }
 }
 
-// The name behind all links; none where it stands for an open file, as `/dev/stdout` does.
+/// The name behind all links; none where it stands for an open file, as `/dev/stdout` does.
 fn behind_links(rt: &HostRuntime, name: &str) -> Result<Option<String>, Failed> {
     let mut path = String::from_str(rt.alloc(), name).map_err(|_| Failed)?;
     for _ in 0..MOST_LINKS {
@@ -48,7 +48,7 @@ fn behind_links(rt: &HostRuntime, name: &str) -> Result<Option<String>, Failed> 
     Err(Failed)
 }
 
-// What the file of a name is, over links; none where there is no such file.
+/// What the file of a name is, over links; none where there is no such file.
 fn found(rt: &HostRuntime, name: &str) -> Result<Option<Metadata>, Failed> {
     match fs::metadata(rt, name) {
         Ok(found) => Ok(Some(found)),
@@ -57,7 +57,7 @@ fn found(rt: &HostRuntime, name: &str) -> Result<Option<Metadata>, Failed> {
     }
 }
 
-// The name behind the links at a name, which had this, and what that is.
+/// The name behind the links at a name, which had this, and what that is.
 fn led_to(rt: &HostRuntime, name: &str, was: Option<&Metadata>) -> Result<(String, Kind), Failed> {
     let is_file = was.is_none_or(|was| was.is_file());
     if is_file && let Some(own) = behind_links(rt, name)? {
@@ -68,13 +68,14 @@ fn led_to(rt: &HostRuntime, name: &str, was: Option<&Metadata>) -> Result<(Strin
     Ok((own, Kind::Special))
 }
 
-// The device and the number of the regular file that a path leads to, over links; none where it leads to another thing.
+/// The device and the number of the regular file that a path leads to, over links; none where it leads to another
+/// thing.
 fn regular(rt: &HostRuntime, path: &str) -> io::Result<Option<(u64, u64)>> {
     let found = fs::metadata(rt, path)?;
     Ok(found.is_file().then(|| (found.dev(), found.ino())))
 }
 
-// The name of the new file beside that of this path: hidden, with the program's name, and the same for each run.
+/// The name of the new file beside that of this path: hidden, with the program's name, and the same for each run.
 fn name_beside(rt: &HostRuntime, path: &str) -> Result<String, Failed> {
     let path = Path::new(path);
     let name = path.file_name().ok_or(Failed)?;
@@ -83,7 +84,7 @@ fn name_beside(rt: &HostRuntime, path: &str) -> Result<String, Failed> {
     Ok(beside.map_err(|_| Failed)?.into_string())
 }
 
-// Whether the folder doesn't allow what was asked of it, or the call failed.
+/// Whether the folder doesn't allow what was asked of it, or the call failed.
 fn why(error: &io::Error) -> Unplaced {
     match error.kind() {
         ErrorKind::PermissionDenied
@@ -95,7 +96,7 @@ fn why(error: &io::Error) -> Unplaced {
     }
 }
 
-// Makes a new file. A link of this name is not followed.
+/// Makes a new file. A link of this name is not followed.
 fn make(rt: &HostRuntime, path: &str) -> io::Result<File> {
     OpenOptions::new()
         .write(true)
@@ -103,7 +104,7 @@ fn make(rt: &HostRuntime, path: &str) -> io::Result<File> {
         .open(rt, path)
 }
 
-// Makes a new file, in the place of what a cut left under its name.
+/// Makes a new file, in the place of what a cut left under its name.
 fn make_again(rt: &HostRuntime, path: &str) -> Result<File, Unplaced> {
     match make(rt, path) {
         Err(error) if error.kind() == ErrorKind::AlreadyExists => {
@@ -114,14 +115,14 @@ fn make_again(rt: &HostRuntime, path: &str) -> Result<File, Unplaced> {
     }
 }
 
-// The file that is written to, and its name.
+/// The file that is written to, and its name.
 #[derive(Drop)]
 struct Opened {
     name: Name,
     file: File,
 }
 
-// The two names of a folder, and the mode of the file that has the first, if one has.
+/// The two names of a folder, and the mode of the file that has the first, if one has.
 #[derive(Drop)]
 struct Names {
     own: String,
@@ -149,8 +150,8 @@ impl SystemFolder {
 
     fn path(&self, name: Name) -> Result<&str, Failed> {
         match (&self.names, name) {
-            (Some(names), Name::Own) => Ok(names.own.as_str()),
-            (Some(names), Name::New) => Ok(names.new.as_str()),
+            (Some(names), Name::Target) => Ok(names.own.as_str()),
+            (Some(names), Name::Temp) => Ok(names.new.as_str()),
             (None, _) => Err(Failed),
         }
     }
@@ -159,7 +160,7 @@ impl SystemFolder {
         self.names.as_ref()?.mode
     }
 
-    // The file of this name, where this folder opened it.
+    /// The file of this name, where this folder opened it.
     fn opened(&mut self, name: Name) -> Result<&mut File, Failed> {
         match &mut self.opened {
             Some(opened) if opened.name == name => Ok(&mut opened.file),
@@ -167,9 +168,9 @@ impl SystemFolder {
         }
     }
 
-    // The folder itself, opened.
+    /// The folder itself, opened.
     fn open(&self) -> Result<File, Failed> {
-        let path = self.path(Name::Own)?;
+        let path = self.path(Name::Target)?;
         let opened = match Path::new(path).parent() {
             Some(folder) if !folder.as_str().is_empty() => fs::open(&self.rt, folder),
             _ => fs::open(&self.rt, "."),
@@ -178,7 +179,7 @@ impl SystemFolder {
     }
 }
 
-// What a file of the system has, no contract says.
+/// What a file of the system has, no contract says.
 impl Folder for SystemFolder {
     ghost use Rattle.std.specs.Prelude.{None};
 
@@ -197,7 +198,7 @@ impl Folder for SystemFolder {
         Ok(kind)
     }
 
-    // Where one of the two can't be told, the paths are compared.
+    /// Where one of the two can't be looked at, the paths are compared.
     fn is_at(&self, name: Name, path: &str) -> bool {
         let Ok(own) = self.path(name) else {
             return false;
@@ -218,7 +219,7 @@ impl Folder for SystemFolder {
         Ok(())
     }
 
-    // A file that is there is opened as it is: some folders let only its owner open it with a right to make it.
+    /// A file that is there is opened as it is: some folders let only its owner open it with a right to make it.
     fn empty(&mut self, name: Name) -> Result<(), Failed> {
         let is_new = self.mode().is_none();
         let path = self.path(name)?;
