@@ -1,7 +1,7 @@
 -- From what a run, the place of a state and the summary leave to what a command leaves.
-use Rattle.std.proofs.Common.{◌≡◌, ◌⊎◌, ◌≤◌, ◌+◌, length, ◌==◌, ◌++◌, Bool, true, false, cond, arith, MatchResult, ◌∙◌, ℕ, List, [], Option, Some, None, Ok, Err, Result, IfOk, IfSome, ap, sym, subst, refl, inl, inr, append-nil, append_assoc}
+use Rattle.std.proofs.Common.{◌≡◌, ◌⊎◌, ◌≤◌, ◌+◌, length, ◌==◌, ◌++◌, Bool, true, false, cond, arith, ◌∙◌, ℕ, List, [], Option, Ok, Err, Result, IfOk, IfSome, ap, sym, subst, refl, inl, inr, append_assoc}
 use Rattle.std.proofs.KnownBytes.{Appends-nil, Appends-trans}
-use Rattle.std.specs.Io.KnownBytes.{Appends, Consumes, IsAtEnd}
+use Rattle.std.specs.Io.KnownBytes.{Appends}
 use Rattle.n2k_wire.specs.declared.entry.Entry.{Entry}
 use Rattle.n2k_join.specs.declared.counts.Counts.{Counts}
 use Rattle.n2k_run.specs.Device.{HasFailed}

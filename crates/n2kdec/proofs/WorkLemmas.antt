@@ -1,22 +1,18 @@
 -- From what the work that the words name and its closing leave to what their command leaves.
-use Rattle.std.proofs.Common.{◌≡◌, ◌⊎◌, ℕ, List, [], ◌++◌, Option, Some, Ok, Err, Result, IfOk, IfSome, ap, sym, subst, refl, inl, inr}
+use Rattle.std.proofs.Common.{◌≡◌, ℕ, List, [], ◌++◌, Option, Some, Ok, Err, Result, IfOk, IfSome, sym, subst, inl, inr}
 use Rattle.std.specs.Prelude.{None, IfErr}
 use Rattle.n2k_run.proofs.Ending.{all_came}
 use Rattle.n2k_wire.specs.declared.entry.Entry.{Entry}
 use Rattle.n2k_join.specs.Messages.{counts}
-use Rattle.n2k_join.specs.State.{state}
 use Rattle.n2k_run.specs.Entries.{entries}
 use Rattle.n2k_run.specs.FramesOut.{frame_counts_of, frames_output}
-use Rattle.n2k_run.specs.Parts.{begun}
 use Rattle.n2k_run.specs.Plain.{plain_counts_of, plain_output}
 use Rattle.n2k_run.specs.Runs.{Devices}
-use Rattle.n2k_run.specs.declared.fault.RunFault.{RunFault}
-use Rattle.n2k_run.specs.declared.fault.RunFault.TheVariants as run
 use Rattle.n2k_run.specs.declared.part.Part.{Part}
 use Rattle.n2k_table.specs.Table.{faults, kind, table as table_of}
-use Rattle.n2kdec.specs.Commands.{Command, Ends, EndsByTable, IsDone, IsRefusal, Performs, Place, Shelf, HasStatus, decode_command, entries_for, frames_command, place, plain_command, shelf}
-use Rattle.n2kdec.specs.Fault.{exit_status, fault_of_run}
-use Rattle.n2kdec.specs.Inner.Closing.{Closes, ClosesPart, ClosesWhole, ClosesWork}
+use Rattle.n2kdec.specs.Commands.{Command, EndsByTable, IsDone, IsRefusal, Performs, Place, Shelf, HasStatus, decode_command, entries_for, frames_command, place, plain_command}
+use Rattle.n2kdec.specs.Fault.{exit_status}
+use Rattle.n2kdec.specs.Inner.Closing.{ClosesPart, ClosesWhole, ClosesWork}
 use Rattle.n2kdec.specs.Words.{options_of}
 use Rattle.n2kdec.specs.Work.{DoesFrames, Works}
 use Rattle.n2kdec.specs.declared.fault.Fault.{Fault}

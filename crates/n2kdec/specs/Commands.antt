@@ -1,5 +1,6 @@
 -- What a command leaves on its devices where it comes to its end, and where a fault stops it.
-use Rattle.std.specs.Prelude.{◌≡◌, ◌≢◌, ◌⊎◌, ◌≤◌, ◌+◌, ◌++◌, ℕ, Bool, true, false, List, [], ◌∷◌, length, Option, Some, None, IfOk, IfSome, IsSome, Result, Ok, Err, IsOk, MatchResult, Contains}
+use Rattle.std.specs.Prelude.{◌≡◌, ◌≢◌, ◌⊎◌, ◌≤◌, ◌+◌, ◌++◌, ℕ, Bool, true, false, List, [], ◌∷◌, length, Option, Some}
+use Rattle.std.specs.Prelude.{None, IfOk, IfSome, IsSome, Result, Ok, Err, IsOk, MatchResult, Contains}
 use Rattle.std.specs.Io.KnownBytes.{Appends, Consumes, IsAtEnd}
 use Rattle.n2k_wire.specs.declared.entry.Entry.{Entry}
 use Rattle.n2k_table.specs.Table.{TableParts, faults, kind, table as table_of}
@@ -22,7 +23,8 @@ use Rattle.n2k_run.specs.Parts.{IsFront, begun, save, state_after}
 use Rattle.n2k_run.specs.Plain.{plain_counts, plain_counts_of, plain_output}
 use Rattle.n2k_run.specs.Reading.{OutlastsReads}
 use Rattle.n2k_run.specs.Reports.{summary_text}
-use Rattle.n2k_run.specs.Runs.{AreNumbered, Devices, HasFronts, NoneFailed, Output, ReadFails, ReportFails, ReportsFirst, WriteFails, output_from}
+use Rattle.n2k_run.specs.Runs.{AreNumbered, Devices, HasFronts, NoneFailed, Output, ReadFails, ReportFails}
+use Rattle.n2k_run.specs.Runs.{ReportsFirst, WriteFails, output_from}
 use Rattle.n2k_run.specs.Writing.{AppendsFront}
 use Rattle.n2k_run.specs.declared.options.Options.{Options}
 use Rattle.n2kdec.specs.Fault.{exit_status}
@@ -62,6 +64,21 @@ pub record Kept : Type 0 where
   pub name : List ℕ
   pub text : List ℕ
   pub said : Option (List ℕ)
+
+-- A state that a run would keep: the name that it is to have, and what the run reads: a table, a log, or standard input
+-- where none is named, and a state to go on from.
+pub record Request : Type 0 where
+  pub name : List ℕ
+  pub table : Option (List ℕ)
+  pub log : Option (List ℕ)
+  pub state : Option (List ℕ)
+
+abbrev pub request : List ℕ → Option (List ℕ) → Option (List ℕ) → Option (List ℕ) → Request
+request name table log state = record { name = name; table = table; log = log; state = state }
+
+-- it may be kept, as far as is known which ones may be
+abbrev pub IsAdmitted : (Request → Option Bool) → Request → Type 0
+IsAdmitted admits asked = IfSome (admits asked) (λ known. known ≡ true)
 
 -- What keeps a state: the name that the state is to have, if any; the texts that were kept, the first one first, where
 -- they are known; and how many of its calls have failed.

@@ -1,6 +1,7 @@
 -- A folder of two names, as a contract can see it: the calls that were made of it, what each name may be found to have
 -- after them, and what a cut of the power may leave of it.
-use Rattle.std.specs.Prelude.{◌≡◌, ◌⊎◌, ◌+◌, ◌++◌, ℕ, Bool, true, false, List, [], ◌∷◌, Option, Some, None, IfSome, Result, Ok, Err}
+use Rattle.std.specs.Prelude.{◌≡◌, ◌⊎◌, ◌+◌, ◌++◌, ℕ, Bool, true, false, List, [], ◌∷◌, Option, Some, None, IfSome}
+use Rattle.std.specs.Prelude.{Result, Ok, Err}
 use Rattle.n2kdec.specs.declared.folder.Kind.{Kind}
 use Rattle.n2kdec.specs.declared.folder.Name.{Name}
 use Rattle.n2kdec.specs.declared.folder.Name.TheVariants.{Target, Temp}

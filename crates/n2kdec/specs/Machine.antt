@@ -1,16 +1,19 @@
 -- What the program meets, and what comes of the words that were typed: the files that they name are read, their command
 -- is performed, its state is kept under the name that they have for it, and a fault is reported.
-use Rattle.std.specs.Prelude.{◌≡◌, ◌⊎◌, ◌<◌, ◌≤◌, ℕ, Bool, List, [], Option, Some, None, IfSome, MatchResult, Result, Ok, Err, length}
+use Rattle.std.specs.Prelude.{◌≡◌, ◌⊎◌, ◌<◌, ◌≤◌, ℕ, Bool, List, [], Option, Some, None, IfSome, MatchResult, Result}
+use Rattle.std.specs.Prelude.{Ok, Err, length}
 use Rattle.clap.specs.Words.{Text}
 use Rattle.n2k_run.specs.declared.device.Sink.{Ghosts as OfSink}
 use Rattle.n2k_run.specs.Device.{HasFailed}
 use Rattle.n2k_run.specs.FramesOut.{IsInterface}
 use Rattle.n2k_run.specs.Runs.{Devices, devices}
-use Rattle.n2kdec.specs.Commands.{IsCutOff, IsWritten, IsWrittenUnlessFailed, Kept, Performs, Place, place, shelf}
+use Rattle.n2kdec.specs.Commands.{IsCutOff, IsWritten, IsWrittenUnlessFailed, IsAdmitted, Kept, Performs, Place}
+use Rattle.n2kdec.specs.Commands.{Request, place, request, shelf}
 use Rattle.n2kdec.specs.Fault.{IsFaultMessage, longest_file, status_of}
 use Rattle.n2kdec.specs.Words.{IsAskedBy, IsRefused, interface_name, log_name, resume_name, save_name, table_name}
 use Rattle.n2kdec.specs.declared.fault.Fault.{Fault}
-use Rattle.n2kdec.specs.declared.fault.Fault.TheVariants.{Words as WordsFault, Interface, TableSize, TableFile, StateSize, StateFile, Read, Memory, Save, Write}
+use Rattle.n2kdec.specs.declared.fault.Fault.TheVariants.{Words as WordsFault, Interface, TableSize, TableFile}
+use Rattle.n2kdec.specs.declared.fault.Fault.TheVariants.{StateSize, StateFile, Read, Memory, Save, Write}
 use Rattle.n2kdec.specs.declared.keeper.Keeper.{Ghosts as OfKeeper}
 use Rattle.n2kdec.specs.declared.machine.Outlets.{Outlets}
 use Rattle.n2kdec.specs.declared.machine.Unopened.{Unopened}
@@ -53,13 +56,15 @@ abbrev pub AddsFailures : ℕ → ℕ → ℕ → Type 0
 AddsFailures before after more = (more ≡ 0 → after ≡ before) × (0 < more → HasFailed before after)
 
 -- What the program changes: the output, the errors, and what was kept under which name, with the number of calls that
--- failed; and how many openings and reads of files failed.
+-- failed; and how many openings and reads of files failed. Which states may be kept, where that is known, it does not
+-- change.
 pub record Outside : Type 0 where
   pub output : Place
   pub errors : Place
   pub kept : Option (List Kept)
   pub failed_keeps : ℕ
   pub failed_reads : ℕ
+  pub admits : Request → Option Bool
 
 abbrev pub outside : {W E K : Type 0} → OfSink W → OfSink E → OfKeeper K → ℕ → Outlets W E K → Outside
 outside w e k failed_reads outlets = record {
@@ -68,6 +73,7 @@ outside w e k failed_reads outlets = record {
   kept = k.kept outlets.keeper;
   failed_keeps = k.failed_calls outlets.keeper;
   failed_reads = failed_reads;
+  admits = k.admits;
 }
 
 -- ---- the files that the words name
@@ -112,10 +118,17 @@ abbrev pub IsReadable : World → Option Text → Type 0
 IsReadable w None = Unit {0}
 IsReadable w (Some name) = IfSome (w.file name) (λ bytes. length bytes ≤ longest_file)
 
+-- the state may be kept under the name that the words have for it, if any, by a run of the files that they name
+abbrev pub IsStateAdmitted : (Request → Option Bool) → Words → Type 0
+IsStateAdmitted admits words =
+    IfSome (save_name words)
+    (λ name. IsAdmitted admits (request name (table_name words) (log_name words) (resume_name words)))
+
 -- The command that the words name is performed by the bytes of the files that they name, over the log that they name,
--- and its state is kept under the name that they have for it.
+-- and its state is kept under the name that they have for it, which was admitted.
 pub record IsPerformed (w : World) (words : Words) (before after : Outside) (result : Result ℕ Fault) : Type 0 where
   pub interface : IsInterface (interface_name words)
+  pub admitted : IsStateAdmitted before.admits words
   pub table : List ℕ
   pub is_table : IsTable w (table_name words) table
   pub handed : Option (List ℕ)
@@ -169,13 +182,23 @@ pub record IsNotAdmitted (words : Words) (before after : Outside) (fault : Fault
   pub failed : HasFailed before.failed_keeps after.failed_keeps
   pub else_same : after ≡ record before { failed_keeps = after.failed_keeps }
 
--- it is performed; or not begun, and nothing is printed or kept
+-- a fault of a file comes only behind the admission of the state
+abbrev pub IsBehindAdmission : (Request → Option Bool) → Words → Fault → Type 0
+IsBehindAdmission admits words Interface = Unit {0}
+IsBehindAdmission admits words _ = IsStateAdmitted admits words
+
+-- it is not begun, and nothing is printed or kept
+pub record IsNotBegun (w : World) (words : Words) (before after : Outside) (fault : Fault) : Type 0 where
+  pub else_same : after ≡ record before { failed_reads = after.failed_reads }
+  pub unbegun : IsUnbegun w words before.failed_reads after.failed_reads fault
+  pub behind : IsBehindAdmission before.admits words fault
+
+-- it is performed; or not begun; or its state is not admitted
 abbrev pub FollowsWords : World → Words → Outside → Outside → Result ℕ Fault → Type 0
 FollowsWords w words before after (Ok status) = IsPerformed w words before after (Ok status)
 FollowsWords w words before after (Err fault) =
     IsPerformed w words before after (Err fault)
-    ⊎ ((after ≡ record before { failed_reads = after.failed_reads })
-    × IsUnbegun w words before.failed_reads after.failed_reads fault)
+    ⊎ IsNotBegun w words before after fault
     ⊎ IsNotAdmitted words before after fault
 
 -- ---- from the words that were typed to the status

@@ -1,7 +1,9 @@
 -- How a text comes to a name: it takes the place of another, so that at each moment one of the two is there, whole; or,
 -- where the folder does not allow that, it is written over the file itself.
-use Rattle.std.specs.Prelude.{◌≡◌, ◌⊎◌, ◌<◌, ◌++◌, ℕ, Bool, true, false, List, [], ◌∷◌, Option, Some, None, IfSome, codes, Result, Ok, Err, IsErr, OnOk, MatchResult}
-use Rattle.n2kdec.specs.Folder.{Call, Content, FileMayBeLeft, MayBeLeft, MayHave, create, cut_short, empty, failures, refused, remove, sync, turn, write}
+use Rattle.std.specs.Prelude.{◌≡◌, ◌⊎◌, ◌<◌, ◌++◌, ℕ, Bool, true, false, List, [], ◌∷◌, Option, Some, None, IfSome}
+use Rattle.std.specs.Prelude.{codes, Result, Ok, Err, IsErr, OnOk, MatchResult}
+use Rattle.n2kdec.specs.Folder.{Call, Content, FileMayBeLeft, MayBeLeft, MayHave, create, cut_short, empty, failures}
+use Rattle.n2kdec.specs.Folder.{refused, remove, sync, turn, write}
 use Rattle.n2kdec.specs.declared.folder.Kind.{Kind}
 use Rattle.n2kdec.specs.declared.folder.Kind.TheVariants.{Alone, Shared, Special}
 use Rattle.n2kdec.specs.declared.folder.Name.{Name}
@@ -136,8 +138,8 @@ IsApart leads (Some path) = IfSome (leads path) (λ known. known ≡ false)
 -- The new file is none that is read, be it the table, the log or the state to go on from; and the name's own file, in
 -- the place of which the new one comes, is not the table and not the log.
 pub record HarmsNone (leads : Name → List ℕ → Option Bool) (table log state : Option (List ℕ)) : Type 0 where
-  pub own_is_no_table : IsApart (leads Target) table
-  pub own_is_no_log : IsApart (leads Target) log
-  pub new_is_no_table : IsApart (leads Temp) table
-  pub new_is_no_log : IsApart (leads Temp) log
-  pub new_is_no_state : IsApart (leads Temp) state
+  pub target_is_no_table : IsApart (leads Target) table
+  pub target_is_no_log : IsApart (leads Target) log
+  pub temp_is_no_table : IsApart (leads Temp) table
+  pub temp_is_no_log : IsApart (leads Temp) log
+  pub temp_is_no_state : IsApart (leads Temp) state

@@ -1,5 +1,6 @@
 -- What the words of a command line ask for, by the command's definition and `clap`'s reading of it.
-use Rattle.std.specs.Prelude.{◌≡◌, ◌≢◌, ◌⊎◌, ◌&&◌, ◌++◌, nat_le, ℕ, List, [], Bool, false, Option, Some, None, Result, Ok, Err, if◌then◌else◌, codes, option_and_then, option_map}
+use Rattle.std.specs.Prelude.{◌≡◌, ◌≢◌, ◌⊎◌, ◌&&◌, ◌++◌, nat_le, ℕ, List, [], Bool, false, Option, Some, None, Result}
+use Rattle.std.specs.Prelude.{Ok, Err, if◌then◌else◌, codes, option_and_then, option_map}
 use Rattle.std.specs.Char.{is_ascii_digit}
 use Rattle.std.specs.List.{list_all}
 use Rattle.std.specs.Option.{option_map_or}

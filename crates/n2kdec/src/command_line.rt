@@ -7,7 +7,8 @@ ghost use Rattle.clap.specs.Words.{first_of, found_of, rows_of, subcommand_rows_
 ghost use Rattle.n2k_run.specs.FramesOut.{IsInterface};
 ghost use Rattle.n2kdec.specs.Inner.Parse.{AnswersKind};
 ghost use Rattle.n2kdec.specs.Usage.{program_app};
-ghost use Rattle.n2kdec.specs.Words.{IsAskedBy, IsRefused, Names, decode_words, flag_of, frames_words, interface_name, lines_in, named, plain_words, version_text, window_of, words_of};
+ghost use Rattle.n2kdec.specs.Words.{IsAskedBy, IsRefused, Names, decode_words, flag_of, frames_words, interface_name};
+ghost use Rattle.n2kdec.specs.Words.{lines_in, named, plain_words, version_text, window_of, words_of};
 
 use crate::fault::Fault;
 use crate::usage::{VERSION, program};

@@ -16,7 +16,7 @@ For more information, try '--help'.";
 
 /// What `clap` says of words that it refuses: the word that is wrong, one that is near it, the usage; without any word
 /// the help.
-fn mistake(alloc: Global, words: &[&str]) -> Result<String, AllocError> {
+fn clap_message(alloc: Global, words: &[&str]) -> Result<String, AllocError> {
     match program(alloc)?.try_get_matches_from(words) {
         Ok(_) => String::from_str(alloc, NO_WINDOW),
         Err(error) => error.to_string(alloc),
@@ -24,10 +24,10 @@ fn mistake(alloc: Global, words: &[&str]) -> Result<String, AllocError> {
 }
 
 /// What `clap` says of them, in whole lines.
-fn mistake_lines(alloc: Global, words: &[&str]) -> Result<Vec<u8>, AllocError>
+fn clap_lines(alloc: Global, words: &[&str]) -> Result<Vec<u8>, AllocError>
     ensures { IfOk result (λ text. (said : List ℕ) × (text.items ≡ said ++ codes "\n")) }
 {
-    let text = mistake(alloc, words)?;
+    let text = clap_message(alloc, words)?;
     let mut lines = text.as_str().trim_end().as_bytes().to_vec(alloc)?;
     lines.extend_from_slice(b"\n")?;
     Ok(lines)
@@ -38,7 +38,7 @@ fn text_before(alloc: Global, fault: &Fault, is_terminal: bool, words: &[&str]) 
     ensures { IsBeforeLine is_terminal fault.now result.items }
 {
     if is_terminal && *fault == Fault::Words && !words.is_empty() {
-        match mistake_lines(alloc, words) {
+        match clap_lines(alloc, words) {
             Ok(lines) => lines,
             Err(_) => Vec::new(alloc),
         }

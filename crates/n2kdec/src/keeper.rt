@@ -1,7 +1,7 @@
 //! Where a state is kept after a run: the trait, and the files of a folder, by which the program does it.
-ghost use Rattle.std.specs.Prelude.{◌≡◌, ℕ, List, Option, Some, true, OnOk, option_map};
+ghost use Rattle.std.specs.Prelude.{◌≡◌, ℕ, Bool, List, Option, Some, true, OnOk, option_map};
 ghost use Rattle.n2k_run.specs.Device.{CountsFailure};
-ghost use Rattle.n2kdec.specs.Commands.{Kept, KeepsUnder};
+ghost use Rattle.n2kdec.specs.Commands.{IsAdmitted, Kept, KeepsUnder, Request, request};
 ghost use Rattle.n2kdec.specs.Replacement.{HarmsNone, IsApart, KeepsText, read_log};
 
 use crate::folder::{Folder, Name};
@@ -16,6 +16,9 @@ pub trait Keeper {
     /// The texts that were kept, each under its name and the first one first, where they are known.
     ghost kept: { Self → Option (List Kept) };
 
+    /// Which states it admits, where that is known. No call changes it.
+    ghost admits: { Request → Option Bool };
+
     /// Whether a run may keep a state under this name that reads these files: a table, a log, or standard input where
     /// none is named, and a state to go on from. `Failed` where one of them would be harmed.
     fn admit(
@@ -26,6 +29,8 @@ pub trait Keeper {
         state: Option<&str>,
     ) -> Result<(), Failed>
         ensures same { kept self.new ≡ kept self.old }
+        ensures admitted { OnOk result (IsAdmitted admits (request name.now (option_map (λ text. text.now) table.entry)
+            (option_map (λ text. text.now) log.entry) (option_map (λ text. text.now) state.entry))) }
         ensures counted { CountsFailure (failed_calls self.old) (failed_calls self.new) result };
 
     /// Keeps a state under this name, in the place of what the name has. `Failed` where it can't. The errors are lent,
@@ -109,6 +114,9 @@ impl<F: Folder> Keeper for StateFiles<F> {
 
     // What a file has, nothing says: which calls were made of the folder, `keep` does.
     ghost kept = { λ _. None };
+
+    // Nor does anything say which paths lead to one file: by what the folder knows of that, `admit` does.
+    ghost admits = { λ _. None };
 
     fn admit(
         &mut self,

@@ -177,12 +177,14 @@ impl MemoryKeeper {
 }
 
 impl Keeper for MemoryKeeper {
-    ghost use Rattle.std.specs.Prelude.{Some};
+    ghost use Rattle.std.specs.Prelude.{Some, true};
 
     ghost failed_calls = { λ s. s.failed_calls };
 
     // What the errors held is not noted.
     ghost kept = { λ s. Some (map (λ k. kept_text (string_bytes k.0) k.1.items) s.kept.items) };
+
+    ghost admits = { λ _. Some true };
 
     fn admit(
         &mut self,

@@ -1,11 +1,14 @@
 //! From the words that were typed to the status that the program ends with, over any machine.
-ghost use Rattle.std.specs.Prelude.{◌≡◌, ◌⊎◌, ◌<◌, ◌≤◌, IfErr, IfOk, IfSome, OnOk, Some, length, map, option_map, string_bytes, vec_len};
+ghost use Rattle.std.specs.Prelude.{◌≡◌, ◌⊎◌, ◌<◌, ◌≤◌, IfErr, IfOk, IfSome, OnOk, Some, length, map, option_map};
+ghost use Rattle.std.specs.Prelude.{string_bytes, vec_len};
 ghost use Rattle.std.specs.Process.{exit_status};
 ghost use Rattle.clap.specs.Walk.{texts};
 ghost use Rattle.n2k_run.specs.Device.{HasFailed};
 ghost use Rattle.n2k_run.specs.FramesOut.{IsInterface};
 ghost use Rattle.n2kdec.specs.Fault.{longest_file};
-ghost use Rattle.n2kdec.specs.Machine.{AsksFor, DoesTyped, FollowsWords, IsNamed, IsOfFile, IsReadable, IsState, IsTable, IsUnasked, IsUnbegun, IsUnopened, IsUnreadFile, ReportsFault, RunsTyped, Shows, bytes_of, outside};
+ghost use Rattle.n2kdec.specs.Machine.{AsksFor, DoesTyped, FollowsWords, IsNamed, IsOfFile, IsReadable, IsState};
+ghost use Rattle.n2kdec.specs.Machine.{IsStateAdmitted, IsTable, IsUnasked, IsUnbegun, IsUnopened, IsUnreadFile};
+ghost use Rattle.n2kdec.specs.Machine.{ReportsFault, RunsTyped, Shows, bytes_of, outside};
 ghost use Rattle.n2kdec.specs.Commands.{place};
 ghost use Rattle.n2kdec.specs.Words.{IsCommand, interface_name, resume_name, save_name, table_name};
 
@@ -151,7 +154,8 @@ fn read_state<M: Machine>(
     }
 }
 
-/// Performs what the words name over the log that they name, or over standard input.
+/// Runs the command that the words name over the log that they name, or over standard input.
+#[tactic(auto, using(crate::proofs::MachineLemmas::not_begun))]
 fn run_on_log<M: Machine, K: Keeper>(
     alloc: Global,
     machine: &mut M,
@@ -166,6 +170,7 @@ fn run_on_log<M: Machine, K: Keeper>(
     requires readable { IsReadable (M.world machine.old) (table_name words.now) × IsReadable (M.world machine.old)
         (resume_name words.now) }
     requires state { IsState (M.world machine.old) (resume_name words.now) (option_map (λ bytes. bytes.now) state) }
+    requires admitted { IsStateAdmitted K.admits words.now }
     ensures same { M.world machine.new ≡ M.world machine.old }
     ensures follows { FollowsWords (M.world machine.old) words.now
         (outside M.Output.Sink M.Errors.Sink K.Keeper (M.failed_reads machine.old) outlets.old)
@@ -177,7 +182,8 @@ fn run_on_log<M: Machine, K: Keeper>(
     answer
 }
 
-/// Reads the files that the words name, and performs what they name.
+/// Reads the files that the words name, and runs their command.
+#[tactic(auto, using(crate::proofs::MachineLemmas::not_begun))]
 fn run_on_files<M: Machine, K: Keeper>(
     alloc: Global,
     machine: &mut M,
@@ -186,6 +192,7 @@ fn run_on_files<M: Machine, K: Keeper>(
 ) -> Result<u8, Fault>
     requires command { IsCommand words.now }
     requires interface { IsInterface (interface_name words.now) }
+    requires admitted { IsStateAdmitted K.admits words.now }
     ensures same { M.world machine.new ≡ M.world machine.old }
     ensures follows { FollowsWords (M.world machine.old) words.now
         (outside M.Output.Sink M.Errors.Sink K.Keeper (M.failed_reads machine.old) outlets.old)
@@ -198,8 +205,10 @@ fn run_on_files<M: Machine, K: Keeper>(
 }
 
 /// Asks whether the state may be kept under the name that the words have for it, where they have one.
+#[tactic(auto, using(crate::proofs::MachineLemmas::state_admitted))]
 fn admit<K: Keeper>(words: &Words, keeper: &mut K) -> Result<(), Fault>
     ensures same { K.kept keeper.new ≡ K.kept keeper.old }
+    ensures admitted { OnOk result (IsStateAdmitted K.admits words.now) }
     ensures none_failed { OnOk result (K.failed_calls keeper.new ≡ K.failed_calls keeper.old) }
     ensures refused { IfErr result (λ fault. (fault ≡ Fault.Save) × IsNamed (save_name words.now)
         × HasFailed (K.failed_calls keeper.old) (K.failed_calls keeper.new)) }
@@ -212,9 +221,9 @@ fn admit<K: Keeper>(words: &Words, keeper: &mut K) -> Result<(), Fault>
         .map_err(|_| Fault::Save)
 }
 
-/// Performs what the words name over its files, which are opened in the order of the faults: the table's and the
-/// state's, which are read whole, and then the log.
-#[tactic(auto, using(crate::proofs::MachineLemmas::not_admitted, crate::proofs::MachineLemmas::admitted))]
+/// Runs the command that the words name. Where its state is admitted the files are opened, in the order of the faults:
+/// the table's and the state's, which are read whole, and then the log.
+#[tactic(auto, using(crate::proofs::MachineLemmas::no_interface, crate::proofs::MachineLemmas::not_admitted, crate::proofs::MachineLemmas::admitted))]
 fn run_words<M: Machine, K: Keeper>(
     alloc: Global,
     machine: &mut M,

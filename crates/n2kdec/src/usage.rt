@@ -2,7 +2,9 @@
 ghost use Rattle.std.specs.Prelude.{◌≡◌, IfOk, false};
 ghost use Rattle.clap.specs.Words.{app_of, rule_of, with_rule};
 ghost use Rattle.clap.specs.declared.builder.command.Command.TheViews.{out-Command as fields_of};
-ghost use Rattle.n2kdec.specs.Usage.{decode_app, empty_rule, flag_rule, frames_app, in_order_rule, log_rule, option_rule, plain_app, program_app, resume_rule, save_rule, table_rule, whole_rule, window_rule};
+ghost use Rattle.n2kdec.specs.Usage.{decode_app, empty_rule, flag_rule, frames_app, in_order_rule, log_rule};
+ghost use Rattle.n2kdec.specs.Usage.{option_rule, plain_app, program_app, resume_rule, save_rule, table_rule};
+ghost use Rattle.n2kdec.specs.Usage.{whole_rule, window_rule};
 
 use clap::{Arg, ArgAction, Command};
 use std::alloc::{AllocError, Global};

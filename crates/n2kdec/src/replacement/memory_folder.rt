@@ -108,8 +108,8 @@ impl Standing {
 pub struct MemoryFolder {
     alloc: Global,
     kind: Kind,
-    own: Standing,
-    beside: Standing,
+    target: Standing,
+    temp: Standing,
     /// The number of the call that is refused, if it is one that may be; the call after it counts as the next.
     pub refused: u64,
     /// What else comes in between.
@@ -123,14 +123,14 @@ impl MemoryFolder {
     pub fn new(
         alloc: Global,
         kind: Kind,
-        own: Option<&[u8]>,
-        new: Option<&[u8]>,
+        target: Option<&[u8]>,
+        temp: Option<&[u8]>,
     ) -> Result<MemoryFolder, AllocError> {
         Ok(MemoryFolder {
             alloc,
             kind,
-            own: Standing::new(alloc, own)?,
-            beside: Standing::new(alloc, new)?,
+            target: Standing::new(alloc, target)?,
+            temp: Standing::new(alloc, temp)?,
             refused: 0,
             trouble: Trouble::No,
             calls: 0,
@@ -141,8 +141,8 @@ impl MemoryFolder {
     /// What a name has after a cut that leaves so much of what is not synced; what it has now, where that is all.
     pub fn left(&self, name: Name, extent: Extent) -> Option<&[u8]> {
         match name {
-            Name::Target => self.own.left(extent),
-            Name::Temp => self.beside.left(extent),
+            Name::Target => self.target.left(extent),
+            Name::Temp => self.temp.left(extent),
         }
     }
 
@@ -153,8 +153,8 @@ impl MemoryFolder {
 
     fn standing(&mut self, name: Name) -> &mut Standing {
         match name {
-            Name::Target => &mut self.own,
-            Name::Temp => &mut self.beside,
+            Name::Target => &mut self.target,
+            Name::Temp => &mut self.temp,
         }
     }
 
@@ -240,8 +240,8 @@ impl Folder for MemoryFolder {
         let done = self.begin();
         self.refuses()?;
         match (done, from, to) {
-            (Extent::Whole, Name::Target, Name::Temp) => self.beside.take_from(&mut self.own),
-            (Extent::Whole, Name::Temp, Name::Target) => self.own.take_from(&mut self.beside),
+            (Extent::Whole, Name::Target, Name::Temp) => self.temp.take_from(&mut self.target),
+            (Extent::Whole, Name::Temp, Name::Target) => self.target.take_from(&mut self.temp),
             _ => {}
         }
         Ok(self.answer()?)
@@ -249,8 +249,8 @@ impl Folder for MemoryFolder {
 
     fn sync_folder(&mut self) -> Result<(), Failed> {
         if self.begin() == Extent::Whole {
-            self.own.settle(self.alloc).map_err(|_| Failed)?;
-            self.beside.settle(self.alloc).map_err(|_| Failed)?;
+            self.target.settle(self.alloc).map_err(|_| Failed)?;
+            self.temp.settle(self.alloc).map_err(|_| Failed)?;
         }
         self.answer()
     }

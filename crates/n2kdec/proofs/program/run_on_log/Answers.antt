@@ -11,6 +11,7 @@ returns-clause-follows g c =
     let after = outside g.M.Output.Sink g.M.Errors.Sink g.K.Keeper (g.M.Machine.failed_reads c.close.new.self) c.run_command-answer.new.outlets in
     follows w c.args.words.now _ after c.run_command-answer.result (record {
       interface = c.requires.interface;
+      admitted = c.requires.admitted;
       table = c.args.table.now;
       is_table = c.requires.table;
       handed = option_map (λ bytes. bytes.now) c.args.state;
