@@ -12,8 +12,8 @@ use Rattle.clap.proofs.OnLiterals.{clap_on_literals}
 use Rattle.n2k_join.specs.Window.{Window}
 use Rattle.n2kdec.specs.declared.fault.Fault.{Fault}
 use Rattle.n2kdec.specs.declared.fault.Fault.TheVariants as fault
-use Rattle.n2kdec.specs.declared.word.Words.{Words}
-use Rattle.n2kdec.specs.declared.word.Words.TheVariants.{Help}
+use Rattle.n2kdec.specs.declared.words.Words.{Words}
+use Rattle.n2kdec.specs.declared.words.Words.TheVariants.{Help}
 use Rattle.n2kdec.specs.Usage.{program_app}
 use Rattle.n2kdec.specs.Inner.Parse.{AnswersKind}
 use Rattle.n2kdec.specs.Words.{IsAskedBy, IsRefused, Names, decode_words, frames_words, named, plain_words, window_of, words_of}

@@ -1,7 +1,7 @@
 -- From what a run, the place of a state and the summary leave to what a command leaves.
-use Rattle.std.proofs.Common.{◌≡◌, ◌⊎◌, ◌≤◌, ◌+◌, length, ◌==◌, ◌++◌, Bool, true, false, cond, arith, MatchResult, ◌∙◌, ℕ, List, [], Option, Some, None, Ok, Err, Result, IfOk, IfSome, ap, sym, subst, refl, inl, inr, append-nil, append_assoc}
+use Rattle.std.proofs.Common.{◌≡◌, ◌⊎◌, ◌≤◌, ◌+◌, length, ◌==◌, ◌++◌, Bool, true, false, cond, arith, ◌∙◌, ℕ, List, [], Option, Ok, Err, Result, IfOk, IfSome, ap, sym, subst, refl, inl, inr, append_assoc}
 use Rattle.std.proofs.KnownBytes.{Appends-nil, Appends-trans}
-use Rattle.std.specs.Io.KnownBytes.{Appends, Consumes, IsAtEnd}
+use Rattle.std.specs.Io.KnownBytes.{Appends}
 use Rattle.n2k_wire.specs.declared.entry.Entry.{Entry}
 use Rattle.n2k_join.specs.declared.counts.Counts.{Counts}
 use Rattle.n2k_run.specs.Device.{HasFailed}
@@ -22,7 +22,7 @@ use Rattle.n2kdec.specs.Fault.{exit_status, fault_of_run}
 use Rattle.n2kdec.specs.declared.fault.Fault.{Fault}
 use Rattle.n2kdec.specs.declared.fault.Fault.TheVariants.{Memory, Report, Table}
 use Rattle.n2kdec.specs.declared.work.Stop.{Stop}
-use Rattle.n2kdec.specs.Work.{RefusesTable, TellsWhole}
+use Rattle.n2kdec.specs.Work.{RefusesTable, AnswersWhole}
 
 -- a text follows what was written first
 more_after : (old mid new : Option (List ℕ)) (text more : List ℕ) → (rest : List ℕ) × Appends old mid (text ++ rest) → Appends mid new more → (rest : List ℕ) × Appends old new (text ++ rest)
@@ -241,7 +241,7 @@ module _ (output : Output) (counts_of : List Entry → Counts) (before after : D
 
   pub ended_whole : (ended : Result Counts RunFault) (told : Result Part Stop) (r : Result ℕ Fault)
       → Runs output (λ es. IfOk ended (λ counts. counts ≡ counts_of es)) before (record after { reported = errors.text; failed_reports = errors.failed }) ended
-      → TellsWhole ended told → ClosesWhole errors said told r → Ends whole_command before after r
+      → AnswersWhole ended told → ClosesWhole errors said told r → Ends whole_command before after r
   ended_whole (Ok counts) (Ok part) r runs tells closes =
       ended_by_closing whole_command _ before after errors counts [] part.counts runs (tells.1 ∙ runs.ends.holds, refl) r (closes_unsaved errors said part.counts r closes)
   ended_whole (Ok counts) (Err stop) r runs tells closes = absurd tells

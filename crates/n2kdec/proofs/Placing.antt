@@ -5,7 +5,7 @@ use Rattle.n2kdec.specs.Inner.Placing.{HasPlaced, IsStuck, Makes}
 use Rattle.n2kdec.specs.Replacement.{AreWritingTo, AtomicReplacement, FromTo, KeepsText, Overwrites, Overwriting, PutsInPlace, RefusedReplacement, WritesTo, filled}
 use Rattle.n2kdec.specs.declared.folder.Kind.TheVariants.{Alone, Shared, Special}
 use Rattle.n2kdec.specs.declared.folder.Name.{Name}
-use Rattle.n2kdec.specs.declared.folder.Name.TheVariants.{Own, New}
+use Rattle.n2kdec.specs.declared.folder.Name.TheVariants.{Target, Temp}
 use Rattle.n2kdec.specs.declared.folder.Unplaced.{Unplaced}
 use Rattle.n2kdec.specs.declared.folder.Unplaced.TheVariants.{Refused, Failed}
 
@@ -24,35 +24,35 @@ known P old (Some after) made (before, was, is) holds = (before, was, subst (λ 
 
 -- ---- a new file
 
-pub stuck_at_create : (a b : Option (List Call)) (text : List ℕ) (why : Unplaced) → Notes a b (created {T = Unit {0}} New (Err why)) → IsStuck a b text why
+pub stuck_at_create : (a b : Option (List Call)) (text : List ℕ) (why : Unplaced) → Notes a b (created {T = Unit {0}} Temp (Err why)) → IsStuck a b text why
 stuck_at_create a b text Refused creating = inl creating
 stuck_at_create a b text Failed creating = inl creating
 
-pub stuck_at_write : (a b c : Option (List Call)) (text : List ℕ) (why : Unplaced) → why ≡ Failed → Notes a b (create New true) → Notes b c (write New text false)
+pub stuck_at_write : (a b c : Option (List Call)) (text : List ℕ) (why : Unplaced) → why ≡ Failed → Notes a b (create Temp true) → Notes b c (write Temp text false)
     → IsStuck a c text why
 stuck_at_write a b c text why is creating writing =
-    subst (λ w. IsStuck a c text w) (sym is) (inr (inl (noted a b c (create New true ∷ []) _ creating writing)))
+    subst (λ w. IsStuck a c text w) (sym is) (inr (inl (noted a b c (create Temp true ∷ []) _ creating writing)))
 
-synced : (a b c d : Option (List Call)) (text : List ℕ) (done : _) → Notes a b (create New true) → Notes b c (write New text true) → Notes c d (sync New done) → Makes a d (sync New done ∷ filled text)
-synced a b c d text done creating writing syncing = noted a c d (filled text) _ (noted a b c (create New true ∷ []) _ creating writing) syncing
+synced : (a b c d : Option (List Call)) (text : List ℕ) (done : _) → Notes a b (create Temp true) → Notes b c (write Temp text true) → Notes c d (sync Temp done) → Makes a d (sync Temp done ∷ filled text)
+synced a b c d text done creating writing syncing = noted a c d (filled text) _ (noted a b c (create Temp true ∷ []) _ creating writing) syncing
 
-pub stuck_at_sync : (a b c d : Option (List Call)) (text : List ℕ) (why : Unplaced) → why ≡ Failed → Notes a b (create New true) → Notes b c (write New text true)
-    → Notes c d (sync New false) → IsStuck a d text why
+pub stuck_at_sync : (a b c d : Option (List Call)) (text : List ℕ) (why : Unplaced) → why ≡ Failed → Notes a b (create Temp true) → Notes b c (write Temp text true)
+    → Notes c d (sync Temp false) → IsStuck a d text why
 stuck_at_sync a b c d text why is creating writing syncing =
     subst (λ w. IsStuck a d text w) (sym is) (inr (inr (inl (synced a b c d text false creating writing syncing))))
 
-pub stuck_at_rename : {T : Type 0} (a b c d e : Option (List Call)) (text : List ℕ) (result : Result T Unplaced) → Notes a b (create New true) → Notes b c (write New text true)
-    → Notes c d (sync New true) → Notes d e (renamed New Own result) → IfErr result (IsStuck a e text)
+pub stuck_at_rename : {T : Type 0} (a b c d e : Option (List Call)) (text : List ℕ) (result : Result T Unplaced) → Notes a b (create Temp true) → Notes b c (write Temp text true)
+    → Notes c d (sync Temp true) → Notes d e (renamed Temp Target result) → IfErr result (IsStuck a e text)
 stuck_at_rename a b c d e text (Ok moved) creating writing syncing renaming = tt
 stuck_at_rename a b c d e text (Err Refused) creating writing syncing renaming =
-    inr (noted a d e (sync New true ∷ filled text) _ (synced a b c d text true creating writing syncing) renaming)
+    inr (noted a d e (sync Temp true ∷ filled text) _ (synced a b c d text true creating writing syncing) renaming)
 stuck_at_rename a b c d e text (Err Failed) creating writing syncing renaming =
-    inr (inr (inr (noted a d e (sync New true ∷ filled text) _ (synced a b c d text true creating writing syncing) renaming)))
+    inr (inr (inr (noted a d e (sync Temp true ∷ filled text) _ (synced a b c d text true creating writing syncing) renaming)))
 
-pub placed_at_rename : {T : Type 0} (a b c d e : Option (List Call)) (text : List ℕ) (result : Result T Unplaced) → Notes a b (create New true) → Notes b c (write New text true)
-    → Notes c d (sync New true) → Notes d e (renamed New Own result) → OnOk result (HasPlaced a e text)
+pub placed_at_rename : {T : Type 0} (a b c d e : Option (List Call)) (text : List ℕ) (result : Result T Unplaced) → Notes a b (create Temp true) → Notes b c (write Temp text true)
+    → Notes c d (sync Temp true) → Notes d e (renamed Temp Target result) → OnOk result (HasPlaced a e text)
 placed_at_rename a b c d e text (Ok moved) creating writing syncing renaming =
-    noted a d e (sync New true ∷ filled text) _ (synced a b c d text true creating writing syncing) renaming
+    noted a d e (sync Temp true ∷ filled text) _ (synced a b c d text true creating writing syncing) renaming
 placed_at_rename a b c d e text (Err why) creating writing syncing renaming = tt
 
 -- for `place`, at each of its calls
@@ -60,16 +60,16 @@ pub ruleset stuck = (stuck_at_create, stuck_at_write, stuck_at_sync, stuck_at_re
 
 -- ---- what is written to
 
-pub unopened_to : {E : Type 0} (a b : Option (List Call)) (text : List ℕ) (why : E) → Notes a b (empty Own false) → WritesTo {T = Unit {0}} a b text (Err why)
-unopened_to a b text why opening = known _ a b (empty Own false ∷ []) opening (λ before. (empty Own false ∷ [], refl, inl refl))
+pub unopened_to : {E : Type 0} (a b : Option (List Call)) (text : List ℕ) (why : E) → Notes a b (empty Target false) → WritesTo {T = Unit {0}} a b text (Err why)
+unopened_to a b text why opening = known _ a b (empty Target false ∷ []) opening (λ before. (empty Target false ∷ [], refl, inl refl))
 
-pub written_to : {T E : Type 0} (a b c : Option (List Call)) (text : List ℕ) (result : Result T E) → Notes a b (empty Own true) → Notes b c (write Own text (is_ok result))
+pub written_to : {T E : Type 0} (a b c : Option (List Call)) (text : List ℕ) (result : Result T E) → Notes a b (empty Target true) → Notes b c (write Target text (is_ok result))
     → WritesTo a c text result
 written_to a b c text (Ok done) opening writing =
-    known _ a c (write Own text true ∷ empty Own true ∷ []) (noted a b c (empty Own true ∷ []) _ opening writing) (λ before. (write Own text true ∷ empty Own true ∷ [], refl, refl))
+    known _ a c (write Target text true ∷ empty Target true ∷ []) (noted a b c (empty Target true ∷ []) _ opening writing) (λ before. (write Target text true ∷ empty Target true ∷ [], refl, refl))
 written_to a b c text (Err why) opening writing =
-    known _ a c (write Own text false ∷ empty Own true ∷ []) (noted a b c (empty Own true ∷ []) _ opening writing)
-    (λ before. (write Own text false ∷ empty Own true ∷ [], refl, inr refl))
+    known _ a c (write Target text false ∷ empty Target true ∷ []) (noted a b c (empty Target true ∷ []) _ opening writing)
+    (λ before. (write Target text false ∷ empty Target true ∷ [], refl, inr refl))
 
 -- for `write_to`
 pub ruleset writes_to = (unopened_to, written_to)

@@ -11,8 +11,8 @@ use Rattle.n2k_table.specs.declared.fault.TableFault.TheVariants as table_faults
 use Rattle.n2kdec.specs.Words.{options_of}
 use Rattle.n2kdec.specs.Work.{ByTable, DoesDecode, DoesFrames, DoesPlain, RefusesTable, Works, stop_of}
 use Rattle.n2kdec.specs.declared.fault.Fault.TheVariants.{Table}
-use Rattle.n2kdec.specs.declared.word.Words.{Words}
-use Rattle.n2kdec.specs.declared.word.Words.TheVariants.{Plain, Decode, Frames}
+use Rattle.n2kdec.specs.declared.words.Words.{Words}
+use Rattle.n2kdec.specs.declared.words.Words.TheVariants.{Plain, Decode, Frames}
 use Rattle.n2kdec.specs.declared.work.Stop.{Stop}
 
 -- a table was refused

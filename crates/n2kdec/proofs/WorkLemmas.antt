@@ -1,28 +1,24 @@
 -- From what the work that the words name and its closing leave to what their command leaves.
-use Rattle.std.proofs.Common.{◌≡◌, ◌⊎◌, ℕ, List, [], ◌++◌, Option, Some, Ok, Err, Result, IfOk, IfSome, ap, sym, subst, refl, inl, inr}
+use Rattle.std.proofs.Common.{◌≡◌, ℕ, List, [], ◌++◌, Option, Some, Ok, Err, Result, IfOk, IfSome, sym, subst, inl, inr}
 use Rattle.std.specs.Prelude.{None, IfErr}
 use Rattle.n2k_run.proofs.Ending.{all_came}
 use Rattle.n2k_wire.specs.declared.entry.Entry.{Entry}
 use Rattle.n2k_join.specs.Messages.{counts}
-use Rattle.n2k_join.specs.State.{state}
 use Rattle.n2k_run.specs.Entries.{entries}
 use Rattle.n2k_run.specs.FramesOut.{frame_counts_of, frames_output}
-use Rattle.n2k_run.specs.Parts.{begun}
 use Rattle.n2k_run.specs.Plain.{plain_counts_of, plain_output}
 use Rattle.n2k_run.specs.Runs.{Devices}
-use Rattle.n2k_run.specs.declared.fault.RunFault.{RunFault}
-use Rattle.n2k_run.specs.declared.fault.RunFault.TheVariants as run
 use Rattle.n2k_run.specs.declared.part.Part.{Part}
 use Rattle.n2k_table.specs.Table.{faults, kind, table as table_of}
-use Rattle.n2kdec.specs.Commands.{Command, Ends, EndsByTable, IsDone, IsRefusal, Performs, Place, Shelf, TellsStatus, decode_command, entries_for, frames_command, place, plain_command, shelf}
-use Rattle.n2kdec.specs.Fault.{exit_status, fault_of_run}
-use Rattle.n2kdec.specs.Inner.Closing.{Closes, ClosesPart, ClosesWhole, ClosesWork}
+use Rattle.n2kdec.specs.Commands.{Command, EndsByTable, IsDone, IsRefusal, Performs, Place, Shelf, HasStatus, decode_command, entries_for, frames_command, place, plain_command}
+use Rattle.n2kdec.specs.Fault.{exit_status}
+use Rattle.n2kdec.specs.Inner.Closing.{ClosesPart, ClosesWhole, ClosesWork}
 use Rattle.n2kdec.specs.Words.{options_of}
 use Rattle.n2kdec.specs.Work.{DoesFrames, Works}
 use Rattle.n2kdec.specs.declared.fault.Fault.{Fault}
 use Rattle.n2kdec.specs.declared.fault.Fault.TheVariants as fault
-use Rattle.n2kdec.specs.declared.word.Words.{Words}
-use Rattle.n2kdec.specs.declared.word.Words.TheVariants.{Plain, Decode, Frames, Help}
+use Rattle.n2kdec.specs.declared.words.Words.{Words}
+use Rattle.n2kdec.specs.declared.words.Words.TheVariants.{Plain, Decode, Frames, Help}
 use Rattle.n2kdec.specs.declared.work.Stop.{Stop}
 use Rattle.n2kdec.proofs.CommandLemmas.{ended_whole, past_table, refused_table}
 use Rattle.n2kdec.proofs.DecodeLemmas.{decoded, undecoded}
@@ -67,12 +63,12 @@ known_for_all None P each = tt
 known_for_all (Some log) P each = each
 
 pub tells_status : (words : Words) (bytes : List ℕ) (handed : Option (List ℕ)) (before after : Devices) (keeper kept : Shelf) (r : Result ℕ Fault) → Performs words bytes handed before after keeper kept r
-    → IfOk r (λ status. IfSome before.left (λ all. TellsStatus words bytes handed all status))
+    → IfOk r (λ status. IfSome before.left (λ all. HasStatus words bytes handed all status))
 tells_status words bytes handed before after keeper kept (Err f) done = tt
 tells_status (Plain log) bytes handed before after keeper kept (Ok status) done =
-    status_of plain_command before after status (λ all. TellsStatus (Plain log) bytes handed all status) (λ came is. is) done.1
+    status_of plain_command before after status (λ all. HasStatus (Plain log) bytes handed all status) (λ came is. is) done.1
 tells_status (Frames t candump log) bytes handed before after keeper kept (Ok status) done =
-    status_of (frames_command (table_of bytes) candump) before after status (λ all. TellsStatus (Frames t candump log) bytes handed all status) (λ came is. is) done.1.1
+    status_of (frames_command (table_of bytes) candump) before after status (λ all. HasStatus (Frames t candump log) bytes handed all status) (λ came is. is) done.1.1
 tells_status (Decode t resume save empty whole window log) bytes handed before after keeper kept (Ok status) done =
     known_for_all before.left _ (λ (front : List Entry). known_if before.left _ _ (λ begins.
     status_of (decode_command (table_of bytes) (options_of empty whole window) front keeper kept) before after status

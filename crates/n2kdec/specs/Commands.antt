@@ -1,5 +1,6 @@
 -- What a command leaves on its devices where it comes to its end, and where a fault stops it.
-use Rattle.std.specs.Prelude.{◌≡◌, ◌≢◌, ◌⊎◌, ◌≤◌, ◌+◌, ◌++◌, ℕ, Bool, true, false, List, [], ◌∷◌, length, Option, Some, None, IfOk, IfSome, IsSome, Result, Ok, Err, IsOk, MatchResult, Contains}
+use Rattle.std.specs.Prelude.{◌≡◌, ◌≢◌, ◌⊎◌, ◌≤◌, ◌+◌, ◌++◌, ℕ, Bool, true, false, List, [], ◌∷◌, length, Option, Some}
+use Rattle.std.specs.Prelude.{None, IfOk, IfSome, IsSome, Result, Ok, Err, IsOk, MatchResult, Contains}
 use Rattle.std.specs.Io.KnownBytes.{Appends, Consumes, IsAtEnd}
 use Rattle.n2k_wire.specs.declared.entry.Entry.{Entry}
 use Rattle.n2k_table.specs.Table.{TableParts, faults, kind, table as table_of}
@@ -23,19 +24,21 @@ use Rattle.n2k_run.specs.Parts.{IsFront, begun}
 use Rattle.n2k_run.specs.Plain.{plain_counts, plain_counts_of, plain_output}
 use Rattle.n2k_run.specs.Reading.{OutlastsReads}
 use Rattle.n2k_run.specs.Reports.{summary_text}
-use Rattle.n2k_run.specs.Runs.{AreNumbered, Devices, HasFronts, NoneFailed, Output, ReadFails, ReportFails, ReportsFirst, WriteFails, output_from}
+use Rattle.n2k_run.specs.Runs.{AreNumbered, Devices, HasFronts, NoneFailed, Output, ReadFails, ReportFails}
+use Rattle.n2k_run.specs.Runs.{ReportsFirst, WriteFails, output_from}
 use Rattle.n2k_run.specs.Writing.{AppendsFront}
 use Rattle.n2k_run.specs.declared.options.Options.{Options}
 use Rattle.n2kdec.specs.Fault.{exit_status}
 use Rattle.n2kdec.specs.Words.{options_of}
 use Rattle.n2kdec.specs.declared.fault.Fault.{Fault}
 use Rattle.n2kdec.specs.declared.fault.Fault.TheVariants.{Table, State, Read, Write, Report, Memory, Lines, Save}
-use Rattle.n2kdec.specs.declared.word.Words.{Words}
-use Rattle.n2kdec.specs.declared.word.Words.TheVariants.{Plain, Decode, Frames, Help}
+use Rattle.n2kdec.specs.declared.words.Words.{Words}
+use Rattle.n2kdec.specs.declared.words.Words.TheVariants.{Plain, Decode, Frames, Help}
 
 -- ---- what a command does
 
--- A place that texts go to, as contracts see it: what it has, where that is known, and how many of its calls have failed.
+-- A place that texts go to, as contracts see it: what it has, where that is known, and how many of its calls have
+-- failed.
 pub record Place : Type 0 where
   pub text : Option (List ℕ)
   pub failed : ℕ
@@ -57,14 +60,29 @@ pub record IsCutOff (before after : Place) (text : List ℕ) : Type 0 where
 abbrev pub IsWrittenUnlessFailed : Place → Place → List ℕ → Type 0
 IsWrittenUnlessFailed before after text = IsWritten before after text ⊎ IsCutOff before after text
 
--- a text that was kept: its name, and what the errors held then, where the keeper tells it
+-- a text that was kept: its name, and what the errors held then, where the keeper notes it
 pub record Kept : Type 0 where
   pub name : List ℕ
   pub text : List ℕ
   pub said : Option (List ℕ)
 
--- What keeps a state: the name that the state is to have, if any; the texts that were kept, the first one first, where they are
--- known; and how many of its calls have failed.
+-- A state that a run would keep: the name that it is to have, and what the run reads: a table, a log, or standard input
+-- where none is named, and a state to go on from.
+pub record Request : Type 0 where
+  pub name : List ℕ
+  pub table : Option (List ℕ)
+  pub log : Option (List ℕ)
+  pub state : Option (List ℕ)
+
+abbrev pub request : List ℕ → Option (List ℕ) → Option (List ℕ) → Option (List ℕ) → Request
+request name table log state = record { name = name; table = table; log = log; state = state }
+
+-- it may be kept, as far as is known which ones may be
+abbrev pub IsAdmitted : (Request → Option Bool) → Request → Type 0
+IsAdmitted admits asked = IfSome (admits asked) (λ known. known ≡ true)
+
+-- What keeps a state: the name that the state is to have, if any; the texts that were kept, the first one first, where
+-- they are known; and how many of its calls have failed.
 pub record Shelf : Type 0 where
   pub name : Option (List ℕ)
   pub kept : Option (List Kept)
@@ -79,7 +97,8 @@ KeepsUnder None before after text held = after ≡ before
 KeepsUnder (Some name) None after text held = Unit {0}
 KeepsUnder (Some name) (Some had) None text held = ⊥
 KeepsUnder (Some name) (Some had) (Some all) text held =
-    (said : Option (List ℕ)) × IfSome said (λ told. held ≡ Some told) × (all ≡ had ++ record { name = name; text = text; said = said } ∷ [])
+    (said : Option (List ℕ)) × IfSome said (λ noted. held ≡ Some noted)
+    × (all ≡ had ++ record { name = name; text = text; said = said } ∷ [])
 
 -- the state that is saved after entries, and what keeps it, before the command and after it
 pub record Saving : Type 0 where
@@ -98,7 +117,8 @@ pub record Replaces (before after : Shelf) (text : List ℕ) (held : Option (Lis
 
 -- it is kept when the errors have gained this report, and no more: the summary comes behind it
 abbrev pub ReplacesBehind : Shelf → Shelf → List ℕ → Option (List ℕ) → List ℕ → Type 0
-ReplacesBehind before after text had report = (held : Option (List ℕ)) × Appends had held report × Replaces before after text held
+ReplacesBehind before after text had report =
+    (held : Option (List ℕ)) × Appends had held report × Replaces before after text held
 
 -- it can't be kept
 abbrev pub CannotBeSaved : Saving → Type 0
@@ -108,8 +128,8 @@ CannotBeSaved s = HasFailed s.before.failed s.after.failed
 abbrev pub IsUntouched : Saving → Type 0
 IsUntouched s = s.after ≡ s.before
 
--- what a command prints and reports of the entries of its log, what it counts, what it saves, and whether it sums up what
--- it has read where a failed read or the limit of lines ends it
+-- what a command prints and reports of the entries of its log, what it counts, what it saves, and whether it sums up
+-- what it has read where a failed read or the limit of lines ends it
 pub record Command : Type 0 where
   pub output : Output
   pub counts : List Entry → Counts
@@ -153,16 +173,17 @@ entries_for c log = entries c.output.packing log
 
 -- the state after these entries is kept, behind their reports and before their summary
 abbrev pub IsSaved : Command → Devices → List Entry → Type 0
-IsSaved c before es = ReplacesBehind c.saving.before c.saving.after (c.saving.state es) before.reported (c.output.reports es)
+IsSaved c before es =
+    ReplacesBehind c.saving.before c.saving.after (c.saving.state es) before.reported (c.output.reports es)
 
 -- the reports of entries, and then their summary
 abbrev pub summed_up : Command → List Entry → List ℕ
 summed_up c es = c.output.reports es ++ summary_text (c.counts es)
 
--- The command came to its end: bytes came until the log had no more. Their lines have numbers that are counted, the output has
--- gained what is printed of them, the errors their reports and then their summary, the status tells whether a line was bad,
--- no device failed, and the state after them is saved by calls of which none failed. Where the log's bytes are known, these
--- are all that it had.
+-- The command came to its end: bytes came until the log had no more. Their lines have numbers that are counted, the
+-- output has gained what is printed of them, the errors their reports and then their summary, the status says whether a
+-- line was bad, no device failed, and the state after them is saved by calls of which none failed. Where the log's
+-- bytes are known, these are all that it had.
 pub record IsDone (c : Command) (before after : Devices) (answer : ℕ) : Type 0 where
   pub came : List ℕ
   pub given : Consumes before.left after.left came
@@ -175,18 +196,22 @@ pub record IsDone (c : Command) (before after : Devices) (answer : ℕ) : Type 0
   pub none_failed : NoneFailed before after
   pub saved : IsSaved c before (entries_for c came)
 
--- A command has printed and reported these entries, which have numbers that are counted. No call of the errors failed until
--- then, and then they have of the summary what `summed` says.
-pub record HasTaken (c : Command) (before after : Devices) (es : List Entry) (summed : Place → Place → List ℕ → Type 0) : Type 0 where
+-- A command has printed and reported these entries, which have numbers that are counted. No call of the errors failed
+-- until then, and then they have of the summary what `summed` says.
+pub record HasTaken (c : Command) (before after : Devices) (es : List Entry) (summed : Place → Place → List ℕ → Type 0)
+    : Type 0 where
   -- what the errors held before the summary
   pub errors : Option (List ℕ)
   pub numbered : AreNumbered c.output.counted es
   pub text : Appends before.written after.written (c.output.texts es)
   pub report : Appends before.reported errors (c.output.reports es)
-  pub summary : summed (place errors before.failed_reports) (place after.reported after.failed_reports) (summary_text (c.counts es))
+  pub summary : summed (place errors before.failed_reports) (place after.reported after.failed_reports)
+      (summary_text (c.counts es))
 
--- Bytes came until the log had no more, and all their entries are taken. `closed` says what became of the state after them.
-pub record HasTakenAll (c : Command) (before after : Devices) (summed : Place → Place → List ℕ → Type 0) (closed : List Entry → Type 0) : Type 0 where
+-- Bytes came until the log had no more, and all their entries are taken. `closed` says what became of the state after
+-- them.
+pub record HasTakenAll (c : Command) (before after : Devices) (summed : Place → Place → List ℕ → Type 0)
+    (closed : List Entry → Type 0) : Type 0 where
   pub came : List ℕ
   pub given : Consumes before.left after.left came
   pub at_end : IsAtEnd after.left
@@ -210,7 +235,8 @@ pub record HasRead (c : Command) (before after : Devices) : Type 0 where
 pub record IsFull (c : Command) (before after : Devices) : Type 0 where
   pub lines : List Entry
   pub full : c.output.counted + length lines ≡ most_lines
-  pub more : IfSome before.left (λ log. (next : Entry) × (rest : List Entry) × (entries_for c log ≡ lines ++ next ∷ rest))
+  pub more : IfSome before.left
+      (λ log. (next : Entry) × (rest : List Entry) × (entries_for c log ≡ lines ++ next ∷ rest))
   pub taken : HasTaken c before after lines (SumsUpPart c.sums_up_a_part)
   pub unsaved : IsUntouched c.saving
 
@@ -226,10 +252,10 @@ LacksSummary c before after = HasTakenAll c before after IsCutOff (IsSaved c bef
 abbrev pub LacksState : Command → Devices → Devices → Type 0
 LacksState c before after = HasTakenAll c before after IsWrittenUnlessFailed (λ es. CannotBeSaved c.saving)
 
--- What each fault leaves. Read: the lines that came are taken. Lines: as many as are counted are. Save: the log is taken. In
--- these three the summary, where one is written, is cut off only where the errors failed. After Write and Memory the run breaks off; after Report
--- too, or all but the summary is done. So memory is not refused once something is saved or summed up. No other fault stops a
--- run.
+-- What each fault leaves. Read: the lines that came are taken. Lines: as many as are counted are. Save: the log is
+-- taken. In these three the summary, where one is written, is cut off only where the errors failed. After Write and
+-- Memory the run breaks off; after Report too, or all but the summary is done. So memory is not refused once something
+-- is saved or summed up. No other fault stops a run.
 abbrev pub Leaves : Command → Devices → Devices → Fault → Type 0
 Leaves c before after Read = HasRead c before after
 Leaves c before after Lines = IsFull c before after
@@ -244,12 +270,14 @@ pub record LogAndOutputHold (before after : Devices) : Type 0 where
   pub reads : after.failed_reads ≡ before.failed_reads
   pub writes : after.failed_writes ≡ before.failed_writes
 
--- Which device failed. Read: the log's, or none and 10^12 reads found no end. Write, Report: that one alone, and not the place
--- of the state. Save: that place. Lines: none. Memory: none; or, where parts are summed up, as for Read, and memory was refused
--- for the state of what had been read. After Read, Lines and Save the errors may have failed too, in the summary.
+-- Which device failed. Read: the log's, or none and 10^12 reads found no end. Write, Report: that one alone, and not
+-- the place of the state. Save: that place. Lines: none. Memory: none; or, where parts are summed up, as for Read, and
+-- memory was refused for the state of what had been read. After Read, Lines and Save the errors may have failed too, in
+-- the summary.
 abbrev pub HasDevice : Command → Devices → Devices → Fault → Type 0
 HasDevice c before after Read =
-    (HasFailed before.failed_reads after.failed_reads ⊎ (OutlastsReads before.calls after.calls × (after.failed_reads ≡ before.failed_reads)))
+    (HasFailed before.failed_reads after.failed_reads
+    ⊎ (OutlastsReads before.calls after.calls × (after.failed_reads ≡ before.failed_reads)))
     × (after.failed_writes ≡ before.failed_writes)
 HasDevice c before after Lines = LogAndOutputHold before after
 HasDevice c before after Save = CannotBeSaved c.saving × LogAndOutputHold before after
@@ -277,10 +305,11 @@ IsRefusal (State fault) = Unit {0}
 IsRefusal _ = ⊥
 
 -- A refused table has the fault, or memory was wanted; a refused state is handed in with a table that has none, and its
--- first fault is told, or memory was wanted. Where another fault is told, both are taken.
+-- first fault is answered, or memory was wanted. Where another fault is, both are taken.
 abbrev pub IsJudged : List TableFault → Option (List ℕ) → Result StateOf StateFault → Fault → Type 0
 IsJudged found handed begun (Table fault) = fault ≢ table.Memory → Contains found fault
-IsJudged found handed begun (State fault) = (found ≡ []) × IsSome handed × (fault ≢ state_faults.Memory → begun ≡ Err fault)
+IsJudged found handed begun (State fault) =
+    (found ≡ []) × IsSome handed × (fault ≢ state_faults.Memory → begun ≡ Err fault)
 IsJudged found handed begun fault = (found ≡ []) × IsOk begun
 
 -- The table is refused, by a fault that stands in it or for want of memory, and no device is touched; or it has no
@@ -298,15 +327,17 @@ EndsUnlessRefused c before after (Ok status) = IsDone c before after status
 
 -- ---- the headline of a log in parts
 
--- After this front of a log and `more`, the whole stands: what is printed is exactly what the output and the reports of both
--- have after those of the front, then the summary of both; the status is that of both, and their state is saved, from which
--- the log can go on.
-pub record PrintsRest (t : TableParts) (o : Options) (front more : List ℕ) (before after : Devices) (keeper kept : Shelf) (status : ℕ) : Type 0 where
+-- After this front of a log and `more`, the whole stands: what is printed is exactly what the output and the reports of
+-- both have after those of the front, then the summary of both; the status is that of both, and their state is saved,
+-- from which the log can go on.
+pub record PrintsRest (t : TableParts) (o : Options) (front more : List ℕ) (before after : Devices)
+    (keeper kept : Shelf) (status : ℕ) : Type 0 where
   pub text : List ℕ
   pub printed : Appends before.written after.written text
   pub output : out t o (front ++ more) ≡ out t o front ++ text
   pub report : List ℕ
-  pub reported : Appends before.reported after.reported (report ++ summary_text (counts o.window (kind t) (entries o.packing (front ++ more))))
+  pub reported : Appends before.reported after.reported
+      (report ++ summary_text (counts o.window (kind t) (entries o.packing (front ++ more))))
   pub told : reports t o (front ++ more) ≡ reports t o front ++ report
   pub answered : status ≡ exit_status (counts o.window (kind t) (entries o.packing (front ++ more)))
   pub saved : ReplacesBehind keeper kept (save t o (front ++ more)) before.reported report
@@ -316,27 +347,34 @@ pub record PrintsRest (t : TableParts) (o : Options) (front more : List ℕ) (be
 
 -- how a command ends that reads a table and has no state
 abbrev pub EndsByTable : List TableFault → Command → Devices → Devices → Result ℕ Fault → Type 0
-EndsByTable found c before after result = MatchResult result (λ status. (found ≡ []) × IsDone c before after status) (IsRefusedOrStopped found c before after)
+EndsByTable found c before after result =
+    MatchResult result (λ status. (found ≡ []) × IsDone c before after status) (IsRefusedOrStopped found c before after)
 
 -- How `decode` ends, by the bytes of a table, with options, and from a state that is handed in.
-pub record Decodes (bytes : List ℕ) (o : Options) (handed : Option (List ℕ)) (before after : Devices) (keeper kept : Shelf) (result : Result ℕ Fault) : Type 0 where
+pub record Decodes (bytes : List ℕ) (o : Options) (handed : Option (List ℕ)) (before after : Devices)
+    (keeper kept : Shelf) (result : Result ℕ Fault) : Type 0 where
   -- The table and the state are taken, or refused for what stands in them or for want of memory.
   pub judged : MatchResult result (λ status. (faults bytes ≡ []) × IsOk (begun (table_of bytes) o handed))
       (IsJudged (faults bytes) handed (begun (table_of bytes) o handed))
   -- From any state that is taken: what the steps of the log's entries make, one after the other.
-  pub steps : (s : StateOf) → begun (table_of bytes) o handed ≡ Ok s → EndsUnlessRefused (decode_from (table_of bytes) o s keeper kept) before after result
-  -- From the state that these entries lead to, or from a log's beginning, where there are none: what the whole log says of
-  -- the lines after them.
-  pub log : (front : List Entry) → begun (table_of bytes) o handed ≡ Ok (state (table_of bytes).id o.window (kind (table_of bytes)) front)
+  pub steps : (s : StateOf) → begun (table_of bytes) o handed ≡ Ok s
+      → EndsUnlessRefused (decode_from (table_of bytes) o s keeper kept) before after result
+  -- From the state that these entries lead to, or from a log's beginning, where there are none: what the whole log says
+  -- of the lines after them.
+  pub log : (front : List Entry)
+      → begun (table_of bytes) o handed ≡ Ok (state (table_of bytes).id o.window (kind (table_of bytes)) front)
       → EndsUnlessRefused (decode_command (table_of bytes) o front keeper kept) before after result
   -- The headline: after this front of a log, whose state was handed in, exactly the rest of what the whole log gives is
   -- printed, and the state of the whole is saved.
   pub headline : (front : List ℕ) → IsFront (table_of bytes) o front handed
-      → IfOk result (λ status. IfSome before.left (λ more. PrintsRest (table_of bytes) o front more before after keeper kept status))
+      → IfOk result (λ status. IfSome before.left
+      (λ more. PrintsRest (table_of bytes) o front more before after keeper kept status))
 
--- How the command ends that the words name, with the place of its state. Where it has none that place is left as it was.
+-- How the command ends that the words name, with the place of its state. Where it has none that place is left as it
+-- was.
 abbrev pub Performs : Words → List ℕ → Option (List ℕ) → Devices → Devices → Shelf → Shelf → Result ℕ Fault → Type 0
-Performs (Plain log) bytes handed before after keeper kept result = (kept ≡ keeper) × Ends plain_command before after result
+Performs (Plain log) bytes handed before after keeper kept result =
+    (kept ≡ keeper) × Ends plain_command before after result
 Performs (Decode t resume save empty whole window log) bytes handed before after keeper kept result =
     Decodes bytes (options_of empty whole window) handed before after keeper kept result
 Performs (Frames t candump log) bytes handed before after keeper kept result =
@@ -344,10 +382,14 @@ Performs (Frames t candump log) bytes handed before after keeper kept result =
 Performs (Help text) bytes handed before after keeper kept result = ⊥
 
 -- the status with which it comes to its end, where all bytes of its log are known
-abbrev pub TellsStatus : Words → List ℕ → Option (List ℕ) → List ℕ → ℕ → Type 0
-TellsStatus (Plain log) bytes handed all status = status ≡ exit_status (plain_counts all)
-TellsStatus (Decode t resume save empty whole window log) bytes handed all status =
-    (front : List Entry) → begun (table_of bytes) (options_of empty whole window) handed ≡ Ok (state (table_of bytes).id window (kind (table_of bytes)) front)
-    → status ≡ exit_status (counts window (kind (table_of bytes)) (front ++ entries (options_of empty whole window).packing all))
-TellsStatus (Frames t candump log) bytes handed all status = status ≡ exit_status (frames_counts (table_of bytes) candump all)
-TellsStatus (Help text) bytes handed all status = ⊥
+abbrev pub HasStatus : Words → List ℕ → Option (List ℕ) → List ℕ → ℕ → Type 0
+HasStatus (Plain log) bytes handed all status = status ≡ exit_status (plain_counts all)
+HasStatus (Decode t resume save empty whole window log) bytes handed all status =
+    (front : List Entry)
+    → begun (table_of bytes) (options_of empty whole window) handed
+    ≡ Ok (state (table_of bytes).id window (kind (table_of bytes)) front)
+    → status
+    ≡ exit_status (counts window (kind (table_of bytes)) (front ++ entries (options_of empty whole window).packing all))
+HasStatus (Frames t candump log) bytes handed all status =
+    status ≡ exit_status (frames_counts (table_of bytes) candump all)
+HasStatus (Help text) bytes handed all status = ⊥

@@ -8,13 +8,15 @@ use Rattle.n2k_run.specs.declared.fault.RunFault.TheVariants as run
 use Rattle.n2k_table.specs.declared.fault.TableFault.{TableFault}
 use Rattle.n2k_table.specs.declared.fault.TableFault.TheVariants as table
 use Rattle.n2kdec.specs.declared.fault.Fault.{Fault}
-use Rattle.n2kdec.specs.declared.fault.Fault.TheVariants.{Words, Interface, TableSize, StateSize, Table, State, TableFile, StateFile, Read, Write, Report, Memory, Lines, Save}
+use Rattle.n2kdec.specs.declared.fault.Fault.TheVariants.{Words, Interface, TableSize, StateSize, Table, State}
+use Rattle.n2kdec.specs.declared.fault.Fault.TheVariants.{TableFile, StateFile, Read, Write, Report, Memory, Lines}
+use Rattle.n2kdec.specs.declared.fault.Fault.TheVariants.{Save}
 
 -- the most bytes of the file of a table, and of that of a state
 abbrev pub longest_file : ℕ
 longest_file = 16_777_216
 
--- the number and the name of a refused table's fault; want of memory is told as everywhere else
+-- the number and the name of a refused table's fault; want of memory has the line that it has everywhere
 abbrev pub table_line : TableFault → List ℕ
 table_line table.NotToml = codes "n2kdec: table 1 NotToml\n"
 table_line table.Format = codes "n2kdec: table 2 Format\n"
@@ -54,15 +56,17 @@ fault_line Memory = codes "n2kdec: memory\n"
 fault_line Lines = codes "n2kdec: lines\n"
 fault_line Save = codes "n2kdec: save\n"
 
--- What may stand before the line of a fault: nothing; or, on a terminal, lines that say what is wrong with refused words.
-abbrev pub StandsBefore : Bool → Fault → List ℕ → Type 0
-StandsBefore is_terminal fault text =
+-- What may stand before the line of a fault: nothing; or, on a terminal, lines that say what is wrong with refused
+-- words.
+abbrev pub IsBeforeLine : Bool → Fault → List ℕ → Type 0
+IsBeforeLine is_terminal fault text =
     (text ≡ [])
     ⊎ ((is_terminal ≡ true) × (fault ≡ Words) × ((said : List ℕ) × (text ≡ said ++ codes "\n")))
 
 -- What is written on standard error at a fault: its line comes last.
-abbrev pub TellsFault : Bool → Fault → List ℕ → Type 0
-TellsFault is_terminal fault text = (before : List ℕ) × StandsBefore is_terminal fault before × (text ≡ before ++ fault_line fault)
+abbrev pub IsFaultMessage : Bool → Fault → List ℕ → Type 0
+IsFaultMessage is_terminal fault text =
+    (before : List ℕ) × IsBeforeLine is_terminal fault before × (text ≡ before ++ fault_line fault)
 
 abbrev pub table_status : TableFault → ℕ
 table_status table.Memory = 3
@@ -72,7 +76,8 @@ abbrev pub state_status : StateFault → ℕ
 state_status state.Memory = 3
 state_status _ = 2
 
--- 2 where the words, the table or the state are refused, 3 where a file, a device, memory or the limit of lines ended it
+-- 2 where the words, the table or the state are refused, 3 where a file, a device, memory or the limit of lines ended
+-- it
 abbrev pub status_of : Fault → ℕ
 status_of Words = 2
 status_of Interface = 2

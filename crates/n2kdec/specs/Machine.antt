@@ -1,27 +1,30 @@
--- What the program meets, and what comes of the words that were typed: the files that they name are read, their command is
--- performed, its state is kept under the name that they have for it, and a fault is told.
-use Rattle.std.specs.Prelude.{◌≡◌, ◌⊎◌, ◌<◌, ◌≤◌, ℕ, Bool, List, [], Option, Some, None, IfSome, MatchResult, Result, Ok, Err, length}
+-- What the program meets, and what comes of the words that were typed: the files that they name are read, their command
+-- is performed, its state is kept under the name that they have for it, and a fault is reported.
+use Rattle.std.specs.Prelude.{◌≡◌, ◌⊎◌, ◌<◌, ◌≤◌, ℕ, Bool, List, [], Option, Some, None, IfSome, MatchResult, Result}
+use Rattle.std.specs.Prelude.{Ok, Err, length}
 use Rattle.clap.specs.Words.{Text}
 use Rattle.n2k_run.specs.declared.device.Sink.{Ghosts as OfSink}
 use Rattle.n2k_run.specs.Device.{HasFailed}
 use Rattle.n2k_run.specs.FramesOut.{IsInterface}
 use Rattle.n2k_run.specs.Runs.{Devices, devices}
-use Rattle.n2kdec.specs.Commands.{IsCutOff, IsWritten, IsWrittenUnlessFailed, Kept, Performs, Place, place, shelf}
-use Rattle.n2kdec.specs.Fault.{TellsFault, longest_file, status_of}
-use Rattle.n2kdec.specs.Words.{IsAskedBy, IsRefused, interface_word, log_word, resume_word, save_word, table_word}
+use Rattle.n2kdec.specs.Commands.{IsCutOff, IsWritten, IsWrittenUnlessFailed, IsAdmitted, Kept, Performs, Place}
+use Rattle.n2kdec.specs.Commands.{Request, place, request, shelf}
+use Rattle.n2kdec.specs.Fault.{IsFaultMessage, longest_file, status_of}
+use Rattle.n2kdec.specs.Words.{IsAskedBy, IsRefused, interface_name, log_name, resume_name, save_name, table_name}
 use Rattle.n2kdec.specs.declared.fault.Fault.{Fault}
-use Rattle.n2kdec.specs.declared.fault.Fault.TheVariants.{Words as WordsFault, Interface, TableSize, TableFile, StateSize, StateFile, Read, Memory, Save, Write}
+use Rattle.n2kdec.specs.declared.fault.Fault.TheVariants.{Words as WordsFault, Interface, TableSize, TableFile}
+use Rattle.n2kdec.specs.declared.fault.Fault.TheVariants.{StateSize, StateFile, Read, Memory, Save, Write}
 use Rattle.n2kdec.specs.declared.keeper.Keeper.{Ghosts as OfKeeper}
 use Rattle.n2kdec.specs.declared.machine.Outlets.{Outlets}
 use Rattle.n2kdec.specs.declared.machine.Unopened.{Unopened}
 use Rattle.n2kdec.specs.declared.machine.Unopened.TheVariants as unopened
-use Rattle.n2kdec.specs.declared.word.Words.{Words}
-use Rattle.n2kdec.specs.declared.word.Words.TheVariants.{Help}
+use Rattle.n2kdec.specs.declared.words.Words.{Words}
+use Rattle.n2kdec.specs.declared.words.Words.TheVariants.{Help}
 
 -- ---- what the program meets
 
--- The words that were typed, the program's name first; the bytes of a file by its name; those of standard input; and whether
--- standard error is a terminal: each where it is known.
+-- The words that were typed, the program's name first; the bytes of a file by its name; those of standard input; and
+-- whether standard error is a terminal: each where it is known.
 pub record World : Type 0 where
   pub typed : Option (List Text)
   pub file : Text → Option (List ℕ)
@@ -52,22 +55,25 @@ CountsOpening name before after (Err unopened.Refused) = IsNamed name × HasFail
 abbrev pub AddsFailures : ℕ → ℕ → ℕ → Type 0
 AddsFailures before after more = (more ≡ 0 → after ≡ before) × (0 < more → HasFailed before after)
 
--- What the program changes: the output, the errors, and what was kept under which name, with the number of calls that failed;
--- and how many openings and reads of files failed.
+-- What the program changes: the output, the errors, and what was kept under which name, with the number of calls that
+-- failed; and how many openings and reads of files failed. Which states may be kept, where that is known, it does not
+-- change.
 pub record Outside : Type 0 where
   pub output : Place
   pub errors : Place
   pub kept : Option (List Kept)
   pub failed_keeps : ℕ
   pub failed_reads : ℕ
+  pub admits : Request → Option Bool
 
 abbrev pub outside : {W E K : Type 0} → OfSink W → OfSink E → OfKeeper K → ℕ → Outlets W E K → Outside
 outside w e k failed_reads outlets = record {
   output = place (w.contents outlets.output) (w.failed_calls outlets.output);
   errors = place (e.contents outlets.errors) (e.failed_calls outlets.errors);
-  kept = k.kept outlets.store;
-  failed_keeps = k.failed_calls outlets.store;
+  kept = k.kept outlets.keeper;
+  failed_keeps = k.failed_calls outlets.keeper;
   failed_reads = failed_reads;
+  admits = k.admits;
 }
 
 -- ---- the files that the words name
@@ -97,28 +103,37 @@ pub record LogAfter : Type 0 where
 abbrev pub with_log : Option (List ℕ) → ℕ → ℕ → Outside → Devices
 with_log left calls failed o = devices left calls failed o.output.text o.output.failed o.errors.text o.errors.failed
 
--- The command that the words name is performed by these bytes of a table and of a state, over a log with these bytes. The
--- failed calls of the log are counted, so that a failed read is told of no log of which none failed.
-pub record IsPerformedOver (words : Words) (table : List ℕ) (handed left : Option (List ℕ)) (before after : Outside) (result : Result ℕ Fault) : Type 0 where
+-- The command that the words name is performed by these bytes of a table and of a state, over a log with these bytes.
+-- The failed calls of the log are counted, so that a failed read is reported of no log of which none failed.
+pub record IsPerformedOver (words : Words) (table : List ℕ) (handed left : Option (List ℕ)) (before after : Outside)
+    (result : Result ℕ Fault) : Type 0 where
   pub log : LogAfter
   pub counted : AddsFailures before.failed_reads after.failed_reads log.failed
   pub performs : Performs words table handed (with_log left 0 0 before) (with_log log.left log.calls log.failed after)
-      (shelf (save_word words) before.kept before.failed_keeps) (shelf (save_word words) after.kept after.failed_keeps) result
+      (shelf (save_name words) before.kept before.failed_keeps)
+      (shelf (save_name words) after.kept after.failed_keeps) result
 
 -- the bytes of a file that is named and known are not more than a file that is read whole may have
 abbrev pub IsReadable : World → Option Text → Type 0
 IsReadable w None = Unit {0}
 IsReadable w (Some name) = IfSome (w.file name) (λ bytes. length bytes ≤ longest_file)
 
--- The command that the words name is performed by the bytes of the files that they name, over the log that they name, and
--- its state is kept under the name that they have for it.
+-- the state may be kept under the name that the words have for it, if any, by a run of the files that they name
+abbrev pub IsStateAdmitted : (Request → Option Bool) → Words → Type 0
+IsStateAdmitted admits words =
+    IfSome (save_name words)
+    (λ name. IsAdmitted admits (request name (table_name words) (log_name words) (resume_name words)))
+
+-- The command that the words name is performed by the bytes of the files that they name, over the log that they name,
+-- and its state is kept under the name that they have for it, which was admitted.
 pub record IsPerformed (w : World) (words : Words) (before after : Outside) (result : Result ℕ Fault) : Type 0 where
-  pub interface : IsInterface (interface_word words)
+  pub interface : IsInterface (interface_name words)
+  pub admitted : IsStateAdmitted before.admits words
   pub table : List ℕ
-  pub is_table : IsTable w (table_word words) table
+  pub is_table : IsTable w (table_name words) table
   pub handed : Option (List ℕ)
-  pub is_state : IsState w (resume_word words) handed
-  pub over : IsPerformedOver words table handed (bytes_of w (log_word words)) before after result
+  pub is_state : IsState w (resume_name words) handed
+  pub over : IsPerformedOver words table handed (bytes_of w (log_name words)) before after result
 
 -- a file is named, which has too many bytes where they are known
 abbrev pub IsTooLarge : World → Option Text → Type 0
@@ -129,46 +144,61 @@ IsTooLarge w (Some name) = IfSome (w.file name) (λ bytes. longest_file < length
 abbrev pub IsUnreadable : Option Text → ℕ → ℕ → Type 0
 IsUnreadable name before after = IsNamed name × HasFailed before after
 
--- why no file of this name is opened: memory, or what is told of one that can't be
+-- why no file of this name is opened: memory, or the fault of one that can't be
 abbrev pub IsUnopened : Option Text → Fault → ℕ → ℕ → Fault → Type 0
-IsUnopened name refused before after fault = ((fault ≡ Memory) × (after ≡ before)) ⊎ ((fault ≡ refused) × IsUnreadable name before after)
+IsUnopened name refused before after fault =
+    ((fault ≡ Memory) × (after ≡ before)) ⊎ ((fault ≡ refused) × IsUnreadable name before after)
 
--- why one is not read whole: that, or what is told of one that is too large
+-- why one is not read whole: that, or the fault of one that is too large
 abbrev pub IsUnreadFile : World → Option Text → Fault → Fault → ℕ → ℕ → Fault → Type 0
 IsUnreadFile w name too_large unread before after fault =
     ((fault ≡ too_large) × IsTooLarge w name × (after ≡ before)) ⊎ IsUnopened name unread before after fault
 
--- Why a file is not read, by what is counted of failed openings and reads: those of the table, of the state and of the log come
--- in this order.
+-- Why a file is not read, by what is counted of failed openings and reads: those of the table, of the state and of the
+-- log come in this order.
 abbrev pub IsUnread : World → Words → ℕ → ℕ → Fault → Type 0
-IsUnread w words before after TableSize = IsTooLarge w (table_word words) × (after ≡ before)
-IsUnread w words before after TableFile = IsUnreadable (table_word words) before after
-IsUnread w words before after StateSize = IsReadable w (table_word words) × IsTooLarge w (resume_word words) × (after ≡ before)
-IsUnread w words before after StateFile = IsReadable w (table_word words) × IsUnreadable (resume_word words) before after
-IsUnread w words before after Read = IsReadable w (table_word words) × IsReadable w (resume_word words) × IsUnreadable (log_word words) before after
+IsUnread w words before after TableSize = IsTooLarge w (table_name words) × (after ≡ before)
+IsUnread w words before after TableFile = IsUnreadable (table_name words) before after
+IsUnread w words before after StateSize =
+    IsReadable w (table_name words) × IsTooLarge w (resume_name words) × (after ≡ before)
+IsUnread w words before after StateFile =
+    IsReadable w (table_name words) × IsUnreadable (resume_name words) before after
+IsUnread w words before after Read =
+    IsReadable w (table_name words) × IsReadable w (resume_name words) × IsUnreadable (log_name words) before after
 IsUnread w words before after Memory = after ≡ before
 IsUnread w words before after _ = ⊥
 
 -- why a command is not begun: the interface is judged before any file is opened
 abbrev pub IsUnbegun : World → Words → ℕ → ℕ → Fault → Type 0
-IsUnbegun w words before after Interface = (IsInterface (interface_word words) → ⊥) × (after ≡ before)
-IsUnbegun w words before after fault = IsInterface (interface_word words) × IsUnread w words before after fault
+IsUnbegun w words before after Interface = (IsInterface (interface_name words) → ⊥) × (after ≡ before)
+IsUnbegun w words before after fault = IsInterface (interface_name words) × IsUnread w words before after fault
 
--- The state can't be kept under the name that the words have for it, since that would harm a file that is read: what keeps a
--- state counts a failed call, and all else is as it was.
+-- The state can't be kept under the name that the words have for it, since that would harm a file that is read: what
+-- keeps a state counts a failed call, and all else is as it was.
 pub record IsNotAdmitted (words : Words) (before after : Outside) (fault : Fault) : Type 0 where
-  pub interface : IsInterface (interface_word words)
-  pub named : IsNamed (save_word words)
+  pub interface : IsInterface (interface_name words)
+  pub named : IsNamed (save_name words)
   pub save : fault ≡ Save
   pub failed : HasFailed before.failed_keeps after.failed_keeps
   pub else_same : after ≡ record before { failed_keeps = after.failed_keeps }
 
--- it is performed; or not begun, and nothing is printed or kept
+-- a fault of a file comes only behind the admission of the state
+abbrev pub IsBehindAdmission : (Request → Option Bool) → Words → Fault → Type 0
+IsBehindAdmission admits words Interface = Unit {0}
+IsBehindAdmission admits words _ = IsStateAdmitted admits words
+
+-- it is not begun, and nothing is printed or kept
+pub record IsNotBegun (w : World) (words : Words) (before after : Outside) (fault : Fault) : Type 0 where
+  pub else_same : after ≡ record before { failed_reads = after.failed_reads }
+  pub unbegun : IsUnbegun w words before.failed_reads after.failed_reads fault
+  pub behind : IsBehindAdmission before.admits words fault
+
+-- it is performed; or not begun; or its state is not admitted
 abbrev pub FollowsWords : World → Words → Outside → Outside → Result ℕ Fault → Type 0
 FollowsWords w words before after (Ok status) = IsPerformed w words before after (Ok status)
 FollowsWords w words before after (Err fault) =
     IsPerformed w words before after (Err fault)
-    ⊎ ((after ≡ record before { failed_reads = after.failed_reads }) × IsUnbegun w words before.failed_reads after.failed_reads fault)
+    ⊎ IsNotBegun w words before after fault
     ⊎ IsNotAdmitted words before after fault
 
 -- ---- from the words that were typed to the status
@@ -181,7 +211,8 @@ Shows text before after result = MatchResult result
 
 -- what these words ask for is done
 abbrev pub DoesWords : World → Words → Outside → Outside → Result ℕ Fault → Type 0
-DoesWords w (Help text) before after result = Shows text before.output after.output result × (after ≡ record before { output = after.output })
+DoesWords w (Help text) before after result =
+    Shows text before.output after.output result × (after ≡ record before { output = after.output })
 DoesWords w words before after result = FollowsWords w words before after result
 
 -- what was typed asks for these words
@@ -204,18 +235,21 @@ DoesTyped w before after result =
 abbrev pub IsTerminal : World → Bool → Type 0
 IsTerminal w is_terminal = IfSome w.terminal (λ known. is_terminal ≡ known)
 
--- a fault is told, where memory for its text is there
-abbrev pub IsTold : Bool → Fault → Place → Place → Type 0
-IsTold is_terminal fault before after = (after ≡ before) ⊎ ((text : List ℕ) × TellsFault is_terminal fault text × IsWrittenUnlessFailed before after text)
+-- what is said of a fault is written, whole unless the place fails
+abbrev pub WritesFault : Bool → Fault → Place → Place → Type 0
+WritesFault is_terminal fault before after =
+    (text : List ℕ) × IsFaultMessage is_terminal fault text × IsWrittenUnlessFailed before after text
 
-abbrev pub Tells : World → Fault → Place → Place → Type 0
-Tells w fault before after = (is_terminal : Bool) × IsTerminal w is_terminal × IsTold is_terminal fault before after
+abbrev pub ReportsFault : World → Fault → Place → Place → Type 0
+ReportsFault w fault before after =
+    (is_terminal : Bool) × IsTerminal w is_terminal × WritesFault is_terminal fault before after
 
--- the status of a result, and what is told of it
+-- the status of a result, and what is reported of it
 abbrev pub Concludes : World → Result ℕ Fault → Outside → Outside → ℕ → Type 0
-Concludes w (Ok told) before after status = (status ≡ told) × (after ≡ before)
+Concludes w (Ok answered) before after status = (status ≡ answered) × (after ≡ before)
 Concludes w (Err fault) before after status =
-    (status ≡ status_of fault) × Tells w fault before.errors after.errors × (after ≡ record before { errors = after.errors })
+    (status ≡ status_of fault) × ReportsFault w fault before.errors after.errors
+    × (after ≡ record before { errors = after.errors })
 
 -- The program: what was typed is done, and the status is that of it.
 pub record RunsTyped (w : World) (before after : Outside) (status : ℕ) : Type 0 where

@@ -55,8 +55,8 @@ decode_app =
 abbrev pub frames_app : App
 frames_app = with_rule (with_rule (with_rule (new_app (codes "frames")) table_rule) candump_rule) log_rule
 
--- a command without its subcommands: one of them is required, and `help` is none; it has a version, and without any word
--- it shows its help
+-- a command without its subcommands: one of them is required, and `help` is none; it has a version, and without any
+-- word it shows its help
 abbrev pub program_top : App
 program_top = let app = new_app (codes "n2kdec") in record app {
   top = record app.top {
@@ -68,4 +68,5 @@ program_top = let app = new_app (codes "n2kdec") in record app {
 }
 
 unfoldable pub program_app : App
-program_app = with_subcommand (with_subcommand (with_subcommand program_top plain_app.top) decode_app.top) frames_app.top
+program_app =
+    with_subcommand (with_subcommand (with_subcommand program_top plain_app.top) decode_app.top) frames_app.top

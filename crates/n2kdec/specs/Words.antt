@@ -1,5 +1,6 @@
 -- What the words of a command line ask for, by the command's definition and `clap`'s reading of it.
-use Rattle.std.specs.Prelude.{◌≡◌, ◌≢◌, ◌⊎◌, ◌&&◌, ◌++◌, nat_le, ℕ, List, [], Bool, false, Option, Some, None, Result, Ok, Err, if◌then◌else◌, codes, option_and_then, option_map}
+use Rattle.std.specs.Prelude.{◌≡◌, ◌≢◌, ◌⊎◌, ◌&&◌, ◌++◌, nat_le, ℕ, List, [], Bool, false, Option, Some, None, Result}
+use Rattle.std.specs.Prelude.{Ok, Err, if◌then◌else◌, codes, option_and_then, option_map}
 use Rattle.std.specs.Char.{is_ascii_digit}
 use Rattle.std.specs.List.{list_all}
 use Rattle.std.specs.Option.{option_map_or}
@@ -14,8 +15,8 @@ use Rattle.n2k_wire.specs.declared.entry.Packing.TheVariants as packed
 use Rattle.n2kdec.specs.declared.usage.TheConstants.{VERSION}
 use Rattle.n2kdec.specs.declared.fault.Fault.{Fault}
 use Rattle.n2kdec.specs.declared.fault.Fault.TheVariants as fault
-use Rattle.n2kdec.specs.declared.word.Words.{Words}
-use Rattle.n2kdec.specs.declared.word.Words.TheVariants.{Plain, Decode, Frames, Help}
+use Rattle.n2kdec.specs.declared.words.Words.{Words}
+use Rattle.n2kdec.specs.declared.words.Words.TheVariants.{Plain, Decode, Frames, Help}
 use Rattle.n2kdec.specs.Usage.{program_app}
 
 -- whether a flag is among the words: `clap` gives it the value `true` then
@@ -25,20 +26,23 @@ flag_of id rows = option_map_or (λ value. bytes_eq value (codes "true")) (first
 -- the lines of a window, in decimal digits
 abbrev pub lines_in : Text → Option ℕ
 lines_in text =
-    if list_all is_ascii_digit text && (nat_le shortest_window (digits_value 10 text) && nat_le (digits_value 10 text) longest_window)
+    if list_all is_ascii_digit text &&
+    (nat_le shortest_window (digits_value 10 text) && nat_le (digits_value 10 text) longest_window)
     then Some (digits_value 10 text) else None
 
--- those of a window of which the words don't tell
-abbrev pub usual_window : ℕ
-usual_window = 10_000
+-- those of a window without `--window`
+abbrev pub default_window : ℕ
+default_window = 10_000
 
 abbrev pub lines_by : Option Text → Option ℕ
-lines_by None = Some usual_window
+lines_by None = Some default_window
 lines_by (Some text) = lines_in text
 
--- what ends a group; none where the words tell of a window that can't be one
+-- what ends a group; none where `--window` has a value that can't be one
 abbrev pub window_of : List Row → Option Window
-window_of rows = option_map (λ lines. record { lines = lines; in_order = flag_of (codes "in-order") rows }) (lines_by (first_of (codes "window") rows))
+window_of rows =
+    option_map (λ lines. record { lines = lines; in_order = flag_of (codes "in-order") rows })
+    (lines_by (first_of (codes "window") rows))
 
 -- the values of a subcommand's words; `decode` and `frames` have a table
 abbrev pub plain_words : List Row → Option Words
@@ -71,7 +75,8 @@ words_of words = named (subcommand_of program_app words)
 
 -- `clap` has a fault at the words that is no request for help or for the version
 abbrev pub HasFault : List Text → Type 0
-HasFault words = (kind : ErrorKind) × IsAmong kind (fault_of program_app words) × (kind ≢ DisplayHelp) × (kind ≢ DisplayVersion)
+HasFault words =
+    (kind : ErrorKind) × IsAmong kind (fault_of program_app words) × (kind ≢ DisplayHelp) × (kind ≢ DisplayVersion)
 
 -- the words are not those of a command: such a fault, or no fault at all and no command that is named
 abbrev pub IsRefused : List Text → Type 0
@@ -107,30 +112,31 @@ IsCommand (Help text) = ⊥
 IsCommand _ = Unit {0}
 
 -- the names of the files of the table, of the state to go on from, of the state after the log, and of the log
-abbrev pub table_word : Words → Option Text
-table_word (Decode table resume save empty whole window log) = Some table
-table_word (Frames table candump log) = Some table
-table_word _ = None
+abbrev pub table_name : Words → Option Text
+table_name (Decode table resume save empty whole window log) = Some table
+table_name (Frames table candump log) = Some table
+table_name _ = None
 
-abbrev pub resume_word : Words → Option Text
-resume_word (Decode table resume save empty whole window log) = resume
-resume_word _ = None
+abbrev pub resume_name : Words → Option Text
+resume_name (Decode table resume save empty whole window log) = resume
+resume_name _ = None
 
-abbrev pub save_word : Words → Option Text
-save_word (Decode table resume save empty whole window log) = save
-save_word _ = None
+abbrev pub save_name : Words → Option Text
+save_name (Decode table resume save empty whole window log) = save
+save_name _ = None
 
-abbrev pub log_word : Words → Option Text
-log_word (Plain log) = log
-log_word (Decode table resume save empty whole window log) = log
-log_word (Frames table candump log) = log
-log_word (Help text) = None
+abbrev pub log_name : Words → Option Text
+log_name (Plain log) = log
+log_name (Decode table resume save empty whole window log) = log
+log_name (Frames table candump log) = log
+log_name (Help text) = None
 
 -- the interface of candump lines
-abbrev pub interface_word : Words → Option Text
-interface_word (Frames table candump log) = candump
-interface_word _ = None
+abbrev pub interface_name : Words → Option Text
+interface_name (Frames table candump log) = candump
+interface_name _ = None
 
 -- the options that the words `--empty`, `--whole`, `--window` and `--in-order` stand for
 abbrev pub options_of : Bool → Bool → Window → Options
-options_of empty whole window = record { packing = if whole then packed.Whole else packed.Frames; empty = empty; window = window }
+options_of empty whole window =
+    record { packing = if whole then packed.Whole else packed.Frames; empty = empty; window = window }

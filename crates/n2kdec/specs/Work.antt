@@ -17,8 +17,8 @@ use Rattle.n2kdec.specs.Fault.{fault_of_run}
 use Rattle.n2kdec.specs.Words.{options_of}
 use Rattle.n2kdec.specs.declared.fault.Fault.{Fault}
 use Rattle.n2kdec.specs.declared.fault.Fault.TheVariants.{Table, State, Memory}
-use Rattle.n2kdec.specs.declared.word.Words.{Words}
-use Rattle.n2kdec.specs.declared.word.Words.TheVariants.{Plain, Decode, Frames, Help}
+use Rattle.n2kdec.specs.declared.words.Words.{Words}
+use Rattle.n2kdec.specs.declared.words.Words.TheVariants.{Plain, Decode, Frames, Help}
 use Rattle.n2kdec.specs.declared.work.Stop.{Stop}
 
 -- ---- what is answered after a run
@@ -28,10 +28,10 @@ abbrev pub stop_of : Fault → Stop
 stop_of fault = record { fault = fault; part = None }
 
 -- after that of a whole log: its counts, and no state; or its fault
-abbrev pub TellsWhole : Result Counts RunFault → Result Part Stop → Type 0
-TellsWhole (Ok counts) (Ok part) = (part.state.items ≡ []) × (part.counts ≡ counts)
-TellsWhole (Ok counts) (Err stop) = ⊥
-TellsWhole (Err fault) result = result ≡ Err (stop_of (fault_of_run fault))
+abbrev pub AnswersWhole : Result Counts RunFault → Result Part Stop → Type 0
+AnswersWhole (Ok counts) (Ok part) = (part.state.items ≡ []) × (part.counts ≡ counts)
+AnswersWhole (Ok counts) (Err stop) = ⊥
+AnswersWhole (Err fault) result = result ≡ Err (stop_of (fault_of_run fault))
 
 -- after that of a part: its Part; or its fault, with the Part that it has
 abbrev pub stop_of_part : PartFault → Stop
@@ -50,16 +50,19 @@ answer_of_part (Err fault) = Err (stop_of_part fault)
 pub record DoesPlain (before after : Devices) (result : Result Part Stop) : Type 0 where
   pub ended : Result Counts RunFault
   pub runs : Runs plain_output (λ es. IfOk ended (λ counts. counts ≡ plain_counts_of es)) before after ended
-  pub told : TellsWhole ended result
+  pub told : AnswersWhole ended result
 
 -- `frames`, by a table and an interface: the messages of the log are written as frames
-pub record DoesFrames (t : TableParts) (interface : Option (List ℕ)) (before after : Devices) (result : Result Part Stop) : Type 0 where
+pub record DoesFrames (t : TableParts) (interface : Option (List ℕ)) (before after : Devices)
+    (result : Result Part Stop) : Type 0 where
   pub ended : Result Counts RunFault
-  pub runs : Runs (frames_output t interface) (λ es. IfOk ended (λ counts. counts ≡ frame_counts_of (kind t) interface es)) before after ended
-  pub told : TellsWhole ended result
+  pub runs : Runs (frames_output t interface)
+      (λ es. IfOk ended (λ counts. counts ≡ frame_counts_of (kind t) interface es)) before after ended
+  pub told : AnswersWhole ended result
 
 -- `decode`, by a table and options: the log is decoded from the state that is handed in, or from a log's beginning
-pub record DoesDecode (t : TableParts) (o : Options) (handed : Option (List ℕ)) (before after : Devices) (result : Result Part Stop) : Type 0 where
+pub record DoesDecode (t : TableParts) (o : Options) (handed : Option (List ℕ)) (before after : Devices)
+    (result : Result Part Stop) : Type 0 where
   pub ended : Result Part PartFault
   pub runs : RunsFrom t o handed before after ended
   pub told : result ≡ answer_of_part ended
@@ -74,10 +77,11 @@ pub record RefusesTable (found : List TableFault) (before after : Devices) (stop
 -- by the table that the bytes spell, where they have no fault; or they are refused
 abbrev pub ByTable : List ℕ → Devices → Devices → Result Part Stop → (TableParts → Type 0) → Type 0
 ByTable bytes before after (Ok part) Does = (faults bytes ≡ []) × Does (table bytes)
-ByTable bytes before after (Err stop) Does = RefusesTable (faults bytes) before after stop ⊎ ((faults bytes ≡ []) × Does (table bytes))
+ByTable bytes before after (Err stop) Does =
+    RefusesTable (faults bytes) before after stop ⊎ ((faults bytes ≡ []) × Does (table bytes))
 
--- What the words name is done: the run of their command, with their options and interface, by the table and from the state of
--- these bytes.
+-- What the words name is done: the run of their command, with their options and interface, by the table and from the
+-- state of these bytes.
 abbrev pub Works : Words → List ℕ → Option (List ℕ) → Devices → Devices → Result Part Stop → Type 0
 Works (Plain log) bytes handed before after result = DoesPlain before after result
 Works (Decode t resume save empty whole window log) bytes handed before after result =

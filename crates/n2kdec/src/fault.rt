@@ -94,7 +94,7 @@ impl From<TableFault> for Fault {
     }
 }
 
-// Want of memory is told as everywhere else.
+/// The line of a refused table. Want of memory has the line that it has everywhere.
 fn table_line(fault: TableFault) -> &'static [u8]
     ensures { result.now ≡ table_line fault }
 {
@@ -112,6 +112,7 @@ fn table_line(fault: TableFault) -> &'static [u8]
     }
 }
 
+/// The same of a refused state.
 fn state_line(fault: StateFault) -> &'static [u8]
     ensures { result.now ≡ state_line fault }
 {
@@ -126,7 +127,8 @@ fn state_line(fault: StateFault) -> &'static [u8]
     }
 }
 
-fn line_of(fault: Fault) -> &'static [u8]
+/// The line of a fault, as `n2kdec: read` with an LF.
+pub fn fault_line(fault: Fault) -> &'static [u8]
     ensures { result.now ≡ fault_line fault }
 {
     match fault {
@@ -152,7 +154,7 @@ pub fn fault_text(_alloc: Global, fault: &Fault, out: &mut Vec<u8>) -> Result<()
     ensures ok { OnOk result (out.new.items ≡ out.old.items ++ fault_line fault.now) }
     ensures unchanged { OnErr result (out.new.items ≡ out.old.items) }
 {
-    out.extend_from_slice(line_of(*fault))
+    out.extend_from_slice(fault_line(*fault))
 }
 
 /// The status that the program ends with after a fault: 2 where the words, the table or the state are refused, 3

@@ -8,10 +8,10 @@ use n2k_run::Failed;
 /// The names of a folder that a replacement knows.
 #[derive(Clone, Copy, Debug, PartialEq, Eq)]
 pub enum Name {
-    /// The name of the text.
-    Own,
-    /// The name of the new file beside it.
-    New,
+    /// The name that gets the text.
+    Target,
+    /// The name of the new file beside it, until the text is whole.
+    Temp,
 }
 
 /// What has a name.
@@ -44,9 +44,9 @@ impl From<Failed> for Unplaced {
     }
 }
 
-/// A folder with these two names, those of the file that it was turned to last. It tells which calls were made of it;
-/// what a name may have after them, and what a cut of the power may leave under it, `specs/Folder` says. A call that
-/// fails may be done, done in part, or not done.
+/// A folder with these two names, those of the file that it was turned to last. Its ghost members say which calls were
+/// made of it; what a name may have after them, and what a cut of the power may leave under it, `specs/Folder` says. A
+/// call that fails may be done, done in part, or not done.
 pub trait Folder {
     ghost use Rattle.n2kdec.specs.declared.folder.Name.{Name};
 
@@ -56,7 +56,7 @@ pub trait Folder {
     /// Whether a path leads to the regular file of a name, where that is known.
     ghost leads: { Self → Name → List ℕ → Option Bool };
 
-    /// Turns to the file that a name leads to, over links, or would lead to, and tells what that is.
+    /// Turns to the file that a name leads to, over links, or would lead to, and answers what that is.
     fn turn(&mut self, name: &str) -> Result<Kind, Failed>
         ensures { Notes (calls self.old) (calls self.new) (turn name.now (result_ok result)) };
 

@@ -23,7 +23,7 @@ pub struct Outlets<W, E, K> {
     /// Standard error.
     pub errors: E,
     /// What keeps a state.
-    pub store: K,
+    pub keeper: K,
 }
 
 /// What the program meets.
@@ -45,7 +45,8 @@ pub trait Machine {
 
     /// The words that were typed, the program's name first. `Words` where one is no text.
     fn typed(&self, alloc: Global) -> Result<Vec<String>, Fault>
-        ensures words { IfOk result (λ words. IfSome (world self.now).typed (λ typed. map string_bytes words.items ≡ typed)) }
+        ensures words { IfOk result (λ words. IfSome (world self.now).typed
+            (λ typed. map string_bytes words.items ≡ typed)) }
         ensures fault { IfErr result (λ fault. (fault ≡ Fault.Words) ⊎ (fault ≡ Fault.Memory)) }
         ensures texts { IsErrOf result Fault.Words → (world self.now).typed ≡ None };
 

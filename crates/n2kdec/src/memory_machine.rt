@@ -9,10 +9,10 @@ use crate::machine::{Machine, Unopened};
 use n2k_run::{Failed, MemorySink, MemorySource, Sink, Source};
 use std::alloc::{AllocError, Global};
 
-// How many bytes a call of a device moves at most.
+/// How many bytes a call of a device moves at most.
 const PIECE: usize = 100;
 
-// The text of the first file of this name.
+/// The text of the first file of this name.
 fn text_under<'a>(files: &[(&'a str, &'a str)], name: &str) -> Option<&'a str>
     ensures { option_map (λ text. text.now) result ≡ bytes_under name.now files.now }
 {
@@ -24,7 +24,7 @@ fn text_under<'a>(files: &[(&'a str, &'a str)], name: &str) -> Option<&'a str>
     None
 }
 
-// Copies of texts.
+/// Copies of texts.
 fn copies(alloc: Global, words: &[&str]) -> Result<Vec<String>, AllocError>
     ensures { IfOk result (λ all. map string_bytes all.items ≡ texts words.now) }
 {
@@ -45,8 +45,8 @@ pub struct MemoryFile<'a> {
 impl<'a> MemoryFile<'a> {
     ghost use Rattle.std.specs.Prelude.{◌≡◌, Some};
 
-    // One with these bytes, of which the call of this number fails; at 0 none does.
-    fn of(bytes: &'a [u8], fails_at: u64) -> Self
+    /// One with these bytes, of which the call of this number fails; at 0 none does.
+    fn new(bytes: &'a [u8], fails_at: u64) -> Self
         ensures bytes { Some result.source.left ≡ Some bytes.now }
         ensures none_called { result.source.calls ≡ 0 }
         ensures none_failed { result.failed_calls ≡ 0 }
@@ -116,10 +116,10 @@ impl<'a> Machine for MemoryMachine<'a> {
 
     fn open(&mut self, name: Option<&str>) -> Result<MemoryFile<'a>, Unopened> {
         let Some(name) = name else {
-            return Ok(MemoryFile::of(self.input.as_bytes(), self.fails_at));
+            return Ok(MemoryFile::new(self.input.as_bytes(), self.fails_at));
         };
         match text_under(self.files, name) {
-            Some(text) => Ok(MemoryFile::of(text.as_bytes(), self.fails_at)),
+            Some(text) => Ok(MemoryFile::new(text.as_bytes(), self.fails_at)),
             None => {
                 self.failed_reads = self.failed_reads.saturating_add(1);
                 Err(Unopened::Refused)
@@ -138,19 +138,19 @@ impl<'a> Machine for MemoryMachine<'a> {
 
 /// A keeper in memory.
 #[derive(Drop)]
-pub struct MemoryStore {
+pub struct MemoryKeeper {
     kept: Vec<(String, Vec<u8>)>,
     failed_calls: u64,
 }
 
-impl MemoryStore {
+impl MemoryKeeper {
     ghost use Rattle.std.specs.Prelude.{[], ◌∷◌, ◌++◌, OnErr, OnOk};
 
     /// A keeper that has kept nothing.
     pub fn new(alloc: Global) -> Self
         ensures { (result.kept.items ≡ []) × (result.failed_calls ≡ 0) }
     {
-        MemoryStore {
+        MemoryKeeper {
             kept: Vec::new(alloc),
             failed_calls: 0,
         }
@@ -165,7 +165,8 @@ impl MemoryStore {
 
     fn push(&mut self, name: &str, text: &[u8]) -> Result<(), AllocError>
         ensures kept { OnOk result (map (λ k. kept_text (string_bytes k.0) k.1.items) self.new.kept.items
-            ≡ map (λ k. kept_text (string_bytes k.0) k.1.items) self.old.kept.items ++ kept_text name.now text.now ∷ []) }
+            ≡ map (λ k. kept_text (string_bytes k.0) k.1.items) self.old.kept.items
+            ++ kept_text name.now text.now ∷ []) }
         ensures same { self.new.failed_calls ≡ self.old.failed_calls }
     {
         let alloc = *self.kept.allocator();
@@ -175,13 +176,15 @@ impl MemoryStore {
     }
 }
 
-impl Keeper for MemoryStore {
-    ghost use Rattle.std.specs.Prelude.{Some};
+impl Keeper for MemoryKeeper {
+    ghost use Rattle.std.specs.Prelude.{Some, true};
 
     ghost failed_calls = { λ s. s.failed_calls };
 
     // What the errors held is not noted.
     ghost kept = { λ s. Some (map (λ k. kept_text (string_bytes k.0) k.1.items) s.kept.items) };
+
+    ghost admits = { λ _. Some true };
 
     fn admit(
         &mut self,

@@ -11,34 +11,34 @@ mod tests;
 use crate::folder::{Folder, Kind, Name, Unplaced};
 use n2k_run::Failed;
 
-// Writes the text to a new file, and gives that the name once it is synced.
+/// Writes the text to a new file, and gives that the name once it is synced.
 #[tactic(auto, using(crate::proofs::Placing::stuck))]
 fn place<F: Folder>(folder: &mut F, text: &[u8]) -> Result<(), Unplaced>
     ensures placed { OnOk result (HasPlaced (F.calls folder.old) (F.calls folder.new) text.now) }
     ensures stuck { IfErr result (IsStuck (F.calls folder.old) (F.calls folder.new) text.now) }
 {
-    folder.create(Name::New)?;
-    folder.write(Name::New, text)?;
-    folder.sync(Name::New)?;
-    folder.rename(Name::New, Name::Own)
+    folder.create(Name::Temp)?;
+    folder.write(Name::Temp, text)?;
+    folder.sync(Name::Temp)?;
+    folder.rename(Name::Temp, Name::Target)
 }
 
-// Writes the text to the file of the name.
+/// Writes the text to the file of the name.
 #[tactic(auto, using(crate::proofs::Placing::writes_to))]
 fn write_to<F: Folder>(folder: &mut F, text: &[u8]) -> Result<(), Failed>
     ensures { WritesTo (F.calls folder.old) (F.calls folder.new) text.now result }
 {
-    folder.empty(Name::Own)?;
-    folder.write(Name::Own, text)
+    folder.empty(Name::Target)?;
+    folder.write(Name::Target, text)
 }
 
-// Writes the text over what the file of the name has.
+/// Writes the text over what the file of the name has.
 #[tactic(auto, using(crate::proofs::Replacing::overwrites))]
 fn write_over<F: Folder>(folder: &mut F, text: &[u8]) -> Result<(), Failed>
     ensures { Overwrites (F.calls folder.old) (F.calls folder.new) text.now result }
 {
     write_to(folder, text)?;
-    folder.sync(Name::Own)
+    folder.sync(Name::Target)
 }
 
 /// Puts a text in the place of what the folder's own name has. At each moment of the call the name has the old text or
@@ -54,7 +54,7 @@ pub fn replace<F: Folder>(folder: &mut F, text: &[u8]) -> Result<(), Failed>
     let Err(why) = place(folder, text) else {
         return folder.sync_folder();
     };
-    let _ = folder.remove(Name::New);
+    let _ = folder.remove(Name::Temp);
     match why {
         Unplaced::Refused => write_over(folder, text),
         Unplaced::Failed => Err(Failed),

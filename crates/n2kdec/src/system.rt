@@ -10,7 +10,7 @@ use std::fs::File;
 use std::io::{ErrorKind, IsTerminal, Stderr, Stdin, Stdout};
 use std::{env, fs};
 
-// Where bytes are read from.
+/// Where bytes are read from.
 #[derive(Drop)]
 enum Origin {
     File(StdSource<File>),
@@ -28,8 +28,8 @@ pub struct Reader {
 impl Reader {
     ghost use Rattle.std.specs.Prelude.{◌≡◌};
 
-    // One of which no call was made.
-    fn of(origin: Origin) -> Reader
+    /// One of which no call was made.
+    fn new(origin: Origin) -> Reader
         ensures none_called { result.calls ≡ 0 }
         ensures none_failed { result.failed_calls ≡ 0 }
     {
@@ -102,10 +102,10 @@ impl<'a> Machine for System<'a> {
 
     fn open(&mut self, name: Option<&str>) -> Result<Reader, Unopened> {
         let Some(name) = name else {
-            return Ok(Reader::of(Origin::Input(StdSource::new(self.rt.stdin()))));
+            return Ok(Reader::new(Origin::Input(StdSource::new(self.rt.stdin()))));
         };
         match fs::open(self.rt, name) {
-            Ok(file) => Ok(Reader::of(Origin::File(StdSource::new(file)))),
+            Ok(file) => Ok(Reader::new(Origin::File(StdSource::new(file)))),
             Err(error) if error.kind() == ErrorKind::OutOfMemory => Err(Unopened::Memory),
             Err(_) => {
                 self.failed_reads = self.failed_reads.saturating_add(1);

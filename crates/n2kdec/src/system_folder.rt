@@ -10,20 +10,20 @@ use std::os::unix::fs::{MetadataExt, PermissionsExt};
 use std::path::Path;
 use std::{fs, io};
 
-// As many links are followed, one to the next, as the system follows.
+/// As many links are followed, one to the next, as the system follows.
 const MOST_LINKS: usize = 40;
 
-// The text of a path beside another, or of one from the root.
-fn beside(rt: &HostRuntime, path: &str, target: Path<'_>) -> Result<String, AllocError> {
+/// The text of a path beside another, or of one from the root.
+fn path_beside(rt: &HostRuntime, path: &str, target: Path<'_>) -> Result<String, AllocError> {
     let folder = Path::new(path).parent().unwrap_or(Path::new(""));
     Ok(folder.join(rt.alloc(), target)?.into_string())
 }
 
-// What the link of this name leads to; none where it is no link.
-fn link(rt: &HostRuntime, path: &str) -> Result<Option<String>, Failed> {
+/// What the link of this name leads to; none where it is no link.
+fn linked_path(rt: &HostRuntime, path: &str) -> Result<Option<String>, Failed> {
     match fs::read_link(rt, path) {
         Ok(target) => {
-            let text = beside(rt, path, target.as_path()).map_err(|_| Failed)?;
+            let text = path_beside(rt, path, target.as_path()).map_err(|_| Failed)?;
             Ok(Some(text))
         }
         Err(error) if matches!(error.kind(), ErrorKind::InvalidInput | ErrorKind::NotFound) => {
@@ -33,14 +33,14 @@ fn link(rt: &HostRuntime, path: &str) -> Result<Option<String>, Failed> {
     }
 }
 
-// The name behind all links; none where it stands for an open file, as `/dev/stdout` does.
-fn behind_links(rt: &HostRuntime, name: &str) -> Result<Option<String>, Failed> {
+/// The name behind all links; none where it stands for an open file, as `/dev/stdout` does.
+fn follow_links(rt: &HostRuntime, name: &str) -> Result<Option<String>, Failed> {
     let mut path = String::from_str(rt.alloc(), name).map_err(|_| Failed)?;
     for _ in 0..MOST_LINKS {
         if path.as_str().starts_with("/proc/") {
             return Ok(None);
         }
-        match link(rt, path.as_str())? {
+        match linked_path(rt, path.as_str())? {
             Some(next) => path = next,
             None => return Ok(Some(path)),
         }
@@ -48,8 +48,8 @@ fn behind_links(rt: &HostRuntime, name: &str) -> Result<Option<String>, Failed> 
     Err(Failed)
 }
 
-// What the file of a name is, over links; none where there is no such file.
-fn found(rt: &HostRuntime, name: &str) -> Result<Option<Metadata>, Failed> {
+/// What the file of a name is, over links; none where there is no such file.
+fn metadata(rt: &HostRuntime, name: &str) -> Result<Option<Metadata>, Failed> {
     match fs::metadata(rt, name) {
         Ok(found) => Ok(Some(found)),
         Err(error) if error.kind() == ErrorKind::NotFound => Ok(None),
@@ -57,25 +57,30 @@ fn found(rt: &HostRuntime, name: &str) -> Result<Option<Metadata>, Failed> {
     }
 }
 
-// The name behind the links at a name, which had this, and what that is.
-fn led_to(rt: &HostRuntime, name: &str, was: Option<&Metadata>) -> Result<(String, Kind), Failed> {
+/// The name behind the links at a name, which had this, and what that is.
+fn target_of(
+    rt: &HostRuntime,
+    name: &str,
+    was: Option<&Metadata>,
+) -> Result<(String, Kind), Failed> {
     let is_file = was.is_none_or(|was| was.is_file());
-    if is_file && let Some(own) = behind_links(rt, name)? {
+    if is_file && let Some(target) = follow_links(rt, name)? {
         let is_shared = was.is_some_and(|was| was.nlink() > 1);
-        return Ok((own, if is_shared { Kind::Shared } else { Kind::Alone }));
+        return Ok((target, if is_shared { Kind::Shared } else { Kind::Alone }));
     }
-    let own = String::from_str(rt.alloc(), name).map_err(|_| Failed)?;
-    Ok((own, Kind::Special))
+    let target = String::from_str(rt.alloc(), name).map_err(|_| Failed)?;
+    Ok((target, Kind::Special))
 }
 
-// The device and the number of the regular file that a path leads to, over links; none where it leads to another thing.
-fn regular(rt: &HostRuntime, path: &str) -> io::Result<Option<(u64, u64)>> {
+/// The device and the number of the regular file that a path leads to, over links; none where it leads to another
+/// thing.
+fn file_id(rt: &HostRuntime, path: &str) -> io::Result<Option<(u64, u64)>> {
     let found = fs::metadata(rt, path)?;
     Ok(found.is_file().then(|| (found.dev(), found.ino())))
 }
 
-// The name of the new file beside that of this path: hidden, with the program's name, and the same for each run.
-fn name_beside(rt: &HostRuntime, path: &str) -> Result<String, Failed> {
+/// The name of the new file beside that of this path: hidden, with the program's name, and the same for each run.
+fn temp_path(rt: &HostRuntime, path: &str) -> Result<String, Failed> {
     let path = Path::new(path);
     let name = path.file_name().ok_or(Failed)?;
     let hidden = format!(in rt.alloc(); ".{name}.n2kdec-new").map_err(|_| Failed)?;
@@ -83,8 +88,8 @@ fn name_beside(rt: &HostRuntime, path: &str) -> Result<String, Failed> {
     Ok(beside.map_err(|_| Failed)?.into_string())
 }
 
-// Whether the folder doesn't allow what was asked of it, or the call failed.
-fn why(error: &io::Error) -> Unplaced {
+/// Whether the folder doesn't allow what was asked of it, or the call failed.
+fn unplaced(error: &io::Error) -> Unplaced {
     match error.kind() {
         ErrorKind::PermissionDenied
         | ErrorKind::ReadOnlyFilesystem
@@ -95,37 +100,37 @@ fn why(error: &io::Error) -> Unplaced {
     }
 }
 
-// Makes a new file. A link of this name is not followed.
-fn make(rt: &HostRuntime, path: &str) -> io::Result<File> {
+/// Makes a new file. A link of this name is not followed.
+fn create_new(rt: &HostRuntime, path: &str) -> io::Result<File> {
     OpenOptions::new()
         .write(true)
         .create_new(true)
         .open(rt, path)
 }
 
-// Makes a new file, in the place of what a cut left under its name.
-fn make_again(rt: &HostRuntime, path: &str) -> Result<File, Unplaced> {
-    match make(rt, path) {
+/// Makes a new file, in the place of what a cut left under its name.
+fn create_anew(rt: &HostRuntime, path: &str) -> Result<File, Unplaced> {
+    match create_new(rt, path) {
         Err(error) if error.kind() == ErrorKind::AlreadyExists => {
-            fs::remove_file(rt, path).map_err(|error| why(&error))?;
-            make(rt, path).map_err(|_| Unplaced::Failed)
+            fs::remove_file(rt, path).map_err(|error| unplaced(&error))?;
+            create_new(rt, path).map_err(|_| Unplaced::Failed)
         }
-        answer => answer.map_err(|error| why(&error)),
+        answer => answer.map_err(|error| unplaced(&error)),
     }
 }
 
-// The file that is written to, and its name.
+/// The file that is written to, and its name.
 #[derive(Drop)]
 struct Opened {
     name: Name,
     file: File,
 }
 
-// The two names of a folder, and the mode of the file that has the first, if one has.
+/// The two names of a folder, and the mode of the file that has the first, if one has.
 #[derive(Drop)]
 struct Names {
-    own: String,
-    new: String,
+    target: String,
+    temp: String,
     mode: Option<u32>,
 }
 
@@ -149,8 +154,8 @@ impl SystemFolder {
 
     fn path(&self, name: Name) -> Result<&str, Failed> {
         match (&self.names, name) {
-            (Some(names), Name::Own) => Ok(names.own.as_str()),
-            (Some(names), Name::New) => Ok(names.new.as_str()),
+            (Some(names), Name::Target) => Ok(names.target.as_str()),
+            (Some(names), Name::Temp) => Ok(names.temp.as_str()),
             (None, _) => Err(Failed),
         }
     }
@@ -159,7 +164,7 @@ impl SystemFolder {
         self.names.as_ref()?.mode
     }
 
-    // The file of this name, where this folder opened it.
+    /// The file of this name, where this folder opened it.
     fn opened(&mut self, name: Name) -> Result<&mut File, Failed> {
         match &mut self.opened {
             Some(opened) if opened.name == name => Ok(&mut opened.file),
@@ -167,9 +172,9 @@ impl SystemFolder {
         }
     }
 
-    // The folder itself, opened.
+    /// The folder itself, opened.
     fn open(&self) -> Result<File, Failed> {
-        let path = self.path(Name::Own)?;
+        let path = self.path(Name::Target)?;
         let opened = match Path::new(path).parent() {
             Some(folder) if !folder.as_str().is_empty() => fs::open(&self.rt, folder),
             _ => fs::open(&self.rt, "."),
@@ -178,7 +183,7 @@ impl SystemFolder {
     }
 }
 
-// What a file of the system has, no contract says.
+/// What a file of the system has, no contract says.
 impl Folder for SystemFolder {
     ghost use Rattle.std.specs.Prelude.{None};
 
@@ -189,27 +194,27 @@ impl Folder for SystemFolder {
     fn turn(&mut self, name: &str) -> Result<Kind, Failed> {
         self.opened = None;
         self.names = None;
-        let was = found(&self.rt, name)?;
-        let (own, kind) = led_to(&self.rt, name, was.as_ref())?;
-        let new = name_beside(&self.rt, own.as_str())?;
+        let was = metadata(&self.rt, name)?;
+        let (target, kind) = target_of(&self.rt, name, was.as_ref())?;
+        let temp = temp_path(&self.rt, target.as_str())?;
         let mode = was.map(|was| was.permissions().mode());
-        self.names = Some(Names { own, new, mode });
+        self.names = Some(Names { target, temp, mode });
         Ok(kind)
     }
 
-    // Where one of the two can't be told, the paths are compared.
+    /// Where one of the two can't be looked at, the paths are compared.
     fn is_at(&self, name: Name, path: &str) -> bool {
         let Ok(own) = self.path(name) else {
             return false;
         };
-        match (regular(&self.rt, own), regular(&self.rt, path)) {
+        match (file_id(&self.rt, own), file_id(&self.rt, path)) {
             (Ok(one), Ok(other)) => one.is_some() && one == other,
             _ => own == path,
         }
     }
 
     fn create(&mut self, name: Name) -> Result<(), Unplaced> {
-        let file = make_again(&self.rt, self.path(name)?)?;
+        let file = create_anew(&self.rt, self.path(name)?)?;
         if let Some(mode) = self.mode() {
             let permissions = Permissions::from_mode(mode);
             file.set_permissions(permissions).map_err(|_| Failed)?;
@@ -218,7 +223,7 @@ impl Folder for SystemFolder {
         Ok(())
     }
 
-    // A file that is there is opened as it is: some folders let only its owner open it with a right to make it.
+    /// A file that is there is opened as it is: some folders let only its owner open it with a right to make it.
     fn empty(&mut self, name: Name) -> Result<(), Failed> {
         let is_new = self.mode().is_none();
         let path = self.path(name)?;
@@ -242,7 +247,7 @@ impl Folder for SystemFolder {
 
     fn rename(&mut self, from: Name, to: Name) -> Result<(), Unplaced> {
         let (old, new) = (self.path(from)?, self.path(to)?);
-        fs::rename(&self.rt, old, new).map_err(|error| why(&error))?;
+        fs::rename(&self.rt, old, new).map_err(|error| unplaced(&error))?;
         if let Some(opened) = &mut self.opened
             && opened.name == from
         {

@@ -1,9 +1,9 @@
+use crate::command_line::{interface, words};
 use crate::fault::{Fault, exit_status, fault_text, status};
 use crate::machine::Outlets;
-use crate::memory_machine::{MemoryMachine, MemoryStore};
-use crate::running::run;
-use crate::word::{Word, Words};
-use crate::words::{interface, words};
+use crate::memory_machine::{MemoryKeeper, MemoryMachine};
+use crate::program::run;
+use crate::words::{Word, Words};
 use crate::work::work;
 use n2k_join::{Counts, StateFault};
 use n2k_run::{MemorySink, MemorySource};
@@ -12,7 +12,7 @@ use std::alloc::{AllocError, AllocGlobal, Global};
 use std::process::{Abort, ExitCode};
 use std::test::Fail;
 
-// Each fault, its line, and the status that goes with it.
+/// Each fault, its line, and the status that goes with it.
 const FAULTS: [(Fault, &str, u8); 29] = [
     (Fault::Words, "n2kdec: words\n", 2),
     (Fault::Interface, "n2kdec: interface\n", 2),
@@ -118,7 +118,7 @@ fn one_bad_line_gives_status_one(rt: HostRuntime) {
     assert_eq!(rt; exit_status(&counts), 1);
 }
 
-// Words, and what they ask for.
+/// Words, and what they ask for.
 const ASKED: [(&[&str], &str); 12] = [
     (&["n2kdec", "plain"], "Plain { log: None }"),
     (
@@ -267,7 +267,7 @@ fn the_version_is_no_fault(rt: HostRuntime) -> Result<(), Fail> {
     Ok(())
 }
 
-// The words of `frames` for this interface.
+/// The words of `frames` for this interface.
 fn frames_for(alloc: Global, interface: &str) -> Result<Words, AllocError> {
     Ok(Words::Frames {
         table: Word::new(alloc, "t")?,
@@ -328,7 +328,7 @@ fields = [
 ]
 ";
 
-// Words, the state and the log that go with them, what is printed, and the state that is left.
+/// Words, the state and the log that go with them, what is printed, and the state that is left.
 #[derive(Drop)]
 struct Example {
     words: &'static [&'static str],
@@ -415,7 +415,7 @@ const EXAMPLES: [Example; 6] = [
     },
 ];
 
-// The work of an example's words, over devices in memory.
+/// The work of an example's words, over devices in memory.
 fn works<R: Abort + AllocGlobal>(rt: &R, table: &[u8], example: &Example) -> Result<(), Fail> {
     let alloc = rt.alloc();
     let words = words(alloc, example.words)?;
@@ -459,8 +459,8 @@ const TYPED: [&str; 8] = [
 
 const FILES: [(&str, &str); 2] = [("l", COG_AND_SOG), ("t", TABLE)];
 
-// What was typed, over a machine in memory: the table and the log are the files that are named, and the state is kept
-// under its name. A file that can't be read is told where a call of it fails, or where there is none.
+/// What was typed, over a machine in memory: the table and the log are the files that are named, and the state is kept
+/// under its name. A file that can't be read is told where a call of it fails, or where there is none.
 #[test]
 fn what_was_typed_is_run(rt: HostRuntime) -> Result<(), Fail> {
     let alloc = rt.alloc();
@@ -474,12 +474,12 @@ fn what_was_typed_is_run(rt: HostRuntime) -> Result<(), Fail> {
     let mut outlets = Outlets {
         output: MemorySink::new(alloc, 100, 0),
         errors: MemorySink::new(alloc, 100, 0),
-        store: MemoryStore::new(alloc),
+        keeper: MemoryKeeper::new(alloc),
     };
     assert_eq!(rt; run(alloc, &mut machine, &mut outlets), ExitCode::SUCCESS);
     assert_eq!(rt; outlets.output.bytes(), EXAMPLES[2].text.as_bytes());
-    assert_eq!(rt; outlets.store.kept().len(), 1);
-    for (name, text) in outlets.store.kept() {
+    assert_eq!(rt; outlets.keeper.kept().len(), 1);
+    for (name, text) in outlets.keeper.kept() {
         assert_eq!(rt; name.as_str(), "s");
         assert_eq!(rt; text.as_slice(), ONE_MESSAGE.as_bytes());
     }
@@ -488,6 +488,6 @@ fn what_was_typed_is_run(rt: HostRuntime) -> Result<(), Fail> {
     assert_eq!(rt; run(alloc, &mut machine, &mut outlets), ExitCode::from(3));
     assert_eq!(rt; machine.failed_reads, 1);
     assert!(rt; outlets.errors.bytes().ends_with(b"n2kdec: table file\n"));
-    assert_eq!(rt; outlets.store.kept().len(), 1);
+    assert_eq!(rt; outlets.keeper.kept().len(), 1);
     Ok(())
 }

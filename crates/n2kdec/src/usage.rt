@@ -1,8 +1,10 @@
-//! The command line of the program, as `clap` is told it.
+//! The command line of the program, as it is defined for `clap`.
 ghost use Rattle.std.specs.Prelude.{◌≡◌, IfOk, false};
 ghost use Rattle.clap.specs.Words.{app_of, rule_of, with_rule};
 ghost use Rattle.clap.specs.declared.builder.command.Command.TheViews.{out-Command as fields_of};
-ghost use Rattle.n2kdec.specs.Usage.{decode_app, empty_rule, flag_rule, frames_app, in_order_rule, log_rule, option_rule, plain_app, program_app, resume_rule, save_rule, table_rule, whole_rule, window_rule};
+ghost use Rattle.n2kdec.specs.Usage.{decode_app, empty_rule, flag_rule, frames_app, in_order_rule, log_rule};
+ghost use Rattle.n2kdec.specs.Usage.{option_rule, plain_app, program_app, resume_rule, save_rule, table_rule};
+ghost use Rattle.n2kdec.specs.Usage.{whole_rule, window_rule};
 
 use clap::{Arg, ArgAction, Command};
 use std::alloc::{AllocError, Global};
@@ -10,7 +12,7 @@ use std::alloc::{AllocError, Global};
 /// The version of the program: the one place that has it.
 pub const VERSION: &str = "1.0.0";
 
-// The log that a command reads.
+/// The log that a command reads.
 fn log_argument<'a>(alloc: Global) -> Arg<'a>
     ensures rule { rule_of result ≡ log_rule }
     ensures own { result.global ≡ false }
@@ -20,7 +22,7 @@ fn log_argument<'a>(alloc: Global) -> Arg<'a>
         .help("The log; without it standard input is read")
 }
 
-// An option with a value.
+/// An option with a value.
 fn option<'a>(
     alloc: Global,
     name: &'a str,
@@ -38,7 +40,7 @@ fn option<'a>(
         .help(help)
 }
 
-// An option without a value.
+/// An option without a value.
 fn flag<'a>(alloc: Global, name: &'a str, help: &'a str) -> Arg<'a>
     ensures rule { rule_of result ≡ flag_rule name.now }
     ensures own { result.global ≡ false }
@@ -49,7 +51,7 @@ fn flag<'a>(alloc: Global, name: &'a str, help: &'a str) -> Arg<'a>
         .help(help)
 }
 
-// The table of a command that needs one.
+/// The table of a command that needs one.
 fn table_argument<'a>(alloc: Global) -> Arg<'a>
     ensures rule { rule_of result ≡ table_rule }
     ensures own { result.global ≡ false }
@@ -67,7 +69,7 @@ fn plain_command<'a>(alloc: Global) -> Result<Command<'a>, AllocError>
         .arg(log_argument(alloc))
 }
 
-// A command with its table, and the files of the states before its log and after it.
+/// A command with its table, and the files of the states before its log and after it.
 fn with_files<'a>(alloc: Global, command: Command<'a>) -> Result<Command<'a>, AllocError>
     requires { (fields_of command).has_globals ≡ false }
     ensures app { IfOk result (λ added. app_of added
@@ -83,7 +85,7 @@ fn with_files<'a>(alloc: Global, command: Command<'a>) -> Result<Command<'a>, Al
         .arg(option(alloc, "save", "F", false, save))
 }
 
-// A command with the words that say what ends a group of frames.
+/// A command with the words that say what ends a group of frames.
 fn with_window<'a>(alloc: Global, command: Command<'a>) -> Result<Command<'a>, AllocError>
     requires { (fields_of command).has_globals ≡ false }
     ensures app { IfOk result (λ added. app_of added
@@ -98,7 +100,7 @@ fn with_window<'a>(alloc: Global, command: Command<'a>) -> Result<Command<'a>, A
         .arg(flag(alloc, "in-order", in_order))
 }
 
-// A command with the flags that say how lines are read and printed.
+/// A command with the flags that say how lines are read and printed.
 fn with_flags<'a>(alloc: Global, command: Command<'a>) -> Result<Command<'a>, AllocError>
     requires { (fields_of command).has_globals ≡ false }
     ensures app { IfOk result (λ added. app_of added

@@ -1,13 +1,13 @@
 //! The run that the words name, from the bytes of a table and of a state, over any devices.
 ghost use Rattle.std.specs.Prelude.{◌≡◌, IfErr, None, option_map};
-ghost use Rattle.n2k_run.specs.FramesOut.{IsInterface, interface_of};
+ghost use Rattle.n2k_run.specs.FramesOut.{IsInterface};
 ghost use Rattle.n2k_run.specs.Runs.{seen};
 ghost use Rattle.n2kdec.specs.Commands.{IsRefusal};
-ghost use Rattle.n2kdec.specs.Words.{IsCommand, interface_word, options_of};
-ghost use Rattle.n2kdec.specs.Work.{TellsWhole, Works, answer_of_part, stop_of, stop_of_part};
+ghost use Rattle.n2kdec.specs.Words.{IsCommand, interface_name, options_of};
+ghost use Rattle.n2kdec.specs.Work.{AnswersWhole, Works, answer_of_part, stop_of, stop_of_part};
 
 use crate::fault::Fault;
-use crate::word::{Word, Words};
+use crate::words::Words;
 use n2k_join::{Counts, Window};
 use n2k_run::{Options, Part, PartFault, RunFault, Sink, Source, run_frames, run_part, run_plain};
 use n2k_table::Table;
@@ -25,53 +25,53 @@ pub struct Stop {
 }
 
 impl Stop {
-    // A stop for a fault, with no Part.
-    fn of(fault: Fault) -> Stop
+    /// A stop for a fault, with no Part.
+    fn from_fault(fault: Fault) -> Stop
         ensures { result ≡ stop_of fault }
     {
         Stop { fault, part: None }
     }
 
-    // A stop for the fault of a part, with the Part that it has.
-    fn of_part(fault: PartFault) -> Stop
+    /// A stop for the fault of a part, with the Part that it has.
+    fn from_part_fault(fault: PartFault) -> Stop
         ensures { result ≡ stop_of_part fault }
     {
         match fault {
-            PartFault::State(fault) => Stop::of(Fault::State(fault)),
+            PartFault::State(fault) => Stop::from_fault(Fault::State(fault)),
             PartFault::Stopped(fault, part) => Stop {
                 fault: Fault::from(fault),
                 part: Some(part),
             },
-            PartFault::Run(fault) => Stop::of(Fault::from(fault)),
-            PartFault::Memory => Stop::of(Fault::Memory),
+            PartFault::Run(fault) => Stop::from_fault(Fault::from(fault)),
+            PartFault::Memory => Stop::from_fault(Fault::Memory),
         }
     }
 }
 
-// What the run of a whole log comes to.
+/// What the run of a whole log comes to.
 fn whole(alloc: Global, ended: Result<Counts, RunFault>) -> Result<Part, Stop>
-    ensures { TellsWhole ended result }
+    ensures { AnswersWhole ended result }
 {
     match ended {
         Ok(counts) => Ok(Part {
             state: Vec::new(alloc),
             counts,
         }),
-        Err(fault) => Err(Stop::of(Fault::from(fault))),
+        Err(fault) => Err(Stop::from_fault(Fault::from(fault))),
     }
 }
 
-// What the run of a part comes to.
+/// What the run of a part comes to.
 fn part(ended: Result<Part, PartFault>) -> Result<Part, Stop>
     ensures { result ≡ answer_of_part ended }
 {
     match ended {
         Ok(part) => Ok(part),
-        Err(fault) => Err(Stop::of_part(fault)),
+        Err(fault) => Err(Stop::from_part_fault(fault)),
     }
 }
 
-// The options of the words `--empty`, `--whole`, `--window` and `--in-order`.
+/// The run's options, by `--empty`, `--whole`, and `--window` with `--in-order`.
 fn options_of(empty: bool, whole: bool, window: Window) -> Options
     ensures { result ≡ options_of empty whole window }
 {
@@ -84,16 +84,6 @@ fn options_of(empty: bool, whole: bool, window: Window) -> Options
         packing,
         empty,
         window,
-    }
-}
-
-// The text of a word that may be missing.
-fn text_of(word: &Option<Word>) -> Option<&str>
-    ensures { interface_of result ≡ word.now }
-{
-    match word {
-        Some(word) => Some(word.as_str()),
-        None => None,
     }
 }
 
@@ -113,7 +103,7 @@ pub fn work<R: Source, W: Sink, E: Sink>(
     errors: &mut E,
 ) -> Result<Part, Stop>
     requires command { IsCommand words.now }
-    requires interface { IsInterface (interface_word words.now) }
+    requires interface { IsInterface (interface_name words.now) }
     ensures works { let before = seen R.Source W.Sink E.Sink log.old output.old errors.old in
         let after = seen R.Source W.Sink E.Sink log.new output.new errors.new in
         Works words.now table.now (option_map (λ bytes. bytes.now) state.entry) before after result }
@@ -136,15 +126,15 @@ pub fn work<R: Source, W: Sink, E: Sink>(
                 let ended = run_part(alloc, &table, state, options, log, output, errors);
                 part(ended)
             }
-            Err(fault) => Err(Stop::of(Fault::Table(fault))),
+            Err(fault) => Err(Stop::from_fault(Fault::Table(fault))),
         },
-        Words::Frames { candump, .. } => match Table::read(alloc, table) {
+        Words::Frames { .. } => match Table::read(alloc, table) {
             Ok(table) => {
-                let ended = run_frames(alloc, &table, text_of(candump), log, output, errors);
+                let ended = run_frames(alloc, &table, words.interface(), log, output, errors);
                 whole(alloc, ended)
             }
-            Err(fault) => Err(Stop::of(Fault::Table(fault))),
+            Err(fault) => Err(Stop::from_fault(Fault::Table(fault))),
         },
-        Words::Help(_) => Err(Stop::of(Fault::Words)),
+        Words::Help(_) => Err(Stop::from_fault(Fault::Words)),
     }
 }

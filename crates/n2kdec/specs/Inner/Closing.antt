@@ -8,8 +8,8 @@ use Rattle.n2kdec.specs.Commands.{IsWritten, IsWrittenUnlessFailed, IsCutOff, Re
 use Rattle.n2kdec.specs.Fault.{exit_status}
 use Rattle.n2kdec.specs.declared.fault.Fault.{Fault}
 use Rattle.n2kdec.specs.declared.fault.Fault.TheVariants.{Read, Report, Save}
-use Rattle.n2kdec.specs.declared.word.Words.{Words}
-use Rattle.n2kdec.specs.declared.word.Words.TheVariants.{Decode}
+use Rattle.n2kdec.specs.declared.words.Words.{Words}
+use Rattle.n2kdec.specs.declared.words.Words.TheVariants.{Decode}
 use Rattle.n2kdec.specs.declared.work.Stop.{Stop}
 
 -- the summary of these counts is written, and the status is theirs; or the errors failed in it
@@ -23,20 +23,25 @@ SumsUp before after counts result = MatchResult result
 abbrev pub Closes : Shelf → Shelf → Place → Place → List ℕ → Counts → Result ℕ Fault → Type 0
 Closes keeper kept errors summed text counts result =
     (Replaces keeper kept text errors.text × SumsUp errors summed counts result)
-    ⊎ ((result ≡ Err Save) × HasFailed keeper.failed kept.failed × IsWrittenUnlessFailed errors summed (summary_text counts))
+    ⊎ ((result ≡ Err Save) × HasFailed keeper.failed kept.failed
+    × IsWrittenUnlessFailed errors summed (summary_text counts))
 
--- What follows a stop. Without a Part nothing; after a failed read its state is kept, where it can be, and its counts are
--- summed up; at the limit of lines they are summed up alone.
+-- What follows a stop. Without a Part nothing; after a failed read its state is kept, where it can be, and its counts
+-- are summed up; at the limit of lines they are summed up alone.
 abbrev pub FollowsStop : Shelf → Shelf → Place → Place → Option Part → Fault → Type 0
 FollowsStop keeper kept errors summed None fault = (kept ≡ keeper) × (summed ≡ errors)
 FollowsStop keeper kept errors summed (Some part) Read =
-    (Replaces keeper kept part.state.items errors.text ⊎ HasFailed keeper.failed kept.failed) × IsWrittenUnlessFailed errors summed (summary_text part.counts)
-FollowsStop keeper kept errors summed (Some part) _ = (kept ≡ keeper) × IsWrittenUnlessFailed errors summed (summary_text part.counts)
+    (Replaces keeper kept part.state.items errors.text ⊎ HasFailed keeper.failed kept.failed)
+    × IsWrittenUnlessFailed errors summed (summary_text part.counts)
+FollowsStop keeper kept errors summed (Some part) _ =
+    (kept ≡ keeper) × IsWrittenUnlessFailed errors summed (summary_text part.counts)
 
 -- what follows the work of a command that has a state
 abbrev pub ClosesPart : Shelf → Shelf → Place → Place → Result Part Stop → Result ℕ Fault → Type 0
-ClosesPart keeper kept errors summed (Ok part) result = Closes keeper kept errors summed part.state.items part.counts result
-ClosesPart keeper kept errors summed (Err stop) result = (result ≡ Err stop.fault) × FollowsStop keeper kept errors summed stop.part stop.fault
+ClosesPart keeper kept errors summed (Ok part) result =
+    Closes keeper kept errors summed part.state.items part.counts result
+ClosesPart keeper kept errors summed (Err stop) result =
+    (result ≡ Err stop.fault) × FollowsStop keeper kept errors summed stop.part stop.fault
 
 -- and that of one that has none: a whole log is summed up
 abbrev pub ClosesWhole : Place → Place → Result Part Stop → Result ℕ Fault → Type 0
@@ -45,5 +50,6 @@ ClosesWhole errors summed (Err stop) result = (result ≡ Err stop.fault) × (su
 
 -- what follows the work that the words name
 abbrev pub ClosesWork : Words → Shelf → Shelf → Place → Place → Result Part Stop → Result ℕ Fault → Type 0
-ClosesWork (Decode table resume save empty whole window log) keeper kept errors summed ended result = ClosesPart keeper kept errors summed ended result
+ClosesWork (Decode table resume save empty whole window log) keeper kept errors summed ended result =
+    ClosesPart keeper kept errors summed ended result
 ClosesWork _ keeper kept errors summed ended result = (kept ≡ keeper) × ClosesWhole errors summed ended result

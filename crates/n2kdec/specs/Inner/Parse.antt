@@ -5,8 +5,8 @@ use Rattle.clap.specs.declared.error.kind.ErrorKind.{ErrorKind}
 use Rattle.clap.specs.declared.error.kind.ErrorKind.TheVariants.{DisplayHelp, DisplayVersion, OutOfMemory}
 use Rattle.n2kdec.specs.declared.fault.Fault.{Fault}
 use Rattle.n2kdec.specs.declared.fault.Fault.TheVariants as fault
-use Rattle.n2kdec.specs.declared.word.Words.{Words}
-use Rattle.n2kdec.specs.declared.word.Words.TheVariants.{Help}
+use Rattle.n2kdec.specs.declared.words.Words.{Words}
+use Rattle.n2kdec.specs.declared.words.Words.TheVariants.{Help}
 use Rattle.n2kdec.specs.Words.{version_text}
 
 -- By its kind, and by the text that it shows, where that is known: a request for help, which gets that text, or for the

@@ -2,13 +2,13 @@
 use Rattle.std.specs.Prelude.{◌≡◌, ◌⊎◌, ℕ, true, false, List, [], ◌∷◌, ◌++◌, Option, Some, IfSome}
 use Rattle.n2kdec.specs.Folder.{Call, create, refused, rename, sync, write}
 use Rattle.n2kdec.specs.Replacement.{filled}
-use Rattle.n2kdec.specs.declared.folder.Name.TheVariants.{Own, New}
+use Rattle.n2kdec.specs.declared.folder.Name.TheVariants.{Target, Temp}
 use Rattle.n2kdec.specs.declared.folder.Unplaced.{Unplaced}
 use Rattle.n2kdec.specs.declared.folder.Unplaced.TheVariants.{Refused, Failed}
 
 -- the new file has the text, and then the name
 abbrev pub placed : List ℕ → List Call
-placed text = rename New Own true ∷ sync New true ∷ filled text
+placed text = rename Temp Target true ∷ sync Temp true ∷ filled text
 
 -- these calls more, where the calls are known
 abbrev pub Makes : Option (List Call) → Option (List Call) → List Call → Type 0
@@ -20,8 +20,9 @@ HasPlaced before after text = Makes before after (placed text)
 -- one of them failed, or was refused, and none was made after it
 abbrev pub IsStuck : Option (List Call) → Option (List Call) → List ℕ → Unplaced → Type 0
 IsStuck before after text Failed =
-    Makes before after (create New false ∷ [])
-    ⊎ Makes before after (write New text false ∷ create New true ∷ [])
-    ⊎ Makes before after (sync New false ∷ filled text)
-    ⊎ Makes before after (rename New Own false ∷ sync New true ∷ filled text)
-IsStuck before after text Refused = Makes before after (refused ∷ []) ⊎ Makes before after (refused ∷ sync New true ∷ filled text)
+    Makes before after (create Temp false ∷ [])
+    ⊎ Makes before after (write Temp text false ∷ create Temp true ∷ [])
+    ⊎ Makes before after (sync Temp false ∷ filled text)
+    ⊎ Makes before after (rename Temp Target false ∷ sync Temp true ∷ filled text)
+IsStuck before after text Refused =
+    Makes before after (refused ∷ []) ⊎ Makes before after (refused ∷ sync Temp true ∷ filled text)

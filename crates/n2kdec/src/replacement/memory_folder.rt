@@ -25,7 +25,7 @@ pub enum Trouble {
     Cut(u64, Extent),
 }
 
-// So much of a text.
+/// So much of a text.
 fn so_much(extent: Extent, text: &[u8]) -> &[u8] {
     match extent {
         Extent::Nothing => &[],
@@ -34,7 +34,7 @@ fn so_much(extent: Extent, text: &[u8]) -> &[u8] {
     }
 }
 
-// A copy of a text, where there is one.
+/// A copy of a text, where there is one.
 fn copy(alloc: Global, text: Option<&[u8]>) -> Result<Option<Vec<u8>>, AllocError> {
     match text {
         Some(text) => Ok(Some(text.to_vec(alloc)?)),
@@ -42,7 +42,7 @@ fn copy(alloc: Global, text: Option<&[u8]>) -> Result<Option<Vec<u8>>, AllocErro
     }
 }
 
-// The text of a name, whether a cut leaves that, and what a cut leaves as long as the folder is not synced.
+/// The text of a name, whether a cut leaves that, and what a cut leaves as long as the folder is not synced.
 #[derive(Drop)]
 struct Standing {
     text: Option<Vec<u8>>,
@@ -51,7 +51,7 @@ struct Standing {
 }
 
 impl Standing {
-    // A name with this text, which a cut leaves.
+    /// A name with this text, which a cut leaves.
     fn new(alloc: Global, text: Option<&[u8]>) -> Result<Standing, AllocError> {
         Ok(Standing {
             text: copy(alloc, text)?,
@@ -60,7 +60,7 @@ impl Standing {
         })
     }
 
-    // What a cut leaves.
+    /// What a cut leaves.
     fn left(&self, extent: Extent) -> Option<&[u8]> {
         match extent {
             Extent::Nothing => Some(self.settled.as_ref()?),
@@ -69,7 +69,7 @@ impl Standing {
         }
     }
 
-    // An empty file has the name. Of a new one, a part of the call takes what had the name away.
+    /// An empty file has the name. Of a new one, a part of the call takes what had the name away.
     fn empty(&mut self, alloc: Global, done: Extent, is_new: bool) {
         match done {
             Extent::Part if is_new => self.text = None,
@@ -91,7 +91,7 @@ impl Standing {
         Ok(())
     }
 
-    // The name gets the file of the other, which is gone then.
+    /// The name gets the file of the other, which is gone then.
     fn take_from(&mut self, other: &mut Standing) {
         self.text = other.text.take();
         self.is_synced = other.is_synced;
@@ -108,8 +108,8 @@ impl Standing {
 pub struct MemoryFolder {
     alloc: Global,
     kind: Kind,
-    own: Standing,
-    beside: Standing,
+    target: Standing,
+    temp: Standing,
     /// The number of the call that is refused, if it is one that may be; the call after it counts as the next.
     pub refused: u64,
     /// What else comes in between.
@@ -123,14 +123,14 @@ impl MemoryFolder {
     pub fn new(
         alloc: Global,
         kind: Kind,
-        own: Option<&[u8]>,
-        new: Option<&[u8]>,
+        target: Option<&[u8]>,
+        temp: Option<&[u8]>,
     ) -> Result<MemoryFolder, AllocError> {
         Ok(MemoryFolder {
             alloc,
             kind,
-            own: Standing::new(alloc, own)?,
-            beside: Standing::new(alloc, new)?,
+            target: Standing::new(alloc, target)?,
+            temp: Standing::new(alloc, temp)?,
             refused: 0,
             trouble: Trouble::No,
             calls: 0,
@@ -141,8 +141,8 @@ impl MemoryFolder {
     /// What a name has after a cut that leaves so much of what is not synced; what it has now, where that is all.
     pub fn left(&self, name: Name, extent: Extent) -> Option<&[u8]> {
         match name {
-            Name::Own => self.own.left(extent),
-            Name::New => self.beside.left(extent),
+            Name::Target => self.target.left(extent),
+            Name::Temp => self.temp.left(extent),
         }
     }
 
@@ -153,12 +153,12 @@ impl MemoryFolder {
 
     fn standing(&mut self, name: Name) -> &mut Standing {
         match name {
-            Name::Own => &mut self.own,
-            Name::New => &mut self.beside,
+            Name::Target => &mut self.target,
+            Name::Temp => &mut self.temp,
         }
     }
 
-    // How much of the next call is done.
+    /// How much of the next call is done.
     fn begin(&mut self) -> Extent {
         if self.is_off {
             return Extent::Nothing;
@@ -174,7 +174,7 @@ impl MemoryFolder {
         }
     }
 
-    // The answer of the call that was made last.
+    /// The answer of the call that was made last.
     fn answer(&self) -> Result<(), Failed> {
         match self.trouble {
             Trouble::Failure(at, _) if at == self.calls => Err(Failed),
@@ -183,7 +183,7 @@ impl MemoryFolder {
         }
     }
 
-    // Whether the call that was made last is refused.
+    /// Whether the call that was made last is refused.
     fn refuses(&self) -> Result<(), Unplaced> {
         if self.refused == self.calls {
             return Err(Unplaced::Refused);
@@ -240,8 +240,8 @@ impl Folder for MemoryFolder {
         let done = self.begin();
         self.refuses()?;
         match (done, from, to) {
-            (Extent::Whole, Name::Own, Name::New) => self.beside.take_from(&mut self.own),
-            (Extent::Whole, Name::New, Name::Own) => self.own.take_from(&mut self.beside),
+            (Extent::Whole, Name::Target, Name::Temp) => self.temp.take_from(&mut self.target),
+            (Extent::Whole, Name::Temp, Name::Target) => self.target.take_from(&mut self.temp),
             _ => {}
         }
         Ok(self.answer()?)
@@ -249,8 +249,8 @@ impl Folder for MemoryFolder {
 
     fn sync_folder(&mut self) -> Result<(), Failed> {
         if self.begin() == Extent::Whole {
-            self.own.settle(self.alloc).map_err(|_| Failed)?;
-            self.beside.settle(self.alloc).map_err(|_| Failed)?;
+            self.target.settle(self.alloc).map_err(|_| Failed)?;
+            self.temp.settle(self.alloc).map_err(|_| Failed)?;
         }
         self.answer()
     }

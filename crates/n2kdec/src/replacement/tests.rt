@@ -3,7 +3,7 @@ use crate::folder::{Folder, Kind, Name};
 use crate::replacement::keep_text;
 use std::test::Fail;
 
-// How much of a call is done, and how much a cut leaves of what is not synced.
+/// How much of a call is done, and how much a cut leaves of what is not synced.
 const EXTENTS: [Extent; 3] = [Extent::Nothing, Extent::Part, Extent::Whole];
 
 const OLD: &[u8] = b"the old state";
@@ -17,8 +17,8 @@ fn a_text_takes_the_place_of_another(rt: HostRuntime) -> Result<(), Fail> {
             let mut folder = MemoryFolder::new(rt.alloc(), Kind::Alone, own, new)?;
             assert!(rt; keep_text(&mut folder, "boat", NEW).is_ok());
             for extent in EXTENTS {
-                assert_eq!(rt; folder.left(Name::Own, extent), Some(NEW));
-                assert_eq!(rt; folder.left(Name::New, extent), None);
+                assert_eq!(rt; folder.left(Name::Target, extent), Some(NEW));
+                assert_eq!(rt; folder.left(Name::Temp, extent), None);
             }
             assert_eq!(rt; folder.calls(), 6);
         }
@@ -37,11 +37,11 @@ fn a_failure_in_each_call_leaves_the_old_text_or_the_new(rt: HostRuntime) -> Res
             let renamed = call == 6 || call == 5 && done == Extent::Whole;
             let now = if renamed { NEW } else { OLD };
             assert_eq!(rt;
-                folder.left(Name::Own, Extent::Whole),
+                folder.left(Name::Target, Extent::Whole),
                 Some(now),
                 "{trouble:?}"
             );
-            assert_eq!(rt; folder.left(Name::New, Extent::Whole), None, "{trouble:?}");
+            assert_eq!(rt; folder.left(Name::Temp, Extent::Whole), None, "{trouble:?}");
         }
     }
     Ok(())
@@ -56,7 +56,7 @@ fn a_cut_in_each_call_leaves_the_old_text_or_the_new(rt: HostRuntime) -> Result<
             folder.trouble = trouble;
             assert!(rt; keep_text(&mut folder, "boat", NEW).is_err(), "{trouble:?}");
             for extent in EXTENTS {
-                let left = folder.left(Name::Own, extent);
+                let left = folder.left(Name::Target, extent);
                 let is_whole = left == Some(OLD) || left == Some(NEW);
                 assert!(rt; is_whole, "{trouble:?} {extent:?}: {left:?}");
             }
@@ -65,21 +65,21 @@ fn a_cut_in_each_call_leaves_the_old_text_or_the_new(rt: HostRuntime) -> Result<
     Ok(())
 }
 
-// What is not synced may be there in part, and a rename may be there or not.
+/// What is not synced may be there in part, and a rename may be there or not.
 #[test]
 fn a_cut_before_the_syncs_may_leave_a_part_or_the_old_text(rt: HostRuntime) -> Result<(), Fail> {
     let mut folder = MemoryFolder::new(rt.alloc(), Kind::Alone, Some(OLD), None)?;
-    assert!(rt; folder.create(Name::New).is_ok());
-    assert!(rt; folder.write(Name::New, NEW).is_ok());
-    assert!(rt; folder.rename(Name::New, Name::Own).is_ok());
-    assert_eq!(rt; folder.left(Name::Own, Extent::Nothing), Some(OLD));
-    assert_eq!(rt; folder.left(Name::Own, Extent::Part), Some(&NEW[..15]));
-    assert_eq!(rt; folder.left(Name::Own, Extent::Whole), Some(NEW));
+    assert!(rt; folder.create(Name::Temp).is_ok());
+    assert!(rt; folder.write(Name::Temp, NEW).is_ok());
+    assert!(rt; folder.rename(Name::Temp, Name::Target).is_ok());
+    assert_eq!(rt; folder.left(Name::Target, Extent::Nothing), Some(OLD));
+    assert_eq!(rt; folder.left(Name::Target, Extent::Part), Some(&NEW[..15]));
+    assert_eq!(rt; folder.left(Name::Target, Extent::Whole), Some(NEW));
     Ok(())
 }
 
-// Of the ways in which a text is written over another: the new file is refused (call 2), or that it takes the name
-// (call 5), or the file has other names. Each has the calls up to this one before it.
+/// Of the ways in which a text is written over another: the new file is refused (call 2), or that it takes the name
+/// (call 5), or the file has other names. Each has the calls up to this one before it.
 const WAYS: [(Kind, u64, u64); 3] = [
     (Kind::Alone, 2, 3),
     (Kind::Alone, 5, 6),
@@ -97,15 +97,15 @@ fn a_text_is_written_over_another_where_the_folder_refuses(rt: HostRuntime) -> R
             let mut folder = MemoryFolder::new(rt.alloc(), kind, own, None)?;
             folder.refused = refused;
             assert!(rt; keep_text(&mut folder, "boat", NEW).is_ok());
-            assert_eq!(rt; folder.left(Name::Own, Extent::Part), Some(NEW));
-            assert_eq!(rt; folder.left(Name::New, Extent::Whole), None);
+            assert_eq!(rt; folder.left(Name::Target, Extent::Part), Some(NEW));
+            assert_eq!(rt; folder.left(Name::Temp, Extent::Whole), None);
             assert_eq!(rt; folder.calls(), before + 3);
         }
     }
     Ok(())
 }
 
-// A failure before the folder refuses leaves the old text; one after it fails too, and may leave any text.
+/// A failure before the folder refuses leaves the old text; one after it fails too, and may leave any text.
 #[test]
 fn a_failure_where_the_folder_refuses_is_told(rt: HostRuntime) -> Result<(), Fail> {
     for (kind, refused, before) in WAYS {
@@ -121,7 +121,7 @@ fn a_failure_where_the_folder_refuses_is_told(rt: HostRuntime) -> Result<(), Fai
                 assert_eq!(rt; answer.is_ok(), passes, "{refused} {trouble:?}");
                 if call <= before && !passes {
                     assert_eq!(rt;
-                        folder.left(Name::Own, Extent::Whole),
+                        folder.left(Name::Target, Extent::Whole),
                         Some(OLD),
                         "{refused} {trouble:?}"
                     );
@@ -132,12 +132,12 @@ fn a_failure_where_the_folder_refuses_is_told(rt: HostRuntime) -> Result<(), Fai
     Ok(())
 }
 
-// What is no regular file is written to, and nothing is synced.
+/// What is no regular file is written to, and nothing is synced.
 #[test]
 fn what_is_no_regular_file_is_written_to(rt: HostRuntime) -> Result<(), Fail> {
     let mut folder = MemoryFolder::new(rt.alloc(), Kind::Special, None, None)?;
     assert!(rt; keep_text(&mut folder, "boat", NEW).is_ok());
-    assert_eq!(rt; folder.left(Name::Own, Extent::Whole), Some(NEW));
+    assert_eq!(rt; folder.left(Name::Target, Extent::Whole), Some(NEW));
     assert_eq!(rt; folder.calls(), 3);
     Ok(())
 }

@@ -1,5 +1,6 @@
 -- The table that was read is that of the bytes, and the run of the words that were matched is at hand.
-use Rattle.std.proofs.Common.{inl, refl}
+use Rattle.std.proofs.Common.{◌∙◌, ap, inl, refl}
+use Rattle.n2kdec.specs.Words.{interface_name}
 use Rattle.n2kdec.proofs.Tables.{decoded_by, framed_by, refused, works_decode, works_frames, works_plain}
 use Rattle.n2kdec.proofs.work.work.Goals as goal
 
@@ -14,13 +15,13 @@ returns-in-Ok-clause-works g c =
 
 pub returns-in-Err-clause-works : goal.returns-in-Err-clause-works
 returns-in-Err-clause-works g c =
-    works_decode c.args.words.now c.args.table.now _ _ _ _ _ _ _ c.in-Decode.empty c.in-Decode.whole c.in-Decode.window _ _ c.in-Decode.is refl (inl (refused _ _ _ _ c.of.ensures c.in-Err.ensures.stands))
+    works_decode c.args.words.now c.args.table.now _ _ _ _ _ _ _ c.in-Decode.empty c.in-Decode.whole c.in-Decode.window _ _ c.in-Decode.is refl (inl (refused _ _ _ _ c.from_fault.ensures c.in-Err.ensures.stands))
 
 pub returns-in-Ok-read-clause-works : goal.returns-in-Ok-read-clause-works
 returns-in-Ok-read-clause-works g c =
-    works_frames c.args.words.now c.args.table.now _ _ _ _ _ _ _ _ c.in-Frames.is c.text_of.ensures
+    works_frames c.args.words.now c.args.table.now _ _ _ _ _ _ _ _ c.in-Frames.is (c.interface.ensures ∙ ap interface_name c.in-Frames.is)
     (framed_by c.args.table.now _ _ _ c.in-Ok-read.table c.whole-in-Ok-read.result c.in-Ok-read.ensures.sound (record { ended = c.run_frames-ended.result; runs = c.run_frames-ended.ensures.runs; told = c.whole-in-Ok-read.ensures }))
 
 pub returns-in-Err-read-clause-works : goal.returns-in-Err-read-clause-works
 returns-in-Err-read-clause-works g c =
-    works_frames c.args.words.now c.args.table.now _ _ _ _ _ _ _ c.in-Frames.candump c.in-Frames.is refl (inl (refused _ _ _ _ c.of-in-Err-read.ensures c.in-Err-read.ensures.stands))
+    works_frames c.args.words.now c.args.table.now _ _ _ _ _ _ _ _ c.in-Frames.is refl (inl (refused _ _ _ _ c.from_fault-in-Err-read.ensures c.in-Err-read.ensures.stands))

@@ -1,26 +1,29 @@
 //! From the words that were typed to the status that the program ends with, over any machine.
-ghost use Rattle.std.specs.Prelude.{◌≡◌, ◌⊎◌, ◌<◌, ◌≤◌, IfErr, IfOk, IfSome, OnOk, Some, length, map, option_map, string_bytes, vec_len};
+ghost use Rattle.std.specs.Prelude.{◌≡◌, ◌⊎◌, ◌<◌, ◌≤◌, IfErr, IfOk, IfSome, OnOk, Some, length, map, option_map};
+ghost use Rattle.std.specs.Prelude.{string_bytes, vec_len};
 ghost use Rattle.std.specs.Process.{exit_status};
 ghost use Rattle.clap.specs.Walk.{texts};
 ghost use Rattle.n2k_run.specs.Device.{HasFailed};
 ghost use Rattle.n2k_run.specs.FramesOut.{IsInterface};
 ghost use Rattle.n2kdec.specs.Fault.{longest_file};
-ghost use Rattle.n2kdec.specs.Machine.{AsksFor, DoesTyped, FollowsWords, IsNamed, IsOfFile, IsReadable, IsState, IsTable, IsTold, IsUnasked, IsUnbegun, IsUnopened, IsUnreadFile, RunsTyped, Shows, Tells, bytes_of, outside};
+ghost use Rattle.n2kdec.specs.Machine.{AsksFor, DoesTyped, FollowsWords, IsNamed, IsOfFile, IsReadable, IsState};
+ghost use Rattle.n2kdec.specs.Machine.{IsStateAdmitted, IsTable, IsUnasked, IsUnbegun, IsUnopened, IsUnreadFile};
+ghost use Rattle.n2kdec.specs.Machine.{ReportsFault, RunsTyped, Shows, bytes_of, outside};
 ghost use Rattle.n2kdec.specs.Commands.{place};
-ghost use Rattle.n2kdec.specs.Words.{IsCommand, interface_word, resume_word, save_word, table_word};
+ghost use Rattle.n2kdec.specs.Words.{IsCommand, interface_name, resume_name, save_name, table_name};
 
-use crate::commands::perform;
+use crate::command_line::{interface, words};
+use crate::commands::run_command;
 use crate::fault::{Fault, status};
+use crate::fault_message::write_fault;
 use crate::keeper::Keeper;
 use crate::machine::{Machine, Outlets, Unopened};
-use crate::refusal::told;
-use crate::word::{Word, Words};
-use crate::words::{interface, words};
+use crate::words::{Word, Words};
 use n2k_run::{BytesFault, Sink, Source, read_bytes, write_all};
 use std::alloc::{AllocError, Global};
 use std::process::ExitCode;
 
-// The most bytes of the file of a table, and of that of a state.
+/// The most bytes of the file of a table, and of that of a state.
 const LONGEST_FILE: usize = 16_777_216;
 
 fn texts_of(alloc: Global, words: &[String]) -> Result<Vec<&str>, AllocError>
@@ -33,8 +36,8 @@ fn texts_of(alloc: Global, words: &[String]) -> Result<Vec<&str>, AllocError>
     Ok(all)
 }
 
-// What the words that were typed ask for.
-fn asked<M: Machine>(alloc: Global, machine: &M) -> Result<Words, Fault>
+/// What the words that were typed ask for.
+fn typed_words<M: Machine>(alloc: Global, machine: &M) -> Result<Words, Fault>
     ensures asked { IfOk result (AsksFor (M.world machine.now)) }
     ensures unasked { IfErr result (IsUnasked (M.world machine.now)) }
 {
@@ -42,26 +45,26 @@ fn asked<M: Machine>(alloc: Global, machine: &M) -> Result<Words, Fault>
     words(alloc, &texts_of(alloc, &typed)?)
 }
 
-// Opens the file of this name, or standard input. What can't be opened is `refused`.
-fn open<M: Machine>(machine: &mut M, name: Option<&Word>, refused: Fault) -> Result<M::File, Fault>
+/// Opens the file of this name, or standard input. What can't be opened is `refused`.
+fn open<M: Machine>(machine: &mut M, name: Option<&str>, refused: Fault) -> Result<M::File, Fault>
     ensures same { M.world machine.new ≡ M.world machine.old }
     ensures bytes { IfOk result (λ file. M.File.remaining file
-        ≡ bytes_of (M.world machine.old) (option_map (λ word. word.now) name.entry)) }
+        ≡ bytes_of (M.world machine.old) (option_map (λ text. text.now) name.entry)) }
     ensures none_called { IfOk result (λ file. M.File.calls file ≡ 0) }
     ensures none_failed { IfOk result (λ file. M.File.failed_calls file ≡ 0) }
     ensures counted { OnOk result (M.failed_reads machine.new ≡ M.failed_reads machine.old) }
-    ensures fault { IfErr result (IsUnopened (option_map (λ word. word.now) name.entry) refused
+    ensures fault { IfErr result (IsUnopened (option_map (λ text. text.now) name.entry) refused
         (M.failed_reads machine.old) (M.failed_reads machine.new)) }
 {
-    match machine.open(name.map(|word| word.as_str())) {
+    match machine.open(name) {
         Ok(file) => Ok(file),
         Err(Unopened::Memory) => Err(Fault::Memory),
         Err(Unopened::Refused) => Err(refused),
     }
 }
 
-// The bytes of a file that is read whole, or the fault of one that is too large, of one of which a read failed, or of
-// memory.
+/// The bytes of a file that is read whole, or the fault of one that is too large, of one of which a read failed, or of
+/// memory.
 fn read_whole<R: Source>(
     alloc: Global,
     file: &mut R,
@@ -85,12 +88,12 @@ fn read_whole<R: Source>(
     }
 }
 
-// The bytes of the file of this name, or the fault of one that is too large, of one that can't be opened or read, or of
-// memory.
+/// The bytes of the file of this name, or the fault of one that is too large, of one that can't be opened or read, or
+/// of memory.
 fn read_file<M: Machine>(
     alloc: Global,
     machine: &mut M,
-    name: &Word,
+    name: &str,
     too_large: Fault,
     unread: Fault,
 ) -> Result<Vec<u8>, Fault>
@@ -107,12 +110,12 @@ fn read_file<M: Machine>(
     read
 }
 
-// The bytes of the table that the words name; none where their command has no table.
+/// The bytes of the table that the words name; none where their command has no table.
 fn read_table<M: Machine>(alloc: Global, machine: &mut M, words: &Words) -> Result<Vec<u8>, Fault>
-    requires { IsInterface (interface_word words.now) }
+    requires { IsInterface (interface_name words.now) }
     ensures same { M.world machine.new ≡ M.world machine.old }
-    ensures bytes { IfOk result (λ read. IsTable (M.world machine.old) (table_word words.now) read.items) }
-    ensures readable { OnOk result (IsReadable (M.world machine.old) (table_word words.now)) }
+    ensures bytes { IfOk result (λ read. IsTable (M.world machine.old) (table_name words.now) read.items) }
+    ensures readable { OnOk result (IsReadable (M.world machine.old) (table_name words.now)) }
     ensures counted { OnOk result (M.failed_reads machine.new ≡ M.failed_reads machine.old) }
     ensures fault { IfErr result (IsUnbegun (M.world machine.old) words.now (M.failed_reads machine.old)
         (M.failed_reads machine.new)) }
@@ -123,18 +126,18 @@ fn read_table<M: Machine>(alloc: Global, machine: &mut M, words: &Words) -> Resu
     }
 }
 
-// The state to go on from, where one is named.
+/// The state to go on from, where one is named.
 fn read_state<M: Machine>(
     alloc: Global,
     machine: &mut M,
     words: &Words,
 ) -> Result<Option<Vec<u8>>, Fault>
-    requires interface { IsInterface (interface_word words.now) }
-    requires table { IsReadable (M.world machine.old) (table_word words.now) }
+    requires interface { IsInterface (interface_name words.now) }
+    requires table { IsReadable (M.world machine.old) (table_name words.now) }
     ensures same { M.world machine.new ≡ M.world machine.old }
-    ensures bytes { IfOk result (λ read. IsState (M.world machine.old) (resume_word words.now)
+    ensures bytes { IfOk result (λ read. IsState (M.world machine.old) (resume_name words.now)
         (option_map (λ bytes. bytes.items) read)) }
-    ensures readable { OnOk result (IsReadable (M.world machine.old) (resume_word words.now)) }
+    ensures readable { OnOk result (IsReadable (M.world machine.old) (resume_name words.now)) }
     ensures counted { OnOk result (M.failed_reads machine.new ≡ M.failed_reads machine.old) }
     ensures fault { IfErr result (IsUnbegun (M.world machine.old) words.now (M.failed_reads machine.old)
         (M.failed_reads machine.new)) }
@@ -151,8 +154,9 @@ fn read_state<M: Machine>(
     }
 }
 
-// Performs what the words name over the log that they name, or over standard input.
-fn perform_log<M: Machine, K: Keeper>(
+/// Runs the command that the words name over the log that they name, or over standard input.
+#[tactic(auto, using(crate::proofs::MachineLemmas::not_begun))]
+fn run_on_log<M: Machine, K: Keeper>(
     alloc: Global,
     machine: &mut M,
     words: &Words,
@@ -161,40 +165,34 @@ fn perform_log<M: Machine, K: Keeper>(
     outlets: &mut Outlets<M::Output, M::Errors, K>,
 ) -> Result<u8, Fault>
     requires command { IsCommand words.now }
-    requires interface { IsInterface (interface_word words.now) }
-    requires table { IsTable (M.world machine.old) (table_word words.now) table.now }
-    requires readable { IsReadable (M.world machine.old) (table_word words.now) × IsReadable (M.world machine.old)
-        (resume_word words.now) }
-    requires state { IsState (M.world machine.old) (resume_word words.now) (option_map (λ bytes. bytes.now) state) }
+    requires interface { IsInterface (interface_name words.now) }
+    requires table { IsTable (M.world machine.old) (table_name words.now) table.now }
+    requires readable { IsReadable (M.world machine.old) (table_name words.now) × IsReadable (M.world machine.old)
+        (resume_name words.now) }
+    requires state { IsState (M.world machine.old) (resume_name words.now) (option_map (λ bytes. bytes.now) state) }
+    requires admitted { IsStateAdmitted K.admits words.now }
     ensures same { M.world machine.new ≡ M.world machine.old }
     ensures follows { FollowsWords (M.world machine.old) words.now
         (outside M.Output.Sink M.Errors.Sink K.Keeper (M.failed_reads machine.old) outlets.old)
         (outside M.Output.Sink M.Errors.Sink K.Keeper (M.failed_reads machine.new) outlets.new) result }
 {
     let mut log = open(machine, words.log(), Fault::Read)?;
-    let answer = perform(
-        alloc,
-        words,
-        table,
-        state,
-        &mut log,
-        &mut outlets.output,
-        &mut outlets.errors,
-        &mut outlets.store,
-    );
+    let answer = run_command(alloc, words, table, state, &mut log, outlets);
     machine.close(log);
     answer
 }
 
-// Reads the files that the words name, and performs what they name.
-fn perform_admitted<M: Machine, K: Keeper>(
+/// Reads the files that the words name, and runs their command.
+#[tactic(auto, using(crate::proofs::MachineLemmas::not_begun))]
+fn run_on_files<M: Machine, K: Keeper>(
     alloc: Global,
     machine: &mut M,
     words: &Words,
     outlets: &mut Outlets<M::Output, M::Errors, K>,
 ) -> Result<u8, Fault>
     requires command { IsCommand words.now }
-    requires interface { IsInterface (interface_word words.now) }
+    requires interface { IsInterface (interface_name words.now) }
+    requires admitted { IsStateAdmitted K.admits words.now }
     ensures same { M.world machine.new ≡ M.world machine.old }
     ensures follows { FollowsWords (M.world machine.old) words.now
         (outside M.Output.Sink M.Errors.Sink K.Keeper (M.failed_reads machine.old) outlets.old)
@@ -203,34 +201,30 @@ fn perform_admitted<M: Machine, K: Keeper>(
     let table = read_table(alloc, machine, words)?;
     let resumed = read_state(alloc, machine, words)?;
     let state = resumed.as_ref().map(|bytes| bytes.as_slice());
-    perform_log(alloc, machine, words, &table, state, outlets)
+    run_on_log(alloc, machine, words, &table, state, outlets)
 }
 
-// The text of a word that may be missing.
-fn text_of(word: Option<&Word>) -> Option<&str> {
-    Some(word?.as_str())
-}
-
-// Asks whether the state may be kept under the name that the words have for it, where they have one.
-fn admit<K: Keeper>(words: &Words, store: &mut K) -> Result<(), Fault>
-    ensures same { K.kept store.new ≡ K.kept store.old }
-    ensures none_failed { OnOk result (K.failed_calls store.new ≡ K.failed_calls store.old) }
-    ensures refused { IfErr result (λ fault. (fault ≡ Fault.Save) × IsNamed (save_word words.now)
-        × HasFailed (K.failed_calls store.old) (K.failed_calls store.new)) }
+/// Asks whether the state may be kept under the name that the words have for it, where they have one.
+#[tactic(auto, using(crate::proofs::MachineLemmas::state_admitted))]
+fn admit<K: Keeper>(words: &Words, keeper: &mut K) -> Result<(), Fault>
+    ensures same { K.kept keeper.new ≡ K.kept keeper.old }
+    ensures admitted { OnOk result (IsStateAdmitted K.admits words.now) }
+    ensures none_failed { OnOk result (K.failed_calls keeper.new ≡ K.failed_calls keeper.old) }
+    ensures refused { IfErr result (λ fault. (fault ≡ Fault.Save) × IsNamed (save_name words.now)
+        × HasFailed (K.failed_calls keeper.old) (K.failed_calls keeper.new)) }
 {
     let Some(name) = words.save() else {
         return Ok(());
     };
-    let (table, log, state) = (words.table(), words.log(), words.resume());
-    store
-        .admit(name.as_str(), text_of(table), text_of(log), text_of(state))
+    keeper
+        .admit(name, words.table(), words.log(), words.resume())
         .map_err(|_| Fault::Save)
 }
 
-// Performs what the words name over its files, which are opened in the order of the faults: the table's and the
-// state's, which are read whole, and then the log.
-#[tactic(auto, using(crate::proofs::MachineLemmas::not_admitted, crate::proofs::MachineLemmas::admitted))]
-fn perform_files<M: Machine, K: Keeper>(
+/// Runs the command that the words name. Where its state is admitted the files are opened, in the order of the faults:
+/// the table's and the state's, which are read whole, and then the log.
+#[tactic(auto, using(crate::proofs::MachineLemmas::no_interface, crate::proofs::MachineLemmas::not_admitted, crate::proofs::MachineLemmas::admitted))]
+fn run_words<M: Machine, K: Keeper>(
     alloc: Global,
     machine: &mut M,
     words: &Words,
@@ -243,11 +237,11 @@ fn perform_files<M: Machine, K: Keeper>(
         (outside M.Output.Sink M.Errors.Sink K.Keeper (M.failed_reads machine.new) outlets.new) result }
 {
     interface(words)?;
-    admit(words, &mut outlets.store)?;
-    perform_admitted(alloc, machine, words, outlets)
+    admit(words, &mut outlets.keeper)?;
+    run_on_files(alloc, machine, words, outlets)
 }
 
-// Prints the text of the help or of the version.
+/// Prints the text of the help or of the version.
 fn show<W: Sink>(text: &Word, output: &mut W) -> Result<u8, Fault>
     ensures { Shows text.now (place (W.contents output.old) (W.failed_calls output.old))
         (place (W.contents output.new) (W.failed_calls output.new)) result }
@@ -256,8 +250,8 @@ fn show<W: Sink>(text: &Word, output: &mut W) -> Result<u8, Fault>
     Ok(0)
 }
 
-// Does what was typed, and answers the status of what came to its end.
-fn do_typed<M: Machine, K: Keeper>(
+/// Does what was typed, and answers the status of what came to its end.
+fn run_typed<M: Machine, K: Keeper>(
     alloc: Global,
     machine: &mut M,
     outlets: &mut Outlets<M::Output, M::Errors, K>,
@@ -267,28 +261,18 @@ fn do_typed<M: Machine, K: Keeper>(
         (outside M.Output.Sink M.Errors.Sink K.Keeper (M.failed_reads machine.old) outlets.old)
         (outside M.Output.Sink M.Errors.Sink K.Keeper (M.failed_reads machine.new) outlets.new) result }
 {
-    let words = asked(alloc, machine)?;
+    let words = typed_words(alloc, machine)?;
     match &words {
         Words::Help(text) => show(text, &mut outlets.output),
         Words::Plain { .. } | Words::Decode { .. } | Words::Frames { .. } => {
-            perform_files(alloc, machine, &words, outlets)
+            run_words(alloc, machine, &words, outlets)
         }
     }
 }
 
-// Tells a fault, where memory for its text is there.
-fn tell<E: Sink>(alloc: Global, fault: &Fault, is_terminal: bool, words: &[&str], errors: &mut E)
-    ensures { IsTold is_terminal fault.now (place (E.contents errors.old) (E.failed_calls errors.old))
-        (place (E.contents errors.new) (E.failed_calls errors.new)) }
-{
-    if let Ok(text) = told(alloc, fault, is_terminal, words) {
-        let _ = write_all(errors, &text);
-    }
-}
-
-// Tells a fault on a machine's errors.
-fn tell_on<M: Machine>(alloc: Global, machine: &M, fault: &Fault, errors: &mut M::Errors)
-    ensures { Tells (M.world machine.now) fault.now
+/// Writes on a machine's errors what is said of a fault.
+fn report_fault<M: Machine>(alloc: Global, machine: &M, fault: &Fault, errors: &mut M::Errors)
+    ensures { ReportsFault (M.world machine.now) fault.now
         (place (M.Errors.contents errors.old) (M.Errors.failed_calls errors.old))
         (place (M.Errors.contents errors.new) (M.Errors.failed_calls errors.new)) }
 {
@@ -299,10 +283,10 @@ fn tell_on<M: Machine>(alloc: Global, machine: &M, fault: &Fault, errors: &mut M
         Vec::new(alloc)
     };
     let words = texts_of(alloc, &typed).unwrap_or(Vec::new(alloc));
-    tell(alloc, fault, is_terminal, &words, errors);
+    write_fault(alloc, fault, is_terminal, &words, errors);
 }
 
-/// Does what was typed, tells a fault, and answers the status that the program ends with.
+/// Does what was typed, reports a fault, and answers the status that the program ends with.
 pub fn run<M: Machine, K: Keeper>(
     alloc: Global,
     machine: &mut M,
@@ -313,10 +297,10 @@ pub fn run<M: Machine, K: Keeper>(
         (outside M.Output.Sink M.Errors.Sink K.Keeper (M.failed_reads machine.new) outlets.new)
         (exit_status result) }
 {
-    match do_typed(alloc, machine, outlets) {
+    match run_typed(alloc, machine, outlets) {
         Ok(status) => ExitCode::from(status),
         Err(fault) => {
-            tell_on(alloc, machine, &fault, &mut outlets.errors);
+            report_fault(alloc, machine, &fault, &mut outlets.errors);
             ExitCode::from(status(&fault))
         }
     }

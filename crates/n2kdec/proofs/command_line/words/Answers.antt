@@ -3,7 +3,7 @@ use Rattle.std.specs.declared.fmt.Display.{output-default}
 use Rattle.clap.specs.Words.{kind_of}
 use Rattle.clap.specs.declared.error.Error.{Error}
 use Rattle.n2kdec.proofs.AskedLemmas.{asked_by_told, asked_by_matches, fails_as_defined, named_by_matches, refused_by_told, refused_by_matches, rows_as_defined, takes_as_defined}
-use Rattle.n2kdec.proofs.words.words.Goals as goal
+use Rattle.n2kdec.proofs.command_line.words.Goals as goal
 
 pub returns-in-Ok-clause-asked : goal.returns-in-Ok-clause-asked
 returns-in-Ok-clause-asked c =

@@ -1,10 +1,10 @@
-use Rattle.std.proofs.Common.{rules, ◌≡◌, ◌∙◌, ap, sym, true, false, Option, None, option_map, ℕ}
+use Rattle.std.proofs.Common.{rules, ◌≡◌, ◌∙◌, ap, sym, true, false, None, option_map, ℕ}
 use Rattle.std.specs.Char.{is_ascii_digit}
 use Rattle.std.specs.List.{list_all}
 use Rattle.std.specs.Result.{result_ok}
 use Rattle.n2k_join.specs.Window.{Window}
 use Rattle.n2kdec.proofs.Lines.{refused}
-use Rattle.n2kdec.proofs.words.window_in.Goals as goal
+use Rattle.n2kdec.proofs.command_line.window_in.Goals as goal
 
 pub returns-in_err-ok : goal.returns-in_err-ok
 returns-in_err-ok c =
