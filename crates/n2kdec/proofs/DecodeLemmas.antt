@@ -139,7 +139,7 @@ module _ (bytes : List ℕ) (o : Options) (handed : Option (List ℕ)) (before a
     report = on.report;
     reported = Appends-trans before.reported errors.text after.reported on.report (summary_text (counts o.window (kind_of t) (entries o.packing (front ++ log))))
         on.reported (subst (λ n. Appends errors.text after.reported (summary_text n)) on.counted closes.1.0.written);
-    told = on.told;
+    told = on.all_reports;
     answered = closes.1.1 ∙ ap exit_status on.counted;
     saved = (errors.text, on.reported, subst (λ s. Replaces keeper kept s errors.text) on.saved closes.0);
     reads_back = subst (λ s. begun t o (Some s) ≡ Ok (state_after t o (front ++ log))) on.saved on.reads_back;

@@ -53,7 +53,7 @@ fn are_digits(text: &[u8]) -> bool
 
 /// The window of a number of lines in decimal digits, where it can be one.
 fn window_in(text: &str) -> Option<Window>
-    ensures { result ≡ option_map (λ lines. record { window = lines; in_order = false }) (lines_in text.now) }
+    ensures { result ≡ option_map (λ lines. record { lines = lines; in_order = false }) (lines_in text.now) }
 {
     if !are_digits(text.as_bytes()) {
         return None;
