@@ -1,8 +1,9 @@
 -- Calls of a folder, one after the other, up to one that fails or is refused.
-use Rattle.std.proofs.Common.{◌≡◌, ◌⊎◌, ℕ, true, false, List, [], ◌∷◌, ◌++◌, Option, None, Some, IfErr, IfSome, OnOk, Result, Ok, Err, is_ok, inl, inr, refl, subst, sym, ap, ◌∙◌}
+use Rattle.std.proofs.Common.{◌≡◌, ◌⊎◌, ℕ, Bool, true, false, List, [], ◌∷◌, ◌++◌, Option, None, Some, IfErr, IfSome, OnOk, Result, Ok, Err, is_ok, inl, inr, refl, subst, sym, ap, ◌∙◌}
 use Rattle.n2kdec.specs.Folder.{Call, Content, Notes, create, created, empty, renamed, sync, turn, write}
 use Rattle.n2kdec.specs.Inner.Placing.{HasPlaced, IsStuck, Makes}
-use Rattle.n2kdec.specs.Replacement.{AreWritingTo, AtomicReplacement, FromTo, KeepsText, Overwrites, Overwriting, PutsInPlace, RefusedReplacement, WritesTo, filled}
+use Rattle.n2kdec.specs.Replacement.{Admits, AtomicReplacement, FromTo, HarmsTarget, HarmsTemp, KeepsText, Overwrites, Overwriting, PutsInPlace, RefusedReplacement, SparesTarget, SparesTemp, filled}
+use Rattle.n2kdec.specs.declared.folder.Kind.{Kind}
 use Rattle.n2kdec.specs.declared.folder.Kind.TheVariants.{Alone, Shared, Special}
 use Rattle.n2kdec.specs.declared.folder.Name.{Name}
 use Rattle.n2kdec.specs.declared.folder.Name.TheVariants.{Target, Temp}
@@ -58,22 +59,6 @@ placed_at_rename a b c d e text (Err why) creating writing syncing renaming = tt
 -- for `place`, at each of its calls
 pub ruleset stuck = (stuck_at_create, stuck_at_write, stuck_at_sync, stuck_at_rename, placed_at_rename)
 
--- ---- what is written to
-
-pub unopened_to : {E : Type 0} (a b : Option (List Call)) (text : List ℕ) (why : E) → Notes a b (empty Target false) → WritesTo {T = Unit {0}} a b text (Err why)
-unopened_to a b text why opening = known _ a b (empty Target false ∷ []) opening (λ before. (empty Target false ∷ [], refl, inl refl))
-
-pub written_to : {T E : Type 0} (a b c : Option (List Call)) (text : List ℕ) (result : Result T E) → Notes a b (empty Target true) → Notes b c (write Target text (is_ok result))
-    → WritesTo a c text result
-written_to a b c text (Ok done) opening writing =
-    known _ a c (write Target text true ∷ empty Target true ∷ []) (noted a b c (empty Target true ∷ []) _ opening writing) (λ before. (write Target text true ∷ empty Target true ∷ [], refl, refl))
-written_to a b c text (Err why) opening writing =
-    known _ a c (write Target text false ∷ empty Target true ∷ []) (noted a b c (empty Target true ∷ []) _ opening writing)
-    (λ before. (write Target text false ∷ empty Target true ∷ [], refl, inr refl))
-
--- for `write_to`
-pub ruleset writes_to = (unopened_to, written_to)
-
 -- ---- by what a name leads to
 
 -- a call before those of which this holds
@@ -103,12 +88,33 @@ kept_shared a b (Some all) name text result turning keeping =
     let all_of = chained (λ before after. (first : Name → Content) → Overwriting first before after text result) a b (Some all) _ turning keeping in
     (all_of.0, all_of.1, (Some Shared, all_of.2))
 
-pub kept_special : {T E : Type 0} (a b c : Option (List Call)) (name text : List ℕ) (result : Result T E) → Notes a b (turn name (Some Special)) → WritesTo b c text result
-    → KeepsText a c name text result
+pub kept_special : {T E : Type 0} (a b c : Option (List Call)) (name text : List ℕ) (result : Result T E) → Notes a b (turn name (Some Special))
+    → Notes b c (write Target text (is_ok result)) → KeepsText a c name text result
 kept_special a b None name text result turning keeping = tt
 kept_special a b (Some all) name text result turning keeping =
-    let all_of = chained (λ before after. (made : List Call) × (after ≡ made ++ before) × AreWritingTo text result made) a b (Some all) _ turning keeping in
+    let all_of = chained (λ before after. after ≡ write Target text (is_ok result) ∷ before) a b (Some all) _ turning keeping in
     (all_of.0, all_of.1, (Some Special, all_of.2))
 
 -- for `keep_text`
 pub ruleset keeps = (kept_nowhere, kept_alone, kept_shared, kept_special)
+
+-- ---- whether a state may be kept
+
+module _ (leads : Name → List ℕ → Option Bool) (a b : Option (List Call)) (name : List ℕ) (table log state : Option (List ℕ)) where
+  pub unturned : {E : Type 0} (why : E) → Notes a b (turn name None) → Admits {T = Unit {0}} leads a b name table log state (Err why)
+  unturned why turning = (None, turning, tt)
+
+  pub spared : {T : Type 0} (E : Type 0) (kind : Kind) (value : T) → Notes a b (turn name (Some kind)) → SparesTarget (leads Target) kind table log
+      → SparesTemp (leads Temp) table log state → Admits {T = T} {E = E} leads a b name table log state (Ok value)
+  spared E kind value turning target temp = (Some kind, turning, (target, temp))
+
+  pub target_harmed : {E : Type 0} (kind : Kind) (why : E) → Notes a b (turn name (Some kind)) → HarmsTarget (leads Target) kind table log
+      → Admits {T = Unit {0}} {E = E} leads a b name table log state (Err why)
+  target_harmed kind why turning harmed = (Some kind, turning, inl harmed)
+
+  pub temp_harmed : {E : Type 0} (kind : Kind) (why : E) → Notes a b (turn name (Some kind)) → HarmsTemp (leads Temp) table log state
+      → Admits {T = Unit {0}} {E = E} leads a b name table log state (Err why)
+  temp_harmed kind why turning harmed = (Some kind, turning, inr harmed)
+
+-- for `admit_to`
+pub ruleset admits = (unturned, spared, target_harmed, temp_harmed)

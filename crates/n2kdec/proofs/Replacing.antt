@@ -2,7 +2,7 @@
 use Rattle.std.proofs.Common.{◌≡◌, ◌⊎◌, ◌<◌, List, ℕ, Bool, true, false, [], ◌∷◌, ◌++◌, Option, None, Some, Result, Ok, Err, is_ok, refl, inl, inr, subst, ap, ◌∙◌, ⊎_elim, arith}
 use Rattle.n2kdec.specs.Folder.{Call, Content, MayBeLeft, MayHave, Notes, create, empty, failures, refused, remove, rename, sync, sync_folder, write}
 use Rattle.n2kdec.specs.Inner.Placing.{HasPlaced, IsStuck, Makes, placed}
-use Rattle.n2kdec.specs.Replacement.{AreRefused, AreWritingOver, AtEachMoment, AtomicReplacement, HasOldOrNew, IsGivenUp, Overwrites, Overwriting, PutsInPlace, RefusedReplacement, WritesTo, filled}
+use Rattle.n2kdec.specs.Replacement.{AreRefused, AreWritingOver, AtEachMoment, AtomicReplacement, HasOldOrNew, IsGivenUp, Overwrites, Overwriting, PutsInPlace, RefusedReplacement, filled}
 use Rattle.n2kdec.specs.declared.folder.Name.{Name}
 use Rattle.n2kdec.specs.declared.folder.Name.TheVariants.{Target, Temp}
 use Rattle.n2kdec.specs.declared.folder.Unplaced.{Unplaced}
@@ -208,28 +208,29 @@ refused_in old between taken new text result removed why taking over stuck is =
 
 -- ---- a text over another
 
--- what was written to is known
-poured : {T : Type 0} (E : Type 0) (a b : Option (List Call)) (text : List ℕ) (value : T) → WritesTo {E = E} a b text (Ok value)
-    → Makes a b (write Target text true ∷ empty Target true ∷ [])
-poured E a None text value to = tt
-poured E a (Some after) text value (before, was, (made, is, are)) = (before, was, is ∙ ap (λ these. these ++ before) are)
+pub unopened_over : {E : Type 0} (a b : Option (List Call)) (text : List ℕ) (why : E) → Notes a b (empty Target false)
+    → Overwrites {T = Unit {0}} a b text (Err why)
+unopened_over a b text why opening = known _ a b (empty Target false ∷ []) opening (λ before first. broken_off first before text why _ (inl refl))
 
-pub broken_over : {E : Type 0} (a b : Option (List Call)) (text : List ℕ) (why : E) → WritesTo {T = Unit {0}} a b text (Err why) → Overwrites {T = Unit {0}} a b text (Err why)
-broken_over a None text why to = tt
-broken_over a (Some after) text why (before, was, (made, is, inl are)) =
-    (before, was, λ first. record { made = made; calls = is; order = inl are; found = tt; left = tt })
-broken_over a (Some after) text why (before, was, (made, is, inr are)) =
-    (before, was, λ first. record { made = made; calls = is; order = inr (inl are); found = tt; left = tt })
+poured : (a b c : Option (List Call)) (text : List ℕ) (done : Bool) → Notes a b (empty Target true) → Notes b c (write Target text done)
+    → Makes a c (write Target text done ∷ empty Target true ∷ [])
+poured a b c text done opening writing = noted a b c (empty Target true ∷ []) _ opening writing
 
-pub synced_over : {E U : Type 0} (a b c : Option (List Call)) (text : List ℕ) (value : U) (result : Result (Unit {0}) E) → WritesTo {E = E} a b text (Ok value)
-    → Notes b c (sync Target (is_ok result)) → Overwrites a c text result
-synced_over {E} a b c text value (Ok all) to last_sync =
-    known _ a c (sync Target true ∷ write Target text true ∷ empty Target true ∷ [])
-    (noted a b c (write Target text true ∷ empty Target true ∷ []) _ (poured E a b text value to) last_sync) (λ before first. overwritten first before text all)
-synced_over {E} a b c text value (Err why) to last_sync =
-    known _ a c (sync Target false ∷ write Target text true ∷ empty Target true ∷ [])
-    (noted a b c (write Target text true ∷ empty Target true ∷ []) _ (poured E a b text value to) last_sync)
+pub unwritten_over : {E : Type 0} (a b c : Option (List Call)) (text : List ℕ) (why : E) → Notes a b (empty Target true) → Notes b c (write Target text false)
+    → Overwrites {T = Unit {0}} a c text (Err why)
+unwritten_over a b c text why opening writing =
+    known _ a c (write Target text false ∷ empty Target true ∷ []) (poured a b c text false opening writing)
+    (λ before first. broken_off first before text why _ (inr (inl refl)))
+
+pub synced_over : {E : Type 0} (a b c d : Option (List Call)) (text : List ℕ) (result : Result (Unit {0}) E) → Notes a b (empty Target true)
+    → Notes b c (write Target text true) → Notes c d (sync Target (is_ok result)) → Overwrites a d text result
+synced_over a b c d text (Ok all) opening writing syncing =
+    known _ a d (sync Target true ∷ write Target text true ∷ empty Target true ∷ [])
+    (noted a c d (write Target text true ∷ empty Target true ∷ []) _ (poured a b c text true opening writing) syncing) (λ before first. overwritten first before text all)
+synced_over a b c d text (Err why) opening writing syncing =
+    known _ a d (sync Target false ∷ write Target text true ∷ empty Target true ∷ [])
+    (noted a c d (write Target text true ∷ empty Target true ∷ []) _ (poured a b c text true opening writing) syncing)
     (λ before first. broken_off first before text why _ (inr (inr refl)))
 
 -- for `write_over`
-pub ruleset overwrites = (broken_over, synced_over)
+pub ruleset overwrites = (unopened_over, unwritten_over, synced_over)

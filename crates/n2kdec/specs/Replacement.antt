@@ -1,7 +1,7 @@
 -- How a text comes to a name: it takes the place of another, so that at each moment one of the two is there, whole; or,
 -- where the folder does not allow that, it is written over the file itself.
-use Rattle.std.specs.Prelude.{◌≡◌, ◌⊎◌, ◌<◌, ◌++◌, ℕ, Bool, true, false, List, [], ◌∷◌, Option, Some, None, IfSome, codes, Result, Ok, Err, IsErr, OnOk, MatchResult}
-use Rattle.n2kdec.specs.Folder.{Call, Content, FileMayBeLeft, MayBeLeft, MayHave, create, cut_short, empty, failures, refused, remove, sync, turn, write}
+use Rattle.std.specs.Prelude.{◌≡◌, ◌⊎◌, ◌<◌, ◌++◌, ℕ, Bool, true, false, List, [], ◌∷◌, Option, Some, None, IfSome, codes, Result, Ok, Err, IsErr, OnOk, MatchResult, is_ok}
+use Rattle.n2kdec.specs.Folder.{Call, Content, FileMayBeLeft, MayBeLeft, MayHave, Notes, create, cut_short, empty, failures, refused, remove, sync, turn, write}
 use Rattle.n2kdec.specs.declared.folder.Kind.{Kind}
 use Rattle.n2kdec.specs.declared.folder.Kind.TheVariants.{Alone, Shared, Special}
 use Rattle.n2kdec.specs.declared.folder.Name.{Name}
@@ -42,13 +42,7 @@ pub record AtomicReplacement {T E : Type 0} (first : Name → Content) (before a
 
 -- ---- a text over another
 
--- The calls by which a text is written to the file of a name, the last one first, up to the first that failed.
-abbrev pub AreWritingTo : {T E : Type 0} → List ℕ → Result T E → List Call → Type 0
-AreWritingTo text (Ok done) made = made ≡ write Target text true ∷ empty Target true ∷ []
-AreWritingTo text (Err why) made =
-    (made ≡ empty Target false ∷ []) ⊎ (made ≡ write Target text false ∷ empty Target true ∷ [])
-
--- The same where the file is synced then.
+-- The calls by which a text is written over what the file of a name has, the last one first, up to the first that failed.
 abbrev pub AreWritingOver : {T E : Type 0} → List ℕ → Result T E → List Call → Type 0
 AreWritingOver text (Ok done) made = made ≡ sync Target true ∷ write Target text true ∷ empty Target true ∷ []
 AreWritingOver text (Err why) made =
@@ -102,9 +96,9 @@ abbrev pub Overwrites : {T E : Type 0} → Option (List Call) → Option (List C
 Overwrites old new text result =
     FromTo old new (λ before after. (first : Name → Content) → Overwriting first before after text result)
 
+-- The text is written behind what the file has, by this one call.
 abbrev pub WritesTo : {T E : Type 0} → Option (List Call) → Option (List Call) → List ℕ → Result T E → Type 0
-WritesTo old new text result =
-    FromTo old new (λ before after. (made : List Call) × (after ≡ made ++ before) × AreWritingTo text result made)
+WritesTo old new text result = Notes old new (write Target text (is_ok result))
 
 -- By what a name leads to: a regular file of one name, or none, is replaced, one of several is written over, and what
 -- is no regular file is written to. Where that can't be found out nothing is done.
@@ -133,11 +127,60 @@ abbrev pub IsApart : (List ℕ → Option Bool) → Option (List ℕ) → Type 0
 IsApart leads None = Unit {0}
 IsApart leads (Some path) = IfSome (leads path) (λ known. known ≡ false)
 
--- The new file is none that is read, be it the table, the log or the state to go on from; and the name's own file, in
--- the place of which the new one comes, is not the table and not the log.
-pub record HarmsNone (leads : Name → List ℕ → Option Bool) (table log state : Option (List ℕ)) : Type 0 where
-  pub own_is_no_table : IsApart (leads Target) table
-  pub own_is_no_log : IsApart (leads Target) log
-  pub new_is_no_table : IsApart (leads Temp) table
-  pub new_is_no_log : IsApart (leads Temp) log
-  pub new_is_no_state : IsApart (leads Temp) state
+-- a path is given, and it is not known to lead elsewhere
+abbrev pub IsMet : (List ℕ → Option Bool) → Option (List ℕ) → Type 0
+IsMet leads None = ⊥
+IsMet leads (Some path) = IfSome (leads path) (λ known. known ≡ true)
+
+-- standard output and standard error are not known to go to the file
+pub record IsNoOutput (leads : List ℕ → Option Bool) : Type 0 where
+  pub output : IsApart leads (Some (codes "/dev/stdout"))
+  pub errors : IsApart leads (Some (codes "/dev/stderr"))
+
+abbrev pub IsOutput : (List ℕ → Option Bool) → Type 0
+IsOutput leads = IsMet leads (Some (codes "/dev/stdout")) ⊎ IsMet leads (Some (codes "/dev/stderr"))
+
+-- a text that is kept there takes the place of what the file has: what is special is written to behind that
+abbrev pub IsReplaced : Kind → Type 0
+IsReplaced Special = ⊥
+IsReplaced _ = Unit {0}
+
+-- The name's own file is not the table and not the log; nor an output, if it is replaced.
+pub record SparesTarget (leads : List ℕ → Option Bool) (kind : Kind) (table log : Option (List ℕ)) : Type 0 where
+  pub no_table : IsApart leads table
+  pub no_log : IsApart leads log
+  pub no_output : IsReplaced kind → IsNoOutput leads
+
+abbrev pub HarmsTarget : (List ℕ → Option Bool) → Kind → Option (List ℕ) → Option (List ℕ) → Type 0
+HarmsTarget leads kind table log = IsMet leads table ⊎ IsMet leads log ⊎ (IsReplaced kind × IsOutput leads)
+
+-- The new file is none that is read, be it the table, the log or the state to go on from, and no output.
+pub record SparesTemp (leads : List ℕ → Option Bool) (table log state : Option (List ℕ)) : Type 0 where
+  pub no_table : IsApart leads table
+  pub no_log : IsApart leads log
+  pub no_state : IsApart leads state
+  pub no_output : IsNoOutput leads
+
+abbrev pub HarmsTemp : (List ℕ → Option Bool) → Option (List ℕ) → Option (List ℕ) → Option (List ℕ) → Type 0
+HarmsTemp leads table log state = IsMet leads table ⊎ IsMet leads log ⊎ IsMet leads state ⊎ IsOutput leads
+
+-- What is read and printed to stays as it is, where a text is kept in a file of this kind.
+abbrev pub HarmsNone : (Name → List ℕ → Option Bool) → Kind → Option (List ℕ) → Option (List ℕ) → Option (List ℕ) → Type 0
+HarmsNone leads kind table log state = SparesTarget (leads Target) kind table log × SparesTemp (leads Temp) table log state
+
+abbrev pub HarmsSome : (Name → List ℕ → Option Bool) → Kind → Option (List ℕ) → Option (List ℕ) → Option (List ℕ) → Type 0
+HarmsSome leads kind table log state = HarmsTarget (leads Target) kind table log ⊎ HarmsTemp (leads Temp) table log state
+
+-- it is refused only where the kind of the file could not be found out, or something would be harmed
+abbrev pub IsJudged : {T E : Type 0} → Result T E → (Name → List ℕ → Option Bool) → Option Kind → Option (List ℕ) → Option (List ℕ)
+    → Option (List ℕ) → Type 0
+IsJudged (Ok done) leads None table log state = ⊥
+IsJudged (Ok done) leads (Some kind) table log state = HarmsNone leads kind table log state
+IsJudged (Err why) leads None table log state = Unit {0}
+IsJudged (Err why) leads (Some kind) table log state = HarmsSome leads kind table log state
+
+-- One call is made: the folder is turned to this name, and the run judged by what that leads to.
+abbrev pub Admits : {T E : Type 0} → (Name → List ℕ → Option Bool) → Option (List Call) → Option (List Call) → List ℕ
+    → Option (List ℕ) → Option (List ℕ) → Option (List ℕ) → Result T E → Type 0
+Admits leads old new name table log state result =
+    (kind : Option Kind) × Notes old new (turn name kind) × IsJudged result leads kind table log state

@@ -1,6 +1,6 @@
 //! How a text comes to a name: it is written beside the old one and takes its name, or it is written over it.
 ghost use Rattle.std.specs.Prelude.{IfErr, OnOk};
-ghost use Rattle.n2kdec.specs.Replacement.{KeepsText, Overwrites, PutsInPlace, WritesTo};
+ghost use Rattle.n2kdec.specs.Replacement.{KeepsText, Overwrites, PutsInPlace};
 ghost use Rattle.n2kdec.specs.Inner.Placing.{HasPlaced, IsStuck};
 
 #[cfg(test)]
@@ -23,21 +23,13 @@ fn place<F: Folder>(folder: &mut F, text: &[u8]) -> Result<(), Unplaced>
     folder.rename(Name::Temp, Name::Target)
 }
 
-/// Writes the text to the file of the name.
-#[tactic(auto, using(crate::proofs::Placing::writes_to))]
-fn write_to<F: Folder>(folder: &mut F, text: &[u8]) -> Result<(), Failed>
-    ensures { WritesTo (F.calls folder.old) (F.calls folder.new) text.now result }
-{
-    folder.empty(Name::Target)?;
-    folder.write(Name::Target, text)
-}
-
 /// Writes the text over what the file of the name has.
 #[tactic(auto, using(crate::proofs::Replacing::overwrites))]
 fn write_over<F: Folder>(folder: &mut F, text: &[u8]) -> Result<(), Failed>
     ensures { Overwrites (F.calls folder.old) (F.calls folder.new) text.now result }
 {
-    write_to(folder, text)?;
+    folder.empty(Name::Target)?;
+    folder.write(Name::Target, text)?;
     folder.sync(Name::Target)
 }
 
@@ -62,7 +54,7 @@ pub fn replace<F: Folder>(folder: &mut F, text: &[u8]) -> Result<(), Failed>
 }
 
 /// Keeps a text in the file that a name leads to: one that has other names too is written over, and what is no regular
-/// file, or stands for an open one, is written to.
+/// file, or stands for an open one, is written to behind what it has.
 #[tactic(auto, using(crate::proofs::Placing::keeps))]
 pub fn keep_text<F: Folder>(folder: &mut F, name: &str, text: &[u8]) -> Result<(), Failed>
     ensures { KeepsText (F.calls folder.old) (F.calls folder.new) name.now text.now result }
@@ -70,6 +62,6 @@ pub fn keep_text<F: Folder>(folder: &mut F, name: &str, text: &[u8]) -> Result<(
     match folder.turn(name)? {
         Kind::Alone => replace(folder, text),
         Kind::Shared => write_over(folder, text),
-        Kind::Special => write_to(folder, text),
+        Kind::Special => folder.write(Name::Target, text),
     }
 }

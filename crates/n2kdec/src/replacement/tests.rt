@@ -132,12 +132,15 @@ fn a_failure_where_the_folder_refuses_is_told(rt: HostRuntime) -> Result<(), Fai
     Ok(())
 }
 
-/// What is no regular file is written to, and nothing is synced.
+/// What is no regular file is written to behind what it has, and nothing is synced.
 #[test]
 fn what_is_no_regular_file_is_written_to(rt: HostRuntime) -> Result<(), Fail> {
-    let mut folder = MemoryFolder::new(rt.alloc(), Kind::Special, None, None)?;
-    assert!(rt; keep_text(&mut folder, "boat", NEW).is_ok());
-    assert_eq!(rt; folder.left(Name::Target, Extent::Whole), Some(NEW));
-    assert_eq!(rt; folder.calls(), 3);
+    let mut folder = MemoryFolder::new(rt.alloc(), Kind::Special, Some(b"notes, "), None)?;
+    assert!(rt; keep_text(&mut folder, "boat", b"state").is_ok());
+    assert_eq!(rt;
+        folder.left(Name::Target, Extent::Whole),
+        Some(b"notes, state".as_slice())
+    );
+    assert_eq!(rt; folder.calls(), 2);
     Ok(())
 }
