@@ -1,7 +1,7 @@
 -- How a text comes to a name: it takes the place of another, so that at each moment one of the two is there, whole; or,
 -- where the folder does not allow that, it is written over the file itself.
 use Rattle.std.specs.Prelude.{◌≡◌, ◌⊎◌, ◌<◌, ◌++◌, ℕ, Bool, true, false, List, [], ◌∷◌, Option, Some, None, IfSome, codes, Result, Ok, Err, IsErr, OnOk, MatchResult, is_ok}
-use Rattle.n2kdec.specs.Folder.{Call, Content, FileMayBeLeft, MayBeLeft, MayHave, Notes, create, cut_short, empty, failures, refused, remove, sync, turn, write}
+use Rattle.n2kdec.specs.Folder.{Call, Content, FileMayBeLeft, MayBeLeft, MayHave, Notes, create, cut_short, empty, failures, refused, remove, rename, sync, sync_folder, turn, write}
 use Rattle.n2kdec.specs.declared.folder.Kind.{Kind}
 use Rattle.n2kdec.specs.declared.folder.Kind.TheVariants.{Alone, Shared, Special}
 use Rattle.n2kdec.specs.declared.folder.Name.{Name}
@@ -32,11 +32,35 @@ pub record IsGivenUp (first : Name → Content) (after made : List Call) : Type 
   pub failed : 0 < failures made
   pub beside : (c : Content) → MayHave first after Temp c → (c ≡ None) ⊎ (1 < failures made)
 
--- These calls were made. At each moment the name has the old text or the new one; after Ok the new one.
+-- the new file has the text
+abbrev pub filled : List ℕ → List Call
+filled text = write Temp text true ∷ create Temp true ∷ []
+
+-- and then the name
+abbrev pub placed : List ℕ → List Call
+placed text = rename Temp Target true ∷ sync Temp true ∷ filled text
+
+-- The calls by which the new file gets the text and is synced, the last one first, where one of them failed.
+abbrev pub AreUnfilled : List ℕ → List Call → Type 0
+AreUnfilled text made =
+    (made ≡ create Temp false ∷ [])
+    ⊎ (made ≡ write Temp text false ∷ create Temp true ∷ [])
+    ⊎ (made ≡ sync Temp false ∷ filled text)
+
+-- The calls of a replacement. Where one of those that place the text failed, the new file was to be taken away.
+abbrev pub AreReplacing : {T E : Type 0} → List ℕ → Result T E → List Call → Type 0
+AreReplacing text (Ok done) made = made ≡ sync_folder true ∷ placed text
+AreReplacing text (Err why) made =
+    (made ≡ sync_folder false ∷ placed text)
+    ⊎ ((gone : Bool) × (tried : List Call) × (made ≡ remove Temp gone ∷ tried)
+    × (AreUnfilled text tried ⊎ (tried ≡ rename Temp Target false ∷ sync Temp true ∷ filled text)))
+
+-- These calls were made, and no other. At each moment the name has the old text or the new one; after Ok the new one.
 pub record AtomicReplacement {T E : Type 0} (first : Name → Content) (before after : List Call) (text : List ℕ)
     (result : Result T E) : Type 0 where
   pub made : List Call
   pub calls : after ≡ made ++ before
+  pub order : AreReplacing text result made
   pub each_moment : AtEachMoment (HasOldOrNew first before text) made before
   pub answer : MatchResult result (λ _. HasNew first after made text) (λ _. IsGivenUp first after made)
 
@@ -50,35 +74,55 @@ AreWritingOver text (Err why) made =
     ⊎ (made ≡ write Target text false ∷ empty Target true ∷ [])
     ⊎ (made ≡ sync Target false ∷ write Target text true ∷ empty Target true ∷ [])
 
--- The text was written over what the file of the name has, by these calls and no other, so that its names stay. After
--- Ok the name has it, and as long as the file has the name a cut leaves it. Until then a cut may leave any text, and so
--- may a failure.
+-- After these calls a name has what it had before them, and so it has after a cut.
+pub record IsAsBefore (first : Name → Content) (before : List Call) (name : Name) (calls : List Call) : Type 0 where
+  pub found : (c : Content) → MayHave first calls name c → MayHave first before name c
+  pub left : (c : Content) → MayBeLeft first calls name c → MayBeLeft first before name c
+
+-- the new file is taken away once the text is written over the old one, and not before
+abbrev pub EndsWith : {T E : Type 0} → Result T E → List Call → List Call → Type 0
+EndsWith (Ok done) written after = (gone : Bool) × (after ≡ remove Temp gone ∷ written)
+EndsWith (Err why) written after = after ≡ written
+
+-- The text was written over what the file of the name has, by these calls and no other, so that its names stay; until
+-- then the new file stays as it is. After Ok the name has the text, and as long as the file has the name a cut leaves
+-- it, and nothing stands beside it unless it could not be taken away. Until then a cut may leave any text under the
+-- name, and so may a failure.
 pub record Overwriting {T E : Type 0} (first : Name → Content) (before after : List Call) (text : List ℕ)
     (result : Result T E) : Type 0 where
   pub made : List Call
-  pub calls : after ≡ made ++ before
   pub order : AreWritingOver text result made
+  pub calls : EndsWith result (made ++ before) after
+  pub new_stays : AtEachMoment (IsAsBefore first before Temp) made before
   pub found : OnOk result ((c : Content) → MayHave first after Target c → c ≡ Some text)
   pub left : OnOk result ((kept : List ℕ) → FileMayBeLeft first after Target kept → kept ≡ text)
+  pub beside : OnOk result ((c : Content) → MayHave first after Temp c
+      → (c ≡ None) ⊎ (after ≡ remove Temp false ∷ made ++ before))
 
--- the new file has the text
-abbrev pub filled : List ℕ → List Call
-filled text = write Temp text true ∷ create Temp true ∷ []
+-- Why the new file does not come to the name, though no call failed: the folder did not allow it, or that it takes the
+-- name; or the file has other names, and the new one only shows that there is room.
+abbrev pub AreRefused : Kind → List ℕ → List Call → Type 0
+AreRefused Alone text made = (made ≡ refused ∷ []) ⊎ (made ≡ refused ∷ sync Temp true ∷ filled text)
+AreRefused Shared text made = (made ≡ refused ∷ []) ⊎ (made ≡ sync Temp true ∷ filled text)
+AreRefused Special text made = ⊥
 
--- The folder did not allow the new file, or that it takes the name; it was to be taken away then.
-abbrev pub AreRefused : List ℕ → List Call → Type 0
-AreRefused text made =
-    (gone : Bool) × ((made ≡ remove Temp gone ∷ refused ∷ [])
-    ⊎ (made ≡ remove Temp gone ∷ refused ∷ sync Temp true ∷ filled text))
-
--- The folder refused, and until then the name had the old text; then the text was written over that.
-pub record RefusedReplacement {T E : Type 0} (first : Name → Content) (before after : List Call) (text : List ℕ)
+-- Until then the name had the old text; then the text was written over that.
+pub record RefusedReplacement {T E : Type 0} (kind : Kind) (first : Name → Content) (before after : List Call) (text : List ℕ)
     (result : Result T E) : Type 0 where
   pub tried : List Call
-  pub refusal : AreRefused text tried
-  pub each_moment : AtEachMoment (HasOldOrNew first before text) tried before
-  pub beside : (c : Content) → MayHave first (tried ++ before) Temp c → (c ≡ None) ⊎ (0 < failures tried)
+  pub refusal : AreRefused kind text tried
+  pub each_moment : AtEachMoment (IsAsBefore first before Target) tried before
   pub overwriting : Overwriting first (tried ++ before) after text result
+
+-- A call failed while the new file was made, and the name has the old text at each moment.
+pub record LeftAlone {T E : Type 0} (first : Name → Content) (before after : List Call) (text : List ℕ) (result : Result T E) : Type 0 where
+  pub tried : List Call
+  pub order : AreUnfilled text tried
+  pub gone : Bool
+  pub calls : after ≡ remove Temp gone ∷ tried ++ before
+  pub each_moment : AtEachMoment (IsAsBefore first before Target) (remove Temp gone ∷ tried) before
+  pub beside : (c : Content) → MayHave first after Temp c → (c ≡ None) ⊎ (gone ≡ false)
+  pub answer : IsErr result
 
 -- ---- where the calls are known
 
@@ -90,7 +134,13 @@ FromTo old new P = IfSome new (λ after. (before : List Call) × (old ≡ Some b
 abbrev pub PutsInPlace : {T E : Type 0} → Option (List Call) → Option (List Call) → List ℕ → Result T E → Type 0
 PutsInPlace old new text result =
     FromTo old new (λ before after. (first : Name → Content) → AtomicReplacement first before after text result
-    ⊎ RefusedReplacement first before after text result)
+    ⊎ RefusedReplacement Alone first before after text result)
+
+-- The text is written over that of a file with other names, once a new file shows that there is room for it.
+abbrev pub KeepsNames : {T E : Type 0} → Option (List Call) → Option (List Call) → List ℕ → Result T E → Type 0
+KeepsNames old new text result =
+    FromTo old new (λ before after. (first : Name → Content) → LeftAlone first before after text result
+    ⊎ RefusedReplacement Shared first before after text result)
 
 abbrev pub Overwrites : {T E : Type 0} → Option (List Call) → Option (List Call) → List ℕ → Result T E → Type 0
 Overwrites old new text result =
@@ -106,7 +156,7 @@ abbrev pub KeepsBy : {T E : Type 0} → Option Kind → Option (List Call) → O
     → Type 0
 KeepsBy None old new text result = (new ≡ old) × IsErr result
 KeepsBy (Some Alone) old new text result = PutsInPlace old new text result
-KeepsBy (Some Shared) old new text result = Overwrites old new text result
+KeepsBy (Some Shared) old new text result = KeepsNames old new text result
 KeepsBy (Some Special) old new text result = WritesTo old new text result
 
 -- This text comes so to the file to which this name leads.
