@@ -195,14 +195,18 @@ abbrev pub IsReplaced : Kind → Type 0
 IsReplaced Special = ⊥
 IsReplaced _ = Unit {0}
 
--- The name's own file is not the table and not the log; nor an output, if it is replaced.
+-- The name's own file is not the table, not the log and not standard error, to which the summary goes later; nor
+-- standard output, if it is replaced.
 pub record SparesTarget (leads : List ℕ → Option Bool) (kind : Kind) (table log : Option (List ℕ)) : Type 0 where
   pub no_table : IsApart leads table
   pub no_log : IsApart leads log
-  pub no_output : IsReplaced kind → IsNoOutput leads
+  pub no_errors : IsApart leads (Some (codes "/dev/stderr"))
+  pub no_output : IsReplaced kind → IsApart leads (Some (codes "/dev/stdout"))
 
 abbrev pub HarmsTarget : (List ℕ → Option Bool) → Kind → Option (List ℕ) → Option (List ℕ) → Type 0
-HarmsTarget leads kind table log = IsMet leads table ⊎ IsMet leads log ⊎ (IsReplaced kind × IsOutput leads)
+HarmsTarget leads kind table log =
+    IsMet leads table ⊎ IsMet leads log ⊎ IsMet leads (Some (codes "/dev/stderr"))
+    ⊎ (IsReplaced kind × IsMet leads (Some (codes "/dev/stdout")))
 
 -- The new file is none that is read, be it the table, the log or the state to go on from, and no output.
 pub record SparesTemp (leads : List ℕ → Option Bool) (table log state : Option (List ℕ)) : Type 0 where

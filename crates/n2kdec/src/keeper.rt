@@ -65,7 +65,8 @@ fn is_no_output<F: Folder>(folder: &F, name: Name) -> bool
     is_apart(folder, name, Some(STANDARD_OUTPUT)) && is_apart(folder, name, Some(STANDARD_ERROR))
 }
 
-/// Whether the name's own file, which is of this kind, is not the table, not the log and not an output.
+/// Whether the name's own file, which is of this kind, is not the table, not the log and not an output. Standard output
+/// may be, where the state comes behind what it has; the summary is written to standard error later.
 fn spares_target<F: Folder>(folder: &F, kind: Kind, table: Option<&str>, log: Option<&str>) -> bool
     ensures spared { result ≡ true → SparesTarget (F.leads folder.now Target) kind
         (option_map (λ path. path.now) table.entry) (option_map (λ path. path.now) log.entry) }
@@ -74,9 +75,10 @@ fn spares_target<F: Folder>(folder: &F, kind: Kind, table: Option<&str>, log: Op
 {
     is_apart(folder, Name::Target, table)
         && is_apart(folder, Name::Target, log)
+        && is_apart(folder, Name::Target, Some(STANDARD_ERROR))
         && match kind {
             Kind::Special => true,
-            Kind::Alone | Kind::Shared => is_no_output(folder, Name::Target),
+            Kind::Alone | Kind::Shared => { is_apart(folder, Name::Target, Some(STANDARD_OUTPUT)) }
         }
 }
 
