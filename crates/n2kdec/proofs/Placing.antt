@@ -1,8 +1,9 @@
 -- Calls of a folder, one after the other, up to one that fails or is refused.
-use Rattle.std.proofs.Common.{◌≡◌, ◌⊎◌, ℕ, true, false, List, [], ◌∷◌, ◌++◌, Option, None, Some, IfErr, IfSome, OnOk, Result, Ok, Err, is_ok, inl, inr, refl, subst, sym, ap, ◌∙◌}
+use Rattle.std.proofs.Common.{◌≡◌, ◌⊎◌, ℕ, Bool, true, false, List, [], ◌∷◌, ◌++◌, Option, None, Some, IfErr, IfSome, OnOk, Result, Ok, Err, is_ok, inl, inr, refl, subst, sym, ap, ◌∙◌}
 use Rattle.n2kdec.specs.Folder.{Call, Content, Notes, create, created, empty, renamed, sync, turn, write}
-use Rattle.n2kdec.specs.Inner.Placing.{HasPlaced, IsStuck, Makes}
-use Rattle.n2kdec.specs.Replacement.{AreWritingTo, AtomicReplacement, FromTo, KeepsText, Overwrites, Overwriting, PutsInPlace, RefusedReplacement, WritesTo, filled}
+use Rattle.n2kdec.specs.Inner.Placing.{HasFilled, HasPlaced, IsStuck, IsUnfilled, Makes}
+use Rattle.n2kdec.specs.Replacement.{Admits, AtomicReplacement, FromTo, HarmsTarget, HarmsTemp, KeepsNames, KeepsText, LeftAlone, PutsInPlace, RefusedReplacement, SparesTarget, SparesTemp, filled}
+use Rattle.n2kdec.specs.declared.folder.Kind.{Kind}
 use Rattle.n2kdec.specs.declared.folder.Kind.TheVariants.{Alone, Shared, Special}
 use Rattle.n2kdec.specs.declared.folder.Name.{Name}
 use Rattle.n2kdec.specs.declared.folder.Name.TheVariants.{Target, Temp}
@@ -24,55 +25,47 @@ known P old (Some after) made (before, was, is) holds = (before, was, subst (λ 
 
 -- ---- a new file
 
-pub stuck_at_create : (a b : Option (List Call)) (text : List ℕ) (why : Unplaced) → Notes a b (created {T = Unit {0}} Temp (Err why)) → IsStuck a b text why
-stuck_at_create a b text Refused creating = inl creating
-stuck_at_create a b text Failed creating = inl creating
+pub unfilled_at_create : (a b : Option (List Call)) (text : List ℕ) (why : Unplaced) → Notes a b (created {T = Unit {0}} Temp (Err why)) → IsUnfilled a b text why
+unfilled_at_create a b text Refused creating = creating
+unfilled_at_create a b text Failed creating = inl creating
 
-pub stuck_at_write : (a b c : Option (List Call)) (text : List ℕ) (why : Unplaced) → why ≡ Failed → Notes a b (create Temp true) → Notes b c (write Temp text false)
-    → IsStuck a c text why
-stuck_at_write a b c text why is creating writing =
-    subst (λ w. IsStuck a c text w) (sym is) (inr (inl (noted a b c (create Temp true ∷ []) _ creating writing)))
+pub unfilled_at_write : (a b c : Option (List Call)) (text : List ℕ) (why : Unplaced) → why ≡ Failed → Notes a b (create Temp true) → Notes b c (write Temp text false)
+    → IsUnfilled a c text why
+unfilled_at_write a b c text why is creating writing =
+    subst (λ w. IsUnfilled a c text w) (sym is) (inr (inl (noted a b c (create Temp true ∷ []) _ creating writing)))
 
 synced : (a b c d : Option (List Call)) (text : List ℕ) (done : _) → Notes a b (create Temp true) → Notes b c (write Temp text true) → Notes c d (sync Temp done) → Makes a d (sync Temp done ∷ filled text)
 synced a b c d text done creating writing syncing = noted a c d (filled text) _ (noted a b c (create Temp true ∷ []) _ creating writing) syncing
 
-pub stuck_at_sync : (a b c d : Option (List Call)) (text : List ℕ) (why : Unplaced) → why ≡ Failed → Notes a b (create Temp true) → Notes b c (write Temp text true)
-    → Notes c d (sync Temp false) → IsStuck a d text why
-stuck_at_sync a b c d text why is creating writing syncing =
-    subst (λ w. IsStuck a d text w) (sym is) (inr (inr (inl (synced a b c d text false creating writing syncing))))
+pub unfilled_at_sync : (a b c d : Option (List Call)) (text : List ℕ) (why : Unplaced) → why ≡ Failed → Notes a b (create Temp true) → Notes b c (write Temp text true)
+    → Notes c d (sync Temp false) → IsUnfilled a d text why
+unfilled_at_sync a b c d text why is creating writing syncing =
+    subst (λ w. IsUnfilled a d text w) (sym is) (inr (inr (synced a b c d text false creating writing syncing)))
 
-pub stuck_at_rename : {T : Type 0} (a b c d e : Option (List Call)) (text : List ℕ) (result : Result T Unplaced) → Notes a b (create Temp true) → Notes b c (write Temp text true)
-    → Notes c d (sync Temp true) → Notes d e (renamed Temp Target result) → IfErr result (IsStuck a e text)
-stuck_at_rename a b c d e text (Ok moved) creating writing syncing renaming = tt
-stuck_at_rename a b c d e text (Err Refused) creating writing syncing renaming =
-    inr (noted a d e (sync Temp true ∷ filled text) _ (synced a b c d text true creating writing syncing) renaming)
-stuck_at_rename a b c d e text (Err Failed) creating writing syncing renaming =
-    inr (inr (inr (noted a d e (sync Temp true ∷ filled text) _ (synced a b c d text true creating writing syncing) renaming)))
+pub filled_at_sync : (a b c d : Option (List Call)) (text : List ℕ) → Notes a b (create Temp true) → Notes b c (write Temp text true)
+    → Notes c d (sync Temp true) → HasFilled a d text
+filled_at_sync a b c d text creating writing syncing = synced a b c d text true creating writing syncing
 
-pub placed_at_rename : {T : Type 0} (a b c d e : Option (List Call)) (text : List ℕ) (result : Result T Unplaced) → Notes a b (create Temp true) → Notes b c (write Temp text true)
-    → Notes c d (sync Temp true) → Notes d e (renamed Temp Target result) → OnOk result (HasPlaced a e text)
-placed_at_rename a b c d e text (Ok moved) creating writing syncing renaming =
-    noted a d e (sync Temp true ∷ filled text) _ (synced a b c d text true creating writing syncing) renaming
-placed_at_rename a b c d e text (Err why) creating writing syncing renaming = tt
+-- for `fill`, at each of its calls
+pub ruleset unfilled = (unfilled_at_create, unfilled_at_write, unfilled_at_sync, filled_at_sync)
+
+pub stuck_at_fill : (a b : Option (List Call)) (text : List ℕ) (why : Unplaced) → IsUnfilled a b text why → IsStuck a b text why
+stuck_at_fill a b text Refused filling = inl filling
+stuck_at_fill a b text Failed filling = inl filling
+
+pub stuck_at_rename : {T : Type 0} (a b c : Option (List Call)) (text : List ℕ) (result : Result T Unplaced) → HasFilled a b text
+    → Notes b c (renamed Temp Target result) → IfErr result (IsStuck a c text)
+stuck_at_rename a b c text (Ok moved) filling renaming = tt
+stuck_at_rename a b c text (Err Refused) filling renaming = inr (noted a b c (sync Temp true ∷ filled text) _ filling renaming)
+stuck_at_rename a b c text (Err Failed) filling renaming = inr (noted a b c (sync Temp true ∷ filled text) _ filling renaming)
+
+pub placed_at_rename : {T : Type 0} (a b c : Option (List Call)) (text : List ℕ) (result : Result T Unplaced) → HasFilled a b text
+    → Notes b c (renamed Temp Target result) → OnOk result (HasPlaced a c text)
+placed_at_rename a b c text (Ok moved) filling renaming = noted a b c (sync Temp true ∷ filled text) _ filling renaming
+placed_at_rename a b c text (Err why) filling renaming = tt
 
 -- for `place`, at each of its calls
-pub ruleset stuck = (stuck_at_create, stuck_at_write, stuck_at_sync, stuck_at_rename, placed_at_rename)
-
--- ---- what is written to
-
-pub unopened_to : {E : Type 0} (a b : Option (List Call)) (text : List ℕ) (why : E) → Notes a b (empty Target false) → WritesTo {T = Unit {0}} a b text (Err why)
-unopened_to a b text why opening = known _ a b (empty Target false ∷ []) opening (λ before. (empty Target false ∷ [], refl, inl refl))
-
-pub written_to : {T E : Type 0} (a b c : Option (List Call)) (text : List ℕ) (result : Result T E) → Notes a b (empty Target true) → Notes b c (write Target text (is_ok result))
-    → WritesTo a c text result
-written_to a b c text (Ok done) opening writing =
-    known _ a c (write Target text true ∷ empty Target true ∷ []) (noted a b c (empty Target true ∷ []) _ opening writing) (λ before. (write Target text true ∷ empty Target true ∷ [], refl, refl))
-written_to a b c text (Err why) opening writing =
-    known _ a c (write Target text false ∷ empty Target true ∷ []) (noted a b c (empty Target true ∷ []) _ opening writing)
-    (λ before. (write Target text false ∷ empty Target true ∷ [], refl, inr refl))
-
--- for `write_to`
-pub ruleset writes_to = (unopened_to, written_to)
+pub ruleset stuck = (stuck_at_fill, stuck_at_rename, placed_at_rename)
 
 -- ---- by what a name leads to
 
@@ -92,23 +85,45 @@ pub kept_alone : {T E : Type 0} (a b c : Option (List Call)) (name text : List �
     → KeepsText a c name text result
 kept_alone a b None name text result turning keeping = tt
 kept_alone a b (Some all) name text result turning keeping =
-    let all_of = chained (λ before after. (first : Name → Content) → AtomicReplacement first before after text result ⊎ RefusedReplacement first before after text result)
+    let all_of = chained (λ before after. (first : Name → Content) → AtomicReplacement first before after text result ⊎ RefusedReplacement Alone first before after text result)
     a b (Some all) _ turning keeping in
     (all_of.0, all_of.1, (Some Alone, all_of.2))
 
-pub kept_shared : {T E : Type 0} (a b c : Option (List Call)) (name text : List ℕ) (result : Result T E) → Notes a b (turn name (Some Shared)) → Overwrites b c text result
+pub kept_shared : {T E : Type 0} (a b c : Option (List Call)) (name text : List ℕ) (result : Result T E) → Notes a b (turn name (Some Shared)) → KeepsNames b c text result
     → KeepsText a c name text result
 kept_shared a b None name text result turning keeping = tt
 kept_shared a b (Some all) name text result turning keeping =
-    let all_of = chained (λ before after. (first : Name → Content) → Overwriting first before after text result) a b (Some all) _ turning keeping in
+    let all_of = chained (λ before after. (first : Name → Content) → LeftAlone first before after text result ⊎ RefusedReplacement Shared first before after text result)
+    a b (Some all) _ turning keeping in
     (all_of.0, all_of.1, (Some Shared, all_of.2))
 
-pub kept_special : {T E : Type 0} (a b c : Option (List Call)) (name text : List ℕ) (result : Result T E) → Notes a b (turn name (Some Special)) → WritesTo b c text result
-    → KeepsText a c name text result
+pub kept_special : {T E : Type 0} (a b c : Option (List Call)) (name text : List ℕ) (result : Result T E) → Notes a b (turn name (Some Special))
+    → Notes b c (write Target text (is_ok result)) → KeepsText a c name text result
 kept_special a b None name text result turning keeping = tt
 kept_special a b (Some all) name text result turning keeping =
-    let all_of = chained (λ before after. (made : List Call) × (after ≡ made ++ before) × AreWritingTo text result made) a b (Some all) _ turning keeping in
+    let all_of = chained (λ before after. after ≡ write Target text (is_ok result) ∷ before) a b (Some all) _ turning keeping in
     (all_of.0, all_of.1, (Some Special, all_of.2))
 
 -- for `keep_text`
 pub ruleset keeps = (kept_nowhere, kept_alone, kept_shared, kept_special)
+
+-- ---- whether a state may be kept
+
+module _ (leads : Name → List ℕ → Option Bool) (a b : Option (List Call)) (name : List ℕ) (table log state : Option (List ℕ)) where
+  pub unturned : {E : Type 0} (why : E) → Notes a b (turn name None) → Admits {T = Unit {0}} leads a b name table log state (Err why)
+  unturned why turning = (None, turning, tt)
+
+  pub spared : {T : Type 0} (E : Type 0) (kind : Kind) (value : T) → Notes a b (turn name (Some kind)) → SparesTarget (leads Target) kind table log
+      → SparesTemp (leads Temp) table log state → Admits {T = T} {E = E} leads a b name table log state (Ok value)
+  spared E kind value turning target temp = (Some kind, turning, (target, temp))
+
+  pub target_harmed : {E : Type 0} (kind : Kind) (why : E) → Notes a b (turn name (Some kind)) → HarmsTarget (leads Target) kind table log
+      → Admits {T = Unit {0}} {E = E} leads a b name table log state (Err why)
+  target_harmed kind why turning harmed = (Some kind, turning, inl harmed)
+
+  pub temp_harmed : {E : Type 0} (kind : Kind) (why : E) → Notes a b (turn name (Some kind)) → HarmsTemp (leads Temp) table log state
+      → Admits {T = Unit {0}} {E = E} leads a b name table log state (Err why)
+  temp_harmed kind why turning harmed = (Some kind, turning, inr harmed)
+
+-- for `admit_to`
+pub ruleset admits = (unturned, spared, target_harmed, temp_harmed)

@@ -1,8 +1,10 @@
 -- What is there at each moment of a replacement, and after a text is written over another.
 use Rattle.std.proofs.Common.{◌≡◌, ◌⊎◌, ◌<◌, List, ℕ, Bool, true, false, [], ◌∷◌, ◌++◌, Option, None, Some, Result, Ok, Err, is_ok, refl, inl, inr, subst, ap, ◌∙◌, ⊎_elim, arith}
-use Rattle.n2kdec.specs.Folder.{Call, Content, MayBeLeft, MayHave, Notes, create, empty, failures, refused, remove, rename, sync, sync_folder, write}
-use Rattle.n2kdec.specs.Inner.Placing.{HasPlaced, IsStuck, Makes, placed}
-use Rattle.n2kdec.specs.Replacement.{AreRefused, AreWritingOver, AtEachMoment, AtomicReplacement, HasOldOrNew, IsGivenUp, Overwrites, Overwriting, PutsInPlace, RefusedReplacement, WritesTo, filled}
+use Rattle.n2kdec.specs.Folder.{Call, Content, MayBeLeft, MayHave, Notes, create, cut_short, empty, failures, refused, remove, rename, sync, sync_folder, write}
+use Rattle.n2kdec.specs.Inner.Placing.{HasFilled, HasPlaced, IsStuck, IsUnfilled, Makes}
+use Rattle.n2kdec.specs.Replacement.{AreRefused, AreUnfilled, AreWritingOver, AtEachMoment, AtomicReplacement, FromTo, HasOldOrNew, IsAsBefore, IsGivenUp, KeepsNames, LeftAlone, Overwrites, Overwriting, PutsInPlace, RefusedReplacement, filled, placed}
+use Rattle.n2kdec.specs.declared.folder.Kind.{Kind}
+use Rattle.n2kdec.specs.declared.folder.Kind.TheVariants.{Alone, Shared}
 use Rattle.n2kdec.specs.declared.folder.Name.{Name}
 use Rattle.n2kdec.specs.declared.folder.Name.TheVariants.{Target, Temp}
 use Rattle.n2kdec.specs.declared.folder.Unplaced.{Unplaced}
@@ -14,6 +16,10 @@ text_of : Content → List ℕ
 text_of None = []
 text_of (Some text) = text
 
+-- one of the calls that place a text failed
+abbrev AreUnplaced : List ℕ → List Call → Type 0
+AreUnplaced text tried = AreUnfilled text tried ⊎ (tried ≡ rename Temp Target false ∷ sync Temp true ∷ filled text)
+
 module _ (first : Name → Content) (before : List Call) (text : List ℕ) where
   abbrev IsSafe : List Call → Type 0
   IsSafe calls = HasOldOrNew first before text calls
@@ -24,23 +30,34 @@ module _ (first : Name → Content) (before : List Call) (text : List ℕ) where
   whole c (had, began, is) = is ∙ ap (λ front. Some (text_of front ++ text)) began
 
   -- nothing is done with the name yet
-  aside : (calls : List Call) → ((c : Content) → MayHave first calls Target c → MayHave first before Target c) → ((c : Content) → MayBeLeft first calls Target c → MayBeLeft first before Target c) → IsSafe calls
-  aside calls found left = record { found = λ c is. inl (found c is); left = λ c is. inl (left c is) }
+  abbrev IsStill : List Call → Type 0
+  IsStill calls = IsAsBefore first before Target calls
 
-  at_first : AtEachMoment IsSafe [] before
-  at_first = aside before (λ c is. is) (λ c is. is)
+  still : (calls : List Call) → ((c : Content) → MayHave first calls Target c → MayHave first before Target c) → ((c : Content) → MayBeLeft first calls Target c → MayBeLeft first before Target c) → IsStill calls
+  still calls found left = record { found = found; left = left }
 
-  creating : (done : Bool) → AtEachMoment IsSafe (create Temp done ∷ []) before
-  creating true = (at_first, aside _ (λ c is. is) (λ c is. is), aside _ (λ c is. is) (λ c is. is))
-  creating false = (at_first, aside _ (λ c is. is) (λ c is. is), aside _ (λ c is. is) (λ c is. is))
+  at_first : AtEachMoment IsStill [] before
+  at_first = still before (λ c is. is) (λ c is. is)
 
-  writing : (done : Bool) → AtEachMoment IsSafe (write Temp text done ∷ create Temp true ∷ []) before
-  writing true = (creating true, aside _ (λ c is. is) (λ c is. is), aside _ (λ c is. is) (λ c is. is))
-  writing false = (creating true, aside _ (λ c is. is) (λ c is. is), aside _ (λ c is. is) (λ c is. is))
+  creating : (done : Bool) → AtEachMoment IsStill (create Temp done ∷ []) before
+  creating true = (at_first, still _ (λ c is. is) (λ c is. is), still _ (λ c is. is) (λ c is. is))
+  creating false = (at_first, still _ (λ c is. is) (λ c is. is), still _ (λ c is. is) (λ c is. is))
 
-  syncing : (done : Bool) → AtEachMoment IsSafe (sync Temp done ∷ filled text) before
-  syncing true = (writing true, aside _ (λ c is. is) (λ c is. is), aside _ (λ c is. is) (λ c is. is))
-  syncing false = (writing true, aside _ (λ c is. is) (λ c is. is), aside _ (λ c is. is) (λ c is. is))
+  writing : (done : Bool) → AtEachMoment IsStill (write Temp text done ∷ create Temp true ∷ []) before
+  writing true = (creating true, still _ (λ c is. is) (λ c is. is), still _ (λ c is. is) (λ c is. is))
+  writing false = (creating true, still _ (λ c is. is) (λ c is. is), still _ (λ c is. is) (λ c is. is))
+
+  syncing : (done : Bool) → AtEachMoment IsStill (sync Temp done ∷ filled text) before
+  syncing true = (writing true, still _ (λ c is. is) (λ c is. is), still _ (λ c is. is) (λ c is. is))
+  syncing false = (writing true, still _ (λ c is. is) (λ c is. is), still _ (λ c is. is) (λ c is. is))
+
+  -- so the old text is there
+  old_is_safe : (calls : List Call) → IsStill calls → IsSafe calls
+  old_is_safe calls same = record { found = λ c is. inl (same.found c is); left = λ c is. inl (same.left c is) }
+
+  are_safe : (made : List Call) → AtEachMoment IsStill made before → AtEachMoment IsSafe made before
+  are_safe [] here = old_is_safe before here
+  are_safe (call ∷ made) here = (are_safe made here.0, old_is_safe (cut_short call ∷ made ++ before) here.1, old_is_safe (call ∷ made ++ before) here.2)
 
   -- what a cut leaves of the new file is the text, once that is synced
   left_or_whole : (c : Content) → MayBeLeft first before Target c ⊎ ((kept : List ℕ) × MayHave first (filled text ++ before) Temp (Some kept) × (c ≡ Some kept)) → MayBeLeft first before Target c ⊎ (c ≡ Some text)
@@ -54,8 +71,8 @@ module _ (first : Name → Content) (before : List Call) (text : List ℕ) where
   moved = record { found = λ c is. inr (whole c is); left = left_or_whole }
 
   renaming : (done : Bool) → AtEachMoment IsSafe (rename Temp Target done ∷ sync Temp true ∷ filled text) before
-  renaming true = (syncing true, unsure, moved)
-  renaming false = (syncing true, unsure, unsure)
+  renaming true = (are_safe (sync Temp true ∷ filled text) (syncing true), unsure, moved)
+  renaming false = (are_safe (sync Temp true ∷ filled text) (syncing true), unsure, unsure)
 
   -- and then the folder is synced
   settled : (c : Content) → MayBeLeft first (sync_folder true ∷ placed text ++ before) Target c → c ≡ Some text
@@ -72,6 +89,7 @@ module _ (first : Name → Content) (before : List Call) (text : List ℕ) where
   done value = record {
     made = sync_folder true ∷ placed text;
     calls = refl;
+    order = refl;
     each_moment = (renaming true, at_last, ended);
     answer = record { found = whole; left = settled; beside = λ c is. is; none_failed = refl };
   }
@@ -80,6 +98,7 @@ module _ (first : Name → Content) (before : List Call) (text : List ℕ) where
   unsettled error = record {
     made = sync_folder false ∷ placed text;
     calls = refl;
+    order = inl refl;
     each_moment = (renaming true, at_last, at_last);
     answer = record { failed = omega arith; beside = λ c is. inl is };
   }
@@ -97,39 +116,52 @@ module _ (first : Name → Content) (before : List Call) (text : List ℕ) where
   beside true made one = record { failed = omega (arith, one); beside = λ c is. inl is }
   beside false made one = record { failed = omega (arith, one); beside = λ c is. inr (omega (arith, one)) }
 
-  given_up : {T E : Type 0} (error : E) (removed : Bool) (made : List Call) → AtEachMoment IsSafe made before → failures made ≡ 1
+  given_up : {T E : Type 0} (error : E) (removed : Bool) (made : List Call) → AreUnplaced text made → AtEachMoment IsSafe made before → failures made ≡ 1
       → AtomicReplacement {T = T} {E = E} first before (remove Temp removed ∷ made ++ before) text (Err error)
-  given_up error removed made here one = record {
+  given_up error removed made are here one = record {
     made = remove Temp removed ∷ made;
     calls = refl;
+    order = inr (removed, made, refl, are);
     each_moment = (here, removing false _ (last made here), removing removed _ (last made here));
     answer = beside removed made one;
   }
 
-  -- the folder refuses, and the new file is taken away
-  refusing : (calls : List Call) → IsSafe calls → IsSafe (refused ∷ calls)
-  refusing calls safe = record { found = safe.found; left = safe.left }
+  -- or while the new file was filled, and the file is left alone
+  last_still : (made : List Call) → AtEachMoment IsStill made before → IsStill (made ++ before)
+  last_still [] here = here
+  last_still (call ∷ made) here = here.2
 
-  refused_at : (gone : Bool) (made : List Call) → AtEachMoment IsSafe made before → AtEachMoment IsSafe (remove Temp gone ∷ refused ∷ made) before
-  refused_at gone made here =
-      let still = refusing (made ++ before) (last made here) in
-      ((here, still, still), removing false _ still, removing gone _ still)
+  removing_still : (removed : Bool) (calls : List Call) → IsStill calls → IsStill (remove Temp removed ∷ calls)
+  removing_still true calls same = record { found = same.found; left = λ c is. same.left c is }
+  removing_still false calls same = record { found = same.found; left = λ c is. same.left c is }
 
-  gone_or_failed : (gone : Bool) (made : List Call) (c : Content) → MayHave first (remove Temp gone ∷ made ++ before) Temp c
-      → (c ≡ None) ⊎ (0 < failures (remove Temp gone ∷ made))
-  gone_or_failed true made c is = inl is
-  gone_or_failed false made c is = inr (omega arith)
+  gone_or_stays : (gone : Bool) (made : List Call) (c : Content) → MayHave first (remove Temp gone ∷ made ++ before) Temp c → (c ≡ None) ⊎ (gone ≡ false)
+  gone_or_stays true made c is = inl is
+  gone_or_stays false made c is = inr refl
 
-  refusal : {T E : Type 0} (result : Result T E) (after : List Call) (gone : Bool) (made : List Call) → AreRefused text (remove Temp gone ∷ refused ∷ made)
-      → AtEachMoment IsSafe made before → Overwriting first (remove Temp gone ∷ refused ∷ made ++ before) after text result
-      → RefusedReplacement first before after text result
-  refusal result after gone made are here over = record {
-    tried = remove Temp gone ∷ refused ∷ made;
-    refusal = are;
-    each_moment = refused_at gone made here;
-    beside = gone_or_failed gone (refused ∷ made);
-    overwriting = over;
+  left_alone : {T E : Type 0} (error : E) (removed : Bool) (made : List Call) → AreUnfilled text made → AtEachMoment IsStill made before
+      → LeftAlone {T = T} {E = E} first before (remove Temp removed ∷ made ++ before) text (Err error)
+  left_alone error removed made are here = record {
+    tried = made;
+    order = are;
+    gone = removed;
+    calls = refl;
+    each_moment = (here, removing_still false _ (last_still made here), removing_still removed _ (last_still made here));
+    beside = gone_or_stays removed made;
+    answer = refl;
   }
+
+  -- the folder refuses
+  refusing : (calls : List Call) → IsStill calls → IsStill (refused ∷ calls)
+  refusing calls same = record { found = same.found; left = same.left }
+
+  refused_at : (made : List Call) → AtEachMoment IsStill made before → AtEachMoment IsStill (refused ∷ made) before
+  refused_at made here = let same = refusing (made ++ before) (last_still made here) in (here, same, same)
+
+  refusal : {T E : Type 0} (kind : Kind) (result : Result T E) (after made : List Call) → AreRefused kind text made
+      → AtEachMoment IsStill made before → Overwriting first (made ++ before) after text result
+      → RefusedReplacement kind first before after text result
+  refusal kind result after made are here over = record { tried = made; refusal = are; each_moment = here; overwriting = over }
 
   -- the file, where the text is written over what it had
   whole_over : (c : Content) → MayHave first (write Target text true ∷ empty Target true ∷ before) Target c → c ≡ Some text
@@ -140,11 +172,49 @@ module _ (first : Name → Content) (before : List Call) (text : List ℕ) where
   unfolding text_of
   left_over kept is = ap text_of (whole_over (Some kept) is)
 
-  overwritten : {T E : Type 0} (value : T) → Overwriting {T = T} {E = E} first before (sync Target true ∷ write Target text true ∷ empty Target true ∷ before) text (Ok value)
-  overwritten value = record { made = sync Target true ∷ write Target text true ∷ empty Target true ∷ []; calls = refl; order = refl; found = whole_over; left = left_over }
+  -- the new file stays meanwhile
+  abbrev Stays : List Call → Type 0
+  Stays calls = IsAsBefore first before Temp calls
 
-  broken_off : {E : Type 0} (why : E) (made : List Call) → AreWritingOver {T = Unit {0}} text (Err why) made → Overwriting {T = Unit {0}} {E = E} first before (made ++ before) text (Err why)
-  broken_off why made are = record { made = made; calls = refl; order = are; found = tt; left = tt }
+  stays : (calls : List Call) → ((c : Content) → MayHave first calls Temp c → MayHave first before Temp c) → ((c : Content) → MayBeLeft first calls Temp c → MayBeLeft first before Temp c) → Stays calls
+  stays calls found left = record { found = found; left = left }
+
+  emptying : (done : Bool) → AtEachMoment Stays (empty Target done ∷ []) before
+  emptying true = (stays _ (λ c is. is) (λ c is. is), stays _ (λ c is. is) (λ c is. is), stays _ (λ c is. is) (λ c is. is))
+  emptying false = (stays _ (λ c is. is) (λ c is. is), stays _ (λ c is. is) (λ c is. is), stays _ (λ c is. is) (λ c is. is))
+
+  pouring : (done : Bool) → AtEachMoment Stays (write Target text done ∷ empty Target true ∷ []) before
+  pouring true = (emptying true, stays _ (λ c is. is) (λ c is. is), stays _ (λ c is. is) (λ c is. is))
+  pouring false = (emptying true, stays _ (λ c is. is) (λ c is. is), stays _ (λ c is. is) (λ c is. is))
+
+  settling : (done : Bool) → AtEachMoment Stays (sync Target done ∷ write Target text true ∷ empty Target true ∷ []) before
+  settling true = (pouring true, stays _ (λ c is. is) (λ c is. is), stays _ (λ c is. is) (λ c is. is))
+  settling false = (pouring true, stays _ (λ c is. is) (λ c is. is), stays _ (λ c is. is) (λ c is. is))
+
+  cleared : (gone : Bool) (made : List Call) (c : Content) → MayHave first (remove Temp gone ∷ made ++ before) Temp c
+      → (c ≡ None) ⊎ (remove Temp gone ∷ made ++ before ≡ remove Temp false ∷ made ++ before)
+  cleared true made c is = inl is
+  cleared false made c is = inr refl
+
+  found_over : (gone : Bool) (c : Content) → MayHave first (remove Temp gone ∷ sync Target true ∷ write Target text true ∷ empty Target true ∷ before) Target c → c ≡ Some text
+  found_over true c is = whole_over c is
+  found_over false c is = whole_over c is
+
+  overwritten : {T E : Type 0} (value : T) (gone : Bool)
+      → Overwriting {T = T} {E = E} first before (remove Temp gone ∷ sync Target true ∷ write Target text true ∷ empty Target true ∷ before) text (Ok value)
+  overwritten value gone = record {
+    made = sync Target true ∷ write Target text true ∷ empty Target true ∷ [];
+    order = refl;
+    calls = (gone, refl);
+    new_stays = settling true;
+    found = found_over gone;
+    left = left_over;
+    beside = cleared gone (sync Target true ∷ write Target text true ∷ empty Target true ∷ []);
+  }
+
+  broken_off : {E : Type 0} (why : E) (made : List Call) → AreWritingOver {T = Unit {0}} text (Err why) made → AtEachMoment Stays made before
+      → Overwriting {T = Unit {0}} {E = E} first before (made ++ before) text (Err why)
+  broken_off why made are here = record { made = made; order = are; calls = refl; new_stays = here; found = tt; left = tt; beside = tt }
 
 -- in the three ways that the calls go
 pub placed_in : {T E : Type 0} (old between new : Option (List Call)) (text : List ℕ) (result : Result T E) → HasPlaced old between text
@@ -155,23 +225,26 @@ placed_in old between new text (Err error) placing syncing =
     known _ old new (sync_folder false ∷ placed text) (noted old between new (placed text) _ placing syncing) (λ before first. inl (unsettled first before text error))
 
 -- one of the four calls failed, and the new file was to be taken away
-taken_away : {E : Type 0} (old between new : Option (List Call)) (text : List ℕ) (error : E) (removed : Bool) (made : List Call) → Makes old between made
+taken_away : {E : Type 0} (old between new : Option (List Call)) (text : List ℕ) (error : E) (removed : Bool) (made : List Call) → AreUnplaced text made → Makes old between made
     → Notes between new (remove Temp removed) → ((first : Name → Content) (before : List Call) → AtEachMoment (HasOldOrNew first before text) made before)
     → failures made ≡ 1 → PutsInPlace {T = Unit {0}} {E = E} old new text (Err error)
-taken_away old between new text error removed made makes taking safe one =
+taken_away old between new text error removed made are makes taking safe one =
     known _ old new (remove Temp removed ∷ made) (noted old between new made _ makes taking)
-    (λ before first. inl (given_up first before text error removed made (safe first before) one))
+    (λ before first. inl (given_up first before text error removed made are (safe first before) one))
 
 given_up_by : {E : Type 0} (old between new : Option (List Call)) (text : List ℕ) (error : E) (removed : Bool)
     → Notes between new (remove Temp removed) → IsStuck old between text Failed → PutsInPlace {T = Unit {0}} {E = E} old new text (Err error)
-given_up_by old between new text error removed taking (inl made) =
-    taken_away old between new text error removed (create Temp false ∷ []) made taking (λ first before. creating first before text false) refl
-given_up_by old between new text error removed taking (inr (inl made)) =
-    taken_away old between new text error removed (write Temp text false ∷ create Temp true ∷ []) made taking (λ first before. writing first before text false) refl
-given_up_by old between new text error removed taking (inr (inr (inl made))) =
-    taken_away old between new text error removed (sync Temp false ∷ filled text) made taking (λ first before. syncing first before text false) refl
-given_up_by old between new text error removed taking (inr (inr (inr made))) =
-    taken_away old between new text error removed (rename Temp Target false ∷ sync Temp true ∷ filled text) made taking
+given_up_by old between new text error removed taking (inl (inl made)) =
+    taken_away old between new text error removed (create Temp false ∷ []) (inl (inl refl)) made taking
+    (λ first before. are_safe first before text (create Temp false ∷ []) (creating first before text false)) refl
+given_up_by old between new text error removed taking (inl (inr (inl made))) =
+    taken_away old between new text error removed (write Temp text false ∷ create Temp true ∷ []) (inl (inr (inl refl))) made taking
+    (λ first before. are_safe first before text (write Temp text false ∷ create Temp true ∷ []) (writing first before text false)) refl
+given_up_by old between new text error removed taking (inl (inr (inr made))) =
+    taken_away old between new text error removed (sync Temp false ∷ filled text) (inl (inr (inr refl))) made taking
+    (λ first before. are_safe first before text (sync Temp false ∷ filled text) (syncing first before text false)) refl
+given_up_by old between new text error removed taking (inr made) =
+    taken_away old between new text error removed (rename Temp Target false ∷ sync Temp true ∷ filled text) (inr refl) made taking
     (λ first before. renaming first before text false) refl
 
 pub given_up_in : {T E F : Type 0} (old between new : Option (List Call)) (text : List ℕ) (error : E) (removed : Result T F) (why : Unplaced)
@@ -179,57 +252,118 @@ pub given_up_in : {T E F : Type 0} (old between new : Option (List Call)) (text 
 given_up_in old between new text error removed why taking stuck is =
     given_up_by old between new text error (is_ok removed) taking (subst (λ w. IsStuck old between text w) is stuck)
 
--- the folder refused, and the text was written over the old one
-written_instead : {T E : Type 0} (old between new : Option (List Call)) (text : List ℕ) (result : Result T E) (gone : Bool) (made : List Call)
-    → AreRefused text (remove Temp gone ∷ refused ∷ made)
-    → ((first : Name → Content) (before : List Call) → AtEachMoment (HasOldOrNew first before text) made before)
-    → Makes old between (remove Temp gone ∷ refused ∷ made) → Overwrites between new text result → PutsInPlace old new text result
-written_instead old between None text result gone made are safe makes over = tt
-written_instead old between (Some after) text result gone made are safe makes (middle, was, over) =
-    let before_it = subst (λ known. Makes old known (remove Temp gone ∷ refused ∷ made)) was makes in (
+-- the new file did not come to the name, and the text was written over the old one
+instead : {T E : Type 0} (kind : Kind) (old between new : Option (List Call)) (text : List ℕ) (result : Result T E) (made : List Call)
+    → AreRefused kind text made → ((first : Name → Content) (before : List Call) → AtEachMoment (IsAsBefore first before Target) made before)
+    → Makes old between made → Overwrites between new text result
+    → FromTo old new (λ before after. (first : Name → Content) → RefusedReplacement kind first before after text result)
+instead kind old between None text result made are safe makes over = tt
+instead kind old between (Some after) text result made are safe makes (middle, was, over) =
+    let before_it = subst (λ known. Makes old known made) was makes in (
       before_it.0,
       before_it.1,
-      λ first. inr (refusal first before_it.0 text result after gone made are (safe first before_it.0)
-          (subst (λ these. Overwriting first these after text result) before_it.2 (over first))),
+      λ first. refusal first before_it.0 text kind result after made are (safe first before_it.0)
+          (subst (λ these. Overwriting first these after text result) before_it.2 (over first)),
     )
 
-refused_by : {T E : Type 0} (old between taken new : Option (List Call)) (text : List ℕ) (result : Result T E) (gone : Bool)
-    → Notes between taken (remove Temp gone) → Overwrites taken new text result → IsStuck old between text Refused → PutsInPlace old new text result
-refused_by old between taken new text result gone taking over (inl made) =
-    written_instead old taken new text result gone [] (gone, inl refl) (λ first before. at_first first before text) (noted old between taken (refused ∷ []) _ made taking) over
-refused_by old between taken new text result gone taking over (inr made) =
-    written_instead old taken new text result gone (sync Temp true ∷ filled text) (gone, inr refl) (λ first before. syncing first before text true)
-    (noted old between taken (refused ∷ sync Temp true ∷ filled text) _ made taking) over
+-- one of two ways
+second : (A B : (Name → Content) → List Call → List Call → Type 0) (old new : Option (List Call)) → FromTo old new (λ before after. (first : Name → Content) → B first before after)
+    → FromTo old new (λ before after. (first : Name → Content) → A first before after ⊎ B first before after)
+second A B old None holds = tt
+second A B old (Some after) (before, was, holds) = (before, was, λ first. inr (holds first))
 
-pub refused_in : {T E U F : Type 0} (old between taken new : Option (List Call)) (text : List ℕ) (result : Result T E) (removed : Result U F) (why : Unplaced)
-    → Notes between taken (remove Temp (is_ok removed)) → Overwrites taken new text result → IsStuck old between text why → why ≡ Refused → PutsInPlace old new text result
-refused_in old between taken new text result removed why taking over stuck is =
-    refused_by old between taken new text result (is_ok removed) taking over (subst (λ w. IsStuck old between text w) is stuck)
+refused_by : {T E : Type 0} (old between new : Option (List Call)) (text : List ℕ) (result : Result T E)
+    → Overwrites between new text result → IsStuck old between text Refused → PutsInPlace old new text result
+refused_by old between new text result over (inl made) =
+    second (λ first before after. AtomicReplacement first before after text result) (λ first before after. RefusedReplacement Alone first before after text result) old new
+    (instead Alone old between new text result (refused ∷ []) (inl refl) (λ first before. refused_at first before text [] (at_first first before text)) made over)
+refused_by old between new text result over (inr made) =
+    second (λ first before after. AtomicReplacement first before after text result) (λ first before after. RefusedReplacement Alone first before after text result) old new
+    (instead Alone old between new text result (refused ∷ sync Temp true ∷ filled text) (inr refl)
+    (λ first before. refused_at first before text (sync Temp true ∷ filled text) (syncing first before text true)) made over)
+
+pub refused_in : {T E : Type 0} (old between new : Option (List Call)) (text : List ℕ) (result : Result T E) (why : Unplaced)
+    → Overwrites between new text result → IsStuck old between text why → why ≡ Refused → PutsInPlace old new text result
+refused_in old between new text result why over stuck is =
+    refused_by old between new text result over (subst (λ w. IsStuck old between text w) is stuck)
+
+-- ---- a file with other names
+
+spare : {E : Type 0} (old between new : Option (List Call)) (text : List ℕ) (error : E) (removed : Bool) (made : List Call) → AreUnfilled text made → Makes old between made
+    → Notes between new (remove Temp removed) → ((first : Name → Content) (before : List Call) → AtEachMoment (IsAsBefore first before Target) made before)
+    → KeepsNames {T = Unit {0}} {E = E} old new text (Err error)
+spare old between new text error removed made are makes taking safe =
+    known _ old new (remove Temp removed ∷ made) (noted old between new made _ makes taking)
+    (λ before first. inl (left_alone first before text error removed made are (safe first before)))
+
+spare_by : {E : Type 0} (old between new : Option (List Call)) (text : List ℕ) (error : E) (removed : Bool)
+    → Notes between new (remove Temp removed) → IsUnfilled old between text Failed → KeepsNames {T = Unit {0}} {E = E} old new text (Err error)
+spare_by old between new text error removed taking (inl made) =
+    spare old between new text error removed (create Temp false ∷ []) (inl refl) made taking (λ first before. creating first before text false)
+spare_by old between new text error removed taking (inr (inl made)) =
+    spare old between new text error removed (write Temp text false ∷ create Temp true ∷ []) (inr (inl refl)) made taking (λ first before. writing first before text false)
+spare_by old between new text error removed taking (inr (inr made)) =
+    spare old between new text error removed (sync Temp false ∷ filled text) (inr (inr refl)) made taking (λ first before. syncing first before text false)
+
+pub names_spared : {T E F : Type 0} (old between new : Option (List Call)) (text : List ℕ) (error : E) (removed : Result T F) (why : Unplaced)
+    → Notes between new (remove Temp (is_ok removed)) → IsUnfilled old between text why → why ≡ Failed → KeepsNames {T = Unit {0}} {E = E} old new text (Err error)
+names_spared old between new text error removed why taking stuck is =
+    spare_by old between new text error (is_ok removed) taking (subst (λ w. IsUnfilled old between text w) is stuck)
+
+pub names_kept : {T E : Type 0} (old between new : Option (List Call)) (text : List ℕ) (result : Result T E)
+    → HasFilled old between text → Overwrites between new text result → KeepsNames old new text result
+names_kept old between new text result made over =
+    second (λ first before after. LeftAlone first before after text result) (λ first before after. RefusedReplacement Shared first before after text result) old new
+    (instead Shared old between new text result (sync Temp true ∷ filled text) (inr refl) (λ first before. syncing first before text true) made over)
+
+names_refused_by : {T E : Type 0} (old between new : Option (List Call)) (text : List ℕ) (result : Result T E)
+    → Overwrites between new text result → IsUnfilled old between text Refused → KeepsNames old new text result
+names_refused_by old between new text result over made =
+    second (λ first before after. LeftAlone first before after text result) (λ first before after. RefusedReplacement Shared first before after text result) old new
+    (instead Shared old between new text result (refused ∷ []) (inl refl) (λ first before. refused_at first before text [] (at_first first before text)) made over)
+
+pub names_refused : {T E : Type 0} (old between new : Option (List Call)) (text : List ℕ) (result : Result T E) (why : Unplaced)
+    → Overwrites between new text result → IsUnfilled old between text why → why ≡ Refused → KeepsNames old new text result
+names_refused old between new text result why over stuck is =
+    names_refused_by old between new text result over (subst (λ w. IsUnfilled old between text w) is stuck)
+
+-- for `keep_names`
+pub ruleset keeps_names = (names_spared, names_kept, names_refused)
 
 -- ---- a text over another
 
--- what was written to is known
-poured : {T : Type 0} (E : Type 0) (a b : Option (List Call)) (text : List ℕ) (value : T) → WritesTo {E = E} a b text (Ok value)
-    → Makes a b (write Target text true ∷ empty Target true ∷ [])
-poured E a None text value to = tt
-poured E a (Some after) text value (before, was, (made, is, are)) = (before, was, is ∙ ap (λ these. these ++ before) are)
+pub unopened_over : {E : Type 0} (a b : Option (List Call)) (text : List ℕ) (why : E) → Notes a b (empty Target false)
+    → Overwrites {T = Unit {0}} a b text (Err why)
+unopened_over a b text why opening =
+    known _ a b (empty Target false ∷ []) opening (λ before first. broken_off first before text why _ (inl refl) (emptying first before text false))
 
-pub broken_over : {E : Type 0} (a b : Option (List Call)) (text : List ℕ) (why : E) → WritesTo {T = Unit {0}} a b text (Err why) → Overwrites {T = Unit {0}} a b text (Err why)
-broken_over a None text why to = tt
-broken_over a (Some after) text why (before, was, (made, is, inl are)) =
-    (before, was, λ first. record { made = made; calls = is; order = inl are; found = tt; left = tt })
-broken_over a (Some after) text why (before, was, (made, is, inr are)) =
-    (before, was, λ first. record { made = made; calls = is; order = inr (inl are); found = tt; left = tt })
+poured : (a b c : Option (List Call)) (text : List ℕ) (done : Bool) → Notes a b (empty Target true) → Notes b c (write Target text done)
+    → Makes a c (write Target text done ∷ empty Target true ∷ [])
+poured a b c text done opening writing = noted a b c (empty Target true ∷ []) _ opening writing
 
-pub synced_over : {E U : Type 0} (a b c : Option (List Call)) (text : List ℕ) (value : U) (result : Result (Unit {0}) E) → WritesTo {E = E} a b text (Ok value)
-    → Notes b c (sync Target (is_ok result)) → Overwrites a c text result
-synced_over {E} a b c text value (Ok all) to last_sync =
-    known _ a c (sync Target true ∷ write Target text true ∷ empty Target true ∷ [])
-    (noted a b c (write Target text true ∷ empty Target true ∷ []) _ (poured E a b text value to) last_sync) (λ before first. overwritten first before text all)
-synced_over {E} a b c text value (Err why) to last_sync =
-    known _ a c (sync Target false ∷ write Target text true ∷ empty Target true ∷ [])
-    (noted a b c (write Target text true ∷ empty Target true ∷ []) _ (poured E a b text value to) last_sync)
-    (λ before first. broken_off first before text why _ (inr (inr refl)))
+pub unwritten_over : {E : Type 0} (a b c : Option (List Call)) (text : List ℕ) (why : E) → Notes a b (empty Target true) → Notes b c (write Target text false)
+    → Overwrites {T = Unit {0}} a c text (Err why)
+unwritten_over a b c text why opening writing =
+    known _ a c (write Target text false ∷ empty Target true ∷ []) (poured a b c text false opening writing)
+    (λ before first. broken_off first before text why _ (inr (inl refl)) (pouring first before text false))
+
+settled_over : (a b c d : Option (List Call)) (text : List ℕ) (done : Bool) → Notes a b (empty Target true) → Notes b c (write Target text true)
+    → Notes c d (sync Target done) → Makes a d (sync Target done ∷ write Target text true ∷ empty Target true ∷ [])
+settled_over a b c d text done opening writing syncing =
+    noted a c d (write Target text true ∷ empty Target true ∷ []) _ (poured a b c text true opening writing) syncing
+
+pub unsynced_over : {E : Type 0} (a b c d : Option (List Call)) (text : List ℕ) (why : E) → Notes a b (empty Target true)
+    → Notes b c (write Target text true) → Notes c d (sync Target false) → Overwrites {T = Unit {0}} a d text (Err why)
+unsynced_over a b c d text why opening writing syncing =
+    known _ a d (sync Target false ∷ write Target text true ∷ empty Target true ∷ []) (settled_over a b c d text false opening writing syncing)
+    (λ before first. broken_off first before text why _ (inr (inr refl)) (settling first before text false))
+
+pub cleared_over : {U F : Type 0} (E : Type 0) (a b c d e : Option (List Call)) (text : List ℕ) (removed : Result U F) (value : Unit {0}) → Notes a b (empty Target true)
+    → Notes b c (write Target text true) → Notes c d (sync Target true) → Notes d e (remove Temp (is_ok removed)) → Overwrites {E = E} a e text (Ok value)
+cleared_over E a b c d e text removed value opening writing syncing taking =
+    known _ a e (remove Temp (is_ok removed) ∷ sync Target true ∷ write Target text true ∷ empty Target true ∷ [])
+    (noted a d e (sync Target true ∷ write Target text true ∷ empty Target true ∷ []) _ (settled_over a b c d text true opening writing syncing) taking)
+    (λ before first. overwritten first before text value (is_ok removed))
 
 -- for `write_over`
-pub ruleset overwrites = (broken_over, synced_over)
+pub ruleset overwrites = (unopened_over, unwritten_over, unsynced_over, cleared_over)

@@ -1,9 +1,9 @@
 -- How a text comes to a name: it takes the place of another, so that at each moment one of the two is there, whole; or,
 -- where the folder does not allow that, it is written over the file itself.
 use Rattle.std.specs.Prelude.{◌≡◌, ◌⊎◌, ◌<◌, ◌++◌, ℕ, Bool, true, false, List, [], ◌∷◌, Option, Some, None, IfSome}
-use Rattle.std.specs.Prelude.{codes, Result, Ok, Err, IsErr, OnOk, MatchResult}
-use Rattle.n2kdec.specs.Folder.{Call, Content, FileMayBeLeft, MayBeLeft, MayHave, create, cut_short, empty, failures}
-use Rattle.n2kdec.specs.Folder.{refused, remove, sync, turn, write}
+use Rattle.std.specs.Prelude.{codes, Result, Ok, Err, IsErr, OnOk, MatchResult, is_ok}
+use Rattle.n2kdec.specs.Folder.{Call, Content, FileMayBeLeft, MayBeLeft, MayHave, Notes, create, cut_short, empty}
+use Rattle.n2kdec.specs.Folder.{failures, refused, remove, rename, sync, sync_folder, turn, write}
 use Rattle.n2kdec.specs.declared.folder.Kind.{Kind}
 use Rattle.n2kdec.specs.declared.folder.Kind.TheVariants.{Alone, Shared, Special}
 use Rattle.n2kdec.specs.declared.folder.Name.{Name}
@@ -34,23 +34,41 @@ pub record IsGivenUp (first : Name → Content) (after made : List Call) : Type 
   pub failed : 0 < failures made
   pub beside : (c : Content) → MayHave first after Temp c → (c ≡ None) ⊎ (1 < failures made)
 
--- These calls were made. At each moment the name has the old text or the new one; after Ok the new one.
+-- the new file has the text
+abbrev pub filled : List ℕ → List Call
+filled text = write Temp text true ∷ create Temp true ∷ []
+
+-- and then the name
+abbrev pub placed : List ℕ → List Call
+placed text = rename Temp Target true ∷ sync Temp true ∷ filled text
+
+-- The calls by which the new file gets the text and is synced, the last one first, where one of them failed.
+abbrev pub AreUnfilled : List ℕ → List Call → Type 0
+AreUnfilled text made =
+    (made ≡ create Temp false ∷ [])
+    ⊎ (made ≡ write Temp text false ∷ create Temp true ∷ [])
+    ⊎ (made ≡ sync Temp false ∷ filled text)
+
+-- The calls of a replacement. Where one of those that place the text failed, the new file was to be taken away.
+abbrev pub AreReplacing : {T E : Type 0} → List ℕ → Result T E → List Call → Type 0
+AreReplacing text (Ok done) made = made ≡ sync_folder true ∷ placed text
+AreReplacing text (Err why) made =
+    (made ≡ sync_folder false ∷ placed text)
+    ⊎ ((gone : Bool) × (tried : List Call) × (made ≡ remove Temp gone ∷ tried)
+    × (AreUnfilled text tried ⊎ (tried ≡ rename Temp Target false ∷ sync Temp true ∷ filled text)))
+
+-- These calls were made, and no other. At each moment the name has the old text or the new one; after Ok the new one.
 pub record AtomicReplacement {T E : Type 0} (first : Name → Content) (before after : List Call) (text : List ℕ)
     (result : Result T E) : Type 0 where
   pub made : List Call
   pub calls : after ≡ made ++ before
+  pub order : AreReplacing text result made
   pub each_moment : AtEachMoment (HasOldOrNew first before text) made before
   pub answer : MatchResult result (λ _. HasNew first after made text) (λ _. IsGivenUp first after made)
 
 -- ---- a text over another
 
--- The calls by which a text is written to the file of a name, the last one first, up to the first that failed.
-abbrev pub AreWritingTo : {T E : Type 0} → List ℕ → Result T E → List Call → Type 0
-AreWritingTo text (Ok done) made = made ≡ write Target text true ∷ empty Target true ∷ []
-AreWritingTo text (Err why) made =
-    (made ≡ empty Target false ∷ []) ⊎ (made ≡ write Target text false ∷ empty Target true ∷ [])
-
--- The same where the file is synced then.
+-- The calls by which a text is written over what the file of a name has, the last one first, up to the first that failed.
 abbrev pub AreWritingOver : {T E : Type 0} → List ℕ → Result T E → List Call → Type 0
 AreWritingOver text (Ok done) made = made ≡ sync Target true ∷ write Target text true ∷ empty Target true ∷ []
 AreWritingOver text (Err why) made =
@@ -58,35 +76,55 @@ AreWritingOver text (Err why) made =
     ⊎ (made ≡ write Target text false ∷ empty Target true ∷ [])
     ⊎ (made ≡ sync Target false ∷ write Target text true ∷ empty Target true ∷ [])
 
--- The text was written over what the file of the name has, by these calls and no other, so that its names stay. After
--- Ok the name has it, and as long as the file has the name a cut leaves it. Until then a cut may leave any text, and so
--- may a failure.
+-- After these calls a name has what it had before them, and so it has after a cut.
+pub record IsAsBefore (first : Name → Content) (before : List Call) (name : Name) (calls : List Call) : Type 0 where
+  pub found : (c : Content) → MayHave first calls name c → MayHave first before name c
+  pub left : (c : Content) → MayBeLeft first calls name c → MayBeLeft first before name c
+
+-- the new file is taken away once the text is written over the old one, and not before
+abbrev pub EndsWith : {T E : Type 0} → Result T E → List Call → List Call → Type 0
+EndsWith (Ok done) written after = (gone : Bool) × (after ≡ remove Temp gone ∷ written)
+EndsWith (Err why) written after = after ≡ written
+
+-- The text was written over what the file of the name has, by these calls and no other, so that its names stay; until
+-- then the new file stays as it is. After Ok the name has the text, and as long as the file has the name a cut leaves
+-- it, and nothing stands beside it unless it could not be taken away. Until then a cut may leave any text under the
+-- name, and so may a failure.
 pub record Overwriting {T E : Type 0} (first : Name → Content) (before after : List Call) (text : List ℕ)
     (result : Result T E) : Type 0 where
   pub made : List Call
-  pub calls : after ≡ made ++ before
   pub order : AreWritingOver text result made
+  pub calls : EndsWith result (made ++ before) after
+  pub new_stays : AtEachMoment (IsAsBefore first before Temp) made before
   pub found : OnOk result ((c : Content) → MayHave first after Target c → c ≡ Some text)
   pub left : OnOk result ((kept : List ℕ) → FileMayBeLeft first after Target kept → kept ≡ text)
+  pub beside : OnOk result ((c : Content) → MayHave first after Temp c
+      → (c ≡ None) ⊎ (after ≡ remove Temp false ∷ made ++ before))
 
--- the new file has the text
-abbrev pub filled : List ℕ → List Call
-filled text = write Temp text true ∷ create Temp true ∷ []
+-- Why the new file does not come to the name, though no call failed: the folder did not allow it, or that it takes the
+-- name; or the file has other names, and the new one only shows that there is room.
+abbrev pub AreRefused : Kind → List ℕ → List Call → Type 0
+AreRefused Alone text made = (made ≡ refused ∷ []) ⊎ (made ≡ refused ∷ sync Temp true ∷ filled text)
+AreRefused Shared text made = (made ≡ refused ∷ []) ⊎ (made ≡ sync Temp true ∷ filled text)
+AreRefused Special text made = ⊥
 
--- The folder did not allow the new file, or that it takes the name; it was to be taken away then.
-abbrev pub AreRefused : List ℕ → List Call → Type 0
-AreRefused text made =
-    (gone : Bool) × ((made ≡ remove Temp gone ∷ refused ∷ [])
-    ⊎ (made ≡ remove Temp gone ∷ refused ∷ sync Temp true ∷ filled text))
-
--- The folder refused, and until then the name had the old text; then the text was written over that.
-pub record RefusedReplacement {T E : Type 0} (first : Name → Content) (before after : List Call) (text : List ℕ)
+-- Until then the name had the old text; then the text was written over that.
+pub record RefusedReplacement {T E : Type 0} (kind : Kind) (first : Name → Content) (before after : List Call) (text : List ℕ)
     (result : Result T E) : Type 0 where
   pub tried : List Call
-  pub refusal : AreRefused text tried
-  pub each_moment : AtEachMoment (HasOldOrNew first before text) tried before
-  pub beside : (c : Content) → MayHave first (tried ++ before) Temp c → (c ≡ None) ⊎ (0 < failures tried)
+  pub refusal : AreRefused kind text tried
+  pub each_moment : AtEachMoment (IsAsBefore first before Target) tried before
   pub overwriting : Overwriting first (tried ++ before) after text result
+
+-- A call failed while the new file was made, and the name has the old text at each moment.
+pub record LeftAlone {T E : Type 0} (first : Name → Content) (before after : List Call) (text : List ℕ) (result : Result T E) : Type 0 where
+  pub tried : List Call
+  pub order : AreUnfilled text tried
+  pub gone : Bool
+  pub calls : after ≡ remove Temp gone ∷ tried ++ before
+  pub each_moment : AtEachMoment (IsAsBefore first before Target) (remove Temp gone ∷ tried) before
+  pub beside : (c : Content) → MayHave first after Temp c → (c ≡ None) ⊎ (gone ≡ false)
+  pub answer : IsErr result
 
 -- ---- where the calls are known
 
@@ -98,15 +136,21 @@ FromTo old new P = IfSome new (λ after. (before : List Call) × (old ≡ Some b
 abbrev pub PutsInPlace : {T E : Type 0} → Option (List Call) → Option (List Call) → List ℕ → Result T E → Type 0
 PutsInPlace old new text result =
     FromTo old new (λ before after. (first : Name → Content) → AtomicReplacement first before after text result
-    ⊎ RefusedReplacement first before after text result)
+    ⊎ RefusedReplacement Alone first before after text result)
+
+-- The text is written over that of a file with other names, once a new file shows that there is room for it.
+abbrev pub KeepsNames : {T E : Type 0} → Option (List Call) → Option (List Call) → List ℕ → Result T E → Type 0
+KeepsNames old new text result =
+    FromTo old new (λ before after. (first : Name → Content) → LeftAlone first before after text result
+    ⊎ RefusedReplacement Shared first before after text result)
 
 abbrev pub Overwrites : {T E : Type 0} → Option (List Call) → Option (List Call) → List ℕ → Result T E → Type 0
 Overwrites old new text result =
     FromTo old new (λ before after. (first : Name → Content) → Overwriting first before after text result)
 
+-- The text is written behind what the file has, by this one call.
 abbrev pub WritesTo : {T E : Type 0} → Option (List Call) → Option (List Call) → List ℕ → Result T E → Type 0
-WritesTo old new text result =
-    FromTo old new (λ before after. (made : List Call) × (after ≡ made ++ before) × AreWritingTo text result made)
+WritesTo old new text result = Notes old new (write Target text (is_ok result))
 
 -- By what a name leads to: a regular file of one name, or none, is replaced, one of several is written over, and what
 -- is no regular file is written to. Where that can't be found out nothing is done.
@@ -114,7 +158,7 @@ abbrev pub KeepsBy : {T E : Type 0} → Option Kind → Option (List Call) → O
     → Type 0
 KeepsBy None old new text result = (new ≡ old) × IsErr result
 KeepsBy (Some Alone) old new text result = PutsInPlace old new text result
-KeepsBy (Some Shared) old new text result = Overwrites old new text result
+KeepsBy (Some Shared) old new text result = KeepsNames old new text result
 KeepsBy (Some Special) old new text result = WritesTo old new text result
 
 -- This text comes so to the file to which this name leads.
@@ -135,11 +179,64 @@ abbrev pub IsApart : (List ℕ → Option Bool) → Option (List ℕ) → Type 0
 IsApart leads None = Unit {0}
 IsApart leads (Some path) = IfSome (leads path) (λ known. known ≡ false)
 
--- The new file is none that is read, be it the table, the log or the state to go on from; and the name's own file, in
--- the place of which the new one comes, is not the table and not the log.
-pub record HarmsNone (leads : Name → List ℕ → Option Bool) (table log state : Option (List ℕ)) : Type 0 where
-  pub target_is_no_table : IsApart (leads Target) table
-  pub target_is_no_log : IsApart (leads Target) log
-  pub temp_is_no_table : IsApart (leads Temp) table
-  pub temp_is_no_log : IsApart (leads Temp) log
-  pub temp_is_no_state : IsApart (leads Temp) state
+-- a path is given, and it is not known to lead elsewhere
+abbrev pub IsMet : (List ℕ → Option Bool) → Option (List ℕ) → Type 0
+IsMet leads None = ⊥
+IsMet leads (Some path) = IfSome (leads path) (λ known. known ≡ true)
+
+-- standard output and standard error are not known to go to the file
+pub record IsNoOutput (leads : List ℕ → Option Bool) : Type 0 where
+  pub output : IsApart leads (Some (codes "/dev/stdout"))
+  pub errors : IsApart leads (Some (codes "/dev/stderr"))
+
+abbrev pub IsOutput : (List ℕ → Option Bool) → Type 0
+IsOutput leads = IsMet leads (Some (codes "/dev/stdout")) ⊎ IsMet leads (Some (codes "/dev/stderr"))
+
+-- a text that is kept there takes the place of what the file has: what is special is written to behind that
+abbrev pub IsReplaced : Kind → Type 0
+IsReplaced Special = ⊥
+IsReplaced _ = Unit {0}
+
+-- The name's own file is not the table, not the log and not standard error, to which the summary goes later; nor
+-- standard output, if it is replaced.
+pub record SparesTarget (leads : List ℕ → Option Bool) (kind : Kind) (table log : Option (List ℕ)) : Type 0 where
+  pub no_table : IsApart leads table
+  pub no_log : IsApart leads log
+  pub no_errors : IsApart leads (Some (codes "/dev/stderr"))
+  pub no_output : IsReplaced kind → IsApart leads (Some (codes "/dev/stdout"))
+
+abbrev pub HarmsTarget : (List ℕ → Option Bool) → Kind → Option (List ℕ) → Option (List ℕ) → Type 0
+HarmsTarget leads kind table log =
+    IsMet leads table ⊎ IsMet leads log ⊎ IsMet leads (Some (codes "/dev/stderr"))
+    ⊎ (IsReplaced kind × IsMet leads (Some (codes "/dev/stdout")))
+
+-- The new file is none that is read, be it the table, the log or the state to go on from, and no output.
+pub record SparesTemp (leads : List ℕ → Option Bool) (table log state : Option (List ℕ)) : Type 0 where
+  pub no_table : IsApart leads table
+  pub no_log : IsApart leads log
+  pub no_state : IsApart leads state
+  pub no_output : IsNoOutput leads
+
+abbrev pub HarmsTemp : (List ℕ → Option Bool) → Option (List ℕ) → Option (List ℕ) → Option (List ℕ) → Type 0
+HarmsTemp leads table log state = IsMet leads table ⊎ IsMet leads log ⊎ IsMet leads state ⊎ IsOutput leads
+
+-- What is read and printed to stays as it is, where a text is kept in a file of this kind.
+abbrev pub HarmsNone : (Name → List ℕ → Option Bool) → Kind → Option (List ℕ) → Option (List ℕ) → Option (List ℕ) → Type 0
+HarmsNone leads kind table log state = SparesTarget (leads Target) kind table log × SparesTemp (leads Temp) table log state
+
+abbrev pub HarmsSome : (Name → List ℕ → Option Bool) → Kind → Option (List ℕ) → Option (List ℕ) → Option (List ℕ) → Type 0
+HarmsSome leads kind table log state = HarmsTarget (leads Target) kind table log ⊎ HarmsTemp (leads Temp) table log state
+
+-- it is refused only where the kind of the file could not be found out, or something would be harmed
+abbrev pub IsJudged : {T E : Type 0} → Result T E → (Name → List ℕ → Option Bool) → Option Kind → Option (List ℕ) → Option (List ℕ)
+    → Option (List ℕ) → Type 0
+IsJudged (Ok done) leads None table log state = ⊥
+IsJudged (Ok done) leads (Some kind) table log state = HarmsNone leads kind table log state
+IsJudged (Err why) leads None table log state = Unit {0}
+IsJudged (Err why) leads (Some kind) table log state = HarmsSome leads kind table log state
+
+-- One call is made: the folder is turned to this name, and the run judged by what that leads to.
+abbrev pub Admits : {T E : Type 0} → (Name → List ℕ → Option Bool) → Option (List Call) → Option (List Call) → List ℕ
+    → Option (List ℕ) → Option (List ℕ) → Option (List ℕ) → Result T E → Type 0
+Admits leads old new name table log state result =
+    (kind : Option Kind) × Notes old new (turn name kind) × IsJudged result leads kind table log state

@@ -72,7 +72,7 @@ pub trait Folder {
     fn empty(&mut self, name: Name) -> Result<(), Failed>
         ensures { Notes (calls self.old) (calls self.new) (empty name (is_ok result)) };
 
-    /// Writes a text behind what the file of this name has.
+    /// Writes a text behind what the file of this name has, which is opened for it where it is not open.
     fn write(&mut self, name: Name, text: &[u8]) -> Result<(), Failed>
         ensures { Notes (calls self.old) (calls self.new) (write name text.now (is_ok result)) };
 

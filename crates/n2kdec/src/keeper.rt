@@ -1,10 +1,11 @@
 //! Where a state is kept after a run: the trait, and the files of a folder, by which the program does it.
-ghost use Rattle.std.specs.Prelude.{◌≡◌, ℕ, Bool, List, Option, Some, true, OnOk, option_map};
+ghost use Rattle.std.specs.Prelude.{◌≡◌, ℕ, Bool, List, Option, Some, true, false, OnOk, option_map};
 ghost use Rattle.n2k_run.specs.Device.{CountsFailure};
 ghost use Rattle.n2kdec.specs.Commands.{IsAdmitted, Kept, KeepsUnder, Request, request};
-ghost use Rattle.n2kdec.specs.Replacement.{HarmsNone, IsApart, KeepsText, read_log};
+ghost use Rattle.n2kdec.specs.Replacement.{Admits, HarmsTarget, HarmsTemp, IsApart, IsMet, IsNoOutput, IsOutput, KeepsText, SparesTarget, SparesTemp, read_log};
+ghost use Rattle.n2kdec.specs.declared.folder.Name.TheVariants.{Target, Temp};
 
-use crate::folder::{Folder, Name};
+use crate::folder::{Folder, Kind, Name};
 use crate::replacement::keep_text;
 use n2k_run::{Failed, Sink};
 
@@ -44,9 +45,16 @@ pub trait Keeper {
 /// The file that standard input is.
 const STANDARD_INPUT: &str = "/dev/stdin";
 
+/// The file that standard output is.
+const STANDARD_OUTPUT: &str = "/dev/stdout";
+
+/// The file that standard error is.
+const STANDARD_ERROR: &str = "/dev/stderr";
+
 /// Whether the path, where one is given, leads to another file than that of this name.
 fn is_apart<F: Folder>(folder: &F, name: Name, path: Option<&str>) -> bool
-    ensures { result ≡ true → IsApart (F.leads folder.now name) (option_map (λ path. path.now) path.entry) }
+    ensures apart { result ≡ true → IsApart (F.leads folder.now name) (option_map (λ path. path.now) path.entry) }
+    ensures met { result ≡ false → IsMet (F.leads folder.now name) (option_map (λ path. path.now) path.entry) }
 {
     match path {
         Some(path) => !folder.is_at(name, path),
@@ -54,25 +62,69 @@ fn is_apart<F: Folder>(folder: &F, name: Name, path: Option<&str>) -> bool
     }
 }
 
-/// Whether nothing that is read would be harmed by a state that is kept under this name: the new file is none of what
-/// is read, and the name's own file is not the table and not the log.
-fn harms_none<F: Folder>(
+/// Whether neither standard output nor standard error is the file of this name.
+fn is_no_output<F: Folder>(folder: &F, name: Name) -> bool
+    ensures spared { result ≡ true → IsNoOutput (F.leads folder.now name) }
+    ensures harmed { result ≡ false → IsOutput (F.leads folder.now name) }
+{
+    is_apart(folder, name, Some(STANDARD_OUTPUT)) && is_apart(folder, name, Some(STANDARD_ERROR))
+}
+
+/// Whether the name's own file, which is of this kind, is not the table, not the log and not an output. Standard output
+/// may be, where the state comes behind what it has; the summary is written to standard error later.
+fn spares_target<F: Folder>(folder: &F, kind: Kind, table: Option<&str>, log: Option<&str>) -> bool
+    ensures spared { result ≡ true → SparesTarget (F.leads folder.now Target) kind
+        (option_map (λ path. path.now) table.entry) (option_map (λ path. path.now) log.entry) }
+    ensures harmed { result ≡ false → HarmsTarget (F.leads folder.now Target) kind
+        (option_map (λ path. path.now) table.entry) (option_map (λ path. path.now) log.entry) }
+{
+    is_apart(folder, Name::Target, table)
+        && is_apart(folder, Name::Target, log)
+        && is_apart(folder, Name::Target, Some(STANDARD_ERROR))
+        && match kind {
+            Kind::Special => true,
+            Kind::Alone | Kind::Shared => { is_apart(folder, Name::Target, Some(STANDARD_OUTPUT)) }
+        }
+}
+
+/// Whether the new file is none of what is read, and no output.
+fn spares_temp<F: Folder>(
+    folder: &F,
+    table: Option<&str>,
+    log: Option<&str>,
+    state: Option<&str>,
+) -> bool
+    ensures spared { result ≡ true → SparesTemp (F.leads folder.now Temp) (option_map (λ path. path.now) table.entry)
+        (option_map (λ path. path.now) log.entry) (option_map (λ path. path.now) state.entry) }
+    ensures harmed { result ≡ false → HarmsTemp (F.leads folder.now Temp) (option_map (λ path. path.now) table.entry)
+        (option_map (λ path. path.now) log.entry) (option_map (λ path. path.now) state.entry) }
+{
+    is_apart(folder, Name::Temp, table)
+        && is_apart(folder, Name::Temp, log)
+        && is_apart(folder, Name::Temp, state)
+        && is_no_output(folder, Name::Temp)
+}
+
+/// Turns the folder to the file of this name, and answers whether nothing that is read or printed to would be harmed
+/// by a state that is kept there. `Failed` also where that file can't be found out.
+#[tactic(auto, using(crate::proofs::Placing::admits))]
+fn admit_to<F: Folder>(
     folder: &mut F,
     name: &str,
     table: Option<&str>,
     log: Option<&str>,
     state: Option<&str>,
-) -> bool
-    ensures { result ≡ true → HarmsNone (F.leads folder.new) (option_map (λ path. path.now) table.entry)
-        (option_map (λ path. path.now) log.entry) (option_map (λ path. path.now) state.entry) }
+) -> Result<(), Failed>
+    ensures { Admits (F.leads folder.new) (F.calls folder.old) (F.calls folder.new) name.now
+        (option_map (λ path. path.now) table.entry) (option_map (λ path. path.now) log.entry)
+        (option_map (λ path. path.now) state.entry) result }
 {
-    // A name whose file can't be found out is a fault of the saving, and the run comes before that.
-    let _ = folder.turn(name);
-    is_apart(folder, Name::Target, table)
-        && is_apart(folder, Name::Target, log)
-        && is_apart(folder, Name::Temp, table)
-        && is_apart(folder, Name::Temp, log)
-        && is_apart(folder, Name::Temp, state)
+    let kind = folder.turn(name)?;
+    if spares_target(folder, kind, table, log) && spares_temp(folder, table, log, state) {
+        Ok(())
+    } else {
+        Err(Failed)
+    }
 }
 
 /// The files of a folder as a keeper: a state takes the place of what its name has, which may be the file of
@@ -125,16 +177,14 @@ impl<F: Folder> Keeper for StateFiles<F> {
         log: Option<&str>,
         state: Option<&str>,
     ) -> Result<(), Failed>
-        ensures harmless { OnOk result (HarmsNone (F.leads self.new.folder) (option_map (λ path. path.now) table.entry)
-            (Some (read_log (option_map (λ path. path.now) log.entry))) (option_map (λ path. path.now) state.entry)) }
+        ensures harmless { Admits (F.leads self.new.folder) (F.calls self.old.folder) (F.calls self.new.folder) name.now
+            (option_map (λ path. path.now) table.entry) (Some (read_log (option_map (λ path. path.now) log.entry)))
+            (option_map (λ path. path.now) state.entry) result }
         ensures counted { CountsFailure self.old.failed_calls self.new.failed_calls result }
     {
         let log = log.unwrap_or(STANDARD_INPUT);
-        if harms_none(&mut self.folder, name, table, Some(log), state) {
-            self.count(Ok(()))
-        } else {
-            self.count(Err(Failed))
-        }
+        let admitted = admit_to(&mut self.folder, name, table, Some(log), state);
+        self.count(admitted)
     }
 
     fn keep<E: Sink>(&mut self, name: &str, state: &[u8], _errors: &E) -> Result<(), Failed>

@@ -13,6 +13,9 @@ use std::{fs, io};
 /// As many links are followed, one to the next, as the system follows.
 const MOST_LINKS: usize = 40;
 
+/// Those bits of a mode that say who may read, write and run a file.
+const PERMISSIONS: u32 = 0o777;
+
 /// The text of a path beside another, or of one from the root.
 fn path_beside(rt: &HostRuntime, path: &str, target: Path<'_>) -> Result<String, AllocError> {
     let folder = Path::new(path).parent().unwrap_or(Path::new(""));
@@ -33,11 +36,28 @@ fn linked_path(rt: &HostRuntime, path: &str) -> Result<Option<String>, Failed> {
     }
 }
 
-/// The name behind all links; none where it stands for an open file, as `/dev/stdout` does.
+/// The path of the folder in which a path lies, as it is written: `.` where none is.
+fn folder_of(path: &str) -> &str {
+    match Path::new(path).parent() {
+        Some(folder) if !folder.as_str().is_empty() => folder.as_str(),
+        _ => ".",
+    }
+}
+
+/// Whether a path stands for an open file: its folder, behind all links, is one of `/proc`, as that of `/dev/fd/3` is.
+fn is_open_file(rt: &HostRuntime, path: &str) -> Result<bool, Failed> {
+    match fs::canonicalize(rt, folder_of(path)) {
+        Ok(folder) => Ok(folder.starts_with("/proc")),
+        Err(error) if error.kind() == ErrorKind::NotFound => Ok(false),
+        Err(_) => Err(Failed),
+    }
+}
+
+/// The name behind all links; none where it stands for an open file.
 fn follow_links(rt: &HostRuntime, name: &str) -> Result<Option<String>, Failed> {
     let mut path = String::from_str(rt.alloc(), name).map_err(|_| Failed)?;
     for _ in 0..MOST_LINKS {
-        if path.as_str().starts_with("/proc/") {
+        if is_open_file(rt, path.as_str())? {
             return Ok(None);
         }
         match linked_path(rt, path.as_str())? {
@@ -172,14 +192,22 @@ impl SystemFolder {
         }
     }
 
+    /// Opens the file of this name to write behind what it has, if this folder has not opened it.
+    fn open_behind(&mut self, name: Name) -> Result<(), Failed> {
+        if self.opened(name).is_err() {
+            let file = OpenOptions::new()
+                .append(true)
+                .open(&self.rt, self.path(name)?)
+                .map_err(|_| Failed)?;
+            self.opened = Some(Opened { name, file });
+        }
+        Ok(())
+    }
+
     /// The folder itself, opened.
     fn open(&self) -> Result<File, Failed> {
         let path = self.path(Name::Target)?;
-        let opened = match Path::new(path).parent() {
-            Some(folder) if !folder.as_str().is_empty() => fs::open(&self.rt, folder),
-            _ => fs::open(&self.rt, "."),
-        };
-        opened.map_err(|_| Failed)
+        fs::open(&self.rt, folder_of(path)).map_err(|_| Failed)
     }
 }
 
@@ -197,7 +225,7 @@ impl Folder for SystemFolder {
         let was = metadata(&self.rt, name)?;
         let (target, kind) = target_of(&self.rt, name, was.as_ref())?;
         let temp = temp_path(&self.rt, target.as_str())?;
-        let mode = was.map(|was| was.permissions().mode());
+        let mode = was.map(|was| was.permissions().mode() & PERMISSIONS);
         self.names = Some(Names { target, temp, mode });
         Ok(kind)
     }
@@ -238,6 +266,7 @@ impl Folder for SystemFolder {
     }
 
     fn write(&mut self, name: Name, text: &[u8]) -> Result<(), Failed> {
+        self.open_behind(name)?;
         self.opened(name)?.write_all(text).map_err(|_| Failed)
     }
 

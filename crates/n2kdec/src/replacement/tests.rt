@@ -79,15 +79,18 @@ fn a_cut_before_the_syncs_may_leave_a_part_or_the_old_text(rt: HostRuntime) -> R
 }
 
 /// Of the ways in which a text is written over another: the new file is refused (call 2), or that it takes the name
-/// (call 5), or the file has other names. Each has the calls up to this one before it.
-const WAYS: [(Kind, u64, u64); 3] = [
-    (Kind::Alone, 2, 3),
-    (Kind::Alone, 5, 6),
-    (Kind::Shared, 0, 1),
+/// (call 5), or the file has other names. Each has the calls up to the one that empties the old file.
+const WAYS: [(Kind, u64, u64); 4] = [
+    (Kind::Alone, 2, 2),
+    (Kind::Alone, 5, 5),
+    (Kind::Shared, 0, 4),
+    (Kind::Shared, 2, 2),
 ];
 
 #[test]
-fn a_text_is_written_over_another_where_the_folder_refuses(rt: HostRuntime) -> Result<(), Fail> {
+fn a_text_is_written_over_another_where_it_can_not_be_replaced(
+    rt: HostRuntime,
+) -> Result<(), Fail> {
     for (kind, refused, before) in WAYS {
         for own in [
             None,
@@ -99,32 +102,37 @@ fn a_text_is_written_over_another_where_the_folder_refuses(rt: HostRuntime) -> R
             assert!(rt; keep_text(&mut folder, "boat", NEW).is_ok());
             assert_eq!(rt; folder.left(Name::Target, Extent::Part), Some(NEW));
             assert_eq!(rt; folder.left(Name::Temp, Extent::Whole), None);
-            assert_eq!(rt; folder.calls(), before + 3);
+            assert_eq!(rt; folder.calls(), before + 4);
         }
     }
     Ok(())
 }
 
-/// A failure before the folder refuses leaves the old text; one after it fails too, and may leave any text.
+/// A failure before the old file is emptied leaves the old text, and nothing beside it. One after that may leave any
+/// text, and the new file with the whole of it, where one was made.
 #[test]
-fn a_failure_where_the_folder_refuses_is_told(rt: HostRuntime) -> Result<(), Fail> {
+fn a_failure_where_a_text_is_written_over_is_told(rt: HostRuntime) -> Result<(), Fail> {
     for (kind, refused, before) in WAYS {
-        for call in 1..before + 4 {
+        for call in 1..before + 5 {
             for done in EXTENTS {
                 let trouble = Trouble::Failure(call, done);
                 let mut folder = MemoryFolder::new(rt.alloc(), kind, Some(OLD), None)?;
                 folder.refused = refused;
                 folder.trouble = trouble;
-                // A call that is refused doesn't fail, and what becomes of the new file then is not told.
-                let passes = call == refused || refused > 0 && call == before;
+                // A call that is refused doesn't fail, and that the new file stays at the end is not told.
+                let passes = call == refused || call == before + 4;
                 let answer = keep_text(&mut folder, "boat", NEW);
                 assert_eq!(rt; answer.is_ok(), passes, "{refused} {trouble:?}");
-                if call <= before && !passes {
-                    assert_eq!(rt;
-                        folder.left(Name::Target, Extent::Whole),
-                        Some(OLD),
-                        "{refused} {trouble:?}"
-                    );
+                let now = folder.left(Name::Target, Extent::Whole);
+                let beside = folder.left(Name::Temp, Extent::Whole);
+                if passes {
+                    assert_eq!(rt; now, Some(NEW), "{refused} {trouble:?}");
+                } else if call <= before {
+                    assert_eq!(rt; now, Some(OLD), "{refused} {trouble:?}");
+                    assert_eq!(rt; beside, None, "{refused} {trouble:?}");
+                } else {
+                    let made = if before > 2 { Some(NEW) } else { None };
+                    assert_eq!(rt; beside, made, "{refused} {trouble:?}");
                 }
             }
         }
@@ -132,12 +140,15 @@ fn a_failure_where_the_folder_refuses_is_told(rt: HostRuntime) -> Result<(), Fai
     Ok(())
 }
 
-/// What is no regular file is written to, and nothing is synced.
+/// What is no regular file is written to behind what it has, and nothing is synced.
 #[test]
 fn what_is_no_regular_file_is_written_to(rt: HostRuntime) -> Result<(), Fail> {
-    let mut folder = MemoryFolder::new(rt.alloc(), Kind::Special, None, None)?;
-    assert!(rt; keep_text(&mut folder, "boat", NEW).is_ok());
-    assert_eq!(rt; folder.left(Name::Target, Extent::Whole), Some(NEW));
-    assert_eq!(rt; folder.calls(), 3);
+    let mut folder = MemoryFolder::new(rt.alloc(), Kind::Special, Some(b"notes, "), None)?;
+    assert!(rt; keep_text(&mut folder, "boat", b"state").is_ok());
+    assert_eq!(rt;
+        folder.left(Name::Target, Extent::Whole),
+        Some(b"notes, state".as_slice())
+    );
+    assert_eq!(rt; folder.calls(), 2);
     Ok(())
 }
