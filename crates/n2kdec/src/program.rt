@@ -1,11 +1,11 @@
 //! From the words that were typed to the status that the program ends with, over any machine.
-ghost use Rattle.std.specs.Prelude.{◌≡◌, ◌⊎◌, ◌<◌, ◌≤◌, IfErr, IfOk, IfSome, OnOk, Some, length, map, option_map, string_bytes, vec_len};
+ghost use Rattle.std.specs.Prelude.{◌≡◌, ◌⊎◌, ◌<◌, ◌≤◌, ℕ, IfErr, IfOk, IfSome, OnOk, Some, length, map, option_map, string_bytes, vec_len};
 ghost use Rattle.std.specs.Process.{exit_status};
 ghost use Rattle.clap.specs.Walk.{texts};
 ghost use Rattle.n2k_run.specs.Device.{HasFailed};
 ghost use Rattle.n2k_run.specs.FramesOut.{IsInterface};
 ghost use Rattle.n2kdec.specs.Fault.{longest_file};
-ghost use Rattle.n2kdec.specs.Machine.{AsksFor, DoesTyped, FollowsWords, IsNamed, IsOfFile, IsReadable, IsState, IsTable, IsUnasked, IsUnbegun, IsUnopened, IsUnreadFile, ReportsFault, RunsTyped, Shows, bytes_of, outside};
+ghost use Rattle.n2kdec.specs.Machine.{AsksFor, DoesTyped, FollowsWords, HasCalled, IsNamed, IsOfFile, IsReadable, IsState, IsTable, IsUnasked, IsUnbegun, IsUnopened, IsUnreadFile, ReportsFault, RunsTyped, Shows, bytes_of, outside};
 ghost use Rattle.n2kdec.specs.Commands.{place};
 ghost use Rattle.n2kdec.specs.Words.{IsCommand, interface_name, resume_name, save_name, table_name};
 
@@ -50,6 +50,7 @@ fn open<M: Machine>(machine: &mut M, name: Option<&str>, refused: Fault) -> Resu
     ensures none_called { IfOk result (λ file. M.File.calls file ≡ 0) }
     ensures none_failed { IfOk result (λ file. M.File.failed_calls file ≡ 0) }
     ensures counted { OnOk result (M.failed_reads machine.new ≡ M.failed_reads machine.old) }
+    ensures no_read { M.reads machine.new ≡ M.reads machine.old }
     ensures fault { IfErr result (IsUnopened (option_map (λ text. text.now) name.entry) refused
         (M.failed_reads machine.old) (M.failed_reads machine.new)) }
 {
@@ -98,6 +99,7 @@ fn read_file<M: Machine>(
     ensures bytes { IfOk result (λ read. IsOfFile (M.world machine.old) name.now read.items) }
     ensures readable { OnOk result (IsReadable (M.world machine.old) (Some name.now)) }
     ensures counted { OnOk result (M.failed_reads machine.new ≡ M.failed_reads machine.old) }
+    ensures called { HasCalled (M.reads machine.old) (M.reads machine.new) 0 }
     ensures fault { IfErr result (IsUnreadFile (M.world machine.old) (Some name.now) too_large unread
         (M.failed_reads machine.old) (M.failed_reads machine.new)) }
 {
@@ -114,6 +116,7 @@ fn read_table<M: Machine>(alloc: Global, machine: &mut M, words: &Words) -> Resu
     ensures bytes { IfOk result (λ read. IsTable (M.world machine.old) (table_name words.now) read.items) }
     ensures readable { OnOk result (IsReadable (M.world machine.old) (table_name words.now)) }
     ensures counted { OnOk result (M.failed_reads machine.new ≡ M.failed_reads machine.old) }
+    ensures called { HasCalled (M.reads machine.old) (M.reads machine.new) 0 }
     ensures fault { IfErr result (IsUnbegun (M.world machine.old) words.now (M.failed_reads machine.old)
         (M.failed_reads machine.new)) }
 {
@@ -136,6 +139,7 @@ fn read_state<M: Machine>(
         (option_map (λ bytes. bytes.items) read)) }
     ensures readable { OnOk result (IsReadable (M.world machine.old) (resume_name words.now)) }
     ensures counted { OnOk result (M.failed_reads machine.new ≡ M.failed_reads machine.old) }
+    ensures called { HasCalled (M.reads machine.old) (M.reads machine.new) 0 }
     ensures fault { IfErr result (IsUnbegun (M.world machine.old) words.now (M.failed_reads machine.old)
         (M.failed_reads machine.new)) }
 {
@@ -151,7 +155,8 @@ fn read_state<M: Machine>(
     }
 }
 
-/// Performs what the words name over the log that they name, or over standard input.
+/// Performs what the words name over the log that they name, or over standard input. It ends a run that had
+/// counted no more reads when it began.
 fn run_on_log<M: Machine, K: Keeper>(
     alloc: Global,
     machine: &mut M,
@@ -167,9 +172,10 @@ fn run_on_log<M: Machine, K: Keeper>(
         (resume_name words.now) }
     requires state { IsState (M.world machine.old) (resume_name words.now) (option_map (λ bytes. bytes.now) state) }
     ensures same { M.world machine.new ≡ M.world machine.old }
-    ensures follows { FollowsWords (M.world machine.old) words.now
-        (outside M.Output.Sink M.Errors.Sink K.Keeper (M.failed_reads machine.old) outlets.old)
-        (outside M.Output.Sink M.Errors.Sink K.Keeper (M.failed_reads machine.new) outlets.new) result }
+    ensures follows { (had : ℕ) → HasCalled had (M.reads machine.old) 0 → FollowsWords (M.world machine.old) words.now
+        (outside M.Output.Sink M.Errors.Sink K.Keeper (M.failed_reads machine.old) had outlets.old)
+        (outside M.Output.Sink M.Errors.Sink K.Keeper (M.failed_reads machine.new) (M.reads machine.new) outlets.new)
+        result }
 {
     let mut log = open(machine, words.log(), Fault::Read)?;
     let answer = run_command(alloc, words, table, state, &mut log, outlets);
@@ -188,8 +194,9 @@ fn run_on_files<M: Machine, K: Keeper>(
     requires interface { IsInterface (interface_name words.now) }
     ensures same { M.world machine.new ≡ M.world machine.old }
     ensures follows { FollowsWords (M.world machine.old) words.now
-        (outside M.Output.Sink M.Errors.Sink K.Keeper (M.failed_reads machine.old) outlets.old)
-        (outside M.Output.Sink M.Errors.Sink K.Keeper (M.failed_reads machine.new) outlets.new) result }
+        (outside M.Output.Sink M.Errors.Sink K.Keeper (M.failed_reads machine.old) (M.reads machine.old) outlets.old)
+        (outside M.Output.Sink M.Errors.Sink K.Keeper (M.failed_reads machine.new) (M.reads machine.new) outlets.new)
+        result }
 {
     let table = read_table(alloc, machine, words)?;
     let resumed = read_state(alloc, machine, words)?;
@@ -224,8 +231,9 @@ fn run_words<M: Machine, K: Keeper>(
     requires { IsCommand words.now }
     ensures same { M.world machine.new ≡ M.world machine.old }
     ensures follows { FollowsWords (M.world machine.old) words.now
-        (outside M.Output.Sink M.Errors.Sink K.Keeper (M.failed_reads machine.old) outlets.old)
-        (outside M.Output.Sink M.Errors.Sink K.Keeper (M.failed_reads machine.new) outlets.new) result }
+        (outside M.Output.Sink M.Errors.Sink K.Keeper (M.failed_reads machine.old) (M.reads machine.old) outlets.old)
+        (outside M.Output.Sink M.Errors.Sink K.Keeper (M.failed_reads machine.new) (M.reads machine.new) outlets.new)
+        result }
 {
     interface(words)?;
     admit(words, &mut outlets.keeper)?;
@@ -249,8 +257,9 @@ fn run_typed<M: Machine, K: Keeper>(
 ) -> Result<u8, Fault>
     ensures same { M.world machine.new ≡ M.world machine.old }
     ensures does { DoesTyped (M.world machine.old)
-        (outside M.Output.Sink M.Errors.Sink K.Keeper (M.failed_reads machine.old) outlets.old)
-        (outside M.Output.Sink M.Errors.Sink K.Keeper (M.failed_reads machine.new) outlets.new) result }
+        (outside M.Output.Sink M.Errors.Sink K.Keeper (M.failed_reads machine.old) (M.reads machine.old) outlets.old)
+        (outside M.Output.Sink M.Errors.Sink K.Keeper (M.failed_reads machine.new) (M.reads machine.new) outlets.new)
+        result }
 {
     let words = typed_words(alloc, machine)?;
     match &words {
@@ -284,8 +293,8 @@ pub fn run<M: Machine, K: Keeper>(
     outlets: &mut Outlets<M::Output, M::Errors, K>,
 ) -> ExitCode
     ensures { RunsTyped (M.world machine.old)
-        (outside M.Output.Sink M.Errors.Sink K.Keeper (M.failed_reads machine.old) outlets.old)
-        (outside M.Output.Sink M.Errors.Sink K.Keeper (M.failed_reads machine.new) outlets.new)
+        (outside M.Output.Sink M.Errors.Sink K.Keeper (M.failed_reads machine.old) (M.reads machine.old) outlets.old)
+        (outside M.Output.Sink M.Errors.Sink K.Keeper (M.failed_reads machine.new) (M.reads machine.new) outlets.new)
         (exit_status result) }
 {
     match run_typed(alloc, machine, outlets) {
