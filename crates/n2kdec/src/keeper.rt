@@ -1,7 +1,7 @@
 //! Where a state is kept after a run: the trait, and the files of a folder, by which the program does it.
-ghost use Rattle.std.specs.Prelude.{◌≡◌, ℕ, List, Option, Some, true, OnOk, option_map};
+ghost use Rattle.std.specs.Prelude.{◌≡◌, ℕ, List, Option, Some, true, OnErr, OnOk, option_map};
 ghost use Rattle.n2k_run.specs.Device.{CountsFailure};
-ghost use Rattle.n2kdec.specs.Commands.{Kept, KeepsUnder};
+ghost use Rattle.n2kdec.specs.Commands.{Kept, KeepsUnder, MayKeepUnder};
 ghost use Rattle.n2kdec.specs.Replacement.{HarmsNone, IsApart, KeepsText, read_log};
 
 use crate::folder::{Folder, Name};
@@ -28,10 +28,12 @@ pub trait Keeper {
         ensures same { kept self.new ≡ kept self.old }
         ensures counted { CountsFailure (failed_calls self.old) (failed_calls self.new) result };
 
-    /// Keeps a state under this name, in the place of what the name has. `Failed` where it can't. The errors are lent,
-    /// so that a keeper may note what they held then.
+    /// Keeps a state under this name, in the place of what the name has. `Failed` where it can't, or where it isn't sure.
+    /// The errors are lent, so that a keeper may note what they held then.
     fn keep<E: Sink>(&mut self, name: &str, state: &[u8], errors: &E) -> Result<(), Failed>
         ensures bytes { OnOk result (KeepsUnder (Some name.now) (kept self.old) (kept self.new) state.now
+            (E.contents errors.now)) }
+        ensures unkept { OnErr result (MayKeepUnder (Some name.now) (kept self.old) (kept self.new) state.now
             (E.contents errors.now)) }
         ensures counted { CountsFailure (failed_calls self.old) (failed_calls self.new) result };
 }

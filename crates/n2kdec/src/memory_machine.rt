@@ -175,6 +175,7 @@ impl MemoryKeeper {
         ensures kept { OnOk result (map (λ k. kept_text (string_bytes k.0) k.1.items) self.new.kept.items
             ≡ map (λ k. kept_text (string_bytes k.0) k.1.items) self.old.kept.items
             ++ kept_text name.now text.now ∷ []) }
+        ensures unkept { OnErr result (self.new.kept.items ≡ self.old.kept.items) }
         ensures same { self.new.failed_calls ≡ self.old.failed_calls }
     {
         let alloc = *self.kept.allocator();
