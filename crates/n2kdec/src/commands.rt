@@ -3,7 +3,8 @@ ghost use Rattle.std.specs.Prelude.{◌≡◌, ◌≤◌, IfErr, IfOk, IfSome, N
 ghost use Rattle.n2k_run.specs.Device.{CountsFailure};
 ghost use Rattle.n2k_run.specs.FramesOut.{IsInterface};
 ghost use Rattle.n2k_run.specs.Runs.{seen};
-ghost use Rattle.n2kdec.specs.Commands.{FailsToKeep, IsRefusal, KeepsUnder, MayKeepUnder, Performs, HasStatus, place, shelf};
+ghost use Rattle.n2kdec.specs.Commands.{FailsToKeep, HasStatus, IsRefusal, KeepsUnder, MayKeepUnder, Performs};
+ghost use Rattle.n2kdec.specs.Commands.{place, shelf};
 ghost use Rattle.n2kdec.specs.Inner.Closing.{ClosesPart, ClosesWhole, ClosesWork, SumsUp};
 ghost use Rattle.n2kdec.specs.Words.{IsCommand, interface_name, save_name};
 

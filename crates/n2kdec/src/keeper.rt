@@ -28,8 +28,8 @@ pub trait Keeper {
         ensures same { kept self.new ≡ kept self.old }
         ensures counted { CountsFailure (failed_calls self.old) (failed_calls self.new) result };
 
-    /// Keeps a state under this name, in the place of what the name has. `Failed` where it can't, or where it isn't sure.
-    /// The errors are lent, so that a keeper may note what they held then.
+    /// Keeps a state under this name, in the place of what the name has. `Failed` where it can't, or can't be sure. The
+    /// errors are lent, so that a keeper may note what they held then.
     fn keep<E: Sink>(&mut self, name: &str, state: &[u8], errors: &E) -> Result<(), Failed>
         ensures bytes { OnOk result (KeepsUnder (Some name.now) (kept self.old) (kept self.new) state.now
             (E.contents errors.now)) }
