@@ -17,7 +17,7 @@ use Rattle.n2k_run.specs.declared.fault.RunFault.TheVariants as run
 use Rattle.n2k_run.specs.declared.part.Part.{Part}
 use Rattle.n2k_table.specs.declared.fault.TableFault.{TableFault}
 use Rattle.n2kdec.specs.Inner.Closing.{Closes, ClosesWhole, SumsUp}
-use Rattle.n2kdec.specs.Commands.{BreaksOff, CannotBeSaved, Command, Ends, EndsByTable, HasDevice, HasTaken, HasTakenAll, IsCutOff, IsDone, IsRefusedOrStopped, IsSaved, IsStopped, IsUntouched, IsWritten, IsWrittenUnlessFailed, Replaces, Leaves, Place, SumsUpPart, Shelf, entries_for, no_saving, place}
+use Rattle.n2kdec.specs.Commands.{BreaksOff, CannotBeSaved, Command, Ends, EndsByTable, FailsToKeep, HasDevice, HasTaken, HasTakenAll, IsCutOff, IsDone, IsRefusedOrStopped, IsSaved, IsStopped, IsUntouched, IsWritten, IsWrittenUnlessFailed, Replaces, Leaves, Place, SumsUpPart, Shelf, entries_for, no_saving, place}
 use Rattle.n2kdec.specs.Fault.{exit_status, fault_of_run}
 use Rattle.n2kdec.specs.declared.fault.Fault.{Fault}
 use Rattle.n2kdec.specs.declared.fault.Fault.TheVariants.{Memory, Report, Table}
@@ -63,7 +63,7 @@ module _ (c : Command) (stands : List Entry → Type 0) (before after : Devices)
   -- what follows the fault of a run: the summary of the lines that it has taken, or nothing
   abbrev pub Follows : RunFault → Type 0
   Follows run.Read = (es : List Entry) → stands es → SumsUpPart c.sums_up_a_part errors summed (summary_text (c.counts es))
-      × (Replaces c.saving.before c.saving.after (c.saving.state es) errors.text ⊎ CannotBeSaved c.saving)
+      × (Replaces c.saving.before c.saving.after (c.saving.state es) errors.text ⊎ FailsToKeep c.saving.before c.saving.after (c.saving.state es) errors.text)
   Follows run.TooManyLines = (es : List Entry) → stands es → SumsUpPart c.sums_up_a_part errors summed (summary_text (c.counts es))
       × IsUntouched c.saving
   Follows _ = IsLeft
@@ -80,10 +80,11 @@ module _ (c : Command) (stands : List Entry → Type 0) (before after : Devices)
   }
 
   -- what is kept before the summary is kept behind the reports
-  saved_behind : (es : List Entry) → Gained c.output before mid es → Replaces c.saving.before c.saving.after (c.saving.state es) errors.text ⊎ CannotBeSaved c.saving
-      → IsSaved c before es ⊎ CannotBeSaved c.saving
+  saved_behind : (es : List Entry) → Gained c.output before mid es
+      → Replaces c.saving.before c.saving.after (c.saving.state es) errors.text ⊎ FailsToKeep c.saving.before c.saving.after (c.saving.state es) errors.text
+      → IsSaved c before es ⊎ CannotBeSaved c before es
   saved_behind es gained (inl keeps) = inl (errors.text, gained.reported, keeps)
-  saved_behind es gained (inr failed) = inr failed
+  saved_behind es gained (inr fails) = inr (errors.text, gained.reported, fails)
 
   all_numbered : (es : List Entry) → c.output.counted + length es ≡ most_lines → AreNumbered c.output.counted es
   all_numbered es full = λ some. omega (arith, full)
@@ -173,6 +174,9 @@ module _ (c : Command) (stands : List Entry → Type 0) (before after : Devices)
     saved : Replaces c.saving.before c.saving.after text errors.text → IsSaved c before es
     saved keeps = (errors.text, ran.ends.gained.reported, subst (λ t. Replaces c.saving.before c.saving.after t errors.text) counted.1 keeps)
 
+    unsaved : FailsToKeep c.saving.before c.saving.after text errors.text → CannotBeSaved c before es
+    unsaved fails = (errors.text, ran.ends.gained.reported, subst (λ t. FailsToKeep c.saving.before c.saving.after t errors.text) counted.1 fails)
+
     done : (status : ℕ) → Replaces c.saving.before c.saving.after text errors.text → IsWritten errors summed (summary_text counts) → status ≡ exit_status counts → IsDone c before after status
     done status keeps whole is = record {
       came = ran.ends.came;
@@ -220,10 +224,10 @@ module _ (c : Command) (stands : List Entry → Type 0) (before after : Devices)
 
     pub ended_by_closing : (r : Result ℕ Fault) → Closes c.saving.before c.saving.after errors summed text counts r → Ends c before after r
     ended_by_closing r (inl saved) = summed_up r saved.0 saved.1
-    ended_by_closing r (inr unsaved) = subst (Ends c before after) (sym unsaved.0) (record {
-      leaves = all_taken IsWrittenUnlessFailed (λ es. CannotBeSaved c.saving) unsaved.2 unsaved.1;
-      device = (unsaved.1, record { reads = ran.device.reads; writes = ran.device.writes });
-      reports_first = first unsaved.2;
+    ended_by_closing r (inr fails) = subst (Ends c before after) (sym fails.0) (record {
+      leaves = all_taken IsWrittenUnlessFailed (CannotBeSaved c before) fails.2 (unsaved fails.1);
+      device = (fails.1.failed, record { reads = ran.device.reads; writes = ran.device.writes });
+      reports_first = first fails.2;
     })
 
 -- the run of a whole log, of which an answer tells and which is then closed: no state is saved

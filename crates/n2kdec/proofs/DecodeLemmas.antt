@@ -10,7 +10,6 @@ use Rattle.n2k_join.specs.State.{State as StateOf, state}
 use Rattle.n2k_join.specs.declared.fault.StateFault.{StateFault}
 use Rattle.n2k_join.specs.declared.fault.StateFault.TheVariants as state_faults
 use Rattle.n2k_run.specs.Decoded.{join_fold, output_after}
-use Rattle.n2k_run.specs.Device.{HasFailed}
 use Rattle.n2k_run.specs.Entries.{entries}
 use Rattle.n2k_run.specs.Fold.{after_all}
 use Rattle.n2k_run.specs.Headline.{state_after}
@@ -29,7 +28,7 @@ use Rattle.n2k_run.proofs.Joined.{refused_memory}
 use Rattle.n2k_run.proofs.Parting.{told_ok, told_run, told_stopped}
 use Rattle.n2k_run.proofs.Running.{known_more}
 use Rattle.n2kdec.specs.Inner.Closing.{Closes, ClosesPart}
-use Rattle.n2kdec.specs.Commands.{CannotBeSaved, Command, Decodes, Ends, EndsUnlessRefused, IsJudged, IsStopped, IsWrittenUnlessFailed, Replaces, Place, PrintsRest, Shelf, decode_to, place}
+use Rattle.n2kdec.specs.Commands.{Command, Decodes, Ends, EndsUnlessRefused, FailsToKeep, IsJudged, IsStopped, IsWrittenUnlessFailed, Replaces, Place, PrintsRest, Shelf, decode_to, place}
 use Rattle.n2kdec.specs.Fault.{exit_status, fault_of_run}
 use Rattle.n2kdec.specs.declared.fault.Fault.{Fault}
 use Rattle.n2kdec.specs.declared.fault.Fault.TheVariants.{Save, State, Table}
@@ -61,10 +60,10 @@ module _ (o : Output) (stands_at : List Entry → StateOf) (t : TableParts) (opt
       → IsWrittenUnlessFailed errors said (summary_text (c.counts es))
   summary_of part es is written = subst (λ n. IsWrittenUnlessFailed errors said (summary_text n)) is.counted written
 
-  saved_or_not : (part : Part) (es : List Entry) → IsPartOf t options (stands_at es) part → Replaces keeper kept part.state.items errors.text ⊎ HasFailed keeper.failed kept.failed
-      → Replaces keeper kept (c.saving.state es) errors.text ⊎ CannotBeSaved c.saving
+  saved_or_not : (part : Part) (es : List Entry) → IsPartOf t options (stands_at es) part → Replaces keeper kept part.state.items errors.text ⊎ FailsToKeep keeper kept part.state.items errors.text
+      → Replaces keeper kept (c.saving.state es) errors.text ⊎ FailsToKeep keeper kept (c.saving.state es) errors.text
   saved_or_not part es is (inl keeps) = inl (subst (λ s. Replaces keeper kept s errors.text) is.saved keeps)
-  saved_or_not part es is (inr failed) = inr failed
+  saved_or_not part es is (inr fails) = inr (subst (λ s. FailsToKeep keeper kept s errors.text) is.saved fails)
 
   -- what the run of a part and its closing come to
   closed : (ended : Result Part PartFault) (r : Result ℕ Fault) → IsOfKind ended → RefusedByMemory ended

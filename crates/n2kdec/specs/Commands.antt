@@ -100,6 +100,10 @@ KeepsUnder (Some name) (Some had) (Some all) text held =
     (said : Option (List ℕ)) × IfSome said (λ noted. held ≡ Some noted)
     × (all ≡ had ++ record { name = name; text = text; said = said } ∷ [])
 
+-- nothing was kept, or this text under the name
+abbrev pub MayKeepUnder : Option (List ℕ) → Option (List Kept) → Option (List Kept) → List ℕ → Option (List ℕ) → Type 0
+MayKeepUnder name before after text held = (after ≡ before) ⊎ KeepsUnder name before after text held
+
 -- the state that is saved after entries, and what keeps it, before the command and after it
 pub record Saving : Type 0 where
   pub state : List Entry → List ℕ
@@ -120,9 +124,19 @@ abbrev pub ReplacesBehind : Shelf → Shelf → List ℕ → Option (List ℕ) �
 ReplacesBehind before after text had report =
     (held : Option (List ℕ)) × Appends had held report × Replaces before after text held
 
--- it can't be kept
-abbrev pub CannotBeSaved : Saving → Type 0
-CannotBeSaved s = HasFailed s.before.failed s.after.failed
+-- What keeps this text failed while the errors held so much: no other text was kept, and none under another name.
+pub record FailsToKeep (before after : Shelf) (text : List ℕ) (held : Option (List ℕ)) : Type 0 where
+  pub kept : MayKeepUnder before.name before.kept after.kept text held
+  pub failed : HasFailed before.failed after.failed
+
+-- it failed when the errors had gained this report, and no more
+abbrev pub FailsBehind : Shelf → Shelf → List ℕ → Option (List ℕ) → List ℕ → Type 0
+FailsBehind before after text had report =
+    (held : Option (List ℕ)) × Appends had held report × FailsToKeep before after text held
+
+-- the place of the state failed
+abbrev pub HasSaveFailed : Saving → Type 0
+HasSaveFailed s = HasFailed s.before.failed s.after.failed
 
 -- the place is as it was
 abbrev pub IsUntouched : Saving → Type 0
@@ -175,6 +189,11 @@ entries_for c log = entries c.output.packing log
 abbrev pub IsSaved : Command → Devices → List Entry → Type 0
 IsSaved c before es =
     ReplacesBehind c.saving.before c.saving.after (c.saving.state es) before.reported (c.output.reports es)
+
+-- it can't be kept, and nothing else is
+abbrev pub CannotBeSaved : Command → Devices → List Entry → Type 0
+CannotBeSaved c before es =
+    FailsBehind c.saving.before c.saving.after (c.saving.state es) before.reported (c.output.reports es)
 
 -- the reports of entries, and then their summary
 abbrev pub summed_up : Command → List Entry → List ℕ
@@ -229,7 +248,8 @@ pub record HasRead (c : Command) (before after : Devices) : Type 0 where
   pub came : List ℕ
   pub given : Consumes before.left after.left came
   pub taken : HasTaken c before after (entries_for c (whole_lines came)) (SumsUpPart c.sums_up_a_part)
-  pub saved : IsSaved c before (entries_for c (whole_lines came)) ⊎ CannotBeSaved c.saving
+  pub saved : IsSaved c before (entries_for c (whole_lines came))
+      ⊎ CannotBeSaved c before (entries_for c (whole_lines came))
 
 -- As many lines are taken as are counted, and the log, where its bytes are known, has more. Nothing is saved.
 pub record IsFull (c : Command) (before after : Devices) : Type 0 where
@@ -250,7 +270,7 @@ LacksSummary c before after = HasTakenAll c before after IsCutOff (IsSaved c bef
 
 -- the log is printed and reported, and the state after it can't be saved
 abbrev pub LacksState : Command → Devices → Devices → Type 0
-LacksState c before after = HasTakenAll c before after IsWrittenUnlessFailed (λ es. CannotBeSaved c.saving)
+LacksState c before after = HasTakenAll c before after IsWrittenUnlessFailed (CannotBeSaved c before)
 
 -- What each fault leaves. Read: the lines that came are taken. Lines: as many as are counted are. Save: the log is
 -- taken. In these three the summary, where one is written, is cut off only where the errors failed. After Write and
@@ -280,7 +300,7 @@ HasDevice c before after Read =
     ⊎ (OutlastsReads before.calls after.calls × (after.failed_reads ≡ before.failed_reads)))
     × (after.failed_writes ≡ before.failed_writes)
 HasDevice c before after Lines = LogAndOutputHold before after
-HasDevice c before after Save = CannotBeSaved c.saving × LogAndOutputHold before after
+HasDevice c before after Save = HasSaveFailed c.saving × LogAndOutputHold before after
 HasDevice c before after Write = WriteFails before after
 HasDevice c before after Report = ReportFails before after × (c.saving.after.failed ≡ c.saving.before.failed)
 HasDevice c before after Memory = NoneFailed before after ⊎ ((c.sums_up_a_part ≡ true) × ReadFails before after)

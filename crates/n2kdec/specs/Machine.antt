@@ -1,7 +1,7 @@
 -- What the program meets, and what comes of the words that were typed: the files that they name are read, their command
 -- is performed, its state is kept under the name that they have for it, and a fault is reported.
-use Rattle.std.specs.Prelude.{◌≡◌, ◌⊎◌, ◌<◌, ◌≤◌, ℕ, Bool, List, [], Option, Some, None, IfSome, MatchResult, Result}
-use Rattle.std.specs.Prelude.{Ok, Err, length}
+use Rattle.std.specs.Prelude.{◌≡◌, ◌⊎◌, ◌<◌, ◌≤◌, ◌+◌, ◌-◌, ◌^◌, ℕ, Bool, List, [], Option, Some, None, IfSome}
+use Rattle.std.specs.Prelude.{MatchResult, Result, Ok, Err, length}
 use Rattle.clap.specs.Words.{Text}
 use Rattle.n2k_run.specs.declared.device.Sink.{Ghosts as OfSink}
 use Rattle.n2k_run.specs.Device.{HasFailed}
@@ -55,24 +55,35 @@ CountsOpening name before after (Err unopened.Refused) = IsNamed name × HasFail
 abbrev pub AddsFailures : ℕ → ℕ → ℕ → Type 0
 AddsFailures before after more = (more ≡ 0 → after ≡ before) × (0 < more → HasFailed before after)
 
+-- so many calls more are counted; at 2^64 - 1 the number stays
+abbrev pub AddsCalls : ℕ → ℕ → ℕ → Type 0
+AddsCalls before after more =
+    (after < 2 ^ 64 - 1 → after ≡ before + more) × (before + more < 2 ^ 64 - 1 → after < 2 ^ 64 - 1)
+
+-- at least so many more are, unless the number stands at 2^64 - 1
+abbrev pub HasCalled : ℕ → ℕ → ℕ → Type 0
+HasCalled before after calls = after < 2 ^ 64 - 1 → before + calls ≤ after
+
 -- What the program changes: the output, the errors, and what was kept under which name, with the number of calls that
--- failed; and how many openings and reads of files failed. Which states may be kept, where that is known, it does not
--- change.
+-- failed; how many openings and reads of files failed; and how many reads of files were made. Which states may be kept,
+-- where that is known, it does not change.
 pub record Outside : Type 0 where
   pub output : Place
   pub errors : Place
   pub kept : Option (List Kept)
   pub failed_keeps : ℕ
   pub failed_reads : ℕ
+  pub reads : ℕ
   pub admits : Request → Option Bool
 
-abbrev pub outside : {W E K : Type 0} → OfSink W → OfSink E → OfKeeper K → ℕ → Outlets W E K → Outside
-outside w e k failed_reads outlets = record {
+abbrev pub outside : {W E K : Type 0} → OfSink W → OfSink E → OfKeeper K → ℕ → ℕ → Outlets W E K → Outside
+outside w e k failed_reads reads outlets = record {
   output = place (w.contents outlets.output) (w.failed_calls outlets.output);
   errors = place (e.contents outlets.errors) (e.failed_calls outlets.errors);
   kept = k.kept outlets.keeper;
   failed_keeps = k.failed_calls outlets.keeper;
   failed_reads = failed_reads;
+  reads = reads;
   admits = k.admits;
 }
 
@@ -104,11 +115,13 @@ abbrev pub with_log : Option (List ℕ) → ℕ → ℕ → Outside → Devices
 with_log left calls failed o = devices left calls failed o.output.text o.output.failed o.errors.text o.errors.failed
 
 -- The command that the words name is performed by these bytes of a table and of a state, over a log with these bytes.
--- The failed calls of the log are counted, so that a failed read is reported of no log of which none failed.
+-- The calls of the log are counted, and the failed ones, so that Read is reported of no log of which neither a read
+-- failed nor as many reads were made as a run makes at most.
 pub record IsPerformedOver (words : Words) (table : List ℕ) (handed left : Option (List ℕ)) (before after : Outside)
     (result : Result ℕ Fault) : Type 0 where
   pub log : LogAfter
   pub counted : AddsFailures before.failed_reads after.failed_reads log.failed
+  pub called : HasCalled before.reads after.reads log.calls
   pub performs : Performs words table handed (with_log left 0 0 before) (with_log log.left log.calls log.failed after)
       (shelf (save_name words) before.kept before.failed_keeps)
       (shelf (save_name words) after.kept after.failed_keeps) result
@@ -189,7 +202,7 @@ IsBehindAdmission admits words _ = IsStateAdmitted admits words
 
 -- it is not begun, and nothing is printed or kept
 pub record IsNotBegun (w : World) (words : Words) (before after : Outside) (fault : Fault) : Type 0 where
-  pub else_same : after ≡ record before { failed_reads = after.failed_reads }
+  pub else_same : after ≡ record before { failed_reads = after.failed_reads; reads = after.reads }
   pub unbegun : IsUnbegun w words before.failed_reads after.failed_reads fault
   pub behind : IsBehindAdmission before.admits words fault
 

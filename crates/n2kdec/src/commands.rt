@@ -1,9 +1,10 @@
 //! What the words name, done over its devices: what is printed, what is saved, and the status of it.
 ghost use Rattle.std.specs.Prelude.{◌≡◌, ◌≤◌, IfErr, IfOk, IfSome, None, OnErr, OnOk, option_map};
-ghost use Rattle.n2k_run.specs.Device.{CountsFailure, HasFailed};
+ghost use Rattle.n2k_run.specs.Device.{CountsFailure};
 ghost use Rattle.n2k_run.specs.FramesOut.{IsInterface};
 ghost use Rattle.n2k_run.specs.Runs.{seen};
-ghost use Rattle.n2kdec.specs.Commands.{IsRefusal, KeepsUnder, Performs, HasStatus, place, shelf};
+ghost use Rattle.n2kdec.specs.Commands.{FailsToKeep, HasStatus, IsRefusal, KeepsUnder, MayKeepUnder, Performs};
+ghost use Rattle.n2kdec.specs.Commands.{place, shelf};
 ghost use Rattle.n2kdec.specs.Inner.Closing.{ClosesPart, ClosesWhole, ClosesWork, SumsUp};
 ghost use Rattle.n2kdec.specs.Words.{IsCommand, interface_name, save_name};
 
@@ -41,6 +42,8 @@ fn save<K: Keeper, E: Sink>(
 ) -> Result<(), Failed>
     ensures kept { OnOk result (KeepsUnder (save_name words.now) (K.kept keeper.old) (K.kept keeper.new) state.now
         (E.contents errors.now)) }
+    ensures unkept { OnErr result (MayKeepUnder (save_name words.now) (K.kept keeper.old) (K.kept keeper.new) state.now
+        (E.contents errors.now)) }
     ensures counted { CountsFailure (K.failed_calls keeper.old) (K.failed_calls keeper.new) result }
 {
     match words.save() {
@@ -59,7 +62,10 @@ fn save_and_sum_up<K: Keeper, E: Sink>(
     ensures kept { OnOk result.saved (KeepsUnder (save_name words.now) (K.kept keeper.old) (K.kept keeper.new)
         part.now.state.items (E.contents errors.old)) }
     ensures none_failed { OnOk result.saved (K.failed_calls keeper.new ≡ K.failed_calls keeper.old) }
-    ensures failed { OnErr result.saved (HasFailed (K.failed_calls keeper.old) (K.failed_calls keeper.new)) }
+    ensures failed { OnErr result.saved (FailsToKeep
+        (shelf (save_name words.now) (K.kept keeper.old) (K.failed_calls keeper.old))
+        (shelf (save_name words.now) (K.kept keeper.new) (K.failed_calls keeper.new)) part.now.state.items
+        (E.contents errors.old)) }
     ensures summed { SumsUp (place (E.contents errors.old) (E.failed_calls errors.old))
         (place (E.contents errors.new) (E.failed_calls errors.new)) part.now.counts result.summed }
 {

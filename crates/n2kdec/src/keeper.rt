@@ -1,7 +1,7 @@
 //! Where a state is kept after a run: the trait, and the files of a folder, by which the program does it.
-ghost use Rattle.std.specs.Prelude.{◌≡◌, ℕ, Bool, List, Option, Some, true, false, OnOk, option_map};
+ghost use Rattle.std.specs.Prelude.{◌≡◌, ℕ, Bool, List, Option, Some, true, false, OnErr, OnOk, option_map};
 ghost use Rattle.n2k_run.specs.Device.{CountsFailure};
-ghost use Rattle.n2kdec.specs.Commands.{IsAdmitted, Kept, KeepsUnder, Request, request};
+ghost use Rattle.n2kdec.specs.Commands.{IsAdmitted, Kept, KeepsUnder, MayKeepUnder, Request, request};
 ghost use Rattle.n2kdec.specs.Replacement.{Admits, HarmsTarget, HarmsTemp, IsApart, IsMet, IsNoOutput, IsOutput, KeepsText, SparesTarget, SparesTemp, read_log};
 ghost use Rattle.n2kdec.specs.declared.folder.Name.TheVariants.{Target, Temp};
 
@@ -34,10 +34,12 @@ pub trait Keeper {
             (option_map (λ text. text.now) log.entry) (option_map (λ text. text.now) state.entry))) }
         ensures counted { CountsFailure (failed_calls self.old) (failed_calls self.new) result };
 
-    /// Keeps a state under this name, in the place of what the name has. `Failed` where it can't. The errors are lent,
-    /// so that a keeper may note what they held then.
+    /// Keeps a state under this name, in the place of what the name has. `Failed` where it can't, or can't be sure. The
+    /// errors are lent, so that a keeper may note what they held then.
     fn keep<E: Sink>(&mut self, name: &str, state: &[u8], errors: &E) -> Result<(), Failed>
         ensures bytes { OnOk result (KeepsUnder (Some name.now) (kept self.old) (kept self.new) state.now
+            (E.contents errors.now)) }
+        ensures unkept { OnErr result (MayKeepUnder (Some name.now) (kept self.old) (kept self.new) state.now
             (E.contents errors.now)) }
         ensures counted { CountsFailure (failed_calls self.old) (failed_calls self.new) result };
 }

@@ -39,6 +39,7 @@ fn copies(alloc: Global, words: &[&str]) -> Result<Vec<String>, AllocError>
 #[derive(Drop)]
 pub struct MemoryFile<'a> {
     source: MemorySource<'a>,
+    calls: u64,
     failed_calls: u64,
 }
 
@@ -48,11 +49,12 @@ impl<'a> MemoryFile<'a> {
     /// One with these bytes, of which the call of this number fails; at 0 none does.
     fn new(bytes: &'a [u8], fails_at: u64) -> Self
         ensures bytes { Some result.source.left ≡ Some bytes.now }
-        ensures none_called { result.source.calls ≡ 0 }
+        ensures none_called { result.calls ≡ 0 }
         ensures none_failed { result.failed_calls ≡ 0 }
     {
         MemoryFile {
             source: MemorySource::new(bytes, PIECE, fails_at),
+            calls: 0,
             failed_calls: 0,
         }
     }
@@ -61,7 +63,7 @@ impl<'a> MemoryFile<'a> {
 impl<'a> Source for MemoryFile<'a> {
     ghost use Rattle.std.specs.Prelude.{Some};
 
-    ghost calls = { λ f. f.source.calls };
+    ghost calls = { λ f. f.calls };
 
     ghost failed_calls = { λ f. f.failed_calls };
 
@@ -69,6 +71,7 @@ impl<'a> Source for MemoryFile<'a> {
 
     fn read(&mut self, buffer: &mut [u8]) -> Result<usize, Failed> {
         let answer = self.source.read(buffer);
+        self.calls = self.calls.saturating_add(1);
         if answer.is_err() {
             self.failed_calls = self.failed_calls.saturating_add(1);
         }
@@ -90,6 +93,8 @@ pub struct MemoryMachine<'a> {
     pub fails_at: u64,
     /// How many openings and reads of files have failed.
     pub failed_reads: u64,
+    /// How many reads were made of the files that were closed.
+    pub reads: u64,
 }
 
 impl<'a> Machine for MemoryMachine<'a> {
@@ -110,6 +115,8 @@ impl<'a> Machine for MemoryMachine<'a> {
 
     ghost failed_reads = { λ m. m.failed_reads };
 
+    ghost reads = { λ m. m.reads };
+
     fn typed(&self, alloc: Global) -> Result<Vec<String>, Fault> {
         Ok(copies(alloc, self.words)?)
     }
@@ -129,6 +136,7 @@ impl<'a> Machine for MemoryMachine<'a> {
 
     fn close(&mut self, file: MemoryFile<'a>) {
         self.failed_reads = self.failed_reads.saturating_add(file.failed_calls);
+        self.reads = self.reads.saturating_add(file.calls);
     }
 
     fn is_terminal(&self) -> bool {
@@ -167,6 +175,7 @@ impl MemoryKeeper {
         ensures kept { OnOk result (map (λ k. kept_text (string_bytes k.0) k.1.items) self.new.kept.items
             ≡ map (λ k. kept_text (string_bytes k.0) k.1.items) self.old.kept.items
             ++ kept_text name.now text.now ∷ []) }
+        ensures unkept { OnErr result (self.new.kept.items ≡ self.old.kept.items) }
         ensures same { self.new.failed_calls ≡ self.old.failed_calls }
     {
         let alloc = *self.kept.allocator();

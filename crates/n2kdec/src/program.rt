@@ -1,14 +1,14 @@
 //! From the words that were typed to the status that the program ends with, over any machine.
-ghost use Rattle.std.specs.Prelude.{◌≡◌, ◌⊎◌, ◌<◌, ◌≤◌, IfErr, IfOk, IfSome, OnOk, Some, length, map, option_map};
+ghost use Rattle.std.specs.Prelude.{◌≡◌, ◌⊎◌, ◌<◌, ◌≤◌, ℕ, IfErr, IfOk, IfSome, OnOk, Some, length, map, option_map};
 ghost use Rattle.std.specs.Prelude.{string_bytes, vec_len};
 ghost use Rattle.std.specs.Process.{exit_status};
 ghost use Rattle.clap.specs.Walk.{texts};
 ghost use Rattle.n2k_run.specs.Device.{HasFailed};
 ghost use Rattle.n2k_run.specs.FramesOut.{IsInterface};
 ghost use Rattle.n2kdec.specs.Fault.{longest_file};
-ghost use Rattle.n2kdec.specs.Machine.{AsksFor, DoesTyped, FollowsWords, IsNamed, IsOfFile, IsReadable, IsState};
-ghost use Rattle.n2kdec.specs.Machine.{IsStateAdmitted, IsTable, IsUnasked, IsUnbegun, IsUnopened, IsUnreadFile};
-ghost use Rattle.n2kdec.specs.Machine.{ReportsFault, RunsTyped, Shows, bytes_of, outside};
+ghost use Rattle.n2kdec.specs.Machine.{AsksFor, DoesTyped, FollowsWords, HasCalled, IsNamed, IsOfFile, IsReadable};
+ghost use Rattle.n2kdec.specs.Machine.{IsState, IsStateAdmitted, IsTable, IsUnasked, IsUnbegun, IsUnopened};
+ghost use Rattle.n2kdec.specs.Machine.{IsUnreadFile, ReportsFault, RunsTyped, Shows, bytes_of, outside};
 ghost use Rattle.n2kdec.specs.Commands.{place};
 ghost use Rattle.n2kdec.specs.Words.{IsCommand, interface_name, resume_name, save_name, table_name};
 
@@ -53,6 +53,7 @@ fn open<M: Machine>(machine: &mut M, name: Option<&str>, refused: Fault) -> Resu
     ensures none_called { IfOk result (λ file. M.File.calls file ≡ 0) }
     ensures none_failed { IfOk result (λ file. M.File.failed_calls file ≡ 0) }
     ensures counted { OnOk result (M.failed_reads machine.new ≡ M.failed_reads machine.old) }
+    ensures no_read { M.reads machine.new ≡ M.reads machine.old }
     ensures fault { IfErr result (IsUnopened (option_map (λ text. text.now) name.entry) refused
         (M.failed_reads machine.old) (M.failed_reads machine.new)) }
 {
@@ -101,6 +102,7 @@ fn read_file<M: Machine>(
     ensures bytes { IfOk result (λ read. IsOfFile (M.world machine.old) name.now read.items) }
     ensures readable { OnOk result (IsReadable (M.world machine.old) (Some name.now)) }
     ensures counted { OnOk result (M.failed_reads machine.new ≡ M.failed_reads machine.old) }
+    ensures called { HasCalled (M.reads machine.old) (M.reads machine.new) 0 }
     ensures fault { IfErr result (IsUnreadFile (M.world machine.old) (Some name.now) too_large unread
         (M.failed_reads machine.old) (M.failed_reads machine.new)) }
 {
@@ -117,6 +119,7 @@ fn read_table<M: Machine>(alloc: Global, machine: &mut M, words: &Words) -> Resu
     ensures bytes { IfOk result (λ read. IsTable (M.world machine.old) (table_name words.now) read.items) }
     ensures readable { OnOk result (IsReadable (M.world machine.old) (table_name words.now)) }
     ensures counted { OnOk result (M.failed_reads machine.new ≡ M.failed_reads machine.old) }
+    ensures called { HasCalled (M.reads machine.old) (M.reads machine.new) 0 }
     ensures fault { IfErr result (IsUnbegun (M.world machine.old) words.now (M.failed_reads machine.old)
         (M.failed_reads machine.new)) }
 {
@@ -139,6 +142,7 @@ fn read_state<M: Machine>(
         (option_map (λ bytes. bytes.items) read)) }
     ensures readable { OnOk result (IsReadable (M.world machine.old) (resume_name words.now)) }
     ensures counted { OnOk result (M.failed_reads machine.new ≡ M.failed_reads machine.old) }
+    ensures called { HasCalled (M.reads machine.old) (M.reads machine.new) 0 }
     ensures fault { IfErr result (IsUnbegun (M.world machine.old) words.now (M.failed_reads machine.old)
         (M.failed_reads machine.new)) }
 {
@@ -154,7 +158,8 @@ fn read_state<M: Machine>(
     }
 }
 
-/// Runs the command that the words name over the log that they name, or over standard input.
+/// Runs the command that the words name over the log that they name, or over standard input. It ends a run that had
+/// counted no more reads when it began.
 #[tactic(auto, using(crate::proofs::MachineLemmas::not_begun))]
 fn run_on_log<M: Machine, K: Keeper>(
     alloc: Global,
@@ -172,9 +177,10 @@ fn run_on_log<M: Machine, K: Keeper>(
     requires state { IsState (M.world machine.old) (resume_name words.now) (option_map (λ bytes. bytes.now) state) }
     requires admitted { IsStateAdmitted K.admits words.now }
     ensures same { M.world machine.new ≡ M.world machine.old }
-    ensures follows { FollowsWords (M.world machine.old) words.now
-        (outside M.Output.Sink M.Errors.Sink K.Keeper (M.failed_reads machine.old) outlets.old)
-        (outside M.Output.Sink M.Errors.Sink K.Keeper (M.failed_reads machine.new) outlets.new) result }
+    ensures follows { (had : ℕ) → HasCalled had (M.reads machine.old) 0 → FollowsWords (M.world machine.old) words.now
+        (outside M.Output.Sink M.Errors.Sink K.Keeper (M.failed_reads machine.old) had outlets.old)
+        (outside M.Output.Sink M.Errors.Sink K.Keeper (M.failed_reads machine.new) (M.reads machine.new) outlets.new)
+        result }
 {
     let mut log = open(machine, words.log(), Fault::Read)?;
     let answer = run_command(alloc, words, table, state, &mut log, outlets);
@@ -195,8 +201,9 @@ fn run_on_files<M: Machine, K: Keeper>(
     requires admitted { IsStateAdmitted K.admits words.now }
     ensures same { M.world machine.new ≡ M.world machine.old }
     ensures follows { FollowsWords (M.world machine.old) words.now
-        (outside M.Output.Sink M.Errors.Sink K.Keeper (M.failed_reads machine.old) outlets.old)
-        (outside M.Output.Sink M.Errors.Sink K.Keeper (M.failed_reads machine.new) outlets.new) result }
+        (outside M.Output.Sink M.Errors.Sink K.Keeper (M.failed_reads machine.old) (M.reads machine.old) outlets.old)
+        (outside M.Output.Sink M.Errors.Sink K.Keeper (M.failed_reads machine.new) (M.reads machine.new) outlets.new)
+        result }
 {
     let table = read_table(alloc, machine, words)?;
     let resumed = read_state(alloc, machine, words)?;
@@ -233,8 +240,9 @@ fn run_words<M: Machine, K: Keeper>(
     requires { IsCommand words.now }
     ensures same { M.world machine.new ≡ M.world machine.old }
     ensures follows { FollowsWords (M.world machine.old) words.now
-        (outside M.Output.Sink M.Errors.Sink K.Keeper (M.failed_reads machine.old) outlets.old)
-        (outside M.Output.Sink M.Errors.Sink K.Keeper (M.failed_reads machine.new) outlets.new) result }
+        (outside M.Output.Sink M.Errors.Sink K.Keeper (M.failed_reads machine.old) (M.reads machine.old) outlets.old)
+        (outside M.Output.Sink M.Errors.Sink K.Keeper (M.failed_reads machine.new) (M.reads machine.new) outlets.new)
+        result }
 {
     interface(words)?;
     admit(words, &mut outlets.keeper)?;
@@ -258,8 +266,9 @@ fn run_typed<M: Machine, K: Keeper>(
 ) -> Result<u8, Fault>
     ensures same { M.world machine.new ≡ M.world machine.old }
     ensures does { DoesTyped (M.world machine.old)
-        (outside M.Output.Sink M.Errors.Sink K.Keeper (M.failed_reads machine.old) outlets.old)
-        (outside M.Output.Sink M.Errors.Sink K.Keeper (M.failed_reads machine.new) outlets.new) result }
+        (outside M.Output.Sink M.Errors.Sink K.Keeper (M.failed_reads machine.old) (M.reads machine.old) outlets.old)
+        (outside M.Output.Sink M.Errors.Sink K.Keeper (M.failed_reads machine.new) (M.reads machine.new) outlets.new)
+        result }
 {
     let words = typed_words(alloc, machine)?;
     match &words {
@@ -293,8 +302,8 @@ pub fn run<M: Machine, K: Keeper>(
     outlets: &mut Outlets<M::Output, M::Errors, K>,
 ) -> ExitCode
     ensures { RunsTyped (M.world machine.old)
-        (outside M.Output.Sink M.Errors.Sink K.Keeper (M.failed_reads machine.old) outlets.old)
-        (outside M.Output.Sink M.Errors.Sink K.Keeper (M.failed_reads machine.new) outlets.new)
+        (outside M.Output.Sink M.Errors.Sink K.Keeper (M.failed_reads machine.old) (M.reads machine.old) outlets.old)
+        (outside M.Output.Sink M.Errors.Sink K.Keeper (M.failed_reads machine.new) (M.reads machine.new) outlets.new)
         (exit_status result) }
 {
     match run_typed(alloc, machine, outlets) {

@@ -69,6 +69,7 @@ impl Source for Reader {
 pub struct System<'a> {
     rt: &'a HostRuntime,
     failed_reads: u64,
+    reads: u64,
 }
 
 impl<'a> System<'a> {
@@ -77,6 +78,7 @@ impl<'a> System<'a> {
         System {
             rt,
             failed_reads: 0,
+            reads: 0,
         }
     }
 }
@@ -91,6 +93,8 @@ impl<'a> Machine for System<'a> {
     ghost world = { λ _. unknown_world };
 
     ghost failed_reads = { λ s. s.failed_reads };
+
+    ghost reads = { λ s. s.reads };
 
     fn typed(&self, alloc: Global) -> Result<Vec<String>, Fault> {
         match env::args(self.rt) {
@@ -116,6 +120,7 @@ impl<'a> Machine for System<'a> {
 
     fn close(&mut self, file: Reader) {
         self.failed_reads = self.failed_reads.saturating_add(file.failed_calls);
+        self.reads = self.reads.saturating_add(file.calls);
     }
 
     fn is_terminal(&self) -> bool {

@@ -470,6 +470,7 @@ fn what_was_typed_is_run(rt: HostRuntime) -> Result<(), Fail> {
         input: "",
         fails_at: 0,
         failed_reads: 0,
+        reads: 0,
     };
     let mut outlets = Outlets {
         output: MemorySink::new(alloc, 100, 0),
@@ -484,6 +485,7 @@ fn what_was_typed_is_run(rt: HostRuntime) -> Result<(), Fail> {
         assert_eq!(rt; text.as_slice(), ONE_MESSAGE.as_bytes());
     }
     assert_eq!(rt; machine.failed_reads, 0);
+    assert!(rt; machine.reads > 2);
     machine.fails_at = 2;
     assert_eq!(rt; run(alloc, &mut machine, &mut outlets), ExitCode::from(3));
     assert_eq!(rt; machine.failed_reads, 1);

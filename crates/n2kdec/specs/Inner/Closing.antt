@@ -1,10 +1,9 @@
 -- How a command closes after its work: the state is saved, and then the summary is written.
 use Rattle.std.specs.Prelude.{◌≡◌, ◌⊎◌, ℕ, List, MatchResult, Option, Some, None, Result, Ok, Err}
 use Rattle.n2k_join.specs.declared.counts.Counts.{Counts}
-use Rattle.n2k_run.specs.Device.{HasFailed}
 use Rattle.n2k_run.specs.Reports.{summary_text}
 use Rattle.n2k_run.specs.declared.part.Part.{Part}
-use Rattle.n2kdec.specs.Commands.{IsWritten, IsWrittenUnlessFailed, IsCutOff, Replaces, Place, Shelf}
+use Rattle.n2kdec.specs.Commands.{FailsToKeep, IsWritten, IsWrittenUnlessFailed, IsCutOff, Replaces, Place, Shelf}
 use Rattle.n2kdec.specs.Fault.{exit_status}
 use Rattle.n2kdec.specs.declared.fault.Fault.{Fault}
 use Rattle.n2kdec.specs.declared.fault.Fault.TheVariants.{Read, Report, Save}
@@ -23,7 +22,7 @@ SumsUp before after counts result = MatchResult result
 abbrev pub Closes : Shelf → Shelf → Place → Place → List ℕ → Counts → Result ℕ Fault → Type 0
 Closes keeper kept errors summed text counts result =
     (Replaces keeper kept text errors.text × SumsUp errors summed counts result)
-    ⊎ ((result ≡ Err Save) × HasFailed keeper.failed kept.failed
+    ⊎ ((result ≡ Err Save) × FailsToKeep keeper kept text errors.text
     × IsWrittenUnlessFailed errors summed (summary_text counts))
 
 -- What follows a stop. Without a Part nothing; after a failed read its state is kept, where it can be, and its counts
@@ -31,7 +30,7 @@ Closes keeper kept errors summed text counts result =
 abbrev pub FollowsStop : Shelf → Shelf → Place → Place → Option Part → Fault → Type 0
 FollowsStop keeper kept errors summed None fault = (kept ≡ keeper) × (summed ≡ errors)
 FollowsStop keeper kept errors summed (Some part) Read =
-    (Replaces keeper kept part.state.items errors.text ⊎ HasFailed keeper.failed kept.failed)
+    (Replaces keeper kept part.state.items errors.text ⊎ FailsToKeep keeper kept part.state.items errors.text)
     × IsWrittenUnlessFailed errors summed (summary_text part.counts)
 FollowsStop keeper kept errors summed (Some part) _ =
     (kept ≡ keeper) × IsWrittenUnlessFailed errors summed (summary_text part.counts)
