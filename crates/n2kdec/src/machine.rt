@@ -1,5 +1,6 @@
 //! What the program meets: the words that were typed, files, and the standard streams.
-ghost use Rattle.std.specs.Prelude.{◌≡◌, ◌⊎◌, ◌∷◌, ℕ, [], List, Option, None, IfErr, IfOk, IfSome, IsErrOf, map, option_map, string_bytes};
+ghost use Rattle.std.specs.Prelude.{◌≡◌, ◌⊎◌, ◌∷◌, ℕ, [], List, Option, None, IfErr, IfOk, IfSome, IsErrOf, map};
+ghost use Rattle.std.specs.Prelude.{option_map, string_bytes};
 ghost use Rattle.n2kdec.specs.Machine.{AddsCalls, AddsFailures, CountsOpening, IsTerminal, Opens, World, bytes_of};
 ghost use Rattle.clap.specs.Words.{Text};
 

@@ -1,13 +1,16 @@
 //! From the words that were typed to the status that the program ends with, over any machine.
-ghost use Rattle.std.specs.Prelude.{◌≡◌, ◌⊎◌, ◌<◌, ◌≤◌, ◌∷◌, ℕ, [], IfErr, IfOk, IfSome, List, OnOk, Option, Some, length, map, option_map, string_bytes, vec_len};
+ghost use Rattle.std.specs.Prelude.{◌≡◌, ◌⊎◌, ◌<◌, ◌≤◌, ◌∷◌, ℕ, [], IfErr, IfOk, IfSome, List, OnOk, Option, Some};
+ghost use Rattle.std.specs.Prelude.{length, map, option_map, string_bytes, vec_len};
 ghost use Rattle.std.specs.Process.{exit_status};
 ghost use Rattle.clap.specs.Walk.{texts};
 ghost use Rattle.clap.specs.Words.{Text};
 ghost use Rattle.n2k_run.specs.Device.{HasFailed};
 ghost use Rattle.n2k_run.specs.FramesOut.{IsInterface};
 ghost use Rattle.n2kdec.specs.Fault.{longest_file};
-ghost use Rattle.n2kdec.specs.Machine.{AsksFor, DoesTyped, FollowsWords, HasCalled, IsNamed, IsOfFile, IsReadable, IsState, IsTable, IsUnasked, IsUnbegun, IsUnopened, IsUnreadFile};
-ghost use Rattle.n2kdec.specs.Machine.{Opens, ReportsFault, RunsTyped, Shows, bytes_of, files_before_log, named, outside};
+ghost use Rattle.n2kdec.specs.Machine.{AsksFor, DoesTyped, FollowsWords, HasCalled, IsNamed, IsOfFile, IsReadable};
+ghost use Rattle.n2kdec.specs.Machine.{IsState, IsTable, IsUnasked, IsUnbegun, IsUnopened, IsUnreadFile};
+ghost use Rattle.n2kdec.specs.Machine.{Opens, ReportsFault, RunsTyped, Shows, bytes_of, files_before_log, named};
+ghost use Rattle.n2kdec.specs.Machine.{outside};
 ghost use Rattle.n2kdec.specs.Commands.{place};
 ghost use Rattle.n2kdec.specs.Words.{IsCommand, interface_name, resume_name, save_name, table_name};
 
