@@ -1,12 +1,13 @@
 -- From what a call leaves to what the program leaves.
-use Rattle.std.proofs.Common.{◌≡◌, ◌<◌, arith, ℕ, Bool, List, Option, Some, Result, Ok, Err, IfSome, inl, inr, refl, subst, sym}
+use Rattle.std.proofs.Common.{◌≡◌, ◌<◌, ◌∙◌, ◌++◌, append-nil, append_assoc, ap, arith, ℕ, Bool, List, [], ◌∷◌, Option, Some, None, Result, Ok, Err, IfSome, IsErrAnd, inl, inr, refl, subst, sym}
+use Rattle.clap.specs.Words.{Text}
 use Rattle.n2k_run.specs.Device.{HasFailed}
 use Rattle.n2k_run.specs.FramesOut.{IsInterface}
 use Rattle.n2kdec.specs.Commands.{IsAdmitted, Kept, Performs, Request, request, shelf}
-use Rattle.n2kdec.specs.Machine.{AddsCalls, AddsFailures, FollowsWords, HasCalled, IsBehindAdmission, IsNamed, IsPerformed, IsPerformedOver, IsStateAdmitted, IsUnbegun, LogAfter, Outside, World, with_log}
+use Rattle.n2kdec.specs.Machine.{AddsCalls, AddsFailures, FollowsWords, HasCalled, IsBehindAdmission, IsNamed, IsPerformed, IsPerformedOver, IsReadable, IsStateAdmitted, IsUnbegun, IsUnopened, IsUnreadable, LogAfter, Opens, OpensFirst, files_before_log, files_of, named, Outside, World, with_log}
 use Rattle.n2kdec.specs.Words.{interface_name, log_name, resume_name, save_name, table_name}
 use Rattle.n2kdec.specs.declared.fault.Fault.{Fault}
-use Rattle.n2kdec.specs.declared.fault.Fault.TheVariants.{Interface, Save}
+use Rattle.n2kdec.specs.declared.fault.Fault.TheVariants.{Interface, Read, Save}
 use Rattle.n2kdec.specs.declared.words.Words.{Words}
 
 module _ (words : Words) (table : List ℕ) (handed : Option (List ℕ)) (before after : Outside) (log : LogAfter) (result : Result ℕ Fault) where
@@ -45,26 +46,77 @@ follows_from w now words before after failed result same none follows =
     subst (λ v. FollowsWords v words before after result) same
     (subst (λ n. FollowsWords now words (record before { failed_reads = n }) after result) none follows)
 
+-- ---- which files were opened
+
+pub opens_nothing : (o : Option (List (Option Text))) → Opens o o []
+opens_nothing None = tt
+opens_nothing (Some had) = ap (λ (l : List (Option Text)). Some l) (sym (append-nil had))
+
+pub opens_then : (a b c : Option (List (Option Text))) (names more : List (Option Text)) → Opens a b names → Opens b c more → Opens a c (names ++ more)
+opens_then None b c names more first then = tt
+opens_then (Some had) b c names more first then =
+    let second : c ≡ Some ((had ++ names) ++ more) = subst (λ o. Opens o c more) first then in
+    second ∙ ap (λ (l : List (Option Text)). Some l) (append_assoc had names more)
+
+-- all of them
+pub log_opened : (words : Words) (begun opened before after : Option (List (Option Text))) (name : Option Text)
+    → Opens begun opened (files_before_log words) → Opens opened before (name ∷ []) → name ≡ log_name words → after ≡ before → Opens begun after (files_of words)
+log_opened words begun opened before after name first then is same =
+    subst (λ o. Opens begun o (files_of words)) (sym same)
+    (opens_then begun opened before (files_before_log words) (log_name words ∷ []) first (subst (λ n. Opens opened before (n ∷ [])) is then))
+
+module _ (w : World) (words : Words) (before after : Outside) (fault : Fault) where
+  abbrev pub IsElseSame : Type 0
+  IsElseSame = after ≡ record before { failed_reads = after.failed_reads; reads = after.reads; opened = after.opened }
+
+  -- one whose files can't be read is not begun
+  not_begun : IsElseSame → OpensFirst words before.opened after.opened → IsStateAdmitted before.admits words → IsUnbegun w words before.failed_reads after.failed_reads fault
+      → FollowsWords w words before after (Err fault)
+  not_begun same opened admitted unbegun = inr (inl (record { else_same = same; opened = opened; unbegun = unbegun; behind = behind fault }))
+    where
+      behind : (fault : Fault) → IsBehindAdmission before.admits words fault
+      behind Interface = tt
+      behind fault = admitted
+
+  pub table_not_read : IsElseSame → Opens before.opened after.opened (named (table_name words)) → IsStateAdmitted before.admits words
+      → IsUnbegun w words before.failed_reads after.failed_reads fault → FollowsWords w words before after (Err fault)
+  table_not_read same opens admitted unbegun =
+      not_begun same (named (table_name words), named (resume_name words) ++ log_name words ∷ [], append_assoc (named (table_name words)) (named (resume_name words)) (log_name words ∷ []), opens) admitted unbegun
+
+  pub state_not_read : (mid : Option (List (Option Text))) → IsElseSame → Opens before.opened mid (named (table_name words)) → Opens mid after.opened (named (resume_name words))
+      → IsStateAdmitted before.admits words → IsUnbegun w words before.failed_reads after.failed_reads fault → FollowsWords w words before after (Err fault)
+  state_not_read mid same table state admitted unbegun =
+      not_begun same (files_before_log words, log_name words ∷ [], refl, opens_then before.opened mid after.opened _ _ table state) admitted unbegun
+
+  pub log_not_opened : (mid : Option (List (Option Text))) (name : Option Text) → IsElseSame → Opens before.opened mid (files_before_log words) → Opens mid after.opened (name ∷ [])
+      → name ≡ log_name words → IsStateAdmitted before.admits words → IsUnbegun w words before.failed_reads after.failed_reads fault → FollowsWords w words before after (Err fault)
+  log_not_opened mid name same first then is admitted unbegun =
+      not_begun same (files_of words, [], sym (append-nil (files_of words)), log_opened words before.opened mid after.opened after.opened name first then is refl) admitted unbegun
+
+-- why no log was opened
+pub unread_log : (w : World) (words : Words) (name : Option Text) (before after : ℕ) (fault : Fault) → IsInterface (interface_name words)
+    → IsReadable w (table_name words) → IsReadable w (resume_name words) → name ≡ log_name words → IsUnopened name Read before after fault → IsUnbegun w words before after fault
+unread_log w words name before after fault interface table state is (inl memory) =
+    subst (λ f. IsUnbegun w words before after f) (sym memory.0) (interface, memory.1)
+unread_log w words name before after fault interface table state is (inr read) =
+    subst (λ f. IsUnbegun w words before after f) (sym read.0) (interface, (table, state, subst (λ n. IsUnreadable n before after) is read.1))
+
+-- a fault is passed up
+pub passed_up : (w : World) (words : Words) (before after : Outside) (result : Result ℕ Fault) (fault : Fault) → IsErrAnd result (λ told. told ≡ fault)
+    → FollowsWords w words before after (Err fault) → FollowsWords w words before after result
+passed_up w words before after (Ok status) fault is follows = absurd is
+passed_up w words before after (Err told) fault is follows = subst (λ f. FollowsWords w words before after (Err f)) (sym is) follows
+
+-- nothing is opened where the interface is none
+pub no_interface : (w : World) (words : Words) (o : Outside) (fault : Fault) → fault ≡ Interface → (IsInterface (interface_name words) → ⊥)
+    → FollowsWords w words o o (Err fault)
+no_interface w words o fault is none =
+    subst (λ f. FollowsWords w words o o (Err f)) (sym is) (inr (inl (record { else_same = refl; opened = ([], files_of words, refl, opens_nothing o.opened); unbegun = (none, refl); behind = tt })))
+
 -- a command that is performed follows the words
 pub follows : (w : World) (words : Words) (before after : Outside) (result : Result ℕ Fault) → IsPerformed w words before after result → FollowsWords w words before after result
 follows w words before after (Ok status) done = done
 follows w words before after (Err fault) done = inl done
-
--- one whose files can't be read is not begun
-pub not_begun : (w : World) (words : Words) (before after : Outside) (fault : Fault)
-    → after ≡ record before { failed_reads = after.failed_reads; reads = after.reads } → IsStateAdmitted before.admits words
-    → IsUnbegun w words before.failed_reads after.failed_reads fault → FollowsWords w words before after (Err fault)
-not_begun w words before after fault same admitted unbegun = inr (inl (record { else_same = same; unbegun = unbegun; behind = behind fault }))
-  where
-    behind : (fault : Fault) → IsBehindAdmission before.admits words fault
-    behind Interface = tt
-    behind fault = admitted
-
--- nor is one whose interface is none
-pub no_interface : (w : World) (words : Words) (o : Outside) (fault : Fault) → fault ≡ Interface → (IsInterface (interface_name words) → ⊥)
-    → FollowsWords w words o o (Err fault)
-no_interface w words o fault is none =
-    subst (λ f. FollowsWords w words o o (Err f)) (sym is) (inr (inl (record { else_same = refl; unbegun = (none, refl); behind = tt })))
 
 -- what was asked of a keeper is the state of the words
 pub state_admitted : (admits : Request → Option Bool) (words : Words) (name : List ℕ) (table log state : Option (List ℕ))

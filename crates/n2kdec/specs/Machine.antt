@@ -1,7 +1,7 @@
 -- What the program meets, and what comes of the words that were typed: the files that they name are read, their command
 -- is performed, its state is kept under the name that they have for it, and a fault is reported.
-use Rattle.std.specs.Prelude.{◌≡◌, ◌⊎◌, ◌<◌, ◌≤◌, ◌+◌, ◌-◌, ◌^◌, ℕ, Bool, List, [], Option, Some, None, IfSome}
-use Rattle.std.specs.Prelude.{MatchResult, Result, Ok, Err, length}
+use Rattle.std.specs.Prelude.{◌≡◌, ◌⊎◌, ◌<◌, ◌≤◌, ◌+◌, ◌++◌, ◌-◌, ◌^◌, ℕ, Bool, List, [], ◌∷◌, Option, Some, None}
+use Rattle.std.specs.Prelude.{IfSome, MatchResult, Result, Ok, Err, length}
 use Rattle.clap.specs.Words.{Text}
 use Rattle.n2k_run.specs.declared.device.Sink.{Ghosts as OfSink}
 use Rattle.n2k_run.specs.Device.{HasFailed}
@@ -64,9 +64,13 @@ AddsCalls before after more =
 abbrev pub HasCalled : ℕ → ℕ → ℕ → Type 0
 HasCalled before after calls = after < 2 ^ 64 - 1 → before + calls ≤ after
 
+-- these files more were opened, or refused in it, in this order, where it is known which were
+abbrev pub Opens : Option (List (Option Text)) → Option (List (Option Text)) → List (Option Text) → Type 0
+Opens before after names = IfSome before (λ had. after ≡ Some (had ++ names))
+
 -- What the program changes: the output, the errors, and what was kept under which name, with the number of calls that
--- failed; how many openings and reads of files failed; and how many reads of files were made. Which states may be kept,
--- where that is known, it does not change.
+-- failed; how many openings and reads of files failed; how many reads of files were made; and which files were opened,
+-- standard input without a name. Which states may be kept, where that is known, it does not change.
 pub record Outside : Type 0 where
   pub output : Place
   pub errors : Place
@@ -74,16 +78,19 @@ pub record Outside : Type 0 where
   pub failed_keeps : ℕ
   pub failed_reads : ℕ
   pub reads : ℕ
+  pub opened : Option (List (Option Text))
   pub admits : Request → Option Bool
 
-abbrev pub outside : {W E K : Type 0} → OfSink W → OfSink E → OfKeeper K → ℕ → ℕ → Outlets W E K → Outside
-outside w e k failed_reads reads outlets = record {
+abbrev pub outside : {W E K : Type 0} → OfSink W → OfSink E → OfKeeper K → ℕ → ℕ → Option (List (Option Text))
+    → Outlets W E K → Outside
+outside w e k failed_reads reads opened outlets = record {
   output = place (w.contents outlets.output) (w.failed_calls outlets.output);
   errors = place (e.contents outlets.errors) (e.failed_calls outlets.errors);
   kept = k.kept outlets.keeper;
   failed_keeps = k.failed_calls outlets.keeper;
   failed_reads = failed_reads;
   reads = reads;
+  opened = opened;
   admits = k.admits;
 }
 
@@ -103,6 +110,24 @@ abbrev pub IsState : World → Option Text → Option (List ℕ) → Type 0
 IsState w None handed = handed ≡ None
 IsState w (Some name) None = ⊥
 IsState w (Some name) (Some bytes) = IsOfFile w name bytes
+
+-- a file, where one is named
+abbrev pub named : Option Text → List (Option Text)
+named None = []
+named (Some name) = Some name ∷ []
+
+-- The files that are opened before the log, and all that are: the table's, the state's, and then the log's or standard
+-- input, each once.
+abbrev pub files_before_log : Words → List (Option Text)
+files_before_log words = named (table_name words) ++ named (resume_name words)
+
+abbrev pub files_of : Words → List (Option Text)
+files_of words = files_before_log words ++ log_name words ∷ []
+
+-- the first ones of these were opened
+abbrev pub OpensFirst : Words → Option (List (Option Text)) → Option (List (Option Text)) → Type 0
+OpensFirst words before after =
+    (first rest : List (Option Text)) × (files_of words ≡ first ++ rest) × Opens before after first
 
 -- the log's device behind the command, which has no use of it any more
 pub record LogAfter : Type 0 where
@@ -142,6 +167,7 @@ IsStateAdmitted admits words =
 pub record IsPerformed (w : World) (words : Words) (before after : Outside) (result : Result ℕ Fault) : Type 0 where
   pub interface : IsInterface (interface_name words)
   pub admitted : IsStateAdmitted before.admits words
+  pub opened : Opens before.opened after.opened (files_of words)
   pub table : List ℕ
   pub is_table : IsTable w (table_name words) table
   pub handed : Option (List ℕ)
@@ -202,7 +228,8 @@ IsBehindAdmission admits words _ = IsStateAdmitted admits words
 
 -- it is not begun, and nothing is printed or kept
 pub record IsNotBegun (w : World) (words : Words) (before after : Outside) (fault : Fault) : Type 0 where
-  pub else_same : after ≡ record before { failed_reads = after.failed_reads; reads = after.reads }
+  pub else_same : after ≡ record before { failed_reads = after.failed_reads; reads = after.reads; opened = after.opened }
+  pub opened : OpensFirst words before.opened after.opened
   pub unbegun : IsUnbegun w words before.failed_reads after.failed_reads fault
   pub behind : IsBehindAdmission before.admits words fault
 

@@ -1,6 +1,8 @@
 //! What the program meets: the words that were typed, files, and the standard streams.
-ghost use Rattle.std.specs.Prelude.{◌≡◌, ◌⊎◌, ℕ, None, IfErr, IfOk, IfSome, IsErrOf, map, option_map, string_bytes};
-ghost use Rattle.n2kdec.specs.Machine.{AddsCalls, AddsFailures, CountsOpening, IsTerminal, World, bytes_of};
+ghost use Rattle.std.specs.Prelude.{◌≡◌, ◌⊎◌, ◌∷◌, ℕ, [], List, Option, None, IfErr, IfOk, IfSome, IsErrOf, map};
+ghost use Rattle.std.specs.Prelude.{option_map, string_bytes};
+ghost use Rattle.n2kdec.specs.Machine.{AddsCalls, AddsFailures, CountsOpening, IsTerminal, Opens, World, bytes_of};
+ghost use Rattle.clap.specs.Words.{Text};
 
 use crate::fault::Fault;
 use n2k_run::{Sink, Source};
@@ -46,6 +48,10 @@ pub trait Machine {
     /// How many reads were made of the files that were closed. At 2^64 - 1 the number stays.
     ghost reads: { Self → ℕ };
 
+    /// The files that were opened, or refused in it, standard input without a name: the first one first, where they are
+    /// known.
+    ghost opened: { Self → Option (List (Option Text)) };
+
     /// The words that were typed, the program's name first. `Words` where one is no text.
     fn typed(&self, alloc: Global) -> Result<Vec<String>, Fault>
         ensures words { IfOk result (λ words. IfSome (world self.now).typed
@@ -62,13 +68,15 @@ pub trait Machine {
         ensures none_failed { IfOk result (λ file. Self.File.failed_calls file ≡ 0) }
         ensures counted { CountsOpening (option_map (λ text. text.now) name.entry) (failed_reads self.old)
             (failed_reads self.new) result }
-        ensures no_read { reads self.new ≡ reads self.old };
+        ensures no_read { reads self.new ≡ reads self.old }
+        ensures opened { Opens (opened self.old) (opened self.new) (option_map (λ text. text.now) name.entry ∷ []) };
 
     /// Closes a file, and counts the calls of it, and those that failed.
     fn close(&mut self, file: Self::File)
         ensures same { world self.new ≡ world self.old }
         ensures counted { AddsFailures (failed_reads self.old) (failed_reads self.new) (Self.File.failed_calls file) }
-        ensures called { AddsCalls (reads self.old) (reads self.new) (Self.File.calls file) };
+        ensures called { AddsCalls (reads self.old) (reads self.new) (Self.File.calls file) }
+        ensures none_opened { opened self.new ≡ opened self.old };
 
     /// Whether standard error is a terminal.
     fn is_terminal(&self) -> bool

@@ -98,7 +98,7 @@ pub struct MemoryMachine<'a> {
 }
 
 impl<'a> Machine for MemoryMachine<'a> {
-    ghost use Rattle.std.specs.Prelude.{Some, false};
+    ghost use Rattle.std.specs.Prelude.{None, Some, false};
 
     type File = MemoryFile<'a>;
 
@@ -116,6 +116,8 @@ impl<'a> Machine for MemoryMachine<'a> {
     ghost failed_reads = { λ m. m.failed_reads };
 
     ghost reads = { λ m. m.reads };
+
+    ghost opened = { λ _. None };
 
     fn typed(&self, alloc: Global) -> Result<Vec<String>, Fault> {
         Ok(copies(alloc, self.words)?)

@@ -1,14 +1,16 @@
 //! From the words that were typed to the status that the program ends with, over any machine.
-ghost use Rattle.std.specs.Prelude.{◌≡◌, ◌⊎◌, ◌<◌, ◌≤◌, ℕ, IfErr, IfOk, IfSome, OnOk, Some, length, map, option_map};
-ghost use Rattle.std.specs.Prelude.{string_bytes, vec_len};
+ghost use Rattle.std.specs.Prelude.{◌≡◌, ◌⊎◌, ◌<◌, ◌≤◌, ◌∷◌, ℕ, [], IfErr, IfOk, IfSome, List, OnOk, Option, Some};
+ghost use Rattle.std.specs.Prelude.{length, map, option_map, string_bytes, vec_len};
 ghost use Rattle.std.specs.Process.{exit_status};
 ghost use Rattle.clap.specs.Walk.{texts};
+ghost use Rattle.clap.specs.Words.{Text};
 ghost use Rattle.n2k_run.specs.Device.{HasFailed};
 ghost use Rattle.n2k_run.specs.FramesOut.{IsInterface};
 ghost use Rattle.n2kdec.specs.Fault.{longest_file};
 ghost use Rattle.n2kdec.specs.Machine.{AsksFor, DoesTyped, FollowsWords, HasCalled, IsNamed, IsOfFile, IsReadable};
 ghost use Rattle.n2kdec.specs.Machine.{IsState, IsStateAdmitted, IsTable, IsUnasked, IsUnbegun, IsUnopened};
-ghost use Rattle.n2kdec.specs.Machine.{IsUnreadFile, ReportsFault, RunsTyped, Shows, bytes_of, outside};
+ghost use Rattle.n2kdec.specs.Machine.{IsUnreadFile, Opens, ReportsFault, RunsTyped, Shows, bytes_of, files_before_log};
+ghost use Rattle.n2kdec.specs.Machine.{named, outside};
 ghost use Rattle.n2kdec.specs.Commands.{place};
 ghost use Rattle.n2kdec.specs.Words.{IsCommand, interface_name, resume_name, save_name, table_name};
 
@@ -54,6 +56,8 @@ fn open<M: Machine>(machine: &mut M, name: Option<&str>, refused: Fault) -> Resu
     ensures none_failed { IfOk result (λ file. M.File.failed_calls file ≡ 0) }
     ensures counted { OnOk result (M.failed_reads machine.new ≡ M.failed_reads machine.old) }
     ensures no_read { M.reads machine.new ≡ M.reads machine.old }
+    ensures opened { Opens (M.opened machine.old) (M.opened machine.new)
+        (option_map (λ text. text.now) name.entry ∷ []) }
     ensures fault { IfErr result (IsUnopened (option_map (λ text. text.now) name.entry) refused
         (M.failed_reads machine.old) (M.failed_reads machine.new)) }
 {
@@ -103,6 +107,7 @@ fn read_file<M: Machine>(
     ensures readable { OnOk result (IsReadable (M.world machine.old) (Some name.now)) }
     ensures counted { OnOk result (M.failed_reads machine.new ≡ M.failed_reads machine.old) }
     ensures called { HasCalled (M.reads machine.old) (M.reads machine.new) 0 }
+    ensures opened { Opens (M.opened machine.old) (M.opened machine.new) (Some name.now ∷ []) }
     ensures fault { IfErr result (IsUnreadFile (M.world machine.old) (Some name.now) too_large unread
         (M.failed_reads machine.old) (M.failed_reads machine.new)) }
 {
@@ -113,6 +118,7 @@ fn read_file<M: Machine>(
 }
 
 /// The bytes of the table that the words name; none where their command has no table.
+#[tactic(auto, using(crate::proofs::MachineLemmas::opens_nothing))]
 fn read_table<M: Machine>(alloc: Global, machine: &mut M, words: &Words) -> Result<Vec<u8>, Fault>
     requires { IsInterface (interface_name words.now) }
     ensures same { M.world machine.new ≡ M.world machine.old }
@@ -120,6 +126,7 @@ fn read_table<M: Machine>(alloc: Global, machine: &mut M, words: &Words) -> Resu
     ensures readable { OnOk result (IsReadable (M.world machine.old) (table_name words.now)) }
     ensures counted { OnOk result (M.failed_reads machine.new ≡ M.failed_reads machine.old) }
     ensures called { HasCalled (M.reads machine.old) (M.reads machine.new) 0 }
+    ensures opened { Opens (M.opened machine.old) (M.opened machine.new) (named (table_name words.now)) }
     ensures fault { IfErr result (IsUnbegun (M.world machine.old) words.now (M.failed_reads machine.old)
         (M.failed_reads machine.new)) }
 {
@@ -130,6 +137,7 @@ fn read_table<M: Machine>(alloc: Global, machine: &mut M, words: &Words) -> Resu
 }
 
 /// The state to go on from, where one is named.
+#[tactic(auto, using(crate::proofs::MachineLemmas::opens_nothing))]
 fn read_state<M: Machine>(
     alloc: Global,
     machine: &mut M,
@@ -143,6 +151,7 @@ fn read_state<M: Machine>(
     ensures readable { OnOk result (IsReadable (M.world machine.old) (resume_name words.now)) }
     ensures counted { OnOk result (M.failed_reads machine.new ≡ M.failed_reads machine.old) }
     ensures called { HasCalled (M.reads machine.old) (M.reads machine.new) 0 }
+    ensures opened { Opens (M.opened machine.old) (M.opened machine.new) (named (resume_name words.now)) }
     ensures fault { IfErr result (IsUnbegun (M.world machine.old) words.now (M.failed_reads machine.old)
         (M.failed_reads machine.new)) }
 {
@@ -160,7 +169,6 @@ fn read_state<M: Machine>(
 
 /// Runs the command that the words name over the log that they name, or over standard input. It ends a run that had
 /// counted no more reads when it began.
-#[tactic(auto, using(crate::proofs::MachineLemmas::not_begun))]
 fn run_on_log<M: Machine, K: Keeper>(
     alloc: Global,
     machine: &mut M,
@@ -177,9 +185,11 @@ fn run_on_log<M: Machine, K: Keeper>(
     requires state { IsState (M.world machine.old) (resume_name words.now) (option_map (λ bytes. bytes.now) state) }
     requires admitted { IsStateAdmitted K.admits words.now }
     ensures same { M.world machine.new ≡ M.world machine.old }
-    ensures follows { (had : ℕ) → HasCalled had (M.reads machine.old) 0 → FollowsWords (M.world machine.old) words.now
-        (outside M.Output.Sink M.Errors.Sink K.Keeper (M.failed_reads machine.old) had outlets.old)
-        (outside M.Output.Sink M.Errors.Sink K.Keeper (M.failed_reads machine.new) (M.reads machine.new) outlets.new)
+    ensures follows { (had : ℕ) (begun : Option (List (Option Text))) → HasCalled had (M.reads machine.old) 0
+        → Opens begun (M.opened machine.old) (files_before_log words.now) → FollowsWords (M.world machine.old) words.now
+        (outside M.Output.Sink M.Errors.Sink K.Keeper (M.failed_reads machine.old) had begun outlets.old)
+        (outside M.Output.Sink M.Errors.Sink K.Keeper (M.failed_reads machine.new) (M.reads machine.new)
+        (M.opened machine.new) outlets.new)
         result }
 {
     let mut log = open(machine, words.log(), Fault::Read)?;
@@ -189,7 +199,7 @@ fn run_on_log<M: Machine, K: Keeper>(
 }
 
 /// Reads the files that the words name, and runs their command.
-#[tactic(auto, using(crate::proofs::MachineLemmas::not_begun))]
+#[tactic(auto, using(crate::proofs::MachineLemmas::table_not_read))]
 fn run_on_files<M: Machine, K: Keeper>(
     alloc: Global,
     machine: &mut M,
@@ -201,8 +211,10 @@ fn run_on_files<M: Machine, K: Keeper>(
     requires admitted { IsStateAdmitted K.admits words.now }
     ensures same { M.world machine.new ≡ M.world machine.old }
     ensures follows { FollowsWords (M.world machine.old) words.now
-        (outside M.Output.Sink M.Errors.Sink K.Keeper (M.failed_reads machine.old) (M.reads machine.old) outlets.old)
-        (outside M.Output.Sink M.Errors.Sink K.Keeper (M.failed_reads machine.new) (M.reads machine.new) outlets.new)
+        (outside M.Output.Sink M.Errors.Sink K.Keeper (M.failed_reads machine.old) (M.reads machine.old)
+        (M.opened machine.old) outlets.old)
+        (outside M.Output.Sink M.Errors.Sink K.Keeper (M.failed_reads machine.new) (M.reads machine.new)
+        (M.opened machine.new) outlets.new)
         result }
 {
     let table = read_table(alloc, machine, words)?;
@@ -240,8 +252,10 @@ fn run_words<M: Machine, K: Keeper>(
     requires { IsCommand words.now }
     ensures same { M.world machine.new ≡ M.world machine.old }
     ensures follows { FollowsWords (M.world machine.old) words.now
-        (outside M.Output.Sink M.Errors.Sink K.Keeper (M.failed_reads machine.old) (M.reads machine.old) outlets.old)
-        (outside M.Output.Sink M.Errors.Sink K.Keeper (M.failed_reads machine.new) (M.reads machine.new) outlets.new)
+        (outside M.Output.Sink M.Errors.Sink K.Keeper (M.failed_reads machine.old) (M.reads machine.old)
+        (M.opened machine.old) outlets.old)
+        (outside M.Output.Sink M.Errors.Sink K.Keeper (M.failed_reads machine.new) (M.reads machine.new)
+        (M.opened machine.new) outlets.new)
         result }
 {
     interface(words)?;
@@ -266,8 +280,10 @@ fn run_typed<M: Machine, K: Keeper>(
 ) -> Result<u8, Fault>
     ensures same { M.world machine.new ≡ M.world machine.old }
     ensures does { DoesTyped (M.world machine.old)
-        (outside M.Output.Sink M.Errors.Sink K.Keeper (M.failed_reads machine.old) (M.reads machine.old) outlets.old)
-        (outside M.Output.Sink M.Errors.Sink K.Keeper (M.failed_reads machine.new) (M.reads machine.new) outlets.new)
+        (outside M.Output.Sink M.Errors.Sink K.Keeper (M.failed_reads machine.old) (M.reads machine.old)
+        (M.opened machine.old) outlets.old)
+        (outside M.Output.Sink M.Errors.Sink K.Keeper (M.failed_reads machine.new) (M.reads machine.new)
+        (M.opened machine.new) outlets.new)
         result }
 {
     let words = typed_words(alloc, machine)?;
@@ -302,8 +318,10 @@ pub fn run<M: Machine, K: Keeper>(
     outlets: &mut Outlets<M::Output, M::Errors, K>,
 ) -> ExitCode
     ensures { RunsTyped (M.world machine.old)
-        (outside M.Output.Sink M.Errors.Sink K.Keeper (M.failed_reads machine.old) (M.reads machine.old) outlets.old)
-        (outside M.Output.Sink M.Errors.Sink K.Keeper (M.failed_reads machine.new) (M.reads machine.new) outlets.new)
+        (outside M.Output.Sink M.Errors.Sink K.Keeper (M.failed_reads machine.old) (M.reads machine.old)
+        (M.opened machine.old) outlets.old)
+        (outside M.Output.Sink M.Errors.Sink K.Keeper (M.failed_reads machine.new) (M.reads machine.new)
+        (M.opened machine.new) outlets.new)
         (exit_status result) }
 {
     match run_typed(alloc, machine, outlets) {

@@ -90,11 +90,15 @@ impl<'a> Machine for System<'a> {
 
     type Errors = StdSink<Stderr>;
 
+    ghost use Rattle.std.specs.Prelude.{None};
+
     ghost world = { λ _. unknown_world };
 
     ghost failed_reads = { λ s. s.failed_reads };
 
     ghost reads = { λ s. s.reads };
+
+    ghost opened = { λ _. None };
 
     fn typed(&self, alloc: Global) -> Result<Vec<String>, Fault> {
         match env::args(self.rt) {
