@@ -152,6 +152,7 @@ fn read_state<M: Machine>(
     ensures counted { OnOk result (M.failed_reads machine.new ≡ M.failed_reads machine.old) }
     ensures called { HasCalled (M.reads machine.old) (M.reads machine.new) 0 }
     ensures opened { Opens (M.opened machine.old) (M.opened machine.new) (named (resume_name words.now)) }
+    ensures own { IfErr result (λ fault. (fault ≡ Fault.StateSize) ⊎ ((fault ≡ Fault.StateFile) ⊎ (fault ≡ Fault.Memory))) }
     ensures fault { IfErr result (IsUnbegun (M.world machine.old) words.now (M.failed_reads machine.old)
         (M.failed_reads machine.new)) }
 {
