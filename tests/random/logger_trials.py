@@ -85,22 +85,33 @@ class Boat:
     def names(self, pattern):
         return sorted(it for it in os.listdir(self.folder) if re.fullmatch(pattern, it))
 
-    def text(self, kind):
-        return b"".join(open(f"{self.folder}/{it}", "rb").read() for it in self.names(rf"\d{{4}}-\d\d-\d\d\.{kind}"))
+    def days(self):
+        return sorted({it[:10] for it in self.names(r"\d{4}-\d\d-\d\d\.json(\.gz)?")})
+
+    def whole(self, folder, kind, day=r"\d{4}-\d\d-\d\d"):
+        """The files of all days, when none is being compressed."""
+        lock = os.open(f"{self.folder}/.compress", os.O_RDWR | os.O_CREAT)
+        try:
+            fcntl.flock(lock, fcntl.LOCK_EX)
+            found = b""
+            # What came behind a gzipped file is in one without .gz.
+            for it in sorted(os.listdir(folder), key=lambda it: (it[:10], not it.endswith(".gz"))):
+                if re.fullmatch(rf"{day}\.{kind}(\.gz)?", it):
+                    text = open(f"{folder}/{it}", "rb").read()
+                    found += gzip.decompress(text) if text[:2] == b"\x1f\x8b" else text
+            return found
+        finally:
+            os.close(lock)
+
+    def text(self, kind, day=r"\d{4}-\d\d-\d\d"):
+        return self.whole(self.folder, kind, day)
 
     def printed(self):
         """The messages of all days, without the lines that can't be read."""
         return [it for it in map(message, self.text("json").splitlines()) if it]
 
     def raw(self):
-        """The raw log, of all days, when none is being compressed."""
-        folder = os.open(f"{self.folder}/raw", os.O_RDONLY)
-        try:
-            fcntl.flock(folder, fcntl.LOCK_EX)
-            names = [it for it in sorted(os.listdir(folder)) if it[0] != "."]
-            return b"".join((gzip.open if it.endswith(".gz") else open)(f"{self.folder}/raw/{it}", "rb").read() for it in names)
-        finally:
-            os.close(folder)
+        return self.whole(f"{self.folder}/raw", "log")
 
     def decoded(self, log):
         """What one n2kdec prints of a log."""
@@ -157,10 +168,10 @@ def days(program, room, chance):
     logger.terminate()
     said = logger.communicate()[1]
     one = boat.decoded(text)
-    names = boat.names(r".*\.json")
+    names = boat.days()
     for name in names:
-        stamps = {it["timestamp"][:10] for it in map(json.loads, open(f"{boat.folder}/{name}"))}
-        if stamps - {name[:10]}:
+        stamps = {json.loads(it)["timestamp"][:10] for it in boat.text("json", name).splitlines()}
+        if stamps - {name}:
             yield f"{name} has messages of {stamps}"
     if boat.text("json") != one or boat.printed() != log.whole(0, len(log.lines)):
         yield "the days are not one decode"
@@ -383,7 +394,7 @@ def full(program, room, chance, words=()):
         logger.terminate()
         after = logger.communicate()[1]
         text = "".join(before) + after
-        if logger.returncode not in (0, 1) or text.count("has no room") != 1:
+        if logger.returncode not in (0, 1) or text.count("disk full: ") != 1 or text.count("can be written again") != 1:
             yield f"status {logger.returncode}, said: {text}"
         # What is sent after the pause begins the log again.
         sent = {(key[0], data) for key, data in log.data.items()}
