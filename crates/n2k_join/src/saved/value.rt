@@ -3,7 +3,7 @@ ghost use Rattle.std.specs.Prelude.{◌≡◌, map};
 ghost use Rattle.serde_json.specs.View.{view, members_view};
 ghost use Rattle.n2k_wire.specs.Views.{Gives};
 ghost use Rattle.n2k_wire.specs.Steps.{or_cause};
-ghost use Rattle.n2k_join.specs.Resumed.{has_only, members_at, required, as_int, int_at, digits_of, elements_of};
+ghost use Rattle.n2k_join.specs.Resumed.{has_only, members_at, required, as_int, count_at, digits_of, elements_of};
 
 use crate::fault::StateFault;
 use crate::saved::object::Object;
@@ -47,8 +47,8 @@ pub(crate) fn as_int(value: &Value) -> Result<u64, StateFault>
 }
 
 /// The whole number at a name.
-pub(crate) fn int_at(name: &str, value: &Value) -> Result<u64, StateFault>
-    ensures { Gives (λ number. number) result (int_at name.now (view value.now)) }
+pub(crate) fn count_at(name: &str, value: &Value) -> Result<u64, StateFault>
+    ensures { Gives (λ number. number) result (count_at name.now (view value.now)) }
 {
     as_int(required(name, value)?)
 }
