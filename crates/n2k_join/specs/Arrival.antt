@@ -1,22 +1,6 @@
 -- What becomes of messages whose frames are scattered over a log.
-use Rattle.std.specs.Prelude.{
-  ◌≡◌,
-  ℕ,
-  ◌+◌,
-  ◌<◌,
-  min,
-  true,
-  false,
-  List,
-  [],
-  ◌++◌,
-  map,
-  length,
-  Option,
-  Some,
-  IfSome,
-  Contains,
-}
+use Rattle.std.specs.Prelude.{◌≡◌, ℕ, ◌+◌, ◌<◌, min, true, false, List, [], ◌++◌, map, length, Option, Some, IfSome}
+use Rattle.std.specs.Prelude.{Contains}
 use Rattle.std.specs.List.{All, AllZip, range_with_len}
 use Rattle.n2k_wire.specs.declared.entry.Entry.{Entry}
 use Rattle.n2k_wire.specs.Packet.{PacketParts, longest_message}

@@ -1,31 +1,8 @@
 -- The frames of a log that belong to fast packets, as canboat and NMEA 2000 pack them: the first data byte of a frame
 -- is its header, the sequence in the upper three bits and the frame's number in the lower five. Frame 0 has the total
 -- of the message's bytes in the byte after the header.
-use Rattle.std.specs.Prelude.{
-  ℕ,
-  ◌+◌,
-  ◌/◌,
-  ◌%◌,
-  ◌==◌,
-  nat_le,
-  slice_index_or,
-  Bool,
-  false,
-  not,
-  ◌&&◌,
-  ◌||◌,
-  if◌then◌else◌,
-  List,
-  [],
-  ◌∷◌,
-  drop,
-  map,
-  filter,
-  find,
-  Option,
-  Some,
-  None,
-}
+use Rattle.std.specs.Prelude.{ℕ, ◌+◌, ◌/◌, ◌%◌, ◌==◌, nat_le, slice_index_or, Bool, false, not, ◌&&◌, ◌||◌}
+use Rattle.std.specs.Prelude.{if◌then◌else◌, List, [], ◌∷◌, drop, map, filter, find, Option, Some, None}
 use Rattle.std.specs.List.{range_with_len, cons_option}
 use Rattle.n2k_wire.specs.declared.identifier.Id.{Id}
 use Rattle.n2k_wire.specs.declared.entry.Entry.{Entry}

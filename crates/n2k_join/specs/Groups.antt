@@ -2,38 +2,9 @@
 -- where the frame after it can't join it. Whether a frame can't is a test (`EndTest`), which every word that cuts takes
 -- as an argument. By a window it can't where its number is in the group, where the group's window has ended, and, in
 -- order, where its number isn't greater than each number in the group.
-use Rattle.std.specs.Prelude.{
-  ◌≡◌,
-  ◌<◌,
-  ℕ,
-  ◌+◌,
-  length,
-  ◌/◌,
-  ◌==◌,
-  nat_le,
-  nat_lt,
-  slice_index_or,
-  Bool,
-  true,
-  false,
-  not,
-  ◌&&◌,
-  ◌||◌,
-  if◌then◌else◌,
-  List,
-  [],
-  ◌∷◌,
-  ◌++◌,
-  take,
-  drop,
-  flat_map,
-  Option,
-  Some,
-  None,
-  unwrap_or,
-  option_and_then,
-  is_some,
-}
+use Rattle.std.specs.Prelude.{◌≡◌, ◌<◌, ℕ, ◌+◌, length, ◌/◌, ◌==◌, nat_le, nat_lt, slice_index_or, Bool, true, false}
+use Rattle.std.specs.Prelude.{not, ◌&&◌, ◌||◌, if◌then◌else◌, List, [], ◌∷◌, ◌++◌, take, drop, flat_map, Option, Some}
+use Rattle.std.specs.Prelude.{None, unwrap_or, option_and_then, is_some}
 use Rattle.std.specs.List.{range_with_len, list_all, last_or}
 use Rattle.n2k_join.specs.Frames.{Key, Frame, frame_bytes, of_key}
 use Rattle.n2k_join.specs.Window.{Window}

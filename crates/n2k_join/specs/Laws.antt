@@ -1,25 +1,6 @@
 -- What holds of the groups of frames, of the step, and of bad lines, for all lists of them.
-use Rattle.std.specs.Prelude.{
-  ◌≡◌,
-  ◌<◌,
-  ◌≤◌,
-  ◌⊎◌,
-  ℕ,
-  ◌+◌,
-  false,
-  true,
-  List,
-  [],
-  ◌∷◌,
-  ◌++◌,
-  length,
-  flat_map,
-  slice_get,
-  All,
-  Option,
-  Some,
-  option_map,
-}
+use Rattle.std.specs.Prelude.{◌≡◌, ◌<◌, ◌≤◌, ◌⊎◌, ℕ, ◌+◌, false, true, List, [], ◌∷◌, ◌++◌, length, flat_map, slice_get}
+use Rattle.std.specs.Prelude.{All, Option, Some, option_map}
 use Rattle.n2k_wire.specs.declared.entry.Entry.{Entry}
 use Rattle.n2k_wire.specs.declared.entry.Entry.TheVariants as entries
 use Rattle.n2k_table.specs.declared.definition.Kind.{Kind}

@@ -1,33 +1,8 @@
 -- What the lines of a log give: messages, bad lines and broken groups. `kind` says how a PGN is sent, as the table has
 -- it.
-use Rattle.std.specs.Prelude.{
-  ℕ,
-  zero,
-  suc,
-  ◌+◌,
-  ◌==◌,
-  min,
-  Bool,
-  false,
-  not,
-  ◌&&◌,
-  if◌then◌else◌,
-  List,
-  [],
-  ◌∷◌,
-  find,
-  filter_map,
-  length,
-  sum_by,
-  count_by,
-  slice_get,
-  Option,
-  Some,
-  None,
-  option_map,
-  option_and_then,
-  is_some,
-}
+use Rattle.std.specs.Prelude.{ℕ, zero, suc, ◌+◌, ◌==◌, min, Bool, false, not, ◌&&◌, if◌then◌else◌, List, [], ◌∷◌, find}
+use Rattle.std.specs.Prelude.{filter_map, length, sum_by, count_by, slice_get, Option, Some, None, option_map}
+use Rattle.std.specs.Prelude.{option_and_then, is_some}
 use Rattle.std.specs.Option.{option_or}
 use Rattle.std.specs.List.{range_with_len}
 use Rattle.n2k_wire.specs.declared.entry.BadCause.{BadCause}

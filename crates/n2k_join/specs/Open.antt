@@ -1,22 +1,7 @@
 -- What is open after a log's frames, and what is kept of it: of each open group its key, the line that opened it,
 -- and what its frames carry, by rising number. Neither their order nor their stamps matter any more.
-use Rattle.std.specs.Prelude.{
-  ℕ,
-  ◌+◌,
-  ◌==◌,
-  nat_lt,
-  Bool,
-  not,
-  if◌then◌else◌,
-  List,
-  filter,
-  filter_map,
-  Option,
-  Some,
-  None,
-  option_map,
-  option_and_then,
-}
+use Rattle.std.specs.Prelude.{ℕ, ◌+◌, ◌==◌, nat_lt, Bool, not, if◌then◌else◌, List, filter, filter_map, Option, Some}
+use Rattle.std.specs.Prelude.{None, option_map, option_and_then}
 use Rattle.std.specs.List.{range_with_len}
 use Rattle.n2k_join.specs.Frames.{Key, Frame, most_frames, frame_at}
 use Rattle.n2k_join.specs.Groups.{EndTest, within, carried, first, open_of}

@@ -1,28 +1,6 @@
 -- The frames in which messages are sent: a fast packet's pieces, and the sequences that number a stream's messages.
-use Rattle.std.specs.Prelude.{
-  ℕ,
-  ◌+◌,
-  ◌*◌,
-  ◌%◌,
-  Bool,
-  true,
-  false,
-  ◌&&◌,
-  ◌==◌,
-  if◌then◌else◌,
-  List,
-  [],
-  ◌∷◌,
-  ◌++◌,
-  length,
-  map,
-  flat_map,
-  count_by,
-  slice_index_or,
-  Option,
-  Some,
-  None,
-}
+use Rattle.std.specs.Prelude.{ℕ, ◌+◌, ◌*◌, ◌%◌, Bool, true, false, ◌&&◌, ◌==◌, if◌then◌else◌, List, [], ◌∷◌, ◌++◌}
+use Rattle.std.specs.Prelude.{length, map, flat_map, count_by, slice_index_or, Option, Some, None}
 use Rattle.std.specs.List.{range_with_len}
 use Rattle.n2k_join.specs.Frames.{most_frames, frame_bytes, filler, most_sequences}
 use Rattle.n2k_join.specs.Groups.{last_number}

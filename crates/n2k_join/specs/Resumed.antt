@@ -1,33 +1,8 @@
 -- What a text says as a saved state: which state it spells, or the first reason why it is refused. Any JSON text is
 -- taken that `serde_json` reads as such an object: spaces, another order of members, digits of either case.
-use Rattle.std.specs.Prelude.{
-  ℕ,
-  ◌+◌,
-  ◌==◌,
-  nat_le,
-  nat_lt,
-  Bool,
-  true,
-  false,
-  not,
-  ◌&&◌,
-  ◌||◌,
-  slice_index_or,
-  codes,
-  List,
-  [],
-  ◌∷◌,
-  ◌++◌,
-  length,
-  if◌then◌else◌,
-  Option,
-  Some,
-  None,
-  option_and_then,
-  Result,
-  Ok,
-  Err,
-}
+use Rattle.std.specs.Prelude.{ℕ, ◌+◌, ◌==◌, nat_le, nat_lt, Bool, true, false, not, ◌&&◌, ◌||◌, slice_index_or, codes}
+use Rattle.std.specs.Prelude.{List, [], ◌∷◌, ◌++◌, length, if◌then◌else◌, Option, Some, None, option_and_then, Result}
+use Rattle.std.specs.Prelude.{Ok, Err}
 use Rattle.std.specs.List.{list_any}
 use Rattle.std.specs.Result.{result_ok}
 use Rattle.std.specs.Str.{bytes_eq, is_utf8}
@@ -41,14 +16,8 @@ use Rattle.n2k_table.specs.declared.definition.Kind.{Kind}
 use Rattle.n2k_table.specs.declared.definition.Kind.TheVariants.{Single, Fast}
 use Rattle.n2k_join.specs.declared.counts.Counts.{Counts}
 use Rattle.n2k_join.specs.declared.fault.StateFault.{StateFault}
-use Rattle.n2k_join.specs.declared.fault.StateFault.TheVariants.{
-  NotJson,
-  Format,
-  Shape,
-  TableDiffers,
-  WindowDiffers,
-  Invalid,
-}
+use Rattle.n2k_join.specs.declared.fault.StateFault.TheVariants.{NotJson, Format, Shape, TableDiffers, WindowDiffers}
+use Rattle.n2k_join.specs.declared.fault.StateFault.TheVariants.{Invalid}
 use Rattle.n2k_join.specs.declared.saved.object.Object.{Object}
 use Rattle.n2k_join.specs.declared.saved.object.Object.TheVariants as objects
 use Rattle.n2k_join.specs.declared.saved.object.StateFormat.{StateFormat}

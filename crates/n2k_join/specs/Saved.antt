@@ -2,19 +2,8 @@
 -- are in the order of their names. It has the lines of the window, but not whether that is in order.
 use Rattle.std.specs.Prelude.{◌≡◌, ℕ, Bool, if◌then◌else◌, List, length, map, codes}
 use Rattle.std.specs.List.{list_all}
-use Rattle.serde_json.specs.Data.{
-  Data,
-  Members,
-  number,
-  unsigned,
-  string,
-  array,
-  object,
-  no_items,
-  item,
-  no_members,
-  member,
-}
+use Rattle.serde_json.specs.Data.{Data, Members, number, unsigned, string, array, object, no_items, item, no_members}
+use Rattle.serde_json.specs.Data.{member}
 use Rattle.serde_json.specs.View.{items_of}
 use Rattle.serde_json.specs.Written.{compact_text}
 use Rattle.hex.specs.Hex.{encode_lower, IsBytes}

@@ -1,29 +1,7 @@
 -- The state of a join after a log, and the step that one more entry makes. The step knows no log: it is read off the
 -- cuts of the frames that the state holds, followed by the entry's.
-use Rattle.std.specs.Prelude.{
-  ◌≡◌,
-  ◌≤◌,
-  ◌<◌,
-  ℕ,
-  ◌+◌,
-  false,
-  true,
-  Bool,
-  List,
-  [],
-  ◌∷◌,
-  ◌++◌,
-  map,
-  reverse,
-  length,
-  flat_map,
-  Option,
-  option_map,
-  option_to_list,
-  is_some,
-  slice_index_or,
-  Some,
-}
+use Rattle.std.specs.Prelude.{◌≡◌, ◌≤◌, ◌<◌, ℕ, ◌+◌, false, true, Bool, List, [], ◌∷◌, ◌++◌, map, reverse, length}
+use Rattle.std.specs.Prelude.{flat_map, Option, option_map, option_to_list, is_some, slice_index_or, Some}
 use Rattle.std.specs.Option.{option_or}
 use Rattle.std.specs.List.{AllByRecursion}
 use Rattle.n2k_wire.specs.declared.entry.BadCause.{BadCause}

@@ -1,23 +1,6 @@
 -- What every run promises, by the texts and the reports that it makes of the entries of its log.
-use Rattle.std.specs.Prelude.{
-  ◌≡◌,
-  ◌⊎◌,
-  ◌<◌,
-  ◌≤◌,
-  ◌+◌,
-  ℕ,
-  List,
-  ◌∷◌,
-  ◌++◌,
-  length,
-  Option,
-  None,
-  Result,
-  Ok,
-  Err,
-  OnErr,
-  IfSome,
-}
+use Rattle.std.specs.Prelude.{◌≡◌, ◌⊎◌, ◌<◌, ◌≤◌, ◌+◌, ℕ, List, ◌∷◌, ◌++◌, length, Option, None, Result, Ok, Err, OnErr}
+use Rattle.std.specs.Prelude.{IfSome}
 use Rattle.std.specs.Io.KnownBytes.{Appends, Consumes, IsAtEnd}
 use Rattle.n2k_wire.specs.declared.entry.Entry.{Entry}
 use Rattle.n2k_wire.specs.declared.entry.Packing.{Packing}

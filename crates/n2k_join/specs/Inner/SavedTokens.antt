@@ -1,22 +1,6 @@
 -- The text of a saved state, token by token.
-use Rattle.std.specs.Prelude.{
-  ◌≡◌,
-  ℕ,
-  Bool,
-  if◌then◌else◌,
-  List,
-  [],
-  ◌∷◌,
-  ◌++◌,
-  decimal,
-  codes,
-  map,
-  Option,
-  Some,
-  None,
-  OnOk,
-  Result,
-}
+use Rattle.std.specs.Prelude.{◌≡◌, ℕ, Bool, if◌then◌else◌, List, [], ◌∷◌, ◌++◌, decimal, codes, map, Option, Some, None}
+use Rattle.std.specs.Prelude.{OnOk, Result}
 use Rattle.std.specs.List.{flat_map}
 use Rattle.json.specs.Token.{Token}
 use Rattle.json.specs.Tree.{json_tokens}
