@@ -236,10 +236,7 @@ pub(crate) fn has_mixed(definitions: &[StoredDefinition]) -> bool
 fn is_mixed_among(definitions: &[StoredDefinition], definition: &StoredDefinition) -> bool
     ensures { result ≡ list_any (are_mixed (pgn_kind definition.now)) (map pgn_kind definitions.now) }
 {
-    for other in definitions {
-        if definition.is_mixed_with(other) {
-            return true;
-        }
-    }
-    false
+    definitions
+        .iter()
+        .any(|other| definition.is_mixed_with(other))
 }

@@ -13,12 +13,7 @@ use serde_json::{Map, Value};
 fn has_only(members: &Map<String, Value>, object: Object) -> bool
     ensures { result ≡ has_only object (members_view members.now.entries) }
 {
-    for name in members.keys() {
-        if !object.has(name.as_str()) {
-            return false;
-        }
-    }
-    true
+    members.keys().all(|name| object.has(name.as_str()))
 }
 
 /// Refuses a value that is no object, or that has a member which the object hasn't.
