@@ -296,19 +296,18 @@ def trial(name, room, chance):
             place += 1
             if chance.random() < 0.02:
                 time.sleep(0.02 * chance.random())
-        way = chance.choice(["server", "server", "both", "feed", "cut", "renew"])
-        if way in ("feed", "both", "cut"):
+        way = chance.choice(["server", "server", "both", "cut", "renew"])
+        if way in ("both", "cut"):
             feed.kill()
             feed.wait()
         if way == "cut":
             folder.cut()
         if way == "renew":
             folder.renew()
-        if way != "feed":
-            server.stop()
-            time.sleep(0.3 * chance.random())
-            server.start()
-            time.sleep(chance.choice([0.1, 0.5, 1.5]) * chance.random())
+        server.stop()
+        time.sleep(0.3 * chance.random())
+        server.start()
+        time.sleep(chance.choice([0.1, 0.5, 1.5]) * chance.random())
         if feed.poll() is not None:
             feed = begin()
     for line in lines[place:]:

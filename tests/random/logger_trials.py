@@ -1,7 +1,7 @@
 #!/usr/bin/env python3
 """The script `n2k-logger` where days change, senders end, processes are killed, a disk is full, the power is cut and Ctrl-C comes.
 
-    logger_trials.py PROGRAM days|holes|killed|stopped|full|full_raw|terminal|cut [COUNT [SEED]]
+    logger_trials.py PROGRAM days|holes|killed|stopped|full|full_raw|short|terminal|cut [COUNT [SEED]]
 
 Each trial has a boat's log by a seed: the messages of `lossy.py`, of 2 to 32 frames, none lost, stamped over some days. What
 the logger prints is judged by what was sent. Where frames are missing, the messages that miss one are those that are not
@@ -408,6 +408,30 @@ def full(program, room, chance, words=()):
             yield "a message that was not sent"
         if words and {*map(message, boat.decoded(boat.raw()).splitlines())} - sent:
             yield "the raw log gives a message that was not sent"
+    finally:
+        subprocess.run(["umount", "-l", disk], check=True)
+
+
+def short(program, room, chance):
+    """A folder that has less room than the log: by --free the oldest days go, and nothing else is lost."""
+    disk = f"{room}/disk"
+    os.mkdir(disk)
+    if subprocess.run(["mount", "-t", "tmpfs", "-o", "size=1200k", "none", disk], check=False, capture_output=True).returncode:
+        print("no file system can be mounted here")
+        sys.exit(77)
+    boat, log = Boat(program, disk), Log(chance, chance.randrange(8, 20))
+    try:
+        logger = boat.start(*sender(put(room, log.lines), 8, chance), words=("--raw", "--sync=1", "--free=1"))
+        boat.received(log.lines[-1])
+        logger.terminate()
+        said = logger.communicate()[1]
+        removed, days = re.findall(r"n2k-logger: (\S+) is removed, as less than 1 MB were free\n", said), boat.days()
+        summed = re.findall(r"n2k-logger: (\S+) lines", said)
+        if logger.returncode or not removed or "disk full" in said or removed + days != summed:
+            yield f"status {logger.returncode}, there are {days}, said: {said}"
+        whole = log.whole(0, len(log.lines))
+        if not (printed := boat.printed()) or printed != whole[-len(printed) :]:
+            yield "not the messages of the newest days"
     finally:
         subprocess.run(["umount", "-l", disk], check=True)
 
