@@ -7,7 +7,7 @@ use Rattle.clap.specs.Words.{Text}
 use Rattle.n2k_run.specs.Device.{HasFailed}
 use Rattle.n2kdec.specs.Asked.{asked, save_name}
 use Rattle.n2kdec.specs.Commands.{Kept, Performs, shelf}
-use Rattle.n2kdec.specs.Machine.{AddsCalls, AddsFailures, AsksFor, DoesAsked, DoesTyped, FileUse, HasCalled, IsPerformed, IsPerformedOver, IsReadable, IsStateAdmitted, IsUnopened, IsUnread, IsUnreadFile, LogAfter, Opens, Outside, RunsCommand, World, all_files, files_before_log, named, table_bytes, with_log}
+use Rattle.n2kdec.specs.Machine.{AddsCalls, AddsFailures, AsksFor, DoesAsked, DoesTyped, FileUse, HasCalled, IsPerformed, IsPerformedOver, IsReadable, IsStateAdmitted, IsUnopened, IsUnread, IsUnreadFile, LogAfter, Opens, Outside, RunsCommand, World, all_files, files_before_log, if_named, table_bytes, with_log}
 use Rattle.n2kdec.specs.declared.asked.Request.{Request}
 use Rattle.n2kdec.specs.declared.asked.Command.{Command}
 use Rattle.n2kdec.specs.declared.asked.Files.{Files}
@@ -50,7 +50,7 @@ opens_then a b c names more first then = go a.opened first
 opens_no_more : (a b c : FileUse) (names : List (Option Text)) → Opens a b names → Opens b c [] → Opens a c names
 opens_no_more a b c names first then = subst (Opens a c) (append-nil names) (opens_then a b c names [] first then)
 
-named_is : (name : Option Text) → IsSome name → name ∷ [] ≡ named name
+named_is : (name : Option Text) → IsSome name → name ∷ [] ≡ if_named name
 named_is None some = absurd (false≢true some)
 named_is (Some name) some = refl
 
@@ -64,27 +64,27 @@ module _ (w : World) (files : Files) (begun mid now : FileUse) (fault : Fault) w
   no_memory : (first rest : List (Option Text)) → all_files files ≡ first ++ rest → fault ≡ Memory → now.failed ≡ begun.failed → Opens begun now first → Unread fault
   no_memory first rest split is same opens = subst Unread (sym is) (same, (first, rest, split, opens))
 
-  after_table : all_files files ≡ named files.table ++ (named files.state ++ files.log ∷ [])
-  after_table = append_assoc (named files.table) (named files.state) (files.log ∷ [])
+  after_table : all_files files ≡ if_named files.table ++ (if_named files.state ++ files.log ∷ [])
+  after_table = append_assoc (if_named files.table) (if_named files.state) (files.log ∷ [])
 
   pub table_unread : IsSome files.table × IsUnreadFile w files.table TableSize TableFile begun now fault → Unread fault
   table_unread (some, inl large) = subst Unread (sym large.0) (large.1, large.2, subst (Opens begun now) (named_is files.table some) large.3)
   table_unread (some, inr (inl (is, same, inl none))) = no_memory [] (all_files files) refl is same none
-  table_unread (some, inr (inl (is, same, inr opens))) = no_memory (named files.table) (named files.state ++ files.log ∷ []) after_table is same (subst (Opens begun now) (named_is files.table some) opens)
+  table_unread (some, inr (inl (is, same, inr opens))) = no_memory (if_named files.table) (if_named files.state ++ files.log ∷ []) after_table is same (subst (Opens begun now) (named_is files.table some) opens)
   table_unread (some, inr (inr (is, unreadable, opens))) = subst Unread (sym is) (unreadable, subst (Opens begun now) (named_is files.table some) opens)
 
   -- what failed since then failed since the beginning
   failed_since : mid.failed ≡ begun.failed → HasFailed mid.failed now.failed → HasFailed begun.failed now.failed
   failed_since same = subst (λ n. HasFailed n now.failed) same
 
-  module _ (table : IsReadable w files.table × (mid.failed ≡ begun.failed) × Opens begun mid (named files.table)) where
+  module _ (table : IsReadable w files.table × (mid.failed ≡ begun.failed) × Opens begun mid (if_named files.table)) where
     both : IsSome files.state → Opens mid now (files.state ∷ []) → Opens begun now (files_before_log files)
-    both some opens = opens_then begun mid now (named files.table) (named files.state) table.2 (subst (Opens mid now) (named_is files.state some) opens)
+    both some opens = opens_then begun mid now (if_named files.table) (if_named files.state) table.2 (subst (Opens mid now) (named_is files.state some) opens)
 
     pub state_unread : IsSome files.state × IsUnreadFile w files.state StateSize StateFile mid now fault → Unread fault
     state_unread (some, inl large) = subst Unread (sym large.0) (table.0, large.1, large.2 ∙ table.1, both some large.3)
     state_unread (some, inr (inl (is, same, inl none))) =
-        no_memory (named files.table) (named files.state ++ files.log ∷ []) after_table is (same ∙ table.1) (opens_no_more begun mid now (named files.table) table.2 none)
+        no_memory (if_named files.table) (if_named files.state ++ files.log ∷ []) after_table is (same ∙ table.1) (opens_no_more begun mid now (if_named files.table) table.2 none)
     state_unread (some, inr (inl (is, same, inr opens))) = no_memory (files_before_log files) (files.log ∷ []) refl is (same ∙ table.1) (both some opens)
     state_unread (some, inr (inr (is, unreadable, opens))) = subst Unread (sym is) (table.0, (unreadable.0, failed_since table.1 unreadable.1), both some opens)
 
@@ -98,8 +98,8 @@ module _ (w : World) (files : Files) (begun mid now : FileUse) (fault : Fault) w
       subst Unread (sym is) (table, state, (unreadable.0, failed_since none_failed unreadable.1), opens_then begun mid now (files_before_log files) (files.log ∷ []) before opens)
 
 -- the table and the state were read
-pub both_opened : (files : Files) (a b c : FileUse) → Opens a b (named files.table) → Opens b c (named files.state) → Opens a c (files_before_log files)
-both_opened files a b c table state = opens_then a b c (named files.table) (named files.state) table state
+pub both_opened : (files : Files) (a b c : FileUse) → Opens a b (if_named files.table) → Opens b c (if_named files.state) → Opens a c (files_before_log files)
+both_opened files a b c table state = opens_then a b c (if_named files.table) (if_named files.state) table state
 
 -- and then the log was opened, and closed
 pub all_opened : (files : Files) (a b c d : FileUse) → Opens a b (files_before_log files) → Opens b c (files.log ∷ []) → d.opened ≡ c.opened → Opens a d (all_files files)

@@ -37,9 +37,9 @@ abbrev pub unknown_world : World
 unknown_world = record { typed = None; file = λ name. None; input = None; terminal = None }
 
 -- the bytes of the file that is named, or those of standard input
-abbrev pub bytes_of : World → Option Text → Option (List ℕ)
-bytes_of w None = w.input
-bytes_of w (Some name) = w.file name
+abbrev pub bytes_named : World → Option Text → Option (List ℕ)
+bytes_named w None = w.input
+bytes_named w (Some name) = w.file name
 
 -- How files were used: how many openings and reads failed; how many reads were made of the files that were closed; and
 -- which were opened, or refused in it, the first one first and standard input without a name, where that is known. At
@@ -65,8 +65,8 @@ IsUnopened name refused before after fault =
     ⊎ ((fault ≡ refused) × IsUnreadable name before after × Opens before after (name ∷ []))
 
 -- an opening, which is counted as failed where the file can't be had, and then alone
-pub record OpensFile {T : Type 0} (name : Option Text) (refused : Fault) (before after : FileUse) (result : Result T Fault)
-    : Type 0 where
+pub record OpensFile {T : Type 0} (name : Option Text) (refused : Fault) (before after : FileUse)
+    (result : Result T Fault) : Type 0 where
   pub no_read : after.reads ≡ before.reads
   pub answer : MatchResult result (λ file. (after.failed ≡ before.failed) × Opens before after (name ∷ []))
       (IsUnopened name refused before after)
@@ -124,14 +124,14 @@ table_bytes None = []
 table_bytes (Some bytes) = bytes
 
 -- a file, where one is named
-abbrev pub named : Option Text → List (Option Text)
-named None = []
-named (Some name) = Some name ∷ []
+abbrev pub if_named : Option Text → List (Option Text)
+if_named None = []
+if_named (Some name) = Some name ∷ []
 
 -- The files that are opened before the log, and all that are: the table's, the state's, and then the log's or standard
 -- input, each once.
 abbrev pub files_before_log : Files → List (Option Text)
-files_before_log files = named files.table ++ named files.state
+files_before_log files = if_named files.table ++ if_named files.state
 
 abbrev pub all_files : Files → List (Option Text)
 all_files files = files_before_log files ++ files.log ∷ []
@@ -157,16 +157,16 @@ pub record ReadsFile {T : Type 0} (w : World) (name : Option Text) (too_large un
     (result : Result T Fault) : Type 0 where
   pub called : HasCalled before.reads after.reads 0
   pub answer : MatchResult result
-      (λ read. IsReadable w name × (after.failed ≡ before.failed) × Opens before after (named name))
+      (λ read. IsReadable w name × (after.failed ≡ before.failed) × Opens before after (if_named name))
       (λ fault. IsSome name × IsUnreadFile w name too_large unread before after fault)
 
 -- The fault of a file, and the files that were opened until then: the table's, the state's, the log's. Memory may be
 -- refused behind any of them.
 abbrev pub IsUnread : World → Files → FileUse → FileUse → Fault → Type 0
 IsUnread w files before after TableSize =
-    IsTooLarge w files.table × (after.failed ≡ before.failed) × Opens before after (named files.table)
+    IsTooLarge w files.table × (after.failed ≡ before.failed) × Opens before after (if_named files.table)
 IsUnread w files before after TableFile =
-    IsUnreadable files.table before after × Opens before after (named files.table)
+    IsUnreadable files.table before after × Opens before after (if_named files.table)
 IsUnread w files before after StateSize =
     IsReadable w files.table × IsTooLarge w files.state × (after.failed ≡ before.failed)
     × Opens before after (files_before_log files)
@@ -209,17 +209,17 @@ pub record IsPerformedOver (command : Command) (table : List ℕ) (handed left :
 abbrev pub IsStateAdmitted : (Text → Files → Option Bool) → Files → Command → Type 0
 IsStateAdmitted admits files command = IfSome (save_name command) (λ name. IsAdmitted admits name files)
 
--- The command is performed by the bytes of its files, over its log, and its state is kept under the name that it has for
--- it, which was admitted.
-pub record IsPerformed (w : World) (files : Files) (command : Command) (before after : Outside) (result : Result ℕ Fault)
-    : Type 0 where
+-- The command is performed by the bytes of its files, over its log, and its state is kept under the name that it has
+-- for it, which was admitted.
+pub record IsPerformed (w : World) (files : Files) (command : Command) (before after : Outside)
+    (result : Result ℕ Fault) : Type 0 where
   pub admitted : IsStateAdmitted before.admits files command
   pub opened : Opens before.files after.files (all_files files)
   pub table : Option (List ℕ)
   pub is_table : IsOfFile w files.table table
   pub handed : Option (List ℕ)
   pub is_state : IsOfFile w files.state handed
-  pub over : IsPerformedOver command (table_bytes table) handed (bytes_of w files.log) before after result
+  pub over : IsPerformedOver command (table_bytes table) handed (bytes_named w files.log) before after result
 
 -- The state can't be kept under the name that the command has for it, since that would harm a file that is read: what
 -- keeps a state counts a failed call, and all else is as it was.
@@ -230,7 +230,8 @@ pub record IsNotAdmitted (command : Command) (before after : Outside) (fault : F
   pub else_same : after ≡ record before { failed_keeps = after.failed_keeps }
 
 -- It is not begun, though its state is admitted, since a file is not read; and nothing is printed or kept.
-pub record IsNotBegun (w : World) (files : Files) (command : Command) (before after : Outside) (fault : Fault) : Type 0 where
+pub record IsNotBegun (w : World) (files : Files) (command : Command) (before after : Outside) (fault : Fault)
+    : Type 0 where
   pub admitted : IsStateAdmitted before.admits files command
   pub unread : IsUnread w files before.files after.files fault
   pub else_same : after ≡ record before { files = after.files }

@@ -70,7 +70,8 @@ pub record AtomicReplacement {T E : Type 0} (first : Name → Content) (before a
 
 -- ---- a text over another
 
--- The calls by which a text is written over what the file of a name has, the last one first, up to the first that failed.
+-- The calls by which a text is written over what the file of a name has, the last one first, up to the first that
+-- failed.
 abbrev pub AreWritingOver : {T E : Type 0} → List ℕ → Result T E → List Call → Type 0
 AreWritingOver text (Ok done) made = made ≡ sync Target true ∷ write Target text true ∷ empty Target true ∷ []
 AreWritingOver text (Err why) made =
@@ -111,15 +112,16 @@ AreRefused Shared text made = (made ≡ refused ∷ []) ⊎ (made ≡ sync Temp 
 AreRefused Special text made = ⊥
 
 -- Until then the name had the old text; then the text was written over that.
-pub record RefusedReplacement {T E : Type 0} (kind : Kind) (first : Name → Content) (before after : List Call) (text : List ℕ)
-    (result : Result T E) : Type 0 where
+pub record RefusedReplacement {T E : Type 0} (kind : Kind) (first : Name → Content) (before after : List Call)
+    (text : List ℕ) (result : Result T E) : Type 0 where
   pub tried : List Call
   pub refusal : AreRefused kind text tried
   pub each_moment : AtEachMoment (IsAsBefore first before Target) tried before
   pub overwriting : Overwriting first (tried ++ before) after text result
 
 -- A call failed while the new file was made, and the name has the old text at each moment.
-pub record LeftAlone {T E : Type 0} (first : Name → Content) (before after : List Call) (text : List ℕ) (result : Result T E) : Type 0 where
+pub record LeftAlone {T E : Type 0} (first : Name → Content) (before after : List Call) (text : List ℕ)
+    (result : Result T E) : Type 0 where
   pub tried : List Call
   pub order : AreUnfilled text tried
   pub gone : Bool
@@ -233,14 +235,14 @@ abbrev pub HarmsSome : (Name → Text → Option Bool) → Kind → Files → Ty
 HarmsSome leads kind files = HarmsTarget (leads Target) kind files ⊎ HarmsTemp (leads Temp) files
 
 -- it is refused only where the kind of the file could not be found out, or something would be harmed
-abbrev pub IsJudged : {T E : Type 0} → Result T E → (Name → Text → Option Bool) → Option Kind → Files → Type 0
-IsJudged (Ok done) leads None files = ⊥
-IsJudged (Ok done) leads (Some kind) files = HarmsNone leads kind files
-IsJudged (Err why) leads None files = Unit {0}
-IsJudged (Err why) leads (Some kind) files = HarmsSome leads kind files
+abbrev pub RefusesOnlyHarm : {T E : Type 0} → Result T E → (Name → Text → Option Bool) → Option Kind → Files → Type 0
+RefusesOnlyHarm (Ok done) leads None files = ⊥
+RefusesOnlyHarm (Ok done) leads (Some kind) files = HarmsNone leads kind files
+RefusesOnlyHarm (Err why) leads None files = Unit {0}
+RefusesOnlyHarm (Err why) leads (Some kind) files = HarmsSome leads kind files
 
 -- One call is made: the folder is turned to this name, and the run judged by what that leads to.
 abbrev pub Admits : {T E : Type 0} → (Name → Text → Option Bool) → Option (List Call) → Option (List Call) → Text
     → Files → Result T E → Type 0
 Admits leads old new name files result =
-    (kind : Option Kind) × Notes old new (turn name kind) × IsJudged result leads kind files
+    (kind : Option Kind) × Notes old new (turn name kind) × RefusesOnlyHarm result leads kind files

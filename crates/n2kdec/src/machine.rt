@@ -1,6 +1,6 @@
 //! What the program meets: the words that were typed, files, and the standard streams.
 ghost use Rattle.std.specs.Prelude.{◌≡◌, ◌⊎◌, None, IfErr, IfOk, IfSome, IsErrOf, map, string_bytes};
-ghost use Rattle.n2kdec.specs.Machine.{ClosesFile, FileUse, IsTerminal, OpensFile, World, bytes_of};
+ghost use Rattle.n2kdec.specs.Machine.{ClosesFile, FileUse, IsTerminal, OpensFile, World, bytes_named};
 
 use crate::fault::Fault;
 use crate::words::Word;
@@ -46,7 +46,7 @@ pub trait Machine {
     /// of the name, or it may not be read.
     fn open(&mut self, name: &Option<Word>, refused: Fault) -> Result<Self::File, Fault>
         ensures same { world self.new ≡ world self.old }
-        ensures bytes { IfOk result (λ file. Self.File.remaining file ≡ bytes_of (world self.old) name.now) }
+        ensures bytes { IfOk result (λ file. Self.File.remaining file ≡ bytes_named (world self.old) name.now) }
         ensures none_called { IfOk result (λ file. Self.File.calls file ≡ 0) }
         ensures none_failed { IfOk result (λ file. Self.File.failed_calls file ≡ 0) }
         ensures files { OpensFile name.now refused (files self.old) (files self.new) result };

@@ -1,5 +1,5 @@
 use Rattle.std.proofs.Common.{rules, ◌≡◌, ◌∙◌, option_map, subst}
-use Rattle.n2kdec.specs.Machine.{IsOfFile, IsReadable, IsUnreadFile, bytes_of, outside, table_bytes}
+use Rattle.n2kdec.specs.Machine.{IsOfFile, IsReadable, IsUnreadFile, bytes_named, outside, table_bytes}
 use Rattle.n2kdec.specs.declared.fault.Fault.TheVariants.{StateSize, StateFile}
 use Rattle.n2kdec.proofs.MachineLemmas.{all_opened, both_opened, called_after, called_more, log_unread, not_begun, performed_over, runs, state_unread, table_is, table_unread}
 use Rattle.n2kdec.proofs.program.run_on_files.Goals as goal
@@ -64,7 +64,7 @@ returns-clause-runs g c =
       is_state = subst (λ v. IsOfFile v files.state state_read) table.same state.bytes;
       over = performed_over c.args.command.now (table_bytes table_read) state_read _ after
           (record { left = g.M.File.Source.remaining log; calls = g.M.File.Source.calls log; failed = g.M.File.Source.failed_calls log }) c.run_command-answer.result
-          _ _ _ (bytes_of w files.log) _ _ _ is_table is_state (subst (λ v. g.M.File.Source.remaining c.in_ok-log.log ≡ bytes_of v files.log) (state.same ∙ table.same) opened.bytes) opened.none_called opened.none_failed
+          _ _ _ (bytes_named w files.log) _ _ _ is_table is_state (subst (λ v. g.M.File.Source.remaining c.in_ok-log.log ≡ bytes_named v files.log) (state.same ∙ table.same) opened.bytes) opened.none_called opened.none_failed
           (opened.files.answer.0 ∙ state.reads.answer.1 ∙ table.reads.answer.1) c.close.ensures.files.counted
           (called_more _ _ _ _ _ (called_after _ _ _ table.reads.called state.reads.called) opened.files.no_read c.close.ensures.files.called)
           c.run_command-answer.ensures.performs;
