@@ -115,7 +115,8 @@ impl<'a> MemoryMachine<'a> {
             Some(name) => Some(Word::new(*self.opened.allocator(), name.as_str())?),
             None => None,
         };
-        self.opened.push(copy)
+        self.opened.push(copy)?;
+        Ok(())
     }
 }
 
