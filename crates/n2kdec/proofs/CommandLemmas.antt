@@ -1,6 +1,7 @@
 -- From what a run, the place of a state and the summary leave to what a command leaves.
-use Rattle.std.proofs.Common.{◌≡◌, ◌⊎◌, ◌≤◌, ◌+◌, length, ◌==◌, ◌++◌, Bool, true, false, cond, arith, ◌∙◌, ℕ, List, [], Option, Ok, Err, Result, IfOk, IfSome, ap, sym, subst, refl, inl, inr, append_assoc}
+use Rattle.std.proofs.Common.{◌≡◌, ◌⊎◌, ◌≤◌, ◌+◌, length, ◌==◌, ◌++◌, Bool, true, false, cond, arith, ◌∙◌, ℕ, List, [], Option, Ok, Err, Result, IfOk, IfSome, ap, sym, subst, refl, inl, inr, append_assoc, ap₂, None}
 use Rattle.std.proofs.KnownBytes.{Appends-nil, Appends-trans}
+use Rattle.std.proofs.lemmas.Bool.{false≢true}
 use Rattle.std.specs.Io.KnownBytes.{Appends}
 use Rattle.n2k_wire.specs.declared.entry.Entry.{Entry}
 use Rattle.n2k_join.specs.declared.counts.Counts.{Counts}
@@ -16,8 +17,8 @@ use Rattle.n2k_run.specs.declared.fault.RunFault.{RunFault}
 use Rattle.n2k_run.specs.declared.fault.RunFault.TheVariants as run
 use Rattle.n2k_run.specs.declared.part.Part.{Part}
 use Rattle.n2k_table.specs.declared.fault.TableFault.{TableFault}
-use Rattle.n2kdec.specs.Inner.Closing.{Closes, ClosesWhole, SumsUp}
-use Rattle.n2kdec.specs.Commands.{BreaksOff, CannotBeSaved, Command, Ends, EndsByTable, FailsToKeep, HasDevice, HasTaken, HasTakenAll, IsCutOff, IsDone, IsRefusedOrStopped, IsSaved, IsStopped, IsUntouched, IsWritten, IsWrittenUnlessFailed, Replaces, Leaves, Place, SumsUpPart, Shelf, entries_for, no_saving, place}
+use Rattle.n2kdec.specs.Inner.Closing.{Closes, ClosesPart, SumsUp}
+use Rattle.n2kdec.specs.Commands.{BreaksOff, CannotBeSaved, Effect, Ends, EndsByTable, FailsToKeep, HasDevice, HasTaken, HasTakenAll, IsCutOff, IsDone, IsRefusedOrStopped, IsSaved, IsStopped, IsUntouched, IsWritten, IsWrittenUnlessFailed, Kept, Replaces, Leaves, Place, SumsUpPart, Shelf, entries_for, no_saving, place, shelf}
 use Rattle.n2kdec.specs.Fault.{exit_status, fault_of_run}
 use Rattle.n2kdec.specs.declared.fault.Fault.{Fault}
 use Rattle.n2kdec.specs.declared.fault.Fault.TheVariants.{Memory, Report, Table}
@@ -43,13 +44,48 @@ pub some_written : (before after : Place) (text : List ℕ) → IsWrittenUnlessF
 some_written before after text (inl whole) = (text, whole.written)
 some_written before after text (inr cut) = (cut.front.1.front, cut.front.1.appended)
 
+-- what follows a failed read: the state is kept or not, and the summary is written or cut off
+pub kept_or_not : (keeper kept : Shelf) (errors summed : Place) (text : List ℕ) (counts : Counts) (r : Result ℕ Fault) → Closes keeper kept errors summed text counts r
+    → Replaces keeper kept text errors.text ⊎ FailsToKeep keeper kept text errors.text
+kept_or_not keeper kept errors summed text counts r (inl closes) = inl closes.0
+kept_or_not keeper kept errors summed text counts r (inr fails) = inr fails.1
+
+pub summed_or_cut : (keeper kept : Shelf) (errors summed : Place) (text : List ℕ) (counts : Counts) (r : Result ℕ Fault) → Closes keeper kept errors summed text counts r
+    → IsWrittenUnlessFailed errors summed (summary_text counts)
+summed_or_cut keeper kept errors summed text counts (Ok status) (inl closes) = inl closes.1.0
+summed_or_cut keeper kept errors summed text counts (Err fault) (inl closes) = inr closes.1.1
+summed_or_cut keeper kept errors summed text counts r (inr fails) = fails.2
+
+-- the close of a whole log, of which no state is kept
+abbrev pub ClosesWhole : Place → Place → Result Part Stop → Result ℕ Fault → Type 0
+ClosesWhole errors summed (Ok part) result = SumsUp errors summed part.counts result
+ClosesWhole errors summed (Err stop) result = (result ≡ Err stop.fault) × (summed ≡ errors)
+
+-- a command without a name for its state keeps none
+module _ (had has : Option (List Kept)) (failed fails : ℕ) (errors summed : Place) where
+  abbrev pub IsUnkept : Type 0
+  IsUnkept = shelf None has fails ≡ shelf None had failed
+
+  pub unkept : (text : List ℕ) (counts : Counts) (r : Result ℕ Fault) → Closes (shelf None had failed) (shelf None has fails) errors summed text counts r
+      → IsUnkept × SumsUp errors summed counts r
+  unkept text counts r (inl closes) = (ap₂ (λ k n. shelf None k n) closes.0.kept closes.0.none_failed, closes.1)
+  unkept text counts r (inr unsaved) = absurd (false≢true unsaved.1.named)
+
+  pub unkept_whole : (ended : Result Counts RunFault) (told : Result Part Stop) (r : Result ℕ Fault) → AnswersWhole ended told
+      → ClosesPart (shelf None had failed) (shelf None has fails) errors summed told r → IsUnkept × ClosesWhole errors summed told r
+  unkept_whole (Ok counts) (Ok part) r tells closes = unkept part.state.items part.counts r closes
+  unkept_whole (Ok counts) (Err stop) r tells closes = absurd tells
+  unkept_whole (Err fault) told r tells closes =
+      let is = subst (λ t. ClosesPart (shelf None had failed) (shelf None has fails) errors summed t r) tells closes in
+      (is.1.0, subst (λ t. ClosesWhole errors summed t r) (sym tells) (is.0, is.1.1))
+
 -- the summary is written by a command that has no state
 pub closes_unsaved : (errors summed : Place) (counts : Counts) (r : Result ℕ Fault) → SumsUp errors summed counts r
     → Closes no_saving.before no_saving.after errors summed [] counts r
 closes_unsaved errors summed counts r said = inl (record { kept = refl; none_failed = refl }, said)
 
 -- a run ended, by which the devices stood so but for the errors, which then took a summary or a front of it
-module _ (c : Command) (stands : List Entry → Type 0) (before after : Devices) (errors : Place) where
+module _ (c : Effect) (stands : List Entry → Type 0) (before after : Devices) (errors : Place) where
   abbrev mid : Devices
   mid = record after { reported = errors.text; failed_reports = errors.failed }
 
@@ -232,30 +268,30 @@ module _ (c : Command) (stands : List Entry → Type 0) (before after : Devices)
 
 -- the run of a whole log, of which an answer tells and which is then closed: no state is saved
 module _ (output : Output) (counts_of : List Entry → Counts) (before after : Devices) (errors : Place) where
-  abbrev whole_command : Command
-  whole_command = record { output = output; counts = counts_of; saving = no_saving; sums_up_a_part = false }
+  abbrev whole_effect : Effect
+  whole_effect = record { output = output; counts = counts_of; saving = no_saving; sums_up_a_part = false }
 
   abbrev said : Place
   said = place after.reported after.failed_reports
 
-  nothing_follows : (stands : List Entry → Type 0) (f : RunFault) → said ≡ errors → Follows whole_command stands before after errors f
+  nothing_follows : (stands : List Entry → Type 0) (f : RunFault) → said ≡ errors → Follows whole_effect stands before after errors f
   nothing_follows stands run.Read same = λ es is. (same, inl (record { kept = refl; none_failed = refl }))
   nothing_follows stands run.TooManyLines same = λ es is. (same, refl)
   nothing_follows stands _ same = (same, refl)
 
   pub ended_whole : (ended : Result Counts RunFault) (told : Result Part Stop) (r : Result ℕ Fault)
       → Runs output (λ es. IfOk ended (λ counts. counts ≡ counts_of es)) before (record after { reported = errors.text; failed_reports = errors.failed }) ended
-      → AnswersWhole ended told → ClosesWhole errors said told r → Ends whole_command before after r
+      → AnswersWhole ended told → ClosesWhole errors said told r → Ends whole_effect before after r
   ended_whole (Ok counts) (Ok part) r runs tells closes =
-      ended_by_closing whole_command _ before after errors counts [] part.counts runs (tells.1 ∙ runs.ends.holds, refl) r (closes_unsaved errors said part.counts r closes)
+      ended_by_closing whole_effect _ before after errors counts [] part.counts runs (tells.1 ∙ runs.ends.holds, refl) r (closes_unsaved errors said part.counts r closes)
   ended_whole (Ok counts) (Err stop) r runs tells closes = absurd tells
   ended_whole (Err fault) told r runs tells closes =
       let is = subst (λ t. ClosesWhole errors said t r) tells closes in
-      subst (Ends whole_command before after) (sym is.0)
-      (left_by_run whole_command _ before after errors fault runs (nothing_follows _ fault is.1) is.1)
+      subst (Ends whole_effect before after) (sym is.0)
+      (left_by_run whole_effect _ before after errors fault runs (nothing_follows _ fault is.1) is.1)
 
 -- a command that has begun ends by no refusal of its table
-pub past_table : (found : List TableFault) (c : Command) (before after : Devices) (r : Result ℕ Fault) → found ≡ [] → Ends c before after r → EndsByTable found c before after r
+pub past_table : (found : List TableFault) (c : Effect) (before after : Devices) (r : Result ℕ Fault) → found ≡ [] → Ends c before after r → EndsByTable found c before after r
 past_table found c before after (Ok status) none done = (none, done)
 past_table found c before after (Err fault) none stopped = go fault stopped
   where
@@ -263,7 +299,7 @@ past_table found c before after (Err fault) none stopped = go fault stopped
     go (Table refused) s = absurd s.leaves
     go f s = (none, s)
 
-pub refused_table : (found : List TableFault) (c : Command) (before after : Devices) (errors : Place) (stop : Stop) (r : Result ℕ Fault)
+pub refused_table : (found : List TableFault) (c : Effect) (before after : Devices) (errors : Place) (stop : Stop) (r : Result ℕ Fault)
     → RefusesTable found before (record after { reported = errors.text; failed_reports = errors.failed }) stop
     → r ≡ Err stop.fault → place after.reported after.failed_reports ≡ errors → EndsByTable found c before after r
 refused_table found c before after errors stop r refuses is same =

@@ -28,16 +28,16 @@ use Rattle.n2k_run.proofs.Joined.{refused_memory}
 use Rattle.n2k_run.proofs.Parting.{told_ok, told_run, told_stopped}
 use Rattle.n2k_run.proofs.Running.{known_more}
 use Rattle.n2kdec.specs.Inner.Closing.{Closes, ClosesPart}
-use Rattle.n2kdec.specs.Commands.{Command, Decodes, Ends, EndsUnlessRefused, FailsToKeep, IsJudged, IsStopped, IsWrittenUnlessFailed, Replaces, Place, PrintsRest, Shelf, decode_to, place}
+use Rattle.n2kdec.specs.Commands.{Effect, Decodes, Ends, EndsUnlessRefused, FailsToKeep, IsJudged, IsStopped, IsWrittenUnlessFailed, Replaces, Place, PrintsRest, Shelf, decode_to, place}
 use Rattle.n2kdec.specs.Fault.{exit_status, fault_of_run}
 use Rattle.n2kdec.specs.declared.fault.Fault.{Fault}
 use Rattle.n2kdec.specs.declared.fault.Fault.TheVariants.{Save, State, Table}
 use Rattle.n2kdec.specs.declared.work.Stop.{Stop}
 use Rattle.n2kdec.specs.Work.{RefusesTable, answer_of_part}
-use Rattle.n2kdec.proofs.CommandLemmas.{ended_by_closing, left_at_line, left_by_run, some_written, stopped_by_run}
+use Rattle.n2kdec.proofs.CommandLemmas.{ended_by_closing, kept_or_not, left_at_line, left_by_run, some_written, stopped_by_run, summed_or_cut}
 
 -- no command that has begun ends by a refusal
-unless : (c : Command) (before after : Devices) (r : Result ℕ Fault) → Ends c before after r → EndsUnlessRefused c before after r
+unless : (c : Effect) (before after : Devices) (r : Result ℕ Fault) → Ends c before after r → EndsUnlessRefused c before after r
 unless c before after (Ok status) done = done
 unless c before after (Err fault) stopped = go fault stopped
   where
@@ -47,7 +47,7 @@ unless c before after (Err fault) stopped = go fault stopped
     go f s = s
 
 module _ (o : Output) (stands_at : List Entry → StateOf) (t : TableParts) (options : Options) (before after : Devices) (errors : Place) (keeper kept : Shelf) where
-  abbrev c : Command
+  abbrev c : Effect
   c = decode_to o stands_at keeper kept
 
   abbrev mid : Devices
@@ -73,7 +73,10 @@ module _ (o : Output) (stands_at : List Entry → StateOf) (t : TableParts) (opt
       unless c before after r
       (ended_by_closing c _ before after errors tt part.state.items part.counts ran (ran.ends.holds.counted, ran.ends.holds.saved) r closes)
   closed (Err (part_faults.Stopped run.Read part)) r kind memory told closes = subst (EndsUnlessRefused c before after) (sym closes.0)
-      (stopped_by_run c _ before after errors run.Read (told_stopped o before mid _ run.Read part told) (λ es is. (summary_of part es is closes.1.1, saved_or_not part es is closes.1.0)) (some_written errors said (summary_text part.counts) closes.1.1))
+      (let written = summed_or_cut keeper kept errors said part.state.items part.counts closes.1.0 closes.1.1 in
+      stopped_by_run c _ before after errors run.Read (told_stopped o before mid _ run.Read part told)
+      (λ es is. (summary_of part es is written, saved_or_not part es is (kept_or_not keeper kept errors said part.state.items part.counts closes.1.0 closes.1.1)))
+      (some_written errors said (summary_text part.counts) written))
   closed (Err (part_faults.Stopped run.TooManyLines part)) r kind memory told closes = subst (EndsUnlessRefused c before after) (sym closes.0)
       (stopped_by_run c _ before after errors run.TooManyLines (told_stopped o before mid _ run.TooManyLines part told) (λ es is. (summary_of part es is closes.1.1, closes.1.0)) (some_written errors said (summary_text part.counts) closes.1.1))
   closed (Err (part_faults.Stopped _ part)) r (inl kind) memory ran closes = cc

@@ -1,29 +1,19 @@
 -- From what a call leaves to what the program leaves.
-use Rattle.std.proofs.Common.{◌≡◌, ◌<◌, ◌∙◌, ◌++◌, append-nil, append_assoc, ap, arith, ℕ, Bool, List, [], ◌∷◌, Option, Some, None, Result, Ok, Err, IfSome, IsErrAnd, inl, inr, refl, subst, sym}
+use Rattle.std.proofs.Common.{◌≡◌, ◌⊎◌, ◌<◌, ◌∙◌, ◌++◌, append-nil, append_assoc, ap, arith, ℕ, Bool, List, [], ◌∷◌, Option, Some, None, Result, Ok, Err, IfSome, IsErrAnd, option_map, inl, inr, refl, subst, sym}
+use Rattle.std.specs.Prelude.{IsSome}
+use Rattle.std.specs.Option.{unwrap_or}
+use Rattle.std.proofs.lemmas.Bool.{false≢true}
 use Rattle.clap.specs.Words.{Text}
 use Rattle.n2k_run.specs.Device.{HasFailed}
-use Rattle.n2k_run.specs.FramesOut.{IsInterface}
-use Rattle.n2kdec.specs.Commands.{IsAdmitted, Kept, Performs, Request, request, shelf}
-use Rattle.n2kdec.specs.Machine.{AddsCalls, AddsFailures, FollowsWords, HasCalled, IsBehindAdmission, IsNamed, IsPerformed, IsPerformedOver, IsReadable, IsStateAdmitted, IsUnbegun, IsUnopened, IsUnreadable, LogAfter, Opens, OpensFirst, files_before_log, files_of, named, Outside, World, with_log}
-use Rattle.n2kdec.specs.Words.{interface_name, log_name, resume_name, save_name, table_name}
+use Rattle.n2kdec.specs.Asked.{asked, save_name}
+use Rattle.n2kdec.specs.Commands.{Kept, Performs, shelf}
+use Rattle.n2kdec.specs.Machine.{AddsCalls, AddsFailures, AsksFor, DoesAsked, DoesTyped, FileUse, HasCalled, IsPerformed, IsPerformedOver, IsReadable, IsStateAdmitted, IsUnopened, IsUnread, IsUnreadFile, LogAfter, Opens, Outside, RunsCommand, World, all_files, files_before_log, if_named, table_bytes, with_log}
+use Rattle.n2kdec.specs.declared.asked.Request.{Request}
+use Rattle.n2kdec.specs.declared.asked.Command.{Command}
+use Rattle.n2kdec.specs.declared.asked.Files.{Files}
 use Rattle.n2kdec.specs.declared.fault.Fault.{Fault}
-use Rattle.n2kdec.specs.declared.fault.Fault.TheVariants.{Interface, Read, Save}
+use Rattle.n2kdec.specs.declared.fault.Fault.TheVariants.{TableSize, TableFile, StateSize, StateFile, Read, Memory, Save}
 use Rattle.n2kdec.specs.declared.words.Words.{Words}
-
-module _ (words : Words) (table : List ℕ) (handed : Option (List ℕ)) (before after : Outside) (log : LogAfter) (result : Result ℕ Fault) where
-  abbrev pub PerformsAfter : Option (List ℕ) → ℕ → ℕ → Type 0
-  PerformsAfter left calls failed = Performs words table handed (with_log left calls failed before) (with_log log.left log.calls log.failed after)
-      (shelf (save_name words) before.kept before.failed_keeps) (shelf (save_name words) after.kept after.failed_keeps) result
-
-  -- over a log of which no call was made, when so many reads had failed
-  pub performed_over : (left known : Option (List ℕ)) (calls failed had : ℕ) → left ≡ known → calls ≡ 0 → failed ≡ 0 → had ≡ before.failed_reads
-      → AddsFailures had after.failed_reads log.failed → HasCalled before.reads after.reads log.calls → PerformsAfter left calls failed → IsPerformedOver words table handed known before after result
-  performed_over left known calls failed had is none none_failed same counted called performs = record {
-    log = log;
-    counted = subst (λ n. AddsFailures n after.failed_reads log.failed) same counted;
-    called = called;
-    performs = subst (λ l. PerformsAfter l 0 0) is (subst (λ n. PerformsAfter left 0 n) none_failed (subst (λ n. PerformsAfter left n failed) none performs));
-  }
 
 -- what is counted of a file that is closed comes to what was counted before
 pub called_more : (had opened before after : ℕ) (calls : ℕ) → HasCalled had before 0 → opened ≡ before → AddsCalls opened after calls → HasCalled had after calls
@@ -39,109 +29,143 @@ called_after had mid now first then low =
     let least = first (omega (arith, low, second)) in
     omega (arith, least, second)
 
--- what follows from where no more had failed follows from there
-pub follows_from : (w now : World) (words : Words) (before after : Outside) (failed : ℕ) (result : Result ℕ Fault) → now ≡ w → failed ≡ before.failed_reads
-    → FollowsWords now words (record before { failed_reads = failed }) after result → FollowsWords w words before after result
-follows_from w now words before after failed result same none follows =
-    subst (λ v. FollowsWords v words before after result) same
-    (subst (λ n. FollowsWords now words (record before { failed_reads = n }) after result) none follows)
-
 -- ---- which files were opened
 
-pub opens_nothing : (o : Option (List (Option Text))) → Opens o o []
-opens_nothing None = tt
-opens_nothing (Some had) = ap (λ (l : List (Option Text)). Some l) (sym (append-nil had))
+pub opens_nothing : (o : FileUse) → Opens o o []
+opens_nothing o = go o.opened
+  where
+    go : (opened : Option (List (Option Text))) → IfSome opened (λ had. opened ≡ Some (had ++ []))
+    go None = tt
+    go (Some had) = ap (λ (l : List (Option Text)). Some l) (sym (append-nil had))
 
-pub opens_then : (a b c : Option (List (Option Text))) (names more : List (Option Text)) → Opens a b names → Opens b c more → Opens a c (names ++ more)
-opens_then None b c names more first then = tt
-opens_then (Some had) b c names more first then =
-    let second : c ≡ Some ((had ++ names) ++ more) = subst (λ o. Opens o c more) first then in
-    second ∙ ap (λ (l : List (Option Text)). Some l) (append_assoc had names more)
+opens_then : (a b c : FileUse) (names more : List (Option Text)) → Opens a b names → Opens b c more → Opens a c (names ++ more)
+opens_then a b c names more first then = go a.opened first
+  where
+    go : (had : Option (List (Option Text))) → IfSome had (λ had. b.opened ≡ Some (had ++ names)) → IfSome had (λ had. c.opened ≡ Some (had ++ (names ++ more)))
+    go None first = tt
+    go (Some had) first =
+        let second : c.opened ≡ Some ((had ++ names) ++ more) = subst (λ o. IfSome o (λ had. c.opened ≡ Some (had ++ more))) first then in
+        second ∙ ap (λ (l : List (Option Text)). Some l) (append_assoc had names more)
 
--- all of them
-pub log_opened : (words : Words) (begun opened before after : Option (List (Option Text))) (name : Option Text)
-    → Opens begun opened (files_before_log words) → Opens opened before (name ∷ []) → name ≡ log_name words → after ≡ before → Opens begun after (files_of words)
-log_opened words begun opened before after name first then is same =
-    subst (λ o. Opens begun o (files_of words)) (sym same)
-    (opens_then begun opened before (files_before_log words) (log_name words ∷ []) first (subst (λ n. Opens opened before (n ∷ [])) is then))
+opens_no_more : (a b c : FileUse) (names : List (Option Text)) → Opens a b names → Opens b c [] → Opens a c names
+opens_no_more a b c names first then = subst (Opens a c) (append-nil names) (opens_then a b c names [] first then)
 
-module _ (w : World) (words : Words) (before after : Outside) (fault : Fault) where
-  abbrev pub IsElseSame : Type 0
-  IsElseSame = after ≡ record before { failed_reads = after.failed_reads; reads = after.reads; opened = after.opened }
+named_is : (name : Option Text) → IsSome name → name ∷ [] ≡ if_named name
+named_is None some = absurd (false≢true some)
+named_is (Some name) some = refl
 
-  -- one whose files can't be read is not begun
-  not_begun : IsElseSame → OpensFirst words before.opened after.opened → IsStateAdmitted before.admits words → IsUnbegun w words before.failed_reads after.failed_reads fault
-      → FollowsWords w words before after (Err fault)
-  not_begun same opened admitted unbegun = inr (inl (record { else_same = same; opened = opened; unbegun = unbegun; behind = behind fault }))
-    where
-      behind : (fault : Fault) → IsBehindAdmission before.admits words fault
-      behind Interface = tt
-      behind fault = admitted
+-- ---- why a file is not read
 
-  pub table_not_read : IsElseSame → Opens before.opened after.opened (named (table_name words)) → IsStateAdmitted before.admits words
-      → IsUnbegun w words before.failed_reads after.failed_reads fault → FollowsWords w words before after (Err fault)
-  table_not_read same opens admitted unbegun =
-      not_begun same (named (table_name words), named (resume_name words) ++ log_name words ∷ [], append_assoc (named (table_name words)) (named (resume_name words)) (log_name words ∷ []), opens) admitted unbegun
+module _ (w : World) (files : Files) (begun mid now : FileUse) (fault : Fault) where
+  abbrev Unread : Fault → Type 0
+  Unread f = IsUnread w files begun now f
 
-  pub state_not_read : (mid : Option (List (Option Text))) → IsElseSame → Opens before.opened mid (named (table_name words)) → Opens mid after.opened (named (resume_name words))
-      → IsStateAdmitted before.admits words → IsUnbegun w words before.failed_reads after.failed_reads fault → FollowsWords w words before after (Err fault)
-  state_not_read mid same table state admitted unbegun =
-      not_begun same (files_before_log words, log_name words ∷ [], refl, opens_then before.opened mid after.opened _ _ table state) admitted unbegun
+  -- some of the files were opened, and there is no memory
+  no_memory : (first rest : List (Option Text)) → all_files files ≡ first ++ rest → fault ≡ Memory → now.failed ≡ begun.failed → Opens begun now first → Unread fault
+  no_memory first rest split is same opens = subst Unread (sym is) (same, (first, rest, split, opens))
 
-  pub log_not_opened : (mid : Option (List (Option Text))) (name : Option Text) → IsElseSame → Opens before.opened mid (files_before_log words) → Opens mid after.opened (name ∷ [])
-      → name ≡ log_name words → IsStateAdmitted before.admits words → IsUnbegun w words before.failed_reads after.failed_reads fault → FollowsWords w words before after (Err fault)
-  log_not_opened mid name same first then is admitted unbegun =
-      not_begun same (files_of words, [], sym (append-nil (files_of words)), log_opened words before.opened mid after.opened after.opened name first then is refl) admitted unbegun
+  after_table : all_files files ≡ if_named files.table ++ (if_named files.state ++ files.log ∷ [])
+  after_table = append_assoc (if_named files.table) (if_named files.state) (files.log ∷ [])
 
--- why no log was opened
-pub unread_log : (w : World) (words : Words) (name : Option Text) (before after : ℕ) (fault : Fault) → IsInterface (interface_name words)
-    → IsReadable w (table_name words) → IsReadable w (resume_name words) → name ≡ log_name words → IsUnopened name Read before after fault → IsUnbegun w words before after fault
-unread_log w words name before after fault interface table state is (inl memory) =
-    subst (λ f. IsUnbegun w words before after f) (sym memory.0) (interface, memory.1)
-unread_log w words name before after fault interface table state is (inr read) =
-    subst (λ f. IsUnbegun w words before after f) (sym read.0) (interface, (table, state, subst (λ n. IsUnreadable n before after) is read.1))
+  pub table_unread : IsSome files.table × IsUnreadFile w files.table TableSize TableFile begun now fault → Unread fault
+  table_unread (some, inl large) = subst Unread (sym large.0) (large.1, large.2, subst (Opens begun now) (named_is files.table some) large.3)
+  table_unread (some, inr (inl (is, same, inl none))) = no_memory [] (all_files files) refl is same none
+  table_unread (some, inr (inl (is, same, inr opens))) = no_memory (if_named files.table) (if_named files.state ++ files.log ∷ []) after_table is same (subst (Opens begun now) (named_is files.table some) opens)
+  table_unread (some, inr (inr (is, unreadable, opens))) = subst Unread (sym is) (unreadable, subst (Opens begun now) (named_is files.table some) opens)
 
--- a fault is passed up
-pub passed_up : (w : World) (words : Words) (before after : Outside) (result : Result ℕ Fault) (fault : Fault) → IsErrAnd result (λ told. told ≡ fault)
-    → FollowsWords w words before after (Err fault) → FollowsWords w words before after result
-passed_up w words before after (Ok status) fault is follows = absurd is
-passed_up w words before after (Err told) fault is follows = subst (λ f. FollowsWords w words before after (Err f)) (sym is) follows
+  -- what failed since then failed since the beginning
+  failed_since : mid.failed ≡ begun.failed → HasFailed mid.failed now.failed → HasFailed begun.failed now.failed
+  failed_since same = subst (λ n. HasFailed n now.failed) same
 
--- nothing is opened where the interface is none
-pub no_interface : (w : World) (words : Words) (o : Outside) (fault : Fault) → fault ≡ Interface → (IsInterface (interface_name words) → ⊥)
-    → FollowsWords w words o o (Err fault)
-no_interface w words o fault is none =
-    subst (λ f. FollowsWords w words o o (Err f)) (sym is) (inr (inl (record { else_same = refl; opened = ([], files_of words, refl, opens_nothing o.opened); unbegun = (none, refl); behind = tt })))
+  module _ (table : IsReadable w files.table × (mid.failed ≡ begun.failed) × Opens begun mid (if_named files.table)) where
+    both : IsSome files.state → Opens mid now (files.state ∷ []) → Opens begun now (files_before_log files)
+    both some opens = opens_then begun mid now (if_named files.table) (if_named files.state) table.2 (subst (Opens mid now) (named_is files.state some) opens)
 
--- a command that is performed follows the words
-pub follows : (w : World) (words : Words) (before after : Outside) (result : Result ℕ Fault) → IsPerformed w words before after result → FollowsWords w words before after result
-follows w words before after (Ok status) done = done
-follows w words before after (Err fault) done = inl done
+    pub state_unread : IsSome files.state × IsUnreadFile w files.state StateSize StateFile mid now fault → Unread fault
+    state_unread (some, inl large) = subst Unread (sym large.0) (table.0, large.1, large.2 ∙ table.1, both some large.3)
+    state_unread (some, inr (inl (is, same, inl none))) =
+        no_memory (if_named files.table) (if_named files.state ++ files.log ∷ []) after_table is (same ∙ table.1) (opens_no_more begun mid now (if_named files.table) table.2 none)
+    state_unread (some, inr (inl (is, same, inr opens))) = no_memory (files_before_log files) (files.log ∷ []) refl is (same ∙ table.1) (both some opens)
+    state_unread (some, inr (inr (is, unreadable, opens))) = subst Unread (sym is) (table.0, (unreadable.0, failed_since table.1 unreadable.1), both some opens)
 
--- what was asked of a keeper is the state of the words
-pub state_admitted : (admits : Request → Option Bool) (words : Words) (name : List ℕ) (table log state : Option (List ℕ))
-    → Some name ≡ save_name words → table ≡ table_name words → log ≡ log_name words → state ≡ resume_name words
-    → IsAdmitted admits (request name table log state) → IsStateAdmitted admits words
-state_admitted admits words name table log state is_name is_table is_log is_state admitted =
-    subst (λ n. IfSome n (λ name. IsAdmitted admits (request name (table_name words) (log_name words) (resume_name words)))) is_name
-    (subst (λ t. IsAdmitted admits (request name t (log_name words) (resume_name words))) is_table
-    (subst (λ l. IsAdmitted admits (request name table l (resume_name words))) is_log
-    (subst (λ s. IsAdmitted admits (request name table log s)) is_state admitted)))
+  pub log_unread : IsReadable w files.table → IsReadable w files.state → mid.failed ≡ begun.failed → Opens begun mid (files_before_log files)
+      → IsUnopened files.log Read mid now fault → Unread fault
+  log_unread table state none_failed before (inl (is, same, inl none)) =
+      no_memory (files_before_log files) (files.log ∷ []) refl is (same ∙ none_failed) (opens_no_more begun mid now (files_before_log files) before none)
+  log_unread table state none_failed before (inl (is, same, inr opens)) =
+      no_memory (all_files files) [] (sym (append-nil (all_files files))) is (same ∙ none_failed) (opens_then begun mid now (files_before_log files) (files.log ∷ []) before opens)
+  log_unread table state none_failed before (inr (is, unreadable, opens)) =
+      subst Unread (sym is) (table, state, (unreadable.0, failed_since none_failed unreadable.1), opens_then begun mid now (files_before_log files) (files.log ∷ []) before opens)
 
-abbrev pub having : Outside → Option (List Kept) → ℕ → Outside
-having o kept failed = record o { kept = kept; failed_keeps = failed }
+-- the table and the state were read
+pub both_opened : (files : Files) (a b c : FileUse) → Opens a b (if_named files.table) → Opens b c (if_named files.state) → Opens a c (files_before_log files)
+both_opened files a b c table state = opens_then a b c (if_named files.table) (if_named files.state) table state
 
-module _ (w : World) (words : Words) (o : Outside) (kept : Option (List Kept)) (failed : ℕ) where
+-- and then the log was opened, and closed
+pub all_opened : (files : Files) (a b c d : FileUse) → Opens a b (files_before_log files) → Opens b c (files.log ∷ []) → d.opened ≡ c.opened → Opens a d (all_files files)
+all_opened files a b c d before log same =
+    opens_then a b d (files_before_log files) (files.log ∷ []) before (go b.opened log)
+  where
+    go : (had : Option (List (Option Text))) → IfSome had (λ had. c.opened ≡ Some (had ++ files.log ∷ [])) → IfSome had (λ had. d.opened ≡ Some (had ++ files.log ∷ []))
+    go None log = tt
+    go (Some had) log = same ∙ log
+
+-- ---- a command
+
+-- over a log of which no call was made, by the bytes that were read
+module _ (command : Command) (table : List ℕ) (handed : Option (List ℕ)) (before after : Outside) (log : LogAfter) (result : Result ℕ Fault) where
+  abbrev pub PerformsAfter : List ℕ → Option (List ℕ) → Option (List ℕ) → ℕ → ℕ → Type 0
+  PerformsAfter held lent left calls failed = Performs command held lent (with_log left calls failed before) (with_log log.left log.calls log.failed after)
+      (shelf (save_name command) before.kept before.failed_keeps) (shelf (save_name command) after.kept after.failed_keeps) result
+
+  pub performed_over : (held : List ℕ) (lent left known : Option (List ℕ)) (calls failed had : ℕ) → held ≡ table → lent ≡ handed → left ≡ known → calls ≡ 0 → failed ≡ 0
+      → had ≡ before.files.failed → AddsFailures had after.files.failed log.failed → HasCalled before.files.reads after.files.reads log.calls
+      → PerformsAfter held lent left calls failed → IsPerformedOver command table handed known before after result
+  performed_over held lent left known calls failed had is_table is_state is none none_failed same counted called performs = record {
+    log = log;
+    counted = subst (λ n. AddsFailures n after.files.failed log.failed) same counted;
+    called = called;
+    performs = subst (λ t. PerformsAfter t handed known 0 0) is_table (subst (λ h. PerformsAfter held h known 0 0) is_state
+        (subst (λ l. PerformsAfter held lent l 0 0) is (subst (λ n. PerformsAfter held lent left 0 n) none_failed (subst (λ n. PerformsAfter held lent left n failed) none performs))));
+  }
+
+-- the bytes of a table that was read, or none
+pub table_is : {T : Type 0} (items : T → List ℕ) (read : Option T) (none held : T) → items none ≡ [] → held ≡ unwrap_or read none → items held ≡ table_bytes (option_map items read)
+table_is items None none held empty is = ap items is ∙ empty
+table_is items (Some bytes) none held empty is = ap items is
+
+-- a command that is performed is run
+pub runs : (w : World) (files : Files) (command : Command) (before after : Outside) (result : Result ℕ Fault) → IsPerformed w files command before after result
+    → RunsCommand w files command before after result
+runs w files command before after (Ok status) done = done
+runs w files command before after (Err fault) done = inl done
+
+module _ (w : World) (files : Files) (command : Command) (o : Outside) where
+  -- one whose files are not read is not begun
+  pub not_begun : (used : FileUse) (result : Result ℕ Fault) (fault : Fault) → IsErrAnd result (λ told. told ≡ fault) → IsStateAdmitted o.admits files command
+      → IsUnread w files o.files used fault → RunsCommand w files command o (record o { files = used }) result
+  not_begun used (Ok status) fault is admitted unread = absurd is
+  not_begun used (Err told) fault is admitted unread =
+      subst (λ f. RunsCommand w files command o (record o { files = used }) (Err f)) (sym is) (inr (inl (record { admitted = admitted; unread = unread; else_same = refl })))
+
+  abbrev pub having : Option (List Kept) → ℕ → Outside
+  having kept failed = record o { kept = kept; failed_keeps = failed }
+
   -- what keeps a state refuses it
-  pub not_admitted : (fault : Fault) → IsInterface (interface_name words) → kept ≡ o.kept → IsNamed (save_name words) → fault ≡ Save → HasFailed o.failed_keeps failed
-      → FollowsWords w words o (having o kept failed) (Err fault)
-  not_admitted fault interface same named is counted =
-      subst (λ k. FollowsWords w words o (having o k failed) (Err fault)) (sym same)
-      (inr (inr (record { interface = interface; named = named; save = is; failed = counted; else_same = refl })))
+  pub not_admitted : (kept : Option (List Kept)) (failed : ℕ) (fault : Fault) → kept ≡ o.kept → (fault ≡ Save) × IsSome (save_name command) × HasFailed o.failed_keeps failed
+      → RunsCommand w files command o (having kept failed) (Err fault)
+  not_admitted kept failed fault same refused =
+      subst (λ k. RunsCommand w files command o (having k failed) (Err fault)) (sym same)
+      (inr (inr (record { named = refused.1; save = refused.0; failed = refused.2; else_same = refl })))
 
   -- it has no objection
-  pub admitted : (after : Outside) (result : Result ℕ Fault) → kept ≡ o.kept → failed ≡ o.failed_keeps → FollowsWords w words (having o kept failed) after result
-      → FollowsWords w words o after result
-  admitted after result same none_failed follows =
-      subst (λ n. FollowsWords w words (having o o.kept n) after result) none_failed
-      (subst (λ k. FollowsWords w words (having o k failed) after result) same follows)
+  pub admitted : (kept : Option (List Kept)) (failed : ℕ) (after : Outside) (result : Result ℕ Fault) → kept ≡ o.kept → failed ≡ o.failed_keeps
+      → RunsCommand w files command (having kept failed) after result → RunsCommand w files command o after result
+  admitted kept failed after result same none_failed runs =
+      subst (λ n. RunsCommand w files command (having o.kept n) after result) none_failed
+      (subst (λ k. RunsCommand w files command (having k failed) after result) same runs)
+
+-- what the words ask for is what was typed
+pub does_typed : (w : World) (words : Words) (request : Result Request Fault) (before after : Outside) (result : Result ℕ Fault) → AsksFor w words → request ≡ asked words
+    → DoesAsked w request before after result → DoesTyped w before after result
+does_typed w words request before after result asks is does = inl (words, asks, subst (λ r. DoesAsked w r before after result) is does)

@@ -1,8 +1,10 @@
 -- Calls of a folder, one after the other, up to one that fails or is refused.
 use Rattle.std.proofs.Common.{◌≡◌, ◌⊎◌, ℕ, Bool, true, false, List, [], ◌∷◌, ◌++◌, Option, None, Some, IfErr, IfSome, OnOk, Result, Ok, Err, is_ok, inl, inr, refl, subst, sym, ap, ◌∙◌}
+use Rattle.clap.specs.Words.{Text}
 use Rattle.n2kdec.specs.Folder.{Call, Content, Notes, create, created, empty, renamed, sync, turn, write}
 use Rattle.n2kdec.specs.Inner.Placing.{HasFilled, HasPlaced, IsStuck, IsUnfilled, Makes}
 use Rattle.n2kdec.specs.Replacement.{Admits, AtomicReplacement, FromTo, HarmsTarget, HarmsTemp, KeepsNames, KeepsText, LeftAlone, PutsInPlace, RefusedReplacement, SparesTarget, SparesTemp, filled}
+use Rattle.n2kdec.specs.declared.asked.Files.{Files}
 use Rattle.n2kdec.specs.declared.folder.Kind.{Kind}
 use Rattle.n2kdec.specs.declared.folder.Kind.TheVariants.{Alone, Shared, Special}
 use Rattle.n2kdec.specs.declared.folder.Name.{Name}
@@ -109,20 +111,20 @@ pub ruleset keeps = (kept_nowhere, kept_alone, kept_shared, kept_special)
 
 -- ---- whether a state may be kept
 
-module _ (leads : Name → List ℕ → Option Bool) (a b : Option (List Call)) (name : List ℕ) (table log state : Option (List ℕ)) where
-  pub unturned : {E : Type 0} (why : E) → Notes a b (turn name None) → Admits {T = Unit {0}} leads a b name table log state (Err why)
+module _ (leads : Name → Text → Option Bool) (a b : Option (List Call)) (name : Text) (files : Files) where
+  pub unturned : {E : Type 0} (why : E) → Notes a b (turn name None) → Admits {T = Unit {0}} leads a b name files (Err why)
   unturned why turning = (None, turning, tt)
 
-  pub spared : {T : Type 0} (E : Type 0) (kind : Kind) (value : T) → Notes a b (turn name (Some kind)) → SparesTarget (leads Target) kind table log
-      → SparesTemp (leads Temp) table log state → Admits {T = T} {E = E} leads a b name table log state (Ok value)
+  pub spared : {T : Type 0} (E : Type 0) (kind : Kind) (value : T) → Notes a b (turn name (Some kind)) → SparesTarget (leads Target) kind files
+      → SparesTemp (leads Temp) files → Admits {T = T} {E = E} leads a b name files (Ok value)
   spared E kind value turning target temp = (Some kind, turning, (target, temp))
 
-  pub target_harmed : {E : Type 0} (kind : Kind) (why : E) → Notes a b (turn name (Some kind)) → HarmsTarget (leads Target) kind table log
-      → Admits {T = Unit {0}} {E = E} leads a b name table log state (Err why)
+  pub target_harmed : {E : Type 0} (kind : Kind) (why : E) → Notes a b (turn name (Some kind)) → HarmsTarget (leads Target) kind files
+      → Admits {T = Unit {0}} {E = E} leads a b name files (Err why)
   target_harmed kind why turning harmed = (Some kind, turning, inl harmed)
 
-  pub temp_harmed : {E : Type 0} (kind : Kind) (why : E) → Notes a b (turn name (Some kind)) → HarmsTemp (leads Temp) table log state
-      → Admits {T = Unit {0}} {E = E} leads a b name table log state (Err why)
+  pub temp_harmed : {E : Type 0} (kind : Kind) (why : E) → Notes a b (turn name (Some kind)) → HarmsTemp (leads Temp) files
+      → Admits {T = Unit {0}} {E = E} leads a b name files (Err why)
   temp_harmed kind why turning harmed = (Some kind, turning, inr harmed)
 
 -- for `admit_to`

@@ -2,6 +2,7 @@
 use Rattle.std.specs.Prelude.{◌≡◌, ◌≢◌, ◌⊎◌, ◌≤◌, ◌+◌, ◌++◌, ℕ, Bool, true, false, List, [], ◌∷◌, length, Option, Some}
 use Rattle.std.specs.Prelude.{None, IfOk, IfSome, IsSome, Result, Ok, Err, IsOk, MatchResult, Contains}
 use Rattle.std.specs.Io.KnownBytes.{Appends, Consumes, IsAtEnd}
+use Rattle.clap.specs.Words.{Text}
 use Rattle.n2k_wire.specs.declared.entry.Entry.{Entry}
 use Rattle.n2k_table.specs.Table.{TableParts, faults, kind, table as table_of}
 use Rattle.n2k_table.specs.declared.fault.TableFault.{TableFault}
@@ -29,11 +30,11 @@ use Rattle.n2k_run.specs.Runs.{ReportsFirst, WriteFails, output_from}
 use Rattle.n2k_run.specs.Writing.{AppendsFront}
 use Rattle.n2k_run.specs.declared.options.Options.{Options}
 use Rattle.n2kdec.specs.Fault.{exit_status}
-use Rattle.n2kdec.specs.Words.{options_of}
+use Rattle.n2kdec.specs.declared.asked.Command.{Command}
+use Rattle.n2kdec.specs.declared.asked.Command.TheVariants.{Plain, Decode, Frames}
+use Rattle.n2kdec.specs.declared.asked.Files.{Files}
 use Rattle.n2kdec.specs.declared.fault.Fault.{Fault}
 use Rattle.n2kdec.specs.declared.fault.Fault.TheVariants.{Table, State, Read, Write, Report, Memory, Lines, Save}
-use Rattle.n2kdec.specs.declared.words.Words.{Words}
-use Rattle.n2kdec.specs.declared.words.Words.TheVariants.{Plain, Decode, Frames, Help}
 
 -- ---- what a command does
 
@@ -66,20 +67,9 @@ pub record Kept : Type 0 where
   pub text : List ℕ
   pub said : Option (List ℕ)
 
--- A state that a run would keep: the name that it is to have, and what the run reads: a table, a log, or standard input
--- where none is named, and a state to go on from.
-pub record Request : Type 0 where
-  pub name : List ℕ
-  pub table : Option (List ℕ)
-  pub log : Option (List ℕ)
-  pub state : Option (List ℕ)
-
-abbrev pub request : List ℕ → Option (List ℕ) → Option (List ℕ) → Option (List ℕ) → Request
-request name table log state = record { name = name; table = table; log = log; state = state }
-
--- it may be kept, as far as is known which ones may be
-abbrev pub IsAdmitted : (Request → Option Bool) → Request → Type 0
-IsAdmitted admits asked = IfSome (admits asked) (λ known. known ≡ true)
+-- a state of this name may be kept by a run of these files, as far as is known which ones may be
+abbrev pub IsAdmitted : (Text → Files → Option Bool) → Text → Files → Type 0
+IsAdmitted admits name files = IfSome (admits name files) (λ known. known ≡ true)
 
 -- What keeps a state: the name that the state is to have, if any; the texts that were kept, the first one first, where
 -- they are known; and how many of its calls have failed.
@@ -126,6 +116,7 @@ ReplacesBehind before after text had report =
 
 -- What keeps this text failed while the errors held so much: no other text was kept, and none under another name.
 pub record FailsToKeep (before after : Shelf) (text : List ℕ) (held : Option (List ℕ)) : Type 0 where
+  pub named : IsSome before.name
   pub kept : MayKeepUnder before.name before.kept after.kept text held
   pub failed : HasFailed before.failed after.failed
 
@@ -144,17 +135,17 @@ IsUntouched s = s.after ≡ s.before
 
 -- what a command prints and reports of the entries of its log, what it counts, what it saves, and whether it sums up
 -- what it has read where a failed read or the limit of lines ends it
-pub record Command : Type 0 where
+pub record Effect : Type 0 where
   pub output : Output
   pub counts : List Entry → Counts
   pub saving : Saving
   pub sums_up_a_part : Bool
 
-abbrev pub plain_command : Command
-plain_command = record { output = plain_output; counts = plain_counts_of; saving = no_saving; sums_up_a_part = false }
+abbrev pub plain_effect : Effect
+plain_effect = record { output = plain_output; counts = plain_counts_of; saving = no_saving; sums_up_a_part = false }
 
-abbrev pub frames_command : TableParts → Option (List ℕ) → Command
-frames_command t interface = record {
+abbrev pub frames_effect : TableParts → Option (List ℕ) → Effect
+frames_effect t interface = record {
   output = frames_output t interface;
   counts = frame_counts_of (kind t) interface;
   saving = no_saving;
@@ -162,7 +153,7 @@ frames_command t interface = record {
 }
 
 -- one that comes to this state with entries, and saves it from the one place to the other
-abbrev pub decode_to : Output → (List Entry → StateOf) → Shelf → Shelf → Command
+abbrev pub decode_to : Output → (List Entry → StateOf) → Shelf → Shelf → Effect
 decode_to output stands_at before after = record {
   output = output;
   counts = λ es. (stands_at es).counts;
@@ -171,39 +162,39 @@ decode_to output stands_at before after = record {
 }
 
 -- after the entries of a log's front, of which the state was handed in: from a log's beginning there are none
-abbrev pub decode_command : TableParts → Options → List Entry → Shelf → Shelf → Command
-decode_command t options front before after =
+abbrev pub decode_effect : TableParts → Options → List Entry → Shelf → Shelf → Effect
+decode_effect t options front before after =
     decode_to (output_after t options front) (λ es. state t.id options.window (kind t) (front ++ es)) before after
 
 -- from a state on, whether or not a log leads to it
-abbrev pub decode_from : TableParts → Options → StateOf → Shelf → Shelf → Command
+abbrev pub decode_from : TableParts → Options → StateOf → Shelf → Shelf → Effect
 decode_from t options s before after =
     let fold = join_fold t options.empty in
     decode_to (output_from fold options.packing s) (after_all fold s) before after
 
 -- the entries of a log, as a command reads it
-abbrev pub entries_for : Command → List ℕ → List Entry
+abbrev pub entries_for : Effect → List ℕ → List Entry
 entries_for c log = entries c.output.packing log
 
 -- the state after these entries is kept, behind their reports and before their summary
-abbrev pub IsSaved : Command → Devices → List Entry → Type 0
+abbrev pub IsSaved : Effect → Devices → List Entry → Type 0
 IsSaved c before es =
     ReplacesBehind c.saving.before c.saving.after (c.saving.state es) before.reported (c.output.reports es)
 
 -- it can't be kept, and nothing else is
-abbrev pub CannotBeSaved : Command → Devices → List Entry → Type 0
+abbrev pub CannotBeSaved : Effect → Devices → List Entry → Type 0
 CannotBeSaved c before es =
     FailsBehind c.saving.before c.saving.after (c.saving.state es) before.reported (c.output.reports es)
 
 -- the reports of entries, and then their summary
-abbrev pub summed_up : Command → List Entry → List ℕ
+abbrev pub summed_up : Effect → List Entry → List ℕ
 summed_up c es = c.output.reports es ++ summary_text (c.counts es)
 
 -- The command came to its end: bytes came until the log had no more. Their lines have numbers that are counted, the
 -- output has gained what is printed of them, the errors their reports and then their summary, the status says whether a
 -- line was bad, no device failed, and the state after them is saved by calls of which none failed. Where the log's
 -- bytes are known, these are all that it had.
-pub record IsDone (c : Command) (before after : Devices) (answer : ℕ) : Type 0 where
+pub record IsDone (c : Effect) (before after : Devices) (answer : ℕ) : Type 0 where
   pub came : List ℕ
   pub given : Consumes before.left after.left came
   pub at_end : IsAtEnd after.left
@@ -217,7 +208,7 @@ pub record IsDone (c : Command) (before after : Devices) (answer : ℕ) : Type 0
 
 -- A command has printed and reported these entries, which have numbers that are counted. No call of the errors failed
 -- until then, and then they have of the summary what `summed` says.
-pub record HasTaken (c : Command) (before after : Devices) (es : List Entry) (summed : Place → Place → List ℕ → Type 0)
+pub record HasTaken (c : Effect) (before after : Devices) (es : List Entry) (summed : Place → Place → List ℕ → Type 0)
     : Type 0 where
   -- what the errors held before the summary
   pub errors : Option (List ℕ)
@@ -229,7 +220,7 @@ pub record HasTaken (c : Command) (before after : Devices) (es : List Entry) (su
 
 -- Bytes came until the log had no more, and all their entries are taken. `closed` says what became of the state after
 -- them.
-pub record HasTakenAll (c : Command) (before after : Devices) (summed : Place → Place → List ℕ → Type 0)
+pub record HasTakenAll (c : Effect) (before after : Devices) (summed : Place → Place → List ℕ → Type 0)
     (closed : List Entry → Type 0) : Type 0 where
   pub came : List ℕ
   pub given : Consumes before.left after.left came
@@ -244,7 +235,7 @@ SumsUpPart false before after summary = after ≡ before
 
 -- Bytes came of the log, and the lines among them whose line feed came are taken. The state after them is saved, where
 -- that can be.
-pub record HasRead (c : Command) (before after : Devices) : Type 0 where
+pub record HasRead (c : Effect) (before after : Devices) : Type 0 where
   pub came : List ℕ
   pub given : Consumes before.left after.left came
   pub taken : HasTaken c before after (entries_for c (whole_lines came)) (SumsUpPart c.sums_up_a_part)
@@ -252,7 +243,7 @@ pub record HasRead (c : Command) (before after : Devices) : Type 0 where
       ⊎ CannotBeSaved c before (entries_for c (whole_lines came))
 
 -- As many lines are taken as are counted, and the log, where its bytes are known, has more. Nothing is saved.
-pub record IsFull (c : Command) (before after : Devices) : Type 0 where
+pub record IsFull (c : Effect) (before after : Devices) : Type 0 where
   pub lines : List Entry
   pub full : c.output.counted + length lines ≡ most_lines
   pub more : IfSome before.left
@@ -261,22 +252,22 @@ pub record IsFull (c : Command) (before after : Devices) : Type 0 where
   pub unsaved : IsUntouched c.saving
 
 -- Nothing is saved and nothing is summed up, and fronts are written of what is printed and reported.
-abbrev pub BreaksOff : Command → Devices → Devices → Type 0
+abbrev pub BreaksOff : Effect → Devices → Devices → Type 0
 BreaksOff c before after = IsUntouched c.saving × IfSome before.left (HasFronts c.output before after)
 
 -- the log is printed and reported and the state after it saved, and only its summary is cut off
-abbrev pub LacksSummary : Command → Devices → Devices → Type 0
+abbrev pub LacksSummary : Effect → Devices → Devices → Type 0
 LacksSummary c before after = HasTakenAll c before after IsCutOff (IsSaved c before)
 
 -- the log is printed and reported, and the state after it can't be saved
-abbrev pub LacksState : Command → Devices → Devices → Type 0
+abbrev pub LacksState : Effect → Devices → Devices → Type 0
 LacksState c before after = HasTakenAll c before after IsWrittenUnlessFailed (CannotBeSaved c before)
 
 -- What each fault leaves. Read: the lines that came are taken. Lines: as many as are counted are. Save: the log is
 -- taken. In these three the summary, where one is written, is cut off only where the errors failed. After Write and
 -- Memory the run breaks off; after Report too, or all but the summary is done. So memory is not refused once something
 -- is saved or summed up. No other fault stops a run.
-abbrev pub Leaves : Command → Devices → Devices → Fault → Type 0
+abbrev pub Leaves : Effect → Devices → Devices → Fault → Type 0
 Leaves c before after Read = HasRead c before after
 Leaves c before after Lines = IsFull c before after
 Leaves c before after Save = LacksState c before after
@@ -294,7 +285,7 @@ pub record LogAndOutputHold (before after : Devices) : Type 0 where
 -- the place of the state. Save: that place. Lines: none. Memory: none; or, where parts are summed up, as for Read, and
 -- memory was refused for the state of what had been read. After Read, Lines and Save the errors may have failed too, in
 -- the summary.
-abbrev pub HasDevice : Command → Devices → Devices → Fault → Type 0
+abbrev pub HasDevice : Effect → Devices → Devices → Fault → Type 0
 HasDevice c before after Read =
     (HasFailed before.failed_reads after.failed_reads
     ⊎ (OutlastsReads before.calls after.calls × (after.failed_reads ≡ before.failed_reads)))
@@ -307,13 +298,13 @@ HasDevice c before after Memory = NoneFailed before after ⊎ ((c.sums_up_a_part
 HasDevice c before after _ = ⊥
 
 -- A fault stopped the command. No text stands before the report of its own line or of an earlier one.
-pub record IsStopped (c : Command) (before after : Devices) (fault : Fault) : Type 0 where
+pub record IsStopped (c : Effect) (before after : Devices) (fault : Fault) : Type 0 where
   pub leaves : Leaves c before after fault
   pub device : HasDevice c before after fault
   pub reports_first : IfSome before.left (ReportsFirst c.output before after)
 
 -- how a command ends whose table and state are taken
-abbrev pub Ends : Command → Devices → Devices → Result ℕ Fault → Type 0
+abbrev pub Ends : Effect → Devices → Devices → Result ℕ Fault → Type 0
 Ends c before after result = MatchResult result (IsDone c before after) (IsStopped c before after)
 
 -- ---- what is refused before a command begins
@@ -334,12 +325,12 @@ IsJudged found handed begun fault = (found ≡ []) × IsOk begun
 
 -- The table is refused, by a fault that stands in it or for want of memory, and no device is touched; or it has no
 -- fault, and the command is stopped by another.
-abbrev pub IsRefusedOrStopped : List TableFault → Command → Devices → Devices → Fault → Type 0
+abbrev pub IsRefusedOrStopped : List TableFault → Effect → Devices → Devices → Fault → Type 0
 IsRefusedOrStopped found c before after (Table fault) = (fault ≢ table.Memory → Contains found fault) × (after ≡ before)
 IsRefusedOrStopped found c before after fault = (found ≡ []) × IsStopped c before after fault
 
 -- how a command ends whose state is taken, if its table is
-abbrev pub EndsUnlessRefused : Command → Devices → Devices → Result ℕ Fault → Type 0
+abbrev pub EndsUnlessRefused : Effect → Devices → Devices → Result ℕ Fault → Type 0
 EndsUnlessRefused c before after (Err (Table fault)) = Unit {0}
 EndsUnlessRefused c before after (Err (State fault)) = fault ≡ state_faults.Memory
 EndsUnlessRefused c before after (Err fault) = IsStopped c before after fault
@@ -363,10 +354,10 @@ pub record PrintsRest (t : TableParts) (o : Options) (front more : List ℕ) (be
   pub saved : ReplacesBehind keeper kept (save t o (front ++ more)) before.reported report
   pub reads_back : begun t o (Some (save t o (front ++ more))) ≡ Ok (state_after t o (front ++ more))
 
--- ---- what the words name
+-- ---- by the command
 
--- how a command ends that reads a table and has no state
-abbrev pub EndsByTable : List TableFault → Command → Devices → Devices → Result ℕ Fault → Type 0
+-- how one ends that reads a table and has no state
+abbrev pub EndsByTable : List TableFault → Effect → Devices → Devices → Result ℕ Fault → Type 0
 EndsByTable found c before after result =
     MatchResult result (λ status. (found ≡ []) × IsDone c before after status) (IsRefusedOrStopped found c before after)
 
@@ -383,33 +374,28 @@ pub record Decodes (bytes : List ℕ) (o : Options) (handed : Option (List ℕ))
   -- of the lines after them.
   pub log : (front : List Entry)
       → begun (table_of bytes) o handed ≡ Ok (state (table_of bytes).id o.window (kind (table_of bytes)) front)
-      → EndsUnlessRefused (decode_command (table_of bytes) o front keeper kept) before after result
+      → EndsUnlessRefused (decode_effect (table_of bytes) o front keeper kept) before after result
   -- The headline: after this front of a log, whose state was handed in, exactly the rest of what the whole log gives is
   -- printed, and the state of the whole is saved.
   pub headline : (front : List ℕ) → IsFront (table_of bytes) o front handed
       → IfOk result (λ status. IfSome before.left
       (λ more. PrintsRest (table_of bytes) o front more before after keeper kept status))
 
--- How the command ends that the words name, with the place of its state. Where it has none that place is left as it
--- was.
-abbrev pub Performs : Words → List ℕ → Option (List ℕ) → Devices → Devices → Shelf → Shelf → Result ℕ Fault → Type 0
-Performs (Plain log) bytes handed before after keeper kept result =
-    (kept ≡ keeper) × Ends plain_command before after result
-Performs (Decode t resume save empty whole window log) bytes handed before after keeper kept result =
-    Decodes bytes (options_of empty whole window) handed before after keeper kept result
-Performs (Frames t candump log) bytes handed before after keeper kept result =
-    (kept ≡ keeper) × EndsByTable (faults bytes) (frames_command (table_of bytes) candump) before after result
-Performs (Help text) bytes handed before after keeper kept result = ⊥
+-- How a command ends, with the place of its state. Where it has none that place is left as it was.
+abbrev pub Performs : Command → List ℕ → Option (List ℕ) → Devices → Devices → Shelf → Shelf → Result ℕ Fault → Type 0
+Performs Plain bytes handed before after keeper kept result =
+    (kept ≡ keeper) × Ends plain_effect before after result
+Performs (Decode o save) bytes handed before after keeper kept result =
+    Decodes bytes o handed before after keeper kept result
+Performs (Frames interface) bytes handed before after keeper kept result =
+    (kept ≡ keeper) × EndsByTable (faults bytes) (frames_effect (table_of bytes) interface) before after result
 
 -- the status with which it comes to its end, where all bytes of its log are known
-abbrev pub HasStatus : Words → List ℕ → Option (List ℕ) → List ℕ → ℕ → Type 0
-HasStatus (Plain log) bytes handed all status = status ≡ exit_status (plain_counts all)
-HasStatus (Decode t resume save empty whole window log) bytes handed all status =
+abbrev pub HasStatus : Command → List ℕ → Option (List ℕ) → List ℕ → ℕ → Type 0
+HasStatus Plain bytes handed all status = status ≡ exit_status (plain_counts all)
+HasStatus (Decode o save) bytes handed all status =
     (front : List Entry)
-    → begun (table_of bytes) (options_of empty whole window) handed
-    ≡ Ok (state (table_of bytes).id window (kind (table_of bytes)) front)
-    → status
-    ≡ exit_status (counts window (kind (table_of bytes)) (front ++ entries (options_of empty whole window).packing all))
-HasStatus (Frames t candump log) bytes handed all status =
-    status ≡ exit_status (frames_counts (table_of bytes) candump all)
-HasStatus (Help text) bytes handed all status = ⊥
+    → begun (table_of bytes) o handed ≡ Ok (state (table_of bytes).id o.window (kind (table_of bytes)) front)
+    → status ≡ exit_status (counts o.window (kind (table_of bytes)) (front ++ entries o.packing all))
+HasStatus (Frames interface) bytes handed all status =
+    status ≡ exit_status (frames_counts (table_of bytes) interface all)

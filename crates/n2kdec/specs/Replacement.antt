@@ -2,8 +2,10 @@
 -- where the folder does not allow that, it is written over the file itself.
 use Rattle.std.specs.Prelude.{◌≡◌, ◌⊎◌, ◌<◌, ◌++◌, ℕ, Bool, true, false, List, [], ◌∷◌, Option, Some, None, IfSome}
 use Rattle.std.specs.Prelude.{codes, Result, Ok, Err, IsErr, OnOk, MatchResult, is_ok}
+use Rattle.clap.specs.Words.{Text}
 use Rattle.n2kdec.specs.Folder.{Call, Content, FileMayBeLeft, MayBeLeft, MayHave, Notes, create, cut_short, empty}
 use Rattle.n2kdec.specs.Folder.{failures, refused, remove, rename, sync, sync_folder, turn, write}
+use Rattle.n2kdec.specs.declared.asked.Files.{Files}
 use Rattle.n2kdec.specs.declared.folder.Kind.{Kind}
 use Rattle.n2kdec.specs.declared.folder.Kind.TheVariants.{Alone, Shared, Special}
 use Rattle.n2kdec.specs.declared.folder.Name.{Name}
@@ -68,7 +70,8 @@ pub record AtomicReplacement {T E : Type 0} (first : Name → Content) (before a
 
 -- ---- a text over another
 
--- The calls by which a text is written over what the file of a name has, the last one first, up to the first that failed.
+-- The calls by which a text is written over what the file of a name has, the last one first, up to the first that
+-- failed.
 abbrev pub AreWritingOver : {T E : Type 0} → List ℕ → Result T E → List Call → Type 0
 AreWritingOver text (Ok done) made = made ≡ sync Target true ∷ write Target text true ∷ empty Target true ∷ []
 AreWritingOver text (Err why) made =
@@ -109,15 +112,16 @@ AreRefused Shared text made = (made ≡ refused ∷ []) ⊎ (made ≡ sync Temp 
 AreRefused Special text made = ⊥
 
 -- Until then the name had the old text; then the text was written over that.
-pub record RefusedReplacement {T E : Type 0} (kind : Kind) (first : Name → Content) (before after : List Call) (text : List ℕ)
-    (result : Result T E) : Type 0 where
+pub record RefusedReplacement {T E : Type 0} (kind : Kind) (first : Name → Content) (before after : List Call)
+    (text : List ℕ) (result : Result T E) : Type 0 where
   pub tried : List Call
   pub refusal : AreRefused kind text tried
   pub each_moment : AtEachMoment (IsAsBefore first before Target) tried before
   pub overwriting : Overwriting first (tried ++ before) after text result
 
 -- A call failed while the new file was made, and the name has the old text at each moment.
-pub record LeftAlone {T E : Type 0} (first : Name → Content) (before after : List Call) (text : List ℕ) (result : Result T E) : Type 0 where
+pub record LeftAlone {T E : Type 0} (first : Name → Content) (before after : List Call) (text : List ℕ)
+    (result : Result T E) : Type 0 where
   pub tried : List Call
   pub order : AreUnfilled text tried
   pub gone : Bool
@@ -170,73 +174,75 @@ KeepsText old new name text result =
 -- ---- what a run reads
 
 -- the path of the log: without one that of standard input
-abbrev pub read_log : Option (List ℕ) → List ℕ
+abbrev pub read_log : Option Text → Text
 read_log None = codes "/dev/stdin"
 read_log (Some path) = path
 
 -- this path, where one is given, is not known to lead to the file
-abbrev pub IsApart : (List ℕ → Option Bool) → Option (List ℕ) → Type 0
+abbrev pub IsApart : (Text → Option Bool) → Option Text → Type 0
 IsApart leads None = Unit {0}
 IsApart leads (Some path) = IfSome (leads path) (λ known. known ≡ false)
 
 -- a path is given, and it is not known to lead elsewhere
-abbrev pub IsMet : (List ℕ → Option Bool) → Option (List ℕ) → Type 0
+abbrev pub IsMet : (Text → Option Bool) → Option Text → Type 0
 IsMet leads None = ⊥
 IsMet leads (Some path) = IfSome (leads path) (λ known. known ≡ true)
 
--- standard output and standard error are not known to go to the file
-pub record IsNoOutput (leads : List ℕ → Option Bool) : Type 0 where
-  pub output : IsApart leads (Some (codes "/dev/stdout"))
-  pub errors : IsApart leads (Some (codes "/dev/stderr"))
+-- the paths of standard output and of standard error
+abbrev pub output_path : Option Text
+output_path = Some (codes "/dev/stdout")
 
-abbrev pub IsOutput : (List ℕ → Option Bool) → Type 0
-IsOutput leads = IsMet leads (Some (codes "/dev/stdout")) ⊎ IsMet leads (Some (codes "/dev/stderr"))
+abbrev pub errors_path : Option Text
+errors_path = Some (codes "/dev/stderr")
 
 -- a text that is kept there takes the place of what the file has: what is special is written to behind that
 abbrev pub IsReplaced : Kind → Type 0
 IsReplaced Special = ⊥
 IsReplaced _ = Unit {0}
 
--- The name's own file is not the table, not the log and not standard error, to which the summary goes later; nor
--- standard output, if it is replaced.
-pub record SparesTarget (leads : List ℕ → Option Bool) (kind : Kind) (table log : Option (List ℕ)) : Type 0 where
-  pub no_table : IsApart leads table
-  pub no_log : IsApart leads log
-  pub no_errors : IsApart leads (Some (codes "/dev/stderr"))
-  pub no_output : IsReplaced kind → IsApart leads (Some (codes "/dev/stdout"))
+-- A file is not the table, not the log and not standard error, to which the summary goes later.
+pub record SparesFiles (leads : Text → Option Bool) (files : Files) : Type 0 where
+  pub no_table : IsApart leads files.table
+  pub no_log : IsApart leads (Some (read_log files.log))
+  pub no_errors : IsApart leads errors_path
 
-abbrev pub HarmsTarget : (List ℕ → Option Bool) → Kind → Option (List ℕ) → Option (List ℕ) → Type 0
-HarmsTarget leads kind table log =
-    IsMet leads table ⊎ IsMet leads log ⊎ IsMet leads (Some (codes "/dev/stderr"))
-    ⊎ (IsReplaced kind × IsMet leads (Some (codes "/dev/stdout")))
+abbrev pub HarmsFiles : (Text → Option Bool) → Files → Type 0
+HarmsFiles leads files =
+    IsMet leads files.table ⊎ IsMet leads (Some (read_log files.log)) ⊎ IsMet leads errors_path
 
--- The new file is none that is read, be it the table, the log or the state to go on from, and no output.
-pub record SparesTemp (leads : List ℕ → Option Bool) (table log state : Option (List ℕ)) : Type 0 where
-  pub no_table : IsApart leads table
-  pub no_log : IsApart leads log
-  pub no_state : IsApart leads state
-  pub no_output : IsNoOutput leads
+-- The name's own file is none of these; nor standard output, if it is replaced.
+pub record SparesTarget (leads : Text → Option Bool) (kind : Kind) (files : Files) : Type 0 where
+  pub no_file : SparesFiles leads files
+  pub no_output : IsReplaced kind → IsApart leads output_path
 
-abbrev pub HarmsTemp : (List ℕ → Option Bool) → Option (List ℕ) → Option (List ℕ) → Option (List ℕ) → Type 0
-HarmsTemp leads table log state = IsMet leads table ⊎ IsMet leads log ⊎ IsMet leads state ⊎ IsOutput leads
+abbrev pub HarmsTarget : (Text → Option Bool) → Kind → Files → Type 0
+HarmsTarget leads kind files = HarmsFiles leads files ⊎ (IsReplaced kind × IsMet leads output_path)
+
+-- The new file is none of these; nor the state to go on from, nor standard output.
+pub record SparesTemp (leads : Text → Option Bool) (files : Files) : Type 0 where
+  pub no_file : SparesFiles leads files
+  pub no_state : IsApart leads files.state
+  pub no_output : IsApart leads output_path
+
+abbrev pub HarmsTemp : (Text → Option Bool) → Files → Type 0
+HarmsTemp leads files = HarmsFiles leads files ⊎ IsMet leads files.state ⊎ IsMet leads output_path
 
 -- What is read and printed to stays as it is, where a text is kept in a file of this kind.
-abbrev pub HarmsNone : (Name → List ℕ → Option Bool) → Kind → Option (List ℕ) → Option (List ℕ) → Option (List ℕ) → Type 0
-HarmsNone leads kind table log state = SparesTarget (leads Target) kind table log × SparesTemp (leads Temp) table log state
+abbrev pub HarmsNone : (Name → Text → Option Bool) → Kind → Files → Type 0
+HarmsNone leads kind files = SparesTarget (leads Target) kind files × SparesTemp (leads Temp) files
 
-abbrev pub HarmsSome : (Name → List ℕ → Option Bool) → Kind → Option (List ℕ) → Option (List ℕ) → Option (List ℕ) → Type 0
-HarmsSome leads kind table log state = HarmsTarget (leads Target) kind table log ⊎ HarmsTemp (leads Temp) table log state
+abbrev pub HarmsSome : (Name → Text → Option Bool) → Kind → Files → Type 0
+HarmsSome leads kind files = HarmsTarget (leads Target) kind files ⊎ HarmsTemp (leads Temp) files
 
 -- it is refused only where the kind of the file could not be found out, or something would be harmed
-abbrev pub IsJudged : {T E : Type 0} → Result T E → (Name → List ℕ → Option Bool) → Option Kind → Option (List ℕ) → Option (List ℕ)
-    → Option (List ℕ) → Type 0
-IsJudged (Ok done) leads None table log state = ⊥
-IsJudged (Ok done) leads (Some kind) table log state = HarmsNone leads kind table log state
-IsJudged (Err why) leads None table log state = Unit {0}
-IsJudged (Err why) leads (Some kind) table log state = HarmsSome leads kind table log state
+abbrev pub RefusesOnlyHarm : {T E : Type 0} → Result T E → (Name → Text → Option Bool) → Option Kind → Files → Type 0
+RefusesOnlyHarm (Ok done) leads None files = ⊥
+RefusesOnlyHarm (Ok done) leads (Some kind) files = HarmsNone leads kind files
+RefusesOnlyHarm (Err why) leads None files = Unit {0}
+RefusesOnlyHarm (Err why) leads (Some kind) files = HarmsSome leads kind files
 
 -- One call is made: the folder is turned to this name, and the run judged by what that leads to.
-abbrev pub Admits : {T E : Type 0} → (Name → List ℕ → Option Bool) → Option (List Call) → Option (List Call) → List ℕ
-    → Option (List ℕ) → Option (List ℕ) → Option (List ℕ) → Result T E → Type 0
-Admits leads old new name table log state result =
-    (kind : Option Kind) × Notes old new (turn name kind) × IsJudged result leads kind table log state
+abbrev pub Admits : {T E : Type 0} → (Name → Text → Option Bool) → Option (List Call) → Option (List Call) → Text
+    → Files → Result T E → Type 0
+Admits leads old new name files result =
+    (kind : Option Kind) × Notes old new (turn name kind) × RefusesOnlyHarm result leads kind files

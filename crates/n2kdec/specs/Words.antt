@@ -10,8 +10,6 @@ use Rattle.clap.specs.Words.{IsAmong, Row, Text, fault_of, first_of, subcommand_
 use Rattle.clap.specs.declared.error.kind.ErrorKind.{ErrorKind}
 use Rattle.clap.specs.declared.error.kind.ErrorKind.TheVariants.{DisplayHelp, DisplayVersion}
 use Rattle.n2k_join.specs.Window.{Window, shortest_window, longest_window}
-use Rattle.n2k_run.specs.declared.options.Options.{Options}
-use Rattle.n2k_wire.specs.declared.entry.Packing.TheVariants as packed
 use Rattle.n2kdec.specs.declared.usage.TheConstants.{VERSION}
 use Rattle.n2kdec.specs.declared.fault.Fault.{Fault}
 use Rattle.n2kdec.specs.declared.fault.Fault.TheVariants as fault
@@ -103,40 +101,3 @@ Names command (Ok words) = command ≡ Some words
 Names command (Err fault.Words) = command ≡ None
 Names command (Err fault.Memory) = Unit {0}
 Names command (Err _) = ⊥
-
--- ---- the values of a command's words
-
--- the words name a command
-abbrev pub IsCommand : Words → Type 0
-IsCommand (Help text) = ⊥
-IsCommand _ = Unit {0}
-
--- the names of the files of the table, of the state to go on from, of the state after the log, and of the log
-abbrev pub table_name : Words → Option Text
-table_name (Decode table resume save empty whole window log) = Some table
-table_name (Frames table candump log) = Some table
-table_name _ = None
-
-abbrev pub resume_name : Words → Option Text
-resume_name (Decode table resume save empty whole window log) = resume
-resume_name _ = None
-
-abbrev pub save_name : Words → Option Text
-save_name (Decode table resume save empty whole window log) = save
-save_name _ = None
-
-abbrev pub log_name : Words → Option Text
-log_name (Plain log) = log
-log_name (Decode table resume save empty whole window log) = log
-log_name (Frames table candump log) = log
-log_name (Help text) = None
-
--- the interface of candump lines
-abbrev pub interface_name : Words → Option Text
-interface_name (Frames table candump log) = candump
-interface_name _ = None
-
--- the options that the words `--empty`, `--whole`, `--window` and `--in-order` stand for
-abbrev pub options_of : Bool → Bool → Window → Options
-options_of empty whole window =
-    record { packing = if whole then packed.Whole else packed.Frames; empty = empty; window = window }

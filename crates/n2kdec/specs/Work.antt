@@ -1,4 +1,4 @@
--- The run that the words name, from the bytes of a table and of a state, and why it stops.
+-- The run of a command, from the bytes of a table and of a state, and why it stops.
 use Rattle.std.specs.Prelude.{◌≡◌, ◌≢◌, ◌⊎◌, ℕ, List, [], Option, Some, None, Result, Ok, Err, IfOk, Contains}
 use Rattle.n2k_table.specs.Table.{TableParts, faults, kind, table}
 use Rattle.n2k_table.specs.declared.fault.TableFault.{TableFault}
@@ -14,11 +14,10 @@ use Rattle.n2k_run.specs.declared.part.Part.{Part}
 use Rattle.n2k_run.specs.declared.part.PartFault.{PartFault}
 use Rattle.n2k_run.specs.declared.part.PartFault.TheVariants as part_faults
 use Rattle.n2kdec.specs.Fault.{fault_of_run}
-use Rattle.n2kdec.specs.Words.{options_of}
+use Rattle.n2kdec.specs.declared.asked.Command.{Command}
+use Rattle.n2kdec.specs.declared.asked.Command.TheVariants.{Plain, Decode, Frames}
 use Rattle.n2kdec.specs.declared.fault.Fault.{Fault}
 use Rattle.n2kdec.specs.declared.fault.Fault.TheVariants.{Table, State, Memory}
-use Rattle.n2kdec.specs.declared.words.Words.{Words}
-use Rattle.n2kdec.specs.declared.words.Words.TheVariants.{Plain, Decode, Frames, Help}
 use Rattle.n2kdec.specs.declared.work.Stop.{Stop}
 
 -- ---- what is answered after a run
@@ -80,12 +79,10 @@ ByTable bytes before after (Ok part) Does = (faults bytes ≡ []) × Does (table
 ByTable bytes before after (Err stop) Does =
     RefusesTable (faults bytes) before after stop ⊎ ((faults bytes ≡ []) × Does (table bytes))
 
--- What the words name is done: the run of their command, with their options and interface, by the table and from the
--- state of these bytes.
-abbrev pub Works : Words → List ℕ → Option (List ℕ) → Devices → Devices → Result Part Stop → Type 0
-Works (Plain log) bytes handed before after result = DoesPlain before after result
-Works (Decode t resume save empty whole window log) bytes handed before after result =
-    ByTable bytes before after result (λ t. DoesDecode t (options_of empty whole window) handed before after result)
-Works (Frames t candump log) bytes handed before after result =
-    ByTable bytes before after result (λ t. DoesFrames t candump before after result)
-Works (Help text) bytes handed before after result = ⊥
+-- What a command does: its run, with its options or its interface, by the table and from the state of these bytes.
+abbrev pub Works : Command → List ℕ → Option (List ℕ) → Devices → Devices → Result Part Stop → Type 0
+Works Plain bytes handed before after result = DoesPlain before after result
+Works (Decode o save) bytes handed before after result =
+    ByTable bytes before after result (λ t. DoesDecode t o handed before after result)
+Works (Frames interface) bytes handed before after result =
+    ByTable bytes before after result (λ t. DoesFrames t interface before after result)

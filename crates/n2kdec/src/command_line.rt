@@ -1,13 +1,12 @@
 //! The words of the command line, read with `clap`.
-ghost use Rattle.std.specs.Prelude.{◌≡◌, ◌⊎◌, true, false, IfOk, IfErr, IsErrOf, OnOk, option_map};
+ghost use Rattle.std.specs.Prelude.{◌≡◌, ◌⊎◌, true, false, IfOk, IfErr, IsErrOf, option_map};
 ghost use Rattle.std.specs.Char.{is_ascii_digit};
 ghost use Rattle.std.specs.List.{list_all};
 ghost use Rattle.clap.specs.Walk.{texts};
 ghost use Rattle.clap.specs.Words.{first_of, found_of, rows_of, subcommand_rows_of, takes};
-ghost use Rattle.n2k_run.specs.FramesOut.{IsInterface};
 ghost use Rattle.n2kdec.specs.Inner.Parse.{AnswersKind};
 ghost use Rattle.n2kdec.specs.Usage.{program_app};
-ghost use Rattle.n2kdec.specs.Words.{IsAskedBy, IsRefused, Names, decode_words, flag_of, frames_words, interface_name};
+ghost use Rattle.n2kdec.specs.Words.{IsAskedBy, IsRefused, Names, decode_words, flag_of, frames_words};
 ghost use Rattle.n2kdec.specs.Words.{lines_in, named, plain_words, version_text, window_of, words_of};
 
 use crate::fault::Fault;
@@ -16,7 +15,6 @@ use crate::words::{Word, Words};
 use clap::ArgMatches;
 use clap::error::ErrorKind;
 use n2k_join::Window;
-use n2k_wire::is_interface;
 use std::alloc::{AllocError, Global};
 use std::fmt::Display;
 
@@ -178,22 +176,5 @@ pub fn words(alloc: Global, words: &[&str]) -> Result<Words, Fault>
     match program(alloc)?.try_get_matches_from(words) {
         Ok(matches) => command_of(alloc, &matches),
         Err(error) => help_of(alloc, error.kind(), &error),
-    }
-}
-
-/// Judges the interface that the words name, where they name one: it has to have the form of one.
-pub fn interface(words: &Words) -> Result<(), Fault>
-    ensures is_one { OnOk result (IsInterface (interface_name words.now)) }
-    ensures refused { IfErr result (λ fault. (fault ≡ Fault.Interface) × (IsInterface (interface_name words.now) → ⊥)) }
-{
-    match words.interface() {
-        None => Ok(()),
-        Some(name) => {
-            if is_interface(name.as_bytes()) {
-                Ok(())
-            } else {
-                Err(Fault::Interface)
-            }
-        }
     }
 }

@@ -1,12 +1,17 @@
 //! Where a state is kept after a run: the trait, and the files of a folder, by which the program does it.
-ghost use Rattle.std.specs.Prelude.{◌≡◌, ℕ, Bool, List, Option, Some, true, false, OnErr, OnOk, option_map};
+ghost use Rattle.std.specs.Prelude.{◌≡◌, ℕ, Bool, List, Option, Some, true, false, OnErr, OnOk};
+ghost use Rattle.clap.specs.Words.{Text};
 ghost use Rattle.n2k_run.specs.Device.{CountsFailure};
-ghost use Rattle.n2kdec.specs.Commands.{IsAdmitted, Kept, KeepsUnder, MayKeepUnder, Request, request};
-ghost use Rattle.n2kdec.specs.Replacement.{Admits, HarmsTarget, HarmsTemp, IsApart, IsMet, IsNoOutput, IsOutput, KeepsText, SparesTarget, SparesTemp, read_log};
+ghost use Rattle.n2kdec.specs.Commands.{IsAdmitted, Kept, KeepsUnder, MayKeepUnder};
+ghost use Rattle.n2kdec.specs.Replacement.{Admits, HarmsFiles, HarmsTarget, HarmsTemp, IsApart, IsMet, KeepsText};
+ghost use Rattle.n2kdec.specs.Replacement.{SparesFiles, SparesTarget, SparesTemp, read_log};
+ghost use Rattle.n2kdec.specs.declared.asked.Files.{Files};
 ghost use Rattle.n2kdec.specs.declared.folder.Name.TheVariants.{Target, Temp};
 
+use crate::asked::Files;
 use crate::folder::{Folder, Kind, Name};
 use crate::replacement::keep_text;
+use crate::words::Word;
 use n2k_run::{Failed, Sink};
 
 /// A place where the state after a run is kept.
@@ -17,21 +22,14 @@ pub trait Keeper {
     /// The texts that were kept, each under its name and the first one first, where they are known.
     ghost kept: { Self → Option (List Kept) };
 
-    /// Which states it admits, where that is known. No call changes it.
-    ghost admits: { Request → Option Bool };
+    /// Whether it admits a state of this name by a run of these files, where that is known. No call changes it.
+    ghost admits: { Text → Files → Option Bool };
 
-    /// Whether a run may keep a state under this name that reads these files: a table, a log, or standard input where
-    /// none is named, and a state to go on from. `Failed` where one of them would be harmed.
-    fn admit(
-        &mut self,
-        name: &str,
-        table: Option<&str>,
-        log: Option<&str>,
-        state: Option<&str>,
-    ) -> Result<(), Failed>
+    /// Whether a run of these files may keep a state under this name. `Failed` where one that is read or printed to would
+    /// be harmed.
+    fn admit(&mut self, name: &str, files: &Files) -> Result<(), Failed>
         ensures same { kept self.new ≡ kept self.old }
-        ensures admitted { OnOk result (IsAdmitted admits (request name.now (option_map (λ text. text.now) table.entry)
-            (option_map (λ text. text.now) log.entry) (option_map (λ text. text.now) state.entry))) }
+        ensures admitted { OnOk result (IsAdmitted admits name.now files.now) }
         ensures counted { CountsFailure (failed_calls self.old) (failed_calls self.new) result };
 
     /// Keeps a state under this name, in the place of what the name has. `Failed` where it can't, or can't be sure. The
@@ -53,76 +51,77 @@ const STANDARD_OUTPUT: &str = "/dev/stdout";
 /// The file that standard error is.
 const STANDARD_ERROR: &str = "/dev/stderr";
 
-/// Whether the path, where one is given, leads to another file than that of this name.
-fn is_apart<F: Folder>(folder: &F, name: Name, path: Option<&str>) -> bool
-    ensures apart { result ≡ true → IsApart (F.leads folder.now name) (option_map (λ path. path.now) path.entry) }
-    ensures met { result ≡ false → IsMet (F.leads folder.now name) (option_map (λ path. path.now) path.entry) }
+/// Whether the path leads to another file than that of this name.
+fn is_apart<F: Folder>(folder: &F, name: Name, path: &str) -> bool
+    ensures apart { result ≡ true → IsApart (F.leads folder.now name) (Some path.now) }
+    ensures met { result ≡ false → IsMet (F.leads folder.now name) (Some path.now) }
+{
+    !folder.is_at(name, path)
+}
+
+/// The same of a file that is read, where one is named.
+fn is_apart_from<F: Folder>(folder: &F, name: Name, path: &Option<Word>) -> bool
+    ensures apart { result ≡ true → IsApart (F.leads folder.now name) path.now }
+    ensures met { result ≡ false → IsMet (F.leads folder.now name) path.now }
 {
     match path {
-        Some(path) => !folder.is_at(name, path),
+        Some(path) => is_apart(folder, name, path.as_str()),
         None => true,
     }
 }
 
-/// Whether neither standard output nor standard error is the file of this name.
-fn is_no_output<F: Folder>(folder: &F, name: Name) -> bool
-    ensures spared { result ≡ true → IsNoOutput (F.leads folder.now name) }
-    ensures harmed { result ≡ false → IsOutput (F.leads folder.now name) }
+/// The same of the log, or of standard input where none is named.
+fn is_apart_from_log<F: Folder>(folder: &F, name: Name, path: &Option<Word>) -> bool
+    ensures apart { result ≡ true → IsApart (F.leads folder.now name) (Some (read_log path.now)) }
+    ensures met { result ≡ false → IsMet (F.leads folder.now name) (Some (read_log path.now)) }
 {
-    is_apart(folder, name, Some(STANDARD_OUTPUT)) && is_apart(folder, name, Some(STANDARD_ERROR))
+    match path {
+        Some(path) => is_apart(folder, name, path.as_str()),
+        None => is_apart(folder, name, STANDARD_INPUT),
+    }
 }
 
-/// Whether the name's own file, which is of this kind, is not the table, not the log and not an output. Standard output
-/// may be, where the state comes behind what it has; the summary is written to standard error later.
-fn spares_target<F: Folder>(folder: &F, kind: Kind, table: Option<&str>, log: Option<&str>) -> bool
-    ensures spared { result ≡ true → SparesTarget (F.leads folder.now Target) kind
-        (option_map (λ path. path.now) table.entry) (option_map (λ path. path.now) log.entry) }
-    ensures harmed { result ≡ false → HarmsTarget (F.leads folder.now Target) kind
-        (option_map (λ path. path.now) table.entry) (option_map (λ path. path.now) log.entry) }
+/// Whether the file of this name is not the table, not the log and not standard error, to which the summary goes later.
+fn spares_files<F: Folder>(folder: &F, name: Name, files: &Files) -> bool
+    ensures spared { result ≡ true → SparesFiles (F.leads folder.now name) files.now }
+    ensures harmed { result ≡ false → HarmsFiles (F.leads folder.now name) files.now }
 {
-    is_apart(folder, Name::Target, table)
-        && is_apart(folder, Name::Target, log)
-        && is_apart(folder, Name::Target, Some(STANDARD_ERROR))
+    is_apart_from(folder, name, &files.table)
+        && is_apart_from_log(folder, name, &files.log)
+        && is_apart(folder, name, STANDARD_ERROR)
+}
+
+/// Whether the same holds of the name's own file, which is of this kind, and it is not standard output. That it may be,
+/// where the state comes behind what it has.
+fn spares_target<F: Folder>(folder: &F, kind: Kind, files: &Files) -> bool
+    ensures spared { result ≡ true → SparesTarget (F.leads folder.now Target) kind files.now }
+    ensures harmed { result ≡ false → HarmsTarget (F.leads folder.now Target) kind files.now }
+{
+    spares_files(folder, Name::Target, files)
         && match kind {
             Kind::Special => true,
-            Kind::Alone | Kind::Shared => { is_apart(folder, Name::Target, Some(STANDARD_OUTPUT)) }
+            Kind::Alone | Kind::Shared => is_apart(folder, Name::Target, STANDARD_OUTPUT),
         }
 }
 
 /// Whether the new file is none of what is read, and no output.
-fn spares_temp<F: Folder>(
-    folder: &F,
-    table: Option<&str>,
-    log: Option<&str>,
-    state: Option<&str>,
-) -> bool
-    ensures spared { result ≡ true → SparesTemp (F.leads folder.now Temp) (option_map (λ path. path.now) table.entry)
-        (option_map (λ path. path.now) log.entry) (option_map (λ path. path.now) state.entry) }
-    ensures harmed { result ≡ false → HarmsTemp (F.leads folder.now Temp) (option_map (λ path. path.now) table.entry)
-        (option_map (λ path. path.now) log.entry) (option_map (λ path. path.now) state.entry) }
+fn spares_temp<F: Folder>(folder: &F, files: &Files) -> bool
+    ensures spared { result ≡ true → SparesTemp (F.leads folder.now Temp) files.now }
+    ensures harmed { result ≡ false → HarmsTemp (F.leads folder.now Temp) files.now }
 {
-    is_apart(folder, Name::Temp, table)
-        && is_apart(folder, Name::Temp, log)
-        && is_apart(folder, Name::Temp, state)
-        && is_no_output(folder, Name::Temp)
+    spares_files(folder, Name::Temp, files)
+        && is_apart_from(folder, Name::Temp, &files.state)
+        && is_apart(folder, Name::Temp, STANDARD_OUTPUT)
 }
 
 /// Turns the folder to the file of this name, and answers whether nothing that is read or printed to would be harmed
 /// by a state that is kept there. `Failed` also where that file can't be found out.
 #[tactic(auto, using(crate::proofs::Placing::admits))]
-fn admit_to<F: Folder>(
-    folder: &mut F,
-    name: &str,
-    table: Option<&str>,
-    log: Option<&str>,
-    state: Option<&str>,
-) -> Result<(), Failed>
-    ensures { Admits (F.leads folder.new) (F.calls folder.old) (F.calls folder.new) name.now
-        (option_map (λ path. path.now) table.entry) (option_map (λ path. path.now) log.entry)
-        (option_map (λ path. path.now) state.entry) result }
+fn admit_to<F: Folder>(folder: &mut F, name: &str, files: &Files) -> Result<(), Failed>
+    ensures { Admits (F.leads folder.new) (F.calls folder.old) (F.calls folder.new) name.now files.now result }
 {
     let kind = folder.turn(name)?;
-    if spares_target(folder, kind, table, log) && spares_temp(folder, table, log, state) {
+    if spares_target(folder, kind, files) && spares_temp(folder, files) {
         Ok(())
     } else {
         Err(Failed)
@@ -170,22 +169,14 @@ impl<F: Folder> Keeper for StateFiles<F> {
     ghost kept = { λ _. None };
 
     // Nor does anything say which paths lead to one file: by what the folder knows of that, `admit` does.
-    ghost admits = { λ _. None };
+    ghost admits = { λ _ _. None };
 
-    fn admit(
-        &mut self,
-        name: &str,
-        table: Option<&str>,
-        log: Option<&str>,
-        state: Option<&str>,
-    ) -> Result<(), Failed>
+    fn admit(&mut self, name: &str, files: &Files) -> Result<(), Failed>
         ensures harmless { Admits (F.leads self.new.folder) (F.calls self.old.folder) (F.calls self.new.folder) name.now
-            (option_map (λ path. path.now) table.entry) (Some (read_log (option_map (λ path. path.now) log.entry)))
-            (option_map (λ path. path.now) state.entry) result }
+            files.now result }
         ensures counted { CountsFailure self.old.failed_calls self.new.failed_calls result }
     {
-        let log = log.unwrap_or(STANDARD_INPUT);
-        let admitted = admit_to(&mut self.folder, name, table, Some(log), state);
+        let admitted = admit_to(&mut self.folder, name, files);
         self.count(admitted)
     }
 

@@ -1,21 +1,11 @@
 //! What the program meets: the words that were typed, files, and the standard streams.
-ghost use Rattle.std.specs.Prelude.{◌≡◌, ◌⊎◌, ◌∷◌, ℕ, [], List, Option, None, IfErr, IfOk, IfSome, IsErrOf, map};
-ghost use Rattle.std.specs.Prelude.{option_map, string_bytes};
-ghost use Rattle.n2kdec.specs.Machine.{AddsCalls, AddsFailures, CountsOpening, IsTerminal, Opens, World, bytes_of};
-ghost use Rattle.clap.specs.Words.{Text};
+ghost use Rattle.std.specs.Prelude.{◌≡◌, ◌⊎◌, None, IfErr, IfOk, IfSome, IsErrOf, map, string_bytes};
+ghost use Rattle.n2kdec.specs.Machine.{ClosesFile, FileUse, IsTerminal, OpensFile, World, bytes_named};
 
 use crate::fault::Fault;
+use crate::words::Word;
 use n2k_run::{Sink, Source};
 use std::alloc::Global;
-
-/// A file can't be opened.
-#[derive(Clone, Copy, Debug, PartialEq, Eq)]
-pub enum Unopened {
-    /// Memory is refused.
-    Memory,
-    /// There is none of this name, or it may not be read.
-    Refused,
-}
 
 /// Where the program's texts go, each to a type of its own, so that one can't stand for the other.
 #[derive(Drop)]
@@ -42,15 +32,8 @@ pub trait Machine {
     /// The words that were typed, and the bytes that can be read, where they are known. No call changes them.
     ghost world: { Self → World };
 
-    /// How many openings and reads of files have failed. At 2^64 - 1 the number stays.
-    ghost failed_reads: { Self → ℕ };
-
-    /// How many reads were made of the files that were closed. At 2^64 - 1 the number stays.
-    ghost reads: { Self → ℕ };
-
-    /// The files that were opened, or refused in it, standard input without a name: the first one first, where they are
-    /// known.
-    ghost opened: { Self → Option (List (Option Text)) };
+    /// How files were used.
+    ghost files: { Self → FileUse };
 
     /// The words that were typed, the program's name first. `Words` where one is no text.
     fn typed(&self, alloc: Global) -> Result<Vec<String>, Fault>
@@ -59,24 +42,20 @@ pub trait Machine {
         ensures fault { IfErr result (λ fault. (fault ≡ Fault.Words) ⊎ (fault ≡ Fault.Memory)) }
         ensures texts { IsErrOf result Fault.Words → (world self.now).typed ≡ None };
 
-    /// Opens the file of this name; without a name standard input, which is always there.
-    fn open(&mut self, name: Option<&str>) -> Result<Self::File, Unopened>
+    /// Opens the file of this name; without a name standard input, which is always there. `refused` where there is none
+    /// of the name, or it may not be read.
+    fn open(&mut self, name: &Option<Word>, refused: Fault) -> Result<Self::File, Fault>
         ensures same { world self.new ≡ world self.old }
-        ensures bytes { IfOk result (λ file. Self.File.remaining file
-            ≡ bytes_of (world self.old) (option_map (λ text. text.now) name.entry)) }
+        ensures bytes { IfOk result (λ file. Self.File.remaining file ≡ bytes_named (world self.old) name.now) }
         ensures none_called { IfOk result (λ file. Self.File.calls file ≡ 0) }
         ensures none_failed { IfOk result (λ file. Self.File.failed_calls file ≡ 0) }
-        ensures counted { CountsOpening (option_map (λ text. text.now) name.entry) (failed_reads self.old)
-            (failed_reads self.new) result }
-        ensures no_read { reads self.new ≡ reads self.old }
-        ensures opened { Opens (opened self.old) (opened self.new) (option_map (λ text. text.now) name.entry ∷ []) };
+        ensures files { OpensFile name.now refused (files self.old) (files self.new) result };
 
     /// Closes a file, and counts the calls of it, and those that failed.
     fn close(&mut self, file: Self::File)
         ensures same { world self.new ≡ world self.old }
-        ensures counted { AddsFailures (failed_reads self.old) (failed_reads self.new) (Self.File.failed_calls file) }
-        ensures called { AddsCalls (reads self.old) (reads self.new) (Self.File.calls file) }
-        ensures none_opened { opened self.new ≡ opened self.old };
+        ensures files { ClosesFile (Self.File.calls file) (Self.File.failed_calls file) (files self.old)
+            (files self.new) };
 
     /// Whether standard error is a terminal.
     fn is_terminal(&self) -> bool

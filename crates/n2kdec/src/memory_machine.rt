@@ -3,9 +3,11 @@ ghost use Rattle.std.specs.Prelude.{◌≡◌, IfOk, map, option_map, string_byt
 ghost use Rattle.clap.specs.Walk.{texts};
 ghost use Rattle.n2kdec.specs.MemoryMachine.{bytes_under, kept_text};
 
+use crate::asked::Files;
 use crate::fault::Fault;
 use crate::keeper::Keeper;
-use crate::machine::{Machine, Unopened};
+use crate::machine::Machine;
+use crate::words::Word;
 use n2k_run::{Failed, MemorySink, MemorySource, Sink, Source};
 use std::alloc::{AllocError, Global};
 
@@ -95,10 +97,31 @@ pub struct MemoryMachine<'a> {
     pub failed_reads: u64,
     /// How many reads were made of the files that were closed.
     pub reads: u64,
+    /// The files that were opened, or refused in it, standard input without a name.
+    pub opened: Vec<Option<Word>>,
+}
+
+impl<'a> MemoryMachine<'a> {
+    ghost use Rattle.std.specs.Prelude.{◌≡◌, [], ◌∷◌, ◌++◌, OnErr, OnOk};
+
+    /// Notes that a file is opened.
+    fn note(&mut self, name: &Option<Word>) -> Result<(), AllocError>
+        ensures noted { OnOk result (self.new ≡ record self.old { opened = self.new.opened })
+            × OnOk result (self.new.opened.items ≡ self.old.opened.items ++ name.now ∷ []) }
+        ensures unchanged { OnErr result (self.new ≡ record self.old { opened = self.new.opened })
+            × OnErr result (self.new.opened.items ≡ self.old.opened.items) }
+    {
+        let copy = match name {
+            Some(name) => Some(Word::new(*self.opened.allocator(), name.as_str())?),
+            None => None,
+        };
+        self.opened.push(copy)?;
+        Ok(())
+    }
 }
 
 impl<'a> Machine for MemoryMachine<'a> {
-    ghost use Rattle.std.specs.Prelude.{None, Some, false};
+    ghost use Rattle.std.specs.Prelude.{Some, false};
 
     type File = MemoryFile<'a>;
 
@@ -113,25 +136,26 @@ impl<'a> Machine for MemoryMachine<'a> {
       terminal = Some false;
     } };
 
-    ghost failed_reads = { λ m. m.failed_reads };
-
-    ghost reads = { λ m. m.reads };
-
-    ghost opened = { λ _. None };
+    ghost files = { λ m. record {
+      failed = m.failed_reads;
+      reads = m.reads;
+      opened = Some m.opened.items;
+    } };
 
     fn typed(&self, alloc: Global) -> Result<Vec<String>, Fault> {
         Ok(copies(alloc, self.words)?)
     }
 
-    fn open(&mut self, name: Option<&str>) -> Result<MemoryFile<'a>, Unopened> {
+    fn open(&mut self, name: &Option<Word>, refused: Fault) -> Result<MemoryFile<'a>, Fault> {
+        self.note(name)?;
         let Some(name) = name else {
             return Ok(MemoryFile::new(self.input.as_bytes(), self.fails_at));
         };
-        match text_under(self.files, name) {
+        match text_under(self.files, name.as_str()) {
             Some(text) => Ok(MemoryFile::new(text.as_bytes(), self.fails_at)),
             None => {
                 self.failed_reads = self.failed_reads.saturating_add(1);
-                Err(Unopened::Refused)
+                Err(refused)
             }
         }
     }
@@ -195,15 +219,9 @@ impl Keeper for MemoryKeeper {
     // What the errors held is not noted.
     ghost kept = { λ s. Some (map (λ k. kept_text (string_bytes k.0) k.1.items) s.kept.items) };
 
-    ghost admits = { λ _. Some true };
+    ghost admits = { λ _ _. Some true };
 
-    fn admit(
-        &mut self,
-        _name: &str,
-        _table: Option<&str>,
-        _log: Option<&str>,
-        _state: Option<&str>,
-    ) -> Result<(), Failed> {
+    fn admit(&mut self, _name: &str, _files: &Files) -> Result<(), Failed> {
         Ok(())
     }
 

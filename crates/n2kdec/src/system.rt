@@ -3,7 +3,8 @@
 ghost use Rattle.n2kdec.specs.Machine.{unknown_world};
 
 use crate::fault::Fault;
-use crate::machine::{Machine, Unopened};
+use crate::machine::Machine;
+use crate::words::Word;
 use n2k_run::{Failed, Source, StdSink, StdSource};
 use std::alloc::Global;
 use std::fs::File;
@@ -94,11 +95,7 @@ impl<'a> Machine for System<'a> {
 
     ghost world = { λ _. unknown_world };
 
-    ghost failed_reads = { λ s. s.failed_reads };
-
-    ghost reads = { λ s. s.reads };
-
-    ghost opened = { λ _. None };
+    ghost files = { λ s. record { failed = s.failed_reads; reads = s.reads; opened = None } };
 
     fn typed(&self, alloc: Global) -> Result<Vec<String>, Fault> {
         match env::args(self.rt) {
@@ -108,16 +105,16 @@ impl<'a> Machine for System<'a> {
         }
     }
 
-    fn open(&mut self, name: Option<&str>) -> Result<Reader, Unopened> {
+    fn open(&mut self, name: &Option<Word>, refused: Fault) -> Result<Reader, Fault> {
         let Some(name) = name else {
             return Ok(Reader::new(Origin::Input(StdSource::new(self.rt.stdin()))));
         };
-        match fs::open(self.rt, name) {
+        match fs::open(self.rt, name.as_str()) {
             Ok(file) => Ok(Reader::new(Origin::File(StdSource::new(file)))),
-            Err(error) if error.kind() == ErrorKind::OutOfMemory => Err(Unopened::Memory),
+            Err(error) if error.kind() == ErrorKind::OutOfMemory => Err(Fault::Memory),
             Err(_) => {
                 self.failed_reads = self.failed_reads.saturating_add(1);
-                Err(Unopened::Refused)
+                Err(refused)
             }
         }
     }

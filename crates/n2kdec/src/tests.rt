@@ -1,4 +1,5 @@
-use crate::command_line::{interface, words};
+use crate::asked::{Request, asked};
+use crate::command_line::words;
 use crate::fault::{Fault, exit_status, fault_text, status};
 use crate::machine::Outlets;
 use crate::memory_machine::{MemoryKeeper, MemoryMachine};
@@ -279,15 +280,13 @@ fn frames_for(alloc: Global, interface: &str) -> Result<Words, AllocError> {
 #[test]
 fn interfaces_are_judged(rt: HostRuntime) -> Result<(), Fail> {
     for name in ["can0", "!", "fifteen-bytes-x"] {
-        assert_eq!(rt; interface(&frames_for(rt.alloc(), name)?), Ok(()));
+        let text = format!(in rt.alloc(); "{:?}", asked(frames_for(rt.alloc(), name)?)?)?;
+        assert!(rt; text.as_str().contains(name));
     }
     for name in ["", "can 0", "sixteen-bytes-xx", "can\u{7f}", "kan\u{e4}le"] {
-        assert_eq!(rt;
-            interface(&frames_for(rt.alloc(), name)?),
-            Err(Fault::Interface)
-        );
+        let answer = asked(frames_for(rt.alloc(), name)?);
+        assert!(rt; matches!(answer, Err(Fault::Interface)));
     }
-    assert_eq!(rt; interface(&Words::Plain { log: None }), Ok(()));
     Ok(())
 }
 
@@ -418,18 +417,16 @@ const EXAMPLES: [Example; 6] = [
 /// The work of an example's words, over devices in memory.
 fn works<R: Abort + AllocGlobal>(rt: &R, table: &[u8], example: &Example) -> Result<(), Fail> {
     let alloc = rt.alloc();
-    let words = words(alloc, example.words)?;
-    interface(&words)?;
-    if let Words::Help(_) = &words {
+    let Request::Command(_, command) = asked(words(alloc, example.words)?)? else {
         return Err("a command was named".into());
-    }
+    };
     let state = example.state.map(|text| text.as_bytes());
     let mut log = MemorySource::new(example.log.as_bytes(), 100, 0);
     let mut output = MemorySink::new(alloc, 100, 0);
     let mut errors = MemorySink::new(alloc, 100, 0);
     let answer = work(
         alloc,
-        &words,
+        &command,
         table,
         state,
         &mut log,
@@ -471,6 +468,7 @@ fn what_was_typed_is_run(rt: HostRuntime) -> Result<(), Fail> {
         fails_at: 0,
         failed_reads: 0,
         reads: 0,
+        opened: Vec::new(alloc),
     };
     let mut outlets = Outlets {
         output: MemorySink::new(alloc, 100, 0),
@@ -486,10 +484,16 @@ fn what_was_typed_is_run(rt: HostRuntime) -> Result<(), Fail> {
     }
     assert_eq!(rt; machine.failed_reads, 0);
     assert!(rt; machine.reads > 2);
+    let opened = format!(in alloc; "{:?}", machine.opened)?;
+    assert_eq!(rt;
+        opened.as_str(),
+        "[Some(Word { text: \"t\" }), Some(Word { text: \"l\" })]"
+    );
     machine.fails_at = 2;
     assert_eq!(rt; run(alloc, &mut machine, &mut outlets), ExitCode::from(3));
     assert_eq!(rt; machine.failed_reads, 1);
     assert!(rt; outlets.errors.bytes().ends_with(b"n2kdec: table file\n"));
+    assert_eq!(rt; machine.opened.len(), 3);
     assert_eq!(rt; outlets.keeper.kept().len(), 1);
     Ok(())
 }

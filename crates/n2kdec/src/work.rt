@@ -1,17 +1,14 @@
-//! The run that the words name, from the bytes of a table and of a state, over any devices.
+//! The run of a command, from the bytes of a table and of a state, over any devices.
 ghost use Rattle.std.specs.Prelude.{◌≡◌, IfErr, None, option_map};
-ghost use Rattle.n2k_run.specs.FramesOut.{IsInterface};
 ghost use Rattle.n2k_run.specs.Runs.{seen};
 ghost use Rattle.n2kdec.specs.Commands.{IsRefusal};
-ghost use Rattle.n2kdec.specs.Words.{IsCommand, interface_name, options_of};
 ghost use Rattle.n2kdec.specs.Work.{AnswersWhole, Works, answer_of_part, stop_of, stop_of_part};
 
+use crate::asked::{Command, name_of};
 use crate::fault::Fault;
-use crate::words::Words;
-use n2k_join::{Counts, Window};
-use n2k_run::{Options, Part, PartFault, RunFault, Sink, Source, run_frames, run_part, run_plain};
+use n2k_join::Counts;
+use n2k_run::{Part, PartFault, RunFault, Sink, Source, run_frames, run_part, run_plain};
 use n2k_table::Table;
-use n2k_wire::Packing;
 use std::alloc::Global;
 
 /// Why the work stopped.
@@ -71,70 +68,45 @@ fn part(ended: Result<Part, PartFault>) -> Result<Part, Stop>
     }
 }
 
-/// The run's options, by `--empty`, `--whole`, and `--window` with `--in-order`.
-fn options_of(empty: bool, whole: bool, window: Window) -> Options
-    ensures { result ≡ options_of empty whole window }
-{
-    let packing = if whole {
-        Packing::Whole
-    } else {
-        Packing::Frames
-    };
-    Options {
-        packing,
-        empty,
-        window,
-    }
-}
-
-/// Does what the words name, from the bytes of a table and of a state as far as their command has them: `plain` and
-/// `frames` over a whole log, `decode` from the state on, or from a log's beginning (`None`). The output gets the
-/// texts, and `errors` the reports.
+/// Runs a command, from the bytes of a table and of a state as far as it has them: `plain` and `frames` over a whole
+/// log, `decode` from the state on, or from a log's beginning (`None`). The output gets the texts, and `errors` the
+/// reports.
 ///
 /// Answers the state and the counts after the log; the state of `plain` and `frames` is empty. A table or a state
 /// with a fault is refused before the log is read, and leaves each device as it was.
 pub fn work<R: Source, W: Sink, E: Sink>(
     alloc: Global,
-    words: &Words,
+    command: &Command,
     table: &[u8],
     state: Option<&[u8]>,
     log: &mut R,
     output: &mut W,
     errors: &mut E,
 ) -> Result<Part, Stop>
-    requires command { IsCommand words.now }
-    requires interface { IsInterface (interface_name words.now) }
     ensures works { let before = seen R.Source W.Sink E.Sink log.old output.old errors.old in
         let after = seen R.Source W.Sink E.Sink log.new output.new errors.new in
-        Works words.now table.now (option_map (λ bytes. bytes.now) state.entry) before after result }
+        Works command.now table.now (option_map (λ bytes. bytes.now) state.entry) before after result }
     ensures untouched { IfErr result (λ stop. IsRefusal stop.fault
         → (stop.part ≡ None) × ((log.new ≡ log.old) × (output.new ≡ output.old) × (errors.new ≡ errors.old))) }
 {
-    match words {
-        Words::Plain { .. } => {
+    match command {
+        Command::Plain => {
             let ended = run_plain(alloc, log, output, errors);
             whole(alloc, ended)
         }
-        Words::Decode {
-            empty,
-            whole,
-            window,
-            ..
-        } => match Table::read(alloc, table) {
+        Command::Decode { options, .. } => match Table::read(alloc, table) {
             Ok(table) => {
-                let options = options_of(*empty, *whole, *window);
-                let ended = run_part(alloc, &table, state, options, log, output, errors);
+                let ended = run_part(alloc, &table, state, *options, log, output, errors);
                 part(ended)
             }
             Err(fault) => Err(Stop::from_fault(Fault::Table(fault))),
         },
-        Words::Frames { .. } => match Table::read(alloc, table) {
+        Command::Frames(interface) => match Table::read(alloc, table) {
             Ok(table) => {
-                let ended = run_frames(alloc, &table, words.interface(), log, output, errors);
+                let ended = run_frames(alloc, &table, name_of(interface), log, output, errors);
                 whole(alloc, ended)
             }
             Err(fault) => Err(Stop::from_fault(Fault::Table(fault))),
         },
-        Words::Help(_) => Err(Stop::from_fault(Fault::Words)),
     }
 }

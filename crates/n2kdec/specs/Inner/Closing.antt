@@ -7,8 +7,6 @@ use Rattle.n2kdec.specs.Commands.{FailsToKeep, IsWritten, IsWrittenUnlessFailed,
 use Rattle.n2kdec.specs.Fault.{exit_status}
 use Rattle.n2kdec.specs.declared.fault.Fault.{Fault}
 use Rattle.n2kdec.specs.declared.fault.Fault.TheVariants.{Read, Report, Save}
-use Rattle.n2kdec.specs.declared.words.Words.{Words}
-use Rattle.n2kdec.specs.declared.words.Words.TheVariants.{Decode}
 use Rattle.n2kdec.specs.declared.work.Stop.{Stop}
 
 -- the summary of these counts is written, and the status is theirs; or the errors failed in it
@@ -30,25 +28,13 @@ Closes keeper kept errors summed text counts result =
 abbrev pub FollowsStop : Shelf → Shelf → Place → Place → Option Part → Fault → Type 0
 FollowsStop keeper kept errors summed None fault = (kept ≡ keeper) × (summed ≡ errors)
 FollowsStop keeper kept errors summed (Some part) Read =
-    (Replaces keeper kept part.state.items errors.text ⊎ FailsToKeep keeper kept part.state.items errors.text)
-    × IsWrittenUnlessFailed errors summed (summary_text part.counts)
+    (result : Result ℕ Fault) × Closes keeper kept errors summed part.state.items part.counts result
 FollowsStop keeper kept errors summed (Some part) _ =
     (kept ≡ keeper) × IsWrittenUnlessFailed errors summed (summary_text part.counts)
 
--- what follows the work of a command that has a state
+-- what follows the work of a command
 abbrev pub ClosesPart : Shelf → Shelf → Place → Place → Result Part Stop → Result ℕ Fault → Type 0
 ClosesPart keeper kept errors summed (Ok part) result =
     Closes keeper kept errors summed part.state.items part.counts result
 ClosesPart keeper kept errors summed (Err stop) result =
     (result ≡ Err stop.fault) × FollowsStop keeper kept errors summed stop.part stop.fault
-
--- and that of one that has none: a whole log is summed up
-abbrev pub ClosesWhole : Place → Place → Result Part Stop → Result ℕ Fault → Type 0
-ClosesWhole errors summed (Ok part) result = SumsUp errors summed part.counts result
-ClosesWhole errors summed (Err stop) result = (result ≡ Err stop.fault) × (summed ≡ errors)
-
--- what follows the work that the words name
-abbrev pub ClosesWork : Words → Shelf → Shelf → Place → Place → Result Part Stop → Result ℕ Fault → Type 0
-ClosesWork (Decode table resume save empty whole window log) keeper kept errors summed ended result =
-    ClosesPart keeper kept errors summed ended result
-ClosesWork _ keeper kept errors summed ended result = (kept ≡ keeper) × ClosesWhole errors summed ended result

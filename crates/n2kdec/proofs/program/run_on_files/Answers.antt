@@ -1,26 +1,71 @@
-use Rattle.std.proofs.Common.{◌∙◌, Err, refl}
-use Rattle.n2kdec.specs.Machine.{outside}
-use Rattle.n2kdec.proofs.MachineLemmas.{called_after, follows_from, opens_then, passed_up, state_not_read}
+use Rattle.std.proofs.Common.{rules, ◌≡◌, ◌∙◌, option_map, subst}
+use Rattle.n2kdec.specs.Machine.{IsOfFile, IsReadable, IsUnreadFile, bytes_named, outside, table_bytes}
+use Rattle.n2kdec.specs.declared.fault.Fault.TheVariants.{StateSize, StateFile}
+use Rattle.n2kdec.proofs.MachineLemmas.{all_opened, both_opened, called_after, called_more, log_unread, not_begun, performed_over, runs, state_unread, table_is, table_unread}
 use Rattle.n2kdec.proofs.program.run_on_files.Goals as goal
 
-pub returns-clause-follows : goal.returns-clause-follows
-returns-clause-follows g c =
-    let table = c.in_ok-table.ensures in
-    let state = c.in_ok-resumed.ensures in
-    let had = g.M.Machine.reads c.args.machine.now in
-    let before = outside g.M.Output.Sink g.M.Errors.Sink g.K.Keeper (g.M.Machine.failed_reads c.args.machine.now) had (g.M.Machine.opened c.args.machine.now) c.args.outlets.now in
-    let after = outside g.M.Output.Sink g.M.Errors.Sink g.K.Keeper (g.M.Machine.failed_reads c.run_on_log.new.machine) (g.M.Machine.reads c.run_on_log.new.machine) (g.M.Machine.opened c.run_on_log.new.machine) c.run_on_log.new.outlets in
-    follows_from _ _ c.args.words.now before after _ c.run_on_log.result (state.same ∙ table.same) (state.counted ∙ table.counted)
-    (c.run_on_log.ensures.follows had _ (called_after _ _ _ table.called state.called) (opens_then _ _ _ _ _ table.opened state.opened))
+pub returns-in_err-table-clause-runs : goal.returns-in_err-table-clause-runs
+returns-in_err-table-clause-runs g c =
+    let w = g.M.Machine.world c.args.machine.now in
+    let begun = g.M.Machine.files c.args.machine.now in
+    let used = g.M.Machine.files c.read_file.new.machine in
+    let fault = c.in_err-table.field-0.0 in
+    not_begun w c.args.files.now c.args.command.now (outside g.M.Output.Sink g.M.Errors.Sink g.K.Keeper begun c.args.outlets.now) used c.from_residual.result fault c.from_residual.ensures.1 c.requires
+    (table_unread w c.args.files.now begun used used fault c.in_err-table.ensures.reads.answer)
 
-pub returns-in_err-resumed-clause-follows : goal.returns-in_err-resumed-clause-follows
-returns-in_err-resumed-clause-follows g c =
+pub returns-in_err-state-clause-runs : goal.returns-in_err-state-clause-runs
+returns-in_err-state-clause-runs g c =
+    let w = g.M.Machine.world c.args.machine.now in
+    let begun = g.M.Machine.files c.args.machine.now in
+    let mid = g.M.Machine.files c.read_file.new.machine in
+    let used = g.M.Machine.files c.read_file-2.new.machine in
+    let fault = c.in_err-state.field-0.0 in
+    not_begun w c.args.files.now c.args.command.now (outside g.M.Output.Sink g.M.Errors.Sink g.K.Keeper begun c.args.outlets.now) used c.from_residual-in_err-state.result fault
+    c.from_residual-in_err-state.ensures.1 c.requires
+    (state_unread w c.args.files.now begun mid used fault c.in_ok-table.ensures.reads.answer
+    (c.in_err-state.ensures.reads.answer.0, subst (λ v. IsUnreadFile v c.args.files.now.state StateSize StateFile mid used fault) c.in_ok-table.ensures.same c.in_err-state.ensures.reads.answer.1))
+
+pub returns-in_err-log-clause-runs : goal.returns-in_err-log-clause-runs
+returns-in_err-log-clause-runs g c =
+    let w = g.M.Machine.world c.args.machine.now in
+    let begun = g.M.Machine.files c.args.machine.now in
+    let mid = g.M.Machine.files c.read_file-2.new.machine in
+    let used = g.M.Machine.files c.open.new.self in
+    let fault = c.in_err-log.field-0.0 in
+    let table = c.in_ok-table.ensures.reads.answer in
+    let state = c.in_ok-state.ensures.reads.answer in
+    not_begun w c.args.files.now c.args.command.now (outside g.M.Output.Sink g.M.Errors.Sink g.K.Keeper begun c.args.outlets.now) used c.from_residual-in_err-log.result fault
+    c.from_residual-in_err-log.ensures.1 c.requires
+    (log_unread w c.args.files.now begun mid used fault table.0 (subst (λ v. IsReadable v c.args.files.now.state) c.in_ok-table.ensures.same state.0) (state.1 ∙ table.1)
+    (both_opened c.args.files.now begun (g.M.Machine.files c.read_file.new.machine) mid table.2 state.2) c.in_err-log.ensures.files.answer)
+
+pub returns-clause-runs : goal.returns-clause-runs
+returns-clause-runs g c =
+    let w = g.M.Machine.world c.args.machine.now in
+    let files = c.args.files.now in
+    let begun = g.M.Machine.files c.args.machine.now in
+    let mid = g.M.Machine.files c.read_file-2.new.machine in
+    let log = c.run_command-answer.new.log in
     let table = c.in_ok-table.ensures in
-    let state = c.in_err-resumed.ensures in
-    let fault = c.in_err-resumed.field-0.0 in
-    let before = outside g.M.Output.Sink g.M.Errors.Sink g.K.Keeper (g.M.Machine.failed_reads c.args.machine.now) (g.M.Machine.reads c.args.machine.now) (g.M.Machine.opened c.args.machine.now) c.args.outlets.now in
-    let mid = outside g.M.Output.Sink g.M.Errors.Sink g.K.Keeper (g.M.Machine.failed_reads c.read_table.new.machine) (g.M.Machine.reads c.args.machine.now) (g.M.Machine.opened c.args.machine.now) c.args.outlets.now in
-    let after = outside g.M.Output.Sink g.M.Errors.Sink g.K.Keeper (g.M.Machine.failed_reads c.read_state.new.machine) (g.M.Machine.reads c.read_state.new.machine) (g.M.Machine.opened c.read_state.new.machine) c.args.outlets.now in
-    passed_up _ c.args.words.now before after c.from_residual-in_err-resumed.result fault c.from_residual-in_err-resumed.ensures.1
-    (follows_from _ _ c.args.words.now before after _ (Err fault) table.same table.counted
-    (state_not_read _ c.args.words.now mid after fault _ refl table.opened state.opened c.requires.admitted state.fault))
+    let state = c.in_ok-state.ensures in
+    let opened = c.in_ok-log.ensures in
+    let after = outside g.M.Output.Sink g.M.Errors.Sink g.K.Keeper (g.M.Machine.files c.close.new.self) c.run_command-answer.new.outlets in
+    let table_read = option_map (λ bytes. bytes.items) c.in_ok-table.table in
+    let state_read = option_map (λ bytes. bytes.items) c.in_ok-state.state in
+    let is_table : c.deref.result.now ≡ table_bytes table_read = c.deref.ensures.value ∙ table_is (λ bytes. bytes.items) c.in_ok-table.table c.new.result c.unwrap_or-table.result c.new.ensures.items c.unwrap_or-table.ensures in
+    let is_state : option_map (λ bytes. bytes.now) c.map-state.result ≡ state_read = search rules in
+    runs w files c.args.command.now _ after c.run_command-answer.result (record {
+      admitted = c.requires;
+      opened = all_opened files begun mid (g.M.Machine.files c.open.new.self) (g.M.Machine.files c.close.new.self)
+          (both_opened files begun (g.M.Machine.files c.read_file.new.machine) mid table.reads.answer.2 state.reads.answer.2) opened.files.answer.1 c.close.ensures.files.none_opened;
+      table = table_read;
+      is_table = table.bytes;
+      handed = state_read;
+      is_state = subst (λ v. IsOfFile v files.state state_read) table.same state.bytes;
+      over = performed_over c.args.command.now (table_bytes table_read) state_read _ after
+          (record { left = g.M.File.Source.remaining log; calls = g.M.File.Source.calls log; failed = g.M.File.Source.failed_calls log }) c.run_command-answer.result
+          _ _ _ (bytes_named w files.log) _ _ _ is_table is_state (subst (λ v. g.M.File.Source.remaining c.in_ok-log.log ≡ bytes_named v files.log) (state.same ∙ table.same) opened.bytes) opened.none_called opened.none_failed
+          (opened.files.answer.0 ∙ state.reads.answer.1 ∙ table.reads.answer.1) c.close.ensures.files.counted
+          (called_more _ _ _ _ _ (called_after _ _ _ table.reads.called state.reads.called) opened.files.no_read c.close.ensures.files.called)
+          c.run_command-answer.ensures.performs;
+    })

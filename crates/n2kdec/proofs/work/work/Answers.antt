@@ -1,27 +1,26 @@
--- The table that was read is that of the bytes, and the run of the words that were matched is at hand.
-use Rattle.std.proofs.Common.{◌∙◌, ap, inl, refl}
-use Rattle.n2kdec.specs.Words.{interface_name}
+-- The table that was read is that of the bytes, and the run of the command that was matched is at hand.
+use Rattle.std.proofs.Common.{inl, refl}
 use Rattle.n2kdec.proofs.Tables.{decoded_by, framed_by, refused, works_decode, works_frames, works_plain}
 use Rattle.n2kdec.proofs.work.work.Goals as goal
 
 pub returns-in-Plain-clause-works : goal.returns-in-Plain-clause-works
 returns-in-Plain-clause-works g c =
-    works_plain c.args.words.now c.args.table.now _ _ _ _ _ c.in-Plain.is (record { ended = c.run_plain-ended.result; runs = c.run_plain-ended.ensures.runs; told = c.whole.ensures })
+    works_plain c.args.command.now c.args.table.now _ _ _ _ c.in-Plain.is (record { ended = c.run_plain-ended.result; runs = c.run_plain-ended.ensures.runs; told = c.whole.ensures })
 
 pub returns-in-Ok-clause-works : goal.returns-in-Ok-clause-works
 returns-in-Ok-clause-works g c =
-    works_decode c.args.words.now c.args.table.now _ _ _ _ _ _ _ c.in-Decode.empty c.in-Decode.whole c.in-Decode.window _ c.options_of-options.result c.in-Decode.is c.options_of-options.ensures
+    works_decode c.args.command.now c.args.table.now _ _ _ _ c.in-Decode.options _ c.in-Decode.is
     (decoded_by c.args.table.now _ _ _ _ c.in-Ok.table c.part.result c.in-Ok.ensures.sound (record { ended = c.run_part-ended.result; runs = c.run_part-ended.ensures.runs; told = c.part.ensures }))
 
 pub returns-in-Err-clause-works : goal.returns-in-Err-clause-works
 returns-in-Err-clause-works g c =
-    works_decode c.args.words.now c.args.table.now _ _ _ _ _ _ _ c.in-Decode.empty c.in-Decode.whole c.in-Decode.window _ _ c.in-Decode.is refl (inl (refused _ _ _ _ c.from_fault.ensures c.in-Err.ensures.stands))
+    works_decode c.args.command.now c.args.table.now _ _ _ _ c.in-Decode.options _ c.in-Decode.is (inl (refused _ _ _ _ c.from_fault.ensures c.in-Err.ensures.stands))
 
 pub returns-in-Ok-read-clause-works : goal.returns-in-Ok-read-clause-works
 returns-in-Ok-read-clause-works g c =
-    works_frames c.args.words.now c.args.table.now _ _ _ _ _ _ _ _ c.in-Frames.is (c.interface.ensures ∙ ap interface_name c.in-Frames.is)
+    works_frames c.args.command.now c.args.table.now _ _ _ _ c.in-Frames.interface _ c.in-Frames.is c.name_of.ensures.same
     (framed_by c.args.table.now _ _ _ c.in-Ok-read.table c.whole-in-Ok-read.result c.in-Ok-read.ensures.sound (record { ended = c.run_frames-ended.result; runs = c.run_frames-ended.ensures.runs; told = c.whole-in-Ok-read.ensures }))
 
 pub returns-in-Err-read-clause-works : goal.returns-in-Err-read-clause-works
 returns-in-Err-read-clause-works g c =
-    works_frames c.args.words.now c.args.table.now _ _ _ _ _ _ _ _ c.in-Frames.is refl (inl (refused _ _ _ _ c.from_fault-in-Err-read.ensures c.in-Err-read.ensures.stands))
+    works_frames c.args.command.now c.args.table.now _ _ _ _ c.in-Frames.interface _ c.in-Frames.is refl (inl (refused _ _ _ _ c.from_fault-in-Err-read.ensures c.in-Err-read.ensures.stands))
