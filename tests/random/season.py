@@ -167,11 +167,21 @@ class Round:
         self.disturbed += [(it, time.monotonic()) for it in since]
         if how == "cut":
             self.disk.again()
+            self.tear()
         if not self.fed.running:
             self.fed.start()
         # A part's lines that the sender has not come to were not sent; the next part begins behind them.
         for number, it in enumerate(open(told, encoding="utf-8").read().split("\n")[:-1]):
             self.parts[begin + number], self.times[begin + number] = part, float(it)
+
+    def tear(self):
+        """Other file systems may end a file within a line that was not synced."""
+        for folder, kinds in (self.boat.folder, (".json", ".reports")), (f"{self.boat.folder}/raw", (".log",)):
+            names = sorted(os.listdir(folder)) if os.path.isdir(folder) else []
+            for kind in kinds:
+                if (its := [f"{folder}/{it}" for it in names if it.endswith(kind)]) and self.chance.randrange(2):
+                    size = os.stat(its[-1]).st_size
+                    os.truncate(its[-1], max(0, size - self.chance.randrange(200)))
 
     def incident(self, part, what):
         if what == "full":
