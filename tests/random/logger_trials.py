@@ -440,6 +440,14 @@ SYNCED = 2  # seconds, as --sync has it
 SHUTDOWN, NO_LOG_FLUSH = 0x8004587D, struct.pack("I", 2)  # EXT4_IOC_SHUTDOWN: nothing more goes to the disk, the journal neither
 
 
+def lag():
+    """How late things are on this computer now, in seconds: beside other work, a small pipeline takes its time."""
+    begin = time.monotonic()
+    for _ in range(3):
+        subprocess.run("date | sed s/a/b/ | sort | tail -n 1", shell=True, capture_output=True, check=False)
+    return 5 * (time.monotonic() - begin)
+
+
 def timed(path, told, seconds):
     """A sender: writes the lines of the file one by one within these seconds, tells when each was written, and ends."""
     with open(path, "rb") as file, open(told, "w", encoding="utf-8") as times:
@@ -511,8 +519,10 @@ def cut(program, room, chance):
         command = [sys.executable, __file__, "timed", put(room, log.lines[:half]), f"{room}/times", "12"]
         logger = boat.start(*command, words=("--raw", "--sync", os.environ.get("LOGGER_TRIALS_SYNC", str(SYNCED))), start_new_session=True)
         time.sleep(1.5 + 8 * chance.random())
+        late = lag()
         disk.cut()
         at = time.monotonic()
+        late = 1 + max(late, lag())
         for _ in range(20):
             if not (pids := [*{*tree(logger.pid), *left(boat)}]):
                 break
@@ -522,9 +532,9 @@ def cut(program, room, chance):
         times = [float(it) for it in open(f"{room}/times", encoding="utf-8").read().split("\n")[:-1]]
         disk.again()
         printed = boat.printed()
-        # What was whole before the last sync, with a second for the way of a line.
+        # What was whole before the last sync, with a second for the way of a line, or more beside other work.
         sent = log.whole(0, len(times))
-        safe = log.whole(0, sum(it < at - SYNCED - 1 for it in times))
+        safe = log.whole(0, sum(it < at - SYNCED - late for it in times))
         cut.lost.append(at - times[min((log.places_of(it)[-1] for it in sent if it not in printed), default=-1)])
         if missing := [it for it in safe if it not in printed]:
             yield f"{len(missing)} messages of {len(sent)} are lost that were older than {SYNCED} seconds"

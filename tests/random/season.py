@@ -27,10 +27,10 @@ import time
 
 import feed_trials
 import logger_trials
-from logger_trials import Boat, Disk, Log, kill, left, message, tree
+from logger_trials import Boat, Disk, Log, kill, lag, left, message, tree
 
 SYNCED = 1  # seconds
-LATE = 1.5  # seconds in which a line is surely written, beside other work
+LATE = 1  # seconds in which a line is surely written, on a computer that has nothing else to do
 PARTS = 8
 HOW = ["alone", "alone", "stopped", "killed", "killed", "cut", "cut"]
 WHAT = ["nothing", "full", "ahead", "back", "server", "table", "feed"]
@@ -110,7 +110,7 @@ class Round:
         shutil.copy(logger_trials.TABLE, self.table)
         self.fed = Fed(room, self.boat.folder, chance)
         # Of each line: its part and when it was sent. Of a disturbance: when it began and ended.
-        self.parts, self.times, self.disturbed, self.torn, self.was_cut, self.crossed = {}, {}, [], 0, False, set()
+        self.parts, self.times, self.disturbed, self.torn, self.was_cut, self.crossed, self.lag = {}, {}, [], 0, False, set(), 0
 
     def play(self):
         self.fed.start()
@@ -139,7 +139,7 @@ class Round:
             logger = Boat.logger = subprocess.Popen(command, env=self.boat.environment, stderr=said, start_new_session=True)
         until = time.monotonic() + (30 if how == "alone" else 1 + 4 * self.chance.random())
         time.sleep(0.3 + self.chance.random())
-        since = []
+        since, self.lag = [], max(self.lag, lag())
         self.incident(part, what)
         while time.monotonic() < until and logger.poll() is None:
             time.sleep(0.02)
@@ -151,13 +151,13 @@ class Round:
             at = time.monotonic()
             kill(self.chance.sample(pids, self.chance.randrange(1, 1 + len(pids))) if pids else [])
             self.torn += 1
-            since.append(at - LATE)
+            since.append(at - LATE - self.lag)
         elif how == "cut":
             self.fed.kill()
             self.disk.cut()
             at = time.monotonic()
             self.was_cut, self.torn = True, self.torn + 1
-            since.append(at - SYNCED - LATE)
+            since.append(at - SYNCED - LATE - self.lag)
             for _ in range(50):
                 if not (pids := [*{*tree(logger.pid), *left(self.boat)}]) or pids == [logger.pid] and logger.poll() is not None:
                     break
@@ -197,7 +197,7 @@ class Round:
             os.remove(f"{self.disk.folder}/other")
             self.torn += 1
             # It looks for room every five seconds.
-            self.disturbed.append((at - LATE, time.monotonic() + 7))
+            self.disturbed.append((at - LATE - self.lag, time.monotonic() + 7 + self.lag))
         elif what == "server":
             self.fed.server.stop()
             self.fed.base.stop()
