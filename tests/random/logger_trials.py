@@ -125,7 +125,7 @@ class Boat:
 
     def received(self, line):
         """Waits until the raw log of the newest day ends in this line."""
-        until = time.time() + 60
+        until = time.time() + 300
         while time.time() < until:
             if names := self.names(r".*\.json"):
                 try:
