@@ -15,7 +15,7 @@ use Rattle.n2k_run.specs.declared.options.Options.{Options}
 use Rattle.n2k_run.specs.declared.part.Part.{Part}
 use Rattle.n2k_run.specs.declared.part.PartFault.{PartFault}
 use Rattle.n2k_run.specs.declared.part.PartFault.TheVariants.{State as Refused, Stopped, Run, Memory}
-use Rattle.n2k_run.specs.Decoded.{cause_at, message_line, numbers_after, out, out_of, output_after, report_at, reports, reports_of, text_at}
+use Rattle.n2k_run.specs.Decoded.{cause_at, message_line, numbers_after, out, out_of, output_after, report_at, reports, reports_of, text_of_line}
 use Rattle.n2k_run.specs.Entries.{entries}
 use Rattle.n2k_run.specs.Lines.{line_feed, whole_lines}
 use Rattle.n2k_run.specs.Headline.{save, state_after}
@@ -66,9 +66,9 @@ entry_stays front es zero within = refl
 entry_stays front es (suc k) within = get_stays front es k (omega (arith, within))
 
 module _ (t : TableParts) (o : Options) (laws : LogLaws o.window) where
-  pub out_of-append : (front es : List Entry) → out_of t o (front ++ es) ≡ out_of t o front ++ flat_map (text_at t o (front ++ es)) (numbers_after front es)
+  pub out_of-append : (front es : List Entry) → out_of t o (front ++ es) ≡ out_of t o front ++ flat_map (text_of_line t o (front ++ es)) (numbers_after front es)
   out_of-append front es =
-      parts_of (text_at t o (front ++ es)) (text_at t o front) front es
+      parts_of (text_of_line t o (front ++ es)) (text_of_line t o front) front es
       (λ i low high. ap (message_line t o.empty) (messages_stay t o laws t.id front es i low high))
 
   report_stays : (front es : List Entry) (i : ℕ) → i ≤ length front → report_at t o (front ++ es) i ≡ report_at t o front i
