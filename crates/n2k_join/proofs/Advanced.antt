@@ -5,7 +5,7 @@ use Rattle.n2k_join.specs.Frames.{same_key, Frame}
 use Rattle.n2k_join.specs.Groups.{EndTest, complete}
 use Rattle.n2k_join.specs.Open.{Group}
 use Rattle.n2k_join.specs.State.{held_of}
-pub use Rattle.n2k_join.specs.Inner.Stored.{with_frame, begun, of_the_key}
+pub use Rattle.n2k_join.specs.Inner.Stored.{with_frame, started, of_the_key}
 
 -- what stays open of a group of the frame's key
 abbrev pub joined : EndTest → Frame → Group → Option Group
@@ -17,8 +17,8 @@ taken ends x o = cond (same_key x.key o.key) (joined ends x o) (Some o)
 
 -- the group that a frame opens, where this is the open one of its key
 abbrev pub opened : EndTest → Frame → Option Group → Option Group
-opened ends x None = begun x
-opened ends x (Some o) = cond (ends (held_of o) x) (begun x) None
+opened ends x None = started x
+opened ends x (Some o) = cond (ends (held_of o) x) (started x) None
 
 -- the open groups after a frame
 unfoldable pub advanced : EndTest → List Group → Frame → List Group

@@ -15,7 +15,7 @@ use Rattle.n2k_join.specs.Groups.{complete, has_number, data_of}
 use Rattle.n2k_join.specs.Messages.{message_of}
 use Rattle.n2k_join.specs.Open.{Group, pieces_of, group_of}
 use Rattle.n2k_join.specs.State.{held_frame, held_of, IsOpen, AreApart}
-use Rattle.n2k_join.specs.Inner.Stored.{rejects, key_of, piece_of, with_frame, of_the_key, begun, groups_after, gained, lost}
+use Rattle.n2k_join.specs.Inner.Stored.{rejects, key_of, piece_of, with_frame, of_the_key, started, groups_after, gained, lost}
 use Rattle.n2k_join.specs.Inner.Slots.{slot_of, group_in, group_at, groups_in}
 use Rattle.n2k_join.proofs.SlotLemmas.{carried-slots}
 use Rattle.n2k_join.proofs.JoinLemmas.{position-None, none_at_all, groups-begun, at_place, found-place, key-place, with_piece, complete-with_frame, joins-done, joins-left, after-repeats, data_of-with_frame, rejects-missing, broken-held, message-begun, gained-at, lost-at}
@@ -158,10 +158,10 @@ module _ (order : Bool) (x : Frame) (es : List (FrameKey × OpenGroup)) (i : ℕ
     ends_it : rejects order x.number (group_at (at.key, v)) ≡ true
     ends_it = subst (λ o. IfSome o (λ (g : Group). rejects order x.number g ≡ true)) found-there barred
 
-    after : groups_after order (groups_in es) x ≡ (take i (groups_in es) ++ drop (i + 1) (groups_in es)) ++ option_to_list (begun x)
+    after : groups_after order (groups_in es) x ≡ (take i (groups_in es) ++ drop (i + 1) (groups_in es)) ++ option_to_list (started x)
     after = after-repeats order x (groups_in es) i there apart place stands ends_it
 
-    begins : cond (complete (held_of (group_at (at.key, w)))) [] (group_at (at.key, w) ∷ []) ≡ option_to_list (begun x)
+    begins : cond (complete (held_of (group_at (at.key, w)))) [] (group_at (at.key, w) ∷ []) ≡ option_to_list (started x)
     begins = groups-begun x (group_at (at.key, w)) small is
 
     pub ends-go : complete (held_of (group_at (at.key, w))) ≡ true → groups_in (remove es i) ≡ groups_after order (groups_in es) x

@@ -12,7 +12,7 @@ use Rattle.n2k_join.specs.Frames.{Key, same_key, Frame, most_frames}
 use Rattle.n2k_join.specs.Groups.{complete, has_number, data_of, first}
 use Rattle.n2k_join.specs.Open.{Piece, Group, pieces_of, group_of}
 use Rattle.n2k_join.specs.State.{held_frame, held_of, IsOpen, AreApart}
-use Rattle.n2k_join.specs.Inner.Stored.{rejects, with_frame, joined, taken, begun, of_the_key, opened, groups_after, message_if, gained, lost}
+use Rattle.n2k_join.specs.Inner.Stored.{rejects, with_frame, joined, taken, started, of_the_key, opened, groups_after, message_if, gained, lost}
 use Rattle.n2k_join.proofs.Carried.{carried-append, has_twice-push, data_of-same, pieces_of-same}
 use Rattle.n2k_join.proofs.Cuts.{has-from}
 use Rattle.n2k_join.proofs.Held.{carried-kept, has_twice-held, length-held, all-held, all-reverse, first-held}
@@ -110,7 +110,7 @@ module _ (order : Bool) (x : Frame) where
 
 -- where no group has the frame's key
 pub none_at_all : (order : Bool) (x : Frame) (gs : List Group) → position (λ (g : Group). same_key x.key g.key) gs ≡ None
-    → (of_the_key x.key gs ≡ None) × (groups_after order gs x ≡ gs ++ option_to_list (begun x))
+    → (of_the_key x.key gs ≡ None) × (groups_after order gs x ≡ gs ++ option_to_list (started x))
 unfolding groups_after
 none_at_all order x gs none =
     let each = position-None (λ (h : Group). same_key x.key h.key) gs none in
@@ -156,7 +156,7 @@ module _ (order : Bool) (x : Frame) (gs : List Group) (i : ℕ) (o : Group) (apa
     after-joins : groups_after order gs x ≡ take i gs ++ (option_to_list (cond (complete (held_of o ++ x ∷ [])) None (Some (with_frame o x))) ++ drop (suc i) gs)
     after-joins =
         after-place
-        ∙ ap (λ b. (take i gs ++ (option_to_list (cond b None (cond (complete (held_of o ++ x ∷ [])) None (Some (with_frame o x)))) ++ drop (suc i) gs)) ++ option_to_list (cond b (begun x) None)) missing
+        ∙ ap (λ b. (take i gs ++ (option_to_list (cond b None (cond (complete (held_of o ++ x ∷ [])) None (Some (with_frame o x)))) ++ drop (suc i) gs)) ++ option_to_list (cond b (started x) None)) missing
         ∙ append-nil (take i gs ++ (option_to_list (cond (complete (held_of o ++ x ∷ [])) None (Some (with_frame o x))) ++ drop (suc i) gs))
 
     pub joins-done : (y : Group) → complete (held_of o ++ x ∷ []) ≡ true → take i (set gs i y) ++ drop (i + 1) (set gs i y) ≡ groups_after order gs x
@@ -177,12 +177,12 @@ module _ (order : Bool) (x : Frame) (gs : List Group) (i : ℕ) (o : Group) (apa
 
   -- the group has none: the frame breaks it
   module _ (there : rejects order x.number o ≡ true) where
-    pub after-repeats : groups_after order gs x ≡ (take i gs ++ drop (i + 1) gs) ++ option_to_list (begun x)
+    pub after-repeats : groups_after order gs x ≡ (take i gs ++ drop (i + 1) gs) ++ option_to_list (started x)
     after-repeats =
         let suc_is : suc i ≡ i + 1 = omega arith in
         after-place
-        ∙ ap (λ b. (take i gs ++ (option_to_list (cond b None (cond (complete (held_of o ++ x ∷ [])) None (Some (with_frame o x)))) ++ drop (suc i) gs)) ++ option_to_list (cond b (begun x) None)) there
-        ∙ ap (λ j. (take i gs ++ drop j gs) ++ option_to_list (begun x)) suc_is
+        ∙ ap (λ b. (take i gs ++ (option_to_list (cond b None (cond (complete (held_of o ++ x ∷ [])) None (Some (with_frame o x)))) ++ drop (suc i) gs)) ++ option_to_list (cond b (started x) None)) there
+        ∙ ap (λ j. (take i gs ++ drop j gs) ++ option_to_list (started x)) suc_is
 
 -- a group that has a place for a number lacks it
 pub rejects-missing : (order : Bool) (n : ℕ) (o : Group) → rejects order n o ≡ false → has_number n (held_of o) ≡ false
@@ -205,7 +205,7 @@ module _ (x : Frame) (g : Group) (small : x.number < most_frames) (is : g ≡ gr
       ap (λ b. cond b (Some (record { stamp = x.stamp; id = x.id; payload = data_of (held_of g) })) None) complete-begun
       ∙ ap (λ d. cond (complete (x ∷ [])) (Some (record { stamp = x.stamp; id = x.id; payload = d })) None) (ap (λ (h : Group). data_of (held_of h)) is ∙ data_of-group_of x.key (x ∷ []) (fine-one x small))
 
-  pub groups-begun : cond (complete (held_of g)) [] (g ∷ []) ≡ option_to_list (begun x)
+  pub groups-begun : cond (complete (held_of g)) [] (g ∷ []) ≡ option_to_list (started x)
   groups-begun =
       ap (λ b. cond b [] (g ∷ [])) complete-begun ∙ ap (λ (h : Group). cond (complete (x ∷ [])) [] (h ∷ [])) is
       ∙ elim (complete (x ∷ [])) as (λ b. cond b [] (group_of x.key (x ∷ []) ∷ []) ≡ option_to_list (cond b None (Some (group_of x.key (x ∷ []))))) [ true ↦ refl | false ↦ refl ]

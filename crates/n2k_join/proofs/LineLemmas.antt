@@ -14,7 +14,7 @@ use Rattle.n2k_join.specs.Groups.{within, complete}
 use Rattle.n2k_join.specs.Messages.{message_of, as_broken, alone, cause_in, is_unknown}
 use Rattle.n2k_join.specs.Open.{Group, is_waiting, ended}
 use Rattle.n2k_join.specs.State.{State, Given, held_of, next_line, overdue, one_if, counts_after, step_after, IsOpen, AreOpen, IsState, step_given}
-use Rattle.n2k_join.specs.Inner.Stored.{rejects, with_frame, taken, begun, opened, of_the_key, groups_after, message_if, gained, gives_by, leaves_by}
+use Rattle.n2k_join.specs.Inner.Stored.{rejects, with_frame, taken, started, opened, of_the_key, groups_after, message_if, gained, gives_by, leaves_by}
 use Rattle.n2k_join.proofs.Advanced.{advanced, taken as advanced-taken, opened as advanced-opened}
 use Rattle.n2k_join.proofs.BrokenGroups.{told_if, breaks}
 use Rattle.n2k_join.proofs.Given.{completed, message_by}
@@ -61,7 +61,7 @@ same-taken w x (g ∷ gs) all =
 
 same-opened : (w : Window) (x : Frame) (o : Option Group) → IfSome o (WaitsAt w x.line) → advanced-opened (within w) x o ≡ opened w.in_order x o
 same-opened w x None fit = refl
-same-opened w x (Some o) fit = ap (λ r. cond r (begun x) None) (rejects-at w x o fit)
+same-opened w x (Some o) fit = ap (λ r. cond r (started x) None) (rejects-at w x o fit)
 
 same-groups : (w : Window) (x : Frame) (gs : List Group) → AllByRecursion (WaitsAt w x.line) gs → advanced (within w) gs x ≡ groups_after w.in_order gs x
 unfolding advanced groups_after

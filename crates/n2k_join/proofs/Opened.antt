@@ -11,7 +11,7 @@ use Rattle.n2k_join.specs.Frames.{Key, same_key, Frame, of_key, frame_at, most_f
 use Rattle.n2k_join.specs.Groups.{EndTest, closes, complete, cut, has_number, has_twice, first, incomplete, open_of}
 use Rattle.n2k_join.specs.Open.{Group, group_of, where_begun, begun_at, open_groups}
 use Rattle.n2k_join.specs.State.{held_of}
-use Rattle.n2k_join.proofs.Advanced.{with_frame, joined, taken, begun, of_the_key, opened, advanced}
+use Rattle.n2k_join.proofs.Advanced.{with_frame, joined, taken, started, of_the_key, opened, advanced}
 use Rattle.n2k_join.proofs.Carried.{carried-push, complete-same, pieces_of-same, has_twice-push}
 use Rattle.n2k_join.proofs.Cuts.{IsEnding, next, so_far, so_far-push, so_far-all, so_far-keeps, last-cut}
 use Rattle.n2k_join.proofs.Held.{AreNumbered, carried-kept, has_twice-kept, first-kept}
@@ -152,7 +152,7 @@ module _ (ends : EndTest) (is_ending : IsEnding ends) where
       elim (complete (x ∷ [])) as (λ b. option_and_then (where_begun i k) (cond b None (Some (x ∷ []))) ≡ None)
       [ true ↦ refl | false ↦ ap (λ b. cond b (Some (group_of k (x ∷ []))) None) (ne_eqb x.line i other) ]
 
-  here : (x : Frame) → option_and_then (where_begun x.line x.key) (incomplete (x ∷ [])) ≡ begun x
+  here : (x : Frame) → option_and_then (where_begun x.line x.key) (incomplete (x ∷ [])) ≡ started x
   here x =
       elim (complete (x ∷ [])) as (λ b. option_and_then (where_begun x.line x.key) (cond b None (Some (x ∷ []))) ≡ cond b None (Some (group_of x.key (x ∷ []))))
       [ true ↦ refl | false ↦ ap (λ b. cond b (Some (group_of x.key (x ∷ []))) None) (eq-eqb x.line x.line refl) ]
@@ -197,12 +197,12 @@ module _ (ends : EndTest) (is_ending : IsEnding ends) where
 
       by : (c e : Bool) → ends g x ≡ e → option_and_then (where_begun x.line x.key) (incomplete (cond (c || e) (x ∷ []) h)) ≡ opened ends x (option_map (group_of x.key) (cond c None (Some g)))
       by true e t = here x
-      by false true t = here x ∙ sym (ap (λ b. cond b (begun x) None) (ends-kept x.key g x fine ∙ t))
+      by false true t = here x ∙ sym (ap (λ b. cond b (started x) None) (ends-kept x.key g x fine ∙ t))
       by false false t =
           of_cond (option_and_then (where_begun x.line x.key)) (complete h) None (Some h)
           ∙ ap (λ b. cond (complete h) None (cond b (Some (group_of x.key h)) None)) (ap (λ n. n == x.line) (first-push g x fine.nonempty) ∙ ne_eqb (first g) x.line past)
           ∙ both_none (complete h)
-          ∙ sym (ap (λ b. cond b (begun x) None) (ends-kept x.key g x fine ∙ t))
+          ∙ sym (ap (λ b. cond b (started x) None) (ends-kept x.key g x fine ∙ t))
 
   open_at-push : (k : Key) (fs : List Frame) (x : Frame) (i : ℕ) → AreNumbered fs → (x.line ≡ i → ⊥) → open_at k (fs ++ x ∷ []) i ≡ option_and_then (taken ends x) (open_at k fs i)
   open_at-push k fs x i numbers other = by (same_key x.key k) refl

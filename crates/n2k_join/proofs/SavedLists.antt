@@ -11,10 +11,10 @@ use Rattle.serde_json.specs.declared.value.Value.{Value}
 use Rattle.n2k_join.specs.declared.saved.object.Object.{Object}
 use Rattle.n2k_join.specs.declared.fault.StateFault.{StateFault}
 use Rattle.n2k_join.specs.Inner.SavedTokens.{tokens_of}
-use Rattle.n2k_join.specs.Resumed.{elements, is_name, has_only}
+use Rattle.n2k_join.specs.Resumed.{values_in, is_name, has_only}
 
 -- the elements of an array that was made of a list
-pub elements-items_of : (ds : List Data) → elements (items_of ds) ≡ ds
+pub elements-items_of : (ds : List Data) → values_in (items_of ds) ≡ ds
 elements-items_of [] = refl
 elements-items_of (d ∷ ds) = ap (λ rest. d ∷ rest) (elements-items_of ds)
 

@@ -15,7 +15,7 @@ use Rattle.n2k_join.specs.declared.fault.StateFault.{StateFault}
 use Rattle.n2k_join.specs.declared.fault.StateFault.TheVariants.{Shape}
 use Rattle.n2k_join.specs.Frames.{frame_bytes}
 use Rattle.n2k_join.specs.Open.{Group}
-use Rattle.n2k_join.specs.Resumed.{as_int, read_counts, digits_of, each, elements_of, read_group, read_groups, read_id, read_key, members_at, piece_in, read_piece, read_pieces, required, read_state, valid_if, int_at, read_window}
+use Rattle.n2k_join.specs.Resumed.{as_int, read_counts, digits_of, each, elements_of, read_group, read_groups, read_id, read_key, members_at, piece_in, read_piece, read_pieces, required, read_state, valid_if, count_at, read_window}
 use Rattle.n2k_join.specs.Rules.{HasSeven}
 use Rattle.n2k_join.specs.State.{State}
 use Rattle.n2k_join.specs.Window.{Window}
@@ -90,7 +90,7 @@ HasFrames g = AllByRecursion HasSeven g.pieces
 group-frames : (d : Data) → IfOk (read_group d) HasFrames
 unfolding read_group HasFrames
 group-frames d =
-    if_ok-then HasFrames (members_at objects.Group d) _ (λ known e. if_ok-then HasFrames (read_key d) _ (λ key e. if_ok-then HasFrames (int_at (codes "first") d) _ (λ first e.
+    if_ok-then HasFrames (members_at objects.Group d) _ (λ known e. if_ok-then HasFrames (read_key d) _ (λ key e. if_ok-then HasFrames (count_at (codes "first") d) _ (λ first e.
     if_ok-then HasFrames (read_pieces d) _ (λ pieces is. if_ok-of (AllByRecursion HasSeven) (read_pieces d) pieces (pieces-seven d) is))))
 
 groups-frames : (d : Data) → IfOk (read_groups d) (AllByRecursion HasFrames)

@@ -6,7 +6,7 @@ use Rattle.std.proofs.lemmas.List.Sums.{sum_by_push}
 use Rattle.n2k_wire.specs.Packet.{PacketParts}
 use Rattle.n2k_table.specs.declared.definition.Kind.{Kind}
 use Rattle.n2k_table.specs.declared.definition.Kind.TheVariants.{Single, Fast}
-use Rattle.n2k_join.specs.Pieces.{pieces_as, pieces_by, Stream, stream_of, same_stream, sequence_after, sendings_after, frames_of_sending, written, Sequences, first_sequences, is_fast, raised, split, split_from}
+use Rattle.n2k_join.specs.Pieces.{pieces_as, pieces_by, Stream, stream_of, same_stream, sequence_after, sendings_after, frames_of_sending, written, Sequences, first_sequences, is_fast, raised, split_all, split_from}
 
 -- how many of the messages are of the stream
 abbrev of_stream : Stream → List PacketParts → ℕ
@@ -47,5 +47,5 @@ splits kind held earlier (m ∷ ms) after =
     let rest = splits kind (raised kind held (stream_of m.id)) (earlier ++ m ∷ []) ms (after_raised kind held earlier m after) in
     cc
 
-pub splits_written : (kind : ℕ → Option Kind) (ms : List PacketParts) → split kind ms ≡ written kind ms
+pub splits_written : (kind : ℕ → Option Kind) (ms : List PacketParts) → split_all kind ms ≡ written kind ms
 splits_written kind ms = splits kind first_sequences [] ms (record { counted = λ s e. refl })

@@ -12,7 +12,7 @@ use Rattle.serde_json.specs.View.{items_of}
 use Rattle.serde_json.specs.Written.{outline, items_outline}
 use Rattle.serde_json.proofs.Numbers.{number_of-decimal}
 use Rattle.n2k_join.specs.Open.{Piece, Group}
-use Rattle.n2k_join.specs.Resumed.{each, elements, format_in, read_piece, read_group, read_key, read_pieces, read_groups, read_counts, read_id, is_valid, read_state, state_of_parts, resumed, parsed, valid_if, waits_hold}
+use Rattle.n2k_join.specs.Resumed.{each, values_in, format_in, read_piece, read_group, read_key, read_pieces, read_groups, read_counts, read_id, is_valid, read_state, state_of_parts, resumed, parsed, valid_if, waits_hold}
 use Rattle.n2k_join.specs.Saved.{IsId, are_waiting, saved_format, old_format, list, piece_tree, group_tree, state_text, format_by, window_member, tree_by, whole}
 use Rattle.n2k_join.specs.State.{State, IsState, AreCounts, AreFast, AreWaiting, IsKey, IsPiece, IsOpen, HasParts}
 use Rattle.n2k_join.specs.Window.{Window, IsWindow}
@@ -85,7 +85,7 @@ unfolding read_piece piece_tree
 piece-reads p is = rw (decode_sized-encode_lower p.bytes 7 is.piece.seven (bytes_at p.bytes is.piece.are_bytes)) refl
 
 -- each of a list is read back
-pub each-reads : {X : Type 0} (f : X → Data) (g : Data → Result X StateFault) (xs : List X) → AllByRecursion (λ x. g (f x) ≡ Ok x) xs → each g (elements (items_of (map f xs))) ≡ Ok xs
+pub each-reads : {X : Type 0} (f : X → Data) (g : Data → Result X StateFault) (xs : List X) → AllByRecursion (λ x. g (f x) ≡ Ok x) xs → each g (values_in (items_of (map f xs))) ≡ Ok xs
 each-reads f g [] all = refl
 each-reads f g (x ∷ xs) all = rw (all.0, each-reads f g xs all.1) refl
 
@@ -221,7 +221,7 @@ abbrev read_under : Bool → Window → State → State
 read_under with_window w s = record { id = s.id; window = record { lines = if with_window then s.window.lines else w.lines; in_order = w.in_order }; counts = s.counts; groups = s.groups }
 
 -- the groups of its text
-groups-back : (s : State) → IsState s → each read_group (elements (items_of (map group_tree s.groups))) ≡ Ok s.groups
+groups-back : (s : State) → IsState s → each read_group (values_in (items_of (map group_tree s.groups))) ≡ Ok s.groups
 groups-back s is =
     each-reads group_tree read_group s.groups
     (all-map IsKept (λ (g : Group). read_group (group_tree g) ≡ Ok g) s.groups group-reads (kept_groups s is))

@@ -10,7 +10,7 @@ use Rattle.n2k_join.specs.Groups.{EndTest, repeats, has_number, has_from, falls_
 use Rattle.n2k_join.specs.Open.{Group, group_of, open_groups, is_waiting, waiting, open_within, ended}
 use Rattle.n2k_join.specs.State.{held_of, Rise, IsOpen, AreApart, AreOpen}
 use Rattle.n2k_join.specs.Inner.Stored.{rejects}
-use Rattle.n2k_join.proofs.Advanced.{with_frame, taken, begun, of_the_key, opened, advanced}
+use Rattle.n2k_join.proofs.Advanced.{with_frame, taken, started, of_the_key, opened, advanced}
 use Rattle.n2k_join.proofs.Cuts.{within-ends, has-from}
 use Rattle.n2k_join.proofs.Held.{first-held}
 use Rattle.n2k_join.proofs.Keys.{same_key-true}
@@ -179,7 +179,7 @@ key-waiting w x F as_none (g ∷ gs) each apart =
 opened-waiting : (w : Window) (x : Frame) (gs : List Group) → AllByRecursion IsOpen gs → AreApart gs
     → opened (within w) x (of_the_key x.key gs) ≡ opened (within w) x (of_the_key x.key (waiting w x.line gs))
 opened-waiting w x =
-    key-waiting w x (opened (within w) x) (λ g is e. ap (λ t. cond t (begun x) None) (ended-ends w x g is e))
+    key-waiting w x (opened (within w) x) (λ g is e. ap (λ t. cond t (started x) None) (ended-ends w x g is e))
 
 -- a group that a frame opens waits
 begun-waits : (ends : EndTest) (w : Window) (x : Frame) (o : Option Group) → 0 < w.lines → filter (is_waiting w x.line) (option_to_list (opened ends x o)) ≡ option_to_list (opened ends x o)
@@ -189,7 +189,7 @@ begun-waits ends w x o some = by o
     alone true = refl
     alone false = ap (λ t. cond t (group_of x.key (x ∷ []) ∷ []) []) (lt-ltb x.line (x.line + w.lines) (omega (arith, some)))
 
-    by_test : (g : Group) (b : Bool) → filter (is_waiting w x.line) (option_to_list (cond b (begun x) None)) ≡ option_to_list (cond b (begun x) None)
+    by_test : (g : Group) (b : Bool) → filter (is_waiting w x.line) (option_to_list (cond b (started x) None)) ≡ option_to_list (cond b (started x) None)
     by_test g true = alone (complete (x ∷ []))
     by_test g false = refl
 

@@ -1,5 +1,6 @@
 -- What becomes of messages whose frames are scattered over a log.
-use Rattle.std.specs.Prelude.{◌≡◌, ℕ, ◌+◌, ◌<◌, min, true, false, List, [], ◌++◌, map, length, Option, Some, IfSome, Contains}
+use Rattle.std.specs.Prelude.{◌≡◌, ℕ, ◌+◌, ◌<◌, min, true, false, List, [], ◌++◌, map, length, Option, Some, IfSome}
+use Rattle.std.specs.Prelude.{Contains}
 use Rattle.std.specs.List.{All, AllZip, range_with_len}
 use Rattle.n2k_wire.specs.declared.entry.Entry.{Entry}
 use Rattle.n2k_wire.specs.Packet.{PacketParts, longest_message}
@@ -26,33 +27,43 @@ pub record FillsAllFrames : Type 0 where
 
 -- The group brings the message: its frames are the message's pieces, all of them; it is complete and has the message's
 -- data; and the line of its last frame gives the message, stamp, identifier and data.
-pub record Brings (window : Window) (kind : ℕ → Option Kind) (es : List Entry) (x : Sending) (group : List Frame) : Type 0 where
+pub record Brings (window : Window) (kind : ℕ → Option Kind) (es : List Entry) (x : Sending) (group : List Frame)
+    : Type 0 where
   pub stretch : IsStretchOf x group
   pub whole : complete group ≡ true
   pub carries : data_of group ≡ x.message.payload
   pub given : message window kind es (last_line group) ≡ Some x.message
 
--- Each message arrives whole: the groups of a key bring that key's messages, one each and in their order; and no group is
--- broken at any line, and none stays open.
-pub record ArriveWhole (window : Window) (kind : ℕ → Option Kind) (ms : List PacketParts) (es : List Entry) : Type 0 where
-  pub brought : (key : Key) → AllZip (Brings window kind es) (sendings_of key ms) (cut (within window) (of_key key (frames kind es)))
+-- Each message arrives whole: the groups of a key bring that key's messages, one each and in their order; and no group
+-- is broken at any line, and none stays open.
+pub record ArriveWhole (window : Window) (kind : ℕ → Option Kind) (ms : List PacketParts) (es : List Entry)
+    : Type 0 where
+  pub brought : (key : Key)
+      → AllZip (Brings window kind es) (sendings_of key ms) (cut (within window) (of_key key (frames kind es)))
   pub none_broken : (line : ℕ) → broken window kind es line ≡ []
   pub none_open : open_within window (length es) (frames kind es) ≡ []
 
 -- After the entries `front` of a log, in the rest of it, `back`, the next frames of a sending's key are its pieces, by
 -- rising number: `group`, within the window. The key's frames that come later are `after`.
-pub record ComesNext (window : Window) (kind : ℕ → Option Kind) (front back : List Entry) (x : Sending) (group after : List Frame) : Type 0 where
-  pub next : of_key (key_of_sending x) (frames kind (front ++ back)) ≡ of_key (key_of_sending x) (frames kind front) ++ (group ++ after)
+pub record ComesNext (window : Window) (kind : ℕ → Option Kind) (front back : List Entry) (x : Sending)
+    (group after : List Frame) : Type 0 where
+  pub next : of_key (key_of_sending x) (frames kind (front ++ back))
+      ≡ of_key (key_of_sending x) (frames kind front) ++ (group ++ after)
   pub each : All (IsPieceOf x) group
   pub rising : map (λ (f : Frame). f.number) group ≡ range_with_len 0 (last_piece x.message + 1)
   pub in_time : All (λ (f : Frame). f.line < first group + window.lines) group
 
 -- What the front leaves open under that key, if anything, has frame 0.
 abbrev pub LeavesZero : Window → (ℕ → Option Kind) → List Entry → Sending → Type 0
-LeavesZero window kind front x = IfSome (open_of (within window) (key_of_sending x) (frames kind front)) (λ last. length front < first last + window.lines → has_number 0 last ≡ true)
+LeavesZero window kind front x =
+    IfSome (open_of (within window) (key_of_sending x) (frames kind front))
+    (λ last. length front < first last + window.lines → has_number 0 last ≡ true)
 
 -- The key heals: the message is given at the line of its last piece, and what was left open, if anything, is broken: at
 -- the line of its first, or before, where its own window ends before that.
-pub record Heals (window : Window) (kind : ℕ → Option Kind) (front back : List Entry) (x : Sending) (group : List Frame) : Type 0 where
+pub record Heals (window : Window) (kind : ℕ → Option Kind) (front back : List Entry) (x : Sending) (group : List Frame)
+    : Type 0 where
   pub given : message window kind (front ++ back) (last_line group) ≡ Some x.message
-  pub breaks : IfSome (open_of (within window) (key_of_sending x) (frames kind front)) (λ left. Contains (broken window kind (front ++ back) (min (first left + window.lines) (first group))) (broken_of (key_of_sending x) left))
+  pub breaks : IfSome (open_of (within window) (key_of_sending x) (frames kind front))
+      (λ left. Contains (broken window kind (front ++ back) (min (first left + window.lines) (first group)))
+      (broken_of (key_of_sending x) left))

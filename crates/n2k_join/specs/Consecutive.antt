@@ -9,7 +9,8 @@ use Rattle.n2k_join.specs.Groups.{within, complete, cut, total, last_number, las
 use Rattle.n2k_join.specs.Messages.{Keyed, message_of}
 use Rattle.n2k_join.specs.Window.{Window}
 
--- The frames come one behind the other among the key's frames of a log, and their numbers are 0 to the last, in that order.
+-- The frames come one behind the other among the key's frames of a log, and their numbers are 0 to the last, in that
+-- order.
 pub record AreConsecutive (key : Key) (fs group : List Frame) : Type 0 where
   pub before : List Frame
   pub after : List Frame
@@ -18,7 +19,9 @@ pub record AreConsecutive (key : Key) (fs group : List Frame) : Type 0 where
 
 -- The frames of each complete group of a key are consecutive.
 abbrev pub GroupsConsecutive : Window → (ℕ → Option Kind) → List Entry → Key → Type 0
-GroupsConsecutive window kind es key = All (λ (group : List Frame). complete group ≡ true → AreConsecutive key (frames kind es) group) (cut (within window) (of_key key (frames kind es)))
+GroupsConsecutive window kind es key =
+    All (λ (group : List Frame). complete group ≡ true → AreConsecutive key (frames kind es) group)
+    (cut (within window) (of_key key (frames kind es)))
 
 -- The message of a line has the data of such a group, and the stamp, the priority and the identifier of its last frame,
 -- which is that of the line.

@@ -1,7 +1,8 @@
 -- The frames of a log that belong to fast packets, as canboat and NMEA 2000 pack them: the first data byte of a frame
 -- is its header, the sequence in the upper three bits and the frame's number in the lower five. Frame 0 has the total
 -- of the message's bytes in the byte after the header.
-use Rattle.std.specs.Prelude.{ℕ, ◌+◌, ◌/◌, ◌%◌, ◌==◌, nat_le, slice_index_or, Bool, false, not, ◌&&◌, ◌||◌, if◌then◌else◌, List, [], ◌∷◌, drop, map, filter, find, Option, Some, None}
+use Rattle.std.specs.Prelude.{ℕ, ◌+◌, ◌/◌, ◌%◌, ◌==◌, nat_le, slice_index_or, Bool, false, not, ◌&&◌, ◌||◌}
+use Rattle.std.specs.Prelude.{if◌then◌else◌, List, [], ◌∷◌, drop, map, filter, find, Option, Some, None}
 use Rattle.std.specs.List.{range_with_len, cons_option}
 use Rattle.n2k_wire.specs.declared.identifier.Id.{Id}
 use Rattle.n2k_wire.specs.declared.entry.Entry.{Entry}
@@ -14,7 +15,8 @@ use Rattle.n2k_table.specs.declared.definition.Kind.TheVariants.{Single, Fast}
 abbrev pub most_frames : ℕ
 most_frames = 32
 
--- the sequences that three bits have, so the most messages of one sender, destination and PGN that are under way at once
+-- the sequences that three bits have, so the most messages of one sender, destination and PGN that are under way at
+-- once
 abbrev pub most_sequences : ℕ
 most_sequences = 8
 
@@ -55,7 +57,8 @@ abbrev pub has_total : List ℕ → Bool
 has_total [] = false
 has_total (total ∷ rest) = nat_le total longest_message
 
--- Data can be those of a frame of a fast packet: there is a header, and where its number is 0, a total that isn't too large.
+-- Data can be those of a frame of a fast packet: there is a header, and where its number is 0, a total that isn't too
+-- large.
 abbrev pub is_fast_payload : List ℕ → Bool
 is_fast_payload [] = false
 is_fast_payload (header ∷ rest) = not (header % most_frames == 0) || has_total rest

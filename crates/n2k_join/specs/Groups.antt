@@ -1,8 +1,10 @@
 -- How the frames of one key fall into groups, and what a group's message holds. A group ends where it is complete, or
--- where the frame after it can't join it. Whether a frame can't is a test (`EndTest`), which every word that cuts takes as an
--- argument. By a window it can't where its number is in the group, where the group's window has ended, and, in order, where
--- its number isn't greater than each number in the group.
-use Rattle.std.specs.Prelude.{◌≡◌, ◌<◌, ℕ, ◌+◌, length, ◌/◌, ◌==◌, nat_le, nat_lt, slice_index_or, Bool, true, false, not, ◌&&◌, ◌||◌, if◌then◌else◌, List, [], ◌∷◌, ◌++◌, take, drop, flat_map, Option, Some, None, unwrap_or, option_and_then, is_some}
+-- where the frame after it can't join it. Whether a frame can't is a test (`EndTest`), which every word that cuts takes
+-- as an argument. By a window it can't where its number is in the group, where the group's window has ended, and, in
+-- order, where its number isn't greater than each number in the group.
+use Rattle.std.specs.Prelude.{◌≡◌, ◌<◌, ℕ, ◌+◌, length, ◌/◌, ◌==◌, nat_le, nat_lt, slice_index_or, Bool, true, false}
+use Rattle.std.specs.Prelude.{not, ◌&&◌, ◌||◌, if◌then◌else◌, List, [], ◌∷◌, ◌++◌, take, drop, flat_map, Option, Some}
+use Rattle.std.specs.Prelude.{None, unwrap_or, option_and_then, is_some}
 use Rattle.std.specs.List.{range_with_len, list_all, last_or}
 use Rattle.n2k_join.specs.Frames.{Key, Frame, frame_bytes, of_key}
 use Rattle.n2k_join.specs.Window.{Window}
@@ -43,7 +45,8 @@ is_within last group = list_all (λ (f : Frame). nat_le f.number last) group
 -- A group is complete: no number comes twice, 0 is among them, and they are exactly those that the total needs.
 unfoldable pub complete : List Frame → Bool
 complete group =
-    not (has_twice group) && (has_number 0 group && (has_all (last_number (total group)) group && is_within (last_number (total group)) group))
+    not (has_twice group) && (has_number 0 group
+    && (has_all (last_number (total group)) group && is_within (last_number (total group)) group))
 
 -- a test whether a group that isn't complete ends before a frame
 abbrev pub EndTest : Type 0
@@ -96,14 +99,16 @@ closes ends group f = complete group || ends group f
 -- the groups of frames of one key, the first of them beginning with these
 abbrev pub cut_from : EndTest → List Frame → List Frame → List (List Frame)
 cut_from ends group [] = group ∷ []
-cut_from ends group (f ∷ fs) = if closes ends group f then group ∷ cut_from ends (f ∷ []) fs else cut_from ends (group ++ f ∷ []) fs
+cut_from ends group (f ∷ fs) =
+    if closes ends group f then group ∷ cut_from ends (f ∷ []) fs else cut_from ends (group ++ f ∷ []) fs
 
 -- the groups of frames of one key, in order
 unfoldable pub cut : EndTest → List Frame → List (List Frame)
 cut ends [] = []
 cut ends (f ∷ fs) = cut_from ends (f ∷ []) fs
 
--- A front of frames is a group that has ended: it is complete, or no frame follows, or it ends before the one that does.
+-- A front of frames is a group that has ended: it is complete, or no frame follows, or it ends before the one that
+-- does.
 abbrev pub HasEnded : EndTest → List Frame → List Frame → Type 0
 HasEnded ends group [] = Unit {0}
 HasEnded ends group (f ∷ rest) = closes ends group f ≡ true
@@ -113,7 +118,8 @@ pub record IsFirstGroup (ends : EndTest) (fs group rest : List Frame) : Type 0 w
   pub joined : fs ≡ group ++ rest
   pub nonempty : 0 < length group
   pub ended : HasEnded ends group rest
-  pub shortest : (f g : Frame) (front back : List Frame) → group ≡ (f ∷ front) ++ (g ∷ back) → closes ends (f ∷ front) g ≡ false
+  pub shortest : (f g : Frame) (front back : List Frame) → group ≡ (f ∷ front) ++ (g ∷ back)
+      → closes ends (f ∷ front) g ≡ false
 
 -- a group that isn't complete
 abbrev pub incomplete : List Frame → Option (List Frame)
@@ -127,6 +133,8 @@ open_of ends key fs = option_and_then incomplete (last_or None (cut ends (of_key
 abbrev pub bytes_at : List Frame → ℕ → List ℕ
 bytes_at group number = unwrap_or (carried group number) []
 
--- The data of a complete group: what its frames carry, by rising number, without the total, and no more bytes than it says.
+-- The data of a complete group: what its frames carry, by rising number, without the total, and no more bytes than it
+-- says.
 unfoldable pub data_of : List Frame → List ℕ
-data_of group = take (total group) (drop 1 (flat_map (bytes_at group) (range_with_len 0 (last_number (total group) + 1))))
+data_of group =
+    take (total group) (drop 1 (flat_map (bytes_at group) (range_with_len 0 (last_number (total group) + 1))))

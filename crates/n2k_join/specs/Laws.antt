@@ -1,5 +1,6 @@
 -- What holds of the groups of frames, of the step, and of bad lines, for all lists of them.
-use Rattle.std.specs.Prelude.{◌≡◌, ◌<◌, ◌≤◌, ◌⊎◌, ℕ, ◌+◌, false, true, List, [], ◌∷◌, ◌++◌, length, flat_map, slice_get, All, Option, Some, option_map}
+use Rattle.std.specs.Prelude.{◌≡◌, ◌<◌, ◌≤◌, ◌⊎◌, ℕ, ◌+◌, false, true, List, [], ◌∷◌, ◌++◌, length, flat_map, slice_get}
+use Rattle.std.specs.Prelude.{All, Option, Some, option_map}
 use Rattle.n2k_wire.specs.declared.entry.Entry.{Entry}
 use Rattle.n2k_wire.specs.declared.entry.Entry.TheVariants as entries
 use Rattle.n2k_table.specs.declared.definition.Kind.{Kind}
@@ -23,8 +24,8 @@ pub record HasFirstGroup (ends : EndTest) (fs : List Frame) : Type 0 where
   pub rest : List Frame
   pub is : IsFirstGroup ends fs group rest
 
--- No frames have no groups; the first group of others is the shortest front that has ended, and the rest is cut likewise.
--- So this says what the groups are.
+-- No frames have no groups; the first group of others is the shortest front that has ended, and the rest is cut
+-- likewise. So this says what the groups are.
 pub record CutFirst (ends : EndTest) (fs : List Frame) : Type 0 where
   pub none : cut ends [] ≡ []
   pub begins : 0 < length fs → HasFirstGroup ends fs
@@ -34,20 +35,26 @@ pub record CutFirst (ends : EndTest) (fs : List Frame) : Type 0 where
 abbrev pub IsSettled : List (List Frame) → ℕ → List Frame → Type 0
 IsSettled groups place group = (complete group ≡ true) ⊎ (place + 1 < length groups)
 
--- Frames that follow leave each settled group in its place, and each group begins where it began, so that what was broken
--- is broken at the same line. The number of groups never falls.
+-- Frames that follow leave each settled group in its place, and each group begins where it began, so that what was
+-- broken is broken at the same line. The number of groups never falls.
 pub record CutGrows (ends : EndTest) (fs back : List Frame) : Type 0 where
-  pub stays : (place : ℕ) (group : List Frame) → slice_get (cut ends fs) place ≡ Some group → IsSettled (cut ends fs) place group → slice_get (cut ends (fs ++ back)) place ≡ Some group
-  pub begins : (place : ℕ) (group : List Frame) → slice_get (cut ends fs) place ≡ Some group → option_map first (slice_get (cut ends (fs ++ back)) place) ≡ Some (first group)
+  pub stays : (place : ℕ) (group : List Frame) → slice_get (cut ends fs) place ≡ Some group
+      → IsSettled (cut ends fs) place group → slice_get (cut ends (fs ++ back)) place ≡ Some group
+  pub begins : (place : ℕ) (group : List Frame) → slice_get (cut ends fs) place ≡ Some group
+      → option_map first (slice_get (cut ends (fs ++ back)) place) ≡ Some (first group)
   pub no_fewer : length (cut ends fs) ≤ length (cut ends (fs ++ back))
 
--- What the lines of a front of a log gave is settled: whatever follows, they give the same messages and the same broken groups.
+-- What the lines of a front of a log gave is settled: whatever follows, they give the same messages and the same broken
+-- groups.
 pub record HasSettled (window : Window) (kind : ℕ → Option Kind) (front back : List Entry) : Type 0 where
-  pub messages : (line : ℕ) → 1 ≤ line → line ≤ length front → message window kind (front ++ back) line ≡ message window kind front line
-  pub broken_groups : (line : ℕ) → line ≤ length front → broken window kind (front ++ back) line ≡ broken window kind front line
+  pub messages : (line : ℕ) → 1 ≤ line → line ≤ length front
+      → message window kind (front ++ back) line ≡ message window kind front line
+  pub broken_groups : (line : ℕ) → line ≤ length front
+      → broken window kind (front ++ back) line ≡ broken window kind front line
 
 -- The step from the state of a log is the state of the log with the entry, and gives what that one's last line gives.
-pub record StepsAgree (id : List ℕ) (window : Window) (kind : ℕ → Option Kind) (es : List Entry) (e : Entry) : Type 0 where
+pub record StepsAgree (id : List ℕ) (window : Window) (kind : ℕ → Option Kind) (es : List Entry) (e : Entry)
+    : Type 0 where
   pub after : step_after kind (state id window kind es) e ≡ state id window kind (es ++ e ∷ [])
   pub given : step_given kind (state id window kind es) e ≡ record {
     message = message window kind (es ++ e ∷ []) (length es + 1);
@@ -57,18 +64,27 @@ pub record StepsAgree (id : List ℕ) (window : Window) (kind : ℕ → Option K
 
 -- With an entry more each earlier line gives what it gave.
 pub record LinesStay (window : Window) (kind : ℕ → Option Kind) (es : List Entry) (e : Entry) : Type 0 where
-  pub messages : (line : ℕ) → 1 ≤ line → line ≤ length es → message window kind (es ++ e ∷ []) line ≡ message window kind es line
-  pub broken_groups : (line : ℕ) → line ≤ length es → broken window kind (es ++ e ∷ []) line ≡ broken window kind es line
+  pub messages : (line : ℕ) → 1 ≤ line → line ≤ length es
+      → message window kind (es ++ e ∷ []) line ≡ message window kind es line
+  pub broken_groups : (line : ℕ) → line ≤ length es
+      → broken window kind (es ++ e ∷ []) line ≡ broken window kind es line
 
 -- Where an entry is bad: with a skipped line in its place only the count of bad lines changes.
-pub record BadAlone (window : Window) (kind : ℕ → Option Kind) (front : List Entry) (e : Entry) (back : List Entry) : Type 0 where
-  pub messages : (line : ℕ) → message window kind (front ++ e ∷ back) line ≡ message window kind (front ++ entries.Skip ∷ back) line
-  pub broken_groups : (line : ℕ) → broken window kind (front ++ e ∷ back) line ≡ broken window kind (front ++ entries.Skip ∷ back) line
-  pub open_still : open_within window (length (front ++ e ∷ back)) (frames kind (front ++ e ∷ back)) ≡ open_within window (length (front ++ entries.Skip ∷ back)) (frames kind (front ++ entries.Skip ∷ back))
-  pub counted : counts window kind (front ++ e ∷ back) ≡ record (counts window kind (front ++ entries.Skip ∷ back)) { bad = (counts window kind (front ++ entries.Skip ∷ back)).bad + 1 }
+pub record BadAlone (window : Window) (kind : ℕ → Option Kind) (front : List Entry) (e : Entry) (back : List Entry)
+    : Type 0 where
+  pub messages : (line : ℕ)
+      → message window kind (front ++ e ∷ back) line ≡ message window kind (front ++ entries.Skip ∷ back) line
+  pub broken_groups : (line : ℕ)
+      → broken window kind (front ++ e ∷ back) line ≡ broken window kind (front ++ entries.Skip ∷ back) line
+  pub open_still : open_within window (length (front ++ e ∷ back)) (frames kind (front ++ e ∷ back))
+      ≡ open_within window (length (front ++ entries.Skip ∷ back)) (frames kind (front ++ entries.Skip ∷ back))
+  pub counted : counts window kind (front ++ e ∷ back)
+      ≡ record (counts window kind (front ++ entries.Skip ∷ back)) {
+        bad = (counts window kind (front ++ entries.Skip ∷ back)).bad + 1;
+      }
 
--- A group that is due may be broken before its line is taken: the step from the state without it leads to the same state,
--- and gives the same but for that group, which is the first of those that the line breaks.
+-- A group that is due may be broken before its line is taken: the step from the state without it leads to the same
+-- state, and gives the same but for that group, which is the first of those that the line breaks.
 pub record ExpiresFirst (kind : ℕ → Option Kind) (s : State) (e : Entry) (group : Group) : Type 0 where
   pub after : step_after kind s e ≡ step_after kind (expired s) e
   pub given : step_given kind s e ≡ record {

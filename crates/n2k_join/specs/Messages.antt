@@ -1,5 +1,8 @@
--- What the lines of a log give: messages, bad lines and broken groups. `kind` says how a PGN is sent, as the table has it.
-use Rattle.std.specs.Prelude.{ℕ, zero, suc, ◌+◌, ◌==◌, min, Bool, false, not, ◌&&◌, if◌then◌else◌, List, [], ◌∷◌, find, filter_map, length, sum_by, count_by, slice_get, Option, Some, None, option_map, option_and_then, is_some}
+-- What the lines of a log give: messages, bad lines and broken groups. `kind` says how a PGN is sent, as the table has
+-- it.
+use Rattle.std.specs.Prelude.{ℕ, zero, suc, ◌+◌, ◌==◌, min, Bool, false, not, ◌&&◌, if◌then◌else◌, List, [], ◌∷◌, find}
+use Rattle.std.specs.Prelude.{filter_map, length, sum_by, count_by, slice_get, Option, Some, None, option_map}
+use Rattle.std.specs.Prelude.{option_and_then, is_some}
 use Rattle.std.specs.Option.{option_or}
 use Rattle.std.specs.List.{range_with_len}
 use Rattle.n2k_wire.specs.declared.entry.BadCause.{BadCause}
@@ -31,7 +34,9 @@ is_done_at line group = complete group && (last_line group == line)
 
 -- what the frame makes complete among the groups of its key
 abbrev pub gathered_by : EndTest → List Frame → Frame → Option Keyed
-gathered_by ends fs f = option_map (λ group. record { key = f.key; message = message_of f group }) (find (is_done_at f.line) (cut ends (of_key f.key fs)))
+gathered_by ends fs f =
+    option_map (λ group. record { key = f.key; message = message_of f group })
+    (find (is_done_at f.line) (cut ends (of_key f.key fs)))
 
 -- the message of the group that the frame at a line completes
 unfoldable pub gathered : EndTest → List Frame → ℕ → Option Keyed
@@ -62,12 +67,14 @@ alone kind _ = None
 -- the message that a line gives: of the group that it completes, or of its entry alone
 abbrev pub message_with : EndTest → (ℕ → Option Kind) → List Entry → ℕ → Option PacketParts
 message_with ends kind es line =
-    option_or (option_map (λ (m : Keyed). m.message) (gathered ends (frames kind es) line)) (option_and_then (alone kind) (entry_at es line))
+    option_or (option_map (λ (m : Keyed). m.message) (gathered ends (frames kind es) line))
+    (option_and_then (alone kind) (entry_at es line))
 
 abbrev pub message : Window → (ℕ → Option Kind) → List Entry → ℕ → Option PacketParts
 message window = message_with (within window)
 
--- why the line of a frame is bad, by its PGN's kind: under a fast PGN its data may not be those of a fast packet's frame
+-- why the line of a frame is bad, by its PGN's kind: under a fast PGN its data may not be those of a fast packet's
+-- frame
 abbrev pub fast_cause : Option Kind → PacketParts → Option BadCause
 fast_cause None packet = None
 fast_cause (Some Single) packet = None
@@ -85,7 +92,14 @@ broken_of key group = record { pgn = key.pgn; src = key.src; dst = key.dst; seq 
 
 -- what is reported of a broken group, by what a state keeps of it
 abbrev pub as_broken : Group → Broken
-as_broken group = record { pgn = group.key.pgn; src = group.key.src; dst = group.key.dst; seq = group.key.sequence; first = group.first }
+as_broken group =
+    record {
+      pgn = group.key.pgn;
+      src = group.key.src;
+      dst = group.key.dst;
+      seq = group.key.sequence;
+      first = group.first;
+    }
 
 -- The line at which a group that isn't complete is broken, where these groups come after it: that at which its window
 -- ends, or that of the frame after it, whichever is first.
@@ -97,10 +111,12 @@ broken_line window group (next ∷ groups) = min (first group + window.lines) (f
 abbrev pub broken_among : Window → ℕ → ℕ → List (List Frame) → Option (List Frame)
 broken_among window begun line [] = None
 broken_among window begun line (group ∷ groups) =
-    if not (complete group) && ((first group == begun) && (broken_line window group groups == line)) then Some group else broken_among window begun line groups
+    if not (complete group) && ((first group == begun) && (broken_line window group groups == line)) then Some group
+    else broken_among window begun line groups
 
 abbrev pub broken_by : Window → List Frame → ℕ → Frame → Option Broken
-broken_by window fs line f = option_map (broken_of f.key) (broken_among window f.line line (cut (within window) (of_key f.key fs)))
+broken_by window fs line f =
+    option_map (broken_of f.key) (broken_among window f.line line (cut (within window) (of_key f.key fs)))
 
 -- the group that the frame at line `begun` opened, where it is broken at line `line`
 abbrev pub broken_begun : Window → List Frame → ℕ → ℕ → Option Broken
@@ -123,7 +139,8 @@ is_unknown kind _ = false
 abbrev pub numbers : List Entry → List ℕ
 numbers es = range_with_len 1 (length es)
 
--- lines, skipped ones too; those that give a message; bad ones; those of an unknown PGN; groups broken, and groups open at the end
+-- lines, skipped ones too; those that give a message; bad ones; those of an unknown PGN; groups broken, and groups open
+-- at the end
 abbrev pub counts : Window → (ℕ → Option Kind) → List Entry → Counts
 counts window kind es = record {
   lines = length es;

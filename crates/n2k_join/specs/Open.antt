@@ -1,6 +1,7 @@
 -- What is open after a log's frames, and what is kept of it: of each open group its key, the line that opened it,
 -- and what its frames carry, by rising number. Neither their order nor their stamps matter any more.
-use Rattle.std.specs.Prelude.{ℕ, ◌+◌, ◌==◌, nat_lt, Bool, not, if◌then◌else◌, List, filter, filter_map, Option, Some, None, option_map, option_and_then}
+use Rattle.std.specs.Prelude.{ℕ, ◌+◌, ◌==◌, nat_lt, Bool, not, if◌then◌else◌, List, filter, filter_map, Option, Some}
+use Rattle.std.specs.Prelude.{None, option_map, option_and_then}
 use Rattle.std.specs.List.{range_with_len}
 use Rattle.n2k_join.specs.Frames.{Key, Frame, most_frames, frame_at}
 use Rattle.n2k_join.specs.Groups.{EndTest, within, carried, first, open_of}
@@ -35,9 +36,11 @@ where_begun line key group = if first group == line then Some (group_of key grou
 
 -- the group that the frame at a line opened, where it is still open
 unfoldable pub begun_at : EndTest → List Frame → ℕ → Option Group
-begun_at ends fs line = option_and_then (λ (f : Frame). option_and_then (where_begun line f.key) (open_of ends f.key fs)) (frame_at line fs)
+begun_at ends fs line =
+    option_and_then (λ (f : Frame). option_and_then (where_begun line f.key) (open_of ends f.key fs)) (frame_at line fs)
 
--- the groups of the keys that are last and not complete after the frames of `lines` lines, by the lines that opened them
+-- the groups of the keys that are last and not complete after the frames of `lines` lines, by the lines that opened
+-- them
 unfoldable pub open_groups : EndTest → ℕ → List Frame → List Group
 open_groups ends lines fs = filter_map (begun_at ends fs) (range_with_len 1 lines)
 

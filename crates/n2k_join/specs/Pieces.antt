@@ -1,5 +1,6 @@
 -- The frames in which messages are sent: a fast packet's pieces, and the sequences that number a stream's messages.
-use Rattle.std.specs.Prelude.{ℕ, ◌+◌, ◌*◌, ◌%◌, Bool, true, false, ◌&&◌, ◌==◌, if◌then◌else◌, List, [], ◌∷◌, ◌++◌, length, map, flat_map, count_by, slice_index_or, Option, Some, None}
+use Rattle.std.specs.Prelude.{ℕ, ◌+◌, ◌*◌, ◌%◌, Bool, true, false, ◌&&◌, ◌==◌, if◌then◌else◌, List, [], ◌∷◌, ◌++◌}
+use Rattle.std.specs.Prelude.{length, map, flat_map, count_by, slice_index_or, Option, Some, None}
 use Rattle.std.specs.List.{range_with_len}
 use Rattle.n2k_join.specs.Frames.{most_frames, frame_bytes, filler, most_sequences}
 use Rattle.n2k_join.specs.Groups.{last_number}
@@ -21,7 +22,8 @@ piece_bytes payload n = map (sent_byte payload) (range_with_len (frame_bytes * n
 -- Frame n of a message: its first byte holds the sequence in its upper three bits and the number in its lower five,
 -- and the stamp and the identifier are the message's.
 abbrev pub piece : PacketParts → ℕ → ℕ → PacketParts
-piece m sequence n = record { stamp = m.stamp; id = m.id; payload = (most_frames * sequence + n) ∷ piece_bytes m.payload n }
+piece m sequence n =
+    record { stamp = m.stamp; id = m.id; payload = (most_frames * sequence + n) ∷ piece_bytes m.payload n }
 
 -- the number of a message's last frame
 abbrev pub last_piece : PacketParts → ℕ
@@ -50,11 +52,13 @@ pub record Sending : Type 0 where
 
 -- the sequence of a message that comes after others: as many as there are of its stream, modulo the number of sequences
 abbrev pub sequence_after : List PacketParts → PacketParts → ℕ
-sequence_after earlier m = count_by (λ (e : PacketParts). same_stream (stream_of e.id) (stream_of m.id)) earlier % most_sequences
+sequence_after earlier m =
+    count_by (λ (e : PacketParts). same_stream (stream_of e.id) (stream_of m.id)) earlier % most_sequences
 
 abbrev pub sendings_after : List PacketParts → List PacketParts → List Sending
 sendings_after earlier [] = []
-sendings_after earlier (m ∷ ms) = record { sequence = sequence_after earlier m; message = m } ∷ sendings_after (earlier ++ m ∷ []) ms
+sendings_after earlier (m ∷ ms) =
+    record { sequence = sequence_after earlier m; message = m } ∷ sendings_after (earlier ++ m ∷ []) ms
 
 -- each message of a list with its sequence
 abbrev pub sendings : List PacketParts → List Sending
@@ -84,13 +88,15 @@ is_fast None = false
 
 -- after a message of the stream: the next sequence, where the PGN is sent as fast packets
 unfoldable pub raised : (ℕ → Option Kind) → Sequences → Stream → Sequences
-raised kind held stream other = if is_fast (kind stream.pgn) && same_stream stream other then (held other + 1) % most_sequences else held other
+raised kind held stream other =
+    if is_fast (kind stream.pgn) && same_stream stream other then (held other + 1) % most_sequences else held other
 
 -- what a splitter that holds these sequences makes of messages
 unfoldable pub split_from : (ℕ → Option Kind) → Sequences → List PacketParts → List PacketParts
 split_from kind held [] = []
-split_from kind held (m ∷ ms) = pieces_by kind m (held (stream_of m.id)) ++ split_from kind (raised kind held (stream_of m.id)) ms
+split_from kind held (m ∷ ms) =
+    pieces_by kind m (held (stream_of m.id)) ++ split_from kind (raised kind held (stream_of m.id)) ms
 
 -- what a new splitter makes of messages
-abbrev pub split : (ℕ → Option Kind) → List PacketParts → List PacketParts
-split kind ms = split_from kind first_sequences ms
+abbrev pub split_all : (ℕ → Option Kind) → List PacketParts → List PacketParts
+split_all kind ms = split_from kind first_sequences ms

@@ -20,7 +20,8 @@ gathered_messages window kind es = filter_map (gathered (within window) (frames 
 
 -- those that the groups of a key give
 abbrev pub given_to : Key → Window → (ℕ → Option Kind) → List Entry → List PacketParts
-given_to key window kind es = map (λ (m : Keyed). m.message) (filter (λ (m : Keyed). same_key key m.key) (gathered_messages window kind es))
+given_to key window kind es =
+    map (λ (m : Keyed). m.message) (filter (λ (m : Keyed). same_key key m.key) (gathered_messages window kind es))
 
 -- of a list of messages those whose frames have the key
 abbrev pub sent_to : Key → List PacketParts → List PacketParts

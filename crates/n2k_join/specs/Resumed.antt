@@ -1,6 +1,8 @@
--- What a text says as a saved state: which state it spells, or the first reason why it is refused. Any JSON text is taken
--- that `serde_json` reads as such an object: spaces, another order of members, digits of either case.
-use Rattle.std.specs.Prelude.{ℕ, ◌+◌, ◌==◌, nat_le, nat_lt, Bool, true, false, not, ◌&&◌, ◌||◌, slice_index_or, codes, List, [], ◌∷◌, ◌++◌, length, if◌then◌else◌, Option, Some, None, option_and_then, Result, Ok, Err}
+-- What a text says as a saved state: which state it spells, or the first reason why it is refused. Any JSON text is
+-- taken that `serde_json` reads as such an object: spaces, another order of members, digits of either case.
+use Rattle.std.specs.Prelude.{ℕ, ◌+◌, ◌==◌, nat_le, nat_lt, Bool, true, false, not, ◌&&◌, ◌||◌, slice_index_or, codes}
+use Rattle.std.specs.Prelude.{List, [], ◌∷◌, ◌++◌, length, if◌then◌else◌, Option, Some, None, option_and_then, Result}
+use Rattle.std.specs.Prelude.{Ok, Err}
 use Rattle.std.specs.List.{list_any}
 use Rattle.std.specs.Result.{result_ok}
 use Rattle.std.specs.Str.{bytes_eq, is_utf8}
@@ -14,7 +16,8 @@ use Rattle.n2k_table.specs.declared.definition.Kind.{Kind}
 use Rattle.n2k_table.specs.declared.definition.Kind.TheVariants.{Single, Fast}
 use Rattle.n2k_join.specs.declared.counts.Counts.{Counts}
 use Rattle.n2k_join.specs.declared.fault.StateFault.{StateFault}
-use Rattle.n2k_join.specs.declared.fault.StateFault.TheVariants.{NotJson, Format, Shape, TableDiffers, WindowDiffers, Invalid}
+use Rattle.n2k_join.specs.declared.fault.StateFault.TheVariants.{NotJson, Format, Shape, TableDiffers, WindowDiffers}
+use Rattle.n2k_join.specs.declared.fault.StateFault.TheVariants.{Invalid}
 use Rattle.n2k_join.specs.declared.saved.object.Object.{Object}
 use Rattle.n2k_join.specs.declared.saved.object.Object.TheVariants as objects
 use Rattle.n2k_join.specs.declared.saved.object.StateFormat.{StateFormat}
@@ -30,7 +33,9 @@ use Rattle.n2k_join.specs.Window.{Window}
 
 -- the members of a state without a window
 abbrev pub state_names : List (List ℕ)
-state_names = codes "bad" ∷ codes "broken" ∷ codes "format" ∷ codes "groups" ∷ codes "lines" ∷ codes "messages" ∷ codes "table" ∷ codes "unknown" ∷ []
+state_names =
+    codes "bad" ∷ codes "broken" ∷ codes "format" ∷ codes "groups" ∷ codes "lines" ∷ codes "messages" ∷ codes "table"
+    ∷ codes "unknown" ∷ []
 
 -- the members that an object has
 abbrev pub names : Object → List (List ℕ)
@@ -45,7 +50,8 @@ abbrev pub has_only : Object → Members → Bool
 has_only object no_members = true
 has_only object (member name d ms) = is_name object name && has_only object ms
 
--- The value is an object without any member but those of this one. That each of these is there, the readers of the members say.
+-- The value is an object without any member but those of this one. That each of these is there, the readers of the
+-- members say.
 abbrev pub members_at : Object → Data → Result (Unit {0}) StateFault
 members_at object d = do
   ms ← or_cause Shape (as_object d)
@@ -59,8 +65,8 @@ required name d = or_cause Shape (get name d)
 abbrev pub as_int : Data → Option ℕ
 as_int d = option_and_then as_u64 (as_number d)
 
-abbrev pub int_at : List ℕ → Data → Result ℕ StateFault
-int_at name d = do
+abbrev pub count_at : List ℕ → Data → Result ℕ StateFault
+count_at name d = do
   e ← required name d
   or_cause Shape (as_int e)
 
@@ -71,14 +77,14 @@ digits_of count d = do
   or_cause Shape (result_ok (decode_sized text count))
 
 -- the elements of an array, as a list
-abbrev pub elements : Items → List Data
-elements no_items = []
-elements (item d ds) = d ∷ elements ds
+abbrev pub values_in : Items → List Data
+values_in no_items = []
+values_in (item d ds) = d ∷ values_in ds
 
 abbrev pub elements_of : Data → Result (List Data) StateFault
 elements_of d = do
   ds ← or_cause Shape (as_array d)
-  Ok (elements ds)
+  Ok (values_in ds)
 
 -- each of a list read in turn
 abbrev pub each : {A : Type 0} → (Data → Result A StateFault) → List Data → Result (List A) StateFault
@@ -103,10 +109,10 @@ read_piece d = do
 
 unfoldable pub read_key : Data → Result Key StateFault
 read_key d = do
-  dst ← int_at (codes "dst") d
-  pgn ← int_at (codes "pgn") d
-  sequence ← int_at (codes "seq") d
-  src ← int_at (codes "src") d
+  dst ← count_at (codes "dst") d
+  pgn ← count_at (codes "pgn") d
+  sequence ← count_at (codes "seq") d
+  src ← count_at (codes "src") d
   Ok (record { src = src; dst = dst; pgn = pgn; sequence = sequence })
 
 unfoldable pub read_pieces : Data → Result (List Piece) StateFault
@@ -119,7 +125,7 @@ unfoldable pub read_group : Data → Result Group StateFault
 read_group d = do
   known ← members_at objects.Group d
   key ← read_key d
-  first ← int_at (codes "first") d
+  first ← count_at (codes "first") d
   pieces ← read_pieces d
   Ok (record { first = first; key = key; pieces = pieces })
 
@@ -132,11 +138,11 @@ read_groups d = do
 -- The counts that are written. That of the open groups is not: it is their number.
 unfoldable pub read_counts : Data → Result Counts StateFault
 read_counts d = do
-  bad ← int_at (codes "bad") d
-  broken ← int_at (codes "broken") d
-  lines ← int_at (codes "lines") d
-  messages ← int_at (codes "messages") d
-  unknown ← int_at (codes "unknown") d
+  bad ← count_at (codes "bad") d
+  broken ← count_at (codes "broken") d
+  lines ← count_at (codes "lines") d
+  messages ← count_at (codes "messages") d
+  unknown ← count_at (codes "unknown") d
   Ok (record { lines = lines; messages = messages; bad = bad; unknown = unknown; broken = broken; held = 0 })
 
 unfoldable pub read_id : Data → Result (List ℕ) StateFault
@@ -146,11 +152,12 @@ read_id d = do
 
 -- a state whose count of open groups is their number
 abbrev pub state_of_parts : List ℕ → Window → Counts → List Group → State
-state_of_parts id window counts groups = record { id = id; window = window; counts = record counts { held = length groups }; groups = groups }
+state_of_parts id window counts groups =
+    record { id = id; window = window; counts = record counts { held = length groups }; groups = groups }
 
 -- The window of a state, by its format: it is that which is handed in, where the state doesn't tell one.
 abbrev pub read_window : StateFormat → ℕ → Data → Result ℕ StateFault
-read_window WithWindow lines d = int_at (codes "window") d
+read_window WithWindow lines d = count_at (codes "window") d
 read_window WithoutWindow lines d = Ok lines
 
 -- The state that a value of a format spells, whatever its numbers. Whether the window is in order is as handed in.
@@ -168,16 +175,19 @@ is_int n None = false
 is_int n (Some m) = m == n
 
 abbrev pub format_numbered : Option ℕ → Result StateFormat StateFault
-format_numbered n = if is_int old_format n then Ok WithoutWindow else if is_int saved_format n then Ok WithWindow else Err Format
+format_numbered n =
+    if is_int old_format n then Ok WithoutWindow else if is_int saved_format n then Ok WithWindow else Err Format
 
 -- the format that a value has
 abbrev pub format_in : Data → Result StateFormat StateFault
 format_in d = format_numbered (option_and_then as_int (get (codes "format") d))
 
 -- The rules of a valid state.
--- Each line counts once at most as a message, as bad or as unknown, and opens one group at most, which is broken or open.
+-- Each line counts once at most as a message, as bad or as unknown, and opens one group at most, which is broken or
+-- open.
 unfoldable pub counts_hold : Counts → Bool
-counts_hold c = nat_le c.lines most_lines && (nat_le (c.broken + c.held) c.lines && nat_le (c.messages + c.bad + c.unknown) c.lines)
+counts_hold c =
+    nat_le c.lines most_lines && (nat_le (c.broken + c.held) c.lines && nat_le (c.messages + c.bad + c.unknown) c.lines)
 
 -- each group was opened at a line, and no two at the same
 unfoldable pub firsts_rise : ℕ → ℕ → List Group → Bool
@@ -192,7 +202,9 @@ is_fast_pgn (Some Fast) = true
 
 -- a key is one that frames of the table's fast PGNs can have
 unfoldable pub key_holds : (ℕ → Option Kind) → Key → Bool
-key_holds kind k = nat_le k.pgn greatest_pgn && (is_fast_pgn (kind k.pgn) && (nat_le k.src greatest_address && (nat_le k.dst greatest_address && nat_lt k.sequence most_sequences)))
+key_holds kind k =
+    nat_le k.pgn greatest_pgn && (is_fast_pgn (kind k.pgn)
+    && (nat_le k.src greatest_address && (nat_le k.dst greatest_address && nat_lt k.sequence most_sequences)))
 
 -- a frame 0 has a total that isn't too large
 abbrev pub total_holds : ℕ → List ℕ → Bool
@@ -211,12 +223,14 @@ is_some_list [] = false
 is_some_list (x ∷ xs) = true
 
 unfoldable pub group_holds : (ℕ → Option Kind) → Group → Bool
-group_holds kind g = key_holds kind g.key && (is_some_list g.pieces && (pieces_rise 0 g.pieces && not (complete (held_of g))))
+group_holds kind g =
+    key_holds kind g.key && (is_some_list g.pieces && (pieces_rise 0 g.pieces && not (complete (held_of g))))
 
 -- each group holds, and no two have one key
 unfoldable pub groups_hold : (ℕ → Option Kind) → List Group → Bool
 groups_hold kind [] = true
-groups_hold kind (g ∷ gs) = group_holds kind g && (not (list_any (λ (other : Group). same_key g.key other.key) gs) && groups_hold kind gs)
+groups_hold kind (g ∷ gs) =
+    group_holds kind g && (not (list_any (λ (other : Group). same_key g.key other.key) gs) && groups_hold kind gs)
 
 unfoldable pub is_valid : (ℕ → Option Kind) → State → Bool
 is_valid kind s = counts_hold s.counts && (firsts_rise 1 s.counts.lines s.groups && groups_hold kind s.groups)
@@ -235,8 +249,8 @@ valid_if false x = Err Invalid
 abbrev pub parsed : List ℕ → Option Data
 parsed bytes = if is_utf8 bytes then read bytes else None
 
--- The state that the bytes spell under a table and a window, or the first fault that is found in them. A window that the
--- bytes have is never taken on in the place of the one that is handed in.
+-- The state that the bytes spell under a table and a window, or the first fault that is found in them. A window that
+-- the bytes have is never taken on in the place of the one that is handed in.
 unfoldable pub resumed : (ℕ → Option Kind) → List ℕ → Window → List ℕ → Result State StateFault
 resumed kind id window bytes = do
   d ← or_cause NotJson (parsed bytes)

@@ -1,8 +1,9 @@
--- The text of a saved state: one JSON object, as `serde_json` writes it. It is compact, and the members of each object are
--- in the order of their names. It has the lines of the window, but not whether that is in order.
+-- The text of a saved state: one JSON object, as `serde_json` writes it. It is compact, and the members of each object
+-- are in the order of their names. It has the lines of the window, but not whether that is in order.
 use Rattle.std.specs.Prelude.{◌≡◌, ℕ, Bool, if◌then◌else◌, List, length, map, codes}
 use Rattle.std.specs.List.{list_all}
-use Rattle.serde_json.specs.Data.{Data, Members, number, unsigned, string, array, object, no_items, item, no_members, member}
+use Rattle.serde_json.specs.Data.{Data, Members, number, unsigned, string, array, object, no_items, item, no_members}
+use Rattle.serde_json.specs.Data.{member}
 use Rattle.serde_json.specs.View.{items_of}
 use Rattle.serde_json.specs.Written.{compact_text}
 use Rattle.hex.specs.Hex.{encode_lower, IsBytes}
@@ -61,7 +62,8 @@ tree_by with_window s = object (
     member (codes "table") (string (encode_lower s.id)) (
     member (codes "unknown") (whole s.counts.unknown) (window_member with_window s.window.lines)))))))))
 
--- The state as it is saved. With a group whose window has ended it would not be read if it had its window; so it is saved without.
+-- The state as it is saved. With a group whose window has ended it would not be read if it had its window; so it is
+-- saved without.
 abbrev pub state_tree : State → Data
 state_tree s = tree_by (are_waiting s) s
 

@@ -1,6 +1,7 @@
 -- Logs in which the frames of messages are mixed: each message's frames in any order, and messages of different keys
 -- between one another.
-use Rattle.std.specs.Prelude.{◌≡◌, ℕ, ◌+◌, ◌≤◌, ◌<◌, false, true, List, map, length, filter, flat_map, Option, Some, None}
+use Rattle.std.specs.Prelude.{◌≡◌, ℕ, ◌+◌, ◌≤◌, ◌<◌, false, true, List, map, length, filter, flat_map, Option, Some}
+use Rattle.std.specs.Prelude.{None}
 use Rattle.std.specs.List.{All, AllZip, range_with_len}
 use Rattle.n2k_wire.specs.declared.entry.Entry.{Entry}
 use Rattle.n2k_wire.specs.declared.entry.Entry.TheVariants as entries
@@ -16,7 +17,8 @@ use Rattle.n2k_join.specs.Window.{Window}
 
 -- the key of a sending's frames
 abbrev pub key_of_sending : Sending → Key
-key_of_sending x = record { src = x.message.id.src; dst = x.message.id.dst; pgn = x.message.id.pgn; sequence = x.sequence }
+key_of_sending x =
+    record { src = x.message.id.src; dst = x.message.id.dst; pgn = x.message.id.pgn; sequence = x.sequence }
 
 -- the frame is the sending's piece of its number, at whatever line
 pub record IsPieceOf (x : Sending) (f : Frame) : Type 0 where
@@ -55,7 +57,8 @@ sendings_of key ms = filter (λ (x : Sending). same_key key (key_of_sending x)) 
 
 -- The frames of the messages are scattered over the log: the messages are fast packets, and the frames of each key fall
 -- into the stretches of that key's messages, in their order, each within the window. Other entries may come between.
-pub record IsScattered (window : Window) (kind : ℕ → Option Kind) (ms : List PacketParts) (es : List Entry) : Type 0 where
+pub record IsScattered (window : Window) (kind : ℕ → Option Kind) (ms : List PacketParts) (es : List Entry)
+    : Type 0 where
   pub fast : All (λ (m : PacketParts). kind m.id.pgn ≡ Some Fast) ms
   pub falls : (key : Key) → FallInto window (sendings_of key ms) (of_key key (frames kind es))
 

@@ -1,6 +1,7 @@
 -- The state of a join after a log, and the step that one more entry makes. The step knows no log: it is read off the
 -- cuts of the frames that the state holds, followed by the entry's.
-use Rattle.std.specs.Prelude.{◌≡◌, ◌≤◌, ◌<◌, ℕ, ◌+◌, false, true, Bool, List, [], ◌∷◌, ◌++◌, map, reverse, length, flat_map, Option, option_map, option_to_list, is_some, slice_index_or, Some}
+use Rattle.std.specs.Prelude.{◌≡◌, ◌≤◌, ◌<◌, ℕ, ◌+◌, false, true, Bool, List, [], ◌∷◌, ◌++◌, map, reverse, length}
+use Rattle.std.specs.Prelude.{flat_map, Option, option_map, option_to_list, is_some, slice_index_or, Some}
 use Rattle.std.specs.Option.{option_or}
 use Rattle.std.specs.List.{AllByRecursion}
 use Rattle.n2k_wire.specs.declared.entry.BadCause.{BadCause}
@@ -28,7 +29,13 @@ pub record State : Type 0 where
 
 -- the state after a log, under a window and with the table of this id
 abbrev pub state : List ℕ → Window → (ℕ → Option Kind) → List Entry → State
-state id window kind es = record { id = id; window = window; counts = counts window kind es; groups = open_within window (length es) (frames kind es) }
+state id window kind es =
+    record {
+      id = id;
+      window = window;
+      counts = counts window kind es;
+      groups = open_within window (length es) (frames kind es);
+    }
 
 -- A piece as a frame. Its line is the group's first; a state holds no stamp, since a message takes that of the line
 -- that completes it.
@@ -42,7 +49,8 @@ held_frame group piece = record {
   id = record { prio = 0; pgn = group.key.pgn; src = group.key.src; dst = group.key.dst };
 }
 
--- The frames of an open group, by falling number: so frame 0, which has the total, comes last, and no front is complete.
+-- The frames of an open group, by falling number: so frame 0, which has the total, comes last, and no front is
+-- complete.
 abbrev pub held_of : Group → List Frame
 held_of group = map (held_frame group) (reverse group.pieces)
 
@@ -71,7 +79,10 @@ step_frames kind s e = held (waiting s.window (next_line s) s.groups) ++ option_
 -- what the next entry gives
 unfoldable pub step_given : (ℕ → Option Kind) → State → Entry → Given
 step_given kind s e = record {
-  message = option_or (option_map (λ (m : Keyed). m.message) (gathered (within s.window) (step_frames kind s e) (next_line s))) (alone kind e);
+  message =
+      option_or
+      (option_map (λ (m : Keyed). m.message) (gathered (within s.window) (step_frames kind s e) (next_line s)))
+      (alone kind e);
   cause = cause_in kind e;
   broken = map as_broken (overdue s) ++ broken_with s.window (step_frames kind s e) (next_line s);
 }
@@ -105,8 +116,8 @@ step_after kind s e = record {
   groups = step_groups kind s e;
 }
 
--- what counts can be after lines: each line gives at most one of a message, a cause and an unknown PGN, and opens at most
--- one group, which is broken or open afterwards
+-- what counts can be after lines: each line gives at most one of a message, a cause and an unknown PGN, and opens at
+-- most one group, which is broken or open afterwards
 pub record AreCounts (c : Counts) : Type 0 where
   pub lines : c.lines ≤ most_lines
   pub given : c.messages + c.bad + c.unknown ≤ c.lines
@@ -154,8 +165,8 @@ pub record AreOpen (lines : ℕ) (groups : List Group) : Type 0 where
   pub begun : AllByRecursion (λ (g : Group). g.first ≤ lines) groups
   pub apart : AreApart groups
 
--- A state that a join can have, whether or not a log leads to it. That its id is 32 bytes, the join's type says. That its
--- groups are of fast PGNs is not needed: the next line may be read with another table.
+-- A state that a join can have, whether or not a log leads to it. That its id is 32 bytes, the join's type says. That
+-- its groups are of fast PGNs is not needed: the next line may be read with another table.
 pub record IsState (s : State) : Type 0 where
   pub window : IsWindow s.window.lines
   pub counted : AreCounts s.counts

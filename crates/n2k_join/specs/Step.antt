@@ -1,5 +1,7 @@
 -- What a line answers, as the definitions see it.
-use Rattle.std.specs.Prelude.{◌≡◌, ◌≤◌, ◌<◌, ◌↔◌, ℕ, ◌+◌, ◌-◌, ◌==◌, Bool, true, false, not, if◌then◌else◌, List, drop, length, slice_get, Option, Some, None, option_map, option_to_list, Result, IfOk, OnOk, OnErr, IsErrOf}
+use Rattle.std.specs.Prelude.{◌≡◌, ◌≤◌, ◌<◌, ◌↔◌, ℕ, ◌+◌, ◌-◌, ◌==◌, Bool, true, false, not, if◌then◌else◌, List, drop}
+use Rattle.std.specs.Prelude.{length, slice_get, Option, Some, None, option_map, option_to_list, Result, IfOk, OnOk}
+use Rattle.std.specs.Prelude.{OnErr, IsErrOf}
 use Rattle.std.specs.List.{list_any}
 use Rattle.n2k_wire.specs.Packet.{PacketParts}
 use Rattle.n2k_wire.specs.declared.entry.Entry.{Entry}
@@ -28,7 +30,8 @@ opens_by groups (Some f) = not (list_any (λ (g : Group). same_key f.key g.key) 
 abbrev pub opens : (ℕ → Option Kind) → State → Entry → Bool
 opens kind s e = opens_by s.groups (frame_in kind (next_line s) e)
 
--- The oldest of the open groups whose window ends at the next line, if not before. After the most lines there is no next.
+-- The oldest of the open groups whose window ends at the next line, if not before. After the most lines there is no
+-- next.
 abbrev pub due : State → Option Group
 due s = if s.counts.lines == most_lines then None else slice_get (overdue s) 0
 
@@ -41,9 +44,11 @@ expired s = record {
   groups = drop 1 s.groups;
 }
 
--- What an answer says of a line that a join takes in the state `old`, and which state it leaves. Taken, the line is a step of
--- the definition. It is refused exactly at the most lines, or for want of memory where it opens a group; then nothing changes.
-pub record TakesLine {Answer : Type 0} (gives : Answer → Given) (kind : ℕ → Option Kind) (old new : State) (e : Entry) (result : Result Answer JoinFault) : Type 0 where
+-- What an answer says of a line that a join takes in the state `old`, and which state it leaves. Taken, the line is a
+-- step of the definition. It is refused exactly at the most lines, or for want of memory where it opens a group; then
+-- nothing changes.
+pub record TakesLine {Answer : Type 0} (gives : Answer → Given) (kind : ℕ → Option Kind) (old new : State) (e : Entry)
+    (result : Result Answer JoinFault) : Type 0 where
   pub given : IfOk result (λ answer. gives answer ≡ step_given kind old e)
   pub after : OnOk result (new ≡ step_after kind old e)
   pub waiting : OnOk result (AreWaiting new)

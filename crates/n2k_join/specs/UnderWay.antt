@@ -13,9 +13,11 @@ is_sent src pgn dst x = (x.message.id.src == src) && ((x.message.id.pgn == pgn) 
 abbrev pub sent_by : ℕ → ℕ → ℕ → List PacketParts → List Sending
 sent_by src pgn dst ms = filter (is_sent src pgn dst) (sendings ms)
 
--- Of these any eight that follow one another, and any fewer, have different keys, whatever other messages come between them.
+-- Of these any eight that follow one another, and any fewer, have different keys, whatever other messages come between
+-- them.
 pub record EightUnderWay (ms : List PacketParts) : Type 0 where
-  pub apart : (src pgn dst : ℕ) (front next back : List Sending) → sent_by src pgn dst ms ≡ front ++ (next ++ back) → length next ≤ most_sequences → AllPairs (λ (x y : Sending). key_of_sending x ≢ key_of_sending y) next
+  pub apart : (src pgn dst : ℕ) (front next back : List Sending) → sent_by src pgn dst ms ≡ front ++ (next ++ back)
+      → length next ≤ most_sequences → AllPairs (λ (x y : Sending). key_of_sending x ≢ key_of_sending y) next
 
 -- two messages are of one sender, PGN and receiver
 pub record AreOfOneStream (x y : Sending) : Type 0 where

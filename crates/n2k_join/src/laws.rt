@@ -6,7 +6,7 @@ ghost use Rattle.n2k_wire.specs.Packet.{PacketParts, IsPacketParts};
 ghost use Rattle.n2k_table.specs.declared.definition.Kind.{Kind};
 ghost use Rattle.n2k_table.specs.declared.definition.Kind.TheVariants.{Fast};
 ghost use Rattle.n2k_join.specs.Counts.{most_lines};
-ghost use Rattle.n2k_join.specs.Pieces.{Sending, split, written};
+ghost use Rattle.n2k_join.specs.Pieces.{Sending, split_all, written};
 ghost use Rattle.n2k_join.specs.Frames.{Key, Frame, frames};
 ghost use Rattle.n2k_join.specs.Groups.{EndTest, EndsRepeats, within};
 ghost use Rattle.n2k_join.specs.Scattered.{IsScattered, IsMute, WrittenLog, key_of_sending};
@@ -70,7 +70,7 @@ pub fn bad_alone()
 /// What a new splitter makes of messages, with one counter a stream, is what the whole list says: each message's
 /// frames under the number of earlier messages of its stream, modulo 8.
 pub fn splits_written()
-    ensures { (kind : ℕ → Option Kind) (ms : List PacketParts) → split kind ms ≡ written kind ms }
+    ensures { (kind : ℕ → Option Kind) (ms : List PacketParts) → split_all kind ms ≡ written kind ms }
 {}
 
 /// A stream's messages are kept apart by their numbers: of those of one sender, PGN and receiver, any eight that

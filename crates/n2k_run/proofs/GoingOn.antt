@@ -15,7 +15,7 @@ use Rattle.n2k_run.specs.declared.options.Options.{Options}
 use Rattle.n2k_run.specs.declared.part.Part.{Part}
 use Rattle.n2k_run.specs.declared.part.PartFault.{PartFault}
 use Rattle.n2k_run.specs.declared.part.PartFault.TheVariants.{State as Refused, Stopped, Run, Memory}
-use Rattle.n2k_run.specs.Decoded.{cause_at, message_line, numbers_after, out, out_of, output_after, report_at, reports, reports_of, text_at}
+use Rattle.n2k_run.specs.Decoded.{cause_at, message_line, numbers_after, out, out_of, output_after, report_at, reports, reports_of, text_of_line}
 use Rattle.n2k_run.specs.Entries.{entries}
 use Rattle.n2k_run.specs.Lines.{line_feed, whole_lines}
 use Rattle.n2k_run.specs.Headline.{save, state_after}
@@ -66,9 +66,9 @@ entry_stays front es zero within = refl
 entry_stays front es (suc k) within = get_stays front es k (omega (arith, within))
 
 module _ (t : TableParts) (o : Options) (laws : LogLaws o.window) where
-  pub out_of-append : (front es : List Entry) → out_of t o (front ++ es) ≡ out_of t o front ++ flat_map (text_at t o (front ++ es)) (numbers_after front es)
+  pub out_of-append : (front es : List Entry) → out_of t o (front ++ es) ≡ out_of t o front ++ flat_map (text_of_line t o (front ++ es)) (numbers_after front es)
   out_of-append front es =
-      parts_of (text_at t o (front ++ es)) (text_at t o front) front es
+      parts_of (text_of_line t o (front ++ es)) (text_of_line t o front) front es
       (λ i low high. ap (message_line t o.empty) (messages_stay t o laws t.id front es i low high))
 
   report_stays : (front es : List Entry) (i : ℕ) → i ≤ length front → report_at t o (front ++ es) i ≡ report_at t o front i
@@ -80,14 +80,14 @@ module _ (t : TableParts) (o : Options) (laws : LogLaws o.window) where
   reports_of-append front es = parts_of (report_at t o (front ++ es)) (report_at t o front) front es (λ i low high. report_stays front es i high)
 
   module _ (front : List ℕ) (whole : IsEmptyOrEndsWith front line_feed) where
-    both : (more : List ℕ) → entries o.packing (front ++ more) ≡ entries o.packing front ++ entries o.packing more
+    pub both : (more : List ℕ) → entries o.packing (front ++ more) ≡ entries o.packing front ++ entries o.packing more
     both more = entries-append o.packing front more whole
 
-    output-on : (more : List ℕ) → out t o (front ++ more) ≡ out t o front ++ (output_after t o (entries o.packing front)).texts (entries o.packing more)
+    pub output-on : (more : List ℕ) → out t o (front ++ more) ≡ out t o front ++ (output_after t o (entries o.packing front)).texts (entries o.packing more)
     unfolding out
     output-on more = ap (out_of t o) (both more) ∙ out_of-append (entries o.packing front) (entries o.packing more)
 
-    reports-on : (more : List ℕ) → reports t o (front ++ more) ≡ reports t o front ++ (output_after t o (entries o.packing front)).reports (entries o.packing more)
+    pub reports-on : (more : List ℕ) → reports t o (front ++ more) ≡ reports t o front ++ (output_after t o (entries o.packing front)).reports (entries o.packing more)
     unfolding reports
     reports-on more = ap (reports_of t o) (both more) ∙ reports_of-append (entries o.packing front) (entries o.packing more)
 

@@ -12,7 +12,7 @@ use Rattle.n2k_join.specs.Laws.{StepsAgree, LinesStay}
 use Rattle.n2k_join.specs.Messages.{message, broken, cause_in, entry_at}
 use Rattle.n2k_join.specs.State.{Given, State, state, step_after, step_given}
 use Rattle.n2k_run.specs.declared.options.Options.{Options}
-use Rattle.n2k_run.specs.Decoded.{cause_at, join_fold, message_line, numbers_after, output_after, report_at, text_at}
+use Rattle.n2k_run.specs.Decoded.{cause_at, join_fold, message_line, numbers_after, output_after, report_at, text_of_line}
 use Rattle.n2k_run.specs.Fold.{after_all, given_from, texts_from, reports_from}
 use Rattle.n2k_run.specs.Reports.{broken_text, cause_report, line_report}
 use Rattle.n2k_join.specs.Window.{Window, IsWindow}
@@ -128,8 +128,8 @@ module _ (t : TableParts) (o : Options) (laws : LogLaws o.window) (id : List ℕ
       ap (λ x. x ++ given_from given (join_fold t o.empty) (step_after (kind t) (state id o.window (kind t) front) e) es) (here front e es)
       ∙ ap (λ r. at (front ++ e ∷ es) (length front + 1) ++ r) rest
 
-  pub texts_after : (front es : List Entry) → texts_from (join_fold t o.empty) (state id o.window (kind t) front) es ≡ flat_map (text_at t o (front ++ es)) (numbers_after front es)
-  texts_after = given_after (join_fold t o.empty).text (text_at t o) (λ front e es. ap (message_line t o.empty) (message_next front e es))
+  pub texts_after : (front es : List Entry) → texts_from (join_fold t o.empty) (state id o.window (kind t) front) es ≡ flat_map (text_of_line t o (front ++ es)) (numbers_after front es)
+  texts_after = given_after (join_fold t o.empty).text (text_of_line t o) (λ front e es. ap (message_line t o.empty) (message_next front e es))
 
   report_next : (front : List Entry) (e : Entry) (es : List Entry) → (join_fold t o.empty).report (state id o.window (kind t) front) e ≡ report_at t o (front ++ e ∷ es) (length front + 1)
   report_next front e es =

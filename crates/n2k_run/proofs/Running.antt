@@ -12,7 +12,7 @@ use Rattle.n2k_run.specs.Entries.{entries}
 use Rattle.n2k_run.specs.Lines.{whole_lines}
 use Rattle.n2k_run.specs.Fold.{Fold, after_all, given_from, texts_from, reports_from}
 use Rattle.n2k_run.specs.Reading.{ReadsBytes}
-use Rattle.n2k_run.specs.Runs.{AreNumbered, Devices, Ends, Gained, HasDevice, HasFronts, IsCut, IsFull, NoneFailed, Output, ReportsFirst, Runs, output_from}
+use Rattle.n2k_run.specs.Runs.{AreNumbered, Devices, RunEnds, Gained, IsOfDevice, HasFronts, IsCut, IsAtLastNumber, NoneFailed, Output, ReportsFirst, Runs, output_from}
 use Rattle.n2k_run.specs.Writing.{AppendsFront}
 use Rattle.n2k_run.specs.Inner.Engine.{FailsPending, Made, MovesOn, ReadsNext, BetweenLines, Unmoved, TakesNext, WritesPending}
 use Rattle.n2k_run.proofs.Calls.{ended_within_one, none_read as no_calls, reads_on}
@@ -258,7 +258,7 @@ module _ {S : Type 0} (m : Fold S) (packing : Packing) (s₀ : S) (before : Devi
   }
 
   -- how a run ends by a fault, of which so much is out
-  ended : (stands : List Entry → Type 0) (es : List Entry) (after : Devices) (fault : RunFault) → Ends {T = Unit {0}} o stands before after (Err fault) → HasOut es after → Leads packing before.left es → HasDevice {T = Unit {0}} before after (Err fault)
+  ended : (stands : List Entry → Type 0) (es : List Entry) (after : Devices) (fault : RunFault) → RunEnds {T = Unit {0}} o stands before after (Err fault) → HasOut es after → Leads packing before.left es → IsOfDevice {T = Unit {0}} before after (Err fault)
       → ReadsBytes 1 before.left after.left before.calls after.calls → Runs {T = Unit {0}} o stands before after (Err fault)
   ended stands es after fault ends out lead device reads = record { ends = ends; fronts = fronts_of es after out lead; reports_first = first_of es after out lead; device = device; reads = reads }
 
@@ -357,7 +357,7 @@ module _ {S : Type 0} (m : Fold S) (packing : Packing) (s₀ : S) (before : Devi
   full_end : (s s' : S) (held held' : Held) (text text' report report' : List ℕ) (now after : Devices) (stands : BetweenLines m packing s₀ s held text report before now) → held.has_ended ≡ false
       → (next : TakesNext {T = Unit {0}} m packing s s' held held' now.left after.left text text' report report' (Err TooManyLines))
       → MadeOf s' (entries packing stands.front) [] [] after
-      → IsFull o (λ es. s' ≡ after_all m s₀ es) before after
+      → IsAtLastNumber o (λ es. s' ≡ after_all m s₀ es) before after
   full_end s s' held held' text text' report report' now after stands on next made =
       let more = takes_more packing held held' before.left now.left after.left stands.front next.0 stands.came (stands.whole on) next.1 in
       let lead = leads packing before.left after.left more.longer (unanswered held') held'.has_ended more.came more.whole more.end in
@@ -372,7 +372,7 @@ module _ {S : Type 0} (m : Fold S) (packing : Packing) (s₀ : S) (before : Devi
   fault_ends : (s s' : S) (held held' : Held) (text text' report report' : List ℕ) (now after : Devices) (fault : RunFault) (stands : BetweenLines m packing s₀ s held text report before now) → held.has_ended ≡ false
       → (next : TakesNext {T = Unit {0}} m packing s s' held held' now.left after.left text text' report report' (Err fault)) → (fault ≡ Memory → ⊥)
       → MadeOf s' (entries packing stands.front) [] [] after
-      → Ends {T = Unit {0}} o (λ es. s' ≡ after_all m s₀ es) before after (Err fault)
+      → RunEnds {T = Unit {0}} o (λ es. s' ≡ after_all m s₀ es) before after (Err fault)
   fault_ends s s' held held' text text' report report' now after Read stands on next not_memory made = cut_end s s' held held' text text' report report' now after stands on next made
   fault_ends s s' held held' text text' report report' now after TooManyLines stands on next not_memory made = full_end s s' held held' text text' report report' now after stands on next made
   fault_ends s s' held held' text text' report report' now after _ stands on next not_memory made = tt
@@ -380,7 +380,7 @@ module _ {S : Type 0} (m : Fold S) (packing : Packing) (s₀ : S) (before : Devi
   -- a read's fault is the source's, or that of the most reads
   fault_device : (now after : Devices) (s s' : S) (held held' : Held) (text text' report report' : List ℕ) (fault : RunFault) → NoneFailed before now → (after.failed_writes ≡ now.failed_writes) × (after.failed_reports ≡ now.failed_reports) → CallsAre before.calls after.calls 0 held'.reads
       → TakesNext {T = Unit {0}} m packing s s' held held' now.left after.left text text' report report' (Err fault) → ReadsNext {T = Unit {0}} held' now.failed_reads after.failed_reads (Err fault)
-      → HasDevice {T = Unit {0}} before after (Err fault)
+      → IsOfDevice {T = Unit {0}} before after (Err fault)
   fault_device now after s s' held held' text text' report report' Read none hold called next reads = record {
     reads = elim reads [ inl p ↦ inl (subst (λ n. HasFailed n after.failed_reads) none.reads p) | inr p ↦ inr (calls_end before.calls after.calls held'.reads called p.0, p.1 ∙ none.reads) ];
     writes = hold.0 ∙ none.writes;

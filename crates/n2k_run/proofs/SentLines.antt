@@ -18,7 +18,7 @@ use Rattle.n2k_join.specs.declared.counts.Counts.{Counts}
 use Rattle.n2k_join.specs.declared.fault.SplitFault.{SplitFault}
 use Rattle.n2k_join.specs.declared.fault.SplitFault.TheVariants as unsplit
 use Rattle.n2k_join.specs.Counts.{most_lines}
-use Rattle.n2k_join.specs.Pieces.{Sequences, first_sequences, frames_of_sending, pieces_by, raised, sendings, sendings_after, sequence_after, split, split_from, stream_of, written}
+use Rattle.n2k_join.specs.Pieces.{Sequences, first_sequences, frames_of_sending, pieces_by, raised, sendings, sendings_after, sequence_after, split_all, split_from, stream_of, written}
 use Rattle.n2k_join.specs.Splitter.{refusal}
 use Rattle.n2k_run.specs.declared.frames.Outcome.TheVariants.{Skipped, Written, Bad}
 use Rattle.n2k_run.specs.FramesOut.{frame_counts_of, frame_lines, frame_reports_from, frame_texts, frames_output, interface_cause, is_refused, is_written, line_cause, message_cause, sending_text, split_cause, split_messages}
@@ -111,7 +111,7 @@ module _ (kind : ℕ → Option Kind) (interface : Option (List ℕ)) where
       ap (λ xs. record { sequence = sequence_after earlier e; message = e } ∷ xs) (sendings-push (earlier ++ e ∷ []) ms m
       ∙ ap (λ front. sendings_after (earlier ++ e ∷ []) ms ++ sendings_after front (m ∷ [])) (append_assoc earlier (e ∷ []) ms))
 
-  module _ (law : (ms : List PacketParts) → split kind ms ≡ written kind ms) where
+  module _ (law : (ms : List PacketParts) → split_all kind ms ≡ written kind ms) where
     -- a message's frames are those under the number of earlier messages of its stream
     pieces_same : (ms : List PacketParts) (m : PacketParts) → pieces_by kind m (held_by first_sequences ms (stream_of m.id)) ≡ pieces_by kind m (sequence_after ms m)
     pieces_same ms m =
@@ -176,7 +176,7 @@ module _ (kind : ℕ → Option Kind) (interface : Option (List ℕ)) where
       counts_after (record { held = held; counts = none }) es ∙ counts_are _ _ _ _ _ _ (omega arith) (omega arith) (omega arith) none
 
 -- what a run makes from the start is what the whole log says
-pub output_is : (t : TableParts) (interface : Option (List ℕ)) (held : Sequences) → held ≡ first_sequences → ((ms : List PacketParts) → split (kind t) ms ≡ written (kind t) ms)
+pub output_is : (t : TableParts) (interface : Option (List ℕ)) (held : Sequences) → held ≡ first_sequences → ((ms : List PacketParts) → split_all (kind t) ms ≡ written (kind t) ms)
     → output_from (sending_fold (kind t) interface) Whole (record { held = held; counts = record { lines = 0; messages = 0; bad = 0; unknown = 0; broken = 0; held = 0 } }) ≡ frames_output t interface
 output_is t interface held is law =
     let none : Counts = record { lines = 0; messages = 0; bad = 0; unknown = 0; broken = 0; held = 0 } in

@@ -21,8 +21,8 @@ message_line t empty None = []
 message_line t empty (Some packet) = json t packet empty
 
 -- what is written of a line of the log
-abbrev pub text_at : TableParts → Options → List Entry → ℕ → List ℕ
-text_at t o es i = message_line t o.empty (message o.window (kind t) es i)
+abbrev pub text_of_line : TableParts → Options → List Entry → ℕ → List ℕ
+text_of_line t o es i = message_line t o.empty (message o.window (kind t) es i)
 
 -- why a line of the log is bad
 abbrev pub cause_at : TableParts → List Entry → ℕ → Option BadCause
@@ -34,7 +34,7 @@ report_at t o es i = line_report i (broken o.window (kind t) es i) (cause_at t e
 
 -- the JSON lines of the messages of a log, in the order of the lines that give them
 abbrev pub out_of : TableParts → Options → List Entry → List ℕ
-out_of t o es = flat_map (text_at t o es) (numbers es)
+out_of t o es = flat_map (text_of_line t o es) (numbers es)
 
 -- the reports of a log, in the order of its lines
 abbrev pub reports_of : TableParts → Options → List Entry → List ℕ
@@ -56,7 +56,7 @@ abbrev pub output_after : TableParts → Options → List Entry → Output
 output_after t o front = record {
   packing = o.packing;
   counted = length front;
-  texts = λ es. flat_map (text_at t o (front ++ es)) (numbers_after front es);
+  texts = λ es. flat_map (text_of_line t o (front ++ es)) (numbers_after front es);
   reports = λ es. flat_map (report_at t o (front ++ es)) (numbers_after front es);
 }
 

@@ -1,5 +1,6 @@
 -- What `frames` writes, reports and counts of a log: each whole message as the lines of the frames in which it is sent.
-use Rattle.std.specs.Prelude.{ℕ, Bool, false, if◌then◌else◌, List, [], length, count_by, Option, Some, None, Result, Ok, Err, IfSome, IsTrue}
+use Rattle.std.specs.Prelude.{ℕ, Bool, false, if◌then◌else◌, List, [], length, count_by, Option, Some, None, Result, Ok}
+use Rattle.std.specs.Prelude.{Err, IfSome, IsTrue}
 use Rattle.std.specs.Borrow.{Bor}
 use Rattle.std.specs.List.{flat_map, filter_map, enumerate_from}
 use Rattle.std.specs.Option.{is_none, is_some, option_map, option_or, unwrap_or}

@@ -1,5 +1,5 @@
--- The headline of this crate, as `run_parts` has it: a log that was cut after lines prints in parts what one run over it
--- prints, and leaves the state and the counts of one run.
+-- The headline of this crate, as `run_parts` has it: a log that was cut after lines prints in parts what one run over
+-- it prints, and leaves the state and the counts of one run.
 use Rattle.std.specs.Prelude.{◌≡◌, ℕ, List, [], ◌∷◌}
 use Rattle.std.specs.Io.{IsEmptyOrEndsWith}
 use Rattle.std.specs.Io.KnownBytes.{Appends}

@@ -1,5 +1,6 @@
 -- What every run promises, by the texts and the reports that it makes of the entries of its log.
-use Rattle.std.specs.Prelude.{◌≡◌, ◌⊎◌, ◌<◌, ◌≤◌, ◌+◌, ℕ, List, ◌∷◌, ◌++◌, length, Option, None, Result, Ok, Err, OnErr, IfSome}
+use Rattle.std.specs.Prelude.{◌≡◌, ◌⊎◌, ◌<◌, ◌≤◌, ◌+◌, ℕ, List, ◌∷◌, ◌++◌, length, Option, None, Result, Ok, Err, OnErr}
+use Rattle.std.specs.Prelude.{IfSome}
 use Rattle.std.specs.Io.KnownBytes.{Appends, Consumes, IsAtEnd}
 use Rattle.n2k_wire.specs.declared.entry.Entry.{Entry}
 use Rattle.n2k_wire.specs.declared.entry.Packing.{Packing}
@@ -101,7 +102,7 @@ pub record IsCut (o : Output) (also : List Entry → Type 0) (before after : Dev
 
 -- After TooManyLines the run is at the last number: it has taken as many lines as are counted, and the bytes, where
 -- they are known, have one more.
-pub record IsFull (o : Output) (also : List Entry → Type 0) (before after : Devices) : Type 0 where
+pub record IsAtLastNumber (o : Output) (also : List Entry → Type 0) (before after : Devices) : Type 0 where
   pub taken : List Entry
   pub full : o.counted + length taken ≡ most_lines
   pub left : IfSome before.left (λ log. (next : Entry) × (more : List Entry)
@@ -110,13 +111,13 @@ pub record IsFull (o : Output) (also : List Entry → Type 0) (before after : De
   pub holds : also taken
 
 -- how a run ends
-abbrev pub Ends : {T : Type 0} → Output → (List Entry → Type 0) → Devices → Devices → Result T RunFault → Type 0
-Ends o also before after (Ok x) = IsWhole o also before after
-Ends o also before after (Err Read) = IsCut o also before after
-Ends o also before after (Err TooManyLines) = IsFull o also before after
-Ends o also before after (Err Write) = Unit {0}
-Ends o also before after (Err Report) = Unit {0}
-Ends o also before after (Err Memory) = Unit {0}
+abbrev pub RunEnds : {T : Type 0} → Output → (List Entry → Type 0) → Devices → Devices → Result T RunFault → Type 0
+RunEnds o also before after (Ok x) = IsWhole o also before after
+RunEnds o also before after (Err Read) = IsCut o also before after
+RunEnds o also before after (Err TooManyLines) = IsAtLastNumber o also before after
+RunEnds o also before after (Err Write) = Unit {0}
+RunEnds o also before after (Err Report) = Unit {0}
+RunEnds o also before after (Err Memory) = Unit {0}
 
 -- the sinks gained a front of the texts and a front of the reports of the whole log
 pub record HasFronts (o : Output) (before after : Devices) (log : List ℕ) : Type 0 where
@@ -124,7 +125,8 @@ pub record HasFronts (o : Output) (before after : Devices) (log : List ℕ) : Ty
   pub reported : AppendsFront before.reported after.reported (o.reports (entries o.packing log))
 
 -- Reports go before texts: the reports of the lines up to some line are all written, and what is written of texts is a
--- front of those of the same lines. So no text is written where the report of its own line or of an earlier one is missing.
+-- front of those of the same lines. So no text is written where the report of its own line or of an earlier one is
+-- missing.
 pub record ReportsFirst (o : Output) (before after : Devices) (log : List ℕ) : Type 0 where
   pub taken : List Entry
   pub left : List Entry
@@ -159,18 +161,18 @@ pub record ReportFails (before after : Devices) : Type 0 where
 
 -- A fault of a device is that device's own, or for Read that no end was found by 10^12 reads, and no other device
 -- failed. No failure of a device is reported as another fault, or as none.
-abbrev pub HasDevice : {T : Type 0} → Devices → Devices → Result T RunFault → Type 0
-HasDevice before after (Err Read) = ReadFails before after
-HasDevice before after (Err Write) = WriteFails before after
-HasDevice before after (Err Report) = ReportFails before after
-HasDevice before after _ = NoneFailed before after
+abbrev pub IsOfDevice : {T : Type 0} → Devices → Devices → Result T RunFault → Type 0
+IsOfDevice before after (Err Read) = ReadFails before after
+IsOfDevice before after (Err Write) = WriteFails before after
+IsOfDevice before after (Err Report) = ReportFails before after
+IsOfDevice before after _ = NoneFailed before after
 
 -- what every run promises
 pub record Runs {T : Type 0} (o : Output) (also : List Entry → Type 0) (before after : Devices)
     (result : Result T RunFault) : Type 0 where
-  pub ends : Ends o also before after result
+  pub ends : RunEnds o also before after result
   pub fronts : OnErr result (IfSome before.left (λ log. HasFronts o before after log))
   pub reports_first : IfSome before.left (λ log. ReportsFirst o before after log)
-  pub device : HasDevice before after result
+  pub device : IsOfDevice before after result
   -- no more calls were made of the source than bytes came of it, and one
   pub reads : ReadsBytes 1 before.left after.left before.calls after.calls

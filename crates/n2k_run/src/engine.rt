@@ -89,40 +89,48 @@ impl Pending {
     }
 }
 
+/// What stays the same over a run.
+#[derive(Drop)]
+struct Engine<'a, H> {
+    alloc: Global,
+    handler: &'a H,
+    packing: Packing,
+}
+
 /// Takes a line that is too long. An entry is large, so that the few of these have a place of their own.
 fn take_long<H: EntryHandler>(
-    alloc: Global,
-    handler: &H,
+    engine: &Engine<'_, H>,
     state: &mut H::State,
     pending: &mut Pending,
 ) -> Result<(), RunFault>
-    requires { H.is_ready handler.now state.old }
-    ensures taken { TakesEntry (H.fold handler.now) (H.known state.old) (H.known state.new) (Bad Long) pending.old.text.items
-        pending.new.text.items pending.old.report.items pending.new.report.items result }
-    ensures ready { OnOk result (H.is_ready handler.now state.new) }
+    requires { H.is_ready engine.now.handler.now state.old }
+    ensures taken { TakesEntry (H.fold engine.now.handler.now) (H.known state.old) (H.known state.new) (Bad Long)
+        pending.old.text.items pending.new.text.items pending.old.report.items pending.new.report.items result }
+    ensures ready { OnOk result (H.is_ready engine.now.handler.now state.new) }
 {
     let entry = Entry::Bad(BadCause::Long);
-    handler.take(alloc, state, &entry, &mut pending.text, &mut pending.report)
+    let Pending { text, report } = pending;
+    engine
+        .handler
+        .take(engine.alloc, state, &entry, text, report)
 }
 
 /// Takes the next line of the log. Where the block holds no line's end it is read, and that may have to wait: so
 /// nothing may be pending then.
 fn take_next<H: EntryHandler, R: Source>(
-    alloc: Global,
-    handler: &H,
-    packing: Packing,
+    engine: &Engine<'_, H>,
     state: &mut H::State,
     blocks: &mut Blocks,
     reader: &mut R,
     lines: &mut LineReader,
     pending: &mut Pending,
 ) -> Result<(), RunFault>
-    requires ready { H.is_ready handler.now state.old }
+    requires ready { H.is_ready engine.now.handler.now state.old }
     requires written { HasFeed blocks.old.kept ⊎ ((pending.old.text.items ≡ []) × (pending.old.report.items ≡ [])) }
-    ensures taken { TakesNext (H.fold handler.now) packing (H.known state.old) (H.known state.new) blocks.old
-        blocks.new (R.remaining reader.old) (R.remaining reader.new)
+    ensures taken { TakesNext (H.fold engine.now.handler.now) engine.now.packing (H.known state.old) (H.known state.new)
+        blocks.old blocks.new (R.remaining reader.old) (R.remaining reader.new)
         pending.old.text.items pending.new.text.items pending.old.report.items pending.new.report.items result }
-    ensures ready { OnOk result (H.is_ready handler.now state.new) }
+    ensures ready { OnOk result (H.is_ready engine.now.handler.now state.new) }
     ensures device { ReadsNext blocks.new (R.failed_calls reader.old) (R.failed_calls reader.new) result }
     ensures reads { ReadsBytes (idle_calls blocks.new.has_ended result) (R.remaining reader.old)
         (R.remaining reader.new) (R.calls reader.old) (R.calls reader.new) }
@@ -130,10 +138,13 @@ fn take_next<H: EntryHandler, R: Source>(
 {
     match blocks.next_line(reader) {
         Ok(Next::Line(line)) => {
-            let entry = lines.read(line, packing);
-            handler.take(alloc, state, entry, &mut pending.text, &mut pending.report)
+            let entry = lines.read(line, engine.packing);
+            let Pending { text, report } = pending;
+            engine
+                .handler
+                .take(engine.alloc, state, entry, text, report)
         }
-        Ok(Next::Long) => take_long(alloc, handler, state, pending),
+        Ok(Next::Long) => take_long(engine, state, pending),
         Ok(Next::End) => Ok(()),
         Err(Failed) => Err(RunFault::Read),
     }
@@ -156,6 +167,11 @@ pub(crate) fn run_entries<H: EntryHandler, R: Source, W: Sink, E: Sink>(
         (λ es. H.known state.new ≡ after_all (H.fold handler.now) (H.known state.old) es) before after result }
     ensures ready { OnOk result (H.is_ready handler.now state.new) }
 {
+    let engine = Engine {
+        alloc,
+        handler,
+        packing,
+    };
     let mut blocks = Blocks::new();
     let mut pending = Pending::new(alloc);
     let mut lines = LineReader::new();
@@ -164,9 +180,7 @@ pub(crate) fn run_entries<H: EntryHandler, R: Source, W: Sink, E: Sink>(
             pending.write(writer, reporter)?;
         }
         match take_next(
-            alloc,
-            handler,
-            packing,
+            &engine,
             state,
             &mut blocks,
             reader,

@@ -1,5 +1,5 @@
 //! Runs of a log in parts, each from the state that was saved after the one before.
-ghost use Rattle.std.specs.Prelude.{◌≡◌, ℕ, List, [], map, ◌++◌, IfOk, IsErr, IsSome, None, Ok, option_map, true};
+ghost use Rattle.std.specs.Prelude.{◌≡◌, ℕ, List, [], map, ◌++◌, IfOk, IsSome, OnErr, None, Ok, option_map, true};
 ghost use Rattle.std.specs.List.{concat};
 ghost use Rattle.n2k_wire.specs.declared.entry.Entry.{Entry};
 ghost use Rattle.n2k_table.specs.Table.{kind};
@@ -62,6 +62,17 @@ impl From<AllocError> for PartFault {
     }
 }
 
+impl From<StateFault> for PartFault {
+    ghost use Rattle.std.specs.Prelude.{◌≡◌};
+    ghost use Rattle.n2k_run.specs.declared.part.PartFault.TheVariants.{State as OfState};
+
+    ghost from_gives = { λ refused fault. fault ≡ OfState refused };
+
+    fn from(fault: StateFault) -> Self {
+        PartFault::State(fault)
+    }
+}
+
 /// The join that a part begins with.
 fn begin(
     alloc: Global,
@@ -72,7 +83,7 @@ fn begin(
     ensures state { GivesOrMemory (λ join. join) result (begun table.now options.now
         (option_map (λ bytes. bytes.now) saved.entry)) }
     ensures window { IfOk result (λ join. join.window ≡ options.now.window) }
-    ensures handed { IsErr result → IsSome (option_map (λ bytes. bytes.now) saved.entry) }
+    ensures handed { OnErr result (IsSome (option_map (λ bytes. bytes.now) saved.entry)) }
 {
     laws::groups_stay_fast();
     match saved {
@@ -157,10 +168,7 @@ pub fn run_part<R: Source, W: Sink, E: Sink>(
     laws::groups_stay_fast();
     know_id(table);
     know_window(&options);
-    let mut join = match begin(alloc, table, &options, saved) {
-        Ok(join) => join,
-        Err(fault) => return Err(PartFault::State(fault)),
-    };
+    let mut join = begin(alloc, table, &options, saved)?;
     let ran = run(alloc, table, &mut join, options, reader, writer, reporter);
     finish(alloc, &join, ran)
 }
@@ -253,10 +261,7 @@ pub fn run_parts<W: Sink, E: Sink>(
     know_window(&options);
     let mut last = empty_part(alloc, table, &options)?;
     for part in parts {
-        match next_part(alloc, table, &last, &options, part, writer, reporter) {
-            Ok(next) => last = next,
-            Err(fault) => return Err(fault),
-        }
+        last = next_part(alloc, table, &last, &options, part, writer, reporter)?;
     }
     Ok(last)
 }

@@ -1,15 +1,10 @@
 pub mod Asking
 pub mod Decimals
-pub mod DefinitionFaults
 pub mod Digits
 pub mod Documents
 pub mod Each
 pub mod Escapes
-pub mod FieldFaults
 pub mod Keys
-pub mod Layouts
-pub mod Listed
-pub mod LookupFaults
 pub mod Members
 pub mod Heads
 pub mod Names
@@ -21,5 +16,4 @@ pub mod Numbers
 pub mod RawBits
 pub mod Rooms
 pub mod SetPlaces
-pub mod Tops
 pub mod Trims

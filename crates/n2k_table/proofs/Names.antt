@@ -8,15 +8,10 @@ use Rattle.std.proofs.lemmas.Bool.Decides.{nat_tests}
 use Rattle.std.proofs.lemmas.List.{drop_more, map-append}
 use Rattle.indexmap.specs.IndexMap.{IndexMap, insert_entry}
 use Rattle.indexmap.proofs.CallerLemmas.{insert_entry-new}
-use Rattle.toml.specs.Data.{Data}
-use Rattle.toml.specs.View.{items_view}
-use Rattle.toml.specs.declared.value.Value.{Value}
-use Rattle.n2k_table.specs.declared.fault.TableFault.TheVariants.{Key, Twice}
-use Rattle.n2k_table.specs.Tree.{elements, as_elements}
+use Rattle.n2k_table.specs.declared.fault.TableFault.TheVariants.{Twice}
 use Rattle.n2k_table.specs.Duplicate.{has_duplicate}
-use Rattle.n2k_table.specs.Inner.Entries.{entry_pair, once}
-use Rattle.n2k_table.specs.Lookup.{LookupParts, name_of_value, pair_in, pair_of}
-use Rattle.n2k_table.proofs.Each.{length-elements}
+use Rattle.n2k_table.specs.Inner.Entries.{entry_pair}
+use Rattle.n2k_table.specs.Lookup.{name_of_value, once}
 
 pub name_of_value-entry_pair : (value : ℕ) (es : List (ℕ × List ℕ)) → name_of_value (map entry_pair es) value ≡ value_at (nat_eq value) es
 name_of_value-entry_pair value [] = refl
@@ -25,17 +20,6 @@ name_of_value-entry_pair value (e ∷ es) =
       | inl same ↦ rw same refl
       | inr other ↦ rw other (name_of_value-entry_pair value es)
     ]
-
--- an array that is not of two is no entry
-pair_in_other : (ds : List Data) → (length ds ≡ 2 → ⊥) → pair_in ds ≡ Err Key
-pair_in_other [] other = refl
-pair_in_other (a ∷ []) other = refl
-pair_in_other (a ∷ b ∷ []) other = absurd (other (omega arith))
-pair_in_other (a ∷ b ∷ c ∷ ds) other = refl
-
-pub pair_of_other : (d : Data) (vs : List Value) → as_elements d ≡ Ok (elements (items_view vs)) → (length vs ≡ 2 → ⊥) → pair_of d ≡ Err Key
-pair_of_other d vs is other =
-    rw is (pair_in_other (elements (items_view vs)) (λ two. other (omega (arith, length-elements vs))))
 
 -- the values of entries
 abbrev pub values : List (ℕ × List ℕ) → List ℕ
@@ -130,12 +114,3 @@ module _ {S : Type 0} (m : IndexMap ℕ (List ℕ) S) (v : ℕ) (s : List ℕ) (
 pub is_none : {X : Type 0} (o : Option X) → is_some o ≡ false → o ≡ None
 is_none None none = refl
 is_none (Some x) none = absurd (false≢true (sym none))
-
--- the first of a name is there where the name is among the names
-pub among_names : (name : List ℕ) (ls : List LookupParts) → list_any (bytes_eq name) (map (λ (l : LookupParts). l.name) ls) ≡ is_some (find (λ (l : LookupParts). bytes_eq name l.name) ls)
-among_names name [] = refl
-among_names name (l ∷ ls) =
-    elim (cases_Bool (bytes_eq name l.name)) [
-      | inl same ↦ rw same refl
-      | inr other ↦ rw other (among_names name ls)
-    ]

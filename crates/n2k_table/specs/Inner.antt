@@ -4,8 +4,6 @@ pub mod Entries
 pub mod FieldValue
 pub mod Index
 pub mod Kept
-pub mod Kinds
 pub mod Line
 pub mod LineBuffer
 pub mod Number
-pub mod Reading

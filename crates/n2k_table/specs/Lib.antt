@@ -2,13 +2,13 @@ pub mod Bits
 pub mod Decimal
 pub mod Definition
 pub mod Duplicate
-pub mod Fault
 pub mod Field
 pub mod Fields
 pub mod Inner
 pub mod Json
 pub mod Lookup
 pub mod OneLine
+pub mod Reading
 pub mod Repeat
 pub mod Resolution
 pub mod Shown

@@ -1,25 +1,27 @@
--- The faults that stand in the bytes of a table, the table that they spell, and what is looked up in it.
-use Rattle.std.specs.Prelude.{ℕ, Bool, true, false, not, ◌&&◌, ◌||◌, ◌==◌, nat_le, codes, List, [], ◌∷◌, ◌++◌, length}
-use Rattle.std.specs.Prelude.{map, flat_map, Option, Some, None, option_map, unwrap_or, Result, Ok, Err, if◌then◌else◌}
-use Rattle.std.specs.List.{list_all, list_any, filter_map, find}
+-- The table that bytes spell, or the first fault that stands in them, and what is looked up in it.
+use Rattle.std.specs.Prelude.{ℕ, Bool, true, false, not, ◌&&◌, ◌==◌, codes, List, [], ◌∷◌, Option, Some, None, option_map}
+use Rattle.std.specs.Prelude.{Result, Ok, Err, if◌then◌else◌}
+use Rattle.std.specs.List.{list_all, find}
 use Rattle.std.specs.Str.{is_utf8}
 use Rattle.sha2.specs.Sha256.{sha256}
-use Rattle.toml.specs.Data.{Data, Members, no_members, get_member}
+use Rattle.toml.specs.Data.{Members, get_member}
 use Rattle.toml.specs.Parse.{parse_document}
 use Rattle.n2k_table.specs.declared.definition.Kind.{Kind}
 use Rattle.n2k_table.specs.declared.definition.Kind.TheVariants.{Single, Fast}
 use Rattle.n2k_table.specs.declared.fault.TableFault.{TableFault}
-use Rattle.n2k_table.specs.declared.fault.TableFault.TheVariants.{NotToml, Format, Key, Mixed, TooMany}
+use Rattle.n2k_table.specs.declared.fault.TableFault.TheVariants.{NotToml, Format, Mixed}
 use Rattle.n2k_table.specs.declared.tree.TableFormat.{TableFormat}
 use Rattle.n2k_table.specs.declared.tree.TableFormat.TheVariants.{One, Two}
 use Rattle.n2k_table.specs.declared.tree.Section.TheVariants.{Document}
-use Rattle.n2k_table.specs.Fault.{faults_in, value_or, unless}
-use Rattle.n2k_table.specs.Tree.{has_only_keys, int_at, elements_or_none}
+use Rattle.n2k_wire.specs.Steps.{◌>>=◌, or_cause, holds_or}
 use Rattle.n2k_table.specs.Bits.{raw}
-use Rattle.n2k_table.specs.Lookup.{LookupParts, lookup, lookups_faults, counted_lookup}
+use Rattle.n2k_table.specs.Duplicate.{has_duplicate}
+use Rattle.n2k_table.specs.Reading.{each}
+use Rattle.n2k_table.specs.Tree.{check_keys, int_at, elements_or_none}
+use Rattle.n2k_table.specs.Lookup.{LookupParts, lookups}
 use Rattle.n2k_table.specs.Field.{FieldParts}
 use Rattle.n2k_table.specs.Shown.{lies_inside}
-use Rattle.n2k_table.specs.Definition.{DefinitionParts, definition_faults, definition, counted_kind}
+use Rattle.n2k_table.specs.Definition.{DefinitionParts, definition}
 
 -- the most definitions of a table
 abbrev pub most_definitions : ℕ
@@ -54,69 +56,48 @@ is_same_kind Single Fast = false
 is_same_kind Fast Single = false
 
 -- two definitions of one PGN have different kinds
-abbrev pub are_mixed : ℕ × Kind → ℕ × Kind → Bool
-are_mixed a b = (a.0 == b.0) && not (is_same_kind a.1 b.1)
+abbrev pub are_mixed : DefinitionParts → DefinitionParts → Bool
+are_mixed a b = (a.pgn == b.pgn) && not (is_same_kind a.kind b.kind)
 
-abbrev pub has_mixed : List (ℕ × Kind) → Bool
-has_mixed [] = false
-has_mixed (d ∷ ds) = list_any (are_mixed d) ds || has_mixed ds
+-- the definitions of a top level of that format, in a table of these lookups; none where it has no key `pgn`
+unfoldable pub definitions : TableFormat → List LookupParts → Members → Result (List DefinitionParts) TableFault
+definitions format lookups top = do
+  ds ← elements_or_none most_definitions (get_member (codes "pgn") top)
+  all ← each (definition format lookups) ds
+  agree ← holds_or Mixed (not (has_duplicate are_mixed all))
+  Ok all
 
--- the faults of the definitions of a table of that format, by the names of the lookups that are there
-abbrev pub definitions_faults : TableFormat → List (List ℕ) → List Data → List TableFault
-definitions_faults format names ds =
-    unless (nat_le (length ds) most_definitions) TooMany
-    ++ flat_map (definition_faults format names) ds
-    ++ unless (not (has_mixed (filter_map counted_kind ds))) Mixed
+-- what a document spells. One that is of no format that is known is judged no further.
+unfoldable pub top_level : Members → Result (List DefinitionParts) TableFault
+top_level top = do
+  format ← format_of top
+  known ← check_keys Document top
+  names ← lookups top
+  definitions format names top
 
--- the lookups of the top level, none where it has no key `lookup`
-abbrev pub lookups_of : Members → Result (List Data) TableFault
-lookups_of top = elements_or_none (get_member (codes "lookup") top)
+-- the table that the bytes spell, or the first fault that stands in them
+unfoldable pub read_table : List ℕ → Result TableParts TableFault
+read_table bytes = do
+  top ← or_cause NotToml (document bytes)
+  all ← top_level top
+  Ok (record { id = sha256 bytes; definitions = all })
 
--- the names of lookups that are there, whatever else is wrong with a lookup
-abbrev pub lookup_names : Members → List (List ℕ)
-lookup_names top = filter_map counted_lookup (value_or [] (lookups_of top))
+-- the fault of what is read, if it has one, as a list
+abbrev pub fault_in : Result TableParts TableFault → List TableFault
+fault_in (Ok t) = []
+fault_in (Err fault) = fault ∷ []
 
--- the definitions of the top level, none where it has no key `pgn`
-abbrev pub definitions_of : Members → Result (List Data) TableFault
-definitions_of top = elements_or_none (get_member (codes "pgn") top)
+-- what is read, and a table of nothing where it has a fault
+abbrev pub table_in : Result TableParts TableFault → TableParts
+table_in (Ok t) = t
+table_in (Err fault) = record { id = []; definitions = [] }
 
--- the faults of a document of that format
-abbrev pub formatted_faults : Members → TableFormat → List TableFault
-formatted_faults top format =
-    unless (has_only_keys Document top) Key
-    ++ faults_in (lookups_of top) lookups_faults
-    ++ faults_in (definitions_of top) (definitions_faults format (lookup_names top))
-
--- The faults of a document. One that is of no format that is known is judged no further.
-abbrev pub top_faults : Members → List TableFault
-top_faults top = faults_in (format_of top) (formatted_faults top)
-
-abbrev pub document_faults : Option Members → List TableFault
-document_faults None = NotToml ∷ []
-document_faults (Some top) = top_faults top
-
--- the faults that stand in the bytes of a table
+-- The same apart: the fault that stands first in the bytes, and none where they spell a table; and that table.
 abbrev pub faults : List ℕ → List TableFault
-faults bytes = document_faults (document bytes)
+faults bytes = fault_in (read_table bytes)
 
--- the lookups that a document spells
-abbrev pub top_lookups : Members → List LookupParts
-top_lookups top = map lookup (value_or [] (lookups_of top))
-
--- the definitions that a document of that format spells in a table of these lookups
-abbrev pub definitions_in : TableFormat → List LookupParts → Members → List DefinitionParts
-definitions_in format lookups top = map (definition format lookups) (value_or [] (definitions_of top))
-
--- the definitions that a document spells, each lookup field with the entries of its lookup
-abbrev pub top_definitions : Members → List DefinitionParts
-top_definitions top = definitions_in (value_or One (format_of top)) (top_lookups top) top
-
--- The table that the bytes spell. Where a fault stands they are refused.
 abbrev pub table : List ℕ → TableParts
-table bytes = record {
-  id = sha256 bytes;
-  definitions = top_definitions (unwrap_or (document bytes) no_members);
-}
+table bytes = table_in (read_table bytes)
 
 -- the definition describes the PGN
 abbrev pub is_of : ℕ → DefinitionParts → Bool

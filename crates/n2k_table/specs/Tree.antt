@@ -1,54 +1,79 @@
 -- One value of a TOML table: of which kind it is, and whether it lies in its range.
-use Rattle.std.specs.Prelude.{ℕ, ℤ, pos, negsuc, Bool, true, false, ◌&&◌, nat_le, codes, List, [], ◌∷◌, length, Option}
-use Rattle.std.specs.Prelude.{Some, None, Result, Ok, Err, if◌then◌else◌}
+use Rattle.std.specs.Prelude.{ℕ, ℤ, pos, negsuc, Bool, true, false, ◌&&◌, ◌||◌, nat_le, codes, List, [], ◌∷◌, length}
+use Rattle.std.specs.Prelude.{Option, Some, None, Result, Ok, Err, if◌then◌else◌}
 use Rattle.std.specs.Option.{ok_or}
 use Rattle.std.specs.Str.{bytes_eq}
 use Rattle.std.specs.List.{list_any}
 use Rattle.toml.specs.Data.{Data, Items, no_items, item, Members, no_members, member, get_member, as_integer, as_str}
 use Rattle.toml.specs.Data.{as_bool, as_array, as_table}
 use Rattle.n2k_table.specs.declared.fault.TableFault.{TableFault}
-use Rattle.n2k_table.specs.declared.fault.TableFault.TheVariants.{Key, Range, Text}
+use Rattle.n2k_table.specs.declared.fault.TableFault.TheVariants.{Key, Range, Text, TooMany}
 use Rattle.n2k_table.specs.declared.tree.TableFormat.{TableFormat}
 use Rattle.n2k_table.specs.declared.tree.TableFormat.TheVariants.{One, Two}
+use Rattle.n2k_table.specs.declared.tree.FieldKind.{FieldKind}
+use Rattle.n2k_table.specs.declared.tree.FieldKind.TheVariants as kind
 use Rattle.n2k_table.specs.declared.tree.Holder.{Holder}
 use Rattle.n2k_table.specs.declared.tree.Holder.TheVariants.{Message, Set}
 use Rattle.n2k_table.specs.declared.tree.Section.{Section}
-use Rattle.n2k_table.specs.declared.tree.Section.TheVariants.{Document, Lookup, Definition, Repeat, NumberField}
-use Rattle.n2k_table.specs.declared.tree.Section.TheVariants.{LookupField, ByteField}
-use Rattle.n2k_wire.specs.Steps.{◌>>=◌}
+use Rattle.n2k_table.specs.declared.tree.Section.TheVariants.{Document, Lookup, Definition, Repeat, Field}
+use Rattle.n2k_wire.specs.Steps.{◌>>=◌, holds_or}
 
 -- the most bytes of a name or a description
 abbrev pub longest_text : ℕ
 longest_text = 255
 
--- the key by which a field of a message asks for a value; a field of a set can't
-abbrev pub match_keys : Holder → List (List ℕ)
-match_keys Message = codes "match" ∷ []
-match_keys Set = []
+-- the bits of the longest message
+abbrev pub message_bits : ℕ
+message_bits = 1784
 
--- the key by which a definition of format 2 may have sets
-abbrev pub repeat_keys : TableFormat → List (List ℕ)
-repeat_keys One = []
-repeat_keys Two = codes "repeat" ∷ []
+-- the bits within which a field ends, by what it is part of
+abbrev pub end_of : Holder → ℕ
+end_of Message = message_bits
+end_of (Set bits) = bits
 
--- the keys that a section of the document may have
-abbrev pub keys : Section → List (List ℕ)
-keys Document = codes "format" ∷ codes "lookup" ∷ codes "pgn" ∷ []
-keys Lookup = codes "name" ∷ codes "entries" ∷ []
-keys (Definition format) = codes "number" ∷ codes "kind" ∷ codes "description" ∷ codes "fields" ∷ repeat_keys format
-keys Repeat = codes "at" ∷ codes "bits" ∷ codes "fields" ∷ []
-keys (NumberField holder) =
-    codes "name" ∷ codes "kind" ∷ codes "at" ∷ codes "bits" ∷ codes "signed" ∷ codes "resolution" ∷ match_keys holder
-keys (LookupField holder) = codes "name" ∷ codes "kind" ∷ codes "at" ∷ codes "bits" ∷ codes "lookup" ∷ match_keys holder
-keys ByteField = codes "name" ∷ codes "kind" ∷ codes "at" ∷ codes "bits" ∷ []
+-- the key is one of these
+abbrev pub is_among : List ℕ → List (List ℕ) → Bool
+is_among key keys = list_any (λ k. bytes_eq key k) keys
 
+-- In format 2 a definition may have sets.
+abbrev pub has_sets : TableFormat → Bool
+has_sets One = false
+has_sets Two = true
+
+-- the keys that fields of a kind have beside those of every field
+abbrev pub own_keys : FieldKind → List (List ℕ)
+own_keys kind.Number = codes "signed" ∷ codes "resolution" ∷ []
+own_keys kind.Lookup = codes "lookup" ∷ []
+own_keys kind.Text = []
+own_keys kind.Bytes = []
+
+-- A number or a lookup's value of a message may be asked for. A field of a set can't ask.
+abbrev pub can_match : FieldKind → Holder → Bool
+can_match kind.Number Message = true
+can_match kind.Lookup Message = true
+can_match _ _ = false
+
+-- a section of the document may have the key
 abbrev pub is_key : Section → List ℕ → Bool
-is_key section key = list_any (λ k. bytes_eq key k) (keys section)
+is_key Document key = is_among key (codes "format" ∷ codes "lookup" ∷ codes "pgn" ∷ [])
+is_key Lookup key = is_among key (codes "name" ∷ codes "entries" ∷ [])
+is_key (Definition format) key =
+    is_among key (codes "number" ∷ codes "kind" ∷ codes "description" ∷ codes "fields" ∷ [])
+    || (has_sets format && bytes_eq key (codes "repeat"))
+is_key Repeat key = is_among key (codes "at" ∷ codes "bits" ∷ codes "fields" ∷ [])
+is_key (Field kind holder) key =
+    is_among key (codes "name" ∷ codes "kind" ∷ codes "at" ∷ codes "bits" ∷ [])
+    || is_among key (own_keys kind)
+    || (can_match kind holder && bytes_eq key (codes "match"))
 
 -- each key of the table is one that such a section may have
 abbrev pub has_only_keys : Section → Members → Bool
 has_only_keys section no_members = true
 has_only_keys section (member key d ms) = is_key section key && has_only_keys section ms
+
+-- A table that has another key is refused.
+abbrev pub check_keys : Section → Members → Result (Unit {0}) TableFault
+check_keys section ms = holds_or Key (has_only_keys section ms)
 
 -- the value at a key that has to be there
 abbrev pub get_required : List ℕ → Members → Result Data TableFault
@@ -102,12 +127,19 @@ as_elements d = do
   ds ← ok_or (as_array d) Key
   Ok (elements ds)
 
-abbrev pub elements_at : List ℕ → Members → Result (List Data) TableFault
-elements_at key ms = do
+-- no more elements than so many
+abbrev pub at_most : ℕ → List Data → Result (List Data) TableFault
+at_most most ds = if nat_le (length ds) most then Ok ds else Err TooMany
+
+abbrev pub elements_at : List ℕ → ℕ → Members → Result (List Data) TableFault
+elements_at key most ms = do
   d ← get_required key ms
-  as_elements d
+  ds ← as_elements d
+  at_most most ds
 
 -- no element where the key is missing
-abbrev pub elements_or_none : Option Data → Result (List Data) TableFault
-elements_or_none None = Ok []
-elements_or_none (Some d) = as_elements d
+abbrev pub elements_or_none : ℕ → Option Data → Result (List Data) TableFault
+elements_or_none most None = Ok []
+elements_or_none most (Some d) = do
+  ds ← as_elements d
+  at_most most ds

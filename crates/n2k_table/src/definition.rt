@@ -1,8 +1,8 @@
 //! A definition: what a table says of one message.
-ghost use Rattle.std.specs.Prelude.{◌≡◌, map, option_map};
+ghost use Rattle.std.specs.Prelude.{◌≡◌, option_map};
 ghost use Rattle.std.specs.List.{list_all, list_any};
-ghost use Rattle.n2k_table.specs.Table.{are_mixed, field_matches, has_mixed};
-ghost use Rattle.n2k_table.specs.Inner.Kinds.{pgn_kind};
+ghost use Rattle.n2k_table.specs.Duplicate.{has_duplicate};
+ghost use Rattle.n2k_table.specs.Table.{are_mixed, field_matches};
 
 use crate::field::Field;
 use crate::repeat::{Repeat, Sets};
@@ -114,7 +114,7 @@ impl StoredDefinition {
 
     /// Whether both describe one PGN, and name different kinds.
     fn is_mixed_with(&self, other: &StoredDefinition) -> bool
-        ensures { result ≡ are_mixed (pgn_kind self.now) (pgn_kind other.now) }
+        ensures { result ≡ are_mixed self.now other.now }
     {
         self.pgn == other.pgn && self.kind != other.kind
     }
@@ -221,7 +221,7 @@ impl<'a> Definition<'a> {
 
 /// Whether two definitions of one PGN have different kinds.
 pub(crate) fn has_mixed(definitions: &[StoredDefinition]) -> bool
-    ensures { result ≡ has_mixed (map pgn_kind definitions.now) }
+    ensures { result ≡ has_duplicate are_mixed definitions.now }
 {
     let mut rest = definitions;
     while let Some((definition, others)) = rest.split_first() {
@@ -234,12 +234,9 @@ pub(crate) fn has_mixed(definitions: &[StoredDefinition]) -> bool
 }
 
 fn is_mixed_among(definitions: &[StoredDefinition], definition: &StoredDefinition) -> bool
-    ensures { result ≡ list_any (are_mixed (pgn_kind definition.now)) (map pgn_kind definitions.now) }
+    ensures { result ≡ list_any (are_mixed definition.now) definitions.now }
 {
-    for other in definitions {
-        if definition.is_mixed_with(other) {
-            return true;
-        }
-    }
-    false
+    definitions
+        .iter()
+        .any(|other| definition.is_mixed_with(other))
 }

@@ -1,28 +1,27 @@
 //! The fields of a message or of a set, as a table spells them.
-ghost use Rattle.std.specs.Prelude.{◌≡◌, ◌≤◌, map, flat_map, Ok};
+ghost use Rattle.std.specs.Prelude.{◌≡◌, ◌≤◌, map};
 ghost use Rattle.std.specs.List.{list_any};
-ghost use Rattle.std.specs.Str.{bytes_eq};
-ghost use Rattle.toml.specs.View.{array_view};
-ghost use Rattle.n2k_table.specs.Inner.Reading.{ReaderGives, first_fault_or};
-ghost use Rattle.n2k_table.specs.Tree.{elements};
-ghost use Rattle.n2k_table.specs.Lookup.{LookupParts};
+ghost use Rattle.toml.specs.View.{view, table_view};
+ghost use Rattle.n2k_table.specs.Reading.{each, ReaderGives};
 ghost use Rattle.n2k_table.specs.Duplicate.{has_duplicate};
-ghost use Rattle.n2k_table.specs.Field.{field, field_faults};
-ghost use Rattle.n2k_table.specs.Fields.{fields_faults};
+ghost use Rattle.n2k_table.specs.Tree.{message_bits, end_of};
+ghost use Rattle.n2k_table.specs.Field.{field};
+ghost use Rattle.n2k_table.specs.Fields.{has_name, is_same_field, fields};
 
 use crate::fault::TableFault;
 use crate::field::Field;
-use crate::field_reader::{Span, read_field};
+use crate::field_reader::read_field;
 use crate::lookup::Lookups;
+use crate::tree::{Holder, elements_at};
 use std::alloc::Global;
-use toml::value::Array;
+use toml::{Table, Value};
 
 /// The most fields of a message, and of a set.
 pub(crate) const MOST_FIELDS: usize = 256;
 
 /// Whether two fields have one name.
 fn has_duplicate(fields: &[Field]) -> bool
-    ensures { result ≡ has_duplicate bytes_eq (map (λ field. field.name) fields.now) }
+    ensures { result ≡ has_duplicate is_same_field fields.now }
 {
     let mut rest = fields;
     while let Some((field, others)) = rest.split_first() {
@@ -36,55 +35,41 @@ fn has_duplicate(fields: &[Field]) -> bool
 
 /// Whether a field has the name.
 pub(crate) fn is_named(fields: &[Field], name: &str) -> bool
-    ensures { let names = map (λ field. field.name) fields.now in
-        result ≡ list_any (bytes_eq name.now) names }
+    ensures { result ≡ list_any (has_name name.now) fields.now }
 {
-    for field in fields {
-        if name == field.name() {
-            return true;
-        }
-    }
-    false
+    fields.iter().any(|field| name == field.name())
 }
 
-/// The fields, up to a first fault among theirs.
+/// Each of these values as a field.
 fn each_field(
     alloc: Global,
     lookups: &Lookups,
-    span: Span,
-    values: &Array,
+    holder: Holder,
+    values: &[Value],
 ) -> Result<Vec<Field>, TableFault>
-    requires { span.bits ≤ 1784 }
-    ensures { let names = map (λ (lookup : LookupParts). lookup.name) lookups.now in
-        let ds = elements (array_view values.now) in
-        ReaderGives (λ fields. fields.items) result
-        (first_fault_or (flat_map (field_faults span.holder (Ok span.bits) names) ds)
-        (map (field span.holder lookups.now) ds)) }
+    requires { end_of holder ≤ message_bits }
+    ensures { ReaderGives (λ fields. fields.items) result (each (field holder lookups.now) (map view values.now)) }
 {
     let mut fields = Vec::new(alloc);
     for value in values {
-        fields.push(read_field(alloc, lookups, span, value)?)?;
+        fields.push(read_field(alloc, lookups, holder, value)?)?;
     }
     Ok(fields)
 }
 
 /// Reads the fields of a message or of a set, in a table of these lookups.
+#[tactic(auto, unfolding(crate::specs::Fields::fields))]
 pub(crate) fn read_fields(
     alloc: Global,
     lookups: &Lookups,
-    span: Span,
-    values: &Array,
+    holder: Holder,
+    table: &Table,
 ) -> Result<Vec<Field>, TableFault>
-    requires { span.bits ≤ 1784 }
-    ensures { let names = map (λ (lookup : LookupParts). lookup.name) lookups.now in
-        let ds = elements (array_view values.now) in
-        ReaderGives (λ fields. fields.items) result
-        (first_fault_or (fields_faults span.holder (Ok span.bits) names ds) (map (field span.holder lookups.now) ds)) }
+    requires { end_of holder ≤ message_bits }
+    ensures { ReaderGives (λ fields. fields.items) result (fields holder lookups.now (table_view table.now)) }
 {
-    if values.len() > MOST_FIELDS {
-        return Err(TableFault::TooMany);
-    }
-    let fields = each_field(alloc, lookups, span, values)?;
+    let values = elements_at(table, "fields", MOST_FIELDS)?;
+    let fields = each_field(alloc, lookups, holder, values)?;
     if has_duplicate(&fields) {
         return Err(TableFault::Twice);
     }

@@ -126,17 +126,6 @@ fn name_by_hash(names: &IndexMap<u64, Name>, value: u64) -> Option<&Name>
 }
 
 impl Lookups {
-    ghost use Rattle.std.specs.Prelude.{[]};
-
-    /// No lookup at all.
-    pub(crate) fn none(alloc: Global) -> Lookups
-        ensures { result ≡ [] }
-    {
-        Lookups {
-            list: Vec::new(alloc),
-        }
-    }
-
     /// The lookup of that name, if there is one.
     pub(crate) fn find(&self, name: &str) -> Option<&Rc<Lookup>>
         ensures { option_map (λ lookup. lookup.now.value) result

@@ -1,26 +1,24 @@
 //! Lookups, as a table spells them.
-ghost use Rattle.std.specs.Prelude.{◌≡◌, map, flat_map, nat_eq, IfOk};
+ghost use Rattle.std.specs.Prelude.{◌≡◌, map, IfOk};
 ghost use Rattle.std.specs.List.{list_any};
 ghost use Rattle.std.specs.Str.{bytes_eq};
-ghost use Rattle.toml.specs.View.{view, table_view, array_view};
+ghost use Rattle.toml.specs.View.{view, table_view};
 ghost use Rattle.n2k_wire.specs.Views.{Gives};
-ghost use Rattle.n2k_table.specs.Inner.Reading.{ReaderGives, first_fault_or};
-ghost use Rattle.n2k_table.specs.Tree.{elements};
 ghost use Rattle.n2k_table.specs.Duplicate.{has_duplicate};
-ghost use Rattle.n2k_table.specs.Inner.Entries.{map_entries, once};
-ghost use Rattle.n2k_table.specs.Lookup.{pair_of, entry_faults, lookup_entry, entries_faults, lookup_members_faults};
-ghost use Rattle.n2k_table.specs.Lookup.{members_lookup, lookup_faults, lookup, lookups_faults};
+ghost use Rattle.n2k_table.specs.Inner.Entries.{map_entries};
+ghost use Rattle.n2k_table.specs.Reading.{each, ReaderGives};
+ghost use Rattle.n2k_table.specs.Lookup.{pair_in, entry, once, entries, lookup, is_same_lookup, lookups};
 
 use crate::fault::TableFault;
 use crate::lookup::{Lookup, Lookups, Name};
 use crate::tree::{
-    Section, as_elements, as_members, checked_text, elements_at, has_only_keys, text_at,
+    Section, as_elements, as_members, check_keys, checked_text, elements_at, elements_or_none,
+    text_at,
 };
 use indexmap::IndexMap;
 use std::alloc::{AllocError, Global};
 use std::marker::Model;
 use std::rc::Rc;
-use toml::value::Array;
 use toml::{Table, Value};
 
 /// The most lookups of a table.
@@ -45,26 +43,24 @@ impl Model for NamedValue {
 }
 
 /// The integer and the text of an entry.
-fn pair(value: &Value) -> Result<(i64, &str), TableFault>
-    ensures { Gives (λ pair. (pair.0, pair.1.now)) result (pair_of (view value.now)) }
+fn pair_in(values: &[Value]) -> Result<(i64, &str), TableFault>
+    ensures { Gives (λ pair. (pair.0, pair.1.now)) result (pair_in (map view values.now)) }
 {
-    match as_elements(value)?.as_slice() {
+    match values {
         [value, name] => {
             let number = value.as_integer().ok_or(TableFault::Key)?;
             let text = name.as_str().ok_or(TableFault::Key)?;
             Ok((number, text))
         }
-        [] => Err(TableFault::Key),
-        [_] => Err(TableFault::Key),
-        [_, _, _, ..] => Err(TableFault::Key),
+        _ => Err(TableFault::Key),
     }
 }
 
+#[tactic(auto, unfolding(crate::specs::Lookup::entry))]
 fn read_entry(alloc: Global, value: &Value) -> Result<NamedValue, TableFault>
-    ensures { let d = view value.now in
-        ReaderGives (λ entry. entry) result (first_fault_or (entry_faults d) (lookup_entry d)) }
+    ensures { ReaderGives (λ entry. entry) result (entry (view value.now)) }
 {
-    let (number, text) = pair(value)?;
+    let (number, text) = pair_in(as_elements(value)?)?;
     let Ok(value) = u32::try_from(number) else {
         return Err(TableFault::Range);
     };
@@ -75,11 +71,9 @@ fn read_entry(alloc: Global, value: &Value) -> Result<NamedValue, TableFault>
     })
 }
 
-/// The entries, up to a first fault among theirs.
-fn each_entry(alloc: Global, values: &Array) -> Result<Vec<NamedValue>, TableFault>
-    ensures { let ds = elements (array_view values.now) in
-        ReaderGives (λ entries. entries.items) result
-        (first_fault_or (flat_map entry_faults ds) (map lookup_entry ds)) }
+/// Each of these values as an entry.
+fn each_entry(alloc: Global, values: &[Value]) -> Result<Vec<NamedValue>, TableFault>
+    ensures { ReaderGives (λ entries. entries.items) result (each entry (map view values.now)) }
 {
     let mut entries = Vec::new(alloc);
     for value in values {
@@ -102,43 +96,31 @@ fn by_value(alloc: Global, entries: Vec<NamedValue>) -> Result<IndexMap<u64, Nam
     Ok(names)
 }
 
-fn read_entries(alloc: Global, values: &Array) -> Result<IndexMap<u64, Name>, TableFault>
-    ensures { let ds = elements (array_view values.now) in
-        ReaderGives map_entries result (first_fault_or (entries_faults ds) (map lookup_entry ds)) }
+#[tactic(auto, unfolding(crate::specs::Lookup::entries))]
+fn read_entries(alloc: Global, table: &Table) -> Result<IndexMap<u64, Name>, TableFault>
+    ensures { ReaderGives map_entries result (entries (table_view table.now)) }
 {
-    if values.len() > MOST_ENTRIES {
-        return Err(TableFault::TooMany);
-    }
+    let values = elements_at(table, "entries", MOST_ENTRIES)?;
     by_value(alloc, each_entry(alloc, values)?)
 }
 
-fn lookup_members(alloc: Global, table: &Table) -> Result<Lookup, TableFault>
-    ensures { let m = table_view table.now in
-        ReaderGives (λ lookup. lookup) result (first_fault_or (lookup_members_faults m) (members_lookup m)) }
+#[tactic(auto, unfolding(crate::specs::Lookup::lookup))]
+fn read_lookup(alloc: Global, value: &Value) -> Result<Lookup, TableFault>
+    ensures { ReaderGives (λ lookup. lookup) result (lookup (view value.now)) }
 {
-    if !has_only_keys(table, Section::Lookup) {
-        return Err(TableFault::Key);
-    }
+    let table = as_members(value)?;
+    check_keys(table, Section::Lookup)?;
     let name = text_at(table, "name")?;
-    let names = read_entries(alloc, elements_at(table, "entries")?)?;
+    let names = read_entries(alloc, table)?;
     Ok(Lookup {
         name: String::from_str(alloc, name)?,
         names,
     })
 }
 
-/// Reads a lookup.
-fn read_lookup(alloc: Global, value: &Value) -> Result<Lookup, TableFault>
-    ensures { let d = view value.now in
-        ReaderGives (λ lookup. lookup) result (first_fault_or (lookup_faults d) (lookup d)) }
-{
-    lookup_members(alloc, as_members(value)?)
-}
-
-/// The lookups, up to a first fault among theirs.
-fn each_lookup(alloc: Global, values: &Array) -> Result<Vec<Lookup>, TableFault>
-    ensures { let ds = elements (array_view values.now) in
-        ReaderGives (λ lookups. lookups.items) result (first_fault_or (flat_map lookup_faults ds) (map lookup ds)) }
+/// Each of these values as a lookup.
+fn each_lookup(alloc: Global, values: &[Value]) -> Result<Vec<Lookup>, TableFault>
+    ensures { ReaderGives (λ lookups. lookups.items) result (each lookup (map view values.now)) }
 {
     let mut lookups = Vec::new(alloc);
     for value in values {
@@ -149,20 +131,14 @@ fn each_lookup(alloc: Global, values: &Array) -> Result<Vec<Lookup>, TableFault>
 
 /// Whether a lookup has the name.
 fn is_named(lookups: &[Lookup], name: &str) -> bool
-    ensures { let names = map (λ lookup. lookup.name) lookups.now in
-        result ≡ list_any (bytes_eq name.now) names }
+    ensures { result ≡ list_any (λ lookup. bytes_eq name.now lookup.name) lookups.now }
 {
-    for lookup in lookups {
-        if name == lookup.name() {
-            return true;
-        }
-    }
-    false
+    lookups.iter().any(|lookup| name == lookup.name())
 }
 
 /// Whether two lookups have one name.
 fn has_duplicate(lookups: &[Lookup]) -> bool
-    ensures { result ≡ has_duplicate bytes_eq (map (λ lookup. lookup.name) lookups.now) }
+    ensures { result ≡ has_duplicate is_same_lookup lookups.now }
 {
     let mut rest = lookups;
     while let Some((lookup, others)) = rest.split_first() {
@@ -185,13 +161,11 @@ fn shared(alloc: Global, lookups: Vec<Lookup>) -> Result<Lookups, AllocError>
 }
 
 /// Reads the lookups of a table.
-pub(crate) fn read_lookups(alloc: Global, values: &Array) -> Result<Lookups, TableFault>
-    ensures { let ds = elements (array_view values.now) in
-        ReaderGives (λ lookups. lookups) result (first_fault_or (lookups_faults ds) (map lookup ds)) }
+#[tactic(auto, unfolding(crate::specs::Lookup::lookups))]
+pub(crate) fn read_lookups(alloc: Global, top: &Table) -> Result<Lookups, TableFault>
+    ensures { ReaderGives (λ lookups. lookups) result (lookups (table_view top.now)) }
 {
-    if values.len() > MOST_LOOKUPS {
-        return Err(TableFault::TooMany);
-    }
+    let values = elements_or_none(top, "lookup", MOST_LOOKUPS)?;
     let lookups = each_lookup(alloc, values)?;
     if has_duplicate(&lookups) {
         return Err(TableFault::Twice);

@@ -1,20 +1,19 @@
 //! What repeats in a message, and what its sets show.
-ghost use Rattle.std.specs.Prelude.{◌≡◌, ◌≤◌, ◌<◌, ◌+◌, ◌*◌, ℕ, length, map};
-ghost use Rattle.toml.specs.View.{table_view};
-ghost use Rattle.n2k_table.specs.Inner.Reading.{ReaderGives, first_fault_or};
-ghost use Rattle.n2k_table.specs.Lookup.{LookupParts};
-ghost use Rattle.n2k_table.specs.Repeat.{set_count, set_bytes, all_sets, repeat_faults, repeat};
+ghost use Rattle.std.specs.Prelude.{◌≡◌, ◌≤◌, ◌<◌, ◌+◌, ◌*◌, ℕ, length};
+ghost use Rattle.toml.specs.View.{view};
+ghost use Rattle.n2k_table.specs.Reading.{ReaderGives};
+ghost use Rattle.n2k_table.specs.Repeat.{set_count, set_bytes, all_sets, repeat};
 
 use crate::fault::TableFault;
 use crate::field::Field;
-use crate::field_reader::{MESSAGE_BITS, Span, byte_at, byte_bits};
+use crate::field_reader::span_at;
 use crate::fields_reader::read_fields;
 use crate::lookup::Lookups;
 use crate::shown::Fields;
-use crate::tree::{Holder, Section, elements_at, has_only_keys};
+use crate::tree::{Holder, MESSAGE_BITS, Section, as_members, check_keys};
 use std::alloc::Global;
 use std::marker::Model;
-use toml::Table;
+use toml::Value;
 
 /// A set of fields that stands again and again, from a byte of the data on.
 #[derive(Drop)]
@@ -124,31 +123,21 @@ impl<'a> Iterator for Sets<'a> {
 }
 
 /// Reads what repeats, in a table of these lookups.
+#[tactic(auto, unfolding(crate::specs::Repeat::repeat))]
 pub(crate) fn read_repeat(
     alloc: Global,
     lookups: &Lookups,
-    table: &Table,
+    value: &Value,
 ) -> Result<Repeat, TableFault>
-    ensures { let names = map (λ (lookup : LookupParts). lookup.name) lookups.now in
-        let m = table_view table.now in
-        ReaderGives (λ r. r) result (first_fault_or (repeat_faults names m) (repeat lookups.now m)) }
+    ensures { ReaderGives (λ r. r) result (repeat lookups.now (view value.now)) }
 {
-    if !has_only_keys(table, Section::Repeat) {
-        return Err(TableFault::Key);
-    }
-    let at = byte_at(table)?;
-    let bits = byte_bits(table)?;
-    if at + bits > MESSAGE_BITS {
-        return Err(TableFault::Range);
-    }
-    let span = Span {
-        holder: Holder::Set,
-        bits,
-    };
-    let fields = read_fields(alloc, lookups, span, elements_at(table, "fields")?)?;
+    let table = as_members(value)?;
+    check_keys(table, Section::Repeat)?;
+    let set = span_at(table, 8, MESSAGE_BITS, MESSAGE_BITS)?;
+    let fields = read_fields(alloc, lookups, Holder::Set(set.bits), table)?;
     Ok(Repeat {
-        first: at / 8,
-        size: bits / 8,
+        first: set.at / 8,
+        size: set.bits / 8,
         fields,
     })
 }

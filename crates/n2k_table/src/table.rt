@@ -1,15 +1,13 @@
 //! A table of messages.
-ghost use Rattle.std.specs.Prelude.{◌≡◌, ◌≢◌, [], All, Contains, Some, IfOk, IfErr, map, flat_map};
-ghost use Rattle.toml.specs.View.{view, table_view, array_view};
+ghost use Rattle.std.specs.Prelude.{◌≡◌, ◌≢◌, [], All, Contains, Some, IfOk, IfErr, false, map};
 ghost use Rattle.n2k_table.specs.declared.fault.TableFault.TheVariants.{Memory};
-ghost use Rattle.n2k_table.specs.Fault.{faults_in};
-ghost use Rattle.n2k_table.specs.Lookup.{LookupParts, lookups_faults};
-ghost use Rattle.n2k_table.specs.Tree.{elements};
-ghost use Rattle.n2k_table.specs.Definition.{definition_faults, definition};
-ghost use Rattle.n2k_table.specs.Table.{definitions_faults, format_of, lookups_of, definitions_of, definitions_in};
-ghost use Rattle.n2k_table.specs.Table.{top_faults, top_lookups, top_definitions};
+ghost use Rattle.toml.specs.View.{view, table_view};
+ghost use Rattle.n2k_wire.specs.Steps.{or_cause};
 ghost use Rattle.n2k_wire.specs.Views.{Gives};
-ghost use Rattle.n2k_table.specs.Inner.Reading.{ReaderGives, first_fault_or};
+ghost use Rattle.n2k_table.specs.Duplicate.{has_duplicate};
+ghost use Rattle.n2k_table.specs.Reading.{each, ReaderGives};
+ghost use Rattle.n2k_table.specs.Definition.{definition};
+ghost use Rattle.n2k_table.specs.Table.{document, format_of, are_mixed, definitions, top_level};
 
 use crate::definition::{Definition, Kind, StoredDefinition, has_mixed};
 use crate::definition_reader::read_definition;
@@ -17,11 +15,11 @@ use crate::fault::TableFault;
 use crate::index::{Index, index_of, places_at};
 use crate::lookup::Lookups;
 use crate::lookup_reader::read_lookups;
-use crate::tree::{Section, TableFormat, elements_if_there, has_only_keys, int_at};
+use crate::tree::{Section, TableFormat, check_keys, elements_or_none, int_at};
 use sha2::{Digest, Sha256};
 use std::alloc::Global;
 use std::marker::Model;
-use toml::value::Array;
+use toml::Value;
 
 /// The most definitions of a table.
 pub(crate) const MOST_DEFINITIONS: usize = 4096;
@@ -49,17 +47,14 @@ impl Model for Table {
     ghost invariant = { λ t. IsIndex t.index (pgns t.definitions.items) };
 }
 
-/// The definitions, up to a first fault among theirs.
+/// Each of these values as a definition.
 fn each_definition(
     alloc: Global,
     lookups: &Lookups,
     format: TableFormat,
-    values: &Array,
+    values: &[Value],
 ) -> Result<Vec<StoredDefinition>, TableFault>
-    ensures { let names = map (λ (lookup : LookupParts). lookup.name) lookups.now in
-        let ds = elements (array_view values.now) in
-        ReaderGives (λ v. v.items) result
-        (first_fault_or (flat_map (definition_faults format names) ds) (map (definition format lookups.now) ds)) }
+    ensures { ReaderGives (λ v. v.items) result (each (definition format lookups.now) (map view values.now)) }
 {
     let mut definitions = Vec::new(alloc);
     for value in values {
@@ -68,55 +63,23 @@ fn each_definition(
     Ok(definitions)
 }
 
+/// Reads the definitions of the top level, in a table of this format and of these lookups.
+#[tactic(auto, unfolding(crate::specs::Table::definitions))]
 fn read_definitions(
-    alloc: Global,
-    lookups: &Lookups,
-    format: TableFormat,
-    values: &Array,
-) -> Result<Vec<StoredDefinition>, TableFault>
-    ensures { let names = map (λ (lookup : LookupParts). lookup.name) lookups.now in
-        let ds = elements (array_view values.now) in
-        ReaderGives (λ v. v.items) result
-        (first_fault_or (definitions_faults format names ds) (map (definition format lookups.now) ds)) }
-{
-    if values.len() > MOST_DEFINITIONS {
-        return Err(TableFault::TooMany);
-    }
-    let definitions = each_definition(alloc, lookups, format, values)?;
-    if has_mixed(&definitions) {
-        return Err(TableFault::Mixed);
-    }
-    Ok(definitions)
-}
-
-/// The lookups of the top level.
-fn top_lookups(alloc: Global, top: &toml::Table) -> Result<Lookups, TableFault>
-    ensures { let m = table_view top.now in
-        ReaderGives (λ l. l) result (first_fault_or (faults_in (lookups_of m) lookups_faults) (top_lookups m)) }
-{
-    match elements_if_there(top, "lookup")? {
-        None => Ok(Lookups::none(alloc)),
-        Some(values) => read_lookups(alloc, values),
-    }
-}
-
-/// The definitions of the top level, in a table of this format and of these lookups.
-fn top_definitions(
     alloc: Global,
     lookups: &Lookups,
     format: TableFormat,
     top: &toml::Table,
 ) -> Result<Vec<StoredDefinition>, TableFault>
-    ensures { let names = map (λ (lookup : LookupParts). lookup.name) lookups.now in
-        let m = table_view top.now in
-        ReaderGives (λ v. v.items) result
-        (first_fault_or (faults_in (definitions_of m) (definitions_faults format names))
-        (definitions_in format lookups.now m)) }
+    ensures value { ReaderGives (λ v. v.items) result (definitions format lookups.now (table_view top.now)) }
+    ensures agree { IfOk result (λ v. has_duplicate are_mixed v.items ≡ false) }
 {
-    match elements_if_there(top, "pgn")? {
-        None => Ok(Vec::new(alloc)),
-        Some(values) => read_definitions(alloc, lookups, format, values),
+    let values = elements_or_none(top, "pgn", MOST_DEFINITIONS)?;
+    let definitions = each_definition(alloc, lookups, format, values)?;
+    if has_mixed(&definitions) {
+        return Err(TableFault::Mixed);
     }
+    Ok(definitions)
 }
 
 /// The format that the top level says it is of.
@@ -130,32 +93,40 @@ fn format_of(top: &toml::Table) -> Result<TableFormat, TableFault>
     }
 }
 
+#[tactic(auto, unfolding(crate::specs::Table::top_level))]
 fn read_top(alloc: Global, top: &toml::Table) -> Result<Vec<StoredDefinition>, TableFault>
-    ensures { let m = table_view top.now in
-        ReaderGives (λ v. v.items) result (first_fault_or (top_faults m) (top_definitions m)) }
+    ensures value { ReaderGives (λ v. v.items) result (top_level (table_view top.now)) }
+    ensures agree { IfOk result (λ v. has_duplicate are_mixed v.items ≡ false) }
 {
     let format = format_of(top)?;
-    if !has_only_keys(top, Section::Document) {
-        return Err(TableFault::Key);
+    check_keys(top, Section::Document)?;
+    let lookups = read_lookups(alloc, top)?;
+    read_definitions(alloc, &lookups, format, top)
+}
+
+/// The top level of the TOML document that the bytes spell.
+fn document(alloc: Global, bytes: &[u8]) -> Result<toml::Table, TableFault>
+    ensures { ReaderGives (λ top. table_view top) result (or_cause TableFault.NotToml (document bytes.now)) }
+{
+    match toml::table_from_slice(alloc, bytes) {
+        Ok(top) => Ok(top),
+        Err(error) if error.is_memory() => Err(TableFault::Memory),
+        Err(_) => Err(TableFault::NotToml),
     }
-    let lookups = top_lookups(alloc, top)?;
-    top_definitions(alloc, &lookups, format, top)
 }
 
 impl Table {
     ghost use Rattle.std.specs.Prelude.{option_map};
     ghost use Rattle.std.specs.Prelude.{◌<◌, length, slice_index, EachIndex};
-    ghost use Rattle.n2k_table.specs.Table.{faults, table, kind, choice};
+    ghost use Rattle.n2k_table.specs.Table.{read_table, faults, table, kind, choice};
     ghost use Rattle.n2k_table.specs.Inner.Index.{places, pgns};
 
+    #[tactic(auto, unfolding(crate::specs::Table::read_table))]
     fn parse(alloc: Global, bytes: &[u8]) -> Result<Table, TableFault>
-        ensures { ReaderGives (λ t. t) result (first_fault_or (faults bytes.now) (table bytes.now)) }
+        ensures value { ReaderGives (λ t. t) result (read_table bytes.now) }
+        ensures agree { IfOk result (λ t. has_duplicate are_mixed t.definitions ≡ false) }
     {
-        let top = match toml::table_from_slice(alloc, bytes) {
-            Ok(top) => top,
-            Err(error) if error.is_memory() => return Err(TableFault::Memory),
-            Err(_) => return Err(TableFault::NotToml),
-        };
+        let top = document(alloc, bytes)?;
         let definitions = read_top(alloc, &top)?;
         let index = index_of(alloc, &definitions)?;
         Ok(Table {
@@ -168,8 +139,8 @@ impl Table {
     /// Reads a table: the bytes of a TOML 1.1 document in UTF-8, of format 1 or 2 (docs/PROFILE.md has the
     /// formats). A table with the line `format = 1` alone is one without messages.
     ///
-    /// A document in which a fault stands is refused. Where it is no TOML or of another format, no other
-    /// fault is looked for. Where several of the others stand, any of them may be answered.
+    /// A document in which a fault stands is refused. Of several faults the first is answered, in the order that
+    /// docs/PROFILE.md tells.
     ///
     /// ```rust
     /// let table = Table::read(alloc, "format = 1\n".as_bytes())?;
@@ -178,13 +149,15 @@ impl Table {
     /// assert!(rt; matches!(refused, Err(TableFault::Format)));
     /// ```
     pub fn read(alloc: Global, bytes: &[u8]) -> Result<Table, TableFault>
+        // The table that the bytes spell, or the first fault that stands in them, unless memory runs out.
+        ensures judged { ReaderGives (λ t. t) result (read_table bytes.now) }
+
+        // The same in two words: a table that is read has no fault, and a fault that is answered stands.
         ensures sound { IfOk result (λ t. (faults bytes.now ≡ []) × (t ≡ table bytes.now)) }
+        ensures stands { IfErr result (λ fault. fault ≢ Memory → Contains (faults bytes.now) fault) }
 
         // All definitions of a PGN name one kind, which is the kind of the PGN.
         ensures kinds { IfOk result (λ t. All (λ d. kind t d.pgn ≡ Some d.kind) t.definitions) }
-
-        // A fault that is answered stands, so a table without one is read, unless memory runs out.
-        ensures stands { IfErr result (λ fault. fault ≢ Memory → Contains (faults bytes.now) fault) }
     {
         Table::parse(alloc, bytes)
     }

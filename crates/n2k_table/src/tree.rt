@@ -1,22 +1,20 @@
 //! One value of a TOML table: of which kind it is, and whether it lies in its range.
-ghost use Rattle.std.specs.Prelude.{◌≡◌, ◌≤◌, option_map, IfOk};
-ghost use Rattle.std.specs.List.{list_any};
-ghost use Rattle.std.specs.Str.{bytes_eq};
+ghost use Rattle.std.specs.Prelude.{◌≡◌, ◌≤◌, map, option_map, IfOk};
 ghost use Rattle.toml.specs.Data.{get_member};
-ghost use Rattle.toml.specs.View.{view, table_view, array_view};
+ghost use Rattle.toml.specs.View.{view, table_view};
 ghost use Rattle.n2k_wire.specs.Views.{Gives};
-ghost use Rattle.n2k_table.specs.declared.tree.Section.TheVariants.{ByteField};
-ghost use Rattle.n2k_table.specs.Tree.{is_key, has_only_keys, get_required, as_members, int_at, any_text_at};
-ghost use Rattle.n2k_table.specs.Tree.{checked_text, text_at, bool_at, elements, as_elements, elements_at};
+ghost use Rattle.n2k_table.specs.Tree.{has_only_keys, check_keys, get_required, as_members, int_at};
+ghost use Rattle.n2k_table.specs.Tree.{any_text_at, checked_text, text_at, bool_at, as_elements, at_most, elements_at};
 ghost use Rattle.n2k_table.specs.Tree.{elements_or_none};
-ghost use Rattle.n2k_table.specs.Inner.Reading.{elements_or_empty};
 
 use crate::fault::TableFault;
-use toml::value::Array;
 use toml::{Table, Value};
 
 /// The most bytes of a name or a description.
 pub(crate) const LONGEST_TEXT: usize = 255;
+
+/// The bits of the longest message.
+pub(crate) const MESSAGE_BITS: u32 = 1784;
 
 /// The format of a table.
 #[derive(Clone, Copy)]
@@ -25,34 +23,6 @@ pub(crate) enum TableFormat {
     One,
     /// With sets: a definition may have a key `repeat`.
     Two,
-}
-
-/// What a field is part of.
-#[derive(Clone, Copy)]
-pub(crate) enum Holder {
-    /// A message. A field may ask for a value there.
-    Message,
-    /// A set, which repeats. No field asks for a value there.
-    Set,
-}
-
-/// What a table of the document is, which decides its keys.
-#[derive(Clone, Copy)]
-pub(crate) enum Section {
-    /// The top level.
-    Document,
-    /// A lookup.
-    Lookup,
-    /// A definition, in a table of this format.
-    Definition(TableFormat),
-    /// What repeats in a message.
-    Repeat,
-    /// A number field.
-    NumberField(Holder),
-    /// A lookup field.
-    LookupField(Holder),
-    /// A field of text or bytes.
-    ByteField,
 }
 
 /// What a field says that its bits are.
@@ -68,37 +38,79 @@ pub(crate) enum FieldKind {
     Bytes,
 }
 
-/// Whether a key is one that each field has.
-fn is_field_key(key: &str) -> bool
-    ensures { result ≡ is_key ByteField key.now }
-{
-    key == "name" || key == "kind" || key == "at" || key == "bits"
+/// What a field is part of.
+#[derive(Clone, Copy)]
+pub(crate) enum Holder {
+    /// A message.
+    Message,
+    /// A set of so many bits, which repeats.
+    Set(u32),
+}
+
+/// What a table of the document is, which decides its keys.
+#[derive(Clone, Copy)]
+pub(crate) enum Section {
+    /// The top level.
+    Document,
+    /// A lookup.
+    Lookup,
+    /// A definition, in a table of this format.
+    Definition(TableFormat),
+    /// What repeats in a message.
+    Repeat,
+    /// A field of this kind.
+    Field(FieldKind, Holder),
 }
 
 impl TableFormat {
-    ghost use Rattle.n2k_table.specs.Tree.{repeat_keys};
+    ghost use Rattle.n2k_table.specs.Tree.{has_sets};
 
-    /// Whether a key is one that only some formats have.
-    fn has_key(self, key: &str) -> bool
-        ensures { result ≡ list_any (bytes_eq key.now) (repeat_keys self) }
+    /// Whether a definition may have sets.
+    fn has_sets(self) -> bool
+        ensures { result ≡ has_sets self }
     {
         match self {
             TableFormat::One => false,
-            TableFormat::Two => key == "repeat",
+            TableFormat::Two => true,
+        }
+    }
+}
+
+impl FieldKind {
+    ghost use Rattle.n2k_table.specs.Tree.{is_among, own_keys, can_match};
+
+    /// Whether a key is one that fields of the kind have beside those of every field.
+    fn has_key(self, key: &str) -> bool
+        ensures { result ≡ is_among key.now (own_keys self) }
+    {
+        match self {
+            FieldKind::Number => key == "signed" || key == "resolution",
+            FieldKind::Lookup => key == "lookup",
+            FieldKind::Text | FieldKind::Bytes => false,
+        }
+    }
+
+    /// Whether a field of the kind may ask for a value.
+    pub(crate) fn can_match(self, holder: Holder) -> bool
+        ensures { result ≡ can_match self holder }
+    {
+        match (self, holder) {
+            (FieldKind::Number | FieldKind::Lookup, Holder::Message) => true,
+            _ => false,
         }
     }
 }
 
 impl Holder {
-    ghost use Rattle.n2k_table.specs.Tree.{match_keys};
+    ghost use Rattle.n2k_table.specs.Tree.{end_of};
 
-    /// Whether a key is one by which a field asks for a value.
-    fn has_key(self, key: &str) -> bool
-        ensures { result ≡ list_any (bytes_eq key.now) (match_keys self) }
+    /// The bits within which a field ends.
+    pub(crate) fn end(self) -> u32
+        ensures { result ≡ end_of self }
     {
         match self {
-            Holder::Message => key == "match",
-            Holder::Set => false,
+            Holder::Message => MESSAGE_BITS,
+            Holder::Set(bits) => bits,
         }
     }
 }
@@ -117,22 +129,23 @@ impl Section {
                     || key == "kind"
                     || key == "description"
                     || key == "fields"
-                    || format.has_key(key)
+                    || (format.has_sets() && key == "repeat")
             }
             Section::Repeat => key == "at" || key == "bits" || key == "fields",
-            Section::NumberField(holder) => {
-                is_field_key(key) || key == "signed" || key == "resolution" || holder.has_key(key)
+            Section::Field(kind, holder) => {
+                key == "name"
+                    || key == "kind"
+                    || key == "at"
+                    || key == "bits"
+                    || kind.has_key(key)
+                    || (kind.can_match(holder) && key == "match")
             }
-            Section::LookupField(holder) => {
-                is_field_key(key) || key == "lookup" || holder.has_key(key)
-            }
-            Section::ByteField => is_field_key(key),
         }
     }
 }
 
 /// Whether each key of the table is one that such a section may have.
-pub(crate) fn has_only_keys(table: &Table, section: Section) -> bool
+fn has_only_keys(table: &Table, section: Section) -> bool
     ensures { result ≡ has_only_keys section (table_view table.now) }
 {
     for key in table.keys() {
@@ -141,6 +154,17 @@ pub(crate) fn has_only_keys(table: &Table, section: Section) -> bool
         }
     }
     true
+}
+
+/// Refuses a table that has another key.
+pub(crate) fn check_keys(table: &Table, section: Section) -> Result<(), TableFault>
+    ensures { Gives (λ done. done) result (check_keys section (table_view table.now)) }
+{
+    if has_only_keys(table, section) {
+        Ok(())
+    } else {
+        Err(TableFault::Key)
+    }
 }
 
 /// The value at a key, if it is there.
@@ -212,29 +236,45 @@ pub(crate) fn bool_at(table: &Table, key: &str) -> Result<bool, TableFault>
     }
 }
 
-/// A value that has to be an array.
-pub(crate) fn as_elements(value: &Value) -> Result<&Array, TableFault>
-    ensures { Gives (λ array. elements (array_view array.now)) result (as_elements (view value.now)) }
+/// The elements of a value that has to be an array.
+pub(crate) fn as_elements(value: &Value) -> Result<&[Value], TableFault>
+    ensures { Gives (λ values. map view values.now) result (as_elements (view value.now)) }
 {
-    value.as_array().ok_or(TableFault::Key)
+    Ok(value.as_array().ok_or(TableFault::Key)?.as_slice())
 }
 
-/// The elements of an array, at a key that has to be there.
-pub(crate) fn elements_at<'a>(table: &'a Table, key: &str) -> Result<&'a Array, TableFault>
-    ensures { Gives (λ array. elements (array_view array.now)) result (elements_at key.now (table_view table.now)) }
+/// No more elements than so many.
+fn at_most(values: &[Value], most: usize) -> Result<&[Value], TableFault>
+    ensures { Gives (λ values. map view values.now) result (at_most most (map view values.now)) }
 {
-    as_elements(get_required(table, key)?)
+    if values.len() > most {
+        return Err(TableFault::TooMany);
+    }
+    Ok(values)
 }
 
-/// The elements of an array, `None` where the key is missing.
-pub(crate) fn elements_if_there<'a>(
+/// The elements of an array, at most so many, at a key that has to be there.
+pub(crate) fn elements_at<'a>(
     table: &'a Table,
     key: &str,
-) -> Result<Option<&'a Array>, TableFault>
-    ensures { Gives elements_or_empty result (elements_or_none (get_member key.now (table_view table.now))) }
+    most: usize,
+) -> Result<&'a [Value], TableFault>
+    ensures { Gives (λ values. map view values.now) result (elements_at key.now most (table_view table.now)) }
+{
+    at_most(as_elements(get_required(table, key)?)?, most)
+}
+
+/// The elements of an array, at most so many; none where the key is missing.
+pub(crate) fn elements_or_none<'a>(
+    table: &'a Table,
+    key: &str,
+    most: usize,
+) -> Result<&'a [Value], TableFault>
+    ensures { Gives (λ values. map view values.now) result
+        (elements_or_none most (get_member key.now (table_view table.now))) }
 {
     match get(table, key) {
-        None => Ok(None),
-        Some(value) => Ok(Some(as_elements(value)?)),
+        None => Ok(&[]),
+        Some(value) => at_most(as_elements(value)?, most),
     }
 }

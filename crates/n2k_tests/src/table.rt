@@ -3,6 +3,7 @@
 mod choosing;
 mod cuts;
 mod fields;
+mod first_faults;
 mod limits;
 mod lines;
 mod reading;

@@ -14,7 +14,8 @@ numbers_hold c gs = counts_hold (record c { held = length gs }) && firsts_rise 1
 -- each group holds, and none has a key that was seen before it
 unfoldable pub each_new : (ℕ → Option Kind) → List Key → List Group → Bool
 each_new kind seen [] = true
-each_new kind seen (g ∷ gs) = group_holds kind g && (not (list_any (same_key g.key) seen) && each_new kind (seen ++ g.key ∷ []) gs)
+each_new kind seen (g ∷ gs) =
+    group_holds kind g && (not (list_any (same_key g.key) seen) && each_new kind (seen ++ g.key ∷ []) gs)
 
 -- What a function answered, seen by view, is this value, where the test holds, and nothing where it doesn't.
 abbrev pub SomeUnder : {X Y : Type 0} → (X → Y) → Option X → Bool → Y → Type 0

@@ -1,5 +1,6 @@
 -- The text of a saved state, token by token.
-use Rattle.std.specs.Prelude.{◌≡◌, ℕ, Bool, if◌then◌else◌, List, [], ◌∷◌, ◌++◌, decimal, codes, map, Option, Some, None, OnOk, Result}
+use Rattle.std.specs.Prelude.{◌≡◌, ℕ, Bool, if◌then◌else◌, List, [], ◌∷◌, ◌++◌, decimal, codes, map, Option, Some, None}
+use Rattle.std.specs.Prelude.{OnOk, Result}
 use Rattle.std.specs.List.{flat_map}
 use Rattle.json.specs.Token.{Token}
 use Rattle.json.specs.Tree.{json_tokens}
@@ -35,7 +36,8 @@ frames_tokens ps = Token.key (codes "frames") ∷ tokens_of (list (map piece_tre
 
 -- the members of a group behind its frames
 abbrev pub key_tokens : Key → List Token
-key_tokens key = count_tokens (codes "pgn") key.pgn ++ count_tokens (codes "seq") key.sequence ++ count_tokens (codes "src") key.src
+key_tokens key =
+    count_tokens (codes "pgn") key.pgn ++ count_tokens (codes "seq") key.sequence ++ count_tokens (codes "src") key.src
 
 unfoldable pub groups_tokens : List Group → List Token
 groups_tokens gs = flat_map (λ g. tokens_of (group_tree g)) gs
@@ -46,7 +48,9 @@ open_tokens gs = Token.key (codes "groups") ∷ tokens_of (list (map group_tree 
 
 -- the members before them, and those behind them
 abbrev pub front_tokens : Bool → Counts → List Token
-front_tokens with_window c = count_tokens (codes "bad") c.bad ++ count_tokens (codes "broken") c.broken ++ count_tokens (codes "format") (format_by with_window)
+front_tokens with_window c =
+    count_tokens (codes "bad") c.bad ++ count_tokens (codes "broken") c.broken
+    ++ count_tokens (codes "format") (format_by with_window)
 
 abbrev pub lines_tokens : Counts → List Token
 lines_tokens c = count_tokens (codes "lines") c.lines ++ count_tokens (codes "messages") c.messages
@@ -59,9 +63,11 @@ abbrev pub window_tokens : Bool → ℕ → List Token
 window_tokens with_window window = if with_window then count_tokens (codes "window") window else []
 
 abbrev pub back_tokens : Bool → List ℕ → ℕ → Counts → List Token
-back_tokens with_window id window c = lines_tokens c ++ table_tokens id ++ count_tokens (codes "unknown") c.unknown ++ window_tokens with_window window
+back_tokens with_window id window c =
+    lines_tokens c ++ table_tokens id ++ count_tokens (codes "unknown") c.unknown ++ window_tokens with_window window
 
 -- these tokens were written behind those from before, and nothing else changed
-pub record AppendsTokens {E : Type 0} (result : Result (Unit {0}) E) (old new : Written) (added : List Token) : Type 0 where
+pub record AppendsTokens {E : Type 0} (result : Result (Unit {0}) E) (old new : Written) (added : List Token)
+    : Type 0 where
   pub tokens : OnOk result (new.tokens ≡ old.tokens ++ added)
   pub before : new.before ≡ old.before

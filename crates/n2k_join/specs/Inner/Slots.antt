@@ -16,7 +16,8 @@ abbrev pub slot_of : OpenGroup → ℕ → Option (List ℕ)
 slot_of g = slot g.mask g.slots
 
 abbrev pub group_by : ℕ → Key → ℕ → List (List ℕ) → Group
-group_by first key mask slots = record { first = first; key = key; pieces = filter_map (piece_at (slot mask slots)) (range_with_len 0 most_frames) }
+group_by first key mask slots =
+    record { first = first; key = key; pieces = filter_map (piece_at (slot mask slots)) (range_with_len 0 most_frames) }
 
 -- its pieces, by rising number
 unfoldable pub pieces_in : OpenGroup → List Piece

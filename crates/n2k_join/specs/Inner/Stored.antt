@@ -1,5 +1,6 @@
 -- What the code keeps, as the definitions see it.
-use Rattle.std.specs.Prelude.{ℕ, ◌≡◌, ◌<◌, ◌≤◌, Bool, List, [], ◌∷◌, ◌++◌, length, if◌then◌else◌, Option, Some, None, filter_map, find, option_to_list}
+use Rattle.std.specs.Prelude.{ℕ, ◌≡◌, ◌<◌, ◌≤◌, Bool, List, [], ◌∷◌, ◌++◌, length, if◌then◌else◌, Option, Some, None}
+use Rattle.std.specs.Prelude.{filter_map, find, option_to_list}
 use Rattle.std.specs.List.{list_all}
 use Rattle.n2k_join.specs.declared.step.Broken.{Broken}
 use Rattle.n2k_wire.specs.Packet.{PacketParts}
@@ -53,21 +54,24 @@ with_frame o x = record { first = o.first; key = o.key; pieces = pieces_of (held
 abbrev pub message_if : Frame → List Frame → Option PacketParts
 message_if x group = if complete group then Some (message_of x group) else None
 
--- A group has no place for a number: it is in it, or, where messages are sent in order, it isn't greater than each of its own.
+-- A group has no place for a number: it is in it, or, where messages are sent in order, it isn't greater than each of
+-- its own.
 abbrev pub rejects : Bool → ℕ → Group → Bool
 rejects in_order number o = if in_order then has_from number (held_of o) else has_number number (held_of o)
 
 -- what stays open of a group of the frame's key
 abbrev pub joined : Bool → Frame → Group → Option Group
-joined in_order x o = if rejects in_order x.number o then None else (if complete (held_of o ++ x ∷ []) then None else Some (with_frame o x))
+joined in_order x o =
+    if rejects in_order x.number o then None
+    else (if complete (held_of o ++ x ∷ []) then None else Some (with_frame o x))
 
 -- what stays open of a group
 abbrev pub taken : Bool → Frame → Group → Option Group
 taken in_order x o = if same_key x.key o.key then joined in_order x o else Some o
 
 -- the group that a frame begins, where it doesn't complete it
-abbrev pub begun : Frame → Option Group
-begun x = if complete (x ∷ []) then None else Some (group_of x.key (x ∷ []))
+abbrev pub started : Frame → Option Group
+started x = if complete (x ∷ []) then None else Some (group_of x.key (x ∷ []))
 
 -- the open group of a key
 abbrev pub of_the_key : Key → List Group → Option Group
@@ -75,17 +79,19 @@ of_the_key key groups = find (λ (o : Group). same_key key o.key) groups
 
 -- the group that a frame opens, where this is the open one of its key
 abbrev pub opened : Bool → Frame → Option Group → Option Group
-opened in_order x None = begun x
-opened in_order x (Some o) = if rejects in_order x.number o then begun x else None
+opened in_order x None = started x
+opened in_order x (Some o) = if rejects in_order x.number o then started x else None
 
 -- the open groups after a frame
 unfoldable pub groups_after : Bool → List Group → Frame → List Group
-groups_after in_order groups x = filter_map (taken in_order x) groups ++ option_to_list (opened in_order x (of_the_key x.key groups))
+groups_after in_order groups x =
+    filter_map (taken in_order x) groups ++ option_to_list (opened in_order x (of_the_key x.key groups))
 
 -- the message that a frame completes, where this is the open group of its key
 abbrev pub gained : Bool → Frame → Option Group → Option PacketParts
 gained in_order x None = message_if x (x ∷ [])
-gained in_order x (Some o) = if rejects in_order x.number o then message_if x (x ∷ []) else message_if x (held_of o ++ x ∷ [])
+gained in_order x (Some o) =
+    if rejects in_order x.number o then message_if x (x ∷ []) else message_if x (held_of o ++ x ∷ [])
 
 -- the group that a frame breaks
 abbrev pub lost : Bool → Frame → Option Group → Option Broken
@@ -95,7 +101,12 @@ lost in_order x (Some o) = if rejects in_order x.number o then Some (broken_of x
 -- What a line gives, by its frame. Without one that is a message alone, or a cause.
 abbrev pub gives_by : Bool → Option PacketParts → Option BadCause → List Group → Option Frame → Given
 gives_by in_order alone cause groups None = record { message = alone; cause = cause; broken = [] }
-gives_by in_order alone cause groups (Some x) = record { message = gained in_order x (of_the_key x.key groups); cause = None; broken = option_to_list (lost in_order x (of_the_key x.key groups)) }
+gives_by in_order alone cause groups (Some x) =
+    record {
+      message = gained in_order x (of_the_key x.key groups);
+      cause = None;
+      broken = option_to_list (lost in_order x (of_the_key x.key groups));
+    }
 
 -- the open groups that it leaves
 abbrev pub leaves_by : Bool → List Group → Option Frame → List Group

@@ -19,4 +19,5 @@ taken_message o own joined = if o.is_own then own else joined
 
 -- what a taken entry gives
 abbrev pub given_of_taken : Taken → Option PacketParts → Option PacketParts → Given
-given_of_taken o own joined = record { message = taken_message o own joined; cause = o.bad; broken = option_to_list o.broken }
+given_of_taken o own joined =
+    record { message = taken_message o own joined; cause = o.bad; broken = option_to_list o.broken }

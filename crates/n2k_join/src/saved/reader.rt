@@ -9,7 +9,7 @@ use crate::counts::Counts;
 use crate::fault::StateFault;
 use crate::saved::object::{Object, StateFormat};
 use crate::saved::spelled::{SpelledGroup, SpelledKey, SpelledPiece, SpelledState};
-use crate::saved::value::{as_int, digits_of, elements_of, int_at, members_at, required};
+use crate::saved::value::{as_int, count_at, digits_of, elements_of, members_at, required};
 use crate::window::Window;
 use serde_json::Value;
 use std::alloc::Global;
@@ -31,10 +31,10 @@ fn read_piece(value: &Value) -> Result<SpelledPiece, StateFault>
 fn read_key(value: &Value) -> Result<SpelledKey, StateFault>
     ensures { Gives (λ key. key) result (read_key (view value.now)) }
 {
-    let dst = int_at("dst", value)?;
-    let pgn = int_at("pgn", value)?;
-    let sequence = int_at("seq", value)?;
-    let src = int_at("src", value)?;
+    let dst = count_at("dst", value)?;
+    let pgn = count_at("pgn", value)?;
+    let sequence = count_at("seq", value)?;
+    let src = count_at("src", value)?;
     Ok(SpelledKey {
         src,
         dst,
@@ -67,7 +67,7 @@ fn read_group(alloc: Global, value: &Value) -> Result<SpelledGroup, StateFault>
 {
     members_at(Object::Group, value)?;
     let key = read_key(value)?;
-    let first = int_at("first", value)?;
+    let first = count_at("first", value)?;
     let pieces = read_pieces(alloc, value)?;
     Ok(SpelledGroup { first, key, pieces })
 }
@@ -94,11 +94,11 @@ fn read_groups(alloc: Global, value: &Value) -> Result<Vec<SpelledGroup>, StateF
 fn read_counts(value: &Value) -> Result<Counts, StateFault>
     ensures { Gives (λ counts. counts) result (read_counts (view value.now)) }
 {
-    let bad = int_at("bad", value)?;
-    let broken = int_at("broken", value)?;
-    let lines = int_at("lines", value)?;
-    let messages = int_at("messages", value)?;
-    let unknown = int_at("unknown", value)?;
+    let bad = count_at("bad", value)?;
+    let broken = count_at("broken", value)?;
+    let lines = count_at("lines", value)?;
+    let messages = count_at("messages", value)?;
+    let unknown = count_at("unknown", value)?;
     Ok(Counts {
         lines,
         messages,
@@ -121,7 +121,7 @@ fn read_window(format: StateFormat, window: u32, value: &Value) -> Result<u64, S
     ensures { Gives (λ n. n) result (read_window format window (view value.now)) }
 {
     match format {
-        StateFormat::WithWindow => int_at("window", value),
+        StateFormat::WithWindow => count_at("window", value),
         StateFormat::WithoutWindow => Ok(u64::from(window)),
     }
 }

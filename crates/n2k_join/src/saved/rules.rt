@@ -61,12 +61,7 @@ pub(crate) fn rules_hold(counts: &Counts, groups: &[SpelledGroup]) -> bool
 fn are_waiting(state: &SpelledState) -> bool
     ensures { result ≡ are_waiting state.now }
 {
-    for group in &state.groups {
-        if !is_waiting(group.first, state.window, state.counts.lines) {
-            return false;
-        }
-    }
-    true
+    state.groups.iter().all(|group| is_waiting(group.first, state.window, state.counts.lines))
 }
 
 /// Whether no group's window has ended, where the state has its window.

@@ -202,12 +202,9 @@ fn are_waiting(window: Window, lines: u64, groups: &IndexMap<FrameKey, OpenGroup
     ensures { result ≡ list_all (is_waiting window lines) (groups_in groups.now.entries) }
 {
     let long = u64::from(window.get());
-    for (_, group) in groups.iter() {
-        if !is_waiting(group.first, long, lines) {
-            return false;
-        }
-    }
-    true
+    groups
+        .iter()
+        .all(|(_, group)| is_waiting(group.first, long, lines))
 }
 
 /// Writes a state: with its window, where no group's has ended.

@@ -3,7 +3,7 @@ ghost use Rattle.std.specs.Prelude.{◌≡◌, map};
 ghost use Rattle.serde_json.specs.View.{view, members_view};
 ghost use Rattle.n2k_wire.specs.Views.{Gives};
 ghost use Rattle.n2k_wire.specs.Steps.{or_cause};
-ghost use Rattle.n2k_join.specs.Resumed.{has_only, members_at, required, as_int, int_at, digits_of, elements_of};
+ghost use Rattle.n2k_join.specs.Resumed.{has_only, members_at, required, as_int, count_at, digits_of, elements_of};
 
 use crate::fault::StateFault;
 use crate::saved::object::Object;
@@ -13,12 +13,7 @@ use serde_json::{Map, Value};
 fn has_only(members: &Map<String, Value>, object: Object) -> bool
     ensures { result ≡ has_only object (members_view members.now.entries) }
 {
-    for name in members.keys() {
-        if !object.has(name.as_str()) {
-            return false;
-        }
-    }
-    true
+    members.keys().all(|name| object.has(name.as_str()))
 }
 
 /// Refuses a value that is no object, or that has a member which the object hasn't.
@@ -47,8 +42,8 @@ pub(crate) fn as_int(value: &Value) -> Result<u64, StateFault>
 }
 
 /// The whole number at a name.
-pub(crate) fn int_at(name: &str, value: &Value) -> Result<u64, StateFault>
-    ensures { Gives (λ number. number) result (int_at name.now (view value.now)) }
+pub(crate) fn count_at(name: &str, value: &Value) -> Result<u64, StateFault>
+    ensures { Gives (λ number. number) result (count_at name.now (view value.now)) }
 {
     as_int(required(name, value)?)
 }

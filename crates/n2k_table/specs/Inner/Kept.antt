@@ -2,7 +2,8 @@
 use Rattle.std.specs.Prelude.{◌≡◌, ◌≤◌, ℕ, ◌+◌, true, List, Option, IfSome}
 use Rattle.n2k_table.specs.declared.field.Meaning.{Meaning as CodeMeaning}
 use Rattle.n2k_table.specs.declared.field.Meaning.TheVariants as code
-use Rattle.n2k_table.specs.Field.{Meaning, number, named, text, bytes, message_bits, most_number_bits}
+use Rattle.n2k_table.specs.Field.{Meaning, number, named, text, bytes, most_number_bits}
+use Rattle.n2k_table.specs.Tree.{message_bits}
 use Rattle.n2k_table.specs.Inner.Line.{key_json}
 use Rattle.n2k_table.specs.Inner.Number.{IsScale}
 

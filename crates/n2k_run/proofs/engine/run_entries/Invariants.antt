@@ -9,7 +9,7 @@ invariant-lines g l =
     let before = seen g.R.Source g.W.Sink g.E.Sink l.fn.reader l.fn.writer l.fn.reporter in
     let now = seen g.R.Source g.W.Sink g.E.Sink l.reader l.writer l.reporter in
     record {
-      stands : BetweenLines (g.H.EntryHandler.fold l.handler) l.packing (g.H.EntryHandler.known l.fn.state) (g.H.EntryHandler.known l.state) l.blocks l.pending.text.items l.pending.report.items before now;
+      stands : BetweenLines (g.H.EntryHandler.fold l.handler) l.fn.packing (g.H.EntryHandler.known l.fn.state) (g.H.EntryHandler.known l.state) l.blocks l.pending.text.items l.pending.report.items before now;
       ready : g.H.EntryHandler.is_ready l.handler l.state;
     }
 

@@ -1,4 +1,5 @@
 use Rattle.std.proofs.Common.{◌≡◌, ◌++◌, List, Ok, refl, subst, option_map}
+use Rattle.std.proofs.lemmas.Result.{err_from_is_err_and}
 use Rattle.n2k_wire.specs.declared.entry.Entry.{Entry}
 use Rattle.n2k_table.specs.Table.{kind}
 use Rattle.n2k_join.specs.State.{state}
@@ -12,15 +13,19 @@ use Rattle.n2k_run.proofs.LogSteps.{log_laws}
 use Rattle.n2k_run.proofs.Parting.{KeepsFast, begins_by, log_of, memory_alone, not_refused, refused_by, steps_of, unbegun}
 use Rattle.n2k_run.proofs.part.run_part.Goals as goal
 
-pub returns-in-Err-clause-runs : goal.returns-in-Err-clause-runs
-returns-in-Err-clause-runs g c = record {
-  fault_kinds = tt;
-  begins = (c.begin.ensures.handed cc, refused_by c.in-Err.fault _ c.in-Err.ensures.state);
-  untouched = refl;
-  steps = λ s is. unbegun _ _ _ c.in-Err.fault refl;
-  log = λ front is. unbegun _ _ _ c.in-Err.fault refl;
-  headline = λ front is. memory_alone c.in-Err.fault _ _ is.leads_to (refused_by c.in-Err.fault _ c.in-Err.ensures.state);
-}
+pub returns-in_err-join-clause-runs : goal.returns-in_err-join-clause-runs
+returns-in_err-join-clause-runs g c =
+    let p = err_from_is_err_and c.from_residual.result c.from_residual.ensures.1 in
+    let fault = c.in_err-join.field-0.0 in
+    let refused = refused_by fault _ c.in_err-join.ensures.state in
+    rw (p.1, p.2) (record {
+      fault_kinds = tt;
+      begins = (c.in_err-join.ensures.handed, refused);
+      untouched = refl;
+      steps = λ s is. unbegun _ _ _ fault refl;
+      log = λ front is. unbegun _ _ _ fault refl;
+      headline = λ front is. memory_alone fault _ _ is.leads_to refused;
+    })
 
 pub returns-clause-runs : goal.returns-clause-runs
 returns-clause-runs g c =
@@ -39,13 +44,13 @@ returns-clause-runs g c =
       step = c.groups_stay_fast.ensures.step;
     } in
     let window = c.know_window.ensures in
-    let steps = steps_of laws t o window handed c.in-Ok.join c.run-ran.new.join before after c.run-ran.result result c.know_id.ensures c.in-Ok.ensures.state c.run-ran.ensures.steps c.finish.ensures.part finishes in
+    let steps = steps_of laws t o window handed c.in_ok-join.join c.run-ran.new.join before after c.run-ran.result result c.know_id.ensures c.in_ok-join.ensures.state c.run-ran.ensures.steps c.finish.ensures.part finishes in
     let logs = log_laws o.window window c.steps_agree.ensures c.lines_stay.ensures in
     let log : (front : List Entry) → begun t o handed ≡ Ok (state t.id o.window (kind t) front) → TellsRun (output_after t o front) (λ es. HasPart t o result (state t.id o.window (kind t) (front ++ es))) before after result = λ front is.
     log_of t o logs before after result front (steps (state t.id o.window (kind t) front) is) in
     record {
       fault_kinds = c.finish.ensures.fault_kinds;
-      begins = begins_by t o handed c.in-Ok.join result c.run-ran.result c.in-Ok.ensures.state finishes;
+      begins = begins_by t o handed c.in_ok-join.join result c.run-ran.result c.in_ok-join.ensures.state finishes;
       untouched = not_refused result c.run-ran.result (after ≡ before) finishes;
       steps = steps;
       log = log;

@@ -1,5 +1,6 @@
 use Rattle.std.proofs.Common.{Err, ℕ, List, [], map, take, drop, suc, get_or, Bor, sym, subst, arith, inr}
 use Rattle.std.proofs.lemmas.List.{map_more, take_all}
+use Rattle.std.proofs.lemmas.Result.{err_from_is_err_and}
 use Rattle.n2k_run.specs.Decoded.{out_of}
 use Rattle.n2k_run.specs.Parts.{TakesAll, entries_of_parts}
 use Rattle.n2k_run.specs.Runs.{sinks_seen}
@@ -7,24 +8,25 @@ use Rattle.n2k_run.proofs.Joined.{next_taken, not_read, prints_log, split_parts}
 use Rattle.n2k_run.proofs.LogSteps.{log_laws}
 use Rattle.n2k_run.proofs.part.run_parts.Goals as goal
 
-pub returns-in-Err-clause-log : goal.returns-in-Err-clause-log
-returns-in-Err-clause-log g c =
+pub returns-in_err-last-2-clause-log : goal.returns-in_err-last-2-clause-log
+returns-in_err-last-2-clause-log g c =
     let none : Bor (List ℕ) = record { ref_ptr = (0, 0); now = [] } in
     let now : Bor (List ℕ) → List ℕ = λ part. part.now in
     let parts = c.args.parts.now in
     let i = c.loop-part.part-index in
-    inr (record {
+    let p = err_from_is_err_and c.from_residual-in_err-last-2.result c.from_residual-in_err-last-2.ensures.1 in
+    rw (p.1, p.2) (inr (record {
       done = map now (take i parts);
       met = (get_or parts i none).now;
       later = map now (drop (suc i) parts);
       parts_are = split_parts parts i none c.loop-part-test.true;
       between = sinks_seen g.W.Sink g.E.Sink c.loop-part.writer c.loop-part.reporter;
       taken = c.loop-part.invariant.taken;
-      runs = c.in-Err.ensures.log (entries_of_parts c.args.options (map now (take i parts))) c.loop-part.invariant.leads_to;
-    })
+      runs = c.in_err-last-2.ensures.log (entries_of_parts c.args.options (map now (take i parts))) c.loop-part.invariant.leads_to;
+    }))
 
-pub returns-in-Err-clause-never_read : goal.returns-in-Err-clause-never_read
-returns-in-Err-clause-never_read g c = λ few. not_read _ _ _ _ _ (Err c.in-Err.fault) few (returns-in-Err-clause-log g c)
+pub returns-in_err-last-2-clause-never_read : goal.returns-in_err-last-2-clause-never_read
+returns-in_err-last-2-clause-never_read g c = λ few. not_read _ _ _ _ _ _ few (returns-in_err-last-2-clause-log g c)
 
 pub loop-part-preserved : goal.loop-part-preserved
 loop-part-preserved g c =
@@ -35,8 +37,8 @@ loop-part-preserved g c =
     let before = sinks_seen g.W.Sink g.E.Sink c.args.writer.now c.args.reporter.now in
     let after = sinks_seen g.W.Sink g.E.Sink c.next_part.new.writer c.next_part.new.reporter in
     let laws = log_laws c.args.options.window c.know_window.ensures c.steps_agree.ensures c.lines_stay.ensures in
-    let run = c.in-Ok.ensures.log (entries_of_parts c.args.options (map now (take i parts))) c.loop-part.invariant.leads_to in
-    subst (λ ps. TakesAll c.args.table.now c.args.options ps before after c.in-Ok.next) (sym (map_more now parts i none c.loop-part-test.true)) (next_taken _ _ laws (map now (take i parts)) _ _ _ _ _ _ c.loop-part.invariant run)
+    let run = c.in_ok-last-2.ensures.log (entries_of_parts c.args.options (map now (take i parts))) c.loop-part.invariant.leads_to in
+    subst (λ ps. TakesAll c.args.table.now c.args.options ps before after c.in_ok-last-2.last) (sym (map_more now parts i none c.loop-part-test.true)) (next_taken _ _ laws (map now (take i parts)) _ _ _ _ _ _ c.loop-part.invariant run)
 
 pub returns-clause-log : goal.returns-clause-log
 returns-clause-log g c =

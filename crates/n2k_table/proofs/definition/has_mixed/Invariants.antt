@@ -1,13 +1,11 @@
--- Among the definitions that are left two are mixed where two are among all.
-use Rattle.std.proofs.Common.{◌≡◌, length, map}
-use Rattle.n2k_table.specs.Inner.Kinds.{pgn_kind}
-use Rattle.n2k_table.specs.Table.{has_mixed}
+-- Two are the same among the definitions that are left where two are among all.
+use Rattle.std.proofs.Common.{◌≡◌, length}
+use Rattle.n2k_table.specs.Duplicate.{has_duplicate}
+use Rattle.n2k_table.specs.Table.{are_mixed}
 use Rattle.n2k_table.proofs.definition.has_mixed.Given as goal
 
 abbrev pub invariant-loop-definition : goal.invariant-loop-definition
-invariant-loop-definition l =
-    has_mixed (map pgn_kind l.rest)
-    ≡ has_mixed (map pgn_kind l.definitions)
+invariant-loop-definition l = has_duplicate are_mixed l.rest ≡ has_duplicate are_mixed l.definitions
 
 abbrev pub decreases-loop-definition : goal.decreases-loop-definition
 decreases-loop-definition l = length l.rest
