@@ -1,7 +1,7 @@
 -- Calls of a folder, one after the other, up to one that fails or is refused.
 use Rattle.std.proofs.Common.{◌≡◌, ◌⊎◌, ℕ, Bool, true, false, List, [], ◌∷◌, ◌++◌, Option, None, Some, IfErr, IfSome, OnOk, Result, Ok, Err, is_ok, inl, inr, refl, subst, sym, ap, ◌∙◌}
 use Rattle.clap.specs.Words.{Text}
-use Rattle.n2kdec.specs.Folder.{Call, Content, Notes, create, created, empty, renamed, sync, turn, write}
+use Rattle.n2kdec.specs.Folder.{Call, Content, Notes, create, created, renamed, sync, turn, write}
 use Rattle.n2kdec.specs.Inner.Placing.{HasFilled, HasPlaced, IsStuck, IsUnfilled, Makes}
 use Rattle.n2kdec.specs.Replacement.{Admits, AtomicReplacement, FromTo, HarmsTarget, HarmsTemp, KeepsNames, KeepsText, LeftAlone, PutsInPlace, RefusedReplacement, SparesTarget, SparesTemp, filled}
 use Rattle.n2kdec.specs.declared.asked.Files.{Files}

@@ -1,5 +1,5 @@
 -- What is there at each moment of a replacement, and after a text is written over another.
-use Rattle.std.proofs.Common.{◌≡◌, ◌⊎◌, ◌<◌, List, ℕ, Bool, true, false, [], ◌∷◌, ◌++◌, Option, None, Some, Result, Ok, Err, is_ok, refl, inl, inr, subst, ap, ◌∙◌, ⊎_elim, arith}
+use Rattle.std.proofs.Common.{◌≡◌, ◌⊎◌, List, ℕ, Bool, true, false, [], ◌∷◌, ◌++◌, Option, None, Some, Result, Ok, Err, is_ok, refl, inl, inr, subst, ap, ◌∙◌, ⊎_elim, arith}
 use Rattle.n2kdec.specs.Folder.{Call, Content, MayBeLeft, MayHave, Notes, create, cut_short, empty, failures, refused, remove, rename, sync, sync_folder, write}
 use Rattle.n2kdec.specs.Inner.Placing.{HasFilled, HasPlaced, IsStuck, IsUnfilled, Makes}
 use Rattle.n2kdec.specs.Replacement.{AreRefused, AreUnfilled, AreWritingOver, AtEachMoment, AtomicReplacement, FromTo, HasOldOrNew, IsAsBefore, IsGivenUp, KeepsNames, LeftAlone, Overwrites, Overwriting, PutsInPlace, RefusedReplacement, filled, placed}

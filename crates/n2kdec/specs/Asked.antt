@@ -1,5 +1,5 @@
 -- What words ask for: a text, or a command over files.
-use Rattle.std.specs.Prelude.{ℕ, List, Option, Some, None, Result, Ok, Err, Bool, if◌then◌else◌}
+use Rattle.std.specs.Prelude.{Option, Some, None, Result, Ok, Err, Bool, if◌then◌else◌}
 use Rattle.clap.specs.Words.{Text}
 use Rattle.n2k_join.specs.Window.{Window}
 use Rattle.n2k_run.specs.declared.options.Options.{Options}
@@ -9,7 +9,6 @@ use Rattle.n2kdec.specs.declared.asked.Request.{Request}
 use Rattle.n2kdec.specs.declared.asked.Request.TheVariants as to
 use Rattle.n2kdec.specs.declared.asked.Command.{Command}
 use Rattle.n2kdec.specs.declared.asked.Command.TheVariants.{Plain, Decode, Frames}
-use Rattle.n2kdec.specs.declared.asked.Files.{Files}
 use Rattle.n2kdec.specs.declared.fault.Fault.{Fault}
 use Rattle.n2kdec.specs.declared.fault.Fault.TheVariants.{Interface}
 use Rattle.n2kdec.specs.declared.words.Words.{Words}
