@@ -1,0 +1,6 @@
+//! The decoder for callers in C.
+#![tactic(auto)]
+
+mod decoder;
+mod grip;
+mod hold;
