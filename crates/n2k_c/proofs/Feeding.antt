@@ -1,5 +1,5 @@
 -- A decoder with more bytes fed, at the end of its log, and with what waits taken out.
-use Rattle.std.proofs.Common.{◌≡◌, ◌≢◌, ◌⊎◌, inl, inr, ℕ, zero, suc, ◌+◌, ◌-◌, ◌<◌, ◌≤◌, Bool, true, false, List, [], ◌∷◌, ◌++◌, length, take, drop, get_or, Option, Some, None, Result, Ok, Err, IsErrAnd, MatchResult, refl, sym, ap, subst, ◌∙◌, arith, append_assoc, eqb-true, append-nil, length-append, ◌==◌}
+use Rattle.std.proofs.Common.{◌≡◌, ◌≢◌, ◌⊎◌, inl, inr, ℕ, zero, suc, ◌+◌, ◌-◌, ◌<◌, ◌≤◌, Bool, true, false, List, [], ◌∷◌, ◌++◌, length, take, drop, get_or, Option, Some, None, Result, Ok, Err, refl, sym, ap, subst, ◌∙◌, arith, append_assoc, eqb-true, append-nil, length-append, ◌==◌}
 use Rattle.std.specs.Io.{IsEmptyOrEndsWith}
 use Rattle.std.proofs.Math.Seq.{take-suc}
 use Rattle.std.proofs.lemmas.List.Elements.{All-append}
@@ -13,6 +13,7 @@ use Rattle.n2k_join.specs.State.{State, state}
 use Rattle.n2k_join.specs.Saved.{state_text}
 use Rattle.n2k_join.specs.Window.{Window}
 use Rattle.n2k_join.specs.declared.counts.Counts.{Counts}
+use Rattle.n2k_join.specs.declared.fault.StateFault.{StateFault}
 use Rattle.n2k_run.specs.declared.fault.RunFault.{RunFault}
 use Rattle.n2k_run.specs.declared.fault.RunFault.TheVariants as of_run
 use Rattle.n2k_run.specs.declared.options.Options.{Options}
@@ -26,7 +27,6 @@ use Rattle.n2k_run.specs.Reading.{most_reads}
 use Rattle.n2k_run.specs.Runs.{Devices}
 use Rattle.n2k_run.proofs.Fronts.{ends_feed, entries-append, whole_front}
 use Rattle.n2k_c.specs.declared.decoder.Decoder.{Decoder}
-use Rattle.n2k_c.specs.declared.refusal.Refusal.{Refusal}
 use Rattle.n2k_c.specs.Answers.{Ends, Spends}
 use Rattle.n2k_c.specs.Inner.{RunsCut, refusal_of_run}
 use Rattle.n2k_c.specs.Stands.{HasTaken, Stands, taken_of}
@@ -296,7 +296,10 @@ opened_at t o front d is_t is_p is_e log cut output told whole join =
       });
     }
 
--- a refusal that `?` passes on
-pub refused : {Done : Type 0} (Why : Refusal → Type 0) (result : Result (Unit {0}) Refusal) (refusal : Refusal) → IsErrAnd result (λ r. r ≡ refusal) → Why refusal → MatchResult result (λ _. Done) Why
-refused Why (Err r) refusal is why = subst Why (sym is) why
-refused Why (Ok x) refusal is why = absurd is
+-- what a read gives is one
+value_of : State → Result State StateFault → State
+value_of d (Ok s) = s
+value_of d (Err fault) = d
+
+pub ok_is : (read : Result State StateFault) (a b : State) → read ≡ Ok a → read ≡ Ok b → a ≡ b
+ok_is read a b is_a is_b = ap (value_of a) (sym is_a ∙ is_b)

@@ -95,8 +95,8 @@ fn made(
     handed: Option<&[u8]>,
     settings: &Settings,
 ) -> Result<Box<Decoder, Global>, Refusal>
-    ensures { MatchResult result (λ b. Decodes toml.now settings.now (option_map (λ bytes. bytes.now) handed) b.value)
-        (NotMade toml.now settings.now (option_map (λ bytes. bytes.now) handed)) }
+    ensures { MatchResult result (λ b. Decodes toml.now settings.now (option_map (λ bytes. bytes.now) handed.entry) b.value)
+        (NotMade toml.now settings.now (option_map (λ bytes. bytes.now) handed.entry)) }
 {
     let options = match options_of(settings) {
         Ok(options) => options,
