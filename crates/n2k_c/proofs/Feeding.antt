@@ -27,9 +27,9 @@ use Rattle.n2k_run.specs.Reading.{most_reads}
 use Rattle.n2k_run.specs.Runs.{Devices}
 use Rattle.n2k_run.proofs.Fronts.{ends_feed, entries-append, whole_front}
 use Rattle.n2k_c.specs.declared.decoder.Decoder.{Decoder}
-use Rattle.n2k_c.specs.Answers.{Ends, Spends}
+use Rattle.n2k_c.specs.Answers.{EndsLog, Spends}
 use Rattle.n2k_c.specs.Inner.{RunsCut, refusal_of_run}
-use Rattle.n2k_c.specs.Stands.{HasTaken, Stands, taken_of}
+use Rattle.n2k_c.specs.Stands.{HasDecoded, Stands, taken_of}
 
 -- ---- whole lines
 
@@ -136,7 +136,7 @@ sinks output report failed_writes failed_reports = record {
 }
 
 module _ (t : TableParts) (o : Options) (taken printed reported : List ℕ) (d d' : Decoder) where
-  ends_cut : (fw fr fw' fr' : ℕ) (result : Result (Unit {0}) RunFault) → d'.table ≡ d.table → d'.packing ≡ d.packing → d'.empty ≡ d.empty → HasTaken t o taken printed reported d
+  ends_cut : (fw fr fw' fr' : ℕ) (result : Result (Unit {0}) RunFault) → d'.table ≡ d.table → d'.packing ≡ d.packing → d'.empty ≡ d.empty → HasDecoded t o taken printed reported d
       → EndsMore t o taken d.cut.items (sinks d.output.held d.reports.held fw fr) (sinks d'.output.held d'.reports.held fw' fr') d'.join result → RunsCut t o taken printed reported d d' result
   ends_cut fw fr fw' fr' (Ok x) same_t same_p same_e b more = record {
     table = same_t ∙ b.table;
@@ -154,7 +154,7 @@ module _ (t : TableParts) (o : Options) (taken printed reported : List ℕ) (d d
       → d'.table ≡ d.table → d'.packing ≡ d.packing → d'.empty ≡ d.empty
       → ((front : List ℕ) → IsEmptyOrEndsWith front line_feed → d.join ≡ state_after d.table (record { packing = d.packing; empty = d.empty; window = window }) front
       → EndsMore d.table (record { packing = d.packing; empty = d.empty; window = window }) front more (sinks d.output.held d.reports.held fw fr) (sinks d'.output.held d'.reports.held fw' fr') d'.join result)
-      → IsEmptyOrEndsWith taken line_feed → HasTaken t o taken printed reported d → RunsCut t o taken printed reported d d' result
+      → IsEmptyOrEndsWith taken line_feed → HasDecoded t o taken printed reported d → RunsCut t o taken printed reported d d' result
   unfolding More
   runs_cut window more fw fr fw' fr' result is_window is_more same_t same_p same_e head whole b =
       let own : Options = record { packing = d.packing; empty = d.empty; window = window } in
@@ -171,7 +171,7 @@ module _ (t : TableParts) (o : Options) (taken printed reported : List ℕ) (d d
 module _ (t : TableParts) (o : Options) (fed printed reported : List ℕ) where
   -- no line ends in the bytes: they wait
   pub stands_longer : (d d' : Decoder) (bytes : List ℕ) → Nowhere (Passes (is_byte 10) bytes) 0 (length bytes) → d'.cut.items ≡ d.cut.items ++ bytes → d'.ended ≡ d.ended
-      → ((ls : List ℕ) → HasTaken t o ls printed reported d → HasTaken t o ls printed reported d')
+      → ((ls : List ℕ) → HasDecoded t o ls printed reported d → HasDecoded t o ls printed reported d')
       → Stands t o fed false printed reported d → Stands t o (fed ++ bytes) false printed reported d'
   stands_longer d d' bytes none cut log to s =
       let both : HasNoFeed (d.cut.items ++ bytes) = both_no_feed d.cut.items bytes (waits_no_feed fed d.cut.items s.fed_is) (nowhere_no_feed bytes none) in
@@ -180,7 +180,7 @@ module _ (t : TableParts) (o : Options) (fed printed reported : List ℕ) where
       record {
         ended = log ∙ s.ended;
         fed_is = split ∙ ap (λ x. x ++ (d.cut.items ++ bytes)) (sym whole) ∙ ap (λ x. whole_lines (fed ++ bytes) ++ x) (sym cut);
-        taken = subst (λ ls. HasTaken t o ls printed reported d') (sym whole) (to (whole_lines fed) s.taken);
+        taken = subst (λ ls. HasDecoded t o ls printed reported d') (sym whole) (to (whole_lines fed) s.taken);
       }
 
   -- d at first, d₁ with lines to take, d₂ behind them, and d₃ with the rest
@@ -207,9 +207,9 @@ module _ (t : TableParts) (o : Options) (fed printed reported : List ℕ) where
         subst (λ x. IsEmptyOrEndsWith x line_feed) (sym shape) (ends_feed (whole_lines fed ++ (d.cut.items ++ before)))
 
     pub stands_more : (d₂ d₃ : Decoder) → d₂.cut.items ≡ [] → d₃.cut.items ≡ d₂.cut.items ++ rest → d₁.ended ≡ d.ended → d₂.ended ≡ d₁.ended → d₃.ended ≡ d₂.ended
-        → ((ls : List ℕ) → HasTaken t o ls printed reported d → HasTaken t o ls printed reported d₁)
-        → ((ls : List ℕ) → IsEmptyOrEndsWith ls line_feed → HasTaken t o ls printed reported d₁ → HasTaken t o (ls ++ d₁.cut.items) printed reported d₂)
-        → ((ls : List ℕ) → HasTaken t o ls printed reported d₂ → HasTaken t o ls printed reported d₃)
+        → ((ls : List ℕ) → HasDecoded t o ls printed reported d → HasDecoded t o ls printed reported d₁)
+        → ((ls : List ℕ) → IsEmptyOrEndsWith ls line_feed → HasDecoded t o ls printed reported d₁ → HasDecoded t o (ls ++ d₁.cut.items) printed reported d₂)
+        → ((ls : List ℕ) → HasDecoded t o ls printed reported d₂ → HasDecoded t o ls printed reported d₃)
         → Stands t o (fed ++ bytes) false printed reported d₃
     unfolding front
     stands_more d₂ d₃ none_left cut₃ log₁ log₂ log₃ to₁ to₂ to₃ =
@@ -218,7 +218,7 @@ module _ (t : TableParts) (o : Options) (fed printed reported : List ℕ) where
         record {
           ended = log₃ ∙ log₂ ∙ log₁ ∙ s.ended;
           fed_is = all ∙ ap (λ x. x ++ rest) (sym is) ∙ ap (λ x. whole_lines (fed ++ bytes) ++ x) (sym left);
-          taken = subst (λ ls. HasTaken t o ls printed reported d₃) (sym is) (to₃ front (to₂ (whole_lines fed) (whole_ends fed) (to₁ (whole_lines fed) s.taken)));
+          taken = subst (λ ls. HasDecoded t o ls printed reported d₃) (sym is) (to₃ front (to₂ (whole_lines fed) (whole_ends fed) (to₁ (whole_lines fed) s.taken)));
         }
 
     pub too_many : most_lines < length (entries o.packing (whole_lines fed ++ d₁.cut.items)) → most_lines < length (entries o.packing (fed ++ bytes))
@@ -236,8 +236,8 @@ module _ (t : TableParts) (o : Options) (fed printed reported : List ℕ) where
 -- a fault while the lines of a piece are taken
 pub spends_more : (d d₁ d₂ : Decoder) (bytes lines rest : List ℕ) (last : ℕ) (fault : RunFault) → lines ≡ take (last + 1) bytes → rest ≡ drop (last + 1) bytes
     → NoneAfter (Passes (is_byte 10) bytes) 0 (length bytes) last → Passes (is_byte 10) bytes last → d₁.cut.items ≡ d.cut.items ++ lines
-    → ((t : TableParts) (o : Options) (ls printed reported : List ℕ) → HasTaken t o ls printed reported d → HasTaken t o ls printed reported d₁)
-    → ((t : TableParts) (o : Options) (ls printed reported : List ℕ) → IsEmptyOrEndsWith ls line_feed → HasTaken t o ls printed reported d₁ → RunsCut t o ls printed reported d₁ d₂ (Err fault))
+    → ((t : TableParts) (o : Options) (ls printed reported : List ℕ) → HasDecoded t o ls printed reported d → HasDecoded t o ls printed reported d₁)
+    → ((t : TableParts) (o : Options) (ls printed reported : List ℕ) → IsEmptyOrEndsWith ls line_feed → HasDecoded t o ls printed reported d₁ → RunsCut t o ls printed reported d₁ d₂ (Err fault))
     → Spends bytes d (refusal_of_run fault)
 spends_more d d₁ d₂ bytes lines rest last of_run.TooManyLines is_lines is_rest none passes cut to runs = λ t o fed printed reported s.
     inl (too_many t o fed printed reported d d₁ bytes lines rest last is_lines is_rest none passes cut s (runs t o (whole_lines fed) printed reported (whole_ends fed) (to t o (whole_lines fed) printed reported s.taken)))
@@ -250,16 +250,16 @@ spends_more d d₁ d₂ bytes lines rest last of_run.Memory is_lines is_rest non
 -- ---- n2k_end
 
 pub ends_log : (d d' d'' : Decoder) → d'.cut.items ≡ [] → d''.cut.items ≡ d'.cut.items → d''.ended ≡ true
-    → ((t : TableParts) (o : Options) (ls printed reported : List ℕ) → IsEmptyOrEndsWith ls line_feed → HasTaken t o ls printed reported d → HasTaken t o (ls ++ d.cut.items) printed reported d')
-    → ((t : TableParts) (o : Options) (ls printed reported : List ℕ) → HasTaken t o ls printed reported d' → HasTaken t o ls printed reported d'') → Ends d d''
+    → ((t : TableParts) (o : Options) (ls printed reported : List ℕ) → IsEmptyOrEndsWith ls line_feed → HasDecoded t o ls printed reported d → HasDecoded t o (ls ++ d.cut.items) printed reported d')
+    → ((t : TableParts) (o : Options) (ls printed reported : List ℕ) → HasDecoded t o ls printed reported d' → HasDecoded t o ls printed reported d'') → EndsLog d d''
 ends_log d d' d'' cut cut' log to to' = λ t o fed printed reported s. record {
   ended = log;
   fed_is = sym (ap (λ x. fed ++ x) (cut' ∙ cut) ∙ append-nil fed);
-  taken = to' t o fed printed reported (subst (λ ls. HasTaken t o ls printed reported d') (sym s.fed_is) (to t o (whole_lines fed) printed reported (whole_ends fed) s.taken));
+  taken = to' t o fed printed reported (subst (λ ls. HasDecoded t o ls printed reported d') (sym s.fed_is) (to t o (whole_lines fed) printed reported (whole_ends fed) s.taken));
 }
 
 pub spends_end : (d d' : Decoder) (fault : RunFault)
-    → ((t : TableParts) (o : Options) (ls printed reported : List ℕ) → IsEmptyOrEndsWith ls line_feed → HasTaken t o ls printed reported d → RunsCut t o ls printed reported d d' (Err fault)) → Spends [] d (refusal_of_run fault)
+    → ((t : TableParts) (o : Options) (ls printed reported : List ℕ) → IsEmptyOrEndsWith ls line_feed → HasDecoded t o ls printed reported d → RunsCut t o ls printed reported d d' (Err fault)) → Spends [] d (refusal_of_run fault)
 spends_end d d' of_run.TooManyLines runs = λ t o fed printed reported s.
     inl (subst (λ x. most_lines < length (entries o.packing x)) (sym (append-nil fed ∙ s.fed_is)) (runs t o (whole_lines fed) printed reported (whole_ends fed) s.taken))
 spends_end d d' of_run.Read runs = λ t o fed printed reported s.
@@ -286,7 +286,7 @@ opened_at t o front d is_t is_p is_e log cut output told whole join =
     record {
       ended = log;
       fed_is = sym (ap (λ x. whole_lines front ++ x) cut ∙ append-nil (whole_lines front) ∙ is);
-      taken = subst (λ ls. HasTaken t o ls (out t o front) (reports t o front) d) (sym is) (record {
+      taken = subst (λ ls. HasDecoded t o ls (out t o front) (reports t o front) d) (sym is) (record {
         table = is_t;
         packing = is_p;
         empty = is_e;

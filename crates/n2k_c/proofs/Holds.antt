@@ -19,7 +19,7 @@ use Rattle.std.specs.contracts.impls.GlobalAllocator.TheImpl as impl
 use Rattle.n2k_c.specs.declared.decoder.Decoder.{Decoder}
 use Rattle.n2k_c.specs.contracts.decoder.Decoder as kept
 use Rattle.n2k_c.specs.contracts.hold.Hold as hold
-use Rattle.n2k_c.specs.Held.{held}
+use Rattle.n2k_c.specs.Held.{owned_of}
 
 abbrev pub R : RattleType
 R = kept.the_row
@@ -40,11 +40,11 @@ abbrev pub word : Ptr → Val
 word p = vstruct (vcons (ptr_val p) vnil)
 
 module _ {M : Type 1} {𝓤 : Ura M} {𝓛 : Logic 𝓤} {K : Type 0} {Γ : List (Item 𝓤)} {G : Goal 𝓤 𝓛.H} where
-  pub hold_out : K → (d : Hold.Denot) (vs : List Val) → (vs ≡ word d.at ∷ [] → Seq K 𝓛 (‵ (held R d.at d.holds) ∷ Γ) G) → Seq K 𝓛 (‵ (Hold.own_val d vs) ∷ Γ) G
+  pub hold_out : K → (d : Hold.Denot) (vs : List Val) → (vs ≡ word d.at ∷ [] → Seq K 𝓛 (‵ (owned_of R d.at d.holds) ∷ Γ) G) → Seq K 𝓛 (‵ (Hold.own_val d vs) ∷ Γ) G
   hold_out t d vs k = fsplit t $ fpick t (λ vss. fsplit t $ feq_l t (λ ev. fsplit t $ feq_l t (λ ep. drop t $
       k (subst (λ (ps : List Val). vs ≡ vstruct (of_list (ps ++ [])) ∷ []) ep ev))))
 
-  pub hold_in : K → (p : Ptr) (x : Option Decoder) → Step K 𝓛 (‵ (Hold.own_val (record { at = p; holds = x }) (word p ∷ [])) ∷ Γ) G (‵ (held R p x) ∷ Γ) G
+  pub hold_in : K → (p : Ptr) (x : Option Decoder) → Step K 𝓛 (‵ (Hold.own_val (record { at = p; holds = x }) (word p ∷ [])) ∷ Γ) G (‵ (owned_of R p x) ∷ Γ) G
   hold_in t p x = step (λ s. nothing t $ feq_i t (List Val) (ptr_val p ∷ []) (ptr_val p ∷ []) refl $ fjoin t $ feq_i t (List Val) (word p ∷ []) (word p ∷ []) refl $ fjoin t $
       fpack t (Valss (RawPtr ∷ [])) (within (shape hold.the_type) (p, tt) (word p ∷ [])) (ptr_val p ∷ [], tt) $ fjoin t $ s)
 

@@ -15,7 +15,7 @@ use Rattle.n2k_c.specs.declared.Settings.{Settings}
 use Rattle.n2k_c.specs.declared.decoder.Decoder.{Decoder}
 use Rattle.n2k_c.specs.declared.refusal.Refusal.{Refusal}
 use Rattle.n2k_c.specs.declared.refusal.Refusal.TheVariants.{Room, Memory, Window, TooMuch, Closed, Open, Ended, Table, State}
-use Rattle.n2k_c.specs.Answers.{Decodes, IsNotUnderWay, NotMade, NotOpened, NotTaken, Spends, options_of}
+use Rattle.n2k_c.specs.Answers.{IsDecoderOf, IsNotUnderWay, NotMade, NotOpened, NotTaken, Spends, settings_options}
 use Rattle.n2k_c.specs.Inner.{refusal_of_state, refusal_of_table}
 use Rattle.n2k_c.specs.Stands.{Stands}
 
@@ -31,7 +31,7 @@ table_refused toml settings handed of_table.Mixed stands = stands (λ e. cc)
 table_refused toml settings handed of_table.TooMany stands = stands (λ e. cc)
 table_refused toml settings handed of_table.Memory stands = tt
 
-state_refused : (toml : List ℕ) (settings : Settings) (handed : Option (List ℕ)) (fault : StateFault) → (fault ≢ of_state.Memory → begun (table toml) (options_of settings) handed ≡ Err fault) → NotMade toml settings handed (refusal_of_state fault)
+state_refused : (toml : List ℕ) (settings : Settings) (handed : Option (List ℕ)) (fault : StateFault) → (fault ≢ of_state.Memory → begun (table toml) (settings_options settings) handed ≡ Err fault) → NotMade toml settings handed (refusal_of_state fault)
 state_refused toml settings handed of_state.NotJson refused = refused (λ e. cc)
 state_refused toml settings handed of_state.Format refused = refused (λ e. cc)
 state_refused toml settings handed of_state.Shape refused = refused (λ e. cc)
@@ -41,9 +41,9 @@ state_refused toml settings handed of_state.WindowDiffers refused = refused (λ 
 state_refused toml settings handed of_state.Memory refused = tt
 
 -- the same, of a table that was read and options that were made
-pub state_refused_by : (toml : List ℕ) (settings : Settings) (handed : Option (List ℕ)) (t : TableParts) (o : Options) (fault : StateFault) → t ≡ table toml → o ≡ options_of settings → (fault ≢ of_state.Memory → begun t o handed ≡ Err fault) → NotMade toml settings handed (refusal_of_state fault)
+pub state_refused_by : (toml : List ℕ) (settings : Settings) (handed : Option (List ℕ)) (t : TableParts) (o : Options) (fault : StateFault) → t ≡ table toml → o ≡ settings_options settings → (fault ≢ of_state.Memory → begun t o handed ≡ Err fault) → NotMade toml settings handed (refusal_of_state fault)
 state_refused_by toml settings handed t o fault is_t is_o refused =
-    state_refused toml settings handed fault (λ e. ap (λ (x : TableParts). begun x (options_of settings) handed) (sym is_t) ∙ ap (λ (x : Options). begun t x handed) (sym is_o) ∙ refused e)
+    state_refused toml settings handed fault (λ e. ap (λ (x : TableParts). begun x (settings_options settings) handed) (sym is_t) ∙ ap (λ (x : Options). begun t x handed) (sym is_o) ∙ refused e)
 
 -- before the first line nothing was printed
 nothing_out : (t : TableParts) (o : Options) → out t o [] ≡ []
@@ -61,8 +61,8 @@ first t o = record { whole_lines = λ some. absurd (omega (arith, some)); leads_
 Gives : TableParts → Options → Option (List ℕ) → Decoder → Type 0
 Gives t o handed d = (front : List ℕ) → IsFront t o front handed → Stands t o front false (out t o front) (reports t o front) d
 
-pub decodes_by : (toml : List ℕ) (settings : Settings) (handed : Option (List ℕ)) (t : TableParts) (o : Options) (d : Decoder) → faults toml ≡ [] → t ≡ table toml → o ≡ options_of settings
-    → ((front : List ℕ) → IsFront t o front handed → Stands t o front false (out t o front) (reports t o front) d) → Decodes toml settings handed d
+pub decodes_by : (toml : List ℕ) (settings : Settings) (handed : Option (List ℕ)) (t : TableParts) (o : Options) (d : Decoder) → faults toml ≡ [] → t ≡ table toml → o ≡ settings_options settings
+    → ((front : List ℕ) → IsFront t o front handed → Stands t o front false (out t o front) (reports t o front) d) → IsDecoderOf toml settings handed d
 unfolding Gives
 decodes_by toml settings handed t o d sound is_t is_o gives =
     let a : Gives t o handed d = gives in
@@ -71,9 +71,9 @@ decodes_by toml settings handed t o d sound is_t is_o gives =
     record {
       sound = sound;
       begins = λ none.
-          let at = c [] (subst (λ (h : Option (List ℕ)). IsFront (table toml) (options_of settings) [] h) (sym none) (first (table toml) (options_of settings))) in
-          let printed = subst (λ (text : List ℕ). Stands (table toml) (options_of settings) [] false text (reports (table toml) (options_of settings) []) d) (nothing_out (table toml) (options_of settings)) at in
-          subst (λ (text : List ℕ). Stands (table toml) (options_of settings) [] false [] text d) (nothing_told (table toml) (options_of settings)) printed;
+          let at = c [] (subst (λ (h : Option (List ℕ)). IsFront (table toml) (settings_options settings) [] h) (sym none) (first (table toml) (settings_options settings))) in
+          let printed = subst (λ (text : List ℕ). Stands (table toml) (settings_options settings) [] false text (reports (table toml) (settings_options settings) []) d) (nothing_out (table toml) (settings_options settings)) at in
+          subst (λ (text : List ℕ). Stands (table toml) (settings_options settings) [] false [] text d) (nothing_told (table toml) (settings_options settings)) printed;
       goes_on = c;
     }
 

@@ -1,5 +1,6 @@
 -- What the calls of C answer.
-use Rattle.std.specs.Prelude.{◌≡◌, ◌⊎◌, ◌<◌, ◌≤◌, ◌+◌, ℕ, Bool, true, false, List, [], ◌++◌, length, if◌then◌else◌, Option, Some, None, IsSome, Err}
+use Rattle.std.specs.Prelude.{◌≡◌, ◌⊎◌, ◌<◌, ◌≤◌, ◌+◌, ℕ, Bool, true, false, if◌then◌else◌, List, [], ◌++◌, length}
+use Rattle.std.specs.Prelude.{Option, Some, None, IsSome, Err}
 use Rattle.std.specs.List.{Contains}
 use Rattle.n2k_wire.specs.declared.entry.Packing.TheVariants as packed
 use Rattle.n2k_table.specs.Table.{TableParts, faults, kind, table}
@@ -17,14 +18,15 @@ use Rattle.n2k_c.specs.declared.Counted.{Counted}
 use Rattle.n2k_c.specs.declared.Settings.{Settings}
 use Rattle.n2k_c.specs.declared.decoder.Decoder.{Decoder}
 use Rattle.n2k_c.specs.declared.refusal.Refusal.{Refusal}
-use Rattle.n2k_c.specs.declared.refusal.Refusal.TheVariants.{Room, Memory, Window, TooMuch, Closed, Open, Ended, Table, State}
+use Rattle.n2k_c.specs.declared.refusal.Refusal.TheVariants.{Room, Memory, Window, TooMuch, Closed, Open, Ended}
+use Rattle.n2k_c.specs.declared.refusal.Refusal.TheVariants.{Table, State}
 use Rattle.n2k_c.specs.Stands.{Stands, taken_of}
 
 -- ---- n2k_open
 
 -- the options that the settings name
-abbrev pub options_of : Settings → Options
-options_of settings = record {
+abbrev pub settings_options : Settings → Options
+settings_options settings = record {
   packing = if settings.whole then packed.Whole else packed.Frames;
   empty = settings.empty;
   window = record { lines = settings.window; in_order = settings.in_order };
@@ -36,25 +38,26 @@ handed_of resumes state = if resumes then Some state else None
 
 -- A decoder of a table without a fault. It stands behind each front of a log whose saved state was handed in, and
 -- without a state before the first line; nothing of it waits.
-pub record Decodes (toml : List ℕ) (settings : Settings) (handed : Option (List ℕ)) (d : Decoder) : Type 0 where
+pub record IsDecoderOf (toml : List ℕ) (settings : Settings) (handed : Option (List ℕ)) (d : Decoder) : Type 0 where
   pub sound : faults toml ≡ []
-  pub begins : handed ≡ None → Stands (table toml) (options_of settings) [] false [] [] d
-  pub goes_on : (front : List ℕ) → IsFront (table toml) (options_of settings) front handed
-      → Stands (table toml) (options_of settings) front false (out (table toml) (options_of settings) front)
-      (reports (table toml) (options_of settings) front) d
+  pub begins : handed ≡ None → Stands (table toml) (settings_options settings) [] false [] [] d
+  pub goes_on : (front : List ℕ) → IsFront (table toml) (settings_options settings) front handed
+      → Stands (table toml) (settings_options settings) front false (out (table toml) (settings_options settings) front)
+      (reports (table toml) (settings_options settings) front) d
 
 -- none was open, and such a decoder is
-pub record Opens (toml : List ℕ) (settings : Settings) (handed : Option (List ℕ)) (old new : Option Decoder) : Type 0 where
+pub record OpensDecoder (toml : List ℕ) (settings : Settings) (handed : Option (List ℕ))
+    (old new : Option Decoder) : Type 0 where
   pub decoder : Decoder
   pub was : old ≡ None
   pub is : new ≡ Some decoder
-  pub decodes : Decodes toml settings handed decoder
+  pub decodes : IsDecoderOf toml settings handed decoder
 
 -- why there is no such decoder
 abbrev pub NotMade : List ℕ → Settings → Option (List ℕ) → Refusal → Type 0
 NotMade toml settings handed Window = IsWindow settings.window → ⊥
 NotMade toml settings handed (Table fault) = Contains (faults toml) fault
-NotMade toml settings handed (State fault) = begun (table toml) (options_of settings) handed ≡ Err fault
+NotMade toml settings handed (State fault) = begun (table toml) (settings_options settings) handed ≡ Err fault
 NotMade toml settings handed Memory = Unit {0}
 NotMade toml settings handed _ = ⊥
 
@@ -86,8 +89,8 @@ Feeds bytes old new =
     → Stands t o (fed ++ bytes) false printed reported new
 
 -- the log has ended, and nothing was printed or reported of it
-abbrev pub Ends : Decoder → Decoder → Type 0
-Ends old new =
+abbrev pub EndsLog : Decoder → Decoder → Type 0
+EndsLog old new =
     (t : TableParts) (o : Options) (fed printed reported : List ℕ) → Stands t o fed false printed reported old
     → Stands t o fed true printed reported new
 
@@ -154,8 +157,8 @@ abbrev pub IsCounted : Counted → Decoder → Type 0
 IsCounted counted d = (c : Counts) × HasCounts c d × (counted ≡ counted_of c)
 
 -- what is saved of the bytes that were taken
-abbrev pub IsSaved : List ℕ → Decoder → Type 0
-IsSaved text d =
+abbrev pub IsStateOf : List ℕ → Decoder → Type 0
+IsStateOf text d =
     (t : TableParts) (o : Options) (fed : List ℕ) (ended : Bool) (printed reported : List ℕ)
     → Stands t o fed ended printed reported d → text ≡ save t o (taken_of ended fed)
 
@@ -176,7 +179,7 @@ NotMoved waiting room_old room_new wanted old new _ = ⊥
 abbrev pub NotSavedInto : List ℕ → List ℕ → ℕ → Decoder → Refusal → Type 0
 NotSavedInto room_old room_new wanted d Memory = Unit {0}
 NotSavedInto room_old room_new wanted d Room =
-    (text : List ℕ) × IsSaved text d × WantsRoom text room_old room_new wanted
+    (text : List ℕ) × IsStateOf text d × WantsRoom text room_old room_new wanted
 NotSavedInto room_old room_new wanted d _ = ⊥
 
 -- why nothing was saved; what is open is as it was

@@ -14,7 +14,7 @@ use Rattle.n2k_run.specs.Reading.{most_reads}
 use Rattle.n2k_c.specs.declared.decoder.Decoder.{Decoder}
 use Rattle.n2k_c.specs.declared.refusal.Refusal.{Refusal}
 use Rattle.n2k_c.specs.declared.refusal.Refusal.TheVariants.{Memory, TooMuch, Table, State}
-use Rattle.n2k_c.specs.Stands.{HasTaken}
+use Rattle.n2k_c.specs.Stands.{HasDecoded}
 
 -- the refusal of each fault: want of memory is one, wherever it comes from
 abbrev pub refusal_of_table : TableFault → Refusal
@@ -32,8 +32,10 @@ refusal_of_run of_run.TooManyLines = TooMuch
 refusal_of_run _ = Memory
 
 -- The line that is cut was taken as it is, behind these bytes.
-abbrev pub RunsCut : TableParts → Options → List ℕ → List ℕ → List ℕ → Decoder → Decoder → Result (Unit {0}) RunFault → Type 0
-RunsCut t o taken printed reported old new (Ok x) = HasTaken t o (taken ++ old.cut.items) printed reported new
-RunsCut t o taken printed reported old new (Err of_run.TooManyLines) = most_lines < length (entries o.packing (taken ++ old.cut.items))
+abbrev pub RunsCut : TableParts → Options → List ℕ → List ℕ → List ℕ → Decoder → Decoder
+    → Result (Unit {0}) RunFault → Type 0
+RunsCut t o taken printed reported old new (Ok x) = HasDecoded t o (taken ++ old.cut.items) printed reported new
+RunsCut t o taken printed reported old new (Err of_run.TooManyLines) =
+    most_lines < length (entries o.packing (taken ++ old.cut.items))
 RunsCut t o taken printed reported old new (Err of_run.Read) = most_reads ≤ length old.cut.items + 1
 RunsCut t o taken printed reported old new (Err _) = Unit {0}

@@ -13,7 +13,7 @@ taken_of ended fed = if ended then fed else whole_lines fed
 
 -- Under this table and these options the decoder has taken these bytes: its join is in their state, and their output
 -- and reports are what was printed and reported, and then what waits.
-pub record HasTaken (t : TableParts) (o : Options) (taken printed reported : List ℕ) (d : Decoder) : Type 0 where
+pub record HasDecoded (t : TableParts) (o : Options) (taken printed reported : List ℕ) (d : Decoder) : Type 0 where
   pub table : d.table ≡ t
   pub packing : d.packing ≡ o.packing
   pub empty : d.empty ≡ o.empty
@@ -26,4 +26,4 @@ pub record Stands (t : TableParts) (o : Options) (fed : List ℕ) (is_whole : Bo
     (d : Decoder) : Type 0 where
   pub ended : d.ended ≡ is_whole
   pub fed_is : fed ≡ taken_of is_whole fed ++ d.cut.items
-  pub taken : HasTaken t o (taken_of is_whole fed) printed reported d
+  pub taken : HasDecoded t o (taken_of is_whole fed) printed reported d

@@ -5,7 +5,8 @@ use Rattle.n2k_table.specs.declared.fault.TableFault.TheVariants as of_table
 use Rattle.n2k_join.specs.declared.fault.StateFault.{StateFault}
 use Rattle.n2k_join.specs.declared.fault.StateFault.TheVariants as of_state
 use Rattle.n2k_c.specs.declared.refusal.Refusal.{Refusal}
-use Rattle.n2k_c.specs.declared.refusal.Refusal.TheVariants.{Room, Memory, Window, TooMuch, Closed, Open, Ended, Table, State}
+use Rattle.n2k_c.specs.declared.refusal.Refusal.TheVariants.{Room, Memory, Window, TooMuch, Closed, Open, Ended}
+use Rattle.n2k_c.specs.declared.refusal.Refusal.TheVariants.{Table, State}
 
 -- a refused table: 100, and the number that the program's fault line has
 abbrev pub table_code : TableFault → ℤ
@@ -42,12 +43,12 @@ code (Table fault) = table_code fault
 code (State fault) = state_code fault
 
 -- 0, or the number of a refusal
-abbrev pub status_of : Result (Unit {0}) Refusal → ℤ
-status_of (Ok done) = pos 0
-status_of (Err refusal) = code refusal
+abbrev pub answer_status : Result (Unit {0}) Refusal → ℤ
+answer_status (Ok done) = pos 0
+answer_status (Err refusal) = code refusal
 
 -- A status says what was done where it is 0, and else why not. No two answers have one status (`statuses_differ`).
 pub record Says (status : ℤ) (Done : Type 0) (Why : Refusal → Type 0) : Type 0 where
   pub answer : Result (Unit {0}) Refusal
-  pub status_is : status ≡ status_of answer
+  pub status_is : status ≡ answer_status answer
   pub says : MatchResult answer (λ _. Done) Why

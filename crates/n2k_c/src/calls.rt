@@ -1,7 +1,7 @@
 //! What the calls do, with their refusals by name.
 ghost use Rattle.std.specs.Prelude.{◌≡◌, [], Err, MatchResult, None, Some, option_map, take};
 ghost use Rattle.n2k_join.specs.Window.{IsWindow};
-ghost use Rattle.n2k_c.specs.Answers.{Decodes, Ends, Feeds, IsClosed, IsCounted, IsNotUnderWay, IsSaved, NotCounted, NotMade, NotMoved, NotOpened, NotSaved, NotSavedInto, NotTaken, Opens, Prints, Tells, Turns, handed_of, options_of};
+ghost use Rattle.n2k_c.specs.Answers.{IsDecoderOf, EndsLog, Feeds, IsClosed, IsCounted, IsNotUnderWay, IsStateOf, NotCounted, NotMade, NotMoved, NotOpened, NotSaved, NotSavedInto, NotTaken, OpensDecoder, Prints, Tells, Turns, handed_of, settings_options};
 ghost use Rattle.n2k_c.specs.declared.refusal.Refusal.TheVariants.{Closed, Window as NoWindow};
 
 use crate::decoder::{self, Decoder, put};
@@ -17,8 +17,8 @@ use std::alloc::Global;
 use std::mem::replace;
 
 /// The options that the settings name.
-fn options_of(settings: &Settings) -> Result<Options, Refusal>
-    ensures { MatchResult result (λ options. options ≡ options_of settings.now)
+fn settings_options(settings: &Settings) -> Result<Options, Refusal>
+    ensures { MatchResult result (λ options. options ≡ settings_options settings.now)
         (λ refusal. (refusal ≡ NoWindow) × (IsWindow settings.now.window → ⊥)) }
 {
     let Some(window) = Window::new(settings.window) else {
@@ -95,10 +95,11 @@ fn made(
     handed: Option<&[u8]>,
     settings: &Settings,
 ) -> Result<Box<Decoder, Global>, Refusal>
-    ensures { MatchResult result (λ b. Decodes toml.now settings.now (option_map (λ bytes. bytes.now) handed.entry) b.value)
+    ensures { MatchResult result
+        (λ b. IsDecoderOf toml.now settings.now (option_map (λ bytes. bytes.now) handed.entry) b.value)
         (NotMade toml.now settings.now (option_map (λ bytes. bytes.now) handed.entry)) }
 {
-    let options = match options_of(settings) {
+    let options = match settings_options(settings) {
         Ok(options) => options,
         Err(refusal) => return Err(refusal),
     };
@@ -116,7 +117,7 @@ fn made(
     }
 }
 
-/// Opens a decoder, where none is open.
+/// OpensDecoder a decoder, where none is open.
 pub fn open(
     alloc: Global,
     toml: &[u8],
@@ -126,7 +127,7 @@ pub fn open(
     h: &mut Handle,
 ) -> Result<(), Refusal>
     ensures { let handed = handed_of resumes state.now in
-        MatchResult result (λ _. Opens toml.now settings.now handed h.old.hold.holds h.new.hold.holds)
+        MatchResult result (λ _. OpensDecoder toml.now settings.now handed h.old.hold.holds h.new.hold.holds)
         (NotOpened toml.now settings.now handed h.old.hold.holds h.new.hold.holds) }
 {
     if h.live {
@@ -176,9 +177,9 @@ pub fn feed(alloc: Global, h: &mut Handle, bytes: &[u8]) -> Result<(), Refusal>
     }
 }
 
-/// Ends the log of what is open.
+/// EndsLog the log of what is open.
 pub fn end(alloc: Global, h: &mut Handle) -> Result<(), Refusal>
-    ensures { MatchResult result (λ _. Turns h.old.hold.holds h.new.hold.holds Ends)
+    ensures { MatchResult result (λ _. Turns h.old.hold.holds h.new.hold.holds EndsLog)
         (NotTaken [] h.old.hold.holds h.new.hold.holds) }
 {
     let mut decoder = match under_way(alloc, h) {
@@ -242,7 +243,8 @@ pub fn take_reports(
 
 /// Tells what the lines count.
 pub fn count(alloc: Global, h: &mut Handle, counted: &mut Counted) -> Result<(), Refusal>
-    ensures { MatchResult result (λ _. Turns h.old.hold.holds h.new.hold.holds (λ from to. (to ≡ from) × IsCounted counted.new from))
+    ensures { MatchResult result (λ _. Turns h.old.hold.holds h.new.hold.holds (λ from to. (to ≡ from)
+        × IsCounted counted.new from))
         (NotCounted h.old.hold.holds h.new.hold.holds) }
 {
     let decoder = match taken(alloc, h) {
@@ -269,7 +271,7 @@ fn save_into(
     room: &mut [u8],
     size: &mut usize,
 ) -> Result<(), Refusal>
-    ensures { MatchResult result (λ _. IsSaved (take size.new room.new) decoder.now)
+    ensures { MatchResult result (λ _. IsStateOf (take size.new room.new) decoder.now)
         (NotSavedInto room.old room.new size.new decoder.now) }
 {
     match decoder.save(alloc) {
@@ -285,7 +287,8 @@ pub fn save(
     room: &mut [u8],
     size: &mut usize,
 ) -> Result<(), Refusal>
-    ensures { MatchResult result (λ _. Turns h.old.hold.holds h.new.hold.holds (λ from to. (to ≡ from) × IsSaved (take size.new room.new) from))
+    ensures { MatchResult result (λ _. Turns h.old.hold.holds h.new.hold.holds (λ from to. (to ≡ from)
+        × IsStateOf (take size.new room.new) from))
         (NotSaved room.old room.new size.new h.old.hold.holds h.new.hold.holds) }
 {
     let decoder = match taken(alloc, h) {

@@ -10,9 +10,9 @@ ghost use Rattle.n2k_run.specs.Decoded.{out, reports};
 ghost use Rattle.n2k_run.specs.Lines.{line_feed};
 ghost use Rattle.n2k_run.specs.Parts.{IsFront, begun};
 ghost use Rattle.n2k_c.specs.declared.refusal.Refusal.TheVariants.{Room};
-ghost use Rattle.n2k_c.specs.Answers.{Ends, Feeds, HasCounts, IsSaved, Prints, Spends, Tells, WantsRoom};
+ghost use Rattle.n2k_c.specs.Answers.{EndsLog, Feeds, HasCounts, IsStateOf, Prints, Spends, Tells, WantsRoom};
 ghost use Rattle.n2k_c.specs.Inner.{RunsCut};
-ghost use Rattle.n2k_c.specs.Stands.{HasTaken, Stands};
+ghost use Rattle.n2k_c.specs.Stands.{HasDecoded, Stands};
 
 use crate::refusal::Refusal;
 use memchr::memrchr;
@@ -65,9 +65,11 @@ pub fn open(
     options: Options,
     handed: Option<&[u8]>,
 ) -> Result<Decoder, StateFault>
-    ensures stands { IfOk result (λ d. (front : List ℕ) → IsFront table options front (option_map (λ bytes. bytes.now) handed.entry)
+    ensures stands { IfOk result (λ d. (front : List ℕ)
+        → IsFront table options front (option_map (λ bytes. bytes.now) handed.entry)
         → Stands table options front false (out table options front) (reports table options front) d) }
-    ensures refused { IfErr result (λ fault. fault ≢ Memory → begun table options (option_map (λ bytes. bytes.now) handed.entry) ≡ Err fault) }
+    ensures refused { IfErr result (λ fault. fault ≢ Memory
+        → begun table options (option_map (λ bytes. bytes.now) handed.entry) ≡ Err fault) }
 {
     let join = begin(alloc, &table, &options, handed)?;
     let Options { packing, empty, .. } = options;
@@ -89,7 +91,7 @@ impl Decoder {
         ensures log { OnOk result (self.new.ended ≡ self.old.ended) }
         ensures cut { OnOk result (self.new.cut.items ≡ []) }
         ensures runs { (t : TableParts) (o : Options) (taken printed reported : List ℕ)
-            → IsEmptyOrEndsWith taken line_feed → HasTaken t o taken printed reported self.old
+            → IsEmptyOrEndsWith taken line_feed → HasDecoded t o taken printed reported self.old
             → RunsCut t o taken printed reported self.old self.new result }
     {
         let options = Options {
@@ -152,7 +154,7 @@ impl Decoder {
 
     /// Takes the line that is cut as the log's last. After a refusal it is spent.
     pub fn end(&mut self, alloc: Global) -> Result<(), Refusal>
-        ensures { MatchResult result (λ _. Ends self.old self.new) (Spends [] self.old) }
+        ensures { MatchResult result (λ _. EndsLog self.old self.new) (Spends [] self.old) }
     {
         match self.run_cut(alloc) {
             Ok(()) => {
@@ -171,7 +173,8 @@ impl Decoder {
         wanted: &mut usize,
     ) -> Result<(), Refusal>
         ensures { MatchResult result (λ _. Prints (take wanted.new room.new) self.old self.new)
-            (λ refusal. (refusal ≡ Room) × (self.new ≡ self.old) × WantsRoom self.old.output.held room.old room.new wanted.new) }
+            (λ refusal. (refusal ≡ Room) × (self.new ≡ self.old)
+            × WantsRoom self.old.output.held room.old room.new wanted.new) }
     {
         drain(alloc, &mut self.output, room, wanted)
     }
@@ -184,7 +187,8 @@ impl Decoder {
         wanted: &mut usize,
     ) -> Result<(), Refusal>
         ensures { MatchResult result (λ _. Tells (take wanted.new room.new) self.old self.new)
-            (λ refusal. (refusal ≡ Room) × (self.new ≡ self.old) × WantsRoom self.old.reports.held room.old room.new wanted.new) }
+            (λ refusal. (refusal ≡ Room) × (self.new ≡ self.old)
+            × WantsRoom self.old.reports.held room.old room.new wanted.new) }
     {
         drain(alloc, &mut self.reports, room, wanted)
     }
@@ -198,7 +202,7 @@ impl Decoder {
 
     /// The state behind the lines that were taken.
     pub fn save(&self, alloc: Global) -> Result<Vec<u8>, AllocError>
-        ensures { IfOk result (λ text. IsSaved text.items self.now) }
+        ensures { IfOk result (λ text. IsStateOf text.items self.now) }
     {
         let text = self.join.save(alloc)?;
         Ok(text)
@@ -226,7 +230,8 @@ fn drain(
     wanted: &mut usize,
 ) -> Result<(), Refusal>
     ensures { MatchResult result (λ _. (take wanted.new room.new ≡ waiting.old.held) × (waiting.new.held ≡ []))
-        (λ refusal. (refusal ≡ Room) × (waiting.new ≡ waiting.old) × WantsRoom waiting.old.held room.old room.new wanted.new) }
+        (λ refusal. (refusal ≡ Room) × (waiting.new ≡ waiting.old)
+        × WantsRoom waiting.old.held room.old room.new wanted.new) }
 {
     put(room, waiting.bytes(), wanted)?;
     *waiting = nothing(alloc);

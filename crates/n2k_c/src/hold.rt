@@ -2,7 +2,7 @@
 ghost use Rattle.std.specs.Prelude.{◌≡◌, Option, Some, None, IsSome};
 ghost use Rattle.n2k_c.specs.declared.decoder.Decoder.{Decoder};
 ghost use Rattle.n2k_c.specs.contracts.decoder.Decoder.{the_row};
-ghost use Rattle.n2k_c.specs.Held.{held};
+ghost use Rattle.n2k_c.specs.Held.{owned_of};
 
 use crate::decoder::Decoder;
 use crate::grip::Grip;
@@ -18,7 +18,7 @@ pub struct Hold {
 }
 
 impl Model for Hold {
-    ghost also_owns = { λ h. held the_row h.at h.holds };
+    ghost also_owns = { λ h. owned_of the_row h.at h.holds };
 }
 
 impl Hold {

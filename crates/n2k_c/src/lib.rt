@@ -2,7 +2,7 @@
 #![tactic(auto)]
 
 ghost use Rattle.std.specs.Prelude.{◌≡◌, [], None, is_some, take};
-ghost use Rattle.n2k_c.specs.Answers.{Ends, Feeds, IsCounted, IsSaved, NotCounted, NotMoved, NotOpened, NotSaved, NotTaken, Opens, Prints, Tells, Turns, handed_of};
+ghost use Rattle.n2k_c.specs.Answers.{EndsLog, Feeds, IsCounted, IsStateOf, NotCounted, NotMoved, NotOpened, NotSaved, NotTaken, OpensDecoder, Prints, Tells, Turns, handed_of};
 ghost use Rattle.n2k_c.specs.Status.{Says};
 
 mod calls;
@@ -57,7 +57,7 @@ pub extern "C" fn n2k_open(
     h: &mut Handle,
 ) -> i32
     ensures { let handed = handed_of resumes state.now in
-        Says result (Opens toml.now settings.now handed h.old.hold.holds h.new.hold.holds)
+        Says result (OpensDecoder toml.now settings.now handed h.old.hold.holds h.new.hold.holds)
         (NotOpened toml.now settings.now handed h.old.hold.holds h.new.hold.holds) }
 {
     status(calls::open(alloc, toml, resumes, state, settings, h))
@@ -72,10 +72,10 @@ pub extern "C" fn n2k_feed(alloc: Global, h: &mut Handle, bytes: &[u8]) -> i32
     status(calls::feed(alloc, h, bytes))
 }
 
-/// Ends the log: its last line is taken, though no line feed ends it.
+/// EndsLog the log: its last line is taken, though no line feed ends it.
 #[unsafe(no_mangle)]
 pub extern "C" fn n2k_end(alloc: Global, h: &mut Handle) -> i32
-    ensures { Says result (Turns h.old.hold.holds h.new.hold.holds Ends)
+    ensures { Says result (Turns h.old.hold.holds h.new.hold.holds EndsLog)
         (NotTaken [] h.old.hold.holds h.new.hold.holds) }
 {
     status(calls::end(alloc, h))
@@ -107,7 +107,8 @@ pub extern "C" fn n2k_take_reports(
 /// Counts the lines that were taken, those before a saved state too.
 #[unsafe(no_mangle)]
 pub extern "C" fn n2k_counts(alloc: Global, h: &mut Handle, counted: &mut Counted) -> i32
-    ensures { Says result (Turns h.old.hold.holds h.new.hold.holds (λ from to. (to ≡ from) × IsCounted counted.new from))
+    ensures { Says result (Turns h.old.hold.holds h.new.hold.holds (λ from to. (to ≡ from)
+        × IsCounted counted.new from))
         (NotCounted h.old.hold.holds h.new.hold.holds) }
 {
     status(calls::count(alloc, h, counted))
@@ -116,7 +117,8 @@ pub extern "C" fn n2k_counts(alloc: Global, h: &mut Handle, counted: &mut Counte
 /// Puts the state behind the lines that were taken into a room, where it fits, and tells how much that is.
 #[unsafe(no_mangle)]
 pub extern "C" fn n2k_save(alloc: Global, h: &mut Handle, room: &mut [u8], size: &mut usize) -> i32
-    ensures { Says result (Turns h.old.hold.holds h.new.hold.holds (λ from to. (to ≡ from) × IsSaved (take size.new room.new) from))
+    ensures { Says result (Turns h.old.hold.holds h.new.hold.holds (λ from to. (to ≡ from)
+        × IsStateOf (take size.new room.new) from))
         (NotSaved room.old room.new size.new h.old.hold.holds h.new.hold.holds) }
 {
     status(calls::save(alloc, h, room, size))

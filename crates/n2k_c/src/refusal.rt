@@ -1,7 +1,7 @@
 //! Why a call did not do what it is for, and the number that tells C.
 ghost use Rattle.std.specs.Prelude.{◌≡◌, Result};
 ghost use Rattle.n2k_c.specs.declared.refusal.Refusal.{Refusal};
-ghost use Rattle.n2k_c.specs.Status.{code, state_code, status_of, table_code};
+ghost use Rattle.n2k_c.specs.Status.{code, state_code, answer_status, table_code};
 
 use n2k_join::StateFault;
 use n2k_run::RunFault;
@@ -120,7 +120,7 @@ fn state_code(fault: StateFault) -> i32
 
 /// The status of an answer.
 pub fn status(answer: Result<(), Refusal>) -> i32
-    ensures { result ≡ status_of answer }
+    ensures { result ≡ answer_status answer }
 {
     match answer {
         Ok(()) => 0,
@@ -138,6 +138,6 @@ pub fn status(answer: Result<(), Refusal>) -> i32
 
 /// No two answers have one status.
 pub fn statuses_differ()
-    ensures { (a b : Result (Unit {0}) Refusal) → status_of a ≡ status_of b → a ≡ b }
+    ensures { (a b : Result (Unit {0}) Refusal) → answer_status a ≡ answer_status b → a ≡ b }
 {
 }

@@ -25,7 +25,7 @@ use Rattle.std.proofs.raw_atomic.Walks.{proved_at, leaves}
 use Rattle.std.specs.Box.Ownership.{box_owns}
 use Rattle.libc.specs.Heap.{chunk}
 use Rattle.n2k_c.specs.declared.decoder.Decoder.{Decoder}
-use Rattle.n2k_c.specs.Held.{held}
+use Rattle.n2k_c.specs.Held.{owned_of}
 use Rattle.n2k_c.proofs.Grips.{pair, allocates, pair_good, grip_in}
 use Rattle.n2k_c.proofs.Holds.{R, Z, LZ, g, Hold, word, hold_out, the, the_is}
 use Rattle.n2k_c.specs.contracts.hold.Hold.into_grip.{ended, clauses}
@@ -40,7 +40,7 @@ into_grip_spec 𝓤 𝓛 𝓜 𝓡 wired =
     proved_at 𝓛 ended hs c 𝓜 𝓡 (Goes-dropped 𝓛 0 (plain (λ _. Hold)) yes (λ κs x f. refl), (Goes-dropped 𝓛 0 (plain (λ _. Z)) yes (λ κs x f. refl), tt)) #self code.function (code.unfolded 𝓤 H 𝓜 𝓡 wired) (λ z are.
     let v = z.0.3.0 in let a = z.0.3.1.0 in let Post : Val → SProp 𝓤 = (walk_of 𝓛 ended hs c).post z in let Run : List Val → SProp 𝓤 = λ ws. WpFn 𝓤 H 𝓣.C 𝓣.Λ code.function ws Post in
     qed 𝓛 ((raw (alive 𝓛 ended.signature z.0.0 z.0.1) ⊛ ‵ (owns (types_at ended.signature.params z.0.0) z.0.3 z.0.4)) ∷ raw (fact 𝓤 (IsSome v.holds)) ∷ []) ∵ move ! (1 ∷ []) $ heard ! (IsSome v.holds) (λ has. let x = the v.holds has in let eh = the_is v.holds has in split ! $ move ! (1 ∷ []) $ fsplit ! $
-    hold_out ! v z.0.4.0 (λ ev. rewrite ! 0 (λ (m : Option Decoder). ‵ (held R v.at m)) eh refl $
+    hold_out ! v z.0.4.0 (λ ev. rewrite ! 0 (λ (m : Option Decoder). ‵ (owned_of R v.at m)) eh refl $
     in_a_block ! v.at (λ p. box_owns chunk R p x) (fst∗ 𝓤 (never 𝓤) (sem 𝓛 (chunk (bare (lone R.mir)) null_ptr))) (λ b o e. move ! (1 ∷ []) $ fsplit ! $
     handle_tells (allocates R Z LZ g) ! a z.0.4.1.0 (λ h ea fits. move ! (2 ∷ 0 ∷ []) $
     let w : Val = word (block_ptr b o) in let is : z.0.4.0 ≡ w ∷ [] = ev ∙ ap (λ (p : Ptr). word p ∷ []) e in
