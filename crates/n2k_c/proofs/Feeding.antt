@@ -302,4 +302,5 @@ value_of d (Ok s) = s
 value_of d (Err fault) = d
 
 pub ok_is : (read : Result State StateFault) (a b : State) → read ≡ Ok a → read ≡ Ok b → a ≡ b
+unfolding value_of
 ok_is read a b is_a is_b = ap (value_of a) (sym is_a ∙ is_b)

@@ -1,5 +1,6 @@
 -- What a call answers, from what its parts do.
-use Rattle.std.proofs.Common.{◌≡◌, ◌≢◌, ◌⊎◌, inl, inr, ℕ, ◌<◌, Bool, false, List, [], length, Option, Some, None, Result, Ok, Err, refl, sym, ap, ◌∙◌, subst, arith}
+use Rattle.std.specs.Prelude.{is_some}
+use Rattle.std.proofs.Common.{◌≡◌, ◌≢◌, true≢false, ◌⊎◌, inl, inr, ℕ, ◌<◌, Bool, false, List, [], length, Option, Some, None, Result, Ok, Err, MatchResult, refl, sym, ap, ◌∙◌, subst, arith}
 use Rattle.std.specs.List.{Contains}
 use Rattle.std.specs.Io.{IsEmptyOrEndsWith}
 use Rattle.n2k_table.specs.Table.{TableParts, faults, table}
@@ -15,7 +16,7 @@ use Rattle.n2k_c.specs.declared.Settings.{Settings}
 use Rattle.n2k_c.specs.declared.decoder.Decoder.{Decoder}
 use Rattle.n2k_c.specs.declared.refusal.Refusal.{Refusal}
 use Rattle.n2k_c.specs.declared.refusal.Refusal.TheVariants.{Room, Memory, Window, TooMuch, Closed, Open, Ended, Table, State}
-use Rattle.n2k_c.specs.Answers.{IsDecoderOf, IsNotUnderWay, NotMade, NotOpened, NotTaken, Spends, settings_options}
+use Rattle.n2k_c.specs.Answers.{IsDecoderOf, NotMade, NotMoved, NotOpened, NotSaved, NotSavedInto, WantsRoom, settings_options}
 use Rattle.n2k_c.specs.Inner.{refusal_of_state, refusal_of_table}
 use Rattle.n2k_c.specs.Stands.{Stands}
 
@@ -77,6 +78,11 @@ decodes_by toml settings handed t o d sound is_t is_o gives =
       goes_on = c;
     }
 
+-- what is not live holds nothing
+pub none_is : (x : Option Decoder) (live : Bool) → live ≡ is_some x → live ≡ false → x ≡ None
+none_is (Some d) live tied off = absurd (true≢false (sym tied ∙ off))
+none_is None live tied off = refl
+
 pub not_opened : (toml : List ℕ) (settings : Settings) (handed : Option (List ℕ)) (old new : Option Decoder) (refusal : Refusal) → new ≡ old → NotMade toml settings handed refusal → NotOpened toml settings handed old new refusal
 not_opened toml settings handed old new Room same why = (same, why)
 not_opened toml settings handed old new Memory same why = (same, why)
@@ -87,3 +93,30 @@ not_opened toml settings handed old new Open same why = absurd why
 not_opened toml settings handed old new Ended same why = (same, why)
 not_opened toml settings handed old new (Table fault) same why = (same, why)
 not_opened toml settings handed old new (State fault) same why = (same, why)
+
+-- ---- a text that did not come into a room
+
+pub not_moved : (Done : Type 0) (waiting : Decoder → List ℕ) (room_old room_new : List ℕ) (wanted : ℕ) (old new : Option Decoder) (from to : Decoder) (refusal : Refusal) (result : Result (Unit {0}) Refusal)
+    → result ≡ Err refusal → refusal ≡ Room → old ≡ Some from → new ≡ Some to → to ≡ from → WantsRoom (waiting from) room_old room_new wanted
+    → MatchResult result (λ _. Done) (NotMoved waiting room_old room_new wanted old new)
+not_moved Done waiting room_old room_new wanted old new from to refusal result answer is was now same why =
+    subst (λ r. MatchResult r (λ _. Done) (NotMoved waiting room_old room_new wanted old new)) (sym (answer ∙ ap (λ r. Err r) is))
+    (record { from = from; to = to; was = was; is = now; how = (same, why) })
+
+not_saved_by : (room_old room_new : List ℕ) (wanted : ℕ) (old new : Option Decoder) (from to : Decoder) (refusal : Refusal) → old ≡ Some from → new ≡ Some to → to ≡ from → NotSavedInto room_old room_new wanted from refusal
+    → NotSaved room_old room_new wanted old new refusal
+not_saved_by room_old room_new wanted old new from to Room was now same why = record { from = from; to = to; was = was; is = now; how = (same, why) }
+not_saved_by room_old room_new wanted old new from to Memory was now same why = record { from = from; to = to; was = was; is = now; how = (same, why) }
+not_saved_by room_old room_new wanted old new from to Window was now same why = absurd why
+not_saved_by room_old room_new wanted old new from to TooMuch was now same why = absurd why
+not_saved_by room_old room_new wanted old new from to Closed was now same why = absurd why
+not_saved_by room_old room_new wanted old new from to Open was now same why = absurd why
+not_saved_by room_old room_new wanted old new from to Ended was now same why = absurd why
+not_saved_by room_old room_new wanted old new from to (Table fault) was now same why = absurd why
+not_saved_by room_old room_new wanted old new from to (State fault) was now same why = absurd why
+
+pub not_saved : (Done : Type 0) (room_old room_new : List ℕ) (wanted : ℕ) (old new : Option Decoder) (from to : Decoder) (refusal : Refusal) (result : Result (Unit {0}) Refusal)
+    → result ≡ Err refusal → old ≡ Some from → new ≡ Some to → to ≡ from → NotSavedInto room_old room_new wanted from refusal
+    → MatchResult result (λ _. Done) (NotSaved room_old room_new wanted old new)
+not_saved Done room_old room_new wanted old new from to refusal result answer was now same why =
+    subst (λ r. MatchResult r (λ _. Done) (NotSaved room_old room_new wanted old new)) (sym answer) (not_saved_by room_old room_new wanted old new from to refusal was now same why)
