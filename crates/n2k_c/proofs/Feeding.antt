@@ -132,7 +132,13 @@ More t o old more before after new result = (front : List ℕ) → IsEmptyOrEnds
 -- the devices of a run whose sinks are what waits
 abbrev pub sinks : List ℕ → List ℕ → ℕ → ℕ → Devices
 sinks output report failed_writes failed_reports = record {
-  left = None; calls = 0; failed_reads = 0; written = Some output; failed_writes = failed_writes; reported = Some report; failed_reports = failed_reports;
+  left = None;
+  calls = 0;
+  failed_reads = 0;
+  written = Some output;
+  failed_writes = failed_writes;
+  reported = Some report;
+  failed_reports = failed_reports;
 }
 
 module _ (t : TableParts) (o : Options) (taken printed reported : List ℕ) (d d' : Decoder) where

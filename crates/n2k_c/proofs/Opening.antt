@@ -1,50 +1,15 @@
 -- What a call answers, from what its parts do.
-use Rattle.std.specs.Prelude.{is_some}
-use Rattle.std.proofs.Common.{◌≡◌, ◌≢◌, true≢false, ◌⊎◌, inl, inr, ℕ, ◌<◌, Bool, false, List, [], length, Option, Some, None, Result, Ok, Err, MatchResult, refl, sym, ap, ◌∙◌, subst, arith}
-use Rattle.std.specs.List.{Contains}
-use Rattle.std.specs.Io.{IsEmptyOrEndsWith}
+use Rattle.std.proofs.Common.{◌≡◌, ℕ, Bool, true, false, true≢false, List, [], Option, Some, None, Result, Ok, Err, MatchResult, is_some, refl, sym, ap, ◌∙◌, subst, arith}
 use Rattle.n2k_table.specs.Table.{TableParts, faults, table}
-use Rattle.n2k_table.specs.declared.fault.TableFault.{TableFault}
-use Rattle.n2k_table.specs.declared.fault.TableFault.TheVariants as of_table
-use Rattle.n2k_join.specs.declared.fault.StateFault.{StateFault}
-use Rattle.n2k_join.specs.declared.fault.StateFault.TheVariants as of_state
 use Rattle.n2k_run.specs.declared.options.Options.{Options}
 use Rattle.n2k_run.specs.Decoded.{out, reports}
-use Rattle.n2k_run.specs.Lines.{line_feed}
-use Rattle.n2k_run.specs.Parts.{IsFront, begun}
+use Rattle.n2k_run.specs.Parts.{IsFront}
 use Rattle.n2k_c.specs.declared.Settings.{Settings}
 use Rattle.n2k_c.specs.declared.decoder.Decoder.{Decoder}
 use Rattle.n2k_c.specs.declared.refusal.Refusal.{Refusal}
 use Rattle.n2k_c.specs.declared.refusal.Refusal.TheVariants.{Room, Memory, Window, TooMuch, Closed, Open, Ended, Table, State}
-use Rattle.n2k_c.specs.Answers.{IsDecoderOf, NotMade, NotMoved, NotOpened, NotSaved, NotSavedInto, WantsRoom, settings_options}
-use Rattle.n2k_c.specs.Inner.{refusal_of_state, refusal_of_table}
+use Rattle.n2k_c.specs.Answers.{IsDecoderOf, NotMoved, NotSaved, NotSavedInto, WantsRoom, settings_options}
 use Rattle.n2k_c.specs.Stands.{Stands}
-
-pub table_refused : (toml : List ℕ) (settings : Settings) (handed : Option (List ℕ)) (fault : TableFault) → (fault ≢ of_table.Memory → Contains (faults toml) fault) → NotMade toml settings handed (refusal_of_table fault)
-table_refused toml settings handed of_table.NotToml stands = stands (λ e. cc)
-table_refused toml settings handed of_table.Format stands = stands (λ e. cc)
-table_refused toml settings handed of_table.Key stands = stands (λ e. cc)
-table_refused toml settings handed of_table.Range stands = stands (λ e. cc)
-table_refused toml settings handed of_table.Text stands = stands (λ e. cc)
-table_refused toml settings handed of_table.Twice stands = stands (λ e. cc)
-table_refused toml settings handed of_table.Lookup stands = stands (λ e. cc)
-table_refused toml settings handed of_table.Mixed stands = stands (λ e. cc)
-table_refused toml settings handed of_table.TooMany stands = stands (λ e. cc)
-table_refused toml settings handed of_table.Memory stands = tt
-
-state_refused : (toml : List ℕ) (settings : Settings) (handed : Option (List ℕ)) (fault : StateFault) → (fault ≢ of_state.Memory → begun (table toml) (settings_options settings) handed ≡ Err fault) → NotMade toml settings handed (refusal_of_state fault)
-state_refused toml settings handed of_state.NotJson refused = refused (λ e. cc)
-state_refused toml settings handed of_state.Format refused = refused (λ e. cc)
-state_refused toml settings handed of_state.Shape refused = refused (λ e. cc)
-state_refused toml settings handed of_state.TableDiffers refused = refused (λ e. cc)
-state_refused toml settings handed of_state.Invalid refused = refused (λ e. cc)
-state_refused toml settings handed of_state.WindowDiffers refused = refused (λ e. cc)
-state_refused toml settings handed of_state.Memory refused = tt
-
--- the same, of a table that was read and options that were made
-pub state_refused_by : (toml : List ℕ) (settings : Settings) (handed : Option (List ℕ)) (t : TableParts) (o : Options) (fault : StateFault) → t ≡ table toml → o ≡ settings_options settings → (fault ≢ of_state.Memory → begun t o handed ≡ Err fault) → NotMade toml settings handed (refusal_of_state fault)
-state_refused_by toml settings handed t o fault is_t is_o refused =
-    state_refused toml settings handed fault (λ e. ap (λ (x : TableParts). begun x (settings_options settings) handed) (sym is_t) ∙ ap (λ (x : Options). begun t x handed) (sym is_o) ∙ refused e)
 
 -- before the first line nothing was printed
 nothing_out : (t : TableParts) (o : Options) → out t o [] ≡ []
@@ -83,24 +48,13 @@ pub none_is : (x : Option Decoder) (live : Bool) → live ≡ is_some x → live
 none_is (Some d) live tied off = absurd (true≢false (sym tied ∙ off))
 none_is None live tied off = refl
 
-pub not_opened : (toml : List ℕ) (settings : Settings) (handed : Option (List ℕ)) (old new : Option Decoder) (refusal : Refusal) → new ≡ old → NotMade toml settings handed refusal → NotOpened toml settings handed old new refusal
-not_opened toml settings handed old new Room same why = (same, why)
-not_opened toml settings handed old new Memory same why = (same, why)
-not_opened toml settings handed old new Window same why = (same, why)
-not_opened toml settings handed old new TooMuch same why = (same, why)
-not_opened toml settings handed old new Closed same why = (same, why)
-not_opened toml settings handed old new Open same why = absurd why
-not_opened toml settings handed old new Ended same why = (same, why)
-not_opened toml settings handed old new (Table fault) same why = (same, why)
-not_opened toml settings handed old new (State fault) same why = (same, why)
-
 -- ---- a text that did not come into a room
 
 pub not_moved : (Done : Type 0) (waiting : Decoder → List ℕ) (room_old room_new : List ℕ) (wanted : ℕ) (old new : Option Decoder) (from to : Decoder) (refusal : Refusal) (result : Result (Unit {0}) Refusal)
     → result ≡ Err refusal → refusal ≡ Room → old ≡ Some from → new ≡ Some to → to ≡ from → WantsRoom (waiting from) room_old room_new wanted
     → MatchResult result (λ _. Done) (NotMoved waiting room_old room_new wanted old new)
 not_moved Done waiting room_old room_new wanted old new from to refusal result answer is was now same why =
-    subst (λ r. MatchResult r (λ _. Done) (NotMoved waiting room_old room_new wanted old new)) (sym (answer ∙ ap (λ r. Err r) is))
+    subst (λ r. MatchResult r (λ _. Done) (NotMoved waiting room_old room_new wanted old new)) (sym (answer ∙ ap (λ (r : Refusal). let e : Result (Unit {0}) Refusal = Err r in e) is))
     (record { from = from; to = to; was = was; is = now; how = (same, why) })
 
 not_saved_by : (room_old room_new : List ℕ) (wanted : ℕ) (old new : Option Decoder) (from to : Decoder) (refusal : Refusal) → old ≡ Some from → new ≡ Some to → to ≡ from → NotSavedInto room_old room_new wanted from refusal

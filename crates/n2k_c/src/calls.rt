@@ -196,12 +196,7 @@ pub fn end(alloc: Global, h: &mut Handle) -> Result<(), Refusal>
 }
 
 /// Moves the output that waits.
-pub fn take(
-    alloc: Global,
-    h: &mut Handle,
-    room: &mut [u8],
-    size: &mut usize,
-) -> Result<(), Refusal>
+pub fn take(alloc: Global, h: &mut Handle, room: &mut [u8], size: &mut usize) -> Result<(), Refusal>
     ensures { MatchResult result (λ _. Turns h.old.hold.holds h.new.hold.holds (Prints (take size.new room.new)))
         (NotMoved (λ d. d.output.held) room.old room.new size.new h.old.hold.holds h.new.hold.holds) }
 {
@@ -281,12 +276,7 @@ fn save_into(
 }
 
 /// Saves the state of what is open.
-pub fn save(
-    alloc: Global,
-    h: &mut Handle,
-    room: &mut [u8],
-    size: &mut usize,
-) -> Result<(), Refusal>
+pub fn save(alloc: Global, h: &mut Handle, room: &mut [u8], size: &mut usize) -> Result<(), Refusal>
     ensures { MatchResult result (λ _. Turns h.old.hold.holds h.new.hold.holds (λ from to. (to ≡ from)
         × IsStateOf (take size.new room.new) from))
         (NotSaved room.old room.new size.new h.old.hold.holds h.new.hold.holds) }

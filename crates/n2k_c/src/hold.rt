@@ -40,6 +40,9 @@ impl Hold {
         ensures { Some result.value ≡ self.holds }
     {
         let Hold { at } = self;
-        Grip { at: at as *mut Decoder, alloc }
+        Grip {
+            at: at as *mut Decoder,
+            alloc,
+        }
     }
 }

@@ -139,5 +139,4 @@ pub fn status(answer: Result<(), Refusal>) -> i32
 /// No two answers have one status.
 pub fn statuses_differ()
     ensures { (a b : Result (Unit {0}) Refusal) → answer_status a ≡ answer_status b → a ≡ b }
-{
-}
+{}
