@@ -99,13 +99,13 @@ class Decoder:
     """A decoder to feed: what it prints of all that it was fed is what `n2kdec decode` prints of the log.
 
     `table` is a file's name, or the bytes of a table; `state` what `save` gave, or the program's `--save`, to go on where
-    that ended. The others are the program's options. A decoder may be used by several threads: one call is done after
-    the other. It is closed by `close`, at the end of a `with`, or once nothing leads to it.
+    that ended. The others are the program's options. A decoder is used by the thread that made it. It is closed by
+    `close`, at the end of a `with`, or once nothing leads to it.
     """
 
     def __init__(self, table: Table, *, state: Optional[bytes] = None, window: int = 10_000, in_order: bool = False,
                  empty: bool = False, whole: bool = False):
-        self._handle, self._lock, self._room = _Handle(), threading.Lock(), ctypes.create_string_buffer(1 << 16)
+        self._handle, self._thread, self._room = _Handle(), threading.get_ident(), ctypes.create_string_buffer(1 << 16)
         global _library
         if _library is None:
             _library = _load()
@@ -117,23 +117,26 @@ class Decoder:
         saved = b"" if state is None else bytes(state)
         self._do(self._calls.n2k_open, toml, len(toml), state is not None, saved, len(saved), settings, self._handle)
 
-    @staticmethod
-    def _do(call: Callable[..., int], *values: Any) -> None:
-        status = call(*values)
+    def _status(self, call: Callable[..., int], *values: Any) -> int:
+        if threading.get_ident() != self._thread:
+            raise RuntimeError("a decoder is used by the thread that made it")
+        return call(*values)
+
+    def _do(self, call: Callable[..., int], *values: Any) -> None:
+        status = self._status(call, *values)
         if status:
             raise Error(status)
 
     def _moved(self, call: Callable[..., int]) -> bytes:
         """What a call puts into a room, which grows where that is too small."""
-        with self._lock:
-            size = ctypes.c_size_t()
+        size = ctypes.c_size_t()
+        status = self._status(call, self._handle, self._room, len(self._room), size)
+        if status == _ROOM:
+            self._room = ctypes.create_string_buffer(2 * size.value)
             status = call(self._handle, self._room, len(self._room), size)
-            if status == _ROOM:
-                self._room = ctypes.create_string_buffer(2 * size.value)
-                status = call(self._handle, self._room, len(self._room), size)
-            if status:
-                raise Error(status)
-            return ctypes.string_at(self._room, size.value)
+        if status:
+            raise Error(status)
+        return ctypes.string_at(self._room, size.value)
 
     def feed(self, data: bytes) -> None:
         """Takes bytes of the log, cut anywhere: lines are taken as they complete.
@@ -141,13 +144,11 @@ class Decoder:
         After `Error` the decoder is closed, and what waited in it is lost; but one whose log has ended stays as it is.
         """
         data = bytes(data)
-        with self._lock:
-            self._do(self._calls.n2k_feed, self._handle, data, len(data))
+        self._do(self._calls.n2k_feed, self._handle, data, len(data))
 
     def end(self) -> None:
         """Ends the log: its last line is taken, though no line feed ends it."""
-        with self._lock:
-            self._do(self._calls.n2k_end, self._handle)
+        self._do(self._calls.n2k_end, self._handle)
 
     def take(self) -> bytes:
         """The JSON lines that were printed since the last call."""
@@ -166,10 +167,9 @@ class Decoder:
     @property
     def counts(self) -> Counts:
         """The counts of all lines that were taken."""
-        with self._lock:
-            counted = _Counted()
-            self._do(self._calls.n2k_counts, self._handle, counted)
-            return Counts(*(getattr(counted, name) for name in Counts._fields))
+        counted = _Counted()
+        self._do(self._calls.n2k_counts, self._handle, counted)
+        return Counts(*(getattr(counted, name) for name in Counts._fields))
 
     def save(self) -> bytes:
         """The state behind the lines that were taken, for a later decoder or `n2kdec decode --resume`.
@@ -180,8 +180,7 @@ class Decoder:
 
     def close(self) -> None:
         """Frees what the decoder has; closing again does nothing."""
-        with self._lock:
-            self._calls.n2k_close(self._handle)
+        self._status(self._calls.n2k_close, self._handle)
 
     def __enter__(self) -> Decoder:
         return self
@@ -190,7 +189,8 @@ class Decoder:
         self.close()
 
     def __del__(self) -> None:
-        if getattr(self, "_calls", None):
+        # On another thread what it has stays behind.
+        if getattr(self, "_calls", None) and threading.get_ident() == self._thread:
             self._calls.n2k_close(self._handle)
 
 
