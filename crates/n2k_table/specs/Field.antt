@@ -1,6 +1,6 @@
 -- What a table says of one field, or the first fault that it has.
-use Rattle.std.specs.Prelude.{ℕ, ◌+◌, ◌%◌, ◌==◌, Bool, false, not, ◌||◌, nat_le, codes, List, Option, Some, None, Result, Ok}
-use Rattle.std.specs.Prelude.{Err, if◌then◌else◌}
+use Rattle.std.specs.Prelude.{ℕ, ◌+◌, ◌-◌, ◌%◌, ◌==◌, Bool, false, not, ◌||◌, nat_le, codes, List, Option, Some, None}
+use Rattle.std.specs.Prelude.{Result, Ok, Err, if◌then◌else◌}
 use Rattle.std.specs.List.{find}
 use Rattle.std.specs.Option.{ok_or}
 use Rattle.std.specs.Str.{bytes_eq}
@@ -22,7 +22,7 @@ use Rattle.n2k_table.specs.Resolution.{resolution_at}
 
 -- the last bit of a message at which a field may begin
 abbrev pub last_bit : ℕ
-last_bit = 1783
+last_bit = message_bits - 1
 
 -- the most bits of a number
 abbrev pub most_number_bits : ℕ

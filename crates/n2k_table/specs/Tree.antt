@@ -1,6 +1,6 @@
 -- One value of a TOML table: of which kind it is, and whether it lies in its range.
-use Rattle.std.specs.Prelude.{ℕ, ℤ, pos, negsuc, Bool, true, false, ◌&&◌, ◌||◌, nat_le, codes, List, [], ◌∷◌, length}
-use Rattle.std.specs.Prelude.{Option, Some, None, Result, Ok, Err, if◌then◌else◌}
+use Rattle.std.specs.Prelude.{ℕ, ◌*◌, ℤ, pos, negsuc, Bool, true, false, ◌&&◌, ◌||◌, nat_le, codes, List, [], ◌∷◌}
+use Rattle.std.specs.Prelude.{length, Option, Some, None, Result, Ok, Err, if◌then◌else◌}
 use Rattle.std.specs.Option.{ok_or}
 use Rattle.std.specs.Str.{bytes_eq}
 use Rattle.std.specs.List.{list_any}
@@ -16,6 +16,7 @@ use Rattle.n2k_table.specs.declared.tree.Holder.{Holder}
 use Rattle.n2k_table.specs.declared.tree.Holder.TheVariants.{Message, Set}
 use Rattle.n2k_table.specs.declared.tree.Section.{Section}
 use Rattle.n2k_table.specs.declared.tree.Section.TheVariants.{Document, Lookup, Definition, Repeat, Field}
+use Rattle.n2k_wire.specs.Packet.{longest_message}
 use Rattle.n2k_wire.specs.Steps.{◌>>=◌, holds_or}
 
 -- the most bytes of a name or a description
@@ -24,7 +25,7 @@ longest_text = 255
 
 -- the bits of the longest message
 abbrev pub message_bits : ℕ
-message_bits = 1784
+message_bits = 8 * longest_message
 
 -- the bits within which a field ends, by what it is part of
 abbrev pub end_of : Holder → ℕ

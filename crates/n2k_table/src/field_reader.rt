@@ -26,7 +26,7 @@ use std::alloc::{AllocError, Global};
 use toml::{Table, Value};
 
 /// The last bit at which a field may begin.
-pub(crate) const LAST_BIT: u32 = 1783;
+pub(crate) const LAST_BIT: u32 = MESSAGE_BITS - 1;
 
 /// The most bits of a number.
 pub(crate) const MOST_NUMBER_BITS: u32 = 64;
