@@ -20,7 +20,7 @@
 //! - `decimal_text` appends a number with its decimals, and `json_line` the line of a message. For the lines of a log,
 //!   one after the other, use `json_line_in`, which keeps the buffer in which a line is put together (`LineBuffer`).
 //!
-//! A table that reads has no fault, and an answered fault stands in it. What a number field shows is its raw
+//! A table that reads has no fault, and a fault that is answered is the first in it. What a number field shows is its raw
 //! value, the sum of its bits times powers of two, taken as two's complement where it is signed, times a
 //! resolution that is kept as whole numbers. So each decimal that is printed is exact: nothing is rounded, and
 //! there is no floating-point number. A message that no definition matches is printed with its data as they are.

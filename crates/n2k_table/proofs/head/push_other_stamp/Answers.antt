@@ -1,4 +1,4 @@
-use Rattle.std.proofs.Common.{ℕ, List, codes, ◌++◌}
+use Rattle.std.proofs.Common.{codes}
 use Rattle.n2k_table.specs.Text.{text_json}
 use Rattle.n2k_table.proofs.Members.{on_ok}
 use Rattle.n2k_table.proofs.Heads.{two_parts}
