@@ -41,11 +41,11 @@ fn are_plain(text: &[u8]) -> bool
 fn characters_json(alloc: Global, numbers: &[u8]) -> Result<Vec<u8>, AllocError>
     ensures { IfOk result (λ bytes. bytes.items ≡ text_json (flat_map character numbers.now)) }
 {
-    let mut text = String::new(alloc);
+    let mut text = String::with_capacity(alloc, 2 * numbers.len())?;
     for number in numbers {
         text.push(char::from(*number))?;
     }
-    text_json(alloc, &text)
+    Value::String(text).to_vec(alloc)
 }
 
 /// Appends such a text where a character of it has an escape or more than one byte. It is not inlined: few texts do.
