@@ -1,5 +1,5 @@
 -- What a raw value shows by what is kept of its field, and numbers whose sign stands apart.
-use Rattle.std.proofs.Common.{◌≡◌, ◌≢◌, ℕ, zero, suc, ◌+◌, ◌-◌, ◌*◌, ◌^◌, ◌<◌, ◌≤◌, Bool, true, false, not, ◌&&◌, ◌||◌, ℤ, pos, negsuc, neg_ℤ, ◌*ℤ◌, List, [], ◌∷◌, if◌then◌else◌, nat_le, nat_lt, unsigned_abs, refl, sym, ap, ◌∙◌, arith, inl, inr}
+use Rattle.std.proofs.Common.{◌≡◌, ◌≢◌, ℕ, zero, suc, ◌+◌, ◌-◌, ◌*◌, ◌^◌, ◌<◌, ◌≤◌, Bool, true, false, not, ◌&&◌, ◌||◌, ℤ, pos, negsuc, neg_ℤ, ◌+ℤ◌, ◌*ℤ◌, List, [], ◌∷◌, if◌then◌else◌, nat_le, nat_lt, unsigned_abs, refl, sym, ap, ◌∙◌, arith, inl, inr}
 use Rattle.std.proofs.Math.IntN.{pos-*ℤ-pos, negsuc-*ℤ-pos}
 use Rattle.std.proofs.lemmas.Int.{ints}
 use Rattle.std.proofs.lemmas.Bool.{le-leb, lt-leb, lt-ltb, le-ltb, cases_Bool, cases_lt}
@@ -10,12 +10,14 @@ use Rattle.n2k_table.specs.declared.field.Meaning.{Meaning as CodeMeaning}
 use Rattle.n2k_table.specs.declared.field.Meaning.TheVariants as code
 use Rattle.n2k_table.specs.declared.number.Number.{Number}
 use Rattle.n2k_table.specs.declared.number.Scale.{Scale}
+use Rattle.n2k_table.specs.declared.number.Shift.{Shift}
+use Rattle.n2k_table.specs.declared.resolution.Resolution.{Resolution}
 use Rattle.n2k_table.specs.Bits.{raw, greatest, signed_value}
 use Rattle.n2k_table.specs.Decimal.{minus, sign_of}
-use Rattle.n2k_table.specs.Field.{FieldParts}
+use Rattle.n2k_table.specs.Field.{FieldParts, Meaning}
 use Rattle.n2k_table.specs.Shown.{ShownParts, absent, number, says_none, shown_number, lies_inside, shown, shown_inside}
 use Rattle.n2k_table.specs.Inner.Kept.{HasRoom, meaning}
-use Rattle.n2k_table.specs.Inner.Number.{IsScale, reserved_values, scaled, value_of}
+use Rattle.n2k_table.specs.Inner.Number.{IsScale, IsShift, reserved_values, scaled, shifted, value_of}
 use Rattle.n2k_table.proofs.RawBits.{pow_le, twice_half}
 
 -- the product of a size and a mantissa, its sign apart
@@ -117,42 +119,76 @@ turned : (b : Bool) (x y : ShownParts) → (if not b then x else y) ≡ (if b th
 turned true x y = refl
 turned false x y = refl
 
-shows_upto : (n r : ℕ) (s : Scale) → IsScale n s → r ≤ greatest s.signed n
-    → (if nat_le r s.max_valid then number (pos r *ℤ pos s.resolution.mantissa) s.resolution.decimals else absent) ≡ shown_number s.signed s.resolution n r
-shows_upto n r s h le =
-    let g = greatest s.signed n in
-    let shows = λ (v : ℤ). number (v *ℤ pos s.resolution.mantissa) s.resolution.decimals in
-    let last : nat_le r s.max_valid ≡ not (says_none s.signed n (pos r)) =
-    ap (nat_le r) h.max_valid ∙ counts n g r le (greatest_of_two s.signed n) (greatest_of_four s.signed n) in
-    ap (λ (b : Bool). if b then shows (pos r) else absent) last ∙ turned (says_none s.signed n (pos r)) (shows (pos r)) absent
-    ∙ sym (ap (λ (v : ℤ). if says_none s.signed n v then absent else shows v) (value_upto s.signed n r le))
+-- up to the greatest value a raw value shows something where it is up to the last that counts
+shows_upto : (shows : ℤ → ShownParts) (signed : Bool) (n r k : ℕ) → k ≡ greatest signed n - reserved_values n → r ≤ greatest signed n
+    → (if nat_le r k then shows (pos r) else absent)
+    ≡ (if says_none signed n (signed_value signed n r) then absent else shows (signed_value signed n r))
+shows_upto shows signed n r k is le =
+    let g = greatest signed n in
+    let last : nat_le r k ≡ not (says_none signed n (pos r)) =
+    ap (nat_le r) is ∙ counts n g r le (greatest_of_two signed n) (greatest_of_four signed n) in
+    ap (λ (b : Bool). if b then shows (pos r) else absent) last ∙ turned (says_none signed n (pos r)) (shows (pos r)) absent
+    ∙ sym (ap (λ (v : ℤ). if says_none signed n v then absent else shows v) (value_upto signed n r le))
 
-shows_past : (signed : Bool) (n r : ℕ) (s : Scale) → s.signed ≡ signed → 1 ≤ n → IsScale n s → r < 2 ^ n → greatest signed n < r
-    → number (neg_ℤ (pos (s.max_raw - r + 1)) *ℤ pos s.resolution.mantissa) s.resolution.decimals ≡ shown_number signed s.resolution n r
-shows_past false n r s is some h lt past = absurd (omega arith)
-shows_past true n r s is some h lt past =
-    let k = 2 ^ n - 1 - r in
-    let shows = λ (v : ℤ). number (v *ℤ pos s.resolution.mantissa) s.resolution.decimals in
-    let none : says_none true n (neg_ℤ (pos (k + 1))) ≡ false =
-    ap (λ j. says_none true n (neg_ℤ (pos j))) (let e : k + 1 ≡ suc k = omega arith in e) ∙ none_below (nat_le 2 n) (nat_le 4 n) in
-    ap (λ a. shows (neg_ℤ (pos (a - r + 1)))) h.max_raw
+-- and past it what is below zero
+shows_past : (shows : ℤ → ShownParts) (signed : Bool) (n r k : ℕ) → k ≡ 2 ^ n - 1 → 1 ≤ n → r < 2 ^ n → greatest signed n < r
+    → shows (neg_ℤ (pos (k - r + 1))) ≡ (if says_none signed n (signed_value signed n r) then absent else shows (signed_value signed n r))
+shows_past shows false n r k is some lt past = absurd (omega arith)
+shows_past shows true n r k is some lt past =
+    let below = 2 ^ n - 1 - r in
+    let none : says_none true n (neg_ℤ (pos (below + 1))) ≡ false =
+    ap (λ j. says_none true n (neg_ℤ (pos j))) (let e : below + 1 ≡ suc below = omega arith in e) ∙ none_below (nat_le 2 n) (nat_le 4 n) in
+    ap (λ a. shows (neg_ℤ (pos (a - r + 1)))) is
     ∙ sym (ap (λ (v : ℤ). if says_none true n v then absent else shows v) (value_past n r some past lt)
-    ∙ ap (λ (b : Bool). if b then absent else shows (neg_ℤ (pos (k + 1)))) none)
+    ∙ ap (λ (b : Bool). if b then absent else shows (neg_ℤ (pos (below + 1)))) none)
+
+-- nothing is added
+plus_zero : (z : ℤ) → z +ℤ pos 0 ≡ z
+plus_zero z = omega (arith, ints)
+
+-- what a sum shows by a resolution
+abbrev sum_shown : ℤ → Resolution → ℤ → ShownParts
+sum_shown offset resolution v = number ((v +ℤ offset) *ℤ pos resolution.mantissa) resolution.decimals
+
+nothing_added : (resolution : Resolution) (v : ℤ) → number (v *ℤ pos resolution.mantissa) resolution.decimals ≡ sum_shown (pos 0) resolution v
+nothing_added resolution v = ap (λ (z : ℤ). number (z *ℤ pos resolution.mantissa) resolution.decimals) (sym (plus_zero v))
 
 -- a raw value shows by what is kept what its bits show
-pub scaled_is : (n r : ℕ) (s : Scale) → 1 ≤ n → IsScale n s → r < 2 ^ n → scaled s r ≡ shown_number s.signed s.resolution n r
+pub scaled_is : (n r : ℕ) (s : Scale) → 1 ≤ n → IsScale n s → r < 2 ^ n → scaled s r ≡ shown_number s.signed (pos 0) s.resolution n r
 scaled_is n r s some h lt =
     let order : s.max_valid ≤ s.max = omega (arith, h.max_valid, h.max) in
+    let shows = sum_shown (pos 0) s.resolution in
     elim (cases_lt s.max r) [
-      | inl past ↦ rw (lt-leb r s.max_valid (omega (arith, order, past)), lt-leb r s.max past) (shows_past s.signed n r s refl some h lt (omega (arith, h.max)))
-      | inr le ↦ rw (le-leb r s.max le) (shows_upto n r s h (omega (arith, h.max)))
+      | inl past ↦
+          rw (lt-leb r s.max_valid (omega (arith, order, past)), lt-leb r s.max past)
+          (nothing_added s.resolution (neg_ℤ (pos (s.max_raw - r + 1))) ∙ shows_past shows s.signed n r s.max_raw h.max_raw some lt (omega (arith, h.max)))
+      | inr le ↦
+          rw (le-leb r s.max le)
+          (ap (λ (x : ShownParts). if nat_le r s.max_valid then x else absent) (nothing_added s.resolution (pos r))
+          ∙ shows_upto shows s.signed n r s.max_valid h.max_valid (omega (arith, h.max)))
     ]
+
+-- the same with an offset
+pub shifted_is : (n r : ℕ) (s : Shift) → IsShift n s → r < 2 ^ n → shifted s r ≡ shown_number false s.offset s.resolution n r
+shifted_is n r s h lt = shows_upto (sum_shown s.offset s.resolution) false n r s.max_valid h.max_valid (omega arith)
+
+-- a field that lies inside the data shows what its bits mean
+lies : (f : FieldParts) (payload : List ℕ) (m : Meaning) → f.meaning ≡ m → lies_inside f payload ≡ true → shown_inside m f payload ≡ shown f payload
+lies f payload m means inside =
+    ap (λ m. shown_inside m f payload) (sym means)
+    ∙ sym (ap (λ (b : Bool). if b then shown_inside f.meaning f payload else absent) inside)
 
 -- a field shows so
 pub field_shows : (f : FieldParts) (payload : List ℕ) (m : CodeMeaning) (s : Scale) (r : ℕ) → f.meaning ≡ meaning m → m ≡ code.Number s → 1 ≤ f.bits
     → HasRoom m f.bits → r ≡ raw payload f.at f.bits → r < 2 ^ f.bits → lies_inside f payload ≡ true → scaled s r ≡ shown f payload
 field_shows f payload m s r means is some room so lt inside =
     let kept : HasRoom (code.Number s) f.bits = rw is at room in
-    scaled_is f.bits r s some kept.1 lt ∙ ap (shown_number s.signed s.resolution f.bits) so
-    ∙ ap (λ m. shown_inside m f payload) (sym (means ∙ ap meaning is))
-    ∙ sym (ap (λ (b : Bool). if b then shown_inside f.meaning f payload else absent) inside)
+    scaled_is f.bits r s some kept.1 lt ∙ ap (shown_number s.signed (pos 0) s.resolution f.bits) so
+    ∙ lies f payload (meaning (code.Number s)) (means ∙ ap meaning is) inside
+
+pub field_shows_shifted : (f : FieldParts) (payload : List ℕ) (m : CodeMeaning) (s : Shift) (r : ℕ) → f.meaning ≡ meaning m → m ≡ code.Shifted s
+    → HasRoom m f.bits → r ≡ raw payload f.at f.bits → r < 2 ^ f.bits → lies_inside f payload ≡ true → shifted s r ≡ shown f payload
+field_shows_shifted f payload m s r means is room so lt inside =
+    let kept : HasRoom (code.Shifted s) f.bits = rw is at room in
+    shifted_is f.bits r s kept.1 lt ∙ ap (shown_number false s.offset s.resolution f.bits) so
+    ∙ lies f payload (meaning (code.Shifted s)) (means ∙ ap meaning is) inside

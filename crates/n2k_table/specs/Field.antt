@@ -1,10 +1,10 @@
 -- What a table says of one field, or the first fault that it has.
-use Rattle.std.specs.Prelude.{ℕ, ◌+◌, ◌%◌, ◌==◌, Bool, false, not, ◌||◌, nat_le, codes, List, Option, Some, None, Result, Ok}
+use Rattle.std.specs.Prelude.{ℕ, ℤ, pos, negsuc, ◌+◌, ◌%◌, ◌==◌, Bool, true, false, not, ◌||◌, nat_le, codes, List, Option, Some, None, Result, Ok}
 use Rattle.std.specs.Prelude.{Err, if◌then◌else◌}
 use Rattle.std.specs.List.{find}
 use Rattle.std.specs.Option.{ok_or}
 use Rattle.std.specs.Str.{bytes_eq}
-use Rattle.toml.specs.Data.{Data, Members, get_member, as_integer}
+use Rattle.toml.specs.Data.{Data, Members, get_member, as_integer, as_str}
 use Rattle.n2k_table.specs.declared.fault.TableFault.{TableFault}
 use Rattle.n2k_table.specs.declared.fault.TableFault.TheVariants.{Key, Range, Text, Lookup}
 use Rattle.n2k_table.specs.declared.field_reader.Span.{Span}
@@ -12,12 +12,13 @@ use Rattle.n2k_table.specs.declared.resolution.Resolution.{Resolution}
 use Rattle.n2k_table.specs.declared.tree.FieldKind.{FieldKind}
 use Rattle.n2k_table.specs.declared.tree.FieldKind.TheVariants as kind
 use Rattle.n2k_table.specs.declared.tree.Holder.{Holder}
+use Rattle.n2k_table.specs.declared.tree.TableFormat.{TableFormat}
 use Rattle.n2k_table.specs.declared.tree.Section.TheVariants.{Field}
 use Rattle.n2k_wire.specs.Steps.{◌>>=◌, holds_or}
 use Rattle.n2k_table.specs.Bits.{greatest}
 use Rattle.n2k_table.specs.Lookup.{LookupParts}
 use Rattle.n2k_table.specs.Tree.{message_bits, end_of, can_match, check_keys, as_members, int_at, any_text_at, text_at}
-use Rattle.n2k_table.specs.Tree.{bool_at, in_range}
+use Rattle.n2k_table.specs.Tree.{bool_at, in_range, checked_text}
 use Rattle.n2k_table.specs.Resolution.{resolution_at}
 
 -- the last bit of a message at which a field may begin
@@ -32,10 +33,14 @@ most_number_bits = 64
 abbrev pub most_lookup_bits : ℕ
 most_lookup_bits = 32
 
--- What the bits of a field mean: a number, in two's complement where it is signed, times its resolution; a value
--- that some names are given for; a text; or bytes as they are.
+-- the greatest offset; the least is as far below zero and one more
+abbrev pub greatest_offset : ℕ
+greatest_offset = 4294967295
+
+-- What the bits of a field mean: a number, in two's complement where it is signed, with an offset added and then
+-- times its resolution; a value that some names are given for; a text; or bytes as they are.
 pub data Meaning : Type 0 where
-  number : Bool → Resolution → Meaning
+  number : Bool → ℤ → Resolution → Meaning
   named : List (ℕ × List ℕ) → Meaning
   text : Meaning
   bytes : Meaning
@@ -88,13 +93,35 @@ span alignment most end m = do
   inside ← holds_or Range (nat_le (at + bits) end)
   Ok (record { at = at; bits = bits })
 
+abbrev pub offset_in_range : ℤ → Result ℤ TableFault
+offset_in_range (pos n) = if nat_le n greatest_offset then Ok (pos n) else Err Range
+offset_in_range (negsuc n) = if nat_le n greatest_offset then Ok (negsuc n) else Err Range
+
+-- What is added to the raw value, nothing where the key is missing. A signed number has no such key.
+abbrev pub offset_or_zero : Bool → Option Data → Result ℤ TableFault
+offset_or_zero signed None = Ok (pos 0)
+offset_or_zero true (Some d) = Err Key
+offset_or_zero false (Some d) = do
+  z ← ok_or (as_integer d) Key
+  offset_in_range z
+
+-- A unit is a text for tools. No line has it.
+abbrev pub check_unit : Option Data → Result (Unit {0}) TableFault
+check_unit None = Ok tt
+check_unit (Some d) = do
+  unit ← ok_or (as_str d) Key
+  checked ← checked_text unit
+  Ok tt
+
 -- a signed number has a bit beside its sign
 unfoldable pub number_of_bits : ℕ → Members → Result Meaning TableFault
 number_of_bits bits f = do
   signed ← bool_at (codes "signed") f
   room ← holds_or Range (not signed || nat_le 2 bits)
   resolution ← resolution_at f
-  Ok (number signed resolution)
+  offset ← offset_or_zero signed (get_member (codes "offset") f)
+  known ← check_unit (get_member (codes "unit") f)
+  Ok (number signed offset resolution)
 
 -- by the lookup of a table that it names
 unfoldable pub named_by : List LookupParts → Members → Result Meaning TableFault
@@ -122,12 +149,12 @@ abbrev pub match_value_of : FieldKind → Holder → ℕ → Members → Result 
 match_value_of kind holder bits f =
     if can_match kind holder then raw_or_none bits (get_member (codes "match") f) else Ok None
 
--- the field that a value spells, in a table of these lookups
-unfoldable pub field : Holder → List LookupParts → Data → Result FieldParts TableFault
-field holder lookups d = do
+-- the field that a value spells, in a table of that format and of these lookups
+unfoldable pub field : TableFormat → Holder → List LookupParts → Data → Result FieldParts TableFault
+field format holder lookups d = do
   f ← as_members d
   kind ← kind_of_field f
-  known ← check_keys (Field kind holder) f
+  known ← check_keys (Field format kind holder) f
   name ← text_at (codes "name") f
   place ← span (alignment kind) (most_bits kind) (end_of holder) f
   meaning ← meaning_of lookups kind place.bits f

@@ -4,6 +4,7 @@ use Rattle.std.specs.List.{range_with_len}
 use Rattle.toml.specs.Data.{Data}
 use Rattle.n2k_table.specs.declared.fault.TableFault.{TableFault}
 use Rattle.n2k_table.specs.declared.tree.Holder.TheVariants.{Set}
+use Rattle.n2k_table.specs.declared.tree.TableFormat.{TableFormat}
 use Rattle.n2k_table.specs.declared.tree.Section.TheVariants.{Repeat}
 use Rattle.n2k_wire.specs.Steps.{◌>>=◌}
 use Rattle.n2k_table.specs.Tree.{message_bits, check_keys, as_members}
@@ -35,11 +36,11 @@ set_shown r payload j = all_shown r.fields (set_bytes r payload j)
 abbrev pub all_sets : RepeatParts → List ℕ → List (List (List ℕ × ShownParts))
 all_sets r payload = map (set_shown r payload) (range_with_len 0 (set_count r (length payload)))
 
--- The repeat that a value spells, in a table of these lookups. Its fields end within a set.
-unfoldable pub repeat : List LookupParts → Data → Result RepeatParts TableFault
-repeat lookups d = do
+-- The repeat that a value spells, in a table of that format and of these lookups. Its fields end within a set.
+unfoldable pub repeat : TableFormat → List LookupParts → Data → Result RepeatParts TableFault
+repeat format lookups d = do
   m ← as_members d
   known ← check_keys Repeat m
   set ← span 8 message_bits message_bits m
-  all ← fields (Set set.bits) lookups m
+  all ← fields format (Set set.bits) lookups m
   Ok (record { at = set.at; bits = set.bits; fields = all })

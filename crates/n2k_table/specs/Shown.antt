@@ -1,5 +1,5 @@
 -- What a field shows of a message.
-use Rattle.std.specs.Prelude.{ℕ, ℤ, pos, ◌*ℤ◌, ◌+◌, ◌*◌, ◌-◌, ◌/◌, ◌==◌, Bool, false, ◌&&◌, ◌||◌, nat_le, List, [], ◌∷◌}
+use Rattle.std.specs.Prelude.{ℕ, ℤ, pos, ◌+ℤ◌, ◌*ℤ◌, ◌+◌, ◌*◌, ◌-◌, ◌/◌, ◌==◌, Bool, false, ◌&&◌, ◌||◌, nat_le, List, [], ◌∷◌}
 use Rattle.std.specs.Prelude.{length, map, slice_range, Option, Some, None, if◌then◌else◌}
 use Rattle.std.specs.List.{list_all}
 use Rattle.std.specs.Ordering.{int_eq}
@@ -37,11 +37,12 @@ abbrev pub says_none : Bool → ℕ → ℤ → Bool
 says_none signed n value =
     (nat_le 2 n && int_eq value (pos (greatest signed n))) || (nat_le 4 n && int_eq value (pos (greatest signed n - 1)))
 
--- a number of n bits, times the mantissa of its resolution
-abbrev pub shown_number : Bool → Resolution → ℕ → ℕ → ShownParts
-shown_number signed resolution n r =
+-- A number of n bits: its value and the offset, times the mantissa of its resolution. Whether it is there says the
+-- value alone.
+abbrev pub shown_number : Bool → ℤ → Resolution → ℕ → ℕ → ShownParts
+shown_number signed offset resolution n r =
     if says_none signed n (signed_value signed n r) then absent
-    else number (signed_value signed n r *ℤ pos resolution.mantissa) resolution.decimals
+    else number ((signed_value signed n r +ℤ offset) *ℤ pos resolution.mantissa) resolution.decimals
 
 -- a value of n bits that has no name: from two bits on the greatest says that none is there
 abbrev pub shown_unnamed : ℕ → ℕ → ShownParts
@@ -72,8 +73,8 @@ field_bytes f payload = slice_range payload (f.at / 8) ((f.at + f.bits) / 8)
 
 -- what a field that lies inside the data shows, by what it means
 abbrev pub shown_inside : Meaning → FieldParts → List ℕ → ShownParts
-shown_inside (means.number signed resolution) f payload =
-    shown_number signed resolution f.bits (raw payload f.at f.bits)
+shown_inside (means.number signed offset resolution) f payload =
+    shown_number signed offset resolution f.bits (raw payload f.at f.bits)
 shown_inside (means.named entries) f payload =
     shown_name (name_of_value entries (raw payload f.at f.bits)) f.bits (raw payload f.at f.bits)
 shown_inside means.text f payload = shown_text (trimmed (field_bytes f payload))

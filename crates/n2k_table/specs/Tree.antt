@@ -9,7 +9,7 @@ use Rattle.toml.specs.Data.{as_bool, as_array, as_table}
 use Rattle.n2k_table.specs.declared.fault.TableFault.{TableFault}
 use Rattle.n2k_table.specs.declared.fault.TableFault.TheVariants.{Key, Range, Text, TooMany}
 use Rattle.n2k_table.specs.declared.tree.TableFormat.{TableFormat}
-use Rattle.n2k_table.specs.declared.tree.TableFormat.TheVariants.{One, Two}
+use Rattle.n2k_table.specs.declared.tree.TableFormat.TheVariants.{One, Two, Three}
 use Rattle.n2k_table.specs.declared.tree.FieldKind.{FieldKind}
 use Rattle.n2k_table.specs.declared.tree.FieldKind.TheVariants as kind
 use Rattle.n2k_table.specs.declared.tree.Holder.{Holder}
@@ -35,10 +35,17 @@ end_of (Set bits) = bits
 abbrev pub is_among : List ℕ → List (List ℕ) → Bool
 is_among key keys = list_any (λ k. bytes_eq key k) keys
 
--- In format 2 a definition may have sets.
+-- From format 2 on a definition may have sets.
 abbrev pub has_sets : TableFormat → Bool
 has_sets One = false
 has_sets Two = true
+has_sets Three = true
+
+-- Format 3 has more keys of fields.
+abbrev pub is_extended : TableFormat → Bool
+is_extended One = false
+is_extended Two = false
+is_extended Three = true
 
 -- the keys that fields of a kind have beside those of every field
 abbrev pub own_keys : FieldKind → List (List ℕ)
@@ -46,6 +53,13 @@ own_keys kind.Number = codes "signed" ∷ codes "resolution" ∷ []
 own_keys kind.Lookup = codes "lookup" ∷ []
 own_keys kind.Text = []
 own_keys kind.Bytes = []
+
+-- the keys of a kind that only a table of format 3 may have
+abbrev pub more_keys : FieldKind → List (List ℕ)
+more_keys kind.Number = codes "offset" ∷ codes "unit" ∷ []
+more_keys kind.Lookup = []
+more_keys kind.Text = []
+more_keys kind.Bytes = []
 
 -- A number or a lookup's value of a message may be asked for. A field of a set can't ask.
 abbrev pub can_match : FieldKind → Holder → Bool
@@ -61,9 +75,10 @@ is_key (Definition format) key =
     is_among key (codes "number" ∷ codes "kind" ∷ codes "description" ∷ codes "fields" ∷ [])
     || (has_sets format && bytes_eq key (codes "repeat"))
 is_key Repeat key = is_among key (codes "at" ∷ codes "bits" ∷ codes "fields" ∷ [])
-is_key (Field kind holder) key =
+is_key (Field format kind holder) key =
     is_among key (codes "name" ∷ codes "kind" ∷ codes "at" ∷ codes "bits" ∷ [])
     || is_among key (own_keys kind)
+    || (is_extended format && is_among key (more_keys kind))
     || (can_match kind holder && bytes_eq key (codes "match"))
 
 -- each key of the table is one that such a section may have

@@ -5,7 +5,7 @@ use crate::bits::raw;
 use crate::field_value::{FieldValue, name_value, text_value};
 use crate::line_buffer::LineBuffer;
 use crate::lookup::Lookup;
-use crate::number::Scale;
+use crate::number::{Scale, Shift};
 use crate::padded_text::PaddedText;
 use std::alloc::AllocError;
 use std::marker::Model;
@@ -16,6 +16,8 @@ use std::rc::Rc;
 pub(crate) enum Meaning {
     /// A number, in two's complement where it is signed, times its resolution.
     Number(Scale),
+    /// A number to which an offset is added, times its resolution.
+    Shifted(Shift),
     /// A value that a lookup gives names for. The fields of a table share its lookups.
     Lookup(Rc<Lookup>),
     /// A text, each byte the character of its number.
@@ -124,6 +126,10 @@ impl Field {
             Meaning::Number(scale) => {
                 let raw = raw(data, self.at, self.bits);
                 return scale.number(raw);
+            }
+            Meaning::Shifted(shift) => {
+                let raw = raw(data, self.at, self.bits);
+                return shift.number(raw);
             }
             Meaning::Lookup(lookup) => {
                 let raw = raw(data, self.at, self.bits);

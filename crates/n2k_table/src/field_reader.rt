@@ -1,5 +1,5 @@
 //! A field, as a table spells it.
-ghost use Rattle.std.specs.Prelude.{◌≡◌, ℕ, ◌≤◌, ◌<◌, ◌+◌, ◌%◌, codes, true, IfOk, IfSome};
+ghost use Rattle.std.specs.Prelude.{◌≡◌, ℕ, ◌≤◌, ◌<◌, ◌+◌, ◌%◌, codes, true, pos, IfOk, IfSome};
 ghost use Rattle.toml.specs.Data.{get_member};
 ghost use Rattle.toml.specs.View.{view, table_view};
 ghost use Rattle.n2k_wire.specs.Views.{Gives};
@@ -7,20 +7,21 @@ ghost use Rattle.n2k_table.specs.Inner.Line.{key_json};
 ghost use Rattle.n2k_table.specs.Inner.Kept.{meaning as seen_meaning, HasRoom};
 ghost use Rattle.n2k_table.specs.Reading.{ReaderGives};
 ghost use Rattle.n2k_table.specs.Tree.{message_bits, end_of};
-ghost use Rattle.n2k_table.specs.Field.{named_field_kind, kind_of_field, alignment, most_bits, multiple_of, span};
+ghost use Rattle.n2k_table.specs.Field.{number, named_field_kind, kind_of_field, alignment, most_bits, multiple_of, span};
+ghost use Rattle.n2k_table.specs.Field.{offset_in_range, offset_or_zero, check_unit};
 ghost use Rattle.n2k_table.specs.Field.{number_of_bits, named_by, meaning_of, raw_or_none, match_value_of, field};
 
 use crate::bits::greatest;
 use crate::fault::TableFault;
 use crate::field::{Field, Meaning};
 use crate::lookup::Lookups;
-use crate::number::Scale;
+use crate::number::{Scale, Shift};
 use crate::padded_text::PaddedText;
-use crate::resolution::resolution_at;
+use crate::resolution::{Resolution, resolution_at};
 use crate::text::text_json;
 use crate::tree::{
-    FieldKind, Holder, MESSAGE_BITS, Section, any_text_at, as_members, bool_at, check_keys, get,
-    int_at, text_at,
+    FieldKind, Holder, MESSAGE_BITS, Section, TableFormat, any_text_at, as_members, bool_at,
+    check_keys, checked_text, get, int_at, text_at,
 };
 use std::alloc::{AllocError, Global};
 use toml::{Table, Value};
@@ -33,6 +34,9 @@ pub(crate) const MOST_NUMBER_BITS: u32 = 64;
 
 /// The most bits of a lookup field.
 pub(crate) const MOST_LOOKUP_BITS: u32 = 32;
+
+/// The greatest offset; the least is as far below zero and one more.
+pub(crate) const GREATEST_OFFSET: i64 = 4294967295;
 
 /// Where bits stand: the first of them, and how many there are.
 #[derive(Clone, Copy)]
@@ -117,6 +121,54 @@ pub(crate) fn span_at(
     Ok(Span { at, bits })
 }
 
+fn offset_in_range(integer: i64) -> Result<i64, TableFault>
+    ensures { Gives (λ offset. offset) result (offset_in_range integer) }
+{
+    if integer > GREATEST_OFFSET || integer < -1 - GREATEST_OFFSET {
+        return Err(TableFault::Range);
+    }
+    Ok(integer)
+}
+
+/// What is added to a raw value, nothing where the key is missing.
+fn offset_or_zero(signed: bool, table: &Table) -> Result<i64, TableFault>
+    ensures { Gives (λ offset. offset) result
+        (offset_or_zero signed (get_member (codes "offset") (table_view table.now))) }
+{
+    let Some(value) = get(table, "offset") else {
+        return Ok(0);
+    };
+    if signed {
+        return Err(TableFault::Key);
+    }
+    offset_in_range(value.as_integer().ok_or(TableFault::Key)?)
+}
+
+/// Refuses a unit that is no text of 1 to 255 bytes.
+fn check_unit(table: &Table) -> Result<(), TableFault>
+    ensures { Gives (λ done. done) result (check_unit (get_member (codes "unit") (table_view table.now))) }
+{
+    let Some(value) = get(table, "unit") else {
+        return Ok(());
+    };
+    checked_text(value.as_str().ok_or(TableFault::Key)?)?;
+    Ok(())
+}
+
+/// What is kept of a number. Few have an offset.
+fn number_meaning(signed: bool, offset: i64, bits: u32, resolution: Resolution) -> Meaning
+    requires some { 1 ≤ bits }
+    requires room { bits ≤ 64 }
+    requires unsigned { signed ≡ true → offset ≡ pos 0 }
+    ensures value { seen_meaning result ≡ number signed offset resolution }
+    ensures room { HasRoom result bits }
+{
+    if offset == 0 {
+        return Meaning::Number(Scale::new(signed, bits, resolution));
+    }
+    Meaning::Shifted(Shift::new(offset, bits, resolution))
+}
+
 #[tactic(auto, unfolding(crate::specs::Field::number_of_bits))]
 fn number_of_bits(bits: u32, table: &Table) -> Result<Meaning, TableFault>
     requires some { 1 ≤ bits }
@@ -129,7 +181,9 @@ fn number_of_bits(bits: u32, table: &Table) -> Result<Meaning, TableFault>
         return Err(TableFault::Range);
     }
     let resolution = resolution_at(table)?;
-    Ok(Meaning::Number(Scale::new(signed, bits, resolution)))
+    let offset = offset_or_zero(signed, table)?;
+    check_unit(table)?;
+    Ok(number_meaning(signed, offset, bits, resolution))
 }
 
 /// What a field means by the lookup that it names.
@@ -209,20 +263,21 @@ fn key_of(alloc: Global, name: &str) -> Result<PaddedText, AllocError>
     Ok(PaddedText::new(key))
 }
 
-/// Reads a field of a message or of a set, in a table of these lookups.
+/// Reads a field of a message or of a set, in a table of this format and of these lookups.
 #[tactic(auto, unfolding(crate::specs::Field::field))]
 pub(crate) fn read_field(
     alloc: Global,
     lookups: &Lookups,
+    format: TableFormat,
     holder: Holder,
     value: &Value,
 ) -> Result<Field, TableFault>
     requires { end_of holder ≤ message_bits }
-    ensures { ReaderGives (λ field. field) result (field holder lookups.now (view value.now)) }
+    ensures { ReaderGives (λ field. field) result (field format holder lookups.now (view value.now)) }
 {
     let table = as_members(value)?;
     let kind = kind_of_field(table)?;
-    check_keys(table, Section::Field(kind, holder))?;
+    check_keys(table, Section::Field(format, kind, holder))?;
     let name = text_at(table, "name")?;
     let span = span_at(table, alignment(kind), most_bits(kind), holder.end())?;
     let meaning = meaning_of(lookups, kind, span.bits, table)?;

@@ -16,6 +16,13 @@ pub(crate) enum FieldValue<'a> {
     Absent,
     /// A number.
     Number(Number),
+    /// A number to which an offset is added, and which may have more bits.
+    Shifted {
+        /// The digits of the number, without its dot.
+        value: i128,
+        /// How many of its digits stand after the dot.
+        decimals: u8,
+    },
     /// The name of a value.
     Name(&'a Name),
     /// A text, without the bytes that fill it up.
@@ -35,6 +42,7 @@ impl<'a> FieldValue<'a> {
                 value: number.value(),
                 decimals: number.resolution.decimals,
             },
+            FieldValue::Shifted { value, decimals } => Shown::Number { value, decimals },
             FieldValue::Name(name) => Shown::Name(name.text()),
             FieldValue::Text(text) => Shown::Text(text),
             FieldValue::Bytes(bytes) => Shown::Bytes(bytes),

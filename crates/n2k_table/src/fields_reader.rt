@@ -12,7 +12,7 @@ use crate::fault::TableFault;
 use crate::field::Field;
 use crate::field_reader::read_field;
 use crate::lookup::Lookups;
-use crate::tree::{Holder, elements_at};
+use crate::tree::{Holder, TableFormat, elements_at};
 use std::alloc::Global;
 use toml::{Table, Value};
 
@@ -44,32 +44,34 @@ pub(crate) fn is_named(fields: &[Field], name: &str) -> bool
 fn each_field(
     alloc: Global,
     lookups: &Lookups,
+    format: TableFormat,
     holder: Holder,
     values: &[Value],
 ) -> Result<Vec<Field>, TableFault>
     requires { end_of holder ≤ message_bits }
-    ensures { ReaderGives (λ fields. fields.items) result (each (field holder lookups.now) (map view values.now)) }
+    ensures { ReaderGives (λ fields. fields.items) result (each (field format holder lookups.now) (map view values.now)) }
 {
     let mut fields = Vec::new(alloc);
     for value in values {
-        fields.push(read_field(alloc, lookups, holder, value)?)?;
+        fields.push(read_field(alloc, lookups, format, holder, value)?)?;
     }
     Ok(fields)
 }
 
-/// Reads the fields of a message or of a set, in a table of these lookups.
+/// Reads the fields of a message or of a set, in a table of this format and of these lookups.
 #[tactic(auto, unfolding(crate::specs::Fields::fields))]
 pub(crate) fn read_fields(
     alloc: Global,
     lookups: &Lookups,
+    format: TableFormat,
     holder: Holder,
     table: &Table,
 ) -> Result<Vec<Field>, TableFault>
     requires { end_of holder ≤ message_bits }
-    ensures { ReaderGives (λ fields. fields.items) result (fields holder lookups.now (table_view table.now)) }
+    ensures { ReaderGives (λ fields. fields.items) result (fields format holder lookups.now (table_view table.now)) }
 {
     let values = elements_at(table, "fields", MOST_FIELDS)?;
-    let fields = each_field(alloc, lookups, holder, values)?;
+    let fields = each_field(alloc, lookups, format, holder, values)?;
     if has_duplicate(&fields) {
         return Err(TableFault::Twice);
     }

@@ -2,6 +2,7 @@
 ghost use Rattle.std.specs.Prelude.{◌≡◌, ◌++◌, ◌+◌, ◌*◌, ◌≤◌, ◌||◌, true, is_some, nat_lt, codes, if◌then◌else◌};
 ghost use Rattle.std.specs.Prelude.{decimal, length, map, IfOk, IfSome, OnOk, OnErr, Some};
 ghost use Rattle.n2k_table.specs.Shown.{shown, all_shown};
+ghost use Rattle.n2k_table.specs.Decimal.{dec};
 ghost use Rattle.std.specs.List.{flat_map, join_with_byte};
 ghost use Rattle.n2k_table.specs.Repeat.{set_shown, all_sets};
 ghost use Rattle.n2k_table.specs.Json.{comma, member_json, members, set_json, list_json, message_members};
@@ -9,7 +10,7 @@ ghost use Rattle.n2k_table.specs.Json.{unmatched_json, chosen_json, json};
 ghost use Rattle.n2k_table.specs.Inner.Line.{are_null, has_members, key_json, member_text};
 ghost use Rattle.n2k_table.specs.Text.{text_json, character, hex_pairs};
 
-use crate::decimal::push_number;
+use crate::decimal::{push_decimal, push_number};
 use crate::definition::Definition;
 use crate::field::Field;
 use crate::field_value::FieldValue;
@@ -53,14 +54,28 @@ fn push_pgn(pgn: u32, line: &mut LineBuffer) -> Result<(), AllocError>
     line.extend_from_slice(buffer.format(pgn).as_bytes())
 }
 
-/// Appends the value of a member that is there, behind its key: `null`, a text, or bytes. They are not inlined: most
-/// fields are numbers and names.
+/// Appends the value of a member that is there, behind its key: `null`, a number with an offset, a text, or bytes. They
+/// are not inlined: most fields are numbers and names.
 #[inline(never)]
 fn push_null(field: &Field, later: bool, line: &mut LineBuffer) -> Result<(), AllocError>
     ensures { OnOk result (line.new.items ≡ line.old.items ++ (key_json later field.now.name ++ codes "null")) }
 {
     field.push_key(later, line)?;
     line.extend_from_slice(b"null")
+}
+
+#[inline(never)]
+fn push_shifted(
+    field: &Field,
+    value: i128,
+    decimals: u8,
+    later: bool,
+    line: &mut LineBuffer,
+) -> Result<(), AllocError>
+    ensures { OnOk result (line.new.items ≡ line.old.items ++ (key_json later field.now.name ++ dec value decimals)) }
+{
+    field.push_key(later, line)?;
+    push_decimal(value, decimals, line)
 }
 
 #[inline(never)]
@@ -113,6 +128,9 @@ fn push_member(
         FieldValue::Number(number) => {
             field.push_key(later, line)?;
             push_number(number, line)?;
+        }
+        FieldValue::Shifted { value, decimals } => {
+            push_shifted(field, value, decimals, later, line)?
         }
         FieldValue::Name(name) => {
             field.push_key(later, line)?;

@@ -1,6 +1,6 @@
 //! What some bits show as a number.
 ghost use Rattle.std.specs.Prelude.{◌≡◌, ◌≤◌};
-ghost use Rattle.n2k_table.specs.Inner.Number.{reserved_values, scaled, value_of, IsScale};
+ghost use Rattle.n2k_table.specs.Inner.Number.{reserved_values, scaled, shifted, value_of, IsScale, IsShift};
 ghost use Rattle.n2k_table.specs.Inner.FieldValue.{value_parts};
 
 use crate::bits::greatest;
@@ -41,6 +41,17 @@ pub(crate) struct Scale {
     pub(crate) max: u64,
     /// The greatest raw value.
     pub(crate) max_raw: u64,
+}
+
+/// How some bits make a number to which an offset is added.
+#[derive(Clone, Copy)]
+pub(crate) struct Shift {
+    /// What is added to the value of the bits.
+    pub(crate) offset: i64,
+    /// What the sum is multiplied with.
+    pub(crate) resolution: Resolution,
+    /// The greatest value of the bits that counts. Those above say that none is there.
+    pub(crate) max_valid: u64,
 }
 
 /// How many values of so many bits say that none is there.
@@ -95,5 +106,37 @@ impl Scale {
             size: self.max_raw - raw + 1,
             resolution: self.resolution,
         })
+    }
+}
+
+impl Shift {
+    /// How bits make a number by an offset and a resolution.
+    pub(crate) fn new(offset: i64, bits: u32, resolution: Resolution) -> Shift
+        requires some { 1 ≤ bits }
+        requires room { bits ≤ 64 }
+        ensures offset { result.offset ≡ offset }
+        ensures resolution { result.resolution ≡ resolution }
+        ensures kept { IsShift bits result }
+    {
+        Shift {
+            offset,
+            resolution,
+            max_valid: greatest(false, bits).saturating_sub(reserved_values(bits)),
+        }
+    }
+
+    /// What bits of that raw value show. It is not inlined: few numbers have an offset.
+    #[inline(never)]
+    pub(crate) fn number<'a>(&self, raw: u64) -> FieldValue<'a>
+        ensures { value_parts result ≡ shifted self.now raw }
+    {
+        if raw > self.max_valid {
+            return FieldValue::Absent;
+        }
+        let sum = i128::from(raw) + i128::from(self.offset);
+        FieldValue::Shifted {
+            value: sum * i128::from(self.resolution.mantissa),
+            decimals: self.resolution.decimals,
+        }
     }
 }

@@ -10,7 +10,7 @@ use crate::field_reader::span_at;
 use crate::fields_reader::read_fields;
 use crate::lookup::Lookups;
 use crate::shown::Fields;
-use crate::tree::{Holder, MESSAGE_BITS, Section, as_members, check_keys};
+use crate::tree::{Holder, MESSAGE_BITS, Section, TableFormat, as_members, check_keys};
 use std::alloc::Global;
 use std::marker::Model;
 use toml::Value;
@@ -122,19 +122,20 @@ impl<'a> Iterator for Sets<'a> {
     }
 }
 
-/// Reads what repeats, in a table of these lookups.
+/// Reads what repeats, in a table of this format and of these lookups.
 #[tactic(auto, unfolding(crate::specs::Repeat::repeat))]
 pub(crate) fn read_repeat(
     alloc: Global,
     lookups: &Lookups,
+    format: TableFormat,
     value: &Value,
 ) -> Result<Repeat, TableFault>
-    ensures { ReaderGives (λ r. r) result (repeat lookups.now (view value.now)) }
+    ensures { ReaderGives (λ r. r) result (repeat format lookups.now (view value.now)) }
 {
     let table = as_members(value)?;
     check_keys(table, Section::Repeat)?;
     let set = span_at(table, 8, MESSAGE_BITS, MESSAGE_BITS)?;
-    let fields = read_fields(alloc, lookups, Holder::Set(set.bits), table)?;
+    let fields = read_fields(alloc, lookups, format, Holder::Set(set.bits), table)?;
     Ok(Repeat {
         first: set.at / 8,
         size: set.bits / 8,

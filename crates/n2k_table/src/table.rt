@@ -25,7 +25,7 @@ use toml::Value;
 pub(crate) const MOST_DEFINITIONS: usize = 4096;
 
 /// The newest format of a table.
-pub(crate) const NEWEST_FORMAT: u32 = 2;
+pub(crate) const NEWEST_FORMAT: u32 = 3;
 
 /// A table of messages: which PGNs there are, how they are sent, and what their bits mean.
 #[derive(Drop)]
@@ -88,7 +88,8 @@ fn format_of(top: &toml::Table) -> Result<TableFormat, TableFault>
 {
     match int_at(top, "format", 1, NEWEST_FORMAT) {
         Ok(1) => Ok(TableFormat::One),
-        Ok(_) => Ok(TableFormat::Two),
+        Ok(2) => Ok(TableFormat::Two),
+        Ok(_) => Ok(TableFormat::Three),
         Err(_) => Err(TableFault::Format),
     }
 }
@@ -136,7 +137,7 @@ impl Table {
         })
     }
 
-    /// Reads a table: the bytes of a TOML 1.1 document in UTF-8, of format 1 or 2 (docs/PROFILE.md has the
+    /// Reads a table: the bytes of a TOML 1.1 document in UTF-8, of format 1, 2 or 3 (docs/PROFILE.md has the
     /// formats). A table with the line `format = 1` alone is one without messages.
     ///
     /// A document in which a fault stands is refused. Of several faults the first is answered, in the order that
@@ -145,7 +146,7 @@ impl Table {
     /// ```rust
     /// let table = Table::read(alloc, "format = 1\n".as_bytes())?;
     /// assert_eq!(rt; table.kind(129026), None);
-    /// let refused = Table::read(alloc, "format = 3\n".as_bytes());
+    /// let refused = Table::read(alloc, "format = 4\n".as_bytes());
     /// assert!(rt; matches!(refused, Err(TableFault::Format)));
     /// ```
     pub fn read(alloc: Global, bytes: &[u8]) -> Result<Table, TableFault>

@@ -23,6 +23,8 @@ pub(crate) enum TableFormat {
     One,
     /// With sets: a definition may have a key `repeat`.
     Two,
+    /// With offsets and units of numbers too.
+    Three,
 }
 
 /// What a field says that its bits are.
@@ -58,12 +60,12 @@ pub(crate) enum Section {
     Definition(TableFormat),
     /// What repeats in a message.
     Repeat,
-    /// A field of this kind.
-    Field(FieldKind, Holder),
+    /// A field of this kind, in a table of this format.
+    Field(TableFormat, FieldKind, Holder),
 }
 
 impl TableFormat {
-    ghost use Rattle.n2k_table.specs.Tree.{has_sets};
+    ghost use Rattle.n2k_table.specs.Tree.{has_sets, is_extended};
 
     /// Whether a definition may have sets.
     fn has_sets(self) -> bool
@@ -71,13 +73,23 @@ impl TableFormat {
     {
         match self {
             TableFormat::One => false,
-            TableFormat::Two => true,
+            TableFormat::Two | TableFormat::Three => true,
+        }
+    }
+
+    /// Whether it is format 3, in which fields have more keys.
+    fn is_extended(self) -> bool
+        ensures { result ≡ is_extended self }
+    {
+        match self {
+            TableFormat::One | TableFormat::Two => false,
+            TableFormat::Three => true,
         }
     }
 }
 
 impl FieldKind {
-    ghost use Rattle.n2k_table.specs.Tree.{is_among, own_keys, can_match};
+    ghost use Rattle.n2k_table.specs.Tree.{is_among, own_keys, more_keys, can_match};
 
     /// Whether a key is one that fields of the kind have beside those of every field.
     fn has_key(self, key: &str) -> bool
@@ -87,6 +99,16 @@ impl FieldKind {
             FieldKind::Number => key == "signed" || key == "resolution",
             FieldKind::Lookup => key == "lookup",
             FieldKind::Text | FieldKind::Bytes => false,
+        }
+    }
+
+    /// Whether a key is one that fields of the kind have in format 3 alone.
+    fn has_more_key(self, key: &str) -> bool
+        ensures { result ≡ is_among key.now (more_keys self) }
+    {
+        match self {
+            FieldKind::Number => key == "offset" || key == "unit",
+            FieldKind::Lookup | FieldKind::Text | FieldKind::Bytes => false,
         }
     }
 
@@ -132,12 +154,13 @@ impl Section {
                     || (format.has_sets() && key == "repeat")
             }
             Section::Repeat => key == "at" || key == "bits" || key == "fields",
-            Section::Field(kind, holder) => {
+            Section::Field(format, kind, holder) => {
                 key == "name"
                     || key == "kind"
                     || key == "at"
                     || key == "bits"
                     || kind.has_key(key)
+                    || (format.is_extended() && kind.has_more_key(key))
                     || (kind.can_match(holder) && key == "match")
             }
         }

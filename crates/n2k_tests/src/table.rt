@@ -4,6 +4,7 @@ mod choosing;
 mod cuts;
 mod fields;
 mod first_faults;
+mod format_3;
 mod limits;
 mod lines;
 mod reading;

@@ -8,6 +8,7 @@ use Rattle.n2k_table.specs.Inner.Number.{value_of}
 abbrev pub value_parts : FieldValue → ShownParts
 value_parts code.Absent = absent
 value_parts (code.Number n) = number (value_of n) n.resolution.decimals
+value_parts (code.Shifted value decimals) = number value decimals
 value_parts (code.Name n) = name n.now
 value_parts (code.Text t) = text t.now
 value_parts (code.Bytes b) = bytes b.now

@@ -1,15 +1,16 @@
 -- What the code keeps of a field, and that it is a field that can be shown.
-use Rattle.std.specs.Prelude.{◌≡◌, ◌≤◌, ℕ, ◌+◌, true, List, Option, IfSome}
+use Rattle.std.specs.Prelude.{◌≡◌, ◌≤◌, ℕ, pos, ◌+◌, true, false, List, Option, IfSome}
 use Rattle.n2k_table.specs.declared.field.Meaning.{Meaning as CodeMeaning}
 use Rattle.n2k_table.specs.declared.field.Meaning.TheVariants as code
 use Rattle.n2k_table.specs.Field.{Meaning, number, named, text, bytes, most_number_bits}
 use Rattle.n2k_table.specs.Tree.{message_bits}
 use Rattle.n2k_table.specs.Inner.Line.{key_json}
-use Rattle.n2k_table.specs.Inner.Number.{IsScale}
+use Rattle.n2k_table.specs.Inner.Number.{IsScale, IsShift}
 
 -- what the bits mean, as contracts see it
 abbrev pub meaning : CodeMeaning → Meaning
-meaning (code.Number scale) = number scale.signed scale.resolution
+meaning (code.Number scale) = number scale.signed (pos 0) scale.resolution
+meaning (code.Shifted shift) = number false shift.offset shift.resolution
 meaning (code.Lookup lookup) = named lookup.value.entries
 meaning code.Text = text
 meaning code.Bytes = bytes
@@ -17,6 +18,7 @@ meaning code.Bytes = bytes
 -- a text or bytes
 abbrev pub IsByteMeaning : CodeMeaning → Type 0
 IsByteMeaning (code.Number scale) = ⊥
+IsByteMeaning (code.Shifted shift) = ⊥
 IsByteMeaning (code.Lookup lookup) = ⊥
 IsByteMeaning code.Text = Unit {0}
 IsByteMeaning code.Bytes = Unit {0}
@@ -24,6 +26,7 @@ IsByteMeaning code.Bytes = Unit {0}
 -- so many bits can have the meaning, and what is kept of a number is of so many
 abbrev pub HasRoom : CodeMeaning → ℕ → Type 0
 HasRoom (code.Number scale) bits = (bits ≤ most_number_bits) × IsScale bits scale
+HasRoom (code.Shifted shift) bits = (bits ≤ most_number_bits) × IsShift bits shift
 HasRoom (code.Lookup lookup) bits = bits ≤ most_number_bits
 HasRoom code.Text bits = Unit {0}
 HasRoom code.Bytes bits = Unit {0}

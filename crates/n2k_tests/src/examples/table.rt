@@ -25,7 +25,7 @@ fn tables_read(rt: HostRuntime) -> Result<(), Fail> {
     let alloc = rt.alloc();
     let table = Table::read(alloc, "format = 1\n".as_bytes())?;
     assert_eq!(rt; table.kind(129026), None);
-    let refused = Table::read(alloc, "format = 3\n".as_bytes());
+    let refused = Table::read(alloc, "format = 4\n".as_bytes());
     assert!(rt; matches!(refused, Err(TableFault::Format)));
     Ok(())
 }

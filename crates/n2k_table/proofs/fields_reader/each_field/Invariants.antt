@@ -8,4 +8,5 @@ use Rattle.n2k_table.proofs.fields_reader.each_field.Given as goal
 
 abbrev pub invariant-loop-value : goal.invariant-loop-value
 invariant-loop-value l =
-    after l.fields.items (each (field l.holder l.lookups) (map view (drop l.value-index l.values))) ≡ each (field l.holder l.lookups) (map view l.values)
+    after l.fields.items (each (field l.format l.holder l.lookups) (map view (drop l.value-index l.values)))
+    ≡ each (field l.format l.holder l.lookups) (map view l.values)

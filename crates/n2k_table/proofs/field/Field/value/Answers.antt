@@ -1,7 +1,7 @@
 use Rattle.std.proofs.Common.{refl, sym, ap, ◌∙◌}
 use Rattle.n2k_table.specs.Field.{FieldParts}
 use Rattle.n2k_table.specs.Shown.{lies_inside, shown}
-use Rattle.n2k_table.proofs.Numbers.{field_shows}
+use Rattle.n2k_table.proofs.Numbers.{field_shows, field_shows_shifted}
 use Rattle.n2k_table.proofs.field.Field.value.Goals as goal
 
 pub returns-in-Number : goal.returns-in-Number
@@ -11,4 +11,13 @@ returns-in-Number c =
     let inside = ap (λ (f : FieldParts). lies_inside f payload) c.self.view_is ∙ sym c.if-not-lies_inside.ensures in
     c.number.ensures
     ∙ field_shows _ payload c.self.inside.meaning c.in-Number.scale c.raw-raw.result refl c.in-Number.is kept.some kept.room c.raw-raw.ensures.value c.raw-raw.ensures.range inside
+    ∙ ap (λ (f : FieldParts). shown f payload) c.self.view_is
+
+pub returns-in-Shifted : goal.returns-in-Shifted
+returns-in-Shifted c =
+    let payload = c.args.«data».now in
+    let kept = c.self.invariant in
+    let inside = ap (λ (f : FieldParts). lies_inside f payload) c.self.view_is ∙ sym c.if-not-lies_inside.ensures in
+    c.number-in-Shifted.ensures
+    ∙ field_shows_shifted _ payload c.self.inside.meaning c.in-Shifted.shift _ refl c.in-Shifted.is kept.room c.raw-raw-in-Shifted.ensures.value c.raw-raw-in-Shifted.ensures.range inside
     ∙ ap (λ (f : FieldParts). shown f payload) c.self.view_is
