@@ -5,7 +5,7 @@ ghost use Rattle.n2k_table.specs.Shown.{shown_parts, shown_name, shown_text, is_
 
 use crate::bits::greatest;
 use crate::lookup::Name;
-use crate::number::Number;
+use crate::number::{Number, Shift};
 use crate::resolution::ONE;
 use crate::shown::Shown;
 
@@ -16,13 +16,8 @@ pub(crate) enum FieldValue<'a> {
     Absent,
     /// A number.
     Number(Number),
-    /// A number to which an offset is added, and which may have more bits.
-    Shifted {
-        /// The digits of the number, without its dot.
-        value: i128,
-        /// How many of its digits stand after the dot.
-        decimals: u8,
-    },
+    /// A number to which an offset is added: how, and the raw value.
+    Shifted(&'a Shift, u64),
     /// The name of a value.
     Name(&'a Name),
     /// A text, without the bytes that fill it up.
@@ -42,7 +37,10 @@ impl<'a> FieldValue<'a> {
                 value: number.value(),
                 decimals: number.resolution.decimals,
             },
-            FieldValue::Shifted { value, decimals } => Shown::Number { value, decimals },
+            FieldValue::Shifted(shift, raw) => Shown::Number {
+                value: shift.value(raw),
+                decimals: shift.resolution.decimals,
+            },
             FieldValue::Name(name) => Shown::Name(name.text()),
             FieldValue::Text(text) => Shown::Text(text),
             FieldValue::Bytes(bytes) => Shown::Bytes(bytes),

@@ -7,6 +7,7 @@ ghost use Rattle.std.specs.List.{flat_map, join_with_byte};
 ghost use Rattle.n2k_table.specs.Repeat.{set_shown, all_sets};
 ghost use Rattle.n2k_table.specs.Json.{comma, member_json, members, set_json, list_json, message_members};
 ghost use Rattle.n2k_table.specs.Json.{unmatched_json, chosen_json, json};
+ghost use Rattle.n2k_table.specs.Inner.Number.{shifted_value};
 ghost use Rattle.n2k_table.specs.Inner.Line.{are_null, has_members, key_json, member_text};
 ghost use Rattle.n2k_table.specs.Text.{text_json, character, hex_pairs};
 
@@ -16,6 +17,7 @@ use crate::field::Field;
 use crate::field_value::FieldValue;
 use crate::head::push_head;
 use crate::line_buffer::LineBuffer;
+use crate::number::Shift;
 use crate::repeat::Repeat;
 use crate::table::Table;
 use crate::text::{push_characters, push_pairs};
@@ -67,15 +69,16 @@ fn push_null(field: &Field, later: bool, line: &mut LineBuffer) -> Result<(), Al
 #[inline(never)]
 fn push_shifted(
     field: &Field,
-    value: i128,
-    decimals: u8,
+    shift: &Shift,
+    raw: u64,
     later: bool,
     line: &mut LineBuffer,
 ) -> Result<(), AllocError>
-    ensures { OnOk result (line.new.items ≡ line.old.items ++ (key_json later field.now.name ++ dec value decimals)) }
+    ensures { let value = dec (shifted_value shift.now raw) shift.now.resolution.decimals in
+        OnOk result (line.new.items ≡ line.old.items ++ (key_json later field.now.name ++ value)) }
 {
     field.push_key(later, line)?;
-    push_decimal(value, decimals, line)
+    push_decimal(shift.value(raw), shift.resolution.decimals, line)
 }
 
 #[inline(never)]
@@ -129,9 +132,7 @@ fn push_member(
             field.push_key(later, line)?;
             push_number(number, line)?;
         }
-        FieldValue::Shifted { value, decimals } => {
-            push_shifted(field, value, decimals, later, line)?
-        }
+        FieldValue::Shifted(shift, raw) => push_shifted(field, shift, raw, later, line)?,
         FieldValue::Name(name) => {
             field.push_key(later, line)?;
             name.push_json(line)?;

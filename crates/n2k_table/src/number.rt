@@ -1,6 +1,6 @@
 //! What some bits show as a number.
 ghost use Rattle.std.specs.Prelude.{◌≡◌, ◌≤◌};
-ghost use Rattle.n2k_table.specs.Inner.Number.{reserved_values, scaled, shifted, value_of, IsScale, IsShift};
+ghost use Rattle.n2k_table.specs.Inner.Number.{reserved_values, scaled, shifted, shifted_value, value_of, IsScale, IsShift};
 ghost use Rattle.n2k_table.specs.Inner.FieldValue.{value_parts};
 
 use crate::bits::greatest;
@@ -125,18 +125,21 @@ impl Shift {
         }
     }
 
-    /// What bits of that raw value show. It is not inlined: few numbers have an offset.
-    #[inline(never)]
-    pub(crate) fn number<'a>(&self, raw: u64) -> FieldValue<'a>
+    /// The sum of a raw value and the offset, times the mantissa.
+    pub(crate) fn value(&self, raw: u64) -> i128
+        ensures { result ≡ shifted_value self.now raw }
+    {
+        (i128::from(raw) + i128::from(self.offset)) * i128::from(self.resolution.mantissa)
+    }
+
+    /// What bits of that raw value show.
+    #[inline(always)]
+    pub(crate) fn number(&self, raw: u64) -> FieldValue<'_>
         ensures { value_parts result ≡ shifted self.now raw }
     {
         if raw > self.max_valid {
             return FieldValue::Absent;
         }
-        let sum = i128::from(raw) + i128::from(self.offset);
-        FieldValue::Shifted {
-            value: sum * i128::from(self.resolution.mantissa),
-            decimals: self.resolution.decimals,
-        }
+        FieldValue::Shifted(self, raw)
     }
 }

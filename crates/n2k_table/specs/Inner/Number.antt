@@ -31,8 +31,10 @@ scaled s r =
 pub record IsShift (n : ℕ) (s : Shift) : Type 0 where
   pub max_valid : s.max_valid ≡ greatest false n - reserved_values n
 
+-- the sum of a raw value and the offset, without its dot
+abbrev pub shifted_value : Shift → ℕ → ℤ
+shifted_value s r = (pos r +ℤ s.offset) *ℤ pos s.resolution.mantissa
+
 -- what a raw value shows by that
 abbrev pub shifted : Shift → ℕ → ShownParts
-shifted s r =
-    if nat_le r s.max_valid then number ((pos r +ℤ s.offset) *ℤ pos s.resolution.mantissa) s.resolution.decimals
-    else absent
+shifted s r = if nat_le r s.max_valid then number (shifted_value s r) s.resolution.decimals else absent
