@@ -110,7 +110,7 @@ usual_is_plain b is =
     let both = and_parts (nat_le 45 b) (nat_le b 90) is in
     let low = leb-true 45 b both.0 in
     let high = leb-true b 90 both.1 in
-    rw (le-leb 32 b (omega (arith, low)), ne_eqb b 34 (omega (arith, low)), ne_eqb b 92 (omega (arith, high))) refl
+    rw (le-leb 32 b (omega (arith, low)), le-leb b 126 (omega (arith, high)), ne_eqb b 34 (omega (arith, low)), ne_eqb b 92 (omega (arith, high))) refl
 
 all_usual_plain : (xs : List ℕ) → list_all is_usual xs ≡ true → list_all is_plain xs ≡ true
 all_usual_plain [] all = refl

@@ -4,6 +4,7 @@ pub mod Digits
 pub mod Documents
 pub mod Each
 pub mod Escapes
+pub mod FlagBits
 pub mod Keys
 pub mod Members
 pub mod Heads

@@ -15,7 +15,7 @@ use Rattle.n2k_table.specs.declared.resolution.Resolution.{Resolution}
 use Rattle.n2k_table.specs.Bits.{raw, greatest, signed_value}
 use Rattle.n2k_table.specs.Decimal.{minus, sign_of}
 use Rattle.n2k_table.specs.Field.{FieldParts, Meaning}
-use Rattle.n2k_table.specs.Shown.{ShownParts, absent, number, says_none, shown_number, lies_inside, shown, shown_inside}
+use Rattle.n2k_table.specs.Shown.{ShownParts, absent, number, says_none, shown_number, lies_inside, shown, shown_inside, shown_part}
 use Rattle.n2k_table.specs.Inner.Kept.{HasRoom, meaning}
 use Rattle.n2k_table.specs.Inner.Number.{IsScale, IsShift, reserved_values, scaled, shifted, value_of}
 use Rattle.n2k_table.proofs.RawBits.{pow_le, twice_half}
@@ -176,7 +176,7 @@ shifted_is n r s h lt = shows_upto (sum_shown s.offset s.resolution) false n r s
 lies : (f : FieldParts) (payload : List ℕ) (m : Meaning) → f.meaning ≡ m → lies_inside f payload ≡ true → shown_inside m f payload ≡ shown f payload
 lies f payload m means inside =
     ap (λ m. shown_inside m f payload) (sym means)
-    ∙ sym (ap (λ (b : Bool). if b then shown_inside f.meaning f payload else absent) inside)
+    ∙ sym (ap (λ (b : Bool). if b then shown_inside f.meaning f payload else shown_part f payload) inside)
 
 -- a field shows so
 pub field_shows : (f : FieldParts) (payload : List ℕ) (m : CodeMeaning) (s : Scale) (r : ℕ) → f.meaning ≡ meaning m → m ≡ code.Number s → 1 ≤ f.bits

@@ -1,6 +1,6 @@
 -- What a table says of one field, or the first fault that it has.
-use Rattle.std.specs.Prelude.{ℕ, ℤ, pos, negsuc, ◌+◌, ◌%◌, ◌==◌, Bool, true, false, not, ◌||◌, nat_le, codes, List, Option, Some, None, Result, Ok}
-use Rattle.std.specs.Prelude.{Err, if◌then◌else◌}
+use Rattle.std.specs.Prelude.{ℕ, ℤ, pos, negsuc, ◌+◌, ◌-◌, ◌%◌, ◌==◌, Bool, true, false, not, ◌||◌, nat_le, codes, List}
+use Rattle.std.specs.Prelude.{Option, Some, None, Result, Ok, Err, if◌then◌else◌}
 use Rattle.std.specs.List.{find}
 use Rattle.std.specs.Option.{ok_or}
 use Rattle.std.specs.Str.{bytes_eq}
@@ -17,17 +17,22 @@ use Rattle.n2k_table.specs.declared.tree.Section.TheVariants.{Field}
 use Rattle.n2k_wire.specs.Steps.{◌>>=◌, holds_or}
 use Rattle.n2k_table.specs.Bits.{greatest}
 use Rattle.n2k_table.specs.Lookup.{LookupParts}
+use Rattle.n2k_table.specs.Tree.{can_be_short}
 use Rattle.n2k_table.specs.Tree.{message_bits, end_of, can_match, check_keys, as_members, int_at, any_text_at, text_at}
-use Rattle.n2k_table.specs.Tree.{bool_at, in_range, checked_text}
+use Rattle.n2k_table.specs.Tree.{bool_at, in_range, checked_text, is_extended}
 use Rattle.n2k_table.specs.Resolution.{resolution_at}
 
 -- the last bit of a message at which a field may begin
 abbrev pub last_bit : ℕ
-last_bit = 1783
+last_bit = message_bits - 1
 
 -- the most bits of a number
 abbrev pub most_number_bits : ℕ
 most_number_bits = 64
+
+-- the most bits of a flags field
+abbrev pub most_flags : ℕ
+most_flags = 64
 
 -- the most bits of a lookup field
 abbrev pub most_lookup_bits : ℕ
@@ -38,34 +43,45 @@ abbrev pub greatest_offset : ℕ
 greatest_offset = 4294967295
 
 -- What the bits of a field mean: a number, in two's complement where it is signed, with an offset added and then
--- times its resolution; a value that some names are given for; a text; or bytes as they are.
+-- times its resolution; a value that some names are given for; bits that some names are given for, by their numbers; a
+-- text; bytes as they are; or bytes that are two decimal digits each.
 pub data Meaning : Type 0 where
   number : Bool → ℤ → Resolution → Meaning
   named : List (ℕ × List ℕ) → Meaning
+  flags : List (ℕ × List ℕ) → Meaning
   text : Meaning
   bytes : Meaning
+  digits : Meaning
 
--- a field: its name, its first bit in the message or in its set, how many bits it has, what they mean, and the raw
--- value that a message must have there for the definition to be chosen, if it asks for one
+-- a field: its name, its first bit in the message or in its set, how many bits it has, whether it may be short, what
+-- they mean, and the raw value that a message must have there for the definition to be chosen, if it asks for one
 pub record FieldParts : Type 0 where
   pub name : List ℕ
   pub at : ℕ
   pub bits : ℕ
+  pub short : Bool
   pub meaning : Meaning
   pub match_value : Option ℕ
 
--- the kinds of fields
-abbrev pub named_field_kind : List ℕ → Result FieldKind TableFault
-named_field_kind name =
+-- the kinds that only a table of format 3 may have
+abbrev pub more_field_kind : List ℕ → Result FieldKind TableFault
+more_field_kind name =
+    if bytes_eq name (codes "flags") then Ok kind.Flags
+    else (if bytes_eq name (codes "digits") then Ok kind.Digits else Err Text)
+
+-- the kinds of fields in a table of that format
+abbrev pub named_field_kind : TableFormat → List ℕ → Result FieldKind TableFault
+named_field_kind format name =
     if bytes_eq name (codes "number") then Ok kind.Number
     else (if bytes_eq name (codes "lookup") then Ok kind.Lookup
     else (if bytes_eq name (codes "text") then Ok kind.Text
-    else (if bytes_eq name (codes "bytes") then Ok kind.Bytes else Err Text)))
+    else (if bytes_eq name (codes "bytes") then Ok kind.Bytes
+    else (if is_extended format then more_field_kind name else Err Text))))
 
-abbrev pub kind_of_field : Members → Result FieldKind TableFault
-kind_of_field f = do
+abbrev pub kind_of_field : TableFormat → Members → Result FieldKind TableFault
+kind_of_field format f = do
   name ← any_text_at (codes "kind") f
-  named_field_kind name
+  named_field_kind format name
 
 -- Texts and bytes begin and end with a byte: their places are multiples of 8.
 abbrev pub alignment : FieldKind → ℕ
@@ -73,12 +89,16 @@ alignment kind.Number = 1
 alignment kind.Lookup = 1
 alignment kind.Text = 8
 alignment kind.Bytes = 8
+alignment kind.Flags = 1
+alignment kind.Digits = 8
 
 abbrev pub most_bits : FieldKind → ℕ
 most_bits kind.Number = most_number_bits
 most_bits kind.Lookup = most_lookup_bits
 most_bits kind.Text = message_bits
 most_bits kind.Bytes = message_bits
+most_bits kind.Flags = most_flags
+most_bits kind.Digits = message_bits
 
 abbrev pub multiple_of : ℕ → ℕ → Result ℕ TableFault
 multiple_of alignment n = if n % alignment == 0 then Ok n else Err Range
@@ -123,19 +143,24 @@ number_of_bits bits f = do
   known ← check_unit (get_member (codes "unit") f)
   Ok (number signed offset resolution)
 
--- by the lookup of a table that it names
-unfoldable pub named_by : List LookupParts → Members → Result Meaning TableFault
-named_by lookups f = do
+-- the lookup of a table that a field names
+unfoldable pub lookup_named : List LookupParts → Members → Result LookupParts TableFault
+lookup_named lookups f = do
   name ← text_at (codes "lookup") f
-  lookup ← ok_or (find (λ l. bytes_eq name l.name) lookups) Lookup
-  Ok (named lookup.entries)
+  ok_or (find (λ l. bytes_eq name l.name) lookups) Lookup
 
 -- what so many bits of a field of that kind mean, in a table of these lookups
 abbrev pub meaning_of : List LookupParts → FieldKind → ℕ → Members → Result Meaning TableFault
 meaning_of lookups kind.Number bits f = number_of_bits bits f
-meaning_of lookups kind.Lookup bits f = named_by lookups f
+meaning_of lookups kind.Lookup bits f = do
+  lookup ← lookup_named lookups f
+  Ok (named lookup.entries)
 meaning_of lookups kind.Text bits f = Ok text
 meaning_of lookups kind.Bytes bits f = Ok bytes
+meaning_of lookups kind.Flags bits f = do
+  lookup ← lookup_named lookups f
+  Ok (flags lookup.entries)
+meaning_of lookups kind.Digits bits f = Ok digits
 
 -- a raw value of so many bits, if one is asked for
 abbrev pub raw_or_none : ℕ → Option Data → Result (Option ℕ) TableFault
@@ -149,14 +174,26 @@ abbrev pub match_value_of : FieldKind → Holder → ℕ → Members → Result 
 match_value_of kind holder bits f =
     if can_match kind holder then raw_or_none bits (get_member (codes "match") f) else Ok None
 
+-- whether a field may be short, which only some may
+abbrev pub short_of : FieldKind → Holder → Members → Result Bool TableFault
+short_of kind holder f = if can_be_short kind holder then bool_at (codes "short") f else Ok false
+
 -- the field that a value spells, in a table of that format and of these lookups
 unfoldable pub field : TableFormat → Holder → List LookupParts → Data → Result FieldParts TableFault
 field format holder lookups d = do
   f ← as_members d
-  kind ← kind_of_field f
+  kind ← kind_of_field format f
   known ← check_keys (Field format kind holder) f
   name ← text_at (codes "name") f
   place ← span (alignment kind) (most_bits kind) (end_of holder) f
   meaning ← meaning_of lookups kind place.bits f
+  short ← short_of kind holder f
   match_value ← match_value_of kind holder place.bits f
-  Ok (record { name = name; at = place.at; bits = place.bits; meaning = meaning; match_value = match_value })
+  Ok (record {
+    name = name;
+    at = place.at;
+    bits = place.bits;
+    short = short;
+    meaning = meaning;
+    match_value = match_value;
+  })

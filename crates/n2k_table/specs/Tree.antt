@@ -1,6 +1,6 @@
 -- One value of a TOML table: of which kind it is, and whether it lies in its range.
-use Rattle.std.specs.Prelude.{ℕ, ℤ, pos, negsuc, Bool, true, false, ◌&&◌, ◌||◌, nat_le, codes, List, [], ◌∷◌, length}
-use Rattle.std.specs.Prelude.{Option, Some, None, Result, Ok, Err, if◌then◌else◌}
+use Rattle.std.specs.Prelude.{ℕ, ◌*◌, ℤ, pos, negsuc, Bool, true, false, ◌&&◌, ◌||◌, nat_le, codes, List, [], ◌∷◌}
+use Rattle.std.specs.Prelude.{length, Option, Some, None, Result, Ok, Err, if◌then◌else◌}
 use Rattle.std.specs.Option.{ok_or}
 use Rattle.std.specs.Str.{bytes_eq}
 use Rattle.std.specs.List.{list_any}
@@ -16,6 +16,7 @@ use Rattle.n2k_table.specs.declared.tree.Holder.{Holder}
 use Rattle.n2k_table.specs.declared.tree.Holder.TheVariants.{Message, Set}
 use Rattle.n2k_table.specs.declared.tree.Section.{Section}
 use Rattle.n2k_table.specs.declared.tree.Section.TheVariants.{Document, Lookup, Definition, Repeat, Field}
+use Rattle.n2k_wire.specs.Packet.{longest_message}
 use Rattle.n2k_wire.specs.Steps.{◌>>=◌, holds_or}
 
 -- the most bytes of a name or a description
@@ -24,7 +25,7 @@ longest_text = 255
 
 -- the bits of the longest message
 abbrev pub message_bits : ℕ
-message_bits = 1784
+message_bits = 8 * longest_message
 
 -- the bits within which a field ends, by what it is part of
 abbrev pub end_of : Holder → ℕ
@@ -41,7 +42,7 @@ has_sets One = false
 has_sets Two = true
 has_sets Three = true
 
--- Format 3 has more keys of fields.
+-- Format 3 has more kinds of fields, and more keys.
 abbrev pub is_extended : TableFormat → Bool
 is_extended One = false
 is_extended Two = false
@@ -53,6 +54,8 @@ own_keys kind.Number = codes "signed" ∷ codes "resolution" ∷ []
 own_keys kind.Lookup = codes "lookup" ∷ []
 own_keys kind.Text = []
 own_keys kind.Bytes = []
+own_keys kind.Flags = codes "lookup" ∷ []
+own_keys kind.Digits = []
 
 -- the keys of a kind that only a table of format 3 may have
 abbrev pub more_keys : FieldKind → List (List ℕ)
@@ -60,6 +63,14 @@ more_keys kind.Number = codes "offset" ∷ codes "unit" ∷ []
 more_keys kind.Lookup = []
 more_keys kind.Text = []
 more_keys kind.Bytes = []
+more_keys kind.Flags = []
+more_keys kind.Digits = []
+
+-- A text or bytes of a message may be short. Each field of a set lies in it.
+abbrev pub can_be_short : FieldKind → Holder → Bool
+can_be_short kind.Text Message = true
+can_be_short kind.Bytes Message = true
+can_be_short _ _ = false
 
 -- A number or a lookup's value of a message may be asked for. A field of a set can't ask.
 abbrev pub can_match : FieldKind → Holder → Bool
@@ -79,6 +90,7 @@ is_key (Field format kind holder) key =
     is_among key (codes "name" ∷ codes "kind" ∷ codes "at" ∷ codes "bits" ∷ [])
     || is_among key (own_keys kind)
     || (is_extended format && is_among key (more_keys kind))
+    || (is_extended format && can_be_short kind holder && bytes_eq key (codes "short"))
     || (can_match kind holder && bytes_eq key (codes "match"))
 
 -- each key of the table is one that such a section may have

@@ -1,8 +1,9 @@
 //! A field, and what it shows.
-ghost use Rattle.std.specs.Prelude.{◌≡◌, ◌≤◌, ◌+◌, ◌*◌, length};
+ghost use Rattle.std.specs.Prelude.{◌≡◌, ◌≤◌, ◌+◌, ◌*◌, ◌/◌, drop, length};
 
 use crate::bits::raw;
-use crate::field_value::{FieldValue, name_value, text_value};
+use crate::field_value::{FieldValue, digits_value, name_value, text_value};
+use crate::flags::flags_value;
 use crate::line_buffer::LineBuffer;
 use crate::lookup::Lookup;
 use crate::number::{Scale, Shift};
@@ -24,10 +25,14 @@ pub(crate) enum Meaning {
     Text,
     /// Bytes as they are.
     Bytes,
+    /// Bits that a lookup gives names for.
+    Flags(Rc<Lookup>),
+    /// Bytes of two decimal digits.
+    Digits,
 }
 
-/// A field: its name, its first bit in the message or in its set, how many bits it has, what they mean, and the raw
-/// value that it asks for, if it asks for one.
+/// A field: its name, its first bit in the message or in its set, how many bits it has, whether it may be short, what
+/// they mean, and the raw value that it asks for, if it asks for one.
 #[derive(Drop)]
 pub(crate) struct Field {
     pub(crate) name: String,
@@ -35,6 +40,8 @@ pub(crate) struct Field {
     pub(crate) key: PaddedText,
     pub(crate) at: u32,
     pub(crate) bits: u32,
+    /// Whether it shows what is there of it, where the data end before it does.
+    pub(crate) short: bool,
     pub(crate) meaning: Meaning,
     pub(crate) match_value: Option<u64>,
 }
@@ -50,6 +57,7 @@ impl Model for Field {
       name = string_bytes f.name;
       at = f.at;
       bits = f.bits;
+      short = f.short;
       meaning = seen_meaning f.meaning;
       match_value = f.match_value;
     } };
@@ -61,7 +69,7 @@ impl Field {
     ghost use Rattle.std.specs.Prelude.{◌++◌, is_some, OnOk};
     ghost use Rattle.n2k_table.specs.Inner.Line.{key_json};
     ghost use Rattle.n2k_table.specs.Inner.FieldValue.{value_parts};
-    ghost use Rattle.n2k_table.specs.Shown.{lies_inside, field_bytes, shown};
+    ghost use Rattle.n2k_table.specs.Shown.{lies_inside, field_bytes, begins_inside, shown_part, shown};
     ghost use Rattle.n2k_table.specs.Table.{field_matches};
 
     /// The name.
@@ -113,14 +121,43 @@ impl Field {
         &data[from..to]
     }
 
-    /// What the field shows of the data of a message or of a set: nothing where it does not lie wholly inside. Each
-    /// answer is returned where it is made, so that none is put together in memory.
+    fn begins_inside(&self, data: &[u8]) -> bool
+        ensures { result ≡ begins_inside self.now «data».now }
+    {
+        (self.at as usize) < data.len().saturating_mul(8)
+    }
+
+    /// The bytes from that of the field's first bit on.
+    fn front<'a>(&self, data: &'a [u8]) -> &'a [u8]
+        requires { self.now.at ≤ 8 * length «data».now }
+        ensures { result.now ≡ drop (self.now.at / 8) «data».now }
+    {
+        &data[self.at as usize / 8..]
+    }
+
+    /// What a field shows that ends behind the data: a short one what is there of it.
+    #[inline(always)]
+    fn part<'a>(&self, data: &'a [u8]) -> FieldValue<'a>
+        ensures { value_parts result ≡ shown_part self.now «data».now }
+    {
+        if !self.short || !self.begins_inside(data) {
+            return FieldValue::Absent;
+        }
+        match &self.meaning {
+            Meaning::Text => text_value(self.front(data)),
+            Meaning::Bytes => FieldValue::Bytes(self.front(data)),
+            _ => FieldValue::Absent,
+        }
+    }
+
+    /// What the field shows of the data of a message or of a set: where it does not lie wholly inside, nothing, or what
+    /// is there of a short one. Each answer is returned where it is made, so that none is put together in memory.
     #[inline(always)]
     pub(crate) fn value<'a>(&'a self, data: &'a [u8]) -> FieldValue<'a>
         ensures { value_parts result ≡ shown self.now «data».now }
     {
         if !self.lies_inside(data) {
-            return FieldValue::Absent;
+            return self.part(data);
         }
         match &self.meaning {
             Meaning::Number(scale) => {
@@ -137,6 +174,11 @@ impl Field {
             }
             Meaning::Text => return text_value(self.bytes(data)),
             Meaning::Bytes => return FieldValue::Bytes(self.bytes(data)),
+            Meaning::Digits => return digits_value(self.bytes(data)),
+            Meaning::Flags(lookup) => {
+                let raw = raw(data, self.at, self.bits);
+                return flags_value(lookup, self.bits, raw);
+            }
         }
     }
 }

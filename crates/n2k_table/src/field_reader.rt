@@ -9,12 +9,12 @@ ghost use Rattle.n2k_table.specs.Reading.{ReaderGives};
 ghost use Rattle.n2k_table.specs.Tree.{message_bits, end_of};
 ghost use Rattle.n2k_table.specs.Field.{number, named_field_kind, kind_of_field, alignment, most_bits, multiple_of, span};
 ghost use Rattle.n2k_table.specs.Field.{offset_in_range, offset_or_zero, check_unit};
-ghost use Rattle.n2k_table.specs.Field.{number_of_bits, named_by, meaning_of, raw_or_none, match_value_of, field};
+ghost use Rattle.n2k_table.specs.Field.{more_field_kind, short_of, number_of_bits, lookup_named, meaning_of, raw_or_none, match_value_of, field};
 
 use crate::bits::greatest;
 use crate::fault::TableFault;
 use crate::field::{Field, Meaning};
-use crate::lookup::Lookups;
+use crate::lookup::{Lookup, Lookups};
 use crate::number::{Scale, Shift};
 use crate::padded_text::PaddedText;
 use crate::resolution::{Resolution, resolution_at};
@@ -24,13 +24,17 @@ use crate::tree::{
     check_keys, checked_text, get, int_at, text_at,
 };
 use std::alloc::{AllocError, Global};
+use std::rc::Rc;
 use toml::{Table, Value};
 
 /// The last bit at which a field may begin.
-pub(crate) const LAST_BIT: u32 = 1783;
+pub(crate) const LAST_BIT: u32 = MESSAGE_BITS - 1;
 
 /// The most bits of a number.
 pub(crate) const MOST_NUMBER_BITS: u32 = 64;
+
+/// The most bits of a flags field.
+pub(crate) const MOST_FLAGS: u32 = 64;
 
 /// The most bits of a lookup field.
 pub(crate) const MOST_LOOKUP_BITS: u32 = 32;
@@ -45,22 +49,35 @@ pub(crate) struct Span {
     pub(crate) bits: u32,
 }
 
-fn named_field_kind(name: &str) -> Result<FieldKind, TableFault>
-    ensures { Gives (λ kind. kind) result (named_field_kind name.now) }
+/// The kinds that only a table of format 3 may have.
+fn more_field_kind(name: &str) -> Result<FieldKind, TableFault>
+    ensures { Gives (λ kind. kind) result (more_field_kind name.now) }
+{
+    match name {
+        "flags" => Ok(FieldKind::Flags),
+        "digits" => Ok(FieldKind::Digits),
+        _ => Err(TableFault::Text),
+    }
+}
+
+/// The kinds of fields in a table of this format.
+fn named_field_kind(format: TableFormat, name: &str) -> Result<FieldKind, TableFault>
+    ensures { Gives (λ kind. kind) result (named_field_kind format name.now) }
 {
     match name {
         "number" => Ok(FieldKind::Number),
         "lookup" => Ok(FieldKind::Lookup),
         "text" => Ok(FieldKind::Text),
         "bytes" => Ok(FieldKind::Bytes),
+        _ if format.is_extended() => more_field_kind(name),
         _ => Err(TableFault::Text),
     }
 }
 
-fn kind_of_field(table: &Table) -> Result<FieldKind, TableFault>
-    ensures { Gives (λ kind. kind) result (kind_of_field (table_view table.now)) }
+fn kind_of_field(format: TableFormat, table: &Table) -> Result<FieldKind, TableFault>
+    ensures { Gives (λ kind. kind) result (kind_of_field format (table_view table.now)) }
 {
-    named_field_kind(any_text_at(table, "kind")?)
+    named_field_kind(format, any_text_at(table, "kind")?)
 }
 
 /// Of what number of bits the place of a field is a multiple.
@@ -69,8 +86,8 @@ fn alignment(kind: FieldKind) -> u32
     ensures some { 0 < result }
 {
     match kind {
-        FieldKind::Number | FieldKind::Lookup => 1,
-        FieldKind::Text | FieldKind::Bytes => 8,
+        FieldKind::Number | FieldKind::Lookup | FieldKind::Flags => 1,
+        FieldKind::Text | FieldKind::Bytes | FieldKind::Digits => 8,
     }
 }
 
@@ -81,7 +98,8 @@ fn most_bits(kind: FieldKind) -> u32
     match kind {
         FieldKind::Number => MOST_NUMBER_BITS,
         FieldKind::Lookup => MOST_LOOKUP_BITS,
-        FieldKind::Text | FieldKind::Bytes => MESSAGE_BITS,
+        FieldKind::Text | FieldKind::Bytes | FieldKind::Digits => MESSAGE_BITS,
+        FieldKind::Flags => MOST_FLAGS,
     }
 }
 
@@ -186,15 +204,14 @@ fn number_of_bits(bits: u32, table: &Table) -> Result<Meaning, TableFault>
     Ok(number_meaning(signed, offset, bits, resolution))
 }
 
-/// What a field means by the lookup that it names.
-#[tactic(auto, unfolding(crate::specs::Field::named_by))]
-fn named_by(lookups: &Lookups, table: &Table) -> Result<Meaning, TableFault>
-    ensures value { ReaderGives seen_meaning result (named_by lookups.now (table_view table.now)) }
-    ensures room { IfOk result (λ meaning. (bits : ℕ) → bits ≤ 64 → HasRoom meaning bits) }
+/// The lookup that a field names.
+#[tactic(auto, unfolding(crate::specs::Field::lookup_named))]
+fn lookup_named(lookups: &Lookups, table: &Table) -> Result<Rc<Lookup>, TableFault>
+    ensures { ReaderGives (λ lookup. lookup.value) result (lookup_named lookups.now (table_view table.now)) }
 {
     let name = text_at(table, "lookup")?;
     let lookup = lookups.find(name).ok_or(TableFault::Lookup)?;
-    Ok(Meaning::Lookup(lookup.clone()?))
+    Ok(lookup.clone()?)
 }
 
 /// What so many bits of a field of that kind mean, in a table of these lookups.
@@ -211,9 +228,11 @@ fn meaning_of(
 {
     match kind {
         FieldKind::Number => number_of_bits(bits, table),
-        FieldKind::Lookup => named_by(lookups, table),
+        FieldKind::Lookup => Ok(Meaning::Lookup(lookup_named(lookups, table)?)),
         FieldKind::Text => Ok(Meaning::Text),
         FieldKind::Bytes => Ok(Meaning::Bytes),
+        FieldKind::Flags => Ok(Meaning::Flags(lookup_named(lookups, table)?)),
+        FieldKind::Digits => Ok(Meaning::Digits),
     }
 }
 
@@ -251,6 +270,16 @@ fn match_value_of(
     match_at(bits, table)
 }
 
+/// Whether a field may be short, which only some may.
+fn short_of(kind: FieldKind, holder: Holder, table: &Table) -> Result<bool, TableFault>
+    ensures { Gives (λ short. short) result (short_of kind holder (table_view table.now)) }
+{
+    if !kind.can_be_short(holder) {
+        return Ok(false);
+    }
+    bool_at(table, "short")
+}
+
 /// What stands before the value of a field in a line, behind a comma.
 fn key_of(alloc: Global, name: &str) -> Result<PaddedText, AllocError>
     ensures { IfOk result (λ key. key ≡ key_json true name.now) }
@@ -276,17 +305,19 @@ pub(crate) fn read_field(
     ensures { ReaderGives (λ field. field) result (field format holder lookups.now (view value.now)) }
 {
     let table = as_members(value)?;
-    let kind = kind_of_field(table)?;
+    let kind = kind_of_field(format, table)?;
     check_keys(table, Section::Field(format, kind, holder))?;
     let name = text_at(table, "name")?;
     let span = span_at(table, alignment(kind), most_bits(kind), holder.end())?;
     let meaning = meaning_of(lookups, kind, span.bits, table)?;
+    let short = short_of(kind, holder, table)?;
     let match_value = match_value_of(kind, holder, span.bits, table)?;
     Ok(Field {
         name: String::from_str(alloc, name)?,
         key: key_of(alloc, name)?,
         at: span.at,
         bits: span.bits,
+        short,
         meaning,
         match_value,
     })

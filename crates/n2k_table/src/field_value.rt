@@ -1,9 +1,12 @@
 //! What a field shows, as it is printed.
 ghost use Rattle.std.specs.Prelude.{◌≡◌, ◌≤◌, option_map};
 ghost use Rattle.n2k_table.specs.Inner.FieldValue.{value_parts};
+ghost use Rattle.std.specs.List.{list_all};
 ghost use Rattle.n2k_table.specs.Shown.{shown_parts, shown_name, shown_text, is_filling, trimmed};
+ghost use Rattle.n2k_table.specs.Shown.{trimmed_of, is_no_digit, is_two_digits, shown_digits};
 
 use crate::bits::greatest;
+use crate::flags::Flags;
 use crate::lookup::Name;
 use crate::number::{Number, Shift};
 use crate::resolution::ONE;
@@ -24,6 +27,10 @@ pub(crate) enum FieldValue<'a> {
     Text(&'a [u8]),
     /// Bytes as they are.
     Bytes(&'a [u8]),
+    /// Bits by their names.
+    Flags(Flags<'a>),
+    /// Bytes of two digits each.
+    Digits(&'a [u8]),
 }
 
 impl<'a> FieldValue<'a> {
@@ -44,6 +51,8 @@ impl<'a> FieldValue<'a> {
             FieldValue::Name(name) => Shown::Name(name.text()),
             FieldValue::Text(text) => Shown::Text(text),
             FieldValue::Bytes(bytes) => Shown::Bytes(bytes),
+            FieldValue::Flags(flags) => Shown::Flags(flags),
+            FieldValue::Digits(bytes) => Shown::Digits(bytes),
         }
     }
 }
@@ -101,4 +110,45 @@ pub(crate) fn text_value(text: &[u8]) -> FieldValue<'_>
         return FieldValue::Absent;
     }
     FieldValue::Text(kept)
+}
+
+fn is_no_digit(byte: u8) -> bool
+    ensures { result ≡ is_no_digit byte }
+{
+    byte == 0xff
+}
+
+/// Bytes without those FF that stand at their end.
+#[inline(never)]
+fn without_ff(bytes: &[u8]) -> &[u8]
+    ensures { result.now ≡ trimmed_of is_no_digit bytes.now }
+{
+    let mut kept = bytes;
+    while let Some((last, front)) = kept.split_last() {
+        if !is_no_digit(*last) {
+            break;
+        }
+        kept = front;
+    }
+    kept
+}
+
+/// Whether each byte is two digits.
+#[inline(never)]
+fn are_digits(bytes: &[u8]) -> bool
+    ensures { result ≡ list_all is_two_digits bytes.now }
+{
+    bytes.iter().all(|byte| *byte <= 99)
+}
+
+/// What bytes of two digits show: nothing where one of them is none, or none is left.
+#[inline(always)]
+pub(crate) fn digits_value(bytes: &[u8]) -> FieldValue<'_>
+    ensures { value_parts result ≡ shown_digits (trimmed_of is_no_digit bytes.now) }
+{
+    let kept = without_ff(bytes);
+    if kept.is_empty() || !are_digits(kept) {
+        return FieldValue::Absent;
+    }
+    FieldValue::Digits(kept)
 }

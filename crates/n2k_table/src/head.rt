@@ -1,11 +1,12 @@
 //! What stands in a line before the PGN: when a message was seen, and who sent it to whom.
-ghost use Rattle.std.specs.Prelude.{◌≡◌, ◌++◌, ◌≤◌, true, codes, decimal, take, OnOk};
+ghost use Rattle.std.specs.Prelude.{◌≡◌, ◌++◌, ◌≤◌, true, codes, decimal, take, IsTrue, OnOk};
 ghost use Rattle.std.specs.List.{list_all};
+ghost use Rattle.n2k_wire.specs.Packet.{is_stamp};
 ghost use Rattle.n2k_table.specs.Text.{text_json};
 ghost use Rattle.n2k_table.specs.Inner.Line.{is_plain, is_usual, sender_json, before_pgn_json};
 
 use crate::line_buffer::LineBuffer;
-use crate::text::push_text;
+use crate::text::push_characters;
 use n2k_wire::{Id, Packet, UTC_LEN};
 use std::alloc::AllocError;
 
@@ -128,14 +129,16 @@ fn is_usual_stamp(stamp: &[u8]) -> bool
 /// Appends any stamp as a text.
 #[inline(never)]
 fn push_other_stamp(stamp: &[u8], line: &mut LineBuffer) -> Result<(), AllocError>
+    requires { IsTrue (is_stamp stamp.now) }
     ensures { OnOk result (line.new.items ≡ line.old.items ++ (codes "{\"timestamp\":" ++ text_json stamp.now)) }
 {
     line.extend_from_slice(b"{\"timestamp\":")?;
-    push_text(stamp, line)
+    push_characters(stamp, line)
 }
 
 /// Appends when a message was seen. Of most stamps a comparison takes sixteen bytes.
 fn push_time(stamp: &[u8], line: &mut LineBuffer) -> Result<(), AllocError>
+    requires { IsTrue (is_stamp stamp.now) }
     ensures { OnOk result (line.new.items ≡ line.old.items ++ (codes "{\"timestamp\":" ++ text_json stamp.now)) }
 {
     if is_usual_stamp(stamp) {

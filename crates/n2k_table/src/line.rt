@@ -1,26 +1,29 @@
 //! The JSON line of a message.
 ghost use Rattle.std.specs.Prelude.{◌≡◌, ◌++◌, ◌+◌, ◌*◌, ◌≤◌, ◌||◌, true, is_some, nat_lt, codes, if◌then◌else◌};
 ghost use Rattle.std.specs.Prelude.{decimal, length, map, IfOk, IfSome, OnOk, OnErr, Some};
-ghost use Rattle.n2k_table.specs.Shown.{shown, all_shown};
+ghost use Rattle.n2k_table.specs.Shown.{shown, all_shown, flags_left};
 ghost use Rattle.n2k_table.specs.Decimal.{dec};
 ghost use Rattle.std.specs.List.{flat_map, join_with_byte};
 ghost use Rattle.n2k_table.specs.Repeat.{set_shown, all_sets};
+ghost use Rattle.n2k_table.specs.Inner.FieldValue.{named_bit};
+ghost use Rattle.n2k_table.specs.Inner.Number.{shifted_value};
+ghost use Rattle.n2k_table.specs.Json.{array, flag_json};
 ghost use Rattle.n2k_table.specs.Json.{comma, member_json, members, set_json, list_json, message_members};
 ghost use Rattle.n2k_table.specs.Json.{unmatched_json, chosen_json, json};
-ghost use Rattle.n2k_table.specs.Inner.Number.{shifted_value};
 ghost use Rattle.n2k_table.specs.Inner.Line.{are_null, has_members, key_json, member_text};
-ghost use Rattle.n2k_table.specs.Text.{text_json, character, hex_pairs};
+ghost use Rattle.n2k_table.specs.Text.{text_json, character, hex_pairs, two_digits};
 
 use crate::decimal::{push_decimal, push_number};
 use crate::definition::Definition;
 use crate::field::Field;
 use crate::field_value::FieldValue;
+use crate::flags::{Flags, NamedBit};
 use crate::head::push_head;
 use crate::line_buffer::LineBuffer;
 use crate::number::Shift;
 use crate::repeat::Repeat;
 use crate::table::Table;
-use crate::text::{push_characters, push_pairs};
+use crate::text::{push_characters, push_digits, push_pairs};
 use itoa::Buffer;
 use n2k_wire::Packet;
 use std::alloc::{AllocError, Global};
@@ -56,8 +59,8 @@ fn push_pgn(pgn: u32, line: &mut LineBuffer) -> Result<(), AllocError>
     line.extend_from_slice(buffer.format(pgn).as_bytes())
 }
 
-/// Appends the value of a member that is there, behind its key: `null`, a number with an offset, a text, or bytes. They
-/// are not inlined: most fields are numbers and names.
+/// Appends the value of a member that is there, behind its key: `null`, a number with an offset, a text, bytes, flags,
+/// or digits. They are not inlined: most fields are numbers and names.
 #[inline(never)]
 fn push_null(field: &Field, later: bool, line: &mut LineBuffer) -> Result<(), AllocError>
     ensures { OnOk result (line.new.items ≡ line.old.items ++ (key_json later field.now.name ++ codes "null")) }
@@ -109,6 +112,66 @@ fn push_bytes(
     push_pairs(bytes, line)
 }
 
+#[inline(never)]
+fn push_number_text(
+    field: &Field,
+    bytes: &[u8],
+    later: bool,
+    line: &mut LineBuffer,
+) -> Result<(), AllocError>
+    ensures { OnOk result (line.new.items
+        ≡ line.old.items ++ (key_json later field.now.name ++ text_json (flat_map two_digits bytes.now))) }
+{
+    field.push_key(later, line)?;
+    push_digits(bytes, line)
+}
+
+/// Appends a bit by its name or its number, after a comma where one stands before.
+fn push_bit(bit: NamedBit<'_>, later: bool, line: &mut LineBuffer) -> Result<(), AllocError>
+    ensures { OnOk result (line.new.items ≡ line.old.items ++ member_text later (Some (flag_json (named_bit bit.entry)))) }
+{
+    if later {
+        line.push(b',')?;
+    }
+    match bit {
+        NamedBit::Name(name) => name.push_json(line),
+        NamedBit::Bit(number) => {
+            let mut buffer = Buffer::new();
+            line.extend_from_slice(buffer.format(number).as_bytes())
+        }
+    }
+}
+
+/// Appends the bits that are left, a comma between each.
+fn push_bits(flags: Flags<'_>, line: &mut LineBuffer) -> Result<(), AllocError>
+    ensures { OnOk result (line.new.items
+        ≡ line.old.items ++ join_with_byte comma (map flag_json (flags_left flags.entry))) }
+{
+    let mut rest = flags;
+    let mut later = false;
+    while let Some(bit) = rest.next_named() {
+        push_bit(bit, later, line)?;
+        later = true;
+    }
+    Ok(())
+}
+
+#[inline(never)]
+fn push_flags(
+    field: &Field,
+    flags: Flags<'_>,
+    later: bool,
+    line: &mut LineBuffer,
+) -> Result<(), AllocError>
+    ensures { OnOk result (line.new.items
+        ≡ line.old.items ++ (key_json later field.now.name ++ array (map flag_json (flags_left flags.entry)))) }
+{
+    field.push_key(later, line)?;
+    line.push(b'[')?;
+    push_bits(flags, line)?;
+    line.push(b']')
+}
+
 /// Appends a field as a member of an object, after a comma where a member stands before, and answers whether one stands
 /// before the next. What it shows goes from branch to branch, and is never put together in memory.
 #[inline(always)]
@@ -139,6 +202,8 @@ fn push_member(
         }
         FieldValue::Text(text) => push_text(field, text, later, line)?,
         FieldValue::Bytes(bytes) => push_bytes(field, bytes, later, line)?,
+        FieldValue::Flags(flags) => push_flags(field, flags, later, line)?,
+        FieldValue::Digits(bytes) => push_number_text(field, bytes, later, line)?,
     }
     Ok(true)
 }

@@ -80,6 +80,11 @@ impl LineBuffer {
         self.at = 0;
     }
 
+    /// What the line takes memory of.
+    pub(crate) fn alloc(&self) -> Global {
+        *self.front.allocator()
+    }
+
     /// Appends a byte.
     #[inline(always)]
     pub(crate) fn push(&mut self, byte: u8) -> Result<(), AllocError>

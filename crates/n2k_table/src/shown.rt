@@ -2,6 +2,7 @@
 ghost use Rattle.std.specs.Prelude.{◌≡◌};
 
 use crate::field::Field;
+use crate::flags::Flags;
 use std::marker::Model;
 
 /// What a field shows of a message. It borrows the table and the data.
@@ -22,6 +23,10 @@ pub enum Shown<'a> {
     Text(&'a [u8]),
     /// Bytes as they are.
     Bytes(&'a [u8]),
+    /// Those bits of a field that are 1.
+    Flags(Flags<'a>),
+    /// Digits: each byte, 0 to 99, is two of them.
+    Digits(&'a [u8]),
 }
 
 /// What the fields of a definition show of a message: the name of each, and what it shows. It borrows

@@ -1,10 +1,7 @@
 //! Texts in JSON.
-ghost use Rattle.std.specs.Char.{digit_char};
-ghost use Rattle.std.specs.Prelude.{◌≡◌, ◌++◌, ◌<◌, ◌%◌, IfOk, OnOk, unwrap_or};
+ghost use Rattle.std.specs.Prelude.{◌≡◌, ◌++◌, IfOk, OnOk};
 ghost use Rattle.std.specs.List.{list_all, flat_map};
-ghost use Rattle.std.specs.Option.{IfSome};
-ghost use Rattle.json.specs.Print.{escape_letter, escape_byte};
-ghost use Rattle.n2k_table.specs.Text.{text_json, hex_pair, hex_pairs, character};
+ghost use Rattle.n2k_table.specs.Text.{text_json, hex_pair, hex_pairs, character, two_digits};
 ghost use Rattle.n2k_table.specs.Inner.Line.{is_plain};
 
 use crate::line_buffer::LineBuffer;
@@ -26,7 +23,7 @@ pub(crate) fn text_json(alloc: Global, text: &str) -> Result<Vec<u8>, AllocError
 fn is_plain(byte: u8) -> bool
     ensures { result ≡ is_plain byte }
 {
-    (byte >= b' ') & (byte != b'"') & (byte != b'\\')
+    (byte >= b' ') & (byte <= b'~') & (byte != b'"') & (byte != b'\\')
 }
 
 /// Whether each byte stands for itself. It looks at each, so that several are compared at once.
@@ -40,107 +37,35 @@ fn are_plain(text: &[u8]) -> bool
     all
 }
 
-/// The letter that stands for a byte behind a backslash, if one does.
-fn escape_letter(byte: u8) -> Option<u8>
-    ensures value { unwrap_or result 0 ≡ escape_letter byte }
-    ensures some { IfSome result (λ letter. 0 < letter) }
+/// The text of the characters that have these numbers, as `serde_json` writes it.
+fn characters_json(alloc: Global, numbers: &[u8]) -> Result<Vec<u8>, AllocError>
+    ensures { IfOk result (λ bytes. bytes.items ≡ text_json (flat_map character numbers.now)) }
 {
-    match byte {
-        b'"' | b'\\' => Some(byte),
-        0x08 => Some(b'b'),
-        0x0c => Some(b'f'),
-        b'\n' => Some(b'n'),
-        b'\r' => Some(b'r'),
-        b'\t' => Some(b't'),
-        _ => None,
-    }
-}
-
-/// The last digit of an escape, for a byte below the space.
-fn escape_digit(byte: u8) -> u8
-    requires { byte < 32 }
-    ensures { result ≡ digit_char (byte % 16) }
-{
-    let digit = byte % 16;
-    if digit < 10 {
-        b'0' + digit
-    } else {
-        b'a' + digit - 10
-    }
-}
-
-/// Appends what stands in a text for a byte.
-#[tactic(auto, unfolding(json::specs::Print::escape_byte))]
-fn push_escaped(byte: u8, line: &mut LineBuffer) -> Result<(), AllocError>
-    ensures { OnOk result (line.new.items ≡ line.old.items ++ escape_byte byte) }
-{
-    match escape_letter(byte) {
-        Some(letter) => line.extend_from_slice(&[b'\\', letter]),
-        None if byte < b' ' => {
-            let high = b'0' + byte / 16;
-            line.extend_from_slice(&[b'\\', b'u', b'0', b'0', high, escape_digit(byte)])
-        }
-        None => line.push(byte),
-    }
-}
-
-fn push_each(text: &[u8], line: &mut LineBuffer) -> Result<(), AllocError>
-    ensures { OnOk result (line.new.items ≡ line.old.items ++ flat_map escape_byte text.now) }
-{
-    for byte in text {
-        push_escaped(*byte, line)?;
-    }
-    Ok(())
-}
-
-/// Appends what stands between the quotes of a text.
-fn push_inner(text: &[u8], line: &mut LineBuffer) -> Result<(), AllocError>
-    ensures { OnOk result (line.new.items ≡ line.old.items ++ flat_map escape_byte text.now) }
-{
-    if are_plain(text) {
-        line.extend_from_slice(text)
-    } else {
-        push_each(text, line)
-    }
-}
-
-/// Appends a text.
-#[tactic(auto, using(std::proofs::Common::append_assoc), unfolding(crate::specs::Text::text_json))]
-pub(crate) fn push_text(text: &[u8], line: &mut LineBuffer) -> Result<(), AllocError>
-    ensures { OnOk result (line.new.items ≡ line.old.items ++ text_json text.now) }
-{
-    line.push(b'"')?;
-    push_inner(text, line)?;
-    line.push(b'"')
-}
-
-/// Appends what stands in a text for the character of a number.
-fn push_character(byte: u8, line: &mut LineBuffer) -> Result<(), AllocError>
-    ensures { OnOk result (line.new.items ≡ line.old.items ++ flat_map escape_byte (character byte)) }
-{
-    if byte < 0x80 {
-        push_escaped(byte, line)
-    } else {
-        line.extend_from_slice(&[0xc0 + byte / 64, 0x80 + byte % 64])
-    }
-}
-
-fn push_inner_characters(numbers: &[u8], line: &mut LineBuffer) -> Result<(), AllocError>
-    ensures { OnOk result (line.new.items ≡ line.old.items ++ flat_map escape_byte (flat_map character numbers.now)) }
-{
+    let mut text = String::new(alloc);
     for number in numbers {
-        push_character(*number, line)?;
+        text.push(char::from(*number))?;
     }
-    Ok(())
+    text_json(alloc, &text)
 }
 
-/// Appends the text of the characters that have these numbers.
-#[tactic(auto, using(std::proofs::Common::append_assoc), unfolding(crate::specs::Text::text_json))]
+/// Appends such a text where a character of it has an escape or more than one byte. It is not inlined: few texts do.
+#[inline(never)]
+fn push_by_character(numbers: &[u8], line: &mut LineBuffer) -> Result<(), AllocError>
+    ensures { OnOk result (line.new.items ≡ line.old.items ++ text_json (flat_map character numbers.now)) }
+{
+    let text = characters_json(line.alloc(), numbers)?;
+    line.extend_from_slice(&text)
+}
+
+/// Appends the text of the characters that have these numbers. Where each stands for itself they are copied.
 pub(crate) fn push_characters(numbers: &[u8], line: &mut LineBuffer) -> Result<(), AllocError>
     ensures { OnOk result (line.new.items ≡ line.old.items ++ text_json (flat_map character numbers.now)) }
 {
+    if !are_plain(numbers) {
+        return push_by_character(numbers, line);
+    }
     line.push(b'"')?;
-    push_inner_characters(numbers, line)?;
+    line.extend_from_slice(numbers)?;
     line.push(b'"')
 }
 
@@ -174,5 +99,24 @@ pub(crate) fn push_pairs(bytes: &[u8], line: &mut LineBuffer) -> Result<(), Allo
 {
     line.push(b'"')?;
     push_inner_pairs(bytes, line)?;
+    line.push(b'"')
+}
+
+fn push_inner_digits(bytes: &[u8], line: &mut LineBuffer) -> Result<(), AllocError>
+    ensures { OnOk result (line.new.items ≡ line.old.items ++ flat_map two_digits bytes.now) }
+{
+    for byte in bytes {
+        line.extend_from_slice(&[b'0' + *byte / 10, b'0' + *byte % 10])?;
+    }
+    Ok(())
+}
+
+/// Appends the text of bytes: two decimal digits each.
+#[tactic(auto, using(std::proofs::Common::append_assoc))]
+pub(crate) fn push_digits(bytes: &[u8], line: &mut LineBuffer) -> Result<(), AllocError>
+    ensures { OnOk result (line.new.items ≡ line.old.items ++ text_json (flat_map two_digits bytes.now)) }
+{
+    line.push(b'"')?;
+    push_inner_digits(bytes, line)?;
     line.push(b'"')
 }

@@ -23,7 +23,7 @@ pub(crate) enum TableFormat {
     One,
     /// With sets: a definition may have a key `repeat`.
     Two,
-    /// With offsets and units of numbers too.
+    /// With offsets and units of numbers, flags, digits and short fields, too.
     Three,
 }
 
@@ -38,6 +38,10 @@ pub(crate) enum FieldKind {
     Text,
     /// Bytes as they are.
     Bytes,
+    /// Bits that a lookup gives names for.
+    Flags,
+    /// Bytes of two decimal digits.
+    Digits,
 }
 
 /// What a field is part of.
@@ -77,8 +81,8 @@ impl TableFormat {
         }
     }
 
-    /// Whether it is format 3, in which fields have more keys.
-    fn is_extended(self) -> bool
+    /// Whether it is format 3, which has more kinds of fields, and more keys.
+    pub(crate) fn is_extended(self) -> bool
         ensures { result ≡ is_extended self }
     {
         match self {
@@ -89,7 +93,7 @@ impl TableFormat {
 }
 
 impl FieldKind {
-    ghost use Rattle.n2k_table.specs.Tree.{is_among, own_keys, more_keys, can_match};
+    ghost use Rattle.n2k_table.specs.Tree.{is_among, own_keys, more_keys, can_be_short, can_match};
 
     /// Whether a key is one that fields of the kind have beside those of every field.
     fn has_key(self, key: &str) -> bool
@@ -97,8 +101,8 @@ impl FieldKind {
     {
         match self {
             FieldKind::Number => key == "signed" || key == "resolution",
-            FieldKind::Lookup => key == "lookup",
-            FieldKind::Text | FieldKind::Bytes => false,
+            FieldKind::Lookup | FieldKind::Flags => key == "lookup",
+            FieldKind::Text | FieldKind::Bytes | FieldKind::Digits => false,
         }
     }
 
@@ -108,7 +112,21 @@ impl FieldKind {
     {
         match self {
             FieldKind::Number => key == "offset" || key == "unit",
-            FieldKind::Lookup | FieldKind::Text | FieldKind::Bytes => false,
+            FieldKind::Lookup
+            | FieldKind::Text
+            | FieldKind::Bytes
+            | FieldKind::Flags
+            | FieldKind::Digits => false,
+        }
+    }
+
+    /// Whether a field of the kind may be short.
+    pub(crate) fn can_be_short(self, holder: Holder) -> bool
+        ensures { result ≡ can_be_short self holder }
+    {
+        match (self, holder) {
+            (FieldKind::Text | FieldKind::Bytes, Holder::Message) => true,
+            _ => false,
         }
     }
 
@@ -161,6 +179,7 @@ impl Section {
                     || key == "bits"
                     || kind.has_key(key)
                     || (format.is_extended() && kind.has_more_key(key))
+                    || (format.is_extended() && kind.can_be_short(holder) && key == "short")
                     || (kind.can_match(holder) && key == "match")
             }
         }

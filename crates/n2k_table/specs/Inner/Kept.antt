@@ -2,7 +2,7 @@
 use Rattle.std.specs.Prelude.{◌≡◌, ◌≤◌, ℕ, pos, ◌+◌, true, false, List, Option, IfSome}
 use Rattle.n2k_table.specs.declared.field.Meaning.{Meaning as CodeMeaning}
 use Rattle.n2k_table.specs.declared.field.Meaning.TheVariants as code
-use Rattle.n2k_table.specs.Field.{Meaning, number, named, text, bytes, most_number_bits}
+use Rattle.n2k_table.specs.Field.{Meaning, number, named, text, bytes, flags, digits, most_number_bits}
 use Rattle.n2k_table.specs.Tree.{message_bits}
 use Rattle.n2k_table.specs.Inner.Line.{key_json}
 use Rattle.n2k_table.specs.Inner.Number.{IsScale, IsShift}
@@ -14,14 +14,8 @@ meaning (code.Shifted shift) = number false shift.offset shift.resolution
 meaning (code.Lookup lookup) = named lookup.value.entries
 meaning code.Text = text
 meaning code.Bytes = bytes
-
--- a text or bytes
-abbrev pub IsByteMeaning : CodeMeaning → Type 0
-IsByteMeaning (code.Number scale) = ⊥
-IsByteMeaning (code.Shifted shift) = ⊥
-IsByteMeaning (code.Lookup lookup) = ⊥
-IsByteMeaning code.Text = Unit {0}
-IsByteMeaning code.Bytes = Unit {0}
+meaning code.Digits = digits
+meaning (code.Flags lookup) = flags lookup.value.entries
 
 -- so many bits can have the meaning, and what is kept of a number is of so many
 abbrev pub HasRoom : CodeMeaning → ℕ → Type 0
@@ -30,6 +24,8 @@ HasRoom (code.Shifted shift) bits = (bits ≤ most_number_bits) × IsShift bits 
 HasRoom (code.Lookup lookup) bits = bits ≤ most_number_bits
 HasRoom code.Text bits = Unit {0}
 HasRoom code.Bytes bits = Unit {0}
+HasRoom code.Digits bits = Unit {0}
+HasRoom (code.Flags lookup) bits = bits ≤ most_number_bits
 
 -- What the code keeps of each field: what stands before its value too, and a place that a message can have.
 pub record IsKept (name before_value : List ℕ) (at bits : ℕ) (meaning : CodeMeaning) (match_value : Option ℕ) :

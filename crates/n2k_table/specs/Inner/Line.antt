@@ -1,16 +1,16 @@
 -- A JSON line as the code appends it: bytes that stand for themselves, and the parts of a line.
 use Rattle.std.specs.Prelude.{ℕ, ◌==◌, Bool, true, false, not, ◌&&◌, nat_le, codes, decimal, List, [], ◌∷◌, ◌++◌}
 use Rattle.std.specs.Prelude.{Option, Some, None, if◌then◌else◌}
-use Rattle.n2k_wire.specs.Packet.{PacketParts}
+use Rattle.n2k_wire.specs.Packet.{PacketParts, is_printable}
 use Rattle.n2k_wire.specs.declared.identifier.Id.{Id}
 use Rattle.n2k_table.specs.declared.line.AbsentFields.{AbsentFields}
 use Rattle.n2k_table.specs.declared.line.AbsentFields.TheVariants.{LeftOut, Null}
 use Rattle.n2k_table.specs.Text.{text_json}
 use Rattle.n2k_table.specs.Json.{comma, colon}
 
--- a byte that stands for itself in a JSON text, neither below the space nor a quote nor a backslash
+-- the number of a character that stands for itself in a JSON text, in one byte: printable, and no quote or backslash
 abbrev pub is_plain : ℕ → Bool
-is_plain b = nat_le 32 b && not (b == 34) && not (b == 92)
+is_plain b = is_printable b && not (b == 34) && not (b == 92)
 
 -- a byte from `-` to `Z`, as digits and upper letters are: each is plain
 abbrev pub is_usual : ℕ → Bool

@@ -2,6 +2,7 @@
 use super::lines::printed;
 use super::tables::{answers, of_format};
 use crate::samples::read;
+use n2k_table::{Flag, Shown};
 use std::process::Abort;
 use std::test::Fail;
 
@@ -28,7 +29,34 @@ Key | kind = 'text', at = 0, bits = 8, unit = 'C'
 Key | kind = 'bytes', at = 0, bits = 8, offset = 1
 Text | kind = 'number', at = 0, bits = 8, resolution = '.', offset = 4294967296
 Range | kind = 'number', at = 0, bits = 8, offset = 4294967296, unit = 1
-Text | kind = 'number', at = 0, bits = 8, unit = '', match = 256";
+Text | kind = 'number', at = 0, bits = 8, unit = '', match = 256
+reads | kind = 'flags', at = 0, bits = 8, lookup = 'L'
+reads | kind = 'flags', at = 1720, bits = 64, lookup = 'L'
+Range | kind = 'flags', at = 1721, bits = 64, lookup = 'L'
+Range | kind = 'flags', at = 0, bits = 65, lookup = 'L'
+Range | kind = 'flags', at = 0, bits = 0, lookup = 'L'
+Lookup | kind = 'flags', at = 0, bits = 8, lookup = 'M'
+Text | kind = 'flags', at = 0, bits = 8, lookup = ''
+Key | kind = 'flags', at = 0, bits = 8
+Key | kind = 'flags', at = 0, bits = 8, lookup = 1
+Key | kind = 'flags', at = 0, bits = 8, lookup = 'L', match = 1
+Key | kind = 'flags', at = 0, bits = 8, lookup = 'L', offset = 1
+Key | kind = 'flags', at = 0, bits = 8, lookup = 'L', signed = false
+Text | kind = 'flag', at = 0, bits = 8, lookup = 'L'
+reads | kind = 'digits', at = 0, bits = 32
+reads | kind = 'digits', at = 0, bits = 1784
+Range | kind = 'digits', at = 4, bits = 32
+Range | kind = 'digits', at = 0, bits = 12
+Range | kind = 'digits', at = 0, bits = 0
+Range | kind = 'digits', at = 8, bits = 1784
+Key | kind = 'digits', at = 0, bits = 8, match = 1
+Key | kind = 'digits', at = 0, bits = 8, short = true
+reads | kind = 'text', at = 0, bits = 8, short = true
+reads | kind = 'bytes', at = 0, bits = 8, short = false
+Key | kind = 'bytes', at = 0, bits = 8, short = 1
+Key | kind = 'number', at = 0, bits = 8, short = true
+Key | kind = 'lookup', at = 0, bits = 8, lookup = 'L', short = true
+Key | kind = 'flags', at = 0, bits = 8, lookup = 'L', short = true";
 
 // Keys that are none in format 2.
 const NEW_KEYS: [&str; 2] = ["offset = -40", "unit = 'C'"];
@@ -54,6 +82,28 @@ fn one_field_each(rt: HostRuntime) -> Result<(), Fail> {
 }
 
 #[test]
+fn new_kinds_are_none_in_format_2(rt: HostRuntime) -> Result<(), Fail> {
+    let flags = "kind = 'flags', at = 0, bits = 8, lookup = 'L'";
+    field_answers(&rt, 2, flags, "Text")?;
+    field_answers(&rt, 1, flags, "Text")?;
+    field_answers(&rt, 2, "kind = 'digits', at = 0, bits = 8", "Text")?;
+    field_answers(
+        &rt,
+        2,
+        "kind = 'text', at = 0, bits = 8, short = true",
+        "Key",
+    )
+}
+
+// A field of a set is never short.
+#[test]
+fn no_field_of_a_set_is_short(rt: HostRuntime) -> Result<(), Fail> {
+    let set = "format = 3\npgn = [{ number = 1, kind = 'fast', description = 'D', fields = [], \
+        repeat = { at = 0, bits = 8, fields = [{ name = 'F', kind = 'text', at = 0, bits = 8, short = true }] } }]\n";
+    answers(&rt, set, "Key", "short")
+}
+
+#[test]
 fn new_keys_are_none_in_format_2(rt: HostRuntime) -> Result<(), Fail> {
     for key in &NEW_KEYS {
         let field = format!(in rt.alloc(); "kind = 'number', at = 0, bits = 8, {key}")?;
@@ -67,7 +117,7 @@ fn new_keys_are_none_in_format_2(rt: HostRuntime) -> Result<(), Fail> {
 const OFFSET: &str = "kind = 'number', at = 0, bits = 8, offset = -40";
 
 // A field, data, and what is shown.
-const SHOWN: [(&str, &[u8], &str); 11] = [
+const SHOWN: [(&str, &[u8], &str); 34] = [
     (OFFSET, &[0x3c], "20"),
     (OFFSET, &[0x28], "0"),
     (OFFSET, &[0x00], "-40"),
@@ -98,7 +148,68 @@ const SHOWN: [(&str, &[u8], &str); 11] = [
         &[0xfd, 0xff, 0xff, 0xff, 0xff, 0xff, 0xff, 0xff],
         "18446744069414584317",
     ),
+    // bits from the lowest, by their names
+    (FLAGS, &[0x09], "[\"z\u{e9}ro \\\"0\\\"\",\"Three\"]"),
+    (FLAGS, &[0x8c], "[2,\"Three\",7]"),
+    (FLAGS, &[0x00], "[]"),
+    (FLAGS, &[0xfe], "null"),
+    (FLAGS, &[0xff], "null"),
+    (
+        FLAGS,
+        &[0xfd],
+        "[\"z\u{e9}ro \\\"0\\\"\",2,\"Three\",4,5,6,7]",
+    ),
+    (FLAGS, &[], "null"),
+    (
+        "kind = 'flags', at = 1, bits = 7, lookup = 'L'",
+        &[0xff],
+        "[\"z\u{e9}ro \\\"0\\\"\",1,2,\"Three\",4,5,6]",
+    ),
+    // values past its bits are not shown
+    (
+        "kind = 'flags', at = 0, bits = 3, lookup = 'L'",
+        &[0x0e],
+        "[1,2]",
+    ),
+    (
+        "kind = 'flags', at = 0, bits = 64, lookup = 'L'",
+        &[0x02, 0, 0, 0, 0, 0, 0, 0x80],
+        "[1,63]",
+    ),
+    // digits
+    (PHONE, &[0x00, 0x49, 0x63, 0xff], "\"007399\""),
+    (PHONE, &[0x64, 0, 0, 0], "null"),
+    (PHONE, &[0xff, 0xff, 0xff, 0xff], "null"),
+    (PHONE, &[0xff, 0x01, 0xff, 0xff], "null"),
+    (PHONE, &[0x01, 0x02, 0x03, 0x04], "\"01020304\""),
+    (PHONE, &[0x01, 0x02, 0x03], "null"),
+    // what is there of a short field
+    (SHORT_BYTES, &[0x00, 0xde, 0xad], "\"DE AD\""),
+    (SHORT_BYTES, &[0x00, 0xde, 0xad, 0x01, 0x02], "\"DE AD 01\""),
+    (SHORT_BYTES, &[0x00], "null"),
+    (SHORT_BYTES, &[], "null"),
+    (
+        "kind = 'bytes', at = 8, bits = 24",
+        &[0x00, 0xde, 0xad],
+        "null",
+    ),
+    (
+        "kind = 'text', at = 0, bits = 64, short = true",
+        &[0x41, 0x42, 0x20],
+        "\"AB\"",
+    ),
+    (
+        "kind = 'text', at = 0, bits = 64, short = true",
+        &[0x20],
+        "null",
+    ),
 ];
+
+const PHONE: &str = "kind = 'digits', at = 0, bits = 32";
+
+const SHORT_BYTES: &str = "kind = 'bytes', at = 8, bits = 24, short = true";
+
+const FLAGS: &str = "kind = 'flags', at = 0, bits = 8, lookup = 'L'";
 
 fn field_shows<R: Abort + AllocGlobal>(
     rt: &R,
@@ -120,5 +231,23 @@ fn shown(rt: HostRuntime) -> Result<(), Fail> {
     for (field, data, value) in &SHOWN {
         field_shows(&rt, field, data, value)?;
     }
+    Ok(())
+}
+
+#[test]
+fn each_bit_is_answered(rt: HostRuntime) -> Result<(), Fail> {
+    let fields = format!(in rt.alloc(); "{{ name = 'F', {FLAGS} }}")?;
+    let text = of_format(rt.alloc(), 3, &fields)?;
+    let table = read(rt.alloc(), &text)?;
+    let data = [0x0c];
+    let definition = table.choose(65280, &data).ok_or("a definition")?;
+    let (_, shown) = definition.fields(&data).next().ok_or("a field")?;
+    let Shown::Flags(mut flags) = shown else {
+        return Err(Fail::from("flags"));
+    };
+    assert_eq!(rt; flags.next(), Some(Flag::Bit(2)));
+    assert_eq!(rt; flags.next(), Some(Flag::Name("Three")));
+    assert_eq!(rt; flags.next(), None);
+    assert_eq!(rt; flags.next(), None);
     Ok(())
 }

@@ -1,0 +1,370 @@
+#!/usr/bin/env python3
+"""The recipe `feed` where servers come and go, it is killed, and the power is cut.
+
+    feed_trials.py influx1|influx2|sqlite|influxd [COUNT [SEED]]
+
+A folder grows by a seed as n2k-logger's does: lines in pieces, days that end and are gzipped, and in some trials a cut of the
+power, which takes the last lines of the file. Meanwhile the server is stopped and started STOPS times, and feed is killed. In
+the end each point of the files, and each row, is there once, and besides only those of lines that the cut took.
+
+influx1 and influx2 are servers made up here of the two interfaces of InfluxDB, which also refuse for now, break off before
+and after they have taken points, and take no large batch. influxd is the real one, of the 1.x that is on the PATH.
+The last line is `N faults`, after a line for each. Status 77 says that the trial can't be made here, and why.
+"""
+import http.server
+import json
+import os
+import random
+import shutil
+import socket
+import sqlite3
+import subprocess
+import sys
+import tempfile
+import threading
+import time
+import urllib.error
+import urllib.parse
+import urllib.request
+import gzip
+
+ROOT = os.path.dirname(os.path.dirname(os.path.dirname(os.path.abspath(__file__))))
+FEED, CONVERT = f"{ROOT}/dist/recipes/feed", f"{ROOT}/dist/recipes/convert"
+STOPS, TOKEN = 20, "a token"
+
+
+class Server:
+    """A server of InfluxDB's interface, made up, which keeps points as lines."""
+
+    def __init__(self, chance, version):
+        self.chance, self.version, self.points, self.has_database = chance, version, {}, False
+        self.lock, self.running, self.port = threading.Lock(), None, free_port()
+
+    def start(self):
+        server = self
+
+        class Handler(http.server.BaseHTTPRequestHandler):
+            timeout = 20
+
+            def log_message(self, *_):
+                pass
+
+            def answer(self, status, text=""):
+                self.send_response(status)
+                self.send_header("Content-Length", str(len(text)))
+                self.end_headers()
+                self.wfile.write(text.encode())
+
+            def do_POST(self):
+                path, _, query = self.path.partition("?")
+                query = dict(urllib.parse.parse_qsl(query))
+                if server.chance.random() < 0.05:
+                    return self.connection.close()
+                body = self.rfile.read(int(self.headers["Content-Length"] or 0))
+                if path == "/query" and query["q"] == 'CREATE DATABASE "boat"':
+                    server.has_database = True
+                    return self.answer(200, "{}")
+                if server.version == 2 and self.headers["Authorization"] != f"Token {TOKEN}":
+                    return self.answer(401, "no")
+                if server.version == 1 and not server.has_database:
+                    return self.answer(404, '{"error":"database not found: \\"boat\\""}')
+                wanted = {"db": "boat", "precision": "ns"} if server.version == 1 else {"org": "o", "bucket": "b", "precision": "ns"}
+                if path != ("/write" if server.version == 1 else "/api/v2/write") or query != wanted:
+                    return self.answer(400, "wrong words")
+                if server.chance.random() < 0.1:
+                    return self.answer(server.chance.choice([429, 500, 503]), "not now")
+                if len(body) > 200_000:
+                    return self.answer(413, "too large")
+                with server.lock:
+                    for line in body.decode().splitlines():
+                        series, fields, stamp = split(line)
+                        server.points[series, stamp] = fields
+                if server.chance.random() < 0.05:
+                    return self.connection.close()
+                return self.answer(204)
+
+        class Listener(http.server.ThreadingHTTPServer):
+            allow_reuse_address, daemon_threads = True, True
+
+            def handle_error(self, *_):
+                pass
+
+        self.running = Listener(("127.0.0.1", self.port), Handler)
+        threading.Thread(target=self.running.serve_forever, args=(0.05,), daemon=True).start()
+
+    def stop(self):
+        self.running.shutdown()
+        self.running.server_close()
+
+    def words(self, room):
+        where = ["--database", "boat"] if self.version == 1 else ["--org", "o", "--bucket", "b"]
+        return ["--influx", f"http://127.0.0.1:{self.port}", "--state", f"{room}/state", *where]
+
+    def has(self):
+        with self.lock:
+            return {(series, stamp): fields for (series, stamp), fields in self.points.items()}
+
+
+class Influxd:
+    """InfluxDB 1.x itself."""
+
+    def __init__(self, room):
+        if not shutil.which("influxd"):
+            print("there is no influxd")
+            sys.exit(77)
+        self.room, self.port, self.running = room, free_port(), None
+        with open(f"{room}/influx.conf", "w", encoding="utf-8") as file:
+            file.write(f"""reporting-disabled = true
+bind-address = "127.0.0.1:{free_port()}"
+[meta]
+  dir = "{room}/influx/meta"
+[data]
+  dir = "{room}/influx/data"
+  wal-dir = "{room}/influx/wal"
+[http]
+  bind-address = "127.0.0.1:{self.port}"
+  log-enabled = false
+""")
+
+    def start(self):
+        with open(f"{self.room}/influx.said", "ab") as said:
+            self.running = subprocess.Popen(["influxd", "run", "-config", f"{self.room}/influx.conf"], stdout=said, stderr=said)
+
+    def stop(self):
+        # What InfluxDB has answered for is on the disk: it may be killed.
+        self.running.kill()
+        self.running.wait()
+
+    def words(self, room):
+        return Server.words(self, room)
+
+    version = 1
+
+    def ask(self, query):
+        url = f"http://127.0.0.1:{self.port}/query?{urllib.parse.urlencode({'db': 'boat', 'q': query, 'epoch': 'ns'})}"
+        for _ in range(600):
+            try:
+                with urllib.request.urlopen(url, timeout=60) as answer:
+                    return json.load(answer)["results"][0].get("series", [])
+            except OSError:
+                time.sleep(0.1)
+        raise TimeoutError("influxd does not answer")
+
+    def has(self):
+        """How many points there are of each measurement."""
+        return {it["name"]: it["values"][0][1] for it in self.ask("SELECT COUNT(dst) FROM /.*/")}
+
+
+class Base:
+    """SQLite, which others lock now and then."""
+
+    def __init__(self, room):
+        self.file, self.other = f"{room}/boat.db", None
+
+    def start(self):
+        if self.other:
+            self.other.execute("ROLLBACK")
+            self.other.close()
+            self.other = None
+
+    def stop(self):
+        self.other = sqlite3.connect(self.file, timeout=30, isolation_level=None)
+        self.other.execute("BEGIN IMMEDIATE")
+
+    def words(self, _):
+        return ["--sqlite", self.file]
+
+    def has(self):
+        with sqlite3.connect(self.file) as base:
+            return list(base.execute("SELECT time, prio, src, dst, pgn, description, fields FROM n2k"))
+
+
+def free_port():
+    with socket.socket() as it:
+        it.bind(("127.0.0.1", 0))
+        return it.getsockname()[1]
+
+
+def split(line):
+    """A line of the protocol as its series, its fields and its time."""
+    inside, places = False, []
+    for at, sign in enumerate(line):
+        if sign == '"' and line[at - 1] != "\\":
+            inside = not inside
+        elif sign == " " and not inside and line[at - 1] != "\\":
+            places.append(at)
+    return line[: places[0]], line[places[0] + 1 : places[-1]], line[places[-1] + 1 :]
+
+
+def messages(chance, count, days):
+    """Lines of JSON over some days, some of one series and one stamp."""
+    with open(f"{ROOT}/tests/logs/trip.json", encoding="utf-8") as file:
+        kinds = [it[it.index('"prio"') :] for it in file]
+    at = 1751608800000
+    for number in range(count):
+        at += chance.choice([0, 0, 1, 5, 40]) if number % (count // days) else 86400000
+        day = time.strftime("%Y-%m-%dT%H:%M:%S", time.gmtime(at // 1000))
+        kind = chance.choice(kinds).replace('"SID":0', f'"SID":{chance.randrange(250)}')
+        yield f'{{"timestamp":"{day}.{at % 1000:03d}Z",{kind}'.encode()
+
+
+class Folder:
+    """A folder that grows."""
+
+    def __init__(self, room, chance):
+        self.path, self.chance, self.day, self.lost, self.grown = f"{room}/boat", chance, None, [], 0
+        os.mkdir(self.path)
+
+    def name(self, day):
+        return f"{self.path}/{day}.json"
+
+    def add(self, line):
+        day = line[14:24].decode()
+        if day != self.day:
+            before, self.day = self.day, day
+            open(self.name(day), "wb").close()
+            if before and self.chance.randrange(3):
+                with open(f"{self.path}/.new", "wb") as file:
+                    file.write(gzip.compress(open(self.name(before), "rb").read()))
+                os.rename(f"{self.path}/.new", self.name(before))
+                os.rename(self.name(before), f"{self.name(before)}.gz")
+        with open(self.name(day), "ab", buffering=0) as file:
+            half = self.chance.randrange(len(line)) if self.chance.random() < 0.01 else 0
+            file.write(line[:half])
+            if half:
+                time.sleep(0.02)
+            file.write(line[half:])
+
+    def cut(self):
+        """A cut of the power takes the end of the file, and n2k-logger ends the line that is cut."""
+        with open(self.name(self.day), "rb+") as file:
+            text = file.read()
+            left = max(0, len(text) - self.chance.randrange(6000))
+            self.lost += text[text.rfind(b"\n", 0, left) + 1 :].splitlines(True)
+            file.truncate(left)
+            file.seek(left)
+            if left and not text[:left].endswith(b"\n"):
+                file.write(b"\n")
+
+    def text(self):
+        found = {}
+        for it in sorted(os.listdir(self.path)):
+            text = open(f"{self.path}/{it}", "rb").read()
+            found[it[:10]] = gzip.decompress(text) if it.endswith(".gz") else text
+        return found
+
+
+def converted(task, text):
+    return subprocess.run([CONVERT, task], input=text, capture_output=True, check=True).stdout.decode()
+
+
+def rows_of(text):
+    for line in text.splitlines():
+        try:
+            it = json.loads(line)
+            yield (it["timestamp"], it["prio"], it["src"], it["dst"], it["pgn"], it["description"],
+                   line.decode().partition('"fields":')[2].rstrip()[:-1])
+        except ValueError:
+            pass
+
+
+def trial(name, room, chance):
+    server = {"influx1": lambda: Server(chance, 1), "influx2": lambda: Server(chance, 2),
+              "influxd": lambda: Influxd(room), "sqlite": lambda: Base(room)}[name]()
+    folder, lines = Folder(room, chance), [*messages(chance, 6000, 3)]
+    for line in lines[:10]:
+        folder.add(line)
+    command = [FEED, *server.words(room), "--every", "0.1", folder.path]
+    environment = {**os.environ, "INFLUX_TOKEN": TOKEN}
+    said = open(f"{room}/said", "ab")
+
+    def begin():
+        return subprocess.Popen(command, env=environment, stderr=said)
+
+    feed, place = begin(), 10
+    if name != "sqlite":
+        server.start()
+    time.sleep(1)
+    for stop in range(STOPS):
+        for line in lines[place : place + len(lines) // STOPS]:
+            folder.add(line)
+            place += 1
+            if chance.random() < 0.02:
+                time.sleep(0.02 * chance.random())
+        way = chance.choice(["server", "server", "both", "feed", "cut"])
+        if way in ("feed", "both", "cut"):
+            feed.kill()
+            feed.wait()
+        if way == "cut":
+            folder.cut()
+        if way != "feed":
+            server.stop()
+            time.sleep(0.3 * chance.random())
+            server.start()
+            time.sleep(chance.choice([0.1, 0.5, 1.5]) * chance.random())
+        if feed.poll() is not None:
+            feed = begin()
+    for line in lines[place:]:
+        folder.add(line)
+    # It may wait some seconds before it asks again.
+    time.sleep(1)
+    feed.terminate()
+    feed.wait()
+    if subprocess.run([*command, "--once"], env=environment, stderr=said, timeout=120, check=False).returncode:
+        yield f"it fails: {open(f'{room}/said', encoding='utf-8').read()}"
+    texts = folder.text()
+    has = server.has()
+    if name == "sqlite":
+        wanted = {it for text in texts.values() for it in rows_of(text)}
+        spare = {*rows_of(b"".join(folder.lost))}
+        if len({*has}) != len(has) or wanted - {*has} or {*has} - wanted - spare:
+            yield f"{len(has)} rows, {len({*has})} of them different, {len(wanted - {*has})} missing, {len({*has} - wanted - spare)} not of the files"
+    else:
+        wanted = {}
+        for text in texts.values():
+            for line in converted("influx", text).splitlines():
+                series, fields, stamp = split(line)
+                if (series, stamp) in wanted:
+                    yield f"two points of one time: {line}"
+                wanted[series, stamp] = fields
+        if name == "influxd":
+            counts, lost = {}, {}
+            for series, _ in wanted:
+                measure = series.partition(",src=")[0].replace("\\", "")
+                counts[measure] = counts.get(measure, 0) + 1
+            for line in folder.lost:
+                measure = line.partition(b'"description":"')[2].partition(b'"')[0].decode()
+                lost[measure] = lost.get(measure, 0) + 8
+            for measure in {*counts, *has}:
+                if not counts.get(measure, 0) <= has.get(measure, 0) <= counts.get(measure, 0) + lost.get(measure, 0):
+                    yield f"{has.get(measure, 0)} points of {measure}, and not {counts.get(measure, 0)}, of lost lines {lost.get(measure, 0)}"
+        else:
+            missing = [key for key, fields in wanted.items() if has.get(key) != fields]
+            if missing:
+                yield f"{len(missing)} points of {len(wanted)} are missing or others, such as {missing[0]}"
+            spare = {(it.partition('"timestamp":"')[2][:24]) for it in map(bytes.decode, folder.lost)}
+            if len({*has} - {*wanted}) > 3 * len(folder.lost):
+                yield f"{len({*has} - {*wanted})} points that are not of the files, {len(spare)} stamps were lost"
+    if "for good" in open(f"{room}/said", encoding="utf-8").read():
+        yield f"refused: {open(f'{room}/said', encoding='utf-8').read()}"
+    if name != "sqlite":
+        server.stop()
+
+
+def main():
+    name, count, seed = sys.argv[1], int([*sys.argv, 1, 1][2]), int([*sys.argv, 1, 1, 1][3])
+    faults = 0
+    for number in range(seed, seed + count):
+        room = tempfile.mkdtemp()
+        try:
+            for fault in trial(name, room, random.Random(number)):
+                faults += 1
+                print(f"{name}, seed {number}: {fault}", flush=True)
+        finally:
+            shutil.rmtree(room, ignore_errors=True)
+    print(f"{faults} faults")
+    return bool(faults)
+
+
+if __name__ == "__main__":
+    sys.exit(main())
