@@ -18,3 +18,4 @@ pub mod RawBits
 pub mod Rooms
 pub mod SetPlaces
 pub mod Trims
+pub mod Units

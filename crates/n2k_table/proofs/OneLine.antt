@@ -13,7 +13,7 @@ use Rattle.n2k_table.specs.Text.{text_json}
 use Rattle.n2k_table.specs.Decimal.{sign_of, after_dot, padded_digits, dotted, dec}
 use Rattle.n2k_table.specs.Definition.{DefinitionParts, list_name}
 use Rattle.n2k_table.specs.Repeat.{RepeatParts, all_sets}
-use Rattle.n2k_table.specs.Shown.{FlagParts, flag_name, flag_bit, ShownParts, absent, number, name, text, bytes, flags, digits, all_shown}
+use Rattle.n2k_table.specs.Shown.{FlagParts, flag_name, flag_bit, ShownParts, absent, number, name, text, bytes, flags, digits, utf8, wide, all_shown}
 use Rattle.n2k_table.specs.Table.{TableParts, choice}
 use Rattle.n2k_table.specs.Json.{flag_json, value_json, pair_json, member_json, members, object, set_json, repeat_members, message_members, id_json, head_json, line_json, chosen_json, json}
 use Rattle.n2k_table.specs.OneLine.{IsOneLine}
@@ -158,6 +158,8 @@ clean-value empty (number value decimals) = (clean-dec value decimals, tt)
 clean-value empty (name n) = (clean-text n, tt)
 clean-value empty (text numbers) = (clean-text _, tt)
 clean-value empty (bytes payload) = (clean-text _, tt)
+clean-value empty (utf8 t) = (clean-text t, tt)
+clean-value empty (wide t) = (clean-text _, tt)
 clean-value empty (digits payload) = (clean-text _, tt)
 clean-value empty (flags fs) = (clean-array 91 93 (map flag_json fs) (omega arith) (omega arith) (clean-flags fs), tt)
 

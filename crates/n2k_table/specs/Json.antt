@@ -2,12 +2,14 @@
 use Rattle.std.specs.Prelude.{ℕ, Bool, false, codes, decimal, List, [], ◌∷◌, ◌++◌, map, flat_map, Option, Some, None}
 use Rattle.std.specs.Prelude.{if◌then◌else◌}
 use Rattle.std.specs.List.{filter_map, join_with_byte}
+use Rattle.std.specs.Str.{encode_utf8_all}
+use Rattle.std.specs.Char.Utf16.{utf16_lossy_chars}
 use Rattle.n2k_wire.specs.Packet.{PacketParts}
 use Rattle.n2k_wire.specs.declared.identifier.Id.{Id}
 use Rattle.n2k_table.specs.Decimal.{dec}
 use Rattle.n2k_table.specs.Repeat.{RepeatParts, all_sets}
 use Rattle.n2k_table.specs.Definition.{DefinitionParts, list_name}
-use Rattle.n2k_table.specs.Shown.{ShownParts, absent, number, name, text, bytes, flags, digits, all_shown}
+use Rattle.n2k_table.specs.Shown.{ShownParts, absent, number, name, text, bytes, flags, digits, utf8, wide, units, all_shown}
 use Rattle.n2k_table.specs.Shown.{FlagParts, flag_name, flag_bit}
 use Rattle.n2k_table.specs.Table.{TableParts, choice}
 use Rattle.n2k_table.specs.Text.{text_json, character, hex_pairs, two_digits}
@@ -35,6 +37,8 @@ value_json empty (number value decimals) = Some (dec value decimals)
 value_json empty (name n) = Some (text_json n)
 value_json empty (text numbers) = Some (text_json (flat_map character numbers))
 value_json empty (bytes payload) = Some (text_json (hex_pairs payload))
+value_json empty (utf8 t) = Some (text_json t)
+value_json empty (wide t) = Some (text_json (encode_utf8_all (utf16_lossy_chars (units t))))
 value_json empty (digits payload) = Some (text_json (flat_map two_digits payload))
 value_json empty (flags fs) = Some (array (map flag_json fs))
 

@@ -1,12 +1,15 @@
 -- What a field shows of a message.
 use Rattle.std.specs.Prelude.{ℕ, ℤ, pos, ◌+ℤ◌, ◌*ℤ◌, ◌+◌, ◌*◌, ◌-◌, ◌/◌, ◌==◌, Bool, false, ◌&&◌, ◌||◌, nat_le, nat_lt, List, [], ◌∷◌}
-use Rattle.std.specs.Prelude.{length, map, min, drop, slice_range, Option, Some, None, if◌then◌else◌}
+use Rattle.std.specs.Str.{is_utf8}
+use Rattle.std.specs.Prelude.{length, map, min, take, drop, slice_range, Option, Some, None, if◌then◌else◌}
 use Rattle.std.specs.List.{list_all}
 use Rattle.std.specs.Ordering.{int_eq}
 use Rattle.n2k_table.specs.declared.resolution.Resolution.{Resolution}
 use Rattle.n2k_table.specs.declared.flags.Flag.{Flag}
 use Rattle.n2k_table.specs.declared.flags.Flag.TheVariants as bit
 use Rattle.n2k_table.specs.declared.flags.Flags.{Flags}
+use Rattle.n2k_table.specs.declared.strings.StringForm.{StringForm}
+use Rattle.n2k_table.specs.declared.strings.StringForm.TheVariants.{Lau, Lz}
 use Rattle.n2k_table.specs.declared.shown.Shown.{Shown}
 use Rattle.n2k_table.specs.declared.shown.Shown.TheVariants as code
 use Rattle.n2k_table.specs.Bits.{raw, signed_value, greatest, bits_set}
@@ -20,7 +23,8 @@ pub data FlagParts : Type 0 where
   flag_bit : ℕ → FlagParts
 
 -- nothing; a number, a whole number with its last digits after the dot; the name of a value; a text, each byte
--- the character of its number; bytes; bits; or digits, two of each byte
+-- the character of its number; bytes; bits; digits, two of each byte; a text
+-- in UTF-8; or one in UTF-16, the low byte of each unit first
 pub data ShownParts : Type 0 where
   absent : ShownParts
   number : ℤ → ℕ → ShownParts
@@ -29,6 +33,8 @@ pub data ShownParts : Type 0 where
   bytes : List ℕ → ShownParts
   flags : List FlagParts → ShownParts
   digits : List ℕ → ShownParts
+  utf8 : List ℕ → ShownParts
+  wide : List ℕ → ShownParts
 
 -- the bit of a number, by the names of some
 abbrev pub flag_of : ℕ → Option (List ℕ) → FlagParts
@@ -56,6 +62,8 @@ shown_parts (code.Text t) = text t.now
 shown_parts (code.Bytes b) = bytes b.now
 shown_parts (code.Flags f) = flags (flags_left f)
 shown_parts (code.Digits b) = digits b.now
+shown_parts (code.Utf8 t) = utf8 t.now
+shown_parts (code.Wide t) = wide t.now
 
 -- the field lies wholly inside the data
 abbrev pub lies_inside : FieldParts → List ℕ → Bool
@@ -125,6 +133,53 @@ shown_digits (b ∷ bs) = if list_all is_two_digits (b ∷ bs) then digits (b �
 abbrev pub field_bytes : FieldParts → List ℕ → List ℕ
 field_bytes f payload = slice_range payload (f.at / 8) ((f.at + f.bits) / 8)
 
+-- the units of UTF-16 that bytes spell, the low byte of each first; an odd last byte is none
+abbrev pub units : List ℕ → List ℕ
+units (low ∷ high ∷ bs) = (low + 256 * high) ∷ units bs
+units _ = []
+
+-- a unit that fills a text up
+abbrev pub is_filling_unit : ℕ → Bool
+is_filling_unit u = u == 0 || u == 65535 || u == 64 || u == 32
+
+-- bytes up to the last unit that is no filling
+abbrev pub trimmed_wide : List ℕ → List ℕ
+trimmed_wide bs = take (2 * length (trimmed_of is_filling_unit (units bs))) bs
+
+-- characters of a byte or more: UTF-8 where they are, else each byte is the character of its number
+abbrev pub shown_narrow : List ℕ → ShownParts
+shown_narrow [] = absent
+shown_narrow (b ∷ bs) = if is_utf8 (b ∷ bs) then utf8 (b ∷ bs) else text (b ∷ bs)
+
+abbrev pub shown_wide : List ℕ → ShownParts
+shown_wide [] = absent
+shown_wide (b ∷ bs) = wide (b ∷ bs)
+
+-- What stands behind the length of a string, by its form: in `lau` a byte that names the encoding, and characters.
+abbrev pub shown_string : StringForm → List ℕ → ShownParts
+shown_string Lz chars = shown_narrow (trimmed chars)
+shown_string Lau [] = absent
+shown_string Lau (encoding ∷ chars) =
+    if encoding == 1 then shown_narrow (trimmed chars)
+    else if encoding == 0 then shown_wide (trimmed_wide chars)
+    else absent
+
+-- How many bytes stand behind a length. In `lau` it counts itself, and the encoding stands there.
+abbrev pub string_size : StringForm → ℕ → Option ℕ
+string_size Lz size = Some size
+string_size Lau size = if nat_le 2 size then Some (size - 1) else None
+
+-- so many of these bytes, or, where fewer are there, those of a short string
+abbrev pub shown_of_size : StringForm → Bool → Option ℕ → List ℕ → ShownParts
+shown_of_size form short None rest = absent
+shown_of_size form short (Some size) rest =
+    if nat_le size (length rest) || short then shown_string form (take size rest) else absent
+
+-- what a string shows that begins with its length
+abbrev pub shown_with_length : StringForm → Bool → List ℕ → ShownParts
+shown_with_length form short [] = absent
+shown_with_length form short (size ∷ rest) = shown_of_size form short (string_size form size) rest
+
 -- what a field that lies inside the data shows, by what it means
 abbrev pub shown_inside : Meaning → FieldParts → List ℕ → ShownParts
 shown_inside (means.number signed offset resolution) f payload =
@@ -133,6 +188,7 @@ shown_inside (means.named entries) f payload =
     shown_name (name_of_value entries (raw payload f.at f.bits)) f.bits (raw payload f.at f.bits)
 shown_inside means.text f payload = shown_text (trimmed (field_bytes f payload))
 shown_inside means.bytes f payload = bytes (field_bytes f payload)
+shown_inside (means.string form) f payload = shown_with_length form f.short (drop (f.at / 8) payload)
 shown_inside means.digits f payload = shown_digits (trimmed_of is_no_digit (field_bytes f payload))
 shown_inside (means.flags entries) f payload = shown_flags entries f.bits (raw payload f.at f.bits)
 

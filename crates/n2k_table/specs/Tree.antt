@@ -56,6 +56,17 @@ own_keys kind.Text = []
 own_keys kind.Bytes = []
 own_keys kind.Flags = codes "lookup" ∷ []
 own_keys kind.Digits = []
+own_keys kind.String = codes "form" ∷ []
+
+-- A string says itself how long it is.
+abbrev pub has_bits : FieldKind → Bool
+has_bits kind.Number = true
+has_bits kind.Lookup = true
+has_bits kind.Text = true
+has_bits kind.Bytes = true
+has_bits kind.Flags = true
+has_bits kind.Digits = true
+has_bits kind.String = false
 
 -- the keys of a kind that only a table of format 3 may have
 abbrev pub more_keys : FieldKind → List (List ℕ)
@@ -65,11 +76,13 @@ more_keys kind.Text = []
 more_keys kind.Bytes = []
 more_keys kind.Flags = []
 more_keys kind.Digits = []
+more_keys kind.String = []
 
--- A text or bytes of a message may be short. Each field of a set lies in it.
+-- A text, bytes or a string of a message may be short. Each field of a set lies in it.
 abbrev pub can_be_short : FieldKind → Holder → Bool
 can_be_short kind.Text Message = true
 can_be_short kind.Bytes Message = true
+can_be_short kind.String Message = true
 can_be_short _ _ = false
 
 -- A number or a lookup's value of a message may be asked for. A field of a set can't ask.
@@ -87,7 +100,8 @@ is_key (Definition format) key =
     || (has_sets format && bytes_eq key (codes "repeat"))
 is_key Repeat key = is_among key (codes "at" ∷ codes "bits" ∷ codes "fields" ∷ [])
 is_key (Field format kind holder) key =
-    is_among key (codes "name" ∷ codes "kind" ∷ codes "at" ∷ codes "bits" ∷ [])
+    is_among key (codes "name" ∷ codes "kind" ∷ codes "at" ∷ [])
+    || (has_bits kind && bytes_eq key (codes "bits"))
     || is_among key (own_keys kind)
     || (is_extended format && is_among key (more_keys kind))
     || (is_extended format && can_be_short kind holder && bytes_eq key (codes "short"))

@@ -8,6 +8,7 @@ use crate::line_buffer::LineBuffer;
 use crate::lookup::Lookup;
 use crate::number::{Scale, Shift};
 use crate::padded_text::PaddedText;
+use crate::strings::{StringForm, string_value};
 use std::alloc::AllocError;
 use std::marker::Model;
 use std::rc::Rc;
@@ -29,6 +30,8 @@ pub(crate) enum Meaning {
     Flags(Rc<Lookup>),
     /// Bytes of two decimal digits.
     Digits,
+    /// A text that says how long it is.
+    String(StringForm),
 }
 
 /// A field: its name, its first bit in the message or in its set, how many bits it has, whether it may be short, what
@@ -175,6 +178,7 @@ impl Field {
             Meaning::Text => return text_value(self.bytes(data)),
             Meaning::Bytes => return FieldValue::Bytes(self.bytes(data)),
             Meaning::Digits => return digits_value(self.bytes(data)),
+            Meaning::String(form) => return string_value(*form, self.short, self.front(data)),
             Meaning::Flags(lookup) => {
                 let raw = raw(data, self.at, self.bits);
                 return flags_value(lookup, self.bits, raw);

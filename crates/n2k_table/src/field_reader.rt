@@ -9,7 +9,7 @@ ghost use Rattle.n2k_table.specs.Reading.{ReaderGives};
 ghost use Rattle.n2k_table.specs.Tree.{message_bits, end_of};
 ghost use Rattle.n2k_table.specs.Field.{number, named_field_kind, kind_of_field, alignment, most_bits, multiple_of, span};
 ghost use Rattle.n2k_table.specs.Field.{offset_in_range, offset_or_zero, check_unit};
-ghost use Rattle.n2k_table.specs.Field.{more_field_kind, short_of, number_of_bits, lookup_named, meaning_of, raw_or_none, match_value_of, field};
+ghost use Rattle.n2k_table.specs.Field.{length_span, span_of, named_form, string_at, more_field_kind, short_of, number_of_bits, lookup_named, meaning_of, raw_or_none, match_value_of, field};
 
 use crate::bits::greatest;
 use crate::fault::TableFault;
@@ -18,6 +18,7 @@ use crate::lookup::{Lookup, Lookups};
 use crate::number::{Scale, Shift};
 use crate::padded_text::PaddedText;
 use crate::resolution::{Resolution, resolution_at};
+use crate::strings::StringForm;
 use crate::text::text_json;
 use crate::tree::{
     FieldKind, Holder, MESSAGE_BITS, Section, TableFormat, any_text_at, as_members, bool_at,
@@ -32,6 +33,12 @@ pub(crate) const LAST_BIT: u32 = MESSAGE_BITS - 1;
 
 /// The most bits of a number.
 pub(crate) const MOST_NUMBER_BITS: u32 = 64;
+
+/// The bits of the length of a string.
+pub(crate) const LENGTH_BITS: u32 = 8;
+
+/// The last bit at which a string may begin.
+pub(crate) const LAST_STRING_BIT: u32 = 1776;
 
 /// The most bits of a flags field.
 pub(crate) const MOST_FLAGS: u32 = 64;
@@ -49,35 +56,44 @@ pub(crate) struct Span {
     pub(crate) bits: u32,
 }
 
-/// The kinds that only a table of format 3 may have.
-fn more_field_kind(name: &str) -> Result<FieldKind, TableFault>
-    ensures { Gives (λ kind. kind) result (more_field_kind name.now) }
+/// The kinds that only a table of format 3 may have; a set has no strings.
+fn more_field_kind(holder: Holder, name: &str) -> Result<FieldKind, TableFault>
+    ensures { Gives (λ kind. kind) result (more_field_kind holder name.now) }
 {
     match name {
         "flags" => Ok(FieldKind::Flags),
         "digits" => Ok(FieldKind::Digits),
+        "string" if holder.is_message() => Ok(FieldKind::String),
         _ => Err(TableFault::Text),
     }
 }
 
 /// The kinds of fields in a table of this format.
-fn named_field_kind(format: TableFormat, name: &str) -> Result<FieldKind, TableFault>
-    ensures { Gives (λ kind. kind) result (named_field_kind format name.now) }
+fn named_field_kind(
+    format: TableFormat,
+    holder: Holder,
+    name: &str,
+) -> Result<FieldKind, TableFault>
+    ensures { Gives (λ kind. kind) result (named_field_kind format holder name.now) }
 {
     match name {
         "number" => Ok(FieldKind::Number),
         "lookup" => Ok(FieldKind::Lookup),
         "text" => Ok(FieldKind::Text),
         "bytes" => Ok(FieldKind::Bytes),
-        _ if format.is_extended() => more_field_kind(name),
+        _ if format.is_extended() => more_field_kind(holder, name),
         _ => Err(TableFault::Text),
     }
 }
 
-fn kind_of_field(format: TableFormat, table: &Table) -> Result<FieldKind, TableFault>
-    ensures { Gives (λ kind. kind) result (kind_of_field format (table_view table.now)) }
+fn kind_of_field(
+    format: TableFormat,
+    holder: Holder,
+    table: &Table,
+) -> Result<FieldKind, TableFault>
+    ensures { Gives (λ kind. kind) result (kind_of_field format holder (table_view table.now)) }
 {
-    named_field_kind(format, any_text_at(table, "kind")?)
+    named_field_kind(format, holder, any_text_at(table, "kind")?)
 }
 
 /// Of what number of bits the place of a field is a multiple.
@@ -87,7 +103,7 @@ fn alignment(kind: FieldKind) -> u32
 {
     match kind {
         FieldKind::Number | FieldKind::Lookup | FieldKind::Flags => 1,
-        FieldKind::Text | FieldKind::Bytes | FieldKind::Digits => 8,
+        FieldKind::Text | FieldKind::Bytes | FieldKind::Digits | FieldKind::String => 8,
     }
 }
 
@@ -100,6 +116,7 @@ fn most_bits(kind: FieldKind) -> u32
         FieldKind::Lookup => MOST_LOOKUP_BITS,
         FieldKind::Text | FieldKind::Bytes | FieldKind::Digits => MESSAGE_BITS,
         FieldKind::Flags => MOST_FLAGS,
+        FieldKind::String => LENGTH_BITS,
     }
 }
 
@@ -137,6 +154,50 @@ pub(crate) fn span_at(
         return Err(TableFault::Range);
     }
     Ok(Span { at, bits })
+}
+
+/// Where the length of a string stands.
+#[tactic(auto, unfolding(crate::specs::Field::length_span))]
+fn length_span(table: &Table) -> Result<Span, TableFault>
+    ensures value { Gives (λ span. span) result (length_span (table_view table.now)) }
+    ensures inside { IfOk result (λ span. (span.bits ≡ 8) × (span.at + span.bits ≤ message_bits)) }
+{
+    let at = multiple_of(8, int_at(table, "at", 0, LAST_STRING_BIT)?)?;
+    Ok(Span {
+        at,
+        bits: LENGTH_BITS,
+    })
+}
+
+/// Where a field stands.
+fn span_of(kind: FieldKind, holder: Holder, table: &Table) -> Result<Span, TableFault>
+    requires { end_of holder ≤ message_bits }
+    ensures value { Gives (λ span. span) result (span_of kind holder (table_view table.now)) }
+    ensures range { IfOk result (λ span. (1 ≤ span.bits) × (span.bits ≤ most_bits kind)) }
+    ensures inside { IfOk result (λ span. span.at + span.bits ≤ message_bits) }
+{
+    if kind.has_bits() {
+        span_at(table, alignment(kind), most_bits(kind), holder.end())
+    } else {
+        length_span(table)
+    }
+}
+
+fn named_form(name: &str) -> Result<StringForm, TableFault>
+    ensures { Gives (λ form. form) result (named_form name.now) }
+{
+    match name {
+        "lau" => Ok(StringForm::Lau),
+        "lz" => Ok(StringForm::Lz),
+        _ => Err(TableFault::Text),
+    }
+}
+
+fn string_at(table: &Table) -> Result<Meaning, TableFault>
+    ensures value { Gives seen_meaning result (string_at (table_view table.now)) }
+    ensures room { IfOk result (λ meaning. (bits : ℕ) → HasRoom meaning bits) }
+{
+    Ok(Meaning::String(named_form(any_text_at(table, "form")?)?))
 }
 
 fn offset_in_range(integer: i64) -> Result<i64, TableFault>
@@ -233,6 +294,7 @@ fn meaning_of(
         FieldKind::Bytes => Ok(Meaning::Bytes),
         FieldKind::Flags => Ok(Meaning::Flags(lookup_named(lookups, table)?)),
         FieldKind::Digits => Ok(Meaning::Digits),
+        FieldKind::String => string_at(table),
     }
 }
 
@@ -305,10 +367,10 @@ pub(crate) fn read_field(
     ensures { ReaderGives (λ field. field) result (field format holder lookups.now (view value.now)) }
 {
     let table = as_members(value)?;
-    let kind = kind_of_field(format, table)?;
+    let kind = kind_of_field(format, holder, table)?;
     check_keys(table, Section::Field(format, kind, holder))?;
     let name = text_at(table, "name")?;
-    let span = span_at(table, alignment(kind), most_bits(kind), holder.end())?;
+    let span = span_of(kind, holder, table)?;
     let meaning = meaning_of(lookups, kind, span.bits, table)?;
     let short = short_of(kind, holder, table)?;
     let match_value = match_value_of(kind, holder, span.bits, table)?;

@@ -31,6 +31,10 @@ pub(crate) enum FieldValue<'a> {
     Flags(Flags<'a>),
     /// Bytes of two digits each.
     Digits(&'a [u8]),
+    /// A text in UTF-8, without what fills it up.
+    Utf8(&'a str),
+    /// A text in UTF-16, the low byte of each unit first, without what fills it up.
+    Wide(&'a [u8]),
 }
 
 impl<'a> FieldValue<'a> {
@@ -53,6 +57,8 @@ impl<'a> FieldValue<'a> {
             FieldValue::Bytes(bytes) => Shown::Bytes(bytes),
             FieldValue::Flags(flags) => Shown::Flags(flags),
             FieldValue::Digits(bytes) => Shown::Digits(bytes),
+            FieldValue::Utf8(text) => Shown::Utf8(text),
+            FieldValue::Wide(bytes) => Shown::Wide(bytes),
         }
     }
 }
@@ -87,7 +93,7 @@ fn is_filling(byte: u8) -> bool
 
 /// A text up to its last byte that does not fill it up.
 #[inline(never)]
-fn trimmed(text: &[u8]) -> &[u8]
+pub(crate) fn trimmed(text: &[u8]) -> &[u8]
     ensures { result.now ≡ trimmed text.now }
 {
     let mut kept = text;

@@ -53,6 +53,7 @@ mod padded_text;
 mod repeat;
 mod resolution;
 mod shown;
+mod strings;
 mod table;
 mod text;
 mod tree;

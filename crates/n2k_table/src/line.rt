@@ -1,7 +1,9 @@
 //! The JSON line of a message.
 ghost use Rattle.std.specs.Prelude.{◌≡◌, ◌++◌, ◌+◌, ◌*◌, ◌≤◌, ◌||◌, true, is_some, nat_lt, codes, if◌then◌else◌};
 ghost use Rattle.std.specs.Prelude.{decimal, length, map, IfOk, IfSome, OnOk, OnErr, Some};
-ghost use Rattle.n2k_table.specs.Shown.{shown, all_shown, flags_left};
+ghost use Rattle.std.specs.Str.{encode_utf8_all};
+ghost use Rattle.std.specs.Char.Utf16.{utf16_lossy_chars};
+ghost use Rattle.n2k_table.specs.Shown.{shown, all_shown, flags_left, units};
 ghost use Rattle.n2k_table.specs.Decimal.{dec};
 ghost use Rattle.std.specs.List.{flat_map, join_with_byte};
 ghost use Rattle.n2k_table.specs.Repeat.{set_shown, all_sets};
@@ -23,7 +25,7 @@ use crate::line_buffer::LineBuffer;
 use crate::number::Shift;
 use crate::repeat::Repeat;
 use crate::table::Table;
-use crate::text::{push_characters, push_digits, push_pairs};
+use crate::text::{push_characters, push_digits, push_json, push_pairs, push_units};
 use itoa::Buffer;
 use n2k_wire::Packet;
 use std::alloc::{AllocError, Global};
@@ -60,7 +62,7 @@ fn push_pgn(pgn: u32, line: &mut LineBuffer) -> Result<(), AllocError>
 }
 
 /// Appends the value of a member that is there, behind its key: `null`, a number with an offset, a text, bytes, flags,
-/// or digits. They are not inlined: most fields are numbers and names.
+/// digits, or a string. They are not inlined: most fields are numbers and names.
 #[inline(never)]
 fn push_null(field: &Field, later: bool, line: &mut LineBuffer) -> Result<(), AllocError>
     ensures { OnOk result (line.new.items ≡ line.old.items ++ (key_json later field.now.name ++ codes "null")) }
@@ -124,6 +126,34 @@ fn push_number_text(
 {
     field.push_key(later, line)?;
     push_digits(bytes, line)
+}
+
+#[inline(never)]
+fn push_utf8(
+    field: &Field,
+    text: &str,
+    later: bool,
+    line: &mut LineBuffer,
+) -> Result<(), AllocError>
+    ensures { OnOk result (line.new.items ≡ line.old.items ++ (key_json later field.now.name ++ text_json text.now)) }
+{
+    field.push_key(later, line)?;
+    push_json(text, line)
+}
+
+#[inline(never)]
+fn push_wide(
+    field: &Field,
+    bytes: &[u8],
+    later: bool,
+    line: &mut LineBuffer,
+) -> Result<(), AllocError>
+    ensures { OnOk result (line.new.items
+        ≡ line.old.items
+        ++ (key_json later field.now.name ++ text_json (encode_utf8_all (utf16_lossy_chars (units bytes.now))))) }
+{
+    field.push_key(later, line)?;
+    push_units(bytes, line)
 }
 
 /// Appends a bit by its name or its number, after a comma where one stands before.
@@ -204,6 +234,8 @@ fn push_member(
         FieldValue::Bytes(bytes) => push_bytes(field, bytes, later, line)?,
         FieldValue::Flags(flags) => push_flags(field, flags, later, line)?,
         FieldValue::Digits(bytes) => push_number_text(field, bytes, later, line)?,
+        FieldValue::Utf8(text) => push_utf8(field, text, later, line)?,
+        FieldValue::Wide(bytes) => push_wide(field, bytes, later, line)?,
     }
     Ok(true)
 }

@@ -27,6 +27,10 @@ pub enum Shown<'a> {
     Flags(Flags<'a>),
     /// Digits: each byte, 0 to 99, is two of them.
     Digits(&'a [u8]),
+    /// A text that says how long it is, in UTF-8; `Text` where its characters are no UTF-8.
+    Utf8(&'a str),
+    /// Such a text in UTF-16, the low byte of each unit first. A lone surrogate stands for U+FFFD.
+    Wide(&'a [u8]),
 }
 
 /// What the fields of a definition show of a message: the name of each, and what it shows. It borrows

@@ -2,9 +2,13 @@
 ghost use Rattle.std.specs.Prelude.{◌≡◌, ◌++◌, IfOk, OnOk};
 ghost use Rattle.std.specs.List.{list_all, flat_map};
 ghost use Rattle.n2k_table.specs.Text.{text_json, hex_pair, hex_pairs, character, two_digits};
+ghost use Rattle.std.specs.Str.{encode_utf8_all};
+ghost use Rattle.std.specs.Char.Utf16.{utf16_lossy_chars};
+ghost use Rattle.n2k_table.specs.Shown.{units};
 ghost use Rattle.n2k_table.specs.Inner.Line.{is_plain};
 
 use crate::line_buffer::LineBuffer;
+use crate::strings::units_of;
 use serde_json::Value;
 use std::alloc::{AllocError, Global};
 
@@ -119,4 +123,22 @@ pub(crate) fn push_digits(bytes: &[u8], line: &mut LineBuffer) -> Result<(), All
     line.push(b'"')?;
     push_inner_digits(bytes, line)?;
     line.push(b'"')
+}
+
+/// Appends a text, as `serde_json` writes it.
+pub(crate) fn push_json(text: &str, line: &mut LineBuffer) -> Result<(), AllocError>
+    ensures { OnOk result (line.new.items ≡ line.old.items ++ text_json text.now) }
+{
+    let json = text_json(line.alloc(), text)?;
+    line.extend_from_slice(&json)
+}
+
+/// Appends the text that bytes spell in UTF-16, the low byte of each unit first.
+pub(crate) fn push_units(bytes: &[u8], line: &mut LineBuffer) -> Result<(), AllocError>
+    ensures { OnOk result (line.new.items
+        ≡ line.old.items ++ text_json (encode_utf8_all (utf16_lossy_chars (units bytes.now)))) }
+{
+    let units = units_of(line.alloc(), bytes)?;
+    let text = String::from_utf16_lossy(line.alloc(), &units)?;
+    push_json(&text, line)
 }

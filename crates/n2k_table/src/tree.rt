@@ -23,7 +23,7 @@ pub(crate) enum TableFormat {
     One,
     /// With sets: a definition may have a key `repeat`.
     Two,
-    /// With offsets and units of numbers, flags, digits and short fields, too.
+    /// With offsets and units of numbers, flags, digits, strings and short fields, too.
     Three,
 }
 
@@ -42,6 +42,8 @@ pub(crate) enum FieldKind {
     Flags,
     /// Bytes of two decimal digits.
     Digits,
+    /// A text that says itself how long it is.
+    String,
 }
 
 /// What a field is part of.
@@ -93,7 +95,7 @@ impl TableFormat {
 }
 
 impl FieldKind {
-    ghost use Rattle.n2k_table.specs.Tree.{is_among, own_keys, more_keys, can_be_short, can_match};
+    ghost use Rattle.n2k_table.specs.Tree.{is_among, own_keys, more_keys, has_bits, can_be_short, can_match};
 
     /// Whether a key is one that fields of the kind have beside those of every field.
     fn has_key(self, key: &str) -> bool
@@ -102,6 +104,7 @@ impl FieldKind {
         match self {
             FieldKind::Number => key == "signed" || key == "resolution",
             FieldKind::Lookup | FieldKind::Flags => key == "lookup",
+            FieldKind::String => key == "form",
             FieldKind::Text | FieldKind::Bytes | FieldKind::Digits => false,
         }
     }
@@ -116,7 +119,18 @@ impl FieldKind {
             | FieldKind::Text
             | FieldKind::Bytes
             | FieldKind::Flags
-            | FieldKind::Digits => false,
+            | FieldKind::Digits
+            | FieldKind::String => false,
+        }
+    }
+
+    /// Whether a table says how many bits fields of the kind have.
+    pub(crate) fn has_bits(self) -> bool
+        ensures { result ≡ has_bits self }
+    {
+        match self {
+            FieldKind::String => false,
+            _ => true,
         }
     }
 
@@ -125,7 +139,7 @@ impl FieldKind {
         ensures { result ≡ can_be_short self holder }
     {
         match (self, holder) {
-            (FieldKind::Text | FieldKind::Bytes, Holder::Message) => true,
+            (FieldKind::Text | FieldKind::Bytes | FieldKind::String, Holder::Message) => true,
             _ => false,
         }
     }
@@ -143,6 +157,17 @@ impl FieldKind {
 
 impl Holder {
     ghost use Rattle.n2k_table.specs.Tree.{end_of};
+    ghost use Rattle.n2k_table.specs.Field.{is_message};
+
+    /// Whether it is a message itself.
+    pub(crate) fn is_message(self) -> bool
+        ensures { result ≡ is_message self }
+    {
+        match self {
+            Holder::Message => true,
+            Holder::Set(_) => false,
+        }
+    }
 
     /// The bits within which a field ends.
     pub(crate) fn end(self) -> u32
@@ -176,7 +201,7 @@ impl Section {
                 key == "name"
                     || key == "kind"
                     || key == "at"
-                    || key == "bits"
+                    || (kind.has_bits() && key == "bits")
                     || kind.has_key(key)
                     || (format.is_extended() && kind.has_more_key(key))
                     || (format.is_extended() && kind.can_be_short(holder) && key == "short")

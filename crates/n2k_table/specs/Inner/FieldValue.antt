@@ -5,7 +5,8 @@ use Rattle.n2k_table.specs.declared.field_value.FieldValue.TheVariants as code
 use Rattle.n2k_table.specs.declared.flags.Flags.{Flags}
 use Rattle.n2k_table.specs.declared.flags.NamedBit.{NamedBit}
 use Rattle.n2k_table.specs.declared.flags.NamedBit.TheVariants as bit
-use Rattle.n2k_table.specs.Shown.{FlagParts, flag_name, flag_bit, ShownParts, absent, number, name, text, bytes, flags, digits, flags_left}
+use Rattle.n2k_table.specs.Shown.{FlagParts, flag_name, flag_bit, ShownParts, absent, number, name, text, bytes, flags}
+use Rattle.n2k_table.specs.Shown.{digits, utf8, wide, flags_left}
 use Rattle.n2k_table.specs.Inner.Number.{value_of, shifted_value}
 
 -- the answer as parts
@@ -17,6 +18,8 @@ value_parts (code.Name n) = name n.now
 value_parts (code.Text t) = text t.now
 value_parts (code.Bytes b) = bytes b.now
 value_parts (code.Digits b) = digits b.now
+value_parts (code.Utf8 t) = utf8 t.now
+value_parts (code.Wide t) = wide t.now
 value_parts (code.Flags f) = flags (flags_left f)
 
 -- a bit that is 1, as such a part

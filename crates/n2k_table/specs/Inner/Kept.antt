@@ -2,7 +2,7 @@
 use Rattle.std.specs.Prelude.{◌≡◌, ◌≤◌, ℕ, pos, ◌+◌, true, false, List, Option, IfSome}
 use Rattle.n2k_table.specs.declared.field.Meaning.{Meaning as CodeMeaning}
 use Rattle.n2k_table.specs.declared.field.Meaning.TheVariants as code
-use Rattle.n2k_table.specs.Field.{Meaning, number, named, text, bytes, flags, digits, most_number_bits}
+use Rattle.n2k_table.specs.Field.{Meaning, number, named, text, bytes, flags, digits, string, most_number_bits}
 use Rattle.n2k_table.specs.Tree.{message_bits}
 use Rattle.n2k_table.specs.Inner.Line.{key_json}
 use Rattle.n2k_table.specs.Inner.Number.{IsScale, IsShift}
@@ -15,6 +15,7 @@ meaning (code.Lookup lookup) = named lookup.value.entries
 meaning code.Text = text
 meaning code.Bytes = bytes
 meaning code.Digits = digits
+meaning (code.String form) = string form
 meaning (code.Flags lookup) = flags lookup.value.entries
 
 -- so many bits can have the meaning, and what is kept of a number is of so many
@@ -25,6 +26,7 @@ HasRoom (code.Lookup lookup) bits = bits ≤ most_number_bits
 HasRoom code.Text bits = Unit {0}
 HasRoom code.Bytes bits = Unit {0}
 HasRoom code.Digits bits = Unit {0}
+HasRoom (code.String form) bits = Unit {0}
 HasRoom (code.Flags lookup) bits = bits ≤ most_number_bits
 
 -- What the code keeps of each field: what stands before its value too, and a place that a message can have.

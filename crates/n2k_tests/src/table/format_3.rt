@@ -56,7 +56,19 @@ reads | kind = 'bytes', at = 0, bits = 8, short = false
 Key | kind = 'bytes', at = 0, bits = 8, short = 1
 Key | kind = 'number', at = 0, bits = 8, short = true
 Key | kind = 'lookup', at = 0, bits = 8, lookup = 'L', short = true
-Key | kind = 'flags', at = 0, bits = 8, lookup = 'L', short = true";
+Key | kind = 'flags', at = 0, bits = 8, lookup = 'L', short = true
+reads | kind = 'string', at = 0, form = 'lau'
+reads | kind = 'string', at = 1776, form = 'lz', short = true
+Range | kind = 'string', at = 1784, form = 'lz'
+Range | kind = 'string', at = 4, form = 'lz'
+Text | kind = 'string', at = 0, form = 'x'
+Text | kind = 'string', at = 0, form = ''
+Key | kind = 'string', at = 0, form = 1
+Key | kind = 'string', at = 0
+Key | kind = 'string', form = 'lau'
+Key | kind = 'string', at = 0, form = 'lau', bits = 8
+Key | kind = 'string', at = 0, form = 'lau', match = 1
+Key | kind = 'text', at = 0, bits = 8, form = 'lau'";
 
 // Keys that are none in format 2.
 const NEW_KEYS: [&str; 2] = ["offset = -40", "unit = 'C'"];
@@ -87,6 +99,7 @@ fn new_kinds_are_none_in_format_2(rt: HostRuntime) -> Result<(), Fail> {
     field_answers(&rt, 2, flags, "Text")?;
     field_answers(&rt, 1, flags, "Text")?;
     field_answers(&rt, 2, "kind = 'digits', at = 0, bits = 8", "Text")?;
+    field_answers(&rt, 2, "kind = 'string', at = 0, form = 'lau'", "Text")?;
     field_answers(
         &rt,
         2,
@@ -104,6 +117,13 @@ fn no_field_of_a_set_is_short(rt: HostRuntime) -> Result<(), Fail> {
 }
 
 #[test]
+fn a_set_has_no_string(rt: HostRuntime) -> Result<(), Fail> {
+    let set = "format = 3\npgn = [{ number = 1, kind = 'fast', description = 'D', fields = [], \
+        repeat = { at = 0, bits = 8, fields = [{ name = 'F', kind = 'string', at = 0, form = 'lau' }] } }]\n";
+    answers(&rt, set, "Text", "string")
+}
+
+#[test]
 fn new_keys_are_none_in_format_2(rt: HostRuntime) -> Result<(), Fail> {
     for key in &NEW_KEYS {
         let field = format!(in rt.alloc(); "kind = 'number', at = 0, bits = 8, {key}")?;
@@ -117,7 +137,7 @@ fn new_keys_are_none_in_format_2(rt: HostRuntime) -> Result<(), Fail> {
 const OFFSET: &str = "kind = 'number', at = 0, bits = 8, offset = -40";
 
 // A field, data, and what is shown.
-const SHOWN: [(&str, &[u8], &str); 34] = [
+const SHOWN: [(&str, &[u8], &str); 59] = [
     (OFFSET, &[0x3c], "20"),
     (OFFSET, &[0x28], "0"),
     (OFFSET, &[0x00], "-40"),
@@ -203,7 +223,60 @@ const SHOWN: [(&str, &[u8], &str); 34] = [
         &[0x20],
         "null",
     ),
+    // strings
+    (LAU, &[0x04, 0x01, 0x48, 0x69, 0x03], "\"Hi\""),
+    (LAU, &[0x02, 0x01, 0x00], "null"),
+    (LAU, &[0x01, 0x01, 0x00, 0x05], "null"),
+    (LAU, &[0x00, 0x01], "null"),
+    (LAU, &[], "null"),
+    (LAU, &[0x04, 0x01, 0x48], "null"),
+    (LAU, &[0x04, 0x01, 0xc3, 0x84], "\"\u{c4}\""),
+    (LAU, &[0x03, 0x01, 0xc4], "\"\u{c4}\""),
+    (LAU, &[0x04, 0x02, 0x48, 0x69], "null"),
+    (LAU, &[0x05, 0x01, 0x48, 0x20, 0x40], "\"H\""),
+    (LAU, &[0x04, 0x01, 0x22, 0x01], "\"\\\"\\u0001\""),
+    // in UTF-16
+    (
+        LAU,
+        &[0x06, 0x00, 0xe4, 0x00, 0x3d, 0xd8],
+        "\"\u{e4}\u{fffd}\"",
+    ),
+    (LAU, &[0x06, 0x00, 0x3d, 0xd8, 0x00, 0xde], "\"\u{1f600}\""),
+    (LAU, &[0x06, 0x00, 0x00, 0xde, 0x41, 0x00], "\"\u{fffd}A\""),
+    (
+        LAU,
+        &[0x08, 0x00, 0x41, 0x00, 0x20, 0x00, 0xff, 0xff],
+        "\"A\"",
+    ),
+    (LAU, &[0x07, 0x00, 0x41, 0x00, 0x20, 0x00, 0x41], "\"A\""),
+    (LAU, &[0x04, 0x00, 0x40, 0x00], "null"),
+    (LAU, &[0x03, 0x00, 0x41], "null"),
+    // by a length that counts the characters alone
+    (
+        "kind = 'string', at = 8, form = 'lz'",
+        &[0, 0x03, 0x59, 0x6f, 0x00, 0x41],
+        "\"Yo\"",
+    ),
+    (
+        "kind = 'string', at = 8, form = 'lz'",
+        &[0, 0x00, 0x59],
+        "null",
+    ),
+    (
+        "kind = 'string', at = 8, form = 'lz'",
+        &[0, 0x02, 0x59],
+        "null",
+    ),
+    // short ones
+    (SHORT_LAU, &[0x16, 0x01, 0x42, 0x55, 0x4f, 0x59], "\"BUOY\""),
+    (SHORT_LAU, &[0x16], "null"),
+    (SHORT_LAU, &[0x01, 0x01, 0x42], "null"),
+    (SHORT_LAU, &[0x16, 0x00, 0xe4, 0x00, 0x41], "\"\u{e4}\""),
 ];
+
+const LAU: &str = "kind = 'string', at = 0, form = 'lau'";
+
+const SHORT_LAU: &str = "kind = 'string', at = 0, form = 'lau', short = true";
 
 const PHONE: &str = "kind = 'digits', at = 0, bits = 32";
 
