@@ -7,7 +7,7 @@ ghost use Rattle.n2k_table.specs.Table.{kind};
 ghost use Rattle.n2k_join.specs.Pieces.{first_sequences};
 ghost use Rattle.n2k_join.specs.Splitter.{sequences};
 ghost use Rattle.n2k_run.specs.declared.frames.Outcome.TheVariants.{Bad};
-ghost use Rattle.n2k_run.specs.FramesOut.{IsInterface, interface_of, fault_cause, frames_counts, frames_out, frames_output, frames_reports, frame_counts_of};
+ghost use Rattle.n2k_run.specs.FramesOut.{fault_cause, frames_counts, frames_out, frames_output, frames_reports, frame_counts_of};
 ghost use Rattle.n2k_run.specs.Runs.{Runs, seen};
 ghost use Rattle.n2k_run.specs.Inner.Sending.{SentLine, SentMessage, frame_line};
 
@@ -17,7 +17,7 @@ use crate::fault::RunFault;
 use crate::texts::bad_text;
 use n2k_join::{Counts, MOST_LINES, SplitFault, Splitter, laws};
 use n2k_table::Table;
-use n2k_wire::{BadCause, CandumpLines, Entry, Id, Packet, Packing, WireFault, plain_text};
+use n2k_wire::{BadCause, CandumpLines, Entry, Id, Interface, Packet, Packing, WireFault, plain_text};
 use std::alloc::{AllocError, Global};
 
 /// What becomes of a line.
@@ -62,18 +62,18 @@ fn refused(fault: WireFault) -> Result<Outcome, AllocError>
 
 /// What sends messages one after the other.
 #[derive(Drop)]
-struct Sender<'a> {
+struct Sender {
     splitter: Splitter,
     /// The lines at the interface, where one is handed in.
-    lines: Option<CandumpLines<'a>>,
+    lines: Option<CandumpLines>,
     /// Room for a frame.
     frame: Packet,
 }
 
 /// What a run has sent so far.
 #[derive(Drop)]
-struct Sending<'a> {
-    sender: Sender<'a>,
+struct Sending {
+    sender: Sender,
     counts: Counts,
 }
 
@@ -81,15 +81,14 @@ struct Sending<'a> {
 #[derive(Drop)]
 struct FrameLines<'a> {
     table: &'a Table,
-    interface: Option<&'a str>,
+    interface: Option<Interface>,
 }
 
 impl<'a> FrameLines<'a> {
     /// What sends the first message.
-    fn sender(&self, alloc: Global) -> Sender<'a>
-        requires { IsInterface (interface_of self.now.interface) }
+    fn sender(&self, alloc: Global) -> Sender
         ensures splitter { sequences result.splitter ≡ first_sequences }
-        ensures lines { result.lines ≡ interface_of self.now.interface }
+        ensures lines { result.lines ≡ self.now.interface }
     {
         let id = Id {
             prio: 0,
@@ -100,7 +99,7 @@ impl<'a> FrameLines<'a> {
         Sender {
             splitter: Splitter::new(alloc),
             lines: match self.interface {
-                Some(name) => Some(CandumpLines::new(name)),
+                Some(interface) => Some(CandumpLines::new(interface)),
                 None => None,
             },
             frame: Packet::new(b"-", id, b"").unwrap(),
@@ -115,8 +114,8 @@ impl<'a> FrameLines<'a> {
         message: &Packet,
         text: &mut Vec<u8>,
     ) -> Result<Outcome, AllocError>
-        requires { sender.old.lines ≡ interface_of self.now.interface }
-        ensures sent { IfOk result (SentMessage (kind self.now.table.now) (interface_of self.now.interface) message.now
+        requires { sender.old.lines ≡ self.now.interface }
+        ensures sent { IfOk result (SentMessage (kind self.now.table.now) self.now.interface message.now
             (sequences sender.old.splitter) (sequences sender.new.splitter) text.old.items text.new.items) }
         ensures lines { sender.new.lines ≡ sender.old.lines }
     {
@@ -145,8 +144,8 @@ impl<'a> FrameLines<'a> {
         entry: &Entry,
         text: &mut Vec<u8>,
     ) -> Result<Outcome, AllocError>
-        requires { sender.old.lines ≡ interface_of self.now.interface }
-        ensures sent { IfOk result (SentLine (kind self.now.table.now) (interface_of self.now.interface) entry.now
+        requires { sender.old.lines ≡ self.now.interface }
+        ensures sent { IfOk result (SentLine (kind self.now.table.now) self.now.interface entry.now
             (sequences sender.old.splitter) (sequences sender.new.splitter) text.old.items text.new.items) }
         ensures lines { sender.new.lines ≡ sender.old.lines }
     {
@@ -163,23 +162,22 @@ impl<'a> EntryHandler for FrameLines<'a> {
     ghost use Rattle.std.specs.Prelude.{◌≡◌};
     ghost use Rattle.n2k_table.specs.Table.{kind};
     ghost use Rattle.n2k_join.specs.Splitter.{sequences};
-    ghost use Rattle.n2k_run.specs.FramesOut.{interface_of};
     ghost use Rattle.n2k_run.specs.Inner.Sending.{AreFrameCounts, Sent, sending_fold};
 
-    type State = Sending<'a>;
+    type State = Sending;
 
     ghost Known = { Sent };
 
     ghost known = { λ s. record { held = sequences s.sender.splitter; counts = s.counts } };
 
-    ghost fold = { λ m. sending_fold (kind m.table.now) (interface_of m.interface) };
+    ghost fold = { λ m. sending_fold (kind m.table.now) m.interface };
 
-    ghost is_ready = { λ m s. (s.sender.lines ≡ interface_of m.interface) × AreFrameCounts s.counts };
+    ghost is_ready = { λ m s. (s.sender.lines ≡ m.interface) × AreFrameCounts s.counts };
 
     fn take(
         &self,
         alloc: Global,
-        state: &mut Sending<'a>,
+        state: &mut Sending,
         entry: &Entry,
         text: &mut Vec<u8>,
         report: &mut Vec<u8>,
@@ -221,8 +219,8 @@ impl<'a> EntryHandler for FrameLines<'a> {
 /// let mut log = StdSource::new(line.as_bytes());
 /// let mut out = MemorySink::new(alloc, 4096, 0);
 /// let mut err = MemorySink::new(alloc, 4096, 0);
-/// assert!(rt; is_interface(b"can0"));
-/// run_frames(alloc, &table, Some("can0"), &mut log, &mut out, &mut err)?;
+/// let interface = Interface::new("can0");
+/// run_frames(alloc, &table, interface, &mut log, &mut out, &mut err)?;
 /// let sent = "(0000000010.300000) can0 1DFF0405#000BA39901414243\n\
 ///     (0000000010.300000) can0 1DFF0405#010000000000FFFF\n";
 /// assert_eq!(rt; out.bytes(), sent.as_bytes());
@@ -230,25 +228,24 @@ impl<'a> EntryHandler for FrameLines<'a> {
 pub fn run_frames<R: Source, W: Sink, E: Sink>(
     alloc: Global,
     table: &Table,
-    interface: Option<&str>,
+    interface: Option<Interface>,
     reader: &mut R,
     writer: &mut W,
     reporter: &mut E,
 ) -> Result<Counts, RunFault>
-    requires { IsInterface (interface_of interface) }
     ensures runs { let before = seen R.Source W.Sink E.Sink reader.old writer.old reporter.old in
         let after = seen R.Source W.Sink E.Sink reader.new writer.new reporter.new in
-        Runs (frames_output table.now (interface_of interface.entry))
-        (λ es. IfOk result (λ counts. counts ≡ frame_counts_of (kind table.now) (interface_of interface.entry) es))
+        Runs (frames_output table.now interface)
+        (λ es. IfOk result (λ counts. counts ≡ frame_counts_of (kind table.now) interface es))
         before after result }
 
     // Ok, where the bytes of the log are known: what `frames` makes of them.
     ensures out { IfOk result (λ counts. IfSome (R.remaining reader.old) (λ log.
         Appends (W.contents writer.old) (W.contents writer.new)
-        (frames_out table.now (interface_of interface.entry) log)
+        (frames_out table.now interface log)
         × Appends (E.contents reporter.old) (E.contents reporter.new)
-        (frames_reports table.now (interface_of interface.entry) log)
-        × (counts ≡ frames_counts table.now (interface_of interface.entry) log))) }
+        (frames_reports table.now interface log)
+        × (counts ≡ frames_counts table.now interface log))) }
 {
     laws::splits_written();
     let handler = FrameLines { table, interface };

@@ -5,7 +5,7 @@ use n2k_join::{Broken, Counts};
 use n2k_run::{bad_text, broken_text, summary_text};
 use n2k_table::{Table, decimal_text, json_line};
 use n2k_wire::{
-    BadCause, Entry, Packet, Packing, candump_text, is_interface, plain_text, read_line,
+    BadCause, Entry, Interface, Packet, Packing, candump_text, plain_text, read_line,
 };
 use std::alloc::Global;
 use std::process::Abort;
@@ -39,8 +39,8 @@ fn appends(alloc: Global, call: usize, table: &Table, packet: &Packet, out: &mut
     match call {
         0 => plain_text(alloc, packet, out).is_ok(),
         1 => packet.data().len() <= 8
-            && is_interface(b"can0")
-            && candump_text(alloc, packet, "can0", out).is_ok(),
+            && Interface::new("can0")
+                .is_some_and(|interface| candump_text(alloc, packet, interface, out).is_ok()),
         2 => decimal_text(alloc, -123456, 3, out).is_ok(),
         3 => json_line(alloc, table, packet, false, out).is_ok(),
         4 => bad_text(alloc, 10, BadCause::Stamp, out).is_ok(),

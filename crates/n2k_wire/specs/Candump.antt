@@ -31,6 +31,10 @@ unfoldable pub is_interface : List ℕ → Bool
 is_interface name =
     nat_lt 0 (length name) && nat_le (length name) longest_interface && list_all is_interface_byte name
 
+-- the interface of this name, where that has the form of one
+abbrev pub interface : List ℕ → Option (List ℕ)
+interface name = if is_interface name then Some name else None
+
 -- what stands between the parentheses, and what follows them
 unfoldable pub stamped : List ℕ → Option (List ℕ × List ℕ)
 stamped line = option_and_then (cut_at 41) (after_byte 40 line)

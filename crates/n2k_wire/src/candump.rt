@@ -20,6 +20,7 @@ use crate::pieces::{after_byte, cut_at, skip_spaces};
 use crate::stamp::{Moment, UTC_LEN, read_moment, utc_text};
 use arrayvec::ArrayVec;
 use hex::FromHex;
+use std::marker::Model;
 
 /// The most bytes of an interface's name.
 pub(crate) const LONGEST_INTERFACE: usize = 15;
@@ -54,18 +55,65 @@ fn are_interface_bytes(name: &[u8]) -> bool
     name.iter().all(|byte| is_interface_byte(*byte))
 }
 
-/// Whether a text is the name of an interface: 1 to 15 bytes from `!` to `~`.
-///
-/// ```rust
-/// assert!(rt; is_interface(b"can0"));
-/// assert!(rt; !is_interface(b"can 0"));
-/// assert!(rt; !is_interface(b""));
-/// ```
 #[tactic(auto, unfolding(crate::specs::Candump::is_interface))]
-pub fn is_interface(name: &[u8]) -> bool
+fn is_interface(name: &[u8]) -> bool
     ensures { result ≡ is_interface name.now }
 {
     !name.is_empty() && name.len() <= LONGEST_INTERFACE && are_interface_bytes(name)
+}
+
+/// The name of an interface: 1 to 15 bytes from `!` to `~`.
+#[derive(Clone, Copy, Debug)]
+pub struct Interface {
+    bytes: [u8; LONGEST_INTERFACE],
+    len: usize,
+}
+
+impl Model for Interface {
+    ghost use Rattle.std.specs.Prelude.{◌≤◌, List, ℕ, IsTrue, take};
+    ghost use Rattle.n2k_wire.specs.Candump.{is_interface};
+
+    ghost Value = { List ℕ };
+
+    ghost view = { λ i. take i.len i.bytes };
+
+    ghost invariant = { λ i. (i.len ≤ 15) × IsTrue (is_interface (take i.len i.bytes)) };
+}
+
+impl Interface {
+    ghost use Rattle.std.specs.Prelude.{◌≡◌, ◌≤◌, IsTrue, length};
+    ghost use Rattle.n2k_wire.specs.Candump.{interface, is_interface, longest_interface};
+
+    /// The interface of this name; `None` where the name is none of an interface.
+    ///
+    /// ```rust
+    /// assert!(rt; Interface::new("can0").is_some());
+    /// assert!(rt; Interface::new("can 0").is_none());
+    /// assert!(rt; Interface::new("").is_none());
+    /// ```
+    pub fn new(name: &str) -> Option<Interface>
+        ensures { result ≡ interface name.now }
+    {
+        let name = name.as_bytes();
+        if !is_interface(name) {
+            return None;
+        }
+        let mut bytes = [0; LONGEST_INTERFACE];
+        bytes[..name.len()].copy_from_slice(name);
+        Some(Interface {
+            bytes,
+            len: name.len(),
+        })
+    }
+
+    /// Its name.
+    pub(crate) fn as_bytes(&self) -> &[u8]
+        ensures name { result.now ≡ self.now }
+        ensures form { IsTrue (is_interface result.now) }
+        ensures short { length result.now ≤ longest_interface }
+    {
+        &self.bytes[..self.len]
+    }
 }
 
 /// What stands between the parentheses, and what follows them.

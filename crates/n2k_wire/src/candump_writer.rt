@@ -9,7 +9,7 @@ ghost use Rattle.n2k_wire.specs.Inner.Stamp.{IsSecond, IsStampText, are_millis, 
 ghost use Rattle.n2k_wire.specs.Stamp.{last_second, utc_moment};
 ghost use Rattle.n2k_wire.specs.Texts.{Appends, candump_text};
 
-use crate::candump::FRAME_PAYLOAD;
+use crate::candump::{FRAME_PAYLOAD, Interface};
 use crate::digits::are_digits;
 use crate::fault::WireFault;
 use crate::identifier::join_id;
@@ -167,23 +167,23 @@ impl WrittenSecond {
 /// Appends packets in a row as `candump -L` writes frames that came in at one interface, as `candump_text` does, at
 /// less cost where a packet has the second of the one before.
 #[derive(Drop)]
-pub struct CandumpLines<'a> {
-    interface: &'a str,
+pub struct CandumpLines {
+    interface: Interface,
     /// What stands behind the milliseconds.
     behind: ShortText,
     second: WrittenSecond,
 }
 
-impl<'a> Model for CandumpLines<'a> {
+impl Model for CandumpLines {
     ghost use Rattle.std.specs.Prelude.{◌≡◌, List, ℕ, IsTrue};
     ghost use Rattle.n2k_wire.specs.Candump.{is_interface};
     ghost use Rattle.n2k_wire.specs.Inner.Stamp.{IsSecond, behind_millis};
 
     ghost Value = { List ℕ };
 
-    ghost view = { λ l. l.interface.now };
+    ghost view = { λ l. l.interface };
 
-    ghost invariant = { λ l. IsTrue (is_interface l.interface.now) × (l.behind ≡ behind_millis l.interface.now)
+    ghost invariant = { λ l. IsTrue (is_interface l.interface) × (l.behind ≡ behind_millis l.interface)
         × IsSecond l.second.stamp l.second.line };
 }
 
@@ -249,25 +249,23 @@ fn write_line(text: &mut [u8], at: usize, parts: LineParts<'_>) -> usize
     put_data(text, at, parts.payload)
 }
 
-impl<'a> CandumpLines<'a> {
-    /// Lines at an interface of 1 to 15 bytes from `!` to `~`; `is_interface` is the test.
+impl CandumpLines {
+    /// Lines at an interface.
     ///
     /// ```rust
     /// let id = split_id(0x18EA_FF01);
     /// let stamp = "1970-01-01T00:00:10.300Z".as_bytes();
     /// let packet = Packet::new(stamp, id, &[0x14, 0xf0, 0x01]).ok_or("a packet")?;
-    /// assert!(rt; is_interface(b"can0"));
-    /// let mut lines = CandumpLines::new("can0");
+    /// let interface = Interface::new("can0").ok_or("an interface")?;
+    /// let mut lines = CandumpLines::new(interface);
     /// let mut text = Vec::new(alloc);
     /// lines.append(alloc, &packet, &mut text)?;
     /// lines.append(alloc, &packet, &mut text)?;
     /// let wanted = "(0000000010.300000) can0 18EAFF01#14F001\n";
     /// assert_eq!(rt; text.as_slice(), wanted.repeat(alloc, 2)?.as_bytes());
     /// ```
-    #[tactic(auto, using(crate::proofs::CandumpLemmas::interface_short))]
-    pub fn new(interface: &'a str) -> CandumpLines<'a>
-        requires { IsTrue (is_interface interface.now) }
-        ensures { result ≡ interface.now }
+    pub fn new(interface: Interface) -> CandumpLines
+        ensures { result ≡ interface }
     {
         CandumpLines {
             interface,
@@ -284,8 +282,8 @@ impl<'a> CandumpLines<'a> {
     /// let id = split_id(0x18EA_FF01);
     /// let stamp = "1970-01-01T00:00:10.300Z".as_bytes();
     /// let packet = Packet::new(stamp, id, &[0x14, 0xf0, 0x01]).ok_or("a packet")?;
-    /// assert!(rt; is_interface(b"can0"));
-    /// let mut lines = CandumpLines::new("can0");
+    /// let interface = Interface::new("can0").ok_or("an interface")?;
+    /// let mut lines = CandumpLines::new(interface);
     /// let mut text = Vec::new(alloc);
     /// lines.append(alloc, &packet, &mut text)?;
     /// lines.append(alloc, &packet, &mut text)?;
@@ -334,21 +332,20 @@ impl<'a> CandumpLines<'a> {
 /// let id = split_id(0x18EA_FF01);
 /// let stamp = "1970-01-01T00:00:10.300Z".as_bytes();
 /// let packet = Packet::new(stamp, id, &[0x14, 0xf0, 0x01]).ok_or("a packet")?;
-/// assert!(rt; is_interface(b"can0"));
+/// let interface = Interface::new("can0").ok_or("an interface")?;
 /// let mut text = Vec::new(alloc);
-/// candump_text(alloc, &packet, "can0", &mut text)?;
+/// candump_text(alloc, &packet, interface, &mut text)?;
 /// let wanted = "(0000000010.300000) can0 18EAFF01#14F001\n";
 /// assert_eq!(rt; text.as_slice(), wanted.as_bytes());
 /// ```
 pub fn candump_text(
     alloc: Global,
     packet: &Packet,
-    interface: &str,
+    interface: Interface,
     out: &mut Vec<u8>,
 ) -> Result<(), WireFault>
     requires short { length packet.now.payload ≤ frame_payload }
-    requires interface { IsTrue (is_interface interface.now) }
-    ensures text { Appends (candump_text interface.now packet.now) result out.old.items out.new.items }
+    ensures text { Appends (candump_text interface packet.now) result out.old.items out.new.items }
     ensures unchanged { OnErr result (out.new.items ≡ out.old.items) }
 {
     CandumpLines::new(interface).append(alloc, packet, out)

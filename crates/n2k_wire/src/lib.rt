@@ -18,7 +18,7 @@
 //! - `split_id` splits a CAN identifier into priority, PGN, source and destination (`Id`), and `join_id` joins them.
 //! - `Packet` holds a message or a frame: its stamp, its `Id`, and up to 223 bytes.
 //! - `plain_text` and `candump_text` append a packet as a line, and `CandumpLines` packets in a row, at less cost;
-//!   `is_interface` is the test of an interface's name. `laws` has what ties these calls together.
+//!   candump lines are those at an `Interface`. `laws` has what ties these calls together.
 //!
 //! No other call takes memory. Each answer is a stated function of the bytes that were given.
 //!
@@ -41,7 +41,7 @@ mod plain_fast;
 mod plain_writer;
 mod stamp;
 
-pub use candump::{FRAME_PAYLOAD, is_interface};
+pub use candump::{FRAME_PAYLOAD, Interface};
 pub use candump_writer::{CandumpLines, candump_text};
 pub use entry::{BadCause, Entry, LONGEST_LINE, LineReader, Packing, read_line};
 pub use fault::WireFault;

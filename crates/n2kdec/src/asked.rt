@@ -1,62 +1,11 @@
 //! What words ask for: a text, or a command over files.
-ghost use Rattle.std.specs.Prelude.{◌≡◌, option_map};
-ghost use Rattle.n2k_run.specs.FramesOut.{IsInterface};
-ghost use Rattle.n2kdec.specs.Asked.{asked, judged};
+ghost use Rattle.std.specs.Prelude.{◌≡◌};
+ghost use Rattle.n2kdec.specs.Asked.{asked, over};
 
 use crate::fault::Fault;
 use crate::words::{Word, Words};
 use n2k_run::Options;
-use n2k_wire::{Packing, is_interface};
-use std::marker::Model;
-
-/// The name of an interface: 1 to 15 bytes from `!` to `~`.
-#[derive(Debug, Drop)]
-pub struct Interface {
-    name: Word,
-}
-
-impl Model for Interface {
-    ghost use Rattle.std.specs.Prelude.{ℕ, List, IsTrue};
-    ghost use Rattle.n2k_wire.specs.Candump.{is_interface};
-
-    ghost Value = { List ℕ };
-
-    ghost view = { λ i. i.name };
-
-    ghost invariant = { λ i. IsTrue (is_interface i.name) };
-}
-
-impl Interface {
-    ghost use Rattle.std.specs.Prelude.{IsTrue};
-    ghost use Rattle.n2k_wire.specs.Candump.{is_interface};
-
-    /// The interface of this name. `Interface` where the name is none of an interface.
-    fn new(name: Word) -> Result<Interface, Fault>
-        ensures { result ≡ judged name }
-    {
-        if is_interface(name.as_str().as_bytes()) {
-            Ok(Interface { name })
-        } else {
-            Err(Fault::Interface)
-        }
-    }
-
-    /// Its name.
-    pub fn as_str(&self) -> &str
-        ensures name { result.now ≡ self.now }
-        ensures form { IsTrue (is_interface result.now) }
-    {
-        self.name.as_str()
-    }
-}
-
-/// The name of an interface, where one is handed in.
-pub fn name_of(interface: &Option<Interface>) -> Option<&str>
-    ensures same { option_map (λ text. text.now) result ≡ interface.now }
-    ensures form { IsInterface (option_map (λ text. text.now) result) }
-{
-    Some(interface.as_ref()?.as_str())
-}
+use n2k_wire::{Interface, Packing};
 
 /// The files that a command reads.
 #[derive(Debug, Drop)]
@@ -94,20 +43,25 @@ pub enum Request {
     Command(Files, Command),
 }
 
+/// A command over these files.
+fn over(
+    table: Option<Word>,
+    state: Option<Word>,
+    log: Option<Word>,
+    command: Command,
+) -> Request
+    ensures { result ≡ over table state log command }
+{
+    Request::Command(Files { table, state, log }, command)
+}
+
 /// What these words ask for. `Interface` where the interface that they name is none.
 pub fn asked(words: Words) -> Result<Request, Fault>
     ensures { result ≡ asked words }
 {
     match words {
         Words::Help(text) => Ok(Request::Help(text)),
-        Words::Plain { log } => {
-            let files = Files {
-                table: None,
-                state: None,
-                log,
-            };
-            Ok(Request::Command(files, Command::Plain))
-        }
+        Words::Plain { log } => Ok(over(None, None, log, Command::Plain)),
         Words::Decode {
             table,
             resume,
@@ -117,11 +71,6 @@ pub fn asked(words: Words) -> Result<Request, Fault>
             window,
             log,
         } => {
-            let files = Files {
-                table: Some(table),
-                state: resume,
-                log,
-            };
             let packing = if whole {
                 Packing::Whole
             } else {
@@ -132,7 +81,8 @@ pub fn asked(words: Words) -> Result<Request, Fault>
                 empty,
                 window,
             };
-            Ok(Request::Command(files, Command::Decode { options, save }))
+            let command = Command::Decode { options, save };
+            Ok(over(Some(table), resume, log, command))
         }
         Words::Frames {
             table,
@@ -140,15 +90,10 @@ pub fn asked(words: Words) -> Result<Request, Fault>
             log,
         } => {
             let interface = match candump {
-                Some(name) => Some(Interface::new(name)?),
+                Some(name) => Some(Interface::new(name.as_str()).ok_or(Fault::Interface)?),
                 None => None,
             };
-            let files = Files {
-                table: Some(table),
-                state: None,
-                log,
-            };
-            Ok(Request::Command(files, Command::Frames(interface)))
+            Ok(over(Some(table), None, log, Command::Frames(interface)))
         }
     }
 }

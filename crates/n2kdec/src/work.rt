@@ -4,7 +4,7 @@ ghost use Rattle.n2k_run.specs.Runs.{seen};
 ghost use Rattle.n2kdec.specs.Commands.{IsRefusal};
 ghost use Rattle.n2kdec.specs.Work.{AnswersWhole, Works, answer_of_part, stop_of, stop_of_part};
 
-use crate::asked::{Command, name_of};
+use crate::asked::Command;
 use crate::fault::Fault;
 use n2k_join::Counts;
 use n2k_run::{Part, PartFault, RunFault, Sink, Source, run_frames, run_part, run_plain};
@@ -103,7 +103,7 @@ pub fn work<R: Source, W: Sink, E: Sink>(
         },
         Command::Frames(interface) => match Table::read(alloc, table) {
             Ok(table) => {
-                let ended = run_frames(alloc, &table, name_of(interface), log, output, errors);
+                let ended = run_frames(alloc, &table, *interface, log, output, errors);
                 whole(alloc, ended)
             }
             Err(fault) => Err(Stop::from_fault(Fault::Table(fault))),

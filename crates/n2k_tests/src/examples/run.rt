@@ -6,7 +6,7 @@ use n2k_run::{
     StdSource, bad_text, broken_text, read_bytes, run, run_frames, run_more, run_part, run_parts,
     run_plain, summary_text, write_all, write_summary,
 };
-use n2k_wire::{BadCause, Packing, is_interface};
+use n2k_wire::{BadCause, Interface, Packing};
 use std::test::Fail;
 
 // Those of the program where its words ask for nothing else.
@@ -123,8 +123,8 @@ fn runs_that_send(rt: HostRuntime) -> Result<(), Fail> {
     let mut log = StdSource::new(line.as_bytes());
     let mut out = MemorySink::new(alloc, 4096, 0);
     let mut err = MemorySink::new(alloc, 4096, 0);
-    assert!(rt; is_interface(b"can0"));
-    run_frames(alloc, &table, Some("can0"), &mut log, &mut out, &mut err)?;
+    let interface = Interface::new("can0");
+    run_frames(alloc, &table, interface, &mut log, &mut out, &mut err)?;
     let sent = "(0000000010.300000) can0 1DFF0405#000BA39901414243\n\
         (0000000010.300000) can0 1DFF0405#010000000000FFFF\n";
     assert_eq!(rt; out.bytes(), sent.as_bytes());

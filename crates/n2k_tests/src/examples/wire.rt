@@ -1,7 +1,7 @@
 //! Examples of `n2k_wire`.
 use super::frame_in;
 use n2k_wire::{
-    BadCause, CandumpLines, Entry, Id, LineReader, Packet, Packing, candump_text, is_interface,
+    BadCause, CandumpLines, Entry, Id, Interface, LineReader, Packet, Packing, candump_text,
     join_id, plain_text, read_line, split_id,
 };
 use std::test::Fail;
@@ -100,9 +100,9 @@ fn plain_texts(rt: HostRuntime) -> Result<(), Fail> {
 
 #[test]
 fn interfaces(rt: HostRuntime) {
-    assert!(rt; is_interface(b"can0"));
-    assert!(rt; !is_interface(b"can 0"));
-    assert!(rt; !is_interface(b""));
+    assert!(rt; Interface::new("can0").is_some());
+    assert!(rt; Interface::new("can 0").is_none());
+    assert!(rt; Interface::new("").is_none());
 }
 
 #[test]
@@ -111,9 +111,9 @@ fn candump_texts(rt: HostRuntime) -> Result<(), Fail> {
     let id = split_id(0x18EA_FF01);
     let stamp = "1970-01-01T00:00:10.300Z".as_bytes();
     let packet = Packet::new(stamp, id, &[0x14, 0xf0, 0x01]).ok_or("a packet")?;
-    assert!(rt; is_interface(b"can0"));
+    let interface = Interface::new("can0").ok_or("an interface")?;
     let mut text = Vec::new(alloc);
-    candump_text(alloc, &packet, "can0", &mut text)?;
+    candump_text(alloc, &packet, interface, &mut text)?;
     let wanted = "(0000000010.300000) can0 18EAFF01#14F001\n";
     assert_eq!(rt; text.as_slice(), wanted.as_bytes());
     Ok(())
@@ -125,8 +125,8 @@ fn candump_texts_in_a_row(rt: HostRuntime) -> Result<(), Fail> {
     let id = split_id(0x18EA_FF01);
     let stamp = "1970-01-01T00:00:10.300Z".as_bytes();
     let packet = Packet::new(stamp, id, &[0x14, 0xf0, 0x01]).ok_or("a packet")?;
-    assert!(rt; is_interface(b"can0"));
-    let mut lines = CandumpLines::new("can0");
+    let interface = Interface::new("can0").ok_or("an interface")?;
+    let mut lines = CandumpLines::new(interface);
     let mut text = Vec::new(alloc);
     lines.append(alloc, &packet, &mut text)?;
     lines.append(alloc, &packet, &mut text)?;

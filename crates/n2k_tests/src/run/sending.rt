@@ -4,7 +4,7 @@ use crate::samples::{long_window, sample};
 use n2k_join::{Counts, Join};
 use n2k_run::{MemorySink, MemorySource, RunFault, run, run_frames};
 use n2k_table::Table;
-use n2k_wire::is_interface;
+use n2k_wire::Interface;
 use std::alloc::{AllocError, Global};
 use std::process::Abort;
 use std::test::Fail;
@@ -121,12 +121,8 @@ pub(crate) fn frames_at(
     writer: &mut MemorySink,
     reporter: &mut MemorySink,
 ) -> Result<Counts, RunFault> {
-    match interface {
-        Some(name) if is_interface(name.as_bytes()) => {
-            run_frames(alloc, table, Some(name), reader, writer, reporter)
-        }
-        _ => run_frames(alloc, table, None, reader, writer, reporter),
-    }
+    let interface = Interface::new(interface.unwrap_or(""));
+    run_frames(alloc, table, interface, reader, writer, reporter)
 }
 
 fn makes<R: Abort + AllocGlobal>(

@@ -1,5 +1,5 @@
 //! Texts of packets.
-use n2k_wire::{CandumpLines, Entry, Packet, Packing, candump_text, is_interface, read_line};
+use n2k_wire::{CandumpLines, Entry, Interface, Packet, Packing, candump_text, read_line};
 use std::alloc::Global;
 use std::process::Abort;
 use std::test::Fail;
@@ -8,11 +8,11 @@ use std::test::Fail;
 fn push_candump(
     alloc: Global,
     packet: &Packet,
-    interface: &str,
+    interface: Interface,
     text: &mut Vec<u8>,
 ) -> Result<(), Fail> {
-    if packet.data().len() > 8 || !is_interface(interface.as_bytes()) {
-        return Err("no frame at an interface".into());
+    if packet.data().len() > 8 {
+        return Err("no frame".into());
     }
     if let Err(fault) = candump_text(alloc, packet, interface, text) {
         let told = format!(in alloc; "{fault:?}")?;
@@ -49,7 +49,8 @@ fn replays<R: Abort + AllocGlobal>(
         return Err("no frame".into());
     };
     let mut text = Vec::new(rt.alloc());
-    push_candump(rt.alloc(), &packet, "can0", &mut text)?;
+    let interface = Interface::new("can0").ok_or("an interface")?;
+    push_candump(rt.alloc(), &packet, interface, &mut text)?;
     assert_eq!(rt; text.as_slice(), wanted.as_bytes(), "of {line}");
     for _ in 0..2 {
         text.clear();
@@ -114,10 +115,8 @@ const CANDUMP_TEXTS: [(&str, &str); 24] = [
 
 #[test]
 fn candump_texts(rt: HostRuntime) -> Result<(), Fail> {
-    if !is_interface(b"can0") {
-        return Err("no interface".into());
-    }
-    let mut lines = CandumpLines::new("can0");
+    let interface = Interface::new("can0").ok_or("an interface")?;
+    let mut lines = CandumpLines::new(interface);
     for (line, wanted) in &CANDUMP_TEXTS {
         replays(&rt, &mut lines, line, wanted)?;
     }
@@ -131,11 +130,12 @@ fn a_frame_at_an_interface(rt: HostRuntime) -> Result<(), Fail> {
     let Entry::Frame(packet) = read_line(line, Packing::Frames) else {
         return Err("no frame".into());
     };
-    if packet.data().len() > 8 || !is_interface(b"can0") {
-        return Err("no frame at an interface".into());
+    if packet.data().len() > 8 {
+        return Err("no frame".into());
     }
+    let interface = Interface::new("can0").ok_or("an interface")?;
     let mut text = Vec::new(rt.alloc());
-    candump_text(rt.alloc(), &packet, "can0", &mut text)?;
+    candump_text(rt.alloc(), &packet, interface, &mut text)?;
     assert_eq!(rt;
         text.as_slice(),
         b"(0000000010.300000) can0 1DFF0405#000BA39901414243\n".as_slice()
