@@ -1,8 +1,9 @@
 -- What `frames` writes, reports and counts of a log: each whole message as the lines of the frames in which it is sent.
 use Rattle.std.specs.Prelude.{ℕ, Bool, false, if◌then◌else◌, List, [], length, count_by, Option, Some, None, Result, Ok}
 use Rattle.std.specs.Prelude.{Err}
+use Rattle.std.specs.Borrow.{Bor}
 use Rattle.std.specs.List.{flat_map, filter_map, enumerate_from}
-use Rattle.std.specs.Option.{is_none, is_some, option_or, unwrap_or}
+use Rattle.std.specs.Option.{is_none, is_some, option_map, option_or, unwrap_or}
 use Rattle.std.specs.Result.{result_ok}
 use Rattle.n2k_wire.specs.declared.entry.BadCause.{BadCause}
 use Rattle.n2k_wire.specs.declared.entry.BadCause.TheVariants as causes
@@ -23,6 +24,10 @@ use Rattle.n2k_join.specs.Splitter.{refusal}
 use Rattle.n2k_run.specs.Entries.{entries}
 use Rattle.n2k_run.specs.Reports.{cause_report}
 use Rattle.n2k_run.specs.Runs.{Output}
+
+-- the name of the interface at which the frames are seen, where one is handed in
+abbrev pub interface_of : Option (Bor (List ℕ)) → Option (List ℕ)
+interface_of handed = option_map (λ (name : Bor (List ℕ)). name.now) handed
 
 -- why a message isn't split; want of memory is no cause of a line
 abbrev pub split_cause : Option SplitFault → Option BadCause

@@ -7,7 +7,7 @@ ghost use Rattle.n2k_table.specs.Table.{kind};
 ghost use Rattle.n2k_join.specs.Pieces.{first_sequences};
 ghost use Rattle.n2k_join.specs.Splitter.{sequences};
 ghost use Rattle.n2k_run.specs.declared.frames.Outcome.TheVariants.{Bad};
-ghost use Rattle.n2k_run.specs.FramesOut.{fault_cause, frames_counts, frames_out, frames_output, frames_reports, frame_counts_of};
+ghost use Rattle.n2k_run.specs.FramesOut.{interface_of, fault_cause, frames_counts, frames_out, frames_output, frames_reports, frame_counts_of};
 ghost use Rattle.n2k_run.specs.Runs.{Runs, seen};
 ghost use Rattle.n2k_run.specs.Inner.Sending.{SentLine, SentMessage, frame_line};
 
@@ -62,18 +62,18 @@ fn refused(fault: WireFault) -> Result<Outcome, AllocError>
 
 /// What sends messages one after the other.
 #[derive(Drop)]
-struct Sender {
+struct Sender<'a> {
     splitter: Splitter,
     /// The lines at the interface, where one is handed in.
-    lines: Option<CandumpLines>,
+    lines: Option<CandumpLines<'a>>,
     /// Room for a frame.
     frame: Packet,
 }
 
 /// What a run has sent so far.
 #[derive(Drop)]
-struct Sending {
-    sender: Sender,
+struct Sending<'a> {
+    sender: Sender<'a>,
     counts: Counts,
 }
 
@@ -81,14 +81,14 @@ struct Sending {
 #[derive(Drop)]
 struct FrameLines<'a> {
     table: &'a Table,
-    interface: Option<Interface>,
+    interface: Option<&'a Interface>,
 }
 
 impl<'a> FrameLines<'a> {
     /// What sends the first message.
-    fn sender(&self, alloc: Global) -> Sender
+    fn sender(&self, alloc: Global) -> Sender<'a>
         ensures splitter { sequences result.splitter ≡ first_sequences }
-        ensures lines { result.lines ≡ self.now.interface }
+        ensures lines { result.lines ≡ interface_of self.now.interface }
     {
         let id = Id {
             prio: 0,
@@ -114,8 +114,8 @@ impl<'a> FrameLines<'a> {
         message: &Packet,
         text: &mut Vec<u8>,
     ) -> Result<Outcome, AllocError>
-        requires { sender.old.lines ≡ self.now.interface }
-        ensures sent { IfOk result (SentMessage (kind self.now.table.now) self.now.interface message.now
+        requires { sender.old.lines ≡ interface_of self.now.interface }
+        ensures sent { IfOk result (SentMessage (kind self.now.table.now) (interface_of self.now.interface) message.now
             (sequences sender.old.splitter) (sequences sender.new.splitter) text.old.items text.new.items) }
         ensures lines { sender.new.lines ≡ sender.old.lines }
     {
@@ -144,8 +144,8 @@ impl<'a> FrameLines<'a> {
         entry: &Entry,
         text: &mut Vec<u8>,
     ) -> Result<Outcome, AllocError>
-        requires { sender.old.lines ≡ self.now.interface }
-        ensures sent { IfOk result (SentLine (kind self.now.table.now) self.now.interface entry.now
+        requires { sender.old.lines ≡ interface_of self.now.interface }
+        ensures sent { IfOk result (SentLine (kind self.now.table.now) (interface_of self.now.interface) entry.now
             (sequences sender.old.splitter) (sequences sender.new.splitter) text.old.items text.new.items) }
         ensures lines { sender.new.lines ≡ sender.old.lines }
     {
@@ -162,22 +162,23 @@ impl<'a> EntryHandler for FrameLines<'a> {
     ghost use Rattle.std.specs.Prelude.{◌≡◌};
     ghost use Rattle.n2k_table.specs.Table.{kind};
     ghost use Rattle.n2k_join.specs.Splitter.{sequences};
+    ghost use Rattle.n2k_run.specs.FramesOut.{interface_of};
     ghost use Rattle.n2k_run.specs.Inner.Sending.{AreFrameCounts, Sent, sending_fold};
 
-    type State = Sending;
+    type State = Sending<'a>;
 
     ghost Known = { Sent };
 
     ghost known = { λ s. record { held = sequences s.sender.splitter; counts = s.counts } };
 
-    ghost fold = { λ m. sending_fold (kind m.table.now) m.interface };
+    ghost fold = { λ m. sending_fold (kind m.table.now) (interface_of m.interface) };
 
-    ghost is_ready = { λ m s. (s.sender.lines ≡ m.interface) × AreFrameCounts s.counts };
+    ghost is_ready = { λ m s. (s.sender.lines ≡ interface_of m.interface) × AreFrameCounts s.counts };
 
     fn take(
         &self,
         alloc: Global,
-        state: &mut Sending,
+        state: &mut Sending<'a>,
         entry: &Entry,
         text: &mut Vec<u8>,
         report: &mut Vec<u8>,
@@ -219,8 +220,8 @@ impl<'a> EntryHandler for FrameLines<'a> {
 /// let mut log = StdSource::new(line.as_bytes());
 /// let mut out = MemorySink::new(alloc, 4096, 0);
 /// let mut err = MemorySink::new(alloc, 4096, 0);
-/// let interface = Interface::new("can0");
-/// run_frames(alloc, &table, interface, &mut log, &mut out, &mut err)?;
+/// let interface = Interface::new("can0").ok_or("an interface")?;
+/// run_frames(alloc, &table, Some(&interface), &mut log, &mut out, &mut err)?;
 /// let sent = "(0000000010.300000) can0 1DFF0405#000BA39901414243\n\
 ///     (0000000010.300000) can0 1DFF0405#010000000000FFFF\n";
 /// assert_eq!(rt; out.bytes(), sent.as_bytes());
@@ -228,24 +229,24 @@ impl<'a> EntryHandler for FrameLines<'a> {
 pub fn run_frames<R: Source, W: Sink, E: Sink>(
     alloc: Global,
     table: &Table,
-    interface: Option<Interface>,
+    interface: Option<&Interface>,
     reader: &mut R,
     writer: &mut W,
     reporter: &mut E,
 ) -> Result<Counts, RunFault>
     ensures runs { let before = seen R.Source W.Sink E.Sink reader.old writer.old reporter.old in
         let after = seen R.Source W.Sink E.Sink reader.new writer.new reporter.new in
-        Runs (frames_output table.now interface)
-        (λ es. IfOk result (λ counts. counts ≡ frame_counts_of (kind table.now) interface es))
+        Runs (frames_output table.now (interface_of interface.entry))
+        (λ es. IfOk result (λ counts. counts ≡ frame_counts_of (kind table.now) (interface_of interface.entry) es))
         before after result }
 
     // Ok, where the bytes of the log are known: what `frames` makes of them.
     ensures out { IfOk result (λ counts. IfSome (R.remaining reader.old) (λ log.
         Appends (W.contents writer.old) (W.contents writer.new)
-        (frames_out table.now interface log)
+        (frames_out table.now (interface_of interface.entry) log)
         × Appends (E.contents reporter.old) (E.contents reporter.new)
-        (frames_reports table.now interface log)
-        × (counts ≡ frames_counts table.now interface log))) }
+        (frames_reports table.now (interface_of interface.entry) log)
+        × (counts ≡ frames_counts table.now (interface_of interface.entry) log))) }
 {
     laws::splits_written();
     let handler = FrameLines { table, interface };

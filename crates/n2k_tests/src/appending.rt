@@ -40,7 +40,7 @@ fn appends(alloc: Global, call: usize, table: &Table, packet: &Packet, out: &mut
         0 => plain_text(alloc, packet, out).is_ok(),
         1 => packet.data().len() <= 8
             && Interface::new("can0")
-                .is_some_and(|interface| candump_text(alloc, packet, interface, out).is_ok()),
+                .is_some_and(|interface| candump_text(alloc, packet, &interface, out).is_ok()),
         2 => decimal_text(alloc, -123456, 3, out).is_ok(),
         3 => json_line(alloc, table, packet, false, out).is_ok(),
         4 => bad_text(alloc, 10, BadCause::Stamp, out).is_ok(),

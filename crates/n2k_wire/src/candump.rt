@@ -63,7 +63,7 @@ fn is_interface(name: &[u8]) -> bool
 }
 
 /// The name of an interface: 1 to 15 bytes from `!` to `~`.
-#[derive(Clone, Copy, Debug)]
+#[derive(Debug, Drop)]
 pub struct Interface {
     bytes: [u8; LONGEST_INTERFACE],
     len: usize,

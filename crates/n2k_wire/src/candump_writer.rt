@@ -167,23 +167,23 @@ impl WrittenSecond {
 /// Appends packets in a row as `candump -L` writes frames that came in at one interface, as `candump_text` does, at
 /// less cost where a packet has the second of the one before.
 #[derive(Drop)]
-pub struct CandumpLines {
-    interface: Interface,
+pub struct CandumpLines<'a> {
+    interface: &'a Interface,
     /// What stands behind the milliseconds.
     behind: ShortText,
     second: WrittenSecond,
 }
 
-impl Model for CandumpLines {
+impl<'a> Model for CandumpLines<'a> {
     ghost use Rattle.std.specs.Prelude.{◌≡◌, List, ℕ, IsTrue};
     ghost use Rattle.n2k_wire.specs.Candump.{is_interface};
     ghost use Rattle.n2k_wire.specs.Inner.Stamp.{IsSecond, behind_millis};
 
     ghost Value = { List ℕ };
 
-    ghost view = { λ l. l.interface };
+    ghost view = { λ l. l.interface.now };
 
-    ghost invariant = { λ l. IsTrue (is_interface l.interface) × (l.behind ≡ behind_millis l.interface)
+    ghost invariant = { λ l. IsTrue (is_interface l.interface.now) × (l.behind ≡ behind_millis l.interface.now)
         × IsSecond l.second.stamp l.second.line };
 }
 
@@ -249,7 +249,7 @@ fn write_line(text: &mut [u8], at: usize, parts: LineParts<'_>) -> usize
     put_data(text, at, parts.payload)
 }
 
-impl CandumpLines {
+impl<'a> CandumpLines<'a> {
     /// Lines at an interface.
     ///
     /// ```rust
@@ -257,15 +257,15 @@ impl CandumpLines {
     /// let stamp = "1970-01-01T00:00:10.300Z".as_bytes();
     /// let packet = Packet::new(stamp, id, &[0x14, 0xf0, 0x01]).ok_or("a packet")?;
     /// let interface = Interface::new("can0").ok_or("an interface")?;
-    /// let mut lines = CandumpLines::new(interface);
+    /// let mut lines = CandumpLines::new(&interface);
     /// let mut text = Vec::new(alloc);
     /// lines.append(alloc, &packet, &mut text)?;
     /// lines.append(alloc, &packet, &mut text)?;
     /// let wanted = "(0000000010.300000) can0 18EAFF01#14F001\n";
     /// assert_eq!(rt; text.as_slice(), wanted.repeat(alloc, 2)?.as_bytes());
     /// ```
-    pub fn new(interface: Interface) -> CandumpLines
-        ensures { result ≡ interface }
+    pub fn new(interface: &'a Interface) -> CandumpLines<'a>
+        ensures { result ≡ interface.now }
     {
         CandumpLines {
             interface,
@@ -283,7 +283,7 @@ impl CandumpLines {
     /// let stamp = "1970-01-01T00:00:10.300Z".as_bytes();
     /// let packet = Packet::new(stamp, id, &[0x14, 0xf0, 0x01]).ok_or("a packet")?;
     /// let interface = Interface::new("can0").ok_or("an interface")?;
-    /// let mut lines = CandumpLines::new(interface);
+    /// let mut lines = CandumpLines::new(&interface);
     /// let mut text = Vec::new(alloc);
     /// lines.append(alloc, &packet, &mut text)?;
     /// lines.append(alloc, &packet, &mut text)?;
@@ -334,18 +334,18 @@ impl CandumpLines {
 /// let packet = Packet::new(stamp, id, &[0x14, 0xf0, 0x01]).ok_or("a packet")?;
 /// let interface = Interface::new("can0").ok_or("an interface")?;
 /// let mut text = Vec::new(alloc);
-/// candump_text(alloc, &packet, interface, &mut text)?;
+/// candump_text(alloc, &packet, &interface, &mut text)?;
 /// let wanted = "(0000000010.300000) can0 18EAFF01#14F001\n";
 /// assert_eq!(rt; text.as_slice(), wanted.as_bytes());
 /// ```
 pub fn candump_text(
     alloc: Global,
     packet: &Packet,
-    interface: Interface,
+    interface: &Interface,
     out: &mut Vec<u8>,
 ) -> Result<(), WireFault>
     requires short { length packet.now.payload ≤ frame_payload }
-    ensures text { Appends (candump_text interface packet.now) result out.old.items out.new.items }
+    ensures text { Appends (candump_text interface.now packet.now) result out.old.items out.new.items }
     ensures unchanged { OnErr result (out.new.items ≡ out.old.items) }
 {
     CandumpLines::new(interface).append(alloc, packet, out)

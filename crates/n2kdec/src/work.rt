@@ -103,7 +103,7 @@ pub fn work<R: Source, W: Sink, E: Sink>(
         },
         Command::Frames(interface) => match Table::read(alloc, table) {
             Ok(table) => {
-                let ended = run_frames(alloc, &table, *interface, log, output, errors);
+                let ended = run_frames(alloc, &table, interface.as_ref(), log, output, errors);
                 whole(alloc, ended)
             }
             Err(fault) => Err(Stop::from_fault(Fault::Table(fault))),

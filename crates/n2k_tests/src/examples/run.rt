@@ -123,8 +123,8 @@ fn runs_that_send(rt: HostRuntime) -> Result<(), Fail> {
     let mut log = StdSource::new(line.as_bytes());
     let mut out = MemorySink::new(alloc, 4096, 0);
     let mut err = MemorySink::new(alloc, 4096, 0);
-    let interface = Interface::new("can0");
-    run_frames(alloc, &table, interface, &mut log, &mut out, &mut err)?;
+    let interface = Interface::new("can0").ok_or("an interface")?;
+    run_frames(alloc, &table, Some(&interface), &mut log, &mut out, &mut err)?;
     let sent = "(0000000010.300000) can0 1DFF0405#000BA39901414243\n\
         (0000000010.300000) can0 1DFF0405#010000000000FFFF\n";
     assert_eq!(rt; out.bytes(), sent.as_bytes());

@@ -113,7 +113,7 @@ fn candump_texts(rt: HostRuntime) -> Result<(), Fail> {
     let packet = Packet::new(stamp, id, &[0x14, 0xf0, 0x01]).ok_or("a packet")?;
     let interface = Interface::new("can0").ok_or("an interface")?;
     let mut text = Vec::new(alloc);
-    candump_text(alloc, &packet, interface, &mut text)?;
+    candump_text(alloc, &packet, &interface, &mut text)?;
     let wanted = "(0000000010.300000) can0 18EAFF01#14F001\n";
     assert_eq!(rt; text.as_slice(), wanted.as_bytes());
     Ok(())
@@ -126,7 +126,7 @@ fn candump_texts_in_a_row(rt: HostRuntime) -> Result<(), Fail> {
     let stamp = "1970-01-01T00:00:10.300Z".as_bytes();
     let packet = Packet::new(stamp, id, &[0x14, 0xf0, 0x01]).ok_or("a packet")?;
     let interface = Interface::new("can0").ok_or("an interface")?;
-    let mut lines = CandumpLines::new(interface);
+    let mut lines = CandumpLines::new(&interface);
     let mut text = Vec::new(alloc);
     lines.append(alloc, &packet, &mut text)?;
     lines.append(alloc, &packet, &mut text)?;

@@ -122,7 +122,7 @@ pub(crate) fn frames_at(
     reporter: &mut MemorySink,
 ) -> Result<Counts, RunFault> {
     let interface = Interface::new(interface.unwrap_or(""));
-    run_frames(alloc, table, interface, reader, writer, reporter)
+    run_frames(alloc, table, interface.as_ref(), reader, writer, reporter)
 }
 
 fn makes<R: Abort + AllocGlobal>(

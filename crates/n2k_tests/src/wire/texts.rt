@@ -8,7 +8,7 @@ use std::test::Fail;
 fn push_candump(
     alloc: Global,
     packet: &Packet,
-    interface: Interface,
+    interface: &Interface,
     text: &mut Vec<u8>,
 ) -> Result<(), Fail> {
     if packet.data().len() > 8 {
@@ -50,7 +50,7 @@ fn replays<R: Abort + AllocGlobal>(
     };
     let mut text = Vec::new(rt.alloc());
     let interface = Interface::new("can0").ok_or("an interface")?;
-    push_candump(rt.alloc(), &packet, interface, &mut text)?;
+    push_candump(rt.alloc(), &packet, &interface, &mut text)?;
     assert_eq!(rt; text.as_slice(), wanted.as_bytes(), "of {line}");
     for _ in 0..2 {
         text.clear();
@@ -116,7 +116,7 @@ const CANDUMP_TEXTS: [(&str, &str); 24] = [
 #[test]
 fn candump_texts(rt: HostRuntime) -> Result<(), Fail> {
     let interface = Interface::new("can0").ok_or("an interface")?;
-    let mut lines = CandumpLines::new(interface);
+    let mut lines = CandumpLines::new(&interface);
     for (line, wanted) in &CANDUMP_TEXTS {
         replays(&rt, &mut lines, line, wanted)?;
     }
@@ -135,7 +135,7 @@ fn a_frame_at_an_interface(rt: HostRuntime) -> Result<(), Fail> {
     }
     let interface = Interface::new("can0").ok_or("an interface")?;
     let mut text = Vec::new(rt.alloc());
-    candump_text(rt.alloc(), &packet, interface, &mut text)?;
+    candump_text(rt.alloc(), &packet, &interface, &mut text)?;
     assert_eq!(rt;
         text.as_slice(),
         b"(0000000010.300000) can0 1DFF0405#000BA39901414243\n".as_slice()

@@ -18,7 +18,7 @@ returns-in-Err-clause-works g c =
 
 pub returns-in-Ok-read-clause-works : goal.returns-in-Ok-read-clause-works
 returns-in-Ok-read-clause-works g c =
-    works_frames c.args.command.now c.args.table.now _ _ _ _ c.in-Frames.interface _ c.in-Frames.is refl
+    works_frames c.args.command.now c.args.table.now _ _ _ _ c.in-Frames.interface _ c.in-Frames.is c.as_ref.ensures.value
     (framed_by c.args.table.now _ _ _ c.in-Ok-read.table c.whole-in-Ok-read.result c.in-Ok-read.ensures.sound (record { ended = c.run_frames-ended.result; runs = c.run_frames-ended.ensures.runs; told = c.whole-in-Ok-read.ensures }))
 
 pub returns-in-Err-read-clause-works : goal.returns-in-Err-read-clause-works

@@ -2,6 +2,7 @@ use Rattle.std.proofs.Common.{◌≡◌, length, ap, ◌∙◌, rules}
 use Rattle.std.proofs.lemmas.Result.{IfOk-weaker}
 use Rattle.n2k_table.specs.Table.{kind}
 use Rattle.n2k_join.specs.Splitter.{sequences}
+use Rattle.n2k_run.specs.FramesOut.{interface_of}
 use Rattle.n2k_run.proofs.SentFrames.{IsFrameOf, frame_of, cut_back, line_appended, no_line, not_sent, one_more, sent, split_of}
 use Rattle.n2k_run.proofs.frames.FrameLines.send.Goals as goal
 
@@ -10,7 +11,7 @@ append_line-requires c = (frame_of _ c.args.message.now _ c.in-Ok.frames c.loop-
 
 pub returns-in-Err-clause-sent : goal.returns-in-Err-clause-sent
 returns-in-Err-clause-sent c =
-    let i = c.args.self.now.interface in
+    let i = interface_of c.args.self.now.interface in
     let m = c.args.message.now in
     let split = split_of _ _ c.in-Ok.ensures.refused in
     let frame = frame_of _ m _ c.in-Ok.frames c.loop-number.number c.frame-frame.result.now c.in-Ok.ensures.frames split c.frame-frame.ensures in
@@ -22,7 +23,7 @@ returns-in-Err-clause-sent c =
 
 pub loop-number-preserved : goal.loop-number-preserved
 loop-number-preserved c =
-    let i = c.args.self.now.interface in
+    let i = interface_of c.args.self.now.interface in
     let m = c.args.message.now in
     let p = c.frame-frame.result.now in
     let before = c.loop-number.invariant in
