@@ -3,7 +3,7 @@ _n2k() {
     local now=${COMP_WORDS[COMP_CWORD]}
     case $now in
     -*)
-        mapfile -t COMPREPLY < <(compgen -W '--degrees --knots --named --last --csv --page --table --any-order --whole
+        mapfile -t COMPREPLY < <(compgen -W '--degrees --knots --named --last --csv --page --local --gpx --nmea0183 --table --any-order --whole
             --empty --window --resume --save --anyway --help --version' -- "$now")
         ;;
     *) mapfile -t COMPREPLY < <(compgen -f -- "$now") ;;

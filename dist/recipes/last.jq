@@ -1,7 +1,7 @@
 # Takes JSON lines, gives the last value of everything as a table: watch -n 1 'tail -n 2000 boat.json | jq -rf last.jq'
 #
 # Of each sender, PGN and thing (n2k.jq lists what tells these apart) the last message counts: what it lacks is not
-# available now. The values of a list are not shown. Units are those of units.json; behind degrees.jq, --arg units degrees
+# available now. The values of a list are not shown. Units are those of units.json; behind convert degrees, --arg units degrees
 # names its units, and --arg units knots those with knots. A table of your own wants --slurpfile own FILE, of what
 # `tools/units TABLE` prints.
 include "n2k" {search: "./"};

@@ -1,7 +1,7 @@
 # Takes JSON lines, gives JSON lines with ids in the place of names, as canboat's -camel makes them: jq -cf named.jq
 #
 # `COG Reference` is `cogReference`, and the message gets an `id`, as `cogSogRapidUpdate`. An id is made of its name
-# alone, so it is the same in each run. The recipes that look at names (degrees.jq, signalk.jq, last.jq) stand before this
+# alone, so it is the same in each run. The recipes that look at names (convert, signalk.jq, last.jq) stand before this
 # one in a pipe.
 include "n2k" {search: "./"};
 

@@ -246,6 +246,11 @@ class Folder:
             if left and not text[:left].endswith(b"\n"):
                 file.write(b"\n")
 
+    def renew(self):
+        """The newest file goes on as another one, as where it was gzipped and is unpacked."""
+        shutil.copy(self.name(self.day), f"{self.path}/.new")
+        os.rename(f"{self.path}/.new", self.name(self.day))
+
     def text(self):
         found = {}
         for it in sorted(os.listdir(self.path)):
@@ -291,12 +296,14 @@ def trial(name, room, chance):
             place += 1
             if chance.random() < 0.02:
                 time.sleep(0.02 * chance.random())
-        way = chance.choice(["server", "server", "both", "feed", "cut"])
+        way = chance.choice(["server", "server", "both", "feed", "cut", "renew"])
         if way in ("feed", "both", "cut"):
             feed.kill()
             feed.wait()
         if way == "cut":
             folder.cut()
+        if way == "renew":
+            folder.renew()
         if way != "feed":
             server.stop()
             time.sleep(0.3 * chance.random())

@@ -31,12 +31,12 @@ called_after had mid now first then low =
 
 -- ---- which files were opened
 
-pub opens_nothing : (o : FileUse) → Opens o o []
-opens_nothing o = go o.opened
+pub still_opened : (before after : FileUse) → after.opened ≡ before.opened → Opens before after []
+still_opened before after same = go before.opened same
   where
-    go : (opened : Option (List (Option Text))) → IfSome opened (λ had. opened ≡ Some (had ++ []))
-    go None = tt
-    go (Some had) = ap (λ (l : List (Option Text)). Some l) (sym (append-nil had))
+    go : (had : Option (List (Option Text))) → after.opened ≡ had → IfSome had (λ had. after.opened ≡ Some (had ++ []))
+    go None same = tt
+    go (Some had) same = same ∙ ap (λ (l : List (Option Text)). Some l) (sym (append-nil had))
 
 opens_then : (a b c : FileUse) (names more : List (Option Text)) → Opens a b names → Opens b c more → Opens a c (names ++ more)
 opens_then a b c names more first then = go a.opened first

@@ -1,5 +1,5 @@
 //! A machine in memory, for tests.
-ghost use Rattle.std.specs.Prelude.{◌≡◌, IfOk, map, option_map, string_bytes};
+ghost use Rattle.std.specs.Prelude.{◌≡◌, ◌∷◌, ◌++◌, [], IfOk, OnErr, OnOk, map, option_map, string_bytes};
 ghost use Rattle.clap.specs.Walk.{texts};
 ghost use Rattle.n2kdec.specs.MemoryMachine.{bytes_under, kept_text};
 
@@ -24,6 +24,19 @@ fn text_under<'a>(files: &[(&'a str, &'a str)], name: &str) -> Option<&'a str>
         }
     }
     None
+}
+
+/// Notes that a file is opened.
+fn note(opened: &mut Vec<Option<Word>>, name: &Option<Word>) -> Result<(), AllocError>
+    ensures noted { OnOk result (opened.new.items ≡ opened.old.items ++ name.now ∷ []) }
+    ensures unchanged { OnErr result (opened.new.items ≡ opened.old.items) }
+{
+    let copy = match name {
+        Some(name) => Some(Word::new(*opened.allocator(), name.as_str())?),
+        None => None,
+    };
+    opened.push(copy)?;
+    Ok(())
 }
 
 /// Copies of texts.
@@ -101,25 +114,6 @@ pub struct MemoryMachine<'a> {
     pub opened: Vec<Option<Word>>,
 }
 
-impl<'a> MemoryMachine<'a> {
-    ghost use Rattle.std.specs.Prelude.{◌≡◌, [], ◌∷◌, ◌++◌, OnErr, OnOk};
-
-    /// Notes that a file is opened.
-    fn note(&mut self, name: &Option<Word>) -> Result<(), AllocError>
-        ensures noted { OnOk result (self.new ≡ record self.old { opened = self.new.opened })
-            × OnOk result (self.new.opened.items ≡ self.old.opened.items ++ name.now ∷ []) }
-        ensures unchanged { OnErr result (self.new ≡ record self.old { opened = self.new.opened })
-            × OnErr result (self.new.opened.items ≡ self.old.opened.items) }
-    {
-        let copy = match name {
-            Some(name) => Some(Word::new(*self.opened.allocator(), name.as_str())?),
-            None => None,
-        };
-        self.opened.push(copy)?;
-        Ok(())
-    }
-}
-
 impl<'a> Machine for MemoryMachine<'a> {
     ghost use Rattle.std.specs.Prelude.{Some, false};
 
@@ -146,8 +140,9 @@ impl<'a> Machine for MemoryMachine<'a> {
         Ok(copies(alloc, self.words)?)
     }
 
+    #[tactic(auto, using(crate::proofs::MachineLemmas::still_opened))]
     fn open(&mut self, name: &Option<Word>, refused: Fault) -> Result<MemoryFile<'a>, Fault> {
-        self.note(name)?;
+        note(&mut self.opened, name)?;
         let Some(name) = name else {
             return Ok(MemoryFile::new(self.input.as_bytes(), self.fails_at));
         };

@@ -1,0 +1,307 @@
+#!/usr/bin/env python3
+"""A season of the logger and of what it feeds, by a seed.
+
+    season.py PROGRAM [ROUNDS [SEED]]
+
+A round is a boat's log of some days in eight parts, on a file system of its own, an ext4 image. Between the parts are holes,
+and each ends in its way: the sender ends, the logger is stopped, some of its processes are killed, or the power is cut. Within a
+part the disk is full for a while, stamps are years ahead or days back, the table is replaced, or the server is away. Two `feed`
+send the files to SQLite and to a server made up of InfluxDB's interface.
+
+In the end files are whole, no message is of two, none is there twice, no day is from the future, and no message is lost that
+docs/GUIDE.md doesn't allow to be: those with a frame in a hole, in the last second before a kill, in the last SYNCED seconds
+before a cut of the power, while the disk was full, and where the table was replaced those across midnight. Rows and points are
+those of the files, each once, and beside them only what a cut took from the files.
+
+The last line is `N faults`, after a line for each. Status 77 says that no ext4 image can be had here, and why.
+"""
+import json
+import os
+import random
+import shutil
+import signal
+import subprocess
+import sys
+import tempfile
+import time
+
+import feed_trials
+import logger_trials
+from logger_trials import Boat, Disk, Log, kill, left, message, tree
+
+SYNCED = 1  # seconds
+LATE = 1.5  # seconds in which a line is surely written, beside other work
+PARTS = 8
+HOW = ["alone", "alone", "stopped", "killed", "killed", "cut", "cut"]
+WHAT = ["nothing", "full", "ahead", "back", "server", "table", "feed"]
+
+
+def send(path, told, seconds):
+    """A sender: writes the lines one by one, and tells when; where it is started again, it goes on where it was."""
+    lines = open(path, "rb").read().splitlines(True)
+    with open(told, "a+", encoding="utf-8") as times:
+        times.seek(0)
+        first = len(times.read().splitlines())
+        begin = time.monotonic()
+        for place in range(first, len(lines)):
+            time.sleep(max(0, begin + (place - first) * float(seconds) / len(lines) - time.monotonic()))
+            # A line that is lost on its way was sent.
+            times.write(f"{time.monotonic()}\n")
+            times.flush()
+            os.write(1, lines[place])
+
+
+class Fed:
+    """Both feeds and what they feed."""
+
+    def __init__(self, room, folder, chance):
+        self.room, self.folder, self.chance = room, folder, chance
+        self.server, self.base = feed_trials.Server(chance, chance.choice([1, 2])), feed_trials.Base(room)
+        self.server.start()
+        self.running = []
+
+    def start(self):
+        for it in (self.server, self.base):
+            self.running.append(self.begin(it, "--every", "0.3"))
+
+    def begin(self, it, *words):
+        environment = {**os.environ, "INFLUX_TOKEN": feed_trials.TOKEN}
+        with open(f"{self.room}/fed", "ab") as said:
+            return subprocess.Popen([feed_trials.FEED, *it.words(self.room), *words, self.folder], env=environment, stderr=said)
+
+    def kill(self):
+        for it in self.running:
+            it.kill()
+            it.wait()
+        self.running = []
+
+    def faults(self, texts, was_cut):
+        """What is wrong in the end with what was fed of these files."""
+        self.kill()
+        for it in (self.server, self.base):
+            if self.begin(it, "--once").wait(timeout=200):
+                yield f"feed fails: {open(f'{self.room}/fed', encoding='utf-8').read()[-500:]}"
+        self.server.stop()
+        wanted = {it for text in texts for it in feed_trials.rows_of(text)}
+        has = self.base.has()
+        if wanted - {*has} or len({*has}) != len(has) or {*has} - wanted and not was_cut:
+            yield f"{len(has)} rows, {len(wanted)} messages, {len(wanted - {*has})} of them missing, {len({*has} - wanted)} others"
+        points = {}
+        for text in texts:
+            for line in feed_trials.converted("influx", text).splitlines():
+                series, fields, stamp = feed_trials.split(line)
+                points[series, stamp] = fields
+        has = self.server.has()
+        missing = [it for it, fields in points.items() if has.get(it) != fields]
+        if missing or len(has) > len(points) and not was_cut:
+            yield f"{len(has)} points, {len(points)} of the files, {len(missing)} of them missing or others"
+
+
+class Round:
+    """A boat, its log, and when it was disturbed."""
+
+    def __init__(self, program, room, chance):
+        self.room, self.chance = room, chance
+        self.disk, self.log = Disk(room, 24), Log(chance, chance.randrange(4, 9))
+        self.boat = Boat(program, self.disk.folder)
+        subprocess.run(["sync", "-f", self.disk.folder], check=True)
+        self.boat.environment["BOAT"] = self.boat.folder
+        self.table = f"{room}/table.toml"
+        shutil.copy(logger_trials.TABLE, self.table)
+        self.fed = Fed(room, self.boat.folder, chance)
+        # Of each line: its part and when it was sent. Of a disturbance: when it began and ended.
+        self.parts, self.times, self.disturbed, self.torn, self.was_cut, self.crossed = {}, {}, [], 0, False, set()
+
+    def play(self):
+        self.fed.start()
+        place, each = 0, len(self.log.lines) // PARTS
+        for part in range(PARTS):
+            begin = place + self.chance.choice([0, 0, self.chance.randrange(300)])
+            place += each
+            how = self.chance.choice(HOW) if part < PARTS - 1 else "alone"
+            what = self.chance.choice(WHAT)
+            lines = self.stamped(self.log.lines[begin:place], what)
+            self.part(part, begin, lines, how, what)
+
+    def stamped(self, lines, what):
+        """The lines, where some have a stamp of another day."""
+        at, count = self.chance.randrange(len(lines) // 2), self.chance.randrange(1, 40)
+        add = {"ahead": 10 * 365 * 86400, "back": -self.chance.randrange(1, 4) * 86400}.get(what, 0)
+        return [b"(%.6f%s" % (float(it[1:18]) + add, it[18:]) if at <= number < at + count and add else it for number, it in enumerate(lines)]
+
+    def part(self, part, begin, lines, how, what):
+        path, told = f"{self.room}/lines.{part}", f"{self.room}/times.{part}"
+        with open(path, "wb") as file:
+            file.writelines(lines)
+        open(told, "wb").close()
+        command = [LOGGER, "--raw", f"--sync={SYNCED}", self.boat.folder, self.table, sys.executable, __file__, "send", path, told, "4"]
+        with open(f"{self.room}/said", "ab") as said:
+            logger = Boat.logger = subprocess.Popen(command, env=self.boat.environment, stderr=said, start_new_session=True)
+        until = time.monotonic() + (30 if how == "alone" else 1 + 4 * self.chance.random())
+        time.sleep(0.3 + self.chance.random())
+        since = []
+        self.incident(part, what)
+        while time.monotonic() < until and logger.poll() is None:
+            time.sleep(0.02)
+        if how == "stopped":
+            logger.terminate()
+            since.append(time.monotonic() - 0.3)
+        elif how == "killed":
+            pids = tree(logger.pid)
+            at = time.monotonic()
+            kill(self.chance.sample(pids, self.chance.randrange(1, 1 + len(pids))) if pids else [])
+            self.torn += 1
+            since.append(at - LATE)
+        elif how == "cut":
+            self.fed.kill()
+            self.disk.cut()
+            at = time.monotonic()
+            self.was_cut, self.torn = True, self.torn + 1
+            since.append(at - SYNCED - LATE)
+            for _ in range(50):
+                if not (pids := [*{*tree(logger.pid), *left(self.boat)}]) or pids == [logger.pid] and logger.poll() is not None:
+                    break
+                kill(pids)
+                logger.poll()
+        self.end(logger)
+        self.disturbed += [(it, time.monotonic()) for it in since]
+        if how == "cut":
+            self.disk.again()
+            self.tear()
+        if not self.fed.running:
+            self.fed.start()
+        # A part's lines that the sender has not come to were not sent; the next part begins behind them.
+        for number, it in enumerate(open(told, encoding="utf-8").read().split("\n")[:-1]):
+            self.parts[begin + number], self.times[begin + number] = part, float(it)
+
+    def tear(self):
+        """Other file systems may end a file within a line that was not synced."""
+        for folder, kinds in (self.boat.folder, (".json", ".reports")), (f"{self.boat.folder}/raw", (".log",)):
+            names = sorted(os.listdir(folder)) if os.path.isdir(folder) else []
+            for kind in kinds:
+                if (its := [f"{folder}/{it}" for it in names if it.endswith(kind)]) and self.chance.randrange(2):
+                    size = os.stat(its[-1]).st_size
+                    os.truncate(its[-1], max(0, size - self.chance.randrange(200)))
+
+    def incident(self, part, what):
+        if what == "full":
+            at = time.monotonic()
+            try:
+                with open(f"{self.disk.folder}/other", "wb") as file:
+                    while True:
+                        file.write(bytes(4096))
+                        file.flush()
+            except OSError:
+                pass
+            time.sleep(0.5 + self.chance.random())
+            os.remove(f"{self.disk.folder}/other")
+            self.torn += 1
+            # It looks for room every five seconds.
+            self.disturbed.append((at - LATE, time.monotonic() + 7))
+        elif what == "server":
+            self.fed.server.stop()
+            self.fed.base.stop()
+            time.sleep(self.chance.random())
+            self.fed.base.start()
+            self.fed.server.start()
+        elif what == "feed":
+            self.fed.kill()
+            self.fed.start()
+        elif what == "table":
+            with open(self.table, "a", encoding="utf-8") as file:
+                file.write("# another one\n")
+            self.crossed.add(part)
+
+    def end(self, logger):
+        """Waits until the logger has ended; what is left of one of which processes were killed ends with its sender."""
+        try:
+            logger.wait(timeout=20 if not self.torn else 8)
+        except subprocess.TimeoutExpired:
+            kill([*{*tree(logger.pid), *left(self.boat)}])
+            logger.wait()
+        for _ in range(100):
+            if not (pids := left(self.boat)):
+                break
+            time.sleep(0.05)
+        else:
+            kill(pids)
+
+    def is_owed(self, places):
+        """Whether a message of these lines has to be there."""
+        parts, times = {self.parts.get(it) for it in places}, [self.times.get(it, 0) for it in places]
+        if None in parts or len(parts) > 1:
+            return False
+        days = {int(float(self.log.lines[it][1:18])) // 86400 for it in places}
+        if len(days) > 1 and parts & self.crossed:
+            return False
+        return not any(begin <= it <= end for it in times for begin, end in self.disturbed)
+
+    def faults(self):
+        boat, log = self.boat, self.log
+        texts = {day: boat.text("json", day) for day in boat.days()}
+        text = b"".join(texts.values())
+        lines = text.splitlines()
+        printed = [it for it in map(message, lines) if it]
+        sent = {(key[0], data) for key, data in log.data.items()}
+        owed = [(key[0], log.data[key]) for key, places in log.places.items() if self.is_owed(places)]
+        Round.owed, Round.printed = Round.owed + len(owed), Round.printed + len(printed)
+        if wrong := [it for it in printed if it not in sent]:
+            yield f"{len(wrong)} messages that were not sent"
+        if len({*printed}) != len(printed):
+            yield f"{len(printed) - len({*printed})} messages twice"
+        if lost := [it for it in owed if it not in {*printed}]:
+            yield f"{len(lost)} messages of {len(owed)} are lost that may not be"
+        if (cut := sum(message(it) is None and it != b"" for it in lines)) > self.torn + 1:
+            yield f"{cut} lines in part, of {self.torn} disturbances"
+        if any(it and not it.endswith(b"\n") for it in (*texts.values(), boat.text("reports"))):
+            yield "a file has no last line"
+        first, last = (time.strftime("%Y-%m-%d", time.gmtime(float(it[1:18]))) for it in (log.lines[0], log.lines[-1]))
+        if wrong := [it for it in boat.days() if not first <= it <= last]:
+            yield f"days {wrong}"
+        again = [it for it in map(message, boat.decoded(boat.raw()).splitlines()) if it]
+        if {*again} - sent or len({*again}) != len(again):
+            yield f"the raw log gives {len({*again} - sent)} messages that were not sent, and {len(again) - len({*again})} twice"
+        if not self.torn and {*printed} - {*again}:
+            yield "the raw log lacks a message"
+        if wrong := [it for it in os.listdir(boat.folder) + os.listdir(f"{boat.folder}/raw") if it in (".new", ".room", "boat.state")]:
+            yield f"{wrong} is left"
+        yield from self.fed.faults(texts.values(), self.was_cut)
+
+    def end_all(self):
+        self.fed.kill()
+        if Boat.logger and Boat.logger.poll() is None:
+            kill([*{*tree(Boat.logger.pid), *left(self.boat)}])
+        self.disk.end()
+
+
+Round.owed = Round.printed = 0
+LOGGER = logger_trials.LOGGER
+
+
+def main():
+    if sys.argv[1] == "send":
+        return send(*sys.argv[2:])
+    signal.signal(signal.SIGTERM, lambda *_: sys.exit("it was ended"))
+    program, rounds, seed = os.path.realpath(sys.argv[1]), int([*sys.argv, 1][2]), int([*sys.argv, 1, 1][3])
+    faults = 0
+    for number in range(seed, seed + rounds):
+        room = tempfile.mkdtemp()
+        try:
+            one = Round(program, room, random.Random(number))
+            try:
+                one.play()
+                for fault in one.faults():
+                    faults += 1
+                    print(f"season, seed {number}: {fault}", flush=True)
+            finally:
+                one.end_all()
+        finally:
+            if "SEASON_SAY" in os.environ:
+                print(f"seed {number}: {Round.printed} printed, {Round.owed} owed", file=sys.stderr)
+            shutil.rmtree(room, ignore_errors=True)
+    print(f"{faults} faults")
+    return bool(faults)
+
+
+if __name__ == "__main__":
+    sys.exit(main())
