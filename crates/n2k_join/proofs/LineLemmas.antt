@@ -143,7 +143,7 @@ module _ (kind : ℕ → Option Kind) (s t : State) (e : Entry) (order : Bool) (
   pub line-gives : {g : Given} → g ≡ gives → g ≡ step_given kind t e
   line-gives given = given ∙ sym steps.given ∙ ap (λ u. step_given kind u e) is
 
-  pub line-leads : (step : Step PacketParts) (unknown : Bool) (n : ℕ) (gs : List Group) (r : Counts)
+  pub line-leads : (step : Step) (unknown : Bool) (n : ℕ) (gs : List Group) (r : Counts)
       → given_of step ≡ gives → unknown ≡ is_unknown kind e → gs ≡ leaves → n ≡ length gs
       → r ≡ record {
         lines = s.counts.lines + 1;

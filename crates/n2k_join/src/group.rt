@@ -110,11 +110,10 @@ impl OpenGroup {
         is_ones(self.mask, self.slots[0][0] / 7)
     }
 
-    /// Writes the message of the group, which is complete, to `joined`, with the stamp and identifier of the packet
-    /// that completed it.
-    pub(crate) fn write_message(&self, packet: &Packet, joined: &mut Option<Packet>)
+    /// The message of the group, which is complete, with the stamp and identifier of the packet that completed it.
+    pub(crate) fn message(&self, packet: &Packet) -> Option<Packet>
         requires { (key : Key) → complete (held_of (group_in key self.now)) ≡ true }
-        ensures { (key : Key) → joined.new ≡ Some (record {
+        ensures { (key : Key) → result ≡ Some (record {
           stamp = packet.now.stamp;
           id = packet.now.id;
           payload = data_of (held_of (group_in key self.now));
@@ -122,7 +121,7 @@ impl OpenGroup {
     {
         let total = usize::from(self.slots[0][0]);
         let sent = self.slots.as_flattened();
-        *joined = Packet::new(packet.stamp(), packet.id(), &sent[1..1 + total]);
+        Packet::new(packet.stamp(), packet.id(), &sent[1..1 + total])
     }
 
     /// What is reported of the group, whose key this is, where it ends without a message.

@@ -1,5 +1,6 @@
 //! The join: the open groups and the counts of a log, taken on line by line.
 ghost use Rattle.std.specs.Prelude.{◌≡◌, ◌+◌, ◌*◌, ◌≤◌, ◌<◌, ◌↔◌, ℕ, [], length, IfOk, OnOk, OnErr, IsErrOf, IsSome, IsNone, Ok, Option, None, Some, true, is_some, option_map};
+ghost use Rattle.std.specs.Option.{option_or};
 ghost use Rattle.n2k_table.specs.declared.definition.Kind.{Kind};
 ghost use Rattle.n2k_table.specs.Table.{kind};
 ghost use Rattle.n2k_wire.specs.declared.entry.Entry.{Entry};
@@ -12,22 +13,20 @@ ghost use Rattle.n2k_join.specs.State.{state, step_given, step_after, AreCounts,
 ghost use Rattle.n2k_join.specs.Refusal.{GivesOrMemory};
 ghost use Rattle.n2k_join.specs.Resumed.{is_valid, resumed, state_of_parts, valid_if};
 ghost use Rattle.n2k_join.specs.Saved.{IsId, state_text, bare_bytes, group_bytes};
-ghost use Rattle.n2k_join.specs.Step.{given_of, with_message, opens, due, expired, TakesLine};
+ghost use Rattle.n2k_join.specs.Step.{given_of, given_lent, opens, due, expired, TakesLine};
 ghost use Rattle.n2k_join.specs.Laws.{ExpiresFirst};
-ghost use Rattle.n2k_join.specs.Inner.Taken.{given_of_taken, packet_in};
 
 use crate::counts::{Counts, MOST_LINES};
-use crate::entry_taking::{Taken, packet_of, take_entry};
+use crate::entry_taking::take_entry;
 use crate::fault::{JoinFault, StateFault};
 use crate::laws;
-use crate::piece::{FrameKey, OpenGroup};
+use crate::open_groups::OpenGroups;
 use crate::saved::{
     SpelledGroup, SpelledState, format_in, parsed, read_state, rules_hold, state_text,
     stored_groups, waits_hold,
 };
 use crate::step::{Broken, LentStep, Step};
 use crate::window::{Window, is_waiting};
-use indexmap::IndexMap;
 use n2k_table::Table;
 use n2k_wire::{Entry, Id, Packet};
 use std::alloc::{AllocError, Global};
@@ -40,7 +39,7 @@ pub struct Join {
     id: [u8; 32],
     window: Window,
     counts: Counts,
-    groups: IndexMap<FrameKey, OpenGroup>,
+    groups: OpenGroups,
 }
 
 impl Model for Join {
@@ -53,14 +52,14 @@ impl Model for Join {
       id = j.id;
       window = j.window;
       counts = j.counts;
-      groups = groups_in j.groups.entries;
+      groups = groups_in j.groups.by_key.entries;
     } };
 
     ghost invariant = { λ j. IsState (record {
       id = j.id;
       window = j.window;
       counts = j.counts;
-      groups = groups_in j.groups.entries;
+      groups = groups_in j.groups.by_key.entries;
     }) };
 }
 
@@ -87,25 +86,46 @@ fn know_entry(entry: &Entry)
     }
 }
 
+/// The message of a line: its own, or that of the group that it completes.
+fn own_or_joined<'a>(own: Option<&'a Packet>, joined: &'a Option<Packet>) -> Option<&'a Packet>
+    ensures { option_map (λ packet. packet.now) result
+        ≡ option_or (option_map (λ packet. packet.now) own.entry) joined.now }
+{
+    match own {
+        Some(packet) => Some(packet),
+        None => joined.as_ref(),
+    }
+}
+
+/// A message that outlives what it is lent from.
+fn owned(message: Option<&Packet>) -> Option<Packet>
+    ensures { result ≡ option_map (λ packet. packet.now) message.entry }
+{
+    match message {
+        None => None,
+        Some(packet) => Some(packet.with_data(packet.data())),
+    }
+}
+
 /// The counts after a line, which gives a message or none.
-fn counts_after(counts: Counts, taken: &Taken, is_message: bool, held: usize) -> Counts
+fn counts_after(counts: Counts, step: &LentStep<'_>, is_message: bool, held: usize) -> Counts
     requires are { AreCounts counts }
     requires below { counts.lines < most_lines }
     ensures { result ≡ record {
       lines = counts.lines + 1;
       messages = counts.messages + one_if is_message;
-      bad = counts.bad + one_if (is_some taken.now.bad);
-      unknown = counts.unknown + one_if taken.now.is_unknown;
-      broken = counts.broken + one_if (is_some taken.now.broken);
+      bad = counts.bad + one_if (is_some step.now.bad);
+      unknown = counts.unknown + one_if step.now.is_unknown;
+      broken = counts.broken + one_if (is_some step.now.broken);
       held = held;
     } }
 {
     Counts {
         lines: counts.lines + 1,
         messages: counts.messages + u64::from(is_message),
-        bad: counts.bad + u64::from(taken.bad.is_some()),
-        unknown: counts.unknown + u64::from(taken.is_unknown),
-        broken: counts.broken + u64::from(taken.broken.is_some()),
+        bad: counts.bad + u64::from(step.bad.is_some()),
+        unknown: counts.unknown + u64::from(step.is_unknown),
+        broken: counts.broken + u64::from(step.broken.is_some()),
         held: held as u64,
     }
 }
@@ -126,7 +146,7 @@ impl Join {
             id: table.id(),
             window,
             counts: Counts::NONE,
-            groups: IndexMap::new(alloc),
+            groups: OpenGroups::new(alloc),
         }
     }
 
@@ -166,7 +186,7 @@ impl Join {
         if self.counts.lines == MOST_LINES {
             return None;
         }
-        let (key, group) = self.groups.first()?;
+        let (key, group) = self.groups.by_key.first()?;
         if is_waiting(
             group.first,
             u64::from(self.window.get()),
@@ -206,7 +226,7 @@ impl Join {
         ensures few { IsSome result → self.old.counts.lines < most_lines }
     {
         let broken = self.oldest_due()?;
-        self.groups.shift_remove_index(0);
+        self.groups.by_key.shift_remove_index(0);
         let Counts {
             broken: before,
             held,
@@ -218,37 +238,6 @@ impl Join {
             ..self.counts
         };
         Some(broken)
-    }
-
-    /// Takes the next line, as its entry. The message of a group that it completes goes to `joined`.
-    fn take(
-        &mut self,
-        table: &Table,
-        entry: &Entry,
-        joined: &mut Option<Packet>,
-    ) -> Result<Taken, JoinFault>
-        requires short { IsShort entry.now }
-        requires expired { due self.old ≡ None }
-        requires none { joined.old ≡ None }
-        ensures { TakesLine (λ o. given_of_taken o (packet_in entry.now) joined.new)
-            (kind table.now) self.old self.new entry.now result }
-    {
-        if self.counts.lines == MOST_LINES {
-            return Err(JoinFault::TooManyLines);
-        }
-        know_entry(entry);
-        let line = self.counts.lines + 1;
-        let taken = take_entry(
-            self.window.is_in_order(),
-            &mut self.groups,
-            line,
-            table,
-            entry,
-            joined,
-        )?;
-        let is_message = taken.is_message(entry, joined);
-        self.counts = counts_after(self.counts, &taken, is_message, self.groups.len());
-        Ok(taken)
     }
 
     /// Takes the next line, as its entry, and answers what it gives: the message that it is or completes, why it is
@@ -273,23 +262,17 @@ impl Join {
         ensures { TakesLine given_of (kind table.now) self.old self.new entry result }
     {
         let mut joined = None;
-        let taken = self.take(table, &entry, &mut joined)?;
-        let Taken {
-            is_own,
-            bad,
-            broken,
-            ..
-        } = taken;
-        let message = if is_own { packet_of(entry) } else { joined };
+        let step = self.lend(table, &entry, &mut joined)?;
         Ok(Step {
-            message,
-            bad,
-            broken,
+            message: owned(step.message),
+            bad: step.bad,
+            broken: step.broken,
         })
     }
 
     /// Takes the next line as `line` does, as an entry that stays where it is: the message is lent from it, or from
-    /// `joined`, to which the message of a group is written. What `joined` held is let go.
+    /// `joined`, to which the message of a group is handed over. What `joined` held is let go. The step has the line's
+    /// number too.
     ///
     /// ```rust
     /// let table = sample_table(alloc)?;
@@ -298,6 +281,7 @@ impl Join {
     /// assert_eq!(rt; join.expire(), None);
     /// let entry = read_line("(1.0) can0 09F8027F#0500".as_bytes(), Packing::Frames);
     /// let step = join.lend(&table, &entry, &mut joined)?;
+    /// assert_eq!(rt; step.line, 1);
     /// let message = step.message.ok_or("a message")?;
     /// assert_eq!(rt; message.id().pgn, 129026);
     /// ```
@@ -309,18 +293,21 @@ impl Join {
     ) -> Result<LentStep<'a>, JoinFault>
         requires short { IsShort entry.now }
         requires expired { due self.old ≡ None }
-        ensures { TakesLine (λ step. given_of (with_message (λ p. p.now) step))
-            (kind table.now) self.old self.new entry.now result }
+        ensures takes { TakesLine given_lent (kind table.now) self.old self.new entry.now result }
+        ensures line { IfOk result (λ step. step.line ≡ self.new.counts.lines) }
     {
-        if joined.is_some() {
-            *joined = None;
+        if self.counts.lines == MOST_LINES {
+            return Err(JoinFault::TooManyLines);
         }
-        let taken = self.take(table, entry, joined)?;
-        Ok(Step {
-            message: taken.message(entry, joined),
-            bad: taken.bad,
-            broken: taken.broken,
-        })
+        know_entry(entry);
+        let line = self.counts.lines + 1;
+        let in_order = self.window.is_in_order();
+        let step = take_entry(in_order, &mut self.groups, line, table, entry)?;
+        self.groups.hand_over(joined);
+        let message = own_or_joined(step.message, joined);
+        let held = self.groups.by_key.len();
+        self.counts = counts_after(self.counts, &step, message.is_some(), held);
+        Ok(LentStep { message, ..step })
     }
 
     /// The join of a state that was read, where it can be one under the table. The count of open groups is their
@@ -345,7 +332,10 @@ impl Join {
             id,
             window,
             counts: Counts { held, ..counts },
-            groups: stored,
+            groups: OpenGroups {
+                by_key: stored,
+                message: None,
+            },
         })
     }
 
@@ -417,6 +407,6 @@ impl Join {
             → resumed kind self.now.id self.now.window (state_text self.now) ≡ Ok self.now }
     {
         laws::state_reads_back();
-        state_text(alloc, &self.id, self.window, &self.counts, &self.groups)
+        state_text(alloc, &self.id, self.window, &self.counts, &self.groups.by_key)
     }
 }

@@ -28,7 +28,7 @@ lines_after k s e = refl
 
 -- An entry was taken by the join, after the groups were broken whose window ends at its line, and what both gave was made into
 -- texts.
-pub join_moves : (t : TableParts) (empty : Bool) (s mid s' : State) (e : Entry) (step : Step PacketParts) (n : ℕ) (text text' report due told report' : List ℕ) → n ≡ s'.counts.lines → given_of step ≡ step_given (kind t) mid e → s' ≡ step_after (kind t) mid e → mid.counts.lines < most_lines
+pub join_moves : (t : TableParts) (empty : Bool) (s mid s' : State) (e : Entry) (step : Step) (n : ℕ) (text text' report due told report' : List ℕ) → n ≡ s'.counts.lines → given_of step ≡ step_given (kind t) mid e → s' ≡ step_after (kind t) mid e → mid.counts.lines < most_lines
     → BreaksOverdue s mid report due → told ≡ due ++ flat_map (broken_text n) (option_to_list step.broken) → report' ≡ told ++ cause_report n step.bad → text' ≡ text ++ message_line t empty step.message
     → MovesOn (join_fold t empty) s s' e text text' report report'
 join_moves t empty s mid s' e step n text text' report due told report' number given after few overdue broken cause message =

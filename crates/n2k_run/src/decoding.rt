@@ -124,9 +124,8 @@ impl<'a> EntryHandler for JsonLines<'a> {
         let Joining { join, joined, room } = joining;
         break_overdue(alloc, join, report)?;
         let step = join.lend(self.table, entry, joined)?;
-        let line = join.counts().lines;
-        push_broken(alloc, line, step.broken, report)?;
-        push_cause(alloc, line, step.bad, report)?;
+        push_broken(alloc, step.line, step.broken, report)?;
+        push_cause(alloc, step.line, step.bad, report)?;
         push_message(alloc, self.table, step.message, self.empty, room, text)?;
         Ok(())
     }

@@ -89,6 +89,7 @@ fn messages_lent(rt: HostRuntime) -> Result<(), Fail> {
     assert_eq!(rt; join.expire(), None);
     let entry = read_line("(1.0) can0 09F8027F#0500".as_bytes(), Packing::Frames);
     let step = join.lend(&table, &entry, &mut joined)?;
+    assert_eq!(rt; step.line, 1);
     let message = step.message.ok_or("a message")?;
     assert_eq!(rt; message.id().pgn, 129026);
     Ok(())

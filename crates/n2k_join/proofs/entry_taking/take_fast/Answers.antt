@@ -9,5 +9,5 @@ use Rattle.n2k_join.proofs.entry_taking.take_fast.Goals as goal
 
 pub returns-in_err-broken-clause-memory : goal.returns-in_err-broken-clause-memory
 returns-in_err-broken-clause-memory c =
-    let none = none-listed (λ (g : Group). same_key (key_of c.in-Some.frame.key) g.key) (groups_in c.args.groups.now.entries) c.in_err-broken.ensures.memory in
-    on_err c.from_residual.result _ (ap (opens_by (groups_in c.args.groups.now.entries)) (sym (c.in-Some.ensures c.args.line)) ∙ ap not none)
+    let none = none-listed (λ (g : Group). same_key (key_of c.in-Some.frame.key) g.key) (groups_in c.args.groups.now.by_key.entries) c.in_err-broken.ensures.memory in
+    on_err c.from_residual.result _ (ap (opens_by (groups_in c.args.groups.now.by_key.entries)) (sym (c.in-Some.ensures c.args.line)) ∙ ap not none)

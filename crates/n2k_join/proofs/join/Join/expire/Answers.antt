@@ -13,31 +13,31 @@ use Rattle.n2k_join.proofs.join.Join.expire.Goals as goal
 pub invariant_of-self : goal.invariant_of-self
 unfolding expired
 invariant_of-self c =
-    let s : State = record { id = c.self.inside.id; window = c.self.inside.window; counts = c.self.inside.counts; groups = groups_in c.self.inside.groups.entries } in
+    let s : State = record { id = c.self.inside.id; window = c.self.inside.window; counts = c.self.inside.counts; groups = groups_in c.self.inside.groups.by_key.entries } in
     let d = expires_by s c.args.self.now c.in_ok-broken.broken c.self.view_is c.self.invariant (sym c.oldest_due.ensures ∙ c.in_ok-broken.was) in
-    subst (λ gs. IsState (record { id = s.id; window = s.window; counts = record s.counts { broken = s.counts.broken + 1; held = s.counts.held - 1 }; groups = gs })) (sym (ap groups_in c.shift_remove_index.ensures.entries ∙ removed-groups c.self.inside.groups.entries 0)) (expired-state s d.group d.is c.self.invariant)
+    subst (λ gs. IsState (record { id = s.id; window = s.window; counts = record s.counts { broken = s.counts.broken + 1; held = s.counts.held - 1 }; groups = gs })) (sym (ap groups_in c.shift_remove_index.ensures.entries ∙ removed-groups c.self.inside.groups.by_key.entries 0)) (expired-state s d.group d.is c.self.invariant)
 
 pub overflow_sub-self : goal.overflow_sub-self
 overflow_sub-self c =
-    let s : State = record { id = c.self.inside.id; window = c.self.inside.window; counts = c.self.inside.counts; groups = groups_in c.self.inside.groups.entries } in
+    let s : State = record { id = c.self.inside.id; window = c.self.inside.window; counts = c.self.inside.counts; groups = groups_in c.self.inside.groups.by_key.entries } in
     let d = expires_by s c.args.self.now c.in_ok-broken.broken c.self.view_is c.self.invariant (sym c.oldest_due.ensures ∙ c.in_ok-broken.was) in
     omega (arith, some-due s d.group d.is, c.self.invariant.held)
 
 pub returns-clause-after : goal.returns-clause-after
 returns-clause-after c = λ _.
-    let s : State = record { id = c.self.inside.id; window = c.self.inside.window; counts = c.self.inside.counts; groups = groups_in c.self.inside.groups.entries } in
-    expired_by s c.args.self.now (groups_in c.shift_remove_index.new.self.entries) c.self.view_is (ap groups_in c.shift_remove_index.ensures.entries ∙ removed-groups c.self.inside.groups.entries 0)
+    let s : State = record { id = c.self.inside.id; window = c.self.inside.window; counts = c.self.inside.counts; groups = groups_in c.self.inside.groups.by_key.entries } in
+    expired_by s c.args.self.now (groups_in c.shift_remove_index.new.self.entries) c.self.view_is (ap groups_in c.shift_remove_index.ensures.entries ∙ removed-groups c.self.inside.groups.by_key.entries 0)
 
 pub returns-clause-waiting : goal.returns-clause-waiting
 returns-clause-waiting c = λ wait.
-    let s : State = record { id = c.self.inside.id; window = c.self.inside.window; counts = c.self.inside.counts; groups = groups_in c.self.inside.groups.entries } in
+    let s : State = record { id = c.self.inside.id; window = c.self.inside.window; counts = c.self.inside.counts; groups = groups_in c.self.inside.groups.by_key.entries } in
     let d = expires_by s c.args.self.now c.in_ok-broken.broken c.self.view_is c.self.invariant (sym c.oldest_due.ensures ∙ c.in_ok-broken.was) in
-    subst AreWaiting (ap expired c.self.view_is ∙ sym (expired_by s c.args.self.now (groups_in c.shift_remove_index.new.self.entries) c.self.view_is (ap groups_in c.shift_remove_index.ensures.entries ∙ removed-groups c.self.inside.groups.entries 0))) (expired-waits s d.group d.is (subst AreWaiting (sym c.self.view_is) wait))
+    subst AreWaiting (ap expired c.self.view_is ∙ sym (expired_by s c.args.self.now (groups_in c.shift_remove_index.new.self.entries) c.self.view_is (ap groups_in c.shift_remove_index.ensures.entries ∙ removed-groups c.self.inside.groups.by_key.entries 0))) (expired-waits s d.group d.is (subst AreWaiting (sym c.self.view_is) wait))
 
 pub returns-clause-fewer : goal.returns-clause-fewer
 returns-clause-fewer c = λ _.
-    let s : State = record { id = c.self.inside.id; window = c.self.inside.window; counts = c.self.inside.counts; groups = groups_in c.self.inside.groups.entries } in
-    fewer c.args.self.now _ c.in_ok-broken.broken (sym c.oldest_due.ensures ∙ c.in_ok-broken.was) (expired_by s c.args.self.now (groups_in c.shift_remove_index.new.self.entries) c.self.view_is (ap groups_in c.shift_remove_index.ensures.entries ∙ removed-groups c.self.inside.groups.entries 0))
+    let s : State = record { id = c.self.inside.id; window = c.self.inside.window; counts = c.self.inside.counts; groups = groups_in c.self.inside.groups.by_key.entries } in
+    fewer c.args.self.now _ c.in_ok-broken.broken (sym c.oldest_due.ensures ∙ c.in_ok-broken.was) (expired_by s c.args.self.now (groups_in c.shift_remove_index.new.self.entries) c.self.view_is (ap groups_in c.shift_remove_index.ensures.entries ∙ removed-groups c.self.inside.groups.by_key.entries 0))
 
 pub returns-clause-few : goal.returns-clause-few
 returns-clause-few c = λ _. due-few c.args.self.now c.in_ok-broken.broken (subst IsState c.self.view_is c.self.invariant).counted.lines (sym c.oldest_due.ensures ∙ c.in_ok-broken.was)

@@ -9,5 +9,5 @@ returns c = λ i. record {
   id = c.id.ensures i;
   window = c.args.window;
   counts = record { lines = 0; messages = 0; bad = 0; unknown = 0; broken = 0; held = 0 };
-  groups = ap groups_in c.new.ensures.empty i;
+  groups = ap groups_in c.new.ensures i;
 }

@@ -5,7 +5,7 @@ use Rattle.n2k_wire.specs.declared.identifier.Id.{Id}
 use Rattle.n2k_wire.specs.Packet.{IsPacket, is_stamp, greatest_priority, greatest_pgn, longest_message}
 use Rattle.n2k_join.specs.Frames.{Key}
 use Rattle.n2k_join.proofs.SlotLemmas.{zeroth-slot, data-slots}
-use Rattle.n2k_join.proofs.piece.OpenGroup.write_message.Goals as goal
+use Rattle.n2k_join.proofs.piece.OpenGroup.message.Goals as goal
 
 any_key : Key
 any_key = record { src = 0; dst = 0; pgn = 0; sequence = 0 }
