@@ -2,7 +2,8 @@
 #
 # Of each sender, PGN and thing (n2k.jq lists what tells these apart) the last message counts: what it lacks is not
 # available now. The values of a list are not shown. Units are those of units.json; behind degrees.jq, --arg units degrees
-# names its units, and --arg units knots those with knots.
+# names its units, and --arg units knots those with knots. A table of your own wants --slurpfile own FILE, of what
+# `tools/units TABLE` prints.
 include "n2k" {search: "./"};
 import "units" as $known {search: ["..", "../../tables"]};
 
@@ -15,7 +16,7 @@ def unit_names:
     + if . == null then {} else {rad: "deg", "rad/s": "deg/s", K: "°C", Pa: "hPa", date: null, time: null} end
     + if . == "knots" then {"m/s": "knots"} else {} end;
 
-things as $things | ($things | keys) as $names | $known::known[0] as $units | ($ARGS.named.units | unit_names) as $called
+things as $things | ($things | keys) as $names | ($ARGS.named.own // $known::known)[0] as $units | ($ARGS.named.units | unit_names) as $called
 | reduce lines as $m ({}; setpath([$m | [.pgn, .src, .description, (.fields | .[keys_unsorted[] | select($things[.])])] | tojson]; $m))
 | [.[]] | sort_by(.pgn, .src, .description)
 | [.[] as $m | ($units[$m.pgn | tostring][$m.description] // {}) as $mine

@@ -1,7 +1,7 @@
 #!/usr/bin/env python3
-"""The script `logger` where days change, senders end, processes are killed, a disk is full and Ctrl-C comes.
+"""The script `n2k-logger` where days change, senders end, processes are killed, a disk is full, the power is cut and Ctrl-C comes.
 
-    logger_trials.py PROGRAM days|holes|killed|stopped|full|full_raw|terminal [COUNT [SEED]]
+    logger_trials.py PROGRAM days|holes|killed|stopped|full|full_raw|terminal|cut [COUNT [SEED]]
 
 Each trial has a boat's log by a seed: the messages of `lossy.py`, of 2 to 32 frames, none lost, stamped over some days. What
 the logger prints is judged by what was sent. Where frames are missing, the messages that miss one are those that are not
@@ -21,6 +21,7 @@ import re
 import select
 import shutil
 import signal
+import struct
 import subprocess
 import sys
 import tempfile
@@ -52,6 +53,10 @@ class Log:
         """The messages all of whose frames stand at these places, in the order in which they are complete."""
         whole = [(its[-1], key) for key, its in self.places.items() if begin <= its[0] and its[-1] < end]
         return [(key[0], self.data[key]) for _, key in sorted(whole)]
+
+    def places_of(self, one):
+        """The places of the frames of a message."""
+        return next(its for key, its in self.places.items() if (key[0], self.data[key]) == one)
 
     def cut(self, begin, end):
         """How many messages have some of their frames at these places, and not all."""
@@ -85,22 +90,33 @@ class Boat:
     def names(self, pattern):
         return sorted(it for it in os.listdir(self.folder) if re.fullmatch(pattern, it))
 
-    def text(self, kind):
-        return b"".join(open(f"{self.folder}/{it}", "rb").read() for it in self.names(rf"\d{{4}}-\d\d-\d\d\.{kind}"))
+    def days(self):
+        return sorted({it[:10] for it in self.names(r"\d{4}-\d\d-\d\d\.json(\.gz)?")})
+
+    def whole(self, folder, kind, day=r"\d{4}-\d\d-\d\d"):
+        """The files of all days, when none is being compressed."""
+        lock = os.open(f"{self.folder}/.compress", os.O_RDWR | os.O_CREAT)
+        try:
+            fcntl.flock(lock, fcntl.LOCK_EX)
+            found = b""
+            # What came behind a gzipped file is in one without .gz.
+            for it in sorted(os.listdir(folder), key=lambda it: (it[:10], not it.endswith(".gz"))):
+                if re.fullmatch(rf"{day}\.{kind}(\.gz)?", it):
+                    text = open(f"{folder}/{it}", "rb").read()
+                    found += gzip.decompress(text) if text[:2] == b"\x1f\x8b" else text
+            return found
+        finally:
+            os.close(lock)
+
+    def text(self, kind, day=r"\d{4}-\d\d-\d\d"):
+        return self.whole(self.folder, kind, day)
 
     def printed(self):
         """The messages of all days, without the lines that can't be read."""
         return [it for it in map(message, self.text("json").splitlines()) if it]
 
     def raw(self):
-        """The raw log, of all days, when none is being compressed."""
-        folder = os.open(f"{self.folder}/raw", os.O_RDONLY)
-        try:
-            fcntl.flock(folder, fcntl.LOCK_EX)
-            names = [it for it in sorted(os.listdir(folder)) if it[0] != "."]
-            return b"".join((gzip.open if it.endswith(".gz") else open)(f"{self.folder}/raw/{it}", "rb").read() for it in names)
-        finally:
-            os.close(folder)
+        return self.whole(f"{self.folder}/raw", "log")
 
     def decoded(self, log):
         """What one n2kdec prints of a log."""
@@ -157,10 +173,10 @@ def days(program, room, chance):
     logger.terminate()
     said = logger.communicate()[1]
     one = boat.decoded(text)
-    names = boat.names(r".*\.json")
+    names = boat.days()
     for name in names:
-        stamps = {it["timestamp"][:10] for it in map(json.loads, open(f"{boat.folder}/{name}"))}
-        if stamps - {name[:10]}:
+        stamps = {json.loads(it)["timestamp"][:10] for it in boat.text("json", name).splitlines()}
+        if stamps - {name}:
             yield f"{name} has messages of {stamps}"
     if boat.text("json") != one or boat.printed() != log.whole(0, len(log.lines)):
         yield "the days are not one decode"
@@ -383,7 +399,7 @@ def full(program, room, chance, words=()):
         logger.terminate()
         after = logger.communicate()[1]
         text = "".join(before) + after
-        if logger.returncode not in (0, 1) or text.count("has no room") != 1:
+        if logger.returncode not in (0, 1) or text.count("disk full: ") != 1 or text.count("can be written again") != 1:
             yield f"status {logger.returncode}, said: {text}"
         # What is sent after the pause begins the log again.
         sent = {(key[0], data) for key, data in log.data.items()}
@@ -394,6 +410,117 @@ def full(program, room, chance, words=()):
             yield "the raw log gives a message that was not sent"
     finally:
         subprocess.run(["umount", "-l", disk], check=True)
+
+
+SYNCED = 2  # seconds, as --sync has it
+SHUTDOWN, NO_LOG_FLUSH = 0x8004587D, struct.pack("I", 2)  # EXT4_IOC_SHUTDOWN: nothing more goes to the disk, the journal neither
+
+
+def timed(path, told, seconds):
+    """A sender: writes the lines of the file one by one within these seconds, tells when each was written, and ends."""
+    with open(path, "rb") as file, open(told, "w", encoding="utf-8") as times:
+        lines = file.readlines()
+        begin = time.monotonic()
+        for place, line in enumerate(lines):
+            time.sleep(max(0, begin + place * float(seconds) / len(lines) - time.monotonic()))
+            os.write(1, line)
+            times.write(f"{time.monotonic()}\n")
+            times.flush()
+
+
+class Disk:
+    """A file system of its own, in a file, whose power can be cut."""
+
+    def __init__(self, room, megabytes=48):
+        self.image, self.folder = f"{room}/image", f"{room}/disk"
+        os.mkdir(self.folder)
+        with open(self.image, "wb") as file:
+            file.truncate(megabytes << 20)
+        self.run("mkfs.ext4", "-q", "-F", self.image)
+        self.mount()
+
+    @staticmethod
+    def run(*command):
+        try:
+            ran = subprocess.run(command, capture_output=True, text=True, check=False)
+        except FileNotFoundError as error:
+            ran = subprocess.CompletedProcess(command, 1, "", str(error))
+        if ran.returncode:
+            print(f"no ext4 image can be had here: {' '.join(command)}: {ran.stderr.strip()}")
+            sys.exit(77)
+
+    def mount(self):
+        self.run("mount", "-o", "loop", self.image, self.folder)
+
+    def cut(self):
+        """Cuts the power: what is not on the disk is lost."""
+        at = os.open(self.folder, os.O_RDONLY)
+        fcntl.ioctl(at, SHUTDOWN, NO_LOG_FLUSH)
+        os.close(at)
+
+    def end(self):
+        subprocess.run(["umount", "-l", self.folder], check=False, capture_output=True)
+
+    def again(self):
+        """The power is there again: the journal is played back."""
+        for _ in range(300):
+            # Where somebody still has the old one, it is mounted again as it was, and can't be written.
+            if not subprocess.run(["umount", self.folder], check=False, capture_output=True).returncode:
+                self.mount()
+                try:
+                    os.close(os.open(f"{self.folder}/again", os.O_WRONLY | os.O_CREAT))
+                    return
+                except OSError:
+                    pass
+            time.sleep(0.1)
+        raise TimeoutError("the old file system does not go away")
+
+
+def cut(program, room, chance):
+    """The power is cut at a random moment; afterwards the logger goes on."""
+    disk, log = Disk(room), Log(chance, chance.choice([1, 3, 30]))
+    half = len(log.lines) // 2
+    try:
+        boat = Boat(program, disk.folder)
+        subprocess.run(["sync", "-f", disk.folder], check=True)
+        boat.environment["BOAT"] = boat.folder
+        command = [sys.executable, __file__, "timed", put(room, log.lines[:half]), f"{room}/times", "12"]
+        logger = boat.start(*command, words=("--raw", "--sync", os.environ.get("LOGGER_TRIALS_SYNC", str(SYNCED))), start_new_session=True)
+        time.sleep(1.5 + 8 * chance.random())
+        disk.cut()
+        at = time.monotonic()
+        for _ in range(20):
+            if not (pids := [*{*tree(logger.pid), *left(boat)}]):
+                break
+            kill(pids)
+            logger.poll()
+        logger.communicate()
+        times = [float(it) for it in open(f"{room}/times", encoding="utf-8").read().split("\n")[:-1]]
+        disk.again()
+        printed = boat.printed()
+        # What was whole before the last sync, with a second for the way of a line.
+        sent = log.whole(0, len(times))
+        safe = log.whole(0, sum(it < at - SYNCED - 1 for it in times))
+        cut.lost.append(at - times[min((log.places_of(it)[-1] for it in sent if it not in printed), default=-1)])
+        if missing := [it for it in safe if it not in printed]:
+            yield f"{len(missing)} messages of {len(sent)} are lost that were older than {SYNCED} seconds"
+        logger = boat.start("cat", put(room, log.lines[half:]))
+        said = logger.communicate()[1]
+        if logger.returncode:
+            yield f"status {logger.returncode}, said: {said}"
+        yield from judged(boat, log, True)
+        last = log.whole(half, len(log.lines))
+        if boat.printed()[-len(last) :] != last or not boat.text("reports").endswith(b"\n"):
+            yield "what was sent afterwards is not there"
+        if sum(message(it) is None for it in boat.text("json").splitlines()) > 2:
+            yield "more lines are cut than days were written"
+        if os.environ.get("LOGGER_TRIALS_SAY"):
+            print(f"cut, {len(times)} lines sent, {len(sent)} messages, lost {sum(it not in printed for it in sent)}, the oldest of {cut.lost[-1]:.1f} s", file=sys.stderr)
+    finally:
+        disk.end()
+
+
+cut.lost = []
 
 
 def terminal(program, room, chance):
@@ -426,8 +553,8 @@ def terminal(program, room, chance):
 
 
 def main():
-    if sys.argv[1] == "send":
-        return send(*sys.argv[2:])
+    if sys.argv[1] in ("send", "timed"):
+        return globals()[sys.argv[1]](*sys.argv[2:])
     # Who runs in the background of a script finds these two ignored, and would hand that on: no Ctrl-C would end a logger.
     for it in (signal.SIGINT, signal.SIGQUIT):
         signal.signal(it, signal.SIG_DFL)

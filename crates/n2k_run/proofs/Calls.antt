@@ -50,7 +50,7 @@ reads_of_answer old new left₀ left calls₀ calls next (Ok x) a = record { cam
 reads_of_answer old new left₀ left calls₀ calls next (Err fault) a = record { came = a.came; given = a.given; few = omega (arith, a.few, ended_once new.has_ended) }
 
 -- no more bytes come of a source than it has
-came_within : (log came : List ℕ) (left : Option (List ℕ)) → Consumes (Some log) left came → length came ≤ length log
+pub came_within : (log came : List ℕ) (left : Option (List ℕ)) → Consumes (Some log) left came → length came ≤ length log
 came_within log came None given = absurd given
 came_within log came (Some rest) given = omega (arith, ap length given, length-append came rest)
 

@@ -80,14 +80,14 @@ module _ (t : TableParts) (o : Options) (laws : LogLaws o.window) where
   reports_of-append front es = parts_of (report_at t o (front ++ es)) (report_at t o front) front es (λ i low high. report_stays front es i high)
 
   module _ (front : List ℕ) (whole : IsEmptyOrEndsWith front line_feed) where
-    both : (more : List ℕ) → entries o.packing (front ++ more) ≡ entries o.packing front ++ entries o.packing more
+    pub both : (more : List ℕ) → entries o.packing (front ++ more) ≡ entries o.packing front ++ entries o.packing more
     both more = entries-append o.packing front more whole
 
-    output-on : (more : List ℕ) → out t o (front ++ more) ≡ out t o front ++ (output_after t o (entries o.packing front)).texts (entries o.packing more)
+    pub output-on : (more : List ℕ) → out t o (front ++ more) ≡ out t o front ++ (output_after t o (entries o.packing front)).texts (entries o.packing more)
     unfolding out
     output-on more = ap (out_of t o) (both more) ∙ out_of-append (entries o.packing front) (entries o.packing more)
 
-    reports-on : (more : List ℕ) → reports t o (front ++ more) ≡ reports t o front ++ (output_after t o (entries o.packing front)).reports (entries o.packing more)
+    pub reports-on : (more : List ℕ) → reports t o (front ++ more) ≡ reports t o front ++ (output_after t o (entries o.packing front)).reports (entries o.packing more)
     unfolding reports
     reports-on more = ap (reports_of t o) (both more) ∙ reports_of-append (entries o.packing front) (entries o.packing more)
 

@@ -10,6 +10,7 @@ pub mod GoingOn
 pub mod Joined
 pub mod LimitLines
 pub mod LogSteps
+pub mod MoreLines
 pub mod OutputLines
 pub mod Overdue
 pub mod Owed

@@ -10,6 +10,7 @@ pub mod InOrder
 pub mod Inner
 pub mod Lines
 pub mod Memory
+pub mod More
 pub mod Parts
 pub mod Plain
 pub mod Reading

@@ -17,9 +17,9 @@
 //! ```
 //!
 //! To decode a log use `run_part`: it begins the log or goes on from a saved state, and answers the state to save;
-//! `run_parts` does so for parts that lie in memory, `run` for a join that is at hand. To write a summary use
-//! `write_summary`, which takes no memory; `summary_text` appends one to a text. The theorem is that of `run_parts`,
-//! clause `headline`: a log that was cut after lines prints in parts what one run over it prints.
+//! `run_parts` does so for parts that lie in memory, `run` for a join that is at hand, and `run_more` for both. To write
+//! a summary use `write_summary`, which takes no memory; `summary_text` appends one to a text. The theorem is that of
+//! `run_parts`, clause `headline`: a log that was cut after lines prints in parts what one run over it prints.
 //!
 //! - `run` prints the JSON line of each message that a log gives, `run_plain` each frame and each whole message as its
 //!   plain line, `run_frames` each whole message as the lines of the frames in which it is sent. All report each bad
@@ -51,6 +51,7 @@ mod fault;
 mod frames;
 pub mod laws;
 mod memory;
+mod more;
 mod options;
 mod part;
 mod part_source;
@@ -66,6 +67,7 @@ pub use device::{Failed, Sink, Source};
 pub use fault::{BytesFault, RunFault};
 pub use frames::run_frames;
 pub use memory::{MemorySink, MemorySource};
+pub use more::run_more;
 pub use n2k_join::{Counts, MOST_LINES};
 pub use options::Options;
 pub use part::{Part, PartFault, run_part, run_parts};

@@ -12,7 +12,7 @@ use Rattle.std.proofs.lemmas.Int.Digits.{digits_value-lt}
 use Rattle.std.proofs.lemmas.List.{length-append, length-replicate, length-take, length-drop, take-append-drop, take_at, drop_at, get_or_append_left, get_or-take}
 use Rattle.std.proofs.lemmas.Str.Parse.{digit_from_value}
 use Rattle.n2k_table.specs.Decimal.{sign_of, after_dot, IsDecimal, padded_digits, dotted, dec}
-use Rattle.n2k_table.specs.Inner.Digits.{filled}
+use Rattle.n2k_table.specs.Inner.Digits.{zero_filled}
 use Rattle.n2k_table.proofs.Digits.{digit_value_is, digits_value_after-append}
 
 -- digits of n, at least e + 1 of them, and where there are more none of them leads as a zero
@@ -193,8 +193,8 @@ dotted_after e (d ∷ ds) len some =
     rw place refl
 
 -- and digits that are not
-pub filled_padded : (n e : ℕ) → n < 10 ^ 64 → length (decimal n) ≤ e → filled e (decimal n) ≡ dotted e (padded_digits n e)
-filled_padded n e small less =
+pub zero_filled_padded : (n e : ℕ) → n < 10 ^ 64 → length (decimal n) ≤ e → zero_filled e (decimal n) ≡ dotted e (padded_digits n e)
+zero_filled_padded n e small less =
     let ds = decimal n in
     let some = (has_first n small).some in
     let zeros : e + 1 - length ds ≡ suc (e - length ds) = omega arith in

@@ -1,7 +1,7 @@
 //! The decimal text of a whole number over a power of ten.
 ghost use Rattle.std.specs.Prelude.{◌≡◌, ◌∷◌, [], ◌++◌, ◌≤◌, ℕ, List, if◌then◌else◌, length, decimal, OnOk, OnErr};
 ghost use Rattle.n2k_table.specs.Decimal.{IsDecimal, dec, dotted, minus, padded_digits};
-ghost use Rattle.n2k_table.specs.Inner.Digits.{filled};
+ghost use Rattle.n2k_table.specs.Inner.Digits.{zero_filled};
 ghost use Rattle.n2k_table.specs.Inner.Number.{value_of};
 
 use crate::decimal_fast::{MOST_DECIMALS, push_short};
@@ -27,7 +27,7 @@ fn push_dotted(digits: &[u8], decimals: usize, line: &mut LineBuffer) -> Result<
 /// Appends digits that all stand after the dot, behind a zero before it and zeros to fill the decimals.
 fn push_filled(digits: &[u8], decimals: usize, line: &mut LineBuffer) -> Result<(), AllocError>
     requires { length digits.now ≤ decimals }
-    ensures { OnOk result (line.new.items ≡ line.old.items ++ filled decimals digits.now) }
+    ensures { OnOk result (line.new.items ≡ line.old.items ++ zero_filled decimals digits.now) }
 {
     line.extend_from_slice(b"0.")?;
     for _ in 0..decimals - digits.len() {

@@ -6,8 +6,8 @@ use Rattle.n2k_table.specs.Decimal.{dot, nought}
 use Rattle.n2k_table.specs.Resolution.{most_decimals}
 
 -- e digits after the dot, of which the last are these, and a zero before it
-abbrev pub filled : ℕ → List ℕ → List ℕ
-filled e ds = nought ∷ dot ∷ (replicate (e - length ds) nought ++ ds)
+abbrev pub zero_filled : ℕ → List ℕ → List ℕ
+zero_filled e ds = nought ∷ dot ∷ (replicate (e - length ds) nought ++ ds)
 
 -- digits alone, and not too many after the dot
 abbrev pub ArePartsOfDigits : List ℕ → List ℕ → Type 0

@@ -3,8 +3,8 @@ use crate::samples::sample as sample_table;
 use n2k_join::{Broken, Counts, Join, Window};
 use n2k_run::{
     Blocks, BytesFault, Failed, MemorySink, MemorySource, Next, Options, Sink, Source, StdSink,
-    StdSource, bad_text, broken_text, read_bytes, run, run_frames, run_part, run_parts, run_plain,
-    summary_text, write_all, write_summary,
+    StdSource, bad_text, broken_text, read_bytes, run, run_frames, run_more, run_part, run_parts,
+    run_plain, summary_text, write_all, write_summary,
 };
 use n2k_wire::{BadCause, Packing, is_interface};
 use std::test::Fail;
@@ -50,6 +50,25 @@ fn parts(rt: HostRuntime) -> Result<(), Fail> {
     let saved = Some(part.state.as_slice());
     let part = run_part(alloc, &table, saved, options, &mut log, &mut out, &mut err)?;
     assert_eq!(rt; (part.counts.messages, part.counts.held), (1, 0));
+    Ok(())
+}
+
+#[test]
+fn more(rt: HostRuntime) -> Result<(), Fail> {
+    let alloc = rt.alloc();
+    let (table, options) = (sample_table(alloc)?, usual_options());
+    let mut join = Join::new(alloc, &table, options.window);
+    let mut out = MemorySink::new(alloc, 4096, 0);
+    let mut err = MemorySink::new(alloc, 4096, 0);
+    let monday = "(11.0) can0 1DFF0405#4120202020202020\n".as_bytes();
+    run_more(
+        alloc, &table, &mut join, options, monday, &mut out, &mut err,
+    )?;
+    let tuesday = "(12.0) can0 1DFF0405#400DA39903444546\n".as_bytes();
+    run_more(
+        alloc, &table, &mut join, options, tuesday, &mut out, &mut err,
+    )?;
+    assert_eq!(rt; (join.counts().lines, join.counts().messages), (2, 1));
     Ok(())
 }
 

@@ -1,0 +1,38 @@
+-- More of a log, which lies in memory, behind a front that a join has taken.
+use Rattle.std.specs.Prelude.{◌≡◌, ◌<◌, ◌≤◌, ◌+◌, ℕ, List, ◌++◌, length, Result, Ok, Err}
+use Rattle.std.specs.Io.KnownBytes.{Appends}
+use Rattle.n2k_table.specs.Table.{TableParts}
+use Rattle.n2k_join.specs.Counts.{most_lines}
+use Rattle.n2k_join.specs.State.{State}
+use Rattle.n2k_run.specs.declared.fault.RunFault.{RunFault}
+use Rattle.n2k_run.specs.declared.fault.RunFault.TheVariants.{Read, Write, Report, Memory, TooManyLines}
+use Rattle.n2k_run.specs.declared.options.Options.{Options}
+use Rattle.n2k_run.specs.Decoded.{out, reports}
+use Rattle.n2k_run.specs.Device.{HasFailed}
+use Rattle.n2k_run.specs.Entries.{entries}
+use Rattle.n2k_run.specs.Headline.{state_after}
+use Rattle.n2k_run.specs.Reading.{most_reads}
+use Rattle.n2k_run.specs.Runs.{Devices}
+
+-- The sinks gained exactly what the output and the reports of both have after those of the front, and the join is in
+-- the state that both lead to.
+pub record TakesMore (t : TableParts) (o : Options) (front more : List ℕ) (before after : Devices)
+    (join : State) : Type 0 where
+  pub text : List ℕ
+  pub printed : Appends before.written after.written text
+  pub output : out t o (front ++ more) ≡ out t o front ++ text
+  pub report : List ℕ
+  pub reported : Appends before.reported after.reported report
+  pub all_reports : reports t o (front ++ more) ≡ reports t o front ++ report
+  pub leads_to : join ≡ state_after t o (front ++ more)
+
+-- How it ends. A fault says why: so many bytes that 10^12 reads may find no end, the failure of a sink, or more lines
+-- than are counted.
+abbrev pub EndsMore : TableParts → Options → List ℕ → List ℕ → Devices → Devices → State
+    → Result (Unit {0}) RunFault → Type 0
+EndsMore t o front more before after join (Ok x) = TakesMore t o front more before after join
+EndsMore t o front more before after join (Err Read) = most_reads ≤ length more + 1
+EndsMore t o front more before after join (Err Write) = HasFailed before.failed_writes after.failed_writes
+EndsMore t o front more before after join (Err Report) = HasFailed before.failed_reports after.failed_reports
+EndsMore t o front more before after join (Err TooManyLines) = most_lines < length (entries o.packing (front ++ more))
+EndsMore t o front more before after join (Err Memory) = Unit {0}

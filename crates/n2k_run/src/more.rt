@@ -1,0 +1,58 @@
+//! More of a log, which lies in memory, behind a front that a join has taken.
+ghost use Rattle.std.specs.Prelude.{◌≡◌, ℕ, List};
+ghost use Rattle.std.specs.Io.{IsEmptyOrEndsWith};
+ghost use Rattle.n2k_run.specs.Headline.{state_after};
+ghost use Rattle.n2k_run.specs.Lines.{line_feed};
+ghost use Rattle.n2k_run.specs.More.{EndsMore};
+ghost use Rattle.n2k_run.specs.Runs.{sinks_seen};
+
+use crate::decoding::run;
+use crate::device::Sink;
+use crate::fault::RunFault;
+use crate::options::{Options, know_window};
+use crate::part_source::PartSource;
+use n2k_join::{Join, laws};
+use n2k_table::Table;
+use std::alloc::Global;
+
+/// Runs `run` over the lines of `more`, the bytes of a log behind those that a join has taken, where these ended with a
+/// line: exactly the rest of the whole log's output and reports is written, and the join is in the state that the whole
+/// leads to. So a decoder that is kept goes on without a saved state. After a fault the join is spent.
+///
+/// ```rust
+/// let (table, options) = (sample_table(alloc)?, usual_options());
+/// let mut join = Join::new(alloc, &table, options.window);
+/// let mut out = MemorySink::new(alloc, 4096, 0);
+/// let mut err = MemorySink::new(alloc, 4096, 0);
+/// let monday = "(11.0) can0 1DFF0405#4120202020202020\n".as_bytes();
+/// run_more(
+///     alloc, &table, &mut join, options, monday, &mut out, &mut err,
+/// )?;
+/// let tuesday = "(12.0) can0 1DFF0405#400DA39903444546\n".as_bytes();
+/// run_more(
+///     alloc, &table, &mut join, options, tuesday, &mut out, &mut err,
+/// )?;
+/// assert_eq!(rt; (join.counts().lines, join.counts().messages), (2, 1));
+/// ```
+pub fn run_more<W: Sink, E: Sink>(
+    alloc: Global,
+    table: &Table,
+    join: &mut Join,
+    options: Options,
+    more: &[u8],
+    writer: &mut W,
+    reporter: &mut E,
+) -> Result<(), RunFault>
+    requires window { join.old.window ≡ options.window }
+    ensures headline { (front : List ℕ) → IsEmptyOrEndsWith front line_feed →
+        join.old ≡ state_after table.now options front →
+        let before = sinks_seen W.Sink E.Sink writer.old reporter.old in
+        let after = sinks_seen W.Sink E.Sink writer.new reporter.new in
+        EndsMore table.now options front more.now before after join.new result }
+{
+    laws::steps_agree();
+    laws::lines_stay();
+    know_window(&options);
+    let mut reader = PartSource::new(more);
+    run(alloc, table, join, options, &mut reader, writer, reporter)
+}
