@@ -1,0 +1,50 @@
+//! The sections of the input.
+
+/// The text of each section; empty where it is not there.
+#[derive(Clone, Copy)]
+pub(crate) struct Input<'a> {
+    text: &'a str,
+}
+
+impl<'a> Input<'a> {
+    /// The sections of a text. A section begins with a line `=== NAME`.
+    pub(crate) fn of(text: &'a str) -> Input<'a> {
+        Input { text }
+    }
+
+    /// The lines behind the head of a section, until the next.
+    pub(crate) fn section(&self, head: &str) -> &'a str {
+        match self.text.split_once(head) {
+            Some((_, behind)) => match behind.split_once("=== ") {
+                Some((lines, _)) => lines,
+                None => behind,
+            },
+            None => "",
+        }
+    }
+
+    /// A boat's bus.
+    pub(crate) fn bus(&self) -> &'a str {
+        self.section("=== bus\n")
+    }
+
+    /// Whole messages.
+    pub(crate) fn whole(&self) -> &'a str {
+        self.section("=== whole\n")
+    }
+
+    /// Lines in other forms.
+    pub(crate) fn bad(&self) -> &'a str {
+        self.section("=== bad\n")
+    }
+
+    /// Frames each of which opens a group.
+    pub(crate) fn open(&self) -> &'a str {
+        self.section("=== open\n")
+    }
+
+    /// The table.
+    pub(crate) fn table(&self) -> &'a str {
+        self.section("=== table\n")
+    }
+}

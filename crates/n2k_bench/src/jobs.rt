@@ -1,0 +1,218 @@
+//! The jobs.
+
+use crate::digest::Digest;
+use crate::input::Input;
+use crate::replay::{Replay, first_random, next_random};
+use crate::tables::{many_names, many_pgns, with_letters};
+use anyhow::{Result, anyhow};
+use n2k_join::{Counts, Window};
+use n2k_run::{Options, Part, run_frames, run_part, run_plain};
+use n2k_table::{Kind, Table};
+use n2k_wire::{Packing, is_interface};
+use std::alloc::Global;
+
+/// How many seconds the lines of the bus take.
+const SECONDS: u64 = 20;
+
+/// Of so many lines one is lost on a lossy bus.
+const LOST: u64 = 10;
+
+/// What a job prints: how often it did its work, what was counted, and the digests of texts and reports.
+fn tell(rt: &impl Print, job: &str, counts: Counts, texts: Digest, reports: Digest) -> Result<()> {
+    let Counts {
+        lines,
+        messages,
+        bad,
+        unknown,
+        broken,
+        held,
+    } = counts;
+    let (text_bytes, text_sum) = texts.finish();
+    let (report_bytes, report_sum) = reports.finish();
+    println!(rt;
+        "{job}: lines {lines} messages {messages} bad {bad} unknown {unknown} broken {broken} held {held}"
+    )?;
+    println!(rt;
+        "{job}: {text_bytes} bytes of texts {text_sum:x}, {report_bytes} bytes of reports {report_sum:x}"
+    )?;
+    Ok(())
+}
+
+fn options_of(in_order: bool) -> Result<Options> {
+    let window = Window::new(10_000).ok_or_else(|| anyhow!("no window"))?;
+    Ok(Options {
+        packing: Packing::Frames,
+        empty: false,
+        window: if in_order { window.in_order() } else { window },
+    })
+}
+
+/// Decodes a recording, as one log.
+fn decode(
+    rt: &impl Print,
+    alloc: Global,
+    job: &str,
+    table: &Table,
+    options: Options,
+    log: &mut Replay,
+) -> Result<()> {
+    let mut texts = Digest::new(alloc);
+    let mut reports = Digest::new(alloc);
+    let part = run_part(alloc, table, None, options, log, &mut texts, &mut reports)?;
+    push(&mut texts, &part.state)?;
+    tell(rt, job, part.counts, texts, reports)
+}
+
+fn push(digest: &mut Digest, bytes: &[u8]) -> Result<()> {
+    digest.push(bytes).map_err(|_| anyhow!("out of memory"))
+}
+
+/// Decodes so many rounds of the bus in order, with all its frames.
+fn day(rt: &impl Print, alloc: Global, input: &Input, rounds: u64, seed: u64) -> Result<()> {
+    let table = Table::read(alloc, input.table().as_bytes())?;
+    let mut log = Replay::new(alloc, input.bus(), SECONDS, 0, seed)?;
+    log.go_on(rounds);
+    decode(rt, alloc, "day", &table, options_of(true)?, &mut log)
+}
+
+/// Decodes so many rounds of a bus on which a tenth of the frames is lost.
+fn lossy(rt: &impl Print, alloc: Global, input: &Input, rounds: u64, seed: u64) -> Result<()> {
+    let table = Table::read(alloc, input.table().as_bytes())?;
+    let mut log = Replay::new(alloc, input.bus(), SECONDS, LOST, seed)?;
+    log.go_on(rounds);
+    decode(rt, alloc, "lossy", &table, options_of(false)?, &mut log)
+}
+
+/// Decodes so many rounds of frames each of which opens a group.
+fn open(rt: &impl Print, alloc: Global, input: &Input, rounds: u64, seed: u64) -> Result<()> {
+    let table = Table::read(alloc, input.table().as_bytes())?;
+    let mut log = Replay::new(alloc, input.open(), SECONDS, 0, seed)?;
+    log.go_on(rounds);
+    decode(rt, alloc, "open", &table, options_of(false)?, &mut log)
+}
+
+/// Decodes the next round of a log as a part, from the saved state of the one before.
+fn next_part(
+    alloc: Global,
+    table: &Table,
+    saved: Option<&[u8]>,
+    log: &mut Replay,
+    texts: &mut Digest,
+    reports: &mut Digest,
+) -> Result<Part> {
+    log.go_on(1);
+    let options = options_of(false)?;
+    let part = run_part(alloc, table, saved, options, log, texts, reports)?;
+    push(texts, &part.state)?;
+    Ok(part)
+}
+
+/// Decodes a lossy bus in parts, so many behind the first, each from the saved state of the one before.
+fn parts(rt: &impl Print, alloc: Global, input: &Input, rounds: u64, seed: u64) -> Result<()> {
+    let table = Table::read(alloc, input.table().as_bytes())?;
+    let mut log = Replay::new(alloc, input.bus(), SECONDS, LOST, seed)?;
+    let mut texts = Digest::new(alloc);
+    let mut reports = Digest::new(alloc);
+    let mut last = next_part(alloc, &table, None, &mut log, &mut texts, &mut reports)?;
+    for _part in 0..rounds {
+        let saved = Some(last.state.as_slice());
+        last = next_part(alloc, &table, saved, &mut log, &mut texts, &mut reports)?;
+    }
+    tell(rt, "parts", last.counts, texts, reports)
+}
+
+/// What a table says of all PGNs goes to a digest.
+fn push_table(table: &Table, digest: &mut Digest) -> Result<()> {
+    push(digest, &table.id())?;
+    for pgn in 0..131_072u32 {
+        if let Some(kind) = table.kind(pgn) {
+            let sent = match kind {
+                Kind::Single => b'1',
+                Kind::Fast => b'2',
+            };
+            push(digest, &[sent])?;
+            push(digest, &pgn.to_le_bytes())?;
+            if let Some(definition) = table.choose(pgn, &[0; 8]) {
+                push(digest, definition.description().as_bytes())?;
+            }
+        }
+    }
+    Ok(())
+}
+
+/// Reads so many tables, each with other descriptions; one in twenty times one with 4,096 PGNs and one with 20 lookups
+/// of 4,096 names as well.
+fn start(rt: &impl Print, alloc: Global, input: &Input, rounds: u64, seed: u64) -> Result<()> {
+    let mut digest = Digest::new(alloc);
+    let mut random = first_random(seed);
+    for round in 0..rounds {
+        random = next_random(random);
+        let text = with_letters(alloc, input.table(), random)?;
+        push_table(&Table::read(alloc, &text)?, &mut digest)?;
+        if round % 20 == 0 {
+            let text = many_pgns(alloc, 4096, random)?;
+            push_table(&Table::read(alloc, &text)?, &mut digest)?;
+            let text = many_names(alloc, 20, 4096, random)?;
+            push_table(&Table::read(alloc, &text)?, &mut digest)?;
+        }
+    }
+    let reports = Digest::new(alloc);
+    tell(rt, "start", Counts::NONE, digest, reports)
+}
+
+/// Writes so many rounds of the bus as plain lines, whole messages as the frames in which they are sent, in both forms,
+/// and reports lines in other forms.
+fn convert(rt: &impl Print, alloc: Global, input: &Input, rounds: u64, seed: u64) -> Result<()> {
+    let table = Table::read(alloc, input.table().as_bytes())?;
+    let mut texts = Digest::new(alloc);
+    let mut reports = Digest::new(alloc);
+
+    let mut log = Replay::new(alloc, input.bus(), SECONDS, 0, seed)?;
+    log.go_on(rounds);
+    let counts = run_plain(alloc, &mut log, &mut texts, &mut reports)?;
+    tell(rt, "plain", counts, texts, reports)?;
+
+    for name in [None, Some("can0")] {
+        if !name.is_none_or(|name: &str| is_interface(name.as_bytes())) {
+            return Err(anyhow!("no interface"));
+        }
+        let mut texts = Digest::new(alloc);
+        let mut reports = Digest::new(alloc);
+        let mut log = Replay::new(alloc, input.whole(), SECONDS, 0, seed)?;
+        log.go_on(rounds);
+        let counts = run_frames(alloc, &table, name, &mut log, &mut texts, &mut reports)?;
+        tell(rt, "frames", counts, texts, reports)?;
+    }
+
+    let mut log = Replay::new(alloc, input.bad(), SECONDS, 0, seed)?;
+    log.go_on(rounds);
+    decode(rt, alloc, "bad", &table, options_of(false)?, &mut log)
+}
+
+/// Does a job, or `all`.
+pub(crate) fn run(
+    rt: &impl Print,
+    alloc: Global,
+    job: &str,
+    input: &Input,
+    rounds: u64,
+    seed: u64,
+) -> Result<()> {
+    match job {
+        "day" => day(rt, alloc, input, rounds, seed),
+        "lossy" => lossy(rt, alloc, input, rounds, seed),
+        "open" => open(rt, alloc, input, rounds, seed),
+        "parts" => parts(rt, alloc, input, rounds, seed),
+        "start" => start(rt, alloc, input, rounds, seed),
+        "convert" => convert(rt, alloc, input, rounds, seed),
+        "all" => {
+            day(rt, alloc, input, rounds, seed)?;
+            lossy(rt, alloc, input, rounds, seed)?;
+            open(rt, alloc, input, rounds, seed)?;
+            parts(rt, alloc, input, rounds, seed)?;
+            start(rt, alloc, input, rounds, seed)?;
+            convert(rt, alloc, input, rounds, seed)
+        }
+        _ => Err(anyhow!("no job: {job}")),
+    }
+}

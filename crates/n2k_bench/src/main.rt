@@ -1,0 +1,40 @@
+//! The benchmark: jobs that a user waits for, done on recordings that are played over and over, each time with later
+//! stamps, other senders and other data. docs/PERF.md tells how it is run.
+//!
+//! It is called as `n2k_bench JOB ROUNDS SEED`, with the sections of bench/input.txt on standard input. It prints what
+//! the job counted, and a digest of all that it printed. `all` does each job, one after the other.
+#![tactic(auto)]
+
+mod digest;
+mod input;
+mod jobs;
+mod replay;
+mod tables;
+
+use anyhow::{Result, anyhow};
+use input::Input;
+use n2k_run::{StdSource, read_bytes};
+use std::{env, str};
+
+/// The most bytes of the input.
+const LONGEST_INPUT: usize = 1 << 24;
+
+fn number_of(word: &str) -> Result<u64> {
+    word.parse::<u32>()
+        .map(u64::from)
+        .map_err(|_| anyhow!("no number: {word}"))
+}
+
+fn main(rt: HostRuntime) -> Result<()> {
+    let alloc = rt.alloc();
+    let words: Vec<String> = env::args(&rt)?.skip(1).collect(alloc)?;
+    let [job, rounds, seed] = words.as_slice() else {
+        return Err(anyhow!("usage: n2k_bench JOB ROUNDS SEED"));
+    };
+    let (rounds, seed) = (number_of(rounds)?, number_of(seed)?);
+    let mut source = StdSource::new(rt.stdin());
+    let bytes = read_bytes(alloc, &mut source, LONGEST_INPUT)?;
+    let text = str::from_utf8(&bytes).map_err(|_| anyhow!("the input is not UTF-8"))?;
+    let input = Input::of(text);
+    jobs::run(&rt, alloc, job.as_str(), &input, rounds, seed)
+}
