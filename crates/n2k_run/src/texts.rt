@@ -13,14 +13,17 @@ use n2k_join::{Broken, Counts};
 use n2k_wire::BadCause;
 use std::alloc::{AllocError, Global};
 
-/// Room for the summary: its words have 45 bytes, and each of its six numbers at most 20 digits.
-const SUMMARY_ROOM: usize = 165;
+/// Room for a report or the summary: the words of none have more than 45 bytes, and each of at most six numbers has at
+/// most 20 digits.
+const ROOM: usize = 165;
 
-type Summary = ArrayVec<u8, SUMMARY_ROOM>;
+/// A report or the summary, put together before it is appended or written at once.
+type Text = ArrayVec<u8, ROOM>;
 
 /// A cause's number and word.
 fn cause_text(cause: BadCause) -> &'static [u8]
-    ensures { result.now ≡ cause_text cause }
+    ensures text { result.now ≡ cause_text cause }
+    ensures short { length result.now ≤ 13 }
 {
     match cause {
         BadCause::Long => b"B1 long",
@@ -38,13 +41,24 @@ fn cause_text(cause: BadCause) -> &'static [u8]
     }
 }
 
-/// Appends a name and a number.
-fn push_count(text: &mut Vec<u8>, name: &[u8], number: u64) -> Result<(), AllocError>
-    ensures { OnOk result (text.new.items ≡ text.old.items ++ name.now ++ decimal number) }
+/// Appends a word, for which there is room.
+fn push_word(text: &mut Text, word: &[u8])
+    requires { array_vec_len text.old + length word.now ≤ 165 }
+    ensures items { text.new.items ≡ text.old.items ++ word.now }
+    ensures len { array_vec_len text.new ≡ array_vec_len text.old + length word.now }
+{
+    let _ = text.try_extend_from_slice(word);
+}
+
+/// Appends a name and a number, for which there is room.
+fn push_count(text: &mut Text, name: &[u8], number: u64)
+    requires { array_vec_len text.old + length name.now + 20 ≤ 165 }
+    ensures items { text.new.items ≡ text.old.items ++ name.now ++ decimal number }
+    ensures len { array_vec_len text.new ≤ array_vec_len text.old + length name.now + 20 }
 {
     let mut buffer = itoa::Buffer::new();
-    text.extend_from_slice(name)?;
-    text.extend_from_slice(buffer.format(number).as_bytes())
+    let _ = text.try_extend_from_slice(name);
+    let _ = text.try_extend_from_slice(buffer.format(number).as_bytes());
 }
 
 /// Appends the report of a bad line, `line 3 bad B6 data` with an LF: the line's number, counted from 1, and
@@ -65,12 +79,12 @@ pub fn bad_text(
     ensures ok { OnOk result (out.new.items ≡ out.old.items ++ bad_text number cause) }
     ensures unchanged { OnErr result (out.new.items ≡ out.old.items) }
 {
-    let mut text = Vec::new(alloc);
-    push_count(&mut text, b"line ", number)?;
-    text.extend_from_slice(b" bad ")?;
-    text.extend_from_slice(cause_text(cause))?;
-    text.push(b'\n')?;
-    out.extend_from_slice(&text)
+    let mut report = ArrayVec::new();
+    push_count(&mut report, b"line ", number);
+    push_word(&mut report, b" bad ");
+    push_word(&mut report, cause_text(cause));
+    push_word(&mut report, b"\n");
+    out.extend_from_slice(report.as_slice())
 }
 
 /// Appends the report of a broken group, `line 3 broken pgn 130820 src 5 dst 255 seq 3 first 1` with an LF: the number
@@ -100,41 +114,30 @@ pub fn broken_text(
     ensures ok { OnOk result (out.new.items ≡ out.old.items ++ broken_text number group.now) }
     ensures unchanged { OnErr result (out.new.items ≡ out.old.items) }
 {
-    let mut text = Vec::new(alloc);
-    push_count(&mut text, b"line ", number)?;
-    push_count(&mut text, b" broken pgn ", group.pgn.into())?;
-    push_count(&mut text, b" src ", group.src.into())?;
-    push_count(&mut text, b" dst ", group.dst.into())?;
-    push_count(&mut text, b" seq ", group.seq.into())?;
-    push_count(&mut text, b" first ", group.first)?;
-    text.push(b'\n')?;
-    out.extend_from_slice(&text)
-}
-
-/// Appends a name and what was counted under it.
-fn push_total(text: &mut Summary, name: &[u8], number: u64)
-    requires { array_vec_len text.old + length name.now + 20 ≤ 165 }
-    ensures items { text.new.items ≡ text.old.items ++ name.now ++ decimal number }
-    ensures len { array_vec_len text.new ≤ array_vec_len text.old + length name.now + 20 }
-{
-    let mut buffer = itoa::Buffer::new();
-    let _ = text.try_extend_from_slice(name);
-    let _ = text.try_extend_from_slice(buffer.format(number).as_bytes());
+    let mut text = ArrayVec::new();
+    push_count(&mut text, b"line ", number);
+    push_count(&mut text, b" broken pgn ", group.pgn.into());
+    push_count(&mut text, b" src ", group.src.into());
+    push_count(&mut text, b" dst ", group.dst.into());
+    push_count(&mut text, b" seq ", group.seq.into());
+    push_count(&mut text, b" first ", group.first);
+    push_word(&mut text, b"\n");
+    out.extend_from_slice(text.as_slice())
 }
 
 /// The summary of a run. It takes no memory.
 #[tactic(auto, using(std::proofs::Common::append_assoc), unfolding(crate::specs::Reports::summary_text))]
-fn summary(counts: &Counts) -> Summary
+fn summary(counts: &Counts) -> Text
     ensures { result.items ≡ summary_text counts.now }
 {
     let mut text = ArrayVec::new();
-    push_total(&mut text, b"lines ", counts.lines);
-    push_total(&mut text, b" messages ", counts.messages);
-    push_total(&mut text, b" bad ", counts.bad);
-    push_total(&mut text, b" unknown ", counts.unknown);
-    push_total(&mut text, b" broken ", counts.broken);
-    push_total(&mut text, b" open ", counts.held);
-    text.push(b'\n');
+    push_count(&mut text, b"lines ", counts.lines);
+    push_count(&mut text, b" messages ", counts.messages);
+    push_count(&mut text, b" bad ", counts.bad);
+    push_count(&mut text, b" unknown ", counts.unknown);
+    push_count(&mut text, b" broken ", counts.broken);
+    push_count(&mut text, b" open ", counts.held);
+    push_word(&mut text, b"\n");
     text
 }
 
