@@ -17,7 +17,7 @@ use crate::lookup::Lookups;
 use crate::number::Scale;
 use crate::padded_text::PaddedText;
 use crate::resolution::resolution_at;
-use crate::text::text_json;
+use crate::text::push_json;
 use crate::tree::{
     FieldKind, Holder, MESSAGE_BITS, Section, any_text_at, as_members, bool_at, check_keys, get,
     int_at, text_at,
@@ -201,10 +201,9 @@ fn match_value_of(
 fn key_of(alloc: Global, name: &str) -> Result<PaddedText, AllocError>
     ensures { IfOk result (λ key. key ≡ key_json true name.now) }
 {
-    let name = text_json(alloc, name)?;
-    let mut key = Vec::new(alloc);
+    let mut key = Vec::with_capacity(alloc, name.len().saturating_add(4))?;
     key.push(b',')?;
-    key.extend_from_slice(&name)?;
+    push_json(alloc, name, &mut key)?;
     key.push(b':')?;
     Ok(PaddedText::new(key))
 }

@@ -5,7 +5,7 @@ ghost use Rattle.std.specs.Str.{bytes_eq};
 
 use crate::line_buffer::LineBuffer;
 use crate::padded_text::PaddedText;
-use crate::text::text_json;
+use crate::text::push_json;
 use indexmap::IndexMap;
 use std::alloc::{AllocError, Global};
 use std::marker::Model;
@@ -38,9 +38,11 @@ impl Name {
     pub(crate) fn new(alloc: Global, text: &str) -> Result<Name, AllocError>
         ensures { IfOk result (λ name. name ≡ text.now) }
     {
+        let mut json = Vec::with_capacity(alloc, text.len().saturating_add(2))?;
+        push_json(alloc, text, &mut json)?;
         Ok(Name {
             text: String::from_str(alloc, text)?,
-            json: PaddedText::new(text_json(alloc, text)?),
+            json: PaddedText::new(json),
         })
     }
 
