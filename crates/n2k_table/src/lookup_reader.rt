@@ -75,7 +75,7 @@ fn read_entry(alloc: Global, value: &Value) -> Result<NamedValue, TableFault>
 fn each_entry(alloc: Global, values: &[Value]) -> Result<Vec<NamedValue>, TableFault>
     ensures { ReaderGives (λ entries. entries.items) result (each entry (map view values.now)) }
 {
-    let mut entries = Vec::new(alloc);
+    let mut entries = Vec::with_capacity(alloc, values.len())?;
     for value in values {
         entries.push(read_entry(alloc, value)?)?;
     }
@@ -86,7 +86,7 @@ fn each_entry(alloc: Global, values: &[Value]) -> Result<Vec<NamedValue>, TableF
 fn by_value(alloc: Global, entries: Vec<NamedValue>) -> Result<IndexMap<u64, Name>, TableFault>
     ensures { ReaderGives map_entries result (once entries.items) }
 {
-    let mut names = IndexMap::new(alloc);
+    let mut names = IndexMap::with_capacity(alloc, entries.len())?;
     for entry in entries {
         let NamedValue { value, name } = entry;
         if names.insert(value, name)?.is_some() {
@@ -122,7 +122,7 @@ fn read_lookup(alloc: Global, value: &Value) -> Result<Lookup, TableFault>
 fn each_lookup(alloc: Global, values: &[Value]) -> Result<Vec<Lookup>, TableFault>
     ensures { ReaderGives (λ lookups. lookups.items) result (each lookup (map view values.now)) }
 {
-    let mut lookups = Vec::new(alloc);
+    let mut lookups = Vec::with_capacity(alloc, values.len())?;
     for value in values {
         lookups.push(read_lookup(alloc, value)?)?;
     }
@@ -153,7 +153,7 @@ fn has_duplicate(lookups: &[Lookup]) -> bool
 fn shared(alloc: Global, lookups: Vec<Lookup>) -> Result<Lookups, AllocError>
     ensures { IfOk result (λ shared. shared ≡ lookups.items) }
 {
-    let mut list = Vec::new(alloc);
+    let mut list = Vec::with_capacity(alloc, lookups.len())?;
     for lookup in lookups {
         list.push(Rc::new(alloc, lookup)?)?;
     }

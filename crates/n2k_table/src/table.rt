@@ -64,7 +64,7 @@ fn each_definition(
 ) -> Result<Vec<StoredDefinition>, TableFault>
     ensures { ReaderGives (λ v. v.items) result (each (definition format lookups.now) (map view values.now)) }
 {
-    let mut definitions = Vec::new(alloc);
+    let mut definitions = Vec::with_capacity(alloc, values.len())?;
     for value in values {
         definitions.push(read_definition(alloc, lookups, format, value)?)?;
     }
