@@ -82,19 +82,22 @@ impl Model for Lookup {
     } };
 }
 
-/// The lookups of a table, in file order. Each is shared by the fields that name it.
+/// The lookups of a table, in file order, each by its name. It is shared by the fields that name it.
 #[derive(Drop)]
 pub(crate) struct Lookups {
-    pub(crate) list: Vec<Rc<Lookup>>,
+    pub(crate) by_name: IndexMap<String, Rc<Lookup>>,
 }
 
 impl Model for Lookups {
     ghost use Rattle.std.specs.Prelude.{List, map};
     ghost use Rattle.n2k_table.specs.Lookup.{LookupParts};
+    ghost use Rattle.n2k_table.specs.Inner.Entries.{AreNamed};
 
     ghost Value = { List LookupParts };
 
-    ghost view = { λ l. map (λ lookup. lookup.value) l.list.items };
+    ghost view = { λ l. map (λ e. e.1.value) l.by_name.entries };
+
+    ghost invariant = { λ l. AreNamed (λ lookup. lookup.value) l.by_name.entries };
 }
 
 impl Lookup {
@@ -133,11 +136,6 @@ impl Lookups {
         ensures { option_map (λ lookup. lookup.now.value) result
             ≡ find (λ lookup. bytes_eq name.now lookup.name) self.now }
     {
-        for lookup in &self.list {
-            if name == lookup.name() {
-                return Some(lookup);
-            }
-        }
-        None
+        self.by_name.get(name)
     }
 }

@@ -1,13 +1,10 @@
 //! Lookups, as a table spells them.
 ghost use Rattle.std.specs.Prelude.{◌≡◌, map, IfOk};
-ghost use Rattle.std.specs.List.{list_any};
-ghost use Rattle.std.specs.Str.{bytes_eq};
 ghost use Rattle.toml.specs.View.{view, table_view};
 ghost use Rattle.n2k_wire.specs.Views.{Gives};
-ghost use Rattle.n2k_table.specs.Duplicate.{has_duplicate};
-ghost use Rattle.n2k_table.specs.Inner.Entries.{map_entries};
+ghost use Rattle.n2k_table.specs.Inner.Entries.{map_entries, apart};
 ghost use Rattle.n2k_table.specs.Reading.{each, ReaderGives};
-ghost use Rattle.n2k_table.specs.Lookup.{pair_in, entry, once, entries, lookup, is_same_lookup, lookups};
+ghost use Rattle.n2k_table.specs.Lookup.{pair_in, entry, once, entries, lookup, lookups};
 
 use crate::fault::TableFault;
 use crate::lookup::{Lookup, Lookups, Name};
@@ -16,7 +13,7 @@ use crate::tree::{
     text_at,
 };
 use indexmap::IndexMap;
-use std::alloc::{AllocError, Global};
+use std::alloc::Global;
 use std::marker::Model;
 use std::rc::Rc;
 use toml::{Table, Value};
@@ -129,35 +126,18 @@ fn each_lookup(alloc: Global, values: &[Value]) -> Result<Vec<Lookup>, TableFaul
     Ok(lookups)
 }
 
-/// Whether a lookup has the name.
-fn is_named(lookups: &[Lookup], name: &str) -> bool
-    ensures { result ≡ list_any (λ lookup. bytes_eq name.now lookup.name) lookups.now }
+/// The lookups by their names, where no name stands twice.
+fn by_name(alloc: Global, lookups: Vec<Lookup>) -> Result<Lookups, TableFault>
+    ensures { ReaderGives (λ lookups. lookups) result (apart lookups.items) }
 {
-    lookups.iter().any(|lookup| name == lookup.name())
-}
-
-/// Whether two lookups have one name.
-fn has_duplicate(lookups: &[Lookup]) -> bool
-    ensures { result ≡ has_duplicate is_same_lookup lookups.now }
-{
-    let mut rest = lookups;
-    while let Some((lookup, others)) = rest.split_first() {
-        if is_named(others, lookup.name()) {
-            return true;
-        }
-        rest = others;
-    }
-    false
-}
-
-fn shared(alloc: Global, lookups: Vec<Lookup>) -> Result<Lookups, AllocError>
-    ensures { IfOk result (λ shared. shared ≡ lookups.items) }
-{
-    let mut list = Vec::with_capacity(alloc, lookups.len())?;
+    let mut by_name = IndexMap::with_capacity(alloc, lookups.len())?;
     for lookup in lookups {
-        list.push(Rc::new(alloc, lookup)?)?;
+        let name = String::from_str(alloc, lookup.name())?;
+        if by_name.insert(name, Rc::new(alloc, lookup)?)?.is_some() {
+            return Err(TableFault::Twice);
+        }
     }
-    Ok(Lookups { list })
+    Ok(Lookups { by_name })
 }
 
 /// Reads the lookups of a table.
@@ -166,9 +146,5 @@ pub(crate) fn read_lookups(alloc: Global, top: &Table) -> Result<Lookups, TableF
     ensures { ReaderGives (λ lookups. lookups) result (lookups (table_view top.now)) }
 {
     let values = elements_or_none(top, "lookup", MOST_LOOKUPS)?;
-    let lookups = each_lookup(alloc, values)?;
-    if has_duplicate(&lookups) {
-        return Err(TableFault::Twice);
-    }
-    Ok(shared(alloc, lookups)?)
+    by_name(alloc, each_lookup(alloc, values)?)
 }
