@@ -50,9 +50,10 @@ fn each_field(
     requires { end_of holder ≤ message_bits }
     ensures { ReaderGives (λ fields. fields.items) result (each (field holder lookups.now) (map view values.now)) }
 {
+    let mut room = Vec::new(alloc);
     let mut fields = Vec::with_capacity(alloc, values.len())?;
     for value in values {
-        fields.push(read_field(alloc, lookups, holder, value)?)?;
+        fields.push(read_field(alloc, lookups, holder, value, &mut room)?)?;
     }
     Ok(fields)
 }

@@ -34,15 +34,15 @@ impl Name {
     ghost use Rattle.std.specs.Prelude.{◌++◌, OnOk};
     ghost use Rattle.n2k_table.specs.Text.{text_json};
 
-    /// A name of that text.
-    pub(crate) fn new(alloc: Global, text: &str) -> Result<Name, AllocError>
+    /// A name of that text. Its JSON is put together in a room that serves many.
+    pub(crate) fn new(alloc: Global, text: &str, room: &mut Vec<u8>) -> Result<Name, AllocError>
         ensures { IfOk result (λ name. name ≡ text.now) }
     {
-        let mut json = Vec::with_capacity(alloc, text.len().saturating_add(2))?;
-        push_json(alloc, text, &mut json)?;
+        room.clear();
+        push_json(alloc, text, room)?;
         Ok(Name {
             text: String::from_str(alloc, text)?,
-            json: PaddedText::new(json),
+            json: PaddedText::new(alloc, room.as_slice())?,
         })
     }
 

@@ -53,8 +53,9 @@ fn pair_in(values: &[Value]) -> Result<(i64, &str), TableFault>
     }
 }
 
+/// Reads a value with its name, whose JSON is put together in the room.
 #[tactic(auto, unfolding(crate::specs::Lookup::entry))]
-fn read_entry(alloc: Global, value: &Value) -> Result<NamedValue, TableFault>
+fn read_entry(alloc: Global, value: &Value, room: &mut Vec<u8>) -> Result<NamedValue, TableFault>
     ensures { ReaderGives (λ entry. entry) result (entry (view value.now)) }
 {
     let (number, text) = pair_in(as_elements(value)?)?;
@@ -64,7 +65,7 @@ fn read_entry(alloc: Global, value: &Value) -> Result<NamedValue, TableFault>
     let name = checked_text(text)?;
     Ok(NamedValue {
         value: u64::from(value),
-        name: Name::new(alloc, name)?,
+        name: Name::new(alloc, name, room)?,
     })
 }
 
@@ -72,9 +73,10 @@ fn read_entry(alloc: Global, value: &Value) -> Result<NamedValue, TableFault>
 fn each_entry(alloc: Global, values: &[Value]) -> Result<Vec<NamedValue>, TableFault>
     ensures { ReaderGives (λ entries. entries.items) result (each entry (map view values.now)) }
 {
+    let mut room = Vec::new(alloc);
     let mut entries = Vec::with_capacity(alloc, values.len())?;
     for value in values {
-        entries.push(read_entry(alloc, value)?)?;
+        entries.push(read_entry(alloc, value, &mut room)?)?;
     }
     Ok(entries)
 }
