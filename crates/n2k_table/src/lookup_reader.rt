@@ -8,6 +8,7 @@ ghost use Rattle.n2k_table.specs.Lookup.{pair_in, entry, once, entries, lookup, 
 
 use crate::fault::TableFault;
 use crate::lookup::{Lookup, Lookups, Name};
+use crate::text::NAME_ROOM;
 use crate::tree::{
     Section, as_elements, as_members, check_keys, checked_text, elements_at, elements_or_none,
     text_at,
@@ -73,7 +74,7 @@ fn read_entry(alloc: Global, value: &Value, room: &mut Vec<u8>) -> Result<NamedV
 fn each_entry(alloc: Global, values: &[Value]) -> Result<Vec<NamedValue>, TableFault>
     ensures { ReaderGives (λ entries. entries.items) result (each entry (map view values.now)) }
 {
-    let mut room = Vec::new(alloc);
+    let mut room = Vec::with_capacity(alloc, NAME_ROOM)?;
     let mut entries = Vec::with_capacity(alloc, values.len())?;
     for value in values {
         entries.push(read_entry(alloc, value, &mut room)?)?;

@@ -11,6 +11,9 @@ use crate::line_buffer::LineBuffer;
 use serde_json::Value;
 use std::alloc::{AllocError, Global};
 
+/// The room in which the JSON of names is put together, from the first on: nearly all of a table have less.
+pub(crate) const NAME_ROOM: usize = 64;
+
 /// The hexadecimal digits, in upper case.
 const DIGITS: [u8; 16] = *b"0123456789ABCDEF";
 
