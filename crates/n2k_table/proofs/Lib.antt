@@ -5,6 +5,7 @@ pub mod Documents
 pub mod Each
 pub mod Escapes
 pub mod Keys
+pub mod Lookups
 pub mod Members
 pub mod Heads
 pub mod Names

@@ -1,11 +1,10 @@
 -- The names of values: as the code's map finds them, and as entries of a document.
-use Rattle.std.proofs.Common.{◌≡◌, ℕ, ◌+◌, ◌<◌, get_or, drop, Bool, true, false, ◌||◌, nat_eq, List, [], ◌∷◌, ◌++◌, length, map, Option, Some, None, is_some, Ok, Err, refl, sym, ap, ◌∙◌, append_assoc, inl, inr, arith}
-use Rattle.std.specs.Str.{bytes_eq}
+use Rattle.std.proofs.Common.{◌≡◌, ℕ, Bool, true, false, ◌||◌, nat_eq, List, [], ◌∷◌, ◌++◌, map, Option, Some, None, is_some, Err, refl, sym, ap, ◌∙◌, append_assoc, inl, inr, arith}
 use Rattle.std.specs.Map.{lookup as value_at}
-use Rattle.std.specs.List.{list_any, find}
+use Rattle.std.specs.List.{list_any}
 use Rattle.std.proofs.lemmas.Bool.{cases_Bool, or_parts, false≢true}
 use Rattle.std.proofs.lemmas.Bool.Decides.{nat_tests}
-use Rattle.std.proofs.lemmas.List.{drop_more, map-append}
+use Rattle.std.proofs.lemmas.List.{map-append}
 use Rattle.indexmap.specs.IndexMap.{IndexMap, insert_entry}
 use Rattle.indexmap.proofs.CallerLemmas.{insert_entry-new}
 use Rattle.n2k_table.specs.declared.fault.TableFault.TheVariants.{Twice}
@@ -37,51 +36,39 @@ is_some-among value (e ∷ es) =
 same_turned : (a b : ℕ) → nat_eq a b ≡ nat_eq b a
 same_turned a b = grind (arith, nat_tests)
 
--- a value among those before it stands twice
-pub twice_here : (v : ℕ) (ks rest : List ℕ) → list_any (nat_eq v) ks ≡ true → has_duplicate nat_eq (ks ++ v ∷ rest) ≡ true
-twice_here v [] rest among = absurd (false≢true among)
-twice_here v (k ∷ ks) rest among =
-    elim (cases_Bool (nat_eq v k)) [
-      | inl same ↦ rw (any_later k v ks rest (same_turned k v ∙ same)) refl
-      | inr other ↦
-          let later : list_any (nat_eq v) ks ≡ true = rw other at among in
-          rw (twice_here v ks rest later) (or_true (list_any (nat_eq k) (ks ++ v ∷ rest)))
-    ]
-  where
-    or_true : (b : Bool) → (b || true) ≡ true
-    or_true true = refl
-    or_true false = refl
+module _ {X : Type 0} (same : X → X → Bool) (turned : (a b : X) → same a b ≡ same b a) where
+  or_true : (b : Bool) → (b || true) ≡ true
+  or_true true = refl
+  or_true false = refl
 
-    any_later : (k v : ℕ) (ks rest : List ℕ) → nat_eq k v ≡ true → list_any (nat_eq k) (ks ++ v ∷ rest) ≡ true
-    any_later k v [] rest same = rw same refl
-    any_later k v (x ∷ xs) rest same = rw (any_later k v xs rest same) (or_true (nat_eq k x))
+  any_later : (k v : X) (ks rest : List X) → same k v ≡ true → list_any (same k) (ks ++ v ∷ rest) ≡ true
+  any_later k v [] rest is = rw is refl
+  any_later k v (x ∷ xs) rest is = rw (any_later k v xs rest is) (or_true (same k x))
 
-none_later : (k v : ℕ) (ks : List ℕ) → nat_eq k v ≡ false → list_any (nat_eq k) ks ≡ false → list_any (nat_eq k) (ks ++ v ∷ []) ≡ false
-none_later k v [] other none = rw other refl
-none_later k v (x ∷ xs) other none =
-    let p = or_parts (nat_eq k x) (list_any (nat_eq k) xs) none in
-    rw (p.0, none_later k v xs other p.1) refl
+  -- one that is the same as one before it stands twice
+  pub twice_here : (v : X) (ks rest : List X) → list_any (same v) ks ≡ true → has_duplicate same (ks ++ v ∷ rest) ≡ true
+  twice_here v [] rest among = absurd (false≢true among)
+  twice_here v (k ∷ ks) rest among =
+      elim (cases_Bool (same v k)) [
+        | inl is ↦ rw (any_later k v ks rest (turned k v ∙ is)) refl
+        | inr other ↦
+            let later : list_any (same v) ks ≡ true = rw other at among in
+            rw (twice_here v ks rest later) (or_true (list_any (same k) (ks ++ v ∷ rest)))
+      ]
 
--- a value that is not among them makes none stand twice
-pub once_more : (v : ℕ) (ks : List ℕ) → has_duplicate nat_eq ks ≡ false → list_any (nat_eq v) ks ≡ false → has_duplicate nat_eq (ks ++ v ∷ []) ≡ false
-once_more v [] single none = refl
-once_more v (k ∷ ks) single none =
-    let p = or_parts (list_any (nat_eq k) ks) (has_duplicate nat_eq ks) single in
-    let q = or_parts (nat_eq v k) (list_any (nat_eq v) ks) none in
-    rw (none_later k v ks (same_turned k v ∙ q.0) p.0, once_more v ks p.1 q.1) refl
+  none_later : (k v : X) (ks : List X) → same k v ≡ false → list_any (same k) ks ≡ false → list_any (same k) (ks ++ v ∷ []) ≡ false
+  none_later k v [] other none = rw other refl
+  none_later k v (x ∷ xs) other none =
+      let p = or_parts (same k x) (list_any (same k) xs) none in
+      rw (p.0, none_later k v xs other p.1) refl
 
--- the first that passes among those from a place on, as some view sees them
-pub find_here : {R X : Type 0} (view : R → X) (p : X → Bool) (rs : List R) (i : ℕ) (r : R) → i < length rs → r ≡ get_or rs i r → p (view r) ≡ true
-    → find p (map view (drop i rs)) ≡ Some (view r)
-find_here view p rs i r lt at passes =
-    let here : drop i rs ≡ r ∷ drop (i + 1) rs = drop_more rs i r lt ∙ ap (λ q. q ∷ drop (i + 1) rs) (sym at) in
-    rw (here, passes) refl
-
-pub find_next : {R X : Type 0} (view : R → X) (p : X → Bool) (rs : List R) (i : ℕ) (r : R) → i < length rs → r ≡ get_or rs i r → p (view r) ≡ false
-    → find p (map view (drop i rs)) ≡ find p (map view (drop (i + 1) rs))
-find_next view p rs i r lt at fails =
-    let here : drop i rs ≡ r ∷ drop (i + 1) rs = drop_more rs i r lt ∙ ap (λ q. q ∷ drop (i + 1) rs) (sym at) in
-    rw (here, fails) refl
+  -- one that is the same as none of them makes none stand twice
+  pub once_more : (v : X) (ks : List X) → has_duplicate same ks ≡ false → list_any (same v) ks ≡ false → has_duplicate same (ks ++ v ∷ []) ≡ false
+  once_more v [] single none = refl
+  once_more v (k ∷ ks) single none =
+      let p = or_parts (list_any (same k) ks) (has_duplicate same ks) single in
+      let q = or_parts (same v k) (list_any (same v) ks) none in
+      rw (none_later k v ks (turned k v ∙ q.0) p.0, once_more v ks p.1 q.1) refl
 
 -- an entry whose value has a name already
 pub twice_entry : (es : List (ℕ × List ℕ)) (e : ℕ × List ℕ) (rest left all : List (ℕ × List ℕ)) → left ≡ e ∷ rest → map entry_pair es ++ left ≡ all
@@ -90,7 +77,7 @@ twice_entry es e rest left all is so_far found =
     let among : list_any (nat_eq e.0) (values (map entry_pair es)) ≡ true = sym (is_some-among e.0 es) ∙ found in
     let whole : all ≡ map entry_pair es ++ e ∷ rest = sym so_far ∙ ap (λ (l : List (ℕ × List ℕ)). map entry_pair es ++ l) is in
     let parts : values all ≡ values (map entry_pair es) ++ e.0 ∷ values rest = ap values whole ∙ map-append (λ (p : ℕ × List ℕ). p.0) (map entry_pair es) (e ∷ rest) in
-    rw (ap (has_duplicate nat_eq) parts ∙ twice_here e.0 (values (map entry_pair es)) (values rest) among) refl
+    rw (ap (has_duplicate nat_eq) parts ∙ twice_here nat_eq same_turned e.0 (values (map entry_pair es)) (values rest) among) refl
 
 module _ {S : Type 0} (m : IndexMap ℕ (List ℕ) S) (v : ℕ) (s : List ℕ) (none : value_at (nat_eq v) m.entries ≡ None) where
   grown : map entry_pair (insert_entry nat_eq m.entries v s) ≡ map entry_pair m.entries ++ (v, s) ∷ []
@@ -109,7 +96,7 @@ module _ {S : Type 0} (m : IndexMap ℕ (List ℕ) S) (v : ℕ) (s : List ℕ) (
       let among : list_any (nat_eq v) (values (map entry_pair m.entries)) ≡ false = sym (is_some-among v m.entries) ∙ ap is_some none in
       let parts : values (map entry_pair es) ≡ values (map entry_pair m.entries) ++ v ∷ [] =
       ap values (ap (map entry_pair) is ∙ grown) ∙ map-append (λ (p : ℕ × List ℕ). p.0) (map entry_pair m.entries) ((v, s) ∷ []) in
-      ap (has_duplicate nat_eq) parts ∙ once_more v (values (map entry_pair m.entries)) single among
+      ap (has_duplicate nat_eq) parts ∙ once_more nat_eq same_turned v (values (map entry_pair m.entries)) single among
 
 pub is_none : {X : Type 0} (o : Option X) → is_some o ≡ false → o ≡ None
 is_none None none = refl

@@ -1,90 +1,18 @@
 -- Where the definitions of a PGN stand.
-use Rattle.std.proofs.Common.{◌≡◌, ℕ, zero, suc, ◌+◌, ◌<◌, Bool, true, false, ◌&&◌, nat_eq, cond, List, [], ◌∷◌, ◌++◌, length, get_or, drop, slice_get, Option, Some, None, is_some, option_map, unwrap_or, Vec, Global, IfSome, below_more, refl, sym, ap, ◌∙◌, append_assoc, inl, inr, arith}
+use Rattle.std.proofs.Common.{◌≡◌, ℕ, zero, suc, ◌+◌, ◌<◌, ◌≤◌, ltb, Bool, true, false, ◌&&◌, nat_eq, cond, List, [], ◌∷◌, ◌++◌, length, get_or, drop, slice_get, Option, Some, None, is_some, option_map, IfSome, refl, sym, ap, ◌∙◌, append_assoc, inl, inr, arith}
 use Rattle.std.specs.List.{find}
 use Rattle.std.specs.Option.{option_map_or}
-use Rattle.std.proofs.lemmas.Option.{slice_get-get_or}
-use Rattle.std.specs.Map.{lookup as value_at}
-use Rattle.std.proofs.lemmas.Bool.{cases_Bool, false≢true}
+use Rattle.std.proofs.lemmas.Option.{slice_get-get_or, slice_get_past, slice_get_cases}
+use Rattle.std.proofs.lemmas.Bool.{cases_Bool}
 use Rattle.std.proofs.lemmas.Bool.Decides.{nat_tests}
-use Rattle.std.proofs.lemmas.List.{drop_more, length-append, get_or-map}
-use Rattle.indexmap.specs.IndexMap.{IndexMap, get}
+use Rattle.std.proofs.lemmas.List.{drop_more, length-append}
 use Rattle.n2k_table.specs.Definition.{DefinitionParts}
 use Rattle.n2k_table.specs.Table.{is_of}
-use Rattle.n2k_table.specs.Inner.Index.{pgns, places_from, places, IsIndex}
-
--- a number that is not there has no place
-no_places : (number : ℕ) (ns : List ℕ) (i : ℕ) → ((k : ℕ) → k < length ns → nat_eq (get_or ns k 0) number ≡ false) → places_from i number ns ≡ []
-no_places number [] i none = refl
-no_places number (n ∷ ns) i none =
-    let here : nat_eq n number ≡ false = none 0 (omega arith) in
-    rw here (no_places number ns (suc i) (λ k lt. none (suc k) (omega arith)))
-
--- each number that the map has a value for has the right one
-abbrev pub AreRight : List (ℕ × Vec ℕ Global) → List ℕ → Type 0
-AreRight entries ns = (number : ℕ) → IfSome (value_at (nat_eq number) entries) (λ v. v.items ≡ places number ns)
-
--- the map has a value for each of the first i numbers
-abbrev pub HasFirst : List (ℕ × Vec ℕ Global) → List ℕ → ℕ → Type 0
-HasFirst entries ns i = (k : ℕ) → k < i → is_some (value_at (nat_eq (get_or ns k 0)) entries) ≡ true
-
-found_right : (o : Option (Vec ℕ Global)) (right : List ℕ) → IfSome o (λ v. v.items ≡ right) → (o ≡ None → right ≡ []) → unwrap_or (option_map (λ v. v.items) o) [] ≡ right
-found_right None right some none = sym (none refl)
-found_right (Some v) right some none = some
-
-pub index_done : (entries : List (ℕ × Vec ℕ Global)) (ns : List ℕ) → AreRight entries ns → HasFirst entries ns (length ns) → IsIndex entries ns
-index_done entries ns right all = record {
-  finds = λ number. found_right (value_at (nat_eq number) entries) (places number ns) (right number) (λ none.
-      no_places number ns 0 (λ k lt.
-      elim (cases_Bool (nat_eq (get_or ns k 0) number)) [
-        | inl same ↦
-            let is : get_or ns k 0 ≡ number = grind (arith, nat_tests) in
-            absurd (false≢true (sym (ap is_some none) ∙ ap (λ n. is_some (value_at (nat_eq n) entries)) (sym is) ∙ all k lt))
-        | inr other ↦ other
-      ]));
-}
+use Rattle.n2k_table.specs.Inner.Index.{pgns, places_from, places}
 
 pub length-pgns : (ds : List DefinitionParts) → length (pgns ds) ≡ length ds
 length-pgns [] = refl
 length-pgns (d ∷ ds) = ap suc (length-pgns ds)
-
-number_here : (ds : List DefinitionParts) (i : ℕ) (d : DefinitionParts) → i < length ds → d ≡ get_or ds i d → get_or (pgns ds) i 0 ≡ d.pgn
-number_here ds i d lt at = get_or-map (λ (e : DefinitionParts). e.pgn) ds i d 0 lt ∙ ap (λ (e : DefinitionParts). e.pgn) (sym at)
-
--- one more number, which the map has
-pub index_kept : (entries : List (ℕ × Vec ℕ Global)) (ds : List DefinitionParts) (i : ℕ) (d : DefinitionParts) → i < length ds → d ≡ get_or ds i d
-    → HasFirst entries (pgns ds) i → is_some (value_at (nat_eq d.pgn) entries) ≡ true → HasFirst entries (pgns ds) (i + 1)
-index_kept entries ds i d lt at first here =
-    below_more (λ k. is_some (value_at (nat_eq (get_or (pgns ds) k 0)) entries) ≡ true) i first
-    (ap (λ n. is_some (value_at (nat_eq n) entries)) (number_here ds i d lt at) ∙ here)
-
-module _ {S : Type 0} (m n : IndexMap ℕ (Vec ℕ Global) S) (key : ℕ) (v : Vec ℕ Global) (updates : (q : ℕ) → get nat_eq n q ≡ cond (nat_eq key q) (Some v) (get nat_eq m q)) where
-  -- or which it gains
-  pub index_right : (ns : List ℕ) → v.items ≡ places key ns → AreRight m.entries ns → AreRight n.entries ns
-  index_right ns is right number =
-      elim (cases_Bool (nat_eq key number)) [
-        | inl same ↦
-            let number_is : key ≡ number = grind (arith, nat_tests) in
-            let found : get nat_eq n number ≡ Some v = updates number ∙ ap (λ b. cond b (Some v) (get nat_eq m number)) same in
-            rw found (is ∙ ap (λ k. places k ns) number_is)
-        | inr other ↦
-            let found : get nat_eq n number ≡ get nat_eq m number = updates number ∙ ap (λ b. cond b (Some v) (get nat_eq m number)) other in
-            rw found (right number)
-      ]
-
-  still_there : (number : ℕ) → is_some (get nat_eq m number) ≡ true → is_some (get nat_eq n number) ≡ true
-  still_there number there =
-      elim (cases_Bool (nat_eq key number)) [
-        | inl same ↦ ap is_some (updates number ∙ ap (λ b. cond b (Some v) (get nat_eq m number)) same)
-        | inr other ↦ ap is_some (updates number ∙ ap (λ b. cond b (Some v) (get nat_eq m number)) other) ∙ there
-      ]
-
-  pub index_gained : (ds : List DefinitionParts) (i : ℕ) (d : DefinitionParts) → i < length ds → d ≡ get_or ds i d → d.pgn ≡ key
-      → HasFirst m.entries (pgns ds) i → HasFirst n.entries (pgns ds) (i + 1)
-  index_gained ds i d lt at is first =
-      let itself : nat_eq key key ≡ true = grind (arith, nat_tests) in
-      let here : is_some (get nat_eq n key) ≡ true = ap is_some (updates key ∙ ap (λ b. cond b (Some v) (get nat_eq m key)) itself) in
-      below_more (λ k. is_some (value_at (nat_eq (get_or (pgns ds) k 0)) n.entries) ≡ true) i (λ k below. still_there (get_or (pgns ds) k 0) (first k below))
-      (ap (λ q. is_some (value_at (nat_eq q) n.entries)) (number_here ds i d lt at ∙ is) ∙ here)
 
 -- the first that passes among the definitions at these places
 abbrev pub first_at : (DefinitionParts → Bool) → List DefinitionParts → List ℕ → Option DefinitionParts
@@ -175,3 +103,22 @@ first_within (j ∷ is) i n first within =
     let same : j ≡ i = cc in
     let here : j < n = within 0 (omega arith) in
     omega arith
+
+-- what a slice's `get` finds
+pub got : {R : Type 0} (view : R → DefinitionParts) (r : Option R) (ds : List DefinitionParts) (i : ℕ) → is_some r ≡ ltb i (length ds)
+    → IfSome r (λ x. view x ≡ get_or ds i (view x)) → option_map view r ≡ slice_get ds i
+got view None ds i there at =
+    let past : length ds ≤ i = grind (arith, nat_tests) in
+    sym (slice_get_past ds i past)
+got view (Some x) ds i there at =
+    let within : i < length ds = grind (arith, nat_tests) in
+    sym (slice_get-get_or ds i (view x) within ∙ ap (λ d. Some d) (sym at))
+
+-- the first definition of a PGN stands at the first of its places
+pub first_is : (pgn : ℕ) (ds : List DefinitionParts) (is : List ℕ) (i : ℕ) → is ≡ places pgn (pgns ds) → slice_get is 0 ≡ Some i → slice_get ds i ≡ find (is_of pgn) ds
+first_is pgn ds is i same first =
+    let within : i < length ds = first_within is i (length ds) first (places_within is pgn ds same) in
+    elim ((slice_get_cases ds i).1) [
+      | inl at ↦ at.2 ∙ sym (one_kind pgn ds is i at.0 same first within (sym at.3))
+      | inr past ↦ absurd (omega (arith, within, past.0))
+    ]

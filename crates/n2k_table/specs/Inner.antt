@@ -7,3 +7,4 @@ pub mod Kept
 pub mod Line
 pub mod LineBuffer
 pub mod Number
+pub mod Padded

@@ -1,7 +1,6 @@
 //! A definition: what a table says of one message.
 ghost use Rattle.std.specs.Prelude.{◌≡◌, option_map};
-ghost use Rattle.std.specs.List.{list_all, list_any};
-ghost use Rattle.n2k_table.specs.Duplicate.{has_duplicate};
+ghost use Rattle.std.specs.List.{list_all};
 ghost use Rattle.n2k_table.specs.Table.{are_mixed, field_matches};
 
 use crate::field::Field;
@@ -113,7 +112,7 @@ impl StoredDefinition {
     }
 
     /// Whether both describe one PGN, and name different kinds.
-    fn is_mixed_with(&self, other: &StoredDefinition) -> bool
+    pub(crate) fn is_mixed_with(&self, other: &StoredDefinition) -> bool
         ensures { result ≡ are_mixed self.now other.now }
     {
         self.pgn == other.pgn && self.kind != other.kind
@@ -217,26 +216,4 @@ impl<'a> Definition<'a> {
     {
         Some(Sets::new(self.stored.repeat()?, data))
     }
-}
-
-/// Whether two definitions of one PGN have different kinds.
-pub(crate) fn has_mixed(definitions: &[StoredDefinition]) -> bool
-    ensures { result ≡ has_duplicate are_mixed definitions.now }
-{
-    let mut rest = definitions;
-    while let Some((definition, others)) = rest.split_first() {
-        if is_mixed_among(others, definition) {
-            return true;
-        }
-        rest = others;
-    }
-    false
-}
-
-fn is_mixed_among(definitions: &[StoredDefinition], definition: &StoredDefinition) -> bool
-    ensures { result ≡ list_any (are_mixed definition.now) definitions.now }
-{
-    definitions
-        .iter()
-        .any(|other| definition.is_mixed_with(other))
 }

@@ -14,7 +14,7 @@ use crate::field::Field;
 use crate::fields_reader::{is_named, read_fields};
 use crate::lookup::Lookups;
 use crate::repeat::{Repeat, read_repeat};
-use crate::text::text_json;
+use crate::text::push_json;
 use crate::tree::{
     Holder, Section, TableFormat, any_text_at, as_members, check_keys, get, int_at, text_at,
 };
@@ -25,6 +25,9 @@ use toml::{Table, Value};
 
 /// The name of the member that holds the sets of a message.
 const LIST: &str = "list";
+
+/// The bytes that a label has around a plain description, where its PGN has six digits.
+const AROUND: usize = 41;
 
 /// Whether a field asks for a value.
 fn any_has_match(fields: &[Field]) -> bool
@@ -55,12 +58,11 @@ fn label_of(alloc: Global, pgn: u32, description: &str) -> Result<Vec<u8>, Alloc
     ensures { IfOk result (λ label. label.items ≡ label_json pgn description.now) }
 {
     let mut buffer = Buffer::new();
-    let description = text_json(alloc, description)?;
-    let mut label = Vec::new(alloc);
+    let mut label = Vec::with_capacity(alloc, description.len().saturating_add(AROUND))?;
     label.extend_from_slice(b",\"pgn\":")?;
     label.extend_from_slice(buffer.format(pgn).as_bytes())?;
     label.extend_from_slice(b",\"description\":")?;
-    label.extend_from_slice(&description)?;
+    push_json(alloc, description, &mut label)?;
     label.extend_from_slice(b",\"fields\":{")?;
     Ok(label)
 }

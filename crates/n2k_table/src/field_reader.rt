@@ -17,7 +17,7 @@ use crate::lookup::Lookups;
 use crate::number::Scale;
 use crate::padded_text::PaddedText;
 use crate::resolution::resolution_at;
-use crate::text::text_json;
+use crate::text::push_json;
 use crate::tree::{
     FieldKind, Holder, MESSAGE_BITS, Section, any_text_at, as_members, bool_at, check_keys, get,
     int_at, text_at,
@@ -197,25 +197,25 @@ fn match_value_of(
     match_at(bits, table)
 }
 
-/// What stands before the value of a field in a line, behind a comma.
-fn key_of(alloc: Global, name: &str) -> Result<PaddedText, AllocError>
+/// What stands before the value of a field in a line, behind a comma. It is put together in a room that serves many.
+fn key_of(alloc: Global, name: &str, room: &mut Vec<u8>) -> Result<PaddedText, AllocError>
     ensures { IfOk result (λ key. key ≡ key_json true name.now) }
 {
-    let name = text_json(alloc, name)?;
-    let mut key = Vec::new(alloc);
-    key.push(b',')?;
-    key.extend_from_slice(&name)?;
-    key.push(b':')?;
-    Ok(PaddedText::new(key))
+    room.clear();
+    room.push(b',')?;
+    push_json(alloc, name, room)?;
+    room.push(b':')?;
+    PaddedText::new(alloc, room.as_slice())
 }
 
-/// Reads a field of a message or of a set, in a table of these lookups.
+/// Reads a field of a message or of a set, in a table of these lookups. In the room its key is put together.
 #[tactic(auto, unfolding(crate::specs::Field::field))]
 pub(crate) fn read_field(
     alloc: Global,
     lookups: &Lookups,
     holder: Holder,
     value: &Value,
+    room: &mut Vec<u8>,
 ) -> Result<Field, TableFault>
     requires { end_of holder ≤ message_bits }
     ensures { ReaderGives (λ field. field) result (field holder lookups.now (view value.now)) }
@@ -229,7 +229,7 @@ pub(crate) fn read_field(
     let match_value = match_value_of(kind, holder, span.bits, table)?;
     Ok(Field {
         name: String::from_str(alloc, name)?,
-        key: key_of(alloc, name)?,
+        key: key_of(alloc, name, room)?,
         at: span.at,
         bits: span.bits,
         meaning,

@@ -12,6 +12,7 @@ use crate::fault::TableFault;
 use crate::field::Field;
 use crate::field_reader::read_field;
 use crate::lookup::Lookups;
+use crate::text::NAME_ROOM;
 use crate::tree::{Holder, elements_at};
 use std::alloc::Global;
 use toml::{Table, Value};
@@ -50,9 +51,10 @@ fn each_field(
     requires { end_of holder ≤ message_bits }
     ensures { ReaderGives (λ fields. fields.items) result (each (field holder lookups.now) (map view values.now)) }
 {
-    let mut fields = Vec::new(alloc);
+    let mut room = Vec::with_capacity(alloc, NAME_ROOM)?;
+    let mut fields = Vec::with_capacity(alloc, values.len())?;
     for value in values {
-        fields.push(read_field(alloc, lookups, holder, value)?)?;
+        fields.push(read_field(alloc, lookups, holder, value, &mut room)?)?;
     }
     Ok(fields)
 }

@@ -1,6 +1,9 @@
 //! Where the definitions of a PGN stand, found without walking all of them.
-ghost use Rattle.std.specs.Prelude.{◌≡◌, ◌<◌, length, IfOk};
-ghost use Rattle.n2k_table.specs.Inner.Index.{pgns, places, places_in, IsIndex};
+ghost use Rattle.std.specs.Prelude.{◌≡◌, ◌<◌, length, option_map, IfOk, OnOk};
+ghost use Rattle.std.specs.List.{find};
+ghost use Rattle.n2k_table.specs.Duplicate.{has_duplicate};
+ghost use Rattle.n2k_table.specs.Table.{are_mixed, is_of};
+ghost use Rattle.n2k_table.specs.Inner.Index.{pgns, places_in, differs, GainsPlace, IsIndex};
 
 use crate::definition::StoredDefinition;
 use indexmap::IndexMap;
@@ -33,36 +36,27 @@ impl Model for Index {
     ghost invariant = { λ i. length i.quick.items ≡ 8192 };
 }
 
-/// The places of the definitions of a PGN.
-fn places_of(
-    alloc: Global,
-    definitions: &[StoredDefinition],
-    pgn: u32,
-) -> Result<Vec<usize>, AllocError>
-    ensures { IfOk result (λ v. v.items ≡ places pgn (pgns definitions.now)) }
+/// Notes one more place of a PGN, behind those before it.
+fn note(alloc: Global, places: &mut PlacesByPgn, pgn: u32, place: usize) -> Result<(), AllocError>
+    ensures { OnOk result (GainsPlace places.old.entries places.new.entries pgn place) }
 {
-    let mut places = Vec::new(alloc);
-    for (place, definition) in definitions.iter().enumerate() {
-        if definition.pgn() == pgn {
-            places.push(place)?;
-        }
+    if let Some(places) = places.get_mut(&pgn) {
+        places.push(place)?;
+    } else {
+        places.insert(pgn, Vec::from_array(alloc, [place])?)?;
     }
-    Ok(places)
+    Ok(())
 }
 
 /// The places of all definitions.
 fn all_places(alloc: Global, definitions: &[StoredDefinition]) -> Result<PlacesByPgn, AllocError>
-    ensures { IfOk result (λ index. IsIndex index.entries (pgns definitions.now)) }
+    ensures { IfOk result (λ places. IsIndex places.entries (pgns definitions.now)) }
 {
-    let mut index = IndexMap::new(alloc);
-    for definition in definitions {
-        let pgn = definition.pgn();
-        if index.contains_key(&pgn) {
-            continue;
-        }
-        index.insert(pgn, places_of(alloc, definitions, pgn)?)?;
+    let mut places = IndexMap::new(alloc);
+    for (place, definition) in definitions.iter().enumerate() {
+        note(alloc, &mut places, definition.pgn(), place)?;
     }
-    Ok(index)
+    Ok(places)
 }
 
 /// The bits of a PGN by which it is told apart: its lowest 13, changed by those above them. By the lowest alone PGNs
@@ -116,4 +110,41 @@ pub(crate) fn places_at(index: &Index, pgn: u32) -> &[usize]
         Some((found, places)) if *found == pgn => places.as_slice(),
         _ => places_by_hash(&index.places, pgn),
     }
+}
+
+/// The first definition of a PGN, if there is one.
+fn first_of<'a>(
+    index: &Index,
+    definitions: &'a [StoredDefinition],
+    pgn: u32,
+) -> Option<&'a StoredDefinition>
+    requires { IsIndex index.now (pgns definitions.now) }
+    ensures { option_map (λ d. d.now) result ≡ find (is_of pgn) definitions.now }
+{
+    definitions.get(*places_at(index, pgn).first()?)
+}
+
+/// Whether a definition has another kind than the first of its PGN.
+fn differs(index: &Index, definitions: &[StoredDefinition], definition: &StoredDefinition) -> bool
+    requires { IsIndex index.now (pgns definitions.now) }
+    ensures { result ≡ differs definitions.now definition.now }
+{
+    match first_of(index, definitions, definition.pgn()) {
+        Some(first) => first.is_mixed_with(definition),
+        None => false,
+    }
+}
+
+/// Whether two definitions of one PGN have different kinds. Then one of them has another than the first of the PGN, so
+/// that not each pair has to be looked at.
+pub(crate) fn has_mixed(index: &Index, definitions: &[StoredDefinition]) -> bool
+    requires { IsIndex index.now (pgns definitions.now) }
+    ensures { result ≡ has_duplicate are_mixed definitions.now }
+{
+    for definition in definitions {
+        if differs(index, definitions, definition) {
+            return true;
+        }
+    }
+    false
 }

@@ -5,7 +5,7 @@ ghost use Rattle.std.specs.Str.{bytes_eq};
 
 use crate::line_buffer::LineBuffer;
 use crate::padded_text::PaddedText;
-use crate::text::text_json;
+use crate::text::push_json;
 use indexmap::IndexMap;
 use std::alloc::{AllocError, Global};
 use std::marker::Model;
@@ -34,13 +34,15 @@ impl Name {
     ghost use Rattle.std.specs.Prelude.{◌++◌, OnOk};
     ghost use Rattle.n2k_table.specs.Text.{text_json};
 
-    /// A name of that text.
-    pub(crate) fn new(alloc: Global, text: &str) -> Result<Name, AllocError>
+    /// A name of that text. Its JSON is put together in a room that serves many.
+    pub(crate) fn new(alloc: Global, text: &str, room: &mut Vec<u8>) -> Result<Name, AllocError>
         ensures { IfOk result (λ name. name ≡ text.now) }
     {
+        room.clear();
+        push_json(alloc, text, room)?;
         Ok(Name {
             text: String::from_str(alloc, text)?,
-            json: PaddedText::new(text_json(alloc, text)?),
+            json: PaddedText::new(alloc, room.as_slice())?,
         })
     }
 
@@ -80,19 +82,22 @@ impl Model for Lookup {
     } };
 }
 
-/// The lookups of a table, in file order. Each is shared by the fields that name it.
+/// The lookups of a table, in file order, each by its name. It is shared by the fields that name it.
 #[derive(Drop)]
 pub(crate) struct Lookups {
-    pub(crate) list: Vec<Rc<Lookup>>,
+    pub(crate) by_name: IndexMap<String, Rc<Lookup>>,
 }
 
 impl Model for Lookups {
     ghost use Rattle.std.specs.Prelude.{List, map};
     ghost use Rattle.n2k_table.specs.Lookup.{LookupParts};
+    ghost use Rattle.n2k_table.specs.Inner.Entries.{AreNamed};
 
     ghost Value = { List LookupParts };
 
-    ghost view = { λ l. map (λ lookup. lookup.value) l.list.items };
+    ghost view = { λ l. map (λ e. e.1.value) l.by_name.entries };
+
+    ghost invariant = { λ l. AreNamed (λ lookup. lookup.value) l.by_name.entries };
 }
 
 impl Lookup {
@@ -131,11 +136,6 @@ impl Lookups {
         ensures { option_map (λ lookup. lookup.now.value) result
             ≡ find (λ lookup. bytes_eq name.now lookup.name) self.now }
     {
-        for lookup in &self.list {
-            if name == lookup.name() {
-                return Some(lookup);
-            }
-        }
-        None
+        self.by_name.get(name)
     }
 }

@@ -1,22 +1,20 @@
 //! Lookups, as a table spells them.
 ghost use Rattle.std.specs.Prelude.{◌≡◌, map, IfOk};
-ghost use Rattle.std.specs.List.{list_any};
-ghost use Rattle.std.specs.Str.{bytes_eq};
 ghost use Rattle.toml.specs.View.{view, table_view};
 ghost use Rattle.n2k_wire.specs.Views.{Gives};
-ghost use Rattle.n2k_table.specs.Duplicate.{has_duplicate};
-ghost use Rattle.n2k_table.specs.Inner.Entries.{map_entries};
+ghost use Rattle.n2k_table.specs.Inner.Entries.{map_entries, apart};
 ghost use Rattle.n2k_table.specs.Reading.{each, ReaderGives};
-ghost use Rattle.n2k_table.specs.Lookup.{pair_in, entry, once, entries, lookup, is_same_lookup, lookups};
+ghost use Rattle.n2k_table.specs.Lookup.{pair_in, entry, once, entries, lookup, lookups};
 
 use crate::fault::TableFault;
 use crate::lookup::{Lookup, Lookups, Name};
+use crate::text::NAME_ROOM;
 use crate::tree::{
     Section, as_elements, as_members, check_keys, checked_text, elements_at, elements_or_none,
     text_at,
 };
 use indexmap::IndexMap;
-use std::alloc::{AllocError, Global};
+use std::alloc::Global;
 use std::marker::Model;
 use std::rc::Rc;
 use toml::{Table, Value};
@@ -56,8 +54,9 @@ fn pair_in(values: &[Value]) -> Result<(i64, &str), TableFault>
     }
 }
 
+/// Reads a value with its name, whose JSON is put together in the room.
 #[tactic(auto, unfolding(crate::specs::Lookup::entry))]
-fn read_entry(alloc: Global, value: &Value) -> Result<NamedValue, TableFault>
+fn read_entry(alloc: Global, value: &Value, room: &mut Vec<u8>) -> Result<NamedValue, TableFault>
     ensures { ReaderGives (λ entry. entry) result (entry (view value.now)) }
 {
     let (number, text) = pair_in(as_elements(value)?)?;
@@ -67,7 +66,7 @@ fn read_entry(alloc: Global, value: &Value) -> Result<NamedValue, TableFault>
     let name = checked_text(text)?;
     Ok(NamedValue {
         value: u64::from(value),
-        name: Name::new(alloc, name)?,
+        name: Name::new(alloc, name, room)?,
     })
 }
 
@@ -75,9 +74,10 @@ fn read_entry(alloc: Global, value: &Value) -> Result<NamedValue, TableFault>
 fn each_entry(alloc: Global, values: &[Value]) -> Result<Vec<NamedValue>, TableFault>
     ensures { ReaderGives (λ entries. entries.items) result (each entry (map view values.now)) }
 {
-    let mut entries = Vec::new(alloc);
+    let mut room = Vec::with_capacity(alloc, NAME_ROOM)?;
+    let mut entries = Vec::with_capacity(alloc, values.len())?;
     for value in values {
-        entries.push(read_entry(alloc, value)?)?;
+        entries.push(read_entry(alloc, value, &mut room)?)?;
     }
     Ok(entries)
 }
@@ -86,7 +86,7 @@ fn each_entry(alloc: Global, values: &[Value]) -> Result<Vec<NamedValue>, TableF
 fn by_value(alloc: Global, entries: Vec<NamedValue>) -> Result<IndexMap<u64, Name>, TableFault>
     ensures { ReaderGives map_entries result (once entries.items) }
 {
-    let mut names = IndexMap::new(alloc);
+    let mut names = IndexMap::with_capacity(alloc, entries.len())?;
     for entry in entries {
         let NamedValue { value, name } = entry;
         if names.insert(value, name)?.is_some() {
@@ -122,42 +122,25 @@ fn read_lookup(alloc: Global, value: &Value) -> Result<Lookup, TableFault>
 fn each_lookup(alloc: Global, values: &[Value]) -> Result<Vec<Lookup>, TableFault>
     ensures { ReaderGives (λ lookups. lookups.items) result (each lookup (map view values.now)) }
 {
-    let mut lookups = Vec::new(alloc);
+    let mut lookups = Vec::with_capacity(alloc, values.len())?;
     for value in values {
         lookups.push(read_lookup(alloc, value)?)?;
     }
     Ok(lookups)
 }
 
-/// Whether a lookup has the name.
-fn is_named(lookups: &[Lookup], name: &str) -> bool
-    ensures { result ≡ list_any (λ lookup. bytes_eq name.now lookup.name) lookups.now }
+/// The lookups by their names, where no name stands twice.
+fn by_name(alloc: Global, lookups: Vec<Lookup>) -> Result<Lookups, TableFault>
+    ensures { ReaderGives (λ lookups. lookups) result (apart lookups.items) }
 {
-    lookups.iter().any(|lookup| name == lookup.name())
-}
-
-/// Whether two lookups have one name.
-fn has_duplicate(lookups: &[Lookup]) -> bool
-    ensures { result ≡ has_duplicate is_same_lookup lookups.now }
-{
-    let mut rest = lookups;
-    while let Some((lookup, others)) = rest.split_first() {
-        if is_named(others, lookup.name()) {
-            return true;
-        }
-        rest = others;
-    }
-    false
-}
-
-fn shared(alloc: Global, lookups: Vec<Lookup>) -> Result<Lookups, AllocError>
-    ensures { IfOk result (λ shared. shared ≡ lookups.items) }
-{
-    let mut list = Vec::new(alloc);
+    let mut by_name = IndexMap::with_capacity(alloc, lookups.len())?;
     for lookup in lookups {
-        list.push(Rc::new(alloc, lookup)?)?;
+        let name = String::from_str(alloc, lookup.name())?;
+        if by_name.insert(name, Rc::new(alloc, lookup)?)?.is_some() {
+            return Err(TableFault::Twice);
+        }
     }
-    Ok(Lookups { list })
+    Ok(Lookups { by_name })
 }
 
 /// Reads the lookups of a table.
@@ -166,9 +149,5 @@ pub(crate) fn read_lookups(alloc: Global, top: &Table) -> Result<Lookups, TableF
     ensures { ReaderGives (λ lookups. lookups) result (lookups (table_view top.now)) }
 {
     let values = elements_or_none(top, "lookup", MOST_LOOKUPS)?;
-    let lookups = each_lookup(alloc, values)?;
-    if has_duplicate(&lookups) {
-        return Err(TableFault::Twice);
-    }
-    Ok(shared(alloc, lookups)?)
+    by_name(alloc, each_lookup(alloc, values)?)
 }

@@ -3,7 +3,7 @@
 ghost use Rattle.std.specs.Prelude.{◌≡◌};
 
 use crate::line_buffer::LineBuffer;
-use std::alloc::AllocError;
+use std::alloc::{AllocError, Global};
 use std::marker::Model;
 
 /// How many bytes are copied at once.
@@ -12,36 +12,49 @@ const WIDE: usize = 32;
 /// How many bytes a front has: one more, since a text may be appended without its first byte.
 const FRONT: usize = WIDE + 1;
 
-/// A text that is appended to many lines.
+/// A text that is appended to many lines. One that is copied at once takes no memory of its own.
 #[derive(Drop)]
 pub(crate) struct PaddedText {
-    bytes: Vec<u8>,
-    /// The same bytes and zeros behind them, where they have room.
+    /// How many bytes it has.
+    len: usize,
+    /// The bytes and zeros behind them, where they have room.
     front: [u8; FRONT],
+    /// The bytes, where they are more than are copied at once.
+    long: Vec<u8>,
 }
 
 impl Model for PaddedText {
-    ghost use Rattle.std.specs.Prelude.{◌≡◌, ◌≤◌, List, ℕ, take, length};
+    ghost use Rattle.std.specs.Prelude.{List, ℕ};
+    ghost use Rattle.n2k_table.specs.Inner.Padded.{padded_text, IsPadded};
 
     ghost Value = { List ℕ };
 
-    ghost view = { λ p. p.bytes.items };
+    ghost view = { λ p. padded_text p.len p.front p.long.items };
 
-    ghost invariant = { λ p. length p.bytes.items ≤ 33 → take (length p.bytes.items) p.front ≡ p.bytes.items };
+    ghost invariant = { λ p. IsPadded p.len p.front p.long.items };
 }
 
 impl PaddedText {
-    ghost use Rattle.std.specs.Prelude.{◌++◌, ◌<◌, ◌≤◌, drop, length, OnOk};
+    ghost use Rattle.std.specs.Prelude.{◌++◌, ◌<◌, ◌≤◌, drop, length, IfOk, OnOk};
 
     /// That text, padded.
-    pub(crate) fn new(bytes: Vec<u8>) -> PaddedText
-        ensures { result ≡ bytes.items }
+    pub(crate) fn new(alloc: Global, text: &[u8]) -> Result<PaddedText, AllocError>
+        ensures { IfOk result (λ p. p ≡ text.now) }
     {
         let mut front = [0; FRONT];
-        if bytes.len() <= FRONT {
-            front[..bytes.len()].copy_from_slice(&bytes);
+        if text.len() <= FRONT {
+            front[..text.len()].copy_from_slice(text);
         }
-        PaddedText { bytes, front }
+        let mut long = Vec::new(alloc);
+        if text.len() > WIDE {
+            long.reserve_exact(text.len())?;
+            long.extend_from_slice(text)?;
+        }
+        Ok(PaddedText {
+            len: text.len(),
+            front,
+            long,
+        })
     }
 
     /// Appends the text.
@@ -59,9 +72,9 @@ impl PaddedText {
         requires inside { from ≤ length self.now }
         ensures { OnOk result (line.new.items ≡ line.old.items ++ drop from self.now) }
     {
-        let count = self.bytes.len() - from;
+        let count = self.len - from;
         if count > WIDE {
-            return line.extend_from_slice(&self.bytes[from..]);
+            return line.extend_from_slice(&self.long[from..]);
         }
         match self.front[from..].first_chunk::<WIDE>() {
             Some(wide) => line.put(wide, count),

@@ -8,11 +8,12 @@ ghost use Rattle.n2k_table.specs.Duplicate.{has_duplicate};
 ghost use Rattle.n2k_table.specs.Reading.{each, ReaderGives};
 ghost use Rattle.n2k_table.specs.Definition.{definition};
 ghost use Rattle.n2k_table.specs.Table.{document, format_of, are_mixed, definitions, top_level};
+ghost use Rattle.n2k_table.specs.Inner.Index.{IsIndex, pgns};
 
-use crate::definition::{Definition, Kind, StoredDefinition, has_mixed};
+use crate::definition::{Definition, Kind, StoredDefinition};
 use crate::definition_reader::read_definition;
 use crate::fault::TableFault;
-use crate::index::{Index, index_of, places_at};
+use crate::index::{Index, has_mixed, index_of, places_at};
 use crate::lookup::Lookups;
 use crate::lookup_reader::read_lookups;
 use crate::tree::{Section, TableFormat, check_keys, elements_or_none, int_at};
@@ -47,6 +48,13 @@ impl Model for Table {
     ghost invariant = { λ t. IsIndex t.index (pgns t.definitions.items) };
 }
 
+/// The definitions of a table, and where those of each PGN stand.
+#[derive(Drop)]
+struct Definitions {
+    list: Vec<StoredDefinition>,
+    index: Index,
+}
+
 /// Each of these values as a definition.
 fn each_definition(
     alloc: Global,
@@ -56,7 +64,7 @@ fn each_definition(
 ) -> Result<Vec<StoredDefinition>, TableFault>
     ensures { ReaderGives (λ v. v.items) result (each (definition format lookups.now) (map view values.now)) }
 {
-    let mut definitions = Vec::new(alloc);
+    let mut definitions = Vec::with_capacity(alloc, values.len())?;
     for value in values {
         definitions.push(read_definition(alloc, lookups, format, value)?)?;
     }
@@ -70,16 +78,18 @@ fn read_definitions(
     lookups: &Lookups,
     format: TableFormat,
     top: &toml::Table,
-) -> Result<Vec<StoredDefinition>, TableFault>
-    ensures value { ReaderGives (λ v. v.items) result (definitions format lookups.now (table_view top.now)) }
-    ensures agree { IfOk result (λ v. has_duplicate are_mixed v.items ≡ false) }
+) -> Result<Definitions, TableFault>
+    ensures value { ReaderGives (λ d. d.list.items) result (definitions format lookups.now (table_view top.now)) }
+    ensures agree { IfOk result (λ d. has_duplicate are_mixed d.list.items ≡ false) }
+    ensures index { IfOk result (λ d. IsIndex d.index (pgns d.list.items)) }
 {
     let values = elements_or_none(top, "pgn", MOST_DEFINITIONS)?;
-    let definitions = each_definition(alloc, lookups, format, values)?;
-    if has_mixed(&definitions) {
+    let list = each_definition(alloc, lookups, format, values)?;
+    let index = index_of(alloc, &list)?;
+    if has_mixed(&index, &list) {
         return Err(TableFault::Mixed);
     }
-    Ok(definitions)
+    Ok(Definitions { list, index })
 }
 
 /// The format that the top level says it is of.
@@ -94,9 +104,10 @@ fn format_of(top: &toml::Table) -> Result<TableFormat, TableFault>
 }
 
 #[tactic(auto, unfolding(crate::specs::Table::top_level))]
-fn read_top(alloc: Global, top: &toml::Table) -> Result<Vec<StoredDefinition>, TableFault>
-    ensures value { ReaderGives (λ v. v.items) result (top_level (table_view top.now)) }
-    ensures agree { IfOk result (λ v. has_duplicate are_mixed v.items ≡ false) }
+fn read_top(alloc: Global, top: &toml::Table) -> Result<Definitions, TableFault>
+    ensures value { ReaderGives (λ d. d.list.items) result (top_level (table_view top.now)) }
+    ensures agree { IfOk result (λ d. has_duplicate are_mixed d.list.items ≡ false) }
+    ensures index { IfOk result (λ d. IsIndex d.index (pgns d.list.items)) }
 {
     let format = format_of(top)?;
     check_keys(top, Section::Document)?;
@@ -128,11 +139,10 @@ impl Table {
     {
         let top = document(alloc, bytes)?;
         let definitions = read_top(alloc, &top)?;
-        let index = index_of(alloc, &definitions)?;
         Ok(Table {
             id: Sha256::digest(bytes),
-            definitions,
-            index,
+            definitions: definitions.list,
+            index: definitions.index,
         })
     }
 

@@ -11,16 +11,11 @@ use crate::line_buffer::LineBuffer;
 use serde_json::Value;
 use std::alloc::{AllocError, Global};
 
+/// The room in which the JSON of names is put together, from the first on: nearly all of a table have less.
+pub(crate) const NAME_ROOM: usize = 64;
+
 /// The hexadecimal digits, in upper case.
 const DIGITS: [u8; 16] = *b"0123456789ABCDEF";
-
-/// A text as JSON, as `serde_json` writes it.
-#[tactic(auto, unfolding(crate::specs::Text::text_json))]
-pub(crate) fn text_json(alloc: Global, text: &str) -> Result<Vec<u8>, AllocError>
-    ensures { IfOk result (λ bytes. bytes.items ≡ text_json text.now) }
-{
-    Value::String(String::from_str(alloc, text)?).to_vec(alloc)
-}
 
 /// A byte that stands for itself in a text.
 fn is_plain(byte: u8) -> bool
@@ -38,6 +33,29 @@ fn are_plain(text: &[u8]) -> bool
         all &= is_plain(*byte);
     }
     all
+}
+
+/// A text as JSON, as `serde_json` writes it.
+#[tactic(auto, unfolding(crate::specs::Text::text_json))]
+fn text_json(alloc: Global, text: &str) -> Result<Vec<u8>, AllocError>
+    ensures { IfOk result (λ bytes. bytes.items ≡ text_json text.now) }
+{
+    Value::String(String::from_str(alloc, text)?).to_vec(alloc)
+}
+
+/// Appends a text as JSON. Where each byte of it stands for itself, as in nearly all names, it is put between quotes
+/// where it goes, without a text of its own.
+pub(crate) fn push_json(alloc: Global, text: &str, out: &mut Vec<u8>) -> Result<(), AllocError>
+    ensures { OnOk result (out.new.items ≡ out.old.items ++ text_json text.now) }
+{
+    if are_plain(text.as_bytes()) {
+        out.push(b'"')?;
+        out.extend_from_slice(text.as_bytes())?;
+        out.push(b'"')?;
+    } else {
+        out.extend_from_slice(&text_json(alloc, text)?)?;
+    }
+    Ok(())
 }
 
 /// The letter that stands for a byte behind a backslash, if one does.
