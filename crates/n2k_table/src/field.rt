@@ -88,7 +88,7 @@ impl Field {
     fn lies_inside(&self, data: &[u8]) -> bool
         ensures { result ≡ lies_inside self.now «data».now }
     {
-        (self.at + self.bits) as usize <= data.len().saturating_mul(8)
+        (self.at + self.bits + 7) as usize / 8 <= data.len()
     }
 
     /// Whether the data have the raw value that the field asks for, or it asks for none.
