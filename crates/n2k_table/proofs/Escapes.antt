@@ -8,9 +8,10 @@ use Rattle.std.proofs.lemmas.List.{drop_more}
 use Rattle.std.proofs.lemmas.List.Folds.{list_all_at}
 use Rattle.std.proofs.Math.Bool.{and-true, and_assoc}
 use Rattle.std.proofs.Math.ListN.{drop_of_length-le}
+use Rattle.std.proofs.lemmas.Grind.{flat_map-append}
 use Rattle.json.specs.Print.{escape_letter, escape_byte}
 use Rattle.n2k_table.specs.Text.{text_json, character, hex_digits, hex_pair, hex_pairs}
-use Rattle.n2k_table.specs.Inner.Line.{is_plain}
+use Rattle.n2k_table.specs.Inner.Line.{is_plain, is_plain_character}
 
 is_not : (b : ℕ) → is_plain b ≡ true → (32 ≤ b) × (eqb b 34 ≡ false) × (eqb b 92 ≡ false)
 is_not b h =
@@ -45,6 +46,21 @@ escape-plain [] h = refl
 escape-plain (b ∷ bs) h =
     let p = and_parts (is_plain b) (list_all is_plain bs) h in
     rw (escape_byte-plain b p.0) (ap (λ (t : List ℕ). b ∷ t) (escape-plain bs p.1))
+
+-- a plain byte of ASCII is a character that stands for itself
+escape_character-plain : (b : ℕ) → is_plain_character b ≡ true → flat_map escape_byte (character b) ≡ b ∷ []
+unfolding encode
+escape_character-plain b h =
+    let p = and_parts (is_plain b) (ltb b 128) h in
+    rw (p.1, escape_byte-plain b p.0) refl
+
+pub escape-characters : (numbers : List ℕ) → list_all is_plain_character numbers ≡ true → flat_map escape_byte (flat_map character numbers) ≡ numbers
+escape-characters [] h = refl
+escape-characters (b ∷ bs) h =
+    let p = and_parts (is_plain_character b) (list_all is_plain_character bs) h in
+    flat_map-append escape_byte (character b) (flat_map character bs)
+    ∙ ap (λ (t : List ℕ). t ++ flat_map escape_byte (flat_map character bs)) (escape_character-plain b p.0)
+    ∙ ap (λ (t : List ℕ). b ∷ t) (escape-characters bs p.1)
 
 -- a character above ASCII and below 256 has two bytes
 pub escape-character : (b : ℕ) → 128 ≤ b → b < 256 → flat_map escape_byte (character b) ≡ (192 + b / 64) ∷ (128 + b % 64) ∷ []

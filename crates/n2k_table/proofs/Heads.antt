@@ -1,11 +1,14 @@
 -- What stands in a line before the members, as the code appends it.
-use Rattle.std.proofs.Common.{◌≡◌, ℕ, zero, suc, ◌+◌, ◌/◌, ◌%◌, ◌<◌, ◌≤◌, Bool, true, ◌&&◌, List, [], ◌∷◌, ◌++◌, IfSome, length, get_or, take, drop, nat_le, refl, sym, ap, ◌∙◌, codes, append_assoc, arith, inl, inr}
+use Rattle.std.proofs.Common.{◌≡◌, ℕ, zero, suc, ◌+◌, ◌-◌, ◌/◌, ◌%◌, ◌<◌, ◌≤◌, Bool, true, ◌&&◌, List, [], ◌∷◌, ◌++◌, IfSome, slice_index_or, take, drop, nat_le, nat_lt, if◌then◌else◌, refl, sym, ap, ◌∙◌, codes, append_assoc, eq-zero-or-pos, arith, inl, inr}
 use Rattle.std.specs.Prelude.{decimal}
 use Rattle.std.specs.List.{list_all, find, join_with_byte}
 use Rattle.std.proofs.lemmas.Bool.{cases_Bool, eqb-true, and_parts, leb-true, le-leb, ne_eqb}
 use Rattle.std.proofs.lemmas.Fmt.{decimal_digit}
 use Rattle.itoa.proofs.Decimal.{decimal_two, decimal_pair}
+use Rattle.std.specs.Str.{bytes_eq}
+use Rattle.std.proofs.lemmas.Slice.Eq.{bytes_eq-Decides}
 use Rattle.n2k_wire.specs.Packet.{PacketParts}
+use Rattle.n2k_table.specs.declared.head.TheConstants.{NUMBERS}
 use Rattle.n2k_table.specs.Definition.{DefinitionParts}
 use Rattle.n2k_table.specs.Table.{TableParts, is_of, matches, choice}
 use Rattle.n2k_table.specs.Text.{text_json, hex_pairs}
@@ -14,34 +17,68 @@ use Rattle.n2k_table.specs.Inner.Line.{is_plain, is_usual, sender_json, before_p
 use Rattle.n2k_table.proofs.Escapes.{text_json-plain}
 
 -- numbers of up to three digits
-pub one_digit : (n : ℕ) → n < 10 → decimal n ≡ (48 + n % 10) ∷ []
+one_digit : (n : ℕ) → n < 10 → decimal n ≡ (48 + n % 10) ∷ []
 one_digit n small =
     let same : n % 10 ≡ n = omega arith in
     rw (same, decimal_digit n small) refl
 
-pub two_digits : (n : ℕ) → 10 ≤ n → n < 100 → decimal n ≡ (48 + n / 10 % 10) ∷ (48 + n % 10) ∷ []
+two_digits : (n : ℕ) → 10 ≤ n → n < 100 → decimal n ≡ (48 + n / 10 % 10) ∷ (48 + n % 10) ∷ []
 two_digits n large small =
     let same : n / 10 % 10 ≡ n / 10 = omega arith in
     rw (same, decimal_two n large small) refl
 
-pub three_digits : (n : ℕ) → 100 ≤ n → n < 1000 → decimal n ≡ (48 + n / 100) ∷ (48 + n / 10 % 10) ∷ (48 + n % 10) ∷ []
+three_digits : (n : ℕ) → 100 ≤ n → n < 1000 → decimal n ≡ (48 + n / 100) ∷ (48 + n / 10 % 10) ∷ (48 + n % 10) ∷ []
 three_digits n large small =
     let tens : n % 100 / 10 ≡ n / 10 % 10 = omega arith in
     let ones : n % 100 % 10 ≡ n % 10 = omega arith in
     rw (decimal_pair n large (omega arith), decimal_digit (n / 100) (omega arith), tens, ones) refl
 
--- seven bytes, one by one
-pub seven_of : (bytes : List ℕ) → length bytes ≡ 7
-    → bytes ≡ get_or bytes 0 0 ∷ get_or bytes 1 0 ∷ get_or bytes 2 0 ∷ get_or bytes 3 0 ∷ get_or bytes 4 0 ∷ get_or bytes 5 0 ∷ get_or bytes 6 0 ∷ []
-seven_of [] is = absurd (omega arith)
-seven_of (a ∷ []) is = absurd (omega arith)
-seven_of (a ∷ b ∷ []) is = absurd (omega arith)
-seven_of (a ∷ b ∷ c ∷ []) is = absurd (omega arith)
-seven_of (a ∷ b ∷ c ∷ d ∷ []) is = absurd (omega arith)
-seven_of (a ∷ b ∷ c ∷ d ∷ e ∷ []) is = absurd (omega arith)
-seven_of (a ∷ b ∷ c ∷ d ∷ e ∷ f ∷ []) is = absurd (omega arith)
-seven_of (a ∷ b ∷ c ∷ d ∷ e ∷ f ∷ g ∷ []) is = refl
-seven_of (a ∷ b ∷ c ∷ d ∷ e ∷ f ∷ g ∷ h ∷ more) is = absurd (omega arith)
+-- the same, as a check of a table computes it
+abbrev few_digits : ℕ → List ℕ
+few_digits n =
+    if nat_lt n 10 then (48 + n % 10) ∷ []
+    else if nat_lt n 100 then (48 + n / 10 % 10) ∷ (48 + n % 10) ∷ []
+    else (48 + n / 100) ∷ (48 + n / 10 % 10) ∷ (48 + n % 10) ∷ []
+
+few_digits_are : (n : ℕ) → n < 1000 → few_digits n ≡ decimal n
+few_digits_are n small = grind (arith, one_digit, two_digits, three_digits)
+
+-- whether four bytes are the text of a number, filled up, and the digit that says how many of them count
+abbrev is_number_text : ℕ → List ℕ → Bool
+is_number_text n text =
+    (nat_le 48 (slice_index_or text 3 0) && nat_le (slice_index_or text 3 0) 51)
+    && bytes_eq (take (slice_index_or text 3 0 - 48) text) (few_digits n)
+
+-- what the code takes of such bytes
+pub record IsNumberText (n : ℕ) (text : List ℕ) : Type 0 where
+  pub low : 48 ≤ slice_index_or text 3 0
+  pub high : slice_index_or text 3 0 ≤ 51
+  pub is : take (slice_index_or text 3 0 - 48) text ≡ decimal n
+
+abbrev are_number_texts : ℕ → Bool
+are_number_texts zero = true
+are_number_texts (suc n) = is_number_text n (slice_index_or NUMBERS n []) && are_number_texts n
+
+number_text_of : (n : ℕ) (text : List ℕ) → n < 1000 → is_number_text n text ≡ true → IsNumberText n text
+number_text_of n text small is =
+    let place = slice_index_or text 3 0 in
+    let digits = bytes_eq (take (place - 48) text) (few_digits n) in
+    let parts = and_parts (nat_le 48 place && nat_le place 51) digits is in
+    let range = and_parts (nat_le 48 place) (nat_le place 51) parts.0 in
+    record { low = leb-true 48 place range.0; high = leb-true place 51 range.1; is = (bytes_eq-Decides (take (place - 48) text) (few_digits n)).0 parts.1 ∙ few_digits_are n small }
+
+number_text_below : (m n : ℕ) → are_number_texts m ≡ true → n < m → n < 1000 → IsNumberText n (slice_index_or NUMBERS n [])
+number_text_below zero n all h small = absurd (omega arith)
+number_text_below (suc m) n all h small =
+    let parts = and_parts (is_number_text m (slice_index_or NUMBERS m [])) (are_number_texts m) all in
+    elim (eq-zero-or-pos (m - n)) [
+      | inl z ↦ let e : n ≡ m = omega arith in rw e (number_text_of m (slice_index_or NUMBERS m []) (omega arith) parts.0)
+      | inr g ↦ number_text_below m n parts.1 (omega arith) small
+    ]
+
+-- the texts of the bytes
+pub number_text : (n : ℕ) → n < 256 → IsNumberText n (slice_index_or NUMBERS n [])
+number_text n small = number_text_below 256 n refl small (omega arith)
 
 line_lists : (ts st c1 p c2 s c3 d c4 g c5 de c6 ms : List ℕ)
     → ((((ts ++ st) ++ (((((c1 ++ p) ++ c2) ++ s) ++ c3) ++ d)) ++ ((((c4 ++ g) ++ c5) ++ de) ++ (c6 ++ 123 ∷ []))) ++ ms) ++ (125 ∷ 125 ∷ 10 ∷ [])
@@ -83,10 +120,6 @@ found_number pgn payload (d ∷ ds) =
 -- a definition that is chosen for a message describes its PGN
 pub choice_number : (t : TableParts) (pgn : ℕ) (payload : List ℕ) → IfSome (choice t pgn payload) (λ (d : DefinitionParts). d.pgn ≡ pgn)
 choice_number t pgn payload = found_number pgn payload t.definitions
-
--- three parts of two are appended in turn
-pub sender_parts : (line a b c d e f l1 l2 l3 : List ℕ) → l1 ≡ line ++ (a ++ b) → l2 ≡ l1 ++ (c ++ d) → l3 ≡ l2 ++ (e ++ f) → l3 ≡ line ++ (((((a ++ b) ++ c) ++ d) ++ e) ++ f)
-sender_parts line a b c d e f l1 l2 l3 p1 p2 p3 = rw (p3, p2, p1) (simp append_assoc)
 
 -- a stamp that stands for itself, between its quotes
 pub plain_time : (line stamp l1 l2 l3 : List ℕ) → list_all is_plain stamp ≡ true → l1 ≡ line ++ codes "{\"timestamp\":\"" → l2 ≡ l1 ++ stamp → l3 ≡ l2 ++ 34 ∷ []

@@ -1,10 +1,10 @@
 -- The members of an object, one after the other.
-use Rattle.std.proofs.Common.{◌≡◌, ℕ, zero, suc, ◌+◌, ◌<◌, ◌≤◌, Bool, true, false, ◌||◌, List, [], ◌∷◌, ◌++◌, length, get_or, drop, Option, Some, None, is_some, map, refl, sym, ap, ◌∙◌, append_assoc, arith, Result, Ok, Err, OnOk, codes}
+use Rattle.std.proofs.Common.{◌≡◌, ℕ, zero, suc, ◌+◌, Bool, true, false, ◌||◌, List, [], ◌∷◌, ◌++◌, length, Option, Some, None, is_some, map, refl, sym, ap, ◌∙◌, append_assoc, arith, Result, Ok, Err, OnOk, codes}
 use Rattle.std.specs.Prelude.{nat_lt, if◌then◌else◌}
 use Rattle.std.specs.List.{filter_map, cons_option, join_with_byte, range_with_len}
 use Rattle.std.proofs.lemmas.Bool.{lt-ltb, le-ltb}
 use Rattle.std.proofs.lemmas.List.FromFn.{map-range_with_len_more}
-use Rattle.std.proofs.lemmas.List.{append-nil, drop_more, at_drop_all}
+use Rattle.std.proofs.lemmas.List.{append-nil}
 use Rattle.n2k_table.specs.Field.{FieldParts}
 use Rattle.n2k_table.specs.Shown.{all_shown, shown}
 use Rattle.n2k_table.specs.Json.{colon, member_json}
@@ -31,21 +31,18 @@ one_more true None rest line = ap (λ t. t ++ members_from true rest) (sym (appe
 one_more false (Some m) rest line = sym (append_assoc line m (members_from true rest))
 one_more true (Some m) rest line = sym (append_assoc line (44 ∷ m) (members_from true rest))
 
-pub goes_on : (empty later : Bool) (fields : List FieldParts) (payload : List ℕ) (i : ℕ) (f : FieldParts) (line total : List ℕ) → i < length fields → f ≡ get_or fields i f
-    → line ++ members_from later (filter_map (member_json empty) (all_shown (drop i fields) payload)) ≡ total
+pub goes_on : (empty later : Bool) (rest others : List FieldParts) (payload : List ℕ) (f : FieldParts) (line total : List ℕ) → rest ≡ f ∷ others
+    → line ++ members_from later (filter_map (member_json empty) (all_shown rest payload)) ≡ total
     → (line ++ member_text later (member_json empty (f.name, shown f payload)))
-    ++ members_from (later || is_some (member_json empty (f.name, shown f payload))) (filter_map (member_json empty) (all_shown (drop (i + 1) fields) payload)) ≡ total
-goes_on empty later fields payload i f line total lt at so_far =
-    let rest = filter_map (member_json empty) (all_shown (drop (i + 1) fields) payload) in
-    let here : drop i fields ≡ f ∷ drop (i + 1) fields = drop_more fields i f lt ∙ ap (λ g. g ∷ drop (i + 1) fields) (sym at) in
-    let one = one_more later (member_json empty (f.name, shown f payload)) rest line in
-    sym one ∙ sym (ap (λ fs. line ++ members_from later (filter_map (member_json empty) (all_shown fs payload))) here) ∙ so_far
+    ++ members_from (later || is_some (member_json empty (f.name, shown f payload))) (filter_map (member_json empty) (all_shown others payload)) ≡ total
+goes_on empty later rest others payload f line total here so_far =
+    sym (one_more later (member_json empty (f.name, shown f payload)) (filter_map (member_json empty) (all_shown others payload)) line)
+    ∙ sym (ap (λ fs. line ++ members_from later (filter_map (member_json empty) (all_shown fs payload))) here) ∙ so_far
 
-pub is_done : (empty later : Bool) (fields : List FieldParts) (payload : List ℕ) (i : ℕ) (line total : List ℕ) → length fields ≤ i
-    → line ++ members_from later (filter_map (member_json empty) (all_shown (drop i fields) payload)) ≡ total → line ≡ total
-is_done empty later fields payload i line total le so_far =
-    let nothing = at_drop_all (λ fs. line ++ members_from later (filter_map (member_json empty) (all_shown fs payload))) fields i le in
-    sym (append-nil line) ∙ sym nothing ∙ so_far
+pub is_done : (empty later : Bool) (rest : List FieldParts) (payload line total : List ℕ) → length rest ≡ 0
+    → line ++ members_from later (filter_map (member_json empty) (all_shown rest payload)) ≡ total → line ≡ total
+is_done empty later [] payload line total none so_far = sym (append-nil line) ∙ so_far
+is_done empty later (f ∷ fs) payload line total none so_far = absurd (omega arith)
 
 -- one more member behind some
 pub joined_more : (ms : List (List ℕ)) (m : List ℕ) → join_with_byte 44 (ms ++ m ∷ []) ≡ join_with_byte 44 ms ++ member_text (has_members ms) (Some m)
@@ -89,19 +86,17 @@ flag_end : (later : Bool) → (later || false) ≡ later
 flag_end true = refl
 flag_end false = refl
 
-pub flag_goes_on : (empty later total : Bool) (fields : List FieldParts) (payload : List ℕ) (i : ℕ) (f : FieldParts) → i < length fields → f ≡ get_or fields i f
-    → (later || has_members (filter_map (member_json empty) (all_shown (drop i fields) payload))) ≡ total
-    → ((later || is_some (member_json empty (f.name, shown f payload))) || has_members (filter_map (member_json empty) (all_shown (drop (i + 1) fields) payload))) ≡ total
-flag_goes_on empty later total fields payload i f lt at so_far =
-    let rest = filter_map (member_json empty) (all_shown (drop (i + 1) fields) payload) in
-    let here : drop i fields ≡ f ∷ drop (i + 1) fields = drop_more fields i f lt ∙ ap (λ g. g ∷ drop (i + 1) fields) (sym at) in
-    sym (flag_more later (member_json empty (f.name, shown f payload)) rest)
+pub flag_goes_on : (empty later total : Bool) (rest others : List FieldParts) (payload : List ℕ) (f : FieldParts) → rest ≡ f ∷ others
+    → (later || has_members (filter_map (member_json empty) (all_shown rest payload))) ≡ total
+    → ((later || is_some (member_json empty (f.name, shown f payload))) || has_members (filter_map (member_json empty) (all_shown others payload))) ≡ total
+flag_goes_on empty later total rest others payload f here so_far =
+    sym (flag_more later (member_json empty (f.name, shown f payload)) (filter_map (member_json empty) (all_shown others payload)))
     ∙ sym (ap (λ fs. later || has_members (filter_map (member_json empty) (all_shown fs payload))) here) ∙ so_far
 
-pub flag_is_done : (empty later total : Bool) (fields : List FieldParts) (payload : List ℕ) (i : ℕ) → length fields ≤ i
-    → (later || has_members (filter_map (member_json empty) (all_shown (drop i fields) payload))) ≡ total → later ≡ total
-flag_is_done empty later total fields payload i le so_far =
-    sym (flag_end later) ∙ sym (at_drop_all (λ fs. later || has_members (filter_map (member_json empty) (all_shown fs payload))) fields i le) ∙ so_far
+pub flag_is_done : (empty later total : Bool) (rest : List FieldParts) (payload : List ℕ) → length rest ≡ 0
+    → (later || has_members (filter_map (member_json empty) (all_shown rest payload))) ≡ total → later ≡ total
+flag_is_done empty later total [] payload none so_far = sym (flag_end later) ∙ so_far
+flag_is_done empty later total (f ∷ fs) payload none so_far = absurd (omega arith)
 
 -- what holds of an answer
 pub on_ok : {T E : Type 0} {P Q : Type 0} (r : Result T E) → (P → Q) → OnOk r P → OnOk r Q

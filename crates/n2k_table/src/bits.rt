@@ -5,28 +5,87 @@ ghost use Rattle.n2k_table.specs.Bits.{raw, greatest};
 /// The most bits that lie in the eight bytes from the byte of their first bit on.
 const MOST_AT_ONCE: u32 = 56;
 
-/// The raw value of any bits, by the bytes in which they lie, from the last down. It is not inlined: few fields are
-/// read so, those of more than 56 bits, and those of data with fewer than eight bytes.
+/// The lower bits of a raw value that is put together of two.
+const HALF: u32 = 32;
+
+/// The raw value of some bits, by the bytes in which they lie, from the last down. It is not inlined: most data have
+/// eight bytes.
 #[cold]
 #[inline(never)]
-fn raw_by_bytes(data: &[u8], at: u32, bits: u32) -> u64
+fn raw_by_bytes(data: &[u8], at: usize, bits: u32) -> u64
+    requires place { at < 2 ^ 33 }
     requires within { at + bits ≤ 8 * length «data».now }
+    requires room { bits ≤ 56 }
+    ensures { result ≡ raw «data».now at bits }
+{
+    let first = at / 8;
+    let mut left = (at + bits as usize + 7) / 8;
+    let mut value: u64 = 0;
+    while left > first {
+        left -= 1;
+        value = 256 * value + u64::from(data[left]);
+    }
+    (value >> (at % 8)) % (1 << bits)
+}
+
+/// The raw value of bits that lie in eight bytes, which are read as one number where the data have so many.
+#[inline(always)]
+fn raw_at_once(data: &[u8], at: usize, bits: u32, mask: u64) -> u64
+    requires place { at < 2 ^ 33 }
+    requires within { at + bits ≤ 8 * length «data».now }
+    requires some { 1 ≤ bits }
+    requires room { bits ≤ 56 }
+    requires mask { mask ≡ 2 ^ bits - 1 }
+    ensures { result ≡ raw «data».now at bits }
+{
+    if data.len() >= 8 {
+        let from = (data.len() - 8).min(at / 8);
+        if let Some(eight) = data[from..from + 8].as_array::<8>() {
+            return (u64::from_le_bytes(*eight) >> (at - 8 * from)) & mask;
+        }
+    }
+    raw_by_bytes(data, at, bits)
+}
+
+/// The raw value of more bits, of its lower half and of the others. It is not inlined: few fields have so many.
+#[cold]
+#[inline(never)]
+fn raw_of_two(data: &[u8], at: usize, bits: u32) -> u64
+    requires place { at < 2 ^ 32 }
+    requires within { at + bits ≤ 8 * length «data».now }
+    requires many { 56 < bits }
     requires room { bits ≤ 64 }
+    ensures { result ≡ raw «data».now at bits }
+{
+    let low = raw_at_once(data, at, HALF, greatest(false, HALF));
+    let high = raw_at_once(
+        data,
+        at + HALF as usize,
+        bits - HALF,
+        greatest(false, bits - HALF),
+    );
+    (high << HALF) + low
+}
+
+/// The raw value of some bits, where the greatest of so many is known.
+#[tactic(auto, using(crate::proofs::RawBits::raw_lt))]
+#[inline(always)]
+pub(crate) fn raw_with_mask(data: &[u8], at: u32, bits: u32, mask: u64) -> u64
+    requires within { at + bits ≤ 8 * length «data».now }
+    requires some { 1 ≤ bits }
+    requires room { bits ≤ 64 }
+    requires mask { mask ≡ 2 ^ bits - 1 }
     ensures value { result ≡ raw «data».now at bits }
     ensures range { result < 2 ^ bits }
 {
-    let first = at as usize / 8;
-    let mut left = (at as usize + bits as usize + 7) / 8;
-    let mut value: u128 = 0;
-    while left > first {
-        left -= 1;
-        value = 256 * value + u128::from(data[left]);
+    if bits <= MOST_AT_ONCE {
+        raw_at_once(data, at as usize, bits, mask)
+    } else {
+        raw_of_two(data, at as usize, bits)
     }
-    ((value >> (at % 8)) % (1 << bits)) as u64
 }
 
-/// The raw value of some bits, the sum of bit `at + j` times `2^j`. Most lie in eight bytes of the data, which are read
-/// as one number.
+/// The raw value of some bits, the sum of bit `at + j` times `2^j`.
 #[inline(always)]
 pub(crate) fn raw(data: &[u8], at: u32, bits: u32) -> u64
     requires within { at + bits ≤ 8 * length «data».now }
@@ -35,13 +94,7 @@ pub(crate) fn raw(data: &[u8], at: u32, bits: u32) -> u64
     ensures value { result ≡ raw «data».now at bits }
     ensures range { result < 2 ^ bits }
 {
-    if bits <= MOST_AT_ONCE && data.len() >= 8 {
-        let from = (data.len() - 8).min(at as usize / 8);
-        if let Some(eight) = data[from..from + 8].as_array::<8>() {
-            return (u64::from_le_bytes(*eight) >> (at as usize - 8 * from)) % (1 << bits);
-        }
-    }
-    raw_by_bytes(data, at, bits)
+    raw_with_mask(data, at, bits, greatest(false, bits))
 }
 
 /// Half of the values of some bits.

@@ -1,5 +1,5 @@
 //! The decimal text of a whole number over a power of ten.
-ghost use Rattle.std.specs.Prelude.{◌≡◌, ◌∷◌, [], ◌++◌, ◌≤◌, ℕ, List, if◌then◌else◌, length, decimal, OnOk, OnErr};
+ghost use Rattle.std.specs.Prelude.{◌≡◌, ◌∷◌, [], ◌++◌, ◌≤◌, ◌&&◌, nat_lt, ℕ, List, if◌then◌else◌, length, decimal, OnOk, OnErr};
 ghost use Rattle.n2k_table.specs.Decimal.{IsDecimal, dec, dotted, minus, padded_digits};
 ghost use Rattle.n2k_table.specs.Inner.Digits.{zero_filled};
 ghost use Rattle.n2k_table.specs.Inner.Number.{value_of};
@@ -48,6 +48,28 @@ fn push_minus(negative: bool, line: &mut LineBuffer) -> Result<(), AllocError>
     Ok(())
 }
 
+/// Appends the sign of a number of that size below zero. Zero has none. It is not inlined, so that the size of a
+/// number above zero is not asked.
+#[inline(never)]
+fn push_sign_below(size: u128, line: &mut LineBuffer) -> Result<(), AllocError>
+    ensures { OnOk result (line.new.items ≡ line.old.items ++ (if nat_lt 0 size then minus ∷ [] else [])) }
+{
+    push_minus(size > 0, line)
+}
+
+/// Appends the sign of a number of that size, or nothing.
+#[inline(always)]
+fn push_sign(negative: bool, size: u128, line: &mut LineBuffer) -> Result<(), AllocError>
+    ensures { OnOk result (line.new.items
+        ≡ line.old.items ++ (if negative && nat_lt 0 size then minus ∷ [] else [])) }
+{
+    if negative {
+        push_sign_below(size, line)
+    } else {
+        Ok(())
+    }
+}
+
 /// Appends the decimal text of `size / 10^decimals`, of any number of digits. It is not inlined: few have so many.
 #[cold]
 #[inline(never)]
@@ -80,7 +102,7 @@ pub(crate) fn push_number(number: Number, line: &mut LineBuffer) -> Result<(), A
     ensures { OnOk result (line.new.items ≡ line.old.items ++ dec (value_of number) number.resolution.decimals) }
 {
     let size = u128::from(number.size) * u128::from(number.resolution.mantissa);
-    push_minus(number.negative & (size > 0), line)?;
+    push_sign(number.negative, size, line)?;
     push_size(size, usize::from(number.resolution.decimals), line)
 }
 

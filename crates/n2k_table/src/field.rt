@@ -1,7 +1,7 @@
 //! A field, and what it shows.
 ghost use Rattle.std.specs.Prelude.{◌≡◌, ◌≤◌, ◌+◌, ◌*◌, length};
 
-use crate::bits::raw;
+use crate::bits::{raw, raw_with_mask};
 use crate::field_value::{FieldValue, name_value, text_value};
 use crate::line_buffer::LineBuffer;
 use crate::lookup::Lookup;
@@ -88,7 +88,7 @@ impl Field {
     fn lies_inside(&self, data: &[u8]) -> bool
         ensures { result ≡ lies_inside self.now «data».now }
     {
-        (self.at + self.bits) as usize <= data.len().saturating_mul(8)
+        (self.at + self.bits + 7) as usize / 8 <= data.len()
     }
 
     /// Whether the data have the raw value that the field asks for, or it asks for none.
@@ -122,7 +122,7 @@ impl Field {
         }
         match &self.meaning {
             Meaning::Number(scale) => {
-                let raw = raw(data, self.at, self.bits);
+                let raw = raw_with_mask(data, self.at, self.bits, scale.max_raw);
                 return scale.number(raw);
             }
             Meaning::Lookup(lookup) => {

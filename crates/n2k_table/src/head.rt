@@ -12,58 +12,90 @@ use std::alloc::AllocError;
 /// How many bytes of a stamp are tested at once.
 const AT_ONCE: usize = 16;
 
-/// The bytes of `,"src":`.
-const LABEL: usize = 7;
+/// The decimal text of each byte, filled up, and behind it how many of its bytes count. To look a source or a
+/// destination up costs a third of working its digits out.
+static NUMBERS: [[u8; 4]; 256] = [
+    *b"0--1", *b"1--1", *b"2--1", *b"3--1", *b"4--1", *b"5--1", *b"6--1", *b"7--1", *b"8--1",
+    *b"9--1", *b"10-2", *b"11-2", *b"12-2", *b"13-2", *b"14-2", *b"15-2", *b"16-2", *b"17-2",
+    *b"18-2", *b"19-2", *b"20-2", *b"21-2", *b"22-2", *b"23-2", *b"24-2", *b"25-2", *b"26-2",
+    *b"27-2", *b"28-2", *b"29-2", *b"30-2", *b"31-2", *b"32-2", *b"33-2", *b"34-2", *b"35-2",
+    *b"36-2", *b"37-2", *b"38-2", *b"39-2", *b"40-2", *b"41-2", *b"42-2", *b"43-2", *b"44-2",
+    *b"45-2", *b"46-2", *b"47-2", *b"48-2", *b"49-2", *b"50-2", *b"51-2", *b"52-2", *b"53-2",
+    *b"54-2", *b"55-2", *b"56-2", *b"57-2", *b"58-2", *b"59-2", *b"60-2", *b"61-2", *b"62-2",
+    *b"63-2", *b"64-2", *b"65-2", *b"66-2", *b"67-2", *b"68-2", *b"69-2", *b"70-2", *b"71-2",
+    *b"72-2", *b"73-2", *b"74-2", *b"75-2", *b"76-2", *b"77-2", *b"78-2", *b"79-2", *b"80-2",
+    *b"81-2", *b"82-2", *b"83-2", *b"84-2", *b"85-2", *b"86-2", *b"87-2", *b"88-2", *b"89-2",
+    *b"90-2", *b"91-2", *b"92-2", *b"93-2", *b"94-2", *b"95-2", *b"96-2", *b"97-2", *b"98-2",
+    *b"99-2", *b"1003", *b"1013", *b"1023", *b"1033", *b"1043", *b"1053", *b"1063", *b"1073",
+    *b"1083", *b"1093", *b"1103", *b"1113", *b"1123", *b"1133", *b"1143", *b"1153", *b"1163",
+    *b"1173", *b"1183", *b"1193", *b"1203", *b"1213", *b"1223", *b"1233", *b"1243", *b"1253",
+    *b"1263", *b"1273", *b"1283", *b"1293", *b"1303", *b"1313", *b"1323", *b"1333", *b"1343",
+    *b"1353", *b"1363", *b"1373", *b"1383", *b"1393", *b"1403", *b"1413", *b"1423", *b"1433",
+    *b"1443", *b"1453", *b"1463", *b"1473", *b"1483", *b"1493", *b"1503", *b"1513", *b"1523",
+    *b"1533", *b"1543", *b"1553", *b"1563", *b"1573", *b"1583", *b"1593", *b"1603", *b"1613",
+    *b"1623", *b"1633", *b"1643", *b"1653", *b"1663", *b"1673", *b"1683", *b"1693", *b"1703",
+    *b"1713", *b"1723", *b"1733", *b"1743", *b"1753", *b"1763", *b"1773", *b"1783", *b"1793",
+    *b"1803", *b"1813", *b"1823", *b"1833", *b"1843", *b"1853", *b"1863", *b"1873", *b"1883",
+    *b"1893", *b"1903", *b"1913", *b"1923", *b"1933", *b"1943", *b"1953", *b"1963", *b"1973",
+    *b"1983", *b"1993", *b"2003", *b"2013", *b"2023", *b"2033", *b"2043", *b"2053", *b"2063",
+    *b"2073", *b"2083", *b"2093", *b"2103", *b"2113", *b"2123", *b"2133", *b"2143", *b"2153",
+    *b"2163", *b"2173", *b"2183", *b"2193", *b"2203", *b"2213", *b"2223", *b"2233", *b"2243",
+    *b"2253", *b"2263", *b"2273", *b"2283", *b"2293", *b"2303", *b"2313", *b"2323", *b"2333",
+    *b"2343", *b"2353", *b"2363", *b"2373", *b"2383", *b"2393", *b"2403", *b"2413", *b"2423",
+    *b"2433", *b"2443", *b"2453", *b"2463", *b"2473", *b"2483", *b"2493", *b"2503", *b"2513",
+    *b"2523", *b"2533", *b"2543", *b"2553",
+];
 
-/// Room for them and a number of up to three digits.
-const PART: usize = LABEL + 3;
-
-/// A label and a number behind it, padded, and how many bytes count. One copy costs less than two.
+/// The decimal text of a byte, filled up, and how many of its bytes count.
 #[inline(always)]
-fn padded_part(label: &[u8; LABEL], number: u8) -> ([u8; PART], usize)
-    ensures text { take result.1 result.0 ≡ label.now ++ decimal number }
-    ensures few { result.1 ≤ 10 }
+fn number_text(number: u8) -> ([u8; 4], usize)
+    ensures text { take result.1 result.0 ≡ decimal number }
+    ensures few { result.1 ≤ 3 }
 {
-    let [a, b, c, d, e, f, g] = *label;
-    let ones = b'0' + number % 10;
-    let tens = b'0' + number / 10 % 10;
-    let hundreds = b'0' + number / 100;
-    match number {
-        0..=9 => ([a, b, c, d, e, f, g, ones, 0, 0], 8),
-        10..=99 => ([a, b, c, d, e, f, g, tens, ones, 0], 9),
-        _ => ([a, b, c, d, e, f, g, hundreds, tens, ones], 10),
-    }
+    let text = NUMBERS[number as usize];
+    (text, (text[3] - b'0') as usize)
 }
 
-/// Appends a label, and a number behind it.
+/// Appends a label, and the decimal text of a byte behind it.
 #[inline(always)]
-fn push_part(label: &[u8; LABEL], number: u8, line: &mut LineBuffer) -> Result<(), AllocError>
+fn push_part<const N: usize>(
+    label: &[u8; N],
+    number: u8,
+    line: &mut LineBuffer,
+) -> Result<(), AllocError>
+    requires { N ≤ 16 }
     ensures { OnOk result (line.new.items ≡ line.old.items ++ (label.now ++ decimal number)) }
 {
-    let (padded, count) = padded_part(label, number);
-    line.put(&padded, count)
+    let (text, count) = number_text(number);
+    line.put_behind(label, &text, count)
 }
 
-/// Appends a priority, which has one digit, behind its label.
+/// Appends a priority, which has one digit, and a source, each behind its label.
 #[inline(always)]
-fn push_priority(prio: u8, line: &mut LineBuffer) -> Result<(), AllocError>
-    requires { prio ≤ 7 }
-    ensures { OnOk result (line.new.items ≡ line.old.items ++ (codes ",\"prio\":" ++ decimal prio)) }
+fn push_source(id: Id, line: &mut LineBuffer) -> Result<(), AllocError>
+    requires { id.prio ≤ 7 }
+    ensures { OnOk result (line.new.items
+        ≡ line.old.items ++ (codes ",\"prio\":" ++ decimal id.prio ++ codes ",\"src\":" ++ decimal id.src)) }
 {
-    line.put(
-        &[b',', b'"', b'p', b'r', b'i', b'o', b'"', b':', b'0' + prio],
-        9,
+    let prio = b'0' + id.prio;
+    push_part(
+        &[
+            b',', b'"', b'p', b'r', b'i', b'o', b'"', b':', prio, b',', b'"', b's', b'r', b'c',
+            b'"', b':',
+        ],
+        id.src,
+        line,
     )
 }
 
 /// Appends who sent what to whom, up to the PGN.
+#[tactic(auto, using(std::proofs::Common::append_assoc), unfolding(crate::specs::Inner::Line::sender_json))]
 #[inline(always)]
 fn push_sender(id: Id, line: &mut LineBuffer) -> Result<(), AllocError>
     requires { id.prio ≤ 7 }
     ensures { OnOk result (line.new.items ≡ line.old.items ++ sender_json id) }
 {
-    push_priority(id.prio, line)?;
-    push_part(b",\"src\":", id.src, line)?;
+    push_source(id, line)?;
     push_part(b",\"dst\":", id.dst, line)
 }
 

@@ -137,8 +137,10 @@ fn push_members(
         IfOk result (λ later. (line.new.items ≡ line.old.items ++ join_with_byte comma ms) × (later ≡ has_members ms)) }
 {
     let mut later = false;
-    for field in fields {
+    let mut rest = fields;
+    while let Some((field, others)) = rest.split_first() {
         later = push_member(field, data, absent, later, line)?;
+        rest = others;
     }
     Ok(later)
 }

@@ -119,6 +119,25 @@ impl LineBuffer {
         Ok(())
     }
 
+    /// Appends a label, and behind it the first bytes of some. Both have one test for room.
+    #[inline(always)]
+    pub(crate) fn put_behind<const N: usize, const M: usize>(
+        &mut self,
+        label: &[u8; N],
+        bytes: &[u8; M],
+        count: usize,
+    ) -> Result<(), AllocError>
+        requires few { count ≤ M }
+        requires room { N + M ≤ 1024 }
+        ensures { OnOk result (self.new.items ≡ self.old.items ++ (label.now ++ take count bytes.now)) }
+    {
+        let at = self.place(N + M)?;
+        write_at(&mut self.room, at, *label);
+        write_at(&mut self.room, at + N, *bytes);
+        self.at = at + N + count;
+        Ok(())
+    }
+
     /// Appends bytes.
     #[inline(always)]
     pub(crate) fn extend_from_slice(&mut self, bytes: &[u8]) -> Result<(), AllocError>

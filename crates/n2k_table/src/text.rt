@@ -5,7 +5,7 @@ ghost use Rattle.std.specs.List.{list_all, flat_map};
 ghost use Rattle.std.specs.Option.{IfSome};
 ghost use Rattle.json.specs.Print.{escape_letter, escape_byte};
 ghost use Rattle.n2k_table.specs.Text.{text_json, hex_pair, hex_pairs, character};
-ghost use Rattle.n2k_table.specs.Inner.Line.{is_plain};
+ghost use Rattle.n2k_table.specs.Inner.Line.{is_plain, is_plain_character};
 
 use crate::line_buffer::LineBuffer;
 use serde_json::Value;
@@ -143,13 +143,43 @@ fn push_character(byte: u8, line: &mut LineBuffer) -> Result<(), AllocError>
     }
 }
 
-fn push_inner_characters(numbers: &[u8], line: &mut LineBuffer) -> Result<(), AllocError>
+/// A byte that is a character of its own, and stands for itself in a text.
+fn is_plain_character(byte: u8) -> bool
+    ensures { result ≡ is_plain_character byte }
+{
+    is_plain(byte) & (byte < 0x80)
+}
+
+/// Whether each byte is one. It looks at each, so that several are compared at once.
+fn are_plain_characters(numbers: &[u8]) -> bool
+    ensures { result ≡ list_all is_plain_character numbers.now }
+{
+    let mut all = true;
+    for number in numbers {
+        all &= is_plain_character(*number);
+    }
+    all
+}
+
+fn push_each_character(numbers: &[u8], line: &mut LineBuffer) -> Result<(), AllocError>
     ensures { OnOk result (line.new.items ≡ line.old.items ++ flat_map escape_byte (flat_map character numbers.now)) }
 {
     for number in numbers {
         push_character(*number, line)?;
     }
     Ok(())
+}
+
+/// Appends what stands between the quotes of a text of characters. Most have plain ones alone, which are copied at
+/// once.
+fn push_inner_characters(numbers: &[u8], line: &mut LineBuffer) -> Result<(), AllocError>
+    ensures { OnOk result (line.new.items ≡ line.old.items ++ flat_map escape_byte (flat_map character numbers.now)) }
+{
+    if are_plain_characters(numbers) {
+        line.extend_from_slice(numbers)
+    } else {
+        push_each_character(numbers, line)
+    }
 }
 
 /// Appends the text of the characters that have these numbers.

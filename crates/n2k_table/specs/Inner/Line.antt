@@ -1,5 +1,5 @@
 -- A JSON line as the code appends it: bytes that stand for themselves, and the parts of a line.
-use Rattle.std.specs.Prelude.{ℕ, ◌==◌, Bool, true, false, not, ◌&&◌, nat_le, codes, decimal, List, [], ◌∷◌, ◌++◌}
+use Rattle.std.specs.Prelude.{ℕ, ◌==◌, Bool, true, false, not, ◌&&◌, nat_le, nat_lt, codes, decimal, List, [], ◌∷◌, ◌++◌}
 use Rattle.std.specs.Prelude.{Option, Some, None, if◌then◌else◌}
 use Rattle.n2k_wire.specs.Packet.{PacketParts}
 use Rattle.n2k_wire.specs.declared.identifier.Id.{Id}
@@ -11,6 +11,10 @@ use Rattle.n2k_table.specs.Json.{comma, colon}
 -- a byte that stands for itself in a JSON text, neither below the space nor a quote nor a backslash
 abbrev pub is_plain : ℕ → Bool
 is_plain b = nat_le 32 b && not (b == 34) && not (b == 92)
+
+-- a plain byte of ASCII, which is a character of its own
+abbrev pub is_plain_character : ℕ → Bool
+is_plain_character b = is_plain b && nat_lt b 128
 
 -- a byte from `-` to `Z`, as digits and upper letters are: each is plain
 abbrev pub is_usual : ℕ → Bool

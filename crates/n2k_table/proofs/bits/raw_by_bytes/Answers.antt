@@ -14,12 +14,12 @@ loop-left-init c =
 pub overflow_mul-value : goal.overflow_mul-value
 overflow_mul-value c =
     let read = 8 * ((c.args.at + c.args.bits + 7) / 8 - c.loop-left.left) in
-    omega (arith, c.requires, raw_lt c.args.«data».now (8 * c.loop-left.left) read, pow_le read 64 (omega (arith, c.requires)))
+    omega (arith, c.requires, raw_lt c.args.«data».now (8 * c.loop-left.left) read, pow_le read 56 (omega (arith, c.requires)))
 
 pub overflow_add-value : goal.overflow_add-value
 overflow_add-value c =
     let read = 8 * ((c.args.at + c.args.bits + 7) / 8 - c.loop-left.left) in
-    omega (arith, c.requires, raw_lt c.args.«data».now (8 * c.loop-left.left) read, pow_le read 64 (omega (arith, c.requires)))
+    omega (arith, c.requires, raw_lt c.args.«data».now (8 * c.loop-left.left) read, pow_le read 56 (omega (arith, c.requires)))
 
 pub loop-left-preserved : goal.loop-left-preserved
 loop-left-preserved c =
@@ -33,14 +33,14 @@ loop-left-preserved c =
     let more = rw (byte, place) at (raw_byte payload (8 * left) read (omega arith) (rw byte ((c.type_inv.«data» left).fits))) in
     (omega arith, omega arith, rw count (omega (arith, more)))
 
-pub returns-clause-value : goal.returns-clause-value
-returns-clause-value c =
+pub returns : goal.returns
+returns c =
     let payload = c.args.«data».now in
     let left = c.loop-left.left in
     let shift = c.args.at % 8 in
     let whole = 8 * ((c.args.at + c.args.bits + 7) / 8 - left) in
     let place : 8 * left + shift ≡ c.args.at = omega (arith, c.loop-left.invariant, c.loop-left-test.false) in
-    let power = one_shl c.args.bits 128 (omega (arith, c.requires)) in
+    let power = one_shl c.args.bits 64 (omega (arith, c.requires)) in
     ap (λ n. c.loop-left.value / 2 ^ shift % n) power
     ∙ ap (λ n. n / 2 ^ shift % 2 ^ c.args.bits) c.loop-left.invariant.2
     ∙ raw_out_of payload (8 * left) shift c.args.bits whole (omega (arith, c.loop-left.invariant, c.loop-left-test.false))

@@ -3,7 +3,7 @@ use Rattle.std.proofs.Common.{◌≡◌, ◌++◌, drop}
 use Rattle.std.specs.List.{flat_map}
 use Rattle.json.specs.Print.{escape_byte}
 use Rattle.n2k_table.specs.Text.{character}
-use Rattle.n2k_table.proofs.text.push_inner_characters.Given as goal
+use Rattle.n2k_table.proofs.text.push_each_character.Given as goal
 
 abbrev pub invariant-loop-number : goal.invariant-loop-number
 invariant-loop-number l =

@@ -1,0 +1,8 @@
+-- The bytes so far and those that are left are plain characters where all are.
+use Rattle.std.proofs.Common.{◌≡◌, ◌&&◌, drop}
+use Rattle.std.specs.List.{list_all}
+use Rattle.n2k_table.specs.Inner.Line.{is_plain_character}
+use Rattle.n2k_table.proofs.text.are_plain_characters.Given as goal
+
+abbrev pub invariant-loop-number : goal.invariant-loop-number
+invariant-loop-number l = (l.all && list_all is_plain_character (drop l.number-index l.numbers)) ≡ list_all is_plain_character l.numbers
