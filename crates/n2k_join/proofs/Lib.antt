@@ -26,6 +26,8 @@ pub mod Numbered
 pub mod Opened
 pub mod Overdue
 pub mod PieceBytes
+pub mod Queue
+pub mod QueueFrames
 pub mod LentFrames
 pub mod PieceFrames
 pub mod ReadStates

@@ -6,7 +6,7 @@ ghost use Rattle.n2k_join.specs.Open.{Group, ended};
 ghost use Rattle.n2k_join.specs.Window.{Window as WindowParts};
 ghost use Rattle.n2k_join.specs.Inner.Stored.{key_of};
 ghost use Rattle.n2k_join.specs.Inner.Slots.{group_in};
-ghost use Rattle.n2k_join.specs.Inner.Queue.{found, StandsAt, live, is_live, groups_by, listed, KeptBy, IsKept, told};
+ghost use Rattle.n2k_join.specs.Inner.Queue.{found, StandsAt, live, is_live, is_front_stale, groups_by, listed, KeptBy, IsKept, told};
 
 use crate::piece::{FrameKey, OpenGroup};
 use crate::step::Broken;
@@ -45,12 +45,19 @@ pub(crate) fn live_group<'a>(
     Some(group)
 }
 
+/// Whether the group that an opening began is open.
+fn is_live(groups: &IndexMap<FrameKey, OpenGroup>, opening: &Opening) -> bool
+    ensures { result ≡ is_live groups.now.entries opening.now }
+{
+    live_group(groups, opening).is_some()
+}
+
 /// Drops the openings of groups that have ended.
 fn drop_stale(groups: &IndexMap<FrameKey, OpenGroup>, openings: &mut VecDeque<Opening>)
     ensures items { openings.new.items ≡ filter (is_live groups.now.entries) openings.old.items }
     ensures capacity { deque_capacity openings.new ≡ deque_capacity openings.old }
 {
-    openings.retain(|opening| live_group(groups, opening).is_some());
+    openings.retain(|opening| is_live(groups, opening));
 }
 
 /// Sees to it that an opening can be added without memory.
@@ -83,7 +90,7 @@ fn drop_front(groups: &IndexMap<FrameKey, OpenGroup>, openings: &mut VecDeque<Op
     ensures groups { groups_by groups.now.entries openings.new.items ≡ groups_by groups.now.entries openings.old.items }
     ensures kept { (next : ℕ) → KeptBy next groups.now.entries openings.old.items (deque_capacity openings.old)
         → KeptBy next groups.now.entries openings.new.items (deque_capacity openings.new) }
-    ensures live { IfSome (slice_get openings.new.items 0) (λ o. is_live groups.now.entries o ≡ true) }
+    ensures live { is_front_stale groups.now.entries openings.new.items ≡ false }
 {
     while is_front_stale(groups, openings) {
         openings.pop_front();
@@ -92,11 +99,11 @@ fn drop_front(groups: &IndexMap<FrameKey, OpenGroup>, openings: &mut VecDeque<Op
 
 /// Whether the first opening is of a group that has ended.
 fn is_front_stale(groups: &IndexMap<FrameKey, OpenGroup>, openings: &VecDeque<Opening>) -> bool
-    ensures stale { result ≡ true → IsSome (slice_get openings.now.items 0) }
-    ensures live { IfSome (slice_get openings.now.items 0) (λ o. result ≡ not (is_live groups.now.entries o)) }
+    ensures value { result ≡ is_front_stale groups.now.entries openings.now.items }
+    ensures some { result ≡ true → 0 < deque_len openings.now }
 {
     match openings.front() {
-        Some(opening) => live_group(groups, opening).is_none(),
+        Some(opening) => !is_live(groups, opening),
         None => false,
     }
 }
@@ -132,7 +139,8 @@ impl OpenGroups {
     {
         let wanted = 2 * (self.groups.len() + 1);
         if self.openings.capacity() < wanted {
-            return self.openings.reserve(wanted - self.openings.len());
+            // Twice of it, since a growth by two at a time would move all openings each time.
+            return self.openings.reserve(wanted.saturating_mul(2) - self.openings.len());
         }
         make_place(&self.groups, &mut self.openings);
         Ok(())

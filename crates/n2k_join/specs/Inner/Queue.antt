@@ -1,6 +1,6 @@
 -- The open groups by key, and their openings in the order of their lines. A group may have ended while its opening
 -- stands: such an opening is stale.
-use Rattle.std.specs.Prelude.{◌≡◌, ℕ, ◌+◌, ◌*◌, ◌<◌, ◌≤◌, ◌==◌, Bool, true, ◌&&◌, if◌then◌else◌, List, [], ◌∷◌, length, Option, Some, None}
+use Rattle.std.specs.Prelude.{◌≡◌, ℕ, ◌+◌, ◌*◌, ◌<◌, ◌≤◌, ◌==◌, Bool, true, false, not, ◌&&◌, if◌then◌else◌, List, [], ◌∷◌, length, Option, Some, None}
 use Rattle.std.specs.Prelude.{filter_map, option_and_then, option_map, is_some, slice_get}
 use Rattle.std.specs.List.{list_any}
 use Rattle.std.specs.Map.{lookup}
@@ -33,6 +33,11 @@ live entries o = option_and_then (begun_on o.first (key_of o.key)) (found entrie
 
 abbrev pub is_live : List (FrameKey × OpenGroup) → Opening → Bool
 is_live entries o = is_some (live entries o)
+
+-- the first opening is stale
+abbrev pub is_front_stale : List (FrameKey × OpenGroup) → List Opening → Bool
+is_front_stale entries [] = false
+is_front_stale entries (o ∷ os) = not (is_live entries o)
 
 -- the open groups, in the order of their openings
 abbrev pub groups_by : List (FrameKey × OpenGroup) → List Opening → List Group
