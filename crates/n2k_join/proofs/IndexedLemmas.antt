@@ -91,7 +91,7 @@ first-group es o is = slice_get-map group_at es 0 ∙ ap (option_map group_at) i
 
 -- ---- an entry written and moved last
 
-slot-written : (es : List (FrameKey × OpenGroup)) (i : ℕ) (w : OpenGroup) (k : FrameKey) (v : OpenGroup) → slice_get es i ≡ Some (k, v) → slice_get (set_value_at es i w) i ≡ Some (k, w)
+pub slot-written : (es : List (FrameKey × OpenGroup)) (i : ℕ) (w : OpenGroup) (k : FrameKey) (v : OpenGroup) → slice_get es i ≡ Some (k, v) → slice_get (set_value_at es i w) i ≡ Some (k, w)
 slot-written [] i w k v e = absurd (none-some (k, v) e)
 slot-written (e ∷ es) zero w k v h = ap (λ (p : FrameKey × OpenGroup). Some (p.0, w)) (same_Some e (k, v) h)
 slot-written (e ∷ es) (suc i) w k v h = slot-written es i w k v h

@@ -137,7 +137,7 @@ module _ (order : Bool) (x : Frame) (gs : List Group) (i : ℕ) (o : Group) (apa
   taken-place : filter_map (taken order x) gs ≡ take i gs ++ (option_to_list (joined order x o) ++ drop (suc i) gs)
   taken-place = taken-at order x gs i o apart at_place.0 at_place.1 at_place.2 ∙ ap (λ (g : Group). take i gs ++ (option_to_list (joined order x g) ++ drop (suc i) gs)) (sym is)
 
-  after-place : groups_after order gs x ≡ (take i gs ++ (option_to_list (joined order x o) ++ drop (suc i) gs)) ++ option_to_list (opened order x (Some o))
+  pub after-place : groups_after order gs x ≡ (take i gs ++ (option_to_list (joined order x o) ++ drop (suc i) gs)) ++ option_to_list (opened order x (Some o))
   unfolding groups_after
   after-place = ap (λ hs. hs ++ option_to_list (opened order x (of_the_key x.key gs))) taken-place ∙ ap (λ (p : Option Group). (take i gs ++ (option_to_list (joined order x o) ++ drop (suc i) gs)) ++ option_to_list (opened order x p)) found-place
 

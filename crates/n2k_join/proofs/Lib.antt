@@ -28,6 +28,7 @@ pub mod Overdue
 pub mod PieceBytes
 pub mod Queue
 pub mod QueueFrames
+pub mod QueueSaved
 pub mod LentFrames
 pub mod PieceFrames
 pub mod ReadStates

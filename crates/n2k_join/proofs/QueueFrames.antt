@@ -1,11 +1,14 @@
 -- A frame taken into the open groups, which are kept by key: what their list is after it.
-use Rattle.std.proofs.Common.{◌≡◌, ◌<◌, ◌≤◌, ◌+◌, ◌-◌, ◌==◌, ◌*◌, ℕ, suc, Bool, true, false, cond, not, List, [], ◌∷◌, ◌++◌, length, take, drop, slice_get, get_or, refl, sym, ap, ◌∙◌, subst, arith, Option, Some, None, IfSome, option_map, ◌&&◌, option_to_list, option_and_then, filter_map, find}
-use Rattle.std.specs.Prelude.{is_some, position}
-use Rattle.std.specs.Map.{values_of}
+use Rattle.std.proofs.Common.{◌≡◌, ◌<◌, ◌≤◌, ◌+◌, ◌-◌, ◌==◌, ◌*◌, ℕ, zero, suc, ltb, Bool, true, false, cond, not, List, [], ◌∷◌, ◌++◌, length, take, drop, slice_get, get_or, refl, sym, ap, ◌∙◌, subst, arith, Option, Some, None, IfSome, option_map, ◌&&◌, option_to_list, option_and_then, filter_map, find}
+use Rattle.std.specs.Prelude.{is_some, position, Result, Ok, Err, OnOk}
+use Rattle.std.specs.Cmp.{IsEquivalence}
+use Rattle.n2k_join.proofs.JoinLemmas.{taken-others}
+use Rattle.n2k_join.proofs.Rising.{passes_none}
+use Rattle.std.specs.Map.{values_of, keys_of}
 use Rattle.std.specs.List.{AllByRecursion, position_or_len, list_any}
-use Rattle.std.proofs.lemmas.List.{append-nil, length-append}
-use Rattle.std.proofs.lemmas.Option.{none-some, same_Some, slice_get_within}
-use Rattle.std.proofs.lemmas.Bool.{lt-ltb}
+use Rattle.std.proofs.lemmas.List.{append-nil, length-append, length-map}
+use Rattle.std.proofs.lemmas.Option.{none-some, same_Some, slice_get_within, cond_some}
+use Rattle.std.proofs.lemmas.Bool.{lt-ltb, ltb-true}
 use Rattle.std.proofs.lemmas.List.Folds.{find_at}
 use Rattle.n2k_join.specs.declared.piece.FrameKey.{FrameKey}
 use Rattle.n2k_join.specs.declared.piece.OpenGroup.{OpenGroup}
@@ -22,9 +25,9 @@ use Rattle.n2k_join.specs.Inner.Slots.{slot_of, group_in}
 use Rattle.n2k_join.specs.Inner.Queue.{found, StandsAt, begun_on, live, groups_by, is_opened, RiseBelow, KeptBy}
 use Rattle.n2k_join.proofs.SlotLemmas.{carried-slots}
 use Rattle.n2k_join.proofs.JoinLemmas.{after-place, rejects-missing, with_piece, complete-with_frame, data_of-with_frame, broken-held, message-begun, groups-begun}
-use Rattle.n2k_join.proofs.Keys.{same_key-refl}
+use Rattle.n2k_join.proofs.Keys.{same_key-refl, same_key-sym, same_key-true}
 use Rattle.n2k_join.proofs.Rising.{none_from, filter_map-push}
-use Rattle.n2k_join.proofs.Queue.{key-found, rise-below, rise-later, rise-push, groups-changed, opened-changed, opened-push, opened-last, begun-before, begun-here}
+use Rattle.n2k_join.proofs.Queue.{one_key, key-found, rise-below, rise-later, rise-push, groups-changed, opened-changed, opened-push, opened-last, begun-before, begun-here}
 
 -- the value at a place of the map is that of its key
 pub at_place : (es : List (FrameKey × OpenGroup)) (k : FrameKey) (at : ℕ) (v : OpenGroup) → StandsAt es k at → slice_get (values_of es) at ≡ Some v → (found es k ≡ Some v) × (slice_get es at ≡ Some (k, v))
@@ -32,12 +35,12 @@ at_place es k at v stands is = by (found es k) refl stands.1
   where
     value : (es : List (FrameKey × OpenGroup)) (i : ℕ) (e : FrameKey × OpenGroup) → slice_get es i ≡ Some e → slice_get (values_of es) i ≡ Some e.1
     value [] i e h = absurd (none-some e h)
-    value (f ∷ es) 0 e h = ap (λ (p : FrameKey × OpenGroup). Some p.1) (same_Some f e h)
+    value (f ∷ es) zero e h = ap (λ (p : FrameKey × OpenGroup). Some p.1) (same_Some f e h)
     value (f ∷ es) (suc i) e h = value es i e h
 
     none : (es : List (FrameKey × OpenGroup)) (i : ℕ) → slice_get es i ≡ None → slice_get (values_of es) i ≡ None
     none [] i h = refl
-    none (f ∷ es) 0 h = absurd (none-some f (sym h))
+    none (f ∷ es) zero h = absurd (none-some f (sym h))
     none (f ∷ es) (suc i) h = none es i h
 
     by : (o : Option OpenGroup) → found es k ≡ o → slice_get es at ≡ option_map (λ g. (k, g)) o → (found es k ≡ Some v) × (slice_get es at ≡ Some (k, v))
@@ -45,6 +48,66 @@ at_place es k at v stands is = by (found es k) refl stands.1
     by (Some w) e h =
         let same : w ≡ v = same_Some w v (sym (value es at (k, w) h) ∙ is) in
         (e ∙ ap Some same, h ∙ ap (λ (g : OpenGroup). Some (k, g)) same)
+
+module _ (k : FrameKey) where
+  first-place : (es : List (FrameKey × OpenGroup)) → position_or_len (λ (j : FrameKey). same_key (key_of k) (key_of j)) (keys_of es) < length es
+      → slice_get es (position_or_len (λ (j : FrameKey). same_key (key_of k) (key_of j)) (keys_of es)) ≡ option_map (λ g. (k, g)) (found es k)
+  first-place [] l = absurd (omega arith)
+  first-place (e ∷ es) l = by (same_key (key_of k) (key_of e.0)) refl (λ l. first-place es l) l
+    where
+      next : (n : ℕ) → 1 + n ≡ suc n
+      next n = omega arith
+
+      by : (b : Bool) → same_key (key_of k) (key_of e.0) ≡ b
+          → (position_or_len (λ (j : FrameKey). same_key (key_of k) (key_of j)) (keys_of es) < length es → slice_get es (position_or_len (λ (j : FrameKey). same_key (key_of k) (key_of j)) (keys_of es)) ≡ option_map (λ g. (k, g)) (found es k))
+          → cond (not b) (1 + position_or_len (λ (j : FrameKey). same_key (key_of k) (key_of j)) (keys_of es)) 0 < suc (length es)
+          → slice_get (e ∷ es) (cond (not (same_key (key_of k) (key_of e.0))) (1 + position_or_len (λ (j : FrameKey). same_key (key_of k) (key_of j)) (keys_of es)) 0) ≡ option_map (λ g. (k, g)) (cond (same_key (key_of k) (key_of e.0)) (Some e.1) (found es k))
+      by true t rest l =
+          ap (λ b. slice_get (e ∷ es) (cond (not b) (1 + position_or_len (λ (j : FrameKey). same_key (key_of k) (key_of j)) (keys_of es)) 0)) t
+          ∙ ap (λ (j : FrameKey). Some (j, e.1)) (sym (one_key k e.0 t))
+          ∙ ap (λ b. option_map (λ g. (k, g)) (cond b (Some e.1) (found es k))) (sym t)
+      by false t rest l =
+          ap (λ b. slice_get (e ∷ es) (cond (not b) (1 + position_or_len (λ (j : FrameKey). same_key (key_of k) (key_of j)) (keys_of es)) 0)) t
+          ∙ ap (slice_get (e ∷ es)) (next (position_or_len (λ (j : FrameKey). same_key (key_of k) (key_of j)) (keys_of es)))
+          ∙ rest (omega (arith, l))
+          ∙ ap (λ b. option_map (λ g. (k, g)) (cond b (Some e.1) (found es k))) (sym t)
+
+  -- the place that a look-up gives
+  pub places : (es : List (FrameKey × OpenGroup)) (r : Option ℕ) → r ≡ position (λ (j : FrameKey). same_key (key_of k) (key_of j)) (keys_of es) → IfSome r (λ at. StandsAt es k at)
+  places es None e = tt
+  places es (Some i) e =
+      let P : FrameKey → Bool = λ j. same_key (key_of k) (key_of j) in
+      let at = cond_some (ltb (position_or_len P (keys_of es)) (length (keys_of es))) (position_or_len P (keys_of es)) i (sym e) in
+      let within : position_or_len P (keys_of es) < length es = omega (arith, ltb-true _ _ at.0, length-map es (λ (e : FrameKey × OpenGroup). e.0)) in
+      (omega (arith, within, at.1), ap (slice_get es) (sym at.1) ∙ first-place es within)
+
+pub key_laws : IsEquivalence (λ (a b : FrameKey). same_key (key_of a) (key_of b))
+key_laws = record {
+  refl = λ x. same_key-refl (key_of x);
+  symm = λ x y. same_key-sym (key_of x) (key_of y);
+  congr = λ x y z e. ap (λ (k : Key). same_key k (key_of z)) (same_key-true (key_of x) (key_of y) e);
+}
+
+-- a change at a key after another
+pub changed-twice : (k : FrameKey) (a b : Option OpenGroup) (es es' es'' : List (FrameKey × OpenGroup)) → ((j : FrameKey) → found es' j ≡ cond (same_key (key_of k) (key_of j)) a (found es j)) → ((j : FrameKey) → found es'' j ≡ cond (same_key (key_of k) (key_of j)) b (found es' j))
+    → (j : FrameKey) → found es'' j ≡ cond (same_key (key_of k) (key_of j)) b (found es j)
+changed-twice k a b es es' es'' one two j = two j ∙ by (same_key (key_of k) (key_of j)) refl
+  where
+    by : (c : Bool) → same_key (key_of k) (key_of j) ≡ c → cond (same_key (key_of k) (key_of j)) b (found es' j) ≡ cond (same_key (key_of k) (key_of j)) b (found es j)
+    by true t = ap (λ c. cond c b (found es' j)) t ∙ ap (λ c. cond c b (found es j)) (sym t)
+    by false t = ap (cond (same_key (key_of k) (key_of j)) b) (one j ∙ ap (λ c. cond c a (found es j)) t)
+
+-- where none is open of the frame's key
+pub none-after : (order : Bool) (x : Frame) (gs : List Group) → of_the_key x.key gs ≡ None → groups_after order gs x ≡ gs ++ option_to_list (started x)
+unfolding groups_after
+none-after order x gs none =
+    ap (λ hs. hs ++ option_to_list (opened order x (of_the_key x.key gs))) (taken-others order x gs (passes_none (λ (g : Group). same_key x.key g.key) gs none))
+    ∙ ap (λ (o : Option Group). gs ++ option_to_list (opened order x o)) none
+
+-- what follows of an answer follows where it is one
+pub on_ok : {T E : Type 0} (r : Result T E) (P Q : Type 0) → (P → Q) → OnOk r P → OnOk r Q
+on_ok (Ok x) P Q f p = f p
+on_ok (Err e) P Q f p = tt
 
 -- ---- what is open of the frame's key
 
@@ -62,22 +125,26 @@ counted-after order x gs o apart there =
   where
     read : (gs : List Group) (i : ℕ) (o : Group) → slice_get gs i ≡ Some o → o ≡ get_or gs i o
     read [] i o e = absurd (none-some o e)
-    read (g ∷ gs) 0 o e = sym (same_Some g o e)
+    read (g ∷ gs) zero o e = sym (same_Some g o e)
     read (g ∷ gs) (suc i) o e = read gs i o e
 
     split : (gs : List Group) (i : ℕ) (hs : List Group) → i < length gs → 1 + length (take i gs ++ (hs ++ drop (suc i) gs)) ≡ length gs + length hs
     split [] i hs l = absurd (omega arith)
-    split (g ∷ gs) 0 hs l = omega (arith, length-append hs gs)
-    split (g ∷ gs) (suc i) hs l = ap suc (split gs i hs (omega arith))
+    split (g ∷ gs) zero hs l = omega (arith, length-append hs gs)
+    split (g ∷ gs) (suc i) hs l = let less : i < length gs = omega (arith, l) in omega (arith, split gs i hs less)
 
 -- what holds of each group holds of the one of a key
 pub all-found : (P : Group → Type 0) (key : Key) (gs : List Group) (o : Group) → AllByRecursion P gs → of_the_key key gs ≡ Some o → P o
 all-found P key [] o all e = absurd (none-some o e)
-all-found P key (g ∷ gs) o all e = by (same_key key g.key) e
+all-found P key (g ∷ gs) o all e = by (same_key key g.key) e (all-found P key gs o all.1)
   where
-    by : (b : Bool) → cond b (Some g) (of_the_key key gs) ≡ Some o → P o
-    by true e = subst P (same_Some g o e) all.0
-    by false e = all-found P key gs o all.1 e
+    by : (b : Bool) → cond b (Some g) (of_the_key key gs) ≡ Some o → (of_the_key key gs ≡ Some o → P o) → P o
+    by true e rest = subst P (same_Some g o e) all.0
+    by false e rest = rest e
+
+both : {X : Type 0} (b : Bool) (x : X) → x ≡ cond b x x
+both true x = refl
+both false x = refl
 
 module _ (next : ℕ) (es : List (FrameKey × OpenGroup)) (os : List Opening) (c : ℕ) (k : FrameKey) (v : OpenGroup) (kept : KeptBy next es os c) (there : found es k ≡ Some v) where
   pub found-here : of_the_key (key_of k) (groups_by es os) ≡ Some (group_in (key_of k) v)
@@ -197,11 +264,7 @@ module _ (order : Bool) (line : ℕ) (packet : PacketParts) (frame : FastFrame) 
     -- or is complete, and goes
     module _ (done : complete (held_of grown_group) ≡ true) (changes : (j : FrameKey) → found es' j ≡ cond (same_key (key_of frame.key) (key_of j)) None (found es j)) where
       pub goes-groups : groups_by es' os ≡ groups_after order (groups_by es os) x
-      goes-groups = stepped None None (joined-is true done) changes (λ n l. nothing (v.first == n)) ∙ sym after-joins
-        where
-          nothing : (b : Bool) → None ≡ cond b None None
-          nothing true = refl
-          nothing false = refl
+      goes-groups = stepped None None (joined-is true done) changes (λ n l. both (v.first == n) None) ∙ sym after-joins
 
       pub goes-kept : length es' + 1 ≡ length es → KeptBy (line + 1) es' os c
       goes-kept less =
@@ -239,12 +302,8 @@ module _ (order : Bool) (line : ℕ) (packet : PacketParts) (frame : FastFrame) 
     module _ (done : complete (held_of fresh_group) ≡ true) (changes : (j : FrameKey) → found es' j ≡ cond (same_key (key_of frame.key) (key_of j)) None (found es j)) where
       pub ends-groups : groups_by es' os ≡ groups_after order (groups_by es os) x
       ends-groups =
-          stepped None None joined-none changes (λ n l. nothing (v.first == n))
+          stepped None None joined-none changes (λ n l. both (v.first == n) None)
           ∙ sym (after-is ∙ ap (λ gs. filter_map (taken order x) (groups_by es os) ++ gs) (opened-begun true done) ∙ append-nil (filter_map (taken order x) (groups_by es os)))
-        where
-          nothing : (b : Bool) → None ≡ cond b None None
-          nothing true = refl
-          nothing false = refl
 
       pub ends-kept : length es' + 1 ≡ length es → KeptBy (line + 1) es' os c
       ends-kept less =
@@ -260,12 +319,8 @@ module _ (order : Bool) (line : ℕ) (packet : PacketParts) (frame : FastFrame) 
       pub last-groups : groups_by es' (os ++ record { first = line; key = frame.key } ∷ []) ≡ groups_after order (groups_by es os) x
       last-groups =
           filter_map-push (live es') os (record { first = line; key = frame.key })
-          ∙ (λ i. stepped (Some w) None joined-none changes (λ n l. begun-before n line (key_of frame.key) w l first ∙ nothing (v.first == n)) i ++ option_to_list (begun-here es' frame.key w line first w_there i))
+          ∙ (λ i. stepped (Some w) None joined-none changes (λ n l. begun-before n line (key_of frame.key) w l first ∙ both (v.first == n) None) i ++ option_to_list (begun-here es' frame.key w line first w_there i))
           ∙ sym (after-is ∙ ap (λ gs. filter_map (taken order x) (groups_by es os) ++ gs) (opened-begun false left))
-        where
-          nothing : (b : Bool) → None ≡ cond b None None
-          nothing true = refl
-          nothing false = refl
 
       pub last-kept : length es' ≡ length es → KeptBy (line + 1) es' (os ++ record { first = line; key = frame.key } ∷ []) c
       last-kept same =
