@@ -106,20 +106,6 @@ unfolding state_text
 text_written s before text none ts is nothing is_none all =
     is ∙ ap (λ b. b ++ print ts) nothing ∙ ap print (all ∙ ap (λ n. n ++ tokens_of (state_tree s)) is_none) ∙ print-outline (state_tree s)
 
--- what is written and what is left are all
-pub group_more_written : (k : FrameKey) (v : OpenGroup) (all written now : List Token) (left next : List (FrameKey × OpenGroup)) → left ≡ (k, v) ∷ next
-    → now ≡ written ++ tokens_of (group_tree (group_at (k, v))) → all ≡ written ++ groups_tokens (groups_in left)
-    → all ≡ now ++ groups_tokens (groups_in next)
-unfolding groups_tokens
-group_more_written k v all written now left next steps is so_far =
-    so_far ∙ ap (λ es. written ++ groups_tokens (groups_in es)) steps
-    ∙ sym (append_assoc written (tokens_of (group_tree (group_at (k, v)))) (groups_tokens (groups_in next)))
-    ∙ ap (λ ts. ts ++ groups_tokens (groups_in next)) (sym is)
-
-pub groups_written : (all now : List Token) (left : List (FrameKey × OpenGroup)) → left ≡ [] → all ≡ now ++ groups_tokens (groups_in left) → now ≡ all
-unfolding groups_tokens
-groups_written all now left none is = sym (is ∙ ap (λ es. now ++ groups_tokens (groups_in es)) none ∙ append-nil now)
-
 -- the members behind the open groups, as they are written
 pub back_written : (o o1 o2 o3 o4 : List Token) (with_window : Bool) (id : List ℕ) (window : ℕ) (c : Counts)
     → o1 ≡ o ++ lines_tokens c → o2 ≡ o1 ++ table_tokens id → o3 ≡ o2 ++ count_tokens (codes "unknown") c.unknown → o4 ≡ o3 ++ window_tokens with_window window

@@ -10,8 +10,12 @@ use Rattle.n2k_join.proofs.Expiring.{is_due, expires_first, expires_by, expired_
 use Rattle.n2k_join.proofs.join.Join.expire.Goals as goal
 
 pub invariant_of-self : goal.invariant_of-self
-unfolding expired
 invariant_of-self c =
+    (subst (λ gs. IsState (record { id = c.self.inside.id; window = c.self.inside.window; counts = c.self.inside.counts; groups = gs })) (sym (c.in_err-broken.ensures.unchanged refl)) c.self.invariant.0, c.take_ended.ensures.kept)
+
+pub invariant_of-self-2 : goal.invariant_of-self-2
+unfolding expired
+invariant_of-self-2 c =
     let s : State = record { id = c.self.inside.id; window = c.self.inside.window; counts = c.self.inside.counts; groups = listed c.self.inside.groups } in
     let d = expires_by s c.args.self.now c.in_ok-broken.broken c.self.view_is c.self.invariant.0 (told s c.args.self.now c.self.view_is c.if-self-eq-MOST_LINES.false _ (c.take_ended.ensures.broken) ∙ c.in_ok-broken.was) in
     (subst (λ gs. IsState (record { id = s.id; window = s.window; counts = record s.counts { broken = s.counts.broken + 1; held = s.counts.held - 1 }; groups = gs })) (sym (c.in_ok-broken.ensures.taken refl)) (expired-state s d.group d.is c.self.invariant.0), c.take_ended.ensures.kept)
