@@ -140,7 +140,9 @@ impl OpenGroups {
         let wanted = 2 * (self.groups.len() + 1);
         if self.openings.capacity() < wanted {
             // Twice of it, since a growth by two at a time would move all openings each time.
-            return self.openings.reserve(wanted.saturating_mul(2) - self.openings.len());
+            return self
+                .openings
+                .reserve(wanted.saturating_mul(2) - self.openings.len());
         }
         make_place(&self.groups, &mut self.openings);
         Ok(())

@@ -51,10 +51,10 @@ returns-clause-message c =
     let g = c.args.groups.now in
     let none = key-found c.args.line g.groups.entries g.openings.items (deque_capacity g.openings) c.requires.kept c.args.frame.now.key ∙ ap (option_map (group_in key)) c.requires.new in
     on_ok c.insert.result _ _ (λ _.
-        c.requires.none
-        ∙ sym (ap (λ b. cond b (Some (record { stamp = x.stamp; id = x.id; payload = data_of (held_of (group_in key c.open-begun.result)) })) None) (sym (c.is_complete.ensures key) ∙ c.if-is_complete.false))
-        ∙ message-begun x (group_in key c.open-begun.result) c.args.frame.now.piece.small (c.open-begun.ensures c.args.packet.now)
-        ∙ sym (ap (gained c.args.in_order x) none)) c.insert.ensures.added
+    c.requires.none
+    ∙ sym (ap (λ b. cond b (Some (record { stamp = x.stamp; id = x.id; payload = data_of (held_of (group_in key c.open-begun.result)) })) None) (sym (c.is_complete.ensures key) ∙ c.if-is_complete.false))
+    ∙ message-begun x (group_in key c.open-begun.result) c.args.frame.now.piece.small (c.open-begun.ensures c.args.packet.now)
+    ∙ sym (ap (gained c.args.in_order x) none)) c.insert.ensures.added
 
 pub returns-clause-groups : goal.returns-clause-groups
 returns-clause-groups c =
@@ -63,9 +63,9 @@ returns-clause-groups c =
     let g = c.args.groups.now in
     let none = key-found c.args.line g.groups.entries g.openings.items (deque_capacity g.openings) c.requires.kept c.args.frame.now.key ∙ ap (option_map (group_in key)) c.requires.new in
     on_ok c.insert.result _ _ (λ added.
-        added
-        ∙ ap (λ gs. listed g ++ gs) (sym (ap (λ b. cond b [] (group_in key c.open-begun.result ∷ [])) (sym (c.is_complete.ensures key) ∙ c.if-is_complete.false)) ∙ groups-begun x (group_in key c.open-begun.result) c.args.frame.now.piece.small (c.open-begun.ensures c.args.packet.now))
-        ∙ sym (none-after c.args.in_order x (listed g) none)) c.insert.ensures.added
+    added
+    ∙ ap (λ gs. listed g ++ gs) (sym (ap (λ b. cond b [] (group_in key c.open-begun.result ∷ [])) (sym (c.is_complete.ensures key) ∙ c.if-is_complete.false)) ∙ groups-begun x (group_in key c.open-begun.result) c.args.frame.now.piece.small (c.open-begun.ensures c.args.packet.now))
+    ∙ sym (none-after c.args.in_order x (listed g) none)) c.insert.ensures.added
 
 pub returns-clause-kept : goal.returns-clause-kept
 returns-clause-kept c =
