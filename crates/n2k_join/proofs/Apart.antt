@@ -17,7 +17,6 @@ use Rattle.n2k_join.specs.Inner.Apart.{each_new}
 use Rattle.n2k_join.specs.Inner.Stored.{key_of}
 use Rattle.n2k_join.specs.Inner.Stored.{of_the_key}
 use Rattle.n2k_join.specs.Resumed.{firsts_rise}
-use Rattle.n2k_join.proofs.IndexedLemmas.{insert-last}
 use Rattle.n2k_join.proofs.Keys.{same_key-sym}
 use Rattle.n2k_join.proofs.Rising.{all-append}
 use Rattle.std.proofs.Math.Bool.{or-false, and-false}

@@ -14,7 +14,6 @@ pub mod GroupLines
 pub mod Healing
 pub mod Held
 pub mod InOrder
-pub mod IndexedLemmas
 pub mod JoinLemmas
 pub mod Keeping
 pub mod KeyCounts

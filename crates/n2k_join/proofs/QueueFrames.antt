@@ -10,6 +10,7 @@ use Rattle.std.proofs.lemmas.List.{append-nil, length-append, length-map}
 use Rattle.std.proofs.lemmas.Option.{none-some, same_Some, slice_get_within, cond_some}
 use Rattle.std.proofs.lemmas.Bool.{lt-ltb, ltb-true}
 use Rattle.std.proofs.lemmas.List.Folds.{find_at}
+use Rattle.indexmap.specs.IndexMap.{set_value_at}
 use Rattle.n2k_join.specs.declared.piece.FrameKey.{FrameKey}
 use Rattle.n2k_join.specs.declared.piece.OpenGroup.{OpenGroup}
 use Rattle.n2k_join.specs.declared.piece.FastFrame.{FastFrame}
@@ -28,6 +29,18 @@ use Rattle.n2k_join.proofs.JoinLemmas.{after-place, rejects-missing, with_piece,
 use Rattle.n2k_join.proofs.Keys.{same_key-refl, same_key-sym, same_key-true}
 use Rattle.n2k_join.proofs.Rising.{none_from, filter_map-push}
 use Rattle.n2k_join.proofs.Queue.{one_key, key-found, rise-below, rise-later, rise-push, groups-changed, opened-changed, opened-push, opened-last, begun-before, begun-here}
+
+-- ---- an entry written
+
+pub slot-written : (es : List (FrameKey × OpenGroup)) (i : ℕ) (w : OpenGroup) (k : FrameKey) (v : OpenGroup) → slice_get es i ≡ Some (k, v) → slice_get (set_value_at es i w) i ≡ Some (k, w)
+slot-written [] i w k v e = absurd (none-some (k, v) e)
+slot-written (e ∷ es) zero w k v h = ap (λ (p : FrameKey × OpenGroup). Some (p.0, w)) (same_Some e (k, v) h)
+slot-written (e ∷ es) (suc i) w k v h = slot-written es i w k v h
+
+pub length-written : (es : List (FrameKey × OpenGroup)) (i : ℕ) (w : OpenGroup) → length (set_value_at es i w) ≡ length es
+length-written [] i w = refl
+length-written (e ∷ es) zero w = refl
+length-written (e ∷ es) (suc i) w = ap suc (length-written es i w)
 
 -- the value at a place of the map is that of its key
 pub at_place : (es : List (FrameKey × OpenGroup)) (k : FrameKey) (at : ℕ) (v : OpenGroup) → StandsAt es k at → slice_get (values_of es) at ≡ Some v → (found es k ≡ Some v) × (slice_get es at ≡ Some (k, v))

@@ -15,6 +15,10 @@ use indexmap::IndexMap;
 use std::alloc::{AllocError, Global};
 use std::collections::VecDeque;
 
+/// How many openings there is room for beside three for each open group, where room is made: so a queue of few groups
+/// is seldom full, and one of many grows by half.
+const SPARE_OPENINGS: usize = 32;
+
 /// That a group of a key was opened at a line.
 #[derive(Clone, Copy)]
 pub(crate) struct Opening {
@@ -22,9 +26,9 @@ pub(crate) struct Opening {
     pub(crate) key: FrameKey,
 }
 
-/// The open groups. Where a group ends out of turn, only the map forgets it: its opening grows stale in the queue, from
-/// which it is dropped when it comes to the front, or when the queue is full. So each step costs the same on average,
-/// however many groups are open.
+/// The open groups. The map is without order, so that any group is taken out of it at once. Where one ends out of turn,
+/// its opening stays in the queue, stale, until it comes to the front or the queue is full: then at least half of the
+/// openings are stale, and all these are dropped. So a step costs the same on average, however many groups are open.
 #[derive(Drop)]
 pub(crate) struct OpenGroups {
     pub(crate) groups: IndexMap<FrameKey, OpenGroup>,

@@ -11,8 +11,7 @@ use Rattle.n2k_join.specs.State.{IsOpen, AreApart}
 use Rattle.n2k_join.specs.Inner.Stored.{key_of, frame_of, rejects, of_the_key, gained, lost, groups_after}
 use Rattle.n2k_join.specs.Inner.Slots.{group_in}
 use Rattle.n2k_join.specs.Inner.Queue.{found, groups_by, listed, KeptBy, IsKept}
-use Rattle.n2k_join.proofs.IndexedLemmas.{slot-written, length-written}
-use Rattle.n2k_join.proofs.QueueFrames.{at_place, says-here, empty-here, key_laws, changed-twice, joins-message, stays-groups, stays-kept, goes-groups, goes-kept}
+use Rattle.n2k_join.proofs.QueueFrames.{slot-written, length-written, at_place, says-here, empty-here, key_laws, changed-twice, joins-message, stays-groups, stays-kept, goes-groups, goes-kept}
 use Rattle.n2k_join.proofs.frame_taking.join_at.Goals as goal
 
 pub take-requires : goal.take-requires
