@@ -1,15 +1,14 @@
 -- The open groups by key and the queue of their openings: what the list of the groups is after each step.
-use Rattle.std.proofs.Common.{◌≡◌, ◌<◌, ◌≤◌, ◌+◌, ◌==◌, ◌*◌, ℕ, zero, suc, Bool, true, false, cond, not, ◌&&◌, ◌||◌, List, [], ◌∷◌, ◌++◌, length, drop, slice_get, nat_lt, refl, sym, ap, ◌∙◌, subst, arith, Option, Some, None, IfSome, option_map, option_to_list, option_and_then, filter, filter_map, find}
+use Rattle.std.proofs.Common.{◌≡◌, ◌<◌, ◌≤◌, ◌+◌, ◌==◌, ◌*◌, ℕ, zero, suc, Bool, true, false, cond, not, ◌&&◌, ◌||◌, List, [], ◌∷◌, ◌++◌, length, drop, slice_get, nat_lt, refl, sym, ap, ◌∙◌, subst, arith, Option, Some, None, option_map, option_to_list, option_and_then, filter, filter_map}
 use Rattle.std.specs.Prelude.{is_some, slice_index_or}
-use Rattle.std.specs.Map.{lookup, values_of}
-use Rattle.std.specs.List.{cons_option, list_any, AllByRecursion}
+use Rattle.std.specs.List.{cons_option, AllByRecursion}
 use Rattle.std.proofs.lemmas.Bool.{ltb-true, eqb-true, eq-eqb, ne_eqb, and_parts, and_from, false≢true}
 use Rattle.std.proofs.lemmas.Option.{none-some, same_Some}
 use Rattle.std.proofs.lemmas.List.{length-append}
 use Rattle.n2k_join.specs.declared.piece.FrameKey.{FrameKey}
 use Rattle.n2k_join.specs.declared.piece.OpenGroup.{OpenGroup}
 use Rattle.n2k_join.specs.declared.open_groups.Opening.{Opening}
-use Rattle.n2k_join.specs.Frames.{Key, same_key, Frame}
+use Rattle.n2k_join.specs.Frames.{Key, same_key}
 use Rattle.n2k_join.specs.Open.{Group, ended}
 use Rattle.n2k_join.specs.Window.{Window}
 use Rattle.n2k_join.specs.Messages.{as_broken}
@@ -17,7 +16,7 @@ use Rattle.n2k_join.proofs.Windows.{later-wait}
 use Rattle.n2k_join.specs.State.{Rise}
 use Rattle.n2k_join.specs.Inner.Stored.{key_of, of_the_key}
 use Rattle.n2k_join.specs.Inner.Slots.{group_in}
-use Rattle.n2k_join.specs.Inner.Queue.{found, StandsAt, begun_on, live, is_live, groups_by, RiseBelow, is_opened, KeptBy, is_front_stale, told}
+use Rattle.n2k_join.specs.Inner.Queue.{found, begun_on, live, is_live, groups_by, RiseBelow, is_opened, KeptBy, is_front_stale, told}
 use Rattle.n2k_join.proofs.Keys.{same_key-true, same_key-refl, same_key-sym}
 use Rattle.n2k_join.proofs.Rising.{filter_map-push}
 

@@ -1,5 +1,5 @@
 -- A frame taken into the open groups, which are kept by key: what their list is after it.
-use Rattle.std.proofs.Common.{◌≡◌, ◌<◌, ◌≤◌, ◌+◌, ◌-◌, ◌==◌, ◌*◌, ℕ, zero, suc, ltb, Bool, true, false, cond, not, List, [], ◌∷◌, ◌++◌, length, take, drop, slice_get, get_or, refl, sym, ap, ◌∙◌, subst, arith, Option, Some, None, IfSome, option_map, ◌&&◌, option_to_list, option_and_then, filter_map, find}
+use Rattle.std.proofs.Common.{◌≡◌, ◌<◌, ◌≤◌, ◌+◌, ◌==◌, ◌*◌, ℕ, zero, suc, ltb, Bool, true, false, cond, not, List, [], ◌∷◌, ◌++◌, length, take, drop, slice_get, get_or, refl, sym, ap, ◌∙◌, subst, arith, Option, Some, None, IfSome, option_map, ◌&&◌, option_to_list, option_and_then, filter_map}
 use Rattle.std.specs.Prelude.{is_some, position, Result, Ok, Err, OnOk}
 use Rattle.std.specs.Cmp.{IsEquivalence}
 use Rattle.n2k_join.proofs.JoinLemmas.{taken-others}

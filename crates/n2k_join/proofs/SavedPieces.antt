@@ -6,14 +6,13 @@ use Rattle.json.specs.Print.{print}
 use Rattle.json.specs.Token.{Token}
 use Rattle.serde_json.proofs.Texts.{print-outline}
 use Rattle.n2k_join.specs.declared.counts.Counts.{Counts}
-use Rattle.n2k_join.specs.declared.piece.FrameKey.{FrameKey}
 use Rattle.n2k_join.specs.declared.piece.OpenGroup.{OpenGroup}
 use Rattle.n2k_join.specs.Frames.{Key, most_frames}
 use Rattle.n2k_join.specs.Open.{Piece, Group, piece_at}
 use Rattle.n2k_join.specs.Saved.{are_waiting, tree_by, piece_tree, group_tree, state_tree, state_text}
 use Rattle.n2k_join.specs.Inner.SavedTokens.{tokens_of, count_tokens, piece_tokens, pieces_tokens, frames_tokens, key_tokens, groups_tokens, open_tokens, front_tokens, lines_tokens, table_tokens, back_tokens, window_tokens}
 use Rattle.n2k_join.specs.State.{State}
-use Rattle.n2k_join.specs.Inner.Slots.{slot_of, pieces_in, group_in, group_at, groups_in}
+use Rattle.n2k_join.specs.Inner.Slots.{slot_of, pieces_in, group_in}
 use Rattle.n2k_join.proofs.Rising.{range-push, filter_map-push}
 use Rattle.n2k_join.proofs.SavedLists.{items_tokens-map, six_written}
 

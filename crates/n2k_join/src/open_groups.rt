@@ -141,12 +141,10 @@ impl OpenGroups {
         ensures place { OnOk result (deque_len self.new.openings < deque_capacity self.new.openings) }
         ensures more { OnOk result (2 * (length self.new.groups.entries + 1) ≤ deque_capacity self.new.openings) }
     {
-        let wanted = 2 * (self.groups.len() + 1);
-        if self.openings.capacity() < wanted {
-            // Twice of it, since a growth by two at a time would move all openings each time.
-            return self
-                .openings
-                .reserve(wanted.saturating_mul(2) - self.openings.len());
+        let open = self.groups.len();
+        if self.openings.capacity() < 2 * (open + 1) {
+            let wanted = open.saturating_mul(3).saturating_add(SPARE_OPENINGS);
+            return self.openings.reserve(wanted - self.openings.len());
         }
         make_place(&self.groups, &mut self.openings);
         Ok(())

@@ -55,8 +55,8 @@ RiseBelow least next (o ∷ os) = (least ≤ o.first) × RiseBelow (o.first + 1)
 abbrev pub is_opened : FrameKey → OpenGroup → List Opening → Bool
 is_opened key g openings = list_any (λ (o : Opening). same_key (key_of key) (key_of o.key) && (g.first == o.first)) openings
 
--- Each open group has its opening, the openings rise and are of lines before `next`, and there is room for twice as
--- many as groups are open: so one can be added after stale ones were dropped.
+-- Each open group has its opening, the openings rise and are of lines before `next`, as many groups are kept by key as
+-- are listed, and there is room for twice as many openings: so that one can be added once the stale ones were dropped.
 pub record KeptBy (next : ℕ) (entries : List (FrameKey × OpenGroup)) (openings : List Opening) (capacity : ℕ) : Type 0 where
   pub rise : RiseBelow 1 next openings
   pub opened : (key : FrameKey) (group : OpenGroup) → found entries key ≡ Some group → is_opened key group openings ≡ true

@@ -1,16 +1,11 @@
-use Rattle.std.proofs.Common.{◌≡◌, ◌+◌, ◌*◌, ◌<◌, ◌∙◌, sym, ap, subst, refl, true, false, cond, Some, None, length, slice_get, IfSome, arith}
+use Rattle.std.proofs.Common.{◌≡◌, ◌+◌, ◌∙◌, sym, ap, subst, true, false, cond, Some, None, length, IfSome}
 use Rattle.std.specs.Prelude.{is_some}
-use Rattle.std.specs.List.{AllByRecursion}
 use Rattle.std.specs.VecDeque.{deque_capacity}
 use Rattle.indexmap.specs.IndexMap.{set_value_at, with_value_at, Updates}
 use Rattle.indexmap.proofs.CallerLemmas.{updates-with_value_at}
 use Rattle.n2k_join.specs.declared.piece.FrameKey.{FrameKey}
-use Rattle.n2k_join.specs.Frames.{Frame, same_key}
-use Rattle.n2k_join.specs.Open.{Group}
-use Rattle.n2k_join.specs.State.{IsOpen, AreApart}
-use Rattle.n2k_join.specs.Inner.Stored.{key_of, frame_of, rejects, of_the_key, gained, lost, groups_after}
-use Rattle.n2k_join.specs.Inner.Slots.{group_in}
-use Rattle.n2k_join.specs.Inner.Queue.{found, groups_by, listed, KeptBy, IsKept}
+use Rattle.n2k_join.specs.Frames.{same_key}
+use Rattle.n2k_join.specs.Inner.Stored.{key_of}
 use Rattle.n2k_join.proofs.QueueFrames.{slot-written, length-written, at_place, says-here, empty-here, key_laws, changed-twice, joins-message, stays-groups, stays-kept, goes-groups, goes-kept}
 use Rattle.n2k_join.proofs.frame_taking.join_at.Goals as goal
 

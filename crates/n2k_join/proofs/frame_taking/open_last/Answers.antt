@@ -1,10 +1,10 @@
-use Rattle.std.proofs.Common.{◌≡◌, ◌+◌, ◌∙◌, ◌++◌, [], ◌∷◌, sym, ap, subst, cond, Some, None, refl, true, false, option_map, option_to_list, List, OnOk, OnErr, arith}
+use Rattle.std.proofs.Common.{◌≡◌, ◌+◌, ◌∙◌, ◌++◌, [], ◌∷◌, sym, ap, subst, cond, Some, None, option_map, OnOk, OnErr, arith}
 use Rattle.std.proofs.lemmas.List.{append-nil}
 use Rattle.n2k_join.specs.Frames.{Frame}
 use Rattle.n2k_join.specs.Open.{Group}
 use Rattle.n2k_join.specs.Groups.{data_of}
 use Rattle.n2k_join.specs.State.{held_of}
-use Rattle.n2k_join.specs.Inner.Stored.{key_of, frame_of, gained, of_the_key, groups_after, started}
+use Rattle.n2k_join.specs.Inner.Stored.{key_of, frame_of, gained}
 use Rattle.n2k_join.specs.Inner.Slots.{group_in}
 use Rattle.n2k_join.specs.Inner.Queue.{listed, IsKept}
 use Rattle.std.specs.VecDeque.{deque_capacity}

@@ -1,4 +1,4 @@
-use Rattle.std.proofs.Common.{◌∙◌, ap, sym}
+use Rattle.std.proofs.Common.{◌∙◌, sym}
 use Rattle.n2k_join.specs.Frames.{same_key}
 use Rattle.n2k_join.proofs.QueueFrames.{places}
 use Rattle.n2k_join.proofs.Rising.{none_from}

@@ -1,4 +1,4 @@
-use Rattle.std.proofs.Common.{◌≡◌, List, ◌+◌, ◌*◌, ◌<◌, ◌∙◌, sym, ap, subst, refl, true, false, cond, Some, None, length, slice_get, IfSome, arith}
+use Rattle.std.proofs.Common.{◌≡◌, List, ◌+◌, ◌∙◌, sym, ap, subst, true, false, cond, Some, None, length, IfSome, arith}
 use Rattle.std.specs.Prelude.{is_some}
 use Rattle.std.specs.List.{AllByRecursion}
 use Rattle.std.specs.VecDeque.{deque_capacity}
@@ -9,8 +9,7 @@ use Rattle.n2k_join.specs.Frames.{Frame, same_key}
 use Rattle.n2k_join.specs.Open.{Group}
 use Rattle.n2k_join.specs.State.{IsOpen, AreApart}
 use Rattle.n2k_join.specs.Inner.Stored.{key_of, frame_of, rejects, of_the_key, gained, lost, groups_after}
-use Rattle.n2k_join.specs.Inner.Slots.{group_in}
-use Rattle.n2k_join.specs.Inner.Queue.{found, groups_by, listed, KeptBy, IsKept}
+use Rattle.n2k_join.specs.Inner.Queue.{groups_by, KeptBy}
 use Rattle.n2k_join.proofs.QueueFrames.{slot-written, length-written, at_place, says-here, key_laws, changed-twice, reopens-message, breaks, ends-groups, ends-kept, last-groups, last-kept}
 use Rattle.n2k_join.proofs.frame_taking.reopen_at.Goals as goal
 

@@ -1,4 +1,4 @@
-use Rattle.std.proofs.Common.{◌≡◌, ◌∙◌, true, false, sym, ap, refl, None, option_map}
+use Rattle.std.proofs.Common.{◌∙◌, true, false, sym, ap, refl, option_map}
 use Rattle.std.specs.VecDeque.{deque_capacity}
 use Rattle.n2k_join.specs.Frames.{Frame}
 use Rattle.n2k_join.specs.Inner.Stored.{key_of, frame_of, lost}

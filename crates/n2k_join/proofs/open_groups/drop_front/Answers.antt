@@ -1,4 +1,4 @@
-use Rattle.std.proofs.Common.{◌≡◌, ◌<◌, length, ◌∙◌, ap, sym, subst, arith, true, deque_capacity, drop}
+use Rattle.std.proofs.Common.{◌≡◌, length, ◌∙◌, ap, sym, subst, arith, true, deque_capacity}
 use Rattle.n2k_join.specs.Inner.Queue.{groups_by, is_front_stale, KeptBy}
 use Rattle.n2k_join.proofs.Queue.{drop-stale, shorter}
 use Rattle.n2k_join.proofs.open_groups.drop_front.Goals as goal

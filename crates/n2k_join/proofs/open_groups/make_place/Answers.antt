@@ -1,5 +1,5 @@
-use Rattle.std.proofs.Common.{◌<◌, ◌∙◌, ap, subst, arith, length, sym}
-use Rattle.n2k_join.specs.Inner.Queue.{is_live, groups_by, KeptBy}
+use Rattle.std.proofs.Common.{◌∙◌, ap, arith, length}
+use Rattle.n2k_join.specs.Inner.Queue.{groups_by}
 use Rattle.n2k_join.proofs.Queue.{groups-kept, live-counted, kept-live}
 use Rattle.n2k_join.proofs.open_groups.make_place.Goals as goal
 

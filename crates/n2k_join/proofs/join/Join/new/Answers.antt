@@ -1,5 +1,3 @@
-use Rattle.std.proofs.Common.{ap}
-use Rattle.n2k_join.specs.Inner.Queue.{listed, IsKept}
 use Rattle.n2k_join.specs.Open.{open_groups, waiting}
 use Rattle.n2k_join.proofs.join.Join.new.Goals as goal
 

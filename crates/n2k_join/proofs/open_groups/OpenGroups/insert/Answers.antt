@@ -1,4 +1,4 @@
-use Rattle.std.proofs.Common.{◌≡◌, ◌+◌, ◌*◌, ◌≤◌, ◌∙◌, ◌++◌, [], ◌∷◌, ap, sym, subst, refl, arith, length, Some, None, cond}
+use Rattle.std.proofs.Common.{◌≡◌, ◌+◌, ◌∙◌, ◌++◌, [], ◌∷◌, ap, sym, subst, refl, length, None, cond}
 use Rattle.n2k_join.specs.Frames.{same_key}
 use Rattle.n2k_join.specs.Inner.Stored.{key_of}
 use Rattle.n2k_join.specs.Inner.Slots.{group_in}

@@ -1,11 +1,11 @@
-use Rattle.std.proofs.Common.{◌≡◌, ◌+◌, List, ◌∙◌, ◌∷◌, ap, sym, subst, refl, not, arith, length, drop, nat_lt, slice_get, option_map, None, Some, true, false, cond}
-use Rattle.std.specs.Prelude.{is_some, slice_index_or}
+use Rattle.std.proofs.Common.{◌≡◌, ◌+◌, List, ◌∙◌, ap, sym, subst, refl, arith, length, drop, nat_lt, slice_get, option_map, Some, cond}
+use Rattle.std.specs.Prelude.{is_some}
 use Rattle.std.specs.VecDeque.{deque_capacity}
 use Rattle.n2k_join.specs.Frames.{same_key}
 use Rattle.n2k_join.specs.Messages.{as_broken}
 use Rattle.n2k_join.specs.Open.{Group, ended}
-use Rattle.n2k_join.specs.Inner.Queue.{found, is_live, is_front_stale, groups_by, KeptBy}
-use Rattle.n2k_join.proofs.Queue.{front-split, front-stale, no-front, zero-from, none-ended, first-ended, first-listed, groups-fewer, kept-fewer, is_live-front, live-opening}
+use Rattle.n2k_join.specs.Inner.Queue.{groups_by, KeptBy}
+use Rattle.n2k_join.proofs.Queue.{front-split, no-front, zero-from, none-ended, first-ended, first-listed, groups-fewer, kept-fewer, is_live-front, live-opening}
 use Rattle.n2k_join.proofs.open_groups.OpenGroups.take_ended.Goals as goal
 
 pub returns-in_err-front-clause-broken : goal.returns-in_err-front-clause-broken

@@ -1,4 +1,4 @@
-use Rattle.std.proofs.Common.{◌∙◌, [], sym, ap, subst, option_to_list, rules}
+use Rattle.std.proofs.Common.{◌∙◌, sym, ap, subst, option_to_list, rules}
 use Rattle.std.proofs.lemmas.List.{append-nil}
 use Rattle.n2k_join.specs.Inner.SavedTokens.{AppendsTokens, groups_tokens}
 use Rattle.n2k_join.proofs.saved.text.push_live.Goals as goal
