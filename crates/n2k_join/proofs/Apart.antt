@@ -1,22 +1,17 @@
 -- Groups hold where each does and none has a key that was seen before it.
-use Rattle.std.proofs.Common.{◌≡◌, ℕ, ◌+◌, ◌<◌, Bool, true, false, not, ◌&&◌, ◌||◌, cond, List, [], ◌∷◌, ◌++◌, length, get_or, take, drop, map, Option, Some, None, refl, sym, ap, subst, ◌∙◌}
+use Rattle.std.proofs.Common.{◌≡◌, ◌≤◌, ℕ, ◌+◌, ◌<◌, Bool, true, false, not, ◌&&◌, ◌||◌, cond, List, [], ◌∷◌, ◌++◌, length, get_or, take, drop, map, Option, Some, refl, sym, ap, subst, ◌∙◌}
 use Rattle.std.specs.Prelude.{is_some}
 use Rattle.std.specs.List.{list_any, AllByRecursion}
-use Rattle.std.specs.Map.{lookup}
-use Rattle.std.proofs.lemmas.Bool.{or_parts}
+use Rattle.std.proofs.lemmas.Bool.{and_parts, leb-true}
 use Rattle.std.proofs.lemmas.List.{drop_more, take_more, map-append}
-use Rattle.indexmap.specs.IndexMap.{insert_entry}
 use Rattle.n2k_table.specs.declared.definition.Kind.{Kind}
-use Rattle.n2k_join.specs.declared.piece.FrameKey.{FrameKey}
-use Rattle.n2k_join.specs.declared.piece.OpenGroup.{OpenGroup}
 use Rattle.n2k_join.specs.Frames.{Key, same_key}
 use Rattle.n2k_join.specs.Open.{Group}
 use Rattle.n2k_join.specs.Resumed.{group_holds, groups_hold}
 use Rattle.n2k_join.specs.State.{HasParts}
 use Rattle.n2k_join.specs.Inner.Apart.{each_new}
-use Rattle.n2k_join.specs.Inner.Stored.{key_of}
-use Rattle.n2k_join.specs.Inner.Slots.{group_at, groups_in}
-use Rattle.n2k_join.proofs.IndexedLemmas.{insert-last}
+use Rattle.n2k_join.specs.Inner.Stored.{of_the_key}
+use Rattle.n2k_join.specs.Resumed.{firsts_rise}
 use Rattle.n2k_join.proofs.Keys.{same_key-sym}
 use Rattle.n2k_join.proofs.Rising.{all-append}
 use Rattle.std.proofs.Math.Bool.{or-false, and-false}
@@ -82,39 +77,32 @@ module _ (kind : ℕ → Option Kind) (ks : List Key) (gs : List Group) (i : ℕ
   pub key_new : group_holds kind g ≡ true → list_any (same_key g.key) ks ≡ false → each_new kind (ks ++ g.key ∷ []) (drop (i + 1) gs) ≡ groups_hold kind gs
   key_new good new = (λ j. sym good j && (not (sym new j) && each_new kind (ks ++ g.key ∷ []) (drop (i + 1) gs))) ∙ opened
 
--- the map has a key where a group has it
-pub key_listed : (k : FrameKey) (es : List (FrameKey × OpenGroup)) → list_any (same_key (key_of k)) (keys_in (groups_in es)) ≡ is_some (lookup (λ (j : FrameKey). same_key (key_of k) (key_of j)) es)
-key_listed k [] = refl
-key_listed k (e ∷ es) =
-    ap (λ b. same_key (key_of k) (key_of e.0) || b) (key_listed k es)
-    ∙ elim (same_key (key_of k) (key_of e.0)) as (λ b. (b || is_some (lookup (λ (j : FrameKey). same_key (key_of k) (key_of j)) es)) ≡ is_some (cond b (Some e.1) (lookup (λ (j : FrameKey). same_key (key_of k) (key_of j)) es))) [ true ↦ refl | false ↦ refl ]
-
-none_listed : (k : Key) (gs : List Group) → list_any (same_key k) (keys_in gs) ≡ false → AllByRecursion (λ (g : Group). same_key k g.key ≡ false) gs
-none_listed k [] none = tt
-none_listed k (g ∷ gs) none = let parts = or_parts _ _ none in (parts.0, none_listed k gs parts.1)
-
--- a group of a new key is the last
-pub grown : (k : FrameKey) (v : OpenGroup) (es : List (FrameKey × OpenGroup)) → list_any (same_key (key_of k)) (keys_in (groups_in es)) ≡ false
-    → groups_in (insert_entry (λ (a b : FrameKey). same_key (key_of a) (key_of b)) es k v) ≡ groups_in es ++ group_at (k, v) ∷ []
-grown k v es new = ap groups_in (insert-last k v es (none_listed (key_of k) (groups_in es) new)) ∙ map-append group_at es ((k, v) ∷ [])
+-- a key is listed where a group of it is found
+pub key_listed : (key : Key) (gs : List Group) → list_any (same_key key) (keys_in gs) ≡ is_some (of_the_key key gs)
+key_listed key [] = refl
+key_listed key (g ∷ gs) =
+    ap (λ b. same_key key g.key || b) (key_listed key gs)
+    ∙ elim (same_key key g.key) as (λ b. (b || is_some (of_the_key key gs)) ≡ is_some (cond b (Some g) (of_the_key key gs))) [ true ↦ refl | false ↦ refl ]
 
 -- What is stored is one group more of those that are read.
-module _ (kind : ℕ → Option Kind) (gs : List Group) (i : ℕ) (g : Group) (lt : i < length gs) (at : g ≡ get_or gs i g) (k : FrameKey) (v : OpenGroup) (es next : List (FrameKey × OpenGroup))
-    (is : group_at (k, v) ≡ g) (new : lookup (λ (j : FrameKey). same_key (key_of k) (key_of j)) es ≡ None) (inserted : next ≡ insert_entry (λ (a b : FrameKey). same_key (key_of a) (key_of b)) es k v) where
-  unseen : list_any (same_key (key_of k)) (keys_in (groups_in es)) ≡ false
-  unseen = key_listed k es ∙ ap is_some new
-
-  last : groups_in next ≡ groups_in es ++ g ∷ []
-  last = ap groups_in inserted ∙ grown k v es unseen ∙ ap (λ h. groups_in es ++ h ∷ []) is
-
-  pub stored_kept : groups_in es ≡ take i gs → groups_in next ≡ take (i + 1) gs
+module _ (kind : ℕ → Option Kind) (gs : List Group) (i : ℕ) (g : Group) (lt : i < length gs) (at : g ≡ get_or gs i g) (before next : List Group) (unseen : list_any (same_key g.key) (keys_in before) ≡ false) (last : next ≡ before ++ g ∷ []) where
+  pub stored_kept : before ≡ take i gs → next ≡ take (i + 1) gs
   stored_kept kept = last ∙ ap (λ hs. hs ++ g ∷ []) kept ∙ sym (take_more gs i g lt ∙ ap (λ h. take i gs ++ h ∷ []) (sym at))
 
-  pub stored_left : group_holds kind g ≡ true → each_new kind (keys_in (groups_in es)) (drop i gs) ≡ groups_hold kind gs → each_new kind (keys_in (groups_in next)) (drop (i + 1) gs) ≡ groups_hold kind gs
+  pub stored_left : group_holds kind g ≡ true → each_new kind (keys_in before) (drop i gs) ≡ groups_hold kind gs → each_new kind (keys_in next) (drop (i + 1) gs) ≡ groups_hold kind gs
   stored_left good left =
       ap (λ hs. each_new kind (keys_in hs) (drop (i + 1) gs)) last
-      ∙ ap (λ ks. each_new kind ks (drop (i + 1) gs)) (map-append (λ (h : Group). h.key) (groups_in es) (g ∷ []))
-      ∙ key_new kind (keys_in (groups_in es)) gs i g lt at left good (ap (λ (h : Group). list_any (same_key h.key) (keys_in (groups_in es))) (sym is) ∙ unseen)
+      ∙ ap (λ ks. each_new kind ks (drop (i + 1) gs)) (map-append (λ (h : Group). h.key) before (g ∷ []))
+      ∙ key_new kind (keys_in before) gs i g lt at left good unseen
 
-  pub stored_parts : AllByRecursion HasParts (groups_in es) → HasParts (group_at (k, v)) → AllByRecursion HasParts (groups_in next)
-  stored_parts each one = subst (AllByRecursion HasParts) (sym last) (all-append HasParts (groups_in es) (g ∷ []) each (subst HasParts is one, tt))
+  pub stored_parts : AllByRecursion HasParts before → HasParts g → AllByRecursion HasParts next
+  stored_parts each one = subst (AllByRecursion HasParts) (sym last) (all-append HasParts before (g ∷ []) each (one, tt))
+
+-- first lines that rise, the next one taken
+pub next_rises : (least lines i : ℕ) (gs : List Group) (g : Group) → i < length gs → g ≡ get_or gs i g → firsts_rise least lines (drop i gs) ≡ true → (least ≤ g.first) × ((g.first ≤ lines) × (firsts_rise (g.first + 1) lines (drop (i + 1) gs) ≡ true))
+unfolding firsts_rise
+next_rises least lines i gs g lt at e =
+    let split = drop_more gs i g lt ∙ ap (λ h. h ∷ drop (i + 1) gs) (sym at) in
+    let one = and_parts _ _ (sym (ap (firsts_rise least lines) split) ∙ e) in
+    let two = and_parts _ _ one.1 in
+    (leb-true _ _ one.0, (leb-true _ _ two.0, two.1))

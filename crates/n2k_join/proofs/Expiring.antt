@@ -56,7 +56,7 @@ first-late w line gs g rise e = by gs (sym (ended-first w line gs rise (slice_ge
         (ap (λ k. k ∷ gs) late.1, ap (is_waiting w line) (sym late.1) ∙ not-true (is_waiting w line h) late.0)
 
 -- what is due is the first that is overdue, where a line follows
-due_by : (s : State) → (s.counts.lines ≡ most_lines → ⊥) → due s ≡ slice_get (overdue s) 0
+pub due_by : (s : State) → (s.counts.lines ≡ most_lines → ⊥) → due s ≡ slice_get (overdue s) 0
 due_by s below = ap (λ b. cond b None (slice_get (overdue s) 0)) (ne_eqb _ _ below)
 
 due-below : (s : State) (g : Group) → due s ≡ Some g → s.counts.lines ≡ most_lines → ⊥
@@ -196,3 +196,12 @@ fewer s t b e is =
 -- where one is due, the next line has a number
 pub due-few : (s : State) (b : Broken) → s.counts.lines ≤ most_lines → option_map as_broken (due s) ≡ Some b → s.counts.lines < most_lines
 due-few s b most e = let found = found_due s b e in omega (arith, most, due-below s found.group found.due_is)
+
+-- what a program that takes the first of the ended groups tells
+pub told : (s t : State) → s ≡ t → (s.counts.lines ≡ most_lines → ⊥) → (o : Option Broken) → o ≡ option_map as_broken (slice_get (overdue s) 0) → option_map as_broken (due t) ≡ o
+told s t view below o is = ap (λ t. option_map as_broken (due t)) (sym view) ∙ ap (option_map as_broken) (due_by s below) ∙ sym is
+
+-- after the most lines none is due
+pub none_at_most : (s t : State) → s ≡ t → s.counts.lines ≡ most_lines → None ≡ option_map as_broken (due t)
+none_at_most s t view at =
+    sym (ap (λ t. option_map as_broken (due t)) (sym view) ∙ ap (λ b. option_map as_broken (cond b None (slice_get (overdue s) 0))) (eq-eqb _ _ at))

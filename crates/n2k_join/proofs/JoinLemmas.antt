@@ -1,26 +1,24 @@
 -- The fit groups after a frame, as the code makes them: by the place of the group of its key.
-use Rattle.std.proofs.Common.{◌≡◌, ℕ, zero, suc, ◌+◌, ◌<◌, ◌≤◌, Bool, true, false, cond, List, [], ◌∷◌, ◌++◌, length, ltb, get_or, take, drop, set, Result, Ok, Err, OnErr, Option, Some, None, option_to_list, filter_map, find, reverse, length-append, refl, sym, ap, ◌∙◌, arith}
+use Rattle.std.proofs.Common.{◌≡◌, ℕ, zero, suc, ◌<◌, Bool, true, false, cond, List, [], ◌∷◌, ◌++◌, length, ltb, get_or, take, drop, Result, Ok, Err, OnErr, Option, Some, None, option_to_list, filter_map, find, reverse, length-append, refl, sym, ap, ◌∙◌, arith}
 use mathlib.Core.Path.{fun_ext}
 use Rattle.std.specs.Prelude.{position, slice_get}
 use Rattle.std.specs.List.{AllByRecursion, cons_option, list_any, position_or_len}
-use Rattle.std.proofs.lemmas.Bool.{ltb-false, false≢true, false_from_ne_true}
-use Rattle.std.proofs.lemmas.List.{append-nil, take-set, drop-set-lt, set_split}
+use Rattle.std.proofs.lemmas.Bool.{false≢true, false_from_ne_true}
 use Rattle.std.proofs.lemmas.List.Quantifiers.{position-Some}
-use Rattle.std.proofs.lemmas.Option.{none-some, cond_some, slice_get_read}
+use Rattle.std.proofs.lemmas.Option.{cond_some, slice_get_read}
 use Rattle.n2k_join.specs.Messages.{broken_of, as_broken}
 use Rattle.n2k_join.specs.Frames.{Key, same_key, Frame, most_frames}
 use Rattle.n2k_join.specs.Groups.{complete, has_number, data_of, first}
 use Rattle.n2k_join.specs.Open.{Piece, Group, pieces_of, group_of}
 use Rattle.n2k_join.specs.State.{held_frame, held_of, IsOpen, AreApart}
-use Rattle.n2k_join.specs.Inner.Stored.{rejects, with_frame, joined, taken, started, of_the_key, opened, groups_after, message_if, gained, lost}
+use Rattle.n2k_join.specs.Inner.Stored.{rejects, with_frame, joined, taken, started, of_the_key, opened, groups_after, message_if}
 use Rattle.n2k_join.proofs.Carried.{carried-append, has_twice-push, data_of-same, pieces_of-same}
 use Rattle.n2k_join.proofs.Cuts.{has-from}
 use Rattle.n2k_join.proofs.Held.{carried-kept, has_twice-held, length-held, all-held, all-reverse, first-held}
 use Rattle.n2k_join.proofs.Keys.{same_key-true}
 use Rattle.n2k_join.proofs.Opened.{IsFine, first-push, complete-kept}
-use Rattle.n2k_join.proofs.Rising.{all-append, all-map, find-none, passes_none}
-use Rattle.std.proofs.lemmas.List.Elements.{recursion_from_All, All-from_recursion}
-use Rattle.std.proofs.lemmas.List.Sums.{fails_before_first}
+use Rattle.n2k_join.proofs.Rising.{all-append, all-map, passes_none}
+use Rattle.std.proofs.lemmas.List.Elements.{All-from_recursion}
 use Rattle.std.proofs.lemmas.List.Folds.{list_any_none, find_at}
 
 -- ---- one group
@@ -77,19 +75,6 @@ taken-others order x [] all = refl
 taken-others order x (g ∷ gs) all =
     ap (λ b. cons_option (cond b (joined order x g) (Some g)) (filter_map (taken order x) gs)) all.0 ∙ ap (λ hs. g ∷ hs) (taken-others order x gs all.1)
 
--- where no place is found, no group passes
-pub position-None : (P : Group → Bool) (gs : List Group) → position P gs ≡ None → AllByRecursion (λ (g : Group). P g ≡ false) gs
-position-None P gs none =
-    recursion_from_All (λ (g : Group). P g ≡ false) gs (λ k d l. fails_before_first P gs k d (omega (arith, l, past)))
-  where
-    by : (b : Bool) → ltb (position_or_len P gs) (length gs) ≡ b → cond b (Some (position_or_len P gs)) None ≡ None
-        → length gs ≤ position_or_len P gs
-    by true e n = absurd (none-some (position_or_len P gs) (sym n))
-    by false e n = ltb-false (position_or_len P gs) (length gs) e
-
-    past : length gs ≤ position_or_len P gs
-    past = by (ltb (position_or_len P gs) (length gs)) refl none
-
 one_or_none : (o : Option Group) (gs : List Group) → cons_option o gs ≡ option_to_list o ++ gs
 one_or_none None gs = refl
 one_or_none (Some g) gs = refl
@@ -108,81 +93,23 @@ module _ (order : Bool) (x : Frame) where
       ap (λ b. cons_option (cond b (joined order x g) (Some g)) (filter_map (taken order x) gs)) (before 0 (omega arith))
       ∙ ap (λ hs. g ∷ hs) (taken-at gs i d apart.1 (omega arith) here (λ k m. before (suc k) (omega arith)))
 
--- where no group has the frame's key
-pub none_at_all : (order : Bool) (x : Frame) (gs : List Group) → position (λ (g : Group). same_key x.key g.key) gs ≡ None
-    → (of_the_key x.key gs ≡ None) × (groups_after order gs x ≡ gs ++ option_to_list (started x))
-unfolding groups_after
-none_at_all order x gs none =
-    let each = position-None (λ (h : Group). same_key x.key h.key) gs none in
-    let found = find-none (λ (g : Group). same_key x.key g.key) gs each in (
-      found,
-      ap (λ hs. hs ++ option_to_list (opened order x (of_the_key x.key gs))) (taken-others order x gs each)
-          ∙ ap (λ (o : Option Group). gs ++ option_to_list (opened order x o)) found,
-    )
-
 -- where the group of its key stands at a place
 module _ (order : Bool) (x : Frame) (gs : List Group) (i : ℕ) (o : Group) (apart : AreApart gs) (place : position (λ (g : Group). same_key x.key g.key) gs ≡ Some i) (is : o ≡ get_or gs i o) where
-  pub at_place : (i < length gs) × (same_key x.key (get_or gs i o).key ≡ true) × ((k : ℕ) → k < i → same_key x.key (get_or gs k o).key ≡ false)
+  at_place : (i < length gs) × (same_key x.key (get_or gs i o).key ≡ true) × ((k : ℕ) → k < i → same_key x.key (get_or gs k o).key ≡ false)
   at_place = position-Some (λ (g : Group). same_key x.key g.key) gs i o place
 
-  pub found-place : of_the_key x.key gs ≡ Some o
+  found-place : of_the_key x.key gs ≡ Some o
   found-place =
       let P : Group → Bool = λ (g : Group). same_key x.key g.key in
       let at = (cond_some (ltb (position_or_len P gs) (length gs)) (position_or_len P gs) i place).1 in
       find_at P gs ∙ ap (slice_get gs) at ∙ slice_get_read gs (length gs) i o refl at_place.0 is
 
-  pub key-place : x.key ≡ o.key
-  key-place = same_key-true x.key o.key (ap (λ (g : Group). same_key x.key g.key) is ∙ at_place.1)
-
   taken-place : filter_map (taken order x) gs ≡ take i gs ++ (option_to_list (joined order x o) ++ drop (suc i) gs)
   taken-place = taken-at order x gs i o apart at_place.0 at_place.1 at_place.2 ∙ ap (λ (g : Group). take i gs ++ (option_to_list (joined order x g) ++ drop (suc i) gs)) (sym is)
 
-  after-place : groups_after order gs x ≡ (take i gs ++ (option_to_list (joined order x o) ++ drop (suc i) gs)) ++ option_to_list (opened order x (Some o))
+  pub after-place : groups_after order gs x ≡ (take i gs ++ (option_to_list (joined order x o) ++ drop (suc i) gs)) ++ option_to_list (opened order x (Some o))
   unfolding groups_after
   after-place = ap (λ hs. hs ++ option_to_list (opened order x (of_the_key x.key gs))) taken-place ∙ ap (λ (p : Option Group). (take i gs ++ (option_to_list (joined order x o) ++ drop (suc i) gs)) ++ option_to_list (opened order x p)) found-place
-
-  -- what the frame gains and breaks, by whether the group has no place for it
-  pub gained-at : (b : Bool) → rejects order x.number o ≡ b
-      → gained order x (of_the_key x.key gs) ≡ cond b (message_if x (x ∷ [])) (message_if x (held_of o ++ x ∷ []))
-  gained-at b is =
-      ap (gained order x) found-place ∙ ap (λ b. cond b (message_if x (x ∷ [])) (message_if x (held_of o ++ x ∷ []))) is
-
-  pub lost-at : (b : Bool) → rejects order x.number o ≡ b
-      → lost order x (of_the_key x.key gs) ≡ cond b (Some (broken_of x.key (held_of o))) None
-  lost-at b is = ap (lost order x) found-place ∙ ap (λ b. cond b (Some (broken_of x.key (held_of o))) None) is
-
-  -- the group has a place for it: the frame joins it
-  module _ (missing : rejects order x.number o ≡ false) where
-    after-joins : groups_after order gs x ≡ take i gs ++ (option_to_list (cond (complete (held_of o ++ x ∷ [])) None (Some (with_frame o x))) ++ drop (suc i) gs)
-    after-joins =
-        after-place
-        ∙ ap (λ b. (take i gs ++ (option_to_list (cond b None (cond (complete (held_of o ++ x ∷ [])) None (Some (with_frame o x)))) ++ drop (suc i) gs)) ++ option_to_list (cond b (started x) None)) missing
-        ∙ append-nil (take i gs ++ (option_to_list (cond (complete (held_of o ++ x ∷ [])) None (Some (with_frame o x))) ++ drop (suc i) gs))
-
-    pub joins-done : (y : Group) → complete (held_of o ++ x ∷ []) ≡ true → take i (set gs i y) ++ drop (i + 1) (set gs i y) ≡ groups_after order gs x
-    joins-done y done =
-        let next : i < i + 1 = omega arith in
-        let suc_is : i + 1 ≡ suc i = omega arith in
-        ap (λ hs. hs ++ drop (i + 1) (set gs i y)) (take-set gs i y)
-        ∙ ap (λ hs. take i gs ++ hs) (drop-set-lt (i + 1) gs i y next ∙ ap (λ j. drop j gs) suc_is)
-        ∙ ap (λ b. take i gs ++ (option_to_list (cond b None (Some (with_frame o x))) ++ drop (suc i) gs)) (sym done)
-        ∙ sym after-joins
-
-    pub joins-left : (y : Group) → complete (held_of o ++ x ∷ []) ≡ false → y ≡ with_frame o x → set gs i y ≡ groups_after order gs x
-    joins-left y left grown =
-        set_split gs i y at_place.0
-        ∙ ap (λ g. take i gs ++ g ∷ drop (suc i) gs) grown
-        ∙ ap (λ b. take i gs ++ (option_to_list (cond b None (Some (with_frame o x))) ++ drop (suc i) gs)) (sym left)
-        ∙ sym after-joins
-
-  -- the group has none: the frame breaks it
-  module _ (there : rejects order x.number o ≡ true) where
-    pub after-repeats : groups_after order gs x ≡ (take i gs ++ drop (i + 1) gs) ++ option_to_list (started x)
-    after-repeats =
-        let suc_is : suc i ≡ i + 1 = omega arith in
-        after-place
-        ∙ ap (λ b. (take i gs ++ (option_to_list (cond b None (cond (complete (held_of o ++ x ∷ [])) None (Some (with_frame o x)))) ++ drop (suc i) gs)) ++ option_to_list (cond b (started x) None)) there
-        ∙ ap (λ j. (take i gs ++ drop j gs) ++ option_to_list (started x)) suc_is
 
 -- a group that has a place for a number lacks it
 pub rejects-missing : (order : Bool) (n : ℕ) (o : Group) → rejects order n o ≡ false → has_number n (held_of o) ≡ false

@@ -14,7 +14,6 @@ pub mod GroupLines
 pub mod Healing
 pub mod Held
 pub mod InOrder
-pub mod IndexedLemmas
 pub mod JoinLemmas
 pub mod Keeping
 pub mod KeyCounts
@@ -26,6 +25,9 @@ pub mod Numbered
 pub mod Opened
 pub mod Overdue
 pub mod PieceBytes
+pub mod Queue
+pub mod QueueFrames
+pub mod QueueSaved
 pub mod LentFrames
 pub mod PieceFrames
 pub mod ReadStates

@@ -10,7 +10,7 @@ use Rattle.n2k_join.specs.Open.{Group, is_waiting, waiting, ended}
 use Rattle.n2k_join.specs.Messages.{broken_of, as_broken}
 use Rattle.n2k_join.specs.State.{held_of, Rise, IsOpen, AreApart}
 use Rattle.n2k_join.specs.Inner.Stored.{lost}
-use Rattle.n2k_join.proofs.Advanced.{with_frame, taken, started, of_the_key, opened, advanced}
+use Rattle.n2k_join.proofs.Advanced.{with_frame, taken, of_the_key, opened, advanced}
 use Rattle.n2k_join.proofs.BrokenGroups.{runs_out, breaks, told_if}
 use Rattle.n2k_join.proofs.Cuts.{next}
 use Rattle.n2k_join.proofs.Keys.{same_key-true}

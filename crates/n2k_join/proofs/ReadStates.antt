@@ -29,7 +29,7 @@ use Rattle.n2k_join.proofs.SavedGroups.{total_from}
 use Rattle.n2k_join.proofs.ValidStates.{valid_state, state_valid, in_time-from, in_time-to}
 use Rattle.serde_json.specs.Data.{Data}
 use Rattle.n2k_join.specs.declared.saved.object.StateFormat.{StateFormat}
-use Rattle.n2k_join.specs.declared.saved.object.StateFormat.TheVariants.{WithoutWindow, WithWindow}
+use Rattle.n2k_join.specs.declared.saved.object.StateFormat.TheVariants.{WithWindow}
 use Rattle.n2k_join.specs.Bounds.{HasWindow, HoldsFew}
 use Rattle.n2k_join.proofs.Rising.{all-map, rise-few}
 use Rattle.n2k_join.proofs.StateBound.{state-short}

@@ -6,14 +6,13 @@ use Rattle.json.specs.Print.{print}
 use Rattle.json.specs.Token.{Token}
 use Rattle.serde_json.proofs.Texts.{print-outline}
 use Rattle.n2k_join.specs.declared.counts.Counts.{Counts}
-use Rattle.n2k_join.specs.declared.piece.FrameKey.{FrameKey}
 use Rattle.n2k_join.specs.declared.piece.OpenGroup.{OpenGroup}
 use Rattle.n2k_join.specs.Frames.{Key, most_frames}
 use Rattle.n2k_join.specs.Open.{Piece, Group, piece_at}
 use Rattle.n2k_join.specs.Saved.{are_waiting, tree_by, piece_tree, group_tree, state_tree, state_text}
 use Rattle.n2k_join.specs.Inner.SavedTokens.{tokens_of, count_tokens, piece_tokens, pieces_tokens, frames_tokens, key_tokens, groups_tokens, open_tokens, front_tokens, lines_tokens, table_tokens, back_tokens, window_tokens}
 use Rattle.n2k_join.specs.State.{State}
-use Rattle.n2k_join.specs.Inner.Slots.{slot_of, pieces_in, group_in, group_at, groups_in}
+use Rattle.n2k_join.specs.Inner.Slots.{slot_of, pieces_in, group_in}
 use Rattle.n2k_join.proofs.Rising.{range-push, filter_map-push}
 use Rattle.n2k_join.proofs.SavedLists.{items_tokens-map, six_written}
 
@@ -105,20 +104,6 @@ pub text_written : (s : State) (before text : List ℕ) (none ts : List Token) �
 unfolding state_text
 text_written s before text none ts is nothing is_none all =
     is ∙ ap (λ b. b ++ print ts) nothing ∙ ap print (all ∙ ap (λ n. n ++ tokens_of (state_tree s)) is_none) ∙ print-outline (state_tree s)
-
--- what is written and what is left are all
-pub group_more_written : (k : FrameKey) (v : OpenGroup) (all written now : List Token) (left next : List (FrameKey × OpenGroup)) → left ≡ (k, v) ∷ next
-    → now ≡ written ++ tokens_of (group_tree (group_at (k, v))) → all ≡ written ++ groups_tokens (groups_in left)
-    → all ≡ now ++ groups_tokens (groups_in next)
-unfolding groups_tokens
-group_more_written k v all written now left next steps is so_far =
-    so_far ∙ ap (λ es. written ++ groups_tokens (groups_in es)) steps
-    ∙ sym (append_assoc written (tokens_of (group_tree (group_at (k, v)))) (groups_tokens (groups_in next)))
-    ∙ ap (λ ts. ts ++ groups_tokens (groups_in next)) (sym is)
-
-pub groups_written : (all now : List Token) (left : List (FrameKey × OpenGroup)) → left ≡ [] → all ≡ now ++ groups_tokens (groups_in left) → now ≡ all
-unfolding groups_tokens
-groups_written all now left none is = sym (is ∙ ap (λ es. now ++ groups_tokens (groups_in es)) none ∙ append-nil now)
 
 -- the members behind the open groups, as they are written
 pub back_written : (o o1 o2 o3 o4 : List Token) (with_window : Bool) (id : List ℕ) (window : ℕ) (c : Counts)

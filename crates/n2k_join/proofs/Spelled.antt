@@ -10,7 +10,6 @@ use Rattle.serde_json.specs.Find.{as_str}
 use Rattle.n2k_wire.specs.Steps.{◌>>=◌, or_cause, holds_or}
 use Rattle.n2k_join.specs.declared.saved.object.Object.TheVariants as objects
 use Rattle.n2k_join.specs.declared.saved.object.StateFormat.{StateFormat}
-use Rattle.n2k_join.specs.declared.saved.object.StateFormat.TheVariants.{WithoutWindow, WithWindow}
 use Rattle.n2k_join.specs.declared.fault.StateFault.{StateFault}
 use Rattle.n2k_join.specs.declared.fault.StateFault.TheVariants.{Shape}
 use Rattle.n2k_join.specs.Frames.{frame_bytes}

@@ -1,5 +1,6 @@
 -- Words that only private clauses, invariants and proofs of this crate use.
 pub mod Apart
+pub mod Queue
 pub mod SavedTokens
 pub mod Slots
 pub mod Stored

@@ -1,5 +1,5 @@
 //! What an entry gives, and the open groups that it leaves.
-ghost use Rattle.std.specs.Prelude.{◌≡◌, Some, None, true, false, not, IfOk, OnOk, OnErr, is_some, option_map};
+ghost use Rattle.std.specs.Prelude.{◌≡◌, ◌+◌, Some, None, true, false, not, IfOk, OnOk, OnErr, is_some, option_map};
 ghost use Rattle.std.specs.List.{AllByRecursion};
 ghost use Rattle.n2k_table.specs.declared.definition.Kind.TheVariants.{Fast};
 ghost use Rattle.n2k_table.specs.Table.{kind};
@@ -8,14 +8,13 @@ ghost use Rattle.n2k_join.specs.Messages.{is_unknown, alone, cause_in, single_by
 ghost use Rattle.n2k_join.specs.State.{IsOpen, AreApart};
 ghost use Rattle.n2k_join.specs.Step.{opens_by};
 ghost use Rattle.n2k_join.specs.Inner.Stored.{gives_by, leaves_by};
-ghost use Rattle.n2k_join.specs.Inner.Slots.{groups_in};
+ghost use Rattle.n2k_join.specs.Inner.Queue.{listed, IsKept};
 ghost use Rattle.n2k_join.specs.Inner.Taken.{given_of_taken, packet_in, taken_message};
 
 use crate::frame::fast_frame;
 use crate::frame_taking::take_frame;
-use crate::piece::{FrameKey, OpenGroup};
+use crate::open_groups::OpenGroups;
 use crate::step::Broken;
-use indexmap::IndexMap;
 use n2k_table::{Kind, Table};
 use n2k_wire::{BadCause, Entry, Packet};
 use std::alloc::AllocError;
@@ -115,22 +114,25 @@ pub(crate) fn packet_of(entry: Entry) -> Option<Packet>
 #[tactic(auto, unfolding(crate::specs::Frames::fast_frame))]
 fn take_fast(
     in_order: bool,
-    groups: &mut IndexMap<FrameKey, OpenGroup>,
+    groups: &mut OpenGroups,
     line: u64,
     packet: &Packet,
     joined: &mut Option<Packet>,
 ) -> Result<Taken, AllocError>
-    requires open { AllByRecursion IsOpen (groups_in groups.old.entries) }
-    requires apart { AreApart (groups_in groups.old.entries) }
+    requires kept { IsKept line groups.old }
+    requires open { AllByRecursion IsOpen (listed groups.old) }
+    requires apart { AreApart (listed groups.old) }
     requires none { joined.old ≡ None }
     ensures given { IfOk result (λ o. given_of_taken o (Some packet.now) joined.new
-        ≡ gives_by in_order None (fast_cause (Some Fast) packet.now) (groups_in groups.old.entries)
+        ≡ gives_by in_order None (fast_cause (Some Fast) packet.now) (listed groups.old)
         (fast_frame line packet.now)) }
     ensures unknown { IfOk result (λ o. o.is_unknown ≡ false) }
-    ensures groups { OnOk result (groups_in groups.new.entries
-        ≡ leaves_by in_order (groups_in groups.old.entries) (fast_frame line packet.now)) }
-    ensures unchanged { OnErr result (groups.new.entries ≡ groups.old.entries) }
-    ensures memory { OnErr result (opens_by (groups_in groups.old.entries) (fast_frame line packet.now) ≡ true) }
+    ensures groups { OnOk result (listed groups.new
+        ≡ leaves_by in_order (listed groups.old) (fast_frame line packet.now)) }
+    ensures kept { OnOk result (IsKept (line + 1) groups.new) }
+    ensures still { OnErr result (IsKept line groups.new) }
+    ensures unchanged { OnErr result (listed groups.new ≡ listed groups.old) }
+    ensures memory { OnErr result (opens_by (listed groups.old) (fast_frame line packet.now) ≡ true) }
 {
     let Some(frame) = fast_frame(packet) else {
         return Ok(Taken::bad_line(BadCause::Fast));
@@ -147,24 +149,27 @@ fn take_fast(
 /// Takes the entry of a line into the open groups. The message of a group that it completes goes to `joined`.
 pub(crate) fn take_entry(
     in_order: bool,
-    groups: &mut IndexMap<FrameKey, OpenGroup>,
+    groups: &mut OpenGroups,
     line: u64,
     table: &Table,
     entry: &Entry,
     joined: &mut Option<Packet>,
 ) -> Result<Taken, AllocError>
-    requires open { AllByRecursion IsOpen (groups_in groups.old.entries) }
-    requires apart { AreApart (groups_in groups.old.entries) }
+    requires kept { IsKept line groups.old }
+    requires open { AllByRecursion IsOpen (listed groups.old) }
+    requires apart { AreApart (listed groups.old) }
     requires none { joined.old ≡ None }
     ensures given { let k = kind table.now in
         IfOk result (λ o. given_of_taken o (packet_in entry.now) joined.new
-        ≡ gives_by in_order (alone k entry.now) (cause_in k entry.now) (groups_in groups.old.entries)
+        ≡ gives_by in_order (alone k entry.now) (cause_in k entry.now) (listed groups.old)
         (frame_in k line entry.now)) }
     ensures unknown { IfOk result (λ o. o.is_unknown ≡ is_unknown (kind table.now) entry.now) }
-    ensures groups { OnOk result (groups_in groups.new.entries
-        ≡ leaves_by in_order (groups_in groups.old.entries) (frame_in (kind table.now) line entry.now)) }
-    ensures unchanged { OnErr result (groups.new.entries ≡ groups.old.entries) }
-    ensures memory { OnErr result (opens_by (groups_in groups.old.entries) (frame_in (kind table.now) line entry.now)
+    ensures groups { OnOk result (listed groups.new
+        ≡ leaves_by in_order (listed groups.old) (frame_in (kind table.now) line entry.now)) }
+    ensures kept { OnOk result (IsKept (line + 1) groups.new) }
+    ensures still { OnErr result (IsKept line groups.new) }
+    ensures unchanged { OnErr result (listed groups.new ≡ listed groups.old) }
+    ensures memory { OnErr result (opens_by (listed groups.old) (frame_in (kind table.now) line entry.now)
         ≡ true) }
 {
     match entry {

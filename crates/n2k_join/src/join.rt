@@ -20,14 +20,13 @@ use crate::counts::{Counts, MOST_LINES};
 use crate::entry_taking::{Taken, packet_of, take_entry};
 use crate::fault::{JoinFault, StateFault};
 use crate::laws;
-use crate::piece::{FrameKey, OpenGroup};
+use crate::open_groups::OpenGroups;
 use crate::saved::{
     SpelledGroup, SpelledState, format_in, parsed, read_state, rules_hold, state_text,
     stored_groups, waits_hold,
 };
 use crate::step::{Broken, LentStep, Step};
-use crate::window::{Window, is_waiting};
-use indexmap::IndexMap;
+use crate::window::Window;
 use n2k_table::Table;
 use n2k_wire::{Entry, Id, Packet};
 use std::alloc::{AllocError, Global};
@@ -40,11 +39,12 @@ pub struct Join {
     id: [u8; 32],
     window: Window,
     counts: Counts,
-    groups: IndexMap<FrameKey, OpenGroup>,
+    groups: OpenGroups,
 }
 
 impl Model for Join {
-    ghost use Rattle.n2k_join.specs.Inner.Slots.{groups_in};
+    ghost use Rattle.n2k_join.specs.Inner.Queue.{listed, IsKept};
+    ghost use Rattle.std.specs.Prelude.{◌+◌};
     ghost use Rattle.n2k_join.specs.State.{State, IsState};
 
     ghost Value = { State };
@@ -53,15 +53,15 @@ impl Model for Join {
       id = j.id;
       window = j.window;
       counts = j.counts;
-      groups = groups_in j.groups.entries;
+      groups = listed j.groups;
     } };
 
     ghost invariant = { λ j. IsState (record {
       id = j.id;
       window = j.window;
       counts = j.counts;
-      groups = groups_in j.groups.entries;
-    }) };
+      groups = listed j.groups;
+    }) × IsKept (j.counts.lines + 1) j.groups };
 }
 
 /// What the types say of the parts of a packet.
@@ -126,7 +126,7 @@ impl Join {
             id: table.id(),
             window,
             counts: Counts::NONE,
-            groups: IndexMap::new(alloc),
+            groups: OpenGroups::new(alloc),
         }
     }
 
@@ -159,24 +159,6 @@ impl Join {
         *window
     }
 
-    /// The oldest open group, as it is reported, where its window ends at the next line, if not before.
-    fn oldest_due(&self) -> Option<Broken>
-        ensures { result ≡ option_map as_broken (due self.now) }
-    {
-        if self.counts.lines == MOST_LINES {
-            return None;
-        }
-        let (key, group) = self.groups.first()?;
-        if is_waiting(
-            group.first,
-            u64::from(self.window.get()),
-            self.counts.lines + 1,
-        ) {
-            return None;
-        }
-        Some(group.broken(key))
-    }
-
     /// Breaks the oldest of the open groups whose window ends at the next line, if not before, and answers what is
     /// reported of it. `None` where there is none, or where no more lines are counted; the join is then as it was. It
     /// takes no memory.
@@ -205,8 +187,10 @@ impl Join {
         ensures fewer { IsSome result → length self.new.groups < length self.old.groups }
         ensures few { IsSome result → self.old.counts.lines < most_lines }
     {
-        let broken = self.oldest_due()?;
-        self.groups.shift_remove_index(0);
+        if self.counts.lines == MOST_LINES {
+            return None;
+        }
+        let broken = self.groups.take_ended(self.window, self.counts.lines + 1)?;
         let Counts {
             broken: before,
             held,
@@ -339,7 +323,7 @@ impl Join {
         if !rules_hold(&counts, groups) {
             return Err(StateFault::Invalid);
         }
-        let stored = stored_groups(alloc, table, groups)?;
+        let stored = stored_groups(alloc, table, counts.lines, groups)?;
         let held = stored.len() as u64;
         Ok(Join {
             id,

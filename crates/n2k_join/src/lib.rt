@@ -46,6 +46,7 @@ mod frame_taking;
 mod group;
 mod join;
 pub mod laws;
+mod open_groups;
 mod piece;
 mod saved;
 mod splitter;

@@ -1,5 +1,5 @@
 -- A group as bytes and a mask: each number has a slot of seven bytes, and the mask says which slots are filled.
-use Rattle.std.specs.Prelude.{ℕ, ◌==◌, if◌then◌else◌, List, [], get_or, map, Option, Some, None, filter_map}
+use Rattle.std.specs.Prelude.{ℕ, ◌==◌, if◌then◌else◌, List, [], get_or, Option, Some, None, filter_map}
 use Rattle.std.specs.Int.{bit_at}
 use Rattle.std.specs.List.{range_with_len}
 use Rattle.n2k_join.specs.declared.piece.FrameKey.{FrameKey}
@@ -27,9 +27,6 @@ pieces_in g = filter_map (piece_at (slot_of g)) (range_with_len 0 most_frames)
 abbrev pub group_in : Key → OpenGroup → Group
 group_in key g = group_by g.first key g.mask g.slots
 
--- the open groups that a map by key holds, in its order
+-- what is kept with its key
 abbrev pub group_at : FrameKey × OpenGroup → Group
 group_at e = group_in (key_of e.0) e.1
-
-abbrev pub groups_in : List (FrameKey × OpenGroup) → List Group
-groups_in entries = map group_at entries

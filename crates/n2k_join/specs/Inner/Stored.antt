@@ -1,7 +1,6 @@
 -- What the code keeps, as the definitions see it.
 use Rattle.std.specs.Prelude.{ℕ, ◌≡◌, ◌<◌, ◌≤◌, Bool, List, [], ◌∷◌, ◌++◌, length, if◌then◌else◌, Option, Some, None}
 use Rattle.std.specs.Prelude.{filter_map, find, option_to_list}
-use Rattle.std.specs.List.{list_all}
 use Rattle.n2k_join.specs.declared.step.Broken.{Broken}
 use Rattle.n2k_wire.specs.Packet.{PacketParts}
 use Rattle.n2k_wire.specs.declared.entry.BadCause.{BadCause}

@@ -1,5 +1,5 @@
 //! A join from a saved state.
-ghost use Rattle.std.specs.Prelude.{◌≡◌, ◌≤◌, ◌<◌, [], IfOk, IfSome};
+ghost use Rattle.std.specs.Prelude.{◌≡◌, ◌≤◌, ◌<◌, ◌+◌, [], true, IfOk, IfSome};
 ghost use Rattle.n2k_join.specs.Inner.Apart.{each_new, SomeUnder};
 ghost use Rattle.serde_json.specs.View.{view};
 ghost use Rattle.n2k_table.specs.Table.{kind};
@@ -8,20 +8,21 @@ ghost use Rattle.n2k_wire.specs.Plain.{greatest_address};
 ghost use Rattle.n2k_join.specs.Frames.{Key, most_sequences};
 ghost use Rattle.n2k_join.specs.Refusal.{GivesOrMemory};
 ghost use Rattle.n2k_wire.specs.Steps.{or_cause};
-ghost use Rattle.n2k_join.specs.Resumed.{pieces_rise, group_holds, groups_hold, valid_if, parsed, format_in};
+ghost use Rattle.n2k_join.specs.Resumed.{firsts_rise, pieces_rise, group_holds, groups_hold, valid_if, parsed, format_in};
 ghost use Rattle.n2k_wire.specs.Views.{Gives};
 ghost use Rattle.n2k_join.specs.State.{IsKey, IsPiece, HasParts};
 ghost use Rattle.std.specs.List.{AllByRecursion};
 ghost use Rattle.n2k_join.specs.Inner.Stored.{key_of};
-ghost use Rattle.n2k_join.specs.Inner.Slots.{group_in, group_at, groups_in};
+ghost use Rattle.n2k_join.specs.Inner.Queue.{listed, IsKept};
+ghost use Rattle.n2k_join.specs.Inner.Slots.{group_in, group_at};
 
 use crate::fault::StateFault;
+use crate::open_groups::OpenGroups;
 use crate::piece::{FrameKey, OpenGroup};
 use crate::saved::object::StateFormat;
 use crate::saved::rules::{key_holds, stored_piece};
 use crate::saved::spelled::{SpelledGroup, SpelledKey, SpelledPiece};
 use crate::saved::{OLD_FORMAT, SAVED_FORMAT};
-use indexmap::IndexMap;
 use n2k_table::Table;
 use serde_json::Value;
 use std::alloc::Global;
@@ -81,18 +82,22 @@ fn stored_group(table: &Table, group: &SpelledGroup) -> Option<(FrameKey, OpenGr
 pub(crate) fn stored_groups(
     alloc: Global,
     table: &Table,
+    lines: u64,
     groups: &[SpelledGroup],
-) -> Result<IndexMap<FrameKey, OpenGroup>, StateFault>
-    ensures value { GivesOrMemory (λ stored. groups_in stored.entries) result
+) -> Result<OpenGroups, StateFault>
+    requires { firsts_rise 1 lines groups.now ≡ true }
+    ensures value { GivesOrMemory (λ stored. listed stored) result
         (valid_if (groups_hold (kind table.now) groups.now) groups.now) }
-    ensures parts { IfOk result (λ stored. AllByRecursion HasParts (groups_in stored.entries)) }
+    ensures parts { IfOk result (λ stored. AllByRecursion HasParts (listed stored)) }
+    ensures kept { IfOk result (IsKept (lines + 1)) }
 {
-    let mut stored = IndexMap::new(alloc);
+    let mut stored = OpenGroups::new(alloc);
     for group in groups {
         let (key, open) = stored_group(table, group).ok_or(StateFault::Invalid)?;
-        if stored.insert(key, open)?.is_some() {
+        if stored.groups.contains_key(&key) {
             return Err(StateFault::Invalid);
         }
+        stored.insert(key, open)?;
     }
     Ok(stored)
 }

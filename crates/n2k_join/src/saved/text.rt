@@ -1,5 +1,5 @@
 //! The text of a saved state.
-ghost use Rattle.std.specs.Prelude.{◌≡◌, ◌*◌, ◌<◌, ◌≤◌, [], ◌∷◌, IfOk};
+ghost use Rattle.std.specs.Prelude.{◌≡◌, ◌*◌, ◌<◌, ◌≤◌, [], ◌∷◌, IfOk, IfSome, option_to_list};
 ghost use Rattle.hex.specs.Hex.{encode_lower};
 ghost use Rattle.json.specs.Token.{Token};
 ghost use Rattle.n2k_join.specs.Frames.{most_frames};
@@ -9,15 +9,16 @@ ghost use Rattle.n2k_join.specs.Inner.SavedTokens.{AppendsTokens, tokens_of, cou
 ghost use Rattle.std.specs.List.{list_all};
 ghost use Rattle.n2k_join.specs.Open.{is_waiting};
 ghost use Rattle.n2k_join.specs.Inner.Stored.{key_of};
-ghost use Rattle.n2k_join.specs.Inner.Slots.{slot_of, pieces_in, group_in, groups_in};
+ghost use Rattle.n2k_join.specs.Inner.Slots.{slot_of, pieces_in, group_in};
+ghost use Rattle.n2k_join.specs.Inner.Queue.{live, listed};
 ghost use Rattle.std.specs.Str.{IsUtf8};
 
 use crate::counts::Counts;
 use crate::frame::MOST_FRAMES;
+use crate::open_groups::{OpenGroups, Opening, live_group};
 use crate::piece::{FrameKey, OpenGroup};
 use crate::saved::{OLD_FORMAT, SAVED_FORMAT};
 use crate::window::{Window, is_waiting};
-use indexmap::IndexMap;
 use json::Writer;
 use std::alloc::{AllocError, Global};
 use std::str;
@@ -118,19 +119,30 @@ fn push_group(key: &FrameKey, group: &OpenGroup, out: &mut Writer) -> Result<(),
     Ok(())
 }
 
-/// Writes the open groups as a member.
-fn push_groups(groups: &IndexMap<FrameKey, OpenGroup>, out: &mut Writer) -> Result<(), AllocError>
-    ensures { AppendsTokens result out.old out.new (groups_tokens (groups_in groups.now.entries)) }
+/// Writes the group that an opening began, while it is open.
+fn push_live(groups: &OpenGroups, opening: &Opening, out: &mut Writer) -> Result<(), AllocError>
+    ensures { AppendsTokens result out.old out.new
+        (groups_tokens (option_to_list (live groups.now.groups.entries opening.now))) }
 {
-    for (key, group) in groups.iter() {
-        push_group(key, group, out)?;
+    match live_group(&groups.groups, opening) {
+        Some(group) => push_group(&opening.key, group, out),
+        None => Ok(()),
+    }
+}
+
+/// Writes the open groups as a member.
+fn push_groups(groups: &OpenGroups, out: &mut Writer) -> Result<(), AllocError>
+    ensures { AppendsTokens result out.old out.new (groups_tokens (listed groups.now)) }
+{
+    for opening in groups.openings.iter() {
+        push_live(groups, opening, out)?;
     }
     Ok(())
 }
 
 /// Writes the member `groups`.
-fn push_open(groups: &IndexMap<FrameKey, OpenGroup>, out: &mut Writer) -> Result<(), AllocError>
-    ensures { AppendsTokens result out.old out.new (open_tokens (groups_in groups.now.entries)) }
+fn push_open(groups: &OpenGroups, out: &mut Writer) -> Result<(), AllocError>
+    ensures { AppendsTokens result out.old out.new (open_tokens (listed groups.now)) }
 {
     out.key("groups")?;
     out.begin_array()?;
@@ -197,14 +209,24 @@ fn push_back(
     Ok(())
 }
 
-/// Whether no group's window has ended.
-fn are_waiting(window: Window, lines: u64, groups: &IndexMap<FrameKey, OpenGroup>) -> bool
-    ensures { result ≡ list_all (is_waiting window lines) (groups_in groups.now.entries) }
+/// Whether the window of the group that an opening began has not ended, while it is open.
+fn is_live_waiting(window: Window, lines: u64, groups: &OpenGroups, opening: &Opening) -> bool
+    ensures { result ≡ list_all (is_waiting window lines) (option_to_list (live groups.now.groups.entries opening.now)) }
 {
-    let long = u64::from(window.get());
+    match live_group(&groups.groups, opening) {
+        Some(group) => is_waiting(group.first, u64::from(window.get()), lines),
+        None => true,
+    }
+}
+
+/// Whether no group's window has ended.
+fn are_waiting(window: Window, lines: u64, groups: &OpenGroups) -> bool
+    ensures { result ≡ list_all (is_waiting window lines) (listed groups.now) }
+{
     groups
+        .openings
         .iter()
-        .all(|(_, group)| is_waiting(group.first, long, lines))
+        .all(|opening| is_live_waiting(window, lines, groups, opening))
 }
 
 /// Writes a state: with its window, where no group's has ended.
@@ -212,14 +234,14 @@ fn push_state(
     id: &[u8; 32],
     window: Window,
     counts: &Counts,
-    groups: &IndexMap<FrameKey, OpenGroup>,
+    groups: &OpenGroups,
     out: &mut Writer,
 ) -> Result<(), AllocError>
     ensures { AppendsTokens result out.old out.new (tokens_of (state_tree (record {
       id = id.now;
       window = window;
       counts = counts.now;
-      groups = groups_in groups.now.entries;
+      groups = listed groups.now;
     }))) }
 {
     let with_window = are_waiting(window, counts.lines, groups);
@@ -237,14 +259,14 @@ pub(crate) fn state_text(
     id: &[u8; 32],
     window: Window,
     counts: &Counts,
-    groups: &IndexMap<FrameKey, OpenGroup>,
+    groups: &OpenGroups,
 ) -> Result<Vec<u8>, AllocError>
     ensures id { IsId id.now }
     ensures text { IfOk result (λ text. text.items ≡ state_text (record {
       id = id.now;
       window = window;
       counts = counts.now;
-      groups = groups_in groups.now.entries;
+      groups = listed groups.now;
     })) }
 {
     let mut out = Writer::new(Vec::new(alloc));

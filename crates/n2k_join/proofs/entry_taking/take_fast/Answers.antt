@@ -1,13 +1,18 @@
-use Rattle.std.proofs.Common.{not, ap, sym, ◌∙◌}
+use Rattle.std.proofs.Common.{◌+◌, not, arith, ap, sym, ◌∙◌}
 use Rattle.n2k_join.specs.Frames.{same_key}
 use Rattle.n2k_join.specs.Open.{Group}
 use Rattle.n2k_join.specs.Step.{opens_by}
 use Rattle.n2k_join.specs.Inner.Stored.{key_of}
-use Rattle.n2k_join.specs.Inner.Slots.{groups_in}
+use Rattle.n2k_join.specs.Inner.Queue.{listed}
+use Rattle.std.specs.VecDeque.{deque_capacity}
+use Rattle.n2k_join.proofs.Queue.{kept-later}
 use Rattle.n2k_join.proofs.JoinLemmas.{none-listed, on_err}
 use Rattle.n2k_join.proofs.entry_taking.take_fast.Goals as goal
 
 pub returns-in_err-broken-clause-memory : goal.returns-in_err-broken-clause-memory
 returns-in_err-broken-clause-memory c =
-    let none = none-listed (λ (g : Group). same_key (key_of c.in-Some.frame.key) g.key) (groups_in c.args.groups.now.entries) c.in_err-broken.ensures.memory in
-    on_err c.from_residual.result _ (ap (opens_by (groups_in c.args.groups.now.entries)) (sym (c.in-Some.ensures c.args.line)) ∙ ap not none)
+    let none = none-listed (λ (g : Group). same_key (key_of c.in-Some.frame.key) g.key) (listed c.args.groups.now) c.in_err-broken.ensures.memory in
+    on_err c.from_residual.result _ (ap (opens_by (listed c.args.groups.now)) (sym (c.in-Some.ensures c.args.line)) ∙ ap not none)
+
+pub returns-in_default-clause-kept : goal.returns-in_default-clause-kept
+returns-in_default-clause-kept c = let g = c.args.groups.now in kept-later c.args.line (c.args.line + 1) g.groups.entries g.openings.items (deque_capacity g.openings) (omega arith) c.requires.kept

@@ -1,41 +1,78 @@
-use Rattle.std.proofs.Common.{◌∙◌, sym, ap, cond, Some, None, refl}
-use Rattle.n2k_join.specs.Frames.{same_key, Frame}
+use Rattle.std.proofs.Common.{◌≡◌, ◌+◌, ◌∙◌, ◌++◌, [], ◌∷◌, sym, ap, subst, cond, Some, None, option_map, OnOk, OnErr, arith}
+use Rattle.std.proofs.lemmas.List.{append-nil}
+use Rattle.n2k_join.specs.Frames.{Frame}
+use Rattle.n2k_join.specs.Open.{Group}
 use Rattle.n2k_join.specs.Groups.{data_of}
 use Rattle.n2k_join.specs.State.{held_of}
 use Rattle.n2k_join.specs.Inner.Stored.{key_of, frame_of, gained}
-use Rattle.n2k_join.specs.Inner.Slots.{groups_in, group_in}
-use Rattle.n2k_join.proofs.JoinLemmas.{none_at_all, message-begun}
-use Rattle.n2k_join.proofs.IndexedLemmas.{opens-last, opens-done}
+use Rattle.n2k_join.specs.Inner.Slots.{group_in}
+use Rattle.n2k_join.specs.Inner.Queue.{listed, IsKept}
+use Rattle.std.specs.VecDeque.{deque_capacity}
+use Rattle.n2k_join.proofs.JoinLemmas.{message-begun, groups-begun}
+use Rattle.n2k_join.proofs.Queue.{key-found, kept-later}
+use Rattle.n2k_join.proofs.QueueFrames.{none-after, on_ok}
 use Rattle.n2k_join.proofs.frame_taking.open_last.Goals as goal
 
 pub returns-then-is_complete-clause-message : goal.returns-then-is_complete-clause-message
 returns-then-is_complete-clause-message c =
     let x : Frame = frame_of c.args.line c.args.packet.now c.args.frame.now in
     let key = key_of c.args.frame.now.key in
+    let g = c.args.groups.now in
+    let none = key-found c.args.line g.groups.entries g.openings.items (deque_capacity g.openings) c.requires.kept c.args.frame.now.key ∙ ap (option_map (group_in key)) c.requires.new in
     c.write_message.ensures key
     ∙ sym (ap (λ b. cond b (Some (record { stamp = x.stamp; id = x.id; payload = data_of (held_of (group_in key c.open-begun.result)) })) None) (sym (c.is_complete.ensures key) ∙ c.if-is_complete.true))
     ∙ message-begun x (group_in key c.open-begun.result) c.args.frame.now.piece.small (c.open-begun.ensures c.args.packet.now)
-    ∙ sym (ap (gained c.args.in_order x) (none_at_all c.args.in_order x (groups_in c.args.groups.now.entries) c.requires.place).0)
+    ∙ sym (ap (gained c.args.in_order x) none)
 
 pub returns-then-is_complete-clause-groups : goal.returns-then-is_complete-clause-groups
 returns-then-is_complete-clause-groups c =
-    let packet = c.args.packet.now in
-    opens-done c.args.in_order c.args.frame.now.key c.open-begun.result (frame_of c.args.line packet c.args.frame.now) c.args.groups.now.entries c.args.frame.now.piece.small (c.open-begun.ensures packet) c.requires.place
-    (sym (c.is_complete.ensures (key_of c.args.frame.now.key)) ∙ c.if-is_complete.true)
+    let x : Frame = frame_of c.args.line c.args.packet.now c.args.frame.now in
+    let key = key_of c.args.frame.now.key in
+    let g = c.args.groups.now in
+    let none = key-found c.args.line g.groups.entries g.openings.items (deque_capacity g.openings) c.requires.kept c.args.frame.now.key ∙ ap (option_map (group_in key)) c.requires.new in
+    sym (append-nil (listed g))
+    ∙ ap (λ gs. listed g ++ gs) (sym (ap (λ b. cond b [] (group_in key c.open-begun.result ∷ [])) (sym (c.is_complete.ensures key) ∙ c.if-is_complete.true)) ∙ groups-begun x (group_in key c.open-begun.result) c.args.frame.now.piece.small (c.open-begun.ensures c.args.packet.now))
+    ∙ sym (none-after c.args.in_order x (listed g) none)
+
+pub returns-then-is_complete-clause-kept : goal.returns-then-is_complete-clause-kept
+returns-then-is_complete-clause-kept c =
+    let g = c.args.groups.now in
+    kept-later c.args.line (c.args.line + 1) g.groups.entries g.openings.items (deque_capacity g.openings) (omega arith) c.requires.kept
+
+pub insert-requires-clause-kept : goal.insert-requires-clause-kept
+insert-requires-clause-kept c =
+    let first : c.open-begun.result.first ≡ c.args.line = ap (λ (g : Group). g.first) (c.open-begun.ensures c.args.packet.now) in
+    subst (λ n. IsKept n c.args.groups.now) (sym first) c.requires.kept
 
 pub returns-clause-message : goal.returns-clause-message
 returns-clause-message c =
     let x : Frame = frame_of c.args.line c.args.packet.now c.args.frame.now in
     let key = key_of c.args.frame.now.key in
+    let g = c.args.groups.now in
+    let none = key-found c.args.line g.groups.entries g.openings.items (deque_capacity g.openings) c.requires.kept c.args.frame.now.key ∙ ap (option_map (group_in key)) c.requires.new in
+    on_ok c.insert.result _ _ (λ _.
     c.requires.none
     ∙ sym (ap (λ b. cond b (Some (record { stamp = x.stamp; id = x.id; payload = data_of (held_of (group_in key c.open-begun.result)) })) None) (sym (c.is_complete.ensures key) ∙ c.if-is_complete.false))
     ∙ message-begun x (group_in key c.open-begun.result) c.args.frame.now.piece.small (c.open-begun.ensures c.args.packet.now)
-    ∙ sym (ap (gained c.args.in_order x) (none_at_all c.args.in_order x (groups_in c.args.groups.now.entries) c.requires.place).0)
+    ∙ sym (ap (gained c.args.in_order x) none)) c.insert.ensures.added
 
 pub returns-clause-groups : goal.returns-clause-groups
-unfolding same_key
 returns-clause-groups c =
-    let packet = c.args.packet.now in
-    ap groups_in c.in_ok-insert.ensures.entries
-    ∙ opens-last c.args.in_order c.args.frame.now.key c.open-begun.result (frame_of c.args.line packet c.args.frame.now) c.args.groups.now.entries refl c.args.frame.now.piece.small (c.open-begun.ensures packet) c.requires.place
-    (sym (c.is_complete.ensures (key_of c.args.frame.now.key)) ∙ c.if-is_complete.false)
+    let x : Frame = frame_of c.args.line c.args.packet.now c.args.frame.now in
+    let key = key_of c.args.frame.now.key in
+    let g = c.args.groups.now in
+    let none = key-found c.args.line g.groups.entries g.openings.items (deque_capacity g.openings) c.requires.kept c.args.frame.now.key ∙ ap (option_map (group_in key)) c.requires.new in
+    on_ok c.insert.result _ _ (λ added.
+    added
+    ∙ ap (λ gs. listed g ++ gs) (sym (ap (λ b. cond b [] (group_in key c.open-begun.result ∷ [])) (sym (c.is_complete.ensures key) ∙ c.if-is_complete.false)) ∙ groups-begun x (group_in key c.open-begun.result) c.args.frame.now.piece.small (c.open-begun.ensures c.args.packet.now))
+    ∙ sym (none-after c.args.in_order x (listed g) none)) c.insert.ensures.added
+
+pub returns-clause-kept : goal.returns-clause-kept
+returns-clause-kept c =
+    let first : c.open-begun.result.first ≡ c.args.line = ap (λ (g : Group). g.first) (c.open-begun.ensures c.args.packet.now) in
+    subst (λ n. OnOk c.insert.result (IsKept (n + 1) c.insert.new.self)) first c.insert.ensures.kept
+
+pub returns-clause-still : goal.returns-clause-still
+returns-clause-still c =
+    let first : c.open-begun.result.first ≡ c.args.line = ap (λ (g : Group). g.first) (c.open-begun.ensures c.args.packet.now) in
+    subst (λ n. OnErr c.insert.result (IsKept n c.insert.new.self)) first c.insert.ensures.still

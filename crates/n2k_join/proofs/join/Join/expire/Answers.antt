@@ -1,52 +1,67 @@
-use Rattle.std.proofs.Common.{◌≡◌, ◌+◌, ◌-◌, ◌∙◌, ℕ, Option, Some, sym, ap, subst, arith}
+use Rattle.std.proofs.Common.{◌≡◌, ◌+◌, ◌-◌, ◌∙◌, ℕ, Option, Some, refl, sym, ap, subst, arith}
 use Rattle.n2k_join.specs.Open.{Group}
 use Rattle.n2k_wire.specs.declared.entry.Entry.{Entry}
 use Rattle.n2k_table.specs.declared.definition.Kind.{Kind}
 use Rattle.n2k_join.specs.Laws.{ExpiresFirst}
 use Rattle.n2k_join.specs.State.{State, IsState, AreWaiting}
 use Rattle.n2k_join.specs.Step.{due, expired}
-use Rattle.n2k_join.specs.Inner.Slots.{groups_in}
-use Rattle.n2k_join.proofs.Expiring.{is_due, expires_first, expires_by, expired_by, expired-state, expired-waits, some-due, fewer, due-few}
-use Rattle.n2k_join.proofs.IndexedLemmas.{removed-groups}
+use Rattle.n2k_join.specs.Inner.Queue.{listed}
+use Rattle.n2k_join.proofs.Expiring.{is_due, expires_first, expires_by, expired_by, expired-state, expired-waits, some-due, fewer, due-few, told}
 use Rattle.n2k_join.proofs.join.Join.expire.Goals as goal
 
 pub invariant_of-self : goal.invariant_of-self
-unfolding expired
 invariant_of-self c =
-    let s : State = record { id = c.self.inside.id; window = c.self.inside.window; counts = c.self.inside.counts; groups = groups_in c.self.inside.groups.entries } in
-    let d = expires_by s c.args.self.now c.in_ok-broken.broken c.self.view_is c.self.invariant (sym c.oldest_due.ensures ∙ c.in_ok-broken.was) in
-    subst (λ gs. IsState (record { id = s.id; window = s.window; counts = record s.counts { broken = s.counts.broken + 1; held = s.counts.held - 1 }; groups = gs })) (sym (ap groups_in c.shift_remove_index.ensures.entries ∙ removed-groups c.self.inside.groups.entries 0)) (expired-state s d.group d.is c.self.invariant)
+    (subst (λ gs. IsState (record { id = c.self.inside.id; window = c.self.inside.window; counts = c.self.inside.counts; groups = gs })) (sym (c.in_err-broken.ensures.unchanged refl)) c.self.invariant.0, c.take_ended.ensures.kept)
+
+pub invariant_of-self-2 : goal.invariant_of-self-2
+unfolding expired
+invariant_of-self-2 c =
+    let s : State = record { id = c.self.inside.id; window = c.self.inside.window; counts = c.self.inside.counts; groups = listed c.self.inside.groups } in
+    let d = expires_by s c.args.self.now c.in_ok-broken.broken c.self.view_is c.self.invariant.0 (told s c.args.self.now c.self.view_is c.if-self-eq-MOST_LINES.false _ (c.take_ended.ensures.broken) ∙ c.in_ok-broken.was) in
+    (subst (λ gs. IsState (record { id = s.id; window = s.window; counts = record s.counts { broken = s.counts.broken + 1; held = s.counts.held - 1 }; groups = gs })) (sym (c.in_ok-broken.ensures.taken refl)) (expired-state s d.group d.is c.self.invariant.0), c.take_ended.ensures.kept)
 
 pub overflow_sub-self : goal.overflow_sub-self
 overflow_sub-self c =
-    let s : State = record { id = c.self.inside.id; window = c.self.inside.window; counts = c.self.inside.counts; groups = groups_in c.self.inside.groups.entries } in
-    let d = expires_by s c.args.self.now c.in_ok-broken.broken c.self.view_is c.self.invariant (sym c.oldest_due.ensures ∙ c.in_ok-broken.was) in
-    omega (arith, some-due s d.group d.is, c.self.invariant.held)
+    let s : State = record { id = c.self.inside.id; window = c.self.inside.window; counts = c.self.inside.counts; groups = listed c.self.inside.groups } in
+    let d = expires_by s c.args.self.now c.in_ok-broken.broken c.self.view_is c.self.invariant.0 (told s c.args.self.now c.self.view_is c.if-self-eq-MOST_LINES.false _ (c.take_ended.ensures.broken) ∙ c.in_ok-broken.was) in
+    omega (arith, some-due s d.group d.is, c.self.invariant.0.held)
 
 pub returns-clause-after : goal.returns-clause-after
 returns-clause-after c = λ _.
-    let s : State = record { id = c.self.inside.id; window = c.self.inside.window; counts = c.self.inside.counts; groups = groups_in c.self.inside.groups.entries } in
-    expired_by s c.args.self.now (groups_in c.shift_remove_index.new.self.entries) c.self.view_is (ap groups_in c.shift_remove_index.ensures.entries ∙ removed-groups c.self.inside.groups.entries 0)
+    let s : State = record { id = c.self.inside.id; window = c.self.inside.window; counts = c.self.inside.counts; groups = listed c.self.inside.groups } in
+    expired_by s c.args.self.now (listed c.take_ended.new.self) c.self.view_is (c.in_ok-broken.ensures.taken refl)
 
 pub returns-clause-waiting : goal.returns-clause-waiting
 returns-clause-waiting c = λ wait.
-    let s : State = record { id = c.self.inside.id; window = c.self.inside.window; counts = c.self.inside.counts; groups = groups_in c.self.inside.groups.entries } in
-    let d = expires_by s c.args.self.now c.in_ok-broken.broken c.self.view_is c.self.invariant (sym c.oldest_due.ensures ∙ c.in_ok-broken.was) in
-    subst AreWaiting (ap expired c.self.view_is ∙ sym (expired_by s c.args.self.now (groups_in c.shift_remove_index.new.self.entries) c.self.view_is (ap groups_in c.shift_remove_index.ensures.entries ∙ removed-groups c.self.inside.groups.entries 0))) (expired-waits s d.group d.is (subst AreWaiting (sym c.self.view_is) wait))
+    let s : State = record { id = c.self.inside.id; window = c.self.inside.window; counts = c.self.inside.counts; groups = listed c.self.inside.groups } in
+    let d = expires_by s c.args.self.now c.in_ok-broken.broken c.self.view_is c.self.invariant.0 (told s c.args.self.now c.self.view_is c.if-self-eq-MOST_LINES.false _ (c.take_ended.ensures.broken) ∙ c.in_ok-broken.was) in
+    subst AreWaiting (ap expired c.self.view_is ∙ sym (expired_by s c.args.self.now (listed c.take_ended.new.self) c.self.view_is (c.in_ok-broken.ensures.taken refl))) (expired-waits s d.group d.is (subst AreWaiting (sym c.self.view_is) wait))
 
 pub returns-clause-fewer : goal.returns-clause-fewer
 returns-clause-fewer c = λ _.
-    let s : State = record { id = c.self.inside.id; window = c.self.inside.window; counts = c.self.inside.counts; groups = groups_in c.self.inside.groups.entries } in
-    fewer c.args.self.now _ c.in_ok-broken.broken (sym c.oldest_due.ensures ∙ c.in_ok-broken.was) (expired_by s c.args.self.now (groups_in c.shift_remove_index.new.self.entries) c.self.view_is (ap groups_in c.shift_remove_index.ensures.entries ∙ removed-groups c.self.inside.groups.entries 0))
+    let s : State = record { id = c.self.inside.id; window = c.self.inside.window; counts = c.self.inside.counts; groups = listed c.self.inside.groups } in
+    fewer c.args.self.now _ c.in_ok-broken.broken (told s c.args.self.now c.self.view_is c.if-self-eq-MOST_LINES.false _ (c.take_ended.ensures.broken) ∙ c.in_ok-broken.was) (expired_by s c.args.self.now (listed c.take_ended.new.self) c.self.view_is (c.in_ok-broken.ensures.taken refl))
 
 pub returns-clause-few : goal.returns-clause-few
-returns-clause-few c = λ _. due-few c.args.self.now c.in_ok-broken.broken (subst IsState c.self.view_is c.self.invariant).counted.lines (sym c.oldest_due.ensures ∙ c.in_ok-broken.was)
+returns-clause-few c = λ _.
+    let s : State = record { id = c.self.inside.id; window = c.self.inside.window; counts = c.self.inside.counts; groups = listed c.self.inside.groups } in
+    due-few c.args.self.now c.in_ok-broken.broken (subst IsState c.self.view_is c.self.invariant.0).counted.lines (told s c.args.self.now c.self.view_is c.if-self-eq-MOST_LINES.false _ (c.take_ended.ensures.broken) ∙ c.in_ok-broken.was)
 
 pub returns-clause-one_step : goal.returns-clause-one_step
-returns-clause-one_step c = λ kind e group due_is. steps c.args.self.now group kind e (subst IsState c.self.view_is c.self.invariant) due_is
+returns-clause-one_step c = λ kind e group due_is. steps c.args.self.now group kind e (subst IsState c.self.view_is c.self.invariant.0) due_is
   where
     steps : (t : State) (group : Group) (kind : ℕ → Option Kind) (e : Entry) → IsState t → due t ≡ Some group → ExpiresFirst kind t e group
     steps t group kind e is due_is = expires_first t group (is_due t group is.groups.rise due_is) kind e
 
+pub returns-in_err-broken-clause-broken : goal.returns-in_err-broken-clause-broken
+returns-in_err-broken-clause-broken c =
+    let s : State = record { id = c.self.inside.id; window = c.self.inside.window; counts = c.self.inside.counts; groups = listed c.self.inside.groups } in
+    c.from_residual.ensures ∙ sym (told s c.args.self.now c.self.view_is c.if-self-eq-MOST_LINES.false _ (c.take_ended.ensures.broken) ∙ c.in_err-broken.was)
+
+pub returns-clause-broken : goal.returns-clause-broken
+returns-clause-broken c =
+    let s : State = record { id = c.self.inside.id; window = c.self.inside.window; counts = c.self.inside.counts; groups = listed c.self.inside.groups } in
+    sym (told s c.args.self.now c.self.view_is c.if-self-eq-MOST_LINES.false _ (c.take_ended.ensures.broken) ∙ c.in_ok-broken.was)
+
 pub returns-in_err-broken-clause-one_step : goal.returns-in_err-broken-clause-one_step
-returns-in_err-broken-clause-one_step c = λ kind e group due_is. expires_first c.args.self.now group (is_due c.args.self.now group (subst IsState c.self.view_is c.self.invariant).groups.rise due_is) kind e
+returns-in_err-broken-clause-one_step c = λ kind e group due_is. expires_first c.args.self.now group (is_due c.args.self.now group (subst IsState c.self.view_is c.self.invariant.0).groups.rise due_is) kind e

@@ -1,8 +1,7 @@
-use Rattle.std.proofs.Common.{◌≡◌, length, sym, ◌∙◌, rules}
-use Rattle.std.proofs.lemmas.List.{length-map}
+use Rattle.std.proofs.Common.{◌≡◌, ◌+◌, length, rules}
 use Rattle.std.proofs.lemmas.Result.{err_from_is_err_and}
 use Rattle.n2k_table.specs.Table.{kind}
-use Rattle.n2k_join.specs.Inner.Slots.{group_at, groups_in}
+use Rattle.n2k_join.specs.Inner.Queue.{listed}
 use Rattle.n2k_join.proofs.ValidStates.{rules_broken, groups_broken, all_hold, is_state}
 use Rattle.n2k_join.proofs.join.Join.from_state.Goals as goal
 
@@ -17,12 +16,12 @@ returns-in_err-stored c =
 
 pub invariant_of-result : goal.invariant_of-result
 invariant_of-result c =
-    let stored = groups_in c.in_ok-stored.stored.entries in
-    let held : c.len-held.result ≡ length stored = c.len-held.ensures.len ∙ sym (length-map c.in_ok-stored.stored.entries group_at) in
-    is_state (kind c.args.table.now) c.args.id c.args.window c.args.counts c.args.groups.now c.rules_hold.result c.rules_hold.ensures stored c.len-held.result c.if-not-rules_hold.false c.in_ok-stored.ensures.value held (search rules) c.in_ok-stored.ensures.parts
+    let stored = listed c.in_ok-stored.stored in
+    let held : c.len-held.result ≡ length stored = c.len-held.ensures (c.args.counts.lines + 1) c.in_ok-stored.ensures.kept in
+    (is_state (kind c.args.table.now) c.args.id c.args.window c.args.counts c.args.groups.now c.rules_hold.result c.rules_hold.ensures stored c.len-held.result c.if-not-rules_hold.false c.in_ok-stored.ensures.value held (search rules) c.in_ok-stored.ensures.parts, c.in_ok-stored.ensures.kept)
 
 pub returns : goal.returns
 returns c =
-    let stored = groups_in c.in_ok-stored.stored.entries in
-    let held : c.len-held.result ≡ length stored = c.len-held.ensures.len ∙ sym (length-map c.in_ok-stored.stored.entries group_at) in
+    let stored = listed c.in_ok-stored.stored in
+    let held : c.len-held.result ≡ length stored = c.len-held.ensures (c.args.counts.lines + 1) c.in_ok-stored.ensures.kept in
     all_hold (kind c.args.table.now) c.args.id c.args.window c.args.counts c.args.groups.now c.rules_hold.result c.rules_hold.ensures stored c.len-held.result c.if-not-rules_hold.false c.in_ok-stored.ensures.value held

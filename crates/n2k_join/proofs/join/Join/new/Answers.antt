@@ -1,5 +1,3 @@
-use Rattle.std.proofs.Common.{ap}
-use Rattle.n2k_join.specs.Inner.Slots.{groups_in}
 use Rattle.n2k_join.specs.Open.{open_groups, waiting}
 use Rattle.n2k_join.proofs.join.Join.new.Goals as goal
 
@@ -9,5 +7,5 @@ returns c = λ i. record {
   id = c.id.ensures i;
   window = c.args.window;
   counts = record { lines = 0; messages = 0; bad = 0; unknown = 0; broken = 0; held = 0 };
-  groups = ap groups_in c.new.ensures.empty i;
+  groups = c.new.ensures.listed i;
 }

@@ -1,14 +1,14 @@
 use Rattle.std.proofs.Common.{refl, subst}
 use Rattle.std.proofs.lemmas.Result.{IfOk-weaker}
-use Rattle.n2k_join.specs.Inner.Slots.{groups_in}
+use Rattle.n2k_join.specs.Inner.Queue.{listed}
 use Rattle.n2k_join.specs.State.{State, IsState}
 use Rattle.n2k_join.proofs.StateBound.{saved-short}
 use Rattle.n2k_join.proofs.join.Join.save.Goals as goal
 
 pub returns-clause-bounded : goal.returns-clause-bounded
 returns-clause-bounded c =
-    let s : State = record { id = c.self.inside.id; window = c.self.inside.window; counts = c.self.inside.counts; groups = groups_in c.self.inside.groups.entries } in
-    IfOk-weaker c.state_text.result _ _ (λ text is. saved-short s c.args.self.now (groups_in c.self.inside.groups.entries) text.items c.self.invariant c.state_text.ensures.id refl c.self.view_is is) c.state_text.ensures.text
+    let s : State = record { id = c.self.inside.id; window = c.self.inside.window; counts = c.self.inside.counts; groups = listed c.self.inside.groups } in
+    IfOk-weaker c.state_text.result _ _ (λ text is. saved-short s c.args.self.now (listed c.self.inside.groups) text.items c.self.invariant.0 c.state_text.ensures.id refl c.self.view_is is) c.state_text.ensures.text
 
 pub returns-clause-reads_back : goal.returns-clause-reads_back
-returns-clause-reads_back c = λ kind fast id. c.state_reads_back.ensures.same kind c.args.self.now (subst IsState c.self.view_is c.self.invariant) fast id
+returns-clause-reads_back c = λ kind fast id. c.state_reads_back.ensures.same kind c.args.self.now (subst IsState c.self.view_is c.self.invariant.0) fast id

@@ -1,11 +1,11 @@
-use Rattle.std.proofs.Common.{◌≡◌, ◌<◌, ◌≤◌, ◌∙◌, sym, ap, subst, length, arith}
-use Rattle.std.proofs.lemmas.List.{length-map}
+use Rattle.std.proofs.Common.{◌≡◌, ◌+◌, ◌<◌, ◌≤◌, ◌∙◌, sym, ap, subst, length, arith}
+use Rattle.n2k_join.specs.declared.counts.Counts.{Counts}
 use Rattle.n2k_table.specs.Table.{kind}
 use Rattle.n2k_join.specs.Counts.{most_lines}
 use Rattle.n2k_wire.specs.Packet.{PacketParts}
 use Rattle.n2k_join.specs.declared.step.Step.{Step}
 use Rattle.n2k_join.specs.State.{State, step_after, IsState, AreWaiting}
-use Rattle.n2k_join.specs.Inner.Slots.{group_at, groups_in}
+use Rattle.n2k_join.specs.Inner.Queue.{listed, IsKept}
 use Rattle.n2k_join.specs.Inner.Taken.{packet_in, taken_message}
 use Rattle.n2k_join.proofs.Keeping.{step-keeps, step-waits, few-open}
 use Rattle.n2k_join.proofs.LineLemmas.{line-gives, line-leads}
@@ -13,27 +13,28 @@ use Rattle.n2k_join.proofs.join.Join.take.Goals as goal
 
 pub invariant_of-self-2 : goal.invariant_of-self-2
 invariant_of-self-2 c =
-    let s : State = record { id = c.self.inside.id; window = c.self.inside.window; counts = c.self.inside.counts; groups = groups_in c.self.inside.groups.entries } in
-    let below : s.counts.lines < most_lines = omega (arith, c.self.invariant.counted.lines, c.if-self-eq-MOST_LINES.false) in
+    let s : State = record { id = c.self.inside.id; window = c.self.inside.window; counts = c.self.inside.counts; groups = listed c.self.inside.groups } in
+    let below : s.counts.lines < most_lines = omega (arith, c.self.invariant.0.counted.lines, c.if-self-eq-MOST_LINES.false) in
     let o = c.in_ok-taken.taken in
     let step : Step PacketParts = record { message = taken_message o (packet_in c.args.entry.now) c.take_entry.new.joined; bad = o.bad; broken = o.broken } in
-    let held : c.len.result ≡ length (groups_in c.take_entry.new.groups.entries) = c.len.ensures.len ∙ sym (length-map c.take_entry.new.groups.entries group_at) in
+    let held : c.len.result ≡ length (listed c.take_entry.new.groups) = c.len.ensures (c.self.inside.counts.lines + 1 + 1) c.in_ok-taken.ensures.kept in
     let gives = c.in_ok-taken.ensures in
-    let leads = line-leads (kind c.args.table.now) s c.args.self.now c.args.entry.now c.is_in_order.result c.self.invariant c.self.view_is c.requires.expired c.if-self-eq-MOST_LINES.false c.is_in_order.ensures step o.is_unknown c.len.result (groups_in c.take_entry.new.groups.entries) c.counts_after-self-inside.result gives.given gives.unknown gives.groups held (rw c.is_message-is_message.ensures at c.counts_after-self-inside.ensures) in
-    subst IsState (sym leads) (step-keeps (kind c.args.table.now) s c.args.entry.now c.self.invariant (c.know_entry.ensures c.requires.short) below)
+    let leads = line-leads (kind c.args.table.now) s c.args.self.now c.args.entry.now c.is_in_order.result c.self.invariant.0 c.self.view_is c.requires.expired c.if-self-eq-MOST_LINES.false c.is_in_order.ensures step o.is_unknown c.len.result (listed c.take_entry.new.groups) c.counts_after-self-inside.result gives.given gives.unknown gives.groups held (rw c.is_message-is_message.ensures at c.counts_after-self-inside.ensures) in
+    let lines : c.counts_after-self-inside.result.lines + 1 ≡ c.self.inside.counts.lines + 1 + 1 = ap (λ (n : Counts). n.lines + 1) c.counts_after-self-inside.ensures in
+    (subst IsState (sym leads) (step-keeps (kind c.args.table.now) s c.args.entry.now c.self.invariant.0 (c.know_entry.ensures c.requires.short) below), subst (λ n. IsKept n c.take_entry.new.groups) (sym lines) c.in_ok-taken.ensures.kept)
 
 pub returns : goal.returns
 returns c =
-    let s : State = record { id = c.self.inside.id; window = c.self.inside.window; counts = c.self.inside.counts; groups = groups_in c.self.inside.groups.entries } in
-    let below : s.counts.lines < most_lines = omega (arith, c.self.invariant.counted.lines, c.if-self-eq-MOST_LINES.false) in
+    let s : State = record { id = c.self.inside.id; window = c.self.inside.window; counts = c.self.inside.counts; groups = listed c.self.inside.groups } in
+    let below : s.counts.lines < most_lines = omega (arith, c.self.invariant.0.counted.lines, c.if-self-eq-MOST_LINES.false) in
     let o = c.in_ok-taken.taken in
     let step : Step PacketParts = record { message = taken_message o (packet_in c.args.entry.now) c.take_entry.new.joined; bad = o.bad; broken = o.broken } in
-    let held : c.len.result ≡ length (groups_in c.take_entry.new.groups.entries) = c.len.ensures.len ∙ sym (length-map c.take_entry.new.groups.entries group_at) in
+    let held : c.len.result ≡ length (listed c.take_entry.new.groups) = c.len.ensures (c.self.inside.counts.lines + 1 + 1) c.in_ok-taken.ensures.kept in
     let gives = c.in_ok-taken.ensures in
-    let leads = line-leads (kind c.args.table.now) s c.args.self.now c.args.entry.now c.is_in_order.result c.self.invariant c.self.view_is c.requires.expired c.if-self-eq-MOST_LINES.false c.is_in_order.ensures step o.is_unknown c.len.result (groups_in c.take_entry.new.groups.entries) c.counts_after-self-inside.result gives.given gives.unknown gives.groups held (rw c.is_message-is_message.ensures at c.counts_after-self-inside.ensures) in
-    let keeps : IsState (step_after (kind c.args.table.now) s c.args.entry.now) = step-keeps (kind c.args.table.now) s c.args.entry.now c.self.invariant (c.know_entry.ensures c.requires.short) below in
+    let leads = line-leads (kind c.args.table.now) s c.args.self.now c.args.entry.now c.is_in_order.result c.self.invariant.0 c.self.view_is c.requires.expired c.if-self-eq-MOST_LINES.false c.is_in_order.ensures step o.is_unknown c.len.result (listed c.take_entry.new.groups) c.counts_after-self-inside.result gives.given gives.unknown gives.groups held (rw c.is_message-is_message.ensures at c.counts_after-self-inside.ensures) in
+    let keeps : IsState (step_after (kind c.args.table.now) s c.args.entry.now) = step-keeps (kind c.args.table.now) s c.args.entry.now c.self.invariant.0 (c.know_entry.ensures c.requires.short) below in
     record {
-      given = line-gives (kind c.args.table.now) s c.args.self.now c.args.entry.now c.is_in_order.result c.self.invariant c.self.view_is c.requires.expired c.if-self-eq-MOST_LINES.false c.is_in_order.ensures gives.given;
+      given = line-gives (kind c.args.table.now) s c.args.self.now c.args.entry.now c.is_in_order.result c.self.invariant.0 c.self.view_is c.requires.expired c.if-self-eq-MOST_LINES.false c.is_in_order.ensures gives.given;
       after = leads ∙ ap (λ t. step_after (kind c.args.table.now) t c.args.entry.now) c.self.view_is;
       waiting = subst AreWaiting (sym leads) (step-waits (kind c.args.table.now) s c.args.entry.now);
       few_open = subst (λ (t : State). length t.groups ≤ t.window.lines) (sym leads) (few-open (step_after (kind c.args.table.now) s c.args.entry.now) keeps (step-waits (kind c.args.table.now) s c.args.entry.now));

@@ -1,4 +1,4 @@
-use Rattle.std.proofs.Common.{◌≡◌, ◌≤◌, ◌+◌, ◌/◌, List, ℕ, length, ap, ◌∙◌, arith}
+use Rattle.std.proofs.Common.{◌/◌, List, ℕ, length, ap, arith}
 use Rattle.n2k_wire.specs.Packet.{PacketParts}
 use Rattle.n2k_table.specs.Table.{kind}
 use Rattle.n2k_join.specs.Pieces.{stream_of}

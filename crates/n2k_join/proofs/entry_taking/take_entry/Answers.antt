@@ -1,0 +1,22 @@
+use Rattle.std.proofs.Common.{◌+◌, arith}
+use Rattle.std.specs.VecDeque.{deque_capacity}
+use Rattle.n2k_join.proofs.Queue.{kept-later}
+use Rattle.n2k_join.proofs.entry_taking.take_entry.Goals as goal
+
+pub returns-in-Skip-clause-kept : goal.returns-in-Skip-clause-kept
+returns-in-Skip-clause-kept c = let g = c.args.groups.now in kept-later c.args.line (c.args.line + 1) g.groups.entries g.openings.items (deque_capacity g.openings) (omega arith) c.requires.kept
+
+pub returns-in-Bad-clause-kept : goal.returns-in-Bad-clause-kept
+returns-in-Bad-clause-kept c = let g = c.args.groups.now in kept-later c.args.line (c.args.line + 1) g.groups.entries g.openings.items (deque_capacity g.openings) (omega arith) c.requires.kept
+
+pub returns-in-None-clause-kept : goal.returns-in-None-clause-kept
+returns-in-None-clause-kept c = let g = c.args.groups.now in kept-later c.args.line (c.args.line + 1) g.groups.entries g.openings.items (deque_capacity g.openings) (omega arith) c.requires.kept
+
+pub returns-in-Some-Single-clause-kept : goal.returns-in-Some-Single-clause-kept
+returns-in-Some-Single-clause-kept c = let g = c.args.groups.now in kept-later c.args.line (c.args.line + 1) g.groups.entries g.openings.items (deque_capacity g.openings) (omega arith) c.requires.kept
+
+pub returns-in-None-kind-clause-kept : goal.returns-in-None-kind-clause-kept
+returns-in-None-kind-clause-kept c = let g = c.args.groups.now in kept-later c.args.line (c.args.line + 1) g.groups.entries g.openings.items (deque_capacity g.openings) (omega arith) c.requires.kept
+
+pub returns-in-Some-clause-kept : goal.returns-in-Some-clause-kept
+returns-in-Some-clause-kept c = let g = c.args.groups.now in kept-later c.args.line (c.args.line + 1) g.groups.entries g.openings.items (deque_capacity g.openings) (omega arith) c.requires.kept

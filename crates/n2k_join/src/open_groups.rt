@@ -1,0 +1,210 @@
+//! The open groups: by key in a map, and their openings in the order of their lines in a queue.
+ghost use Rattle.std.specs.Prelude.{◌≡◌, ℕ, ◌+◌, ◌*◌, ◌<◌, ◌≤◌, ◌++◌, [], ◌∷◌, true, false, OnOk, OnErr, IfSome, IsSome, IsNone, Some, None, length, filter, filter_map, drop, option_map, slice_get, is_some, not};
+ghost use Rattle.std.specs.VecDeque.{deque_len, deque_capacity};
+ghost use Rattle.n2k_join.specs.Messages.{as_broken};
+ghost use Rattle.n2k_join.specs.Open.{Group, ended};
+ghost use Rattle.n2k_join.specs.Window.{Window as WindowParts};
+ghost use Rattle.n2k_join.specs.Inner.Stored.{key_of};
+ghost use Rattle.n2k_join.specs.Inner.Slots.{group_in};
+ghost use Rattle.n2k_join.specs.Inner.Queue.{found, StandsAt, live, is_live, is_front_stale, groups_by, listed, KeptBy, IsKept, told};
+
+use crate::piece::{FrameKey, OpenGroup};
+use crate::step::Broken;
+use crate::window::{Window, is_waiting};
+use indexmap::IndexMap;
+use std::alloc::{AllocError, Global};
+use std::collections::VecDeque;
+
+/// How many openings there is room for beside three for each open group, where room is made: so a queue of few groups
+/// is seldom full, and one of many grows by half.
+const SPARE_OPENINGS: usize = 32;
+
+/// That a group of a key was opened at a line.
+#[derive(Clone, Copy)]
+pub(crate) struct Opening {
+    pub(crate) first: u64,
+    pub(crate) key: FrameKey,
+}
+
+/// The open groups. The map is without order, so that any group is taken out of it at once. Where one ends out of turn,
+/// its opening stays in the queue, stale, until it comes to the front or the queue is full: then at least half of the
+/// openings are stale, and all these are dropped. So a step costs the same on average, however many groups are open.
+#[derive(Drop)]
+pub(crate) struct OpenGroups {
+    pub(crate) groups: IndexMap<FrameKey, OpenGroup>,
+    pub(crate) openings: VecDeque<Opening>,
+}
+
+/// The group that an opening began, while it is open.
+pub(crate) fn live_group<'a>(
+    groups: &'a IndexMap<FrameKey, OpenGroup>,
+    opening: &Opening,
+) -> Option<&'a OpenGroup>
+    ensures { option_map (λ g. group_in (key_of opening.now.key) g.now) result ≡ live groups.now.entries opening.now }
+{
+    let group = groups.get(&opening.key)?;
+    if group.first != opening.first {
+        return None;
+    }
+    Some(group)
+}
+
+/// Whether the group that an opening began is open.
+fn is_live(groups: &IndexMap<FrameKey, OpenGroup>, opening: &Opening) -> bool
+    ensures { result ≡ is_live groups.now.entries opening.now }
+{
+    live_group(groups, opening).is_some()
+}
+
+/// Drops the openings of groups that have ended.
+fn drop_stale(groups: &IndexMap<FrameKey, OpenGroup>, openings: &mut VecDeque<Opening>)
+    ensures items { openings.new.items ≡ filter (is_live groups.now.entries) openings.old.items }
+    ensures capacity { deque_capacity openings.new ≡ deque_capacity openings.old }
+{
+    openings.retain(|opening| is_live(groups, opening));
+}
+
+/// Sees to it that an opening can be added without memory.
+pub(crate) fn make_place(groups: &IndexMap<FrameKey, OpenGroup>, openings: &mut VecDeque<Opening>)
+    requires room { length (groups_by groups.now.entries openings.old.items) < deque_capacity openings.old }
+    ensures groups { groups_by groups.now.entries openings.new.items ≡ groups_by groups.now.entries openings.old.items }
+    ensures kept { (next : ℕ) → KeptBy next groups.now.entries openings.old.items (deque_capacity openings.old)
+        → KeptBy next groups.now.entries openings.new.items (deque_capacity openings.new) }
+    ensures place { deque_len openings.new < deque_capacity openings.new }
+    ensures capacity { deque_capacity openings.new ≡ deque_capacity openings.old }
+{
+    if openings.len() == openings.capacity() {
+        drop_stale(groups, openings);
+    }
+}
+
+/// Adds an opening where there is a place for it.
+pub(crate) fn push(openings: &mut VecDeque<Opening>, opening: Opening)
+    requires { deque_len openings.old < deque_capacity openings.old }
+    ensures items { openings.new.items ≡ openings.old.items ++ opening ∷ [] }
+    ensures capacity { deque_capacity openings.new ≡ deque_capacity openings.old }
+{
+    if openings.push_back(opening).is_err() {
+        unreachable!()
+    }
+}
+
+/// Drops the openings at the front whose groups have ended.
+fn drop_front(groups: &IndexMap<FrameKey, OpenGroup>, openings: &mut VecDeque<Opening>)
+    ensures groups { groups_by groups.now.entries openings.new.items ≡ groups_by groups.now.entries openings.old.items }
+    ensures kept { (next : ℕ) → KeptBy next groups.now.entries openings.old.items (deque_capacity openings.old)
+        → KeptBy next groups.now.entries openings.new.items (deque_capacity openings.new) }
+    ensures live { is_front_stale groups.now.entries openings.new.items ≡ false }
+{
+    while is_front_stale(groups, openings) {
+        openings.pop_front();
+    }
+}
+
+/// Whether the first opening is of a group that has ended.
+fn is_front_stale(groups: &IndexMap<FrameKey, OpenGroup>, openings: &VecDeque<Opening>) -> bool
+    ensures value { result ≡ is_front_stale groups.now.entries openings.now.items }
+    ensures some { result ≡ true → 0 < deque_len openings.now }
+{
+    match openings.front() {
+        Some(opening) => !is_live(groups, opening),
+        None => false,
+    }
+}
+
+impl OpenGroups {
+    pub(crate) fn new(alloc: Global) -> OpenGroups
+        ensures listed { listed result ≡ [] }
+        ensures kept { (next : ℕ) → 0 < next → IsKept next result }
+    {
+        OpenGroups {
+            groups: IndexMap::new(alloc),
+            openings: VecDeque::new(alloc),
+        }
+    }
+
+    /// How many are open.
+    pub(crate) fn len(&self) -> usize
+        ensures { (next : ℕ) → IsKept next self.now → result ≡ length (listed self.now) }
+    {
+        self.groups.len()
+    }
+
+    /// Sees to it that the opening of one more group can be added, and that of one that begins where a group of its key
+    /// ends. The queue has room for twice as many openings as groups are open: where it is full, half of them are stale.
+    fn reserve_opening(&mut self) -> Result<(), AllocError>
+        requires room { 2 * length self.old.groups.entries ≤ deque_capacity self.old.openings }
+        requires counted { length self.old.groups.entries ≡ length (listed self.old) }
+        ensures entries { self.new.groups.entries ≡ self.old.groups.entries }
+        ensures listed { listed self.new ≡ listed self.old }
+        ensures kept { (next : ℕ) → IsKept next self.old → IsKept next self.new }
+        ensures place { OnOk result (deque_len self.new.openings < deque_capacity self.new.openings) }
+        ensures more { OnOk result (2 * (length self.new.groups.entries + 1) ≤ deque_capacity self.new.openings) }
+    {
+        let open = self.groups.len();
+        if self.openings.capacity() < 2 * (open + 1) {
+            let wanted = open.saturating_mul(3).saturating_add(SPARE_OPENINGS);
+            return self.openings.reserve(wanted - self.openings.len());
+        }
+        make_place(&self.groups, &mut self.openings);
+        Ok(())
+    }
+
+    /// Adds a group of a key that has none open. After a refusal of memory they are as they were.
+    pub(crate) fn insert(&mut self, key: FrameKey, group: OpenGroup) -> Result<(), AllocError>
+        requires kept { IsKept group.first self.old }
+        requires new { found self.old.groups.entries key ≡ None }
+        ensures added { OnOk result (listed self.new ≡ listed self.old ++ group_in (key_of key) group ∷ []) }
+        ensures kept { OnOk result (IsKept (group.first + 1) self.new) }
+        ensures unchanged { OnErr result (listed self.new ≡ listed self.old) }
+        ensures still { OnErr result (IsKept group.first self.new) }
+    {
+        self.reserve_opening()?;
+        let opening = Opening {
+            first: group.first,
+            key,
+        };
+        self.groups.insert(key, group)?;
+        push(&mut self.openings, opening);
+        Ok(())
+    }
+
+    /// Takes out the oldest of the groups whose window ends at the line, if not before, and answers what is reported of
+    /// it. The first opening is of the least line, though it may be stale: so mostly that test is all.
+    pub(crate) fn take_ended(&mut self, window: Window, line: u64) -> Option<Broken>
+        requires kept { IsKept line self.old }
+        ensures broken { result ≡ option_map as_broken (slice_get (ended window line (listed self.old)) 0) }
+        ensures taken { IsSome result → listed self.new ≡ drop 1 (listed self.old) }
+        ensures unchanged { IsNone result → listed self.new ≡ listed self.old }
+        ensures kept { IsKept line self.new }
+    {
+        let long = u64::from(window.get());
+        if is_waiting(self.openings.front()?.first, long, line) {
+            return None;
+        }
+        drop_front(&self.groups, &mut self.openings);
+        let opening = *self.openings.front()?;
+        if is_waiting(opening.first, long, line) {
+            return None;
+        }
+        self.openings.pop_front();
+        self.groups.swap_remove(&opening.key);
+        Some(opening.broken())
+    }
+}
+
+impl Opening {
+    /// What is reported of its group, where that ends without a message.
+    fn broken(&self) -> Broken
+        ensures { result ≡ told self.now }
+    {
+        let Opening { first, key } = *self;
+        Broken {
+            pgn: key.pgn,
+            src: key.src,
+            dst: key.dst,
+            seq: key.sequence,
+            first,
+        }
+    }
+}
