@@ -131,9 +131,8 @@ fn reopen_at(
     broken
 }
 
-/// Takes a frame into the open groups. The message that it completes goes to `joined`, and the group that it breaks is
-/// the answer. Memory is taken only where its key has none open.
-pub(crate) fn take_frame(
+/// Takes a frame into the group of its key, as `take_frame` says.
+fn take_into(
     in_order: bool,
     groups: &mut OpenGroups,
     line: u64,
@@ -165,4 +164,34 @@ pub(crate) fn take_frame(
     }
     join_at(in_order, groups, at, line, frame, packet, joined);
     Ok(None)
+}
+
+/// Takes a frame into the open groups, and lets go of openings where few of them are of open groups. The message that it
+/// completes goes to `joined`, and the group that it breaks is the answer. Memory is taken only where its key has none open.
+pub(crate) fn take_frame(
+    in_order: bool,
+    groups: &mut OpenGroups,
+    line: u64,
+    frame: &FastFrame,
+    packet: &Packet,
+    joined: &mut Option<Packet>,
+) -> Result<Option<Broken>, AllocError>
+    requires kept { IsKept line groups.old }
+    requires open { AllByRecursion IsOpen (listed groups.old) }
+    requires apart { AreApart (listed groups.old) }
+    requires none { joined.old ≡ None }
+    ensures message { let x = frame_of line packet.now frame.now in
+        OnOk result (joined.new ≡ gained in_order x (of_the_key x.key (listed groups.old))) }
+    ensures broken { let x = frame_of line packet.now frame.now in
+        IfOk result (λ b. b ≡ lost in_order x (of_the_key x.key (listed groups.old))) }
+    ensures groups { OnOk result (listed groups.new
+        ≡ groups_after in_order (listed groups.old) (frame_of line packet.now frame.now)) }
+    ensures kept { OnOk result (IsKept (line + 1) groups.new) }
+    ensures unchanged { OnErr result (listed groups.new ≡ listed groups.old) }
+    ensures still { OnErr result (IsKept line groups.new) }
+    ensures memory { OnErr result (of_the_key (key_of frame.now.key) (listed groups.old) ≡ None) }
+{
+    let broken = take_into(in_order, groups, line, frame, packet, joined)?;
+    groups.trim();
+    Ok(broken)
 }

@@ -169,9 +169,32 @@ impl OpenGroups {
         Ok(())
     }
 
-    /// Takes out the oldest of the groups whose window ends at the line, if not before, and answers what is reported of
-    /// it. The first opening is of the least line, though it may be stale: so mostly that test is all.
+    /// Drops the stale openings, where there are more of them than groups are open and some: so what goes over all openings
+    /// costs no more than what is open.
+    pub(crate) fn trim(&mut self)
+        ensures listed { listed self.new ≡ listed self.old }
+        ensures kept { (next : ℕ) → IsKept next self.old → IsKept next self.new }
+    {
+        if self.openings.len() / 2 > self.groups.len() + SPARE_OPENINGS {
+            drop_stale(&self.groups, &mut self.openings);
+        }
+    }
+
+    /// Takes out the oldest of the groups whose window ends at the line, if not before, and answers what is reported of it.
     pub(crate) fn take_ended(&mut self, window: Window, line: u64) -> Option<Broken>
+        requires kept { IsKept line self.old }
+        ensures broken { result ≡ option_map as_broken (slice_get (ended window line (listed self.old)) 0) }
+        ensures taken { IsSome result → listed self.new ≡ drop 1 (listed self.old) }
+        ensures unchanged { IsNone result → listed self.new ≡ listed self.old }
+        ensures kept { IsKept line self.new }
+    {
+        let broken = self.take_first(window, line)?;
+        self.trim();
+        Some(broken)
+    }
+
+    /// Takes out that group. The first opening is of the least line, though it may be stale: so mostly that test is all.
+    fn take_first(&mut self, window: Window, line: u64) -> Option<Broken>
         requires kept { IsKept line self.old }
         ensures broken { result ≡ option_map as_broken (slice_get (ended window line (listed self.old)) 0) }
         ensures taken { IsSome result → listed self.new ≡ drop 1 (listed self.old) }

@@ -6,7 +6,7 @@ use Rattle.n2k_join.specs.Messages.{as_broken}
 use Rattle.n2k_join.specs.Open.{Group, ended}
 use Rattle.n2k_join.specs.Inner.Queue.{groups_by, KeptBy}
 use Rattle.n2k_join.proofs.Queue.{front-split, no-front, zero-from, none-ended, first-ended, first-listed, groups-fewer, kept-fewer, is_live-front, live-opening}
-use Rattle.n2k_join.proofs.open_groups.OpenGroups.take_ended.Goals as goal
+use Rattle.n2k_join.proofs.open_groups.OpenGroups.take_first.Goals as goal
 
 pub returns-in_err-front-clause-broken : goal.returns-in_err-front-clause-broken
 unfolding ended

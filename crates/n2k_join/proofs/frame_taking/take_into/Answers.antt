@@ -6,7 +6,7 @@ use Rattle.n2k_join.specs.Inner.Slots.{group_in}
 use Rattle.n2k_join.proofs.JoinLemmas.{on_err}
 use Rattle.n2k_join.proofs.Queue.{key-found}
 use Rattle.n2k_join.proofs.QueueFrames.{at_place, rejects-here, none-lost}
-use Rattle.n2k_join.proofs.frame_taking.take_frame.Goals as goal
+use Rattle.n2k_join.proofs.frame_taking.take_into.Goals as goal
 
 pub returns-in_err-open_last-clause-memory : goal.returns-in_err-open_last-clause-memory
 returns-in_err-open_last-clause-memory c =
