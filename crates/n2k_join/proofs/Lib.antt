@@ -25,6 +25,7 @@ pub mod Numbered
 pub mod Opened
 pub mod Overdue
 pub mod PieceBytes
+pub mod Places
 pub mod Queue
 pub mod QueueFrames
 pub mod QueueSaved

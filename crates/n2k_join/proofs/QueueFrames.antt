@@ -23,12 +23,13 @@ use Rattle.n2k_join.specs.Open.{Group, pieces_of, group_of}
 use Rattle.n2k_join.specs.State.{held_frame, held_of, IsOpen, AreApart}
 use Rattle.n2k_join.specs.Inner.Stored.{rejects, key_of, piece_of, frame_of, with_frame, of_the_key, started, taken, joined, opened, groups_after, gained, lost, message_if}
 use Rattle.n2k_join.specs.Inner.Slots.{slot_of, group_in}
-use Rattle.n2k_join.specs.Inner.Queue.{found, StandsAt, begun_on, live, groups_by, is_opened, RiseBelow, KeptBy}
+use Rattle.n2k_join.specs.Inner.Queue.{found, StandsAt, begun_on, groups_by, is_opened, RiseBelow, PlacedBy, ArePaired, KeptBy}
 use Rattle.n2k_join.proofs.SlotLemmas.{carried-slots}
 use Rattle.n2k_join.proofs.JoinLemmas.{after-place, rejects-missing, with_piece, complete-with_frame, data_of-with_frame, broken-held, message-begun, groups-begun}
 use Rattle.n2k_join.proofs.Keys.{same_key-refl, same_key-sym, same_key-true}
 use Rattle.n2k_join.proofs.Rising.{none_from, filter_map-push}
-use Rattle.n2k_join.proofs.Queue.{one_key, key-found, rise-below, rise-later, rise-push, groups-changed, opened-changed, opened-push, opened-last, begun-before, begun-here}
+use Rattle.n2k_join.proofs.Places.{one_key, called, groups_called, all-called, called-paired, rise-paired, opened-paired, paired-refl}
+use Rattle.n2k_join.proofs.Queue.{key-found, rise-below, rise-later, rise-push, groups-changed, opened-changed, opened-push, opened-last, begun-before, begun-here}
 
 -- ---- an entry written
 
@@ -36,6 +37,11 @@ pub slot-written : (es : List (FrameKey × OpenGroup)) (i : ℕ) (w : OpenGroup)
 slot-written [] i w k v e = absurd (none-some (k, v) e)
 slot-written (e ∷ es) zero w k v h = ap (λ (p : FrameKey × OpenGroup). Some (p.0, w)) (same_Some e (k, v) h)
 slot-written (e ∷ es) (suc i) w k v h = slot-written es i w k v h
+
+pub same-written : (es : List (FrameKey × OpenGroup)) (i : ℕ) (k : FrameKey) (v : OpenGroup) → slice_get es i ≡ Some (k, v) → set_value_at es i v ≡ es
+same-written [] i k v h = refl
+same-written (e ∷ es) zero k v h = λ j. (e.0, sym (ap (λ (p : FrameKey × OpenGroup). p.1) (same_Some e (k, v) h)) j) ∷ es
+same-written (e ∷ es) (suc i) k v h = ap (λ fs. e ∷ fs) (same-written es i k v h)
 
 pub length-written : (es : List (FrameKey × OpenGroup)) (i : ℕ) (w : OpenGroup) → length (set_value_at es i w) ≡ length es
 length-written [] i w = refl
@@ -191,9 +197,10 @@ module _ (order : Bool) (line : ℕ) (packet : PacketParts) (frame : FastFrame) 
   -- where what is open of the key changes, the groups go their way
   stepped : (new : Option OpenGroup) (p : Option Group) → joined order x the_group ≡ p → ((j : FrameKey) → found es' j ≡ cond (same_key (key_of frame.key) (key_of j)) new (found es j))
       → ((first : ℕ) → first < line → option_and_then (begun_on first (key_of frame.key)) new ≡ cond (v.first == first) p None)
-      → groups_by es' os ≡ filter_map (taken order x) (groups_by es os)
+      → groups_called es' os ≡ filter_map (taken order x) (groups_by es os)
   stepped new p is changes gives =
       groups-changed frame.key (Some v) new es es' there changes (taken order x) (λ n. n < line) os (rise-below 1 line os kept.rise).1 (λ n l. gives n l ∙ by (v.first == n)) (λ g e. ap (λ b. cond b (joined order x g) (Some g)) e)
+      ∙ ap (filter_map (taken order x)) (sym (all-called es os kept.placed.apart kept.placed.said))
     where
       taken-is : p ≡ taken order x the_group
       taken-is = sym is ∙ sym (ap (λ b. cond b (joined order x the_group) (Some the_group)) (same_key-refl (key_of frame.key)))
@@ -201,6 +208,10 @@ module _ (order : Bool) (line : ℕ) (packet : PacketParts) (frame : FastFrame) 
       by : (b : Bool) → cond b p None ≡ option_and_then (taken order x) (cond b (Some the_group) None)
       by true = taken-is
       by false = refl
+
+  -- and where the places of others are told
+  told-groups : (ps : List Opening) → ArePaired os ps → PlacedBy (line + 1) es' ps → groups_by es' ps ≡ groups_called es' os
+  told-groups ps paired placed = all-called es' ps placed.apart placed.said ∙ sym (called-paired es' os ps paired)
 
   after-is : groups_after order (groups_by es os) x ≡ filter_map (taken order x) (groups_by es os) ++ option_to_list (opened order x (Some the_group))
   unfolding groups_after
@@ -212,10 +223,11 @@ module _ (order : Bool) (line : ℕ) (packet : PacketParts) (frame : FastFrame) 
   kept-with : (new : Option OpenGroup) (os' : List Opening) → ((j : FrameKey) → found es' j ≡ cond (same_key (key_of frame.key) (key_of j)) new (found es j)) → RiseBelow 1 (line + 1) os'
       → ((key : FrameKey) (group : OpenGroup) → same_key (key_of frame.key) (key_of key) ≡ false → is_opened key group os ≡ true → is_opened key group os' ≡ true)
       → ((group : OpenGroup) → new ≡ Some group → is_opened frame.key group os' ≡ true)
-      → length es' ≡ length (groups_by es' os') → 2 * length es' ≤ c → KeptBy (line + 1) es' os' c
-  kept-with new os' changes rise more fresh counted room = record {
+      → PlacedBy (line + 1) es' os' → length es' ≡ length (groups_by es' os') → 2 * length es' ≤ c → KeptBy (line + 1) es' os' c
+  kept-with new os' changes rise more fresh placed counted room = record {
     rise = rise;
     opened = opened-changed frame.key (Some v) new es es' there changes os os' more fresh kept.opened;
+    placed = placed;
     counted = counted;
     room = room;
   }
@@ -263,25 +275,27 @@ module _ (order : Bool) (line : ℕ) (packet : PacketParts) (frame : FastFrame) 
     after-joins = after-is ∙ ap (λ o. filter_map (taken order x) (groups_by es os) ++ option_to_list o) opened-is ∙ append-nil (filter_map (taken order x) (groups_by es os))
 
     -- and stays open
-    module _ (left : complete (held_of grown_group) ≡ false) (changes : (j : FrameKey) → found es' j ≡ cond (same_key (key_of frame.key) (key_of j)) (Some w) (found es j)) where
+    module _ (left : complete (held_of grown_group) ≡ false) (changes : (j : FrameKey) → found es' j ≡ cond (same_key (key_of frame.key) (key_of j)) (Some w) (found es j)) (placed : PlacedBy (line + 1) es' os) where
       pub stays-groups : groups_by es' os ≡ groups_after order (groups_by es os) x
-      stays-groups = stepped (Some w) (Some grown_group) (joined-is false left) changes (λ n l. ap (λ (m : ℕ). cond (m == n) (Some grown_group) None) first) ∙ sym after-joins
+      stays-groups = told-groups os (paired-refl os) placed ∙ stepped (Some w) (Some grown_group) (joined-is false left) changes (λ n l. ap (λ (m : ℕ). cond (m == n) (Some grown_group) None) first) ∙ sym after-joins
 
       pub stays-kept : length es' ≡ length es → KeptBy (line + 1) es' os c
       stays-kept same =
           kept-with (Some w) os changes (rise-later 1 line (line + 1) os (omega arith) kept.rise) (λ key group e o. o)
           (λ group e. subst (λ (g : OpenGroup). is_opened frame.key g os ≡ true) (same_Some w group e) (subst (λ n. list_any (λ (o : Opening). same_key (key_of frame.key) (key_of o.key) && (n == o.first)) os ≡ true) (sym first) (kept.opened frame.key v there)))
+          placed
           (omega (arith, same, kept.counted, counts, ap length stays-groups, ap (λ o. length (option_to_list o)) (joined-is false left), ap (λ o. length (option_to_list o)) opened-is))
           (omega (arith, same, kept.room))
 
     -- or is complete, and goes
-    module _ (done : complete (held_of grown_group) ≡ true) (changes : (j : FrameKey) → found es' j ≡ cond (same_key (key_of frame.key) (key_of j)) None (found es j)) where
-      pub goes-groups : groups_by es' os ≡ groups_after order (groups_by es os) x
-      goes-groups = stepped None None (joined-is true done) changes (λ n l. both (v.first == n) None) ∙ sym after-joins
+    module _ (done : complete (held_of grown_group) ≡ true) (changes : (j : FrameKey) → found es' j ≡ cond (same_key (key_of frame.key) (key_of j)) None (found es j)) (ps : List Opening) (paired : ArePaired os ps) (placed : PlacedBy (line + 1) es' ps) where
+      pub goes-groups : groups_by es' ps ≡ groups_after order (groups_by es os) x
+      goes-groups = told-groups ps paired placed ∙ stepped None None (joined-is true done) changes (λ n l. both (v.first == n) None) ∙ sym after-joins
 
-      pub goes-kept : length es' + 1 ≡ length es → KeptBy (line + 1) es' os c
+      pub goes-kept : length es' + 1 ≡ length es → KeptBy (line + 1) es' ps c
       goes-kept less =
-          kept-with None os changes (rise-later 1 line (line + 1) os (omega arith) kept.rise) (λ key group e o. o) (λ group e. absurd (none-some group e))
+          kept-with None ps changes (rise-paired 1 (line + 1) os ps paired (rise-later 1 line (line + 1) os (omega arith) kept.rise)) (λ key group e o. sym (opened-paired key group os ps paired) ∙ o) (λ group e. absurd (none-some group e))
+          placed
           (omega (arith, less, kept.counted, counts, ap length goes-groups, ap (λ o. length (option_to_list o)) (joined-is true done), ap (λ o. length (option_to_list o)) opened-is))
           (omega (arith, less, kept.room))
 
@@ -312,33 +326,41 @@ module _ (order : Bool) (line : ℕ) (packet : PacketParts) (frame : FastFrame) 
         ∙ sym (ap (lost order x) here-is ∙ ap (λ b. cond b (Some (broken_of x.key (held_of the_group))) None) barred)
 
     -- which is complete at once
-    module _ (done : complete (held_of fresh_group) ≡ true) (changes : (j : FrameKey) → found es' j ≡ cond (same_key (key_of frame.key) (key_of j)) None (found es j)) where
-      pub ends-groups : groups_by es' os ≡ groups_after order (groups_by es os) x
+    module _ (done : complete (held_of fresh_group) ≡ true) (changes : (j : FrameKey) → found es' j ≡ cond (same_key (key_of frame.key) (key_of j)) None (found es j)) (ps : List Opening) (paired : ArePaired os ps) (placed : PlacedBy (line + 1) es' ps) where
+      pub ends-groups : groups_by es' ps ≡ groups_after order (groups_by es os) x
       ends-groups =
-          stepped None None joined-none changes (λ n l. both (v.first == n) None)
+          told-groups ps paired placed
+          ∙ stepped None None joined-none changes (λ n l. both (v.first == n) None)
           ∙ sym (after-is ∙ ap (λ gs. filter_map (taken order x) (groups_by es os) ++ gs) (opened-begun true done) ∙ append-nil (filter_map (taken order x) (groups_by es os)))
 
-      pub ends-kept : length es' + 1 ≡ length es → KeptBy (line + 1) es' os c
+      pub ends-kept : length es' + 1 ≡ length es → KeptBy (line + 1) es' ps c
       ends-kept less =
-          kept-with None os changes (rise-later 1 line (line + 1) os (omega arith) kept.rise) (λ key group e o. o) (λ group e. absurd (none-some group e))
+          kept-with None ps changes (rise-paired 1 (line + 1) os ps paired (rise-later 1 line (line + 1) os (omega arith) kept.rise)) (λ key group e o. sym (opened-paired key group os ps paired) ∙ o) (λ group e. absurd (none-some group e))
+          placed
           (omega (arith, less, kept.counted, counts, ap length ends-groups, ap (λ o. length (option_to_list o)) joined-none, ap length (opened-begun true done)))
           (omega (arith, less, kept.room))
 
     -- or goes last
-    module _ (left : complete (held_of fresh_group) ≡ false) (first : w.first ≡ line) (changes : (j : FrameKey) → found es' j ≡ cond (same_key (key_of frame.key) (key_of j)) (Some w) (found es j)) where
+    module _ (left : complete (held_of fresh_group) ≡ false) (first : w.first ≡ line) (changes : (j : FrameKey) → found es' j ≡ cond (same_key (key_of frame.key) (key_of j)) (Some w) (found es j))
+        (at : ℕ) (placed : PlacedBy (line + 1) es' (os ++ record { first = line; key = frame.key; at = at } ∷ [])) where
+      abbrev newest : Opening
+      newest = record { first = line; key = frame.key; at = at }
+
       w_there : found es' frame.key ≡ Some w
       w_there = changes frame.key ∙ ap (λ b. cond b (Some w) (found es frame.key)) (same_key-refl (key_of frame.key))
 
-      pub last-groups : groups_by es' (os ++ record { first = line; key = frame.key } ∷ []) ≡ groups_after order (groups_by es os) x
+      pub last-groups : groups_by es' (os ++ newest ∷ []) ≡ groups_after order (groups_by es os) x
       last-groups =
-          filter_map-push (live es') os (record { first = line; key = frame.key })
-          ∙ (λ i. stepped (Some w) None joined-none changes (λ n l. begun-before n line (key_of frame.key) w l first ∙ both (v.first == n) None) i ++ option_to_list (begun-here es' frame.key w line first w_there i))
+          all-called es' (os ++ newest ∷ []) placed.apart placed.said
+          ∙ filter_map-push (called es') os newest
+          ∙ (λ i. stepped (Some w) None joined-none changes (λ n l. begun-before n line (key_of frame.key) w l first ∙ both (v.first == n) None) i ++ option_to_list (begun-here es' frame.key w line at first w_there i))
           ∙ sym (after-is ∙ ap (λ gs. filter_map (taken order x) (groups_by es os) ++ gs) (opened-begun false left))
 
-      pub last-kept : length es' ≡ length es → KeptBy (line + 1) es' (os ++ record { first = line; key = frame.key } ∷ []) c
+      pub last-kept : length es' ≡ length es → KeptBy (line + 1) es' (os ++ newest ∷ []) c
       last-kept same =
-          kept-with (Some w) (os ++ record { first = line; key = frame.key } ∷ []) changes (rise-push 1 line os (record { first = line; key = frame.key }) refl kept.rise)
-          (λ key group e o. opened-push key group os (record { first = line; key = frame.key }) o)
-          (λ group e. subst (λ (g : OpenGroup). is_opened frame.key g (os ++ record { first = line; key = frame.key } ∷ []) ≡ true) (same_Some w group e) (subst (λ n. is_opened frame.key w (os ++ record { first = n; key = frame.key } ∷ []) ≡ true) first (opened-last frame.key w os)))
+          kept-with (Some w) (os ++ newest ∷ []) changes (rise-push 1 line os newest refl kept.rise)
+          (λ key group e o. opened-push key group os newest o)
+          (λ group e. subst (λ (g : OpenGroup). is_opened frame.key g (os ++ newest ∷ []) ≡ true) (same_Some w group e) (subst (λ n. is_opened frame.key w (os ++ record { first = n; key = frame.key; at = at } ∷ []) ≡ true) first (opened-last frame.key w at os)))
+          placed
           (omega (arith, same, kept.counted, counts, ap length last-groups, ap (λ o. length (option_to_list o)) joined-none, ap length (opened-begun false left)))
           (omega (arith, same, kept.room))

@@ -79,7 +79,7 @@ fn join_at(
     group.take(frame.piece);
     if group.is_complete() {
         group.write_message(packet, joined);
-        groups.groups.swap_remove_index(at);
+        groups.remove_at(at);
     }
 }
 
@@ -115,18 +115,17 @@ fn reopen_at(
     };
     let broken = group.broken(&frame.key);
     let fresh = OpenGroup::open(line, frame);
-    *group = fresh;
     if fresh.is_complete() {
         fresh.write_message(packet, joined);
-        groups.groups.swap_remove_index(at);
+        groups.remove_at(at);
     } else {
-        push(
-            &mut groups.openings,
-            Opening {
-                first: line,
-                key: frame.key,
-            },
-        );
+        *group = fresh;
+        let opening = Opening {
+            first: line,
+            key: frame.key,
+            at,
+        };
+        push(&mut groups.openings, opening);
     }
     broken
 }

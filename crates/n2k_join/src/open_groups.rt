@@ -1,12 +1,13 @@
 //! The open groups: by key in a map, and their openings in the order of their lines in a queue.
-ghost use Rattle.std.specs.Prelude.{◌≡◌, ℕ, ◌+◌, ◌*◌, ◌<◌, ◌≤◌, ◌++◌, [], ◌∷◌, true, false, OnOk, OnErr, IfSome, IsSome, IsNone, Some, None, length, filter, filter_map, drop, option_map, slice_get, is_some, not};
+ghost use Rattle.std.specs.Prelude.{◌≡◌, ℕ, ◌+◌, ◌*◌, ◌<◌, ◌≤◌, ◌++◌, [], ◌∷◌, true, false, if◌then◌else◌, OnOk, OnErr, IfSome, IsSome, IsNone, Some, None, length, filter, filter_map, map, drop, option_map, slice_get, is_some, not};
 ghost use Rattle.std.specs.VecDeque.{deque_len, deque_capacity};
 ghost use Rattle.n2k_join.specs.Messages.{as_broken};
 ghost use Rattle.n2k_join.specs.Open.{Group, ended};
 ghost use Rattle.n2k_join.specs.Window.{Window as WindowParts};
 ghost use Rattle.n2k_join.specs.Inner.Stored.{key_of};
 ghost use Rattle.n2k_join.specs.Inner.Slots.{group_in};
-ghost use Rattle.n2k_join.specs.Inner.Queue.{found, StandsAt, live, is_live, is_front_stale, groups_by, listed, KeptBy, IsKept, told};
+ghost use Rattle.n2k_join.specs.Frames.{same_key};
+ghost use Rattle.n2k_join.specs.Inner.Queue.{found, StandsAt, live, is_live, is_front_stale, groups_by, listed, RiseBelow, PlacedBy, ArePaired, told_place, KeptBy, IsKept, told};
 
 use crate::piece::{FrameKey, OpenGroup};
 use crate::step::Broken;
@@ -19,16 +20,18 @@ use std::collections::VecDeque;
 /// is seldom full, and one of many grows by half.
 const SPARE_OPENINGS: usize = 32;
 
-/// That a group of a key was opened at a line.
+/// That a group of a key was opened at a line, and its place in the map while it is open.
 #[derive(Clone, Copy)]
 pub(crate) struct Opening {
     pub(crate) first: u64,
     pub(crate) key: FrameKey,
+    pub(crate) at: usize,
 }
 
-/// The open groups. The map is without order, so that any group is taken out of it at once. Where one ends out of turn,
-/// its opening stays in the queue, stale, until it comes to the front or the queue is full: then at least half of the
-/// openings are stale, and all these are dropped. So a step costs the same on average, however many groups are open.
+/// The open groups. The map is without order, so that any group is taken out of it at once, and the last takes its place.
+/// Where one ends out of turn, its opening stays in the queue, stale, until it comes to the front or the queue is full:
+/// then at least half of the openings are stale, and all these are dropped. So a step costs the same on average, however
+/// many groups are open. An opening says the place of its group, so that no key is looked up for it.
 #[derive(Drop)]
 pub(crate) struct OpenGroups {
     pub(crate) groups: IndexMap<FrameKey, OpenGroup>,
@@ -42,8 +45,8 @@ pub(crate) fn live_group<'a>(
 ) -> Option<&'a OpenGroup>
     ensures { option_map (λ g. group_in (key_of opening.now.key) g.now) result ≡ live groups.now.entries opening.now }
 {
-    let group = groups.get(&opening.key)?;
-    if group.first != opening.first {
+    let (key, group) = groups.get_index(opening.at)?;
+    if opening.key != *key || group.first != opening.first {
         return None;
     }
     Some(group)
@@ -86,6 +89,40 @@ pub(crate) fn push(openings: &mut VecDeque<Opening>, opening: Opening)
 {
     if openings.push_back(opening).is_err() {
         unreachable!()
+    }
+}
+
+/// How many openings are of lines before that one.
+fn count_before(openings: &VecDeque<Opening>, first: u64) -> usize
+    requires rise { (next : ℕ) × RiseBelow 1 next openings.now.items }
+    ensures before { (i : ℕ) (o : Opening) → i < result → slice_get openings.now.items i ≡ Some o → o.first < first }
+    ensures from { (i : ℕ) (o : Opening) → result ≤ i → slice_get openings.now.items i ≡ Some o → first ≤ o.first }
+{
+    let mut low = 0;
+    let mut high = openings.len();
+    while low < high {
+        let middle = low + (high - low) / 2;
+        if openings[middle].first < first {
+            low = middle + 1;
+        } else {
+            high = middle;
+        }
+    }
+    low
+}
+
+/// Tells the opening of a line the place of its group.
+fn tell_place(openings: &mut VecDeque<Opening>, first: u64, at: usize)
+    requires rise { (next : ℕ) × RiseBelow 1 next openings.old.items }
+    ensures items { openings.new.items ≡ map (told_place first at) openings.old.items }
+    ensures capacity { deque_capacity openings.new ≡ deque_capacity openings.old }
+{
+    let place = count_before(openings, first);
+    let Some(opening) = openings.get_mut(place) else {
+        return;
+    };
+    if opening.first == first {
+        opening.at = at;
     }
 }
 
@@ -163,10 +200,31 @@ impl OpenGroups {
         let opening = Opening {
             first: group.first,
             key,
+            at: self.groups.len(),
         };
         self.groups.insert(key, group)?;
         push(&mut self.openings, opening);
         Ok(())
+    }
+
+    /// Takes a group out of the map. The last one takes its place, and its opening is told so.
+    pub(crate) fn remove_at(&mut self, at: usize)
+        requires rise { (next : ℕ) × RiseBelow 1 next self.old.openings.items }
+        requires within { at < length self.old.groups.entries }
+        ensures gone { (e : FrameKey × OpenGroup) → slice_get self.old.groups.entries at ≡ Some e
+            → (j : FrameKey) → found self.new.groups.entries j
+            ≡ (if same_key (key_of e.0) (key_of j) then None else found self.old.groups.entries j) }
+        ensures fewer { length self.new.groups.entries + 1 ≡ length self.old.groups.entries }
+        ensures paired { ArePaired self.old.openings.items self.new.openings.items }
+        ensures placed { (next : ℕ) → PlacedBy next self.old.groups.entries self.old.openings.items
+            → PlacedBy next self.new.groups.entries self.new.openings.items }
+        ensures capacity { deque_capacity self.new.openings ≡ deque_capacity self.old.openings }
+    {
+        self.groups.swap_remove_index(at);
+        if let Some((_, moved)) = self.groups.get_index(at) {
+            let first = moved.first;
+            tell_place(&mut self.openings, first, at);
+        }
     }
 
     /// Drops the stale openings, where there are more of them than groups are open and some: so what goes over all openings
@@ -211,7 +269,7 @@ impl OpenGroups {
             return None;
         }
         self.openings.pop_front();
-        self.groups.swap_remove(&opening.key);
+        self.remove_at(opening.at);
         Some(opening.broken())
     }
 }
@@ -221,7 +279,7 @@ impl Opening {
     fn broken(&self) -> Broken
         ensures { result ≡ told self.now }
     {
-        let Opening { first, key } = *self;
+        let Opening { first, key, .. } = *self;
         Broken {
             pgn: key.pgn,
             src: key.src,

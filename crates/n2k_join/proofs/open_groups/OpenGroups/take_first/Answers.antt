@@ -1,11 +1,10 @@
-use Rattle.std.proofs.Common.{◌≡◌, ◌+◌, List, ◌∙◌, ap, sym, subst, refl, arith, length, drop, nat_lt, slice_get, option_map, Some, cond}
-use Rattle.std.specs.Prelude.{is_some}
+use Rattle.std.proofs.Common.{◌+◌, List, ◌∙◌, ap, sym, subst, refl, arith, drop, nat_lt, slice_get, option_map, Some}
 use Rattle.std.specs.VecDeque.{deque_capacity}
-use Rattle.n2k_join.specs.Frames.{same_key}
 use Rattle.n2k_join.specs.Messages.{as_broken}
 use Rattle.n2k_join.specs.Open.{Group, ended}
-use Rattle.n2k_join.specs.Inner.Queue.{groups_by, KeptBy}
-use Rattle.n2k_join.proofs.Queue.{front-split, no-front, zero-from, none-ended, first-ended, first-listed, groups-fewer, kept-fewer, is_live-front, live-opening}
+use Rattle.n2k_join.specs.Inner.Queue.{groups_by, RiseBelow, PlacedBy, ArePaired, KeptBy}
+use Rattle.n2k_join.proofs.Places.{placed-rest}
+use Rattle.n2k_join.proofs.Queue.{front-split, no-front, zero-from, none-ended, first-ended, first-listed, groups-fewer, kept-fewer, is_live-front, live-opening, live-within, live-entry, rise-lower}
 use Rattle.n2k_join.proofs.open_groups.OpenGroups.take_first.Goals as goal
 
 pub returns-in_err-front-clause-broken : goal.returns-in_err-front-clause-broken
@@ -50,35 +49,47 @@ returns-clause-broken c =
     let late = ap (λ n. nat_lt c.args.line (o.first + n)) (sym long) ∙ sym c.is_waiting-2.ensures ∙ c.if-is_waiting-2.false in
     let split = front-split q.items o (omega (arith, q.ok.0, c.in_ok-opening.ensures.variant.0 refl)) c.in_ok-opening.ensures.lookup in
     let is = is_live-front es q.items o split c.drop_front.ensures.live in
-    ap Some c.broken.ensures ∙ first-ended c.args.window c.args.line es q.items o is split late
+    ap Some c.broken.ensures ∙ first-ended c.args.window c.args.line es q.items o (c.drop_front.ensures.kept c.args.line c.requires.kept).placed.apart is split late
     ∙ ap (λ gs. option_map as_broken (slice_get (ended c.args.window c.args.line gs) 0)) c.drop_front.ensures.groups
 
+pub remove_at-requires : goal.remove_at-requires
+remove_at-requires c =
+    let es = c.args.self.now.groups.entries in
+    let q = c.drop_front.new.openings in
+    let o = c.in_ok-opening.field-0.now in
+    let split = front-split q.items o (omega (arith, q.ok.0, c.in_ok-opening.ensures.variant.0 refl)) c.in_ok-opening.ensures.lookup in
+    let kept = subst (λ os. KeptBy c.args.line es os (deque_capacity q)) split (c.drop_front.ensures.kept c.args.line c.requires.kept) in
+    record {
+      rise = (c.args.line, subst (RiseBelow 1 c.args.line) (sym c.pop_front.ensures.rest) (rise-lower 1 (o.first + 1) c.args.line (drop 1 q.items) (omega arith) kept.rise.1));
+      within = live-within es o (is_live-front es q.items o split c.drop_front.ensures.live);
+    }
+
 pub returns-clause-taken : goal.returns-clause-taken
-unfolding same_key
 returns-clause-taken c = λ _.
     let es = c.args.self.now.groups.entries in
-    let es' = c.swap_remove.new.self.entries in
+    let es' = c.remove_at.new.self.groups.entries in
+    let ps = c.remove_at.new.self.openings.items in
     let q = c.drop_front.new.openings in
     let o = c.in_ok-opening.field-0.now in
     let split = front-split q.items o (omega (arith, q.ok.0, c.in_ok-opening.ensures.variant.0 refl)) c.in_ok-opening.ensures.lookup in
     let is = is_live-front es q.items o split c.drop_front.ensures.live in
     let kept = subst (λ os. KeptBy c.args.line es os (deque_capacity q)) split (c.drop_front.ensures.kept c.args.line c.requires.kept) in
-    ap (groups_by es') c.pop_front.ensures.rest
-    ∙ groups-fewer c.args.line es es' o (drop 1 q.items) (deque_capacity q) kept is (c.swap_remove.ensures.updates.0)
-    ∙ sym (ap (drop 1) (sym c.drop_front.ensures.groups ∙ ap (groups_by es) split ∙ first-listed c.args.line es es' o (drop 1 q.items) (deque_capacity q) kept is (c.swap_remove.ensures.updates.0)))
+    let paired = subst (λ os. ArePaired os ps) c.pop_front.ensures.rest c.remove_at.ensures.paired in
+    let placed = c.remove_at.ensures.placed c.args.line (subst (PlacedBy c.args.line es) (sym c.pop_front.ensures.rest) (placed-rest c.args.line es o (drop 1 q.items) kept.placed)) in
+    groups-fewer c.args.line es es' o (drop 1 q.items) ps (deque_capacity q) kept is paired placed (c.remove_at.ensures.gone (o.key, (live-opening es o kept.placed.apart is).group) (live-entry es o kept.placed.apart is))
+    ∙ sym (ap (drop 1) (sym c.drop_front.ensures.groups ∙ ap (groups_by es) split ∙ first-listed c.args.line es es' o (drop 1 q.items) ps (deque_capacity q) kept is))
 
 pub returns-clause-kept : goal.returns-clause-kept
-unfolding same_key
 returns-clause-kept c =
     let es = c.args.self.now.groups.entries in
-    let es' = c.swap_remove.new.self.entries in
+    let es' = c.remove_at.new.self.groups.entries in
+    let ps = c.remove_at.new.self.openings.items in
     let q = c.drop_front.new.openings in
     let o = c.in_ok-opening.field-0.now in
     let split = front-split q.items o (omega (arith, q.ok.0, c.in_ok-opening.ensures.variant.0 refl)) c.in_ok-opening.ensures.lookup in
     let is = is_live-front es q.items o split c.drop_front.ensures.live in
     let kept = subst (λ os. KeptBy c.args.line es os (deque_capacity q)) split (c.drop_front.ensures.kept c.args.line c.requires.kept) in
-    let there = live-opening es o is in
-    let less : length es' + 1 ≡ length es = sym (ap (λ b. length es' + cond b 1 0) (ap is_some (c.swap_remove.ensures.value ∙ there.there))) ∙ c.swap_remove.ensures.len in
-    subst (λ n. KeptBy c.args.line es' c.pop_front.new.self.items n) (sym c.pop_front.ensures.capacity)
-    (subst (λ os. KeptBy c.args.line es' os (deque_capacity q)) (sym c.pop_front.ensures.rest)
-    (kept-fewer c.args.line es es' o (drop 1 q.items) (deque_capacity q) kept is (c.swap_remove.ensures.updates.0) less))
+    let paired = subst (λ os. ArePaired os ps) c.pop_front.ensures.rest c.remove_at.ensures.paired in
+    let placed = c.remove_at.ensures.placed c.args.line (subst (PlacedBy c.args.line es) (sym c.pop_front.ensures.rest) (placed-rest c.args.line es o (drop 1 q.items) kept.placed)) in
+    subst (λ n. KeptBy c.args.line es' ps n) (sym (c.remove_at.ensures.capacity ∙ c.pop_front.ensures.capacity))
+    (kept-fewer c.args.line es es' o (drop 1 q.items) ps (deque_capacity q) kept is paired placed (c.remove_at.ensures.gone (o.key, (live-opening es o kept.placed.apart is).group) (live-entry es o kept.placed.apart is)) c.remove_at.ensures.fewer)
