@@ -1,5 +1,5 @@
 //! The join: the open groups and the counts of a log, taken on line by line.
-ghost use Rattle.std.specs.Prelude.{◌≡◌, ◌+◌, ◌*◌, ◌≤◌, ◌<◌, ◌↔◌, ℕ, [], length, IfOk, OnOk, OnErr, IsErrOf, IsSome, IsNone, Ok, Option, None, Some, true, is_some, option_map};
+ghost use Rattle.std.specs.Prelude.{◌≡◌, ◌+◌, ◌*◌, ◌≤◌, ◌<◌, ◌↔◌, ℕ, [], length, IfOk, IfSome, OnOk, OnErr, IsErrOf, IsSome, IsNone, Ok, Option, None, Some, true, is_some, option_map};
 ghost use Rattle.n2k_table.specs.declared.definition.Kind.{Kind};
 ghost use Rattle.n2k_table.specs.Table.{kind};
 ghost use Rattle.n2k_wire.specs.declared.entry.Entry.{Entry};
@@ -23,7 +23,7 @@ use crate::laws;
 use crate::open_groups::OpenGroups;
 use crate::saved::{
     SpelledGroup, SpelledState, format_in, parsed, read_state, rules_hold, state_text,
-    stored_groups, waits_hold,
+    stored_groups, waits_hold, written_parts,
 };
 use crate::step::{Broken, LentStep, Step};
 use crate::window::Window;
@@ -333,25 +333,36 @@ impl Join {
         })
     }
 
-    /// The join that a saved state spells, under the table and the window that it was saved with. It goes on where that
-    /// one ended. A state of format 1 has no window: it is read under the one that is handed in. Whether a group ends
-    /// before a lower number is not saved: that is as handed in, too.
-    ///
-    /// Any JSON text is taken that spells a valid state, whether or not a log leads to it (docs/PROFILE.md has its
-    /// members and rules). Else the first fault is answered that is found, in the order of docs/PROFILE.md, or `Memory`
-    /// where a growth was refused.
-    ///
-    /// ```rust
-    /// let table = sample_table(alloc)?;
-    /// let join = Join::new(alloc, &table, Window::new(10_000).unwrap());
-    /// let state = join.save(alloc)?;
-    /// let again = Join::resume(alloc, &table, join.window(), &state)?;
-    /// assert_eq!(rt; again.counts(), join.counts());
-    /// let refused = Join::resume(alloc, &table, Window::new(32).unwrap(), &state);
-    /// assert!(rt; matches!(refused, Err(StateFault::WindowDiffers)));
-    /// ```
+    /// The join of a text that `save` wrote under the table and the window, or `None` where it seems to be another: what
+    /// is found in the text is a join whose text is that one.
+    fn resume_written(
+        alloc: Global,
+        table: &Table,
+        window: Window,
+        bytes: &[u8],
+    ) -> Result<Option<Join>, AllocError>
+        ensures { IfOk result (λ found. IfSome found
+            (λ join. resumed (kind table.now) table.now.id window bytes.now ≡ Ok join)) }
+    {
+        let Some((counts, groups)) = written_parts(alloc, bytes)? else {
+            return Ok(None);
+        };
+        let join = match Join::from_state(alloc, table, table.id(), window, counts, &groups) {
+            Ok(join) => join,
+            Err(StateFault::Memory) => return Err(AllocError),
+            Err(_) => return Ok(None),
+        };
+        let text = join.save(alloc)?;
+        if text.as_slice() == bytes {
+            Ok(Some(join))
+        } else {
+            Ok(None)
+        }
+    }
+
+    /// The join of any text that spells one, by the tree of its values.
     #[tactic(auto, unfolding(crate::specs::Resumed::resumed))]
-    pub fn resume(
+    fn resume_any(
         alloc: Global,
         table: &Table,
         window: Window,
@@ -378,6 +389,37 @@ impl Join {
             ..
         } = state;
         Join::from_state(alloc, table, id, window, counts, &groups)
+    }
+
+    /// The join that a saved state spells, under the table and the window that it was saved with. It goes on where that
+    /// one ended. A state of format 1 has no window: it is read under the one that is handed in. Whether a group ends
+    /// before a lower number is not saved: that is as handed in, too.
+    ///
+    /// Any JSON text is taken that spells a valid state, whether or not a log leads to it (docs/PROFILE.md has its
+    /// members and rules). Else the first fault is answered that is found, in the order of docs/PROFILE.md, or `Memory`
+    /// where a growth was refused.
+    ///
+    /// ```rust
+    /// let table = sample_table(alloc)?;
+    /// let join = Join::new(alloc, &table, Window::new(10_000).unwrap());
+    /// let state = join.save(alloc)?;
+    /// let again = Join::resume(alloc, &table, join.window(), &state)?;
+    /// assert_eq!(rt; again.counts(), join.counts());
+    /// let refused = Join::resume(alloc, &table, Window::new(32).unwrap(), &state);
+    /// assert!(rt; matches!(refused, Err(StateFault::WindowDiffers)));
+    /// ```
+    pub fn resume(
+        alloc: Global,
+        table: &Table,
+        window: Window,
+        bytes: &[u8],
+    ) -> Result<Join, StateFault>
+        ensures { GivesOrMemory (λ join. join) result (resumed (kind table.now) table.now.id window bytes.now) }
+    {
+        if let Some(join) = Join::resume_written(alloc, table, window, bytes)? {
+            return Ok(join);
+        }
+        Join::resume_any(alloc, table, window, bytes)
     }
 
     /// The text of its state, from which `resume` goes on: JSON, as docs/PROFILE.md has it, without an LF.

@@ -6,7 +6,7 @@ use Rattle.n2k_join.specs.Refusal.{GivesOrMemory}
 use Rattle.n2k_join.specs.Resumed.{is_valid, valid_if, state_of_parts}
 use Rattle.n2k_join.specs.State.{State}
 use Rattle.n2k_join.proofs.StateReads.{resumed-by, of-parts}
-use Rattle.n2k_join.proofs.join.Join.resume.Goals as goal
+use Rattle.n2k_join.proofs.join.Join.resume_any.Goals as goal
 
 pub returns : goal.returns
 returns c =

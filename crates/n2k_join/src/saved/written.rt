@@ -1,0 +1,172 @@
+//! A fast path: the counts and the groups of a text as `save` writes it, found without a tree of its values. Nothing is
+//! promised of what is found: `Join::resume` writes it again, and takes it where that is the text. `reader.rt` reads any
+//! text; that is the file to read first.
+ghost use Rattle.std.specs.Prelude.{◌≤◌, length, IfSome, IfOk};
+
+use crate::counts::Counts;
+use crate::saved::spelled::{SpelledGroup, SpelledKey, SpelledPiece};
+use std::alloc::{AllocError, Global};
+
+/// The whole number at the front of a text, and what stands behind it.
+fn number_in(text: &[u8]) -> Option<(u64, &[u8])>
+    ensures { IfSome result (λ r. length r.1.now ≤ length text.now) }
+{
+    let mut number: u64 = 0;
+    let mut rest = text;
+    while let Some((byte, others)) = rest.split_first() {
+        if !byte.is_ascii_digit() {
+            break;
+        }
+        number = number
+            .checked_mul(10)?
+            .checked_add(u64::from(*byte & 0x0f))?;
+        rest = others;
+    }
+    Some((number, rest))
+}
+
+/// The whole number behind a label.
+fn number_behind<'a>(label: &[u8], text: &'a [u8]) -> Option<(u64, &'a [u8])>
+    ensures { IfSome result (λ r. length r.1.now ≤ length text.now) }
+{
+    number_in(text.strip_prefix(label)?)
+}
+
+/// The bytes that the digits at the front of a text spell.
+fn bytes_in(text: &[u8]) -> Option<([u8; 7], &[u8])>
+    ensures { IfSome result (λ r. length r.1.now ≤ length text.now) }
+{
+    let (digits, rest) = text.split_at_checked(14)?;
+    let mut bytes = [0; 7];
+    hex::decode_to_slice(digits, &mut bytes).ok()?;
+    Some((bytes, rest))
+}
+
+/// The frame at the front of a text.
+fn piece_in(text: &[u8]) -> Option<(SpelledPiece, &[u8])>
+    ensures { IfSome result (λ r. length r.1.now ≤ length text.now) }
+{
+    let (number, rest) = number_behind(b"[", text)?;
+    let (bytes, rest) = bytes_in(rest.strip_prefix(b",\"")?)?;
+    let rest = rest.strip_prefix(b"\"]")?;
+    Some((SpelledPiece { number, bytes }, rest))
+}
+
+/// The frames at the front of a text, a comma between each.
+fn pieces_in(alloc: Global, text: &[u8]) -> Result<Option<(Vec<SpelledPiece>, &[u8])>, AllocError>
+    ensures { IfOk result (λ found. IfSome found (λ r. length r.1.now ≤ length text.now)) }
+{
+    let mut pieces = Vec::new(alloc);
+    let mut rest = text;
+    while let Some((piece, behind)) = piece_in(rest) {
+        pieces.push(piece)?;
+        match behind.strip_prefix(b",") {
+            Some(others) => rest = others,
+            None => return Ok(Some((pieces, behind))),
+        }
+    }
+    Ok(None)
+}
+
+/// The destination and the first line of the group at the front of a text.
+fn group_front(text: &[u8]) -> Option<(u64, u64, &[u8])>
+    ensures { IfSome result (λ r. length r.2.now ≤ length text.now) }
+{
+    let (dst, rest) = number_behind(b"{\"dst\":", text)?;
+    let (first, rest) = number_behind(b",\"first\":", rest)?;
+    let rest = rest.strip_prefix(b",\"frames\":[")?;
+    Some((dst, first, rest))
+}
+
+/// What stands behind the frames of a group, with its destination: its key.
+fn group_key(dst: u64, text: &[u8]) -> Option<(SpelledKey, &[u8])>
+    ensures { IfSome result (λ r. length r.1.now ≤ length text.now) }
+{
+    let (pgn, rest) = number_behind(b"],\"pgn\":", text)?;
+    let (sequence, rest) = number_behind(b",\"seq\":", rest)?;
+    let (src, rest) = number_behind(b",\"src\":", rest)?;
+    let rest = rest.strip_prefix(b"}")?;
+    let key = SpelledKey {
+        src,
+        dst,
+        pgn,
+        sequence,
+    };
+    Some((key, rest))
+}
+
+/// The group at the front of a text.
+fn group_in(alloc: Global, text: &[u8]) -> Result<Option<(SpelledGroup, &[u8])>, AllocError>
+    ensures { IfOk result (λ found. IfSome found (λ r. length r.1.now ≤ length text.now)) }
+{
+    let Some((dst, first, rest)) = group_front(text) else {
+        return Ok(None);
+    };
+    let Some((pieces, rest)) = pieces_in(alloc, rest)? else {
+        return Ok(None);
+    };
+    let Some((key, rest)) = group_key(dst, rest) else {
+        return Ok(None);
+    };
+    Ok(Some((SpelledGroup { first, key, pieces }, rest)))
+}
+
+/// The groups at the front of a text, a comma between each, of which there may be none.
+fn groups_in(alloc: Global, text: &[u8]) -> Result<Option<(Vec<SpelledGroup>, &[u8])>, AllocError> {
+    let mut groups = Vec::new(alloc);
+    if text.first() == Some(&b']') {
+        return Ok(Some((groups, text)));
+    }
+    let mut rest = text;
+    while let Some((group, behind)) = group_in(alloc, rest)? {
+        groups.push(group)?;
+        match behind.strip_prefix(b",") {
+            Some(others) => rest = others,
+            None => return Ok(Some((groups, behind))),
+        }
+    }
+    Ok(None)
+}
+
+/// The counts of bad lines and broken groups at the front of a text, up to its groups.
+fn counts_front(text: &[u8]) -> Option<(u64, u64, &[u8])> {
+    let (bad, rest) = number_behind(b"{\"bad\":", text)?;
+    let (broken, rest) = number_behind(b",\"broken\":", rest)?;
+    let rest = rest.strip_prefix(b",\"format\":2,\"groups\":[")?;
+    Some((bad, broken, rest))
+}
+
+/// The counts behind the groups of a text: of lines, messages, and lines of unknown PGNs.
+fn counts_behind(text: &[u8]) -> Option<(u64, u64, u64)> {
+    let (lines, rest) = number_behind(b"],\"lines\":", text)?;
+    let (messages, rest) = number_behind(b",\"messages\":", rest)?;
+    let rest = rest.strip_prefix(b",\"table\":\"")?;
+    let (_, rest) = rest.split_at_checked(64)?;
+    let (unknown, _) = number_behind(b"\",\"unknown\":", rest)?;
+    Some((lines, messages, unknown))
+}
+
+/// The counts and the groups of a text, where it seems to be one that `save` wrote.
+pub(crate) fn written_parts(
+    alloc: Global,
+    text: &[u8],
+) -> Result<Option<(Counts, Vec<SpelledGroup>)>, AllocError> {
+    let Some((bad, broken, rest)) = counts_front(text) else {
+        return Ok(None);
+    };
+    let Some((groups, rest)) = groups_in(alloc, rest)? else {
+        return Ok(None);
+    };
+    let Some((lines, messages, unknown)) = counts_behind(rest) else {
+        return Ok(None);
+    };
+    let counts = Counts {
+        lines,
+        messages,
+        bad,
+        unknown,
+        broken,
+        held: 0,
+    };
+    Ok(Some((counts, groups)))
+}
