@@ -344,10 +344,11 @@ impl Join {
         ensures { IfOk result (λ found. IfSome found
             (λ join. resumed (kind table.now) table.now.id window bytes.now ≡ Ok join)) }
     {
-        let Some((counts, groups)) = written_parts(alloc, bytes)? else {
+        let id = table.id();
+        let Some((counts, groups)) = written_parts(alloc, &id, window, bytes)? else {
             return Ok(None);
         };
-        let join = match Join::from_state(alloc, table, table.id(), window, counts, &groups) {
+        let join = match Join::from_state(alloc, table, id, window, counts, &groups) {
             Ok(join) => join,
             Err(StateFault::Memory) => return Err(AllocError),
             Err(_) => return Ok(None),

@@ -5,6 +5,7 @@ ghost use Rattle.std.specs.Prelude.{◌≤◌, length, IfSome, IfOk};
 
 use crate::counts::Counts;
 use crate::saved::spelled::{SpelledGroup, SpelledKey, SpelledPiece};
+use crate::window::{Window, is_waiting};
 use std::alloc::{AllocError, Global};
 
 /// The whole number at the front of a text, and what stands behind it.
@@ -136,19 +137,37 @@ fn counts_front(text: &[u8]) -> Option<(u64, u64, &[u8])> {
     Some((bad, broken, rest))
 }
 
-/// The counts behind the groups of a text: of lines, messages, and lines of unknown PGNs.
-fn counts_behind(text: &[u8]) -> Option<(u64, u64, u64)> {
+/// The counts behind the groups of a text, where it is of that table and that window and ends there: of lines, messages,
+/// and lines of unknown PGNs.
+fn counts_behind(id: &[u8; 32], window: Window, text: &[u8]) -> Option<(u64, u64, u64)> {
     let (lines, rest) = number_behind(b"],\"lines\":", text)?;
     let (messages, rest) = number_behind(b",\"messages\":", rest)?;
     let rest = rest.strip_prefix(b",\"table\":\"")?;
-    let (_, rest) = rest.split_at_checked(64)?;
-    let (unknown, _) = number_behind(b"\",\"unknown\":", rest)?;
+    let (digits, rest) = rest.split_at_checked(64)?;
+    let mut bytes = [0; 32];
+    hex::decode_to_slice(digits, &mut bytes).ok()?;
+    let (unknown, rest) = number_behind(b"\",\"unknown\":", rest)?;
+    let (long, rest) = number_behind(b",\"window\":", rest)?;
+    if bytes != *id || long != u64::from(window.get()) || rest != b"}".as_slice() {
+        return None;
+    }
     Some((lines, messages, unknown))
+}
+
+/// Whether the window of the first of some groups has not ended, if there is one. Their lines have to rise: so there are
+/// no more groups than the window has lines.
+fn is_first_waiting(window: Window, lines: u64, groups: &[SpelledGroup]) -> bool {
+    match groups.first() {
+        Some(group) => is_waiting(group.first, u64::from(window.get()), lines),
+        None => true,
+    }
 }
 
 /// The counts and the groups of a text, where it seems to be one that `save` wrote.
 pub(crate) fn written_parts(
     alloc: Global,
+    id: &[u8; 32],
+    window: Window,
     text: &[u8],
 ) -> Result<Option<(Counts, Vec<SpelledGroup>)>, AllocError> {
     let Some((bad, broken, rest)) = counts_front(text) else {
@@ -157,9 +176,12 @@ pub(crate) fn written_parts(
     let Some((groups, rest)) = groups_in(alloc, rest)? else {
         return Ok(None);
     };
-    let Some((lines, messages, unknown)) = counts_behind(rest) else {
+    let Some((lines, messages, unknown)) = counts_behind(id, window, rest) else {
         return Ok(None);
     };
+    if !is_first_waiting(window, lines, &groups) {
+        return Ok(None);
+    }
     let counts = Counts {
         lines,
         messages,
