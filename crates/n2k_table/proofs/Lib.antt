@@ -17,4 +17,6 @@ pub mod Numbers
 pub mod RawBits
 pub mod Rooms
 pub mod SetPlaces
+pub mod Splits
 pub mod Trims
+pub mod Words

@@ -20,7 +20,7 @@ length_padded n e =
     length-append (replicate (e + 1 - length (decimal n)) 48) (decimal n) ∙ ap (λ k. k + length (decimal n)) (length-replicate (e + 1 - length (decimal n)) 48)
 
 -- a dot, where digits stand behind it
-after_some : (ds : List ℕ) → 0 < length ds → after_dot ds ≡ 46 ∷ ds
+pub after_some : (ds : List ℕ) → 0 < length ds → after_dot ds ≡ 46 ∷ ds
 after_some [] some = absurd (omega arith)
 after_some (d ∷ ds) some = refl
 

@@ -1,7 +1,9 @@
-//! A fast path: a number of 64 bits with at most 18 decimals is appended in one copy or two, its digits and the
-//! zeros before them as they stand in an array. `decimal.rt` appends any number; that is the file to read first.
-ghost use Rattle.std.specs.Prelude.{◌≡◌, ◌++◌, ◌+◌, ◌-◌, ◌≤◌, take, drop, OnOk};
+//! A fast path for a number of 64 bits with at most 18 decimals. Most have at most eight digits, which are put together
+//! in one word and stored from there; those of the others stand in an array. `decimal.rt` appends any number; that is
+//! the file to read first.
+ghost use Rattle.std.specs.Prelude.{◌≡◌, ◌++◌, ◌+◌, ◌-◌, ◌≤◌, ◌<◌, ◌*◌, ◌/◌, ◌%◌, ◌^◌, take, drop, OnOk};
 ghost use Rattle.n2k_table.specs.Decimal.{dotted, padded_digits};
+ghost use Rattle.n2k_table.specs.Inner.Digits.{pairs_word, values_word};
 
 use crate::line_buffer::LineBuffer;
 use itoa::write_digits;
@@ -18,6 +20,15 @@ const END: usize = 40;
 
 /// Room for the digits, and for as many bytes behind them as are copied at once.
 const ROOM: usize = END + WIDE;
+
+/// How many digits are put together in a word.
+const DIGITS: usize = 8;
+
+/// The least number that has more digits.
+const LEAST_LONG: u64 = 100_000_000;
+
+/// Eight bytes `0`.
+const NOUGHTS: u64 = 0x3030_3030_3030_3030;
 
 /// Appends bytes that stand in an array of digits.
 #[inline(always)]
@@ -38,13 +49,9 @@ fn push_digits(
     }
 }
 
-/// Appends the decimal text of `size / 10^decimals`.
-#[inline(always)]
-pub(crate) fn push_short(
-    size: u64,
-    decimals: usize,
-    line: &mut LineBuffer,
-) -> Result<(), AllocError>
+/// Appends the decimal text of `size / 10^decimals`, whose digits are written to an array.
+#[inline(never)]
+fn push_long(size: u64, decimals: usize, line: &mut LineBuffer) -> Result<(), AllocError>
     requires { decimals ≤ 18 }
     ensures { OnOk result (line.new.items ≡ line.old.items ++ dotted decimals (padded_digits size decimals)) }
 {
@@ -58,4 +65,52 @@ pub(crate) fn push_short(
         push_digits(&digits, dot - 1, END, line)?;
     }
     Ok(())
+}
+
+/// The four pairs of digits of a number below 10^8 as values, the first in the lowest bytes. Both halves of four digits
+/// are divided by 100 at once: below 10^4, `x * 10_486 >> 20` is `x / 100`.
+#[inline(always)]
+fn four_pairs(number: u64) -> u64
+    requires { number < 10 ^ 8 }
+    ensures { result ≡ pairs_word number }
+{
+    let halves = number / 10_000 + (number % 10_000 << 32);
+    let hundreds = (halves * 10_486 >> 20) & 0x7f_0000_007f;
+    hundreds + (halves - hundreds * 100 << 16)
+}
+
+/// The eight digits of a number below 10^8 as values, zeros before them, the first in the lowest byte. All four pairs
+/// are divided by 10 at once: below 100, `x * 103 >> 10` is `x / 10`.
+#[inline(always)]
+fn eight_values(number: u64) -> u64
+    requires { number < 10 ^ 8 }
+    ensures { result ≡ values_word number }
+{
+    let pairs = four_pairs(number);
+    let tens = (pairs * 103 >> 10) & 0xf_000f_000f_000f;
+    tens + (pairs - tens * 10 << 8)
+}
+
+/// Appends the decimal text of `size / 10^decimals`. To store the digits of a short number from a word costs less than
+/// to write them to an array and to copy more bytes of it at once, which waits for those that were just written.
+#[inline(always)]
+pub(crate) fn push_short(
+    size: u64,
+    decimals: usize,
+    line: &mut LineBuffer,
+) -> Result<(), AllocError>
+    requires { decimals ≤ 18 }
+    ensures { OnOk result (line.new.items ≡ line.old.items ++ dotted decimals (padded_digits size decimals)) }
+{
+    if size < LEAST_LONG && decimals < DIGITS {
+        let values = eight_values(size);
+        let zeros = (values.trailing_zeros() / 8) as usize;
+        let skipped = zeros.min(DIGITS - 1 - decimals);
+        let whole = DIGITS - decimals - skipped;
+        let front = (values + NOUGHTS) >> (8 * skipped);
+        let back = front >> (8 * (whole - 1)) >> 8;
+        line.put_number(front.to_le_bytes(), whole, back.to_le_bytes(), decimals)
+    } else {
+        push_long(size, decimals, line)
+    }
 }

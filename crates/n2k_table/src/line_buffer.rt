@@ -1,6 +1,7 @@
 //! Room in which a line is put together before it is appended to a vector. It is kept from line to line, since new
 //! room for each would be zeroed each time.
 ghost use Rattle.std.specs.Prelude.{◌≡◌, ◌∷◌, [], ◌++◌, ◌+◌, ◌≤◌, take, IfOk, OnOk, OnErr, is_ok, true};
+ghost use Rattle.n2k_table.specs.Decimal.{after_dot};
 
 use std::alloc::{AllocError, Global};
 use std::marker::Model;
@@ -135,6 +136,33 @@ impl LineBuffer {
         write_at(&mut self.room, at, *label);
         write_at(&mut self.room, at + N, *bytes);
         self.at = at + N + count;
+        Ok(())
+    }
+
+    /// Appends the first bytes of some, and a dot and the first bytes of others, unless those are none. All are copied,
+    /// with one test for room.
+    #[inline(always)]
+    pub(crate) fn put_number(
+        &mut self,
+        front: [u8; 8],
+        whole: usize,
+        back: [u8; 8],
+        decimals: usize,
+    ) -> Result<(), AllocError>
+        requires whole { whole ≤ 8 }
+        requires decimals { decimals ≤ 8 }
+        ensures { OnOk result (self.new.items ≡ self.old.items ++ (take whole front ++ after_dot (take decimals back))) }
+    {
+        let at = self.place(17)?;
+        let dot = at + whole;
+        write_at(&mut self.room, at, front);
+        write_at(&mut self.room, dot, [b'.']);
+        write_at(&mut self.room, dot + 1, back);
+        self.at = if decimals > 0 {
+            dot + 1 + decimals
+        } else {
+            dot
+        };
         Ok(())
     }
 
