@@ -29,9 +29,9 @@ pub(crate) struct Opening {
 }
 
 /// The open groups. The map is without order, so that any group is taken out of it at once, and the last takes its place.
-/// Where one ends out of turn, its opening stays in the queue, stale, until it comes to the front, the queue is full, or
-/// stale ones are more than the open groups and some: then all stale ones are dropped. So a step costs little more where
-/// many groups are open. An opening says the place of its group, so that no key is looked up for it.
+/// Where one ends out of turn, its opening stays in the queue, stale, until it comes to the front, or all stale ones are
+/// dropped: where the queue is full, or these are more than the open groups and some. So a step costs little more on
+/// average where many groups are open. An opening says the place of its group, so that no key is looked up for it.
 #[derive(Drop)]
 pub(crate) struct OpenGroups {
     pub(crate) groups: IndexMap<FrameKey, OpenGroup>,

@@ -1,6 +1,6 @@
 //! A fast path: the counts and the groups of a text as `save` writes it, found without a tree of its values. Nothing is
-//! promised of what is found: `Join::resume` writes it again, and takes it where that is the text. `reader.rt` reads any
-//! text; that is the file to read first.
+//! promised of what is found: `Join::resume_written` makes a join of it and writes that, and takes it where it is the
+//! text. `reader.rt` reads any text; that is the file to read first.
 ghost use Rattle.std.specs.Prelude.{◌≤◌, length, IfSome, IfOk};
 
 use crate::counts::Counts;
@@ -8,7 +8,7 @@ use crate::saved::spelled::{SpelledGroup, SpelledKey, SpelledPiece};
 use crate::window::{Window, is_waiting};
 use std::alloc::{AllocError, Global};
 
-/// The whole number at the front of a text, and what stands behind it.
+/// The whole number at the front of a text, without zeros before it, and what stands behind it.
 fn number_in(text: &[u8]) -> Option<(u64, &[u8])>
     ensures { IfSome result (λ r. length r.1.now ≤ length text.now) }
 {
@@ -22,6 +22,10 @@ fn number_in(text: &[u8]) -> Option<(u64, &[u8])>
             .checked_mul(10)?
             .checked_add(u64::from(*byte & 0x0f))?;
         rest = others;
+    }
+    let digits = text.len() - rest.len();
+    if digits == 0 || (digits > 1 && text.first() == Some(&b'0')) {
+        return None;
     }
     Some((number, rest))
 }

@@ -75,6 +75,14 @@ taken | 'lines':2 | 'lines':50";
 
 // The same under a window of 32 lines, where the state tells it.
 const OF_OPEN: &str = "taken | ID | ID
+taken | 0ba39901 | 0BA39901
+taken | 'seq':0 | 'seq': 0
+NotJson | 'src':5 | 'src':05
+NotJson | 'src':5 | 'src':
+NotJson | 'window':32} | 'window':32}}
+Shape | ba39901414243 | ba399014142
+Invalid | 'seq':1,'src':6 | 'seq':0,'src':5
+Invalid | 'first':2 | 'first':1
 taken | 'lines':2 | 'lines':32
 Invalid | 'lines':2 | 'lines':33
 Invalid | 'lines':2 | 'lines':50
