@@ -143,8 +143,25 @@ impl LineReader {
         ensures valid { IsEntry result.now }
         ensures short { IsShort result.now }
     {
+        self.read_mut(line, packing)
+    }
+
+    /// The entry that `read` gives, which the caller may change.
+    ///
+    /// ```rust
+    /// let mut reader = LineReader::new();
+    /// let line = "(1.0) can0 18EAFF01#14F001".as_bytes();
+    /// let entry = reader.read_mut(line, Packing::Frames);
+    /// *entry = Entry::Skip;
+    /// assert!(rt; matches!(entry, Entry::Skip));
+    /// ```
+    pub fn read_mut(&mut self, line: &[u8], packing: Packing) -> &mut Entry
+        ensures entry { result.now ≡ entry line.now packing }
+        ensures valid { IsEntry result.now }
+        ensures short { IsShort result.now }
+    {
         read_next(&mut self.cache, line, packing, &mut self.entry);
-        &self.entry
+        &mut self.entry
     }
 }
 

@@ -149,6 +149,23 @@ impl Packet {
         }
     }
 
+    /// Gives it other data, of at most 223 bytes, in its own place.
+    ///
+    /// ```rust
+    /// let mut packet = frame_in("(1.0) can0 18EAFF01#14F001")?;
+    /// packet.set_data(&[0x20; 9]);
+    /// assert_eq!(rt; packet.id().pgn, 59904);
+    /// assert_eq!(rt; packet.data(), [0x20; 9].as_slice());
+    /// ```
+    #[inline]
+    pub fn set_data(&mut self, data: &[u8])
+        requires { length «data».now ≤ longest_message }
+        ensures { self.new ≡ record { stamp = self.old.stamp; id = self.old.id; payload = «data».now } }
+    {
+        self.data[..data.len()].copy_from_slice(data);
+        self.data_len = data.len();
+    }
+
     /// Makes it a frame of a message, with these data, in its own place.
     ///
     /// ```rust
