@@ -10,7 +10,7 @@ use Rattle.std.proofs.Math.Bool.{and-true, and_assoc}
 use Rattle.std.proofs.Math.ListN.{drop_of_length-le}
 use Rattle.std.proofs.lemmas.Grind.{flat_map-append}
 use Rattle.json.specs.Print.{escape_letter, escape_byte}
-use Rattle.n2k_table.specs.Text.{text_json, character, hex_digits, hex_pair, hex_pairs}
+use Rattle.n2k_table.specs.Text.{text_json, character, hex_digits, hex_pair, hex_pairs, two_digits}
 use Rattle.n2k_table.specs.Inner.Line.{is_plain, is_plain_character}
 
 is_not : (b : ℕ) → is_plain b ≡ true → (32 ≤ b) × (eqb b 34 ≡ false) × (eqb b 92 ≡ false)
@@ -123,3 +123,20 @@ all_more p bytes i so_far within before =
 
 pub all_done : (p : ℕ → Bool) (bytes : List ℕ) (i : ℕ) (so_far : Bool) → length bytes ≤ i → (so_far && list_all p (drop i bytes)) ≡ list_all p bytes → so_far ≡ list_all p bytes
 all_done p bytes i so_far past before = sym (and-true so_far) ∙ (rw (drop_of_length-le bytes {i = i} past) at before)
+
+-- two digits of a byte are plain too
+figure_plain : (d : ℕ) → d < 26 → is_plain (48 + d) ≡ true
+figure_plain d small =
+    let low : leb 32 (48 + d) ≡ true = grind (arith, nat_tests) in
+    let quote : eqb (48 + d) 34 ≡ false = grind (arith, nat_tests) in
+    let slash : eqb (48 + d) 92 ≡ false = grind (arith, nat_tests) in
+    rw (low, quote, slash) refl
+
+figures_plain : (bs : List ℕ) → ((i : ℕ) → get_or bs i 0 < 256) → list_all is_plain (flat_map two_digits bs) ≡ true
+figures_plain [] small = refl
+figures_plain (b ∷ bs) small =
+    let low = small 0 in
+    rw (figure_plain (b / 10) (omega (arith, low)), figure_plain (b % 10) (omega (arith, low))) (figures_plain bs (λ i. small (suc i)))
+
+pub text_json-two_digits : (bs : List ℕ) → ((i : ℕ) → get_or bs i 0 < 256) → text_json (flat_map two_digits bs) ≡ 34 ∷ (flat_map two_digits bs ++ 34 ∷ [])
+text_json-two_digits bs small = text_json-plain (flat_map two_digits bs) (figures_plain bs small)

@@ -1,14 +1,19 @@
 pub mod Asking
+pub mod Behind
 pub mod Decimals
 pub mod Digits
 pub mod Documents
 pub mod Each
 pub mod Escapes
+pub mod FlagBits
+pub mod Glances
 pub mod Keys
 pub mod Lookups
 pub mod Members
+pub mod Found
 pub mod Heads
 pub mod Names
+pub mod Older
 pub mod OneKind
 pub mod OneLine
 pub mod Placed
@@ -18,5 +23,7 @@ pub mod RawBits
 pub mod Rooms
 pub mod SetPlaces
 pub mod Splits
+pub mod Steps
+pub mod Strings
 pub mod Trims
 pub mod Words

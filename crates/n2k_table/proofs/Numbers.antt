@@ -10,12 +10,13 @@ use Rattle.n2k_table.specs.declared.field.Meaning.{Meaning as CodeMeaning}
 use Rattle.n2k_table.specs.declared.field.Meaning.TheVariants as code
 use Rattle.n2k_table.specs.declared.number.Number.{Number}
 use Rattle.n2k_table.specs.declared.number.Scale.{Scale}
+use Rattle.n2k_table.specs.declared.number.Shift.{Shift}
 use Rattle.n2k_table.specs.Bits.{raw, greatest, signed_value}
 use Rattle.n2k_table.specs.Decimal.{minus, sign_of}
 use Rattle.n2k_table.specs.Field.{FieldParts}
-use Rattle.n2k_table.specs.Shown.{ShownParts, absent, number, says_none, shown_number, lies_inside, shown, shown_inside}
+use Rattle.n2k_table.specs.Shown.{ShownParts, absent, number, says_none, shown_number, shown_shifted, lies_inside, shown_from, shown_inside, shown_part}
 use Rattle.n2k_table.specs.Inner.Kept.{HasRoom, meaning}
-use Rattle.n2k_table.specs.Inner.Number.{IsScale, reserved_values, scaled, value_of}
+use Rattle.n2k_table.specs.Inner.Number.{IsScale, IsShift, reserved_values, scaled, shifted, shifted_value, value_of}
 use Rattle.n2k_table.proofs.RawBits.{pow_le, twice_half}
 
 -- the product of a size and a mantissa, its sign apart
@@ -148,11 +149,27 @@ scaled_is n r s some h lt =
       | inr le ↦ rw (le-leb r s.max le) (shows_upto n r s h (omega (arith, h.max)))
     ]
 
+-- the same of a number with an offset
+pub shifted_is : (n r : ℕ) (s : Shift) → IsShift n s → r < 2 ^ n → shifted s r ≡ shown_shifted s.offset s.resolution n r
+shifted_is n r s h lt =
+    let shows = number (shifted_value s r) s.resolution.decimals in
+    let last : nat_le r s.max_valid ≡ not (says_none false n (pos r)) =
+    ap (nat_le r) h.max_valid ∙ counts n (greatest false n) r (omega arith) (greatest_of_two false n) (greatest_of_four false n) in
+    ap (λ (b : Bool). if b then shows else absent) last ∙ turned (says_none false n (pos r)) shows absent
+
 -- a field shows so
-pub field_shows : (f : FieldParts) (payload : List ℕ) (m : CodeMeaning) (s : Scale) (r : ℕ) → f.meaning ≡ meaning m → m ≡ code.Number s → 1 ≤ f.bits
-    → HasRoom m f.bits → r ≡ raw payload f.at f.bits → r < 2 ^ f.bits → lies_inside f payload ≡ true → scaled s r ≡ shown f payload
-field_shows f payload m s r means is some room so lt inside =
+pub field_shows : (f : FieldParts) (payload : List ℕ) (m : CodeMeaning) (s : Scale) (r : ℕ) → f.meaning ≡ meaning m → m ≡ code.Number s
+    → HasRoom m f.bits → r ≡ raw payload f.at f.bits → r < 2 ^ f.bits → lies_inside f payload ≡ true → scaled s r ≡ shown_from f payload
+field_shows f payload m s r means is room so lt inside =
     let kept : HasRoom (code.Number s) f.bits = rw is at room in
-    scaled_is f.bits r s some kept.1 lt ∙ ap (shown_number s.signed s.resolution f.bits) so
+    scaled_is f.bits r s kept.0 kept.2 lt ∙ ap (shown_number s.signed s.resolution f.bits) so
     ∙ ap (λ m. shown_inside m f payload) (sym (means ∙ ap meaning is))
-    ∙ sym (ap (λ (b : Bool). if b then shown_inside f.meaning f payload else absent) inside)
+    ∙ sym (ap (λ (b : Bool). if b then shown_inside f.meaning f payload else shown_part f payload) inside)
+
+pub field_shows_shifted : (f : FieldParts) (payload : List ℕ) (m : CodeMeaning) (s : Shift) (r : ℕ) → f.meaning ≡ meaning m → m ≡ code.Shifted s
+    → HasRoom m f.bits → r ≡ raw payload f.at f.bits → r < 2 ^ f.bits → lies_inside f payload ≡ true → shifted s r ≡ shown_from f payload
+field_shows_shifted f payload m s r means is room so lt inside =
+    let kept : HasRoom (code.Shifted s) f.bits = rw is at room in
+    shifted_is f.bits r s kept.2 lt ∙ ap (shown_shifted s.offset s.resolution f.bits) so
+    ∙ ap (λ m. shown_inside m f payload) (sym (means ∙ ap meaning is))
+    ∙ sym (ap (λ (b : Bool). if b then shown_inside f.meaning f payload else shown_part f payload) inside)

@@ -13,9 +13,9 @@ use Rattle.n2k_table.specs.Text.{text_json}
 use Rattle.n2k_table.specs.Decimal.{sign_of, after_dot, padded_digits, dotted, dec}
 use Rattle.n2k_table.specs.Definition.{DefinitionParts, list_name}
 use Rattle.n2k_table.specs.Repeat.{RepeatParts, all_sets}
-use Rattle.n2k_table.specs.Shown.{ShownParts, absent, number, name, text, bytes, all_shown}
+use Rattle.n2k_table.specs.Shown.{FlagParts, flag_name, flag_bit, ShownParts, absent, number, name, text, utf8, wide, bytes, flags, digits as digit_bytes, all_shown}
 use Rattle.n2k_table.specs.Table.{TableParts, choice}
-use Rattle.n2k_table.specs.Json.{value_json, pair_json, member_json, members, object, set_json, repeat_members, message_members, id_json, head_json, line_json, chosen_json, json}
+use Rattle.n2k_table.specs.Json.{flag_json, value_json, pair_json, member_json, members, object, set_json, repeat_members, message_members, id_json, head_json, line_json, chosen_json, json}
 use Rattle.n2k_table.specs.OneLine.{IsOneLine}
 
 -- no byte is below the space
@@ -133,6 +133,23 @@ clean-text : (xs : List ℕ) → IsClean (text_json xs)
 unfolding text_json
 clean-text xs = clean-cons 34 _ (omega arith) (clean-append (escape xs) _ (clean-escape xs) (clean-cons 34 [] (omega arith) clean-nil))
 
+clean-joined : (texts : List (List ℕ)) → AllByRecursion IsClean texts → IsClean (join_with_byte 44 texts)
+clean-joined [] is = clean-nil
+clean-joined (t ∷ []) is = is.0
+clean-joined (t ∷ u ∷ texts) is = clean-append t _ is.0 (clean-cons 44 _ (omega arith) (clean-joined (u ∷ texts) is.1))
+
+clean-array : (first last : ℕ) (texts : List (List ℕ)) → 32 ≤ first → 32 ≤ last → AllByRecursion IsClean texts → IsClean (first ∷ (join_with_byte 44 texts ++ last ∷ []))
+clean-array first last texts h i is =
+    clean-cons first _ h (clean-append (join_with_byte 44 texts) (last ∷ []) (clean-joined texts is) (clean-cons last [] i clean-nil))
+
+clean-flag : (f : FlagParts) → IsClean (flag_json f)
+clean-flag (flag_name n) = clean-text n
+clean-flag (flag_bit i) = clean-decimal i
+
+clean-flags : (fs : List FlagParts) → AllByRecursion IsClean (map flag_json fs)
+clean-flags [] = tt
+clean-flags (f ∷ fs) = (clean-flag f, clean-flags fs)
+
 -- the line
 clean-value : (empty : Bool) (shown : ShownParts) → AllByRecursion IsClean (option_to_list (value_json empty shown))
 clean-value true absent = (clean-literal (codes "null") refl, tt)
@@ -140,7 +157,11 @@ clean-value false absent = tt
 clean-value empty (number value decimals) = (clean-dec value decimals, tt)
 clean-value empty (name n) = (clean-text n, tt)
 clean-value empty (text numbers) = (clean-text _, tt)
+clean-value empty (utf8 t) = (clean-text _, tt)
+clean-value empty (wide t) = (clean-text _, tt)
 clean-value empty (bytes payload) = (clean-text _, tt)
+clean-value empty (digit_bytes payload) = (clean-text _, tt)
+clean-value empty (flags fs) = (clean-array 91 93 (map flag_json fs) (omega arith) (omega arith) (clean-flags fs), tt)
 
 clean-pair : (key : List ℕ) (value : Option (List ℕ)) → AllByRecursion IsClean (option_to_list value) → AllByRecursion IsClean (option_to_list (pair_json key value))
 clean-pair key None is = tt
@@ -153,15 +174,6 @@ clean-members empty (f ∷ fields) = by_member (member_json empty f) (clean-pair
     by_member : (o : Option (List ℕ)) → AllByRecursion IsClean (option_to_list o) → AllByRecursion IsClean (filter_map (member_json empty) fields) → AllByRecursion IsClean (cons_option o (filter_map (member_json empty) fields))
     by_member None is rest = rest
     by_member (Some member) is rest = (is.0, rest)
-
-clean-joined : (texts : List (List ℕ)) → AllByRecursion IsClean texts → IsClean (join_with_byte 44 texts)
-clean-joined [] is = clean-nil
-clean-joined (t ∷ []) is = is.0
-clean-joined (t ∷ u ∷ texts) is = clean-append t _ is.0 (clean-cons 44 _ (omega arith) (clean-joined (u ∷ texts) is.1))
-
-clean-array : (first last : ℕ) (texts : List (List ℕ)) → 32 ≤ first → 32 ≤ last → AllByRecursion IsClean texts → IsClean (first ∷ (join_with_byte 44 texts ++ last ∷ []))
-clean-array first last texts h i is =
-    clean-cons first _ h (clean-append (join_with_byte 44 texts) (last ∷ []) (clean-joined texts is) (clean-cons last [] i clean-nil))
 
 clean-object : (ms : List (List ℕ)) → AllByRecursion IsClean ms → IsClean (object ms)
 clean-object ms is = clean-array 123 125 ms (omega arith) (omega arith) is

@@ -5,10 +5,15 @@ use Rattle.std.specs.Option.{option_map_or}
 use Rattle.std.proofs.lemmas.Option.{slice_get-get_or, slice_get_past, slice_get_cases}
 use Rattle.std.proofs.lemmas.Bool.{cases_Bool}
 use Rattle.std.proofs.lemmas.Bool.Decides.{nat_tests}
-use Rattle.std.proofs.lemmas.List.{drop_more, length-append}
+use Rattle.std.proofs.lemmas.List.{drop_more, length-append, append-nil, map-append, length-map, get_or-map}
+use Rattle.std.proofs.lemmas.List.Elements.{All-append}
+use Rattle.std.specs.Prelude.{All, if◌then◌else◌}
 use Rattle.n2k_table.specs.Definition.{DefinitionParts}
 use Rattle.n2k_table.specs.Table.{is_of}
-use Rattle.n2k_table.specs.Inner.Index.{pgns, places_from, places}
+use Rattle.n2k_table.specs.declared.glance.Glance.{Glance}
+use Rattle.n2k_table.specs.declared.index.Candidate.{Candidate}
+use Rattle.n2k_table.specs.Inner.Glance.{IsGlance}
+use Rattle.n2k_table.specs.Inner.Index.{pgns, places_from, places, places_of, IsOfPlace}
 
 pub length-pgns : (ds : List DefinitionParts) → length (pgns ds) ≡ length ds
 length-pgns [] = refl
@@ -122,3 +127,76 @@ first_is pgn ds is i same first =
       | inl at ↦ at.2 ∙ sym (one_kind pgn ds is i at.0 same first within (sym at.3))
       | inr past ↦ absurd (omega (arith, within, past.0))
     ]
+
+-- one candidate more of the PGN of a definition
+pub noted : (ds : List DefinitionParts) (k n : ℕ) (d : DefinitionParts) (cs new : List Candidate) (c : Candidate) (all : List ℕ) → k < length ds → d ≡ get_or ds k d → c.place ≡ k
+    → new ≡ cs ++ (if nat_eq d.pgn n then c ∷ [] else []) → places_of cs ++ places_from k n (pgns (drop k ds)) ≡ all → places_of new ++ places_from (k + 1) n (pgns (drop (k + 1) ds)) ≡ all
+noted ds k n d cs new c all lt at is gain before =
+    let rest = pgns (drop (k + 1) ds) in
+    let here : drop k ds ≡ d ∷ drop (k + 1) ds = drop_more ds k d lt ∙ ap (λ (e : DefinitionParts). e ∷ drop (k + 1) ds) (sym at) in
+    let next : k + 1 ≡ suc k = omega arith in
+    let so_far : places_of cs ++ cond (nat_eq d.pgn n) (k ∷ places_from (suc k) n rest) (places_from (suc k) n rest) ≡ all =
+    ap (λ (es : List DefinitionParts). places_of cs ++ places_from k n (pgns es)) (sym here) ∙ before in
+    let moved : places_from (k + 1) n rest ≡ places_from (suc k) n rest = ap (λ j. places_from j n rest) next in
+    elim (cases_Bool (nat_eq d.pgn n)) [
+      | inl same ↦
+          let gained : new ≡ cs ++ c ∷ [] = rw same at gain in
+          let whole : places_of cs ++ k ∷ places_from (suc k) n rest ≡ all = rw same at so_far in
+          ap (λ (xs : List Candidate). places_of xs ++ places_from (k + 1) n rest) gained
+          ∙ ap (λ (xs : List ℕ). xs ++ places_from (k + 1) n rest) (map-append (λ (x : Candidate). x.place) cs (c ∷ []))
+          ∙ append_assoc (places_of cs) (c.place ∷ []) (places_from (k + 1) n rest)
+          ∙ ap (λ j. places_of cs ++ j ∷ places_from (k + 1) n rest) is ∙ ap (λ (xs : List ℕ). places_of cs ++ k ∷ xs) moved ∙ whole
+      | inr other ↦
+          let kept : new ≡ cs = (let e : new ≡ cs ++ [] = rw other at gain in e) ∙ append-nil cs in
+          let whole : places_of cs ++ places_from (suc k) n rest ≡ all = rw other at so_far in
+          ap (λ (xs : List Candidate). places_of xs ++ places_from (k + 1) n rest) kept ∙ ap (λ (xs : List ℕ). places_of cs ++ xs) moved ∙ whole
+    ]
+
+all_of_one : (P : Candidate → Type 0) (c : Candidate) → P c → All P (c ∷ [])
+all_of_one P c holds zero d lt = holds
+all_of_one P c holds (suc k) d lt = absurd (omega arith)
+
+-- what holds of each candidate holds with one more of which it holds
+pub noted_all : (P : Candidate → Type 0) (gains : Bool) (cs new : List Candidate) (c : Candidate) → P c → new ≡ cs ++ (if gains then c ∷ [] else []) → All P cs → All P new
+noted_all P true cs new c holds gain all = rw gain (All-append P cs (c ∷ []) all (all_of_one P c holds))
+noted_all P false cs new c holds gain all = rw (gain ∙ append-nil cs) all
+
+-- what a definition asks for, as the candidate of its place has it
+pub of_place : (ds : List DefinitionParts) (k : ℕ) (d : DefinitionParts) (glance : Glance) → k < length ds → d ≡ get_or ds k d → IsGlance glance d.fields → IsOfPlace ds (record { place = k; glance = glance })
+of_place ds k d glance lt at is =
+    let found : slice_get ds k ≡ Some d = slice_get-get_or ds k d lt ∙ ap (λ e. Some e) (sym at) in
+    rw found is
+
+-- the places of candidates are places of definitions
+pub candidates_within : (cs : List Candidate) (pgn : ℕ) (ds : List DefinitionParts) → places_of cs ≡ places pgn (pgns ds) → All (λ (c : Candidate). c.place < length ds) cs
+candidates_within cs pgn ds same k d lt =
+    let many : length (places_of cs) ≡ length cs = length-map cs (λ (c : Candidate). c.place) in
+    let within : get_or (places_of cs) k 0 < length ds = places_within (places_of cs) pgn ds same k (omega (arith, lt, many)) in
+    omega (arith, within, get_or-map (λ (c : Candidate). c.place) cs k d 0 lt)
+
+-- the first of some candidates, by its place
+pub first_place : (cs : List Candidate) (r : Option Candidate) → slice_get cs 0 ≡ r → slice_get (places_of cs) 0 ≡ option_map (λ (c : Candidate). c.place) r
+first_place [] r at = rw (← at) refl
+first_place (c ∷ cs) r at = rw (← at) refl
+
+-- the definition of a candidate
+pub candidate_here : (q : DefinitionParts → Bool) (ds : List DefinitionParts) (cs : List Candidate) (k : ℕ) (c e : Candidate) (d : DefinitionParts) → k < length cs → c ≡ get_or cs k e
+    → c.place < length ds → d ≡ get_or ds c.place d → first_at q ds (drop k (places_of cs)) ≡ cond (q d) (Some d) (first_at q ds (drop (k + 1) (places_of cs)))
+candidate_here q ds cs k c e d lt is within at =
+    let many : length (places_of cs) ≡ length cs = length-map cs (λ (x : Candidate). x.place) in
+    let place : get_or (places_of cs) k 0 ≡ c.place = get_or-map (λ (x : Candidate). x.place) cs k e 0 lt ∙ ap (λ (x : Candidate). x.place) (sym is) in
+    first_here q ds (places_of cs) k d (omega (arith, lt, many)) (omega (arith, within, place)) (at ∙ ap (λ i. get_or ds i d) (sym place))
+
+passed : (q : DefinitionParts → Bool) (rest o : Option DefinitionParts) → ((d : DefinitionParts) → o ≡ Some d → q d ≡ false) → option_map_or (λ d. cond (q d) (Some d) rest) o rest ≡ rest
+passed q rest None fails = refl
+passed q rest (Some d) fails = rw (fails d refl) refl
+
+-- a candidate whose definition doesn't pass is no answer
+pub passed_over : (q : DefinitionParts → Bool) (ds : List DefinitionParts) (cs : List Candidate) (k : ℕ) (c e : Candidate) → k < length cs → c ≡ get_or cs k e
+    → ((d : DefinitionParts) → slice_get ds c.place ≡ Some d → q d ≡ false) → first_at q ds (drop k (places_of cs)) ≡ first_at q ds (drop (k + 1) (places_of cs))
+passed_over q ds cs k c e lt is fails =
+    let many : length (places_of cs) ≡ length cs = length-map cs (λ (x : Candidate). x.place) in
+    let place : get_or (places_of cs) k 0 ≡ c.place = get_or-map (λ (x : Candidate). x.place) cs k e 0 lt ∙ ap (λ (x : Candidate). x.place) (sym is) in
+    let here : drop k (places_of cs) ≡ c.place ∷ drop (k + 1) (places_of cs) =
+    drop_more (places_of cs) k 0 (omega (arith, lt, many)) ∙ ap (λ i. i ∷ drop (k + 1) (places_of cs)) place in
+    ap (first_at q ds) here ∙ passed q (first_at q ds (drop (k + 1) (places_of cs))) (slice_get ds c.place) fails

@@ -1,6 +1,6 @@
 -- The bits of a message: raw values, unsigned and signed.
-use Rattle.std.specs.Prelude.{ℕ, zero, suc, ℤ, pos, ◌-ℤ◌, ◌+◌, ◌*◌, ◌-◌, ◌/◌, ◌%◌, ◌^◌, Bool, true, false, nat_lt, List}
-use Rattle.std.specs.Prelude.{slice_index, if◌then◌else◌}
+use Rattle.std.specs.Prelude.{ℕ, zero, suc, ℤ, pos, ◌-ℤ◌, ◌+◌, ◌*◌, ◌-◌, ◌/◌, ◌%◌, ◌^◌, ◌==◌, Bool, true, false, nat_lt, List}
+use Rattle.std.specs.Prelude.{[], ◌∷◌, slice_index, if◌then◌else◌}
 
 -- bit i: bit i mod 8 of byte i div 8, the least significant first
 abbrev pub bit : List ℕ → ℕ → ℕ
@@ -24,3 +24,12 @@ signed_value false n r = pos r
 abbrev pub greatest : Bool → ℕ → ℕ
 greatest true n = 2 ^ (n - 1) - 1
 greatest false n = 2 ^ n - 1
+
+-- bit i of a raw value is 1
+abbrev pub has_bit : ℕ → ℕ → Bool
+has_bit r i = r / 2 ^ i % 2 == 1
+
+-- of n bits of a raw value, from bit i on, the numbers of those that are 1, rising
+abbrev pub bits_set : ℕ → ℕ → ℕ → List ℕ
+bits_set r i zero = []
+bits_set r i (suc n) = if has_bit r i then i ∷ bits_set r (i + 1) n else bits_set r (i + 1) n

@@ -42,10 +42,11 @@ abbrev pub list_name : List ℕ
 list_name = codes "list"
 
 -- What repeats behind these fields, if something does. None of them is named as its member.
-abbrev pub repeat_if_there : List LookupParts → List FieldParts → Option Data → Result (Option RepeatParts) TableFault
-repeat_if_there lookups own None = Ok None
-repeat_if_there lookups own (Some d) = do
-  sets ← repeat lookups d
+abbrev pub repeat_if_there : TableFormat → List LookupParts → List FieldParts → Option Data
+    → Result (Option RepeatParts) TableFault
+repeat_if_there format lookups own None = Ok None
+repeat_if_there format lookups own (Some d) = do
+  sets ← repeat format lookups d
   free ← holds_or Twice (not (list_any (has_name list_name) own))
   Ok (Some sets)
 
@@ -57,6 +58,6 @@ definition format lookups d = do
   pgn ← int_at (codes "number") 0 greatest_pgn m
   kind ← kind_of m
   description ← text_at (codes "description") m
-  own ← fields Message lookups m
-  sets ← repeat_if_there lookups own (get_member (codes "repeat") m)
+  own ← fields format Message lookups m
+  sets ← repeat_if_there format lookups own (get_member (codes "repeat") m)
   Ok (record { pgn = pgn; kind = kind; description = description; fields = own; repeat = sets })

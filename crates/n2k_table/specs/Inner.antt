@@ -2,6 +2,7 @@
 pub mod Digits
 pub mod Entries
 pub mod FieldValue
+pub mod Glance
 pub mod Index
 pub mod Kept
 pub mod Line

@@ -7,9 +7,11 @@ use Rattle.n2k_wire.specs.declared.identifier.Id.{Id}
 use Rattle.n2k_table.specs.Decimal.{dec}
 use Rattle.n2k_table.specs.Repeat.{RepeatParts, all_sets}
 use Rattle.n2k_table.specs.Definition.{DefinitionParts, list_name}
-use Rattle.n2k_table.specs.Shown.{ShownParts, absent, number, name, text, bytes, all_shown}
+use Rattle.n2k_table.specs.Shown.{ShownParts, absent, number, name, text, utf8, wide, bytes, flags, digits, all_shown}
+use Rattle.n2k_table.specs.Shown.{FlagParts, flag_name, flag_bit}
+use Rattle.n2k_table.specs.Strings.{wide_text}
 use Rattle.n2k_table.specs.Table.{TableParts, choice}
-use Rattle.n2k_table.specs.Text.{text_json, character, hex_pairs}
+use Rattle.n2k_table.specs.Text.{text_json, character, hex_pairs, two_digits}
 
 -- `,` and `:`
 abbrev pub comma : ℕ
@@ -18,13 +20,26 @@ comma = 44
 abbrev pub colon : ℕ
 colon = 58
 
+-- an array of values
+abbrev pub array : List (List ℕ) → List ℕ
+array values = codes "[" ++ join_with_byte comma values ++ codes "]"
+
+-- a bit by its name or its number
+abbrev pub flag_json : FlagParts → List ℕ
+flag_json (flag_name n) = text_json n
+flag_json (flag_bit i) = decimal i
+
 -- what a field shows as a value; none where it is absent and absent fields are left out
 abbrev pub value_json : Bool → ShownParts → Option (List ℕ)
 value_json empty absent = if empty then Some (codes "null") else None
 value_json empty (number value decimals) = Some (dec value decimals)
 value_json empty (name n) = Some (text_json n)
 value_json empty (text numbers) = Some (text_json (flat_map character numbers))
+value_json empty (utf8 t) = Some (text_json t)
+value_json empty (wide t) = Some (text_json (wide_text t))
 value_json empty (bytes payload) = Some (text_json (hex_pairs payload))
+value_json empty (digits payload) = Some (text_json (flat_map two_digits payload))
+value_json empty (flags fs) = Some (array (map flag_json fs))
 
 -- a name and its value
 abbrev pub pair_json : List ℕ → Option (List ℕ) → Option (List ℕ)
@@ -41,10 +56,6 @@ members empty fields = filter_map (member_json empty) fields
 -- an object of members
 abbrev pub object : List (List ℕ) → List ℕ
 object ms = codes "{" ++ join_with_byte comma ms ++ codes "}"
-
--- an array of values
-abbrev pub array : List (List ℕ) → List ℕ
-array values = codes "[" ++ join_with_byte comma values ++ codes "]"
 
 -- the object of a set
 abbrev pub set_json : Bool → List (List ℕ × ShownParts) → List ℕ

@@ -12,6 +12,7 @@ pub mod Reading
 pub mod Repeat
 pub mod Resolution
 pub mod Shown
+pub mod Strings
 pub mod Table
 pub mod Text
 pub mod Tree

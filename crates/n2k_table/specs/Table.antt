@@ -11,7 +11,7 @@ use Rattle.n2k_table.specs.declared.definition.Kind.TheVariants.{Single, Fast}
 use Rattle.n2k_table.specs.declared.fault.TableFault.{TableFault}
 use Rattle.n2k_table.specs.declared.fault.TableFault.TheVariants.{NotToml, Format, Mixed}
 use Rattle.n2k_table.specs.declared.tree.TableFormat.{TableFormat}
-use Rattle.n2k_table.specs.declared.tree.TableFormat.TheVariants.{One, Two}
+use Rattle.n2k_table.specs.declared.tree.TableFormat.TheVariants.{One, Two, Three}
 use Rattle.n2k_table.specs.declared.tree.Section.TheVariants.{Document}
 use Rattle.n2k_wire.specs.Steps.{◌>>=◌, or_cause, holds_or}
 use Rattle.n2k_table.specs.Bits.{raw}
@@ -38,11 +38,11 @@ document bytes = if is_utf8 bytes then parse_document bytes else None
 
 -- the newest format of a table
 abbrev pub newest_format : ℕ
-newest_format = 2
+newest_format = 3
 
 -- the format of a number that is no fault; any other value at `format`, and none, is one fault
 abbrev pub as_format : Result ℕ TableFault → Result TableFormat TableFault
-as_format (Ok n) = Ok (if n == 1 then One else Two)
+as_format (Ok n) = Ok (if n == 1 then One else if n == 2 then Two else Three)
 as_format (Err fault) = Err Format
 
 -- the format that the top level says it is of
@@ -106,6 +106,11 @@ is_of pgn d = d.pgn == pgn
 -- how a PGN is sent: as any of its definitions says, and nothing where there is none
 abbrev pub kind : TableParts → ℕ → Option Kind
 kind t pgn = option_map (λ d. d.kind) (find (is_of pgn) t.definitions)
+
+-- a PGN that a table has
+pub record KnownParts : Type 0 where
+  pub table : TableParts
+  pub pgn : ℕ
 
 -- a field has the raw value that it asks for, or asks for none
 abbrev pub has_match_value : Option ℕ → FieldParts → List ℕ → Bool

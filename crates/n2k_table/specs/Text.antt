@@ -1,5 +1,5 @@
 -- Texts in JSON.
-use Rattle.std.specs.Prelude.{ℕ, ◌/◌, ◌%◌, codes, List, [], ◌∷◌, slice_index, map}
+use Rattle.std.specs.Prelude.{ℕ, ◌+◌, ◌/◌, ◌%◌, codes, List, [], ◌∷◌, slice_index, map}
 use Rattle.std.specs.List.{join_with_byte}
 use Rattle.std.specs.Char.{encode_utf8}
 use Rattle.serde_json.specs.Data.{string}
@@ -20,6 +20,10 @@ hex_digits = codes "0123456789ABCDEF"
 -- a byte as two hexadecimal digits
 abbrev pub hex_pair : ℕ → List ℕ
 hex_pair b = slice_index hex_digits (b / 16) ∷ slice_index hex_digits (b % 16) ∷ []
+
+-- a byte below 100 as two decimal digits
+abbrev pub two_digits : ℕ → List ℕ
+two_digits b = (48 + b / 10) ∷ (48 + b % 10) ∷ []
 
 -- the space
 abbrev pub space : ℕ

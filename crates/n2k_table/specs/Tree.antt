@@ -9,7 +9,7 @@ use Rattle.toml.specs.Data.{as_bool, as_array, as_table}
 use Rattle.n2k_table.specs.declared.fault.TableFault.{TableFault}
 use Rattle.n2k_table.specs.declared.fault.TableFault.TheVariants.{Key, Range, Text, TooMany}
 use Rattle.n2k_table.specs.declared.tree.TableFormat.{TableFormat}
-use Rattle.n2k_table.specs.declared.tree.TableFormat.TheVariants.{One, Two}
+use Rattle.n2k_table.specs.declared.tree.TableFormat.TheVariants.{One, Two, Three}
 use Rattle.n2k_table.specs.declared.tree.FieldKind.{FieldKind}
 use Rattle.n2k_table.specs.declared.tree.FieldKind.TheVariants as kind
 use Rattle.n2k_table.specs.declared.tree.Holder.{Holder}
@@ -35,10 +35,17 @@ end_of (Set bits) = bits
 abbrev pub is_among : List ℕ → List (List ℕ) → Bool
 is_among key keys = list_any (λ k. bytes_eq key k) keys
 
--- In format 2 a definition may have sets.
+-- From format 2 on a definition may have sets.
 abbrev pub has_sets : TableFormat → Bool
 has_sets One = false
 has_sets Two = true
+has_sets Three = true
+
+-- Format 3 has more kinds of fields, and more keys.
+abbrev pub is_extended : TableFormat → Bool
+is_extended One = false
+is_extended Two = false
+is_extended Three = true
 
 -- the keys that fields of a kind have beside those of every field
 abbrev pub own_keys : FieldKind → List (List ℕ)
@@ -46,6 +53,40 @@ own_keys kind.Number = codes "signed" ∷ codes "resolution" ∷ []
 own_keys kind.Lookup = codes "lookup" ∷ []
 own_keys kind.Text = []
 own_keys kind.Bytes = []
+own_keys kind.Flags = codes "lookup" ∷ []
+own_keys kind.Digits = []
+own_keys kind.String = codes "form" ∷ []
+
+-- the keys of a kind that only a table of format 3 may have
+abbrev pub more_keys : FieldKind → List (List ℕ)
+more_keys kind.Number = codes "offset" ∷ codes "unit" ∷ []
+more_keys kind.Lookup = []
+more_keys kind.Text = []
+more_keys kind.Bytes = []
+more_keys kind.Flags = []
+more_keys kind.Digits = []
+more_keys kind.String = []
+
+-- A string has no bits: its own bytes say how long it is.
+abbrev pub has_bits : FieldKind → Bool
+has_bits kind.String = false
+has_bits _ = true
+
+-- the keys that say where a field of the kind stands
+abbrev pub place_keys : FieldKind → List (List ℕ)
+place_keys kind = if has_bits kind then codes "at" ∷ codes "bits" ∷ [] else codes "at" ∷ []
+
+-- A message may have strings, and fields that stand behind them. A set has none.
+abbrev pub can_have_strings : Holder → Bool
+can_have_strings Message = true
+can_have_strings (Set bits) = false
+
+-- A text, bytes or a string of a message may be short. Each field of a set lies in it.
+abbrev pub can_be_short : FieldKind → Holder → Bool
+can_be_short kind.Text Message = true
+can_be_short kind.Bytes Message = true
+can_be_short kind.String Message = true
+can_be_short _ _ = false
 
 -- A number or a lookup's value of a message may be asked for. A field of a set can't ask.
 abbrev pub can_match : FieldKind → Holder → Bool
@@ -61,9 +102,12 @@ is_key (Definition format) key =
     is_among key (codes "number" ∷ codes "kind" ∷ codes "description" ∷ codes "fields" ∷ [])
     || (has_sets format && bytes_eq key (codes "repeat"))
 is_key Repeat key = is_among key (codes "at" ∷ codes "bits" ∷ codes "fields" ∷ [])
-is_key (Field kind holder) key =
-    is_among key (codes "name" ∷ codes "kind" ∷ codes "at" ∷ codes "bits" ∷ [])
+is_key (Field format kind holder) key =
+    is_among key (codes "name" ∷ codes "kind" ∷ place_keys kind)
     || is_among key (own_keys kind)
+    || (is_extended format && is_among key (more_keys kind))
+    || (is_extended format && can_have_strings holder && bytes_eq key (codes "after"))
+    || (is_extended format && can_be_short kind holder && bytes_eq key (codes "short"))
     || (can_match kind holder && bytes_eq key (codes "match"))
 
 -- each key of the table is one that such a section may have

@@ -107,7 +107,11 @@ pub(crate) fn push_number(number: Number, line: &mut LineBuffer) -> Result<(), A
 }
 
 /// Appends the decimal text of `value / 10^decimals`.
-fn push_decimal(value: i128, decimals: u8, line: &mut LineBuffer) -> Result<(), AllocError>
+pub(crate) fn push_decimal(
+    value: i128,
+    decimals: u8,
+    line: &mut LineBuffer,
+) -> Result<(), AllocError>
     ensures { OnOk result (line.new.items ≡ line.old.items ++ dec value decimals) }
 {
     push_minus(value < 0, line)?;

@@ -1,5 +1,5 @@
 //! A definition: what a table says of one message.
-ghost use Rattle.std.specs.Prelude.{◌≡◌, option_map};
+ghost use Rattle.std.specs.Prelude.{◌≡◌, ℕ, List, false, true, option_map};
 ghost use Rattle.std.specs.List.{list_all};
 ghost use Rattle.n2k_table.specs.Table.{are_mixed, field_matches};
 
@@ -101,6 +101,14 @@ impl StoredDefinition {
         ensures { option_map (λ r. r.now) result ≡ self.now.repeat }
     {
         self.repeat.as_ref()
+    }
+
+    /// Whether it asks for something. Of one that doesn't, any data are a message.
+    #[inline(always)]
+    pub(crate) fn asks(&self) -> bool
+        ensures { result ≡ false → (payload : List ℕ) → matches payload self.now ≡ true }
+    {
+        self.has_match
     }
 
     /// Whether the data have what the fields ask for.

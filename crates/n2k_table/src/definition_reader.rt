@@ -71,16 +71,17 @@ fn label_of(alloc: Global, pgn: u32, description: &str) -> Result<Vec<u8>, Alloc
 fn repeat_if_there(
     alloc: Global,
     lookups: &Lookups,
+    format: TableFormat,
     own: &[Field],
     table: &Table,
 ) -> Result<Option<Repeat>, TableFault>
     ensures { ReaderGives (λ r. r) result
-        (repeat_if_there lookups.now own.now (get_member (codes "repeat") (table_view table.now))) }
+        (repeat_if_there format lookups.now own.now (get_member (codes "repeat") (table_view table.now))) }
 {
     let Some(value) = get(table, "repeat") else {
         return Ok(None);
     };
-    let repeat = read_repeat(alloc, lookups, value)?;
+    let repeat = read_repeat(alloc, lookups, format, value)?;
     if is_named(own, LIST) {
         return Err(TableFault::Twice);
     }
@@ -102,8 +103,8 @@ pub(crate) fn read_definition(
     let pgn = int_at(table, "number", 0, GREATEST_PGN)?;
     let kind = kind_of(table)?;
     let description = text_at(table, "description")?;
-    let fields = read_fields(alloc, lookups, Holder::Message, table)?;
-    let repeat = repeat_if_there(alloc, lookups, &fields, table)?;
+    let fields = read_fields(alloc, lookups, format, Holder::Message, table)?;
+    let repeat = repeat_if_there(alloc, lookups, format, &fields, table)?;
     Ok(StoredDefinition {
         pgn,
         kind,

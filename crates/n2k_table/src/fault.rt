@@ -11,8 +11,8 @@ pub enum TableFault {
     /// The bytes are not UTF-8, or no TOML 1.1 document.
     #[error("the table isn't TOML")]
     NotToml,
-    /// The top level has no `format`, or it is neither the integer 1 nor 2.
-    #[error("the table's format is neither 1 nor 2")]
+    /// The top level has no `format`, or it is none of the integers 1, 2 and 3.
+    #[error("the table's format is none of 1, 2 and 3")]
     Format,
     /// A key is missing or unknown, a value is of another TOML kind than its key asks, or an entry of a lookup
     /// isn't an array of an integer and a text.

@@ -1,12 +1,16 @@
 //! A field, and what it shows.
-ghost use Rattle.std.specs.Prelude.{◌≡◌, ◌≤◌, ◌+◌, ◌*◌, length};
+ghost use Rattle.std.specs.Prelude.{◌≡◌, ◌≤◌, ◌+◌, ◌*◌, ◌/◌, drop, length, IfSome};
 
 use crate::bits::{raw, raw_with_mask};
-use crate::field_value::{FieldValue, name_value, text_value};
+use crate::field_value::{FieldValue, digits_value, name_value, text_value};
+use crate::flags::flags_value;
 use crate::line_buffer::LineBuffer;
 use crate::lookup::Lookup;
-use crate::number::Scale;
+use crate::number::{Scale, Shift};
 use crate::padded_text::PaddedText;
+use crate::shown::Shown;
+use crate::string_place::{Form, Step, data_behind};
+use crate::string_value::string_value;
 use std::alloc::AllocError;
 use std::marker::Model;
 use std::rc::Rc;
@@ -16,16 +20,24 @@ use std::rc::Rc;
 pub(crate) enum Meaning {
     /// A number, in two's complement where it is signed, times its resolution.
     Number(Scale),
+    /// A number to which an offset is added, times its resolution.
+    Shifted(Shift),
     /// A value that a lookup gives names for. The fields of a table share its lookups.
     Lookup(Rc<Lookup>),
     /// A text, each byte the character of its number.
     Text,
     /// Bytes as they are.
     Bytes,
+    /// Bits that a lookup gives names for.
+    Flags(Rc<Lookup>),
+    /// Bytes of two decimal digits.
+    Digits,
+    /// A string, which says itself how long it is.
+    String(Form),
 }
 
-/// A field: its name, its first bit in the message or in its set, how many bits it has, what they mean, and the raw
-/// value that it asks for, if it asks for one.
+/// A field: its name, its first bit in the message or in its set, how many bits it has, whether it may be short, the
+/// strings behind which it stands, what its bits mean, and the raw value that it asks for, if it asks for one.
 #[derive(Drop)]
 pub(crate) struct Field {
     pub(crate) name: String,
@@ -33,6 +45,12 @@ pub(crate) struct Field {
     pub(crate) key: PaddedText,
     pub(crate) at: u32,
     pub(crate) bits: u32,
+    /// How many bytes the data must have for it to lie inside them. Where it stands behind a string, more than any have.
+    pub(crate) end: usize,
+    /// Whether it shows what is there of it, where the data end before it does.
+    pub(crate) short: bool,
+    /// The strings behind which it stands, from the first on. Its first bit counts from the end of the last.
+    pub(crate) behind: Vec<Step>,
     pub(crate) meaning: Meaning,
     pub(crate) match_value: Option<u64>,
 }
@@ -48,18 +66,20 @@ impl Model for Field {
       name = string_bytes f.name;
       at = f.at;
       bits = f.bits;
+      short = f.short;
+      behind = f.behind.items;
       meaning = seen_meaning f.meaning;
       match_value = f.match_value;
     } };
 
-    ghost invariant = { λ f. IsKept (string_bytes f.name) f.key f.at f.bits f.meaning f.match_value };
+    ghost invariant = { λ f. IsKept (string_bytes f.name) f.key f.at f.bits f.end f.behind.items f.meaning f.match_value };
 }
 
 impl Field {
     ghost use Rattle.std.specs.Prelude.{◌++◌, is_some, OnOk};
     ghost use Rattle.n2k_table.specs.Inner.Line.{key_json};
-    ghost use Rattle.n2k_table.specs.Inner.FieldValue.{value_parts};
-    ghost use Rattle.n2k_table.specs.Shown.{lies_inside, field_bytes, shown};
+    ghost use Rattle.n2k_table.specs.Inner.FieldValue.{value_parts, stands_inside};
+    ghost use Rattle.n2k_table.specs.Shown.{lies_inside, field_bytes, begins_inside, shown_part, shown_from, shown, shown_parts};
     ghost use Rattle.n2k_table.specs.Table.{field_matches};
 
     /// The name.
@@ -111,13 +131,52 @@ impl Field {
         &data[from..to]
     }
 
-    /// What the field shows of the data of a message or of a set: nothing where it does not lie wholly inside. Each
+    fn begins_inside(&self, data: &[u8]) -> bool
+        ensures { result ≡ begins_inside self.now «data».now }
+    {
+        (self.at as usize) < data.len().saturating_mul(8)
+    }
+
+    /// The bytes from that of the field's first bit on.
+    fn front<'a>(&self, data: &'a [u8]) -> &'a [u8]
+        requires { self.now.at ≤ 8 * length «data».now }
+        ensures { result.now ≡ drop (self.now.at / 8) «data».now }
+    {
+        &data[self.at as usize / 8..]
+    }
+
+    /// What a field shows that ends behind the data: a short one what is there of it.
+    fn part<'a>(&self, data: &'a [u8]) -> Shown<'a>
+        ensures { shown_parts result ≡ shown_part self.now «data».now }
+    {
+        if !self.short || !self.begins_inside(data) {
+            return Shown::Absent;
+        }
+        match &self.meaning {
+            Meaning::Text => text_value(self.front(data)).shown(),
+            Meaning::Bytes => Shown::Bytes(self.front(data)),
+            _ => Shown::Absent,
+        }
+    }
+
+    /// Whether it stands behind no string, and lies wholly inside the data.
+    #[inline(always)]
+    fn stands_inside(&self, data: &[u8]) -> bool
+        ensures { result ≡ stands_inside self.now «data».now }
+    {
+        self.end <= data.len()
+    }
+
+    /// What the field shows of the data of a message or of a set, where many fields show such; else `shown` says it. Each
     /// answer is returned where it is made, so that none is put together in memory.
     #[inline(always)]
     pub(crate) fn value<'a>(&'a self, data: &'a [u8]) -> FieldValue<'a>
-        ensures { value_parts result ≡ shown self.now «data».now }
+        ensures { IfSome (value_parts result) (λ parts. parts ≡ shown self.now «data».now) }
     {
-        if !self.lies_inside(data) {
+        if !self.stands_inside(data) {
+            if self.short || !self.behind.is_empty() {
+                return FieldValue::Seldom;
+            }
             return FieldValue::Absent;
         }
         match &self.meaning {
@@ -131,6 +190,52 @@ impl Field {
             }
             Meaning::Text => return text_value(self.bytes(data)),
             Meaning::Bytes => return FieldValue::Bytes(self.bytes(data)),
+            Meaning::Shifted(_) | Meaning::Flags(_) | Meaning::Digits | Meaning::String(_) => {
+                return FieldValue::Seldom;
+            }
+        }
+    }
+
+    /// What the field shows of the data from where its place counts: where it does not lie wholly inside, nothing, or
+    /// what is there of a short one.
+    fn shown_from<'a>(&'a self, data: &'a [u8]) -> Shown<'a>
+        ensures { shown_parts result ≡ shown_from self.now «data».now }
+    {
+        if !self.lies_inside(data) {
+            return self.part(data);
+        }
+        match &self.meaning {
+            Meaning::Number(scale) => {
+                let raw = raw_with_mask(data, self.at, self.bits, scale.max_raw);
+                return scale.number(raw).shown();
+            }
+            Meaning::Lookup(lookup) => {
+                let raw = raw(data, self.at, self.bits);
+                return name_value(lookup.name_of(raw), self.bits, raw).shown();
+            }
+            Meaning::Shifted(shift) => {
+                return shift.shown(raw(data, self.at, self.bits));
+            }
+            Meaning::Text => return text_value(self.bytes(data)).shown(),
+            Meaning::Bytes => return Shown::Bytes(self.bytes(data)),
+            Meaning::Digits => return digits_value(self.bytes(data)),
+            Meaning::String(form) => return string_value(*form, self.short, self.front(data)),
+            Meaning::Flags(lookup) => {
+                let raw = raw(data, self.at, self.bits);
+                return flags_value(lookup, self.bits, raw);
+            }
+        }
+    }
+
+    /// What the field shows of the data of a message or of a set: nothing where a string before it has no end. It is not
+    /// inlined: a line asks for it where few fields show such.
+    #[inline(never)]
+    pub(crate) fn shown<'a>(&'a self, data: &'a [u8]) -> Shown<'a>
+        ensures { shown_parts result ≡ shown self.now «data».now }
+    {
+        match data_behind(&self.behind, data) {
+            Some(rest) => self.shown_from(rest),
+            None => Shown::Absent,
         }
     }
 }

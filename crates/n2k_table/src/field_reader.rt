@@ -1,28 +1,34 @@
 //! A field, as a table spells it.
-ghost use Rattle.std.specs.Prelude.{◌≡◌, ℕ, ◌≤◌, ◌<◌, ◌+◌, ◌%◌, codes, true, IfOk, IfSome};
+ghost use Rattle.std.specs.Prelude.{◌≡◌, ℕ, ◌≤◌, ◌<◌, ◌+◌, ◌%◌, codes, true, option_map, IfOk, IfSome};
+ghost use Rattle.std.specs.List.{find};
 ghost use Rattle.toml.specs.Data.{get_member};
 ghost use Rattle.toml.specs.View.{view, table_view};
 ghost use Rattle.n2k_wire.specs.Views.{Gives};
 ghost use Rattle.n2k_table.specs.Inner.Line.{key_json};
-ghost use Rattle.n2k_table.specs.Inner.Kept.{meaning as seen_meaning, HasRoom};
+ghost use Rattle.n2k_table.specs.Inner.Kept.{meaning as seen_meaning, HasRoom, HasBits};
 ghost use Rattle.n2k_table.specs.Reading.{ReaderGives};
-ghost use Rattle.n2k_table.specs.Tree.{message_bits, end_of};
-ghost use Rattle.n2k_table.specs.Field.{named_field_kind, kind_of_field, alignment, most_bits, multiple_of, span};
-ghost use Rattle.n2k_table.specs.Field.{number_of_bits, named_by, meaning_of, raw_or_none, match_value_of, field};
+ghost use Rattle.n2k_table.specs.Tree.{has_bits, message_bits, end_of};
+ghost use Rattle.n2k_table.specs.Field.{named_field_kind, more_field_kind, kind_of_field, alignment, last_bit, most_bits};
+ghost use Rattle.n2k_table.specs.Field.{multiple_of, first_bit, bit_count, bits_of, is_string_named};
+ghost use Rattle.n2k_table.specs.Field.{steps_through, steps_of, fixed_place, check_end, offset_in_range, offset_number};
+ghost use Rattle.n2k_table.specs.Field.{check_unit, number_of_bits, lookup_named, named_form, form_of, meaning_of, short_of};
+ghost use Rattle.n2k_table.specs.Field.{raw_or_none, match_value_of, field};
 
 use crate::bits::greatest;
 use crate::fault::TableFault;
 use crate::field::{Field, Meaning};
-use crate::lookup::Lookups;
-use crate::number::Scale;
+use crate::lookup::{Lookup, Lookups};
+use crate::number::{Scale, Shift};
 use crate::padded_text::PaddedText;
-use crate::resolution::resolution_at;
+use crate::resolution::{Resolution, resolution_at};
+use crate::string_place::{Form, Step, bytes_needed};
 use crate::text::push_json;
 use crate::tree::{
-    FieldKind, Holder, MESSAGE_BITS, Section, any_text_at, as_members, bool_at, check_keys, get,
-    int_at, text_at,
+    FieldKind, Holder, MESSAGE_BITS, Section, TableFormat, any_text_at, as_members, bool_at,
+    check_keys, checked_text, get, int_at, text_at,
 };
 use std::alloc::{AllocError, Global};
+use std::rc::Rc;
 use toml::{Table, Value};
 
 /// The last bit at which a field may begin.
@@ -31,32 +37,53 @@ pub(crate) const LAST_BIT: u32 = 1783;
 /// The most bits of a number.
 pub(crate) const MOST_NUMBER_BITS: u32 = 64;
 
+/// The most bits of a flags field.
+pub(crate) const MOST_FLAGS: u32 = 64;
+
 /// The most bits of a lookup field.
 pub(crate) const MOST_LOOKUP_BITS: u32 = 32;
 
-/// Where bits stand: the first of them, and how many there are.
-#[derive(Clone, Copy)]
-pub(crate) struct Span {
-    pub(crate) at: u32,
-    pub(crate) bits: u32,
+/// The greatest offset; the least is as far below zero and one more.
+pub(crate) const GREATEST_OFFSET: i64 = 4294967295;
+
+/// The kinds that only a table of format 3 may have; a set has no strings.
+fn more_field_kind(holder: Holder, name: &str) -> Result<FieldKind, TableFault>
+    ensures { Gives (λ kind. kind) result (more_field_kind holder name.now) }
+{
+    match name {
+        "flags" => Ok(FieldKind::Flags),
+        "digits" => Ok(FieldKind::Digits),
+        "string" if holder.can_have_strings() => Ok(FieldKind::String),
+        _ => Err(TableFault::Text),
+    }
 }
 
-fn named_field_kind(name: &str) -> Result<FieldKind, TableFault>
-    ensures { Gives (λ kind. kind) result (named_field_kind name.now) }
+/// The kinds of fields of a message or of a set in a table of this format.
+fn named_field_kind(
+    format: TableFormat,
+    holder: Holder,
+    name: &str,
+) -> Result<FieldKind, TableFault>
+    ensures { Gives (λ kind. kind) result (named_field_kind format holder name.now) }
 {
     match name {
         "number" => Ok(FieldKind::Number),
         "lookup" => Ok(FieldKind::Lookup),
         "text" => Ok(FieldKind::Text),
         "bytes" => Ok(FieldKind::Bytes),
+        _ if format.is_extended() => more_field_kind(holder, name),
         _ => Err(TableFault::Text),
     }
 }
 
-fn kind_of_field(table: &Table) -> Result<FieldKind, TableFault>
-    ensures { Gives (λ kind. kind) result (kind_of_field (table_view table.now)) }
+fn kind_of_field(
+    format: TableFormat,
+    holder: Holder,
+    table: &Table,
+) -> Result<FieldKind, TableFault>
+    ensures { Gives (λ kind. kind) result (kind_of_field format holder (table_view table.now)) }
 {
-    named_field_kind(any_text_at(table, "kind")?)
+    named_field_kind(format, holder, any_text_at(table, "kind")?)
 }
 
 /// Of what number of bits the place of a field is a multiple.
@@ -65,8 +92,8 @@ fn alignment(kind: FieldKind) -> u32
     ensures some { 0 < result }
 {
     match kind {
-        FieldKind::Number | FieldKind::Lookup => 1,
-        FieldKind::Text | FieldKind::Bytes => 8,
+        FieldKind::Number | FieldKind::Lookup | FieldKind::Flags => 1,
+        FieldKind::Text | FieldKind::Bytes | FieldKind::Digits | FieldKind::String => 8,
     }
 }
 
@@ -77,7 +104,9 @@ fn most_bits(kind: FieldKind) -> u32
     match kind {
         FieldKind::Number => MOST_NUMBER_BITS,
         FieldKind::Lookup => MOST_LOOKUP_BITS,
-        FieldKind::Text | FieldKind::Bytes => MESSAGE_BITS,
+        FieldKind::Text | FieldKind::Bytes | FieldKind::Digits => MESSAGE_BITS,
+        FieldKind::Flags => MOST_FLAGS,
+        FieldKind::String => 0,
     }
 }
 
@@ -94,27 +123,157 @@ fn multiple_of(alignment: u32, number: u32) -> Result<u32, TableFault>
     }
 }
 
-/// Where bits stand: at multiples of the alignment, so many at most, and none past the end.
-#[tactic(auto, unfolding(crate::specs::Field::span))]
-pub(crate) fn span_at(
-    table: &Table,
-    alignment: u32,
-    most: u32,
-    end: u32,
-) -> Result<Span, TableFault>
-    requires some { 0 < alignment }
-    requires room { most ≤ message_bits }
-    ensures value { Gives (λ span. span) result (span alignment most end (table_view table.now)) }
-    ensures range { IfOk result (λ span. (1 ≤ span.bits) × (span.bits ≤ most)) }
-    ensures inside { IfOk result (λ span. span.at + span.bits ≤ end) }
-    ensures aligned { IfOk result (λ span. (span.at % alignment ≡ 0) × (span.bits % alignment ≡ 0)) }
+/// The first bit, a multiple of the alignment.
+pub(crate) fn first_bit(table: &Table, alignment: u32) -> Result<u32, TableFault>
+    requires { 0 < alignment }
+    ensures value { Gives (λ at. at) result (first_bit alignment (table_view table.now)) }
+    ensures range { IfOk result (λ at. at ≤ last_bit) }
+    ensures aligned { IfOk result (λ at. at % alignment ≡ 0) }
 {
-    let at = multiple_of(alignment, int_at(table, "at", 0, LAST_BIT)?)?;
-    let bits = multiple_of(alignment, int_at(table, "bits", 1, most)?)?;
-    if at + bits > end {
+    multiple_of(alignment, int_at(table, "at", 0, LAST_BIT)?)
+}
+
+/// How many bits there are: a multiple of the alignment, and so many at most.
+pub(crate) fn bit_count(table: &Table, alignment: u32, most: u32) -> Result<u32, TableFault>
+    requires { 0 < alignment }
+    ensures value { Gives (λ bits. bits) result (bit_count alignment most (table_view table.now)) }
+    ensures range { IfOk result (λ bits. (1 ≤ bits) × (bits ≤ most)) }
+    ensures aligned { IfOk result (λ bits. bits % alignment ≡ 0) }
+{
+    multiple_of(alignment, int_at(table, "bits", 1, most)?)
+}
+
+/// How many bits a field has; a string has none.
+fn bits_of(kind: FieldKind, table: &Table) -> Result<u32, TableFault>
+    ensures value { Gives (λ bits. bits) result (bits_of kind (table_view table.now)) }
+    ensures range { IfOk result (λ bits. HasBits kind bits) }
+    ensures room { IfOk result (λ bits. bits ≤ message_bits) }
+{
+    if !kind.has_bits() {
+        return Ok(0);
+    }
+    bit_count(table, alignment(kind), most_bits(kind))
+}
+
+/// Whether the field is a string of that name.
+fn is_string_named(field: &Field, name: &str) -> bool
+    ensures { result ≡ is_string_named name.now field.now }
+{
+    match field.meaning {
+        Meaning::String(_) => name == field.name(),
+        _ => false,
+    }
+}
+
+/// The string of that name among these fields.
+fn string_named<'a>(before: &'a [Field], name: &str) -> Option<&'a Field>
+    ensures { option_map (λ field. field.now) result ≡ find (is_string_named name.now) before.now }
+{
+    before.iter().find(|field| is_string_named(field, name))
+}
+
+/// The strings behind which a field stands that stands behind this one, from the first on.
+fn steps_through(alloc: Global, earlier: &Field) -> Result<Vec<Step>, AllocError>
+    ensures value { IfOk result (λ steps. steps.items ≡ steps_through earlier.now) }
+    ensures room { IfOk result (λ steps. fixed_place steps.items 0 ≤ message_bits) }
+{
+    let mut steps = Vec::with_capacity(alloc, earlier.behind.len().saturating_add(1))?;
+    steps.extend_from_slice(earlier.behind.as_slice())?;
+    if let Meaning::String(form) = earlier.meaning {
+        steps.push(Step {
+            at: earlier.at,
+            form,
+        })?;
+    }
+    Ok(steps)
+}
+
+/// The strings behind which a field stands that names one of those read before it. A field that asks for a value names
+/// none.
+fn steps_of(alloc: Global, before: &[Field], table: &Table) -> Result<Vec<Step>, TableFault>
+    ensures value { ReaderGives (λ steps. steps.items) result (steps_of before.now (table_view table.now)) }
+    ensures room { IfOk result (λ steps. fixed_place steps.items 0 ≤ message_bits) }
+{
+    let Some(value) = get(table, "after") else {
+        return Ok(Vec::new(alloc));
+    };
+    if get(table, "match").is_some() {
+        return Err(TableFault::Key);
+    }
+    let name = checked_text(value.as_str().ok_or(TableFault::Key)?)?;
+    let earlier = string_named(before, name).ok_or(TableFault::Lookup)?;
+    Ok(steps_through(alloc, earlier)?)
+}
+
+/// Where a place behind these strings would be if they took no bytes.
+fn fixed_place(behind: &[Step], at: u32) -> u32
+    requires { at + fixed_place behind.now 0 ≤ message_bits + last_bit }
+    ensures value { result ≡ fixed_place behind.now at }
+    ensures later { result ≡ at + fixed_place behind.now 0 }
+{
+    let mut place = at;
+    for step in behind {
+        place += step.at;
+    }
+    place
+}
+
+/// Refuses bits at a place behind strings that end past the end, as far as the table says it.
+pub(crate) fn check_end(behind: &[Step], at: u32, bits: u32, end: u32) -> Result<(), TableFault>
+    requires before { fixed_place behind.now 0 ≤ message_bits }
+    requires at { at ≤ last_bit }
+    requires bits { bits ≤ message_bits }
+    ensures value { Gives (λ done. done) result (check_end behind.now at bits end) }
+    ensures fixed { IfOk result (λ _. fixed_place behind.now at + bits ≤ end) }
+    ensures inside { IfOk result (λ _. at + bits ≤ end) }
+{
+    if fixed_place(behind, at) + bits > end {
         return Err(TableFault::Range);
     }
-    Ok(Span { at, bits })
+    Ok(())
+}
+
+fn offset_in_range(integer: i64) -> Result<i64, TableFault>
+    ensures { Gives (λ offset. offset) result (offset_in_range integer) }
+{
+    if integer > GREATEST_OFFSET || integer < -1 - GREATEST_OFFSET {
+        return Err(TableFault::Range);
+    }
+    Ok(integer)
+}
+
+/// What a number of that resolution means, by what stands at `offset`, if something does.
+fn offset_number(
+    signed: bool,
+    bits: u32,
+    resolution: Resolution,
+    table: &Table,
+) -> Result<Meaning, TableFault>
+    requires some { 1 ≤ bits }
+    requires room { bits ≤ 64 }
+    ensures value { Gives seen_meaning result
+        (offset_number signed resolution (get_member (codes "offset") (table_view table.now))) }
+    ensures room { IfOk result (λ meaning. HasRoom meaning bits) }
+{
+    let Some(value) = get(table, "offset") else {
+        return Ok(Meaning::Number(Scale::new(signed, bits, resolution)));
+    };
+    if signed {
+        return Err(TableFault::Key);
+    }
+    let offset = offset_in_range(value.as_integer().ok_or(TableFault::Key)?)?;
+    Ok(Meaning::Shifted(Shift::new(offset, bits, resolution)))
+}
+
+/// Refuses a unit that is no text of 1 to 255 bytes.
+fn check_unit(table: &Table) -> Result<(), TableFault>
+    ensures { Gives (λ done. done) result (check_unit (get_member (codes "unit") (table_view table.now))) }
+{
+    let Some(value) = get(table, "unit") else {
+        return Ok(());
+    };
+    checked_text(value.as_str().ok_or(TableFault::Key)?)?;
+    Ok(())
 }
 
 #[tactic(auto, unfolding(crate::specs::Field::number_of_bits))]
@@ -129,18 +288,36 @@ fn number_of_bits(bits: u32, table: &Table) -> Result<Meaning, TableFault>
         return Err(TableFault::Range);
     }
     let resolution = resolution_at(table)?;
-    Ok(Meaning::Number(Scale::new(signed, bits, resolution)))
+    let meaning = offset_number(signed, bits, resolution, table)?;
+    check_unit(table)?;
+    Ok(meaning)
 }
 
-/// What a field means by the lookup that it names.
-#[tactic(auto, unfolding(crate::specs::Field::named_by))]
-fn named_by(lookups: &Lookups, table: &Table) -> Result<Meaning, TableFault>
-    ensures value { ReaderGives seen_meaning result (named_by lookups.now (table_view table.now)) }
-    ensures room { IfOk result (λ meaning. (bits : ℕ) → bits ≤ 64 → HasRoom meaning bits) }
+/// The lookup that a field names.
+#[tactic(auto, unfolding(crate::specs::Field::lookup_named))]
+fn lookup_named(lookups: &Lookups, table: &Table) -> Result<Rc<Lookup>, TableFault>
+    ensures { ReaderGives (λ lookup. lookup.value) result (lookup_named lookups.now (table_view table.now)) }
 {
     let name = text_at(table, "lookup")?;
     let lookup = lookups.find(name).ok_or(TableFault::Lookup)?;
-    Ok(Meaning::Lookup(lookup.clone()?))
+    Ok(lookup.clone()?)
+}
+
+fn named_form(name: &str) -> Result<Form, TableFault>
+    ensures { Gives (λ form. form) result (named_form name.now) }
+{
+    match name {
+        "lau" => Ok(Form::Lau),
+        "lz" => Ok(Form::Lz),
+        _ => Err(TableFault::Text),
+    }
+}
+
+/// How a string says how long it is.
+fn form_of(table: &Table) -> Result<Form, TableFault>
+    ensures { Gives (λ form. form) result (form_of (table_view table.now)) }
+{
+    named_form(any_text_at(table, "form")?)
 }
 
 /// What so many bits of a field of that kind mean, in a table of these lookups.
@@ -150,16 +327,18 @@ fn meaning_of(
     bits: u32,
     table: &Table,
 ) -> Result<Meaning, TableFault>
-    requires some { 1 ≤ bits }
-    requires room { bits ≤ most_bits kind }
+    requires { HasBits kind bits }
     ensures value { ReaderGives seen_meaning result (meaning_of lookups.now kind bits (table_view table.now)) }
     ensures room { IfOk result (λ meaning. HasRoom meaning bits) }
 {
     match kind {
         FieldKind::Number => number_of_bits(bits, table),
-        FieldKind::Lookup => named_by(lookups, table),
+        FieldKind::Lookup => Ok(Meaning::Lookup(lookup_named(lookups, table)?)),
         FieldKind::Text => Ok(Meaning::Text),
         FieldKind::Bytes => Ok(Meaning::Bytes),
+        FieldKind::Flags => Ok(Meaning::Flags(lookup_named(lookups, table)?)),
+        FieldKind::Digits => Ok(Meaning::Digits),
+        FieldKind::String => Ok(Meaning::String(form_of(table)?)),
     }
 }
 
@@ -186,15 +365,24 @@ fn match_value_of(
     bits: u32,
     table: &Table,
 ) -> Result<Option<u64>, TableFault>
-    requires some { 1 ≤ bits }
-    requires room { bits ≤ most_bits kind }
+    requires { HasBits kind bits }
     ensures value { Gives (λ value. value) result (match_value_of kind holder bits (table_view table.now)) }
-    ensures room { IfOk result (λ value. IfSome value (λ _. bits ≤ 64)) }
+    ensures room { IfOk result (λ value. IfSome value (λ _. (1 ≤ bits) × (bits ≤ 64))) }
 {
     if !kind.can_match(holder) {
         return Ok(None);
     }
     match_at(bits, table)
+}
+
+/// Whether a field may be short, which only some may.
+fn short_of(kind: FieldKind, holder: Holder, table: &Table) -> Result<bool, TableFault>
+    ensures { Gives (λ short. short) result (short_of kind holder (table_view table.now)) }
+{
+    if !kind.can_be_short(holder) {
+        return Ok(false);
+    }
+    bool_at(table, "short")
 }
 
 /// What stands before the value of a field in a line, behind a comma. It is put together in a room that serves many.
@@ -208,30 +396,41 @@ fn key_of(alloc: Global, name: &str, room: &mut Vec<u8>) -> Result<PaddedText, A
     PaddedText::new(alloc, room.as_slice())
 }
 
-/// Reads a field of a message or of a set, in a table of these lookups. In the room its key is put together.
+/// Reads a field of a message or of a set behind these, in a table of this format and of these lookups. In the room its
+/// key is put together.
 #[tactic(auto, unfolding(crate::specs::Field::field))]
 pub(crate) fn read_field(
     alloc: Global,
     lookups: &Lookups,
+    format: TableFormat,
     holder: Holder,
+    before: &[Field],
     value: &Value,
     room: &mut Vec<u8>,
 ) -> Result<Field, TableFault>
     requires { end_of holder ≤ message_bits }
-    ensures { ReaderGives (λ field. field) result (field holder lookups.now (view value.now)) }
+    ensures { ReaderGives (λ field. field) result (field format holder lookups.now before.now (view value.now)) }
 {
     let table = as_members(value)?;
-    let kind = kind_of_field(table)?;
-    check_keys(table, Section::Field(kind, holder))?;
+    let kind = kind_of_field(format, holder, table)?;
+    check_keys(table, Section::Field(format, kind, holder))?;
     let name = text_at(table, "name")?;
-    let span = span_at(table, alignment(kind), most_bits(kind), holder.end())?;
-    let meaning = meaning_of(lookups, kind, span.bits, table)?;
-    let match_value = match_value_of(kind, holder, span.bits, table)?;
+    let at = first_bit(table, alignment(kind))?;
+    let bits = bits_of(kind, table)?;
+    let behind = steps_of(alloc, before, table)?;
+    check_end(&behind, at, bits, holder.end())?;
+    let meaning = meaning_of(lookups, kind, bits, table)?;
+    let short = short_of(kind, holder, table)?;
+    let match_value = match_value_of(kind, holder, bits, table)?;
+    let end = bytes_needed(&behind, at, bits);
     Ok(Field {
         name: String::from_str(alloc, name)?,
         key: key_of(alloc, name, room)?,
-        at: span.at,
-        bits: span.bits,
+        at,
+        bits,
+        end,
+        short,
+        behind,
         meaning,
         match_value,
     })

@@ -1,7 +1,9 @@
 //! What a field shows, as it is printed.
-ghost use Rattle.std.specs.Prelude.{◌≡◌, ◌≤◌, option_map};
+ghost use Rattle.std.specs.Prelude.{◌≡◌, ◌≤◌, option_map, Some, IfSome};
 ghost use Rattle.n2k_table.specs.Inner.FieldValue.{value_parts};
+ghost use Rattle.std.specs.List.{list_all};
 ghost use Rattle.n2k_table.specs.Shown.{shown_parts, shown_name, shown_text, is_filling, trimmed};
+ghost use Rattle.n2k_table.specs.Shown.{trimmed_of, is_no_digit, is_two_digits, shown_digits};
 
 use crate::bits::greatest;
 use crate::lookup::Name;
@@ -22,12 +24,14 @@ pub(crate) enum FieldValue<'a> {
     Text(&'a [u8]),
     /// Bytes as they are.
     Bytes(&'a [u8]),
+    /// What few fields show: `Field::shown` says it.
+    Seldom,
 }
 
 impl<'a> FieldValue<'a> {
-    /// What it is to a caller of this crate.
+    /// What it is to a caller of this crate, where it says that.
     pub(crate) fn shown(self) -> Shown<'a>
-        ensures { shown_parts result ≡ value_parts self.entry }
+        ensures { IfSome (value_parts self.entry) (λ parts. shown_parts result ≡ parts) }
     {
         match self {
             FieldValue::Absent => Shown::Absent,
@@ -38,6 +42,7 @@ impl<'a> FieldValue<'a> {
             FieldValue::Name(name) => Shown::Name(name.text()),
             FieldValue::Text(text) => Shown::Text(text),
             FieldValue::Bytes(bytes) => Shown::Bytes(bytes),
+            FieldValue::Seldom => Shown::Absent,
         }
     }
 }
@@ -48,7 +53,7 @@ impl<'a> FieldValue<'a> {
 pub(crate) fn name_value<'a>(name: Option<&'a Name>, bits: u32, raw: u64) -> FieldValue<'a>
     requires some { 1 ≤ bits }
     requires room { bits ≤ 64 }
-    ensures { value_parts result ≡ shown_name (option_map (λ n. n.now) name.entry) bits raw }
+    ensures { value_parts result ≡ Some (shown_name (option_map (λ n. n.now) name.entry) bits raw) }
 {
     if let Some(name) = name {
         return FieldValue::Name(name);
@@ -72,7 +77,7 @@ fn is_filling(byte: u8) -> bool
 
 /// A text up to its last byte that does not fill it up.
 #[inline(never)]
-fn trimmed(text: &[u8]) -> &[u8]
+pub(crate) fn trimmed(text: &[u8]) -> &[u8]
     ensures { result.now ≡ trimmed text.now }
 {
     let mut kept = text;
@@ -88,11 +93,51 @@ fn trimmed(text: &[u8]) -> &[u8]
 /// What the bytes of a text show: nothing where all of them fill it up.
 #[inline(always)]
 pub(crate) fn text_value(text: &[u8]) -> FieldValue<'_>
-    ensures { value_parts result ≡ shown_text (trimmed text.now) }
+    ensures { value_parts result ≡ Some (shown_text (trimmed text.now)) }
 {
     let kept = trimmed(text);
     if kept.is_empty() {
         return FieldValue::Absent;
     }
     FieldValue::Text(kept)
+}
+
+fn is_no_digit(byte: u8) -> bool
+    ensures { result ≡ is_no_digit byte }
+{
+    byte == 0xff
+}
+
+/// Bytes without those FF that stand at their end.
+#[inline(never)]
+fn without_ff(bytes: &[u8]) -> &[u8]
+    ensures { result.now ≡ trimmed_of is_no_digit bytes.now }
+{
+    let mut kept = bytes;
+    while let Some((last, front)) = kept.split_last() {
+        if !is_no_digit(*last) {
+            break;
+        }
+        kept = front;
+    }
+    kept
+}
+
+/// Whether each byte is two digits.
+#[inline(never)]
+fn are_digits(bytes: &[u8]) -> bool
+    ensures { result ≡ list_all is_two_digits bytes.now }
+{
+    bytes.iter().all(|byte| *byte <= 99)
+}
+
+/// What bytes of two digits show: nothing where one of them is none, or none is left.
+pub(crate) fn digits_value(bytes: &[u8]) -> Shown<'_>
+    ensures { shown_parts result ≡ shown_digits (trimmed_of is_no_digit bytes.now) }
+{
+    let kept = without_ff(bytes);
+    if kept.is_empty() || !are_digits(kept) {
+        return Shown::Absent;
+    }
+    Shown::Digits(kept)
 }

@@ -1,8 +1,8 @@
 //! The fields of a message or of a set, as a table spells them.
-ghost use Rattle.std.specs.Prelude.{◌≡◌, ◌≤◌, map};
+ghost use Rattle.std.specs.Prelude.{◌≡◌, ◌≤◌, [], map};
 ghost use Rattle.std.specs.List.{list_any};
 ghost use Rattle.toml.specs.View.{view, table_view};
-ghost use Rattle.n2k_table.specs.Reading.{each, ReaderGives};
+ghost use Rattle.n2k_table.specs.Reading.{each_by_earlier, ReaderGives};
 ghost use Rattle.n2k_table.specs.Duplicate.{has_duplicate};
 ghost use Rattle.n2k_table.specs.Tree.{message_bits, end_of};
 ghost use Rattle.n2k_table.specs.Field.{field};
@@ -13,7 +13,7 @@ use crate::field::Field;
 use crate::field_reader::read_field;
 use crate::lookup::Lookups;
 use crate::text::NAME_ROOM;
-use crate::tree::{Holder, elements_at};
+use crate::tree::{Holder, TableFormat, elements_at};
 use std::alloc::Global;
 use toml::{Table, Value};
 
@@ -41,37 +41,41 @@ pub(crate) fn is_named(fields: &[Field], name: &str) -> bool
     fields.iter().any(|field| name == field.name())
 }
 
-/// Each of these values as a field.
+/// Each of these values as a field, behind those before it.
 fn each_field(
     alloc: Global,
     lookups: &Lookups,
+    format: TableFormat,
     holder: Holder,
     values: &[Value],
 ) -> Result<Vec<Field>, TableFault>
     requires { end_of holder ≤ message_bits }
-    ensures { ReaderGives (λ fields. fields.items) result (each (field holder lookups.now) (map view values.now)) }
+    ensures { ReaderGives (λ fields. fields.items) result
+        (each_by_earlier (field format holder lookups.now) [] (map view values.now)) }
 {
     let mut room = Vec::with_capacity(alloc, NAME_ROOM)?;
     let mut fields = Vec::with_capacity(alloc, values.len())?;
     for value in values {
-        fields.push(read_field(alloc, lookups, holder, value, &mut room)?)?;
+        let field = read_field(alloc, lookups, format, holder, &fields, value, &mut room)?;
+        fields.push(field)?;
     }
     Ok(fields)
 }
 
-/// Reads the fields of a message or of a set, in a table of these lookups.
+/// Reads the fields of a message or of a set, in a table of this format and of these lookups.
 #[tactic(auto, unfolding(crate::specs::Fields::fields))]
 pub(crate) fn read_fields(
     alloc: Global,
     lookups: &Lookups,
+    format: TableFormat,
     holder: Holder,
     table: &Table,
 ) -> Result<Vec<Field>, TableFault>
     requires { end_of holder ≤ message_bits }
-    ensures { ReaderGives (λ fields. fields.items) result (fields holder lookups.now (table_view table.now)) }
+    ensures { ReaderGives (λ fields. fields.items) result (fields format holder lookups.now (table_view table.now)) }
 {
     let values = elements_at(table, "fields", MOST_FIELDS)?;
-    let fields = each_field(alloc, lookups, holder, values)?;
+    let fields = each_field(alloc, lookups, format, holder, values)?;
     if has_duplicate(&fields) {
         return Err(TableFault::Twice);
     }

@@ -3,9 +3,10 @@ ghost use Rattle.std.specs.Prelude.{◌≡◌, ◌<◌, length, option_map, IfOk
 ghost use Rattle.std.specs.List.{find};
 ghost use Rattle.n2k_table.specs.Duplicate.{has_duplicate};
 ghost use Rattle.n2k_table.specs.Table.{are_mixed, is_of};
-ghost use Rattle.n2k_table.specs.Inner.Index.{pgns, places_in, differs, GainsPlace, IsIndex};
+ghost use Rattle.n2k_table.specs.Inner.Index.{candidates_in, differs, GainsCandidate, IsIndex};
 
 use crate::definition::StoredDefinition;
+use crate::glance::{Glance, glance_of};
 use indexmap::IndexMap;
 use std::alloc::{AllocError, Global};
 use std::marker::Model;
@@ -13,13 +14,21 @@ use std::marker::Model;
 /// How many PGNs are told apart without a hash.
 const QUICK: usize = 8192;
 
-/// For each PGN the places of its definitions, in file order.
-type PlacesByPgn = IndexMap<u32, Vec<usize>>;
+/// The place of a definition, and what it asks of the first eight bytes, so that most of those that don't describe a
+/// message are passed over without a look at their fields.
+#[derive(Clone, Copy)]
+pub(crate) struct Candidate {
+    pub(crate) place: usize,
+    pub(crate) glance: Glance,
+}
+
+/// For each PGN its definitions, in file order.
+type CandidatesByPgn = IndexMap<u32, Vec<Candidate>>;
 
 /// Where the definitions of each PGN stand.
 #[derive(Drop)]
 pub(crate) struct Index {
-    places: PlacesByPgn,
+    candidates: CandidatesByPgn,
     /// For the mixed bits of a PGN where it may stand in the map. Whoever goes by it compares the PGN; that costs less
     /// than a hash.
     quick: Vec<u16>,
@@ -28,35 +37,50 @@ pub(crate) struct Index {
 impl Model for Index {
     ghost use Rattle.std.specs.Prelude.{◌≡◌, List, ℕ, Vec, length};
     ghost use Rattle.std.specs.declared.alloc.Global.{Global};
+    ghost use Rattle.n2k_table.specs.declared.index.Candidate.{Candidate};
 
-    ghost Value = { List (ℕ × Vec ℕ Global) };
+    ghost Value = { List (ℕ × Vec Candidate Global) };
 
-    ghost view = { λ i. i.places.entries };
+    ghost view = { λ i. i.candidates.entries };
 
     ghost invariant = { λ i. length i.quick.items ≡ 8192 };
 }
 
-/// Notes one more place of a PGN, behind those before it.
-fn note(alloc: Global, places: &mut PlacesByPgn, pgn: u32, place: usize) -> Result<(), AllocError>
-    ensures { OnOk result (GainsPlace places.old.entries places.new.entries pgn place) }
+/// Notes one more candidate of a PGN, behind those before it.
+fn note(
+    alloc: Global,
+    candidates: &mut CandidatesByPgn,
+    pgn: u32,
+    candidate: Candidate,
+) -> Result<(), AllocError>
+    ensures { OnOk result (GainsCandidate candidates.old.entries candidates.new.entries pgn candidate) }
 {
-    if let Some(places) = places.get_mut(&pgn) {
-        places.push(place)?;
+    if let Some(candidates) = candidates.get_mut(&pgn) {
+        candidates.push(candidate)?;
     } else {
-        places.insert(pgn, Vec::from_array(alloc, [place])?)?;
+        candidates.insert(pgn, Vec::from_array(alloc, [candidate])?)?;
     }
     Ok(())
 }
 
-/// The places of all definitions.
-fn all_places(alloc: Global, definitions: &[StoredDefinition]) -> Result<PlacesByPgn, AllocError>
-    ensures { IfOk result (λ places. IsIndex places.entries (pgns definitions.now)) }
+/// A candidate for each definition.
+fn all_candidates(
+    alloc: Global,
+    definitions: &[StoredDefinition],
+) -> Result<CandidatesByPgn, AllocError>
+    ensures { IfOk result (λ candidates. IsIndex candidates.entries definitions.now) }
 {
-    let mut places = IndexMap::new(alloc);
+    let mut candidates = IndexMap::new(alloc);
     for (place, definition) in definitions.iter().enumerate() {
-        note(alloc, &mut places, definition.pgn(), place)?;
+        let glance = glance_of(definition.fields());
+        note(
+            alloc,
+            &mut candidates,
+            definition.pgn(),
+            Candidate { place, glance },
+        )?;
     }
-    Ok(places)
+    Ok(candidates)
 }
 
 /// The bits of a PGN by which it is told apart: its lowest 13, changed by those above them. By the lowest alone PGNs
@@ -69,11 +93,11 @@ fn slot_of(pgn: u32) -> usize
 }
 
 /// Where each PGN stands in the map, by its mixed bits; the last of those that have the same.
-fn quick_of(alloc: Global, places: &PlacesByPgn) -> Result<Vec<u16>, AllocError>
+fn quick_of(alloc: Global, candidates: &CandidatesByPgn) -> Result<Vec<u16>, AllocError>
     ensures { IfOk result (λ quick. length quick.items ≡ 8192) }
 {
     let mut quick = vec![in alloc; 0u16; QUICK]?;
-    for (at, pgn) in places.keys().enumerate() {
+    for (at, pgn) in candidates.keys().enumerate() {
         if let Ok(at) = u16::try_from(at) {
             quick[slot_of(*pgn)] = at;
         }
@@ -81,34 +105,34 @@ fn quick_of(alloc: Global, places: &PlacesByPgn) -> Result<Vec<u16>, AllocError>
     Ok(quick)
 }
 
-/// The places of all definitions.
+/// Where all definitions stand.
 pub(crate) fn index_of(alloc: Global, definitions: &[StoredDefinition]) -> Result<Index, AllocError>
-    ensures { IfOk result (λ index. IsIndex index (pgns definitions.now)) }
+    ensures { IfOk result (λ index. IsIndex index definitions.now) }
 {
-    let places = all_places(alloc, definitions)?;
-    let quick = quick_of(alloc, &places)?;
-    Ok(Index { places, quick })
+    let candidates = all_candidates(alloc, definitions)?;
+    let quick = quick_of(alloc, &candidates)?;
+    Ok(Index { candidates, quick })
 }
 
-/// The places of a PGN, found by its hash. It is not inlined: few PGNs are looked up so.
+/// The candidates of a PGN, found by its hash. It is not inlined: few PGNs are looked up so.
 #[inline(never)]
-fn places_by_hash(places: &PlacesByPgn, pgn: u32) -> &[usize]
-    ensures { result.now ≡ places_in places.now.entries pgn }
+fn candidates_by_hash(candidates: &CandidatesByPgn, pgn: u32) -> &[Candidate]
+    ensures { result.now ≡ candidates_in candidates.now.entries pgn }
 {
-    match places.get(&pgn) {
-        Some(places) => places.as_slice(),
+    match candidates.get(&pgn) {
+        Some(candidates) => candidates.as_slice(),
         None => &[],
     }
 }
 
-/// The places of a PGN, none where the table doesn't have it.
-pub(crate) fn places_at(index: &Index, pgn: u32) -> &[usize]
-    ensures { result.now ≡ places_in index.now pgn }
+/// The candidates of a PGN, none where the table doesn't have it.
+pub(crate) fn candidates_at(index: &Index, pgn: u32) -> &[Candidate]
+    ensures { result.now ≡ candidates_in index.now pgn }
 {
     let at = index.quick[slot_of(pgn)];
-    match index.places.get_index(usize::from(at)) {
-        Some((found, places)) if *found == pgn => places.as_slice(),
-        _ => places_by_hash(&index.places, pgn),
+    match index.candidates.get_index(usize::from(at)) {
+        Some((found, candidates)) if *found == pgn => candidates.as_slice(),
+        _ => candidates_by_hash(&index.candidates, pgn),
     }
 }
 
@@ -118,15 +142,15 @@ fn first_of<'a>(
     definitions: &'a [StoredDefinition],
     pgn: u32,
 ) -> Option<&'a StoredDefinition>
-    requires { IsIndex index.now (pgns definitions.now) }
+    requires { IsIndex index.now definitions.now }
     ensures { option_map (λ d. d.now) result ≡ find (is_of pgn) definitions.now }
 {
-    definitions.get(*places_at(index, pgn).first()?)
+    definitions.get(candidates_at(index, pgn).first()?.place)
 }
 
 /// Whether a definition has another kind than the first of its PGN.
 fn differs(index: &Index, definitions: &[StoredDefinition], definition: &StoredDefinition) -> bool
-    requires { IsIndex index.now (pgns definitions.now) }
+    requires { IsIndex index.now definitions.now }
     ensures { result ≡ differs definitions.now definition.now }
 {
     match first_of(index, definitions, definition.pgn()) {
@@ -138,7 +162,7 @@ fn differs(index: &Index, definitions: &[StoredDefinition], definition: &StoredD
 /// Whether two definitions of one PGN have different kinds. Then one of them has another than the first of the PGN, so
 /// that not each pair has to be looked at.
 pub(crate) fn has_mixed(index: &Index, definitions: &[StoredDefinition]) -> bool
-    requires { IsIndex index.now (pgns definitions.now) }
+    requires { IsIndex index.now definitions.now }
     ensures { result ≡ has_duplicate are_mixed definitions.now }
 {
     for definition in definitions {

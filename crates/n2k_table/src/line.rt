@@ -1,23 +1,29 @@
 //! The JSON line of a message.
 ghost use Rattle.std.specs.Prelude.{◌≡◌, ◌++◌, ◌+◌, ◌*◌, ◌≤◌, ◌||◌, true, is_some, nat_lt, codes, if◌then◌else◌};
 ghost use Rattle.std.specs.Prelude.{decimal, length, map, IfOk, IfSome, OnOk, OnErr, Some};
-ghost use Rattle.n2k_table.specs.Shown.{shown, all_shown};
+ghost use Rattle.n2k_table.specs.Shown.{shown, all_shown, flags_left};
 ghost use Rattle.std.specs.List.{flat_map, join_with_byte};
 ghost use Rattle.n2k_table.specs.Repeat.{set_shown, all_sets};
+ghost use Rattle.n2k_table.specs.Inner.FieldValue.{named_bit};
+ghost use Rattle.n2k_table.specs.Json.{array, flag_json};
 ghost use Rattle.n2k_table.specs.Json.{comma, member_json, members, set_json, list_json, message_members};
 ghost use Rattle.n2k_table.specs.Json.{unmatched_json, chosen_json, json};
 ghost use Rattle.n2k_table.specs.Inner.Line.{are_null, has_members, key_json, member_text};
-ghost use Rattle.n2k_table.specs.Text.{text_json, character, hex_pairs};
+ghost use Rattle.n2k_table.specs.Text.{text_json, character, hex_pairs, two_digits};
 
-use crate::decimal::push_number;
+use crate::decimal::{push_decimal, push_number};
 use crate::definition::Definition;
 use crate::field::Field;
 use crate::field_value::FieldValue;
+use crate::flags::{Flags, NamedBit};
 use crate::head::push_head;
+use crate::known_pgn::KnownPgn;
 use crate::line_buffer::LineBuffer;
 use crate::repeat::Repeat;
+use crate::shown::Shown;
 use crate::table::Table;
-use crate::text::{push_characters, push_pairs};
+use crate::text::{self, push_characters, push_digits, push_pairs};
+use crate::wide_text::push_wide;
 use itoa::Buffer;
 use n2k_wire::Packet;
 use std::alloc::{AllocError, Global};
@@ -53,8 +59,8 @@ fn push_pgn(pgn: u32, line: &mut LineBuffer) -> Result<(), AllocError>
     line.extend_from_slice(buffer.format(pgn).as_bytes())
 }
 
-/// Appends the value of a member that is there, behind its key: `null`, a text, or bytes. They are not inlined: most
-/// fields are numbers and names.
+/// Appends the value of a member that is there, behind its key: `null`, a text, bytes, flags, or digits. They are
+/// not inlined: most fields are numbers and names.
 #[inline(never)]
 fn push_null(field: &Field, later: bool, line: &mut LineBuffer) -> Result<(), AllocError>
     ensures { OnOk result (line.new.items ≡ line.old.items ++ (key_json later field.now.name ++ codes "null")) }
@@ -91,6 +97,109 @@ fn push_bytes(
     push_pairs(bytes, line)
 }
 
+#[inline(never)]
+fn push_number_text(
+    field: &Field,
+    bytes: &[u8],
+    later: bool,
+    line: &mut LineBuffer,
+) -> Result<(), AllocError>
+    ensures { OnOk result (line.new.items
+        ≡ line.old.items ++ (key_json later field.now.name ++ text_json (flat_map two_digits bytes.now))) }
+{
+    field.push_key(later, line)?;
+    push_digits(bytes, line)
+}
+
+/// Appends a bit by its name or its number, after a comma where one stands before.
+fn push_bit(bit: NamedBit<'_>, later: bool, line: &mut LineBuffer) -> Result<(), AllocError>
+    ensures { OnOk result (line.new.items ≡ line.old.items ++ member_text later (Some (flag_json (named_bit bit.entry)))) }
+{
+    if later {
+        line.push(b',')?;
+    }
+    match bit {
+        NamedBit::Name(name) => name.push_json(line),
+        NamedBit::Bit(number) => {
+            let mut buffer = Buffer::new();
+            line.extend_from_slice(buffer.format(number).as_bytes())
+        }
+    }
+}
+
+/// Appends the bits that are left, a comma between each.
+fn push_bits(flags: Flags<'_>, line: &mut LineBuffer) -> Result<(), AllocError>
+    ensures { OnOk result (line.new.items
+        ≡ line.old.items ++ join_with_byte comma (map flag_json (flags_left flags.entry))) }
+{
+    let mut rest = flags;
+    let mut later = false;
+    while let Some(bit) = rest.next_named() {
+        push_bit(bit, later, line)?;
+        later = true;
+    }
+    Ok(())
+}
+
+#[inline(never)]
+fn push_flags(
+    field: &Field,
+    flags: Flags<'_>,
+    later: bool,
+    line: &mut LineBuffer,
+) -> Result<(), AllocError>
+    ensures { OnOk result (line.new.items
+        ≡ line.old.items ++ (key_json later field.now.name ++ array (map flag_json (flags_left flags.entry)))) }
+{
+    field.push_key(later, line)?;
+    line.push(b'[')?;
+    push_bits(flags, line)?;
+    line.push(b']')
+}
+
+/// Appends a field of any kind as a member, as `push_member` does. It is not inlined: few fields come here.
+#[cold]
+#[inline(never)]
+fn push_seldom(
+    field: &Field,
+    data: &[u8],
+    absent: AbsentFields,
+    later: bool,
+    line: &mut LineBuffer,
+) -> Result<bool, AllocError>
+    ensures { let member = member_json (are_null absent) (field.now.name, shown field.now «data».now) in
+        IfOk result (λ more. (line.new.items ≡ line.old.items ++ member_text later member)
+        × (more ≡ (later || is_some member))) }
+{
+    match field.shown(data) {
+        Shown::Absent => match absent {
+            AbsentFields::LeftOut => return Ok(later),
+            AbsentFields::Null => push_null(field, later, line)?,
+        },
+        Shown::Number { value, decimals } => {
+            field.push_key(later, line)?;
+            push_decimal(value, decimals, line)?;
+        }
+        Shown::Name(name) => {
+            field.push_key(later, line)?;
+            text::push_text(name.as_bytes(), line)?;
+        }
+        Shown::Text(text) => push_text(field, text, later, line)?,
+        Shown::Utf8(text) => {
+            field.push_key(later, line)?;
+            text::push_text(text.as_bytes(), line)?;
+        }
+        Shown::Wide(bytes) => {
+            field.push_key(later, line)?;
+            push_wide(bytes, line)?;
+        }
+        Shown::Bytes(bytes) => push_bytes(field, bytes, later, line)?,
+        Shown::Flags(flags) => push_flags(field, flags, later, line)?,
+        Shown::Digits(bytes) => push_number_text(field, bytes, later, line)?,
+    }
+    Ok(true)
+}
+
 /// Appends a field as a member of an object, after a comma where a member stands before, and answers whether one stands
 /// before the next. What it shows goes from branch to branch, and is never put together in memory.
 #[inline(always)]
@@ -120,6 +229,7 @@ fn push_member(
         }
         FieldValue::Text(text) => push_text(field, text, later, line)?,
         FieldValue::Bytes(bytes) => push_bytes(field, bytes, later, line)?,
+        FieldValue::Seldom => return push_seldom(field, data, absent, later, line),
     }
     Ok(true)
 }
@@ -264,6 +374,24 @@ fn push_line(
     }
 }
 
+/// Appends the line of a packet by the definition that describes it, put together in a buffer.
+fn append_line(
+    alloc: Global,
+    definition: Option<Definition<'_>>,
+    packet: &Packet,
+    empty: bool,
+    line: &mut LineBuffer,
+    out: &mut Vec<u8>,
+) -> Result<(), AllocError>
+    requires { IfSome definition (λ d. d.pgn ≡ packet.now.id.pgn) }
+    ensures appends { OnOk result (out.new.items ≡ out.old.items ++ chosen_json definition.entry packet.now empty) }
+    ensures unchanged { OnErr result (out.new.items ≡ out.old.items) }
+{
+    line.begin(alloc);
+    let written = push_line(definition, packet, AbsentFields::new(empty), line);
+    line.end(written, out)
+}
+
 /// Appends the JSON line of a packet, with its LF: when it was seen, its priority, source, destination and
 /// PGN, and the fields of its definition in their order, without spaces. A field that shows nothing is left
 /// out, and with `empty` it is `null`. Where sets repeat behind the fields, the last member is `list`, an array of one
@@ -321,7 +449,33 @@ pub fn json_line_in(
     ensures unchanged { OnErr result (out.new.items ≡ out.old.items) }
 {
     let definition = table.choose(packet.id().pgn, packet.data());
-    line.begin(alloc);
-    let written = push_line(definition, packet, AbsentFields::new(empty), line);
-    line.end(written, out)
+    append_line(alloc, definition, packet, empty, line, out)
+}
+
+/// Appends what `json_line_in` does of a packet whose PGN has been looked up.
+///
+/// ```rust
+/// let table = sample_table(alloc)?;
+/// let packet = frame_in("(1.0) can0 09F8027F#0500")?;
+/// let known = table.find(packet.id().pgn).ok_or("a definition")?;
+/// let mut line = LineBuffer::new(alloc);
+/// let mut text = Vec::new(alloc);
+/// json_line_of(alloc, &known, &packet, false, &mut line, &mut text)?;
+/// let end = "{\"SID\":5,\"COG Reference\":\"True\"}}\n";
+/// assert!(rt; text.ends_with(end.as_bytes()));
+/// ```
+#[tactic(auto, unfolding(crate::specs::Json::json))]
+pub fn json_line_of(
+    alloc: Global,
+    known: &KnownPgn<'_>,
+    packet: &Packet,
+    empty: bool,
+    line: &mut LineBuffer,
+    out: &mut Vec<u8>,
+) -> Result<(), AllocError>
+    requires { known.now.pgn ≡ packet.now.id.pgn }
+    ensures appends { OnOk result (out.new.items ≡ out.old.items ++ json known.now.table packet.now empty) }
+    ensures unchanged { OnErr result (out.new.items ≡ out.old.items) }
+{
+    append_line(alloc, known.choose(packet.data()), packet, empty, line, out)
 }

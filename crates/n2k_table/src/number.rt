@@ -1,11 +1,13 @@
 //! What some bits show as a number.
-ghost use Rattle.std.specs.Prelude.{◌≡◌, ◌≤◌};
-ghost use Rattle.n2k_table.specs.Inner.Number.{reserved_values, scaled, value_of, IsScale};
+ghost use Rattle.std.specs.Prelude.{◌≡◌, ◌≤◌, Some};
+ghost use Rattle.n2k_table.specs.Shown.{shown_parts};
+ghost use Rattle.n2k_table.specs.Inner.Number.{reserved_values, scaled, shifted, shifted_value, value_of, IsScale, IsShift};
 ghost use Rattle.n2k_table.specs.Inner.FieldValue.{value_parts};
 
 use crate::bits::greatest;
 use crate::field_value::FieldValue;
 use crate::resolution::Resolution;
+use crate::shown::Shown;
 
 /// A number, its sign apart: a size times a resolution, or as far below zero.
 #[derive(Clone, Copy)]
@@ -43,6 +45,17 @@ pub(crate) struct Scale {
     pub(crate) max_raw: u64,
 }
 
+/// How some bits make a number to which an offset is added.
+#[derive(Clone, Copy)]
+pub(crate) struct Shift {
+    /// What is added to the value of the bits.
+    pub(crate) offset: i64,
+    /// What the sum is multiplied with.
+    pub(crate) resolution: Resolution,
+    /// The greatest value of the bits that counts. Those above say that none is there.
+    pub(crate) max_valid: u64,
+}
+
 /// How many values of so many bits say that none is there.
 fn reserved_values(bits: u32) -> u64
     ensures { result ≡ reserved_values bits }
@@ -78,7 +91,7 @@ impl Scale {
     #[inline(always)]
     pub(crate) fn number<'a>(&self, raw: u64) -> FieldValue<'a>
         requires { raw ≤ self.now.max_raw }
-        ensures { value_parts result ≡ scaled self.now raw }
+        ensures { value_parts result ≡ Some (scaled self.now raw) }
     {
         if raw <= self.max_valid {
             return FieldValue::Number(Number {
@@ -95,5 +108,42 @@ impl Scale {
             size: self.max_raw - raw + 1,
             resolution: self.resolution,
         })
+    }
+}
+
+impl Shift {
+    /// How bits make a number by an offset and a resolution.
+    pub(crate) fn new(offset: i64, bits: u32, resolution: Resolution) -> Shift
+        requires some { 1 ≤ bits }
+        requires room { bits ≤ 64 }
+        ensures offset { result.offset ≡ offset }
+        ensures resolution { result.resolution ≡ resolution }
+        ensures kept { IsShift bits result }
+    {
+        Shift {
+            offset,
+            resolution,
+            max_valid: greatest(false, bits).saturating_sub(reserved_values(bits)),
+        }
+    }
+
+    /// The sum of a raw value and the offset, times the mantissa.
+    pub(crate) fn value(self, raw: u64) -> i128
+        ensures { result ≡ shifted_value self raw }
+    {
+        (i128::from(raw) + i128::from(self.offset)) * i128::from(self.resolution.mantissa)
+    }
+
+    /// What bits of that raw value show.
+    pub(crate) fn shown<'a>(&self, raw: u64) -> Shown<'a>
+        ensures { shown_parts result ≡ shifted self.now raw }
+    {
+        if raw > self.max_valid {
+            return Shown::Absent;
+        }
+        Shown::Number {
+            value: self.value(raw),
+            decimals: self.resolution.decimals,
+        }
     }
 }

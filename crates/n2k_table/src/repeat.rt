@@ -6,11 +6,11 @@ ghost use Rattle.n2k_table.specs.Repeat.{set_count, set_bytes, all_sets, repeat}
 
 use crate::fault::TableFault;
 use crate::field::Field;
-use crate::field_reader::span_at;
+use crate::field_reader::{bit_count, check_end, first_bit};
 use crate::fields_reader::read_fields;
 use crate::lookup::Lookups;
 use crate::shown::Fields;
-use crate::tree::{Holder, MESSAGE_BITS, Section, as_members, check_keys};
+use crate::tree::{Holder, MESSAGE_BITS, Section, TableFormat, as_members, check_keys};
 use std::alloc::Global;
 use std::marker::Model;
 use toml::Value;
@@ -122,22 +122,25 @@ impl<'a> Iterator for Sets<'a> {
     }
 }
 
-/// Reads what repeats, in a table of these lookups.
+/// Reads what repeats, in a table of this format and of these lookups.
 #[tactic(auto, unfolding(crate::specs::Repeat::repeat))]
 pub(crate) fn read_repeat(
     alloc: Global,
     lookups: &Lookups,
+    format: TableFormat,
     value: &Value,
 ) -> Result<Repeat, TableFault>
-    ensures { ReaderGives (λ r. r) result (repeat lookups.now (view value.now)) }
+    ensures { ReaderGives (λ r. r) result (repeat format lookups.now (view value.now)) }
 {
     let table = as_members(value)?;
     check_keys(table, Section::Repeat)?;
-    let set = span_at(table, 8, MESSAGE_BITS, MESSAGE_BITS)?;
-    let fields = read_fields(alloc, lookups, Holder::Set(set.bits), table)?;
+    let at = first_bit(table, 8)?;
+    let bits = bit_count(table, 8, MESSAGE_BITS)?;
+    check_end(&[], at, bits, MESSAGE_BITS)?;
+    let fields = read_fields(alloc, lookups, format, Holder::Set(bits), table)?;
     Ok(Repeat {
-        first: set.at / 8,
-        size: set.bits / 8,
+        first: at / 8,
+        size: bits / 8,
         fields,
     })
 }

@@ -2,12 +2,14 @@
 ghost use Rattle.std.specs.Prelude.{◌≡◌};
 
 use crate::field::Field;
+use crate::flags::Flags;
 use std::marker::Model;
 
 /// What a field shows of a message. It borrows the table and the data.
 #[derive(Clone, Copy, PartialEq, Eq, Debug)]
 pub enum Shown<'a> {
-    /// Nothing: the data end before the field does, or its value says that none is there.
+    /// Nothing: the data end before the field does, a string before it has no end, or its value says that none is
+    /// there.
     Absent,
     /// A number, `value / 10^decimals`.
     Number {
@@ -20,8 +22,17 @@ pub enum Shown<'a> {
     Name(&'a str),
     /// A text, each byte the character of its number (so byte E9 is U+00E9), without the bytes that fill it up.
     Text(&'a [u8]),
+    /// The characters of a string, without those that fill it up. Where they are no UTF-8, it is `Text`.
+    Utf8(&'a str),
+    /// The characters of a string as UTF-16, two bytes each, the low one first, without those that fill it up. A surrogate
+    /// may stand alone.
+    Wide(&'a [u8]),
     /// Bytes as they are.
     Bytes(&'a [u8]),
+    /// Those bits of a field that are 1.
+    Flags(Flags<'a>),
+    /// Digits: each byte, 0 to 99, is two of them.
+    Digits(&'a [u8]),
 }
 
 /// What the fields of a definition show of a message: the name of each, and what it shows. It borrows
@@ -65,6 +76,6 @@ impl<'a> Iterator for Fields<'a> {
     fn next(&mut self) -> Option<(&'a str, Shown<'a>)> {
         let (field, rest) = self.rest.split_first()?;
         self.rest = rest;
-        Some((field.name(), field.value(self.data).shown()))
+        Some((field.name(), field.shown(self.data)))
     }
 }

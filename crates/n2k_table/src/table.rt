@@ -8,12 +8,13 @@ ghost use Rattle.n2k_table.specs.Duplicate.{has_duplicate};
 ghost use Rattle.n2k_table.specs.Reading.{each, ReaderGives};
 ghost use Rattle.n2k_table.specs.Definition.{definition};
 ghost use Rattle.n2k_table.specs.Table.{document, format_of, are_mixed, definitions, top_level};
-ghost use Rattle.n2k_table.specs.Inner.Index.{IsIndex, pgns};
+ghost use Rattle.n2k_table.specs.Inner.Index.{IsIndex};
 
 use crate::definition::{Definition, Kind, StoredDefinition};
 use crate::definition_reader::read_definition;
 use crate::fault::TableFault;
-use crate::index::{Index, has_mixed, index_of, places_at};
+use crate::index::{Candidate, Index, candidates_at, has_mixed, index_of};
+use crate::known_pgn::KnownPgn;
 use crate::lookup::Lookups;
 use crate::lookup_reader::read_lookups;
 use crate::tree::{Section, TableFormat, check_keys, elements_or_none, int_at};
@@ -26,7 +27,7 @@ use toml::Value;
 pub(crate) const MOST_DEFINITIONS: usize = 4096;
 
 /// The newest format of a table.
-pub(crate) const NEWEST_FORMAT: u32 = 2;
+pub(crate) const NEWEST_FORMAT: u32 = 3;
 
 /// A table of messages: which PGNs there are, how they are sent, and what their bits mean.
 #[derive(Drop)]
@@ -39,13 +40,13 @@ pub struct Table {
 
 impl Model for Table {
     ghost use Rattle.n2k_table.specs.Table.{TableParts};
-    ghost use Rattle.n2k_table.specs.Inner.Index.{IsIndex, pgns};
+    ghost use Rattle.n2k_table.specs.Inner.Index.{IsIndex};
 
     ghost Value = { TableParts };
 
     ghost view = { λ t. record { id = t.id; definitions = t.definitions.items } };
 
-    ghost invariant = { λ t. IsIndex t.index (pgns t.definitions.items) };
+    ghost invariant = { λ t. IsIndex t.index t.definitions.items };
 }
 
 /// The definitions of a table, and where those of each PGN stand.
@@ -81,7 +82,7 @@ fn read_definitions(
 ) -> Result<Definitions, TableFault>
     ensures value { ReaderGives (λ d. d.list.items) result (definitions format lookups.now (table_view top.now)) }
     ensures agree { IfOk result (λ d. has_duplicate are_mixed d.list.items ≡ false) }
-    ensures index { IfOk result (λ d. IsIndex d.index (pgns d.list.items)) }
+    ensures index { IfOk result (λ d. IsIndex d.index d.list.items) }
 {
     let values = elements_or_none(top, "pgn", MOST_DEFINITIONS)?;
     let list = each_definition(alloc, lookups, format, values)?;
@@ -98,7 +99,8 @@ fn format_of(top: &toml::Table) -> Result<TableFormat, TableFault>
 {
     match int_at(top, "format", 1, NEWEST_FORMAT) {
         Ok(1) => Ok(TableFormat::One),
-        Ok(_) => Ok(TableFormat::Two),
+        Ok(2) => Ok(TableFormat::Two),
+        Ok(_) => Ok(TableFormat::Three),
         Err(_) => Err(TableFault::Format),
     }
 }
@@ -107,7 +109,7 @@ fn format_of(top: &toml::Table) -> Result<TableFormat, TableFault>
 fn read_top(alloc: Global, top: &toml::Table) -> Result<Definitions, TableFault>
     ensures value { ReaderGives (λ d. d.list.items) result (top_level (table_view top.now)) }
     ensures agree { IfOk result (λ d. has_duplicate are_mixed d.list.items ≡ false) }
-    ensures index { IfOk result (λ d. IsIndex d.index (pgns d.list.items)) }
+    ensures index { IfOk result (λ d. IsIndex d.index d.list.items) }
 {
     let format = format_of(top)?;
     check_keys(top, Section::Document)?;
@@ -127,10 +129,9 @@ fn document(alloc: Global, bytes: &[u8]) -> Result<toml::Table, TableFault>
 }
 
 impl Table {
-    ghost use Rattle.std.specs.Prelude.{option_map};
-    ghost use Rattle.std.specs.Prelude.{◌<◌, length, slice_index, EachIndex};
+    ghost use Rattle.std.specs.Prelude.{◌<◌, ℕ, length, option_map};
     ghost use Rattle.n2k_table.specs.Table.{read_table, faults, table, kind, choice};
-    ghost use Rattle.n2k_table.specs.Inner.Index.{places, pgns};
+    ghost use Rattle.n2k_table.specs.Inner.Index.{places, pgns, places_of, IsOfPlace};
 
     #[tactic(auto, unfolding(crate::specs::Table::read_table))]
     fn parse(alloc: Global, bytes: &[u8]) -> Result<Table, TableFault>
@@ -146,7 +147,7 @@ impl Table {
         })
     }
 
-    /// Reads a table: the bytes of a TOML 1.1 document in UTF-8, of format 1 or 2 (docs/PROFILE.md has the
+    /// Reads a table: the bytes of a TOML 1.1 document in UTF-8, of format 1, 2 or 3 (docs/PROFILE.md has the
     /// formats). A table with the line `format = 1` alone is one without messages.
     ///
     /// A document in which a fault stands is refused. Of several faults the first is answered, in the order that
@@ -155,7 +156,7 @@ impl Table {
     /// ```rust
     /// let table = Table::read(alloc, "format = 1\n".as_bytes())?;
     /// assert_eq!(rt; table.kind(129026), None);
-    /// let refused = Table::read(alloc, "format = 3\n".as_bytes());
+    /// let refused = Table::read(alloc, "format = 4\n".as_bytes());
     /// assert!(rt; matches!(refused, Err(TableFault::Format)));
     /// ```
     pub fn read(alloc: Global, bytes: &[u8]) -> Result<Table, TableFault>
@@ -186,24 +187,56 @@ impl Table {
         self.id
     }
 
-    /// The places of the definitions of a PGN, in file order.
-    pub(crate) fn places(&self, pgn: u32) -> &[usize]
-        ensures value { result.now ≡ places pgn (pgns self.now.definitions) }
-        ensures within { EachIndex result.now (λ k. slice_index result.now k < length self.now.definitions) }
+    /// Where the definitions of a PGN stand, in file order.
+    #[inline(always)]
+    fn candidates(&self, pgn: u32) -> &[Candidate]
+        ensures value { places_of result.now ≡ places pgn (pgns self.now.definitions) }
+        ensures within { All (λ c. c.place < length self.now.definitions) result.now }
+        ensures asked { All (IsOfPlace self.now.definitions) result.now }
     {
-        places_at(&self.index, pgn)
+        candidates_at(&self.index, pgn)
     }
 
-    fn chosen(&self, pgn: u32, data: &[u8]) -> Option<&StoredDefinition>
-        ensures { option_map (λ d. d.now) result ≡ choice self.now pgn «data».now }
+    /// The definition that describes a message, of the candidates of its PGN. It is not inlined: of most PGNs it is known
+    /// without.
+    #[inline(never)]
+    pub(crate) fn chosen(&self, candidates: &[Candidate], data: &[u8]) -> Option<&StoredDefinition>
+        requires within { All (λ c. c.place < length self.now.definitions) candidates.now }
+        requires asked { All (IsOfPlace self.now.definitions) candidates.now }
+        ensures { (pgn : ℕ) → places_of candidates.now ≡ places pgn (pgns self.now.definitions)
+            → option_map (λ d. d.now) result ≡ choice self.now pgn «data».now }
     {
-        for place in self.places(pgn) {
-            let definition = &self.definitions[*place];
-            if definition.matches(data) {
-                return Some(definition);
+        for candidate in candidates {
+            if candidate.glance.allows(data) {
+                let definition = &self.definitions[candidate.place];
+                if definition.matches(data) {
+                    return Some(definition);
+                }
             }
         }
         None
+    }
+
+    /// Looks a PGN up once for all that is asked of it; `None` where the table has no definition of it. It takes no
+    /// memory.
+    ///
+    /// ```rust
+    /// let table = sample_table(alloc)?;
+    /// let known = table.find(130820).ok_or("Label")?;
+    /// assert_eq!(rt; known.kind(), Kind::Fast);
+    /// assert!(rt; table.find(59904).is_none());
+    /// ```
+    #[inline(always)]
+    pub fn find(&self, pgn: u32) -> Option<KnownPgn<'_>>
+        ensures { result ≡ option_map (λ _. record { table = self.now; pgn = pgn }) (kind self.now pgn) }
+    {
+        let candidates = self.candidates(pgn);
+        let first = candidates.first()?;
+        Some(KnownPgn {
+            table: self,
+            first: &self.definitions[first.place],
+            candidates,
+        })
     }
 
     /// How the messages of a PGN are sent, as its definitions say; `None` where the table has none. It takes
@@ -218,8 +251,7 @@ impl Table {
     pub fn kind(&self, pgn: u32) -> Option<Kind>
         ensures { result ≡ kind self.now pgn }
     {
-        let first = *self.places(pgn).first()?;
-        Some(self.definitions[first].kind())
+        Some(self.find(pgn)?.kind())
     }
 
     /// The definition that describes a message of a PGN with these data (in the order of the bus): the first
@@ -235,6 +267,6 @@ impl Table {
     pub fn choose(&self, pgn: u32, data: &[u8]) -> Option<Definition<'_>>
         ensures { result ≡ choice self.now pgn «data».now }
     {
-        Some(Definition::new(self.chosen(pgn, data)?))
+        Some(Definition::new(self.chosen(self.candidates(pgn), data)?))
     }
 }

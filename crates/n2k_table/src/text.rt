@@ -4,7 +4,7 @@ ghost use Rattle.std.specs.Prelude.{◌≡◌, ◌++◌, ◌<◌, ◌%◌, IfOk,
 ghost use Rattle.std.specs.List.{list_all, flat_map};
 ghost use Rattle.std.specs.Option.{IfSome};
 ghost use Rattle.json.specs.Print.{escape_letter, escape_byte};
-ghost use Rattle.n2k_table.specs.Text.{text_json, hex_pair, hex_pairs, character};
+ghost use Rattle.n2k_table.specs.Text.{text_json, hex_pair, hex_pairs, two_digits, character};
 ghost use Rattle.n2k_table.specs.Inner.Line.{is_plain, is_plain_character};
 
 use crate::line_buffer::LineBuffer;
@@ -102,7 +102,7 @@ fn push_escaped(byte: u8, line: &mut LineBuffer) -> Result<(), AllocError>
     }
 }
 
-fn push_each(text: &[u8], line: &mut LineBuffer) -> Result<(), AllocError>
+pub(crate) fn push_each(text: &[u8], line: &mut LineBuffer) -> Result<(), AllocError>
     ensures { OnOk result (line.new.items ≡ line.old.items ++ flat_map escape_byte text.now) }
 {
     for byte in text {
@@ -222,5 +222,24 @@ pub(crate) fn push_pairs(bytes: &[u8], line: &mut LineBuffer) -> Result<(), Allo
 {
     line.push(b'"')?;
     push_inner_pairs(bytes, line)?;
+    line.push(b'"')
+}
+
+fn push_inner_digits(bytes: &[u8], line: &mut LineBuffer) -> Result<(), AllocError>
+    ensures { OnOk result (line.new.items ≡ line.old.items ++ flat_map two_digits bytes.now) }
+{
+    for byte in bytes {
+        line.extend_from_slice(&[b'0' + *byte / 10, b'0' + *byte % 10])?;
+    }
+    Ok(())
+}
+
+/// Appends the text of bytes that are two decimal digits each.
+#[tactic(auto, using(std::proofs::Common::append_assoc))]
+pub(crate) fn push_digits(bytes: &[u8], line: &mut LineBuffer) -> Result<(), AllocError>
+    ensures { OnOk result (line.new.items ≡ line.old.items ++ text_json (flat_map two_digits bytes.now)) }
+{
+    line.push(b'"')?;
+    push_inner_digits(bytes, line)?;
     line.push(b'"')
 }

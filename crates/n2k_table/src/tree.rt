@@ -23,6 +23,8 @@ pub(crate) enum TableFormat {
     One,
     /// With sets: a definition may have a key `repeat`.
     Two,
+    /// With offsets and units of numbers, flags, digits, strings, fields behind them and short fields, too.
+    Three,
 }
 
 /// What a field says that its bits are.
@@ -36,6 +38,12 @@ pub(crate) enum FieldKind {
     Text,
     /// Bytes as they are.
     Bytes,
+    /// Bits that a lookup gives names for.
+    Flags,
+    /// Bytes of two decimal digits.
+    Digits,
+    /// A text that says how long it is.
+    String,
 }
 
 /// What a field is part of.
@@ -58,12 +66,12 @@ pub(crate) enum Section {
     Definition(TableFormat),
     /// What repeats in a message.
     Repeat,
-    /// A field of this kind.
-    Field(FieldKind, Holder),
+    /// A field of this kind, in a table of this format.
+    Field(TableFormat, FieldKind, Holder),
 }
 
 impl TableFormat {
-    ghost use Rattle.n2k_table.specs.Tree.{has_sets};
+    ghost use Rattle.n2k_table.specs.Tree.{has_sets, is_extended};
 
     /// Whether a definition may have sets.
     fn has_sets(self) -> bool
@@ -71,13 +79,23 @@ impl TableFormat {
     {
         match self {
             TableFormat::One => false,
-            TableFormat::Two => true,
+            TableFormat::Two | TableFormat::Three => true,
+        }
+    }
+
+    /// Whether it is format 3, which has more kinds of fields, and more keys.
+    pub(crate) fn is_extended(self) -> bool
+        ensures { result ≡ is_extended self }
+    {
+        match self {
+            TableFormat::One | TableFormat::Two => false,
+            TableFormat::Three => true,
         }
     }
 }
 
 impl FieldKind {
-    ghost use Rattle.n2k_table.specs.Tree.{is_among, own_keys, can_match};
+    ghost use Rattle.n2k_table.specs.Tree.{is_among, own_keys, more_keys, has_bits, place_keys, can_be_short, can_match};
 
     /// Whether a key is one that fields of the kind have beside those of every field.
     fn has_key(self, key: &str) -> bool
@@ -85,8 +103,51 @@ impl FieldKind {
     {
         match self {
             FieldKind::Number => key == "signed" || key == "resolution",
-            FieldKind::Lookup => key == "lookup",
-            FieldKind::Text | FieldKind::Bytes => false,
+            FieldKind::Lookup | FieldKind::Flags => key == "lookup",
+            FieldKind::Text | FieldKind::Bytes | FieldKind::Digits => false,
+            FieldKind::String => key == "form",
+        }
+    }
+
+    /// Whether a key is one that fields of the kind have in format 3 alone.
+    fn has_more_key(self, key: &str) -> bool
+        ensures { result ≡ is_among key.now (more_keys self) }
+    {
+        match self {
+            FieldKind::Number => key == "offset" || key == "unit",
+            FieldKind::Lookup
+            | FieldKind::Text
+            | FieldKind::Bytes
+            | FieldKind::Flags
+            | FieldKind::Digits
+            | FieldKind::String => false,
+        }
+    }
+
+    /// Whether a field of the kind has a number of bits; a string's own bytes say how long it is.
+    pub(crate) fn has_bits(self) -> bool
+        ensures { result ≡ has_bits self }
+    {
+        match self {
+            FieldKind::String => false,
+            _ => true,
+        }
+    }
+
+    /// Whether a key says where a field of the kind stands.
+    fn has_place_key(self, key: &str) -> bool
+        ensures { result ≡ is_among key.now (place_keys self) }
+    {
+        key == "at" || (self.has_bits() && key == "bits")
+    }
+
+    /// Whether a field of the kind may be short.
+    pub(crate) fn can_be_short(self, holder: Holder) -> bool
+        ensures { result ≡ can_be_short self holder }
+    {
+        match (self, holder) {
+            (FieldKind::Text | FieldKind::Bytes | FieldKind::String, Holder::Message) => true,
+            _ => false,
         }
     }
 
@@ -102,7 +163,7 @@ impl FieldKind {
 }
 
 impl Holder {
-    ghost use Rattle.n2k_table.specs.Tree.{end_of};
+    ghost use Rattle.n2k_table.specs.Tree.{end_of, can_have_strings};
 
     /// The bits within which a field ends.
     pub(crate) fn end(self) -> u32
@@ -111,6 +172,16 @@ impl Holder {
         match self {
             Holder::Message => MESSAGE_BITS,
             Holder::Set(bits) => bits,
+        }
+    }
+
+    /// Whether its fields may be strings, and stand behind them.
+    pub(crate) fn can_have_strings(self) -> bool
+        ensures { result ≡ can_have_strings self }
+    {
+        match self {
+            Holder::Message => true,
+            Holder::Set(_) => false,
         }
     }
 }
@@ -132,12 +203,14 @@ impl Section {
                     || (format.has_sets() && key == "repeat")
             }
             Section::Repeat => key == "at" || key == "bits" || key == "fields",
-            Section::Field(kind, holder) => {
+            Section::Field(format, kind, holder) => {
                 key == "name"
                     || key == "kind"
-                    || key == "at"
-                    || key == "bits"
+                    || kind.has_place_key(key)
                     || kind.has_key(key)
+                    || (format.is_extended() && kind.has_more_key(key))
+                    || (format.is_extended() && holder.can_have_strings() && key == "after")
+                    || (format.is_extended() && kind.can_be_short(holder) && key == "short")
                     || (kind.can_match(holder) && key == "match")
             }
         }

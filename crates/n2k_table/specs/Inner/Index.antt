@@ -1,11 +1,13 @@
 -- Where the definitions of each PGN stand, as the code keeps it.
 use Rattle.std.specs.Prelude.{◌≡◌, ℕ, suc, ◌==◌, nat_eq, Bool, false, List, [], ◌∷◌, ◌++◌, map, Option, Some, None, option_map}
-use Rattle.std.specs.Prelude.{unwrap_or, Vec, if◌then◌else◌}
+use Rattle.std.specs.Prelude.{unwrap_or, All, IfSome, slice_get, Vec, if◌then◌else◌}
 use Rattle.std.specs.List.{find}
 use Rattle.std.specs.Map.{lookup as value_at}
 use Rattle.std.specs.declared.alloc.Global.{Global}
 use Rattle.n2k_table.specs.Definition.{DefinitionParts}
 use Rattle.n2k_table.specs.Table.{is_of, are_mixed}
+use Rattle.n2k_table.specs.declared.index.Candidate.{Candidate}
+use Rattle.n2k_table.specs.Inner.Glance.{IsGlance}
 
 -- the PGNs of definitions
 abbrev pub pgns : List DefinitionParts → List ℕ
@@ -19,18 +21,33 @@ places_from i number (n ∷ ns) = if n == number then i ∷ places_from (suc i) 
 abbrev pub places : ℕ → List ℕ → List ℕ
 places number pgns = places_from 0 number pgns
 
--- the places that the code's map has for a number
-abbrev pub places_in : List (ℕ × Vec ℕ Global) → ℕ → List ℕ
-places_in entries number = unwrap_or (option_map (λ v. v.items) (value_at (nat_eq number) entries)) []
+-- what the code's map has for a PGN
+abbrev pub candidates_in : List (ℕ × Vec Candidate Global) → ℕ → List Candidate
+candidates_in entries number = unwrap_or (option_map (λ v. v.items) (value_at (nat_eq number) entries)) []
 
--- one map has the places of the other, and one more of a number, behind those before it
-abbrev pub GainsPlace : List (ℕ × Vec ℕ Global) → List (ℕ × Vec ℕ Global) → ℕ → ℕ → Type 0
-GainsPlace old new number place =
-    (n : ℕ) → places_in new n ≡ places_in old n ++ (if nat_eq number n then place ∷ [] else [])
+-- the places of candidates
+abbrev pub places_of : List Candidate → List ℕ
+places_of cs = map (λ (c : Candidate). c.place) cs
 
--- the map has the places of each number
-pub record IsIndex (entries : List (ℕ × Vec ℕ Global)) (pgns : List ℕ) : Type 0 where
-  pub finds : (number : ℕ) → places_in entries number ≡ places number pgns
+-- a candidate asks at a glance for what the definition at its place asks for
+abbrev pub IsOfPlace : List DefinitionParts → Candidate → Type 0
+IsOfPlace ds c = IfSome (slice_get ds c.place) (λ d. IsGlance c.glance d.fields)
+
+-- these are the candidates of a PGN
+pub record AreOfPgn (number : ℕ) (ds : List DefinitionParts) (cs : List Candidate) : Type 0 where
+  pub places : places_of cs ≡ places number (pgns ds)
+  pub asked : All (IsOfPlace ds) cs
+
+-- one map has the candidates of the other, and one more of a PGN, behind those before it
+abbrev pub GainsCandidate :
+    List (ℕ × Vec Candidate Global) → List (ℕ × Vec Candidate Global) → ℕ → Candidate → Type 0
+GainsCandidate old new number candidate =
+    (n : ℕ) → candidates_in new n ≡ candidates_in old n ++ (if nat_eq number n then candidate ∷ [] else [])
+
+-- the map has a candidate for each definition of a PGN, in file order
+pub record IsIndex (entries : List (ℕ × Vec Candidate Global)) (ds : List DefinitionParts) : Type 0 where
+  pub finds : (number : ℕ) → places_of (candidates_in entries number) ≡ places number (pgns ds)
+  pub asks : (number : ℕ) → All (IsOfPlace ds) (candidates_in entries number)
 
 -- a definition has another kind than the first of its PGN, if there is one
 abbrev pub differs_from : Option DefinitionParts → DefinitionParts → Bool

@@ -1,38 +1,56 @@
 -- What the code keeps of a field, and that it is a field that can be shown.
-use Rattle.std.specs.Prelude.{◌≡◌, ◌≤◌, ℕ, ◌+◌, true, List, Option, IfSome}
+use Rattle.std.specs.Prelude.{◌≡◌, ◌≤◌, ℕ, ◌+◌, ◌-◌, ◌/◌, ◌^◌, true, List, [], ◌∷◌, Option, IfSome, if◌then◌else◌}
 use Rattle.n2k_table.specs.declared.field.Meaning.{Meaning as CodeMeaning}
 use Rattle.n2k_table.specs.declared.field.Meaning.TheVariants as code
-use Rattle.n2k_table.specs.Field.{Meaning, number, named, text, bytes, most_number_bits}
-use Rattle.n2k_table.specs.Tree.{message_bits}
+use Rattle.n2k_table.specs.declared.string_place.Step.{Step}
+use Rattle.n2k_table.specs.declared.tree.FieldKind.{FieldKind}
+use Rattle.n2k_table.specs.Field.{Meaning, number, shifted, named, flags, text, bytes, digits, string, most_number_bits, most_bits, fixed_place}
+use Rattle.n2k_table.specs.Tree.{message_bits, has_bits}
 use Rattle.n2k_table.specs.Inner.Line.{key_json}
-use Rattle.n2k_table.specs.Inner.Number.{IsScale}
+use Rattle.n2k_table.specs.Inner.Number.{IsScale, IsShift}
 
 -- what the bits mean, as contracts see it
 abbrev pub meaning : CodeMeaning → Meaning
 meaning (code.Number scale) = number scale.signed scale.resolution
+meaning (code.Shifted shift) = shifted shift.offset shift.resolution
 meaning (code.Lookup lookup) = named lookup.value.entries
 meaning code.Text = text
 meaning code.Bytes = bytes
-
--- a text or bytes
-abbrev pub IsByteMeaning : CodeMeaning → Type 0
-IsByteMeaning (code.Number scale) = ⊥
-IsByteMeaning (code.Lookup lookup) = ⊥
-IsByteMeaning code.Text = Unit {0}
-IsByteMeaning code.Bytes = Unit {0}
+meaning code.Digits = digits
+meaning (code.Flags lookup) = flags lookup.value.entries
+meaning (code.String form) = string form
 
 -- so many bits can have the meaning, and what is kept of a number is of so many
 abbrev pub HasRoom : CodeMeaning → ℕ → Type 0
-HasRoom (code.Number scale) bits = (bits ≤ most_number_bits) × IsScale bits scale
-HasRoom (code.Lookup lookup) bits = bits ≤ most_number_bits
+HasRoom (code.Number scale) bits = (1 ≤ bits) × (bits ≤ most_number_bits) × IsScale bits scale
+HasRoom (code.Shifted shift) bits = (1 ≤ bits) × (bits ≤ most_number_bits) × IsShift bits shift
+HasRoom (code.Lookup lookup) bits = (1 ≤ bits) × (bits ≤ most_number_bits)
 HasRoom code.Text bits = Unit {0}
 HasRoom code.Bytes bits = Unit {0}
+HasRoom code.Digits bits = Unit {0}
+HasRoom (code.Flags lookup) bits = (1 ≤ bits) × (bits ≤ most_number_bits)
+HasRoom (code.String form) bits = Unit {0}
+
+-- the least bits of a field of the kind; a string has none
+abbrev pub least_bits : FieldKind → ℕ
+least_bits kind = if has_bits kind then 1 else 0
+
+-- a field of the kind may have so many bits
+abbrev pub HasBits : FieldKind → ℕ → Type 0
+HasBits kind bits = (least_bits kind ≤ bits) × (bits ≤ most_bits kind)
+
+-- how many bytes the data must have for a field to lie inside them, and where it stands behind strings more than any
+-- data have
+abbrev pub bytes_needed : List Step → ℕ → ℕ → ℕ
+bytes_needed [] at bits = (at + bits + 7) / 8
+bytes_needed (s ∷ ss) at bits = 2 ^ 64 - 1
 
 -- What the code keeps of each field: what stands before its value too, and a place that a message can have.
-pub record IsKept (name before_value : List ℕ) (at bits : ℕ) (meaning : CodeMeaning) (match_value : Option ℕ) :
-    Type 0 where
+pub record IsKept (name before_value : List ℕ) (at bits needed : ℕ) (behind : List Step) (meaning : CodeMeaning)
+    (match_value : Option ℕ) : Type 0 where
   pub key : before_value ≡ key_json true name
   pub inside : at + bits ≤ message_bits
-  pub some : 1 ≤ bits
+  pub fixed : fixed_place behind at + bits ≤ message_bits
+  pub end : needed ≡ bytes_needed behind at bits
   pub room : HasRoom meaning bits
-  pub room_match : IfSome match_value (λ _. bits ≤ most_number_bits)
+  pub room_match : IfSome match_value (λ _. (1 ≤ bits) × (bits ≤ most_number_bits))

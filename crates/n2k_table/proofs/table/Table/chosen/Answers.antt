@@ -1,33 +1,65 @@
-use Rattle.std.proofs.Common.{◌≡◌, Bool, ◌&&◌, cond, Some, get_or, drop, ◌+◌, refl, sym, ap, ◌∙◌}
+use Rattle.std.proofs.Common.{◌≡◌, ℕ, List, Bool, ◌&&◌, cond, Some, get_or, drop, length, ◌+◌, refl, sym, ap, ◌∙◌, arith}
+use Rattle.std.proofs.lemmas.List.{at_drop_all, length-map}
 use Rattle.n2k_table.specs.Definition.{DefinitionParts}
-use Rattle.n2k_table.specs.Table.{TableParts, is_of, matches}
-use Rattle.n2k_table.proofs.Places.{first_at, first_here, find_places}
+use Rattle.n2k_table.specs.Table.{TableParts, is_of, matches, choice}
+use Rattle.n2k_table.specs.declared.index.Candidate.{Candidate}
+use Rattle.n2k_table.specs.Inner.Index.{pgns, places, places_of}
+use Rattle.n2k_table.proofs.Glances.{candidate_differs}
+use Rattle.n2k_table.proofs.Places.{first_at, candidate_here, passed_over, find_places}
+use Rattle.n2k_table.proofs.table.Table.chosen.Goals.{then-allows+else-matches, else-allows}
 use Rattle.n2k_table.proofs.table.Table.chosen.Goals as goal
 
-pub loop-place-init : goal.loop-place-init
-loop-place-init c =
-    let q = matches c.args.«data».now in
-    ap (first_at q c.args.self.now.definitions) c.places-place-items.ensures.value
-    ∙ sym (find_places (λ (d : DefinitionParts). is_of c.args.pgn d && q d) q c.args.pgn (λ d. refl) c.args.self.now.definitions)
+pub loop-candidate-init : goal.loop-candidate-init
+loop-candidate-init c = refl
+
+-- the first at the places of a PGN is the one that is chosen
+is_chosen : (t : TableParts) (pgn : ℕ) (payload : List ℕ) (cs : List Candidate) → places_of cs ≡ places pgn (pgns t.definitions)
+    → first_at (matches payload) t.definitions (places_of cs) ≡ choice t pgn payload
+is_chosen t pgn payload cs same =
+    let q = matches payload in
+    ap (first_at q t.definitions) same ∙ sym (find_places (λ (d : DefinitionParts). is_of pgn d && q d) q pgn (λ d. refl) t.definitions)
 
 pub returns-then-matches : goal.returns-then-matches
-returns-then-matches c =
-    let q = matches c.args.«data».now in
+returns-then-matches c = λ pgn same.
+    let payload = c.args.«data».now in
+    let q = matches payload in
     let ds = c.args.self.now.definitions in
-    let is = c.places-place-items.result.now in
-    let k = c.loop-place.place-index in
+    let cs = c.args.candidates.now in
+    let k = c.loop-candidate.candidate-index in
+    let e : Candidate = record { place = 0; glance = record { mask = 0; wanted = 0 } } in
+    let x = get_or cs k e in
     let d = c.index-definition.result.now in
-    let at : d ≡ get_or ds (get_or is k 0) d = c.index-definition.ensures ∙ ap (λ (t : TableParts). get_or t.definitions (get_or is k 0) d) c.self.view_is in
-    sym (first_here q ds is k d c.loop-place-test.true (c.places-place-items.ensures.within k c.loop-place-test.true) at
-    ∙ ap (λ (b : Bool). cond b (Some d) (first_at q ds (drop (k + 1) is))) (sym c.if-matches.ensures)) ∙ c.loop-place.invariant
+    let at : d ≡ get_or ds x.place d = c.index-definition.ensures ∙ ap (λ (t : TableParts). get_or t.definitions x.place d) c.self.view_is in
+    sym (candidate_here q ds cs k x e d c.loop-candidate-test.true refl (c.requires.within k _ c.loop-candidate-test.true) at
+    ∙ ap (λ (b : Bool). cond b (Some d) (first_at q ds (drop (k + 1) (places_of cs)))) (sym c.if-matches.ensures)) ∙ c.loop-candidate.invariant ∙ is_chosen c.args.self.now pgn payload cs same
 
-pub loop-place-preserved : goal.loop-place-preserved
-loop-place-preserved c =
-    let q = matches c.args.«data».now in
+pub returns : goal.returns
+returns c = λ pgn same.
+    let payload = c.args.«data».now in
+    let q = matches payload in
     let ds = c.args.self.now.definitions in
-    let is = c.places-place-items.result.now in
-    let k = c.loop-place.place-index in
-    let d = c.index-definition.result.now in
-    let at : d ≡ get_or ds (get_or is k 0) d = c.index-definition.ensures ∙ ap (λ (t : TableParts). get_or t.definitions (get_or is k 0) d) c.self.view_is in
-    sym (first_here q ds is k d c.loop-place-test.true (c.places-place-items.ensures.within k c.loop-place-test.true) at
-    ∙ ap (λ (b : Bool). cond b (Some d) (first_at q ds (drop (k + 1) is))) (sym c.if-matches.ensures)) ∙ c.loop-place.invariant
+    let is = places_of c.args.candidates.now in
+    let many : length is ≡ length c.args.candidates.now = length-map c.args.candidates.now (λ (x : Candidate). x.place) in
+    sym (at_drop_all (first_at q ds) is c.loop-candidate.candidate-index (omega (arith, many, c.loop-candidate-test.false)))
+    ∙ c.loop-candidate.invariant ∙ is_chosen c.args.self.now pgn payload c.args.candidates.now same
+
+pub loop-candidate-preserved : goal.loop-candidate-preserved
+loop-candidate-preserved c =
+    let payload = c.args.«data».now in
+    let q = matches payload in
+    let ds = c.args.self.now.definitions in
+    let cs = c.args.candidates.now in
+    let k = c.loop-candidate.candidate-index in
+    let e : Candidate = record { place = 0; glance = record { mask = 0; wanted = 0 } } in
+    let x = get_or cs k e in
+    elim c.if-allows.branch [
+      | then-allows+else-matches w ↦
+          let d = w.index-definition.result.now in
+          let at : d ≡ get_or ds x.place d = w.index-definition.ensures ∙ ap (λ (t : TableParts). get_or t.definitions x.place d) c.self.view_is in
+          sym (candidate_here q ds cs k x e d c.loop-candidate-test.true refl (c.requires.within k _ c.loop-candidate-test.true) at
+          ∙ ap (λ (b : Bool). cond b (Some d) (first_at q ds (drop (k + 1) (places_of cs)))) (sym w.if-matches.ensures)) ∙ c.loop-candidate.invariant
+      | else-allows w ↦
+          let known = c.allows.ensures w.if-allows.false in
+          let differs = candidate_differs payload ds x (c.requires.asked k e c.loop-candidate-test.true) known.0 known.1 in
+          sym (passed_over q ds cs k x e c.loop-candidate-test.true refl differs) ∙ c.loop-candidate.invariant
+    ]

@@ -1,0 +1,83 @@
+-- What fields ask of the first eight bytes, put together.
+use Rattle.std.proofs.Common.{◌≡◌, ℕ, ◌+◌, ◌-◌, ◌*◌, ◌/◌, ◌%◌, ◌^◌, ◌<◌, ◌≤◌, ◌≢◌, min, max, bit_and, bit_or, nat_eq, true, false, List, length, get_or, slice_get, Option, Some, None, inl, inr, sym, ap, ◌∙◌, arith, lit<}
+use Rattle.std.specs.Int.{bit_at}
+use Rattle.std.specs.List.{list_all}
+use Rattle.std.proofs.lemmas.Bool.{and_parts, cases_Bool, false≢true}
+use Rattle.std.proofs.lemmas.Bool.Decides.{nat_tests}
+use Rattle.std.proofs.lemmas.List.Folds.{list_all_at}
+use Rattle.std.proofs.lemmas.Nat.{pow-add, shl_whole}
+use Rattle.std.proofs.lemmas.Nat.Bits.{and_high, bit_at_and, bit_at_or, same_from_bits}
+use Rattle.std.proofs.Math.Nat.{one-le-pow}
+use Rattle.n2k_table.specs.declared.index.Candidate.{Candidate}
+use Rattle.n2k_table.specs.Bits.{raw}
+use Rattle.n2k_table.specs.Definition.{DefinitionParts}
+use Rattle.n2k_table.specs.Inner.Glance.{IsGlance}
+use Rattle.n2k_table.specs.Inner.Index.{IsOfPlace}
+use Rattle.n2k_table.specs.Field.{FieldParts}
+use Rattle.n2k_table.specs.Shown.{lies_inside}
+use Rattle.n2k_table.specs.Table.{field_matches, has_match_value, matches}
+use Rattle.n2k_table.proofs.RawBits.{raw_out_of}
+
+min_max : (a b c : ℕ) → min a (max b c) ≡ max (min a b) (min a c)
+min_max a b c = omega arith
+
+-- bits that are taken under two masks
+and_or : (word m n : ℕ) → bit_and word (bit_or m n) ≡ bit_or (bit_and word m) (bit_and word n)
+and_or word m n = same_from_bits (bit_and word (bit_or m n)) (bit_or (bit_and word m) (bit_and word n)) (λ i.
+    bit_at_and word (bit_or m n) i
+    ∙ ap (min (bit_at word i)) (bit_at_or m n i)
+    ∙ min_max (bit_at word i) (bit_at m i) (bit_at n i)
+    ∙ sym (bit_at_or (bit_and word m) (bit_and word n) i ∙ ap (λ b. max b (bit_at (bit_and word n) i)) (bit_at_and word m i) ∙ ap (max (min (bit_at word i) (bit_at m i))) (bit_at_and word n i)))
+
+once_more : (p q : ℕ) → (p + 1) * q ≡ p * q + q
+once_more p q = grind arith
+
+-- n bits from bit a on, under their mask
+bits_under : (word a n value : ℕ) → a + n ≤ 64 → word / 2 ^ a % 2 ^ n ≡ value → bit_and word ((2 ^ n - 1) * 2 ^ a % 18446744073709551616) ≡ value * 2 ^ a % 18446744073709551616
+bits_under word a n value inside is =
+    let some : 1 ≤ 2 ^ n = one-le-pow n 2 (lit< tt) in
+    let below : value < 2 ^ n = omega (arith, is, some) in
+    let mask : (2 ^ n - 1) * 2 ^ a % 18446744073709551616 ≡ (2 ^ n - 1) * 2 ^ a = shl_whole (2 ^ n - 1) n a 64 (omega (arith, some)) (omega (arith, inside)) in
+    let whole : value * 2 ^ a % 18446744073709551616 ≡ value * 2 ^ a = shl_whole value n a 64 below (omega (arith, inside)) in
+    let one_more : 2 ^ n ≡ (2 ^ n - 1) + 1 = omega (arith, some) in
+    let spread : 2 ^ n * 2 ^ a ≡ (2 ^ n - 1) * 2 ^ a + 2 ^ a = ap (λ p. p * 2 ^ a) one_more ∙ once_more (2 ^ n - 1) (2 ^ a) in
+    let high : (2 ^ n - 1) * 2 ^ a ≡ 2 ^ (n + a) - 2 ^ a = omega (arith, pow-add 2 n a, spread) in
+    ap (bit_and word) (mask ∙ high) ∙ and_high word n a ∙ ap (λ r. r * 2 ^ a) is ∙ sym whole
+
+-- some bits more are asked for
+pub more_bits : (word mask wanted a n value : ℕ) → a + n ≤ 64 → bit_and word mask ≡ wanted → word / 2 ^ a % 2 ^ n ≡ value
+    → bit_and word (bit_or mask ((2 ^ n - 1) * 2 ^ a % 18446744073709551616)) ≡ bit_or wanted (value * 2 ^ a % 18446744073709551616)
+more_bits word mask wanted a n value inside before is =
+    and_or word mask ((2 ^ n - 1) * 2 ^ a % 18446744073709551616) ∙ ap (λ m. bit_or m (bit_and word ((2 ^ n - 1) * 2 ^ a % 18446744073709551616))) before ∙ ap (bit_or wanted) (bits_under word a n value inside is)
+
+-- what a field asks for is there
+pub has_value : (payload : List ℕ) (f : FieldParts) (m : Option ℕ) (value : ℕ) → m ≡ Some value → has_match_value m f payload ≡ true → raw payload f.at f.bits ≡ value
+has_value payload f None value is match = absurd cc
+has_value payload f (Some v) value is match =
+    let same : v ≡ value = cc in
+    let parts = and_parts (lies_inside f payload) (nat_eq (raw payload f.at f.bits) v) match in
+    grind (arith, nat_tests)
+
+-- the bits of a field that lies in the first eight bytes
+pub in_word : (payload : List ℕ) (a n : ℕ) → a + n ≤ 64 → raw payload 0 64 / 2 ^ a % 2 ^ n ≡ raw payload a n
+in_word payload a n inside =
+    let place : 0 + a ≡ a = omega arith in
+    raw_out_of payload 0 a n 64 inside ∙ ap (λ p. raw payload p n) place
+
+-- a field of those that match
+pub matches_at : (payload : List ℕ) (fs : List FieldParts) (k : ℕ) (f : FieldParts) → k < length fs → f ≡ get_or fs k f → list_all (field_matches payload) fs ≡ true → field_matches payload f ≡ true
+matches_at payload fs k f lt at all =
+    elim (cases_Bool (field_matches payload f)) [
+      | inl match ↦ match
+      | inr differs ↦ absurd (false≢true (sym (list_all_at (field_matches payload) fs k f lt (ap (field_matches payload) (sym at) ∙ differs)) ∙ all))
+    ]
+
+-- data whose first eight bytes differ don't match the definition of a candidate
+pub candidate_differs : (payload : List ℕ) (ds : List DefinitionParts) (c : Candidate) → IsOfPlace ds c → 8 ≤ length payload → bit_and (raw payload 0 64) c.glance.mask ≢ c.glance.wanted
+    → (d : DefinitionParts) → slice_get ds c.place ≡ Some d → matches payload d ≡ false
+candidate_differs payload ds c is enough differs d at =
+    let glance : IsGlance c.glance d.fields = rw at at is in
+    elim (cases_Bool (list_all (field_matches payload) d.fields)) [
+      | inl match ↦ absurd (differs (glance.asked payload enough match))
+      | inr other ↦ other
+    ]

@@ -1,0 +1,85 @@
+//! What a definition asks of the first eight bytes, as one comparison.
+ghost use Rattle.std.specs.Prelude.{◌≡◌, ◌≢◌, ◌+◌, ◌/◌, ◌%◌, ◌^◌, ◌≤◌, ℕ, List, true, false, length, bit_and, IfSome};
+ghost use Rattle.n2k_table.specs.Bits.{raw};
+ghost use Rattle.n2k_table.specs.Table.{field_matches};
+ghost use Rattle.n2k_table.specs.Inner.Glance.{IsGlance};
+
+use crate::bits::greatest;
+use crate::field::Field;
+
+/// The bits that the first eight bytes have.
+const WORD_BITS: u32 = 64;
+
+/// The first eight bytes as one number, the first byte lowest; none where there are fewer.
+#[inline(always)]
+fn first_word(data: &[u8]) -> Option<u64>
+    ensures { IfSome result (λ word. (8 ≤ length «data».now) × (word ≡ raw «data».now 0 64)) }
+{
+    Some(u64::from_le_bytes(*data.first_chunk::<8>()?))
+}
+
+/// Which of the first eight bytes' bits are asked for, and what they have to be, both with the first byte lowest.
+#[derive(Clone, Copy)]
+pub(crate) struct Glance {
+    mask: u64,
+    wanted: u64,
+}
+
+impl Glance {
+    /// One that asks for no bit.
+    const NONE: Glance = Glance { mask: 0, wanted: 0 };
+
+    /// Asks for some bits more.
+    fn with_bits(self, at: u32, bits: u32, value: u64) -> Glance
+        requires some { 1 ≤ bits }
+        requires inside { at + bits ≤ 64 }
+        ensures { (word : ℕ) → bit_and word self.mask ≡ self.wanted → word / 2 ^ at % 2 ^ bits ≡ value
+            → bit_and word result.mask ≡ result.wanted }
+    {
+        Glance {
+            mask: self.mask | (greatest(false, bits) << at),
+            wanted: self.wanted | (value << at),
+        }
+    }
+
+    /// Asks for what a field asks for too, where that lies in the first eight bytes.
+    fn with_field(self, field: &Field) -> Glance
+        ensures { (payload : List ℕ) → field_matches payload field.now ≡ true
+            → bit_and (raw payload 0 64) self.mask ≡ self.wanted
+            → bit_and (raw payload 0 64) result.mask ≡ result.wanted }
+    {
+        match field.match_value {
+            Some(value) if field.at + field.bits <= WORD_BITS => {
+                self.with_bits(field.at, field.bits, value)
+            }
+            _ => self,
+        }
+    }
+
+    /// Whether data may have what is asked for, as far as their first eight bytes tell. Most definitions ask for nothing,
+    /// and then the data are not looked at.
+    #[inline(always)]
+    pub(crate) fn allows(&self, data: &[u8]) -> bool
+        ensures { result ≡ false → (8 ≤ length «data».now)
+            × (bit_and (raw «data».now 0 64) self.now.mask ≢ self.now.wanted) }
+    {
+        if self.mask == 0 {
+            return true;
+        }
+        match first_word(data) {
+            Some(word) => word & self.mask == self.wanted,
+            None => true,
+        }
+    }
+}
+
+/// What these fields ask for.
+pub(crate) fn glance_of(fields: &[Field]) -> Glance
+    ensures { IsGlance result fields.now }
+{
+    let mut glance = Glance::NONE;
+    for field in fields {
+        glance = glance.with_field(field);
+    }
+    glance
+}

@@ -1,0 +1,73 @@
+//! Strings, which say themselves how long they are, and the places behind them.
+ghost use Rattle.std.specs.Prelude.{◌≡◌, ◌≤◌, ◌+◌, ◌/◌, drop, option_map};
+ghost use Rattle.n2k_table.specs.Strings.{taken, behind_string, data_behind};
+ghost use Rattle.n2k_table.specs.Tree.{message_bits};
+ghost use Rattle.n2k_table.specs.Inner.Kept.{bytes_needed};
+
+/// How a string says how long it is.
+#[derive(Clone, Copy)]
+pub(crate) enum Form {
+    /// By a byte that counts itself, one that names the encoding, and the characters.
+    Lau,
+    /// By a byte that counts the characters alone.
+    Lz,
+}
+
+/// A string behind which others stand: its first bit, from where its own place counts, and its form.
+#[derive(Clone, Copy)]
+pub(crate) struct Step {
+    pub(crate) at: u32,
+    pub(crate) form: Form,
+}
+
+/// How many of the bytes are a string that begins with the first of them, its length; none where it is not proper.
+fn taken(form: Form, bytes: &[u8]) -> Option<usize>
+    ensures { result ≡ taken form bytes.now }
+{
+    let length = usize::from(*bytes.first()?);
+    let all = match form {
+        Form::Lau if length < 2 => return None,
+        Form::Lau => length,
+        Form::Lz => 1 + length,
+    };
+    if all <= bytes.len() { Some(all) } else { None }
+}
+
+/// The bytes behind a string that begins with the first of them, if it has an end.
+fn behind_string(form: Form, bytes: &[u8]) -> Option<&[u8]>
+    ensures { option_map (λ rest. rest.now) result ≡ behind_string form bytes.now }
+{
+    let taken = taken(form, bytes)?;
+    bytes.get(taken..)
+}
+
+/// The bytes from that of a bit on.
+fn from_bit(bytes: &[u8], at: u32) -> &[u8]
+    ensures { result.now ≡ drop (at / 8) bytes.now }
+{
+    bytes.get(at as usize / 8..).unwrap_or(&[])
+}
+
+/// The data from where a field's place counts: those behind the strings before it, if each of these has an end.
+pub(crate) fn data_behind<'a>(steps: &[Step], data: &'a [u8]) -> Option<&'a [u8]>
+    ensures { option_map (λ rest. rest.now) result ≡ data_behind steps.now «data».now }
+{
+    let mut rest = data;
+    for step in steps {
+        rest = behind_string(step.form, from_bit(rest, step.at))?;
+    }
+    Some(rest)
+}
+
+/// How many bytes the data must have for a field to lie inside them. Where it stands behind a string, that is more than
+/// any have.
+pub(crate) fn bytes_needed(behind: &[Step], at: u32, bits: u32) -> usize
+    requires { at + bits ≤ message_bits }
+    ensures { result ≡ bytes_needed behind.now at bits }
+{
+    if behind.is_empty() {
+        (at + bits + 7) as usize / 8
+    } else {
+        usize::MAX
+    }
+}

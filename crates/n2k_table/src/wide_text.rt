@@ -1,0 +1,83 @@
+//! Texts of UTF-16 in JSON.
+ghost use Rattle.std.specs.Prelude.{◌≡◌, ◌<◌, ◌+◌, ◌++◌, ◌∷◌, [], ◌&&◌, true, false, length, flat_map, unwrap_or, MatchOption, OnOk};
+ghost use Rattle.std.specs.Char.Utf16.{is_high_surrogate, is_low_surrogate, surrogate_pair_char, lone_unit_char, utf16_lossy_chars};
+ghost use Rattle.json.specs.Print.{escape_byte};
+ghost use Rattle.n2k_table.specs.Strings.{units, wide_text};
+ghost use Rattle.n2k_table.specs.Text.{text_json, character};
+
+use crate::line_buffer::LineBuffer;
+use crate::text::push_each;
+use std::alloc::AllocError;
+
+/// The first unit, and the bytes behind it.
+fn split_unit(bytes: &[u8]) -> Option<(u16, &[u8])>
+    ensures { MatchOption result (units bytes.now ≡ [])
+        (λ p. (units bytes.now ≡ p.0 ∷ units p.1.now) × (length p.1.now + 2 ≡ length bytes.now)) }
+{
+    let (low, behind) = bytes.split_first()?;
+    let (high, rest) = behind.split_first()?;
+    Some((u16::from(*low) + 256 * u16::from(*high), rest))
+}
+
+/// The character of two units, where they are a pair of surrogates.
+fn pair_character(first: u16, second: u16) -> Option<char>
+    ensures { MatchOption result (is_high_surrogate first && is_low_surrogate second ≡ false)
+        (λ c. (is_high_surrogate first && is_low_surrogate second ≡ true) × (c ≡ surrogate_pair_char first second)) }
+{
+    if !(0xd800..0xdc00).contains(&first) || !(0xdc00..0xe000).contains(&second) {
+        return None;
+    }
+    char::from_u32(0x10000 + (u32::from(first) - 0xd800) * 0x400 + (u32::from(second) - 0xdc00))
+}
+
+/// The character of a unit that is in no pair.
+fn lone_character(unit: u16) -> char
+    ensures { result ≡ unwrap_or (lone_unit_char unit) 0xfffd }
+{
+    char::from_u32(u32::from(unit)).unwrap_or(char::REPLACEMENT_CHARACTER)
+}
+
+/// The first character, and the bytes behind it.
+fn split_character(bytes: &[u8]) -> Option<(char, &[u8])>
+    ensures { MatchOption result (units bytes.now ≡ [])
+        (λ p. (utf16_lossy_chars (units bytes.now) ≡ p.0 ∷ utf16_lossy_chars (units p.1.now))
+        × (length p.1.now < length bytes.now)) }
+{
+    let (unit, behind) = split_unit(bytes)?;
+    if let Some((next, rest)) = split_unit(behind) {
+        if let Some(letter) = pair_character(unit, next) {
+            return Some((letter, rest));
+        }
+    }
+    Some((lone_character(unit), behind))
+}
+
+/// Appends what stands in a text for a character.
+fn push_char(letter: char, line: &mut LineBuffer) -> Result<(), AllocError>
+    ensures { OnOk result (line.new.items ≡ line.old.items ++ flat_map escape_byte (character letter)) }
+{
+    let mut room = [0; 4];
+    push_each(letter.encode_utf8(&mut room).as_bytes(), line)
+}
+
+/// Appends what stands between the quotes of a text.
+fn push_inner_wide(bytes: &[u8], line: &mut LineBuffer) -> Result<(), AllocError>
+    ensures { OnOk result (line.new.items ≡ line.old.items ++ flat_map escape_byte (wide_text bytes.now)) }
+{
+    let mut rest = bytes;
+    while let Some((letter, behind)) = split_character(rest) {
+        push_char(letter, line)?;
+        rest = behind;
+    }
+    Ok(())
+}
+
+/// Appends the text of UTF-16, low byte first.
+#[tactic(auto, using(std::proofs::Common::append_assoc), unfolding(crate::specs::Text::text_json))]
+pub(crate) fn push_wide(bytes: &[u8], line: &mut LineBuffer) -> Result<(), AllocError>
+    ensures { OnOk result (line.new.items ≡ line.old.items ++ text_json (wide_text bytes.now)) }
+{
+    line.push(b'"')?;
+    push_inner_wide(bytes, line)?;
+    line.push(b'"')
+}
