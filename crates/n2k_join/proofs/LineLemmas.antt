@@ -7,6 +7,8 @@ use Rattle.n2k_table.specs.declared.definition.Kind.{Kind}
 use Rattle.n2k_join.specs.declared.step.Broken.{Broken}
 use Rattle.n2k_join.specs.declared.counts.Counts.{Counts}
 use Rattle.n2k_wire.specs.Packet.{PacketParts}
+use Rattle.n2k_table.specs.Table.{KnownParts, TableParts}
+use Rattle.n2k_join.specs.Inner.Taken.{message_in, IsOwn}
 use Rattle.n2k_join.specs.declared.step.Step.{Step}
 use Rattle.n2k_join.specs.Step.{given_of, due}
 use Rattle.n2k_join.specs.Frames.{same_key, Frame, frame_in}
@@ -124,6 +126,12 @@ length-told : (o : Option Broken) → length (option_to_list o) ≡ one_if (is_s
 length-told None = refl
 length-told (Some b) = refl
 
+-- an entry that was taken as a message has one
+pub own_counted : (t : TableParts) (known : Option KnownParts) (own : Option PacketParts) → IsOwn t known own → is_some (message_in (is_some known) own) ≡ is_some known
+own_counted t None own is = refl
+own_counted t (Some k) None is = absurd is
+own_counted t (Some k) (Some p) is = refl
+
 -- What a line gives and leaves, by what the code knows before: the state is one that a join can have, and none is due.
 module _ (kind : ℕ → Option Kind) (s t : State) (e : Entry) (order : Bool) (state : IsState s) (is : s ≡ t)
     (ready : due t ≡ None) (below : s.counts.lines ≡ most_lines → ⊥) (same : order ≡ s.window.in_order) where
@@ -143,7 +151,7 @@ module _ (kind : ℕ → Option Kind) (s t : State) (e : Entry) (order : Bool) (
   pub line-gives : {g : Given} → g ≡ gives → g ≡ step_given kind t e
   line-gives given = given ∙ sym steps.given ∙ ap (λ u. step_given kind u e) is
 
-  pub line-leads : (step : Step PacketParts) (unknown : Bool) (n : ℕ) (gs : List Group) (r : Counts)
+  pub line-leads : (step : Step) (unknown : Bool) (n : ℕ) (gs : List Group) (r : Counts)
       → given_of step ≡ gives → unknown ≡ is_unknown kind e → gs ≡ leaves → n ≡ length gs
       → r ≡ record {
         lines = s.counts.lines + 1;

@@ -1,6 +1,6 @@
 -- A frame taken into the open groups, which are kept by key: what their list is after it.
 use Rattle.std.proofs.Common.{◌≡◌, ◌<◌, ◌≤◌, ◌+◌, ◌==◌, ◌*◌, ℕ, zero, suc, ltb, Bool, true, false, cond, not, List, [], ◌∷◌, ◌++◌, length, take, drop, slice_get, get_or, refl, sym, ap, ◌∙◌, subst, arith, Option, Some, None, IfSome, option_map, ◌&&◌, option_to_list, option_and_then, filter_map}
-use Rattle.std.specs.Prelude.{is_some, position, Result, Ok, Err, OnOk}
+use Rattle.std.specs.Prelude.{is_some, position}
 use Rattle.std.specs.Cmp.{IsEquivalence}
 use Rattle.n2k_join.proofs.JoinLemmas.{taken-others}
 use Rattle.n2k_join.proofs.Rising.{passes_none}
@@ -122,11 +122,6 @@ unfolding groups_after
 none-after order x gs none =
     ap (λ hs. hs ++ option_to_list (opened order x (of_the_key x.key gs))) (taken-others order x gs (passes_none (λ (g : Group). same_key x.key g.key) gs none))
     ∙ ap (λ (o : Option Group). gs ++ option_to_list (opened order x o)) none
-
--- what follows of an answer follows where it is one
-pub on_ok : {T E : Type 0} (r : Result T E) (P Q : Type 0) → (P → Q) → OnOk r P → OnOk r Q
-on_ok (Ok x) P Q f p = f p
-on_ok (Err e) P Q f p = tt
 
 -- ---- what is open of the frame's key
 

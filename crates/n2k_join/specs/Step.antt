@@ -9,18 +9,19 @@ use Rattle.n2k_table.specs.declared.definition.Kind.{Kind}
 use Rattle.n2k_join.specs.declared.fault.JoinFault.{JoinFault}
 use Rattle.n2k_join.specs.declared.fault.JoinFault.TheVariants.{Memory, TooManyLines}
 use Rattle.n2k_join.specs.declared.step.Step.{Step}
+use Rattle.n2k_join.specs.declared.step.LentStep.{LentStep}
 use Rattle.n2k_join.specs.Frames.{same_key, Frame, frame_in}
 use Rattle.n2k_join.specs.Open.{Group}
 use Rattle.n2k_join.specs.State.{State, Given, next_line, overdue, step_given, step_after, AreWaiting}
 use Rattle.n2k_join.specs.Counts.{most_lines}
 
 -- A line breaks at most one group beside those whose window ends at it.
-abbrev pub given_of : Step PacketParts → Given
+abbrev pub given_of : Step → Given
 given_of step = record { message = step.message; cause = step.bad; broken = option_to_list step.broken }
 
--- what a line gives, its message being what `seen` says of it
-abbrev pub with_message : {M : Type 0} → (M → PacketParts) → Step M → Step PacketParts
-with_message seen step = record { message = option_map seen step.message; bad = step.bad; broken = step.broken }
+-- the step of a line, without its number
+abbrev pub step_in : LentStep → Step
+step_in step = record { message = option_map (λ m. m.packet.now) step.message; bad = step.bad; broken = step.broken }
 
 abbrev pub opens_by : List Group → Option Frame → Bool
 opens_by groups None = false

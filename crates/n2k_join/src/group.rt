@@ -110,19 +110,20 @@ impl OpenGroup {
         is_ones(self.mask, self.slots[0][0] / 7)
     }
 
-    /// Writes the message of the group, which is complete, to `joined`, with the stamp and identifier of the packet
-    /// that completed it.
-    pub(crate) fn write_message(&self, packet: &Packet, joined: &mut Option<Packet>)
+    /// Makes the packet that completed the group its message: that has the group's data, and the packet's stamp and
+    /// identifier.
+    pub(crate) fn write_message(&self, packet: &mut Packet)
         requires { (key : Key) → complete (held_of (group_in key self.now)) ≡ true }
-        ensures { (key : Key) → joined.new ≡ Some (record {
-          stamp = packet.now.stamp;
-          id = packet.now.id;
+        ensures message { (key : Key) → packet.new ≡ record {
+          stamp = packet.old.stamp;
+          id = packet.old.id;
           payload = data_of (held_of (group_in key self.now));
-        }) }
+        } }
+        ensures same { packet.new.id ≡ packet.old.id }
     {
         let total = usize::from(self.slots[0][0]);
         let sent = self.slots.as_flattened();
-        *joined = Packet::new(packet.stamp(), packet.id(), &sent[1..1 + total]);
+        packet.set_data(&sent[1..1 + total]);
     }
 
     /// What is reported of the group, whose key this is, where it ends without a message.

@@ -1,7 +1,7 @@
 //! The join: the open groups and the counts of a log, taken on line by line.
 ghost use Rattle.std.specs.Prelude.{◌≡◌, ◌+◌, ◌*◌, ◌≤◌, ◌<◌, ◌↔◌, ℕ, [], length, IfOk, IfSome, OnOk, OnErr, IsErrOf, IsSome, IsNone, Ok, Option, None, Some, true, is_some, option_map};
 ghost use Rattle.n2k_table.specs.declared.definition.Kind.{Kind};
-ghost use Rattle.n2k_table.specs.Table.{kind};
+ghost use Rattle.n2k_table.specs.Table.{kind, TableParts};
 ghost use Rattle.n2k_wire.specs.declared.entry.Entry.{Entry};
 ghost use Rattle.n2k_wire.specs.Entry.{IsShort, IsEntry};
 ghost use Rattle.n2k_wire.specs.Packet.{IsPacket, IsPacketParts};
@@ -12,12 +12,12 @@ ghost use Rattle.n2k_join.specs.State.{state, step_given, step_after, AreCounts,
 ghost use Rattle.n2k_join.specs.Refusal.{GivesOrMemory};
 ghost use Rattle.n2k_join.specs.Resumed.{is_valid, resumed, state_of_parts, valid_if};
 ghost use Rattle.n2k_join.specs.Saved.{IsId, state_text, bare_bytes, group_bytes};
-ghost use Rattle.n2k_join.specs.Step.{given_of, with_message, opens, due, expired, TakesLine};
+ghost use Rattle.n2k_join.specs.Step.{given_of, step_in, opens, due, expired, TakesLine};
 ghost use Rattle.n2k_join.specs.Laws.{ExpiresFirst};
-ghost use Rattle.n2k_join.specs.Inner.Taken.{given_of_taken, packet_in};
+ghost use Rattle.n2k_join.specs.Inner.Taken.{given_of_taken, message_in, packet_in, IsOwn};
 
 use crate::counts::{Counts, MOST_LINES};
-use crate::entry_taking::{Taken, packet_of, take_entry};
+use crate::entry_taking::{Taken, packet_in, packet_of, take_entry};
 use crate::fault::{JoinFault, StateFault};
 use crate::laws;
 use crate::open_groups::OpenGroups;
@@ -25,9 +25,9 @@ use crate::saved::{
     SpelledGroup, SpelledState, format_in, parsed, read_state, rules_hold, state_text,
     stored_groups, waits_hold, written_parts,
 };
-use crate::step::{Broken, LentStep, Step};
+use crate::step::{Broken, LentStep, Step, TableMessage};
 use crate::window::Window;
-use n2k_table::Table;
+use n2k_table::{KnownPgn, Table};
 use n2k_wire::{Entry, Id, Packet};
 use std::alloc::{AllocError, Global};
 use std::marker::Model;
@@ -87,27 +87,48 @@ fn know_entry(entry: &Entry)
     }
 }
 
-/// The counts after a line, which gives a message or none.
-fn counts_after(counts: Counts, taken: &Taken, is_message: bool, held: usize) -> Counts
-    requires are { AreCounts counts }
-    requires below { counts.lines < most_lines }
-    ensures { result ≡ record {
-      lines = counts.lines + 1;
-      messages = counts.messages + one_if is_message;
-      bad = counts.bad + one_if (is_some taken.now.bad);
-      unknown = counts.unknown + one_if taken.now.is_unknown;
-      broken = counts.broken + one_if (is_some taken.now.broken);
+/// Counts one more where that is so. It is a branch of its own, so that a line touches the counts that it changes alone.
+#[inline(always)]
+fn count_if(is: bool, count: &mut u64)
+    requires { count.old < most_lines + most_lines }
+    ensures { count.new ≡ count.old + one_if is }
+{
+    if is {
+        *count += 1;
+    }
+}
+
+/// Counts a line.
+#[inline(always)]
+fn count_line(taken: &Taken<'_>, held: usize, counts: &mut Counts)
+    requires are { AreCounts counts.old }
+    requires below { counts.old.lines < most_lines }
+    ensures { counts.new ≡ record {
+      lines = counts.old.lines + 1;
+      messages = counts.old.messages + one_if (is_some taken.now.message);
+      bad = counts.old.bad + one_if (is_some taken.now.bad);
+      unknown = counts.old.unknown + one_if taken.now.is_unknown;
+      broken = counts.old.broken + one_if (is_some taken.now.broken);
       held = held;
     } }
 {
-    Counts {
-        lines: counts.lines + 1,
-        messages: counts.messages + u64::from(is_message),
-        bad: counts.bad + u64::from(taken.bad.is_some()),
-        unknown: counts.unknown + u64::from(taken.is_unknown),
-        broken: counts.broken + u64::from(taken.broken.is_some()),
-        held: held as u64,
-    }
+    counts.lines += 1;
+    counts.held = held as u64;
+    count_if(taken.message.is_some(), &mut counts.messages);
+    count_if(taken.bad.is_some(), &mut counts.bad);
+    count_if(taken.is_unknown, &mut counts.unknown);
+    count_if(taken.broken.is_some(), &mut counts.broken);
+}
+
+/// The message that an entry has, where its PGN has been found.
+fn lent<'a>(found: Option<KnownPgn<'a>>, entry: &'a Entry) -> Option<TableMessage<'a>>
+    ensures message { option_map (λ m. m.packet.now) result ≡ message_in (is_some found.entry) (packet_in entry.now) }
+    ensures pgn { (t : TableParts) → IsOwn t found.entry (packet_in entry.now)
+        → IfSome result (λ m. m.pgn ≡ record { table = t; pgn = m.packet.now.id.pgn }) }
+{
+    let pgn = found?;
+    let packet = packet_in(entry)?;
+    Some(TableMessage { packet, pgn })
 }
 
 impl Join {
@@ -204,34 +225,23 @@ impl Join {
         Some(broken)
     }
 
-    /// Takes the next line, as its entry. The message of a group that it completes goes to `joined`.
-    fn take(
-        &mut self,
-        table: &Table,
-        entry: &Entry,
-        joined: &mut Option<Packet>,
-    ) -> Result<Taken, JoinFault>
-        requires short { IsShort entry.now }
+    /// Takes the next line, as its entry. Its packet becomes the message of a group that it completes.
+    fn take<'t>(&mut self, table: &'t Table, entry: &mut Entry) -> Result<Taken<'t>, JoinFault>
+        requires short { IsShort entry.old }
         requires expired { due self.old ≡ None }
-        requires none { joined.old ≡ None }
-        ensures { TakesLine (λ o. given_of_taken o (packet_in entry.now) joined.new)
-            (kind table.now) self.old self.new entry.now result }
+        ensures takes { TakesLine (λ o. given_of_taken o (packet_in entry.new))
+            (kind table.now) self.old self.new entry.old result }
+        ensures own { IfOk result (λ o. IsOwn table.now o.message (packet_in entry.new)) }
+        ensures entry { OnErr result (entry.new ≡ entry.old) }
     {
         if self.counts.lines == MOST_LINES {
             return Err(JoinFault::TooManyLines);
         }
         know_entry(entry);
         let line = self.counts.lines + 1;
-        let taken = take_entry(
-            self.window.is_in_order(),
-            &mut self.groups,
-            line,
-            table,
-            entry,
-            joined,
-        )?;
-        let is_message = taken.is_message(entry, joined);
-        self.counts = counts_after(self.counts, &taken, is_message, self.groups.len());
+        let in_order = self.window.is_in_order();
+        let taken = take_entry(in_order, &mut self.groups, line, table, entry)?;
+        count_line(&taken, self.groups.len(), &mut self.counts);
         Ok(taken)
     }
 
@@ -256,54 +266,54 @@ impl Join {
         requires expired { due self.old ≡ None }
         ensures { TakesLine given_of (kind table.now) self.old self.new entry result }
     {
-        let mut joined = None;
-        let taken = self.take(table, &entry, &mut joined)?;
-        let Taken {
-            is_own,
-            bad,
-            broken,
-            ..
-        } = taken;
-        let message = if is_own { packet_of(entry) } else { joined };
+        let mut entry = entry;
+        let taken = self.take(table, &mut entry)?;
+        let is_message = taken.message.is_some();
         Ok(Step {
-            message,
-            bad,
-            broken,
+            message: if is_message { packet_of(entry) } else { None },
+            bad: taken.bad,
+            broken: taken.broken,
         })
     }
 
-    /// Takes the next line as `line` does, as an entry that stays where it is: the message is lent from it, or from
-    /// `joined`, to which the message of a group is written. What `joined` held is let go.
+    /// Takes the next line as `line` does, as an entry that stays where it is, and lends the message from it: where a
+    /// group is complete, the entry's packet becomes its message. After a refusal the join is as it was, and so is the
+    /// entry, which the clause of `take` alone can say: the logic has no value of what a call may have lent.
     ///
     /// ```rust
     /// let table = sample_table(alloc)?;
     /// let mut join = Join::new(alloc, &table, Window::new(10_000).unwrap());
-    /// let mut joined = None;
     /// assert_eq!(rt; join.expire(), None);
-    /// let entry = read_line("(1.0) can0 09F8027F#0500".as_bytes(), Packing::Frames);
-    /// let step = join.lend(&table, &entry, &mut joined)?;
+    /// let mut entry = read_line("(1.0) can0 09F8027F#0500".as_bytes(), Packing::Frames);
+    /// let step = join.lend(&table, &mut entry)?;
+    /// assert_eq!(rt; step.line, 1);
     /// let message = step.message.ok_or("a message")?;
-    /// assert_eq!(rt; message.id().pgn, 129026);
+    /// assert_eq!(rt; message.packet.id().pgn, 129026);
     /// ```
     pub fn lend<'a>(
         &mut self,
-        table: &Table,
-        entry: &'a Entry,
-        joined: &'a mut Option<Packet>,
+        table: &'a Table,
+        entry: &'a mut Entry,
     ) -> Result<LentStep<'a>, JoinFault>
-        requires short { IsShort entry.now }
+        requires short { IsShort entry.old }
         requires expired { due self.old ≡ None }
-        ensures { TakesLine (λ step. given_of (with_message (λ p. p.now) step))
-            (kind table.now) self.old self.new entry.now result }
+        ensures takes { TakesLine (λ step. given_of (step_in step))
+            (kind table.now) self.old self.new entry.old result }
+        ensures line { IfOk result (λ step. step.line ≡ self.new.counts.lines) }
+        ensures pgn { IfOk result (λ step. IfSome step.message
+            (λ m. m.pgn ≡ record { table = table.now; pgn = m.packet.now.id.pgn })) }
     {
-        if joined.is_some() {
-            *joined = None;
-        }
-        let taken = self.take(table, entry, joined)?;
-        Ok(Step {
-            message: taken.message(entry, joined),
-            bad: taken.bad,
-            broken: taken.broken,
+        let Taken {
+            message,
+            bad,
+            broken,
+            ..
+        } = self.take(table, entry)?;
+        Ok(LentStep {
+            line: self.counts.lines,
+            message: lent(message, entry),
+            bad,
+            broken,
         })
     }
 

@@ -58,6 +58,6 @@ pub use counts::{Counts, MOST_LINES};
 pub use fault::{JoinFault, SplitFault, StateFault};
 pub use join::Join;
 pub use splitter::{Frames, Splitter};
-pub use step::{Broken, LentStep, Step};
+pub use step::{Broken, LentStep, Step, TableMessage};
 pub use stream::Stream;
 pub use window::Window;

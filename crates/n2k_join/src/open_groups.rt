@@ -17,7 +17,7 @@ use std::alloc::{AllocError, Global};
 use std::collections::VecDeque;
 
 /// How many openings there is room for beside three for each open group, where room is made: so a queue of few groups
-/// is seldom full, and one of many grows by half.
+/// is seldom full, and one of many grows by half, or to twice its room.
 const SPARE_OPENINGS: usize = 32;
 
 /// That a group of a key was opened at a line, and its place in the map while it is open.

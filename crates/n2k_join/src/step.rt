@@ -1,20 +1,40 @@
 //! What a line gives: a message, a cause, a broken group.
 
+use n2k_table::KnownPgn;
 use n2k_wire::{BadCause, Packet};
 
-/// What a line gives: its message is a packet, or lent (`LentStep`). A line that gives nothing is counted.
+/// What a line gives. A line that gives nothing is counted.
 #[derive(Drop)]
-pub struct Step<Message = Packet> {
+pub struct Step {
     /// The message that it is or completes.
-    pub message: Option<Message>,
+    pub message: Option<Packet>,
     /// Why it is bad.
     pub bad: Option<BadCause>,
     /// The group that its frame breaks.
     pub broken: Option<Broken>,
 }
 
-/// What a line gives whose message stays where it is.
-pub type LentStep<'a> = Step<&'a Packet>;
+/// A message that stays in its line's entry, and what the table has of its PGN.
+#[derive(Drop)]
+pub struct TableMessage<'a> {
+    /// The message.
+    pub packet: &'a Packet,
+    /// Its PGN, looked up in the table.
+    pub pgn: KnownPgn<'a>,
+}
+
+/// What a line gives, by its number.
+#[derive(Drop)]
+pub struct LentStep<'a> {
+    /// The number of the line, counted from 1.
+    pub line: u64,
+    /// The message that it is or completes.
+    pub message: Option<TableMessage<'a>>,
+    /// Why it is bad.
+    pub bad: Option<BadCause>,
+    /// The group that its frame breaks.
+    pub broken: Option<Broken>,
+}
 
 /// A group of frames that ended without a message: one of its frame numbers came again, its window ended, or, in
 /// order, a number came that isn't greater than each of its own.

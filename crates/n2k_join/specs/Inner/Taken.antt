@@ -1,8 +1,9 @@
--- What taking an entry gives, where the entry keeps its own packet.
-use Rattle.std.specs.Prelude.{if◌then◌else◌, Option, Some, None, option_to_list}
+-- What taking an entry gives, where its message is the entry's own packet.
+use Rattle.std.specs.Prelude.{◌≡◌, Bool, is_some, if◌then◌else◌, Option, Some, None, option_to_list}
 use Rattle.n2k_wire.specs.declared.entry.Entry.{Entry}
 use Rattle.n2k_wire.specs.declared.entry.Entry.TheVariants as entries
 use Rattle.n2k_wire.specs.Packet.{PacketParts}
+use Rattle.n2k_table.specs.Table.{KnownParts, TableParts}
 use Rattle.n2k_join.specs.declared.entry_taking.Taken.{Taken}
 use Rattle.n2k_join.specs.State.{Given}
 
@@ -13,11 +14,17 @@ packet_in (entries.Bad cause) = None
 packet_in (entries.Frame packet) = Some packet
 packet_in (entries.Whole packet) = Some packet
 
--- the message of a taken entry: the entry's own packet, or what a group gave
-abbrev pub taken_message : Taken → Option PacketParts → Option PacketParts → Option PacketParts
-taken_message o own joined = if o.is_own then own else joined
+-- the packet of a line as its message, where it is one
+abbrev pub message_in : Bool → Option PacketParts → Option PacketParts
+message_in is_message own = if is_message then own else None
 
--- what a taken entry gives
-abbrev pub given_of_taken : Taken → Option PacketParts → Option PacketParts → Given
-given_of_taken o own joined =
-    record { message = taken_message o own joined; cause = o.bad; broken = option_to_list o.broken }
+-- a message that an entry now has, and what its table has of its PGN
+abbrev pub IsOwn : TableParts → Option KnownParts → Option PacketParts → Type 0
+IsOwn t None own = Unit {0}
+IsOwn t (Some known) None = ⊥
+IsOwn t (Some known) (Some packet) = known ≡ record { table = t; pgn = packet.id.pgn }
+
+-- what a taken entry gives, which now has this packet
+abbrev pub given_of_taken : Taken → Option PacketParts → Given
+given_of_taken o own =
+    record { message = message_in (is_some o.message) own; cause = o.bad; broken = option_to_list o.broken }

@@ -12,11 +12,11 @@ returns-in-Bad-clause-kept c = let g = c.args.groups.now in kept-later c.args.li
 pub returns-in-None-clause-kept : goal.returns-in-None-clause-kept
 returns-in-None-clause-kept c = let g = c.args.groups.now in kept-later c.args.line (c.args.line + 1) g.groups.entries g.openings.items (deque_capacity g.openings) (omega arith) c.requires.kept
 
-pub returns-in-Some-Single-clause-kept : goal.returns-in-Some-Single-clause-kept
-returns-in-Some-Single-clause-kept c = let g = c.args.groups.now in kept-later c.args.line (c.args.line + 1) g.groups.entries g.openings.items (deque_capacity g.openings) (omega arith) c.requires.kept
+pub returns-in-Single-clause-kept : goal.returns-in-Single-clause-kept
+returns-in-Single-clause-kept c = let g = c.args.groups.now in kept-later c.args.line (c.args.line + 1) g.groups.entries g.openings.items (deque_capacity g.openings) (omega arith) c.requires.kept
 
-pub returns-in-None-kind-clause-kept : goal.returns-in-None-kind-clause-kept
-returns-in-None-kind-clause-kept c = let g = c.args.groups.now in kept-later c.args.line (c.args.line + 1) g.groups.entries g.openings.items (deque_capacity g.openings) (omega arith) c.requires.kept
+pub returns-in-None-find-clause-kept : goal.returns-in-None-find-clause-kept
+returns-in-None-find-clause-kept c = let g = c.args.groups.now in kept-later c.args.line (c.args.line + 1) g.groups.entries g.openings.items (deque_capacity g.openings) (omega arith) c.requires.kept
 
-pub returns-in-Some-clause-kept : goal.returns-in-Some-clause-kept
-returns-in-Some-clause-kept c = let g = c.args.groups.now in kept-later c.args.line (c.args.line + 1) g.groups.entries g.openings.items (deque_capacity g.openings) (omega arith) c.requires.kept
+pub returns-in-Some-find-clause-kept : goal.returns-in-Some-find-clause-kept
+returns-in-Some-find-clause-kept c = let g = c.args.groups.now in kept-later c.args.line (c.args.line + 1) g.groups.entries g.openings.items (deque_capacity g.openings) (omega arith) c.requires.kept

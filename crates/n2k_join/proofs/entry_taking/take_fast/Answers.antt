@@ -9,9 +9,9 @@ use Rattle.n2k_join.proofs.Queue.{kept-later}
 use Rattle.n2k_join.proofs.JoinLemmas.{none-listed, on_err}
 use Rattle.n2k_join.proofs.entry_taking.take_fast.Goals as goal
 
-pub returns-in_err-broken-clause-memory : goal.returns-in_err-broken-clause-memory
-returns-in_err-broken-clause-memory c =
-    let none = none-listed (λ (g : Group). same_key (key_of c.in-Some.frame.key) g.key) (listed c.args.groups.now) c.in_err-broken.ensures.memory in
+pub returns-in_err-is_message-clause-memory : goal.returns-in_err-is_message-clause-memory
+returns-in_err-is_message-clause-memory c =
+    let none = none-listed (λ (g : Group). same_key (key_of c.in-Some.frame.key) g.key) (listed c.args.groups.now) c.in_err-is_message.ensures.memory in
     on_err c.from_residual.result _ (ap (opens_by (listed c.args.groups.now)) (sym (c.in-Some.ensures c.args.line)) ∙ ap not none)
 
 pub returns-in_default-clause-kept : goal.returns-in_default-clause-kept

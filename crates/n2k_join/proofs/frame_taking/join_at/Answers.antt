@@ -1,4 +1,4 @@
-use Rattle.std.proofs.Common.{◌≡◌, ◌<◌, ◌+◌, arith, ◌∙◌, sym, subst, true, false, Some, None, length}
+use Rattle.std.proofs.Common.{◌≡◌, refl, ◌<◌, ◌+◌, arith, ◌∙◌, sym, ap, subst, true, false, Some, None, length}
 use Rattle.std.specs.VecDeque.{deque_capacity}
 use Rattle.indexmap.specs.IndexMap.{set_value_at}
 use Rattle.indexmap.proofs.CallerLemmas.{updates-with_value_at}
@@ -57,14 +57,15 @@ returns-then-is_complete c =
     let placed = placed-later line (line + 1) es'' ps (omega arith) (c.remove_at.ensures.placed line (placed-written line es q.items c.args.at k v w at.1 c.take.ensures.first apart c.requires.kept.placed)) in
     let done = sym (c.is_complete.ensures (key_of k)) ∙ c.if-is_complete.true in
     record {
-      message = c.write_message.ensures (key_of k) ∙ joins-message order line packet frame es es'' q.items (deque_capacity q) v c.requires.kept at.0 c.requires.apart w c.requires.«open» free c.take.ensures.first (c.take.ensures.taken (key_of k)) true done;
+      same = c.write_message.ensures.same;
+      message = ap Some (c.write_message.ensures.message (key_of k)) ∙ joins-message order line packet frame es es'' q.items (deque_capacity q) v c.requires.kept at.0 c.requires.apart w c.requires.«open» free c.take.ensures.first (c.take.ensures.taken (key_of k)) true done;
       groups = goes-groups order line packet frame es es'' q.items (deque_capacity q) v c.requires.kept at.0 c.requires.apart w c.requires.«open» free c.take.ensures.first (c.take.ensures.taken (key_of k)) done changes ps c.remove_at.ensures.paired placed;
       kept = subst (λ n. KeptBy (line + 1) es'' ps n) (sym c.remove_at.ensures.capacity) (goes-kept order line packet frame es es'' q.items (deque_capacity q) v c.requires.kept at.0 c.requires.apart w c.requires.«open» free c.take.ensures.first (c.take.ensures.taken (key_of k)) done changes ps c.remove_at.ensures.paired placed less);
     }
 
-pub returns-else-is_complete : goal.returns-else-is_complete
+pub returns : goal.returns
 unfolding same_key
-returns-else-is_complete c =
+returns c =
     let order = c.args.in_order in
     let line = c.args.line in
     let packet = c.args.packet.now in
@@ -83,7 +84,8 @@ returns-else-is_complete c =
     let apart = written-distinct es c.args.at w c.get_index_mut.ensures.unique in
     let placed = placed-later line (line + 1) es' q.items (omega arith) (placed-written line es q.items c.args.at k v w at.1 c.take.ensures.first apart c.requires.kept.placed) in
     record {
-      message = c.requires.none ∙ joins-message order line packet frame es es' q.items (deque_capacity q) v c.requires.kept at.0 c.requires.apart w c.requires.«open» free c.take.ensures.first (c.take.ensures.taken (key_of k)) false left;
+      same = refl;
+      message = joins-message order line packet frame es es' q.items (deque_capacity q) v c.requires.kept at.0 c.requires.apart w c.requires.«open» free c.take.ensures.first (c.take.ensures.taken (key_of k)) false left;
       groups = stays-groups order line packet frame es es' q.items (deque_capacity q) v c.requires.kept at.0 c.requires.apart w c.requires.«open» free c.take.ensures.first (c.take.ensures.taken (key_of k)) left wrote placed;
       kept = stays-kept order line packet frame es es' q.items (deque_capacity q) v c.requires.kept at.0 c.requires.apart w c.requires.«open» free c.take.ensures.first (c.take.ensures.taken (key_of k)) left wrote placed (length-written es c.args.at w);
     }

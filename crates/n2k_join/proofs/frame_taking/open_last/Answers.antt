@@ -1,4 +1,4 @@
-use Rattle.std.proofs.Common.{◌≡◌, ◌+◌, ◌∙◌, ◌++◌, [], ◌∷◌, sym, ap, subst, cond, Some, None, option_map, OnOk, OnErr, arith}
+use Rattle.std.proofs.Common.{◌≡◌, ◌+◌, ◌∙◌, ◌++◌, [], ◌∷◌, sym, ap, subst, cond, Some, None, option_map, arith}
 use Rattle.std.proofs.lemmas.List.{append-nil}
 use Rattle.n2k_join.specs.Frames.{Frame}
 use Rattle.n2k_join.specs.Open.{Group}
@@ -8,9 +8,9 @@ use Rattle.n2k_join.specs.Inner.Stored.{key_of, frame_of, gained}
 use Rattle.n2k_join.specs.Inner.Slots.{group_in}
 use Rattle.n2k_join.specs.Inner.Queue.{listed, IsKept}
 use Rattle.std.specs.VecDeque.{deque_capacity}
-use Rattle.n2k_join.proofs.JoinLemmas.{message-begun, groups-begun}
+use Rattle.n2k_join.proofs.JoinLemmas.{message-begun, groups-begun, on_err}
 use Rattle.n2k_join.proofs.Queue.{key-found, kept-later}
-use Rattle.n2k_join.proofs.QueueFrames.{none-after, on_ok}
+use Rattle.n2k_join.proofs.QueueFrames.{none-after}
 use Rattle.n2k_join.proofs.frame_taking.open_last.Goals as goal
 
 pub returns-then-is_complete-clause-message : goal.returns-then-is_complete-clause-message
@@ -19,7 +19,7 @@ returns-then-is_complete-clause-message c =
     let key = key_of c.args.frame.now.key in
     let g = c.args.groups.now in
     let none = key-found c.args.line g.groups.entries g.openings.items (deque_capacity g.openings) c.requires.kept c.args.frame.now.key ∙ ap (option_map (group_in key)) c.requires.new in
-    c.write_message.ensures key
+    ap Some (c.write_message.ensures.message key)
     ∙ sym (ap (λ b. cond b (Some (record { stamp = x.stamp; id = x.id; payload = data_of (held_of (group_in key c.open-begun.result)) })) None) (sym (c.is_complete.ensures key) ∙ c.if-is_complete.true))
     ∙ message-begun x (group_in key c.open-begun.result) c.args.frame.now.piece.small (c.open-begun.ensures c.args.packet.now)
     ∙ sym (ap (gained c.args.in_order x) none)
@@ -50,11 +50,9 @@ returns-clause-message c =
     let key = key_of c.args.frame.now.key in
     let g = c.args.groups.now in
     let none = key-found c.args.line g.groups.entries g.openings.items (deque_capacity g.openings) c.requires.kept c.args.frame.now.key ∙ ap (option_map (group_in key)) c.requires.new in
-    on_ok c.insert.result _ _ (λ _.
-    c.requires.none
-    ∙ sym (ap (λ b. cond b (Some (record { stamp = x.stamp; id = x.id; payload = data_of (held_of (group_in key c.open-begun.result)) })) None) (sym (c.is_complete.ensures key) ∙ c.if-is_complete.false))
+    sym (ap (λ b. cond b (Some (record { stamp = x.stamp; id = x.id; payload = data_of (held_of (group_in key c.open-begun.result)) })) None) (sym (c.is_complete.ensures key) ∙ c.if-is_complete.false))
     ∙ message-begun x (group_in key c.open-begun.result) c.args.frame.now.piece.small (c.open-begun.ensures c.args.packet.now)
-    ∙ sym (ap (gained c.args.in_order x) none)) c.insert.ensures.added
+    ∙ sym (ap (gained c.args.in_order x) none)
 
 pub returns-clause-groups : goal.returns-clause-groups
 returns-clause-groups c =
@@ -62,17 +60,16 @@ returns-clause-groups c =
     let key = key_of c.args.frame.now.key in
     let g = c.args.groups.now in
     let none = key-found c.args.line g.groups.entries g.openings.items (deque_capacity g.openings) c.requires.kept c.args.frame.now.key ∙ ap (option_map (group_in key)) c.requires.new in
-    on_ok c.insert.result _ _ (λ added.
-    added
+    c.in_ok-insert.ensures.added
     ∙ ap (λ gs. listed g ++ gs) (sym (ap (λ b. cond b [] (group_in key c.open-begun.result ∷ [])) (sym (c.is_complete.ensures key) ∙ c.if-is_complete.false)) ∙ groups-begun x (group_in key c.open-begun.result) c.args.frame.now.piece.small (c.open-begun.ensures c.args.packet.now))
-    ∙ sym (none-after c.args.in_order x (listed g) none)) c.insert.ensures.added
+    ∙ sym (none-after c.args.in_order x (listed g) none)
 
 pub returns-clause-kept : goal.returns-clause-kept
 returns-clause-kept c =
     let first : c.open-begun.result.first ≡ c.args.line = ap (λ (g : Group). g.first) (c.open-begun.ensures c.args.packet.now) in
-    subst (λ n. OnOk c.insert.result (IsKept (n + 1) c.insert.new.self)) first c.insert.ensures.kept
+    subst (λ n. IsKept (n + 1) c.insert.new.self) first c.in_ok-insert.ensures.kept
 
-pub returns-clause-still : goal.returns-clause-still
-returns-clause-still c =
+pub returns-in_err-insert-clause-still : goal.returns-in_err-insert-clause-still
+returns-in_err-insert-clause-still c =
     let first : c.open-begun.result.first ≡ c.args.line = ap (λ (g : Group). g.first) (c.open-begun.ensures c.args.packet.now) in
-    subst (λ n. OnErr c.insert.result (IsKept n c.insert.new.self)) first c.insert.ensures.still
+    on_err c.from_residual.result _ (subst (λ n. IsKept n c.insert.new.self) first c.in_err-insert.ensures.still)

@@ -1,4 +1,4 @@
-use Rattle.std.proofs.Common.{◌≡◌, ◌<◌, List, slice_get, ◌+◌, ◌∙◌, sym, ap, subst, true, false, cond, Some, None, length, IfSome, arith}
+use Rattle.std.proofs.Common.{◌≡◌, refl, ◌<◌, List, slice_get, ◌+◌, ◌∙◌, sym, ap, subst, true, false, cond, Some, None, length, IfSome, arith}
 use Rattle.std.specs.List.{AllByRecursion}
 use Rattle.std.specs.VecDeque.{deque_capacity}
 use Rattle.indexmap.specs.IndexMap.{set_value_at}
@@ -54,15 +54,16 @@ returns-then-is_complete c =
     let placed = placed-later line (line + 1) es'' ps (omega arith) (c.remove_at.ensures.placed line (subst (λ gs. PlacedBy line gs q.items) (sym kept_there) kept.placed)) in
     let done = sym (c.is_complete.ensures (key_of k)) ∙ c.if-is_complete.true in
     record {
-      message = c.write_message.ensures (key_of k) ∙ reopens-message order line packet frame es es'' q.items (deque_capacity q) v kept at.0 apart w fit barred is true done ∙ ap (λ gs. gained order x (of_the_key x.key gs)) same;
-      broken = ap Some c.broken-broken.ensures ∙ breaks order line packet frame es es'' q.items (deque_capacity q) v kept at.0 apart w fit barred is ∙ ap (λ gs. lost order x (of_the_key x.key gs)) same;
+      same = c.write_message.ensures.same;
+      message = ap Some (c.write_message.ensures.message (key_of k)) ∙ reopens-message order line packet frame es es'' q.items (deque_capacity q) v kept at.0 apart w fit barred is true done ∙ ap (λ gs. gained order x (of_the_key x.key gs)) same;
+      broken = ap Some c.broken.ensures ∙ breaks order line packet frame es es'' q.items (deque_capacity q) v kept at.0 apart w fit barred is ∙ ap (λ gs. lost order x (of_the_key x.key gs)) same;
       groups = ends-groups order line packet frame es es'' q.items (deque_capacity q) v kept at.0 apart w fit barred is done changes ps c.remove_at.ensures.paired placed ∙ ap (λ gs. groups_after order gs x) same;
       kept = subst (λ n. KeptBy (line + 1) es'' ps n) (sym c.remove_at.ensures.capacity) (ends-kept order line packet frame es es'' q.items (deque_capacity q) v kept at.0 apart w fit barred is done changes ps c.remove_at.ensures.paired placed (c.remove_at.ensures.fewer ∙ ap length kept_there));
     }
 
-pub returns-else-is_complete : goal.returns-else-is_complete
+pub returns : goal.returns
 unfolding same_key
-returns-else-is_complete c =
+returns c =
     let order = c.args.in_order in
     let line = c.args.line in
     let packet = c.args.packet.now in
@@ -88,8 +89,9 @@ returns-else-is_complete c =
     let unique = written-distinct es c.args.at w c.get_index_mut.ensures.unique in
     let placed = placed-reopened line es q.items c.args.at k w first (rise-below 1 line q.items kept.rise).1 unique kept.placed in
     record {
-      message = c.requires.none ∙ reopens-message order line packet frame es es' q.items (deque_capacity q) v kept at.0 apart w fit barred is false left ∙ ap (λ gs. gained order x (of_the_key x.key gs)) same;
-      broken = ap Some c.broken-broken.ensures ∙ breaks order line packet frame es es' q.items (deque_capacity q) v kept at.0 apart w fit barred is ∙ ap (λ gs. lost order x (of_the_key x.key gs)) same;
+      same = refl;
+      message = reopens-message order line packet frame es es' q.items (deque_capacity q) v kept at.0 apart w fit barred is false left ∙ ap (λ gs. gained order x (of_the_key x.key gs)) same;
+      broken = ap Some c.broken.ensures ∙ breaks order line packet frame es es' q.items (deque_capacity q) v kept at.0 apart w fit barred is ∙ ap (λ gs. lost order x (of_the_key x.key gs)) same;
       groups = ap (groups_by es') c.push.ensures.items ∙ last-groups order line packet frame es es' q.items (deque_capacity q) v kept at.0 apart w fit barred is left first wrote c.args.at placed ∙ ap (λ gs. groups_after order gs x) same;
       kept = subst (λ n. KeptBy (line + 1) es' c.push.new.openings.items n) (sym c.push.ensures.capacity)
           (subst (λ os. KeptBy (line + 1) es' os (deque_capacity q)) (sym c.push.ensures.items)

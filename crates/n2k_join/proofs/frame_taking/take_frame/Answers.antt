@@ -6,10 +6,10 @@ use Rattle.n2k_join.specs.Inner.Slots.{group_in}
 use Rattle.n2k_join.proofs.JoinLemmas.{on_err}
 use Rattle.n2k_join.proofs.Queue.{key-found}
 use Rattle.n2k_join.proofs.QueueFrames.{at_place, rejects-here, none-lost}
-use Rattle.n2k_join.proofs.frame_taking.take_into.Goals as goal
+use Rattle.n2k_join.proofs.frame_taking.take_frame.Goals as goal
 
-pub returns-in_err-open_last-clause-memory : goal.returns-in_err-open_last-clause-memory
-returns-in_err-open_last-clause-memory c =
+pub returns-in_err-is_message-clause-memory : goal.returns-in_err-is_message-clause-memory
+returns-in_err-is_message-clause-memory c =
     let g = c.args.groups.now in
     let k = c.args.frame.now.key in
     let none = key-found c.args.line g.groups.entries g.openings.items (deque_capacity g.openings) c.requires.kept k ∙ ap (option_map (group_in (key_of k))) (c.in_default.ensures.none refl) in
@@ -30,8 +30,8 @@ reopen_at-requires-clause-there c =
     let at = at_place g.groups.entries k c.in-Some.at c.index.result.now c.in-Some.ensures.place c.index.ensures in
     rejects-here c.args.line g.groups.entries g.openings.items (deque_capacity g.openings) k c.index.result.now c.requires.kept at.0 c.args.in_order c.args.frame.now.piece.number true (sym (c.rejects.ensures (key_of k)) ∙ c.if-rejects.true)
 
-pub join_at-requires-clause-missing : goal.join_at-requires-clause-missing
-join_at-requires-clause-missing c =
+pub join_at-is_message-requires-clause-missing : goal.join_at-is_message-requires-clause-missing
+join_at-is_message-requires-clause-missing c =
     let g = c.args.groups.now in
     let k = c.args.frame.now.key in
     let at = at_place g.groups.entries k c.in-Some.at c.index.result.now c.in-Some.ensures.place c.index.ensures in
