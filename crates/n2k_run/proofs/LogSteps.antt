@@ -1,11 +1,12 @@
 -- What the steps of a join give of a log's lines is what the whole log says of them.
-use Rattle.std.proofs.Common.{◌≡◌, ℕ, suc, ◌+◌, ◌<◌, ◌≤◌, Bool, List, [], ◌∷◌, ◌++◌, length, Option, Some, refl, sym, ap, ◌∙◌, subst, append_assoc, append-nil, length-append, arith, option_and_then, option_to_list, slice_get}
+use Rattle.std.proofs.Common.{◌≡◌, ℕ, suc, ◌+◌, ◌<◌, ◌≤◌, Bool, List, [], ◌∷◌, ◌++◌, length, Option, Some, refl, sym, ap, ◌∙◌, subst, append_assoc, append-nil, length-append, arith, option_and_then, option_to_list, slice_get, None, IfSome}
 use Rattle.std.specs.List.{flat_map, range_with_len}
 use Rattle.n2k_wire.specs.declared.entry.Entry.{Entry}
 use Rattle.n2k_table.specs.declared.definition.Kind.{Kind}
-use Rattle.n2k_table.specs.Table.{TableParts, kind}
+use Rattle.n2k_table.specs.Table.{KnownParts, TableParts, kind}
 use Rattle.n2k_wire.specs.Packet.{PacketParts}
 use Rattle.n2k_join.specs.declared.step.Step.{Step}
+use Rattle.n2k_join.specs.declared.step.TableMessage.{TableMessage}
 use Rattle.n2k_join.specs.Counts.{most_lines}
 use Rattle.n2k_join.specs.Step.{given_of}
 use Rattle.n2k_join.specs.Laws.{StepsAgree, LinesStay}
@@ -28,7 +29,7 @@ lines_after k s e = refl
 
 -- An entry was taken by the join, after the groups were broken whose window ends at its line, and what both gave was made into
 -- texts.
-pub join_moves : (t : TableParts) (empty : Bool) (s mid s' : State) (e : Entry) (step : Step PacketParts) (n : ℕ) (text text' report due told report' : List ℕ) → n ≡ s'.counts.lines → given_of step ≡ step_given (kind t) mid e → s' ≡ step_after (kind t) mid e → mid.counts.lines < most_lines
+pub join_moves : (t : TableParts) (empty : Bool) (s mid s' : State) (e : Entry) (step : Step) (n : ℕ) (text text' report due told report' : List ℕ) → n ≡ s'.counts.lines → given_of step ≡ step_given (kind t) mid e → s' ≡ step_after (kind t) mid e → mid.counts.lines < most_lines
     → BreaksOverdue s mid report due → told ≡ due ++ flat_map (broken_text n) (option_to_list step.broken) → report' ≡ told ++ cause_report n step.bad → text' ≡ text ++ message_line t empty step.message
     → MovesOn (join_fold t empty) s s' e text text' report report'
 join_moves t empty s mid s' e step n text text' report due told report' number given after few overdue broken cause message =
@@ -142,3 +143,12 @@ module _ (t : TableParts) (o : Options) (laws : LogLaws o.window) (id : List ℕ
 -- a run from a log's state makes what the whole log says
 pub output_after-is : (t : TableParts) (o : Options) → LogLaws o.window → (id : List ℕ) (front : List Entry) → output_from (join_fold t o.empty) o.packing (state id o.window (kind t) front) ≡ output_after t o front
 output_after-is t o laws id front = output_same o.packing (length front) _ _ _ _ (texts_after t o laws id front) (reports_after t o laws id front)
+
+-- a message's PGN was looked up in this table, and is its own
+pub of_table : (t : TableParts) (o : Option TableMessage) → IfSome o (λ m. m.pgn ≡ record { table = t; pgn = m.packet.now.id.pgn }) → IfSome o (λ m. m.pgn.table ≡ t)
+of_table t None is = tt
+of_table t (Some m) is = ap (λ (k : KnownParts). k.table) is
+
+pub of_pgn : (t : TableParts) (o : Option TableMessage) → IfSome o (λ m. m.pgn ≡ record { table = t; pgn = m.packet.now.id.pgn }) → IfSome o (λ m. m.pgn.pgn ≡ m.packet.now.id.pgn)
+of_pgn t None is = tt
+of_pgn t (Some m) is = ap (λ (k : KnownParts). k.pgn) is

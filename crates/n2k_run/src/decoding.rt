@@ -1,8 +1,8 @@
 //! The run of `decode`: the JSON line of each message of a log.
-ghost use Rattle.std.specs.Prelude.{◌≡◌, ◌++◌, List, None, OnOk, option_map, option_to_list};
+ghost use Rattle.std.specs.Prelude.{◌≡◌, ◌++◌, List, None, IfSome, OnOk, option_map, option_to_list};
 ghost use Rattle.std.specs.List.{flat_map};
 ghost use Rattle.n2k_wire.specs.declared.entry.Entry.{Entry};
-ghost use Rattle.n2k_table.specs.Table.{kind};
+ghost use Rattle.n2k_table.specs.Table.{kind, TableParts};
 ghost use Rattle.n2k_join.specs.State.{state};
 ghost use Rattle.n2k_join.specs.Step.{due};
 ghost use Rattle.n2k_run.specs.Decoded.{join_fold, message_line, output_after};
@@ -16,9 +16,9 @@ use crate::engine::{EntryHandler, run_entries};
 use crate::fault::RunFault;
 use crate::options::{Options, know_window};
 use crate::texts::{bad_text, broken_text};
-use n2k_join::{Broken, Join, laws};
-use n2k_table::{LineBuffer, Table, json_line_in};
-use n2k_wire::{BadCause, Entry, Packet};
+use n2k_join::{Broken, Join, TableMessage, laws};
+use n2k_table::{LineBuffer, Table, json_line_of};
+use n2k_wire::{BadCause, Entry};
 use std::alloc::{AllocError, Global};
 use std::mem;
 
@@ -64,30 +64,30 @@ fn push_cause(
     }
 }
 
-/// The JSON line of the message that a line gives.
+/// The JSON line of the message that a line gives. It is inlined, since a call for each line costs more.
+#[inline(always)]
 fn push_message(
     alloc: Global,
-    table: &Table,
-    message: Option<&Packet>,
+    message: Option<TableMessage<'_>>,
     empty: bool,
     room: &mut LineBuffer,
     text: &mut Vec<u8>,
 ) -> Result<(), AllocError>
-    ensures { OnOk result (text.new.items ≡ text.old.items ++ message_line table.now empty
-        (option_map (λ p. p.now) message.entry)) }
+    requires { IfSome message (λ m. m.pgn.pgn ≡ m.packet.now.id.pgn) }
+    ensures { (t : TableParts) → IfSome message.entry (λ m. m.pgn.table ≡ t)
+        → OnOk result (text.new.items ≡ text.old.items ++ message_line t empty
+        (option_map (λ m. m.packet.now) message.entry)) }
 {
     match message {
         None => Ok(()),
-        Some(packet) => json_line_in(alloc, table, packet, empty, room, text),
+        Some(TableMessage { packet, pgn }) => json_line_of(alloc, &pgn, packet, empty, room, text),
     }
 }
 
-/// A join, and what is kept from line to line: the message of a group is written to the place of the one before, and
-/// each line is put together in the same room. Both are large, and new ones would be zeroed for each line.
+/// A join, and the room in which each JSON line is put together: it is large, and a new one would be zeroed for each.
 #[derive(Drop)]
 struct Joining {
     join: Join,
-    joined: Option<Packet>,
     room: LineBuffer,
 }
 
@@ -117,17 +117,16 @@ impl<'a> EntryHandler for JsonLines<'a> {
         &self,
         alloc: Global,
         joining: &mut Joining,
-        entry: &Entry,
+        entry: &mut Entry,
         text: &mut Vec<u8>,
         report: &mut Vec<u8>,
     ) -> Result<(), RunFault> {
-        let Joining { join, joined, room } = joining;
+        let Joining { join, room } = joining;
         break_overdue(alloc, join, report)?;
-        let step = join.lend(self.table, entry, joined)?;
-        let line = join.counts().lines;
-        push_broken(alloc, line, step.broken, report)?;
-        push_cause(alloc, line, step.bad, report)?;
-        push_message(alloc, self.table, step.message, self.empty, room, text)?;
+        let step = join.lend(self.table, entry)?;
+        push_broken(alloc, step.line, step.broken, report)?;
+        push_cause(alloc, step.line, step.bad, report)?;
+        push_message(alloc, step.message, self.empty, room, text)?;
         Ok(())
     }
 }
@@ -186,7 +185,6 @@ pub fn run<R: Source, W: Sink, E: Sink>(
     let handler = JsonLines { table, empty };
     let mut joining = Joining {
         join: mem::replace(join, Join::new(alloc, table, window)),
-        joined: None,
         room: LineBuffer::new(alloc),
     };
     let ran = run_entries(

@@ -34,18 +34,18 @@ pub(crate) trait EntryHandler {
     ghost is_ready: { Self → Self.State → Type 0 };
 
     /// Takes the entry of the next line, and appends its text and its report. `TooManyLines` where no more lines
-    /// are counted, and then nothing has changed; `Memory` where an allocation was refused.
+    /// are counted, and then nothing has changed; `Memory` where an allocation was refused. The entry may be changed.
     fn take(
         &self,
         alloc: Global,
         state: &mut Self::State,
-        entry: &Entry,
+        entry: &mut Entry,
         text: &mut Vec<u8>,
         report: &mut Vec<u8>,
     ) -> Result<(), RunFault>
-        requires short { IsShort entry.now }
+        requires short { IsShort entry.old }
         requires ready { is_ready self.now state.old }
-        ensures taken { TakesEntry (fold self.now) (known state.old) (known state.new) entry.now text.old.items
+        ensures taken { TakesEntry (fold self.now) (known state.old) (known state.new) entry.old text.old.items
             text.new.items report.old.items report.new.items result }
         ensures ready { OnOk result (is_ready self.now state.new) };
 }
@@ -108,11 +108,11 @@ fn take_long<H: EntryHandler>(
         pending.old.text.items pending.new.text.items pending.old.report.items pending.new.report.items result }
     ensures ready { OnOk result (H.is_ready engine.now.handler.now state.new) }
 {
-    let entry = Entry::Bad(BadCause::Long);
+    let mut entry = Entry::Bad(BadCause::Long);
     let Pending { text, report } = pending;
     engine
         .handler
-        .take(engine.alloc, state, &entry, text, report)
+        .take(engine.alloc, state, &mut entry, text, report)
 }
 
 /// Takes the next line of the log. Where the block holds no line's end it is read, and that may have to wait: so
@@ -138,7 +138,7 @@ fn take_next<H: EntryHandler, R: Source>(
 {
     match blocks.next_line(reader) {
         Ok(Next::Line(line)) => {
-            let entry = lines.read(line, engine.packing);
+            let entry = lines.read_mut(line, engine.packing);
             let Pending { text, report } = pending;
             engine
                 .handler

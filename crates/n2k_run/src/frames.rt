@@ -180,7 +180,7 @@ impl<'a> EntryHandler for FrameLines<'a> {
         &self,
         alloc: Global,
         state: &mut Sending<'a>,
-        entry: &Entry,
+        entry: &mut Entry,
         text: &mut Vec<u8>,
         report: &mut Vec<u8>,
     ) -> Result<(), RunFault> {

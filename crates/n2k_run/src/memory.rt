@@ -168,6 +168,22 @@ impl MemorySink {
     {
         &self.held
     }
+
+    /// Lets go of the bytes that were written, and keeps their room for those to come.
+    ///
+    /// ```rust
+    /// let mut sink = MemorySink::new(alloc, 4, 0);
+    /// assert_eq!(rt; sink.write(b"abc"), Ok(3));
+    /// sink.clear();
+    /// assert_eq!(rt; sink.bytes(), b"".as_slice());
+    /// assert_eq!(rt; sink.write(b"de"), Ok(2));
+    /// assert_eq!(rt; sink.bytes(), b"de".as_slice());
+    /// ```
+    pub fn clear(&mut self)
+        ensures { self.new ≡ record self.old { held = [] } }
+    {
+        self.held.clear();
+    }
 }
 
 impl Sink for MemorySink {

@@ -36,7 +36,7 @@ impl EntryHandler for PlainLines {
         &self,
         alloc: Global,
         counts: &mut Counts,
-        entry: &Entry,
+        entry: &mut Entry,
         text: &mut Vec<u8>,
         report: &mut Vec<u8>,
     ) -> Result<(), RunFault> {

@@ -1,43 +1,60 @@
 //! Devices over the readers and writers of the standard library.
-ghost use Rattle.std.specs.Prelude.{◌<◌, ◌≤◌, length, IfOk};
+ghost use Rattle.std.specs.Prelude.{◌≡◌, ◌<◌, ◌≤◌, length, IfErr, IfOk, IsErr, MatchResult, Ok, Some};
 ghost use Rattle.std.specs.Io.KnownBytes.{ReadConsumes, WriteAppends};
+ghost use Rattle.n2k_run.specs.Device.{CountsFailure};
 
 use crate::device::{Failed, Sink, Source};
-use std::io::{ErrorKind, Read, Write};
+use std::io;
+use std::io::{Error, ErrorKind, Read, Write};
 
 /// How often a call is made that signals interrupt, before it counts as failed.
 const MOST_TRIES: u32 = 1000;
 
 /// One read, made again where a signal interrupts it.
-fn read_retrying<R: Read>(reader: &mut R, buffer: &mut [u8]) -> Result<usize, Failed>
+fn read_retrying<R: Read>(reader: &mut R, buffer: &mut [u8]) -> io::Result<usize>
     ensures bound { IfOk result (λ n. n ≤ length buffer.new) }
     ensures bytes { ReadConsumes (R.remaining reader.old) (R.remaining reader.new) result buffer.new }
 {
     for _ in 0..MOST_TRIES {
         match reader.read(buffer) {
-            Ok(count) => return Ok(count),
             Err(error) if error.kind() == ErrorKind::Interrupted => {}
-            Err(_) => return Err(Failed),
+            answer => return answer,
         }
     }
-    Err(Failed)
+    Err(Error::from(ErrorKind::Interrupted))
 }
 
 /// One write, made again where a signal interrupts it. A writer that takes nothing of some bytes has failed.
-fn write_retrying<W: Write>(writer: &mut W, piece: &[u8]) -> Result<usize, Failed>
+fn write_retrying<W: Write>(writer: &mut W, piece: &[u8]) -> io::Result<usize>
     ensures bound { IfOk result (λ n. n ≤ length piece.now) }
     ensures moves { IfOk result (λ n. 0 < length piece.now → 0 < n) }
     ensures bytes { WriteAppends (W.contents writer.old) (W.contents writer.new) result piece.now }
 {
     for _ in 0..MOST_TRIES {
         match writer.write(piece) {
-            Ok(0) if !piece.is_empty() => return Err(Failed),
-            Ok(count) => return Ok(count),
+            Ok(0) if !piece.is_empty() => return Err(Error::from(ErrorKind::WriteZero)),
             Err(error) if error.kind() == ErrorKind::Interrupted => {}
-            Err(_) => return Err(Failed),
+            answer => return answer,
         }
     }
-    Err(Failed)
+    Err(Error::from(ErrorKind::Interrupted))
+}
+
+/// Counts a call, where it failed, and notes why.
+fn note(
+    answer: io::Result<usize>,
+    failed_calls: &mut u64,
+    failure: &mut Option<Error>,
+) -> Result<usize, Failed>
+    ensures answered { MatchResult result (λ n. answer ≡ Ok n) (λ _. IsErr answer) }
+    ensures counted { CountsFailure failed_calls.old failed_calls.new result }
+    ensures noted { IfErr answer (λ error. failure.new ≡ Some error) }
+{
+    if let Err(error) = answer {
+        *failed_calls = failed_calls.saturating_add(1);
+        *failure = Some(error);
+    }
+    answer.map_err(|_| Failed)
 }
 
 /// A reader of the standard library as a source.
@@ -46,6 +63,7 @@ pub struct StdSource<R> {
     reader: R,
     calls: u64,
     failed_calls: u64,
+    failure: Option<Error>,
 }
 
 impl<R: Read> StdSource<R> {
@@ -68,7 +86,21 @@ impl<R: Read> StdSource<R> {
             reader,
             calls: 0,
             failed_calls: 0,
+            failure: None,
         }
+    }
+
+    /// The error of the last call that failed.
+    ///
+    /// ```rust
+    /// let mut source = StdSource::new("abc".as_bytes());
+    /// assert_eq!(rt; source.read(&mut [0; 8]), Ok(3));
+    /// assert!(rt; source.failure().is_none());
+    /// ```
+    pub fn failure(&self) -> Option<Error>
+        ensures { result ≡ self.now.failure }
+    {
+        self.failure
     }
 }
 
@@ -82,10 +114,7 @@ impl<R: Read> Source for StdSource<R> {
     fn read(&mut self, buffer: &mut [u8]) -> Result<usize, Failed> {
         let answer = read_retrying(&mut self.reader, buffer);
         self.calls = self.calls.saturating_add(1);
-        if answer.is_err() {
-            self.failed_calls = self.failed_calls.saturating_add(1);
-        }
-        answer
+        note(answer, &mut self.failed_calls, &mut self.failure)
     }
 }
 
@@ -94,6 +123,7 @@ impl<R: Read> Source for StdSource<R> {
 pub struct StdSink<W> {
     writer: W,
     failed_calls: u64,
+    failure: Option<Error>,
 }
 
 impl<W: Write> StdSink<W> {
@@ -115,7 +145,21 @@ impl<W: Write> StdSink<W> {
         StdSink {
             writer,
             failed_calls: 0,
+            failure: None,
         }
+    }
+
+    /// The error of the last call that failed.
+    ///
+    /// ```rust
+    /// let mut sink = StdSink::new(Vec::new(alloc));
+    /// assert_eq!(rt; sink.write(b"abc"), Ok(3));
+    /// assert!(rt; sink.failure().is_none());
+    /// ```
+    pub fn failure(&self) -> Option<Error>
+        ensures { result ≡ self.now.failure }
+    {
+        self.failure
     }
 }
 
@@ -126,9 +170,6 @@ impl<W: Write> Sink for StdSink<W> {
 
     fn write(&mut self, piece: &[u8]) -> Result<usize, Failed> {
         let answer = write_retrying(&mut self.writer, piece);
-        if answer.is_err() {
-            self.failed_calls = self.failed_calls.saturating_add(1);
-        }
-        answer
+        note(answer, &mut self.failed_calls, &mut self.failure)
     }
 }
