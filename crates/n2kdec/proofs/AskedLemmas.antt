@@ -1,9 +1,12 @@
 -- From what `clap` says of a parse to what the words ask for.
-use Rattle.std.proofs.Common.{◌≡◌, ◌∙◌, ◌⊎◌, List, [], ◌∷◌, Bool, cond, true, false, Option, Some, None, Result, Ok, Err, IfOk, IsErrOf, ap, sym, subst, refl, inl, inr, codes, true≢false}
+use Rattle.std.proofs.Common.{◌≡◌, ◌∙◌, List, [], ◌∷◌, Bool, cond, true, false, Option, Some, None, Result, Ok, Err, IfErr, IfOk, IfSome, IsErrOf, ap, sym, subst, refl, inl, inr, codes, true≢false}
 use Rattle.std.specs.Option.{option_and_then, option_map}
+use Rattle.std.specs.Borrow.{Bor}
+use Rattle.std.specs.List.{flat_map}
 use Rattle.std.specs.Str.{bytes_eq}
-use Rattle.clap.specs.Kinds.{HasKind}
-use Rattle.clap.specs.Words.{App, HasMatchesOf, IsAmong, Row, Text, fault_of, first_of, is_simple, is_simple_and_free, subcommand_of, subcommand_rows_of}
+use Rattle.std.proofs.lemmas.List.Folds.{flat_map-map}
+use Rattle.clap.specs.Walk.{texts}
+use Rattle.clap.specs.Words.{App, FailsBy, HasKind, HasMatchesOf, IsAmong, Kinds, Row, Text, fault_of, first_of, is_simple, is_simple_and_free, kind_of, subcommand_of, takes}
 use Rattle.clap.specs.declared.error.Error.{Error}
 use Rattle.clap.specs.declared.parser.matches.ArgMatches.{ArgMatches}
 use Rattle.clap.specs.declared.error.kind.ErrorKind.{ErrorKind}
@@ -16,6 +19,7 @@ use Rattle.n2kdec.specs.declared.words.Words.{Words}
 use Rattle.n2kdec.specs.declared.words.Words.TheVariants.{Help}
 use Rattle.n2kdec.specs.Usage.{program_app}
 use Rattle.n2kdec.specs.Inner.Parse.{AnswersKind}
+use Rattle.n2kdec.specs.Parser.{AreMatchesOf, IsRefusal, Shown, no_window, said_at, said_of}
 use Rattle.n2kdec.specs.Words.{IsAskedBy, IsRefused, Names, decode_words, frames_words, named, plain_words, window_of, words_of}
 
 -- the command is one of those whose matches and faults are known
@@ -36,14 +40,27 @@ version_is_a_request : fault_of program_app (codes "n2kdec" ∷ codes "--version
 unfolding program_app clap_on_literals
 version_is_a_request = refl
 
-pub rows_as_defined : (app : App) (words : List Text) (matches : ArgMatches) → app ≡ program_app → HasMatchesOf app words matches → subcommand_rows_of matches ≡ subcommand_of program_app words
-rows_as_defined app words matches is found = (found (ap is_simple is ∙ program_is_simple)).1 ∙ ap (λ (a : App). subcommand_of a words) is
+-- so what a parse by it gives is what the definition says
+pub matches_as_defined : (app : App) (words : List Text) (r : Result ArgMatches Error) → app ≡ program_app → IfOk r (HasMatchesOf app words)
+    → (is_simple_and_free app ≡ true → FailsBy (fault_of app words) r) → IfOk r (AreMatchesOf words)
+matches_as_defined app words (Ok matches) is found kinds =
+    (subst (λ (a : App). fault_of a words ≡ []) is (kinds (ap is_simple_and_free is ∙ program_is_free)), (found (ap is_simple is ∙ program_is_simple)).1 ∙ ap (λ (a : App). subcommand_of a words) is)
+matches_as_defined app words (Err e) is found kinds = tt
 
-pub takes_as_defined : (app : App) (words : List Text) → app ≡ program_app → (is_simple_and_free app ≡ true → fault_of app words ≡ []) → fault_of program_app words ≡ []
-takes_as_defined app words is none = subst (λ (a : App). fault_of a words ≡ []) is (none (ap is_simple_and_free is ∙ program_is_free))
+pub kinds_as_defined : (app : App) (words : List Text) (r : Result ArgMatches Error) → app ≡ program_app → (is_simple_and_free app ≡ true → FailsBy (fault_of app words) r)
+    → IfErr r (HasKind (fault_of program_app words))
+kinds_as_defined app words (Ok matches) is kinds = tt
+kinds_as_defined app words (Err e) is kinds = subst (λ (a : App). HasKind (fault_of a words) e) is (kinds (ap is_simple_and_free is ∙ program_is_free))
 
-pub fails_as_defined : (app : App) (words : List Text) (e : Error) → app ≡ program_app → (is_simple_and_free app ≡ true → HasKind (fault_of app words) e) → HasKind (fault_of program_app words) e
-fails_as_defined app words e is fails = subst (λ (a : App). HasKind (fault_of a words) e) is (fails (ap is_simple_and_free is ∙ program_is_free))
+pub taken_as_defined : (app : App) (words : List Text) (r : Result ArgMatches Error) → app ≡ program_app → IfErr r (λ e. takes app words ≡ true → kind_of e ≡ OutOfMemory)
+    → IfErr r (λ e. takes program_app words ≡ true → kind_of e ≡ OutOfMemory)
+taken_as_defined app words (Ok matches) is passes = tt
+taken_as_defined app words (Err e) is passes = subst (λ (a : App). takes a words ≡ true → kind_of e ≡ OutOfMemory) is passes
+
+-- what it shows is not known
+pub refused_as_defined : (words : List Text) (e : Error) (kind : ErrorKind) → kind ≡ kind_of e → HasKind (fault_of program_app words) e → IsRefusal (λ words. None) words kind None
+refused_as_defined words e kind is (inl memory) = inl (is ∙ memory)
+refused_as_defined words e kind is (inr among) = inr (subst (λ k. IsAmong k (fault_of program_app words)) (sym is) among, refl)
 
 abbrev is_help : Option Words → Bool
 is_help (Some (Help text)) = true
@@ -72,11 +89,11 @@ named_is_no_help (Some p) = go (bytes_eq p.0 (codes "plain")) (bytes_eq p.0 (cod
     go false false false = refl
 
 -- the matches are those of the definition, so what is named in them is what the words name
-pub asked_by_matches : (words : List Text) (rows : Option (Text × List Row)) (r : Result Words Fault) → rows ≡ subcommand_of program_app words → fault_of program_app words ≡ [] → Names (named rows) r → IfOk r (IsAskedBy words)
+pub asked_by_matches : (shown : Shown) (words : List Text) (rows : Option (Text × List Row)) (r : Result Words Fault) → rows ≡ subcommand_of program_app words → fault_of program_app words ≡ [] → Names (named rows) r → IfOk r (IsAskedBy shown words)
 unfolding words_of
-asked_by_matches words rows (Ok (Help text)) same none names = absurd (true≢false (sym (ap is_help names) ∙ named_is_no_help rows))
-asked_by_matches words rows (Ok command) same none names = (none, sym (ap named same) ∙ names)
-asked_by_matches words rows (Err e) same none names = tt
+asked_by_matches shown words rows (Ok (Help text)) same none names = absurd (true≢false (sym (ap is_help names) ∙ named_is_no_help rows))
+asked_by_matches shown words rows (Ok command) same none names = (none, sym (ap named same) ∙ names)
+asked_by_matches shown words rows (Err e) same none names = tt
 
 pub refused_by_matches : (words : List Text) (rows : Option (Text × List Row)) (r : Result Words Fault) → rows ≡ subcommand_of program_app words → fault_of program_app words ≡ [] → Names (named rows) r → IsErrOf r fault.Words → IsRefused words
 unfolding words_of
@@ -87,22 +104,36 @@ unfolding words_of
 named_by_matches words rows r same names = subst (λ x. Names (named x) r) same names
 
 -- the parse failed, by a kind among those of the definition, or for want of memory
-asked_by_kind : (words : List Text) (kind : ErrorKind) (shown : Option Text) (r : Result Words Fault) → (kind ≡ OutOfMemory) ⊎ IsAmong kind (fault_of program_app words) → AnswersKind kind shown r → IfOk r (IsAskedBy words)
-asked_by_kind words kind shown (Ok (Help text)) (inl memory) (inl is) = let bad : DisplayHelp ≡ OutOfMemory = sym is.0 ∙ memory in cc
-asked_by_kind words kind shown (Ok (Help text)) (inl memory) (inr is) = let bad : DisplayVersion ≡ OutOfMemory = sym is.0 ∙ memory in cc
-asked_by_kind words kind shown (Ok (Help text)) (inr among) (inl is) = inl (subst (λ k. IsAmong k (fault_of program_app words)) is.0 among)
-asked_by_kind words kind shown (Ok (Help text)) (inr among) (inr is) = inr (subst (λ k. IsAmong k (fault_of program_app words)) is.0 among, is.1)
-asked_by_kind words kind shown (Ok command) fails answers = absurd answers
-asked_by_kind words kind shown (Err e) fails answers = tt
+pub asked_by_refusal : (shown : Shown) (words : List Text) (kind : ErrorKind) (text : Option Text) (r : Result Words Fault) → IsRefusal shown words kind text → AnswersKind kind text r → IfOk r (IsAskedBy shown words)
+asked_by_refusal shown words kind text (Ok (Help help)) (inl memory) (inl is) = let bad : DisplayHelp ≡ OutOfMemory = sym is.0 ∙ memory in cc
+asked_by_refusal shown words kind text (Ok (Help help)) (inl memory) (inr is) = let bad : DisplayVersion ≡ OutOfMemory = sym is.0 ∙ memory in cc
+asked_by_refusal shown words kind text (Ok (Help help)) (inr (among, same)) (inl is) =
+    inl (subst (λ k. IsAmong k (fault_of program_app words)) is.0 among, subst (λ t. IfSome t (λ known. help ≡ known)) same is.1)
+asked_by_refusal shown words kind text (Ok (Help help)) (inr (among, same)) (inr is) = inr (subst (λ k. IsAmong k (fault_of program_app words)) is.0 among, is.1)
+asked_by_refusal shown words kind text (Ok command) fails answers = absurd answers
+asked_by_refusal shown words kind text (Err e) fails answers = tt
 
--- the kind was told of the error
-pub asked_by_told : (words : List Text) (kind told : ErrorKind) (shown : Option Text) (r : Result Words Fault) → told ≡ kind → (kind ≡ OutOfMemory) ⊎ IsAmong kind (fault_of program_app words) → AnswersKind told shown r → IfOk r (IsAskedBy words)
-asked_by_told words kind told shown r is fails answers = asked_by_kind words kind shown r fails (subst (λ k. AnswersKind k shown r) is answers)
+refusal_kind : (shown : Shown) (words : List Text) (kind : ErrorKind) (text : Option Text) → IsRefusal shown words kind text → AnswersKind kind text (Err fault.Words) → IsRefused words
+refusal_kind shown words kind text (inl memory) answers = absurd (answers.2 memory)
+refusal_kind shown words kind text (inr fails) answers = inl (kind, fails.0, answers.0, answers.1)
 
-refusal_kind : (words : List Text) (kind : ErrorKind) (shown : Option Text) → (kind ≡ OutOfMemory) ⊎ IsAmong kind (fault_of program_app words) → AnswersKind kind shown (Err fault.Words) → IsRefused words
-refusal_kind words kind shown (inl memory) answers = absurd (answers.2 memory)
-refusal_kind words kind shown (inr among) answers = inl (kind, among, answers.0, answers.1)
+pub refused_by_refusal : (shown : Shown) (words : List Text) (kind : ErrorKind) (text : Option Text) (r : Result Words Fault) → IsRefusal shown words kind text → AnswersKind kind text r → IsErrOf r fault.Words → IsRefused words
+refused_by_refusal shown words kind text r fails answers refused = refusal_kind shown words kind text fails (subst (AnswersKind kind text) refused answers)
 
-pub refused_by_told : (words : List Text) (kind told : ErrorKind) (shown : Option Text) (r : Result Words Fault) → told ≡ kind → (kind ≡ OutOfMemory) ⊎ IsAmong kind (fault_of program_app words) → AnswersKind told shown r → IsErrOf r fault.Words → IsRefused words
-refused_by_told words kind told shown r is fails answers refused =
-    refusal_kind words kind shown fails (subst (AnswersKind kind shown) refused (subst (λ k. AnswersKind k shown r) is answers))
+-- ---- what is said of refused words
+
+pub said_without_fault : (shown : Shown) (words : List Text) → fault_of program_app words ≡ [] → said_of shown words ≡ Some no_window
+said_without_fault shown words none = ap (λ kinds. said_at kinds (shown words)) none
+
+said_at_fault : (kinds : Kinds) (kind : ErrorKind) (text : Option Text) → IsAmong kind kinds → said_at kinds text ≡ text
+said_at_fault [] kind text among = absurd among
+said_at_fault (k ∷ kinds) kind text among = refl
+
+pub said_of_refusal : (shown : Shown) (words : List Text) (kind : ErrorKind) (text : Option Text) → IsRefusal shown words kind text → (kind ≡ OutOfMemory → ⊥) → said_of shown words ≡ text
+said_of_refusal shown words kind text (inl memory) other = absurd (other memory)
+said_of_refusal shown words kind text (inr (among, same)) other = said_at_fault (fault_of program_app words) kind (shown words) among ∙ sym same
+
+-- ---- texts, one behind the other
+
+pub joined_texts : (words : List (Bor Text)) → flat_map (λ word. word) (texts words) ≡ flat_map (λ word. word.now) words
+joined_texts words = flat_map-map (λ word. word) (λ word. word.now) words

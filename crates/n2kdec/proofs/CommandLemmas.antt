@@ -19,7 +19,9 @@ use Rattle.n2k_run.specs.declared.part.Part.{Part}
 use Rattle.n2k_table.specs.declared.fault.TableFault.{TableFault}
 use Rattle.n2kdec.specs.Inner.Closing.{Closes, ClosesPart, SumsUp}
 use Rattle.n2kdec.specs.Commands.{BreaksOff, CannotBeSaved, Effect, Ends, EndsByTable, FailsToKeep, HasDevice, HasTaken, HasTakenAll, IsCutOff, IsDone, IsRefusedOrStopped, IsSaved, IsStopped, IsUntouched, IsWritten, IsWrittenUnlessFailed, Kept, Replaces, Leaves, Place, SumsUpPart, Shelf, entries_for, no_saving, place, shelf}
+use Rattle.n2kdec.specs.Ending.{ending_of, has_other_form}
 use Rattle.n2kdec.specs.Fault.{exit_status, fault_of_run}
+use Rattle.n2kdec.specs.declared.ending.Ending.{Ending}
 use Rattle.n2kdec.specs.declared.fault.Fault.{Fault}
 use Rattle.n2kdec.specs.declared.fault.Fault.TheVariants.{Memory, Report, Table}
 use Rattle.n2kdec.specs.declared.work.Stop.{Stop}
@@ -45,19 +47,19 @@ some_written before after text (inl whole) = (text, whole.written)
 some_written before after text (inr cut) = (cut.front.1.front, cut.front.1.appended)
 
 -- what follows a failed read: the state is kept or not, and the summary is written or cut off
-pub kept_or_not : (keeper kept : Shelf) (errors summed : Place) (text : List ℕ) (counts : Counts) (r : Result ℕ Fault) → Closes keeper kept errors summed text counts r
+pub kept_or_not : (keeper kept : Shelf) (errors summed : Place) (text : List ℕ) (counts : Counts) (r : Result Ending Fault) → Closes keeper kept errors summed text counts r
     → Replaces keeper kept text errors.text ⊎ FailsToKeep keeper kept text errors.text
 kept_or_not keeper kept errors summed text counts r (inl closes) = inl closes.0
 kept_or_not keeper kept errors summed text counts r (inr fails) = inr fails.1
 
-pub summed_or_cut : (keeper kept : Shelf) (errors summed : Place) (text : List ℕ) (counts : Counts) (r : Result ℕ Fault) → Closes keeper kept errors summed text counts r
+pub summed_or_cut : (keeper kept : Shelf) (errors summed : Place) (text : List ℕ) (counts : Counts) (r : Result Ending Fault) → Closes keeper kept errors summed text counts r
     → IsWrittenUnlessFailed errors summed (summary_text counts)
 summed_or_cut keeper kept errors summed text counts (Ok status) (inl closes) = inl closes.1.0
 summed_or_cut keeper kept errors summed text counts (Err fault) (inl closes) = inr closes.1.1
 summed_or_cut keeper kept errors summed text counts r (inr fails) = fails.2
 
 -- the close of a whole log, of which no state is kept
-abbrev pub ClosesWhole : Place → Place → Result Part Stop → Result ℕ Fault → Type 0
+abbrev pub ClosesWhole : Place → Place → Result Part Stop → Result Ending Fault → Type 0
 ClosesWhole errors summed (Ok part) result = SumsUp errors summed part.counts result
 ClosesWhole errors summed (Err stop) result = (result ≡ Err stop.fault) × (summed ≡ errors)
 
@@ -66,12 +68,12 @@ module _ (had has : Option (List Kept)) (failed fails : ℕ) (errors summed : Pl
   abbrev pub IsUnkept : Type 0
   IsUnkept = shelf None has fails ≡ shelf None had failed
 
-  pub unkept : (text : List ℕ) (counts : Counts) (r : Result ℕ Fault) → Closes (shelf None had failed) (shelf None has fails) errors summed text counts r
+  pub unkept : (text : List ℕ) (counts : Counts) (r : Result Ending Fault) → Closes (shelf None had failed) (shelf None has fails) errors summed text counts r
       → IsUnkept × SumsUp errors summed counts r
   unkept text counts r (inl closes) = (ap₂ (λ k n. shelf None k n) closes.0.kept closes.0.none_failed, closes.1)
   unkept text counts r (inr unsaved) = absurd (false≢true unsaved.1.named)
 
-  pub unkept_whole : (ended : Result Counts RunFault) (told : Result Part Stop) (r : Result ℕ Fault) → AnswersWhole ended told
+  pub unkept_whole : (ended : Result Counts RunFault) (told : Result Part Stop) (r : Result Ending Fault) → AnswersWhole ended told
       → ClosesPart (shelf None had failed) (shelf None has fails) errors summed told r → IsUnkept × ClosesWhole errors summed told r
   unkept_whole (Ok counts) (Ok part) r tells closes = unkept part.state.items part.counts r closes
   unkept_whole (Ok counts) (Err stop) r tells closes = absurd tells
@@ -80,7 +82,7 @@ module _ (had has : Option (List Kept)) (failed fails : ℕ) (errors summed : Pl
       (is.1.0, subst (λ t. ClosesWhole errors summed t r) (sym tells) (is.0, is.1.1))
 
 -- the summary is written by a command that has no state
-pub closes_unsaved : (errors summed : Place) (counts : Counts) (r : Result ℕ Fault) → SumsUp errors summed counts r
+pub closes_unsaved : (errors summed : Place) (counts : Counts) (r : Result Ending Fault) → SumsUp errors summed counts r
     → Closes no_saving.before no_saving.after errors summed [] counts r
 closes_unsaved errors summed counts r said = inl (record { kept = refl; none_failed = refl }, said)
 
@@ -213,8 +215,8 @@ module _ (c : Effect) (stands : List Entry → Type 0) (before after : Devices) 
     unsaved : FailsToKeep c.saving.before c.saving.after text errors.text → CannotBeSaved c before es
     unsaved fails = (errors.text, ran.ends.gained.reported, subst (λ t. FailsToKeep c.saving.before c.saving.after t errors.text) counted.1 fails)
 
-    done : (status : ℕ) → Replaces c.saving.before c.saving.after text errors.text → IsWritten errors summed (summary_text counts) → status ≡ exit_status counts → IsDone c before after status
-    done status keeps whole is = record {
+    done : (ending : Ending) → Replaces c.saving.before c.saving.after text errors.text → IsWritten errors summed (summary_text counts) → ending ≡ ending_of counts → IsDone c before after ending
+    done ending keeps whole is = record {
       came = ran.ends.came;
       given = ran.ends.given;
       at_end = ran.ends.at_end;
@@ -222,8 +224,9 @@ module _ (c : Effect) (stands : List Entry → Type 0) (before after : Devices) 
       text = ran.ends.gained.printed;
       report = Appends-trans before.reported errors.text after.reported (c.output.reports es) (summary_text (c.counts es))
           ran.ends.gained.reported (subst (λ n. Appends errors.text after.reported (summary_text n)) counted.0 whole.written);
-      status = is ∙ ap exit_status counted.0;
-      at_most_one = subst (λ n. n ≤ 1) (sym is) (few counts);
+      status = ap (λ (e : Ending). e.status) is ∙ ap exit_status counted.0;
+      form = ap (λ (e : Ending). e.has_other_form) is ∙ ap has_other_form counted.0;
+      at_most_one = subst (λ n. n ≤ 1) (sym (ap (λ (e : Ending). e.status) is)) (few counts);
       none_failed = record { reads = ran.device.reads; writes = ran.device.writes; reports = whole.none_failed ∙ ran.device.reports };
       saved = saved keeps;
     }
@@ -254,11 +257,11 @@ module _ (c : Effect) (stands : List Entry → Type 0) (before after : Devices) 
       reports_first = first (inr cut);
     }
 
-    summed_up : (r : Result ℕ Fault) → Replaces c.saving.before c.saving.after text errors.text → SumsUp errors summed counts r → Ends c before after r
+    summed_up : (r : Result Ending Fault) → Replaces c.saving.before c.saving.after text errors.text → SumsUp errors summed counts r → Ends c before after r
     summed_up (Ok status) keeps said = done status keeps said.0 said.1
     summed_up (Err fault) keeps said = subst (IsStopped c before after) (sym said.0) (unsummed keeps said.1)
 
-    pub ended_by_closing : (r : Result ℕ Fault) → Closes c.saving.before c.saving.after errors summed text counts r → Ends c before after r
+    pub ended_by_closing : (r : Result Ending Fault) → Closes c.saving.before c.saving.after errors summed text counts r → Ends c before after r
     ended_by_closing r (inl saved) = summed_up r saved.0 saved.1
     ended_by_closing r (inr fails) = subst (Ends c before after) (sym fails.0) (record {
       leaves = all_taken IsWrittenUnlessFailed (CannotBeSaved c before) fails.2 (unsaved fails.1);
@@ -279,7 +282,7 @@ module _ (output : Output) (counts_of : List Entry → Counts) (before after : D
   nothing_follows stands run.TooManyLines same = λ es is. (same, refl)
   nothing_follows stands _ same = (same, refl)
 
-  pub ended_whole : (ended : Result Counts RunFault) (told : Result Part Stop) (r : Result ℕ Fault)
+  pub ended_whole : (ended : Result Counts RunFault) (told : Result Part Stop) (r : Result Ending Fault)
       → Runs output (λ es. IfOk ended (λ counts. counts ≡ counts_of es)) before (record after { reported = errors.text; failed_reports = errors.failed }) ended
       → AnswersWhole ended told → ClosesWhole errors said told r → Ends whole_effect before after r
   ended_whole (Ok counts) (Ok part) r runs tells closes =
@@ -291,7 +294,7 @@ module _ (output : Output) (counts_of : List Entry → Counts) (before after : D
       (left_by_run whole_effect _ before after errors fault runs (nothing_follows _ fault is.1) is.1)
 
 -- a command that has begun ends by no refusal of its table
-pub past_table : (found : List TableFault) (c : Effect) (before after : Devices) (r : Result ℕ Fault) → found ≡ [] → Ends c before after r → EndsByTable found c before after r
+pub past_table : (found : List TableFault) (c : Effect) (before after : Devices) (r : Result Ending Fault) → found ≡ [] → Ends c before after r → EndsByTable found c before after r
 past_table found c before after (Ok status) none done = (none, done)
 past_table found c before after (Err fault) none stopped = go fault stopped
   where
@@ -299,10 +302,10 @@ past_table found c before after (Err fault) none stopped = go fault stopped
     go (Table refused) s = absurd s.leaves
     go f s = (none, s)
 
-pub refused_table : (found : List TableFault) (c : Effect) (before after : Devices) (errors : Place) (stop : Stop) (r : Result ℕ Fault)
+pub refused_table : (found : List TableFault) (c : Effect) (before after : Devices) (errors : Place) (stop : Stop) (r : Result Ending Fault)
     → RefusesTable found before (record after { reported = errors.text; failed_reports = errors.failed }) stop
     → r ≡ Err stop.fault → place after.reported after.failed_reports ≡ errors → EndsByTable found c before after r
 refused_table found c before after errors stop r refuses is same =
-    let told : r ≡ Err (Table refuses.fault) = is ∙ ap (λ (s : Stop). let x : Result ℕ Fault = Err s.fault in x) refuses.told in
+    let told : r ≡ Err (Table refuses.fault) = is ∙ ap (λ (s : Stop). let x : Result Ending Fault = Err s.fault in x) refuses.told in
     let still : after ≡ before = subst (λ (e : Place). record after { reported = e.text; failed_reports = e.failed } ≡ before) (sym same) refuses.untouched in
     subst (EndsByTable found c before after) (sym told) (refuses.stands, still)

@@ -30,6 +30,7 @@ use Rattle.n2k_run.proofs.Running.{known_more}
 use Rattle.n2kdec.specs.Inner.Closing.{Closes, ClosesPart}
 use Rattle.n2kdec.specs.Commands.{Effect, Decodes, Ends, EndsUnlessRefused, FailsToKeep, IsJudged, IsStopped, IsWrittenUnlessFailed, Replaces, Place, PrintsRest, Shelf, decode_to, place}
 use Rattle.n2kdec.specs.Fault.{exit_status, fault_of_run}
+use Rattle.n2kdec.specs.declared.ending.Ending.{Ending}
 use Rattle.n2kdec.specs.declared.fault.Fault.{Fault}
 use Rattle.n2kdec.specs.declared.fault.Fault.TheVariants.{Save, State, Table}
 use Rattle.n2kdec.specs.declared.work.Stop.{Stop}
@@ -37,7 +38,7 @@ use Rattle.n2kdec.specs.Work.{RefusesTable, answer_of_part}
 use Rattle.n2kdec.proofs.CommandLemmas.{ended_by_closing, kept_or_not, left_at_line, left_by_run, some_written, stopped_by_run, summed_or_cut}
 
 -- no command that has begun ends by a refusal
-unless : (c : Effect) (before after : Devices) (r : Result ℕ Fault) → Ends c before after r → EndsUnlessRefused c before after r
+unless : (c : Effect) (before after : Devices) (r : Result Ending Fault) → Ends c before after r → EndsUnlessRefused c before after r
 unless c before after (Ok status) done = done
 unless c before after (Err fault) stopped = go fault stopped
   where
@@ -66,7 +67,7 @@ module _ (o : Output) (stands_at : List Entry → StateOf) (t : TableParts) (opt
   saved_or_not part es is (inr fails) = inr (subst (λ s. FailsToKeep keeper kept s errors.text) is.saved fails)
 
   -- what the run of a part and its closing come to
-  closed : (ended : Result Part PartFault) (r : Result ℕ Fault) → IsOfKind ended → RefusedByMemory ended
+  closed : (ended : Result Part PartFault) (r : Result Ending Fault) → IsOfKind ended → RefusedByMemory ended
       → TellsRun o (λ es. HasPart t options ended (stands_at es)) before mid ended → ClosesPart keeper kept errors said (answer_of_part ended) r → EndsUnlessRefused c before after r
   closed (Ok part) r kind memory told closes =
       let ran = told_ok o before mid _ part told in
@@ -96,7 +97,7 @@ module _ (o : Output) (stands_at : List Entry → StateOf) (t : TableParts) (opt
 
 -- what is judged before a log is read
 module _ (t : TableParts) (o : Options) (found : List TableFault) (none : found ≡ []) (handed : Option (List ℕ)) (errors said : Place) (keeper kept : Shelf) where
-  abbrev IsJudgedSo : Result ℕ Fault → Type 0
+  abbrev IsJudgedSo : Result Ending Fault → Type 0
   IsJudgedSo r = MatchResult r (λ status. (found ≡ []) × IsOk (begun t o handed)) (IsJudged found handed (begun t o handed))
 
   by_run : (f : RunFault) → IsOk (begun t o handed) → IsJudged found handed (begun t o handed) (fault_of_run f)
@@ -107,12 +108,12 @@ module _ (t : TableParts) (o : Options) (found : List TableFault) (none : found 
   refused_state fault (inl memory) other = absurd (other memory)
   refused_state fault (inr is) other = is
 
-  closed_log : (text : List ℕ) (counts : Counts) (r : Result ℕ Fault) → IsOk (begun t o handed) → Closes keeper kept errors said text counts r → IsJudgedSo r
+  closed_log : (text : List ℕ) (counts : Counts) (r : Result Ending Fault) → IsOk (begun t o handed) → Closes keeper kept errors said text counts r → IsJudgedSo r
   closed_log text counts (Ok status) is closes = (none, is)
   closed_log text counts (Err fault) is (inl closes) = subst (IsJudged found handed (begun t o handed)) (sym closes.1.0) (none, is)
   closed_log text counts (Err fault) is (inr closes) = subst IsJudgedSo (sym closes.0) (none, is)
 
-  judged_by : (ended : Result Part PartFault) (r : Result ℕ Fault) → BeginsBy t o handed ended → ClosesPart keeper kept errors said (answer_of_part ended) r → IsJudgedSo r
+  judged_by : (ended : Result Part PartFault) (r : Result Ending Fault) → BeginsBy t o handed ended → ClosesPart keeper kept errors said (answer_of_part ended) r → IsJudgedSo r
   judged_by (Ok part) r begins closes = closed_log part.state.items part.counts r begins closes
   judged_by (Err (part_faults.State fault)) r begins closes = subst IsJudgedSo (sym closes.0) (none, begins.0, refused_state fault begins.1)
   judged_by (Err (part_faults.Stopped fault part)) r begins closes = subst IsJudgedSo (sym closes.0) (by_run fault begins)
@@ -130,8 +131,8 @@ module _ (bytes : List ℕ) (o : Options) (handed : Option (List ℕ)) (before a
   abbrev between : Devices
   between = record after { reported = errors.text; failed_reports = errors.failed }
 
-  rest_of : (front : List ℕ) (ended : Result Part PartFault) (r : Result ℕ Fault) → Continues t o front before between ended → ClosesPart keeper kept errors told (answer_of_part ended) r
-      → IfOk r (λ status. IfSome before.left (λ log. PrintsRest t o front log before after keeper kept status))
+  rest_of : (front : List ℕ) (ended : Result Part PartFault) (r : Result Ending Fault) → Continues t o front before between ended → ClosesPart keeper kept errors told (answer_of_part ended) r
+      → IfOk r (λ ending. IfSome before.left (λ log. PrintsRest t o front log before after keeper kept ending.status))
   rest_of front (Ok part) (Err fault) goes closes = tt
   rest_of front (Ok part) (Ok status) goes (inr unsaved) = let bad : Ok status ≡ Err Save = unsaved.0 in cc
   rest_of front (Ok part) (Ok status) goes (inl closes) = known_more before.left _ _ (λ log on. record {
@@ -142,14 +143,14 @@ module _ (bytes : List ℕ) (o : Options) (handed : Option (List ℕ)) (before a
     reported = Appends-trans before.reported errors.text after.reported on.report (summary_text (counts o.window (kind_of t) (entries o.packing (front ++ log))))
         on.reported (subst (λ n. Appends errors.text after.reported (summary_text n)) on.counted closes.1.0.written);
     told = on.all_reports;
-    answered = closes.1.1 ∙ ap exit_status on.counted;
+    answered = ap (λ (e : Ending). e.status) closes.1.1 ∙ ap exit_status on.counted;
     saved = (errors.text, on.reported, subst (λ s. Replaces keeper kept s errors.text) on.saved closes.0);
     reads_back = subst (λ s. begun t o (Some s) ≡ Ok (state_after t o (front ++ log))) on.saved on.reads_back;
   }) goes.1
   rest_of front (Err fault) r goes closes =
-      subst (λ x. IfOk x (λ status. IfSome before.left (λ log. PrintsRest t o front log before after keeper kept status))) (sym closes.0) tt
+      subst (λ x. IfOk x (λ ending. IfSome before.left (λ log. PrintsRest t o front log before after keeper kept ending.status))) (sym closes.0) tt
 
-  pub decoded : (ended : Result Part PartFault) (r : Result ℕ Fault) → faults bytes ≡ [] → RunsFrom t o handed before between ended → ClosesPart keeper kept errors told (answer_of_part ended) r
+  pub decoded : (ended : Result Part PartFault) (r : Result Ending Fault) → faults bytes ≡ [] → RunsFrom t o handed before between ended → ClosesPart keeper kept errors told (answer_of_part ended) r
       → Decodes bytes o handed before after keeper kept r
   decoded ended r none runs closes = record {
     judged = judged_by t o (faults bytes) none handed errors told keeper kept ended r runs.begins closes;
@@ -160,9 +161,9 @@ module _ (bytes : List ℕ) (o : Options) (handed : Option (List ℕ)) (before a
     headline = λ front is. rest_of front ended r (runs.headline front is) closes;
   }
 
-  pub undecoded : (stop : Stop) (r : Result ℕ Fault) → RefusesTable (faults bytes) before between stop → r ≡ Err stop.fault → Decodes bytes o handed before after keeper kept r
+  pub undecoded : (stop : Stop) (r : Result Ending Fault) → RefusesTable (faults bytes) before between stop → r ≡ Err stop.fault → Decodes bytes o handed before after keeper kept r
   undecoded stop r refuses is =
-      let told : r ≡ Err (Table refuses.fault) = is ∙ ap (λ (s : Stop). let x : Result ℕ Fault = Err s.fault in x) refuses.told in
+      let told : r ≡ Err (Table refuses.fault) = is ∙ ap (λ (s : Stop). let x : Result Ending Fault = Err s.fault in x) refuses.told in
       subst (Decodes bytes o handed before after keeper kept) (sym told) (record {
         judged = refuses.stands;
         steps = λ s is. tt;

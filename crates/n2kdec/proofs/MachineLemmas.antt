@@ -1,18 +1,23 @@
 -- From what a call leaves to what the program leaves.
-use Rattle.std.proofs.Common.{◌≡◌, ◌∙◌, ◌++◌, append-nil, append_assoc, ap, arith, ℕ, List, [], ◌∷◌, Option, Some, None, Result, Ok, Err, IfSome, IsErrAnd, option_map, inl, inr, refl, subst, sym}
+use Rattle.std.proofs.Common.{◌≡◌, ◌∙◌, ◌++◌, append-nil, append_assoc, ap, arith, ℕ, List, [], ◌∷◌, Option, Some, None, Result, Ok, Err, IfOk, IfSome, IsErrAnd, Bool, true, option_map, inl, inr, refl, subst, sym}
 use Rattle.std.specs.Prelude.{IsSome}
 use Rattle.std.specs.Option.{unwrap_or}
+use Rattle.std.specs.Result.{result_unwrap_or}
 use Rattle.std.proofs.lemmas.Bool.{false≢true}
 use Rattle.clap.specs.Words.{Text}
 use Rattle.n2k_run.specs.Device.{HasFailed}
 use Rattle.n2kdec.specs.Asked.{asked, save_name}
-use Rattle.n2kdec.specs.Commands.{Kept, Performs, shelf}
-use Rattle.n2kdec.specs.Machine.{AddsCalls, AddsFailures, AsksFor, DoesAsked, DoesTyped, FileUse, HasCalled, IsPerformed, IsPerformedOver, IsReadable, IsStateAdmitted, IsUnopened, IsUnread, IsUnreadFile, LogAfter, Opens, Outside, RunsCommand, World, all_files, files_before_log, if_named, table_bytes, with_log}
+use Rattle.n2kdec.specs.Commands.{Kept, Performs, Place, shelf}
+use Rattle.n2kdec.specs.Machine.{AddsCalls, AddsFailures, AsksFor, DoesAsked, DoesTyped, FileUse, HasCalled, Hints, IsPerformed, IsPerformedOver, IsReadable, IsStateAdmitted, IsStateRefused, IsUnopened, IsUnread, IsUnreadFile, LogAfter, Opens, Outside, IsSentenceOf, IsTerminal, RunsCommand, RunsTyped, StandsBefore, World, WritesFault, all_files, files_before_log, if_named, table_bytes, with_log}
+use Rattle.n2kdec.specs.Fault.{status_of}
+use Rattle.n2kdec.specs.Parser.{Shown}
 use Rattle.n2kdec.specs.declared.asked.Request.{Request}
 use Rattle.n2kdec.specs.declared.asked.Command.{Command}
 use Rattle.n2kdec.specs.declared.asked.Files.{Files}
+use Rattle.n2kdec.specs.declared.ending.Ending.{Ending}
 use Rattle.n2kdec.specs.declared.fault.Fault.{Fault}
 use Rattle.n2kdec.specs.declared.fault.Fault.TheVariants.{TableSize, TableFile, StateSize, StateFile, Read, Memory, Save}
+use Rattle.n2kdec.specs.declared.reason.Reason.{Reason}
 use Rattle.n2kdec.specs.declared.words.Words.{Words}
 
 -- what is counted of a file that is closed comes to what was counted before
@@ -113,7 +118,7 @@ all_opened files a b c d before log same =
 -- ---- a command
 
 -- over a log of which no call was made, by the bytes that were read
-module _ (command : Command) (table : List ℕ) (handed : Option (List ℕ)) (before after : Outside) (log : LogAfter) (result : Result ℕ Fault) where
+module _ (command : Command) (table : List ℕ) (handed : Option (List ℕ)) (before after : Outside) (log : LogAfter) (result : Result Ending Fault) where
   abbrev pub PerformsAfter : List ℕ → Option (List ℕ) → Option (List ℕ) → ℕ → ℕ → Type 0
   PerformsAfter held lent left calls failed = Performs command held lent (with_log left calls failed before) (with_log log.left log.calls log.failed after)
       (shelf (save_name command) before.kept before.failed_keeps) (shelf (save_name command) after.kept after.failed_keeps) result
@@ -135,37 +140,70 @@ table_is items None none held empty is = ap items is ∙ empty
 table_is items (Some bytes) none held empty is = ap items is
 
 -- a command that is performed is run
-pub runs : (w : World) (files : Files) (command : Command) (before after : Outside) (result : Result ℕ Fault) → IsPerformed w files command before after result
+pub runs : (w : World) (files : Files) (command : Command) (before after : Outside) (result : Result Ending Fault) → IsPerformed w files command before after result
     → RunsCommand w files command before after result
 runs w files command before after (Ok status) done = done
 runs w files command before after (Err fault) done = inl done
 
 module _ (w : World) (files : Files) (command : Command) (o : Outside) where
   -- one whose files are not read is not begun
-  pub not_begun : (used : FileUse) (result : Result ℕ Fault) (fault : Fault) → IsErrAnd result (λ told. told ≡ fault) → IsStateAdmitted o.admits files command
+  pub not_begun : (used : FileUse) (result : Result Ending Fault) (fault : Fault) → IsErrAnd result (λ told. told ≡ fault) → IsStateAdmitted o.admits files command
       → IsUnread w files o.files used fault → RunsCommand w files command o (record o { files = used }) result
   not_begun used (Ok status) fault is admitted unread = absurd is
   not_begun used (Err told) fault is admitted unread =
       subst (λ f. RunsCommand w files command o (record o { files = used }) (Err f)) (sym is) (inr (inl (record { admitted = admitted; unread = unread; else_same = refl })))
 
-  abbrev pub having : Option (List Kept) → ℕ → Outside
-  having kept failed = record o { kept = kept; failed_keeps = failed }
+  abbrev pub having : Option (List Kept) → ℕ → ℕ → Outside
+  having kept unkept refused = record o { kept = kept; failed_keeps = unkept; failed_admissions = refused }
 
   -- what keeps a state refuses it
-  pub not_admitted : (kept : Option (List Kept)) (failed : ℕ) (fault : Fault) → kept ≡ o.kept → (fault ≡ Save) × IsSome (save_name command) × HasFailed o.failed_keeps failed
-      → RunsCommand w files command o (having kept failed) (Err fault)
-  not_admitted kept failed fault same refused =
-      subst (λ k. RunsCommand w files command o (having k failed) (Err fault)) (sym same)
-      (inr (inr (record { named = refused.1; save = refused.0; failed = refused.2; else_same = refl })))
+  pub not_admitted : (kept : Option (List Kept)) (unkept refused : ℕ) (fault : Fault) → kept ≡ o.kept → unkept ≡ o.failed_keeps
+      → (fault ≡ Save) × IsStateRefused o.admits files command × HasFailed o.failed_admissions refused
+      → RunsCommand w files command o (having kept unkept refused) (Err fault)
+  not_admitted kept unkept refused fault same keeps why =
+      subst (λ k. RunsCommand w files command o (having k unkept refused) (Err fault)) (sym same)
+      (subst (λ n. RunsCommand w files command o (having o.kept n refused) (Err fault)) (sym keeps)
+      (inr (inr (record { refused = why.1; save = why.0; failed = why.2; else_same = refl }))))
 
   -- it has no objection
-  pub admitted : (kept : Option (List Kept)) (failed : ℕ) (after : Outside) (result : Result ℕ Fault) → kept ≡ o.kept → failed ≡ o.failed_keeps
-      → RunsCommand w files command (having kept failed) after result → RunsCommand w files command o after result
-  admitted kept failed after result same none_failed runs =
-      subst (λ n. RunsCommand w files command (having o.kept n) after result) none_failed
-      (subst (λ k. RunsCommand w files command (having k failed) after result) same runs)
+  pub admitted : (kept : Option (List Kept)) (unkept refused : ℕ) (after : Outside) (result : Result Ending Fault) → kept ≡ o.kept → unkept ≡ o.failed_keeps
+      → refused ≡ o.failed_admissions → RunsCommand w files command (having kept unkept refused) after result → RunsCommand w files command o after result
+  admitted kept unkept refused after result same keeps none_refused runs =
+      subst (λ n. RunsCommand w files command (having o.kept o.failed_keeps n) after result) none_refused
+      (subst (λ n. RunsCommand w files command (having o.kept n refused) after result) keeps
+      (subst (λ k. RunsCommand w files command (having k unkept refused) after result) same runs))
 
 -- what the words ask for is what was typed
-pub does_typed : (w : World) (words : Words) (request : Result Request Fault) (before after : Outside) (result : Result ℕ Fault) → AsksFor w words → request ≡ asked words
-    → DoesAsked w request before after result → DoesTyped w before after result
-does_typed w words request before after result asks is does = inl (words, asks, subst (λ r. DoesAsked w r before after result) is does)
+pub does_typed : (shown : Shown) (w : World) (words : Words) (request : Result Request Fault) (before after : Outside) (result : Result Ending Fault) → AsksFor shown w words → request ≡ asked words
+    → DoesAsked w request before after result → DoesTyped shown w before after result
+does_typed shown w words request before after result asks is does = inl (words, asks, subst (λ r. DoesAsked w r before after result) is does)
+
+-- a fault of what was typed is written behind what stands before its line
+pub reported : (shown : Shown) (w : World) (before done : Outside) (result : Result Ending Fault) (fault : Fault) (stood : List ℕ) (errors : Place) (status : ℕ) → DoesTyped shown w before done result
+    → result ≡ Err fault → StandsBefore shown w done.unkept fault stood → WritesFault stood fault done.errors errors → status ≡ status_of fault
+    → RunsTyped shown w before (record done { errors = errors }) status
+reported shown w before done result fault stood errors status does is stands writes said = record {
+  result = Err fault;
+  done = done;
+  does = subst (DoesTyped shown w before done) is does;
+  concludes = (said, (stood, stands, writes), refl);
+}
+
+-- a command that came to its end, of which is said what there is to say
+pub ended : (shown : Shown) (w : World) (before done : Outside) (result : Result Ending Fault) (ending : Ending) (errors : Place) (status : ℕ) → DoesTyped shown w before done result
+    → result ≡ Ok ending → Hints w ending.has_other_form done.errors errors → status ≡ ending.status → RunsTyped shown w before (record done { errors = errors }) status
+ended shown w before done result ending errors status does is hints said = record {
+  result = Ok ending;
+  done = done;
+  does = subst (DoesTyped shown w before done) is does;
+  concludes = (said, hints, refl);
+}
+
+-- on a terminal the sentence of a fault stands before its line, where there is memory for it
+pub spoken : {V E : Type 0} (items : V → List ℕ) (shown : Shown) (w : World) (unkept : Text → Option Reason) (fault : Fault) (is_terminal : Bool) (said : Result V E) (none text : V)
+    → IsTerminal w is_terminal → is_terminal ≡ true → items none ≡ [] → IfOk said (λ said. IsSentenceOf shown w unkept fault (items said)) → text ≡ result_unwrap_or said none
+    → StandsBefore shown w unkept fault (items text)
+spoken items shown w unkept fault is_terminal (Ok said) none text terminal is empty sentence same =
+    (is_terminal, terminal, inr (is, subst (λ (v : _). IsSentenceOf shown w unkept fault (items v)) (sym same) sentence))
+spoken items shown w unkept fault is_terminal (Err why) none text terminal is empty sentence same =
+    (is_terminal, terminal, inl (inl (ap items same ∙ empty)))

@@ -1,131 +1,229 @@
 -- Calls of a folder, one after the other, up to one that fails or is refused.
-use Rattle.std.proofs.Common.{◌≡◌, ◌⊎◌, ℕ, Bool, true, false, List, [], ◌∷◌, ◌++◌, Option, None, Some, IfErr, IfSome, OnOk, Result, Ok, Err, is_ok, inl, inr, refl, subst, sym, ap, ◌∙◌}
+use Rattle.std.proofs.Common.{◌≡◌, ◌⊎◌, ℕ, true, false, List, [], ◌∷◌, ◌++◌, Option, None, Some, IfErr, IfSome, OnOk, Result, Ok, Err, IsErrAnd, inl, inr, refl, subst, sym, ap, ◌∙◌, ⊎_elim, append-nil, append_assoc}
+use Rattle.std.proofs.lemmas.Bool.{false≢true}
+use Rattle.std.specs.IoError.{error_kind}
+use Rattle.std.specs.declared.io.Error.{Error}
+use Rattle.std.specs.declared.io.ErrorKind.{ErrorKind}
 use Rattle.clap.specs.Words.{Text}
-use Rattle.n2kdec.specs.Folder.{Call, Content, Notes, create, created, renamed, sync, turn, write}
+use Rattle.n2kdec.specs.Disk as act
+use Rattle.n2kdec.specs.Disk.{Act, Answers, IsOpenAt, NotesOpen}
+use Rattle.n2kdec.specs.Folder.{AreDoneBy, Call, Content, Does, IsDoneBy, Name, Target, Temp, create, created, path_of, refused, rename, renamed, sync, write}
 use Rattle.n2kdec.specs.Inner.Placing.{HasFilled, HasPlaced, IsStuck, IsUnfilled, Makes}
-use Rattle.n2kdec.specs.Replacement.{Admits, AtomicReplacement, FromTo, HarmsTarget, HarmsTemp, KeepsNames, KeepsText, LeftAlone, PutsInPlace, RefusedReplacement, SparesTarget, SparesTemp, filled}
+use Rattle.n2kdec.specs.Replacement.{Admits, AreAlike, AtomicReplacement, FromTo, IsFoundFor, IsNotFoundFor, KeepsAs, KeepsNames, KeepsText, LeftAlone, Overwriting, PutsInPlace, RefusedReplacement, WritesBehind, filled}
 use Rattle.n2kdec.specs.declared.asked.Files.{Files}
-use Rattle.n2kdec.specs.declared.folder.Kind.{Kind}
-use Rattle.n2kdec.specs.declared.folder.Kind.TheVariants.{Alone, Shared, Special}
-use Rattle.n2kdec.specs.declared.folder.Name.{Name}
-use Rattle.n2kdec.specs.declared.folder.Name.TheVariants.{Target, Temp}
-use Rattle.n2kdec.specs.declared.folder.Unplaced.{Unplaced}
-use Rattle.n2kdec.specs.declared.folder.Unplaced.TheVariants.{Refused, Failed}
+use Rattle.n2kdec.specs.declared.destination.Destination.{Destination}
+use Rattle.n2kdec.specs.declared.destination.Kind.{Kind}
+use Rattle.n2kdec.specs.declared.destination.Kind.TheVariants.{Alone, Shared, Special}
+use Rattle.n2kdec.specs.declared.replacement.Unplaced.{Unplaced}
+use Rattle.n2kdec.specs.declared.replacement.Unplaced.TheVariants.{Refused, Failed}
 
--- one call more
-pub noted : (before between after : Option (List Call)) (made : List Call) (call : Call) → Makes before between made → Notes between after call → Makes before after (call ∷ made)
-noted before between None made call so_far last = tt
-noted before between (Some all) made call so_far (calls, was, is) =
-    let before_it = subst (λ known. IfSome known (λ these. (earlier : List Call) × (before ≡ Some earlier) × (these ≡ made ++ earlier))) was so_far in
-    (before_it.0, before_it.1, is ∙ ap (λ these. call ∷ these) before_it.2)
+-- what holds of each error of this kind holds of an answer that has one
+pub for_error : {T E : Type 0} (result : Result T E) (P : Result T E → Type 0) (Q : E → Type 0) → IsErrAnd result Q → ((error : E) → Q error → P (Err error)) → P result
+for_error (Ok value) P Q is holds = absurd is
+for_error (Err error) P Q is holds = holds error is
 
--- what holds of these calls holds of those that were made
-pub known : (P : List Call → List Call → Type 0) (old new : Option (List Call)) (made : List Call) → Makes old new made
-    → ((before : List Call) → P before (made ++ before)) → FromTo old new P
-known P old None made makes holds = tt
-known P old (Some after) made (before, was, is) holds = (before, was, subst (λ calls. P before calls) (sym is) (holds before))
+-- some acts more, and then others
+after_acts : (P Q : List Act → Type 0) (a b c : Option (List Act)) → IfSome b (λ all. (acts had : List Act) × (a ≡ Some had) × (all ≡ acts ++ had) × P acts)
+    → IfSome c (λ all. (acts had : List Act) × (b ≡ Some had) × (all ≡ acts ++ had) × Q acts)
+    → IfSome c (λ all. (last first had : List Act) × (a ≡ Some had) × (all ≡ (last ++ first) ++ had) × P first × Q last)
+after_acts P Q a b None first then = tt
+after_acts P Q a b (Some all) first (last, middle, was, is, holds) =
+    let before_it = subst (λ known. IfSome known (λ these. (acts had : List Act) × (a ≡ Some had) × (these ≡ acts ++ had) × P acts)) was first in
+    (last, before_it.0, before_it.1, before_it.2, is ∙ ap (λ these. last ++ these) before_it.3 ∙ sym (append_assoc last before_it.0 before_it.1), before_it.4, holds)
+
+module _ (d : Destination) where
+  -- one call more
+  pub noted : (before between after : Option (List Act)) (made : List Call) (call : Call) → Makes d before between made → Does d between after call → Makes d before after (call ∷ made)
+  noted before between None made call so_far last = tt
+  noted before between (Some all) made call so_far last =
+      let both = after_acts (AreDoneBy d made) (IsDoneBy d call) before between (Some all) so_far last in
+      (both.0 ++ both.1, both.2, both.3, both.4, (both.0, both.1, refl, both.6, both.5))
+
+  -- one call alone
+  pub only : (before after : Option (List Act)) (call : Call) → Does d before after call → Makes d before after (call ∷ [])
+  only before None call does = tt
+  only before (Some all) call (acts, had, was, is, done) = (acts, had, was, is, (acts, [], sym (append-nil acts), done, refl))
+
+  -- what holds of these calls holds of those that were made
+  pub known : (P : List Call → List Call → Type 0) (old new : Option (List Act)) (made : List Call) → Makes d old new made
+      → ((before : List Call) → P before (made ++ before)) → FromTo d old new P
+  known P old None made makes holds = tt
+  known P old (Some after) made (acts, had, was, is, done) holds = (acts, had, made, was, is, done, holds)
+
+-- ---- calls of the open file
+
+-- an act of the open file is one of the file at the path of this name
+of_open : (a b : Option (List Act)) (path : Text) (one : Option Text → Act) → IsOpenAt a path → NotesOpen a b one
+    → IfSome b (λ all. (had : List Act) × (a ≡ Some had) × (all ≡ one (Some path) ∷ had))
+of_open a None path one is_open notes = tt
+of_open a (Some all) path one is_open (had, was, is) =
+    (had, was, is ∙ ap (λ at. one at ∷ had) (subst (λ known. IsOpenAt known path) was is_open))
+
+pub still_open_written : (a b : Option (List Act)) (path text : List ℕ) (why : Option ErrorKind) → IsOpenAt a path → NotesOpen a b (λ at. act.write at text why) → IsOpenAt b path
+still_open_written a None path text why is_open notes = tt
+still_open_written a (Some all) path text why is_open (had, was, is) =
+    subst (λ these. act.open_path these ≡ Some path) (sym is) (subst (λ known. IsOpenAt known path) was is_open)
+
+module _ (d : Destination) (name : Name) where
+  pub wrote : (a b : Option (List Act)) (text : List ℕ) → IsOpenAt a (path_of d name) → NotesOpen a b (λ at. act.write at text None) → Does d a b (write name text true)
+  wrote a b text is_open notes = go b (of_open a b (path_of d name) (λ at. act.write at text None) is_open notes)
+    where
+      go : (b : Option (List Act)) → IfSome b (λ all. (had : List Act) × (a ≡ Some had) × (all ≡ act.write (Some (path_of d name)) text None ∷ had)) → Does d a b (write name text true)
+      go None one = tt
+      go (Some all) (had, was, is) = (act.write (Some (path_of d name)) text None ∷ [], had, was, is, refl)
+
+  pub wrote_not : (a b : Option (List Act)) (text : List ℕ) (why : ErrorKind) → IsOpenAt a (path_of d name) → NotesOpen a b (λ at. act.write at text (Some why)) → Does d a b (write name text false)
+  wrote_not a b text why is_open notes = go b (of_open a b (path_of d name) (λ at. act.write at text (Some why)) is_open notes)
+    where
+      go : (b : Option (List Act)) → IfSome b (λ all. (had : List Act) × (a ≡ Some had) × (all ≡ act.write (Some (path_of d name)) text (Some why) ∷ had)) → Does d a b (write name text false)
+      go None one = tt
+      go (Some all) (had, was, is) = (act.write (Some (path_of d name)) text (Some why) ∷ [], had, was, is, (why, refl))
+
+  pub synced_by : (a b : Option (List Act)) → IsOpenAt a (path_of d name) → NotesOpen a b (λ at. act.sync at None) → Does d a b (sync name true)
+  synced_by a b is_open notes = go b (of_open a b (path_of d name) (λ at. act.sync at None) is_open notes)
+    where
+      go : (b : Option (List Act)) → IfSome b (λ all. (had : List Act) × (a ≡ Some had) × (all ≡ act.sync (Some (path_of d name)) None ∷ had)) → Does d a b (sync name true)
+      go None one = tt
+      go (Some all) (had, was, is) = (act.sync (Some (path_of d name)) None ∷ [], had, was, is, refl)
+
+  pub synced_not : (a b : Option (List Act)) (why : ErrorKind) → IsOpenAt a (path_of d name) → NotesOpen a b (λ at. act.sync at (Some why)) → Does d a b (sync name false)
+  synced_not a b why is_open notes = go b (of_open a b (path_of d name) (λ at. act.sync at (Some why)) is_open notes)
+    where
+      go : (b : Option (List Act)) → IfSome b (λ all. (had : List Act) × (a ≡ Some had) × (all ≡ act.sync (Some (path_of d name)) (Some why) ∷ had)) → Does d a b (sync name false)
+      go None one = tt
+      go (Some all) (had, was, is) = (act.sync (Some (path_of d name)) (Some why) ∷ [], had, was, is, (why, refl))
 
 -- ---- a new file
 
-pub unfilled_at_create : (a b : Option (List Call)) (text : List ℕ) (why : Unplaced) → Notes a b (created {T = Unit {0}} Temp (Err why)) → IsUnfilled a b text why
-unfilled_at_create a b text Refused creating = creating
-unfilled_at_create a b text Failed creating = inl creating
+module _ (d : Destination) where
+  pub unfilled_at_create : (a b : Option (List Act)) (text : List ℕ) (why : Unplaced) → Does d a b (created {T = Unit {0}} Temp (Err why)) → IsUnfilled d a b text why
+  unfilled_at_create a b text Refused creating = only d a b refused creating
+  unfilled_at_create a b text (Failed error) creating = inl (only d a b (create Temp false) creating)
 
-pub unfilled_at_write : (a b c : Option (List Call)) (text : List ℕ) (why : Unplaced) → why ≡ Failed → Notes a b (create Temp true) → Notes b c (write Temp text false)
-    → IsUnfilled a c text why
-unfilled_at_write a b c text why is creating writing =
-    subst (λ w. IsUnfilled a c text w) (sym is) (inr (inl (noted a b c (create Temp true ∷ []) _ creating writing)))
+  -- the file is open
+  module _ (a b c : Option (List Act)) (text : List ℕ) (creating : Does d a b (create Temp true)) (is_open : IsOpenAt b (path_of d Temp)) where
+    pub unfilled_at_write : (error : Error) (why : Unplaced) → why ≡ Failed error → NotesOpen b c (λ at. act.write at text (Some (error_kind error))) → IsUnfilled d a c text why
+    unfilled_at_write error why is writing =
+        subst (λ w. IsUnfilled d a c text w) (sym is) (inr (inl (noted d a b c (create Temp true ∷ []) (write Temp text false) (only d a b (create Temp true) creating) (wrote_not d Temp b c text (error_kind error) is_open writing))))
 
-synced : (a b c d : Option (List Call)) (text : List ℕ) (done : _) → Notes a b (create Temp true) → Notes b c (write Temp text true) → Notes c d (sync Temp done) → Makes a d (sync Temp done ∷ filled text)
-synced a b c d text done creating writing syncing = noted a c d (filled text) _ (noted a b c (create Temp true ∷ []) _ creating writing) syncing
+    module _ (e : Option (List Act)) (writing : NotesOpen b c (λ at. act.write at text None)) where
+      written : Makes d a c (filled text)
+      written = noted d a b c (create Temp true ∷ []) (write Temp text true) (only d a b (create Temp true) creating) (wrote d Temp b c text is_open writing)
 
-pub unfilled_at_sync : (a b c d : Option (List Call)) (text : List ℕ) (why : Unplaced) → why ≡ Failed → Notes a b (create Temp true) → Notes b c (write Temp text true)
-    → Notes c d (sync Temp false) → IsUnfilled a d text why
-unfilled_at_sync a b c d text why is creating writing syncing =
-    subst (λ w. IsUnfilled a d text w) (sym is) (inr (inr (synced a b c d text false creating writing syncing)))
+      pub unfilled_at_sync : (error : Error) (why : Unplaced) → why ≡ Failed error → NotesOpen c e (λ at. act.sync at (Some (error_kind error))) → IsUnfilled d a e text why
+      unfilled_at_sync error why is syncing =
+          subst (λ w. IsUnfilled d a e text w) (sym is)
+          (inr (inr (noted d a c e (filled text) (sync Temp false) written (synced_not d Temp c e (error_kind error) (still_open_written b c (path_of d Temp) text None is_open writing) syncing))))
 
-pub filled_at_sync : (a b c d : Option (List Call)) (text : List ℕ) → Notes a b (create Temp true) → Notes b c (write Temp text true)
-    → Notes c d (sync Temp true) → HasFilled a d text
-filled_at_sync a b c d text creating writing syncing = synced a b c d text true creating writing syncing
+      pub filled_at_sync : NotesOpen c e (λ at. act.sync at None) → HasFilled d a e text
+      filled_at_sync syncing = noted d a c e (filled text) (sync Temp true) written (synced_by d Temp c e (still_open_written b c (path_of d Temp) text None is_open writing) syncing)
 
--- for `fill`, at each of its calls
-pub ruleset unfilled = (unfilled_at_create, unfilled_at_write, unfilled_at_sync, filled_at_sync)
+  pub stuck_at_fill : (a b : Option (List Act)) (text : List ℕ) (why : Unplaced) → IsUnfilled d a b text why → IsStuck d a b text why
+  stuck_at_fill a b text Refused filling = inl filling
+  stuck_at_fill a b text (Failed error) filling = inl filling
 
-pub stuck_at_fill : (a b : Option (List Call)) (text : List ℕ) (why : Unplaced) → IsUnfilled a b text why → IsStuck a b text why
-stuck_at_fill a b text Refused filling = inl filling
-stuck_at_fill a b text Failed filling = inl filling
+  pub stuck_at_rename : {T : Type 0} (a b c : Option (List Act)) (text : List ℕ) (result : Result T Unplaced) → HasFilled d a b text
+      → Does d b c (renamed Temp Target result) → IfErr result (IsStuck d a c text)
+  stuck_at_rename a b c text (Ok moved) filling renaming = tt
+  stuck_at_rename a b c text (Err Refused) filling renaming = inr (noted d a b c (sync Temp true ∷ filled text) refused filling renaming)
+  stuck_at_rename a b c text (Err (Failed error)) filling renaming = inr (noted d a b c (sync Temp true ∷ filled text) (rename Temp Target false) filling renaming)
 
-pub stuck_at_rename : {T : Type 0} (a b c : Option (List Call)) (text : List ℕ) (result : Result T Unplaced) → HasFilled a b text
-    → Notes b c (renamed Temp Target result) → IfErr result (IsStuck a c text)
-stuck_at_rename a b c text (Ok moved) filling renaming = tt
-stuck_at_rename a b c text (Err Refused) filling renaming = inr (noted a b c (sync Temp true ∷ filled text) _ filling renaming)
-stuck_at_rename a b c text (Err Failed) filling renaming = inr (noted a b c (sync Temp true ∷ filled text) _ filling renaming)
-
-pub placed_at_rename : {T : Type 0} (a b c : Option (List Call)) (text : List ℕ) (result : Result T Unplaced) → HasFilled a b text
-    → Notes b c (renamed Temp Target result) → OnOk result (HasPlaced a c text)
-placed_at_rename a b c text (Ok moved) filling renaming = noted a b c (sync Temp true ∷ filled text) _ filling renaming
-placed_at_rename a b c text (Err why) filling renaming = tt
+  pub placed_at_rename : {T : Type 0} (a b c : Option (List Act)) (text : List ℕ) (result : Result T Unplaced) → HasFilled d a b text
+      → Does d b c (renamed Temp Target result) → OnOk result (HasPlaced d a c text)
+  placed_at_rename a b c text (Ok moved) filling renaming = noted d a b c (sync Temp true ∷ filled text) (rename Temp Target true) filling renaming
+  placed_at_rename a b c text (Err why) filling renaming = tt
 
 -- for `place`, at each of its calls
 pub ruleset stuck = (stuck_at_fill, stuck_at_rename, placed_at_rename)
 
 -- ---- by what a name leads to
 
--- a call before those of which this holds
-chained : (P : List Call → List Call → Type 0) (a b c : Option (List Call)) (call : Call) → Notes a b call → FromTo b c P
-    → FromTo a c (λ before after. FromTo (Some (call ∷ before)) (Some after) P)
-chained P a b None call first holds = tt
-chained P a b (Some after) call first (middle, was, holds) =
-    let before_it = subst (λ known. IfSome known (λ these. (earlier : List Call) × (a ≡ Some earlier) × (these ≡ call ∷ earlier))) was first in
-    (before_it.0, before_it.1, (call ∷ before_it.0, refl, subst (λ these. P these after) before_it.2 holds))
+pub kept_nowhere : {E : Type 0} (answers : Option Answers) (old : Option (List Act)) (name : Text) (text : List ℕ) (reason : Error) (why : E) → IsNotFoundFor answers name (error_kind reason)
+    → KeepsText {T = Unit {0}} answers old old name text (Err why)
+kept_nowhere answers old name text reason why unfound = inr (error_kind reason, unfound, refl, refl)
 
-pub kept_nowhere : {E : Type 0} (a b : Option (List Call)) (name text : List ℕ) (why : E) → Notes a b (turn name None) → KeepsText {T = Unit {0}} a b name text (Err why)
-kept_nowhere a None name text why turning = tt
-kept_nowhere a (Some all) name text why (calls, was, is) = (calls, was, (None, (ap (λ these. Some these) is, refl)))
+pub kept_as : {T E : Type 0} (answers : Option Answers) (old new : Option (List Act)) (name : Text) (text : List ℕ) (d : Destination) (result : Result T E) → IsFoundFor answers name d
+    → KeepsAs d.kind d old new text result → KeepsText answers old new name text result
+kept_as answers old new name text d result found keeps = inl (d, found, keeps)
 
-pub kept_alone : {T E : Type 0} (a b c : Option (List Call)) (name text : List ℕ) (result : Result T E) → Notes a b (turn name (Some Alone)) → PutsInPlace b c text result
-    → KeepsText a c name text result
-kept_alone a b None name text result turning keeping = tt
-kept_alone a b (Some all) name text result turning keeping =
-    let all_of = chained (λ before after. (first : Name → Content) → AtomicReplacement first before after text result ⊎ RefusedReplacement Alone first before after text result)
-    a b (Some all) _ turning keeping in
-    (all_of.0, all_of.1, (Some Alone, all_of.2))
+module _ {T E : Type 0} (d : Destination) (old new : Option (List Act)) (text : List ℕ) (result : Result T E) (kind : Kind) where
+  pub kept_alone : kind ≡ Alone → PutsInPlace d old new text result → KeepsAs kind d old new text result
+  kept_alone is keeps = subst (λ k. KeepsAs k d old new text result) (sym is) keeps
 
-pub kept_shared : {T E : Type 0} (a b c : Option (List Call)) (name text : List ℕ) (result : Result T E) → Notes a b (turn name (Some Shared)) → KeepsNames b c text result
-    → KeepsText a c name text result
-kept_shared a b None name text result turning keeping = tt
-kept_shared a b (Some all) name text result turning keeping =
-    let all_of = chained (λ before after. (first : Name → Content) → LeftAlone first before after text result ⊎ RefusedReplacement Shared first before after text result)
-    a b (Some all) _ turning keeping in
-    (all_of.0, all_of.1, (Some Shared, all_of.2))
+  pub kept_shared : kind ≡ Shared → KeepsNames d old new text result → KeepsAs kind d old new text result
+  kept_shared is keeps = subst (λ k. KeepsAs k d old new text result) (sym is) keeps
 
-pub kept_special : {T E : Type 0} (a b c : Option (List Call)) (name text : List ℕ) (result : Result T E) → Notes a b (turn name (Some Special))
-    → Notes b c (write Target text (is_ok result)) → KeepsText a c name text result
-kept_special a b None name text result turning keeping = tt
-kept_special a b (Some all) name text result turning keeping =
-    let all_of = chained (λ before after. after ≡ write Target text (is_ok result) ∷ before) a b (Some all) _ turning keeping in
-    (all_of.0, all_of.1, (Some Special, all_of.2))
+  pub kept_special : (path : Text) → kind ≡ Special → path ≡ path_of d Target → WritesBehind path old new text result → KeepsAs kind d old new text result
+  kept_special path is at writes = subst (λ k. KeepsAs k d old new text result) (sym is) (subst (λ p. WritesBehind p old new text result) at writes)
 
--- for `keep_text`
-pub ruleset keeps = (kept_nowhere, kept_alone, kept_shared, kept_special)
+-- for `keep_at`
+pub ruleset keeps = (kept_alone, kept_shared, kept_special)
 
--- ---- whether a state may be kept
+-- ---- whatever the error is
 
-module _ (leads : Name → Text → Option Bool) (a b : Option (List Call)) (name : Text) (files : Files) where
-  pub unturned : {E : Type 0} (why : E) → Notes a b (turn name None) → Admits {T = Unit {0}} leads a b name files (Err why)
-  unturned why turning = (None, turning, tt)
+module _ {T E F : Type 0} (first : Name → Content) (after : List Call) (text : List ℕ) where
+  atomic : (before : List Call) (one : Result T E) (other : Result T F) → AreAlike one other → AtomicReplacement first before after text one → AtomicReplacement first before after text other
+  atomic before (Ok value) (Ok other) alike r = record { made = r.made; calls = r.calls; order = r.order; each_moment = r.each_moment; answer = r.answer }
+  atomic before (Err reason) (Err why) alike r = record { made = r.made; calls = r.calls; order = r.order; each_moment = r.each_moment; answer = r.answer }
+  atomic before (Ok value) (Err why) alike r = absurd alike
+  atomic before (Err reason) (Ok value) alike r = absurd alike
 
-  pub spared : {T : Type 0} (E : Type 0) (kind : Kind) (value : T) → Notes a b (turn name (Some kind)) → SparesTarget (leads Target) kind files
-      → SparesTemp (leads Temp) files → Admits {T = T} {E = E} leads a b name files (Ok value)
-  spared E kind value turning target temp = (Some kind, turning, (target, temp))
+  alone : (before : List Call) (one : Result T E) (other : Result T F) → AreAlike one other → LeftAlone first before after text one → LeftAlone first before after text other
+  alone before (Ok value) (Ok other) alike r = record { tried = r.tried; order = r.order; gone = r.gone; calls = r.calls; each_moment = r.each_moment; beside = r.beside; answer = r.answer }
+  alone before (Err reason) (Err why) alike r = record { tried = r.tried; order = r.order; gone = r.gone; calls = r.calls; each_moment = r.each_moment; beside = r.beside; answer = refl }
+  alone before (Ok value) (Err why) alike r = absurd alike
+  alone before (Err reason) (Ok value) alike r = absurd alike
 
-  pub target_harmed : {E : Type 0} (kind : Kind) (why : E) → Notes a b (turn name (Some kind)) → HarmsTarget (leads Target) kind files
-      → Admits {T = Unit {0}} {E = E} leads a b name files (Err why)
-  target_harmed kind why turning harmed = (Some kind, turning, inl harmed)
+  over : (before : List Call) (one : Result T E) (other : Result T F) → AreAlike one other → Overwriting first before after text one → Overwriting first before after text other
+  over before (Ok value) (Ok other) alike r = record { made = r.made; order = r.order; calls = r.calls; new_stays = r.new_stays; found = r.found; left = r.left; beside = r.beside }
+  over before (Err reason) (Err why) alike r = record { made = r.made; order = r.order; calls = r.calls; new_stays = r.new_stays; found = tt; left = tt; beside = tt }
+  over before (Ok value) (Err why) alike r = absurd alike
+  over before (Err reason) (Ok value) alike r = absurd alike
 
-  pub temp_harmed : {E : Type 0} (kind : Kind) (why : E) → Notes a b (turn name (Some kind)) → HarmsTemp (leads Temp) files
-      → Admits {T = Unit {0}} {E = E} leads a b name files (Err why)
-  temp_harmed kind why turning harmed = (Some kind, turning, inr harmed)
+  refused_so : (before : List Call) (one : Result T E) (other : Result T F) → AreAlike one other → (kind : Kind) → RefusedReplacement kind first before after text one
+      → RefusedReplacement kind first before after text other
+  refused_so before one other alike kind r = record { tried = r.tried; refusal = r.refusal; each_moment = r.each_moment; overwriting = over (r.tried ++ before) one other alike r.overwriting }
 
--- for `admit_to`
-pub ruleset admits = (unturned, spared, target_harmed, temp_harmed)
+from_to : (d : Destination) (old new : Option (List Act)) (P Q : List Call → List Call → Type 0) → ((before after : List Call) → P before after → Q before after) → FromTo d old new P → FromTo d old new Q
+from_to d old None P Q so made = tt
+from_to d old (Some all) P Q so (acts, had, made, was, is, done, holds) = (acts, had, made, was, is, done, λ before. so before (made ++ before) (holds before))
+
+behind : {T E F : Type 0} (path text : List ℕ) (old new : Option (List Act)) (one : Result T E) (other : Result T F) → AreAlike one other → WritesBehind path old new text one → WritesBehind path old new text other
+behind path text old new (Ok value) (Ok other) alike writes = writes
+behind path text old new (Err reason) (Err why) alike writes = writes
+behind path text old new (Ok value) (Err why) alike writes = absurd alike
+behind path text old new (Err reason) (Ok value) alike writes = absurd alike
+
+kept_so : {T E F : Type 0} (d : Destination) (old new : Option (List Act)) (text : List ℕ) (one : Result T E) (other : Result T F) → AreAlike one other → (kind : Kind) → KeepsAs kind d old new text one
+    → KeepsAs kind d old new text other
+kept_so {T} {E} {F} d old new text one other alike Alone made =
+    from_to d old new (λ before after. (first : Name → Content) → AtomicReplacement {T = T} {E = E} first before after text one ⊎ RefusedReplacement {T = T} {E = E} Alone first before after text one)
+    (λ before after. (first : Name → Content) → AtomicReplacement {T = T} {E = F} first before after text other ⊎ RefusedReplacement {T = T} {E = F} Alone first before after text other)
+    (λ before after so first. ⊎_elim (λ r. inl (atomic first after text before one other alike r)) (λ r. inr (refused_so first after text before one other alike Alone r)) (so first)) made
+kept_so {T} {E} {F} d old new text one other alike Shared made =
+    from_to d old new (λ before after. (first : Name → Content) → LeftAlone {T = T} {E = E} first before after text one ⊎ RefusedReplacement {T = T} {E = E} Shared first before after text one)
+    (λ before after. (first : Name → Content) → LeftAlone {T = T} {E = F} first before after text other ⊎ RefusedReplacement {T = T} {E = F} Shared first before after text other)
+    (λ before after so first. ⊎_elim (λ r. inl (alone first after text before one other alike r)) (λ r. inr (refused_so first after text before one other alike Shared r)) (so first)) made
+kept_so d old new text one other alike Special made = behind (path_of d Target) text old new one other alike made
+
+module _ (answers : Option Answers) (old new : Option (List Act)) (name text : List ℕ) where
+  pub text_kept : {T E : Type 0} (F : Type 0) (value other : T) → KeepsText {E = E} answers old new name text (Ok value) → KeepsText {E = F} answers old new name text (Ok other)
+  text_kept F value other (inl (d, found, keeps)) = inl (d, found, kept_so d old new text (Ok value) (Ok other) tt d.kind keeps)
+  text_kept F value other (inr (kind, unfound, same, err)) = absurd (false≢true err)
+
+  pub text_unkept : {T E F : Type 0} (reason : E) (why : F) → KeepsText {T = T} answers old new name text (Err reason) → KeepsText {T = T} answers old new name text (Err why)
+  text_unkept reason why (inl (d, found, keeps)) = inl (d, found, kept_so d old new text (Err reason) (Err why) tt d.kind keeps)
+  text_unkept reason why (inr (kind, unfound, same, err)) = inr (kind, unfound, same, refl)
+
+  pub text_so : {T E F : Type 0} (one : Result T E) (other : Result T F) → AreAlike one other → KeepsText answers old new name text one → KeepsText answers old new name text other
+  text_so {F = F} (Ok value) (Ok other) alike keeps = text_kept F value other keeps
+  text_so (Err reason) (Err why) alike keeps = text_unkept reason why keeps
+  text_so (Ok value) (Err why) alike keeps = absurd alike
+  text_so (Err reason) (Ok value) alike keeps = absurd alike
+
+pub admits_so : {T E F : Type 0} (answers : Option Answers) (name : Text) (files : Files) (one : Result T E) (other : Result T F) → AreAlike one other → Admits answers name files one
+    → Admits answers name files other
+admits_so answers name files (Ok value) (Ok other) alike admits = admits
+admits_so answers name files (Err reason) (Err why) alike admits = admits
+admits_so answers name files (Ok value) (Err why) alike admits = absurd alike
+admits_so answers name files (Err reason) (Ok value) alike admits = absurd alike

@@ -1,15 +1,18 @@
 -- What is there at each moment of a replacement, and after a text is written over another.
-use Rattle.std.proofs.Common.{◌≡◌, ◌⊎◌, List, ℕ, Bool, true, false, [], ◌∷◌, ◌++◌, Option, None, Some, Result, Ok, Err, is_ok, refl, inl, inr, subst, ap, ◌∙◌, ⊎_elim, arith}
-use Rattle.n2kdec.specs.Folder.{Call, Content, MayBeLeft, MayHave, Notes, create, cut_short, empty, failures, refused, remove, rename, sync, sync_folder, write}
+use Rattle.std.proofs.Common.{◌≡◌, ◌⊎◌, List, ℕ, Bool, true, false, [], ◌∷◌, ◌++◌, Option, None, Some, Result, Ok, Err, is_ok, refl, inl, inr, subst, sym, ap, ◌∙◌, ⊎_elim, append_assoc, arith}
+use Rattle.std.specs.declared.io.Error.{Error}
+use Rattle.std.specs.declared.io.ErrorKind.{ErrorKind}
+use Rattle.n2kdec.specs.Disk as act
+use Rattle.n2kdec.specs.Disk.{Act, IsOpenAt, NotesOpen}
+use Rattle.n2kdec.specs.Folder.{AreDoneBy, Call, Content, Does, MayBeLeft, MayHave, Name, Target, Temp, create, cut_short, empty, failures, path_of, refused, remove, rename, sync, sync_folder, write}
 use Rattle.n2kdec.specs.Inner.Placing.{HasFilled, HasPlaced, IsStuck, IsUnfilled, Makes}
 use Rattle.n2kdec.specs.Replacement.{AreRefused, AreUnfilled, AreWritingOver, AtEachMoment, AtomicReplacement, FromTo, HasOldOrNew, IsAsBefore, IsGivenUp, KeepsNames, LeftAlone, Overwrites, Overwriting, PutsInPlace, RefusedReplacement, filled, placed}
-use Rattle.n2kdec.specs.declared.folder.Kind.{Kind}
-use Rattle.n2kdec.specs.declared.folder.Kind.TheVariants.{Alone, Shared}
-use Rattle.n2kdec.specs.declared.folder.Name.{Name}
-use Rattle.n2kdec.specs.declared.folder.Name.TheVariants.{Target, Temp}
-use Rattle.n2kdec.specs.declared.folder.Unplaced.{Unplaced}
-use Rattle.n2kdec.specs.declared.folder.Unplaced.TheVariants.{Refused, Failed}
-use Rattle.n2kdec.proofs.Placing.{known, noted}
+use Rattle.n2kdec.specs.declared.destination.Destination.{Destination}
+use Rattle.n2kdec.specs.declared.destination.Kind.{Kind}
+use Rattle.n2kdec.specs.declared.destination.Kind.TheVariants.{Alone, Shared}
+use Rattle.n2kdec.specs.declared.replacement.Unplaced.{Unplaced}
+use Rattle.n2kdec.specs.declared.replacement.Unplaced.TheVariants.{Refused, Failed}
+use Rattle.n2kdec.proofs.Placing.{known, noted, only, still_open_written, synced_by, synced_not, wrote, wrote_not}
 
 -- the text of a file
 text_of : Content → List ℕ
@@ -216,154 +219,172 @@ module _ (first : Name → Content) (before : List Call) (text : List ℕ) where
       → Overwriting {T = Unit {0}} {E = E} first before (made ++ before) text (Err why)
   broken_off why made are here = record { made = made; order = are; calls = refl; new_stays = here; found = tt; left = tt; beside = tt }
 
--- in the three ways that the calls go
-pub placed_in : {T E : Type 0} (old between new : Option (List Call)) (text : List ℕ) (result : Result T E) → HasPlaced old between text
-    → Notes between new (sync_folder (is_ok result)) → PutsInPlace old new text result
-placed_in old between new text (Ok value) placing syncing =
-    known _ old new (sync_folder true ∷ placed text) (noted old between new (placed text) _ placing syncing) (λ before first. inl (done first before text value))
-placed_in old between new text (Err error) placing syncing =
-    known _ old new (sync_folder false ∷ placed text) (noted old between new (placed text) _ placing syncing) (λ before first. inl (unsettled first before text error))
+-- what holds from the calls before to those after
+abbrev Replaced : {T E : Type 0} → List ℕ → Result T E → List Call → List Call → Type 0
+Replaced text result before after = (first : Name → Content) → AtomicReplacement first before after text result ⊎ RefusedReplacement Alone first before after text result
 
--- one of the four calls failed, and the new file was to be taken away
-taken_away : {E : Type 0} (old between new : Option (List Call)) (text : List ℕ) (error : E) (removed : Bool) (made : List Call) → AreUnplaced text made → Makes old between made
-    → Notes between new (remove Temp removed) → ((first : Name → Content) (before : List Call) → AtEachMoment (HasOldOrNew first before text) made before)
-    → failures made ≡ 1 → PutsInPlace {T = Unit {0}} {E = E} old new text (Err error)
-taken_away old between new text error removed made are makes taking safe one =
-    known _ old new (remove Temp removed ∷ made) (noted old between new made _ makes taking)
-    (λ before first. inl (given_up first before text error removed made are (safe first before) one))
+abbrev Spared : {T E : Type 0} → List ℕ → Result T E → List Call → List Call → Type 0
+Spared text result before after = (first : Name → Content) → LeftAlone first before after text result ⊎ RefusedReplacement Shared first before after text result
 
-given_up_by : {E : Type 0} (old between new : Option (List Call)) (text : List ℕ) (error : E) (removed : Bool)
-    → Notes between new (remove Temp removed) → IsStuck old between text Failed → PutsInPlace {T = Unit {0}} {E = E} old new text (Err error)
-given_up_by old between new text error removed taking (inl (inl made)) =
-    taken_away old between new text error removed (create Temp false ∷ []) (inl (inl refl)) made taking
-    (λ first before. are_safe first before text (create Temp false ∷ []) (creating first before text false)) refl
-given_up_by old between new text error removed taking (inl (inr (inl made))) =
-    taken_away old between new text error removed (write Temp text false ∷ create Temp true ∷ []) (inl (inr (inl refl))) made taking
-    (λ first before. are_safe first before text (write Temp text false ∷ create Temp true ∷ []) (writing first before text false)) refl
-given_up_by old between new text error removed taking (inl (inr (inr made))) =
-    taken_away old between new text error removed (sync Temp false ∷ filled text) (inl (inr (inr refl))) made taking
-    (λ first before. are_safe first before text (sync Temp false ∷ filled text) (syncing first before text false)) refl
-given_up_by old between new text error removed taking (inr made) =
-    taken_away old between new text error removed (rename Temp Target false ∷ sync Temp true ∷ filled text) (inr refl) made taking
-    (λ first before. renaming first before text false) refl
+abbrev Overwritten : {T E : Type 0} → List ℕ → Result T E → List Call → List Call → Type 0
+Overwritten text result before after = (first : Name → Content) → Overwriting first before after text result
 
-pub given_up_in : {T E F : Type 0} (old between new : Option (List Call)) (text : List ℕ) (error : E) (removed : Result T F) (why : Unplaced)
-    → Notes between new (remove Temp (is_ok removed)) → IsStuck old between text why → why ≡ Failed → PutsInPlace {T = Unit {0}} {E = E} old new text (Err error)
-given_up_in old between new text error removed why taking stuck is =
-    given_up_by old between new text error (is_ok removed) taking (subst (λ w. IsStuck old between text w) is stuck)
+-- calls that are done by acts, and more of them
+done_after : (to : Destination) (more made : List Call) (acts first : List Act) → AreDoneBy to more acts → AreDoneBy to made first → AreDoneBy to (more ++ made) (acts ++ first)
+done_after to [] made acts first none done = subst (λ these. AreDoneBy to made (these ++ first)) (sym none) done
+done_after to (call ∷ more) made acts first (last, earlier, is, by, others) done =
+    (last, earlier ++ first, ap (λ these. these ++ first) is ∙ append_assoc last earlier first, by, done_after to more made earlier first others done)
 
--- the new file did not come to the name, and the text was written over the old one
-instead : {T E : Type 0} (kind : Kind) (old between new : Option (List Call)) (text : List ℕ) (result : Result T E) (made : List Call)
-    → AreRefused kind text made → ((first : Name → Content) (before : List Call) → AtEachMoment (IsAsBefore first before Target) made before)
-    → Makes old between made → Overwrites between new text result
-    → FromTo old new (λ before after. (first : Name → Content) → RefusedReplacement kind first before after text result)
-instead kind old between None text result made are safe makes over = tt
-instead kind old between (Some after) text result made are safe makes (middle, was, over) =
-    let before_it = subst (λ known. Makes old known made) was makes in (
-      before_it.0,
-      before_it.1,
-      λ first. refusal first before_it.0 text kind result after made are (safe first before_it.0)
-          (subst (λ these. Overwriting first these after text result) before_it.2 (over first)),
-    )
+module _ (to : Destination) where
+  -- in the three ways that the calls go
+  pub placed_in : {T E : Type 0} (old between new : Option (List Act)) (text : List ℕ) (result : Result T E) → HasPlaced to old between text
+      → Does to between new (sync_folder (is_ok result)) → PutsInPlace to old new text result
+  placed_in {T} {E} old between new text (Ok value) placing done_so =
+      known to (Replaced {T = T} {E = E} text (Ok value)) old new (sync_folder true ∷ placed text) (noted to old between new (placed text) (sync_folder true) placing done_so) (λ before first. inl (done first before text value))
+  placed_in {T} {E} old between new text (Err error) placing done_so =
+      known to (Replaced {T = T} {E = E} text (Err error)) old new (sync_folder false ∷ placed text) (noted to old between new (placed text) (sync_folder false) placing done_so) (λ before first. inl (unsettled first before text error))
 
--- one of two ways
-second : (A B : (Name → Content) → List Call → List Call → Type 0) (old new : Option (List Call)) → FromTo old new (λ before after. (first : Name → Content) → B first before after)
-    → FromTo old new (λ before after. (first : Name → Content) → A first before after ⊎ B first before after)
-second A B old None holds = tt
-second A B old (Some after) (before, was, holds) = (before, was, λ first. inr (holds first))
+  -- one of the four calls failed, and the new file was to be taken away
+  taken_away : {E : Type 0} (old between new : Option (List Act)) (text : List ℕ) (error : E) (removed : Bool) (made : List Call) → AreUnplaced text made → Makes to old between made
+      → Does to between new (remove Temp removed) → ((first : Name → Content) (before : List Call) → AtEachMoment (HasOldOrNew first before text) made before)
+      → failures made ≡ 1 → PutsInPlace {T = Unit {0}} {E = E} to old new text (Err error)
+  taken_away {E} old between new text error removed made are makes taking safe one =
+      known to (Replaced {T = Unit {0}} {E = E} text (Err error)) old new (remove Temp removed ∷ made) (noted to old between new made (remove Temp removed) makes taking)
+      (λ before first. inl (given_up first before text error removed made are (safe first before) one))
 
-refused_by : {T E : Type 0} (old between new : Option (List Call)) (text : List ℕ) (result : Result T E)
-    → Overwrites between new text result → IsStuck old between text Refused → PutsInPlace old new text result
-refused_by old between new text result over (inl made) =
-    second (λ first before after. AtomicReplacement first before after text result) (λ first before after. RefusedReplacement Alone first before after text result) old new
-    (instead Alone old between new text result (refused ∷ []) (inl refl) (λ first before. refused_at first before text [] (at_first first before text)) made over)
-refused_by old between new text result over (inr made) =
-    second (λ first before after. AtomicReplacement first before after text result) (λ first before after. RefusedReplacement Alone first before after text result) old new
-    (instead Alone old between new text result (refused ∷ sync Temp true ∷ filled text) (inr refl)
-    (λ first before. refused_at first before text (sync Temp true ∷ filled text) (syncing first before text true)) made over)
+  given_up_by : {E : Type 0} (reason : Error) (old between new : Option (List Act)) (text : List ℕ) (error : E) (removed : Bool)
+      → Does to between new (remove Temp removed) → IsStuck to old between text (Failed reason) → PutsInPlace {T = Unit {0}} {E = E} to old new text (Err error)
+  given_up_by reason old between new text error removed taking (inl (inl made)) =
+      taken_away old between new text error removed (create Temp false ∷ []) (inl (inl refl)) made taking
+      (λ first before. are_safe first before text (create Temp false ∷ []) (creating first before text false)) refl
+  given_up_by reason old between new text error removed taking (inl (inr (inl made))) =
+      taken_away old between new text error removed (write Temp text false ∷ create Temp true ∷ []) (inl (inr (inl refl))) made taking
+      (λ first before. are_safe first before text (write Temp text false ∷ create Temp true ∷ []) (writing first before text false)) refl
+  given_up_by reason old between new text error removed taking (inl (inr (inr made))) =
+      taken_away old between new text error removed (sync Temp false ∷ filled text) (inl (inr (inr refl))) made taking
+      (λ first before. are_safe first before text (sync Temp false ∷ filled text) (syncing first before text false)) refl
+  given_up_by reason old between new text error removed taking (inr made) =
+      taken_away old between new text error removed (rename Temp Target false ∷ sync Temp true ∷ filled text) (inr refl) made taking
+      (λ first before. renaming first before text false) refl
 
-pub refused_in : {T E : Type 0} (old between new : Option (List Call)) (text : List ℕ) (result : Result T E) (why : Unplaced)
-    → Overwrites between new text result → IsStuck old between text why → why ≡ Refused → PutsInPlace old new text result
-refused_in old between new text result why over stuck is =
-    refused_by old between new text result over (subst (λ w. IsStuck old between text w) is stuck)
+  pub given_up_in : {T E F : Type 0} (reason : Error) (old between new : Option (List Act)) (text : List ℕ) (error : E) (removed : Result T F) (why : Unplaced)
+      → Does to between new (remove Temp (is_ok removed)) → IsStuck to old between text why → why ≡ Failed reason → PutsInPlace {T = Unit {0}} {E = E} to old new text (Err error)
+  given_up_in reason old between new text error removed why taking stuck is =
+      given_up_by reason old between new text error (is_ok removed) taking (subst (λ w. IsStuck to old between text w) is stuck)
 
--- ---- a file with other names
+  -- the new file did not come to the name, and the text was written over the old one
+  instead : {T E : Type 0} (kind : Kind) (old between new : Option (List Act)) (text : List ℕ) (result : Result T E) (made : List Call)
+      → AreRefused kind text made → ((first : Name → Content) (before : List Call) → AtEachMoment (IsAsBefore first before Target) made before)
+      → Makes to old between made → Overwrites to between new text result
+      → FromTo to old new (λ before after. (first : Name → Content) → RefusedReplacement kind first before after text result)
+  instead kind old between None text result made are safe makes over = tt
+  instead kind old between (Some all) text result made are safe makes (acts, middle, written, was, is, done, over) =
+      let before_it = subst (λ known. Makes to old known made) was makes in (
+        acts ++ before_it.0,
+        before_it.1,
+        written ++ made,
+        before_it.2,
+        is ∙ ap (λ these. acts ++ these) before_it.3 ∙ sym (append_assoc acts before_it.0 before_it.1),
+        done_after to written made acts before_it.0 done before_it.4,
+        λ before first. subst (λ these. RefusedReplacement kind first before these text result) (sym (append_assoc written made before))
+            (refusal first before text kind result (written ++ (made ++ before)) made are (safe first before) (over (made ++ before) first)),
+      )
 
-spare : {E : Type 0} (old between new : Option (List Call)) (text : List ℕ) (error : E) (removed : Bool) (made : List Call) → AreUnfilled text made → Makes old between made
-    → Notes between new (remove Temp removed) → ((first : Name → Content) (before : List Call) → AtEachMoment (IsAsBefore first before Target) made before)
-    → KeepsNames {T = Unit {0}} {E = E} old new text (Err error)
-spare old between new text error removed made are makes taking safe =
-    known _ old new (remove Temp removed ∷ made) (noted old between new made _ makes taking)
-    (λ before first. inl (left_alone first before text error removed made are (safe first before)))
+  -- one of two ways
+  second : (A B : (Name → Content) → List Call → List Call → Type 0) (old new : Option (List Act)) → FromTo to old new (λ before after. (first : Name → Content) → B first before after)
+      → FromTo to old new (λ before after. (first : Name → Content) → A first before after ⊎ B first before after)
+  second A B old None holds = tt
+  second A B old (Some all) (acts, had, made, was, is, done, holds) = (acts, had, made, was, is, done, λ before first. inr (holds before first))
 
-spare_by : {E : Type 0} (old between new : Option (List Call)) (text : List ℕ) (error : E) (removed : Bool)
-    → Notes between new (remove Temp removed) → IsUnfilled old between text Failed → KeepsNames {T = Unit {0}} {E = E} old new text (Err error)
-spare_by old between new text error removed taking (inl made) =
-    spare old between new text error removed (create Temp false ∷ []) (inl refl) made taking (λ first before. creating first before text false)
-spare_by old between new text error removed taking (inr (inl made)) =
-    spare old between new text error removed (write Temp text false ∷ create Temp true ∷ []) (inr (inl refl)) made taking (λ first before. writing first before text false)
-spare_by old between new text error removed taking (inr (inr made)) =
-    spare old between new text error removed (sync Temp false ∷ filled text) (inr (inr refl)) made taking (λ first before. syncing first before text false)
+  refused_by : {T E : Type 0} (old between new : Option (List Act)) (text : List ℕ) (result : Result T E)
+      → Overwrites to between new text result → IsStuck to old between text Refused → PutsInPlace to old new text result
+  refused_by old between new text result over (inl made) =
+      second (λ first before after. AtomicReplacement first before after text result) (λ first before after. RefusedReplacement Alone first before after text result) old new
+      (instead Alone old between new text result (refused ∷ []) (inl refl) (λ first before. refused_at first before text [] (at_first first before text)) made over)
+  refused_by old between new text result over (inr made) =
+      second (λ first before after. AtomicReplacement first before after text result) (λ first before after. RefusedReplacement Alone first before after text result) old new
+      (instead Alone old between new text result (refused ∷ sync Temp true ∷ filled text) (inr refl)
+      (λ first before. refused_at first before text (sync Temp true ∷ filled text) (syncing first before text true)) made over)
 
-pub names_spared : {T E F : Type 0} (old between new : Option (List Call)) (text : List ℕ) (error : E) (removed : Result T F) (why : Unplaced)
-    → Notes between new (remove Temp (is_ok removed)) → IsUnfilled old between text why → why ≡ Failed → KeepsNames {T = Unit {0}} {E = E} old new text (Err error)
-names_spared old between new text error removed why taking stuck is =
-    spare_by old between new text error (is_ok removed) taking (subst (λ w. IsUnfilled old between text w) is stuck)
+  pub refused_in : {T E : Type 0} (old between new : Option (List Act)) (text : List ℕ) (result : Result T E) (why : Unplaced)
+      → Overwrites to between new text result → IsStuck to old between text why → why ≡ Refused → PutsInPlace to old new text result
+  refused_in old between new text result why over stuck is =
+      refused_by old between new text result over (subst (λ w. IsStuck to old between text w) is stuck)
 
-pub names_kept : {T E : Type 0} (old between new : Option (List Call)) (text : List ℕ) (result : Result T E)
-    → HasFilled old between text → Overwrites between new text result → KeepsNames old new text result
-names_kept old between new text result made over =
-    second (λ first before after. LeftAlone first before after text result) (λ first before after. RefusedReplacement Shared first before after text result) old new
-    (instead Shared old between new text result (sync Temp true ∷ filled text) (inr refl) (λ first before. syncing first before text true) made over)
+  -- ---- a file with other names
 
-names_refused_by : {T E : Type 0} (old between new : Option (List Call)) (text : List ℕ) (result : Result T E)
-    → Overwrites between new text result → IsUnfilled old between text Refused → KeepsNames old new text result
-names_refused_by old between new text result over made =
-    second (λ first before after. LeftAlone first before after text result) (λ first before after. RefusedReplacement Shared first before after text result) old new
-    (instead Shared old between new text result (refused ∷ []) (inl refl) (λ first before. refused_at first before text [] (at_first first before text)) made over)
+  spare : {E : Type 0} (old between new : Option (List Act)) (text : List ℕ) (error : E) (removed : Bool) (made : List Call) → AreUnfilled text made → Makes to old between made
+      → Does to between new (remove Temp removed) → ((first : Name → Content) (before : List Call) → AtEachMoment (IsAsBefore first before Target) made before)
+      → KeepsNames {T = Unit {0}} {E = E} to old new text (Err error)
+  spare {E} old between new text error removed made are makes taking safe =
+      known to (Spared {T = Unit {0}} {E = E} text (Err error)) old new (remove Temp removed ∷ made) (noted to old between new made (remove Temp removed) makes taking)
+      (λ before first. inl (left_alone first before text error removed made are (safe first before)))
 
-pub names_refused : {T E : Type 0} (old between new : Option (List Call)) (text : List ℕ) (result : Result T E) (why : Unplaced)
-    → Overwrites between new text result → IsUnfilled old between text why → why ≡ Refused → KeepsNames old new text result
-names_refused old between new text result why over stuck is =
-    names_refused_by old between new text result over (subst (λ w. IsUnfilled old between text w) is stuck)
+  spare_by : {E : Type 0} (reason : Error) (old between new : Option (List Act)) (text : List ℕ) (error : E) (removed : Bool)
+      → Does to between new (remove Temp removed) → IsUnfilled to old between text (Failed reason) → KeepsNames {T = Unit {0}} {E = E} to old new text (Err error)
+  spare_by reason old between new text error removed taking (inl made) =
+      spare old between new text error removed (create Temp false ∷ []) (inl refl) made taking (λ first before. creating first before text false)
+  spare_by reason old between new text error removed taking (inr (inl made)) =
+      spare old between new text error removed (write Temp text false ∷ create Temp true ∷ []) (inr (inl refl)) made taking (λ first before. writing first before text false)
+  spare_by reason old between new text error removed taking (inr (inr made)) =
+      spare old between new text error removed (sync Temp false ∷ filled text) (inr (inr refl)) made taking (λ first before. syncing first before text false)
+
+  pub names_spared : {T E F : Type 0} (reason : Error) (old between new : Option (List Act)) (text : List ℕ) (error : E) (removed : Result T F) (why : Unplaced)
+      → Does to between new (remove Temp (is_ok removed)) → IsUnfilled to old between text why → why ≡ Failed reason → KeepsNames {T = Unit {0}} {E = E} to old new text (Err error)
+  names_spared reason old between new text error removed why taking stuck is =
+      spare_by reason old between new text error (is_ok removed) taking (subst (λ w. IsUnfilled to old between text w) is stuck)
+
+  pub names_kept : {T E : Type 0} (old between new : Option (List Act)) (text : List ℕ) (result : Result T E)
+      → HasFilled to old between text → Overwrites to between new text result → KeepsNames to old new text result
+  names_kept old between new text result made over =
+      second (λ first before after. LeftAlone first before after text result) (λ first before after. RefusedReplacement Shared first before after text result) old new
+      (instead Shared old between new text result (sync Temp true ∷ filled text) (inr refl) (λ first before. syncing first before text true) made over)
+
+  names_refused_by : {T E : Type 0} (old between new : Option (List Act)) (text : List ℕ) (result : Result T E)
+      → Overwrites to between new text result → IsUnfilled to old between text Refused → KeepsNames to old new text result
+  names_refused_by old between new text result over made =
+      second (λ first before after. LeftAlone first before after text result) (λ first before after. RefusedReplacement Shared first before after text result) old new
+      (instead Shared old between new text result (refused ∷ []) (inl refl) (λ first before. refused_at first before text [] (at_first first before text)) made over)
+
+  pub names_refused : {T E : Type 0} (old between new : Option (List Act)) (text : List ℕ) (result : Result T E) (why : Unplaced)
+      → Overwrites to between new text result → IsUnfilled to old between text why → why ≡ Refused → KeepsNames to old new text result
+  names_refused old between new text result why over stuck is =
+      names_refused_by old between new text result over (subst (λ w. IsUnfilled to old between text w) is stuck)
+
+  -- ---- a text over another
+
+  -- the file is open
+  module _ (a b : Option (List Act)) (text : List ℕ) where
+    pub unopened_over : {E : Type 0} (why : E) → Does to a b (empty Target false) → Overwrites {T = Unit {0}} to a b text (Err why)
+    unopened_over {E} why opening =
+        known to (Overwritten {T = Unit {0}} {E = E} text (Err why)) a b (empty Target false ∷ []) (only to a b (empty Target false) opening) (λ before first. broken_off first before text why (empty Target false ∷ []) (inl refl) (emptying first before text false))
+
+    module _ (c : Option (List Act)) (opening : Does to a b (empty Target true)) (is_open : IsOpenAt b (path_of to Target)) where
+      pub unwritten_over : {E : Type 0} (failed : ErrorKind) (why : E) → NotesOpen b c (λ at. act.write at text (Some failed)) → Overwrites {T = Unit {0}} to a c text (Err why)
+      unwritten_over {E} failed why writing =
+          known to (Overwritten {T = Unit {0}} {E = E} text (Err why)) a c (write Target text false ∷ empty Target true ∷ []) (noted to a b c (empty Target true ∷ []) (write Target text false) (only to a b (empty Target true) opening) (wrote_not to Target b c text failed is_open writing))
+          (λ before first. broken_off first before text why (write Target text false ∷ empty Target true ∷ []) (inr (inl refl)) (pouring first before text false))
+
+      module _ (s : Option (List Act)) (writing : NotesOpen b c (λ at. act.write at text None)) where
+        poured : Makes to a c (write Target text true ∷ empty Target true ∷ [])
+        poured = noted to a b c (empty Target true ∷ []) (write Target text true) (only to a b (empty Target true) opening) (wrote to Target b c text is_open writing)
+
+        is_still_open : IsOpenAt c (path_of to Target)
+        is_still_open = still_open_written b c (path_of to Target) text None is_open writing
+
+        pub unsynced_over : {E : Type 0} (failed : ErrorKind) (why : E) → NotesOpen c s (λ at. act.sync at (Some failed)) → Overwrites {T = Unit {0}} to a s text (Err why)
+        unsynced_over {E} failed why done_so =
+            known to (Overwritten {T = Unit {0}} {E = E} text (Err why)) a s (sync Target false ∷ write Target text true ∷ empty Target true ∷ [])
+            (noted to a c s (write Target text true ∷ empty Target true ∷ []) (sync Target false) poured (synced_not to Target c s failed is_still_open done_so))
+            (λ before first. broken_off first before text why (sync Target false ∷ write Target text true ∷ empty Target true ∷ []) (inr (inr refl)) (settling first before text false))
+
+        pub cleared_over : {U F : Type 0} (E : Type 0) (e : Option (List Act)) (removed : Result U F) (value : Unit {0}) → NotesOpen c s (λ at. act.sync at None)
+            → Does to s e (remove Temp (is_ok removed)) → Overwrites {E = E} to a e text (Ok value)
+        cleared_over E e removed value done_so taking =
+            known to (Overwritten {T = Unit {0}} {E = E} text (Ok value)) a e (remove Temp (is_ok removed) ∷ sync Target true ∷ write Target text true ∷ empty Target true ∷ [])
+            (noted to a s e (sync Target true ∷ write Target text true ∷ empty Target true ∷ []) (remove Temp (is_ok removed))
+            (noted to a c s (write Target text true ∷ empty Target true ∷ []) (sync Target true) poured (synced_by to Target c s is_still_open done_so)) taking)
+            (λ before first. overwritten first before text value (is_ok removed))
 
 -- for `keep_names`
 pub ruleset keeps_names = (names_spared, names_kept, names_refused)
-
--- ---- a text over another
-
-pub unopened_over : {E : Type 0} (a b : Option (List Call)) (text : List ℕ) (why : E) → Notes a b (empty Target false)
-    → Overwrites {T = Unit {0}} a b text (Err why)
-unopened_over a b text why opening =
-    known _ a b (empty Target false ∷ []) opening (λ before first. broken_off first before text why _ (inl refl) (emptying first before text false))
-
-poured : (a b c : Option (List Call)) (text : List ℕ) (done : Bool) → Notes a b (empty Target true) → Notes b c (write Target text done)
-    → Makes a c (write Target text done ∷ empty Target true ∷ [])
-poured a b c text done opening writing = noted a b c (empty Target true ∷ []) _ opening writing
-
-pub unwritten_over : {E : Type 0} (a b c : Option (List Call)) (text : List ℕ) (why : E) → Notes a b (empty Target true) → Notes b c (write Target text false)
-    → Overwrites {T = Unit {0}} a c text (Err why)
-unwritten_over a b c text why opening writing =
-    known _ a c (write Target text false ∷ empty Target true ∷ []) (poured a b c text false opening writing)
-    (λ before first. broken_off first before text why _ (inr (inl refl)) (pouring first before text false))
-
-settled_over : (a b c d : Option (List Call)) (text : List ℕ) (done : Bool) → Notes a b (empty Target true) → Notes b c (write Target text true)
-    → Notes c d (sync Target done) → Makes a d (sync Target done ∷ write Target text true ∷ empty Target true ∷ [])
-settled_over a b c d text done opening writing syncing =
-    noted a c d (write Target text true ∷ empty Target true ∷ []) _ (poured a b c text true opening writing) syncing
-
-pub unsynced_over : {E : Type 0} (a b c d : Option (List Call)) (text : List ℕ) (why : E) → Notes a b (empty Target true)
-    → Notes b c (write Target text true) → Notes c d (sync Target false) → Overwrites {T = Unit {0}} a d text (Err why)
-unsynced_over a b c d text why opening writing syncing =
-    known _ a d (sync Target false ∷ write Target text true ∷ empty Target true ∷ []) (settled_over a b c d text false opening writing syncing)
-    (λ before first. broken_off first before text why _ (inr (inr refl)) (settling first before text false))
-
-pub cleared_over : {U F : Type 0} (E : Type 0) (a b c d e : Option (List Call)) (text : List ℕ) (removed : Result U F) (value : Unit {0}) → Notes a b (empty Target true)
-    → Notes b c (write Target text true) → Notes c d (sync Target true) → Notes d e (remove Temp (is_ok removed)) → Overwrites {E = E} a e text (Ok value)
-cleared_over E a b c d e text removed value opening writing syncing taking =
-    known _ a e (remove Temp (is_ok removed) ∷ sync Target true ∷ write Target text true ∷ empty Target true ∷ [])
-    (noted a d e (sync Target true ∷ write Target text true ∷ empty Target true ∷ []) _ (settled_over a b c d text true opening writing syncing) taking)
-    (λ before first. overwritten first before text value (is_ok removed))
-
--- for `write_over`
-pub ruleset overwrites = (unopened_over, unwritten_over, unsynced_over, cleared_over)

@@ -17,6 +17,7 @@ use Rattle.n2kdec.specs.Commands.{Effect, EndsByTable, IsDone, IsRefusal, Kept, 
 use Rattle.n2kdec.specs.Fault.{exit_status}
 use Rattle.n2kdec.specs.Inner.Closing.{ClosesPart, SumsUp}
 use Rattle.n2kdec.specs.Work.{DoesFrames, Works}
+use Rattle.n2kdec.specs.declared.ending.Ending.{Ending}
 use Rattle.n2kdec.specs.declared.fault.Fault.{Fault}
 use Rattle.n2kdec.specs.declared.fault.Fault.TheVariants as fault
 use Rattle.n2kdec.specs.declared.asked.Command.{Command}
@@ -32,10 +33,10 @@ module _ (before after : Devices) (errors : Place) (had has : Option (List Kept)
   abbrev said : Place
   said = place after.reported after.failed_reports
 
-  abbrev Closed : Option Text → Result Part Stop → Result ℕ Fault → Type 0
+  abbrev Closed : Option Text → Result Part Stop → Result Ending Fault → Type 0
   Closed save told r = ClosesPart (shelf save had failed) (shelf save has fails) errors said told r
 
-  framed : (bytes : List ℕ) (interface : Option Text) (told : Result Part Stop) (r : Result ℕ Fault) → faults bytes ≡ [] → DoesFrames (table_of bytes) interface before between told
+  framed : (bytes : List ℕ) (interface : Option Text) (told : Result Part Stop) (r : Result Ending Fault) → faults bytes ≡ [] → DoesFrames (table_of bytes) interface before between told
       → Closed None told r → IsUnkept had has failed fails errors said × EndsByTable (faults bytes) (frames_effect (table_of bytes) interface) before after r
   framed bytes interface told r none does closes =
       let whole = unkept_whole had has failed fails errors said does.ended told r does.told closes in (
@@ -44,7 +45,7 @@ module _ (before after : Devices) (errors : Place) (had has : Option (List Kept)
             (ended_whole (frames_output (table_of bytes) interface) (frame_counts_of (kind (table_of bytes)) interface) before after errors does.ended told r does.runs does.told whole.1),
       )
 
-  pub performs : (command : Command) (bytes : List ℕ) (handed : Option (List ℕ)) (told : Result Part Stop) (r : Result ℕ Fault) → Works command bytes handed before between told
+  pub performs : (command : Command) (bytes : List ℕ) (handed : Option (List ℕ)) (told : Result Part Stop) (r : Result Ending Fault) → Works command bytes handed before between told
       → Closed (save_name command) told r → Performs command bytes handed before after (shelf (save_name command) had failed) (shelf (save_name command) has fails) r
   performs Plain bytes handed told r does closes =
       let whole = unkept_whole had has failed fails errors said does.ended told r does.told closes in
@@ -63,24 +64,24 @@ module _ (before after : Devices) (errors : Place) (had has : Option (List Kept)
 
 -- ---- the status
 
-status_of : (c : Effect) (before after : Devices) (status : ℕ) (P : List ℕ → Type 0) → ((came : List ℕ) → status ≡ exit_status (c.counts (entries_for c came)) → P came) → IsDone c before after status → IfSome before.left P
-status_of c before after status P follows done = all_came P before.left after.left done.came done.given done.at_end (follows done.came done.status)
+status_of : (c : Effect) (before after : Devices) (ending : Ending) (P : List ℕ → Type 0) → ((came : List ℕ) → ending.status ≡ exit_status (c.counts (entries_for c came)) → P came) → IsDone c before after ending → IfSome before.left P
+status_of c before after ending P follows done = all_came P before.left after.left done.came done.given done.at_end (follows done.came done.status)
 
 known_for_all : {A : Type 0} (left : Option (List ℕ)) (P : A → List ℕ → Type 0) → ((a : A) → IfSome left (P a)) → IfSome left (λ all. (a : A) → P a all)
 known_for_all None P each = tt
 known_for_all (Some log) P each = each
 
-pub tells_status : (command : Command) (bytes : List ℕ) (handed : Option (List ℕ)) (before after : Devices) (keeper kept : Shelf) (r : Result ℕ Fault) → Performs command bytes handed before after keeper kept r
-    → IfOk r (λ status. IfSome before.left (λ all. HasStatus command bytes handed all status))
+pub tells_status : (command : Command) (bytes : List ℕ) (handed : Option (List ℕ)) (before after : Devices) (keeper kept : Shelf) (r : Result Ending Fault) → Performs command bytes handed before after keeper kept r
+    → IfOk r (λ ending. IfSome before.left (λ all. HasStatus command bytes handed all ending.status))
 tells_status command bytes handed before after keeper kept (Err f) done = tt
-tells_status Plain bytes handed before after keeper kept (Ok status) done =
-    status_of plain_effect before after status (λ all. HasStatus Plain bytes handed all status) (λ came is. is) done.1
-tells_status (Frames interface) bytes handed before after keeper kept (Ok status) done =
-    status_of (frames_effect (table_of bytes) interface) before after status (λ all. HasStatus (Frames interface) bytes handed all status) (λ came is. is) done.1.1
-tells_status (Decode o save) bytes handed before after keeper kept (Ok status) done =
+tells_status Plain bytes handed before after keeper kept (Ok ending) done =
+    status_of plain_effect before after ending (λ all. HasStatus Plain bytes handed all ending.status) (λ came is. is) done.1
+tells_status (Frames interface) bytes handed before after keeper kept (Ok ending) done =
+    status_of (frames_effect (table_of bytes) interface) before after ending (λ all. HasStatus (Frames interface) bytes handed all ending.status) (λ came is. is) done.1.1
+tells_status (Decode o save) bytes handed before after keeper kept (Ok ending) done =
     known_for_all before.left _ (λ (front : List Entry). known_if before.left _ _ (λ begins.
-    status_of (decode_effect (table_of bytes) o front keeper kept) before after status
-    (λ all. status ≡ exit_status (counts o.window (kind (table_of bytes)) (front ++ entries o.packing all))) (λ came is. is) (done.log front begins)))
+    status_of (decode_effect (table_of bytes) o front keeper kept) before after ending
+    (λ all. ending.status ≡ exit_status (counts o.window (kind (table_of bytes)) (front ++ entries o.packing all))) (λ came is. is) (done.log front begins)))
   where
     known_if : (left : Option (List ℕ)) (Q : Type 0) (P : List ℕ → Type 0) → (Q → IfSome left P) → IfSome left (λ all. Q → P all)
     known_if None Q P each = tt
@@ -93,15 +94,15 @@ report_is_none f is refusal = subst (λ g. IsRefusal g) is refusal
 
 module _ (P Q R : Type 0) (both : P → Q → R) where
   -- by a stop that refuses
-  by_stop : (stop : Stop) (r : Result ℕ Fault) → r ≡ Err stop.fault → (IsRefusal stop.fault → (stop.part ≡ None) × P) → (stop.part ≡ None → Q) → IfErr r (λ fault. IsRefusal fault → R)
+  by_stop : (stop : Stop) (r : Result Ending Fault) → r ≡ Err stop.fault → (IsRefusal stop.fault → (stop.part ≡ None) × P) → (stop.part ≡ None → Q) → IfErr r (λ fault. IsRefusal fault → R)
   by_stop stop r is first then = subst (λ x. IfErr x (λ fault. IsRefusal fault → R)) (sym is) (λ refusal. let p = first refusal in both p.1 (then p.0))
 
   -- whole work that is closed is no refusal
-  by_sum : (errors summed : Place) (counts : Counts) (r : Result ℕ Fault) → SumsUp errors summed counts r → IfErr r (λ fault. IsRefusal fault → R)
+  by_sum : (errors summed : Place) (counts : Counts) (r : Result Ending Fault) → SumsUp errors summed counts r → IfErr r (λ fault. IsRefusal fault → R)
   by_sum errors summed counts (Ok status) closes = tt
   by_sum errors summed counts (Err f) closes = λ refusal. absurd (report_is_none f closes.0 refusal)
 
-  pub unless_refused : (keeper kept : Shelf) (errors summed : Place) (told : Result Part Stop) (r : Result ℕ Fault) → ClosesPart keeper kept errors summed told r
+  pub unless_refused : (keeper kept : Shelf) (errors summed : Place) (told : Result Part Stop) (r : Result Ending Fault) → ClosesPart keeper kept errors summed told r
       → IfErr told (λ stop. IsRefusal stop.fault → (stop.part ≡ None) × P) → IfErr told (λ stop. stop.part ≡ None → Q) → IfErr r (λ fault. IsRefusal fault → R)
   unless_refused keeper kept errors summed (Ok part) r (inl closes) first then = by_sum errors summed part.counts r closes.1
   unless_refused keeper kept errors summed (Ok part) r (inr unsaved) first then = subst (λ x. IfErr x (λ fault. IsRefusal fault → R)) (sym unsaved.0) (λ refusal. absurd refusal)

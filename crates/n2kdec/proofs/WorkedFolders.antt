@@ -1,9 +1,7 @@
 -- What the model of a folder says of wrong ways to replace a text.
 use Rattle.std.proofs.Common.{List, ℕ, true, false, [], ◌∷◌, Some, refl, inl, inr}
-use Rattle.n2kdec.specs.Folder.{Content, MayBeLeft, MayHave, create, empty, rename, sync, write}
+use Rattle.n2kdec.specs.Folder.{Content, MayBeLeft, MayHave, Name, Target, Temp, create, empty, rename, sync, write}
 use Rattle.n2kdec.specs.Replacement.{placed}
-use Rattle.n2kdec.specs.declared.folder.Name.{Name}
-use Rattle.n2kdec.specs.declared.folder.Name.TheVariants.{Target, Temp}
 
 module _ (first : Name → Content) (text any : List ℕ) where
   -- an old file that is emptied first may be found empty

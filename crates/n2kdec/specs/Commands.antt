@@ -29,10 +29,12 @@ use Rattle.n2k_run.specs.Runs.{AreNumbered, Devices, HasFronts, NoneFailed, Outp
 use Rattle.n2k_run.specs.Runs.{ReportsFirst, WriteFails, output_from}
 use Rattle.n2k_run.specs.Writing.{AppendsFront}
 use Rattle.n2k_run.specs.declared.options.Options.{Options}
+use Rattle.n2kdec.specs.Ending.{has_other_form}
 use Rattle.n2kdec.specs.Fault.{exit_status}
 use Rattle.n2kdec.specs.declared.asked.Command.{Command}
 use Rattle.n2kdec.specs.declared.asked.Command.TheVariants.{Plain, Decode, Frames}
 use Rattle.n2kdec.specs.declared.asked.Files.{Files}
+use Rattle.n2kdec.specs.declared.ending.Ending.{Ending}
 use Rattle.n2kdec.specs.declared.fault.Fault.{Fault}
 use Rattle.n2kdec.specs.declared.fault.Fault.TheVariants.{Table, State, Read, Write, Report, Memory, Lines, Save}
 
@@ -71,8 +73,12 @@ pub record Kept : Type 0 where
 abbrev pub IsAdmitted : (Text → Files → Option Bool) → Text → Files → Type 0
 IsAdmitted admits name files = IfSome (admits name files) (λ known. known ≡ true)
 
+-- and it may be refused, as far as that is known
+abbrev pub MayBeRefused : (Text → Files → Option Bool) → Text → Files → Type 0
+MayBeRefused admits name files = IfSome (admits name files) (λ known. known ≡ false)
+
 -- What keeps a state: the name that the state is to have, if any; the texts that were kept, the first one first, where
--- they are known; and how many of its calls have failed.
+-- they are known; and how many times it could not keep one.
 pub record Shelf : Type 0 where
   pub name : Option (List ℕ)
   pub kept : Option (List Kept)
@@ -192,17 +198,18 @@ summed_up c es = c.output.reports es ++ summary_text (c.counts es)
 
 -- The command came to its end: bytes came until the log had no more. Their lines have numbers that are counted, the
 -- output has gained what is printed of them, the errors their reports and then their summary, the status says whether a
--- line was bad, no device failed, and the state after them is saved by calls of which none failed. Where the log's
--- bytes are known, these are all that it had.
-pub record IsDone (c : Effect) (before after : Devices) (answer : ℕ) : Type 0 where
+-- line was bad, it is told whether they have another form, no device failed, and the state after them is saved by calls
+-- of which none failed. Where the log's bytes are known, these are all that it had.
+pub record IsDone (c : Effect) (before after : Devices) (ending : Ending) : Type 0 where
   pub came : List ℕ
   pub given : Consumes before.left after.left came
   pub at_end : IsAtEnd after.left
   pub numbered : AreNumbered c.output.counted (entries_for c came)
   pub text : Appends before.written after.written (c.output.texts (entries_for c came))
   pub report : Appends before.reported after.reported (summed_up c (entries_for c came))
-  pub status : answer ≡ exit_status (c.counts (entries_for c came))
-  pub at_most_one : answer ≤ 1
+  pub status : ending.status ≡ exit_status (c.counts (entries_for c came))
+  pub form : ending.has_other_form ≡ has_other_form (c.counts (entries_for c came))
+  pub at_most_one : ending.status ≤ 1
   pub none_failed : NoneFailed before after
   pub saved : IsSaved c before (entries_for c came)
 
@@ -304,7 +311,7 @@ pub record IsStopped (c : Effect) (before after : Devices) (fault : Fault) : Typ
   pub reports_first : IfSome before.left (ReportsFirst c.output before after)
 
 -- how a command ends whose table and state are taken
-abbrev pub Ends : Effect → Devices → Devices → Result ℕ Fault → Type 0
+abbrev pub Ends : Effect → Devices → Devices → Result Ending Fault → Type 0
 Ends c before after result = MatchResult result (IsDone c before after) (IsStopped c before after)
 
 -- ---- what is refused before a command begins
@@ -330,11 +337,11 @@ IsRefusedOrStopped found c before after (Table fault) = (fault ≢ table.Memory 
 IsRefusedOrStopped found c before after fault = (found ≡ []) × IsStopped c before after fault
 
 -- how a command ends whose state is taken, if its table is
-abbrev pub EndsUnlessRefused : Effect → Devices → Devices → Result ℕ Fault → Type 0
+abbrev pub EndsUnlessRefused : Effect → Devices → Devices → Result Ending Fault → Type 0
 EndsUnlessRefused c before after (Err (Table fault)) = Unit {0}
 EndsUnlessRefused c before after (Err (State fault)) = fault ≡ state_faults.Memory
 EndsUnlessRefused c before after (Err fault) = IsStopped c before after fault
-EndsUnlessRefused c before after (Ok status) = IsDone c before after status
+EndsUnlessRefused c before after (Ok ending) = IsDone c before after ending
 
 -- ---- the headline of a log in parts
 
@@ -357,15 +364,15 @@ pub record PrintsRest (t : TableParts) (o : Options) (front more : List ℕ) (be
 -- ---- by the command
 
 -- how one ends that reads a table and has no state
-abbrev pub EndsByTable : List TableFault → Effect → Devices → Devices → Result ℕ Fault → Type 0
+abbrev pub EndsByTable : List TableFault → Effect → Devices → Devices → Result Ending Fault → Type 0
 EndsByTable found c before after result =
-    MatchResult result (λ status. (found ≡ []) × IsDone c before after status) (IsRefusedOrStopped found c before after)
+    MatchResult result (λ ending. (found ≡ []) × IsDone c before after ending) (IsRefusedOrStopped found c before after)
 
 -- How `decode` ends, by the bytes of a table, with options, and from a state that is handed in.
 pub record Decodes (bytes : List ℕ) (o : Options) (handed : Option (List ℕ)) (before after : Devices)
-    (keeper kept : Shelf) (result : Result ℕ Fault) : Type 0 where
+    (keeper kept : Shelf) (result : Result Ending Fault) : Type 0 where
   -- The table and the state are taken, or refused for what stands in them or for want of memory.
-  pub judged : MatchResult result (λ status. (faults bytes ≡ []) × IsOk (begun (table_of bytes) o handed))
+  pub judged : MatchResult result (λ ending. (faults bytes ≡ []) × IsOk (begun (table_of bytes) o handed))
       (IsJudged (faults bytes) handed (begun (table_of bytes) o handed))
   -- From any state that is taken: what the steps of the log's entries make, one after the other.
   pub steps : (s : StateOf) → begun (table_of bytes) o handed ≡ Ok s
@@ -378,11 +385,11 @@ pub record Decodes (bytes : List ℕ) (o : Options) (handed : Option (List ℕ))
   -- The headline: after this front of a log, whose state was handed in, exactly the rest of what the whole log gives is
   -- printed, and the state of the whole is saved.
   pub headline : (front : List ℕ) → IsFront (table_of bytes) o front handed
-      → IfOk result (λ status. IfSome before.left
-      (λ more. PrintsRest (table_of bytes) o front more before after keeper kept status))
+      → IfOk result (λ ending. IfSome before.left
+      (λ more. PrintsRest (table_of bytes) o front more before after keeper kept ending.status))
 
 -- How a command ends, with the place of its state. Where it has none that place is left as it was.
-abbrev pub Performs : Command → List ℕ → Option (List ℕ) → Devices → Devices → Shelf → Shelf → Result ℕ Fault → Type 0
+abbrev pub Performs : Command → List ℕ → Option (List ℕ) → Devices → Devices → Shelf → Shelf → Result Ending Fault → Type 0
 Performs Plain bytes handed before after keeper kept result =
     (kept ≡ keeper) × Ends plain_effect before after result
 Performs (Decode o save) bytes handed before after keeper kept result =

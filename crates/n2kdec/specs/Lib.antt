@@ -1,10 +1,17 @@
 pub mod Asked
 pub mod Commands
+pub mod Destination
+pub mod Disk
+pub mod Ending
+pub mod Escape
 pub mod Fault
+pub mod FaultSentence
 pub mod Folder
 pub mod Inner
 pub mod Machine
 pub mod MemoryMachine
+pub mod Parser
+pub mod Reader
 pub mod Replacement
 pub mod Usage
 pub mod Words

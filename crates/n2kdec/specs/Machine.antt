@@ -1,40 +1,56 @@
 -- What the program meets, and what comes of the words that were typed: the files that they name are read, their command
 -- is performed, its state is kept under the name that they have for it, and a fault is reported.
 use Rattle.std.specs.Prelude.{◌≡◌, ◌⊎◌, ◌<◌, ◌≤◌, ◌+◌, ◌++◌, ◌-◌, ◌^◌, ℕ, Bool, List, [], ◌∷◌, Option, Some, None}
-use Rattle.std.specs.Prelude.{IfSome, IsSome, MatchResult, Result, Ok, Err, length}
+use Rattle.std.specs.Prelude.{IfSome, IsSome, MatchResult, Result, Ok, Err, length, option_and_then, true, false}
 use Rattle.clap.specs.Words.{Text}
 use Rattle.n2k_run.specs.declared.device.Sink.{Ghosts as OfSink}
 use Rattle.n2k_run.specs.Device.{HasFailed}
 use Rattle.n2k_run.specs.Runs.{Devices, devices}
 use Rattle.n2kdec.specs.Asked.{asked, save_name}
-use Rattle.n2kdec.specs.Commands.{IsCutOff, IsWritten, IsWrittenUnlessFailed, IsAdmitted, Kept, Performs, Place}
-use Rattle.n2kdec.specs.Commands.{place, shelf}
-use Rattle.n2kdec.specs.Fault.{IsFaultMessage, longest_file, status_of}
+use Rattle.n2kdec.specs.Commands.{IsCutOff, IsWritten, IsWrittenUnlessFailed, IsAdmitted, Kept, MayBeRefused}
+use Rattle.n2kdec.specs.Commands.{Performs, Place, place, shelf}
+use Rattle.n2kdec.specs.Ending.{hint}
+use Rattle.n2kdec.specs.Fault.{IsBeforeLine, IsFaultMessage, longest_file, status_of}
+use Rattle.n2kdec.specs.FaultSentence.{IsAsKnown, fault_sentence, has_reason}
+use Rattle.n2kdec.specs.Parser.{Shown, said_of}
 use Rattle.n2kdec.specs.Words.{IsAskedBy, IsRefused}
 use Rattle.n2kdec.specs.declared.asked.Request.{Request}
 use Rattle.n2kdec.specs.declared.asked.Request.TheVariants as to
 use Rattle.n2kdec.specs.declared.asked.Command.{Command}
+use Rattle.n2kdec.specs.declared.asked.Command.TheVariants.{Plain}
 use Rattle.n2kdec.specs.declared.asked.Files.{Files}
+use Rattle.n2kdec.specs.declared.ending.Ending.{Ending}
 use Rattle.n2kdec.specs.declared.fault.Fault.{Fault}
 use Rattle.n2kdec.specs.declared.fault.Fault.TheVariants.{Words as WordsFault, TableSize, TableFile, StateSize}
 use Rattle.n2kdec.specs.declared.fault.Fault.TheVariants.{StateFile, Read, Memory, Save, Write}
 use Rattle.n2kdec.specs.declared.keeper.Keeper.{Ghosts as OfKeeper}
 use Rattle.n2kdec.specs.declared.machine.Outlets.{Outlets}
+use Rattle.n2kdec.specs.declared.reason.Reason.{Reason}
 use Rattle.n2kdec.specs.declared.words.Words.{Words}
 
 -- ---- what the program meets
 
--- The words that were typed, the program's name first; the bytes of a file by its name; those of standard input; and
--- whether standard error is a terminal: each where it is known.
+-- The words that were typed, the program's name first; the bytes of a file by its name; those of standard input;
+-- whether standard error is a terminal; why the file of a name, or standard input, fails, and why the output does: each
+-- where it is known.
 pub record World : Type 0 where
   pub typed : Option (List Text)
   pub file : Text → Option (List ℕ)
   pub input : Option (List ℕ)
   pub terminal : Option Bool
+  pub unread : Option Text → Option Reason
+  pub unwritten : Option Reason
 
 -- one of which nothing is known
 abbrev pub unknown_world : World
-unknown_world = record { typed = None; file = λ name. None; input = None; terminal = None }
+unknown_world = record {
+  typed = None;
+  file = λ name. None;
+  input = None;
+  terminal = None;
+  unread = λ name. None;
+  unwritten = None;
+}
 
 -- the bytes of the file that is named, or those of standard input
 abbrev pub bytes_named : World → Option Text → Option (List ℕ)
@@ -90,24 +106,29 @@ pub record ClosesFile (calls failed : ℕ) (before after : FileUse) : Type 0 whe
 abbrev pub HasCalled : ℕ → ℕ → ℕ → Type 0
 HasCalled before after calls = after < 2 ^ 64 - 1 → before + calls ≤ after
 
--- What the program changes: the output, the errors, and what was kept under which name, with the number of calls that
--- failed; and how files were used. Which states may be kept, where that is known, it does not change.
+-- What the program changes: the output, the errors, and what was kept under which name, with how many times a text could
+-- not be kept and how many times a state was not admitted; and how files were used. Which states may be kept, and why
+-- one is not, where that is known, it does not change.
 pub record Outside : Type 0 where
   pub output : Place
   pub errors : Place
   pub kept : Option (List Kept)
   pub failed_keeps : ℕ
+  pub failed_admissions : ℕ
   pub files : FileUse
   pub admits : Text → Files → Option Bool
+  pub unkept : Text → Option Reason
 
 abbrev pub outside : {W E K : Type 0} → OfSink W → OfSink E → OfKeeper K → FileUse → Outlets W E K → Outside
 outside w e k files outlets = record {
   output = place (w.contents outlets.output) (w.failed_calls outlets.output);
   errors = place (e.contents outlets.errors) (e.failed_calls outlets.errors);
   kept = k.kept outlets.keeper;
-  failed_keeps = k.failed_calls outlets.keeper;
+  failed_keeps = k.failed_keeps outlets.keeper;
+  failed_admissions = k.failed_admissions outlets.keeper;
   files = files;
   admits = k.admits;
+  unkept = k.unkept;
 }
 
 -- ---- the files of a command
@@ -196,7 +217,7 @@ with_log left calls failed o = devices left calls failed o.output.text o.output.
 -- are counted, and the failed ones, so that Read is reported of no log of which neither a read failed nor as many reads
 -- were made as a run makes at most.
 pub record IsPerformedOver (command : Command) (table : List ℕ) (handed left : Option (List ℕ)) (before after : Outside)
-    (result : Result ℕ Fault) : Type 0 where
+    (result : Result Ending Fault) : Type 0 where
   pub log : LogAfter
   pub counted : AddsFailures before.files.failed after.files.failed log.failed
   pub called : HasCalled before.files.reads after.files.reads log.calls
@@ -209,10 +230,15 @@ pub record IsPerformedOver (command : Command) (table : List ℕ) (handed left :
 abbrev pub IsStateAdmitted : (Text → Files → Option Bool) → Files → Command → Type 0
 IsStateAdmitted admits files command = IfSome (save_name command) (λ name. IsAdmitted admits name files)
 
+-- the command has a name for its state, under which it may be refused
+abbrev pub IsStateRefused : (Text → Files → Option Bool) → Files → Command → Type 0
+IsStateRefused admits files command =
+    IsSome (save_name command) × IfSome (save_name command) (λ name. MayBeRefused admits name files)
+
 -- The command is performed by the bytes of its files, over its log, and its state is kept under the name that it has
--- for it, which was admitted.
+-- for it, which was admitted; none other was refused.
 pub record IsPerformed (w : World) (files : Files) (command : Command) (before after : Outside)
-    (result : Result ℕ Fault) : Type 0 where
+    (result : Result Ending Fault) : Type 0 where
   pub admitted : IsStateAdmitted before.admits files command
   pub opened : Opens before.files after.files (all_files files)
   pub table : Option (List ℕ)
@@ -220,14 +246,15 @@ pub record IsPerformed (w : World) (files : Files) (command : Command) (before a
   pub handed : Option (List ℕ)
   pub is_state : IsOfFile w files.state handed
   pub over : IsPerformedOver command (table_bytes table) handed (bytes_named w files.log) before after result
+  pub none_refused : after.failed_admissions ≡ before.failed_admissions
 
 -- The state can't be kept under the name that the command has for it, since that would harm a file that is read: what
--- keeps a state counts a failed call, and all else is as it was.
-pub record IsNotAdmitted (command : Command) (before after : Outside) (fault : Fault) : Type 0 where
-  pub named : IsSome (save_name command)
+-- keeps a state counts that it has not admitted one, and all else is as it was.
+pub record IsNotAdmitted (files : Files) (command : Command) (before after : Outside) (fault : Fault) : Type 0 where
+  pub refused : IsStateRefused before.admits files command
   pub save : fault ≡ Save
-  pub failed : HasFailed before.failed_keeps after.failed_keeps
-  pub else_same : after ≡ record before { failed_keeps = after.failed_keeps }
+  pub failed : HasFailed before.failed_admissions after.failed_admissions
+  pub else_same : after ≡ record before { failed_admissions = after.failed_admissions }
 
 -- It is not begun, though its state is admitted, since a file is not read; and nothing is printed or kept.
 pub record IsNotBegun (w : World) (files : Files) (command : Command) (before after : Outside) (fault : Fault)
@@ -237,31 +264,35 @@ pub record IsNotBegun (w : World) (files : Files) (command : Command) (before af
   pub else_same : after ≡ record before { files = after.files }
 
 -- it is performed; or not begun; or its state is not admitted
-abbrev pub RunsCommand : World → Files → Command → Outside → Outside → Result ℕ Fault → Type 0
-RunsCommand w files command before after (Ok status) = IsPerformed w files command before after (Ok status)
+abbrev pub RunsCommand : World → Files → Command → Outside → Outside → Result Ending Fault → Type 0
+RunsCommand w files command before after (Ok ending) = IsPerformed w files command before after (Ok ending)
 RunsCommand w files command before after (Err fault) =
     IsPerformed w files command before after (Err fault)
     ⊎ IsNotBegun w files command before after fault
-    ⊎ IsNotAdmitted command before after fault
+    ⊎ IsNotAdmitted files command before after fault
 
 -- ---- from the words that were typed to the status
 
+-- what comes of a text that is printed, which is of no log
+abbrev pub ending_of_text : Ending
+ending_of_text = record { status = 0; has_other_form = false }
+
 -- the text of the help or of the version is printed
-abbrev pub Shows : Text → Place → Place → Result ℕ Fault → Type 0
+abbrev pub Shows : Text → Place → Place → Result Ending Fault → Type 0
 Shows text before after result = MatchResult result
-    (λ status. (status ≡ 0) × IsWritten before after text)
+    (λ ending. (ending ≡ ending_of_text) × IsWritten before after text)
     (λ fault. (fault ≡ Write) × IsCutOff before after text)
 
 -- What words ask for is done. An interface that is none is told before any file is opened.
-abbrev pub DoesAsked : World → Result Request Fault → Outside → Outside → Result ℕ Fault → Type 0
+abbrev pub DoesAsked : World → Result Request Fault → Outside → Outside → Result Ending Fault → Type 0
 DoesAsked w (Ok (to.Help text)) before after result =
     Shows text before.output after.output result × (after ≡ record before { output = after.output })
 DoesAsked w (Ok (to.Command files command)) before after result = RunsCommand w files command before after result
 DoesAsked w (Err fault) before after result = (result ≡ Err fault) × (after ≡ before)
 
 -- what was typed asks for these words
-abbrev pub AsksFor : World → Words → Type 0
-AsksFor w words = IfSome w.typed (λ typed. IsAskedBy typed words)
+abbrev pub AsksFor : Shown → World → Words → Type 0
+AsksFor shown w words = IfSome w.typed (λ typed. IsAskedBy shown typed words)
 
 -- why no words come of what was typed
 abbrev pub IsUnasked : World → Fault → Type 0
@@ -270,34 +301,91 @@ IsUnasked w Memory = Unit {0}
 IsUnasked w _ = ⊥
 
 -- what was typed is done; or it is refused, and all is as it was
-abbrev pub DoesTyped : World → Outside → Outside → Result ℕ Fault → Type 0
-DoesTyped w before after result =
-    ((words : Words) × AsksFor w words × DoesAsked w (asked words) before after result)
+abbrev pub DoesTyped : Shown → World → Outside → Outside → Result Ending Fault → Type 0
+DoesTyped shown w before after result =
+    ((words : Words) × AsksFor shown w words × DoesAsked w (asked words) before after result)
     ⊎ ((fault : Fault) × (result ≡ Err fault) × IsUnasked w fault × (after ≡ before))
 
 -- this is whether standard error is a terminal
 abbrev pub IsTerminal : World → Bool → Type 0
 IsTerminal w is_terminal = IfSome w.terminal (λ known. is_terminal ≡ known)
 
--- what is said of a fault is written, whole unless the place fails
-abbrev pub WritesFault : Bool → Fault → Place → Place → Type 0
-WritesFault is_terminal fault before after =
-    (text : List ℕ) × IsFaultMessage is_terminal fault text × IsWrittenUnlessFailed before after text
+-- the files and the command that were asked for; none, and `plain`, where a text was, or nothing that can be done
+abbrev pub no_files : Files
+no_files = record { table = None; state = None; log = None }
 
-abbrev pub ReportsFault : World → Fault → Place → Place → Type 0
-ReportsFault w fault before after =
-    (is_terminal : Bool) × IsTerminal w is_terminal × WritesFault is_terminal fault before after
+abbrev pub files_of : Result Request Fault → Files
+files_of (Ok (to.Command files command)) = files
+files_of _ = no_files
 
--- the status of a result, and what is reported of it
-abbrev pub Concludes : World → Result ℕ Fault → Outside → Outside → ℕ → Type 0
-Concludes w (Ok answered) before after status = (status ≡ answered) × (after ≡ before)
-Concludes w (Err fault) before after status =
-    (status ≡ status_of fault) × ReportsFault w fault before.errors after.errors
+abbrev pub command_of : Result Request Fault → Command
+command_of (Ok (to.Command files command)) = command
+command_of _ = Plain
+
+-- The reason of a fault, where it is known: of a file that can't be read why that one fails and no other, of the output
+-- why that does, of a state why it is not kept.
+abbrev pub reason_of : World → (Text → Option Reason) → Files → Command → Fault → Option Reason
+reason_of w unkept files command TableFile = w.unread files.table
+reason_of w unkept files command StateFile = w.unread files.state
+reason_of w unkept files command Read = w.unread files.log
+reason_of w unkept files command Write = w.unwritten
+reason_of w unkept files command Save = option_and_then unkept (save_name command)
+reason_of w unkept files command _ = None
+
+-- that reason, or none; other faults have none
+abbrev pub HasReason : World → (Text → Option Reason) → Files → Command → Fault → Option Reason → Type 0
+HasReason w unkept files command fault reason =
+    IsAsKnown (reason_of w unkept files command fault) reason × (has_reason fault ≡ false → reason ≡ None)
+
+-- the sentence of a fault, by the names that were typed and for its reason
+abbrev pub IsSentenceOf : Shown → World → (Text → Option Reason) → Fault → List ℕ → Type 0
+IsSentenceOf shown w unkept fault text =
+    (words : Words) × AsksFor shown w words
+    × ((reason : Option Reason) × HasReason w unkept (files_of (asked words)) (command_of (asked words)) fault reason
+    × (text ≡ fault_sentence (files_of (asked words)) (command_of (asked words)) fault reason))
+
+-- This may stand before the line of a fault: on a terminal what is said of what was typed, where the words are refused,
+-- and else the sentence of the fault; off it nothing.
+abbrev pub StandsBefore : Shown → World → (Text → Option Reason) → Fault → List ℕ → Type 0
+StandsBefore shown w unkept fault text =
+    (is_terminal : Bool) × IsTerminal w is_terminal
+    × (IsBeforeLine (option_and_then (said_of shown) w.typed) is_terminal fault text
+    ⊎ ((is_terminal ≡ true) × IsSentenceOf shown w unkept fault text))
+
+-- what is said of a fault is written behind this text, whole unless the place fails
+abbrev pub WritesFault : List ℕ → Fault → Place → Place → Type 0
+WritesFault stood fault before after =
+    (text : List ℕ) × IsFaultMessage stood fault text × IsWrittenUnlessFailed before after text
+
+abbrev pub ReportsFault : Shown → World → (Text → Option Reason) → Fault → Place → Place → Type 0
+ReportsFault shown w unkept fault before after =
+    (stood : List ℕ) × StandsBefore shown w unkept fault stood × WritesFault stood fault before after
+
+-- On a terminal it is said behind all that a log has another form, unless the place fails; off it nothing is.
+abbrev pub HintsOn : Bool → Place → Place → Type 0
+HintsOn true before after = IsWrittenUnlessFailed before after hint
+HintsOn false before after = after ≡ before
+
+abbrev pub HintsOnTerminal : World → Place → Place → Type 0
+HintsOnTerminal w before after = (is_terminal : Bool) × IsTerminal w is_terminal × HintsOn is_terminal before after
+
+-- and of no other log anything
+abbrev pub Hints : World → Bool → Place → Place → Type 0
+Hints w true before after = HintsOnTerminal w before after
+Hints w false before after = after ≡ before
+
+-- the status of a result, and what is said of it
+abbrev pub Concludes : Shown → World → Result Ending Fault → Outside → Outside → ℕ → Type 0
+Concludes shown w (Ok ending) before after status =
+    (status ≡ ending.status) × Hints w ending.has_other_form before.errors after.errors
+    × (after ≡ record before { errors = after.errors })
+Concludes shown w (Err fault) before after status =
+    (status ≡ status_of fault) × ReportsFault shown w before.unkept fault before.errors after.errors
     × (after ≡ record before { errors = after.errors })
 
 -- The program: what was typed is done, and the status is that of it.
-pub record RunsTyped (w : World) (before after : Outside) (status : ℕ) : Type 0 where
-  pub result : Result ℕ Fault
+pub record RunsTyped (shown : Shown) (w : World) (before after : Outside) (status : ℕ) : Type 0 where
+  pub result : Result Ending Fault
   pub done : Outside
-  pub does : DoesTyped w before done result
-  pub concludes : Concludes w result done after status
+  pub does : DoesTyped shown w before done result
+  pub concludes : Concludes shown w result done after status

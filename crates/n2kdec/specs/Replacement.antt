@@ -1,15 +1,23 @@
 -- How a text comes to a name: it takes the place of another, so that at each moment one of the two is there, whole; or,
 -- where the folder does not allow that, it is written over the file itself.
 use Rattle.std.specs.Prelude.{◌≡◌, ◌⊎◌, ◌<◌, ◌++◌, ℕ, Bool, true, false, List, [], ◌∷◌, Option, Some, None, IfSome}
-use Rattle.std.specs.Prelude.{codes, Result, Ok, Err, IsErr, OnOk, MatchResult, is_ok}
+use Rattle.std.specs.Prelude.{codes, Result, Ok, Err, IsErr, OnOk, MatchResult}
+use Rattle.std.specs.declared.io.ErrorKind.{ErrorKind}
 use Rattle.clap.specs.Words.{Text}
-use Rattle.n2kdec.specs.Folder.{Call, Content, FileMayBeLeft, MayBeLeft, MayHave, Notes, create, cut_short, empty}
-use Rattle.n2kdec.specs.Folder.{failures, refused, remove, rename, sync, sync_folder, turn, write}
+use Rattle.n2kdec.specs.Destination.{HasNoDestination, IsDestinationOf, leads}
+use Rattle.n2kdec.specs.Disk as act
+use Rattle.n2kdec.specs.Disk.{Act, Answers}
+use Rattle.n2kdec.specs.Folder.{AreDoneBy, Call, Content, FileMayBeLeft, MayBeLeft, MayHave, Name, Target, Temp, create}
+use Rattle.n2kdec.specs.Folder.{cut_short, empty, failures, path_of, refused, remove, rename, sync, sync_folder, write}
+use Rattle.n2kdec.specs.Folder.{writes_behind}
 use Rattle.n2kdec.specs.declared.asked.Files.{Files}
-use Rattle.n2kdec.specs.declared.folder.Kind.{Kind}
-use Rattle.n2kdec.specs.declared.folder.Kind.TheVariants.{Alone, Shared, Special}
-use Rattle.n2kdec.specs.declared.folder.Name.{Name}
-use Rattle.n2kdec.specs.declared.folder.Name.TheVariants.{Target, Temp}
+use Rattle.n2kdec.specs.declared.destination.Destination.{Destination}
+use Rattle.n2kdec.specs.declared.destination.Kind.{Kind}
+use Rattle.n2kdec.specs.declared.destination.Kind.TheVariants.{Alone, Shared, Special}
+use Rattle.n2kdec.specs.declared.keeper.Unkept.{Unkept}
+use Rattle.n2kdec.specs.declared.keeper.Unkept.TheVariants.{Harm, Unfound, Failed}
+use Rattle.n2kdec.specs.declared.reason.Reason.{Reason}
+use Rattle.n2kdec.specs.declared.reason.Reason.TheVariants as told
 
 -- ---- a text in the place of another
 
@@ -132,44 +140,93 @@ pub record LeftAlone {T E : Type 0} (first : Name → Content) (before after : L
 
 -- ---- where the calls are known
 
--- P holds of the calls before and of those after, where these are known
-abbrev pub FromTo : Option (List Call) → Option (List Call) → (List Call → List Call → Type 0) → Type 0
-FromTo old new P = IfSome new (λ after. (before : List Call) × (old ≡ Some before) × P before after)
+-- Calls were made of the folder of this destination, by acts of the disk and no other, where these are known: whatever
+-- calls were made before, P holds of those and of all.
+abbrev pub FromTo : Destination → Option (List Act) → Option (List Act) → (List Call → List Call → Type 0) → Type 0
+FromTo d old new P = IfSome new (λ all. (acts had : List Act) × (made : List Call) × (old ≡ Some had)
+    × (all ≡ acts ++ had) × AreDoneBy d made acts × ((before : List Call) → P before (made ++ before)))
 
 -- A text takes the place of what the name has; or, where the folder refuses that, it is written over it.
-abbrev pub PutsInPlace : {T E : Type 0} → Option (List Call) → Option (List Call) → List ℕ → Result T E → Type 0
-PutsInPlace old new text result =
-    FromTo old new (λ before after. (first : Name → Content) → AtomicReplacement first before after text result
+abbrev pub PutsInPlace : {T E : Type 0} → Destination → Option (List Act) → Option (List Act) → List ℕ → Result T E
+    → Type 0
+PutsInPlace d old new text result =
+    FromTo d old new (λ before after. (first : Name → Content) → AtomicReplacement first before after text result
     ⊎ RefusedReplacement Alone first before after text result)
 
 -- The text is written over that of a file with other names, once a new file shows that there is room for it.
-abbrev pub KeepsNames : {T E : Type 0} → Option (List Call) → Option (List Call) → List ℕ → Result T E → Type 0
-KeepsNames old new text result =
-    FromTo old new (λ before after. (first : Name → Content) → LeftAlone first before after text result
+abbrev pub KeepsNames : {T E : Type 0} → Destination → Option (List Act) → Option (List Act) → List ℕ → Result T E
+    → Type 0
+KeepsNames d old new text result =
+    FromTo d old new (λ before after. (first : Name → Content) → LeftAlone first before after text result
     ⊎ RefusedReplacement Shared first before after text result)
 
-abbrev pub Overwrites : {T E : Type 0} → Option (List Call) → Option (List Call) → List ℕ → Result T E → Type 0
-Overwrites old new text result =
-    FromTo old new (λ before after. (first : Name → Content) → Overwriting first before after text result)
-
--- The text is written behind what the file has, by this one call.
-abbrev pub WritesTo : {T E : Type 0} → Option (List Call) → Option (List Call) → List ℕ → Result T E → Type 0
-WritesTo old new text result = Notes old new (write Target text (is_ok result))
-
--- By what a name leads to: a regular file of one name, or none, is replaced, one of several is written over, and what
--- is no regular file is written to. Where that can't be found out nothing is done.
-abbrev pub KeepsBy : {T E : Type 0} → Option Kind → Option (List Call) → Option (List Call) → List ℕ → Result T E
+abbrev pub Overwrites : {T E : Type 0} → Destination → Option (List Act) → Option (List Act) → List ℕ → Result T E
     → Type 0
-KeepsBy None old new text result = (new ≡ old) × IsErr result
-KeepsBy (Some Alone) old new text result = PutsInPlace old new text result
-KeepsBy (Some Shared) old new text result = KeepsNames old new text result
-KeepsBy (Some Special) old new text result = WritesTo old new text result
+Overwrites d old new text result =
+    FromTo d old new (λ before after. (first : Name → Content) → Overwriting first before after text result)
 
--- This text comes so to the file to which this name leads.
-abbrev pub KeepsText : {T E : Type 0} → Option (List Call) → Option (List Call) → List ℕ → List ℕ → Result T E → Type 0
-KeepsText old new name text result =
-    FromTo old new (λ before after. (kind : Option Kind)
-    × KeepsBy kind (Some (turn name kind ∷ before)) (Some after) text result)
+-- The acts by which a text is written behind what is at a path, up to one that failed.
+abbrev pub AreWritingBehind : {T E : Type 0} → Text → List ℕ → Result T E → List Act → Type 0
+AreWritingBehind path text (Ok done) acts =
+    acts ≡ act.write (Some path) text None ∷ act.open_at path writes_behind None ∷ []
+AreWritingBehind path text (Err why) acts =
+    (failed : ErrorKind) × ((acts ≡ act.open_at path writes_behind (Some failed) ∷ [])
+    ⊎ (acts ≡ act.write (Some path) text (Some failed) ∷ act.open_at path writes_behind None ∷ []))
+
+-- The text is written behind what is there, by these acts and no other.
+abbrev pub WritesBehind : {T E : Type 0} → Text → Option (List Act) → Option (List Act) → List ℕ → Result T E → Type 0
+WritesBehind path old new text result =
+    IfSome new (λ all. (acts had : List Act) × (old ≡ Some had) × (all ≡ acts ++ had)
+    × AreWritingBehind path text result acts)
+
+-- By what is there: a regular file of one name, or none, is replaced, one of several is written over, and what is no
+-- regular file is written to.
+abbrev pub KeepsAs : {T E : Type 0} → Kind → Destination → Option (List Act) → Option (List Act) → List ℕ → Result T E
+    → Type 0
+KeepsAs Alone d old new text result = PutsInPlace d old new text result
+KeepsAs Shared d old new text result = KeepsNames d old new text result
+KeepsAs Special d old new text result = WritesBehind (path_of d Target) old new text result
+
+-- a destination of this name, as far as the disk's answers are known
+abbrev pub IsFoundFor : Option Answers → Text → Destination → Type 0
+IsFoundFor answers name d = IfSome answers (λ a. IsDestinationOf a name d)
+
+-- none can be found, for this reason
+abbrev pub IsNotFoundFor : Option Answers → Text → ErrorKind → Type 0
+IsNotFoundFor answers name why = IfSome answers (λ a. HasNoDestination a name why)
+
+-- A text comes to the file to which a name leads; where that can't be found out nothing is done.
+abbrev pub KeepsText : {T E : Type 0} → Option Answers → Option (List Act) → Option (List Act) → Text → List ℕ
+    → Result T E → Type 0
+KeepsText answers old new name text result =
+    ((d : Destination) × IsFoundFor answers name d × KeepsAs d.kind d old new text result)
+    ⊎ ((why : ErrorKind) × IsNotFoundFor answers name why × (new ≡ old) × IsErr result)
+
+-- both are Ok, or both an error
+abbrev pub AreAlike : {T E F : Type 0} → Result T E → Result T F → Type 0
+AreAlike (Ok value) (Ok other) = Unit {0}
+AreAlike (Err reason) (Err why) = Unit {0}
+AreAlike _ _ = ⊥
+
+-- ---- why a state is not kept
+
+-- it is not admitted, and the log is not read then
+abbrev pub IsOfAdmission : Unkept → Type 0
+IsOfAdmission Harm = Unit {0}
+IsOfAdmission (Unfound error) = Unit {0}
+IsOfAdmission (Failed error) = ⊥
+
+-- it was to be kept after the log
+abbrev pub IsOfKeep : Unkept → Type 0
+IsOfKeep (Failed error) = Unit {0}
+IsOfKeep _ = ⊥
+
+-- the reason that is told of each
+abbrev pub TellsOf : Unkept → Reason → Type 0
+TellsOf Harm told.Harm = Unit {0}
+TellsOf (Unfound error) (told.Unfound words) = Unit {0}
+TellsOf (Failed error) (told.System words) = Unit {0}
+TellsOf _ _ = ⊥
 
 -- ---- what a run reads
 
@@ -227,22 +284,19 @@ pub record SparesTemp (leads : Text → Option Bool) (files : Files) : Type 0 wh
 abbrev pub HarmsTemp : (Text → Option Bool) → Files → Type 0
 HarmsTemp leads files = HarmsFiles leads files ⊎ IsMet leads files.state ⊎ IsMet leads output_path
 
--- What is read and printed to stays as it is, where a text is kept in a file of this kind.
-abbrev pub HarmsNone : (Name → Text → Option Bool) → Kind → Files → Type 0
-HarmsNone leads kind files = SparesTarget (leads Target) kind files × SparesTemp (leads Temp) files
+-- What is read and printed to stays as it is, where a text is kept there.
+abbrev pub HarmsNone : Option Answers → Destination → Files → Type 0
+HarmsNone answers d files =
+    SparesTarget (leads answers (path_of d Target)) d.kind files × SparesTemp (leads answers (path_of d Temp)) files
 
-abbrev pub HarmsSome : (Name → Text → Option Bool) → Kind → Files → Type 0
-HarmsSome leads kind files = HarmsTarget (leads Target) kind files ⊎ HarmsTemp (leads Temp) files
+abbrev pub HarmsSome : Option Answers → Destination → Files → Type 0
+HarmsSome answers d files =
+    HarmsTarget (leads answers (path_of d Target)) d.kind files ⊎ HarmsTemp (leads answers (path_of d Temp)) files
 
--- it is refused only where the kind of the file could not be found out, or something would be harmed
-abbrev pub RefusesOnlyHarm : {T E : Type 0} → Result T E → (Name → Text → Option Bool) → Option Kind → Files → Type 0
-RefusesOnlyHarm (Ok done) leads None files = ⊥
-RefusesOnlyHarm (Ok done) leads (Some kind) files = HarmsNone leads kind files
-RefusesOnlyHarm (Err why) leads None files = Unit {0}
-RefusesOnlyHarm (Err why) leads (Some kind) files = HarmsSome leads kind files
-
--- One call is made: the folder is turned to this name, and the run judged by what that leads to.
-abbrev pub Admits : {T E : Type 0} → (Name → Text → Option Bool) → Option (List Call) → Option (List Call) → Text
-    → Files → Result T E → Type 0
-Admits leads old new name files result =
-    (kind : Option Kind) × Notes old new (turn name kind) × RefusesOnlyHarm result leads kind files
+-- A run is judged by where its state goes: it is refused only where that can't be found out, or something would be
+-- harmed.
+abbrev pub Admits : {T E : Type 0} → Option Answers → Text → Files → Result T E → Type 0
+Admits answers name files (Ok done) = (d : Destination) × IsFoundFor answers name d × HarmsNone answers d files
+Admits answers name files (Err why) =
+    ((d : Destination) × IsFoundFor answers name d × HarmsSome answers d files)
+    ⊎ ((kind : ErrorKind) × IsNotFoundFor answers name kind)

@@ -1,5 +1,5 @@
 -- What the words of a command line ask for, by the command's definition and `clap`'s reading of it.
-use Rattle.std.specs.Prelude.{◌≡◌, ◌≢◌, ◌⊎◌, ◌&&◌, ◌++◌, nat_le, ℕ, List, [], Bool, false, Option, Some, None, Result}
+use Rattle.std.specs.Prelude.{◌≡◌, ◌≢◌, ◌⊎◌, ◌&&◌, ◌++◌, nat_le, ℕ, List, [], Bool, false, Option, Some, None, IfSome, Result}
 use Rattle.std.specs.Prelude.{Ok, Err, if◌then◌else◌, codes, option_and_then, option_map}
 use Rattle.std.specs.Char.{is_ascii_digit}
 use Rattle.std.specs.List.{list_all}
@@ -15,6 +15,7 @@ use Rattle.n2kdec.specs.declared.fault.Fault.{Fault}
 use Rattle.n2kdec.specs.declared.fault.Fault.TheVariants as fault
 use Rattle.n2kdec.specs.declared.words.Words.{Words}
 use Rattle.n2kdec.specs.declared.words.Words.TheVariants.{Plain, Decode, Frames, Help}
+use Rattle.n2kdec.specs.Parser.{Shown}
 use Rattle.n2kdec.specs.Usage.{program_app}
 
 -- whether a flag is among the words: `clap` gives it the value `true` then
@@ -88,12 +89,12 @@ IsNamedBy words command = (fault_of program_app words ≡ []) × (words_of words
 abbrev pub version_text : Text
 version_text = codes "n2kdec " ++ VERSION.now ++ codes "\n"
 
--- a command that is named without a fault, or the help or the version that is asked for
-abbrev pub IsAskedBy : List Text → Words → Type 0
-IsAskedBy words (Help text) =
-    IsAmong DisplayHelp (fault_of program_app words)
+-- a command that is named without a fault, or the help that is shown of these words or the version, where they ask for it
+abbrev pub IsAskedBy : Shown → List Text → Words → Type 0
+IsAskedBy shown words (Help text) =
+    (IsAmong DisplayHelp (fault_of program_app words) × IfSome (shown words) (λ help. text ≡ help))
     ⊎ (IsAmong DisplayVersion (fault_of program_app words) × (text ≡ version_text))
-IsAskedBy words command = IsNamedBy words command
+IsAskedBy shown words command = IsNamedBy words command
 
 -- an answer on the command that was named, or on none
 abbrev pub Names : Option Words → Result Words Fault → Type 0

@@ -1,4 +1,4 @@
-//! The words of the command line, read with `clap`.
+//! What the words of the command line ask for, by the matches of a parser.
 ghost use Rattle.std.specs.Prelude.{◌≡◌, ◌⊎◌, true, false, IfOk, IfErr, IsErrOf, option_map};
 ghost use Rattle.std.specs.Char.{is_ascii_digit};
 ghost use Rattle.std.specs.List.{list_all};
@@ -10,7 +10,8 @@ ghost use Rattle.n2kdec.specs.Words.{IsAskedBy, IsRefused, Names, decode_words, 
 ghost use Rattle.n2kdec.specs.Words.{lines_in, named, plain_words, version_text, window_of, words_of};
 
 use crate::fault::Fault;
-use crate::usage::{VERSION, program};
+use crate::parser::Parser;
+use crate::usage::VERSION;
 use crate::words::{Word, Words};
 use clap::ArgMatches;
 use clap::error::ErrorKind;
@@ -147,14 +148,14 @@ fn version(alloc: Global) -> Result<Word, AllocError>
 }
 
 /// What a parse that gave no matches comes to, by the kind of its error: a request for help, which gets the text that
-/// the error shows, or for the version is no fault.
-fn help_of<E: Display>(alloc: Global, kind: ErrorKind, error: &E) -> Result<Words, Fault>
-    ensures answers { AnswersKind kind (E.output error.now) result }
+/// is shown, or for the version is no fault.
+fn help_of<T: Display>(alloc: Global, kind: ErrorKind, shown: &T) -> Result<Words, Fault>
+    ensures answers { AnswersKind kind (T.output shown.now) result }
     ensures memory { kind ≡ ErrorKind.OutOfMemory → IsErrOf result Fault.Memory }
 {
     match kind {
         ErrorKind::DisplayHelp => {
-            let text = error.to_string(alloc)?;
+            let text = shown.to_string(alloc)?;
             Ok(Words::Help(Word::new(alloc, text.as_str())?))
         }
         ErrorKind::DisplayVersion => Ok(Words::Help(version(alloc)?)),
@@ -163,18 +164,18 @@ fn help_of<E: Display>(alloc: Global, kind: ErrorKind, error: &E) -> Result<Word
     }
 }
 
-/// The command that the words of a command line name, the program's name first, as `clap` reads them by the
+/// The command that the words of a command line name, the program's name first, as a parser reads them by the
 /// command's definition: `["n2kdec", "plain", "trip.log"]` gives `Plain` with that log. `Help` where they ask for
-/// help, with `clap`'s text, or for the version, with `n2kdec`, the version and an LF. Words that are refused for any
-/// other cause are `Fault::Words`; want of memory is `Fault::Memory`.
-pub fn words(alloc: Global, words: &[&str]) -> Result<Words, Fault>
-    ensures asked { IfOk result (IsAskedBy (texts words.now)) }
+/// help, with the text that it shows of them, or for the version, with `n2kdec`, the version and an LF. Words that are
+/// refused for any other cause are `Fault::Words`; want of memory is `Fault::Memory`.
+pub fn words<P: Parser>(alloc: Global, parser: &P, words: &[&str]) -> Result<Words, Fault>
+    ensures asked { IfOk result (IsAskedBy (P.shown parser.now) (texts words.now)) }
     ensures refused { IsErrOf result Fault.Words → IsRefused (texts words.now) }
     ensures faults { IfErr result (λ fault. (fault ≡ Fault.Words) ⊎ (fault ≡ Fault.Memory)) }
     ensures taken { takes program_app (texts words.now) ≡ true → Names (words_of (texts words.now)) result }
 {
-    match program(alloc)?.try_get_matches_from(words) {
+    match parser.parse(alloc, words) {
         Ok(matches) => command_of(alloc, &matches),
-        Err(error) => help_of(alloc, error.kind(), &error),
+        Err(refusal) => help_of(alloc, refusal.kind, &refusal.text),
     }
 }

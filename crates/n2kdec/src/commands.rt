@@ -6,7 +6,8 @@ ghost use Rattle.n2kdec.specs.Commands.{HasStatus, IsRefusal, Performs, place, s
 ghost use Rattle.n2kdec.specs.Inner.Closing.{Closes, ClosesPart, SumsUp};
 
 use crate::asked::Command;
-use crate::fault::{Fault, exit_status};
+use crate::ending::{Ending, ending_of};
+use crate::fault::Fault;
 use crate::keeper::Keeper;
 use crate::machine::Outlets;
 use crate::work::{Stop, work};
@@ -14,13 +15,13 @@ use n2k_join::Counts;
 use n2k_run::{Part, Sink, Source, write_summary};
 use std::alloc::Global;
 
-/// Writes the summary of what a run has counted, and answers the status of these counts.
-fn sum_up<E: Sink>(counts: &Counts, errors: &mut E) -> Result<u8, Fault>
+/// Writes the summary of what a run has counted, and answers what these counts come to.
+fn sum_up<E: Sink>(counts: &Counts, errors: &mut E) -> Result<Ending, Fault>
     ensures { SumsUp (place (E.contents errors.old) (E.failed_calls errors.old))
         (place (E.contents errors.new) (E.failed_calls errors.new)) counts.now result }
 {
     write_summary(counts, errors).map_err(|_| Fault::Report)?;
-    Ok(exit_status(counts))
+    Ok(ending_of(counts))
 }
 
 /// Keeps the state of a part, where the command has a name for it, and then writes its summary, also where the state
@@ -30,11 +31,12 @@ fn save_and_sum_up<K: Keeper, E: Sink>(
     part: &Part,
     keeper: &mut K,
     errors: &mut E,
-) -> Result<u8, Fault>
-    ensures { Closes (shelf (save_name command.now) (K.kept keeper.old) (K.failed_calls keeper.old))
-        (shelf (save_name command.now) (K.kept keeper.new) (K.failed_calls keeper.new))
+) -> Result<Ending, Fault>
+    ensures closes { Closes (shelf (save_name command.now) (K.kept keeper.old) (K.failed_keeps keeper.old))
+        (shelf (save_name command.now) (K.kept keeper.new) (K.failed_keeps keeper.new))
         (place (E.contents errors.old) (E.failed_calls errors.old))
         (place (E.contents errors.new) (E.failed_calls errors.new)) part.now.state.items part.now.counts result }
+    ensures admissions { K.failed_admissions keeper.new ≡ K.failed_admissions keeper.old }
 {
     let saved = match command {
         Command::Decode {
@@ -55,13 +57,14 @@ fn close<K: Keeper, E: Sink>(
     ended: Result<Part, Stop>,
     keeper: &mut K,
     errors: &mut E,
-) -> Result<u8, Fault>
-    ensures closes { ClosesPart (shelf (save_name command.now) (K.kept keeper.old) (K.failed_calls keeper.old))
-        (shelf (save_name command.now) (K.kept keeper.new) (K.failed_calls keeper.new))
+) -> Result<Ending, Fault>
+    ensures closes { ClosesPart (shelf (save_name command.now) (K.kept keeper.old) (K.failed_keeps keeper.old))
+        (shelf (save_name command.now) (K.kept keeper.new) (K.failed_keeps keeper.new))
         (place (E.contents errors.old) (E.failed_calls errors.old))
         (place (E.contents errors.new) (E.failed_calls errors.new)) ended result }
+    ensures admissions { K.failed_admissions keeper.new ≡ K.failed_admissions keeper.old }
     ensures untouched { IfErr ended (λ stop. stop.part ≡ None → (keeper.new ≡ keeper.old) × (errors.new ≡ errors.old)) }
-    ensures at_most_one { IfOk result (λ status. status ≤ 1) }
+    ensures at_most_one { IfOk result (λ ending. ending.status ≤ 1) }
 {
     match ended {
         Ok(part) => save_and_sum_up(command, &part, keeper, errors),
@@ -82,7 +85,7 @@ fn close<K: Keeper, E: Sink>(
 
 /// Runs a command, from the bytes of a table and of a state as far as it has them. The output gets the texts: plain
 /// lines, JSON lines, or the lines of frames. The errors get the reports of bad lines and of broken groups, and then
-/// the summary. Answers the status: 0, or 1 where a line was bad.
+/// the summary. Answers the status, which is 0, or 1 where a line was bad, and whether the log has another form.
 ///
 /// `decode` goes on from the state, or begins a log (`None`), and its status is that of all lines so far. The state
 /// after it goes to the keeper, and the summary is written after that, also where the state can't be saved. After a
@@ -98,15 +101,16 @@ pub fn run_command<R: Source, W: Sink, E: Sink, K: Keeper>(
     state: Option<&[u8]>,
     log: &mut R,
     outlets: &mut Outlets<W, E, K>,
-) -> Result<u8, Fault>
+) -> Result<Ending, Fault>
     ensures performs { let before = seen R.Source W.Sink E.Sink log.old outlets.old.output outlets.old.errors in
         let after = seen R.Source W.Sink E.Sink log.new outlets.new.output outlets.new.errors in
         Performs command.now table.now (option_map (λ bytes. bytes.now) state.entry) before after
-        (shelf (save_name command.now) (K.kept outlets.old.keeper) (K.failed_calls outlets.old.keeper))
-        (shelf (save_name command.now) (K.kept outlets.new.keeper) (K.failed_calls outlets.new.keeper)) result }
-    ensures status { IfOk result (λ status. IfSome (R.remaining log.old)
-        (λ all. HasStatus command.now table.now (option_map (λ bytes. bytes.now) state.entry) all status)) }
-    ensures at_most_one { IfOk result (λ status. status ≤ 1) }
+        (shelf (save_name command.now) (K.kept outlets.old.keeper) (K.failed_keeps outlets.old.keeper))
+        (shelf (save_name command.now) (K.kept outlets.new.keeper) (K.failed_keeps outlets.new.keeper)) result }
+    ensures admissions { K.failed_admissions outlets.new.keeper ≡ K.failed_admissions outlets.old.keeper }
+    ensures status { IfOk result (λ ending. IfSome (R.remaining log.old)
+        (λ all. HasStatus command.now table.now (option_map (λ bytes. bytes.now) state.entry) all ending.status)) }
+    ensures at_most_one { IfOk result (λ ending. ending.status ≤ 1) }
     ensures untouched { IfErr result (λ fault. IsRefusal fault
         → (log.new ≡ log.old) × (outlets.new.output ≡ outlets.old.output) × (outlets.new.errors ≡ outlets.old.errors)
         × (outlets.new.keeper ≡ outlets.old.keeper)) }

@@ -1,23 +1,35 @@
-//! Where a state is kept after a run: the trait, and the files of a folder, by which the program does it.
-ghost use Rattle.std.specs.Prelude.{◌≡◌, ℕ, Bool, List, Option, Some, true, false, OnErr, OnOk};
+//! Where a state is kept after a run: the trait, and the files of a disk, by which the program does it.
+ghost use Rattle.std.specs.Prelude.{◌≡◌, ℕ, Bool, List, Option, Some, true, false, IfErr, IfSome, IsSomeAnd, OnErr};
+ghost use Rattle.std.specs.Prelude.{OnOk};
 ghost use Rattle.clap.specs.Words.{Text};
 ghost use Rattle.n2k_run.specs.Device.{CountsFailure};
-ghost use Rattle.n2kdec.specs.Commands.{IsAdmitted, Kept, KeepsUnder, MayKeepUnder};
-ghost use Rattle.n2kdec.specs.Replacement.{Admits, HarmsFiles, HarmsTarget, HarmsTemp, IsApart, IsMet, KeepsText};
-ghost use Rattle.n2kdec.specs.Replacement.{SparesFiles, SparesTarget, SparesTemp, read_log};
+ghost use Rattle.n2kdec.specs.Commands.{IsAdmitted, Kept, KeepsUnder, MayBeRefused, MayKeepUnder};
+ghost use Rattle.n2kdec.specs.Destination.{leads};
+ghost use Rattle.n2kdec.specs.FaultSentence.{IsAsKnown};
+ghost use Rattle.n2kdec.specs.Folder.{Target, Temp, path_of};
+ghost use Rattle.n2kdec.specs.Replacement.{Admits, AreAlike, HarmsFiles, HarmsTarget, HarmsTemp, IsApart, IsMet, IsOfAdmission};
+ghost use Rattle.n2kdec.specs.Replacement.{HarmsNone, HarmsSome, IsOfKeep, KeepsText, SparesFiles, SparesTarget, SparesTemp};
+ghost use Rattle.n2kdec.specs.Replacement.{TellsOf, read_log};
 ghost use Rattle.n2kdec.specs.declared.asked.Files.{Files};
-ghost use Rattle.n2kdec.specs.declared.folder.Name.TheVariants.{Target, Temp};
+ghost use Rattle.n2kdec.specs.declared.reason.Reason.{Reason};
 
 use crate::asked::Files;
-use crate::folder::{Folder, Kind, Name};
+use crate::destination::{Destination, Kind, find, leads};
+use crate::disk::Disk;
+use crate::reason::{Reason, words_for};
 use crate::replacement::keep_text;
 use crate::words::Word;
 use n2k_run::{Failed, Sink};
+use std::alloc::Global;
+use std::io::Error;
 
 /// A place where the state after a run is kept.
 pub trait Keeper {
-    /// How many of its calls have failed. At 2^64 - 1 the number stays.
-    ghost failed_calls: { Self → ℕ };
+    /// How many times it could not keep a text. At 2^64 - 1 the number stays.
+    ghost failed_keeps: { Self → ℕ };
+
+    /// How many times it has not admitted a state. At 2^64 - 1 the number stays.
+    ghost failed_admissions: { Self → ℕ };
 
     /// The texts that were kept, each under its name and the first one first, where they are known.
     ghost kept: { Self → Option (List Kept) };
@@ -25,12 +37,17 @@ pub trait Keeper {
     /// Whether it admits a state of this name by a run of these files, where that is known. No call changes it.
     ghost admits: { Text → Files → Option Bool };
 
+    /// Why a state of this name is not admitted or not kept, where that is known. No call changes it.
+    ghost unkept: { Text → Option Reason };
+
     /// Whether a run of these files may keep a state under this name. `Failed` where one that is read or printed to would
     /// be harmed.
     fn admit(&mut self, name: &str, files: &Files) -> Result<(), Failed>
         ensures same { kept self.new ≡ kept self.old }
+        ensures keeps { failed_keeps self.new ≡ failed_keeps self.old }
         ensures admitted { OnOk result (IsAdmitted admits name.now files.now) }
-        ensures counted { CountsFailure (failed_calls self.old) (failed_calls self.new) result };
+        ensures refused { OnErr result (MayBeRefused admits name.now files.now) }
+        ensures counted { CountsFailure (failed_admissions self.old) (failed_admissions self.new) result };
 
     /// Keeps a state under this name, in the place of what the name has. `Failed` where it can't, or can't be sure. The
     /// errors are lent, so that a keeper may note what they held then.
@@ -39,7 +56,23 @@ pub trait Keeper {
             (E.contents errors.now)) }
         ensures unkept { OnErr result (MayKeepUnder (Some name.now) (kept self.old) (kept self.new) state.now
             (E.contents errors.now)) }
-        ensures counted { CountsFailure (failed_calls self.old) (failed_calls self.new) result };
+        ensures admissions { failed_admissions self.new ≡ failed_admissions self.old }
+        ensures counted { CountsFailure (failed_keeps self.old) (failed_keeps self.new) result };
+
+    /// Why a state of this name was not admitted or not kept, which was the last that was not.
+    fn why_unkept(&self, alloc: Global, name: &str) -> Option<Reason>
+        ensures { IsAsKnown (unkept name.now) result };
+}
+
+/// Why a state is not kept.
+#[derive(Clone, Copy, Debug)]
+pub enum Unkept {
+    /// It would harm a file that is read or printed to.
+    Harm,
+    /// Where it goes can't be found out.
+    Unfound(Error),
+    /// A call of the disk failed.
+    Failed(Error),
 }
 
 /// The file that standard input is.
@@ -51,140 +84,194 @@ const STANDARD_OUTPUT: &str = "/dev/stdout";
 /// The file that standard error is.
 const STANDARD_ERROR: &str = "/dev/stderr";
 
-/// Whether the path leads to another file than that of this name.
-fn is_apart<F: Folder>(folder: &F, name: Name, path: &str) -> bool
-    ensures apart { result ≡ true → IsApart (F.leads folder.now name) (Some path.now) }
-    ensures met { result ≡ false → IsMet (F.leads folder.now name) (Some path.now) }
+/// Whether the path leads to another file than that at the own path.
+fn is_apart<D: Disk>(disk: &D, own: &str, path: &str) -> bool
+    ensures apart { result ≡ true → IsApart (leads (D.answers disk.now) own.now) (Some path.now) }
+    ensures met { result ≡ false → IsMet (leads (D.answers disk.now) own.now) (Some path.now) }
 {
-    !folder.is_at(name, path)
+    !leads(disk, own, path)
 }
 
 /// The same of a file that is read, where one is named.
-fn is_apart_from<F: Folder>(folder: &F, name: Name, path: &Option<Word>) -> bool
-    ensures apart { result ≡ true → IsApart (F.leads folder.now name) path.now }
-    ensures met { result ≡ false → IsMet (F.leads folder.now name) path.now }
+fn is_apart_from<D: Disk>(disk: &D, own: &str, path: &Option<Word>) -> bool
+    ensures apart { result ≡ true → IsApart (leads (D.answers disk.now) own.now) path.now }
+    ensures met { result ≡ false → IsMet (leads (D.answers disk.now) own.now) path.now }
 {
     match path {
-        Some(path) => is_apart(folder, name, path.as_str()),
+        Some(path) => is_apart(disk, own, path.as_str()),
         None => true,
     }
 }
 
 /// The same of the log, or of standard input where none is named.
-fn is_apart_from_log<F: Folder>(folder: &F, name: Name, path: &Option<Word>) -> bool
-    ensures apart { result ≡ true → IsApart (F.leads folder.now name) (Some (read_log path.now)) }
-    ensures met { result ≡ false → IsMet (F.leads folder.now name) (Some (read_log path.now)) }
+fn is_apart_from_log<D: Disk>(disk: &D, own: &str, path: &Option<Word>) -> bool
+    ensures apart { result ≡ true → IsApart (leads (D.answers disk.now) own.now) (Some (read_log path.now)) }
+    ensures met { result ≡ false → IsMet (leads (D.answers disk.now) own.now) (Some (read_log path.now)) }
 {
     match path {
-        Some(path) => is_apart(folder, name, path.as_str()),
-        None => is_apart(folder, name, STANDARD_INPUT),
+        Some(path) => is_apart(disk, own, path.as_str()),
+        None => is_apart(disk, own, STANDARD_INPUT),
     }
 }
 
-/// Whether the file of this name is not the table, not the log and not standard error, to which the summary goes later.
-fn spares_files<F: Folder>(folder: &F, name: Name, files: &Files) -> bool
-    ensures spared { result ≡ true → SparesFiles (F.leads folder.now name) files.now }
-    ensures harmed { result ≡ false → HarmsFiles (F.leads folder.now name) files.now }
+/// Whether the file at this path is not the table, not the log and not standard error, to which the summary goes later.
+fn spares_files<D: Disk>(disk: &D, own: &str, files: &Files) -> bool
+    ensures spared { result ≡ true → SparesFiles (leads (D.answers disk.now) own.now) files.now }
+    ensures harmed { result ≡ false → HarmsFiles (leads (D.answers disk.now) own.now) files.now }
 {
-    is_apart_from(folder, name, &files.table)
-        && is_apart_from_log(folder, name, &files.log)
-        && is_apart(folder, name, STANDARD_ERROR)
+    is_apart_from(disk, own, &files.table)
+        && is_apart_from_log(disk, own, &files.log)
+        && is_apart(disk, own, STANDARD_ERROR)
 }
 
-/// Whether the same holds of the name's own file, which is of this kind, and it is not standard output. That it may be,
+/// Whether the same holds of the file of a name, which is of this kind, and it is not standard output. That it may be,
 /// where the state comes behind what it has.
-fn spares_target<F: Folder>(folder: &F, kind: Kind, files: &Files) -> bool
-    ensures spared { result ≡ true → SparesTarget (F.leads folder.now Target) kind files.now }
-    ensures harmed { result ≡ false → HarmsTarget (F.leads folder.now Target) kind files.now }
+fn spares_target<D: Disk>(disk: &D, own: &str, kind: Kind, files: &Files) -> bool
+    ensures spared { result ≡ true → SparesTarget (leads (D.answers disk.now) own.now) kind files.now }
+    ensures harmed { result ≡ false → HarmsTarget (leads (D.answers disk.now) own.now) kind files.now }
 {
-    spares_files(folder, Name::Target, files)
+    spares_files(disk, own, files)
         && match kind {
             Kind::Special => true,
-            Kind::Alone | Kind::Shared => is_apart(folder, Name::Target, STANDARD_OUTPUT),
+            Kind::Alone | Kind::Shared => is_apart(disk, own, STANDARD_OUTPUT),
         }
 }
 
-/// Whether the new file is none of what is read, and no output.
-fn spares_temp<F: Folder>(folder: &F, files: &Files) -> bool
-    ensures spared { result ≡ true → SparesTemp (F.leads folder.now Temp) files.now }
-    ensures harmed { result ≡ false → HarmsTemp (F.leads folder.now Temp) files.now }
+/// Whether the new file at this path is none of what is read, and no output.
+fn spares_temp<D: Disk>(disk: &D, own: &str, files: &Files) -> bool
+    ensures spared { result ≡ true → SparesTemp (leads (D.answers disk.now) own.now) files.now }
+    ensures harmed { result ≡ false → HarmsTemp (leads (D.answers disk.now) own.now) files.now }
 {
-    spares_files(folder, Name::Temp, files)
-        && is_apart_from(folder, Name::Temp, &files.state)
-        && is_apart(folder, Name::Temp, STANDARD_OUTPUT)
+    spares_files(disk, own, files)
+        && is_apart_from(disk, own, &files.state)
+        && is_apart(disk, own, STANDARD_OUTPUT)
 }
 
-/// Turns the folder to the file of this name, and answers whether nothing that is read or printed to would be harmed
-/// by a state that is kept there. `Failed` also where that file can't be found out.
-#[tactic(auto, using(crate::proofs::Placing::admits))]
-fn admit_to<F: Folder>(folder: &mut F, name: &str, files: &Files) -> Result<(), Failed>
-    ensures { Admits (F.leads folder.new) (F.calls folder.old) (F.calls folder.new) name.now files.now result }
+/// Whether nothing that is read or printed to would be harmed by a state that goes there.
+fn is_harmless<D: Disk>(disk: &D, to: &Destination, files: &Files) -> bool
+    ensures none { result ≡ true → HarmsNone (D.answers disk.now) to.now files.now }
+    ensures some { result ≡ false → HarmsSome (D.answers disk.now) to.now files.now }
 {
-    let kind = folder.turn(name)?;
-    if spares_target(folder, kind, files) && spares_temp(folder, files) {
+    spares_target(disk, to.target.as_str(), to.kind, files)
+        && spares_temp(disk, to.temp.as_str(), files)
+}
+
+/// Finds where a state of this name goes. An error where something would be harmed by it there, or that can't be found
+/// out.
+fn admit_to<D: Disk>(alloc: Global, disk: &D, name: &str, files: &Files) -> Result<(), Unkept>
+    ensures admits { Admits (D.answers disk.now) name.now files.now result }
+    ensures why { IfErr result IsOfAdmission }
+{
+    let to = match find(alloc, disk, name) {
+        Ok(to) => to,
+        Err(error) => return Err(Unkept::Unfound(error)),
+    };
+    if is_harmless(disk, &to, files) {
         Ok(())
     } else {
-        Err(Failed)
+        Err(Unkept::Harm)
     }
 }
 
-/// The files of a folder as a keeper: a state takes the place of what its name has, which may be the file of
-/// `--resume`.
-#[derive(Drop)]
-pub struct StateFiles<F> {
-    folder: F,
-    failed_calls: u64,
+/// Keeps a state in the file to which a name leads. An error where a call of the disk failed.
+fn keep_state<D: Disk>(alloc: Global, disk: &mut D, name: &str, state: &[u8]) -> Result<(), Unkept>
+    ensures keeps { KeepsText (D.answers disk.old) (D.acts disk.old) (D.acts disk.new) name.now state.now result }
+    ensures why { IfErr result IsOfKeep }
+{
+    match keep_text(alloc, disk, name, state) {
+        Ok(()) => Ok(()),
+        Err(error) => Err(Unkept::Failed(error)),
+    }
 }
 
-impl<F: Folder> StateFiles<F> {
-    /// The files of this folder. No call of them has failed.
-    pub fn new(folder: F) -> Self
-        ensures { ⟦<StateFiles<F> as Keeper>⟧.failed_calls result ≡ 0 }
+/// The files of a disk as a keeper: a state takes the place of what its name has, which may be the file of `--resume`.
+#[derive(Drop)]
+pub struct StateFiles<D> {
+    alloc: Global,
+    disk: D,
+    failed_keeps: u64,
+    failed_admissions: u64,
+    failure: Option<Unkept>,
+}
+
+/// Counts a call, where it failed, and notes why.
+fn count(
+    failed: &mut u64,
+    failure: &mut Option<Unkept>,
+    answer: Result<(), Unkept>,
+) -> Result<(), Failed>
+    ensures answered { AreAlike answer result }
+    ensures counted { CountsFailure failed.old failed.new result }
+    ensures noted { IfErr answer (λ why. failure.new ≡ Some why) }
+{
+    if let Err(why) = answer {
+        *failed = failed.saturating_add(1);
+        *failure = Some(why);
+    }
+    answer.map_err(|_| Failed)
+}
+
+impl<D: Disk> StateFiles<D> {
+    /// The files of this disk. No call of them has failed.
+    pub fn new(alloc: Global, disk: D) -> Self
+        ensures none_unkept { ⟦<StateFiles<D> as Keeper>⟧.failed_keeps result ≡ 0 }
+        ensures none_refused { ⟦<StateFiles<D> as Keeper>⟧.failed_admissions result ≡ 0 }
     {
         StateFiles {
-            folder,
-            failed_calls: 0,
+            alloc,
+            disk,
+            failed_keeps: 0,
+            failed_admissions: 0,
+            failure: None,
         }
-    }
-
-    /// Counts a call, where it failed, and answers it.
-    fn count(&mut self, answer: Result<(), Failed>) -> Result<(), Failed>
-        ensures folder { self.new.folder ≡ self.old.folder }
-        ensures answered { result ≡ answer }
-        ensures counted { CountsFailure self.old.failed_calls self.new.failed_calls result }
-    {
-        if answer.is_err() {
-            self.failed_calls = self.failed_calls.saturating_add(1);
-        }
-        answer
     }
 }
 
-impl<F: Folder> Keeper for StateFiles<F> {
+impl<D: Disk> Keeper for StateFiles<D> {
     ghost use Rattle.std.specs.Prelude.{None};
 
-    ghost failed_calls = { λ s. s.failed_calls };
+    ghost failed_keeps = { λ s. s.failed_keeps };
 
-    // What a file has, nothing says: which calls were made of the folder, `keep` does.
+    ghost failed_admissions = { λ s. s.failed_admissions };
+
+    // What a file has, nothing says: which calls were made of the disk, `keep` does.
     ghost kept = { λ _. None };
 
-    // Nor does anything say which paths lead to one file: by what the folder knows of that, `admit` does.
+    // Nor does anything say which paths lead to one file: by what the disk answers of that, `admit` does.
     ghost admits = { λ _ _. None };
 
+    ghost unkept = { λ _. None };
+
+    #[tactic(auto, using(crate::proofs::Placing::admits_so))]
     fn admit(&mut self, name: &str, files: &Files) -> Result<(), Failed>
-        ensures harmless { Admits (F.leads self.new.folder) (F.calls self.old.folder) (F.calls self.new.folder) name.now
-            files.now result }
-        ensures counted { CountsFailure self.old.failed_calls self.new.failed_calls result }
+        ensures harmless { Admits (D.answers self.old.disk) name.now files.now result }
+        ensures untouched { self.new.disk ≡ self.old.disk }
+        ensures why { OnErr result (IfSome self.new.failure IsOfAdmission) }
+        ensures keeps { self.new.failed_keeps ≡ self.old.failed_keeps }
+        ensures counted { CountsFailure self.old.failed_admissions self.new.failed_admissions result }
     {
-        let admitted = admit_to(&mut self.folder, name, files);
-        self.count(admitted)
+        let admitted = admit_to(self.alloc, &self.disk, name, files);
+        count(&mut self.failed_admissions, &mut self.failure, admitted)
     }
 
     fn keep<E: Sink>(&mut self, name: &str, state: &[u8], _errors: &E) -> Result<(), Failed>
-        ensures calls { KeepsText (F.calls self.old.folder) (F.calls self.new.folder) name.now state.now result }
-        ensures counted { CountsFailure self.old.failed_calls self.new.failed_calls result }
+        ensures calls { KeepsText (D.answers self.old.disk) (D.acts self.old.disk) (D.acts self.new.disk) name.now
+            state.now result }
+        ensures admissions { self.new.failed_admissions ≡ self.old.failed_admissions }
+        ensures why { OnErr result (IfSome self.new.failure IsOfKeep) }
+        ensures counted { CountsFailure self.old.failed_keeps self.new.failed_keeps result }
     {
-        let kept = keep_text(&mut self.folder, name, state);
-        self.count(kept)
+        let kept = keep_state(self.alloc, &mut self.disk, name, state);
+        count(&mut self.failed_keeps, &mut self.failure, kept)
+    }
+
+    fn why_unkept(&self, alloc: Global, _name: &str) -> Option<Reason>
+        ensures { IfSome result (λ reason. IsSomeAnd self.now.failure (λ why. TellsOf why reason)) }
+    {
+        match self.failure? {
+            Unkept::Harm => Some(Reason::Harm),
+            Unkept::Unfound(error) => Some(Reason::Unfound(words_for(alloc, &error)?)),
+            Unkept::Failed(error) => Some(Reason::System(words_for(alloc, &error)?)),
+        }
     }
 }

@@ -1,8 +1,10 @@
 //! What the program meets: the words that were typed, files, and the standard streams.
-ghost use Rattle.std.specs.Prelude.{◌≡◌, ◌⊎◌, None, IfErr, IfOk, IfSome, IsErrOf, map, string_bytes};
+ghost use Rattle.std.specs.Prelude.{◌≡◌, ◌⊎◌, None, Some, IfErr, IfOk, IfSome, IsErrOf, map, string_bytes};
+ghost use Rattle.n2kdec.specs.FaultSentence.{IsAsKnown};
 ghost use Rattle.n2kdec.specs.Machine.{ClosesFile, FileUse, IsTerminal, OpensFile, World, bytes_named};
 
 use crate::fault::Fault;
+use crate::reason::Reason;
 use crate::words::Word;
 use n2k_run::{Sink, Source};
 use std::alloc::Global;
@@ -42,14 +44,21 @@ pub trait Machine {
         ensures fault { IfErr result (λ fault. (fault ≡ Fault.Words) ⊎ (fault ≡ Fault.Memory)) }
         ensures texts { IsErrOf result Fault.Words → (world self.now).typed ≡ None };
 
-    /// Opens the file of this name; without a name standard input, which is always there. `refused` where there is none
-    /// of the name, or it may not be read.
-    fn open(&mut self, name: &Option<Word>, refused: Fault) -> Result<Self::File, Fault>
+    /// Opens the file of this name. `refused` where there is none of the name, or it may not be read.
+    fn open(&mut self, name: &Word, refused: Fault) -> Result<Self::File, Fault>
         ensures same { world self.new ≡ world self.old }
-        ensures bytes { IfOk result (λ file. Self.File.remaining file ≡ bytes_named (world self.old) name.now) }
+        ensures bytes { IfOk result (λ file. Self.File.remaining file ≡ bytes_named (world self.old) (Some name.now)) }
         ensures none_called { IfOk result (λ file. Self.File.calls file ≡ 0) }
         ensures none_failed { IfOk result (λ file. Self.File.failed_calls file ≡ 0) }
-        ensures files { OpensFile name.now refused (files self.old) (files self.new) result };
+        ensures files { OpensFile (Some name.now) refused (files self.old) (files self.new) result };
+
+    /// Standard input, which is always there.
+    fn input(&mut self) -> Result<Self::File, Fault>
+        ensures same { world self.new ≡ world self.old }
+        ensures bytes { IfOk result (λ file. Self.File.remaining file ≡ bytes_named (world self.old) None) }
+        ensures none_called { IfOk result (λ file. Self.File.calls file ≡ 0) }
+        ensures none_failed { IfOk result (λ file. Self.File.failed_calls file ≡ 0) }
+        ensures files { OpensFile None Fault.Read (files self.old) (files self.new) result };
 
     /// Closes a file, and counts the calls of it, and those that failed.
     fn close(&mut self, file: Self::File)
@@ -60,4 +69,12 @@ pub trait Machine {
     /// Whether standard error is a terminal.
     fn is_terminal(&self) -> bool
         ensures { IsTerminal (world self.now) result };
+
+    /// Why the file of this name, or standard input, could not be opened or read, which was the last that could not.
+    fn why_unread(&self, alloc: Global, name: &Option<Word>) -> Option<Reason>
+        ensures { IsAsKnown ((world self.now).unread name.now) result };
+
+    /// Why the output could not be written.
+    fn why_unwritten(&self, alloc: Global, output: &Self::Output) -> Option<Reason>
+        ensures { IsAsKnown (world self.now).unwritten result };
 }

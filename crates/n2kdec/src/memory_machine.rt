@@ -1,5 +1,5 @@
 //! A machine in memory, for tests.
-ghost use Rattle.std.specs.Prelude.{◌≡◌, ◌∷◌, ◌++◌, [], IfOk, OnErr, OnOk, map, option_map, string_bytes};
+ghost use Rattle.std.specs.Prelude.{◌≡◌, ◌∷◌, ◌++◌, [], IfOk, IfSome, OnErr, OnOk, map, option_map, string_bytes};
 ghost use Rattle.clap.specs.Walk.{texts};
 ghost use Rattle.n2kdec.specs.MemoryMachine.{bytes_under, kept_text};
 
@@ -7,6 +7,7 @@ use crate::asked::Files;
 use crate::fault::Fault;
 use crate::keeper::Keeper;
 use crate::machine::Machine;
+use crate::reason::Reason;
 use crate::words::Word;
 use n2k_run::{Failed, MemorySink, MemorySource, Sink, Source};
 use std::alloc::{AllocError, Global};
@@ -26,17 +27,20 @@ fn text_under<'a>(files: &[(&'a str, &'a str)], name: &str) -> Option<&'a str>
     None
 }
 
-/// Notes that a file is opened.
-fn note(opened: &mut Vec<Option<Word>>, name: &Option<Word>) -> Result<(), AllocError>
-    ensures noted { OnOk result (opened.new.items ≡ opened.old.items ++ name.now ∷ []) }
+/// Notes that a file is opened, or standard input.
+fn note(opened: &mut Vec<Option<Word>>, name: Option<Word>) -> Result<(), AllocError>
+    ensures noted { OnOk result (opened.new.items ≡ opened.old.items ++ name ∷ []) }
     ensures unchanged { OnErr result (opened.new.items ≡ opened.old.items) }
 {
-    let copy = match name {
-        Some(name) => Some(Word::new(*opened.allocator(), name.as_str())?),
-        None => None,
-    };
-    opened.push(copy)?;
+    opened.push(name)?;
     Ok(())
+}
+
+/// A reason that is this text.
+fn named(alloc: Global, text: &str) -> Option<Reason>
+    ensures { IfSome result (λ reason. reason ≡ Reason.System text.now) }
+{
+    Some(Reason::System(Word::new(alloc, text).ok()?))
 }
 
 /// Copies of texts.
@@ -95,7 +99,7 @@ impl<'a> Source for MemoryFile<'a> {
 }
 
 /// A machine with these words typed, these files, of two of one name the first, and these bytes to its input. Its
-/// errors are no terminal.
+/// errors are no terminal. Why a file fails it tells by the file's name.
 #[derive(Drop)]
 pub struct MemoryMachine<'a> {
     /// The words, the program's name first.
@@ -115,7 +119,8 @@ pub struct MemoryMachine<'a> {
 }
 
 impl<'a> Machine for MemoryMachine<'a> {
-    ghost use Rattle.std.specs.Prelude.{Some, false};
+    ghost use Rattle.std.specs.Prelude.{Some, None, false};
+    ghost use Rattle.n2kdec.specs.declared.reason.Reason.TheVariants.{System};
 
     type File = MemoryFile<'a>;
 
@@ -128,6 +133,8 @@ impl<'a> Machine for MemoryMachine<'a> {
       file = λ name. bytes_under name m.files.now;
       input = Some m.input.now;
       terminal = Some false;
+      unread = λ name. option_map (λ text. System text) name;
+      unwritten = None;
     } };
 
     ghost files = { λ m. record {
@@ -141,11 +148,9 @@ impl<'a> Machine for MemoryMachine<'a> {
     }
 
     #[tactic(auto, using(crate::proofs::MachineLemmas::still_opened))]
-    fn open(&mut self, name: &Option<Word>, refused: Fault) -> Result<MemoryFile<'a>, Fault> {
-        note(&mut self.opened, name)?;
-        let Some(name) = name else {
-            return Ok(MemoryFile::new(self.input.as_bytes(), self.fails_at));
-        };
+    fn open(&mut self, name: &Word, refused: Fault) -> Result<MemoryFile<'a>, Fault> {
+        let own = Word::new(*self.opened.allocator(), name.as_str())?;
+        note(&mut self.opened, Some(own))?;
         match text_under(self.files, name.as_str()) {
             Some(text) => Ok(MemoryFile::new(text.as_bytes(), self.fails_at)),
             None => {
@@ -153,6 +158,12 @@ impl<'a> Machine for MemoryMachine<'a> {
                 Err(refused)
             }
         }
+    }
+
+    #[tactic(auto, using(crate::proofs::MachineLemmas::still_opened))]
+    fn input(&mut self) -> Result<MemoryFile<'a>, Fault> {
+        note(&mut self.opened, None)?;
+        Ok(MemoryFile::new(self.input.as_bytes(), self.fails_at))
     }
 
     fn close(&mut self, file: MemoryFile<'a>) {
@@ -163,13 +174,21 @@ impl<'a> Machine for MemoryMachine<'a> {
     fn is_terminal(&self) -> bool {
         false
     }
+
+    fn why_unread(&self, alloc: Global, name: &Option<Word>) -> Option<Reason> {
+        named(alloc, name.as_ref()?.as_str())
+    }
+
+    fn why_unwritten(&self, _alloc: Global, _output: &MemorySink) -> Option<Reason> {
+        None
+    }
 }
 
 /// A keeper in memory.
 #[derive(Drop)]
 pub struct MemoryKeeper {
     kept: Vec<(String, Vec<u8>)>,
-    failed_calls: u64,
+    failed_keeps: u64,
 }
 
 impl MemoryKeeper {
@@ -177,11 +196,11 @@ impl MemoryKeeper {
 
     /// A keeper that has kept nothing.
     pub fn new(alloc: Global) -> Self
-        ensures { (result.kept.items ≡ []) × (result.failed_calls ≡ 0) }
+        ensures { (result.kept.items ≡ []) × (result.failed_keeps ≡ 0) }
     {
         MemoryKeeper {
             kept: Vec::new(alloc),
-            failed_calls: 0,
+            failed_keeps: 0,
         }
     }
 
@@ -197,7 +216,7 @@ impl MemoryKeeper {
             ≡ map (λ k. kept_text (string_bytes k.0) k.1.items) self.old.kept.items
             ++ kept_text name.now text.now ∷ []) }
         ensures unkept { OnErr result (self.new.kept.items ≡ self.old.kept.items) }
-        ensures same { self.new.failed_calls ≡ self.old.failed_calls }
+        ensures same { self.new.failed_keeps ≡ self.old.failed_keeps }
     {
         let alloc = *self.kept.allocator();
         let kept = (String::from_str(alloc, name)?, text.to_vec(alloc)?);
@@ -208,13 +227,23 @@ impl MemoryKeeper {
 
 impl Keeper for MemoryKeeper {
     ghost use Rattle.std.specs.Prelude.{Some, true};
+    ghost use Rattle.n2kdec.specs.declared.reason.Reason.TheVariants.{System};
 
-    ghost failed_calls = { λ s. s.failed_calls };
+    ghost failed_keeps = { λ s. s.failed_keeps };
+
+    // It admits each state.
+    ghost failed_admissions = { λ _. 0 };
 
     // What the errors held is not noted.
     ghost kept = { λ s. Some (map (λ k. kept_text (string_bytes k.0) k.1.items) s.kept.items) };
 
     ghost admits = { λ _ _. Some true };
+
+    ghost unkept = { λ name. Some (System name) };
+
+    fn why_unkept(&self, alloc: Global, name: &str) -> Option<Reason> {
+        named(alloc, name)
+    }
 
     fn admit(&mut self, _name: &str, _files: &Files) -> Result<(), Failed> {
         Ok(())
@@ -223,7 +252,7 @@ impl Keeper for MemoryKeeper {
     fn keep<E: Sink>(&mut self, name: &str, state: &[u8], _errors: &E) -> Result<(), Failed> {
         let answer = self.push(name, state).map_err(|_| Failed);
         if answer.is_err() {
-            self.failed_calls = self.failed_calls.saturating_add(1);
+            self.failed_keeps = self.failed_keeps.saturating_add(1);
         }
         answer
     }

@@ -1,20 +1,28 @@
 //! From the words that were typed to the status that the program ends with, over any machine.
-ghost use Rattle.std.specs.Prelude.{◌≡◌, IfErr, IfOk, IsSome, OnOk, map, option_map, string_bytes};
+ghost use Rattle.std.specs.Prelude.{◌≡◌, IfErr, IfOk, OnOk, map, option_and_then, option_map, string_bytes};
 ghost use Rattle.std.specs.Process.{exit_status};
 ghost use Rattle.clap.specs.Walk.{texts};
 ghost use Rattle.n2k_run.specs.Device.{HasFailed};
 ghost use Rattle.n2kdec.specs.Asked.{save_name};
 ghost use Rattle.n2kdec.specs.Commands.{place};
-ghost use Rattle.n2kdec.specs.Machine.{AsksFor, DoesTyped, IsOfFile, IsStateAdmitted, IsUnasked, ReadsFile, ReportsFault};
-ghost use Rattle.n2kdec.specs.Machine.{RunsCommand, RunsTyped, Shows, outside};
+ghost use Rattle.n2kdec.specs.FaultSentence.{IsAsKnown};
+ghost use Rattle.n2kdec.specs.Machine.{AsksFor, DoesTyped, HasReason, IsOfFile, IsSentenceOf, IsStateAdmitted};
+ghost use Rattle.n2kdec.specs.Machine.{IsStateRefused, IsUnasked, OpensFile, command_of, files_of};
+ghost use Rattle.n2kdec.specs.Machine.{ReadsFile, RunsCommand, RunsTyped, Shows, StandsBefore, bytes_named};
+ghost use Rattle.n2kdec.specs.Machine.{Hints, HintsOnTerminal, outside};
+ghost use Rattle.n2kdec.specs.Parser.{AreLinesOf, said_of};
 
 use crate::asked::{Command, Files, Request, asked};
 use crate::command_line::words;
 use crate::commands::run_command;
+use crate::ending::{Ending, hint};
 use crate::fault::{Fault, status};
-use crate::fault_message::write_fault;
+use crate::fault_message::{lines_of, write_fault, write_text};
+use crate::fault_sentence::fault_sentence;
 use crate::keeper::Keeper;
 use crate::machine::{Machine, Outlets};
+use crate::parser::Parser;
+use crate::reason::Reason;
 use crate::words::{Word, Words};
 use n2k_run::{BytesFault, Sink, read_bytes, write_all};
 use std::alloc::{AllocError, Global};
@@ -34,12 +42,16 @@ fn texts_of(alloc: Global, words: &[String]) -> Result<Vec<&str>, AllocError>
 }
 
 /// What the words that were typed ask for.
-fn typed_words<M: Machine>(alloc: Global, machine: &M) -> Result<Words, Fault>
-    ensures asked { IfOk result (AsksFor (M.world machine.now)) }
+fn typed_words<P: Parser, M: Machine>(
+    alloc: Global,
+    parser: &P,
+    machine: &M,
+) -> Result<Words, Fault>
+    ensures asked { IfOk result (AsksFor (P.shown parser.now) (M.world machine.now)) }
     ensures unasked { IfErr result (IsUnasked (M.world machine.now)) }
 {
     let typed = machine.typed(alloc)?;
-    words(alloc, &texts_of(alloc, &typed)?)
+    words(alloc, parser, &texts_of(alloc, &typed)?)
 }
 
 /// The bytes of the file of this name, where there is a name; or the fault of one that is too large, of one that can't
@@ -57,10 +69,10 @@ fn read_file<M: Machine>(
     ensures reads { ReadsFile (M.world machine.old) name.now too_large unread (M.files machine.old)
         (M.files machine.new) result }
 {
-    if name.is_none() {
+    let Some(path) = name else {
         return Ok(None);
-    }
-    let mut file = machine.open(name, unread)?;
+    };
+    let mut file = machine.open(path, unread)?;
     let read = read_bytes(alloc, &mut file, LONGEST_FILE);
     machine.close(file);
     match read {
@@ -68,6 +80,20 @@ fn read_file<M: Machine>(
         Err(BytesFault::TooLong) => Err(too_large),
         Err(BytesFault::Read) => Err(unread),
         Err(BytesFault::Memory) => Err(Fault::Memory),
+    }
+}
+
+/// Opens the log of this name, or standard input where none is named.
+fn open_log<M: Machine>(machine: &mut M, name: &Option<Word>) -> Result<M::File, Fault>
+    ensures same { M.world machine.new ≡ M.world machine.old }
+    ensures bytes { IfOk result (λ file. M.File.remaining file ≡ bytes_named (M.world machine.old) name.now) }
+    ensures none_called { IfOk result (λ file. M.File.calls file ≡ 0) }
+    ensures none_failed { IfOk result (λ file. M.File.failed_calls file ≡ 0) }
+    ensures files { OpensFile name.now Fault.Read (M.files machine.old) (M.files machine.new) result }
+{
+    match name {
+        Some(path) => machine.open(path, Fault::Read),
+        None => machine.input(),
     }
 }
 
@@ -79,7 +105,7 @@ fn run_on_files<M: Machine, K: Keeper>(
     files: &Files,
     command: &Command,
     outlets: &mut Outlets<M::Output, M::Errors, K>,
-) -> Result<u8, Fault>
+) -> Result<Ending, Fault>
     requires { IsStateAdmitted K.admits files.now command.now }
     ensures same { M.world machine.new ≡ M.world machine.old }
     ensures runs { RunsCommand (M.world machine.old) files.now command.now
@@ -100,7 +126,7 @@ fn run_on_files<M: Machine, K: Keeper>(
         Fault::StateSize,
         Fault::StateFile,
     )?;
-    let mut log = machine.open(&files.log, Fault::Read)?;
+    let mut log = open_log(machine, &files.log)?;
     let table = table.unwrap_or(Vec::new(alloc));
     let state = state.as_ref().map(|bytes| bytes.as_slice());
     let answer = run_command(alloc, command, &table, state, &mut log, outlets);
@@ -111,10 +137,11 @@ fn run_on_files<M: Machine, K: Keeper>(
 /// Asks whether the state may be kept under the name that the command has for it, where it has one.
 fn admit<K: Keeper>(files: &Files, command: &Command, keeper: &mut K) -> Result<(), Fault>
     ensures same { K.kept keeper.new ≡ K.kept keeper.old }
+    ensures keeps { K.failed_keeps keeper.new ≡ K.failed_keeps keeper.old }
     ensures admitted { OnOk result (IsStateAdmitted K.admits files.now command.now) }
-    ensures none_failed { OnOk result (K.failed_calls keeper.new ≡ K.failed_calls keeper.old) }
-    ensures refused { IfErr result (λ fault. (fault ≡ Fault.Save) × IsSome (save_name command.now)
-        × HasFailed (K.failed_calls keeper.old) (K.failed_calls keeper.new)) }
+    ensures none_failed { OnOk result (K.failed_admissions keeper.new ≡ K.failed_admissions keeper.old) }
+    ensures refused { IfErr result (λ fault. (fault ≡ Fault.Save) × IsStateRefused K.admits files.now command.now
+        × HasFailed (K.failed_admissions keeper.old) (K.failed_admissions keeper.new)) }
 {
     match command {
         Command::Decode {
@@ -133,7 +160,7 @@ fn run_admitted<M: Machine, K: Keeper>(
     files: &Files,
     command: &Command,
     outlets: &mut Outlets<M::Output, M::Errors, K>,
-) -> Result<u8, Fault>
+) -> Result<Ending, Fault>
     ensures same { M.world machine.new ≡ M.world machine.old }
     ensures runs { RunsCommand (M.world machine.old) files.now command.now
         (outside M.Output.Sink M.Errors.Sink K.Keeper (M.files machine.old) outlets.old)
@@ -144,62 +171,177 @@ fn run_admitted<M: Machine, K: Keeper>(
 }
 
 /// Prints the text of the help or of the version.
-fn show<W: Sink>(text: &Word, output: &mut W) -> Result<u8, Fault>
+fn show<W: Sink>(text: &Word, output: &mut W) -> Result<Ending, Fault>
     ensures { Shows text.now (place (W.contents output.old) (W.failed_calls output.old))
         (place (W.contents output.new) (W.failed_calls output.new)) result }
 {
     write_all(output, text.as_str().as_bytes()).map_err(|_| Fault::Write)?;
-    Ok(0)
+    Ok(Ending {
+        status: 0,
+        has_other_form: false,
+    })
 }
 
-/// Does what was typed, and answers the status of what came to its end.
-fn run_typed<M: Machine, K: Keeper>(
+/// Does what was typed, and answers what came to its end.
+fn run_typed<P: Parser, M: Machine, K: Keeper>(
     alloc: Global,
+    parser: &P,
     machine: &mut M,
     outlets: &mut Outlets<M::Output, M::Errors, K>,
-) -> Result<u8, Fault>
+) -> Result<Ending, Fault>
     ensures same { M.world machine.new ≡ M.world machine.old }
-    ensures does { DoesTyped (M.world machine.old)
+    ensures does { DoesTyped (P.shown parser.now) (M.world machine.old)
         (outside M.Output.Sink M.Errors.Sink K.Keeper (M.files machine.old) outlets.old)
         (outside M.Output.Sink M.Errors.Sink K.Keeper (M.files machine.new) outlets.new) result }
 {
-    let words = typed_words(alloc, machine)?;
+    let words = typed_words(alloc, parser, machine)?;
     match asked(words)? {
         Request::Help(text) => show(&text, &mut outlets.output),
         Request::Command(files, command) => run_admitted(alloc, machine, &files, &command, outlets),
     }
 }
 
-/// Writes on a machine's errors what is said of a fault.
-fn report_fault<M: Machine>(alloc: Global, machine: &M, fault: &Fault, errors: &mut M::Errors)
-    ensures { ReportsFault (M.world machine.now) fault.now
-        (place (M.Errors.contents errors.old) (M.Errors.failed_calls errors.old))
-        (place (M.Errors.contents errors.new) (M.Errors.failed_calls errors.new)) }
+/// The lines of what is said of what was typed, where that is refused.
+fn lines_of_typed<P: Parser, M: Machine>(
+    alloc: Global,
+    parser: &P,
+    machine: &M,
+) -> Result<Vec<u8>, Fault>
+    ensures { IfOk result (λ lines. AreLinesOf
+        (option_and_then (said_of (P.shown parser.now)) (M.world machine.now).typed) lines.items) }
 {
-    let is_terminal = machine.is_terminal();
-    let typed = if is_terminal {
-        machine.typed(alloc).unwrap_or(Vec::new(alloc))
-    } else {
-        Vec::new(alloc)
-    };
-    let words = texts_of(alloc, &typed).unwrap_or(Vec::new(alloc));
-    write_fault(alloc, fault, is_terminal, &words, errors);
+    let typed = machine.typed(alloc)?;
+    Ok(lines_of(alloc, parser, &texts_of(alloc, &typed)?)?)
 }
 
-/// Does what was typed, reports a fault, and answers the status that the program ends with.
-pub fn run<M: Machine, K: Keeper>(
+/// The files that were asked for, and the command; none, and `plain`, where a text was, or nothing that can be done.
+fn files_of(request: Result<Request, Fault>) -> (Files, Command)
+    ensures files { result.0 ≡ files_of request }
+    ensures command { result.1 ≡ command_of request }
+{
+    match request {
+        Ok(Request::Command(files, command)) => (files, command),
+        _ => {
+            let files = Files {
+                table: None,
+                state: None,
+                log: None,
+            };
+            (files, Command::Plain)
+        }
+    }
+}
+
+/// Why a state could not be kept under the name that the command has for it.
+fn why_unkept<K: Keeper>(alloc: Global, command: &Command, keeper: &K) -> Option<Reason>
+    ensures { IsAsKnown (option_and_then K.unkept (save_name command.now)) result }
+{
+    match command {
+        Command::Decode {
+            save: Some(name),
+            ..
+        } => keeper.why_unkept(alloc, name.as_str()),
+        _ => None,
+    }
+}
+
+/// The reason of a fault, where there is one.
+fn reason_of<M: Machine, K: Keeper>(
     alloc: Global,
+    machine: &M,
+    files: &Files,
+    command: &Command,
+    outlets: &Outlets<M::Output, M::Errors, K>,
+    fault: Fault,
+) -> Option<Reason>
+    ensures { HasReason (M.world machine.now) K.unkept files.now command.now fault result }
+{
+    match fault {
+        Fault::TableFile => machine.why_unread(alloc, &files.table),
+        Fault::StateFile => machine.why_unread(alloc, &files.state),
+        Fault::Read => machine.why_unread(alloc, &files.log),
+        Fault::Write => machine.why_unwritten(alloc, &outlets.output),
+        Fault::Save => why_unkept(alloc, command, &outlets.keeper),
+        _ => None,
+    }
+}
+
+/// The sentence of a fault of what was typed.
+fn sentence_of<P: Parser, M: Machine, K: Keeper>(
+    alloc: Global,
+    parser: &P,
+    machine: &M,
+    outlets: &Outlets<M::Output, M::Errors, K>,
+    fault: Fault,
+) -> Result<Vec<u8>, Fault>
+    ensures { IfOk result (λ text. IsSentenceOf (P.shown parser.now) (M.world machine.now) K.unkept fault text.items) }
+{
+    let (files, command) = files_of(asked(typed_words(alloc, parser, machine)?));
+    let reason = reason_of(alloc, machine, &files, &command, outlets, fault);
+    Ok(fault_sentence(alloc, &files, &command, fault, &reason)?)
+}
+
+/// What stands before the line of a fault. Where memory for it is refused, that is nothing.
+fn text_before<P: Parser, M: Machine, K: Keeper>(
+    alloc: Global,
+    parser: &P,
+    machine: &M,
+    outlets: &Outlets<M::Output, M::Errors, K>,
+    fault: Fault,
+) -> Vec<u8>
+    ensures { StandsBefore (P.shown parser.now) (M.world machine.now) K.unkept fault result.items }
+{
+    if !machine.is_terminal() {
+        return Vec::new(alloc);
+    }
+    let none = Vec::new(alloc);
+    match fault {
+        Fault::Words => lines_of_typed(alloc, parser, machine).unwrap_or(none),
+        _ => sentence_of(alloc, parser, machine, outlets, fault).unwrap_or(none),
+    }
+}
+
+/// Says on a terminal what to do with a log of another form.
+fn hint_on_terminal<M: Machine, E: Sink>(machine: &M, errors: &mut E)
+    ensures { HintsOnTerminal (M.world machine.now) (place (E.contents errors.old) (E.failed_calls errors.old))
+        (place (E.contents errors.new) (E.failed_calls errors.new)) }
+{
+    if machine.is_terminal() {
+        write_text(hint(), errors);
+    }
+}
+
+/// Says so where a command has come to the end of such a log.
+fn say_hint<M: Machine, E: Sink>(machine: &M, ending: Ending, errors: &mut E)
+    ensures { Hints (M.world machine.now) ending.has_other_form
+        (place (E.contents errors.old) (E.failed_calls errors.old))
+        (place (E.contents errors.new) (E.failed_calls errors.new)) }
+{
+    if ending.has_other_form {
+        hint_on_terminal(machine, errors);
+    }
+}
+
+/// Does what was typed, says what there is to say of it, and answers the status that the program ends with.
+#[tactic(auto, using(crate::proofs::MachineLemmas::reported, crate::proofs::MachineLemmas::ended))]
+pub fn run<P: Parser, M: Machine, K: Keeper>(
+    alloc: Global,
+    parser: &P,
     machine: &mut M,
     outlets: &mut Outlets<M::Output, M::Errors, K>,
 ) -> ExitCode
-    ensures { RunsTyped (M.world machine.old)
+    ensures { RunsTyped (P.shown parser.now) (M.world machine.old)
         (outside M.Output.Sink M.Errors.Sink K.Keeper (M.files machine.old) outlets.old)
         (outside M.Output.Sink M.Errors.Sink K.Keeper (M.files machine.new) outlets.new) (exit_status result) }
 {
-    match run_typed(alloc, machine, outlets) {
-        Ok(status) => ExitCode::from(status),
+    match run_typed(alloc, parser, machine, outlets) {
+        Ok(ending) => {
+            say_hint(machine, ending, &mut outlets.errors);
+            ExitCode::from(ending.status)
+        }
         Err(fault) => {
-            report_fault(alloc, machine, &fault, &mut outlets.errors);
+            let before = text_before(alloc, parser, machine, outlets, fault);
+            write_fault(alloc, &fault, before, &mut outlets.errors);
             ExitCode::from(status(&fault))
         }
     }

@@ -4,66 +4,14 @@ ghost use Rattle.n2kdec.specs.Machine.{unknown_world};
 
 use crate::fault::Fault;
 use crate::machine::Machine;
+use crate::reader::{Origin, Reader};
+use crate::reason::{Reason, words_for};
 use crate::words::Word;
-use n2k_run::{Failed, Source, StdSink, StdSource};
+use n2k_run::{StdSink, StdSource};
 use std::alloc::Global;
 use std::fs::File;
-use std::io::{ErrorKind, IsTerminal, Stderr, Stdin, Stdout};
+use std::io::{Error, ErrorKind, IsTerminal, Stderr, Stdin, Stdout};
 use std::{env, fs};
-
-/// Where bytes are read from.
-#[derive(Drop)]
-enum Origin {
-    File(StdSource<File>),
-    Input(StdSource<Stdin>),
-}
-
-/// An open file, or standard input.
-#[derive(Drop)]
-pub struct Reader {
-    origin: Origin,
-    calls: u64,
-    failed_calls: u64,
-}
-
-impl Reader {
-    ghost use Rattle.std.specs.Prelude.{◌≡◌};
-
-    /// One of which no call was made.
-    fn new(origin: Origin) -> Reader
-        ensures none_called { result.calls ≡ 0 }
-        ensures none_failed { result.failed_calls ≡ 0 }
-    {
-        Reader {
-            origin,
-            calls: 0,
-            failed_calls: 0,
-        }
-    }
-}
-
-impl Source for Reader {
-    ghost use Rattle.std.specs.Prelude.{None};
-
-    ghost calls = { λ r. r.calls };
-
-    ghost failed_calls = { λ r. r.failed_calls };
-
-    // What a file has, nothing says.
-    ghost remaining = { λ _. None };
-
-    fn read(&mut self, buffer: &mut [u8]) -> Result<usize, Failed> {
-        let answer = match &mut self.origin {
-            Origin::File(file) => file.read(buffer),
-            Origin::Input(input) => input.read(buffer),
-        };
-        self.calls = self.calls.saturating_add(1);
-        if answer.is_err() {
-            self.failed_calls = self.failed_calls.saturating_add(1);
-        }
-        answer
-    }
-}
 
 /// The running process.
 #[derive(Drop)]
@@ -71,6 +19,7 @@ pub struct System<'a> {
     rt: &'a HostRuntime,
     failed_reads: u64,
     reads: u64,
+    failure: Option<Error>,
 }
 
 impl<'a> System<'a> {
@@ -80,12 +29,13 @@ impl<'a> System<'a> {
             rt,
             failed_reads: 0,
             reads: 0,
+            failure: None,
         }
     }
 }
 
 impl<'a> Machine for System<'a> {
-    type File = Reader;
+    type File = Reader<StdSource<File>, StdSource<Stdin>>;
 
     type Output = StdSink<Stdout>;
 
@@ -105,26 +55,37 @@ impl<'a> Machine for System<'a> {
         }
     }
 
-    fn open(&mut self, name: &Option<Word>, refused: Fault) -> Result<Reader, Fault> {
-        let Some(name) = name else {
-            return Ok(Reader::new(Origin::Input(StdSource::new(self.rt.stdin()))));
-        };
+    fn open(&mut self, name: &Word, refused: Fault) -> Result<Self::File, Fault> {
         match fs::open(self.rt, name.as_str()) {
             Ok(file) => Ok(Reader::new(Origin::File(StdSource::new(file)))),
             Err(error) if error.kind() == ErrorKind::OutOfMemory => Err(Fault::Memory),
-            Err(_) => {
+            Err(error) => {
                 self.failed_reads = self.failed_reads.saturating_add(1);
+                self.failure = Some(error);
                 Err(refused)
             }
         }
     }
 
-    fn close(&mut self, file: Reader) {
+    fn input(&mut self) -> Result<Self::File, Fault> {
+        Ok(Reader::new(Origin::Input(StdSource::new(self.rt.stdin()))))
+    }
+
+    fn close(&mut self, file: Self::File) {
         self.failed_reads = self.failed_reads.saturating_add(file.failed_calls);
         self.reads = self.reads.saturating_add(file.calls);
+        self.failure = file.failure().or(self.failure);
     }
 
     fn is_terminal(&self) -> bool {
         self.rt.stderr().is_terminal()
+    }
+
+    fn why_unread(&self, alloc: Global, _name: &Option<Word>) -> Option<Reason> {
+        Some(Reason::System(words_for(alloc, &self.failure?)?))
+    }
+
+    fn why_unwritten(&self, alloc: Global, output: &Self::Output) -> Option<Reason> {
+        Some(Reason::System(words_for(alloc, &output.failure()?)?))
     }
 }

@@ -1,6 +1,9 @@
 use crate::asked::{Request, asked};
+use crate::clap_parser::ClapParser;
 use crate::command_line::words;
+use crate::echo_parser::EchoParser;
 use crate::fault::{Fault, exit_status, fault_text, status};
+use crate::fault_message::lines_of;
 use crate::machine::Outlets;
 use crate::memory_machine::{MemoryKeeper, MemoryMachine};
 use crate::program::run;
@@ -192,7 +195,7 @@ const ASKED: [(&[&str], &str); 12] = [
 #[test]
 fn words_name_a_command_and_its_files(rt: HostRuntime) -> Result<(), Fail> {
     for (given, command) in &ASKED {
-        let text = format!(in rt.alloc(); "{:?}", words(rt.alloc(), given)?)?;
+        let text = format!(in rt.alloc(); "{:?}", words(rt.alloc(), &ClapParser, given)?)?;
         assert_eq!(rt; text.as_str(), *command);
     }
     Ok(())
@@ -229,7 +232,7 @@ const REFUSED: [&[&str]; 25] = [
 #[test]
 fn other_words_are_refused(rt: HostRuntime) {
     for given in &REFUSED {
-        let answer = words(rt.alloc(), given);
+        let answer = words(rt.alloc(), &ClapParser, given);
         assert!(rt;
             matches!(&answer, Err(Fault::Words)),
             "{given:?}: {answer:?}"
@@ -246,10 +249,28 @@ const ASKING_FOR_HELP: [&[&str]; 3] = [
 #[test]
 fn help_is_no_fault(rt: HostRuntime) -> Result<(), Fail> {
     for given in &ASKING_FOR_HELP {
-        let text = format!(in rt.alloc(); "{:?}", words(rt.alloc(), given)?)?;
+        let text = format!(in rt.alloc(); "{:?}", words(rt.alloc(), &ClapParser, given)?)?;
         assert!(rt; text.as_str().starts_with("Help("));
         assert!(rt; text.as_str().contains("Usage: n2kdec"));
     }
+    Ok(())
+}
+
+/// Over a parser that shows the words themselves: help, and what is said of refused words, is its text of these words.
+#[test]
+fn what_is_shown_is_of_these_words(rt: HostRuntime) -> Result<(), Fail> {
+    let alloc = rt.alloc();
+    let help = words(alloc, &EchoParser, &["n2kdec", "decode", "--help"])?;
+    let text = format!(in alloc; "{help:?}")?;
+    assert_eq!(rt;
+        text.as_str(),
+        "Help(Word { text: \"n2kdecdecode--help\" })"
+    );
+    let lines = lines_of(alloc, &EchoParser, &["n2kdec", "print"])?;
+    assert_eq!(rt; lines.as_slice(), b"n2kdecprint\n".as_slice());
+    let window = ["n2kdec", "decode", "--table", "t", "--window", "31"];
+    let lines = lines_of(alloc, &EchoParser, &window)?;
+    assert!(rt; lines.starts_with(b"error: a window is "));
     Ok(())
 }
 
@@ -262,8 +283,8 @@ const ASKING_FOR_THE_VERSION: [&[&str]; 3] = [
 #[test]
 fn the_version_is_no_fault(rt: HostRuntime) -> Result<(), Fail> {
     for given in &ASKING_FOR_THE_VERSION {
-        let text = format!(in rt.alloc(); "{:?}", words(rt.alloc(), given)?)?;
-        assert_eq!(rt; text.as_str(), "Help(Word { text: \"n2kdec 1.0.0\\n\" })");
+        let text = format!(in rt.alloc(); "{:?}", words(rt.alloc(), &ClapParser, given)?)?;
+        assert_eq!(rt; text.as_str(), "Help(Word { text: \"n2kdec 1.1.0\\n\" })");
     }
     Ok(())
 }
@@ -417,7 +438,7 @@ const EXAMPLES: [Example; 6] = [
 /// The work of an example's words, over devices in memory.
 fn works<R: Abort + AllocGlobal>(rt: &R, table: &[u8], example: &Example) -> Result<(), Fail> {
     let alloc = rt.alloc();
-    let Request::Command(_, command) = asked(words(alloc, example.words)?)? else {
+    let Request::Command(_, command) = asked(words(alloc, &ClapParser, example.words)?)? else {
         return Err("a command was named".into());
     };
     let state = example.state.map(|text| text.as_bytes());
@@ -475,7 +496,10 @@ fn what_was_typed_is_run(rt: HostRuntime) -> Result<(), Fail> {
         errors: MemorySink::new(alloc, 100, 0),
         keeper: MemoryKeeper::new(alloc),
     };
-    assert_eq!(rt; run(alloc, &mut machine, &mut outlets), ExitCode::SUCCESS);
+    assert_eq!(rt;
+        run(alloc, &ClapParser, &mut machine, &mut outlets),
+        ExitCode::SUCCESS
+    );
     assert_eq!(rt; outlets.output.bytes(), EXAMPLES[2].text.as_bytes());
     assert_eq!(rt; outlets.keeper.kept().len(), 1);
     for (name, text) in outlets.keeper.kept() {
@@ -490,7 +514,10 @@ fn what_was_typed_is_run(rt: HostRuntime) -> Result<(), Fail> {
         "[Some(Word { text: \"t\" }), Some(Word { text: \"l\" })]"
     );
     machine.fails_at = 2;
-    assert_eq!(rt; run(alloc, &mut machine, &mut outlets), ExitCode::from(3));
+    assert_eq!(rt;
+        run(alloc, &ClapParser, &mut machine, &mut outlets),
+        ExitCode::from(3)
+    );
     assert_eq!(rt; machine.failed_reads, 1);
     assert!(rt; outlets.errors.bytes().ends_with(b"n2kdec: table file\n"));
     assert_eq!(rt; machine.opened.len(), 3);

@@ -4,20 +4,21 @@ use Rattle.n2k_join.specs.declared.counts.Counts.{Counts}
 use Rattle.n2k_run.specs.Reports.{summary_text}
 use Rattle.n2k_run.specs.declared.part.Part.{Part}
 use Rattle.n2kdec.specs.Commands.{FailsToKeep, IsWritten, IsWrittenUnlessFailed, IsCutOff, Replaces, Place, Shelf}
-use Rattle.n2kdec.specs.Fault.{exit_status}
+use Rattle.n2kdec.specs.Ending.{ending_of}
+use Rattle.n2kdec.specs.declared.ending.Ending.{Ending}
 use Rattle.n2kdec.specs.declared.fault.Fault.{Fault}
 use Rattle.n2kdec.specs.declared.fault.Fault.TheVariants.{Read, Report, Save}
 use Rattle.n2kdec.specs.declared.work.Stop.{Stop}
 
--- the summary of these counts is written, and the status is theirs; or the errors failed in it
-abbrev pub SumsUp : Place → Place → Counts → Result ℕ Fault → Type 0
+-- the summary of these counts is written, and what they come to is answered; or the errors failed in it
+abbrev pub SumsUp : Place → Place → Counts → Result Ending Fault → Type 0
 SumsUp before after counts result = MatchResult result
-    (λ status. IsWritten before after (summary_text counts) × (status ≡ exit_status counts))
+    (λ ending. IsWritten before after (summary_text counts) × (ending ≡ ending_of counts))
     (λ fault. (fault ≡ Report) × IsCutOff before after (summary_text counts))
 
 -- A log was taken whole, and this text is to be kept: it is, and the summary gives the answer; or it can't be, and the
 -- summary is written all the same.
-abbrev pub Closes : Shelf → Shelf → Place → Place → List ℕ → Counts → Result ℕ Fault → Type 0
+abbrev pub Closes : Shelf → Shelf → Place → Place → List ℕ → Counts → Result Ending Fault → Type 0
 Closes keeper kept errors summed text counts result =
     (Replaces keeper kept text errors.text × SumsUp errors summed counts result)
     ⊎ ((result ≡ Err Save) × FailsToKeep keeper kept text errors.text
@@ -28,12 +29,12 @@ Closes keeper kept errors summed text counts result =
 abbrev pub FollowsStop : Shelf → Shelf → Place → Place → Option Part → Fault → Type 0
 FollowsStop keeper kept errors summed None fault = (kept ≡ keeper) × (summed ≡ errors)
 FollowsStop keeper kept errors summed (Some part) Read =
-    (result : Result ℕ Fault) × Closes keeper kept errors summed part.state.items part.counts result
+    (result : Result Ending Fault) × Closes keeper kept errors summed part.state.items part.counts result
 FollowsStop keeper kept errors summed (Some part) _ =
     (kept ≡ keeper) × IsWrittenUnlessFailed errors summed (summary_text part.counts)
 
 -- what follows the work of a command
-abbrev pub ClosesPart : Shelf → Shelf → Place → Place → Result Part Stop → Result ℕ Fault → Type 0
+abbrev pub ClosesPart : Shelf → Shelf → Place → Place → Result Part Stop → Result Ending Fault → Type 0
 ClosesPart keeper kept errors summed (Ok part) result =
     Closes keeper kept errors summed part.state.items part.counts result
 ClosesPart keeper kept errors summed (Err stop) result =

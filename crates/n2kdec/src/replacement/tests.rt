@@ -1,6 +1,10 @@
-use super::memory_folder::{Extent, MemoryFolder, Trouble};
-use crate::folder::{Folder, Kind, Name};
+use super::memory_disk::{Extent, MemoryDisk, Trouble};
+use crate::destination::{Kind, find};
+use crate::disk::Disk;
 use crate::replacement::keep_text;
+use std::alloc::{AllocError, Global};
+use std::fs::OpenOptions;
+use std::io::ErrorKind;
 use std::test::Fail;
 
 /// How much of a call is done, and how much a cut leaves of what is not synced.
@@ -10,18 +14,110 @@ const OLD: &[u8] = b"the old state";
 
 const NEW: &[u8] = b"the new state, which is longer";
 
+/// The name of the state, and that of the new file beside it.
+const BOAT: &str = "boat";
+
+const BESIDE: &str = ".boat.n2kdec-new";
+
+/// A disk that has these texts under both, the first as a file of this kind.
+fn disk<'a>(
+    alloc: Global,
+    kind: Kind,
+    own: Option<&[u8]>,
+    beside: Option<&[u8]>,
+) -> Result<MemoryDisk<'a>, AllocError> {
+    let mut disk = MemoryDisk::new(alloc, &[], &[]);
+    let links = if kind == Kind::Shared { 2 } else { 1 };
+    disk.put(BOAT, own, kind != Kind::Special, links)?;
+    disk.put(BESIDE, beside, true, 1)?;
+    Ok(disk)
+}
+
+/// Keeps the new state. Answers whether that passes.
+fn keeps(alloc: Global, disk: &mut MemoryDisk<'_>) -> bool {
+    keep_text(alloc, disk, BOAT, NEW).is_ok()
+}
+
+const LINKS: [(&str, &str); 3] = [
+    ("saves/boat", "../usb/boat"),
+    ("/boat", "media/boat"),
+    ("loop", "loop"),
+];
+
+const FOLDERS: [(&str, &str); 1] = [("/dev/fd", "/proc/7/fd")];
+
+/// A link beside the file, one from the root, a path of an open file, a name in a folder, and one from here.
+const PLACES: [(&str, &str, &str); 5] = [
+    (
+        "saves/boat",
+        "saves/../usb/boat",
+        "saves/../usb/.boat.n2kdec-new",
+    ),
+    ("/boat", "/media/boat", "/media/.boat.n2kdec-new"),
+    ("/dev/fd/3", "/dev/fd/3", "/dev/fd/.3.n2kdec-new"),
+    ("saves/hull", "saves/hull", "saves/.hull.n2kdec-new"),
+    ("hull", "hull", ".hull.n2kdec-new"),
+];
+
+#[test]
+fn a_name_leads_over_links_to_its_file(rt: HostRuntime) -> Result<(), Fail> {
+    let disk = MemoryDisk::new(rt.alloc(), &LINKS, &FOLDERS);
+    for (name, target, temp) in PLACES {
+        let to = find(rt.alloc(), &disk, name)?;
+        assert_eq!(rt; to.target.as_str(), target);
+        assert_eq!(rt; to.temp.as_str(), temp);
+        assert_eq!(rt; to.kind == Kind::Special, name == "/dev/fd/3");
+        assert_eq!(rt; to.mode, None);
+    }
+    Ok(())
+}
+
+#[test]
+fn links_without_an_end_and_names_of_no_file_are_refused(rt: HostRuntime) -> Result<(), Fail> {
+    let disk = MemoryDisk::new(rt.alloc(), &LINKS, &FOLDERS);
+    for (name, why) in [
+        ("loop", ErrorKind::FilesystemLoop),
+        ("", ErrorKind::InvalidFilename),
+        ("saves/..", ErrorKind::InvalidFilename),
+    ] {
+        match find(rt.alloc(), &disk, name) {
+            Ok(_) => assert!(rt; false, "{name}"),
+            Err(error) => assert_eq!(rt; error.kind(), why, "{name}"),
+        }
+    }
+    Ok(())
+}
+
+#[test]
+fn what_is_there_says_how_a_state_is_kept(rt: HostRuntime) -> Result<(), Fail> {
+    for kind in [Kind::Alone, Kind::Shared, Kind::Special] {
+        let to = find(rt.alloc(), &disk(rt.alloc(), kind, Some(OLD), None)?, BOAT)?;
+        assert_eq!(rt; to.kind, kind);
+        assert_eq!(rt; to.mode, Some(0o640));
+    }
+    Ok(())
+}
+
+/// What stands under the name and beside it, and how many calls a replacement then takes: the new file is opened,
+/// written, synced and renamed, and the folder synced. What stands beside is met and taken away first, and a file that is
+/// there has its mode given to the new one.
+const REPLACED: [(Option<&[u8]>, Option<&[u8]>, u64); 4] = [
+    (None, None, 5),
+    (Some(OLD), None, 6),
+    (None, Some(b"cut"), 7),
+    (Some(OLD), Some(b"cut"), 8),
+];
+
 #[test]
 fn a_text_takes_the_place_of_another(rt: HostRuntime) -> Result<(), Fail> {
-    for own in [None, Some(OLD)] {
-        for new in [None, Some(b"from an earlier cut".as_slice())] {
-            let mut folder = MemoryFolder::new(rt.alloc(), Kind::Alone, own, new)?;
-            assert!(rt; keep_text(&mut folder, "boat", NEW).is_ok());
-            for extent in EXTENTS {
-                assert_eq!(rt; folder.left(Name::Target, extent), Some(NEW));
-                assert_eq!(rt; folder.left(Name::Temp, extent), None);
-            }
-            assert_eq!(rt; folder.calls(), 6);
+    for (own, beside, calls) in REPLACED {
+        let mut disk = disk(rt.alloc(), Kind::Alone, own, beside)?;
+        assert!(rt; keeps(rt.alloc(), &mut disk));
+        for extent in EXTENTS {
+            assert_eq!(rt; disk.left(BOAT, extent), Some(NEW));
+            assert_eq!(rt; disk.left(BESIDE, extent), None);
         }
+        assert_eq!(rt; disk.calls(), calls);
     }
     Ok(())
 }
@@ -31,17 +127,13 @@ fn a_failure_in_each_call_leaves_the_old_text_or_the_new(rt: HostRuntime) -> Res
     for call in 1..7u64 {
         for done in EXTENTS {
             let trouble = Trouble::Failure(call, done);
-            let mut folder = MemoryFolder::new(rt.alloc(), Kind::Alone, Some(OLD), None)?;
-            folder.trouble = trouble;
-            assert!(rt; keep_text(&mut folder, "boat", NEW).is_err(), "{trouble:?}");
+            let mut disk = disk(rt.alloc(), Kind::Alone, Some(OLD), None)?;
+            disk.trouble = trouble;
+            assert!(rt; !keeps(rt.alloc(), &mut disk), "{trouble:?}");
             let renamed = call == 6 || call == 5 && done == Extent::Whole;
             let now = if renamed { NEW } else { OLD };
-            assert_eq!(rt;
-                folder.left(Name::Target, Extent::Whole),
-                Some(now),
-                "{trouble:?}"
-            );
-            assert_eq!(rt; folder.left(Name::Temp, Extent::Whole), None, "{trouble:?}");
+            assert_eq!(rt; disk.left(BOAT, Extent::Whole), Some(now), "{trouble:?}");
+            assert_eq!(rt; disk.left(BESIDE, Extent::Whole), None, "{trouble:?}");
         }
     }
     Ok(())
@@ -52,11 +144,11 @@ fn a_cut_in_each_call_leaves_the_old_text_or_the_new(rt: HostRuntime) -> Result<
     for call in 1..7u64 {
         for done in EXTENTS {
             let trouble = Trouble::Cut(call, done);
-            let mut folder = MemoryFolder::new(rt.alloc(), Kind::Alone, Some(OLD), None)?;
-            folder.trouble = trouble;
-            assert!(rt; keep_text(&mut folder, "boat", NEW).is_err(), "{trouble:?}");
+            let mut disk = disk(rt.alloc(), Kind::Alone, Some(OLD), None)?;
+            disk.trouble = trouble;
+            assert!(rt; !keeps(rt.alloc(), &mut disk), "{trouble:?}");
             for extent in EXTENTS {
-                let left = folder.left(Name::Target, extent);
+                let left = disk.left(BOAT, extent);
                 let is_whole = left == Some(OLD) || left == Some(NEW);
                 assert!(rt; is_whole, "{trouble:?} {extent:?}: {left:?}");
             }
@@ -68,23 +160,23 @@ fn a_cut_in_each_call_leaves_the_old_text_or_the_new(rt: HostRuntime) -> Result<
 /// What is not synced may be there in part, and a rename may be there or not.
 #[test]
 fn a_cut_before_the_syncs_may_leave_a_part_or_the_old_text(rt: HostRuntime) -> Result<(), Fail> {
-    let mut folder = MemoryFolder::new(rt.alloc(), Kind::Alone, Some(OLD), None)?;
-    assert!(rt; folder.create(Name::Temp).is_ok());
-    assert!(rt; folder.write(Name::Temp, NEW).is_ok());
-    assert!(rt; folder.rename(Name::Temp, Name::Target).is_ok());
-    assert_eq!(rt; folder.left(Name::Target, Extent::Nothing), Some(OLD));
-    assert_eq!(rt; folder.left(Name::Target, Extent::Part), Some(&NEW[..15]));
-    assert_eq!(rt; folder.left(Name::Target, Extent::Whole), Some(NEW));
+    let mut disk = disk(rt.alloc(), Kind::Alone, Some(OLD), None)?;
+    disk.open(BESIDE, OpenOptions::new().write(true).create_new(true))?;
+    disk.write(NEW)?;
+    disk.rename(BESIDE, BOAT)?;
+    assert_eq!(rt; disk.left(BOAT, Extent::Nothing), Some(OLD));
+    assert_eq!(rt; disk.left(BOAT, Extent::Part), Some(&NEW[..15]));
+    assert_eq!(rt; disk.left(BOAT, Extent::Whole), Some(NEW));
     Ok(())
 }
 
-/// Of the ways in which a text is written over another: the new file is refused (call 2), or that it takes the name
+/// Of the ways in which a text is written over another: the new file is refused (call 1), or that it takes the name
 /// (call 5), or the file has other names. Each has the calls up to the one that empties the old file.
 const WAYS: [(Kind, u64, u64); 4] = [
-    (Kind::Alone, 2, 2),
+    (Kind::Alone, 1, 1),
     (Kind::Alone, 5, 5),
     (Kind::Shared, 0, 4),
-    (Kind::Shared, 2, 2),
+    (Kind::Shared, 1, 1),
 ];
 
 #[test]
@@ -93,16 +185,15 @@ fn a_text_is_written_over_another_where_it_can_not_be_replaced(
 ) -> Result<(), Fail> {
     for (kind, refused, before) in WAYS {
         for own in [
-            None,
-            Some(OLD),
-            Some(b"a state with a longer text than the new one has".as_slice()),
+            OLD,
+            b"a state with a longer text than the new one has".as_slice(),
         ] {
-            let mut folder = MemoryFolder::new(rt.alloc(), kind, own, None)?;
-            folder.refused = refused;
-            assert!(rt; keep_text(&mut folder, "boat", NEW).is_ok());
-            assert_eq!(rt; folder.left(Name::Target, Extent::Part), Some(NEW));
-            assert_eq!(rt; folder.left(Name::Temp, Extent::Whole), None);
-            assert_eq!(rt; folder.calls(), before + 4);
+            let mut disk = disk(rt.alloc(), kind, Some(own), None)?;
+            disk.refused = refused;
+            assert!(rt; keeps(rt.alloc(), &mut disk));
+            assert_eq!(rt; disk.left(BOAT, Extent::Part), Some(NEW));
+            assert_eq!(rt; disk.left(BESIDE, Extent::Whole), None);
+            assert_eq!(rt; disk.calls(), before + 4);
         }
     }
     Ok(())
@@ -116,15 +207,15 @@ fn a_failure_where_a_text_is_written_over_is_told(rt: HostRuntime) -> Result<(),
         for call in 1..before + 5 {
             for done in EXTENTS {
                 let trouble = Trouble::Failure(call, done);
-                let mut folder = MemoryFolder::new(rt.alloc(), kind, Some(OLD), None)?;
-                folder.refused = refused;
-                folder.trouble = trouble;
+                let mut disk = disk(rt.alloc(), kind, Some(OLD), None)?;
+                disk.refused = refused;
+                disk.trouble = trouble;
                 // A call that is refused doesn't fail, and that the new file stays at the end is not told.
                 let passes = call == refused || call == before + 4;
-                let answer = keep_text(&mut folder, "boat", NEW);
-                assert_eq!(rt; answer.is_ok(), passes, "{refused} {trouble:?}");
-                let now = folder.left(Name::Target, Extent::Whole);
-                let beside = folder.left(Name::Temp, Extent::Whole);
+                let answer = keeps(rt.alloc(), &mut disk);
+                assert_eq!(rt; answer, passes, "{refused} {trouble:?}");
+                let now = disk.left(BOAT, Extent::Whole);
+                let beside = disk.left(BESIDE, Extent::Whole);
                 if passes {
                     assert_eq!(rt; now, Some(NEW), "{refused} {trouble:?}");
                 } else if call <= before {
@@ -143,12 +234,12 @@ fn a_failure_where_a_text_is_written_over_is_told(rt: HostRuntime) -> Result<(),
 /// What is no regular file is written to behind what it has, and nothing is synced.
 #[test]
 fn what_is_no_regular_file_is_written_to(rt: HostRuntime) -> Result<(), Fail> {
-    let mut folder = MemoryFolder::new(rt.alloc(), Kind::Special, Some(b"notes, "), None)?;
-    assert!(rt; keep_text(&mut folder, "boat", b"state").is_ok());
+    let mut disk = disk(rt.alloc(), Kind::Special, Some(b"notes, "), None)?;
+    assert!(rt; keep_text(rt.alloc(), &mut disk, BOAT, b"state").is_ok());
     assert_eq!(rt;
-        folder.left(Name::Target, Extent::Whole),
+        disk.left(BOAT, Extent::Whole),
         Some(b"notes, state".as_slice())
     );
-    assert_eq!(rt; folder.calls(), 2);
+    assert_eq!(rt; disk.calls(), 2);
     Ok(())
 }

@@ -11,7 +11,7 @@ returns-clause-performs g c =
     let before = seen g.R.Source g.W.Sink g.E.Sink c.args.log.now c.args.outlets.now.output c.args.outlets.now.errors in
     let after = seen g.R.Source g.W.Sink g.E.Sink c.work-ended.new.log c.work-ended.new.output c.close.new.errors in
     let told = place (g.E.Sink.contents c.work-ended.new.errors) (g.E.Sink.failed_calls c.work-ended.new.errors) in
-    performs before after told (g.K.Keeper.kept c.args.outlets.now.keeper) (g.K.Keeper.kept c.close.new.keeper) (g.K.Keeper.failed_calls c.args.outlets.now.keeper) (g.K.Keeper.failed_calls c.close.new.keeper)
+    performs before after told (g.K.Keeper.kept c.args.outlets.now.keeper) (g.K.Keeper.kept c.close.new.keeper) (g.K.Keeper.failed_keeps c.args.outlets.now.keeper) (g.K.Keeper.failed_keeps c.close.new.keeper)
     c.args.command.now c.args.table.now _ c.work-ended.result c.close.result c.work-ended.ensures.works c.close.ensures.closes
 
 pub returns-clause-status : goal.returns-clause-status

@@ -30,7 +30,7 @@ returns-in_err-log-clause-runs g c =
     let w = g.M.Machine.world c.args.machine.now in
     let begun = g.M.Machine.files c.args.machine.now in
     let mid = g.M.Machine.files c.read_file-2.new.machine in
-    let used = g.M.Machine.files c.open.new.self in
+    let used = g.M.Machine.files c.open_log.new.machine in
     let fault = c.in_err-log.field-0.0 in
     let table = c.in_ok-table.ensures.reads.answer in
     let state = c.in_ok-state.ensures.reads.answer in
@@ -56,7 +56,7 @@ returns-clause-runs g c =
     let is_state : option_map (λ bytes. bytes.now) c.map-state.result ≡ state_read = search rules in
     runs w files c.args.command.now _ after c.run_command-answer.result (record {
       admitted = c.requires;
-      opened = all_opened files begun mid (g.M.Machine.files c.open.new.self) (g.M.Machine.files c.close.new.self)
+      opened = all_opened files begun mid (g.M.Machine.files c.open_log.new.machine) (g.M.Machine.files c.close.new.self)
           (both_opened files begun (g.M.Machine.files c.read_file.new.machine) mid table.reads.answer.2 state.reads.answer.2) opened.files.answer.1 c.close.ensures.files.none_opened;
       table = table_read;
       is_table = table.bytes;
@@ -68,4 +68,5 @@ returns-clause-runs g c =
           (opened.files.answer.0 ∙ state.reads.answer.1 ∙ table.reads.answer.1) c.close.ensures.files.counted
           (called_more _ _ _ _ _ (called_after _ _ _ table.reads.called state.reads.called) opened.files.no_read c.close.ensures.files.called)
           c.run_command-answer.ensures.performs;
+      none_refused = c.run_command-answer.ensures.admissions;
     })

@@ -1,0 +1,148 @@
+-- What is said of a fault on a terminal, in one line: the file or the stream that it is of, what is wrong, and what to do.
+use Rattle.std.specs.Prelude.{◌≡◌, ◌++◌, ◌∷◌, ℕ, Bool, true, false, List, [], Option, Some, None}
+use Rattle.std.specs.Prelude.{codes, IfSome, option_map}
+use Rattle.std.specs.Option.{unwrap_or}
+use Rattle.clap.specs.Words.{Text}
+use Rattle.n2k_join.specs.declared.fault.StateFault.{StateFault}
+use Rattle.n2k_join.specs.declared.fault.StateFault.TheVariants as state
+use Rattle.n2k_table.specs.declared.fault.TableFault.{TableFault}
+use Rattle.n2k_table.specs.declared.fault.TableFault.TheVariants as table
+use Rattle.n2kdec.specs.Asked.{save_name}
+use Rattle.n2kdec.specs.Escape.{escaped}
+use Rattle.n2kdec.specs.declared.asked.Command.{Command}
+use Rattle.n2kdec.specs.declared.asked.Files.{Files}
+use Rattle.n2kdec.specs.declared.fault.Fault.{Fault}
+use Rattle.n2kdec.specs.declared.fault.Fault.TheVariants.{Words, Interface, TableSize, StateSize, Table, State}
+use Rattle.n2kdec.specs.declared.fault.Fault.TheVariants.{TableFile, StateFile, Read, Write, Report, Memory, Lines}
+use Rattle.n2kdec.specs.declared.fault.Fault.TheVariants.{Save}
+use Rattle.n2kdec.specs.declared.reason.Reason.{Reason}
+use Rattle.n2kdec.specs.declared.reason.Reason.TheVariants.{System, Unfound, Harm}
+
+-- ---- what is wrong
+
+-- what a fault of a table means
+abbrev pub table_words : TableFault → Text
+table_words table.NotToml = codes "it is no TOML, and so no table"
+table_words table.Format = codes "its format is missing, or none of 1, 2 and 3"
+table_words table.Key = codes "a key is missing, unknown or may not stand there, or its value is of another kind"
+table_words table.Range = codes "a number is out of range, or a field stands where it can't"
+table_words table.Text = codes "a text is empty, too long, or none of those that its key takes"
+table_words table.Twice = codes "a name or a value stands twice, or a field beside a repeat is named list"
+table_words table.Lookup = codes "a field names a lookup or a string that is not there"
+table_words table.Mixed = codes "two definitions of one PGN have different kinds"
+table_words table.TooMany = codes "it has too many definitions, fields, lookups or entries"
+table_words table.Memory = codes "there is no memory for it"
+
+-- what a fault of a state means
+abbrev pub state_words : StateFault → Text
+state_words state.NotJson = codes "it is no JSON, and so no state"
+state_words state.Format = codes "it is no state that this program saved"
+state_words state.Shape = codes "a member is missing or unknown, or its value is of another kind"
+state_words state.TableDiffers = codes "it was saved under another table"
+state_words state.Invalid = codes "no state has such numbers or groups"
+state_words state.Memory = codes "there is no memory for it"
+state_words state.WindowDiffers = codes "it was saved under another --window"
+
+-- what a fault means, where the system has no words for it
+abbrev pub fault_words : Fault → Text
+fault_words Words = codes "the words are refused"
+fault_words Interface = codes "an interface has a name of 1 to 15 of the characters from ! to ~"
+fault_words TableSize = codes "it has more than the 16777216 bytes of the longest table"
+fault_words StateSize = codes "it has more than the 16777216 bytes of the longest state"
+fault_words (Table fault) = table_words fault
+fault_words (State fault) = state_words fault
+fault_words TableFile = codes "it can't be read"
+fault_words StateFile = codes "it can't be read"
+fault_words Read = codes "it can't be read"
+fault_words Write = codes "it can't be written"
+fault_words Report = codes "it can't be written"
+fault_words Memory = codes "there is no more for the table, the state or the log"
+fault_words Lines = codes "it has more lines than are counted"
+fault_words Save = codes "the state can't be saved"
+
+-- the words of the system for why a file fails, where it has any, else what the fault means
+abbrev pub words_of : Fault → Option Reason → Text
+words_of fault None = fault_words fault
+words_of fault (Some (System words)) = words
+words_of fault (Some (Unfound words)) = words
+words_of fault (Some Harm) = codes "this run reads it or prints to it, or to the new file beside it"
+
+-- whether the system, or what keeps a state, may have a reason for a fault
+abbrev pub has_reason : Fault → Bool
+has_reason TableFile = true
+has_reason StateFile = true
+has_reason Read = true
+has_reason Write = true
+has_reason Save = true
+has_reason _ = false
+
+-- ---- what to do
+
+abbrev pub table_advice : TableFault → Text
+table_advice table.Memory = []
+table_advice _ = codes "; n2kdec-table-check says in which line"
+
+abbrev pub state_advice : StateFault → Text
+state_advice state.Memory = []
+state_advice state.TableDiffers = codes "; decode with that one, or begin without --resume"
+state_advice state.WindowDiffers = codes "; decode with that one, or begin without --resume"
+state_advice _ = codes "; begin without --resume"
+
+-- of a state that can't be saved
+abbrev pub save_advice : Option Reason → Text
+save_advice None = []
+save_advice (Some (System words)) = codes "; the log was decoded, but its state is not surely saved"
+save_advice (Some (Unfound words)) = codes "; nothing was decoded"
+save_advice (Some Harm) = codes "; nothing was decoded: name another file for --save"
+
+abbrev pub advice_of : Fault → Option Reason → Text
+advice_of (Table fault) reason = table_advice fault
+advice_of (State fault) reason = state_advice fault
+advice_of Save reason = save_advice reason
+advice_of Write reason = codes "; the rest is not printed"
+advice_of Memory reason = codes "; nothing was saved"
+advice_of _ reason = []
+
+-- ---- what it is of
+
+-- the log as it is called
+abbrev pub log_name : Option Text → Text
+log_name None = codes "standard input"
+log_name (Some name) = name
+
+-- The name that was typed, or that of a stream; none where nothing is said.
+abbrev pub subject_of : Files → Command → Fault → Option Text
+subject_of files command Words = None
+subject_of files command Interface = Some (codes "--candump")
+subject_of files command TableSize = files.table
+subject_of files command StateSize = files.state
+subject_of files command (Table fault) = files.table
+subject_of files command (State fault) = files.state
+subject_of files command TableFile = files.table
+subject_of files command StateFile = files.state
+subject_of files command Read = Some (log_name files.log)
+subject_of files command Write = Some (codes "standard output")
+subject_of files command Report = None
+subject_of files command Memory = Some (codes "memory")
+subject_of files command Lines = Some (log_name files.log)
+subject_of files command Save = save_name command
+
+-- ---- the line
+
+-- a name that is empty is seen by its quotes
+abbrev pub named : Text → Text
+named [] = codes "''"
+named (byte ∷ name) = byte ∷ name
+
+abbrev pub line_of : Text → Text → Text → List ℕ
+line_of subject words advice = codes "n2kdec: " ++ escaped false (named subject ++ codes ": " ++ words ++ advice) ++ codes "\n"
+
+-- what is said of a fault, for this reason; nothing where it is of no file
+abbrev pub fault_sentence : Files → Command → Fault → Option Reason → List ℕ
+fault_sentence files command fault reason =
+    unwrap_or (option_map (λ subject. line_of subject (words_of fault reason) (advice_of fault reason))
+    (subject_of files command fault)) []
+
+-- this is the known reason, where both are there
+abbrev pub IsAsKnown : Option Reason → Option Reason → Type 0
+IsAsKnown known told = IfSome told (λ reason. IfSome known (λ is. reason ≡ is))

@@ -1,0 +1,197 @@
+//! What is said of a fault on a terminal, in one line: the file or the stream that it is of, what is wrong, what to do.
+ghost use Rattle.std.specs.Prelude.{◌≡◌, IfOk, option_map};
+ghost use Rattle.n2kdec.specs.FaultSentence.{advice_of, fault_sentence, fault_words};
+ghost use Rattle.n2kdec.specs.FaultSentence.{line_of, named, save_advice, state_advice, state_words, subject_of};
+ghost use Rattle.n2kdec.specs.FaultSentence.{table_advice, table_words, words_of};
+
+use crate::asked::{Command, Files};
+use crate::escape::push_escaped;
+use crate::fault::Fault;
+use crate::reason::Reason;
+use crate::words::Word;
+use n2k_join::StateFault;
+use n2k_table::TableFault;
+use std::alloc::{AllocError, Global};
+
+/// What a fault of a table means.
+fn table_words(fault: TableFault) -> &'static str
+    ensures { result.now ≡ table_words fault }
+{
+    match fault {
+        TableFault::NotToml => "it is no TOML, and so no table",
+        TableFault::Format => "its format is missing, or none of 1, 2 and 3",
+        TableFault::Key =>
+            "a key is missing, unknown or may not stand there, or its value is of another kind",
+        TableFault::Range => "a number is out of range, or a field stands where it can't",
+        TableFault::Text => "a text is empty, too long, or none of those that its key takes",
+        TableFault::Twice =>
+            "a name or a value stands twice, or a field beside a repeat is named list",
+        TableFault::Lookup => "a field names a lookup or a string that is not there",
+        TableFault::Mixed => "two definitions of one PGN have different kinds",
+        TableFault::TooMany => "it has too many definitions, fields, lookups or entries",
+        TableFault::Memory => "there is no memory for it",
+    }
+}
+
+/// What a fault of a state means.
+fn state_words(fault: StateFault) -> &'static str
+    ensures { result.now ≡ state_words fault }
+{
+    match fault {
+        StateFault::NotJson => "it is no JSON, and so no state",
+        StateFault::Format => "it is no state that this program saved",
+        StateFault::Shape => "a member is missing or unknown, or its value is of another kind",
+        StateFault::TableDiffers => "it was saved under another table",
+        StateFault::Invalid => "no state has such numbers or groups",
+        StateFault::Memory => "there is no memory for it",
+        StateFault::WindowDiffers => "it was saved under another --window",
+    }
+}
+
+/// What a fault means, where the system has no words for it.
+fn fault_words(fault: Fault) -> &'static str
+    ensures { result.now ≡ fault_words fault }
+{
+    match fault {
+        Fault::Words => "the words are refused",
+        Fault::Interface => "an interface has a name of 1 to 15 of the characters from ! to ~",
+        Fault::TableSize => "it has more than the 16777216 bytes of the longest table",
+        Fault::StateSize => "it has more than the 16777216 bytes of the longest state",
+        Fault::Table(fault) => table_words(fault),
+        Fault::State(fault) => state_words(fault),
+        Fault::TableFile | Fault::StateFile | Fault::Read => "it can't be read",
+        Fault::Write | Fault::Report => "it can't be written",
+        Fault::Memory => "there is no more for the table, the state or the log",
+        Fault::Lines => "it has more lines than are counted",
+        Fault::Save => "the state can't be saved",
+    }
+}
+
+/// What is wrong: the words of the system, where it has any, else what the fault means.
+fn words_of<'a>(fault: Fault, reason: &'a Option<Reason>) -> &'a str
+    ensures { result.now ≡ words_of fault reason.now }
+{
+    match reason {
+        None => fault_words(fault),
+        Some(Reason::System(words) | Reason::Unfound(words)) => words.as_str(),
+        Some(Reason::Harm) => "this run reads it or prints to it, or to the new file beside it",
+    }
+}
+
+/// What to do about a table that is refused.
+fn table_advice(fault: TableFault) -> &'static str
+    ensures { result.now ≡ table_advice fault }
+{
+    match fault {
+        TableFault::Memory => "",
+        _ => "; n2kdec-table-check says in which line",
+    }
+}
+
+/// What to do about a state that is refused.
+fn state_advice(fault: StateFault) -> &'static str
+    ensures { result.now ≡ state_advice fault }
+{
+    match fault {
+        StateFault::Memory => "",
+        StateFault::TableDiffers | StateFault::WindowDiffers => {
+            "; decode with that one, or begin without --resume"
+        }
+        _ => "; begin without --resume",
+    }
+}
+
+/// What became of a log whose state can't be saved.
+fn save_advice(reason: &Option<Reason>) -> &'static str
+    ensures { result.now ≡ save_advice reason.now }
+{
+    match reason {
+        None => "",
+        Some(Reason::System(_)) => "; the log was decoded, but its state is not surely saved",
+        Some(Reason::Unfound(_)) => "; nothing was decoded",
+        Some(Reason::Harm) => "; nothing was decoded: name another file for --save",
+    }
+}
+
+/// What to do.
+fn advice_of(fault: Fault, reason: &Option<Reason>) -> &'static str
+    ensures { result.now ≡ advice_of fault reason.now }
+{
+    match fault {
+        Fault::Table(fault) => table_advice(fault),
+        Fault::State(fault) => state_advice(fault),
+        Fault::Save => save_advice(reason),
+        Fault::Write => "; the rest is not printed",
+        Fault::Memory => "; nothing was saved",
+        _ => "",
+    }
+}
+
+/// The text of a word, where there is one.
+fn text_of(word: &Option<Word>) -> Option<&str>
+    ensures { option_map (λ text. text.now) result ≡ word.now }
+{
+    Some(word.as_ref()?.as_str())
+}
+
+/// What a fault is of: the name that was typed, or that of a stream.
+fn subject_of<'a>(files: &'a Files, command: &'a Command, fault: Fault) -> Option<&'a str>
+    ensures { option_map (λ text. text.now) result ≡ subject_of files.now command.now fault }
+{
+    match fault {
+        Fault::Words | Fault::Report => None,
+        Fault::Interface => Some("--candump"),
+        Fault::TableSize | Fault::Table(_) | Fault::TableFile => text_of(&files.table),
+        Fault::StateSize | Fault::State(_) | Fault::StateFile => text_of(&files.state),
+        Fault::Read | Fault::Lines => Some(text_of(&files.log).unwrap_or("standard input")),
+        Fault::Write => Some("standard output"),
+        Fault::Memory => Some("memory"),
+        Fault::Save => match command {
+            Command::Decode { save, .. } => text_of(save),
+            _ => None,
+        },
+    }
+}
+
+/// A name, or the quotes of one that is empty.
+fn named(subject: &str) -> &str
+    ensures { result.now ≡ named subject.now }
+{
+    if subject.is_empty() { "''" } else { subject }
+}
+
+/// The line of a subject, what is wrong with it, and what to do.
+fn line_of(alloc: Global, subject: &str, words: &str, advice: &str) -> Result<Vec<u8>, AllocError>
+    ensures { IfOk result (λ line. line.items ≡ line_of subject.now words.now advice.now) }
+{
+    let mut text = named(subject).as_bytes().to_vec(alloc)?;
+    text.extend_from_slice(b": ")?;
+    text.extend_from_slice(words.as_bytes())?;
+    text.extend_from_slice(advice.as_bytes())?;
+    let mut line = b"n2kdec: ".to_vec(alloc)?;
+    push_escaped(false, &text, &mut line)?;
+    line.extend_from_slice(b"\n")?;
+    Ok(line)
+}
+
+/// What is said of a fault of a command over these files, for this reason: one line with its LF, in which control
+/// characters are escaped; nothing where it is of no file and no stream.
+pub fn fault_sentence(
+    alloc: Global,
+    files: &Files,
+    command: &Command,
+    fault: Fault,
+    reason: &Option<Reason>,
+) -> Result<Vec<u8>, AllocError>
+    ensures { IfOk result (λ text. text.items ≡ fault_sentence files.now command.now fault reason.now) }
+{
+    match subject_of(files, command, fault) {
+        Some(subject) => line_of(
+            alloc,
+            subject,
+            words_of(fault, reason),
+            advice_of(fault, reason),
+        ),
+        None => Ok(Vec::new(alloc)),
+    }
+}
