@@ -1,0 +1,312 @@
+-- A decoder with more bytes fed, at the end of its log, and with what waits taken out.
+use Rattle.std.proofs.Common.{◌≡◌, ◌≢◌, ◌⊎◌, inl, inr, ℕ, zero, suc, ◌+◌, ◌-◌, ◌<◌, ◌≤◌, Bool, true, false, List, [], ◌∷◌, ◌++◌, length, take, drop, get_or, Option, Some, None, Result, Ok, Err, refl, sym, ap, subst, ◌∙◌, arith, append_assoc, eqb-true, append-nil, length-append, ◌==◌}
+use Rattle.std.specs.Io.{IsEmptyOrEndsWith}
+use Rattle.std.proofs.Math.Seq.{take-suc}
+use Rattle.std.proofs.lemmas.List.Elements.{All-append}
+use Rattle.std.proofs.lemmas.List.{append_cancel_left, get_or-drop, length-drop, take-append-drop}
+use Rattle.memchr.specs.Find.{Nowhere, Passes, NoneAfter, is_byte}
+use Rattle.n2k_wire.specs.declared.entry.Packing.{Packing}
+use Rattle.n2k_table.specs.Table.{TableParts, kind}
+use Rattle.n2k_join.specs.Counts.{most_lines}
+use Rattle.n2k_join.specs.Messages.{counts}
+use Rattle.n2k_join.specs.State.{State, state}
+use Rattle.n2k_join.specs.Saved.{state_text}
+use Rattle.n2k_join.specs.Window.{Window}
+use Rattle.n2k_join.specs.declared.counts.Counts.{Counts}
+use Rattle.n2k_join.specs.declared.fault.StateFault.{StateFault}
+use Rattle.n2k_run.specs.declared.fault.RunFault.{RunFault}
+use Rattle.n2k_run.specs.declared.fault.RunFault.TheVariants as of_run
+use Rattle.n2k_run.specs.declared.options.Options.{Options}
+use Rattle.n2k_run.specs.Blocks.{HasNoFeed}
+use Rattle.n2k_run.specs.Decoded.{out, reports}
+use Rattle.n2k_run.specs.Entries.{entries}
+use Rattle.n2k_run.specs.Headline.{save, state_after}
+use Rattle.n2k_run.specs.Lines.{line_feed, is_line_feed, whole_lines}
+use Rattle.n2k_run.specs.More.{EndsMore}
+use Rattle.n2k_run.specs.Reading.{most_reads}
+use Rattle.n2k_run.specs.Runs.{Devices}
+use Rattle.n2k_run.proofs.Fronts.{ends_feed, entries-append, whole_front}
+use Rattle.n2k_c.specs.declared.decoder.Decoder.{Decoder}
+use Rattle.n2k_c.specs.Answers.{EndsLog, Spends}
+use Rattle.n2k_c.specs.Inner.{RunsCut, refusal_of_run}
+use Rattle.n2k_c.specs.Stands.{HasDecoded, Stands, taken_of}
+
+-- ---- whole lines
+
+-- bytes are whole lines and then a line that is cut
+record Cut (bytes : List ℕ) : Type 0 where
+  lines : List ℕ
+  rest : List ℕ
+  is : bytes ≡ lines ++ rest
+  ends : IsEmptyOrEndsWith lines line_feed
+  none : HasNoFeed rest
+
+no_feed_before : (b : ℕ) (rest : List ℕ) → is_line_feed b ≡ false → HasNoFeed rest → HasNoFeed (b ∷ rest)
+no_feed_before b rest feed none zero d below = feed
+no_feed_before b rest feed none (suc k) d below = none k d (omega (arith, below))
+
+cut_at : (b : ℕ) (bs rest : List ℕ) → bs ≡ rest → HasNoFeed rest → (feed : Bool) → is_line_feed b ≡ feed → Cut (b ∷ bs)
+cut_at b bs rest is none true feed = record {
+  lines = b ∷ [];
+  rest = rest;
+  is = ap (λ x. b ∷ x) is;
+  ends = λ some. eqb-true b 10 feed;
+  none = none;
+}
+cut_at b bs rest is none false feed = record {
+  lines = [];
+  rest = b ∷ rest;
+  is = ap (λ x. b ∷ x) is;
+  ends = λ some. absurd (omega (arith, some));
+  none = no_feed_before b rest feed none;
+}
+
+cut_before : (b : ℕ) (bs lines rest : List ℕ) → bs ≡ lines ++ rest → IsEmptyOrEndsWith lines line_feed → HasNoFeed rest → Cut (b ∷ bs)
+cut_before b bs [] rest is ends none = cut_at b bs rest is none (is_line_feed b) refl
+cut_before b bs (x ∷ lines) rest is ends none =
+    let last : length (b ∷ x ∷ lines) - 1 ≡ suc (length (x ∷ lines) - 1) = omega arith in
+    record {
+      lines = b ∷ x ∷ lines;
+      rest = rest;
+      is = ap (λ y. b ∷ y) is;
+      ends = λ some. ap (λ i. get_or (b ∷ x ∷ lines) i 0) last ∙ ends (omega arith);
+      none = none;
+    }
+
+cut_of : (bytes : List ℕ) → Cut bytes
+cut_of [] = record { lines = []; rest = []; is = refl; ends = λ some. absurd (omega (arith, some)); none = λ k d below. absurd (omega (arith, below)) }
+cut_of (b ∷ bs) = let cut = cut_of bs in cut_before b bs cut.lines cut.rest cut.is cut.ends cut.none
+
+whole_is : (bytes : List ℕ) (cut : Cut bytes) → whole_lines bytes ≡ cut.lines
+whole_is bytes cut = ap whole_lines cut.is ∙ whole_front cut.lines cut.rest cut.ends cut.none
+
+pub whole_ends : (bytes : List ℕ) → IsEmptyOrEndsWith (whole_lines bytes) line_feed
+whole_ends bytes = let cut = cut_of bytes in subst (λ ls. IsEmptyOrEndsWith ls line_feed) (sym (whole_is bytes cut)) cut.ends
+
+-- what waits has no line's end
+waits_no_feed : (fed rest : List ℕ) → fed ≡ whole_lines fed ++ rest → HasNoFeed rest
+waits_no_feed fed rest is =
+    let cut = cut_of fed in
+    let same : cut.lines ++ rest ≡ cut.lines ++ cut.rest = ap (λ ls. ls ++ rest) (sym (whole_is fed cut)) ∙ sym is ∙ cut.is in
+    subst HasNoFeed (sym (append_cancel_left cut.lines rest cut.rest same)) cut.none
+
+both_no_feed : (a b : List ℕ) → HasNoFeed a → HasNoFeed b → HasNoFeed (a ++ b)
+both_no_feed a b none_a none_b = All-append (λ byte. is_line_feed byte ≡ false) a b none_a none_b
+
+not_true : (b : Bool) → (b ≡ true → ⊥) → b ≡ false
+not_true true h = absurd (h refl)
+not_true false h = refl
+
+same_default : (l : List ℕ) (i d e : ℕ) → i < length l → get_or l i d ≡ get_or l i e
+same_default [] i d e below = absurd (omega (arith, below))
+same_default (x ∷ l) zero d e below = refl
+same_default (x ∷ l) (suc i) d e below = same_default l i d e (omega (arith, below))
+
+nowhere_no_feed : (bytes : List ℕ) → Nowhere (Passes (is_byte 10) bytes) 0 (length bytes) → HasNoFeed bytes
+nowhere_no_feed bytes none = λ k d below. ap is_line_feed (same_default bytes k d 0 below) ∙ not_true _ (none k (omega arith) below)
+
+no_feed_after : (bytes rest : List ℕ) (last : ℕ) → rest ≡ drop (last + 1) bytes → NoneAfter (Passes (is_byte 10) bytes) 0 (length bytes) last → HasNoFeed rest
+no_feed_after bytes rest last is none = subst HasNoFeed (sym is) (λ k d below.
+    let all = length-drop (last + 1) bytes in
+    let high : last + 1 + k < length bytes = omega (arith, all, below) in
+    let low : last + 1 ≤ last + 1 + k = omega arith in
+    ap is_line_feed (get_or-drop (last + 1) bytes k d ∙ same_default bytes (last + 1 + k) d 0 high) ∙ not_true _ (none.after (last + 1 + k) low high))
+
+ends_at_feed : (bytes lines : List ℕ) (last : ℕ) → lines ≡ take (last + 1) bytes → NoneAfter (Passes (is_byte 10) bytes) 0 (length bytes) last → Passes (is_byte 10) bytes last → lines ≡ take last bytes ++ (10 ∷ [])
+ends_at_feed bytes lines last is none passes =
+    let one : last + 1 ≡ suc last = omega arith in
+    is ∙ ap (λ n. take n bytes) one ∙ take-suc bytes last 0 none.high ∙ ap (λ b. take last bytes ++ (b ∷ [])) (eqb-true (get_or bytes last 0) 10 passes)
+
+-- ---- a line that is cut, taken as it is
+
+options_are : (p : Packing) (e : Bool) (w : Window) (o : Options) → p ≡ o.packing → e ≡ o.empty → w ≡ o.window → (let x : Options = record { packing = p; empty = e; window = w } in x) ≡ o
+options_are p e w o is_p is_e is_w =
+    ap (λ (x : Packing). let y : Options = record { packing = x; empty = e; window = w } in y) is_p
+    ∙ ap (λ (x : Bool). let y : Options = record { packing = o.packing; empty = x; window = w } in y) is_e
+    ∙ ap (λ (x : Window). let y : Options = record { packing = o.packing; empty = o.empty; window = x } in y) is_w
+
+-- what a run over more promises, behind each front
+More : TableParts → Options → State → List ℕ → Devices → Devices → State → Result (Unit {0}) RunFault → Type 0
+More t o old more before after new result = (front : List ℕ) → IsEmptyOrEndsWith front line_feed → old ≡ state_after t o front → EndsMore t o front more before after new result
+
+-- the devices of a run whose sinks are what waits
+abbrev pub sinks : List ℕ → List ℕ → ℕ → ℕ → Devices
+sinks output report failed_writes failed_reports = record {
+  left = None;
+  calls = 0;
+  failed_reads = 0;
+  written = Some output;
+  failed_writes = failed_writes;
+  reported = Some report;
+  failed_reports = failed_reports;
+}
+
+module _ (t : TableParts) (o : Options) (taken printed reported : List ℕ) (d d' : Decoder) where
+  ends_cut : (fw fr fw' fr' : ℕ) (result : Result (Unit {0}) RunFault) → d'.table ≡ d.table → d'.packing ≡ d.packing → d'.empty ≡ d.empty → HasDecoded t o taken printed reported d
+      → EndsMore t o taken d.cut.items (sinks d.output.held d.reports.held fw fr) (sinks d'.output.held d'.reports.held fw' fr') d'.join result → RunsCut t o taken printed reported d d' result
+  ends_cut fw fr fw' fr' (Ok x) same_t same_p same_e b more = record {
+    table = same_t ∙ b.table;
+    packing = same_p ∙ b.packing;
+    empty = same_e ∙ b.empty;
+    leads_to = more.leads_to;
+    output = more.output ∙ ap (λ x. x ++ more.text) b.output ∙ append_assoc printed d.output.held more.text ∙ ap (λ x. printed ++ x) (sym more.printed);
+    reports = more.all_reports ∙ ap (λ x. x ++ more.report) b.reports ∙ append_assoc reported d.reports.held more.report ∙ ap (λ x. reported ++ x) (sym more.reported);
+  }
+  ends_cut fw fr fw' fr' (Err of_run.TooManyLines) same_t same_p same_e b more = more
+  ends_cut fw fr fw' fr' (Err of_run.Read) same_t same_p same_e b more = more
+  ends_cut fw fr fw' fr' (Err _) same_t same_p same_e b more = tt
+
+  pub runs_cut : (window : Window) (more : List ℕ) (fw fr fw' fr' : ℕ) (result : Result (Unit {0}) RunFault) → window ≡ d.join.window → more ≡ d.cut.items
+      → d'.table ≡ d.table → d'.packing ≡ d.packing → d'.empty ≡ d.empty
+      → ((front : List ℕ) → IsEmptyOrEndsWith front line_feed → d.join ≡ state_after d.table (record { packing = d.packing; empty = d.empty; window = window }) front
+      → EndsMore d.table (record { packing = d.packing; empty = d.empty; window = window }) front more (sinks d.output.held d.reports.held fw fr) (sinks d'.output.held d'.reports.held fw' fr') d'.join result)
+      → IsEmptyOrEndsWith taken line_feed → HasDecoded t o taken printed reported d → RunsCut t o taken printed reported d d' result
+  unfolding More
+  runs_cut window more fw fr fw' fr' result is_window is_more same_t same_p same_e head whole b =
+      let own : Options = record { packing = d.packing; empty = d.empty; window = window } in
+      let before : Devices = sinks d.output.held d.reports.held fw fr in
+      let after : Devices = sinks d'.output.held d'.reports.held fw' fr' in
+      let is_o : own ≡ o = options_are d.packing d.empty window o b.packing b.empty (is_window ∙ ap (λ (s : State). s.window) b.leads_to) in
+      let h : More d.table own d.join more before after d'.join result = head in
+      let h' = subst (λ (x : Options). More d.table x d.join more before after d'.join result) is_o h in
+      let h'' = subst (λ (x : TableParts). More x o d.join more before after d'.join result) b.table h' in
+      ends_cut fw fr fw' fr' result same_t same_p same_e b (subst (λ m. EndsMore t o taken m before after d'.join result) is_more (h'' taken whole b.leads_to))
+
+-- ---- n2k_feed
+
+module _ (t : TableParts) (o : Options) (fed printed reported : List ℕ) where
+  -- no line ends in the bytes: they wait
+  pub stands_longer : (d d' : Decoder) (bytes : List ℕ) → Nowhere (Passes (is_byte 10) bytes) 0 (length bytes) → d'.cut.items ≡ d.cut.items ++ bytes → d'.ended ≡ d.ended
+      → ((ls : List ℕ) → HasDecoded t o ls printed reported d → HasDecoded t o ls printed reported d')
+      → Stands t o fed false printed reported d → Stands t o (fed ++ bytes) false printed reported d'
+  stands_longer d d' bytes none cut log to s =
+      let both : HasNoFeed (d.cut.items ++ bytes) = both_no_feed d.cut.items bytes (waits_no_feed fed d.cut.items s.fed_is) (nowhere_no_feed bytes none) in
+      let split : fed ++ bytes ≡ whole_lines fed ++ (d.cut.items ++ bytes) = ap (λ x. x ++ bytes) s.fed_is ∙ append_assoc (whole_lines fed) d.cut.items bytes in
+      let whole : whole_lines (fed ++ bytes) ≡ whole_lines fed = ap whole_lines split ∙ whole_front (whole_lines fed) (d.cut.items ++ bytes) (whole_ends fed) both in
+      record {
+        ended = log ∙ s.ended;
+        fed_is = split ∙ ap (λ x. x ++ (d.cut.items ++ bytes)) (sym whole) ∙ ap (λ x. whole_lines (fed ++ bytes) ++ x) (sym cut);
+        taken = subst (λ ls. HasDecoded t o ls printed reported d') (sym whole) (to (whole_lines fed) s.taken);
+      }
+
+  -- d at first, d₁ with lines to take, d₂ behind them, and d₃ with the rest
+  module _ (d d₁ : Decoder) (bytes lines rest : List ℕ) (last : ℕ) (is_lines : lines ≡ take (last + 1) bytes) (is_rest : rest ≡ drop (last + 1) bytes)
+      (none : NoneAfter (Passes (is_byte 10) bytes) 0 (length bytes) last) (passes : Passes (is_byte 10) bytes last) (cut : d₁.cut.items ≡ d.cut.items ++ lines) (s : Stands t o fed false printed reported d) where
+    front : List ℕ
+    front = whole_lines fed ++ d₁.cut.items
+
+    split : bytes ≡ lines ++ rest
+    split = sym (ap (λ x. x ++ rest) is_lines ∙ ap (λ x. take (last + 1) bytes ++ x) is_rest ∙ take-append-drop (last + 1) bytes)
+
+    all : fed ++ bytes ≡ front ++ rest
+    unfolding front
+    all =
+        ap (λ x. x ++ bytes) s.fed_is ∙ ap (λ x. (whole_lines fed ++ d.cut.items) ++ x) split ∙ sym (append_assoc (whole_lines fed ++ d.cut.items) lines rest)
+        ∙ ap (λ x. x ++ rest) (append_assoc (whole_lines fed) d.cut.items lines ∙ ap (λ x. whole_lines fed ++ x) (sym cut))
+
+    whole : IsEmptyOrEndsWith front line_feed
+    unfolding front
+    whole =
+        let before = take last bytes in
+        let shape : whole_lines fed ++ d₁.cut.items ≡ (whole_lines fed ++ (d.cut.items ++ before)) ++ (10 ∷ []) =
+        ap (λ x. whole_lines fed ++ x) (cut ∙ ap (λ x. d.cut.items ++ x) (ends_at_feed bytes lines last is_lines none passes) ∙ sym (append_assoc d.cut.items before (10 ∷ []))) ∙ sym (append_assoc (whole_lines fed) (d.cut.items ++ before) (10 ∷ [])) in
+        subst (λ x. IsEmptyOrEndsWith x line_feed) (sym shape) (ends_feed (whole_lines fed ++ (d.cut.items ++ before)))
+
+    pub stands_more : (d₂ d₃ : Decoder) → d₂.cut.items ≡ [] → d₃.cut.items ≡ d₂.cut.items ++ rest → d₁.ended ≡ d.ended → d₂.ended ≡ d₁.ended → d₃.ended ≡ d₂.ended
+        → ((ls : List ℕ) → HasDecoded t o ls printed reported d → HasDecoded t o ls printed reported d₁)
+        → ((ls : List ℕ) → IsEmptyOrEndsWith ls line_feed → HasDecoded t o ls printed reported d₁ → HasDecoded t o (ls ++ d₁.cut.items) printed reported d₂)
+        → ((ls : List ℕ) → HasDecoded t o ls printed reported d₂ → HasDecoded t o ls printed reported d₃)
+        → Stands t o (fed ++ bytes) false printed reported d₃
+    unfolding front
+    stands_more d₂ d₃ none_left cut₃ log₁ log₂ log₃ to₁ to₂ to₃ =
+        let left : d₃.cut.items ≡ rest = cut₃ ∙ ap (λ x. x ++ rest) none_left in
+        let is : whole_lines (fed ++ bytes) ≡ front = ap whole_lines all ∙ whole_front front rest whole (no_feed_after bytes rest last is_rest none) in
+        record {
+          ended = log₃ ∙ log₂ ∙ log₁ ∙ s.ended;
+          fed_is = all ∙ ap (λ x. x ++ rest) (sym is) ∙ ap (λ x. whole_lines (fed ++ bytes) ++ x) (sym left);
+          taken = subst (λ ls. HasDecoded t o ls printed reported d₃) (sym is) (to₃ front (to₂ (whole_lines fed) (whole_ends fed) (to₁ (whole_lines fed) s.taken)));
+        }
+
+    pub too_many : most_lines < length (entries o.packing (whole_lines fed ++ d₁.cut.items)) → most_lines < length (entries o.packing (fed ++ bytes))
+    unfolding front
+    too_many past =
+        let es = ap length (ap (entries o.packing) all ∙ entries-append o.packing front rest whole) ∙ length-append (entries o.packing front) (entries o.packing rest) in
+        omega (arith, es, past)
+
+    pub too_long : most_reads ≤ length d₁.cut.items + 1 → most_reads ≤ length d.cut.items + length bytes + 1
+    too_long many =
+        let in_cut = ap length cut ∙ length-append d.cut.items lines in
+        let in_bytes = ap length split ∙ length-append lines rest in
+        omega (arith, in_cut, in_bytes, many)
+
+-- a fault while the lines of a piece are taken
+pub spends_more : (d d₁ d₂ : Decoder) (bytes lines rest : List ℕ) (last : ℕ) (fault : RunFault) → lines ≡ take (last + 1) bytes → rest ≡ drop (last + 1) bytes
+    → NoneAfter (Passes (is_byte 10) bytes) 0 (length bytes) last → Passes (is_byte 10) bytes last → d₁.cut.items ≡ d.cut.items ++ lines
+    → ((t : TableParts) (o : Options) (ls printed reported : List ℕ) → HasDecoded t o ls printed reported d → HasDecoded t o ls printed reported d₁)
+    → ((t : TableParts) (o : Options) (ls printed reported : List ℕ) → IsEmptyOrEndsWith ls line_feed → HasDecoded t o ls printed reported d₁ → RunsCut t o ls printed reported d₁ d₂ (Err fault))
+    → Spends bytes d (refusal_of_run fault)
+spends_more d d₁ d₂ bytes lines rest last of_run.TooManyLines is_lines is_rest none passes cut to runs = λ t o fed printed reported s.
+    inl (too_many t o fed printed reported d d₁ bytes lines rest last is_lines is_rest none passes cut s (runs t o (whole_lines fed) printed reported (whole_ends fed) (to t o (whole_lines fed) printed reported s.taken)))
+spends_more d d₁ d₂ bytes lines rest last of_run.Read is_lines is_rest none passes cut to runs = λ t o fed printed reported s.
+    inr (too_long t o fed printed reported d d₁ bytes lines rest last is_lines is_rest none passes cut s (runs t o (whole_lines fed) printed reported (whole_ends fed) (to t o (whole_lines fed) printed reported s.taken)))
+spends_more d d₁ d₂ bytes lines rest last of_run.Write is_lines is_rest none passes cut to runs = tt
+spends_more d d₁ d₂ bytes lines rest last of_run.Report is_lines is_rest none passes cut to runs = tt
+spends_more d d₁ d₂ bytes lines rest last of_run.Memory is_lines is_rest none passes cut to runs = tt
+
+-- ---- n2k_end
+
+pub ends_log : (d d' d'' : Decoder) → d'.cut.items ≡ [] → d''.cut.items ≡ d'.cut.items → d''.ended ≡ true
+    → ((t : TableParts) (o : Options) (ls printed reported : List ℕ) → IsEmptyOrEndsWith ls line_feed → HasDecoded t o ls printed reported d → HasDecoded t o (ls ++ d.cut.items) printed reported d')
+    → ((t : TableParts) (o : Options) (ls printed reported : List ℕ) → HasDecoded t o ls printed reported d' → HasDecoded t o ls printed reported d'') → EndsLog d d''
+ends_log d d' d'' cut cut' log to to' = λ t o fed printed reported s. record {
+  ended = log;
+  fed_is = sym (ap (λ x. fed ++ x) (cut' ∙ cut) ∙ append-nil fed);
+  taken = to' t o fed printed reported (subst (λ ls. HasDecoded t o ls printed reported d') (sym s.fed_is) (to t o (whole_lines fed) printed reported (whole_ends fed) s.taken));
+}
+
+pub spends_end : (d d' : Decoder) (fault : RunFault)
+    → ((t : TableParts) (o : Options) (ls printed reported : List ℕ) → IsEmptyOrEndsWith ls line_feed → HasDecoded t o ls printed reported d → RunsCut t o ls printed reported d d' (Err fault)) → Spends [] d (refusal_of_run fault)
+spends_end d d' of_run.TooManyLines runs = λ t o fed printed reported s.
+    inl (subst (λ x. most_lines < length (entries o.packing x)) (sym (append-nil fed ∙ s.fed_is)) (runs t o (whole_lines fed) printed reported (whole_ends fed) s.taken))
+spends_end d d' of_run.Read runs = λ t o fed printed reported s.
+    inr (let many : most_reads ≤ length d.cut.items + 1 = runs t o (whole_lines fed) printed reported (whole_ends fed) s.taken in omega (arith, many))
+spends_end d d' of_run.Write runs = tt
+spends_end d d' of_run.Report runs = tt
+spends_end d d' of_run.Memory runs = tt
+
+-- ---- what is told of a decoder
+
+module _ (t : TableParts) (o : Options) (fed : List ℕ) (is_whole : Bool) (printed reported : List ℕ) (d : Decoder) (s : Stands t o fed is_whole printed reported d) where
+  pub saved_is : (text : List ℕ) → text ≡ state_text d.join → text ≡ save t o (taken_of is_whole fed)
+  unfolding save
+  saved_is text is = is ∙ ap state_text s.taken.leads_to
+
+  pub counts_are : (counted : Counts) → counted ≡ d.join.counts → counted ≡ counts o.window (kind t) (entries o.packing (taken_of is_whole fed))
+  counts_are counted is = is ∙ ap (λ (x : State). x.counts) s.taken.leads_to
+
+-- a decoder that was opened behind a front
+pub opened_at : (t : TableParts) (o : Options) (front : List ℕ) (d : Decoder) → d.table ≡ t → d.packing ≡ o.packing → d.empty ≡ o.empty → d.ended ≡ false → d.cut.items ≡ [] → d.output.held ≡ [] → d.reports.held ≡ []
+    → IsEmptyOrEndsWith front line_feed → d.join ≡ state_after t o front → Stands t o front false (out t o front) (reports t o front) d
+opened_at t o front d is_t is_p is_e log cut output told whole join =
+    let is : whole_lines front ≡ front = ap whole_lines (sym (append-nil front)) ∙ whole_front front [] whole (λ k d below. absurd (omega (arith, below))) in
+    record {
+      ended = log;
+      fed_is = sym (ap (λ x. whole_lines front ++ x) cut ∙ append-nil (whole_lines front) ∙ is);
+      taken = subst (λ ls. HasDecoded t o ls (out t o front) (reports t o front) d) (sym is) (record {
+        table = is_t;
+        packing = is_p;
+        empty = is_e;
+        leads_to = join;
+        output = sym (ap (λ x. out t o front ++ x) output ∙ append-nil (out t o front));
+        reports = sym (ap (λ x. reports t o front ++ x) told ∙ append-nil (reports t o front));
+      });
+    }
+
+-- what a read gives is one
+value_of : State → Result State StateFault → State
+value_of d (Ok s) = s
+value_of d (Err fault) = d
+
+pub ok_is : (read : Result State StateFault) (a b : State) → read ≡ Ok a → read ≡ Ok b → a ≡ b
+unfolding value_of
+ok_is read a b is_a is_b = ap (value_of a) (sym is_a ∙ is_b)

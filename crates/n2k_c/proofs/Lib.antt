@@ -1,0 +1,4 @@
+pub mod Feeding
+pub mod Grips
+pub mod Holds
+pub mod Opening

@@ -1,0 +1,12 @@
+use Rattle.std.proofs.Common.{List, ℕ, Option, subst}
+use Rattle.n2k_c.specs.Answers.{IsDecoderOf}
+use Rattle.n2k_c.proofs.Opening.{none_is}
+use Rattle.n2k_c.proofs.calls.open.Goals as goal
+
+pub returns-in-Ok : goal.returns-in-Ok
+returns-in-Ok c = record {
+  decoder = c.in-Ok.decoder.value;
+  was = none_is c.args.h.now.hold.holds c.args.h.now.live c.args.h.now.tied c.if-h.false;
+  is = c.keep.ensures;
+  decodes = subst (λ (h : Option (List ℕ)). IsDecoderOf c.args.toml.now c.args.settings.now h c.in-Ok.decoder.value) c.handed_in.ensures c.in-Ok.ensures;
+}

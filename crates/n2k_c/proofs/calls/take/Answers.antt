@@ -1,0 +1,11 @@
+use Rattle.std.proofs.Common.{Some, sym, ap, ◌∙◌}
+use Rattle.n2k_c.proofs.Opening.{not_moved}
+use Rattle.n2k_c.proofs.calls.take.Goals as goal
+
+pub returns-in-Ok-take_output : goal.returns-in-Ok-take_output
+returns-in-Ok-take_output c = (c.in-Ok-take_output.ensures.0, record { from = c.deref_mut.result.now; to = c.take_output.new.self; was = c.in-Ok.ensures.0 ∙ ap Some (sym c.deref_mut.ensures.value); is = c.keep.ensures; how = c.in-Ok-take_output.ensures.1 })
+
+pub returns-in-Err-take_output : goal.returns-in-Err-take_output
+returns-in-Err-take_output c =
+    not_moved _ (λ d. d.output.held) c.args.room.now c.take_output.new.room c.take_output.new.wanted c.args.h.now.hold.holds c.keep_refused.new.h.hold.holds c.deref_mut.result.now c.take_output.new.self c.in-Err-take_output.refusal c.keep_refused.result
+    c.keep_refused.ensures.answer c.in-Err-take_output.ensures.0 (c.in-Ok.ensures.0 ∙ ap Some (sym c.deref_mut.ensures.value)) c.keep_refused.ensures.kept c.in-Err-take_output.ensures.1 c.in-Err-take_output.ensures.2

@@ -1,0 +1,200 @@
+-- What the calls of C answer.
+use Rattle.std.specs.Prelude.{◌≡◌, ◌⊎◌, ◌<◌, ◌≤◌, ◌+◌, ℕ, Bool, true, false, if◌then◌else◌, List, [], ◌++◌, length}
+use Rattle.std.specs.Prelude.{Option, Some, None, IsSome, Err, take}
+use Rattle.std.specs.List.{Contains}
+use Rattle.n2k_wire.specs.declared.entry.Packing.TheVariants as packed
+use Rattle.n2k_table.specs.Table.{TableParts, faults, kind, table}
+use Rattle.n2k_join.specs.Counts.{most_lines}
+use Rattle.n2k_join.specs.Messages.{counts}
+use Rattle.n2k_join.specs.Window.{IsWindow}
+use Rattle.n2k_join.specs.declared.counts.Counts.{Counts}
+use Rattle.n2k_run.specs.declared.options.Options.{Options}
+use Rattle.n2k_run.specs.Decoded.{out, reports}
+use Rattle.n2k_run.specs.Entries.{entries}
+use Rattle.n2k_run.specs.Headline.{save}
+use Rattle.n2k_run.specs.Parts.{IsFront, begun}
+use Rattle.n2k_run.specs.Reading.{most_reads}
+use Rattle.n2k_c.specs.declared.Counted.{Counted}
+use Rattle.n2k_c.specs.declared.Settings.{Settings}
+use Rattle.n2k_c.specs.declared.decoder.Decoder.{Decoder}
+use Rattle.n2k_c.specs.declared.refusal.Refusal.{Refusal}
+use Rattle.n2k_c.specs.declared.refusal.Refusal.TheVariants.{Room, Memory, Window, TooMuch, Closed, Open, Ended}
+use Rattle.n2k_c.specs.declared.refusal.Refusal.TheVariants.{Table, State}
+use Rattle.n2k_c.specs.Stands.{Stands, taken_of}
+
+-- ---- n2k_open
+
+-- the options that the settings name
+abbrev pub settings_options : Settings → Options
+settings_options settings = record {
+  packing = if settings.whole then packed.Whole else packed.Frames;
+  empty = settings.empty;
+  window = record { lines = settings.window; in_order = settings.in_order };
+}
+
+-- the state that is handed in, where one is
+abbrev pub handed_of : Bool → List ℕ → Option (List ℕ)
+handed_of resumes state = if resumes then Some state else None
+
+-- A decoder of a table without a fault. It stands behind each front of a log whose saved state was handed in, and
+-- without a state before the first line; nothing of it waits.
+pub record IsDecoderOf (toml : List ℕ) (settings : Settings) (handed : Option (List ℕ)) (d : Decoder) : Type 0 where
+  pub sound : faults toml ≡ []
+  pub begins : handed ≡ None → Stands (table toml) (settings_options settings) [] false [] [] d
+  pub goes_on : (front : List ℕ) → IsFront (table toml) (settings_options settings) front handed
+      → Stands (table toml) (settings_options settings) front false (out (table toml) (settings_options settings) front)
+      (reports (table toml) (settings_options settings) front) d
+
+-- none was open, and such a decoder is
+pub record OpensDecoder (toml : List ℕ) (settings : Settings) (handed : Option (List ℕ))
+    (old new : Option Decoder) : Type 0 where
+  pub decoder : Decoder
+  pub was : old ≡ None
+  pub is : new ≡ Some decoder
+  pub decodes : IsDecoderOf toml settings handed decoder
+
+-- why there is no such decoder
+abbrev pub NotMade : List ℕ → Settings → Option (List ℕ) → Refusal → Type 0
+NotMade toml settings handed Window = IsWindow settings.window → ⊥
+NotMade toml settings handed (Table fault) = Contains (faults toml) fault
+NotMade toml settings handed (State fault) = begun (table toml) (settings_options settings) handed ≡ Err fault
+NotMade toml settings handed Memory = Unit {0}
+NotMade toml settings handed _ = ⊥
+
+-- why none was opened: one is open, and stays so, or there is none
+abbrev pub NotOpened : List ℕ → Settings → Option (List ℕ) → Option Decoder → Option Decoder → Refusal → Type 0
+NotOpened toml settings handed old new Open = IsSome old × (new ≡ old)
+NotOpened toml settings handed old new refusal = (new ≡ old) × NotMade toml settings handed refusal
+
+-- ---- calls of a decoder
+
+-- a decoder was open and is so, and what became of it
+pub record Turns (old new : Option Decoder) (How : Decoder → Decoder → Type 0) : Type 0 where
+  pub from : Decoder
+  pub to : Decoder
+  pub was : old ≡ Some from
+  pub is : new ≡ Some to
+  pub how : How from to
+
+-- none was open, and none is
+abbrev pub IsClosed : Option Decoder → Option Decoder → Type 0
+IsClosed old new = (old ≡ None) × (new ≡ None)
+
+-- ---- n2k_feed and n2k_end
+
+-- these bytes of the log were fed, and nothing was printed or reported of it
+abbrev pub Feeds : List ℕ → Decoder → Decoder → Type 0
+Feeds bytes old new =
+    (t : TableParts) (o : Options) (fed printed reported : List ℕ) → Stands t o fed false printed reported old
+    → Stands t o (fed ++ bytes) false printed reported new
+
+-- the log has ended, and nothing was printed or reported of it
+abbrev pub EndsLog : Decoder → Decoder → Type 0
+EndsLog old new =
+    (t : TableParts) (o : Options) (fed printed reported : List ℕ) → Stands t o fed false printed reported old
+    → Stands t o fed true printed reported new
+
+-- The log has more lines than are counted, or these bytes and the line that waits have so many that 10^12 reads may
+-- find no end.
+abbrev pub IsTooMuch : List ℕ → Decoder → Type 0
+IsTooMuch bytes d =
+    (t : TableParts) (o : Options) (fed printed reported : List ℕ) → Stands t o fed false printed reported d
+    → (most_lines < length (entries o.packing (fed ++ bytes))) ⊎ (most_reads ≤ length d.cut.items + length bytes + 1)
+
+-- why a decoder did not take these bytes, and is spent
+abbrev pub Spends : List ℕ → Decoder → Refusal → Type 0
+Spends bytes d Memory = Unit {0}
+Spends bytes d TooMuch = IsTooMuch bytes d
+Spends bytes d _ = ⊥
+
+-- why no bytes are taken: none is open, or its log has ended, and it is as it was
+abbrev pub IsNotUnderWay : Option Decoder → Option Decoder → Refusal → Type 0
+IsNotUnderWay old new Closed = IsClosed old new
+IsNotUnderWay old new Ended = Turns old new (λ from to. (to ≡ from) × (from.ended ≡ true))
+IsNotUnderWay old new _ = ⊥
+
+-- why they were not taken: so, or the decoder was spent, and none is open
+abbrev pub NotTaken : List ℕ → Option Decoder → Option Decoder → Refusal → Type 0
+NotTaken bytes old new refusal =
+    IsNotUnderWay old new refusal ⊎ ((d : Decoder) × (old ≡ Some d) × (new ≡ None) × Spends bytes d refusal)
+
+-- ---- n2k_take, n2k_take_reports, n2k_counts and n2k_save
+
+-- this text waited: with what was printed before it is the whole output of the bytes that were taken
+abbrev pub Prints : List ℕ → Decoder → Decoder → Type 0
+Prints text old new =
+    (t : TableParts) (o : Options) (fed : List ℕ) (ended : Bool) (printed reported : List ℕ)
+    → Stands t o fed ended printed reported old
+    → (out t o (taken_of ended fed) ≡ printed ++ text) × Stands t o fed ended (printed ++ text) reported new
+
+-- so for the reports
+abbrev pub Tells : List ℕ → Decoder → Decoder → Type 0
+Tells text old new =
+    (t : TableParts) (o : Options) (fed : List ℕ) (ended : Bool) (printed reported : List ℕ)
+    → Stands t o fed ended printed reported old
+    → (reports t o (taken_of ended fed) ≡ reported ++ text) × Stands t o fed ended printed (reported ++ text) new
+
+-- the counts as C has them
+abbrev pub counted_of : Counts → Counted
+counted_of c = record {
+  lines = c.lines;
+  messages = c.messages;
+  bad = c.bad;
+  unknown = c.unknown;
+  broken = c.broken;
+  held = c.held;
+}
+
+-- the counts of the bytes that were taken
+abbrev pub HasCounts : Counts → Decoder → Type 0
+HasCounts counted d =
+    (t : TableParts) (o : Options) (fed : List ℕ) (ended : Bool) (printed reported : List ℕ)
+    → Stands t o fed ended printed reported d
+    → counted ≡ counts o.window (kind t) (entries o.packing (taken_of ended fed))
+
+-- these, as C has them
+abbrev pub IsCounted : Counted → Decoder → Type 0
+IsCounted counted d = (c : Counts) × HasCounts c d × (counted ≡ counted_of c)
+
+-- what is saved of the bytes that were taken
+abbrev pub IsStateOf : List ℕ → Decoder → Type 0
+IsStateOf text d =
+    (t : TableParts) (o : Options) (fed : List ℕ) (ended : Bool) (printed reported : List ℕ)
+    → Stands t o fed ended printed reported d → text ≡ save t o (taken_of ended fed)
+
+-- A text came to the front of a room, and how long it is was told.
+pub record HasRoom (text room : List ℕ) (told : ℕ) : Type 0 where
+  pub size : told ≡ length text
+  pub fits : told ≤ length room
+  pub front : take told room ≡ text
+
+-- a text did not fit: the room is as it was, and what the text wants was told
+pub record WantsRoom (text room_old room_new : List ℕ) (wanted : ℕ) : Type 0 where
+  pub told : wanted ≡ length text
+  pub too_small : length room_old < wanted
+  pub unchanged : room_new ≡ room_old
+
+-- why what waited was not taken; nothing of it is lost
+abbrev pub NotMoved : (Decoder → List ℕ) → List ℕ → List ℕ → ℕ → Option Decoder → Option Decoder → Refusal → Type 0
+NotMoved waiting room_old room_new wanted old new Closed = IsClosed old new
+NotMoved waiting room_old room_new wanted old new Room =
+    Turns old new (λ from to. (to ≡ from) × WantsRoom (waiting from) room_old room_new wanted)
+NotMoved waiting room_old room_new wanted old new _ = ⊥
+
+-- why a state did not come into a room
+abbrev pub NotSavedInto : List ℕ → List ℕ → ℕ → Decoder → Refusal → Type 0
+NotSavedInto room_old room_new wanted d Memory = Unit {0}
+NotSavedInto room_old room_new wanted d Room =
+    (text : List ℕ) × IsStateOf text d × WantsRoom text room_old room_new wanted
+NotSavedInto room_old room_new wanted d _ = ⊥
+
+-- why nothing was saved; what is open is as it was
+abbrev pub NotSaved : List ℕ → List ℕ → ℕ → Option Decoder → Option Decoder → Refusal → Type 0
+NotSaved room_old room_new wanted old new Closed = IsClosed old new
+NotSaved room_old room_new wanted old new refusal =
+    Turns old new (λ from to. (to ≡ from) × NotSavedInto room_old room_new wanted from refusal)
+
+-- why nothing was counted
+abbrev pub NotCounted : Option Decoder → Option Decoder → Refusal → Type 0
+NotCounted old new Closed = IsClosed old new
+NotCounted old new _ = ⊥

@@ -1,0 +1,5 @@
+pub mod Answers
+pub mod Held
+pub mod Inner
+pub mod Stands
+pub mod Status

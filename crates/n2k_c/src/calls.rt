@@ -1,0 +1,304 @@
+//! What the calls do, with their refusals by name.
+ghost use Rattle.std.specs.Prelude.{◌≡◌, ◌≤◌, [], Err, MatchResult, None, Some, length, option_map, take};
+ghost use Rattle.n2k_join.specs.Window.{IsWindow};
+ghost use Rattle.n2k_c.specs.Answers.{IsDecoderOf, EndsLog, Feeds, IsClosed, IsCounted, IsNotUnderWay, IsStateOf, NotCounted, NotMade, NotMoved, NotOpened, NotSaved, NotSavedInto, NotTaken, OpensDecoder, Prints, Tells, Turns, handed_of, settings_options};
+ghost use Rattle.n2k_c.specs.declared.refusal.Refusal.TheVariants.{Closed, Window as NoWindow};
+
+use crate::decoder::{self, Decoder, put};
+use crate::grip::Grip;
+use crate::hold::Hold;
+use crate::refusal::Refusal;
+use crate::{Counted, Handle, Settings};
+use n2k_join::Window;
+use n2k_run::Options;
+use n2k_table::Table;
+use n2k_wire::Packing;
+use std::alloc::Global;
+use std::mem::replace;
+
+/// The options that the settings name.
+fn settings_options(settings: &Settings) -> Result<Options, Refusal>
+    ensures { MatchResult result (λ options. options ≡ settings_options settings.now)
+        (λ refusal. (refusal ≡ NoWindow) × (IsWindow settings.now.window → ⊥)) }
+{
+    let Some(window) = Window::new(settings.window) else {
+        return Err(Refusal::Window);
+    };
+    Ok(Options {
+        packing: if settings.whole {
+            Packing::Whole
+        } else {
+            Packing::Frames
+        },
+        empty: settings.empty,
+        window: if settings.in_order {
+            window.in_order()
+        } else {
+            window
+        },
+    })
+}
+
+/// The state that is handed in, where one is.
+fn handed_in(resumes: bool, state: &[u8]) -> Option<&[u8]>
+    ensures { option_map (λ bytes. bytes.now) result ≡ handed_of resumes state.now }
+{
+    if resumes { Some(state) } else { None }
+}
+
+/// Takes out what is open.
+fn taken(alloc: Global, h: &mut Handle) -> Result<Box<Decoder, Global>, Refusal>
+    ensures { MatchResult result (λ b. (h.old.hold.holds ≡ Some b.value) × (h.new.hold.holds ≡ None))
+        (λ refusal. (refusal ≡ Closed) × IsClosed h.old.hold.holds h.new.hold.holds) }
+{
+    let closed = Handle {
+        live: false,
+        hold: Hold::none(),
+    };
+    let was = replace(h, closed);
+    if was.live {
+        Ok(was.hold.into_grip(alloc).into_box())
+    } else {
+        Err(Refusal::Closed)
+    }
+}
+
+/// Puts it back.
+fn keep(h: &mut Handle, decoder: Box<Decoder, Global>)
+    requires nothing_lost { h.old.hold.holds ≡ None }
+    ensures { h.new.hold.holds ≡ Some decoder.value }
+{
+    *h = Handle {
+        live: true,
+        hold: Hold::of(Grip::of(decoder)),
+    };
+}
+
+/// Puts back what a call left as it was, with why.
+fn keep_refused(
+    h: &mut Handle,
+    decoder: Box<Decoder, Global>,
+    refusal: Refusal,
+) -> Result<(), Refusal>
+    requires nothing_lost { h.old.hold.holds ≡ None }
+    ensures kept { h.new.hold.holds ≡ Some decoder.value }
+    ensures answer { result ≡ Err refusal }
+{
+    keep(h, decoder);
+    Err(refusal)
+}
+
+/// A decoder of the bytes of a table.
+fn made(
+    alloc: Global,
+    toml: &[u8],
+    handed: Option<&[u8]>,
+    settings: &Settings,
+) -> Result<Box<Decoder, Global>, Refusal>
+    ensures { MatchResult result
+        (λ b. IsDecoderOf toml.now settings.now (option_map (λ bytes. bytes.now) handed.entry) b.value)
+        (NotMade toml.now settings.now (option_map (λ bytes. bytes.now) handed.entry)) }
+{
+    let options = match settings_options(settings) {
+        Ok(options) => options,
+        Err(refusal) => return Err(refusal),
+    };
+    let table = match Table::read(alloc, toml) {
+        Ok(table) => table,
+        Err(fault) => return Err(Refusal::from(fault)),
+    };
+    let decoder = match decoder::open(alloc, table, options, handed) {
+        Ok(decoder) => decoder,
+        Err(fault) => return Err(Refusal::from(fault)),
+    };
+    match Box::new(alloc, decoder) {
+        Ok(kept) => Ok(kept),
+        Err(_) => Err(Refusal::Memory),
+    }
+}
+
+/// Opens a decoder, where none is open.
+pub fn open(
+    alloc: Global,
+    toml: &[u8],
+    resumes: bool,
+    state: &[u8],
+    settings: &Settings,
+    h: &mut Handle,
+) -> Result<(), Refusal>
+    ensures { let handed = handed_of resumes state.now in
+        MatchResult result (λ _. OpensDecoder toml.now settings.now handed h.old.hold.holds h.new.hold.holds)
+        (NotOpened toml.now settings.now handed h.old.hold.holds h.new.hold.holds) }
+{
+    if h.live {
+        return Err(Refusal::Open);
+    }
+    match made(alloc, toml, handed_in(resumes, state), settings) {
+        Ok(decoder) => {
+            keep(h, decoder);
+            Ok(())
+        }
+        Err(refusal) => Err(refusal),
+    }
+}
+
+/// Takes out a decoder whose log goes on.
+fn under_way(alloc: Global, h: &mut Handle) -> Result<Box<Decoder, Global>, Refusal>
+    ensures { MatchResult result (λ b. (h.old.hold.holds ≡ Some b.value) × (h.new.hold.holds ≡ None))
+        (IsNotUnderWay h.old.hold.holds h.new.hold.holds) }
+{
+    match taken(alloc, h) {
+        Ok(decoder) => {
+            if decoder.ended {
+                keep(h, decoder);
+                return Err(Refusal::Ended);
+            }
+            Ok(decoder)
+        }
+        Err(refusal) => Err(refusal),
+    }
+}
+
+/// Feeds bytes to what is open.
+pub fn feed(alloc: Global, h: &mut Handle, bytes: &[u8]) -> Result<(), Refusal>
+    ensures { MatchResult result (λ _. Turns h.old.hold.holds h.new.hold.holds (Feeds bytes.now))
+        (NotTaken bytes.now h.old.hold.holds h.new.hold.holds) }
+{
+    let mut decoder = match under_way(alloc, h) {
+        Ok(decoder) => decoder,
+        Err(refusal) => return Err(refusal),
+    };
+    match decoder.feed(alloc, bytes) {
+        Ok(()) => {
+            keep(h, decoder);
+            Ok(())
+        }
+        Err(refusal) => Err(refusal),
+    }
+}
+
+/// Ends the log of what is open.
+pub fn end(alloc: Global, h: &mut Handle) -> Result<(), Refusal>
+    ensures { MatchResult result (λ _. Turns h.old.hold.holds h.new.hold.holds EndsLog)
+        (NotTaken [] h.old.hold.holds h.new.hold.holds) }
+{
+    let mut decoder = match under_way(alloc, h) {
+        Ok(decoder) => decoder,
+        Err(refusal) => return Err(refusal),
+    };
+    match decoder.end(alloc) {
+        Ok(()) => {
+            keep(h, decoder);
+            Ok(())
+        }
+        Err(refusal) => Err(refusal),
+    }
+}
+
+/// Moves the output that waits.
+pub fn take(alloc: Global, h: &mut Handle, room: &mut [u8], size: &mut usize) -> Result<(), Refusal>
+    ensures { MatchResult result (λ _. (size.new ≤ length room.new)
+        × Turns h.old.hold.holds h.new.hold.holds (Prints (take size.new room.new)))
+        (NotMoved (λ d. d.output.held) room.old room.new size.new h.old.hold.holds h.new.hold.holds) }
+{
+    let mut decoder = match taken(alloc, h) {
+        Ok(decoder) => decoder,
+        Err(refusal) => return Err(refusal),
+    };
+    match decoder.take_output(room, size) {
+        Ok(()) => {
+            keep(h, decoder);
+            Ok(())
+        }
+        Err(refusal) => keep_refused(h, decoder, refusal),
+    }
+}
+
+/// Moves the reports that wait.
+pub fn take_reports(
+    alloc: Global,
+    h: &mut Handle,
+    room: &mut [u8],
+    size: &mut usize,
+) -> Result<(), Refusal>
+    ensures { MatchResult result (λ _. (size.new ≤ length room.new)
+        × Turns h.old.hold.holds h.new.hold.holds (Tells (take size.new room.new)))
+        (NotMoved (λ d. d.reports.held) room.old room.new size.new h.old.hold.holds h.new.hold.holds) }
+{
+    let mut decoder = match taken(alloc, h) {
+        Ok(decoder) => decoder,
+        Err(refusal) => return Err(refusal),
+    };
+    match decoder.take_reports(room, size) {
+        Ok(()) => {
+            keep(h, decoder);
+            Ok(())
+        }
+        Err(refusal) => keep_refused(h, decoder, refusal),
+    }
+}
+
+/// Tells what the lines count.
+pub fn count(alloc: Global, h: &mut Handle, counted: &mut Counted) -> Result<(), Refusal>
+    ensures { MatchResult result (λ _. Turns h.old.hold.holds h.new.hold.holds (λ from to. (to ≡ from)
+        × IsCounted counted.new from))
+        (NotCounted h.old.hold.holds h.new.hold.holds) }
+{
+    let decoder = match taken(alloc, h) {
+        Ok(decoder) => decoder,
+        Err(refusal) => return Err(refusal),
+    };
+    let counts = decoder.counts();
+    *counted = Counted {
+        lines: counts.lines,
+        messages: counts.messages,
+        bad: counts.bad,
+        unknown: counts.unknown,
+        broken: counts.broken,
+        held: counts.held,
+    };
+    keep(h, decoder);
+    Ok(())
+}
+
+/// The state of a decoder, put into a room where it fits.
+fn save_into(
+    alloc: Global,
+    decoder: &Decoder,
+    room: &mut [u8],
+    size: &mut usize,
+) -> Result<(), Refusal>
+    ensures { MatchResult result (λ _. (size.new ≤ length room.new) × IsStateOf (take size.new room.new) decoder.now)
+        (NotSavedInto room.old room.new size.new decoder.now) }
+{
+    match decoder.save(alloc) {
+        Ok(text) => put(room, &text, size),
+        Err(_) => Err(Refusal::Memory),
+    }
+}
+
+/// Saves the state of what is open.
+pub fn save(alloc: Global, h: &mut Handle, room: &mut [u8], size: &mut usize) -> Result<(), Refusal>
+    ensures { MatchResult result (λ _. (size.new ≤ length room.new)
+        × Turns h.old.hold.holds h.new.hold.holds (λ from to. (to ≡ from) × IsStateOf (take size.new room.new) from))
+        (NotSaved room.old room.new size.new h.old.hold.holds h.new.hold.holds) }
+{
+    let decoder = match taken(alloc, h) {
+        Ok(decoder) => decoder,
+        Err(refusal) => return Err(refusal),
+    };
+    match save_into(alloc, &decoder, room, size) {
+        Ok(()) => {
+            keep(h, decoder);
+            Ok(())
+        }
+        Err(refusal) => keep_refused(h, decoder, refusal),
+    }
+}
+
+/// Closes what is open.
+pub fn close(alloc: Global, h: &mut Handle)
+    ensures { h.new.hold.holds ≡ None }
+{
+    let _gone = taken(alloc, h);
+}

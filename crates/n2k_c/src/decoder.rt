@@ -1,0 +1,224 @@
+//! A decoder that is kept between calls.
+ghost use Rattle.std.specs.Prelude.{◌≡◌, ◌≢◌, ◌≤◌, ℕ, false, List, [], Err, IfOk, IfErr, OnOk, MatchResult, length, option_map, take};
+ghost use Rattle.std.specs.Io.{IsEmptyOrEndsWith};
+ghost use Rattle.memchr.specs.Find.{NoneAfter, Nowhere, Passes, is_byte};
+ghost use Rattle.n2k_join.specs.Refusal.{GivesOrMemory};
+ghost use Rattle.n2k_join.specs.declared.fault.StateFault.TheVariants.{Memory};
+ghost use Rattle.n2k_table.specs.Table.{TableParts};
+ghost use Rattle.n2k_run.specs.declared.options.Options.{Options};
+ghost use Rattle.n2k_run.specs.Decoded.{out, reports};
+ghost use Rattle.n2k_run.specs.Lines.{line_feed};
+ghost use Rattle.n2k_run.specs.Parts.{IsFront, begun};
+ghost use Rattle.n2k_c.specs.declared.refusal.Refusal.TheVariants.{Room};
+ghost use Rattle.n2k_c.specs.Answers.{EndsLog, Feeds, HasCounts, HasRoom, IsStateOf, Prints, Spends, Tells, WantsRoom};
+ghost use Rattle.n2k_c.specs.Inner.{RunsCut};
+ghost use Rattle.n2k_c.specs.Stands.{HasDecoded, Stands};
+
+use crate::refusal::Refusal;
+use memchr::memrchr;
+use n2k_join::{Counts, Join, StateFault};
+use n2k_run::{MemorySink, Options, RunFault, run_more};
+use n2k_table::Table;
+use n2k_wire::Packing;
+use std::alloc::{AllocError, Global};
+
+/// What is kept: the table, the join behind the lines so far, a line that is cut, and the texts that wait.
+#[derive(Drop)]
+pub struct Decoder {
+    pub table: Table,
+    pub join: Join,
+    pub packing: Packing,
+    pub empty: bool,
+    pub ended: bool,
+    pub cut: Vec<u8>,
+    pub output: MemorySink,
+    pub reports: MemorySink,
+}
+
+/// The join that a log begins with, or goes on with.
+fn begin(
+    alloc: Global,
+    table: &Table,
+    options: &Options,
+    handed: Option<&[u8]>,
+) -> Result<Join, StateFault>
+    ensures { GivesOrMemory (λ join. join) result (begun table.now options.now
+        (option_map (λ bytes. bytes.now) handed.entry)) }
+{
+    match handed {
+        None => Ok(Join::new(alloc, table, options.window)),
+        Some(bytes) => Join::resume(alloc, table, options.window, bytes),
+    }
+}
+
+/// What waits, where nothing does. It moves a block at a time, which takes fewer instructions than all at once.
+fn nothing(alloc: Global) -> MemorySink
+    ensures { result.held ≡ [] }
+{
+    MemorySink::new(alloc, 4096, 0)
+}
+
+/// A decoder that goes on from a saved state, or begins a log.
+pub fn open(
+    alloc: Global,
+    table: Table,
+    options: Options,
+    handed: Option<&[u8]>,
+) -> Result<Decoder, StateFault>
+    ensures stands { IfOk result (λ d. (front : List ℕ)
+        → IsFront table options front (option_map (λ bytes. bytes.now) handed.entry)
+        → Stands table options front false (out table options front) (reports table options front) d) }
+    ensures refused { IfErr result (λ fault. fault ≢ Memory
+        → begun table options (option_map (λ bytes. bytes.now) handed.entry) ≡ Err fault) }
+{
+    let join = begin(alloc, &table, &options, handed)?;
+    let Options { packing, empty, .. } = options;
+    Ok(Decoder {
+        table,
+        join,
+        packing,
+        empty,
+        ended: false,
+        cut: Vec::new(alloc),
+        output: nothing(alloc),
+        reports: nothing(alloc),
+    })
+}
+
+impl Decoder {
+    /// Takes the line that is cut as it is.
+    fn run_cut(&mut self, alloc: Global) -> Result<(), RunFault>
+        ensures log { OnOk result (self.new.ended ≡ self.old.ended) }
+        ensures cut { OnOk result (self.new.cut.items ≡ []) }
+        ensures runs { (t : TableParts) (o : Options) (taken printed reported : List ℕ)
+            → IsEmptyOrEndsWith taken line_feed → HasDecoded t o taken printed reported self.old
+            → RunsCut t o taken printed reported self.old self.new result }
+    {
+        let options = Options {
+            packing: self.packing,
+            empty: self.empty,
+            window: self.join.window(),
+        };
+        let ran = run_more(
+            alloc,
+            &self.table,
+            &mut self.join,
+            options,
+            &self.cut,
+            &mut self.output,
+            &mut self.reports,
+        );
+        match ran {
+            Ok(()) => {
+                self.cut.clear();
+                Ok(())
+            }
+            Err(fault) => Err(fault),
+        }
+    }
+
+    /// Takes more of a log: its lines as they complete. After a refusal it is spent.
+    pub fn feed(&mut self, alloc: Global, bytes: &[u8]) -> Result<(), Refusal>
+        ensures { MatchResult result (λ _. Feeds bytes.now self.old self.new) (Spends bytes.now self.old) }
+    {
+        match memrchr(b'\n', bytes) {
+            None => self.wait(bytes),
+            Some(last) => self.take_lines(alloc, bytes, last),
+        }
+    }
+
+    /// Lets bytes wait in which no line ends.
+    fn wait(&mut self, bytes: &[u8]) -> Result<(), Refusal>
+        requires { Nowhere (Passes (is_byte 10) bytes.now) 0 (length bytes.now) }
+        ensures { MatchResult result (λ _. Feeds bytes.now self.old self.new) (Spends bytes.now self.old) }
+    {
+        self.cut.extend_from_slice(bytes)?;
+        Ok(())
+    }
+
+    /// Takes the lines of bytes in which the last one ends there; the rest waits.
+    fn take_lines(&mut self, alloc: Global, bytes: &[u8], last: usize) -> Result<(), Refusal>
+        requires after { NoneAfter (Passes (is_byte 10) bytes.now) 0 (length bytes.now) last }
+        requires here { Passes (is_byte 10) bytes.now last }
+        ensures { MatchResult result (λ _. Feeds bytes.now self.old self.new) (Spends bytes.now self.old) }
+    {
+        let (lines, rest) = bytes.split_at(last + 1);
+        self.cut.extend_from_slice(lines)?;
+        match self.run_cut(alloc) {
+            Ok(()) => {}
+            Err(fault) => return Err(Refusal::from(fault)),
+        }
+        self.cut.extend_from_slice(rest)?;
+        Ok(())
+    }
+
+    /// Takes the line that is cut as the log's last. After a refusal it is spent.
+    pub fn end(&mut self, alloc: Global) -> Result<(), Refusal>
+        ensures { MatchResult result (λ _. EndsLog self.old self.new) (Spends [] self.old) }
+    {
+        match self.run_cut(alloc) {
+            Ok(()) => {
+                self.ended = true;
+                Ok(())
+            }
+            Err(fault) => Err(Refusal::from(fault)),
+        }
+    }
+
+    /// Moves the output that waits to a room, where it fits.
+    pub fn take_output(&mut self, room: &mut [u8], wanted: &mut usize) -> Result<(), Refusal>
+        ensures { MatchResult result (λ _. (wanted.new ≤ length room.new) × Prints (take wanted.new room.new) self.old self.new)
+            (λ refusal. (refusal ≡ Room) × (self.new ≡ self.old)
+            × WantsRoom self.old.output.held room.old room.new wanted.new) }
+    {
+        drain(&mut self.output, room, wanted)
+    }
+
+    /// Moves the reports that wait to a room, where they fit.
+    pub fn take_reports(&mut self, room: &mut [u8], wanted: &mut usize) -> Result<(), Refusal>
+        ensures { MatchResult result (λ _. (wanted.new ≤ length room.new) × Tells (take wanted.new room.new) self.old self.new)
+            (λ refusal. (refusal ≡ Room) × (self.new ≡ self.old)
+            × WantsRoom self.old.reports.held room.old room.new wanted.new) }
+    {
+        drain(&mut self.reports, room, wanted)
+    }
+
+    /// The counts of the lines that were taken.
+    pub fn counts(&self) -> Counts
+        ensures { HasCounts result self.now }
+    {
+        self.join.counts()
+    }
+
+    /// The state behind the lines that were taken.
+    pub fn save(&self, alloc: Global) -> Result<Vec<u8>, AllocError>
+        ensures { IfOk result (λ text. IsStateOf text.items self.now) }
+    {
+        let text = self.join.save(alloc)?;
+        Ok(text)
+    }
+}
+
+/// Puts a text at the front of a room, where it fits; in any case tells how much it wants.
+pub fn put(room: &mut [u8], text: &[u8], wanted: &mut usize) -> Result<(), Refusal>
+    ensures { MatchResult result (λ _. HasRoom text.now room.new wanted.new)
+        (λ refusal. (refusal ≡ Room) × WantsRoom text.now room.old room.new wanted.new) }
+{
+    *wanted = text.len();
+    if text.len() > room.len() {
+        return Err(Refusal::Room);
+    }
+    room[..text.len()].copy_from_slice(text);
+    Ok(())
+}
+
+/// Moves what waits to a room, where it fits.
+fn drain(waiting: &mut MemorySink, room: &mut [u8], wanted: &mut usize) -> Result<(), Refusal>
+    ensures { MatchResult result (λ _. HasRoom waiting.old.held room.new wanted.new × (waiting.new.held ≡ []))
+        (λ refusal. (refusal ≡ Room) × (waiting.new ≡ waiting.old)
+        × WantsRoom waiting.old.held room.old room.new wanted.new) }
+{
+    put(room, waiting.bytes(), wanted)?;
+    waiting.clear();
+    Ok(())
+}

@@ -1,0 +1,135 @@
+//! The decoder for callers in C, kept between calls: `n2kdec.h` says how to call it.
+#![tactic(auto)]
+
+ghost use Rattle.std.specs.Prelude.{◌≡◌, ◌≤◌, [], None, is_some, length, take};
+ghost use Rattle.n2k_c.specs.Answers.{EndsLog, Feeds, IsCounted, IsStateOf, NotCounted, NotMoved, NotOpened, NotSaved, NotTaken, OpensDecoder, Prints, Tells, Turns, handed_of};
+ghost use Rattle.n2k_c.specs.Status.{Says};
+
+mod calls;
+mod decoder;
+mod grip;
+mod hold;
+mod refusal;
+
+use crate::hold::Hold;
+use crate::refusal::status;
+use std::alloc::Global;
+
+/// How a log is read: `whole` says that a line is a whole message, `empty` that absent fields are printed.
+#[repr(C)]
+#[derive(Clone, Copy)]
+pub struct Settings {
+    pub window: u32,
+    pub in_order: bool,
+    pub empty: bool,
+    pub whole: bool,
+}
+
+/// What the lines count; `held` are the groups that are open.
+#[repr(C)]
+#[derive(Drop)]
+pub struct Counted {
+    pub lines: u64,
+    pub messages: u64,
+    pub bad: u64,
+    pub unknown: u64,
+    pub broken: u64,
+    pub held: u64,
+}
+
+/// What C keeps of a decoder: zeros, where none is open.
+#[repr(C)]
+#[derive(Drop)]
+pub struct Handle {
+    pub live: bool,
+    pub hold: Hold,
+    pub ghost tied: { live ≡ is_some hold.holds },
+}
+
+/// Reads a table, and opens a decoder that begins a log, or goes on from a saved state.
+#[unsafe(no_mangle)]
+pub extern "C" fn n2k_open(
+    alloc: Global,
+    toml: &[u8],
+    resumes: bool,
+    state: &[u8],
+    settings: &Settings,
+    h: &mut Handle,
+) -> i32
+    ensures { let handed = handed_of resumes state.now in
+        Says result (OpensDecoder toml.now settings.now handed h.old.hold.holds h.new.hold.holds)
+        (NotOpened toml.now settings.now handed h.old.hold.holds h.new.hold.holds) }
+{
+    status(calls::open(alloc, toml, resumes, state, settings, h))
+}
+
+/// Takes more of a log: its lines as they complete.
+#[unsafe(no_mangle)]
+pub extern "C" fn n2k_feed(alloc: Global, h: &mut Handle, bytes: &[u8]) -> i32
+    ensures { Says result (Turns h.old.hold.holds h.new.hold.holds (Feeds bytes.now))
+        (NotTaken bytes.now h.old.hold.holds h.new.hold.holds) }
+{
+    status(calls::feed(alloc, h, bytes))
+}
+
+/// Ends the log: its last line is taken, though no line feed ends it.
+#[unsafe(no_mangle)]
+pub extern "C" fn n2k_end(alloc: Global, h: &mut Handle) -> i32
+    ensures { Says result (Turns h.old.hold.holds h.new.hold.holds EndsLog)
+        (NotTaken [] h.old.hold.holds h.new.hold.holds) }
+{
+    status(calls::end(alloc, h))
+}
+
+/// Moves the output that waits to a room, where it fits, and tells how much that is.
+#[unsafe(no_mangle)]
+pub extern "C" fn n2k_take(alloc: Global, h: &mut Handle, room: &mut [u8], size: &mut usize) -> i32
+    ensures { Says result ((size.new ≤ length room.new)
+        × Turns h.old.hold.holds h.new.hold.holds (Prints (take size.new room.new)))
+        (NotMoved (λ d. d.output.held) room.old room.new size.new h.old.hold.holds h.new.hold.holds) }
+{
+    status(calls::take(alloc, h, room, size))
+}
+
+/// Moves the reports that wait to a room, where they fit, and tells how much that is.
+#[unsafe(no_mangle)]
+pub extern "C" fn n2k_take_reports(
+    alloc: Global,
+    h: &mut Handle,
+    room: &mut [u8],
+    size: &mut usize,
+) -> i32
+    ensures { Says result ((size.new ≤ length room.new)
+        × Turns h.old.hold.holds h.new.hold.holds (Tells (take size.new room.new)))
+        (NotMoved (λ d. d.reports.held) room.old room.new size.new h.old.hold.holds h.new.hold.holds) }
+{
+    status(calls::take_reports(alloc, h, room, size))
+}
+
+/// Counts the lines that were taken, those before a saved state too.
+#[unsafe(no_mangle)]
+pub extern "C" fn n2k_counts(alloc: Global, h: &mut Handle, counted: &mut Counted) -> i32
+    ensures { Says result (Turns h.old.hold.holds h.new.hold.holds (λ from to. (to ≡ from)
+        × IsCounted counted.new from))
+        (NotCounted h.old.hold.holds h.new.hold.holds) }
+{
+    status(calls::count(alloc, h, counted))
+}
+
+/// Puts the state behind the lines that were taken into a room, where it fits, and tells how much that is.
+#[unsafe(no_mangle)]
+pub extern "C" fn n2k_save(alloc: Global, h: &mut Handle, room: &mut [u8], size: &mut usize) -> i32
+    ensures { Says result ((size.new ≤ length room.new)
+        × Turns h.old.hold.holds h.new.hold.holds (λ from to. (to ≡ from) × IsStateOf (take size.new room.new) from))
+        (NotSaved room.old room.new size.new h.old.hold.holds h.new.hold.holds) }
+{
+    status(calls::save(alloc, h, room, size))
+}
+
+/// Closes what is open.
+#[unsafe(no_mangle)]
+pub extern "C" fn n2k_close(alloc: Global, h: &mut Handle)
+    ensures { h.new.hold.holds ≡ None }
+{
+    calls::close(alloc, h);
+}

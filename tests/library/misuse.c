@@ -1,0 +1,190 @@
+// Makes each call that n2kdec.h refuses, between the lines of a log: it has to answer the status that the header gives it,
+// and to harm nothing, so that what the decoder prints and reports in the end is the program's.
+//
+//     misuse TABLE LOG OUTPUT ERRORS
+//
+// TABLE is examples/sample.toml, LOG a log that leaves a group open in its first lines, OUTPUT what the program prints of
+// it, and ERRORS what it reports, without the summary.
+#include "texts.h"
+
+static const struct n2k_settings usual = {.window = 10000};
+static const uint8_t nothing[1];
+static long answered;
+
+static void want(int32_t wanted, int32_t status, const char *call) {
+    if (status != wanted) {
+        fprintf(stderr, "%s answers %d\n", call, (int)status);
+        fail("it has to answer", wanted);
+    }
+    answered++;
+}
+
+// The text with one part exchanged, where that comes first.
+static struct text changed(struct text text, const char *old, const char *new) {
+    struct text made = {0};
+    size_t size = strlen(old);
+    for (size_t at = 0; at + size <= text.size; at++)
+        if (memcmp(text.bytes + at, old, size) == 0) {
+            append(&made, text.bytes, at);
+            append(&made, (const uint8_t *)new, strlen(new));
+            append(&made, text.bytes + at + size, text.size - at - size);
+            return made;
+        }
+    fail(old, 0);
+}
+
+// A field more than a definition may have.
+static char *too_many_fields(void) {
+    static char fields[1 << 15];
+    int size = sprintf(fields, "fields = [");
+    for (int n = 0; n <= 256; n++) size += sprintf(fields + size, "{ name = \"f%d\", kind = \"number\", at = 0, bits = 8 }, ", n);
+    return fields;
+}
+
+static int32_t open_with(struct n2k_decoder *d, struct text table, const struct text *state, const struct n2k_settings *settings) {
+    return n2k_open(table.bytes, table.size, state != NULL, state ? state->bytes : nothing, state ? state->size : 0, settings, d);
+}
+
+// Whether the handle is zeros, as before its first call.
+static void stays_closed(const struct n2k_decoder *d) {
+    if (d->live || d->hold.at != NULL) fail("a refused call opened a decoder", 0);
+}
+
+static void closed(void) {
+    struct n2k_decoder d = {0};
+    struct n2k_counted counted;
+    uint8_t room[1] = {'x'};
+    size_t size = 0;
+    want(N2K_CLOSED, n2k_feed(&d, (const uint8_t *)"x\n", 2), "feed of none");
+    want(N2K_CLOSED, n2k_end(&d), "end of none");
+    want(N2K_CLOSED, n2k_take(&d, room, 1, &size), "take of none");
+    want(N2K_CLOSED, n2k_take_reports(&d, room, 1, &size), "take_reports of none");
+    want(N2K_CLOSED, n2k_save(&d, room, 1, &size), "save of none");
+    want(N2K_CLOSED, n2k_counts(&d, &counted), "counts of none");
+    n2k_close(&d);
+    stays_closed(&d);
+    if (room[0] != 'x') fail("a room was written to", room[0]);
+}
+
+static void refused_windows(struct text table) {
+    static const uint32_t windows[] = {0, 31, 1000001, UINT32_MAX};
+    struct n2k_decoder d = {0};
+    for (size_t at = 0; at < sizeof windows / sizeof *windows; at++) {
+        struct n2k_settings settings = {.window = windows[at], .in_order = at % 2};
+        want(N2K_WINDOW, open_with(&d, table, NULL, &settings), "open with a window that is none");
+        stays_closed(&d);
+    }
+}
+
+static void refused_tables(struct text table) {
+    const struct {
+        const char *old, *new;
+    } faults[] = {
+        {"[[lookup]]", "[[lookup]"},       {"format = 1", "format = 7"},      {"resolution =", "unit ="},
+        {"bits = 8 }", "bits = 0 }"},      {"\"single\"", "\"slow\""},        {"\"COG\",", "\"SID\","},
+        {"lookup = \"Ref", "lookup = \""}, {"number = 130820", "number = 129026"}, {"fields = [", too_many_fields()},
+    };
+    struct n2k_decoder d = {0};
+    for (int32_t number = 1; number <= 9; number++) {
+        struct text made = changed(table, faults[number - 1].old, faults[number - 1].new);
+        want(N2K_TABLE + number, open_with(&d, made, NULL, &usual), "open of a refused table");
+        stays_closed(&d);
+        free(made.bytes);
+    }
+}
+
+static void refused_state(struct text table, struct text state, int32_t number, const struct n2k_settings *settings) {
+    struct n2k_decoder d = {0};
+    want(N2K_STATE + number, open_with(&d, table, &state, settings), "open of a refused state");
+    stays_closed(&d);
+    free(state.bytes);
+}
+
+// What waits, or the state, in rooms that are too small by every number of bytes, and then in one that is not.
+static void take_in_small_rooms(struct n2k_decoder *d, int32_t (*call)(struct n2k_decoder *, uint8_t *, size_t, size_t *), struct text *to) {
+    size_t wanted, size;
+    if (call(d, (uint8_t *)nothing, 0, &wanted) == N2K_DONE) return;
+    for (size_t room = 0; room <= wanted; room++) {
+        uint8_t *bytes = block(room);
+        memset(bytes, 'x', room);
+        want(room < wanted ? N2K_ROOM : N2K_DONE, call(d, bytes, room, &size), "take into a room");
+        if (size != wanted) fail("another size is told", (long)size);
+        for (size_t at = 0; room < wanted && at < room; at++)
+            if (bytes[at] != 'x') fail("a room that is too small was written to", (long)at);
+        if (room == wanted) append(to, bytes, size);
+        free(bytes);
+    }
+}
+
+// The states that are refused are made of one with open groups.
+static void refused_states(struct text table, struct n2k_decoder *d) {
+    struct text state = {0};
+    struct n2k_settings other = {.window = 500};
+    struct text table_too = changed(table, "format", "# a table is known by its bytes\nformat");
+    take_in_small_rooms(d, n2k_save, &state);
+    refused_state(table, changed(state, "{", ""), 1, &usual);
+    refused_state(table, changed(state, "\"format\":2", "\"format\":3"), 2, &usual);
+    refused_state(table, changed(state, "\"lines\"", "\"line\""), 3, &usual);
+    refused_state(table_too, changed(state, "", ""), 4, &usual);
+    refused_state(table, changed(state, "\"broken\":0", "\"broken\":9"), 5, &usual);
+    refused_state(table, changed(state, "", ""), 7, &other);
+    free(table_too.bytes), free(state.bytes);
+}
+
+// A log that has as many lines as are counted takes no more of them, and its decoder is closed.
+static void too_much(struct text table) {
+    struct n2k_decoder d = {0};
+    struct text empty = {0};
+    want(N2K_DONE, open_with(&d, table, NULL, &usual), "open");
+    take_in_small_rooms(&d, n2k_save, &empty);
+    n2k_close(&d);
+    struct text full = changed(empty, "\"lines\":0", "\"lines\":999999999999999");
+    want(N2K_DONE, open_with(&d, table, &full, &usual), "open of a full state");
+    want(N2K_DONE, n2k_feed(&d, (const uint8_t *)"x", 1), "feed of a line that is cut");
+    want(N2K_TOO_MUCH, n2k_feed(&d, (const uint8_t *)"\n", 1), "feed of a line too many");
+    stays_closed(&d);
+    want(N2K_DONE, open_with(&d, table, &full, &usual), "open of a full state");
+    want(N2K_DONE, n2k_feed(&d, (const uint8_t *)"x", 1), "feed of a line that is cut");
+    want(N2K_TOO_MUCH, n2k_end(&d), "end of a line too many");
+    stays_closed(&d);
+    free(empty.bytes), free(full.bytes);
+}
+
+int main(int count, char **words) {
+    if (count != 5) return 2;
+    struct text table = file(words[1]), log = file(words[2]), output = file(words[3]), errors = file(words[4]);
+    struct text printed = {0}, reported = {0};
+    struct n2k_decoder d = {0};
+    size_t start = 0, size;
+    closed();
+    refused_windows(table);
+    refused_tables(table);
+    too_much(table);
+    want(N2K_DONE, open_with(&d, table, NULL, &usual), "open");
+    for (size_t at = 0; at < log.size; at++) {
+        if (log.bytes[at] != '\n') continue;
+        want(N2K_DONE, n2k_feed(&d, log.bytes + start, at + 1 - start), "feed");
+        start = at + 1;
+        want(N2K_OPEN, open_with(&d, table, NULL, &usual), "open of one that is open");
+        closed();
+        refused_windows(table);
+        refused_states(table, &d);
+        take_in_small_rooms(&d, n2k_take, &printed);
+        take_in_small_rooms(&d, n2k_take_reports, &reported);
+    }
+    want(N2K_DONE, n2k_end(&d), "end");
+    want(N2K_ENDED, n2k_end(&d), "end of an ended log");
+    want(N2K_ENDED, n2k_feed(&d, log.bytes, log.size), "feed of an ended log");
+    want(N2K_OPEN, open_with(&d, table, NULL, &usual), "open of an ended log");
+    take_in_small_rooms(&d, n2k_take, &printed);
+    take_in_small_rooms(&d, n2k_take_reports, &reported);
+    want(N2K_DONE, n2k_take(&d, (uint8_t *)nothing, 0, &size), "take of nothing");
+    n2k_close(&d);
+    n2k_close(&d);
+    stays_closed(&d);
+    if (!same(printed, output)) fail("another output", (long)printed.size);
+    if (!same(reported, errors)) fail("other reports", (long)reported.size);
+    printf("%ld answers\n", answered);
+    free(table.bytes), free(log.bytes), free(output.bytes), free(errors.bytes), free(printed.bytes), free(reported.bytes);
+    return 0;
+}

@@ -1,0 +1,242 @@
+"""Tries library/n2kdec.py: N2KDEC_PROGRAM is the program, N2KDEC_LIBRARY the library."""
+import ast
+import copy
+import io
+import json
+import os
+import pathlib
+import pickle
+import shutil
+import subprocess
+import sys
+import tempfile
+import threading
+import time
+import unittest
+from decimal import Decimal
+
+import n2kdec
+
+ROOT = pathlib.Path(__file__).resolve().parents[2]
+PROGRAM = os.environ["N2KDEC_PROGRAM"]
+TABLE, TRIP = ROOT / "tables/n2k.toml", ROOT / "examples/trip.log"
+SAMPLE = ROOT / "examples/sample.toml"
+
+
+def program(*words, log=b""):
+    """What the program prints, reports and answers."""
+    return subprocess.run([PROGRAM, *map(str, words)], input=log, capture_output=True, check=False)
+
+
+class Decoding(unittest.TestCase):
+    def test_messages_are_those_of_the_program(self):
+        wanted = program("decode", "--in-order", "--table", TABLE, TRIP)
+        reports = []
+        with TRIP.open("rb") as log:
+            got = list(n2kdec.decode(log, table=TABLE, in_order=True, on_report=reports.append))
+        self.assertEqual(got, [json.loads(it) for it in wanted.stdout.splitlines()])
+        self.assertEqual(reports, wanted.stderr.decode().splitlines()[:-1])
+
+    def test_any_pieces(self):
+        log = TRIP.read_bytes()
+        wanted = program("decode", "--empty", "--table", TABLE, TRIP).stdout
+        for size in (1, 7, 100, len(log)):
+            decoder = n2kdec.Decoder(TABLE.read_bytes(), empty=True)
+            printed = b""
+            for at in range(0, len(log), size):
+                decoder.feed(log[at : at + size])
+                printed += decoder.take()
+            decoder.end()
+            self.assertEqual(printed + decoder.take(), wanted)
+
+    def test_numbers_are_exact(self):
+        with TRIP.open("rb") as log:
+            first = next(n2kdec.decode(log, table=TABLE, decimals=True))
+        self.assertEqual(str(first["fields"]["Latitude"]), "54.8552841")
+        self.assertIsInstance(first["fields"]["Latitude"], Decimal)
+
+    def test_a_message_comes_with_its_last_line(self):
+        lines = TRIP.read_bytes().splitlines(True)
+        fed = []
+
+        def one_by_one():
+            for line in lines:
+                fed.append(line)
+                yield line
+
+        for count, message in enumerate(n2kdec.decode(one_by_one(), table=TABLE), 1):
+            wanted = program("decode", "--table", TABLE, log=b"".join(fed)).stdout.splitlines()
+            self.assertEqual(json.loads(wanted[count - 1]), message)
+            if count == 5:
+                break
+        self.assertLess(len(fed), len(lines))
+
+    def test_a_state_goes_both_ways(self):
+        lines = TRIP.read_bytes().splitlines(True)
+        whole = program("decode", "--table", TABLE, TRIP).stdout
+        for cut in (1, 17, 60):
+            first, rest = b"".join(lines[:cut]), b"".join(lines[cut:])
+            with n2kdec.Decoder(TABLE) as decoder:
+                decoder.feed(first)
+                printed, state = decoder.take(), decoder.save()
+            with tempfile.TemporaryDirectory() as folder:
+                saved = pathlib.Path(folder, "state")
+                saved.write_bytes(state)
+                self.assertEqual(printed + program("decode", "--table", TABLE, "--resume", saved, log=rest).stdout, whole)
+                program("decode", "--table", TABLE, "--save", saved, log=first)
+                self.assertEqual(saved.read_bytes(), state)
+            with n2kdec.Decoder(TABLE, state=state) as decoder:
+                decoder.feed(rest)
+                decoder.end()
+                self.assertEqual(printed + decoder.take(), whole)
+                summary = "lines %d messages %d bad %d unknown %d broken %d open %d" % decoder.counts
+            self.assertEqual(summary.encode(), program("decode", "--table", TABLE, TRIP).stderr.splitlines()[-1])
+
+    def test_a_decoder_has_counts_and_state_at_the_end(self):
+        log = (ROOT / "examples/two-sources.log").read_bytes().rstrip(b"\n")
+        with n2kdec.Decoder(SAMPLE) as decoder:
+            self.assertEqual(len(list(decoder.decode(io.BytesIO(log)))), 2)
+            self.assertEqual(decoder.counts, (4, 2, 0, 0, 0, 0))
+            self.assertEqual(json.loads(decoder.save())["lines"], 4)
+
+    def test_sources(self):
+        log = (ROOT / "examples/two-sources.log").read_bytes()
+        wanted = [json.loads(it) for it in program("decode", "--table", SAMPLE, log=log).stdout.splitlines()]
+        for source in (log, bytearray(log), memoryview(log), [log[:50], log[50:]], iter([log]), io.BufferedReader(io.BytesIO(log))):
+            self.assertEqual(list(n2kdec.decode(source, table=SAMPLE)), wanted)
+        for source in (io.StringIO("x"), ["x"], [1], "trip.log"):
+            with self.assertRaises(TypeError):
+                list(n2kdec.decode(source, table=SAMPLE))
+
+    def test_a_pipe_is_read_as_it_comes(self):
+        line = (ROOT / "examples/cog-and-sog.log").read_bytes()
+        reads, writes = os.pipe()
+        with os.fdopen(reads, "rb") as stream, os.fdopen(writes, "wb", buffering=0) as pipe:
+            messages = n2kdec.decode(stream, table=SAMPLE)
+            for _ in range(3):
+                pipe.write(line)
+                self.assertEqual(next(messages)["pgn"], 129026)
+
+    def test_reports_come_or_are_dropped(self):
+        log = (ROOT / "examples/ten-lines-eight-bad.log").read_bytes()
+        wanted = program("decode", "--table", SAMPLE, log=log).stderr.decode().splitlines()[:-1]
+        reports = []
+        with n2kdec.Decoder(SAMPLE) as decoder:
+            list(decoder.decode(log, on_report=reports.append))
+        self.assertEqual(reports, wanted)
+        with n2kdec.Decoder(SAMPLE) as decoder:
+            list(decoder.decode(log))
+            self.assertEqual(decoder.reports(), [])
+
+    def test_bytes_are_fed_in_pieces(self):
+        log = TRIP.read_bytes() * 200
+        count = 0
+        for message in n2kdec.decode(log, table=TABLE):
+            count += 1
+            self.assertEqual(message["pgn"], 129025)
+            break
+        with n2kdec.Decoder(TABLE) as decoder:
+            next(decoder.decode([log]))
+            self.assertLess(decoder.counts.lines, 2000)
+
+    def test_an_error_and_a_decoder_beside_pickle(self):
+        error = pickle.loads(pickle.dumps(n2kdec.Error(103)))
+        self.assertEqual((str(error), error.status), ("n2kdec: table 3 Key", 103))
+        with n2kdec.Decoder(SAMPLE) as decoder:
+            for copies in (copy.copy, copy.deepcopy, pickle.dumps):
+                with self.assertRaisesRegex(TypeError, "save its state"):
+                    copies(decoder)
+
+    def test_what_is_refused_is_raised_at_once(self):
+        with self.assertRaises(n2kdec.Error):
+            n2kdec.decode(b"", table=b"[")
+        with self.assertRaises(FileNotFoundError):
+            n2kdec.decode(b"", table="no such table")
+
+    def test_a_decoder_stays_on_its_thread(self):
+        raised = []
+        with n2kdec.Decoder(SAMPLE) as decoder:
+            def feed():
+                try:
+                    decoder.feed(b"x")
+                except RuntimeError as error:
+                    raised.append(str(error))
+
+            thread = threading.Thread(target=feed)
+            thread.start()
+            thread.join()
+        self.assertEqual(raised, ["a decoder is used by the thread that made it"])
+
+    def test_the_module_is_typed_and_of_python_3_9(self):
+        source = ROOT / "library/n2kdec.py"
+        ast.parse(source.read_text(encoding="utf-8"), feature_version=(3, 9))
+        if not shutil.which("mypy"):
+            self.skipTest("mypy is not here")
+        checked = subprocess.run(["mypy", "--strict", "--python-version", "3.9", "--cache-dir", os.devnull, source],
+                                 stdout=subprocess.PIPE, text=True, check=False)
+        self.assertEqual((checked.returncode, checked.stdout.splitlines()[-1:]), (0, ["Success: no issues found in 1 source file"]))
+
+    def test_errors_have_the_words_of_the_program(self):
+        tables = {b"[": "table 1 NotToml", b"format = 7\n": "table 2 Format", b"format = 1\nx = 1\n": "table 3 Key"}
+        with tempfile.TemporaryDirectory() as folder:
+            table = pathlib.Path(folder, "table")
+            for toml, words in tables.items():
+                table.write_bytes(toml)
+                with self.assertRaises(n2kdec.Error) as caught:
+                    n2kdec.Decoder(toml)
+                self.assertEqual(str(caught.exception), f"n2kdec: {words}")
+                self.assertEqual(program("decode", "--table", table).stderr.decode(), f"{caught.exception}\n")
+            with n2kdec.Decoder(SAMPLE) as decoder:
+                state = decoder.save()
+            for other in (b"", b"{}", state.replace(b'"format":2', b'"format":3')):
+                with self.assertRaises(n2kdec.Error) as caught:
+                    n2kdec.Decoder(SAMPLE, state=other)
+                table.write_bytes(other)
+                self.assertEqual(program("decode", "--table", SAMPLE, "--resume", table).stderr.decode(), f"{caught.exception}\n")
+            table.write_bytes(state)
+            with self.assertRaises(n2kdec.Error) as caught:
+                n2kdec.Decoder(SAMPLE, state=state, window=500)
+            self.assertEqual(str(caught.exception), "n2kdec: state 7 WindowDiffers")
+            told = program("decode", "--table", SAMPLE, "--resume", table, "--window", "500").stderr.decode()
+            self.assertEqual(told, f"{caught.exception}\n")
+        for window in (0, 31, 1_000_001, -1, 1 << 40):
+            with self.assertRaises(n2kdec.Error):
+                n2kdec.Decoder(SAMPLE, window=window)
+
+    def test_a_closed_decoder_is_refused(self):
+        decoder = n2kdec.Decoder(SAMPLE)
+        decoder.end()
+        for call in (lambda: decoder.feed(b"x"), decoder.end):
+            with self.assertRaisesRegex(n2kdec.Error, "the log has ended"):
+                call()
+        decoder.close()
+        decoder.close()
+        for call in (lambda: decoder.feed(b"x"), decoder.end, decoder.take, decoder.reports, decoder.save, lambda: decoder.counts):
+            with self.assertRaisesRegex(n2kdec.Error, "no decoder is open"):
+                call()
+
+    def test_a_million_lines(self):
+        trip = TRIP.read_bytes()
+        log = trip * (1_000_000 // trip.count(b"\n") + 1)
+        by_program, by_module = [], []
+        with tempfile.TemporaryDirectory() as folder:
+            tape, printed = pathlib.Path(folder, "tape"), pathlib.Path(folder, "printed")
+            tape.write_bytes(log)
+            for _ in range(3):
+                begun = time.monotonic()
+                with printed.open("wb") as output:
+                    subprocess.run([PROGRAM, "decode", "--table", TABLE, tape], stdout=output, stderr=subprocess.DEVNULL, check=False)
+                with printed.open("rb") as lines:
+                    count = sum(1 for line in lines if json.loads(line))
+                by_program.append(time.monotonic() - begun)
+                begun = time.monotonic()
+                with tape.open("rb") as lines:
+                    self.assertEqual(sum(1 for _ in n2kdec.decode(lines, table=TABLE)), count)
+                by_module.append(time.monotonic() - begun)
+        print(f"{log.count(10)} lines, {count} messages: {min(by_module):.1f} s, the program and json.loads {min(by_program):.1f} s",
+              file=sys.stderr)
+        self.assertLess(min(by_module), 3 * min(by_program))
+
+
+if __name__ == "__main__":
+    unittest.main(verbosity=1)

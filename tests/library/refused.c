@@ -1,0 +1,107 @@
+// Refuses each allocation of a decoder's life once, in turn: the call answers N2K_MEMORY or does its work, what was
+// printed by then is a front of the output, after a refused n2k_feed or n2k_end the decoder is closed, after a refused
+// n2k_open or n2k_save all is as it was, and nothing that was allocated is left. Linked with --wrap=malloc,
+// --wrap=realloc and --wrap=free.
+//
+//     refused TABLE LOG OUTPUT STATE
+#include "texts.h"
+
+void *__real_malloc(size_t size), *__real_realloc(void *old, size_t size), __real_free(void *old);
+
+// How many allocations are allowed before one is refused: -1 if none is.
+static long allowed = -1;
+static long blocks;
+static bool is_refused;
+
+static bool refuse(void) {
+    bool now = allowed == 0;
+    if (allowed >= 0) allowed--;
+    is_refused |= now;
+    return now;
+}
+
+void *__wrap_malloc(size_t size) {
+    void *got = refuse() ? NULL : __real_malloc(size);
+    blocks += got != NULL;
+    return got;
+}
+
+void *__wrap_realloc(void *old, size_t size) {
+    if (refuse()) return NULL;
+    blocks += old == NULL;
+    return __real_realloc(old, size);
+}
+
+void __wrap_free(void *old) {
+    blocks -= old != NULL;
+    __real_free(old);
+}
+
+static struct text table, tape, output, saved;
+static uint8_t room[1 << 16];
+static long done, memory;
+
+static bool is_done(int32_t status) {
+    if (status != N2K_DONE && status != N2K_MEMORY) fail("status", status);
+    if ((status == N2K_MEMORY) != is_refused) fail("memory was refused, and a call answers", status);
+    done += status == N2K_DONE, memory += status != N2K_DONE;
+    return status == N2K_DONE;
+}
+
+static void want_open(const struct n2k_decoder *d, bool wanted) {
+    if (d->live != wanted || (d->hold.at != NULL) != wanted) fail("the decoder is open", d->live);
+}
+
+// The log in pieces, until a call is refused.
+static bool feed_all(struct n2k_decoder *d, bool resumes) {
+    size_t printed = 0, size;
+    for (size_t at = 0; at < tape.size; at += 40) {
+        bool is_fed = is_done(n2k_feed(d, tape.bytes + at, tape.size - at < 40 ? tape.size - at : 40));
+        want_open(d, is_fed);
+        if (!is_fed) return false;
+        if (n2k_take(d, room, sizeof room, &size) != N2K_DONE) fail("take at byte", (long)at);
+        if (!resumes && (printed + size > output.size || memcmp(output.bytes + printed, room, size) != 0)) fail("another output at byte", (long)at);
+        printed += size;
+    }
+    return true;
+}
+
+// One life of a decoder, from no state or from one.
+static void live(bool resumes) {
+    const struct n2k_settings settings = {.window = 10000};
+    struct n2k_decoder d = {0};
+    size_t size, wanted;
+    bool is_open = is_done(n2k_open(table.bytes, table.size, resumes, saved.bytes, saved.size, &settings, &d));
+    want_open(&d, is_open);
+    if (is_open && feed_all(&d, resumes)) {
+        bool is_ended = is_done(n2k_end(&d));
+        want_open(&d, is_ended);
+        if (is_ended && !is_done(n2k_save(&d, room, sizeof room, &size))) {
+            // It is as it was: what is asked again is done.
+            want_open(&d, true);
+            if (n2k_save(&d, room, 3, &wanted) != N2K_ROOM || n2k_save(&d, room, sizeof room, &size) != N2K_DONE || size != wanted)
+                fail("a state that was refused is not saved", (long)size);
+        }
+    }
+    n2k_close(&d);
+    want_open(&d, false);
+}
+
+int main(int count, char **words) {
+    if (count != 5) return 2;
+    table = file(words[1]), tape = file(words[2]), output = file(words[3]), saved = file(words[4]);
+    for (int resumes = 0; resumes < 2; resumes++) {
+        long number = 0;
+        for (;; number++) {
+            long before = blocks;
+            allowed = number, is_refused = false;
+            live(resumes);
+            allowed = -1;
+            if (blocks != before) fail("blocks are left", blocks - before);
+            if (!is_refused) break;
+        }
+        printf("%ld allocations refused %s a state, answers: %ld done, %ld memory\n", number, resumes ? "from" : "without", done, memory);
+    }
+    free(table.bytes), free(tape.bytes), free(output.bytes), free(saved.bytes);
+    return 0;
+}
