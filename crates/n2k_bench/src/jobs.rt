@@ -1,15 +1,18 @@
 //! The jobs.
 
+use crate::described::described;
 use crate::digest::Digest;
 use crate::input::Input;
 use crate::replay::{Replay, first_random, next_random};
+use crate::scattered::Scattered;
 use crate::tables::{many_names, many_pgns, with_letters};
 use anyhow::{Result, anyhow};
 use n2k_join::{Counts, Window};
-use n2k_run::{Options, Part, run_frames, run_part, run_plain};
-use n2k_table::{Kind, Table};
+use n2k_run::{Options, Part, Source, run_frames, run_part, run_plain};
+use n2k_table::{Kind, LineBuffer, Table, json_line_in};
 use n2k_wire::{Packing, is_interface};
 use std::alloc::Global;
+use std::str;
 
 /// How many seconds the lines of the bus take.
 const SECONDS: u64 = 20;
@@ -54,7 +57,7 @@ fn decode(
     job: &str,
     table: &Table,
     options: Options,
-    log: &mut Replay,
+    log: &mut impl Source,
 ) -> Result<()> {
     let mut texts = Digest::new(alloc);
     let mut reports = Digest::new(alloc);
@@ -89,6 +92,19 @@ fn open(rt: &impl Print, alloc: Global, input: &Input, rounds: u64, seed: u64) -
     let mut log = Replay::new(alloc, input.open(), SECONDS, 0, seed)?;
     log.go_on(rounds);
     decode(rt, alloc, "open", &table, options_of(false)?, &mut log)
+}
+
+/// Decodes so many rounds of frames in random order: of half of the groups, which stay open, one or two each, and of each
+/// of the others a message.
+fn scattered(rt: &impl Print, alloc: Global, input: &Input, rounds: u64, seed: u64) -> Result<()> {
+    let table = Table::read(alloc, input.table().as_bytes())?;
+    let mut log = Scattered::new(alloc, input.open(), rounds, seed)?;
+    let window = Window::new(Window::LONGEST).ok_or_else(|| anyhow!("no window"))?;
+    let options = Options {
+        window,
+        ..options_of(false)?
+    };
+    decode(rt, alloc, "scattered", &table, options, &mut log)
 }
 
 /// Decodes the next round of a log as a part, from the saved state of the one before.
@@ -140,6 +156,33 @@ fn push_table(table: &Table, digest: &mut Digest) -> Result<()> {
     Ok(())
 }
 
+/// Reads a table. What it says of all PGNs goes to a digest, and so many lines of JSON for each of its definitions.
+fn read_table(
+    alloc: Global,
+    text: &[u8],
+    lines: u64,
+    mut random: u64,
+    digest: &mut Digest,
+) -> Result<()> {
+    let table = Table::read(alloc, text)?;
+    push_table(&table, digest)?;
+    let text = str::from_utf8(text).map_err(|_| anyhow!("the table is not UTF-8"))?;
+    let mut line = LineBuffer::new(alloc);
+    let mut json = Vec::new(alloc);
+    for definition in text.split("[[pgn]]\n").skip(1) {
+        for _line in 0..lines {
+            random = next_random(random);
+            let packet = described(definition, random).ok_or_else(|| anyhow!(
+                "no message: {definition}"
+            ))?;
+            json.clear();
+            json_line_in(alloc, &table, &packet, false, &mut line, &mut json)?;
+            push(digest, &json)?;
+        }
+    }
+    Ok(())
+}
+
 /// Reads so many tables, each with other descriptions; one in twenty times one with 4,096 PGNs and one with 20 lookups
 /// of 4,096 names as well.
 fn start(rt: &impl Print, alloc: Global, input: &Input, rounds: u64, seed: u64) -> Result<()> {
@@ -148,12 +191,12 @@ fn start(rt: &impl Print, alloc: Global, input: &Input, rounds: u64, seed: u64) 
     for round in 0..rounds {
         random = next_random(random);
         let text = with_letters(alloc, input.table(), random)?;
-        push_table(&Table::read(alloc, &text)?, &mut digest)?;
+        read_table(alloc, &text, 1, random, &mut digest)?;
         if round % 20 == 0 {
             let text = many_pgns(alloc, 4096, random)?;
-            push_table(&Table::read(alloc, &text)?, &mut digest)?;
+            read_table(alloc, &text, 1, random, &mut digest)?;
             let text = many_names(alloc, 20, 4096, random)?;
-            push_table(&Table::read(alloc, &text)?, &mut digest)?;
+            read_table(alloc, &text, 1024, random, &mut digest)?;
         }
     }
     let reports = Digest::new(alloc);
@@ -202,6 +245,7 @@ pub(crate) fn run(
         "day" => day(rt, alloc, input, rounds, seed),
         "lossy" => lossy(rt, alloc, input, rounds, seed),
         "open" => open(rt, alloc, input, rounds, seed),
+        "scattered" => scattered(rt, alloc, input, rounds, seed),
         "parts" => parts(rt, alloc, input, rounds, seed),
         "start" => start(rt, alloc, input, rounds, seed),
         "convert" => convert(rt, alloc, input, rounds, seed),
@@ -209,6 +253,7 @@ pub(crate) fn run(
             day(rt, alloc, input, rounds, seed)?;
             lossy(rt, alloc, input, rounds, seed)?;
             open(rt, alloc, input, rounds, seed)?;
+            scattered(rt, alloc, input, rounds, seed)?;
             parts(rt, alloc, input, rounds, seed)?;
             start(rt, alloc, input, rounds, seed)?;
             convert(rt, alloc, input, rounds, seed)

@@ -5,10 +5,12 @@
 //! the job counted, and a digest of all that it printed. `all` does each job, one after the other.
 #![tactic(auto)]
 
+mod described;
 mod digest;
 mod input;
 mod jobs;
 mod replay;
+mod scattered;
 mod tables;
 
 use anyhow::{Result, anyhow};

@@ -4,9 +4,9 @@ use n2k_run::{Failed, Source};
 use std::alloc::{AllocError, Global};
 
 /// How many senders there are, and the least of their addresses. All have two digits, in either base.
-const SENDERS: u64 = 40;
+pub(crate) const SENDERS: u64 = 40;
 
-const LEAST_SENDER: u64 = 60;
+pub(crate) const LEAST_SENDER: u64 = 60;
 
 /// The seconds of a day.
 const DAY: u64 = 86_400;
@@ -24,12 +24,12 @@ pub(crate) fn first_random(seed: u64) -> u64 {
 }
 
 /// A digit.
-fn digit(number: u64) -> u8 {
+pub(crate) fn digit(number: u64) -> u8 {
     b'0' + (number % 10) as u8
 }
 
 /// A digit in base 16.
-fn hex_digit(number: u64) -> u8 {
+pub(crate) fn hex_digit(number: u64) -> u8 {
     let value = (number % 16) as u8;
     if value < 10 {
         b'0' + value
@@ -38,15 +38,23 @@ fn hex_digit(number: u64) -> u8 {
     }
 }
 
+/// The value of a digit in base 16.
+pub(crate) fn hex_value(digit: u8) -> u64 {
+    match digit {
+        b'A'..=b'F' => u64::from(digit - b'A') + 10,
+        _ => u64::from(digit.wrapping_sub(b'0')),
+    }
+}
+
 /// Puts a byte where a text has that place.
-fn put(text: &mut [u8], at: usize, byte: u8) {
+pub(crate) fn put(text: &mut [u8], at: usize, byte: u8) {
     if let Some(place) = text.get_mut(at) {
         *place = byte;
     }
 }
 
 /// Puts bytes where a text has that place.
-fn put_all<const N: usize>(text: &mut [u8], at: usize, bytes: &[u8; N]) {
+pub(crate) fn put_all<const N: usize>(text: &mut [u8], at: usize, bytes: &[u8; N]) {
     if let Some(rest) = text.get_mut(at..) {
         if let Some(place) = rest.first_chunk_mut::<N>() {
             *place = *bytes;
@@ -67,14 +75,14 @@ fn number_of(digits: &[u8]) -> u64 {
 
 /// The digits of a second of a candump stamp, and of a clock.
 #[derive(Clone, Copy)]
-struct Digits {
+pub(crate) struct Digits {
     second: u64,
-    counted: [u8; 10],
+    pub(crate) counted: [u8; 10],
     clock: [u8; 8],
 }
 
 impl Digits {
-    fn new(second: u64) -> Digits {
+    pub(crate) fn new(second: u64) -> Digits {
         let mut counted = [b'0'; 10];
         let mut left = second;
         for place in counted.iter_mut().rev() {
@@ -144,13 +152,9 @@ fn sender_of(digits: &[u8], base: u64) -> u64 {
     let [high, low] = digits else {
         return 0;
     };
-    let value = |byte: u8| match byte {
-        b'A'..=b'F' => u64::from(byte - b'A') + 10,
-        _ => u64::from(byte.wrapping_sub(b'0')),
-    };
-    value(*high)
+    hex_value(*high)
         .wrapping_mul(base)
-        .wrapping_add(value(*low))
+        .wrapping_add(hex_value(*low))
         .saturating_sub(LEAST_SENDER)
 }
 
@@ -220,8 +224,8 @@ pub(crate) struct Replay {
 impl Replay {
     ghost use Rattle.std.specs.Prelude.{◌≡◌};
 
-    /// A recording of these lines, in rounds of so many seconds; none is to come yet. Of so many lines one is lost each
-    /// time, at random; none where this is 0.
+    /// A recording of these lines, in rounds of so many seconds; none is to come yet. Of so many lines one is lost on
+    /// average, at random and the same in each round; none where this is 0.
     pub(crate) fn new(
         alloc: Global,
         lines: &str,

@@ -56,7 +56,7 @@ pub(crate) fn many_pgns(alloc: Global, count: u64, random: u64) -> Result<Vec<u8
     Ok(text)
 }
 
-/// A table of so many lookups, each with so many names.
+/// A table of so many lookups, each with so many names, and a PGN with a field of 12 bits for each.
 pub(crate) fn many_names(
     alloc: Global,
     lookups: u64,
@@ -78,5 +78,18 @@ pub(crate) fn many_names(
         }
         text.extend_from_slice(b"]\n")?;
     }
+    text.extend_from_slice(
+        b"[[pgn]]\nnumber = 130816\nkind = \"fast\"\ndescription = \"Names\"\nfields = [\n",
+    )?;
+    for lookup in 0..lookups {
+        text.extend_from_slice(b"  { name = \"Field ")?;
+        push_number(alloc, &mut text, lookup)?;
+        text.extend_from_slice(b"\", kind = \"lookup\", at = ")?;
+        push_number(alloc, &mut text, lookup.wrapping_mul(12))?;
+        text.extend_from_slice(b", bits = 12, lookup = \"LOOKUP_")?;
+        push_number(alloc, &mut text, lookup)?;
+        text.extend_from_slice(b"\" },\n")?;
+    }
+    text.extend_from_slice(b"]\n")?;
     Ok(text)
 }

@@ -85,12 +85,12 @@ fn messages_lent(rt: HostRuntime) -> Result<(), Fail> {
     let alloc = rt.alloc();
     let table = sample_table(alloc)?;
     let mut join = Join::new(alloc, &table, Window::new(10_000).unwrap());
-    let mut joined = None;
     assert_eq!(rt; join.expire(), None);
-    let entry = read_line("(1.0) can0 09F8027F#0500".as_bytes(), Packing::Frames);
-    let step = join.lend(&table, &entry, &mut joined)?;
+    let mut entry = read_line("(1.0) can0 09F8027F#0500".as_bytes(), Packing::Frames);
+    let step = join.lend(&table, &mut entry)?;
+    assert_eq!(rt; step.line, 1);
     let message = step.message.ok_or("a message")?;
-    assert_eq!(rt; message.id().pgn, 129026);
+    assert_eq!(rt; message.packet.id().pgn, 129026);
     Ok(())
 }
 

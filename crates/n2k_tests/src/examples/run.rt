@@ -203,6 +203,10 @@ fn sources(rt: HostRuntime) {
     let mut buffer = [0; 8];
     assert_eq!(rt; source.read(&mut buffer), Ok(3));
     assert_eq!(rt; source.read(&mut buffer), Ok(0));
+
+    let mut source = StdSource::new("abc".as_bytes());
+    assert_eq!(rt; source.read(&mut [0; 8]), Ok(3));
+    assert!(rt; source.failure().is_none());
 }
 
 #[test]
@@ -214,9 +218,20 @@ fn sinks(rt: HostRuntime) {
     assert_eq!(rt; sink.write(b"de"), Ok(2));
     assert_eq!(rt; sink.bytes(), b"abcde".as_slice());
 
+    let mut sink = MemorySink::new(alloc, 4, 0);
+    assert_eq!(rt; sink.write(b"abc"), Ok(3));
+    sink.clear();
+    assert_eq!(rt; sink.bytes(), b"".as_slice());
+    assert_eq!(rt; sink.write(b"de"), Ok(2));
+    assert_eq!(rt; sink.bytes(), b"de".as_slice());
+
     let mut text = Vec::new(alloc);
     let mut sink = StdSink::new(&mut text);
     assert_eq!(rt; sink.write(b"abc"), Ok(3));
     drop(sink);
     assert_eq!(rt; text.as_slice(), b"abc".as_slice());
+
+    let mut sink = StdSink::new(Vec::new(alloc));
+    assert_eq!(rt; sink.write(b"abc"), Ok(3));
+    assert!(rt; sink.failure().is_none());
 }

@@ -3,7 +3,7 @@ use super::frame_in;
 use crate::samples::sample as sample_table;
 use crate::table::tables::pairs_table;
 use n2k_table::{
-    Kind, LineBuffer, Shown, Table, TableFault, decimal_text, json_line, json_line_in,
+    Kind, LineBuffer, Shown, Table, TableFault, decimal_text, json_line, json_line_in, json_line_of,
 };
 use std::test::Fail;
 
@@ -25,7 +25,7 @@ fn tables_read(rt: HostRuntime) -> Result<(), Fail> {
     let alloc = rt.alloc();
     let table = Table::read(alloc, "format = 1\n".as_bytes())?;
     assert_eq!(rt; table.kind(129026), None);
-    let refused = Table::read(alloc, "format = 3\n".as_bytes());
+    let refused = Table::read(alloc, "format = 4\n".as_bytes());
     assert!(rt; matches!(refused, Err(TableFault::Format)));
     Ok(())
 }
@@ -46,6 +46,36 @@ fn what_a_table_says(rt: HostRuntime) -> Result<(), Fail> {
     let definition = table.choose(130820, &[0xa3, 0x99, 0x01]).ok_or("Label")?;
     assert_eq!(rt; definition.description(), "Sample: Label");
     assert!(rt; table.choose(130820, &[0x07, 0x98, 0x01]).is_none());
+    Ok(())
+}
+
+#[test]
+fn known_pgns(rt: HostRuntime) -> Result<(), Fail> {
+    let alloc = rt.alloc();
+    let table = sample_table(alloc)?;
+    let known = table.find(130820).ok_or("Label")?;
+    assert_eq!(rt; known.kind(), Kind::Fast);
+    assert!(rt; table.find(59904).is_none());
+
+    let table = sample_table(alloc)?;
+    let known = table.find(130820).ok_or("Label")?;
+    let definition = known.choose(&[0xa3, 0x99, 0x01]).ok_or("Label")?;
+    assert_eq!(rt; definition.description(), "Sample: Label");
+    assert!(rt; known.choose(&[0x07, 0x98, 0x01]).is_none());
+    Ok(())
+}
+
+#[test]
+fn json_lines_of_a_known_pgn(rt: HostRuntime) -> Result<(), Fail> {
+    let alloc = rt.alloc();
+    let table = sample_table(alloc)?;
+    let packet = frame_in("(1.0) can0 09F8027F#0500")?;
+    let known = table.find(packet.id().pgn).ok_or("a definition")?;
+    let mut line = LineBuffer::new(alloc);
+    let mut text = Vec::new(alloc);
+    json_line_of(alloc, &known, &packet, false, &mut line, &mut text)?;
+    let end = "{\"SID\":5,\"COG Reference\":\"True\"}}\n";
+    assert!(rt; text.ends_with(end.as_bytes()));
     Ok(())
 }
 

@@ -38,6 +38,12 @@ fn lines_in_a_row(rt: HostRuntime) {
     assert!(rt; matches!(entry, Entry::Frame(packet) if packet.id().pgn == 59904));
     let entry = reader.read("(10) can0 1DFF0405#00".as_bytes(), Packing::Frames);
     assert!(rt; matches!(entry, Entry::Bad(BadCause::Stamp)));
+
+    let mut reader = LineReader::new();
+    let line = "(1.0) can0 18EAFF01#14F001".as_bytes();
+    let entry = reader.read_mut(line, Packing::Frames);
+    *entry = Entry::Skip;
+    assert!(rt; matches!(entry, Entry::Skip));
 }
 
 #[test]
@@ -78,6 +84,11 @@ fn other_data(rt: HostRuntime) -> Result<(), Fail> {
     let longer = packet.with_data(&[0x20; 9]);
     assert_eq!(rt; longer.stamp(), packet.stamp());
     assert_eq!(rt; longer.data(), [0x20; 9].as_slice());
+
+    let mut packet = frame_in("(1.0) can0 18EAFF01#14F001")?;
+    packet.set_data(&[0x20; 9]);
+    assert_eq!(rt; packet.id().pgn, 59904);
+    assert_eq!(rt; packet.data(), [0x20; 9].as_slice());
 
     let message = frame_in("(2.0) can0 1DFF0405#")?;
     let mut frame = frame_in("(1.0) can0 18EAFF01#14F001")?;

@@ -318,9 +318,8 @@ fn seventy_under_way(rt: HostRuntime) -> Result<(), Fail> {
 // Whether a line lends a message. The groups whose window ends at it are broken before.
 fn lends(join: &mut Join, table: &Table, line: &str) -> Result<bool, JoinFault> {
     while join.expire().is_some() {}
-    let entry = read_line(line.as_bytes(), Packing::Frames);
-    let mut joined = None;
-    let step = join.lend(table, &entry, &mut joined)?;
+    let mut entry = read_line(line.as_bytes(), Packing::Frames);
+    let step = join.lend(table, &mut entry)?;
     Ok(step.message.is_some())
 }
 

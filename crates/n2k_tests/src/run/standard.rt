@@ -51,6 +51,8 @@ fn an_interrupted_read_is_made_again(rt: HostRuntime) -> Result<(), Fail> {
 fn a_write_that_takes_nothing_fails(rt: HostRuntime) {
     let mut sink = StdSink::new(Interrupted { calls: 0 });
     assert_eq!(rt; sink.write(b"."), Err(Failed));
+    let why = sink.failure().map(|error| error.kind());
+    assert_eq!(rt; why, Some(ErrorKind::WriteZero));
 }
 
 // So many bytes, the n-th of them n modulo 251.

@@ -48,8 +48,9 @@ const CHANGES: &str = "reads | format = 1 | format = 1
 NotToml | bits = 64 } | bits = 64
 Format | format = 1 | 
 Format | format = 1 | format = 0
-Format | format = 1 | format = 3
+Format | format = 1 | format = 4
 reads | format = 1 | format = 2
+reads | format = 1 | format = 3
 Format | format = 1 | format = '1'
 Key | [[lookup]] | [[lookups]]
 Key | '0.01' } | '0.01', unit = 'm' }

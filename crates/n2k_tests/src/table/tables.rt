@@ -57,9 +57,14 @@ pub(crate) fn pairs_table(alloc: Global) -> Result<ManuallyDrop<Table>, Fail> {
     Ok(read(alloc, &text)?)
 }
 
-// A table of a lookup and of one definition, with these fields.
+// A table of format 1 with a lookup and one definition, of these fields.
 pub(crate) fn with_fields(alloc: Global, fields: &str) -> Result<String, AllocError> {
+    of_format(alloc, 1, fields)
+}
+
+// The same of another format.
+pub(crate) fn of_format(alloc: Global, format: u32, fields: &str) -> Result<String, AllocError> {
     format!(in alloc;
-        "format = 1\npgn = [{{ number = 65280, kind = 'fast', description = 'D', fields = [{fields}] }}]\nlookup = [{{ name = 'L', entries = [[3, 'Three'], [0, 'z\u{e9}ro \"0\"']] }}]\n"
+        "format = {format}\npgn = [{{ number = 65280, kind = 'fast', description = 'D', fields = [{fields}] }}]\nlookup = [{{ name = 'L', entries = [[3, 'Three'], [0, 'z\u{e9}ro \"0\"']] }}]\n"
     )
 }
