@@ -5,7 +5,8 @@
 # Waypoints are the destinations (129284), men overboard (127233), and those of routes and lists where the table has them.
 include "n2k" {search: "./"};
 
-def xml: gsub("[[:cntrl:]]"; " ") | @html;
+# What XML may not have is a space.
+def xml: gsub("[[:cntrl:]\ufffe\uffff]"; " ") | @html;
 # With 7 decimals, as the bus has it; jq may write a small number with an exponent.
 def coordinate:
     (. * 1e7 | fabs | round) as $whole
@@ -23,7 +24,7 @@ def waypoints:
            at: [$fields."Destination Latitude", $fields."Destination Longitude"]}
       elif .pgn == 127233 then
           $fields | select(."Man Overboard Status" | tostring | test("ctivated")) | {name: "Man overboard", at: [.Latitude, .Longitude]}
-      else ($fields.list // empty)[] | {name: (."WP Name" // "Waypoint \(."WP ID" // "")" | tostring), at: [."WP Latitude", ."WP Longitude"]}
+      else $fields.list | arrays | .[] | objects | {name: (."WP Name" // "Waypoint \(."WP ID" // "")" | tostring), at: [."WP Latitude", ."WP Longitude"]}
       end
     | select(.at[0] and .at[1]) | (.at | place) as $at | .at = $at;
 

@@ -1,7 +1,7 @@
 # Takes JSON lines, gives the last value of everything as a table: watch -n 1 'tail -n 2000 boat.json | jq -rf last.jq'
 #
 # Of each sender, PGN and thing (n2k.jq lists what tells these apart) the last message counts: what it lacks is not
-# available now. The values of a list are not shown. Units are those of units.json; behind convert degrees, --arg units degrees
+# available now. The values of sets are not shown. Units are those of units.json; behind convert degrees, --arg units degrees
 # names its units, and --arg units knots those with knots. A table of your own wants --slurpfile own FILE, of what
 # `tools/units TABLE` prints.
 include "n2k" {search: "./"};
@@ -21,7 +21,7 @@ things as $things | ($things | keys) as $names | ($ARGS.named.own // $known::kno
 | [.[]] | sort_by(.pgn, .src, .description)
 | [.[] as $m | ($units[$m.pgn | tostring][$m.description] // {}) as $mine
     | ([$m.fields[$names[]] | values | shown] | join(", ")) as $thing
-    | $m.fields | to_entries[] | select(.key != "list" and .value != null and $things[.key] == null)
+    | $m.fields | to_entries[] | select((.key != "list" or (.value | type != "array" or any(.[]; type != "object"))) and .value != null and $things[.key] == null)
     | $mine[.key] as $unit
     | [($m.timestamp | iso | .[11:19]), "\($m.src)", $m.description, $thing, .key,
        (.value | shown) + (if $unit and (.value | type) == "number" then

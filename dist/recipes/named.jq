@@ -5,12 +5,13 @@
 # one in a pipe.
 include "n2k" {search: "./"};
 
-def names: .description, (.fields | keys_unsorted[], if .list then .list[] | keys_unsorted[] else empty end);
+# A list has sets, or flags, which have no names.
+def names: .description, (.fields | keys_unsorted[], if .list then .list | arrays | .[] | objects | keys_unsorted[] else empty end);
 def renamed($ids): . as $fields | reduce keys_unsorted[] as $name ({}; setpath($ids[$name]; $fields[$name]));
 
 # The state holds the ids of the names that were met, each as a path.
 foreach lines as $m ({};
     if [.[$m | names]] | contains([null]) then reduce ($m | names) as $name (.; .[$name] = [$name | camel]) else . end;
     . as $ids | $m
-    | setpath(["fields"]; .fields | renamed($ids) | if .list then .list |= map(renamed($ids)) else . end)
+    | setpath(["fields"]; .fields | renamed($ids) | if .list then (.list | arrays | .[] | objects) |= renamed($ids) else . end)
     | setpath(["id"]; $ids[.description][0]))

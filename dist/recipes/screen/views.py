@@ -1,0 +1,336 @@
+"""The views. A row is a list of pieces: column, text, style."""
+import sys
+import time
+
+from screen import page
+from screen.terminal import cut
+
+NARROW = 60  # columns below which a row is two
+
+
+def seconds_of(value):
+    """How long something takes, briefly."""
+    return f"{value:.0f} s" if value < 10000 else f"{value / 3600:.0f} h"
+
+
+def rate_of(often, now):
+    """How often something comes, in words: so often a second, or each so many seconds."""
+    value = often.each_second(now)
+    if value >= 0.995:
+        return f"{value:,.1f}/s"
+    return f"each {1 / value:,.1f} s" if value > 0.1 else f"each {1 / value:,.0f} s" if value > 0 else ""
+
+
+def fits(text, words):
+    """Whether all words are in a text."""
+    text = text.lower()
+    return all(word in text for word in words)
+
+
+class View:
+    """One of the views: its rows, of which those from `top` on are shown."""
+
+    nothing = "Nothing has come yet."
+
+    def __init__(self):
+        self.top = 0
+
+    def head(self, width):
+        """What stands above the rows, or None."""
+
+    def rows(self, bus, now, width, words):
+        """All rows, or what makes them: `row` draws one."""
+
+    def row(self, bus, now, width, it):
+        return it
+
+    def pieces(self, bus, now, fresh, width, height, words):
+        """The rows that are shown, and which of how many they are."""
+        rows = self.rows(bus, now, width, words)
+        self.top = max(0, min(self.top, len(rows) - height))
+        shown = [self.row(bus, now, width, it) for it in rows[self.top:self.top + height]]
+        return shown, self.top, self.top + len(shown), len(rows)
+
+    def move(self, by, height):
+        self.top = max(0, self.top + by)
+
+    def home(self):
+        self.top = 0
+
+    def end(self):
+        self.top = sys.maxsize
+
+
+class Values(View):
+    """The last values, by device and message."""
+
+    name = "Values"
+
+    def __init__(self):
+        super().__init__()
+        self.known, self.version, self.list, self.again = None, None, [], 0.0
+
+    def rows(self, bus, now, width, words):
+        # Which rows there are changes seldom, unless values are filtered; where it takes long, it is looked at less often.
+        known, began = (bus, words, width < NARROW), time.monotonic()
+        if known != self.known or (words or bus.version != self.version) and began > self.again:
+            self.known, self.version, self.list = known, bus.version, self.made(bus, width < NARROW, words)
+            self.again = began + 20 * (time.monotonic() - began)
+        return self.list
+
+    @staticmethod
+    def made(bus, is_narrow, words):
+        rows, before = [], None
+        for message in sorted(bus.messages.values(), key=lambda it: it.order):
+            names = list(message.fields)
+            if words:
+                label = f"device {message.sender} {bus.device(message.sender)} {message.pgn} {message.title} "
+                if not fits(label, words):
+                    names = [name for name in names if fits(f"{label}{name} {message.shown(name)}", words)]
+            if not names:
+                continue
+            if (message.part, message.sender) != before:
+                before = message.part, message.sender
+                rows.append((None, before))
+            if is_narrow:
+                rows.append((message, None))
+            rows += [(message, name) for name in names]
+        return rows
+
+    def pieces(self, bus, now, fresh, width, height, words):
+        rows = self.rows(bus, now, width, words)
+        self.top = max(0, min(self.top, len(rows) - height))
+        shown, before, nth = [], None, 0
+        for at in range(self.top, min(self.top + height, len(rows))):
+            message, name = rows[at]
+            if not shown and message:
+                # The device of what stands on top.
+                shown.append(self.device(bus, now, width, message.part, message.sender))
+            elif not message:
+                shown.append(self.device(bus, now, width, *name))
+            else:
+                nth = nth + 1 if message is before else 0
+                is_last = at + 1 == len(rows) or rows[at + 1][0] is not message
+                shown.append(self.value(bus, now, fresh, width, message, name, nth, is_last))
+                before = message
+        return shown, self.top, self.top + len(shown), len(rows)
+
+    @staticmethod
+    def device(bus, now, width, part, sender):
+        told, rate = bus.device(sender), rate_of(bus.devices[sender], now)
+        title = f"Device {sender}{f': {told}' if told else ''}{('', ', other ships', ', bus and settings')[part]}"
+        return [(0, title, "title"), (width - 1 - len(rate), rate, "dim")]
+
+    @staticmethod
+    def value(bus, now, fresh, width, message, name, nth, is_last):
+        """A row of a message, of those that are shown the nth."""
+        late = message.late(now) if nth == 0 else 0
+        age = [(width - 1 - len(seconds_of(late)), seconds_of(late), "alarm")] if late else []
+        if name is None:
+            return [(1, message.title, "plain"), *age]
+        value, since = message.fields[name]
+        style = "dim" if value is None else "fresh" if -1 < now - since < fresh else "plain"
+        if width < NARROW:
+            return [(2, name, "dim"), (2 + (width - 2) // 2, message.shown(name), style)]
+        first, second = 1 + int(width * 0.4), 1 + int(width * 0.69)
+        title, room = message.title if nth == 0 else "", first - 2
+        if message.thing and len(message.title) > room:
+            # What it speaks of tells it apart from others: that stands in the second row, where there is one.
+            thing = f"({message.thing})"
+            if nth == 0:
+                title = message.description if not is_last else f"{cut(message.description, room - 1 - min(len(thing), 20))} {thing}"
+            elif nth == 1:
+                title = thing
+        return [(1, title, "plain"), (first, name, "dim"), (second, message.shown(name), style), *age]
+
+
+class Devices(View):
+    """Who sends."""
+
+    name = "Devices"
+
+    def head(self, width):
+        if width < NARROW:
+            return [(0, "adr", "head"), (5, "model", "head"), (width - 10, "messages", "head")]
+        return [(0, "adr", "head"), (5, "messages", "head"), (17, "maker", "head"), (38, "model", "head"), (61, "serial number", "head"),
+                *([(82, "software", "head"), (100, "class", "head")] if width > 110 else [])]
+
+    def rows(self, bus, now, width, words):
+        rows = []
+        for sender in sorted(bus.devices):
+            product, claim = bus.products.get(sender, {}), bus.claims.get(sender, {})
+            told = [claim.get("Manufacturer Code"), product.get("Model ID"), product.get("Model Serial Code"), product.get("Software Version Code"),
+                    claim.get("Device Class")]
+            maker, model, serial, software, kind = ("–" if it is None else str(it) for it in told)
+            if words and not fits(f"{sender} {maker} {model} {serial} {software} {kind}", words):
+                continue
+            rate, late = rate_of(bus.devices[sender], now), bus.devices[sender].late(now)
+            style = "alarm" if late else "plain"
+            rate = f"{seconds_of(late)} ago" if late else rate
+            if width < NARROW:
+                rows.append([(0, f"{sender:3}", "title"), (5, model, "plain"), (width - 1 - len(rate), rate, style)])
+                rows.append([(5, maker, "dim"), (width - 1 - len(serial), serial, "dim")])
+            else:
+                rows.append([(0, f"{sender:3}", "title"), (5, rate, style), (17, maker, "plain"), (38, model, "plain"), (61, serial, "plain"),
+                             *([(82, software, "dim"), (100, kind, "dim")] if width > 110 else [])])
+        return rows
+
+
+class Pgns(View):
+    """What kinds of messages come."""
+
+    name = "PGNs"
+
+    def head(self, width):
+        if width < NARROW:
+            return [(0, "PGN", "head"), (8, "count", "head"), (20, "rate", "head"), (width - 6, "bytes", "head")]
+        return [(0, "PGN", "head"), (8, "count", "head"), (20, "rate", "head"), (32, "bytes", "head"), (39, "from", "head"), (48, "message", "head")]
+
+    def rows(self, bus, now, width, words):
+        rows = []
+        for number in sorted(bus.pgns):
+            one = bus.pgns[number]
+            if one.kind == "unknown":
+                often, sender, name, style = one.frames, one.of, "not in the table", "alarm"
+            else:
+                often, sender, name, style = one, one.sender, one.description or "–", "plain"
+            if words and not fits(f"{number} {name} {bus.device(sender)}", words):
+                continue
+            size = "–" if one.size is None else str(one.size)
+            sender = "–" if sender is None else str(sender)
+            front = [(0, f"{number}", "title"), (8, f"{often.count:,}", "plain"), (20, rate_of(often, now), "plain")]
+            if width < NARROW:
+                rows.append([*front, (width - 1 - len(size), size, "plain")])
+                rows.append([(2, name, style), (width - 1 - len(sender) - 5, f"from {sender}", "dim")])
+            else:
+                rows.append([*front, (37 - len(size), size, "plain"), (39, sender, "plain"), (48, name, style)])
+        return rows
+
+
+class Alarms(View):
+    """What is set of alarms and states, what is late, and what was set."""
+
+    name = "Alarms"
+    nothing = "No alarm was set, and no message is late."
+
+    def rows(self, bus, now, width, words):
+        found = []
+        for (key, name), flags in bus.set.items():
+            found += [(since, None, flag, key, name) for flag, since in flags.items()]
+        found.sort(key=lambda it: -it[0])
+        found += sorted(bus.over, key=lambda it: -it[1])
+        rows = []
+        for since, until, flag, (sender, _, description, thing, *_), name in found:
+            of = f"from {sender}: " + ", ".join(it for it in (description, thing, name) if it and it != flag)
+            if words and not fits(f"{flag} {of} {bus.device(sender)}", words):
+                continue
+            if until is None:
+                rows += self.entry(width, flag, "alarm", of, f"since {page.when(since, since, now)}", "")
+            else:
+                rows += self.entry(width, flag, "plain", of, page.when(since, since, now), f"to {page.when(until, since, now)}")
+        late = [(it.order, it, it.late(now)) for it in bus.messages.values() if not it.part and it.late(now)]
+        for _, message, age in sorted(late, key=lambda it: it[0]):
+            of = f"from {message.sender}: {message.title}"
+            if not words or fits(f"late {of} {bus.device(message.sender)}", words):
+                what = f"nothing for {seconds_of(age)}, before {rate_of(message, message.last)}"
+                rows += self.entry(width, what, "alarm", of, f"last {page.when(message.last, message.last, now)}", "")
+        return rows
+
+    @staticmethod
+    def entry(width, what, style, of, since, until):
+        if width < NARROW:
+            return [[(0, what, style)], [(2, of, "dim")], [(2, f"{since} {until}", "dim")]]
+        return [[(0, since, "dim"), (22, what, style)], [(0, until, "dim"), (22, of, "dim")]]
+
+
+class Lines(View):
+    """The lines as they come, the last below."""
+
+    name = "Lines"
+
+    def __init__(self):
+        super().__init__()
+        self.top = None  # the number of the first line that is shown; without one the last lines are
+        # The lines that are there, by number, at which of them the picture began, and how many it has.
+        self.found, self.begin, self.room = [], 0, 1
+
+    def pieces(self, bus, now, fresh, width, height, words):
+        first = bus.lines - len(bus.ring) + 1
+        found = [(first + at, line) for at, line in enumerate(bus.ring)]
+        if words:
+            found = [(number, line) for number, line in found if fits(f"{line.decode('utf-8', 'replace')} {bus.reports.get(number, '')}", words)]
+        begin = len(found)
+        if self.top is not None:
+            begin = next((at for at, (number, _) in enumerate(found) if number >= self.top), begin)
+        # A line of a frame is two rows where it is narrow.
+        room = height if width >= NARROW else max(1, height // 2)
+        if begin > len(found) - room:
+            self.top, begin = None, max(0, len(found) - room)
+        elif self.top is not None:
+            self.top = found[begin][0]
+        self.begin, self.found, self.room = begin, found, room
+        rows = []
+        for number, line in found[begin:begin + room]:
+            report = bus.reports.get(number, "")
+            text = line.decode("utf-8", "replace")
+            style = "alarm" if report.startswith("bad") else "plain"
+            if width < NARROW:
+                rows += [[(2 * (at > 0), text[at:at + width - 2], style)] for at in range(0, max(1, min(len(text), 4 * width)), width - 2)]
+                if report:
+                    rows.append([(2, report, "alarm")])
+            else:
+                number = f"{number:,}"
+                front = [(max(0, 9 - len(number)), number, "dim"), (11, text, style)]
+                behind = max(40, 13 + min(len(text), width - 30))
+                rows.append([*front, (behind, report, "alarm")] if report else front)
+        # Where that are too many, the last line counts.
+        rows = rows[-height:] if self.top is None else rows[:height]
+        return rows, begin, min(begin + room, len(found)), len(found)
+
+    def move(self, by, height):
+        at = max(0, self.begin + by)
+        self.top = self.found[at][0] if at < len(self.found) - self.room else None
+
+    def home(self):
+        self.top = 0
+
+    def end(self):
+        self.top = None
+
+
+KEYS = [
+    ("1 v", "values, by device and message"), ("2 d", "devices"), ("3 g", "PGNs"), ("4 a", "alarms, and what is late"), ("5 r", "lines as they come"),
+    ("Tab, right, left", "the next view, or the one before"), ("up, down", "a row"), ("Page Up, Page Down", "a page"), ("Home, End", "the first rows, the last ones"),
+    ("/", "only rows with all words that follow; Esc: all rows"), ("p, Space", "hold the picture, and a log that is played; again: go on"),
+    ("?", "this page, and back"), ("q", "end, as Ctrl-C does")]
+MEANINGS = [
+    "Values: a new value is set off for a second. Where a message is late by its own rate, its age stands there; a field that the last message lacks is –.",
+    "Load: the bits of the frames, with their stuff bits, of the 250,000 a second that the bus has.",
+    "Unknown: frames whose PGN is not in the table."]
+
+
+class Help(View):
+    """The keys."""
+
+    name = "Help"
+
+    def rows(self, bus, now, width, words):
+        rows, indent = [], 6 if width < NARROW else 20
+        for key, told in KEYS:
+            lines = wrapped(told, width - 1 - indent)
+            # A long key has a row of its own.
+            rows.append([(0, key, "title"), *([(indent, lines.pop(0), "plain")] if len(key) < indent else [])])
+            rows += [[(indent, line, "plain")] for line in lines]
+        for text in ["", *MEANINGS]:
+            rows += [[(0, line, "plain")] for line in wrapped(text, width - 1)]
+        return rows
+
+
+def wrapped(text, width):
+    """Lines of at most this width."""
+    lines = [""]
+    for word in text.split():
+        if lines[-1] and len(lines[-1]) + 1 + len(word) > width:
+            lines.append("")
+        lines[-1] += (" " if lines[-1] else "") + word
+    return lines
