@@ -42,7 +42,10 @@ SPELLINGS = ["9223372036854775807", "9223372036854775808", "-9223372036854775808
              "1__0", "0x", "0x_1", "0xG", "0b2", "0o8", "+0x1", "1.", ".5", "1e", "1e400", "1.e5", "True", "yes", '"\\q"', '"\\u12"', '"\\uD800"', '"\\x4g"', "1979-13-01", "1979-02-30", "24:00:00", "07:32", "23:59:60",
              "0000-02-29", "[1 2]", "{a 1}", "[1,,2]", "{,}", "[,]", "1 2", '"a" "b"', "\"\x01\"", "nan", "0x8000000000000000",
              "{a = 1, a = 2}", "{a = 1, a.b = 2}", "{a.b = 1, a.c = 2}", "{a =\n1}", "[1\n,\n2\n]", '"\\e\\x41"', "0" * 30 + "1"]
-FIELD_KEYS = ["name", "kind", "at", "bits", "signed", "resolution", "match", "lookup"]
+FIELD_KEYS = ["name", "kind", "at", "bits", "signed", "resolution", "match", "lookup", "offset", "unit", "short", "form",
+              "after"]
+KNOWS_STRINGS = "string" in table_rules.FIELD_KEYS_OF_3  # then tables have some
+OFFSETS = [0, -40, 1, 2**32 - 1, 2**32, -2**32, -2**32 - 1, 2**63 - 1]
 BITS = [0, 1, 2, 7, 8, 9, 24, 32, 33, 64, 65, 72, 1776, 1784, 1785, 1792, -8, 2**32, 2**63 - 1]
 PLACES = [0, 1, 8, 20, 56, 64, 1720, 1776, 1783, 1784, -1, -2**63]
 RESOLUTIONS = ["1", "0.01", "0.00", "0", ".01", "1.", "1.50", "4294967295", "4294967296", "9999999999", "00000000001", "1e-3",
@@ -55,13 +58,20 @@ def text(rng):
 
 # ---- Tables ----
 
-def field(rng, names, end, may_match, lookups):
-    kind = rng.choice(["number"] * 5 + ["lookup"] * 2 + ["text", "bytes"])
-    if kind == "lookup" and not lookups:
+def field(rng, names, end, may_match, lookups, version, strings=()):
+    """A field; `strings` are the names of the strings before it."""
+    newer = ["flags", "flags", "digits"] if version == 3 else []
+    kind = rng.choice(["number"] * 5 + ["lookup"] * 2 + ["text", "bytes"] + newer)
+    if kind in ("lookup", "flags") and not lookups:
         kind = "number"
     name = next(new for new in iter(lambda: text(rng), None) if new not in names and (new != "list" or not may_match))
     names.add(name)
-    step = 8 if kind in ("text", "bytes") else 1
+    after = rng.choice([None, *strings])
+    if version == 3 and may_match and KNOWS_STRINGS and rng.random() < 0.3:
+        made = {"name": name, "kind": "string", "at": 8 * rng.randint(0, 9), "form": rng.choice(["lau", "lz"])}
+        made |= {} if after is None else {"after": after}
+        return made | ({"short": rng.random() < 0.8} if rng.random() < 0.5 else {})
+    step = 8 if kind in ("text", "bytes", "digits") else 1
     most = min({"number": 64, "lookup": 32}.get(kind, 64), end)
     bits = step * rng.randint(1, most // step)
     made = {"name": name, "kind": kind, "at": step * rng.randint(0, (min(end, 200) - bits) // step), "bits": bits}
@@ -69,32 +79,46 @@ def field(rng, names, end, may_match, lookups):
         made["resolution"] = rng.choice(["1", "0.01", "1.50", "0.00000003125", "60"])
     if kind == "number" and bits > 1 and rng.random() < 0.4:
         made["signed"] = rng.random() < 0.8
-    if kind == "lookup":
+    if kind in ("lookup", "flags"):
         made["lookup"] = rng.choice(lookups)["name"]
-    if step == 1 and may_match and rng.random() < 0.2:
+    if version == 3 and kind == "number":
+        if not made.get("signed") and rng.random() < 0.4:
+            made["offset"] = rng.choice([0, -40, 100000, 2**32 - 1, -2**32])
+        if rng.random() < 0.4:
+            made["unit"] = rng.choice(["m", "°C"])
+    if version == 3 and kind in ("text", "bytes") and may_match and rng.random() < 0.5:
+        made["short"] = rng.random() < 0.8
+    if after is not None:
+        made["after"] = after
+    elif kind in ("number", "lookup") and may_match and rng.random() < 0.2:
         made["match"] = rng.randrange(1 << min(bits, 63))
     return made
 
 
-def fields(rng, end, may_match, lookups):
-    names = set()
-    return [field(rng, names, end, may_match, lookups) for _ in range(rng.choice([0, 1, 1, 2, 2, 3, 5]))]
+def fields(rng, end, may_match, lookups, version):
+    names, made, strings = set(), [], []
+    for _ in range(rng.choice([0, 1, 1, 2, 2, 3, 5])):
+        made.append(field(rng, names, end, may_match, lookups, version, strings))
+        if made[-1]["kind"] == "string":
+            strings.append(made[-1]["name"])
+    return made
 
 
 def small_table(rng):
     names = sorted({text(rng) for _ in range(rng.randint(0, 3))})
     lookups = [{"name": name, "entries": [[value, text(rng)] for value in rng.sample([0, 1, 2, 3, 255, 2**32 - 1],
                                                                                     rng.randint(0, 4))]} for name in names]
-    made = {"format": rng.choice([1, 2, 2])}
+    made = {"format": rng.choice([1, 2, 2, 3, 3])}
     kinds = {}
     definitions = []
     for _ in range(rng.randint(0, 3)):
         number = rng.choice([*kinds] * 2 + [59392, 126208, 130820, 0, 2**24 - 1, rng.randrange(2**18)])
         definition = {"number": number, "kind": kinds.setdefault(number, rng.choice(["single", "fast"])),
-                      "description": text(rng), "fields": fields(rng, 1784, True, lookups)}
-        if made["format"] == 2 and rng.random() < 0.4:
+                      "description": text(rng), "fields": fields(rng, 1784, True, lookups, made["format"])}
+        if made["format"] > 1 and rng.random() < 0.4:
             bits = 8 * rng.randint(1, 12)
-            definition["repeat"] = {"at": 8 * rng.randint(0, 20), "bits": bits, "fields": fields(rng, bits, False, lookups)}
+            definition["repeat"] = {"at": 8 * rng.randint(0, 20), "bits": bits,
+                                    "fields": fields(rng, bits, False, lookups, made["format"])}
         definitions.append(definition)
     if lookups or rng.random() < 0.1:
         made["lookup"] = lookups
@@ -110,7 +134,7 @@ def part_of_n2k(rng, whole):
              for field in definition["fields"] + definition.get("repeat", {"fields": []})["fields"] if "lookup" in field}
     lookups = [{"name": lookup["name"], "entries": copy.deepcopy(lookup["entries"][:rng.choice([2, 5, 20])])}
                for lookup in whole["lookup"] if lookup["name"] in named]
-    return {"format": 2, "pgn": definitions, "lookup": lookups}
+    return {"format": rng.choice([2, 3]), "pgn": definitions, "lookup": lookups}
 
 
 def places(tree, path=()):
@@ -139,6 +163,14 @@ class Change:
 def naming(tree, name):
     """The paths of the fields' keys that name a lookup; a change of that shows at them."""
     return [path for path in places(tree) if path[-1] == "lookup" and len(path) > 1 and at(tree, path) == name]
+
+
+def of_string(tree, path):
+    """Where a change of a field, which may be a string, shows too: in the fields of its list."""
+    if "fields" not in path or path[-1] == "fields":
+        return []
+    place = path[:len(path) - path[::-1].index("fields")]
+    return [other for other in places(tree) if other[:len(place)] == place and other[-1] in ("after", "at", "bits")]
 
 
 def of_lookup(tree, path):
@@ -178,9 +210,13 @@ def another_value(rng, tree, path):
         holder[key] = rng.choice(RESOLUTIONS)
     elif key == "kind":
         holder[key] = rng.choice(["single", "fast", "single", "fast", "slow", "", "Single"] if "number" in holder else
-                                 ["number", "lookup", "text", "bytes", "Number", ""])
+                                 ["number", "lookup", "text", "bytes", "flags", "digits", "string", "Number", ""])
+    elif key == "form":
+        holder[key] = rng.choice(["lau", "lz", "LAU", "", "x"])
     elif key == "format":
-        holder[key] = rng.choice([0, 1, 2, 3, -1])
+        holder[key] = rng.choice([0, 1, 2, 3, 4, -1])
+    elif key == "offset":
+        holder[key] = rng.choice(OFFSETS)
     elif isinstance(holder[key], bool):
         holder[key] = not holder[key]
     elif isinstance(holder[key], int):
@@ -197,7 +233,8 @@ def another_right_value(rng, tree, path):
     """Another value that has most often no fault."""
     values = {"at": [8 * rng.randint(0, 30)], "bits": [8, 16, 32], "number": [rng.randrange(2**24)], "match": [0, 1, 255],
               "name": [f"{text(rng)} {rng.randrange(100)}"], "description": [text(rng)], "signed": [True, False],
-              "resolution": ["1", "0.5", "60"], "kind": ["number", "single", "fast", "bytes"], "format": [1, 2]}
+              "resolution": ["1", "0.5", "60"], "kind": ["number", "single", "fast", "bytes"], "format": [1, 2, 3],
+              "offset": [0, -40], "unit": ["m"], "short": [True, False], "form": ["lau", "lz"]}
     if path[-1] not in values:
         return None
     shows = of_lookup(tree, path)
@@ -217,11 +254,12 @@ def one_more_key(rng, tree, path):
     tables = [(), *[other for other in places(tree) if isinstance(at(tree, other), dict)]]
     place = rng.choice(tables)
     holder = at(tree, place)
-    key = rng.choice([*FIELD_KEYS, "match", "list", "unit", "repeat", "entries", "number", "pgn", "bit", "name ", "", "é"])
+    key = rng.choice([*FIELD_KEYS, "match", "list", "repeat", "entries", "number", "pgn", "bit", "name ", "", "é"])
     if key in holder:
         return None
     values = {"match": [0, 1, 300], "signed": [True, False], "resolution": RESOLUTIONS, "lookup": ["A", "B state"],
-              "repeat": [{"at": 8, "bits": 16, "fields": []}, {"at": 0}]}
+              "repeat": [{"at": 8, "bits": 16, "fields": []}, {"at": 0}], "offset": OFFSETS, "unit": ["m", "", 1],
+              "short": [True, False, 1], "form": ["lau", "lz", "x", 1], "after": [*WORDS[:3], "A", "", 1]}
     holder[key] = copy.deepcopy(rng.choice(values.get(key, [1, "x", "m", [], {}])))
     return Change((*place, key))
 
@@ -303,6 +341,7 @@ def changed(rng, tree):
         path = rng.choice(by_key[rng.choice(sorted(by_key))]) if by_key else ()
         change = rng.choice(CHANGES)(rng, tree, path) if by_key else one_more_key(rng, tree, path)
         if change is not None:
+            change.keys += tuple(of_string(tree, path)) if KNOWS_STRINGS else ()
             return change
 
 

@@ -11,9 +11,11 @@ send the files to SQLite and to a server made up of InfluxDB's interface.
 In the end files are whole, no message is of two, none is there twice, no day is from the future, and no message is lost that
 docs/GUIDE.md doesn't allow to be: those with a frame in a hole, in the last second before a kill, in the last SYNCED seconds
 before a cut of the power, while the disk was full, and where the table was replaced those across midnight. Rows and points are
-those of the files, each once, and beside them only what a cut took from the files.
+those of the files, each once, and beside them only what a cut took from the files. On a full disk a logger waits, and where
+nothing else comes it goes on when there is room.
 
-The last line is `N faults`, after a line for each. Status 77 says that no ext4 image can be had here, and why.
+The last line is `N faults`, after a line for each, and one of what was free on the disk when. Status 77 says that no ext4
+image can be had here, and why.
 """
 import json
 import os
@@ -111,6 +113,9 @@ class Round:
         self.fed = Fed(room, self.boat.folder, chance)
         # Of each line: its part and when it was sent. Of a disturbance: when it began and ended.
         self.parts, self.times, self.disturbed, self.torn, self.was_cut, self.crossed, self.lag = {}, {}, [], 0, False, set(), 0
+        # Parts whose logger did not get over a full disk, and what was free when.
+        self.given_up, self.free = [], []
+        self.filler = f"{self.disk.folder}/other"
 
     def play(self):
         self.fed.start()
@@ -129,18 +134,26 @@ class Round:
         add = {"ahead": 10 * 365 * 86400, "back": -self.chance.randrange(1, 4) * 86400}.get(what, 0)
         return [b"(%.6f%s" % (float(it[1:18]) + add, it[18:]) if at <= number < at + count and add else it for number, it in enumerate(lines)]
 
+    def note(self, event):
+        """Notes what is free on the disk, in kB."""
+        disk = os.statvfs(self.disk.folder)
+        self.free.append(f"{event} {disk.f_bfree * disk.f_frsize // 1024}")
+
     def part(self, part, begin, lines, how, what):
+        self.note(f"part {part + 1} ({what}, {how})")
         path, told = f"{self.room}/lines.{part}", f"{self.room}/times.{part}"
         with open(path, "wb") as file:
             file.writelines(lines)
         open(told, "wb").close()
-        command = [LOGGER, "--raw", f"--sync={SYNCED}", self.boat.folder, self.table, sys.executable, __file__, "send", path, told, "4"]
+        command = [LOGGER, "--raw", f"--sync={SYNCED}", self.boat.folder, self.table, sys.executable, __file__, "send", path, told]
+        # Some lines are to come when a logger that waited for room has surely seen it.
+        command.append("13" if (what, how) == ("full", "alone") else "4")
         with open(f"{self.room}/said", "ab") as said:
             logger = Boat.logger = subprocess.Popen(command, env=self.boat.environment, stderr=said, start_new_session=True)
         until = time.monotonic() + (30 if how == "alone" else 1 + 4 * self.chance.random())
         time.sleep(0.3 + self.chance.random())
         since, self.lag = [], max(self.lag, lag())
-        self.incident(part, what)
+        self.incident(part, how, what)
         while time.monotonic() < until and logger.poll() is None:
             time.sleep(0.02)
         if how == "stopped":
@@ -165,14 +178,24 @@ class Round:
                 logger.poll()
         self.end(logger)
         self.disturbed += [(it, time.monotonic()) for it in since]
+        self.note("ended")
         if how == "cut":
             self.disk.again()
+            self.note("mounted")
+            # Its removal may not have been synced.
+            if os.path.exists(self.filler):
+                os.remove(self.filler)
+                self.note("removed again")
             self.tear()
         if not self.fed.running:
             self.fed.start()
         # A part's lines that the sender has not come to were not sent; the next part begins behind them.
-        for number, it in enumerate(open(told, encoding="utf-8").read().split("\n")[:-1]):
+        times = open(told, encoding="utf-8").read().split("\n")[:-1]
+        for number, it in enumerate(times):
             self.parts[begin + number], self.times[begin + number] = part, float(it)
+        # Where there is room again before it has looked, it ends as it does where a file can't be written.
+        if (how, what) == ("alone", "full") and len(times) < len(lines) and logger.returncode != 3:
+            self.given_up.append(part + 1)
 
     def tear(self):
         """Other file systems may end a file within a line that was not synced."""
@@ -183,21 +206,46 @@ class Round:
                     size = os.stat(its[-1]).st_size
                     os.truncate(its[-1], max(0, size - self.chance.randrange(200)))
 
-    def incident(self, part, what):
+    def fill(self, part, how):
+        """Fills the disk for a while, of a logger that is let alone until it has seen that."""
+        at, waits = time.monotonic(), self.waits()
+        try:
+            with open(self.filler, "wb") as file:
+                while True:
+                    file.write(bytes(4096))
+                    file.flush()
+        except OSError:
+            pass
+        self.note("filled")
+        while how == "alone" and self.waits() == waits and Boat.logger.poll() is None and time.monotonic() < at + 10:
+            time.sleep(0.05)
+        time.sleep(0.5 + self.chance.random())
+        # What it has gzipped may have made room meanwhile.
+        if Boat.logger.poll() == 3 and not self.has_room():
+            self.given_up.append(part + 1)
+        os.remove(self.filler)
+        self.note("removed")
+        self.torn += 1
+        # It looks for room every five seconds.
+        self.disturbed.append((at - LATE - self.lag, time.monotonic() + 7 + self.lag))
+
+    def waits(self):
+        """How often loggers have begun to wait for room."""
+        with open(f"{self.room}/said", "rb") as said:
+            return said.read().count(b"disk full: ")
+
+    def has_room(self):
+        """Whether there is as much room as a logger looks for."""
+        try:
+            with open(self.filler, "ab") as file:
+                file.write(bytes(100_000))
+        except OSError:
+            return False
+        return True
+
+    def incident(self, part, how, what):
         if what == "full":
-            at = time.monotonic()
-            try:
-                with open(f"{self.disk.folder}/other", "wb") as file:
-                    while True:
-                        file.write(bytes(4096))
-                        file.flush()
-            except OSError:
-                pass
-            time.sleep(0.5 + self.chance.random())
-            os.remove(f"{self.disk.folder}/other")
-            self.torn += 1
-            # It looks for room every five seconds.
-            self.disturbed.append((at - LATE - self.lag, time.monotonic() + 7 + self.lag))
+            self.fill(part, how)
         elif what == "server":
             self.fed.server.stop()
             self.fed.base.stop()
@@ -245,6 +293,8 @@ class Round:
         sent = {(key[0], data) for key, data in log.data.items()}
         owed = [(key[0], log.data[key]) for key, places in log.places.items() if self.is_owed(places)]
         Round.owed, Round.printed = Round.owed + len(owed), Round.printed + len(printed)
+        if self.given_up:
+            yield f"in parts {self.given_up} the logger does not wait for room, or does not go on when there is some"
         if wrong := [it for it in printed if it not in sent]:
             yield f"{len(wrong)} messages that were not sent"
         if len({*printed}) != len(printed):
@@ -287,13 +337,16 @@ def main():
     for number in range(seed, seed + rounds):
         room = tempfile.mkdtemp()
         try:
-            one = Round(program, room, random.Random(number))
+            one, before, failed = Round(program, room, random.Random(number)), faults, True
             try:
                 one.play()
                 for fault in one.faults():
                     faults += 1
                     print(f"season, seed {number}: {fault}", flush=True)
+                failed = faults > before
             finally:
+                if failed:
+                    print(f"season, seed {number}: kB free on the disk: {', '.join(one.free)}", flush=True)
                 one.end_all()
         finally:
             if "SEASON_SAY" in os.environ:

@@ -1,5 +1,5 @@
 #!/usr/bin/env python3
-"""Prints the classes of the faults of tables of format 1 and 2; nothing where a table reads.
+"""Prints the classes of the faults of tables of format 1, 2 and 3; nothing where a table reads.
 
     tests/random/table_faults.py TABLE..
 
