@@ -48,11 +48,13 @@ class Differences:
         for one, other in pairs_of(first, second, FIELD_KEYS):
             if one is None or other is None:
                 field = one or other
-                lines.append(f"  {place}{quoted(field['name'])} at {field['at']}, bits {field['bits']}: "
+                bits = f", bits {field['bits']}" if "bits" in field else ""
+                lines.append(f"  {place}{quoted(field['name'])} at {field['at']}{bits}: "
                              f"only in {self.names[one is None]}")
                 continue
             of = f"{place}{quoted(one['name'])}: "
-            lines += self.value_lines(of, one, other, ("name", "kind", "at", "bits", "signed", "resolution", "match"))
+            lines += self.value_lines(of, one, other, ("name", "kind", "at", "bits", "after", "form", "signed", "resolution", "offset",
+                                                     "short", "match"))
             if "lookup" in one and "lookup" in other:
                 lines += self.lookup_lines(title, of, one["lookup"], other["lookup"])
         return lines
@@ -86,12 +88,13 @@ def meant(holder, key):
     """A key's value, as it counts: 0.10 is 0.1."""
     if key == "resolution":
         return decimal.Decimal(holder.get(key, "1"))
-    return holder.get(key, False if key == "signed" else None)
+    return holder.get(key, {"signed": False, "short": False, "offset": 0}.get(key))
 
 
 def shown(holder, key):
-    value = holder.get(key, {"signed": False, "resolution": "1"}.get(key, "none"))
-    return quoted(value) if key in ("name", "description") else str(value).lower()
+    if key not in holder:
+        return {"signed": "false", "resolution": "1"}.get(key, "none")
+    return quoted(holder[key]) if key in ("name", "description", "after") else str(holder[key]).lower()
 
 
 def matches(message):

@@ -13,12 +13,15 @@ import tomllib
 
 
 def data_of(definition, rng):
-    """The bytes that its fields take and up to three sets, a single frame eight: random, but for the match fields."""
+    """The bytes that its fields take and up to three sets, a single frame eight, and where a field may be short some of
+    them: random, but for the match fields."""
     bits = max((f["at"] + f["bits"] for f in definition["fields"]), default=8)
     if "repeat" in definition:
         sets = definition["repeat"]
         bits = max(bits, sets["at"] + rng.randrange(4) * sets["bits"])
     size = 8 if definition["kind"] == "single" else min((bits + 7) // 8, 223)
+    if size > 8 and any(f.get("short") for f in definition["fields"]):
+        size = rng.randint(9, size)
     data = rng.getrandbits(8 * size)
     for f in definition["fields"]:
         if "match" in f:

@@ -16,6 +16,7 @@ LONGEST_TEXT = 255  # bytes
 LONGEST_MESSAGE = 1784  # bits
 MOST_DEFINITIONS, MOST_FIELDS, MOST_LOOKUPS, MOST_ENTRIES = 4096, 256, 1024, 4096
 GREATEST_PGN, GREATEST_VALUE, GREATEST_MANTISSA = 2**24 - 1, 2**32 - 1, 2**32 - 1
+LEAST_OFFSET, GREATEST_OFFSET = -2**32, 2**32 - 1
 DEEPEST = 80  # arrays and inline tables in one another, and parts of a key
 
 
@@ -400,8 +401,30 @@ FIELD_KEYS = {
     "text": (("name", "kind", "at", "bits"), ()),
     "bytes": (("name", "kind", "at", "bits"), ()),
 }
-ALL_FIELD_KEYS = ("name", "kind", "at", "bits", "signed", "resolution", "match", "lookup")
-MOST_BITS = {"number": 64, "lookup": 32, "text": LONGEST_MESSAGE, "bytes": LONGEST_MESSAGE}
+FIELD_KEYS_OF_3 = {
+    "number": (("name", "kind", "at", "bits"), ("after", "signed", "resolution", "offset", "unit", "match")),
+    "lookup": (("name", "kind", "at", "bits", "lookup"), ("after", "match")),
+    "text": (("name", "kind", "at", "bits"), ("after", "short")),
+    "bytes": (("name", "kind", "at", "bits"), ("after", "short")),
+    "flags": (("name", "kind", "at", "bits", "lookup"), ("after",)),
+    "digits": (("name", "kind", "at", "bits"), ("after",)),
+    "string": (("name", "kind", "at", "form"), ("after", "short")),
+}
+KEYS_BY_FORMAT = {1: FIELD_KEYS, 2: FIELD_KEYS, 3: FIELD_KEYS_OF_3}
+KEYS_NOT_IN_SETS = ("match", "short", "after")
+KINDS_NOT_IN_SETS = ("string",)
+MOST_BITS = {"number": 64, "lookup": 32, "text": LONGEST_MESSAGE, "bytes": LONGEST_MESSAGE, "flags": 64,
+             "digits": LONGEST_MESSAGE}
+BY_BYTES = ("text", "bytes", "digits", "string")
+FORMS = ("lau", "lz")
+MOST_NAMES = 5  # of strings in a fault
+
+
+@dataclasses.dataclass(frozen=True)
+class String:
+    """A string that others may stand behind: where it begins in the text, and its fixed place, None where that isn't known."""
+    at: int
+    place: int | None
 
 
 @dataclasses.dataclass(frozen=True)
@@ -458,6 +481,12 @@ def of_named(word, holder, ordinal):
     return f"{word} {quoted(name)}" if type(name) is str and name else f"{word} {ordinal}"
 
 
+def all_keys(by_kind):
+    """The keys that fields of any kind may have."""
+    required, optional = zip(*by_kind.values())
+    return tuple(dict.fromkeys(sum(required + optional, ())))
+
+
 class Rules:
     """Judges a document. A value that has a fault by itself is None in what is judged further."""
 
@@ -497,12 +526,15 @@ class Rules:
                    f"{word} has {size} bytes, over {LONGEST_TEXT}")
         return None
 
-    def choice(self, table, key, names, where):
+    def choice(self, table, key, names, where, newer=(), elsewhere=()):
+        """One of these names; of those of a newer format, and of those that a set has not, that is told."""
         text = self.asked(table, key, str, where)
         if text is None or text in names:
             return text
+        hint, others = ("; no set has it", []) if text in elsewhere else \
+            ("; format 3 has it", [self.top.keys_at["format"]]) if text in newer else ("", [])
         self.fault("Text", table.keys_at[key], where,
-                   f"{key} is {quoted(text)}, and not {', '.join(names[:-1])} or {names[-1]}")
+                   f"{key} is {quoted(text)}, and not {', '.join(names[:-1])} or {names[-1]}{hint}", *others)
         return None
 
     def whole(self, table, key, least, most, where, step=1, others=()):
@@ -520,11 +552,14 @@ class Rules:
             return value
         return None
 
-    def only_keys(self, table, keys, where, what, others=()):
+    def only_keys(self, table, keys, where, what, others=(), newer=(), elsewhere=()):
+        """That a table has these keys alone; of those of a newer format, or of a definition, that is told."""
         for key in [key for key in table if key not in keys]:
             near = difflib.get_close_matches(key, set(keys) - table.keys(), 1)
-            hint = f"perhaps {near[0]}" if near else f"its keys are {', '.join(keys)}"
-            self.fault("Key", table.keys_at[key], where, f"{what} has no key {quoted(key)}; {hint}", *others)
+            hint = "format 3 has it" if key in newer else "perhaps [[pgn]] is missing before it" if key in elsewhere else \
+                f"perhaps {near[0]}" if near else f"its keys are {', '.join(keys)}"
+            of_format = [self.top.keys_at["format"]] if key in newer else []
+            self.fault("Key", table.keys_at[key], where, f"{what} has no key {quoted(key)}; {hint}", *others, *of_format)
 
     def tables(self, holder, key, where, most, word):
         """The tables of an array that has to be there, each with its ordinal, and how many elements it has."""
@@ -551,12 +586,13 @@ class Rules:
 
     def judge(self):
         version = self.top.get("format")
-        if type(version) is not int or version not in (1, 2):
+        if type(version) is not int or version not in KEYS_BY_FORMAT:
             at = self.top.keys_at.get("format", 0)
             is_there = "format" in self.top
-            self.fault("Format", at, "", f"format is {shown(version)}, and not 1 or 2" if is_there else
-                       "format is missing; it is 1, or 2 for a table with sets that repeat")
+            self.fault("Format", at, "", f"format is {shown(version)}, and not 1, 2 or 3" if is_there else
+                       "format is missing; it is 1, 2 or 3")
             return
+        self.field_keys = KEYS_BY_FORMAT[version]
         self.only_keys(self.top, ("format", "lookup", "pgn"), "", "the top level")
         names = {}
         if "lookup" in self.top:
@@ -569,7 +605,7 @@ class Rules:
 
     def lookup(self, lookup, ordinal, names):
         where = of_named("lookup", lookup, ordinal)
-        self.only_keys(lookup, ("name", "entries"), where, "a lookup")
+        self.only_keys(lookup, ("name", "entries"), where, "a lookup", elsewhere=("number", "kind", "description", "fields", "repeat"))
         name = self.text(lookup, "name", where)
         if name is not None:
             self.once(names, name, lookup.keys_at["name"], where, f"name {quoted(name)}")
@@ -601,13 +637,13 @@ class Rules:
     def definition(self, definition, where, version, lookups, kinds):
         self.only_keys(definition, ("number", "kind", "description", "fields", "repeat"), where, "a definition")
         if version == 1 and "repeat" in definition:
-            self.fault("Key", definition.keys_at["repeat"], where, "repeat stands in tables of format 2, and this is one of "
-                       "format 1", self.top.keys_at["format"])
+            self.fault("Key", definition.keys_at["repeat"], where, "repeat stands in tables of format 2 and 3, and this is one "
+                       "of format 1", self.top.keys_at["format"])
         number = self.whole(definition, "number", 0, GREATEST_PGN, where)
         kind = self.choice(definition, "kind", ("single", "fast"), where)
         self.text(definition, "description", where)
         names = self.fields(definition, where, LONGEST_MESSAGE, None, lookups)
-        if version == 2 and "repeat" in definition:
+        if version > 1 and "repeat" in definition:
             repeat = self.asked(definition, "repeat", Table, where)
             if repeat is not None:
                 self.repeat(repeat, f"{where}, the set", lookups)
@@ -628,53 +664,112 @@ class Rules:
         self.ends(repeat, at, bits, LONGEST_MESSAGE, where, None)
         self.fields(repeat, where, bits, repeat, lookups)
 
-    def ends(self, table, at, bits, end, where, repeat):
-        """That bits end in a message, or in a set of this repeat."""
-        if None not in (at, bits, end) and at + bits > end:
-            what = f"at + bits is {at + bits}, over {end}" + (", the bits of the set" if repeat is not None else "")
-            self.fault("Range", table.keys_at["bits"], where, what, table.keys_at["at"],
-                       *([repeat.keys_at["bits"]] if repeat is not None else []))
+    def ends(self, table, at, bits, end, where, repeat, string=None):
+        """Whether bits end in a message, or in a set of this repeat, as far as the table says it: behind this string they
+        count from its fixed place."""
+        if None in (at, bits, end):
+            return False
+        fixed = at if string is None else string.place + at
+        if fixed + bits <= end:
+            return True
+        said = "at + bits" if string is None else "the fixed place + bits" if bits else "the fixed place"
+        others = [table.keys_at["at"]] if string is None else [table.keys_at["at"], table.keys_at["after"], string.at]
+        what = f"{said} is {fixed + bits}, over {end}" + (", the bits of the set" if repeat is not None else "")
+        self.fault("Range", table.keys_at["bits" if "bits" in table else "at"], where, what, *others,
+                   *([repeat.keys_at["bits"]] if repeat is not None else []))
+        return False
 
     def fields(self, holder, where, end, repeat, lookups):
         """The names of the fields of a message, or of a set of this repeat, each with where it first stands."""
-        names = {}
-        for ordinal, field in self.tables(holder, "fields", where, MOST_FIELDS, "fields"):
+        names, strings = {}, {}
+        not_here = KINDS_NOT_IN_SETS if repeat is not None else ()
+        kinds, newer = (tuple(kind for kind in keys if kind not in not_here) for keys in (self.field_keys, FIELD_KEYS_OF_3))
+        elsewhere = tuple(kind for kind in self.field_keys if kind in not_here)
+        fields = self.tables(holder, "fields", where, MOST_FIELDS, "fields")
+        for ordinal, field in fields:
             of_field = f"{where}, {of_named('field', field, ordinal)}"
-            kind = self.choice(field, "kind", tuple(FIELD_KEYS), of_field)
+            kind = self.choice(field, "kind", kinds, of_field, newer, elsewhere)
             if kind is not None:
-                self.field(field, kind, of_field, end, repeat, lookups)
+                place = self.field(field, kind, of_field, end, repeat, lookups, strings, fields)
                 name = self.text(field, "name", of_field)
+                if name is not None and kind == "string":
+                    strings.setdefault(name, String(field.at, place))
                 if name is not None:
                     self.once(names, name, field.keys_at["name"], of_field, f"name {quoted(name)}")
             else:
-                self.only_keys(field, ALL_FIELD_KEYS, of_field, "a field")
+                self.only_keys(field, all_keys(self.field_keys), of_field, "a field", (), all_keys(FIELD_KEYS_OF_3))
         return names
 
-    def field(self, field, kind, where, end, repeat, lookups):
-        """A field but for its name."""
-        required, optional = FIELD_KEYS[kind]
+    def field(self, field, kind, where, end, repeat, lookups, strings, fields):
+        """A field but for its name. Answered is its fixed place, None where that isn't known or is past the end."""
+        required, optional = self.keys_of(self.field_keys, kind, repeat)
         by_kind = (field.keys_at["kind"],)
-        if repeat is not None:
-            optional = tuple(key for key in optional if key != "match")
         what = f"a {kind} field" + (" of a set" if repeat is not None else "")
-        self.only_keys(field, required + optional, where, what, by_kind)
-        step = 8 if kind in ("text", "bytes") else 1
+        self.only_keys(field, required + optional, where, what, by_kind, self.keys_of(FIELD_KEYS_OF_3, kind, repeat)[1])
+        step = 8 if kind in BY_BYTES else 1
         at = self.whole(field, "at", 0, LONGEST_MESSAGE - 1, where, step, by_kind)
-        bits = self.whole(field, "bits", step, MOST_BITS[kind], where, step, by_kind)
-        self.ends(field, at, bits, end, where, repeat)
+        bits = self.whole(field, "bits", step, MOST_BITS[kind], where, step, by_kind) if "bits" in required else 0
+        string, is_behind = None, "after" in field and "after" in optional
+        if is_behind:
+            string = self.string_before(field, where, strings, fields)
+        # Behind a string whose own place has a fault nothing has a place.
+        is_placed = not is_behind or string is not None and string.place is not None
+        place = None
+        if is_placed and self.ends(field, at, bits, end, where, repeat, string):
+            place = at if string is None else string.place + at
+        signed = False
         if "signed" in field and "signed" in optional:
             signed = self.asked(field, "signed", bool, where)
             if signed and bits == 1:
                 self.fault("Range", field.keys_at["signed"], where, "signed is true with 1 bit", field.keys_at["bits"])
         if "resolution" in field and "resolution" in optional:
             self.resolution(field, where)
+        if "offset" in field and "offset" in optional:
+            if signed:
+                self.fault("Key", field.keys_at["offset"], where, "a signed number has no offset", field.keys_at["signed"])
+            else:
+                self.whole(field, "offset", LEAST_OFFSET, GREATEST_OFFSET, where)
+        if "unit" in field and "unit" in optional:
+            self.text(field, "unit", where)
+        if "short" in field and "short" in optional:
+            self.asked(field, "short", bool, where)
         if "match" in field and "match" in optional:
             match = self.asked(field, "match", int, where)
             if match is not None:
                 most, others = (2**63 - 1, ()) if bits is None else (2**bits - 1, (field.keys_at["bits"],))
                 self.ranged(match, 0, most, field.keys_at["match"], where, "match", others=others)
-        if kind == "lookup":
+        if "lookup" in required:
             self.named_lookup(field, lookups, where)
+        if "form" in required:
+            self.choice(field, "form", FORMS, where)
+        return place
+
+    def string_before(self, field, where, strings, fields):
+        """The string behind which a field stands, None where it names none of those before it."""
+        if "match" in field:
+            self.fault("Key", field.keys_at["after"], where, "a field with a match has no after", field.keys_at["match"])
+            return None
+        name = self.text(field, "after", where)
+        if name is None or name in strings:
+            return strings.get(name)
+        known = [quoted(string) for string in strings]
+        said = "no string stands before it" if not known else f"not {known[0]}" if len(known) == 1 else \
+            f"not {', '.join(known[:-1])} or {known[-1]}" if len(known) <= MOST_NAMES else "none of the strings before it"
+        named = next((other for _, other in fields if other.get("name") == name), None)
+        near = difflib.get_close_matches(name, strings, 1) if len(known) > MOST_NAMES else []
+        hint = f"; perhaps {quoted(near[0])}" if near else ""
+        if named is not None:
+            hint = f"; {quoted(name)} " + ("is the field itself" if named is field else "stands behind it"
+                                           if named.get("kind") == "string" else "is no string")
+        self.fault("Lookup", field.keys_at["after"], where, f"after is {quoted(name)}, and {said}{hint}",
+                   *([] if named is None else [named.at]))
+        return None
+
+    @staticmethod
+    def keys_of(by_kind, kind, repeat):
+        """The keys that fields of the kind must and may have, in a message or in a set of this repeat."""
+        required, optional = by_kind[kind]
+        return required, optional if repeat is None else tuple(key for key in optional if key not in KEYS_NOT_IN_SETS)
 
     def resolution(self, field, where):
         text = self.asked(field, "resolution", str, where)
