@@ -1,14 +1,15 @@
 #!/usr/bin/env python3
 """The recipe `feed` where servers come and go, it is killed, and the power is cut.
 
-    feed_trials.py influx1|influx2|sqlite|influxd [COUNT [SEED]]
+    feed_trials.py influx1|influx2|sqlite|influxd|ended [COUNT [SEED]]
 
 A folder grows by a seed as n2k-logger's does: lines in pieces, days that end and are gzipped, and in some trials a cut of the
 power, which takes the last lines of the file. Meanwhile the server is stopped and started STOPS times, and feed is killed. In
 the end each point of the files, and each row, is there once, and besides only those of lines that the cut took.
 
 influx1 and influx2 are servers made up here of the two interfaces of InfluxDB, which also refuse for now, break off before
-and after they have taken points, and take no large batch. influxd is the real one, of the 1.x that is on the PATH.
+and after they have taken points, and take no large batch. influxd is the real one, of the 1.x that is on the PATH. With ended
+no folder grows by chance: feed is told to end while the server has a request and hasn't answered, in the middle of a stamp.
 The last line is `N faults`, after a line for each. Status 77 says that the trial can't be made here, and why.
 """
 import http.server
@@ -75,22 +76,27 @@ class Server:
                     return self.answer(server.chance.choice([429, 500, 503]), "not now")
                 if len(body) > 200_000:
                     return self.answer(413, "too large")
-                with server.lock:
-                    for line in body.decode().splitlines():
-                        series, fields, stamp = split(line)
-                        server.points[series, stamp] = fields
-                if server.chance.random() < 0.05:
+                if not server.taken(body) or server.chance.random() < 0.05:
                     return self.connection.close()
                 return self.answer(204)
 
         class Listener(http.server.ThreadingHTTPServer):
-            allow_reuse_address, daemon_threads = True, True
+            # Closing waits for what is being answered, so that nothing of a feed that was killed comes after what the next one sends.
+            allow_reuse_address, daemon_threads = True, False
 
             def handle_error(self, *_):
                 pass
 
         self.running = Listener(("127.0.0.1", self.port), Handler)
         threading.Thread(target=self.running.serve_forever, args=(0.05,), daemon=True).start()
+
+    def taken(self, body):
+        """Takes the points, and says whether it goes on to answer."""
+        with self.lock:
+            for line in body.decode().splitlines():
+                series, fields, stamp = split(line)
+                self.points[series, stamp] = fields
+        return True
 
     def stop(self):
         self.running.shutdown()
@@ -357,13 +363,56 @@ def trial(name, room, chance):
         server.stop()
 
 
+class Ending(Server):
+    """A server that tells feed to end in the place of an answer to its second points."""
+
+    def __init__(self):
+        super().__init__(random.Random(), 1)
+        self.has_database, self.asked, self.feed = True, 0, None
+        # Neither refused nor broken off by chance.
+        self.chance.random = lambda: 1
+
+    def taken(self, body):
+        self.asked += 1
+        if self.asked == 2:
+            self.feed.terminate()
+            self.feed.wait()
+            return False
+        return super().taken(body)
+
+
+def ended(_, room, __):
+    """Three messages of one series and one stamp; feed ends with the second on its way."""
+    server, file = Ending(), f"{room}/boat/2025-07-04.json"
+    lines = [f'{{"timestamp":"2025-07-04T06:00:00.000Z","prio":3,"src":1,"dst":255,"pgn":128267,"description":"Depth","fields":{{"Depth":{it}.00}}}}\n'
+             for it in range(3)]
+    os.mkdir(f"{room}/boat")
+    command = [FEED, *server.words(room), "--every", "0.05", f"{room}/boat"]
+    server.start()
+    with open(file, "w", encoding="utf-8", buffering=1) as folder:
+        folder.write(lines[0])
+        server.feed = subprocess.Popen(command, stderr=subprocess.DEVNULL)
+        for _ in range(200):
+            if server.has():
+                break
+            time.sleep(0.05)
+        folder.write(lines[1])
+        server.feed.wait(20)
+        folder.write(lines[2])
+    subprocess.run([*command, "--once"], check=True, timeout=60, stderr=subprocess.DEVNULL)
+    server.stop()
+    has = sorted((int(stamp), fields) for (_, stamp), fields in server.has().items())
+    if has != [(1751608800000000000 + it, f"dst=255,Depth={it}") for it in range(3)]:
+        yield f"{has}, asked {server.asked} times"
+
+
 def main():
     name, count, seed = sys.argv[1], int([*sys.argv, 1, 1][2]), int([*sys.argv, 1, 1, 1][3])
     faults = 0
     for number in range(seed, seed + count):
         room = tempfile.mkdtemp()
         try:
-            for fault in trial(name, room, random.Random(number)):
+            for fault in (ended if name == "ended" else trial)(name, room, random.Random(number)):
                 faults += 1
                 print(f"{name}, seed {number}: {fault}", flush=True)
         finally:
