@@ -46,7 +46,7 @@ abbrev pub repeat_if_there : TableFormat → List LookupParts → List FieldPart
     → Result (Option RepeatParts) TableFault
 repeat_if_there format lookups own None = Ok None
 repeat_if_there format lookups own (Some d) = do
-  sets ← repeat format lookups d
+  sets ← repeat format lookups own d
   free ← holds_or Twice (not (list_any (has_name list_name) own))
   Ok (Some sets)
 

@@ -19,7 +19,7 @@ use Rattle.n2k_table.specs.declared.tree.TableFormat.{TableFormat}
 use Rattle.n2k_wire.specs.Steps.{◌>>=◌, holds_or}
 use Rattle.n2k_table.specs.Bits.{greatest}
 use Rattle.n2k_table.specs.Lookup.{LookupParts}
-use Rattle.n2k_table.specs.Tree.{has_bits, can_have_strings, can_be_short, can_match}
+use Rattle.n2k_table.specs.Tree.{has_bits, can_be_short, can_match}
 use Rattle.n2k_table.specs.Tree.{message_bits, end_of, check_keys, as_members, int_at, any_text_at, text_at}
 use Rattle.n2k_table.specs.Tree.{checked_text, bool_at, in_range, is_extended}
 use Rattle.n2k_table.specs.Resolution.{resolution_at}
@@ -71,26 +71,26 @@ pub record FieldParts : Type 0 where
   pub meaning : Meaning
   pub match_value : Option ℕ
 
--- the kinds that only a table of format 3 may have; a set has no strings
-abbrev pub more_field_kind : Holder → List ℕ → Result FieldKind TableFault
-more_field_kind holder name =
+-- the kinds that only a table of format 3 may have
+abbrev pub more_field_kind : List ℕ → Result FieldKind TableFault
+more_field_kind name =
     if bytes_eq name (codes "flags") then Ok kind.Flags
     else (if bytes_eq name (codes "digits") then Ok kind.Digits
-    else (if can_have_strings holder && bytes_eq name (codes "string") then Ok kind.String else Err Text))
+    else (if bytes_eq name (codes "string") then Ok kind.String else Err Text))
 
 -- the kinds of fields of a message or of a set in a table of that format
-abbrev pub named_field_kind : TableFormat → Holder → List ℕ → Result FieldKind TableFault
-named_field_kind format holder name =
+abbrev pub named_field_kind : TableFormat → List ℕ → Result FieldKind TableFault
+named_field_kind format name =
     if bytes_eq name (codes "number") then Ok kind.Number
     else (if bytes_eq name (codes "lookup") then Ok kind.Lookup
     else (if bytes_eq name (codes "text") then Ok kind.Text
     else (if bytes_eq name (codes "bytes") then Ok kind.Bytes
-    else (if is_extended format then more_field_kind holder name else Err Text))))
+    else (if is_extended format then more_field_kind name else Err Text))))
 
-abbrev pub kind_of_field : TableFormat → Holder → Members → Result FieldKind TableFault
-kind_of_field format holder f = do
+abbrev pub kind_of_field : TableFormat → Members → Result FieldKind TableFault
+kind_of_field format f = do
   name ← any_text_at (codes "kind") f
-  named_field_kind format holder name
+  named_field_kind format name
 
 -- Texts, bytes, digits and strings begin and end with a byte: their places are multiples of 8.
 abbrev pub alignment : FieldKind → ℕ
@@ -120,15 +120,15 @@ first_bit alignment m = do
   n ← int_at (codes "at") 0 last_bit m
   multiple_of alignment n
 
--- how many bits there are: a multiple of the alignment, and so many at most
-abbrev pub bit_count : ℕ → ℕ → Members → Result ℕ TableFault
-bit_count alignment most m = do
-  n ← int_at (codes "bits") 1 most m
+-- how many bits there are: a multiple of the alignment, so many at least, and so many at most
+abbrev pub bit_count : ℕ → ℕ → ℕ → Members → Result ℕ TableFault
+bit_count alignment least most m = do
+  n ← int_at (codes "bits") least most m
   multiple_of alignment n
 
 -- how many bits a field has; a string has none
 abbrev pub bits_of : FieldKind → Members → Result ℕ TableFault
-bits_of kind f = if has_bits kind then bit_count (alignment kind) (most_bits kind) f else Ok 0
+bits_of kind f = if has_bits kind then bit_count (alignment kind) 1 (most_bits kind) f else Ok 0
 
 abbrev pub is_string : Meaning → Bool
 is_string (string form) = true
@@ -147,16 +147,20 @@ own_step _ at = []
 abbrev pub steps_through : FieldParts → List Step
 steps_through f = f.behind ++ own_step f.meaning f.at
 
--- The strings behind which a field stands by what is at `match` and at `after`, if something is. It names a string of
--- those that were read before it, the first of the name. A field that asks for a value has a place of its own.
-abbrev pub steps_to : List FieldParts → Option Data → Option Data → Result (List Step) TableFault
-steps_to before asked None = Ok []
-steps_to before (Some value) (Some d) = Err Key
-steps_to before None (Some d) = do
+-- the strings behind which stands what names a string of these fields, the first of the name
+abbrev pub steps_named : List FieldParts → Data → Result (List Step) TableFault
+steps_named before d = do
   spelled ← ok_or (as_str d) Key
   name ← checked_text spelled
   earlier ← ok_or (find (is_string_named name) before) Lookup
   Ok (steps_through earlier)
+
+-- The strings behind which a field stands by what is at `match` and at `after`, if something is. It names a string of
+-- those that were read before it. A field that asks for a value has a place of its own.
+abbrev pub steps_to : List FieldParts → Option Data → Option Data → Result (List Step) TableFault
+steps_to before asked None = Ok []
+steps_to before (Some value) (Some d) = Err Key
+steps_to before None (Some d) = steps_named before d
 
 abbrev pub steps_of : List FieldParts → Members → Result (List Step) TableFault
 steps_of before f = steps_to before (get_member (codes "match") f) (get_member (codes "after") f)
@@ -252,7 +256,7 @@ short_of kind holder f = if can_be_short kind holder then bool_at (codes "short"
 unfoldable pub field : TableFormat → Holder → List LookupParts → List FieldParts → Data → Result FieldParts TableFault
 field format holder lookups before d = do
   f ← as_members d
-  kind ← kind_of_field format holder f
+  kind ← kind_of_field format f
   known ← check_keys (Field format kind holder) f
   name ← text_at (codes "name") f
   at ← first_bit (alignment kind) f

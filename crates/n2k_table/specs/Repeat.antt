@@ -1,48 +1,94 @@
--- What repeats in a message: a set of fields that stands again and again, as often as it lies wholly in the data.
-use Rattle.std.specs.Prelude.{ℕ, ◌+◌, ◌*◌, ◌-◌, ◌/◌, List, [], length, map, slice_range, Result, Ok}
-use Rattle.std.specs.List.{range_with_len}
-use Rattle.toml.specs.Data.{Data}
+-- What repeats in a message: a set of fields that stands again and again, one behind the other, as often as it lies wholly
+-- in the data.
+use Rattle.std.specs.Prelude.{ℕ, zero, suc, ◌+◌, ◌/◌, Bool, ◌||◌, nat_le, List, [], ◌∷◌, length, map, take, drop}
+use Rattle.std.specs.Prelude.{Option, Some, None, option_map, unwrap_or, Result, Ok, if◌then◌else◌, codes}
+use Rattle.std.specs.List.{list_any}
+use Rattle.std.specs.Option.{option_and_then}
+use Rattle.toml.specs.Data.{Data, Members, get_member}
 use Rattle.n2k_table.specs.declared.fault.TableFault.{TableFault}
+use Rattle.n2k_table.specs.declared.fault.TableFault.TheVariants.{Range}
+use Rattle.n2k_table.specs.declared.string_place.Step.{Step}
 use Rattle.n2k_table.specs.declared.tree.Holder.TheVariants.{Set}
 use Rattle.n2k_table.specs.declared.tree.TableFormat.{TableFormat}
 use Rattle.n2k_table.specs.declared.tree.Section.TheVariants.{Repeat}
-use Rattle.n2k_wire.specs.Steps.{◌>>=◌}
-use Rattle.n2k_table.specs.Tree.{message_bits, check_keys, as_members}
+use Rattle.n2k_wire.specs.Steps.{◌>>=◌, holds_or}
+use Rattle.n2k_table.specs.Tree.{message_bits, is_extended, check_keys, as_members}
 use Rattle.n2k_table.specs.Lookup.{LookupParts}
-use Rattle.n2k_table.specs.Field.{FieldParts, first_bit, bit_count, check_end}
+use Rattle.n2k_table.specs.Strings.{taken, data_behind}
+use Rattle.n2k_table.specs.Field.{Meaning, string, FieldParts, is_string, first_bit, bit_count, steps_to, check_end}
 use Rattle.n2k_table.specs.Fields.{fields}
 use Rattle.n2k_table.specs.Shown.{ShownParts, all_shown}
 
--- what repeats: the first bit of the first set, the bits of a set, and its fields, whose places count from the set's
--- first bit
+-- What repeats: the first bit of the first set, the bits of a set beside those of its strings, the strings of the message
+-- behind which the sets stand, from the first on, and the fields of a set, whose places count from the set's first bit.
+-- Where the sets stand behind strings, their first bit counts from the end of the last.
 pub record RepeatParts : Type 0 where
   pub at : ℕ
   pub bits : ℕ
+  pub behind : List Step
   pub fields : List FieldParts
 
--- how many sets lie wholly in data of so many bytes
-abbrev pub set_count : RepeatParts → ℕ → ℕ
-set_count r bytes = (8 * bytes - r.at) / r.bits
+-- the bytes of a field of that meaning at a bit of some data that a set has beside its bits: those of a string, if it is
+-- proper, and of any other field none
+abbrev pub own_bytes : Meaning → ℕ → Option (List ℕ) → Option ℕ
+own_bytes (string form) at rest = option_and_then (λ bytes. taken form (drop (at / 8) bytes)) rest
+own_bytes _ at rest = Some 0
 
--- the bytes of set j, which begins at bit `at + j * bits`
-abbrev pub set_bytes : RepeatParts → List ℕ → ℕ → List ℕ
-set_bytes r payload j = slice_range payload ((r.at + j * r.bits) / 8) ((r.at + j * r.bits + r.bits) / 8)
+-- how many bytes the strings of a set have that begins with the first of these, if each is proper
+abbrev pub strings_size : List FieldParts → List ℕ → Option ℕ
+strings_size [] bytes = Some 0
+strings_size (f ∷ fs) bytes =
+    option_and_then (λ n. option_map (λ m. n + m) (strings_size fs bytes)) (own_bytes f.meaning f.at (data_behind f.behind bytes))
 
--- what the fields of set j show: each is shown in the set's own bytes
-abbrev pub set_shown : RepeatParts → List ℕ → ℕ → List (List ℕ × ShownParts)
-set_shown r payload j = all_shown r.fields (set_bytes r payload j)
+-- so many bytes, if there are as many
+abbrev pub if_inside : ℕ → ℕ → Option ℕ
+if_inside n all = if nat_le n all then Some n else None
 
--- what each set shows, in order
+-- how many bytes a set has that begins with the first of these, if it lies wholly in them
+abbrev pub set_size : RepeatParts → List ℕ → Option ℕ
+set_size r bytes = option_and_then (λ n. if_inside (r.bits / 8 + n) (length bytes)) (strings_size r.fields bytes)
+
+-- the set with which these bytes begin, if it lies wholly in them, and what stands behind it
+abbrev pub first_set : RepeatParts → List ℕ → Option (List ℕ × List ℕ)
+first_set r bytes = option_map {U = List ℕ × List ℕ} (λ n. (take n bytes, drop n bytes)) (set_size r bytes)
+
+-- the sets with which these bytes begin, so many at most: one behind the other, up to the first that does not lie wholly
+-- in them
+abbrev pub sets_from : RepeatParts → ℕ → List ℕ → List (List ℕ)
+sets_from r zero bytes = []
+sets_from r (suc most) bytes =
+    unwrap_or (option_map (λ n. take n bytes ∷ sets_from r most (drop n bytes)) (set_size r bytes)) []
+
+-- the data from the first set on: none where a string before them has no end
+abbrev pub from_first : RepeatParts → List ℕ → List ℕ
+from_first r payload = drop (r.at / 8) (unwrap_or (data_behind r.behind payload) [])
+
+-- the bytes of each set. Each has a byte, so there are no more of them than bytes.
+abbrev pub sets : RepeatParts → List ℕ → List (List ℕ)
+sets r payload = sets_from r (length (from_first r payload)) (from_first r payload)
+
+-- what each set shows, in order: its fields in the set's own bytes
 abbrev pub all_sets : RepeatParts → List ℕ → List (List (List ℕ × ShownParts))
-all_sets r payload = map (set_shown r payload) (range_with_len 0 (set_count r (length payload)))
+all_sets r payload = map (all_shown r.fields) (sets r payload)
 
--- The repeat that a value spells, in a table of that format and of these lookups. Its fields end within a set.
-unfoldable pub repeat : TableFormat → List LookupParts → Data → Result RepeatParts TableFault
-repeat format lookups d = do
+-- From format 3 on the strings of a set may be all that it has.
+abbrev pub least_set_bits : TableFormat → ℕ
+least_set_bits format = if is_extended format then 0 else 1
+
+-- the set has a byte, whatever the data are
+abbrev pub has_some : ℕ → List FieldParts → Bool
+has_some bits all = nat_le 1 bits || list_any (λ f. is_string f.meaning) all
+
+-- The repeat that a value spells behind these fields of a message, in a table of that format and of these lookups. Its
+-- fields end within a set.
+unfoldable pub repeat : TableFormat → List LookupParts → List FieldParts → Data → Result RepeatParts TableFault
+repeat format lookups own d = do
   m ← as_members d
-  known ← check_keys Repeat m
+  known ← check_keys (Repeat format) m
   at ← first_bit 8 m
-  bits ← bit_count 8 message_bits m
-  inside ← check_end [] at bits message_bits
+  bits ← bit_count 8 (least_set_bits format) message_bits m
+  behind ← steps_to own None (get_member (codes "after") m)
+  inside ← check_end behind at bits message_bits
   all ← fields format (Set bits) lookups m
-  Ok (record { at = at; bits = bits; fields = all })
+  some ← holds_or Range (has_some bits all)
+  Ok (record { at = at; bits = bits; behind = behind; fields = all })

@@ -76,11 +76,6 @@ has_bits _ = true
 abbrev pub place_keys : FieldKind → List (List ℕ)
 place_keys kind = if has_bits kind then codes "at" ∷ codes "bits" ∷ [] else codes "at" ∷ []
 
--- A message may have strings, and fields that stand behind them. A set has none.
-abbrev pub can_have_strings : Holder → Bool
-can_have_strings Message = true
-can_have_strings (Set bits) = false
-
 -- A text, bytes or a string of a message may be short. Each field of a set lies in it.
 abbrev pub can_be_short : FieldKind → Holder → Bool
 can_be_short kind.Text Message = true
@@ -101,12 +96,13 @@ is_key Lookup key = is_among key (codes "name" ∷ codes "entries" ∷ [])
 is_key (Definition format) key =
     is_among key (codes "number" ∷ codes "kind" ∷ codes "description" ∷ codes "fields" ∷ [])
     || (has_sets format && bytes_eq key (codes "repeat"))
-is_key Repeat key = is_among key (codes "at" ∷ codes "bits" ∷ codes "fields" ∷ [])
+is_key (Repeat format) key =
+    is_among key (codes "at" ∷ codes "bits" ∷ codes "fields" ∷ []) || (is_extended format && bytes_eq key (codes "after"))
 is_key (Field format kind holder) key =
     is_among key (codes "name" ∷ codes "kind" ∷ place_keys kind)
     || is_among key (own_keys kind)
     || (is_extended format && is_among key (more_keys kind))
-    || (is_extended format && can_have_strings holder && bytes_eq key (codes "after"))
+    || (is_extended format && bytes_eq key (codes "after"))
     || (is_extended format && can_be_short kind holder && bytes_eq key (codes "short"))
     || (can_match kind holder && bytes_eq key (codes "match"))
 

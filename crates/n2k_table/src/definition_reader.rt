@@ -81,7 +81,7 @@ fn repeat_if_there(
     let Some(value) = get(table, "repeat") else {
         return Ok(None);
     };
-    let repeat = read_repeat(alloc, lookups, format, value)?;
+    let repeat = read_repeat(alloc, lookups, format, own, value)?;
     if is_named(own, LIST) {
         return Err(TableFault::Twice);
     }

@@ -9,7 +9,7 @@ use crate::lookup::Lookup;
 use crate::number::{Scale, Shift};
 use crate::padded_text::PaddedText;
 use crate::shown::Shown;
-use crate::string_place::{Form, Step, data_behind};
+use crate::string_place::{Form, Step, data_behind, taken_at};
 use crate::string_value::string_value;
 use std::alloc::AllocError;
 use std::marker::Model;
@@ -80,6 +80,9 @@ impl Field {
     ghost use Rattle.n2k_table.specs.Inner.Line.{key_json};
     ghost use Rattle.n2k_table.specs.Inner.FieldValue.{value_parts, stands_inside};
     ghost use Rattle.n2k_table.specs.Shown.{lies_inside, field_bytes, begins_inside, shown_part, shown_from, shown, shown_parts};
+    ghost use Rattle.n2k_table.specs.Strings.{data_behind};
+    ghost use Rattle.n2k_table.specs.Field.{is_string};
+    ghost use Rattle.n2k_table.specs.Repeat.{own_bytes};
     ghost use Rattle.n2k_table.specs.Table.{field_matches};
 
     /// The name.
@@ -96,6 +99,27 @@ impl Field {
     {
         let from = if later { 0 } else { 1 };
         self.key.push_from(from, line)
+    }
+
+    /// Whether it is a string.
+    pub(crate) fn is_string(&self) -> bool
+        ensures { result ≡ is_string self.now.meaning }
+    {
+        match self.meaning {
+            Meaning::String(_) => true,
+            _ => false,
+        }
+    }
+
+    /// The bytes that the set that begins with the first of these has for the field beside its bits: those of a string, and
+    /// nothing where it is not proper.
+    pub(crate) fn own_bytes(&self, set: &[u8]) -> Option<usize>
+        ensures { result ≡ own_bytes self.now.meaning self.now.at (data_behind self.now.behind set.now) }
+    {
+        match self.meaning {
+            Meaning::String(form) => taken_at(form, data_behind(&self.behind, set)?, self.at),
+            _ => Some(0),
+        }
     }
 
     /// Whether it has a match value.

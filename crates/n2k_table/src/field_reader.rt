@@ -1,5 +1,5 @@
 //! A field, as a table spells it.
-ghost use Rattle.std.specs.Prelude.{◌≡◌, ℕ, ◌≤◌, ◌<◌, ◌+◌, ◌%◌, codes, true, option_map, IfOk, IfSome};
+ghost use Rattle.std.specs.Prelude.{◌≡◌, ℕ, ◌≤◌, ◌<◌, ◌+◌, ◌%◌, codes, true, None, option_map, IfOk, IfSome};
 ghost use Rattle.std.specs.List.{find};
 ghost use Rattle.toml.specs.Data.{get_member};
 ghost use Rattle.toml.specs.View.{view, table_view};
@@ -10,7 +10,7 @@ ghost use Rattle.n2k_table.specs.Reading.{ReaderGives};
 ghost use Rattle.n2k_table.specs.Tree.{has_bits, message_bits, end_of};
 ghost use Rattle.n2k_table.specs.Field.{named_field_kind, more_field_kind, kind_of_field, alignment, last_bit, most_bits};
 ghost use Rattle.n2k_table.specs.Field.{multiple_of, first_bit, bit_count, bits_of, is_string_named};
-ghost use Rattle.n2k_table.specs.Field.{steps_through, steps_of, fixed_place, check_end, offset_in_range, offset_number};
+ghost use Rattle.n2k_table.specs.Field.{steps_through, steps_named, steps_to, steps_of, fixed_place, check_end, offset_in_range, offset_number};
 ghost use Rattle.n2k_table.specs.Field.{check_unit, number_of_bits, lookup_named, named_form, form_of, meaning_of, short_of};
 ghost use Rattle.n2k_table.specs.Field.{raw_or_none, match_value_of, field};
 
@@ -46,44 +46,36 @@ pub(crate) const MOST_LOOKUP_BITS: u32 = 32;
 /// The greatest offset; the least is as far below zero and one more.
 pub(crate) const GREATEST_OFFSET: i64 = 4294967295;
 
-/// The kinds that only a table of format 3 may have; a set has no strings.
-fn more_field_kind(holder: Holder, name: &str) -> Result<FieldKind, TableFault>
-    ensures { Gives (λ kind. kind) result (more_field_kind holder name.now) }
+/// The kinds that only a table of format 3 may have.
+fn more_field_kind(name: &str) -> Result<FieldKind, TableFault>
+    ensures { Gives (λ kind. kind) result (more_field_kind name.now) }
 {
     match name {
         "flags" => Ok(FieldKind::Flags),
         "digits" => Ok(FieldKind::Digits),
-        "string" if holder.can_have_strings() => Ok(FieldKind::String),
+        "string" => Ok(FieldKind::String),
         _ => Err(TableFault::Text),
     }
 }
 
 /// The kinds of fields of a message or of a set in a table of this format.
-fn named_field_kind(
-    format: TableFormat,
-    holder: Holder,
-    name: &str,
-) -> Result<FieldKind, TableFault>
-    ensures { Gives (λ kind. kind) result (named_field_kind format holder name.now) }
+fn named_field_kind(format: TableFormat, name: &str) -> Result<FieldKind, TableFault>
+    ensures { Gives (λ kind. kind) result (named_field_kind format name.now) }
 {
     match name {
         "number" => Ok(FieldKind::Number),
         "lookup" => Ok(FieldKind::Lookup),
         "text" => Ok(FieldKind::Text),
         "bytes" => Ok(FieldKind::Bytes),
-        _ if format.is_extended() => more_field_kind(holder, name),
+        _ if format.is_extended() => more_field_kind(name),
         _ => Err(TableFault::Text),
     }
 }
 
-fn kind_of_field(
-    format: TableFormat,
-    holder: Holder,
-    table: &Table,
-) -> Result<FieldKind, TableFault>
-    ensures { Gives (λ kind. kind) result (kind_of_field format holder (table_view table.now)) }
+fn kind_of_field(format: TableFormat, table: &Table) -> Result<FieldKind, TableFault>
+    ensures { Gives (λ kind. kind) result (kind_of_field format (table_view table.now)) }
 {
-    named_field_kind(format, holder, any_text_at(table, "kind")?)
+    named_field_kind(format, any_text_at(table, "kind")?)
 }
 
 /// Of what number of bits the place of a field is a multiple.
@@ -133,14 +125,19 @@ pub(crate) fn first_bit(table: &Table, alignment: u32) -> Result<u32, TableFault
     multiple_of(alignment, int_at(table, "at", 0, LAST_BIT)?)
 }
 
-/// How many bits there are: a multiple of the alignment, and so many at most.
-pub(crate) fn bit_count(table: &Table, alignment: u32, most: u32) -> Result<u32, TableFault>
+/// How many bits there are: a multiple of the alignment, from `least` to `most`.
+pub(crate) fn bit_count(
+    table: &Table,
+    alignment: u32,
+    least: u32,
+    most: u32,
+) -> Result<u32, TableFault>
     requires { 0 < alignment }
-    ensures value { Gives (λ bits. bits) result (bit_count alignment most (table_view table.now)) }
-    ensures range { IfOk result (λ bits. (1 ≤ bits) × (bits ≤ most)) }
+    ensures value { Gives (λ bits. bits) result (bit_count alignment least most (table_view table.now)) }
+    ensures range { IfOk result (λ bits. (least ≤ bits) × (bits ≤ most)) }
     ensures aligned { IfOk result (λ bits. bits % alignment ≡ 0) }
 {
-    multiple_of(alignment, int_at(table, "bits", 1, most)?)
+    multiple_of(alignment, int_at(table, "bits", least, most)?)
 }
 
 /// How many bits a field has; a string has none.
@@ -152,7 +149,7 @@ fn bits_of(kind: FieldKind, table: &Table) -> Result<u32, TableFault>
     if !kind.has_bits() {
         return Ok(0);
     }
-    bit_count(table, alignment(kind), most_bits(kind))
+    bit_count(table, alignment(kind), 1, most_bits(kind))
 }
 
 /// Whether the field is a string of that name.
@@ -188,6 +185,32 @@ fn steps_through(alloc: Global, earlier: &Field) -> Result<Vec<Step>, AllocError
     Ok(steps)
 }
 
+/// The strings behind which stands what names a string of these fields.
+fn steps_named(alloc: Global, before: &[Field], value: &Value) -> Result<Vec<Step>, TableFault>
+    ensures value { ReaderGives (λ steps. steps.items) result (steps_named before.now (view value.now)) }
+    ensures room { IfOk result (λ steps. fixed_place steps.items 0 ≤ message_bits) }
+{
+    let name = checked_text(value.as_str().ok_or(TableFault::Key)?)?;
+    let earlier = string_named(before, name).ok_or(TableFault::Lookup)?;
+    Ok(steps_through(alloc, earlier)?)
+}
+
+/// The strings behind which sets stand, which may name one of the message's own.
+pub(crate) fn steps_of_sets(
+    alloc: Global,
+    own: &[Field],
+    table: &Table,
+) -> Result<Vec<Step>, TableFault>
+    ensures value { ReaderGives (λ steps. steps.items) result
+        (steps_to own.now None (get_member (codes "after") (table_view table.now))) }
+    ensures room { IfOk result (λ steps. fixed_place steps.items 0 ≤ message_bits) }
+{
+    match get(table, "after") {
+        None => Ok(Vec::new(alloc)),
+        Some(value) => steps_named(alloc, own, value),
+    }
+}
+
 /// The strings behind which a field stands that names one of those read before it. A field that asks for a value names
 /// none.
 fn steps_of(alloc: Global, before: &[Field], table: &Table) -> Result<Vec<Step>, TableFault>
@@ -200,9 +223,7 @@ fn steps_of(alloc: Global, before: &[Field], table: &Table) -> Result<Vec<Step>,
     if get(table, "match").is_some() {
         return Err(TableFault::Key);
     }
-    let name = checked_text(value.as_str().ok_or(TableFault::Key)?)?;
-    let earlier = string_named(before, name).ok_or(TableFault::Lookup)?;
-    Ok(steps_through(alloc, earlier)?)
+    steps_named(alloc, before, value)
 }
 
 /// Where a place behind these strings would be if they took no bytes.
@@ -412,7 +433,7 @@ pub(crate) fn read_field(
     ensures { ReaderGives (λ field. field) result (field format holder lookups.now before.now (view value.now)) }
 {
     let table = as_members(value)?;
-    let kind = kind_of_field(format, holder, table)?;
+    let kind = kind_of_field(format, table)?;
     check_keys(table, Section::Field(format, kind, holder))?;
     let name = text_at(table, "name")?;
     let at = first_bit(table, alignment(kind))?;

@@ -3,7 +3,7 @@ ghost use Rattle.std.specs.Prelude.{◌≡◌, ◌++◌, ◌+◌, ◌*◌, ◌�
 ghost use Rattle.std.specs.Prelude.{decimal, length, map, IfOk, IfSome, OnOk, OnErr, Some};
 ghost use Rattle.n2k_table.specs.Shown.{shown, all_shown, flags_left};
 ghost use Rattle.std.specs.List.{flat_map, join_with_byte};
-ghost use Rattle.n2k_table.specs.Repeat.{set_shown, all_sets};
+ghost use Rattle.n2k_table.specs.Repeat.{all_sets};
 ghost use Rattle.n2k_table.specs.Inner.FieldValue.{named_bit};
 ghost use Rattle.n2k_table.specs.Json.{array, flag_json};
 ghost use Rattle.n2k_table.specs.Json.{comma, member_json, members, set_json, list_json, message_members};
@@ -257,18 +257,17 @@ fn push_members(
 
 /// Appends a set as an object, after a comma where a set stands before.
 fn push_set(
-    repeat: &Repeat,
-    data: &[u8],
-    number: usize,
+    fields: &[Field],
+    set: &[u8],
+    later: bool,
     absent: AbsentFields,
     line: &mut LineBuffer,
 ) -> Result<(), AllocError>
-    requires { repeat.now.at + number * repeat.now.bits + repeat.now.bits ≤ 8 * length «data».now }
-    ensures { let set = set_json (are_null absent) (set_shown repeat.now «data».now number) in
-        OnOk result (line.new.items ≡ line.old.items ++ member_text (nat_lt 0 number) (Some set)) }
+    ensures { let object = set_json (are_null absent) (all_shown fields.now set.now) in
+        OnOk result (line.new.items ≡ line.old.items ++ member_text later (Some object)) }
 {
-    line.extend_from_slice(if number > 0 { b",{" } else { b"{" })?;
-    push_members(repeat.fields(), repeat.set(data, number), absent, line)?;
+    line.extend_from_slice(if later { b",{" } else { b"{" })?;
+    push_members(fields, set, absent, line)?;
     line.push(b'}')
 }
 
@@ -282,9 +281,12 @@ fn push_sets(
     ensures { let sets = map (set_json (are_null absent)) (all_sets repeat.now «data».now) in
         OnOk result (line.new.items ≡ line.old.items ++ join_with_byte comma sets) }
 {
-    let count = repeat.count(data);
-    for number in 0..count {
-        push_set(repeat, data, number, absent, line)?;
+    let mut later = false;
+    let mut rest = repeat.from_first(data);
+    while let Some((set, behind)) = repeat.split_set(rest) {
+        push_set(repeat.fields(), set, later, absent, line)?;
+        later = true;
+        rest = behind;
     }
     Ok(())
 }

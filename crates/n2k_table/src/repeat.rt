@@ -1,15 +1,19 @@
 //! What repeats in a message, and what its sets show.
-ghost use Rattle.std.specs.Prelude.{◌≡◌, ◌≤◌, ◌<◌, ◌+◌, ◌*◌, ℕ, length};
+ghost use Rattle.std.specs.Prelude.{◌≡◌, ◌≤◌, ◌<◌, ℕ, List, length, option_map, IfSome};
+ghost use Rattle.std.specs.List.{list_any};
 ghost use Rattle.toml.specs.View.{view};
 ghost use Rattle.n2k_table.specs.Reading.{ReaderGives};
-ghost use Rattle.n2k_table.specs.Repeat.{set_count, set_bytes, all_sets, repeat};
+ghost use Rattle.n2k_table.specs.Field.{is_string};
+ghost use Rattle.n2k_table.specs.Repeat.{strings_size, set_size, first_set, from_first, all_sets, least_set_bits, repeat};
+ghost use Rattle.n2k_table.specs.Inner.Kept.{left_beside};
 
 use crate::fault::TableFault;
 use crate::field::Field;
-use crate::field_reader::{bit_count, check_end, first_bit};
+use crate::field_reader::{bit_count, check_end, first_bit, steps_of_sets};
 use crate::fields_reader::read_fields;
 use crate::lookup::Lookups;
 use crate::shown::Fields;
+use crate::string_place::{Step, data_behind};
 use crate::tree::{Holder, MESSAGE_BITS, Section, TableFormat, as_members, check_keys};
 use std::alloc::Global;
 use std::marker::Model;
@@ -18,21 +22,47 @@ use toml::Value;
 /// A set of fields that stands again and again, from a byte of the data on.
 #[derive(Drop)]
 pub(crate) struct Repeat {
-    /// The first byte of the first set, and the bytes of a set.
+    /// The first byte of the first set.
     first: u32,
+    /// The bytes of a set beside those of its strings.
     size: u32,
+    /// The strings of the message behind which the sets stand, from the first on. The first byte counts from the end of the
+    /// last.
+    behind: Vec<Step>,
     fields: Vec<Field>,
+    /// Whether a field of a set is a string.
+    has_strings: bool,
 }
 
 impl Model for Repeat {
-    ghost use Rattle.std.specs.Prelude.{◌*◌, ◌≤◌};
+    ghost use Rattle.std.specs.Prelude.{◌*◌, ◌≡◌, ◌||◌, true, nat_le};
+    ghost use Rattle.std.specs.List.{list_any};
+    ghost use Rattle.n2k_table.specs.Field.{is_string};
     ghost use Rattle.n2k_table.specs.Repeat.{RepeatParts};
 
     ghost Value = { RepeatParts };
 
-    ghost view = { λ r. record { at = 8 * r.first; bits = 8 * r.size; fields = r.fields.items } };
+    ghost view = { λ r. record {
+      at = 8 * r.first;
+      bits = 8 * r.size;
+      behind = r.behind.items;
+      fields = r.fields.items;
+    } };
 
-    ghost invariant = { λ r. 1 ≤ r.size };
+    ghost invariant = { λ r. (r.has_strings ≡ list_any (λ f. is_string f.meaning) r.fields.items)
+        × ((nat_le 1 r.size || r.has_strings) ≡ true) };
+}
+
+/// How many of so many bytes are left beside the strings of a set that begins with the first of these; none where one of
+/// them is not proper, or there are not as many.
+fn left_beside(fields: &[Field], set: &[u8], room: usize) -> Option<usize>
+    ensures { result ≡ left_beside room (strings_size fields.now set.now) }
+{
+    let mut left = room;
+    for field in fields {
+        left = left.checked_sub(field.own_bytes(set)?)?;
+    }
+    Some(left)
 }
 
 impl Repeat {
@@ -43,23 +73,33 @@ impl Repeat {
         self.fields.as_slice()
     }
 
-    /// How many sets lie wholly in the data.
-    pub(crate) fn count(&self, data: &[u8]) -> usize
-        ensures value { result ≡ set_count self.now (length «data».now) }
-        ensures few { result ≤ length «data».now }
-        ensures inside { (j : ℕ) → j < result
-            → self.now.at + j * self.now.bits + self.now.bits ≤ 8 * length «data».now }
+    /// The data from the first set on: none where a string before it has no end.
+    pub(crate) fn from_first<'a>(&self, data: &'a [u8]) -> &'a [u8]
+        ensures { result.now ≡ from_first self.now «data».now }
     {
-        data.len().saturating_sub(self.first as usize) / self.size as usize
+        let rest = data_behind(&self.behind, data).unwrap_or(&[]);
+        rest.get(self.first as usize..).unwrap_or(&[])
     }
 
-    /// The bytes of a set that lies wholly in the data.
-    pub(crate) fn set<'a>(&self, data: &'a [u8], number: usize) -> &'a [u8]
-        requires { self.now.at + number * self.now.bits + self.now.bits ≤ 8 * length «data».now }
-        ensures { result.now ≡ set_bytes self.now «data».now number }
+    /// How many bytes a set has that begins with the first of these, if it lies wholly in them.
+    fn set_size(&self, bytes: &[u8]) -> Option<usize>
+        ensures value { result ≡ set_size self.now bytes.now }
+        ensures some { IfSome result (λ size. (1 ≤ size) × (size ≤ length bytes.now)) }
     {
-        let from = self.first as usize + number * self.size as usize;
-        &data[from..from + self.size as usize]
+        let mut left = bytes.len().checked_sub(self.size as usize)?;
+        if self.has_strings {
+            left = left_beside(&self.fields, bytes, left)?;
+        }
+        Some(bytes.len() - left)
+    }
+
+    /// The set that begins with the first of these bytes, if it lies wholly in them, and what stands behind it.
+    pub(crate) fn split_set<'a>(&self, bytes: &'a [u8]) -> Option<(&'a [u8], &'a [u8])>
+        ensures value { option_map {U = List ℕ × List ℕ} (λ parts. (parts.0.now, parts.1.now)) result ≡ first_set self.now bytes.now }
+        ensures shorter { IfSome result (λ parts. length parts.1.now < length bytes.now) }
+    {
+        let size = self.set_size(bytes)?;
+        Some(bytes.split_at(size))
     }
 }
 
@@ -68,24 +108,18 @@ impl Repeat {
 #[derive(Drop)]
 pub struct Sets<'a> {
     repeat: &'a Repeat,
-    data: &'a [u8],
-    /// The number of the next set, and how many are left.
-    next: usize,
-    left: usize,
+    /// The data from the next set on.
+    rest: &'a [u8],
 }
 
 impl<'a> Model for Sets<'a> {
-    ghost use Rattle.std.specs.Prelude.{List, ℕ, ◌+◌, ◌*◌, ◌≤◌, ◌<◌, length, map};
-    ghost use Rattle.std.specs.List.{range_with_len};
-    ghost use Rattle.n2k_table.specs.Repeat.{set_shown};
-    ghost use Rattle.n2k_table.specs.Shown.{ShownParts};
+    ghost use Rattle.std.specs.Prelude.{List, ℕ, length, map};
+    ghost use Rattle.n2k_table.specs.Repeat.{sets_from};
+    ghost use Rattle.n2k_table.specs.Shown.{ShownParts, all_shown};
 
     ghost Value = { List (List (List ℕ × ShownParts)) };
 
-    ghost view = { λ s. map (set_shown s.repeat.now s.«data».now) (range_with_len s.next s.left) };
-
-    ghost invariant = { λ s. (s.next + s.left ≤ length s.«data».now)
-        × (0 < s.left → s.repeat.now.at + (s.next + s.left) * s.repeat.now.bits ≤ 8 * length s.«data».now) };
+    ghost view = { λ s. map (all_shown s.repeat.now.fields) (sets_from s.repeat.now (length s.rest.now) s.rest.now) };
 }
 
 impl<'a> Sets<'a> {
@@ -95,9 +129,7 @@ impl<'a> Sets<'a> {
     {
         Sets {
             repeat,
-            data,
-            next: 0,
-            left: repeat.count(data),
+            rest: repeat.from_first(data),
         }
     }
 }
@@ -112,35 +144,53 @@ impl<'a> Iterator for Sets<'a> {
     ghost remaining = { item_count (λ sets. sets) };
 
     fn next(&mut self) -> Option<Fields<'a>> {
-        if self.left == 0 {
-            return None;
-        }
-        let set = self.repeat.set(self.data, self.next);
-        self.next += 1;
-        self.left -= 1;
+        let (set, rest) = self.repeat.split_set(self.rest)?;
+        self.rest = rest;
         Some(Fields::new(self.repeat.fields(), set))
     }
 }
 
-/// Reads what repeats, in a table of this format and of these lookups.
+/// The least bits of a set beside its strings: in format 3 it may have strings alone.
+fn least_set_bits(format: TableFormat) -> u32
+    ensures { result ≡ least_set_bits format }
+{
+    if format.is_extended() { 0 } else { 1 }
+}
+
+/// Whether a field is a string.
+fn any_is_string(fields: &[Field]) -> bool
+    ensures { result ≡ list_any (λ f. is_string f.meaning) fields.now }
+{
+    fields.iter().any(|field| field.is_string())
+}
+
+/// Reads what repeats behind these fields of a message, in a table of this format and of these lookups.
 #[tactic(auto, unfolding(crate::specs::Repeat::repeat))]
 pub(crate) fn read_repeat(
     alloc: Global,
     lookups: &Lookups,
     format: TableFormat,
+    own: &[Field],
     value: &Value,
 ) -> Result<Repeat, TableFault>
-    ensures { ReaderGives (λ r. r) result (repeat format lookups.now (view value.now)) }
+    ensures { ReaderGives (λ r. r) result (repeat format lookups.now own.now (view value.now)) }
 {
     let table = as_members(value)?;
-    check_keys(table, Section::Repeat)?;
+    check_keys(table, Section::Repeat(format))?;
     let at = first_bit(table, 8)?;
-    let bits = bit_count(table, 8, MESSAGE_BITS)?;
-    check_end(&[], at, bits, MESSAGE_BITS)?;
+    let bits = bit_count(table, 8, least_set_bits(format), MESSAGE_BITS)?;
+    let behind = steps_of_sets(alloc, own, table)?;
+    check_end(&behind, at, bits, MESSAGE_BITS)?;
     let fields = read_fields(alloc, lookups, format, Holder::Set(bits), table)?;
+    let has_strings = any_is_string(&fields);
+    if bits == 0 && !has_strings {
+        return Err(TableFault::Range);
+    }
     Ok(Repeat {
         first: at / 8,
         size: bits / 8,
+        behind,
         fields,
+        has_strings,
     })
 }

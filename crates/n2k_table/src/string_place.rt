@@ -48,6 +48,13 @@ fn from_bit(bytes: &[u8], at: u32) -> &[u8]
     bytes.get(at as usize / 8..).unwrap_or(&[])
 }
 
+/// How many bytes a string has that begins with the byte of that bit; none where it is not proper.
+pub(crate) fn taken_at(form: Form, bytes: &[u8], at: u32) -> Option<usize>
+    ensures { result ≡ taken form (drop (at / 8) bytes.now) }
+{
+    taken(form, from_bit(bytes, at))
+}
+
 /// The data from where a field's place counts: those behind the strings before it, if each of these has an end.
 pub(crate) fn data_behind<'a>(steps: &[Step], data: &'a [u8]) -> Option<&'a [u8]>
     ensures { option_map (λ rest. rest.now) result ≡ data_behind steps.now «data».now }

@@ -23,7 +23,7 @@ pub(crate) enum TableFormat {
     One,
     /// With sets: a definition may have a key `repeat`.
     Two,
-    /// With offsets and units of numbers, flags, digits, strings, fields behind them and short fields, too.
+    /// With offsets and units of numbers, flags, digits, strings, fields and sets behind them, and short fields, too.
     Three,
 }
 
@@ -51,7 +51,7 @@ pub(crate) enum FieldKind {
 pub(crate) enum Holder {
     /// A message.
     Message,
-    /// A set of so many bits, which repeats.
+    /// A set of so many bits beside its strings, which repeats.
     Set(u32),
 }
 
@@ -64,8 +64,8 @@ pub(crate) enum Section {
     Lookup,
     /// A definition, in a table of this format.
     Definition(TableFormat),
-    /// What repeats in a message.
-    Repeat,
+    /// What repeats in a message, in a table of this format.
+    Repeat(TableFormat),
     /// A field of this kind, in a table of this format.
     Field(TableFormat, FieldKind, Holder),
 }
@@ -163,7 +163,7 @@ impl FieldKind {
 }
 
 impl Holder {
-    ghost use Rattle.n2k_table.specs.Tree.{end_of, can_have_strings};
+    ghost use Rattle.n2k_table.specs.Tree.{end_of};
 
     /// The bits within which a field ends.
     pub(crate) fn end(self) -> u32
@@ -172,16 +172,6 @@ impl Holder {
         match self {
             Holder::Message => MESSAGE_BITS,
             Holder::Set(bits) => bits,
-        }
-    }
-
-    /// Whether its fields may be strings, and stand behind them.
-    pub(crate) fn can_have_strings(self) -> bool
-        ensures { result ≡ can_have_strings self }
-    {
-        match self {
-            Holder::Message => true,
-            Holder::Set(_) => false,
         }
     }
 }
@@ -202,14 +192,19 @@ impl Section {
                     || key == "fields"
                     || (format.has_sets() && key == "repeat")
             }
-            Section::Repeat => key == "at" || key == "bits" || key == "fields",
+            Section::Repeat(format) => {
+                key == "at"
+                    || key == "bits"
+                    || key == "fields"
+                    || (format.is_extended() && key == "after")
+            }
             Section::Field(format, kind, holder) => {
                 key == "name"
                     || key == "kind"
                     || kind.has_place_key(key)
                     || kind.has_key(key)
                     || (format.is_extended() && kind.has_more_key(key))
-                    || (format.is_extended() && holder.can_have_strings() && key == "after")
+                    || (format.is_extended() && key == "after")
                     || (format.is_extended() && kind.can_be_short(holder) && key == "short")
                     || (kind.can_match(holder) && key == "match")
             }

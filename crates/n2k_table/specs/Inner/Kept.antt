@@ -1,5 +1,5 @@
 -- What the code keeps of a field, and that it is a field that can be shown.
-use Rattle.std.specs.Prelude.{◌≡◌, ◌≤◌, ℕ, ◌+◌, ◌-◌, ◌/◌, ◌^◌, true, List, [], ◌∷◌, Option, IfSome, if◌then◌else◌}
+use Rattle.std.specs.Prelude.{◌≡◌, ◌≤◌, nat_le, ℕ, ◌+◌, ◌-◌, ◌/◌, ◌^◌, true, List, [], ◌∷◌, Option, Some, None, IfSome, if◌then◌else◌}
 use Rattle.n2k_table.specs.declared.field.Meaning.{Meaning as CodeMeaning}
 use Rattle.n2k_table.specs.declared.field.Meaning.TheVariants as code
 use Rattle.n2k_table.specs.declared.string_place.Step.{Step}
@@ -44,6 +44,11 @@ HasBits kind bits = (least_bits kind ≤ bits) × (bits ≤ most_bits kind)
 abbrev pub bytes_needed : List Step → ℕ → ℕ → ℕ
 bytes_needed [] at bits = (at + bits + 7) / 8
 bytes_needed (s ∷ ss) at bits = 2 ^ 64 - 1
+
+-- what is left of so many bytes beside some others, if these are known and are not more
+abbrev pub left_beside : ℕ → Option ℕ → Option ℕ
+left_beside room None = None
+left_beside room (Some n) = if nat_le n room then Some (room - n) else None
 
 -- What the code keeps of each field: what stands before its value too, and a place that a message can have.
 pub record IsKept (name before_value : List ℕ) (at bits needed : ℕ) (behind : List Step) (meaning : CodeMeaning)
