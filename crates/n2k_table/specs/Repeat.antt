@@ -48,10 +48,6 @@ if_inside n all = if nat_le n all then Some n else None
 abbrev pub set_size : RepeatParts → List ℕ → Option ℕ
 set_size r bytes = option_and_then (λ n. if_inside (r.bits / 8 + n) (length bytes)) (strings_size r.fields bytes)
 
--- the set with which these bytes begin, if it lies wholly in them, and what stands behind it
-abbrev pub first_set : RepeatParts → List ℕ → Option (List ℕ × List ℕ)
-first_set r bytes = option_map {U = List ℕ × List ℕ} (λ n. (take n bytes, drop n bytes)) (set_size r bytes)
-
 -- the sets with which these bytes begin, so many at most: one behind the other, up to the first that does not lie wholly
 -- in them
 abbrev pub sets_from : RepeatParts → ℕ → List ℕ → List (List ℕ)
@@ -59,13 +55,17 @@ sets_from r zero bytes = []
 sets_from r (suc most) bytes =
     unwrap_or (option_map (λ n. take n bytes ∷ sets_from r most (drop n bytes)) (set_size r bytes)) []
 
+-- All sets with which these bytes begin. Each has a byte, so there are no more of them than bytes.
+abbrev pub sets_in : RepeatParts → List ℕ → List (List ℕ)
+sets_in r bytes = sets_from r (length bytes) bytes
+
 -- the data from the first set on: none where a string before them has no end
 abbrev pub from_first : RepeatParts → List ℕ → List ℕ
 from_first r payload = drop (r.at / 8) (unwrap_or (data_behind r.behind payload) [])
 
--- the bytes of each set. Each has a byte, so there are no more of them than bytes.
+-- the bytes of each set
 abbrev pub sets : RepeatParts → List ℕ → List (List ℕ)
-sets r payload = sets_from r (length (from_first r payload)) (from_first r payload)
+sets r payload = sets_in r (from_first r payload)
 
 -- what each set shows, in order: its fields in the set's own bytes
 abbrev pub all_sets : RepeatParts → List ℕ → List (List (List ℕ × ShownParts))

@@ -1,10 +1,10 @@
 //! What repeats in a message, and what its sets show.
-ghost use Rattle.std.specs.Prelude.{◌≡◌, ◌≤◌, ◌<◌, ℕ, List, length, option_map, IfSome};
+ghost use Rattle.std.specs.Prelude.{◌≡◌, ◌≤◌, [], ◌∷◌, length, option_map, unwrap_or, IfSome};
 ghost use Rattle.std.specs.List.{list_any};
 ghost use Rattle.toml.specs.View.{view};
 ghost use Rattle.n2k_table.specs.Reading.{ReaderGives};
 ghost use Rattle.n2k_table.specs.Field.{is_string};
-ghost use Rattle.n2k_table.specs.Repeat.{strings_size, set_size, first_set, from_first, all_sets, least_set_bits, repeat};
+ghost use Rattle.n2k_table.specs.Repeat.{strings_size, set_size, sets_in, from_first, all_sets, least_set_bits, repeat};
 ghost use Rattle.n2k_table.specs.Inner.Kept.{left_beside};
 
 use crate::fault::TableFault;
@@ -95,8 +95,8 @@ impl Repeat {
 
     /// The set that begins with the first of these bytes, if it lies wholly in them, and what stands behind it.
     pub(crate) fn split_set<'a>(&self, bytes: &'a [u8]) -> Option<(&'a [u8], &'a [u8])>
-        ensures value { option_map {U = List ℕ × List ℕ} (λ parts. (parts.0.now, parts.1.now)) result ≡ first_set self.now bytes.now }
-        ensures shorter { IfSome result (λ parts. length parts.1.now < length bytes.now) }
+        ensures { unwrap_or (option_map (λ parts. parts.0.now ∷ sets_in self.now parts.1.now) result) []
+            ≡ sets_in self.now bytes.now }
     {
         let size = self.set_size(bytes)?;
         Some(bytes.split_at(size))
@@ -113,13 +113,13 @@ pub struct Sets<'a> {
 }
 
 impl<'a> Model for Sets<'a> {
-    ghost use Rattle.std.specs.Prelude.{List, ℕ, length, map};
-    ghost use Rattle.n2k_table.specs.Repeat.{sets_from};
+    ghost use Rattle.std.specs.Prelude.{List, ℕ, map};
+    ghost use Rattle.n2k_table.specs.Repeat.{sets_in};
     ghost use Rattle.n2k_table.specs.Shown.{ShownParts, all_shown};
 
     ghost Value = { List (List (List ℕ × ShownParts)) };
 
-    ghost view = { λ s. map (all_shown s.repeat.now.fields) (sets_from s.repeat.now (length s.rest.now) s.rest.now) };
+    ghost view = { λ s. map (all_shown s.repeat.now.fields) (sets_in s.repeat.now s.rest.now) };
 }
 
 impl<'a> Sets<'a> {
