@@ -22,6 +22,7 @@ pub mod Numbers
 pub mod RawBits
 pub mod Rooms
 pub mod SetPlaces
+pub mod SetSizes
 pub mod Splits
 pub mod Steps
 pub mod Strings

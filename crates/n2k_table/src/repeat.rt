@@ -1,10 +1,10 @@
 //! What repeats in a message, and what its sets show.
-ghost use Rattle.std.specs.Prelude.{◌≡◌, ◌≤◌, [], ◌∷◌, length, option_map, unwrap_or, IfSome};
+ghost use Rattle.std.specs.Prelude.{◌≡◌, [], ◌∷◌, option_map, unwrap_or};
 ghost use Rattle.std.specs.List.{list_any};
 ghost use Rattle.toml.specs.View.{view};
 ghost use Rattle.n2k_table.specs.Reading.{ReaderGives};
 ghost use Rattle.n2k_table.specs.Field.{is_string};
-ghost use Rattle.n2k_table.specs.Repeat.{strings_size, set_size, sets_in, from_first, all_sets, least_set_bits, repeat};
+ghost use Rattle.n2k_table.specs.Repeat.{strings_size, sets_in, from_first, all_sets, least_set_bits, repeat};
 ghost use Rattle.n2k_table.specs.Inner.Kept.{left_beside};
 
 use crate::fault::TableFault;
@@ -55,7 +55,7 @@ impl Model for Repeat {
 
 /// How many of so many bytes are left beside the strings of a set that begins with the first of these; none where one of
 /// them is not proper, or there are not as many.
-fn left_beside(fields: &[Field], set: &[u8], room: usize) -> Option<usize>
+fn left_beside_strings(fields: &[Field], set: &[u8], room: usize) -> Option<usize>
     ensures { result ≡ left_beside room (strings_size fields.now set.now) }
 {
     let mut left = room;
@@ -81,16 +81,15 @@ impl Repeat {
         rest.get(self.first as usize..).unwrap_or(&[])
     }
 
-    /// How many bytes a set has that begins with the first of these, if it lies wholly in them.
-    fn set_size(&self, bytes: &[u8]) -> Option<usize>
-        ensures value { result ≡ set_size self.now bytes.now }
-        ensures some { IfSome result (λ size. (1 ≤ size) × (size ≤ length bytes.now)) }
+    /// How many of so many bytes are left beside the strings of a set that begins with the first of these.
+    fn left_beside_strings(&self, set: &[u8], room: usize) -> Option<usize>
+        ensures { result ≡ left_beside room (strings_size self.now.fields set.now) }
     {
-        let mut left = bytes.len().checked_sub(self.size as usize)?;
         if self.has_strings {
-            left = left_beside(&self.fields, bytes, left)?;
+            left_beside_strings(&self.fields, set, room)
+        } else {
+            Some(room)
         }
-        Some(bytes.len() - left)
     }
 
     /// The set that begins with the first of these bytes, if it lies wholly in them, and what stands behind it.
@@ -98,8 +97,9 @@ impl Repeat {
         ensures { unwrap_or (option_map (λ parts. parts.0.now ∷ sets_in self.now parts.1.now) result) []
             ≡ sets_in self.now bytes.now }
     {
-        let size = self.set_size(bytes)?;
-        Some(bytes.split_at(size))
+        let room = bytes.len().checked_sub(self.size as usize)?;
+        let left = self.left_beside_strings(bytes, room)?;
+        Some(bytes.split_at(bytes.len() - left))
     }
 }
 
