@@ -1,47 +1,118 @@
--- The places of sets by bytes and by bits.
-use Rattle.std.proofs.Common.{◌≡◌, ◌+◌, ◌*◌, ◌-◌, ◌/◌, ◌≤◌, ◌<◌, ◌∙◌, ◌∷◌, ℕ, zero, suc, List, slice_range, ap, sym, subst, refl, arith}
-use Rattle.std.specs.List.{range_with_len}
-use Rattle.std.proofs.Math.Nat.{div-div-eq-div-mul, mul_left_comm, le-div_iff_mul-le, suc-mul}
-use Rattle.n2k_table.specs.Field.{FieldParts}
-use Rattle.n2k_table.specs.Repeat.{RepeatParts, set_bytes}
+-- Where sets without strings stand: each has as many bytes as the one before, so its place is known by its number.
+use Rattle.std.proofs.Common.{◌≡◌, ◌+◌, ◌*◌, ◌-◌, ◌/◌, ◌≤◌, ◌<◌, ◌∙◌, ◌∷◌, ◌||◌, ℕ, zero, suc, Bool, true, false, nat_le, List, [], length, map, take, drop, slice_range, Option, Some, ap, sym, refl, inl, inr, arith}
+use Rattle.std.specs.List.{list_any, range_with_len}
+use Rattle.std.proofs.Math.Nat.{div-div-eq-div-mul, div-eq_of_lt, add-div_right, mul_left_comm, suc-mul}
+use Rattle.std.proofs.lemmas.Bool.{cases_Bool, or_parts}
+use Rattle.std.proofs.lemmas.Bool.Decides.{nat_tests}
+use Rattle.std.proofs.lemmas.List.{drop-drop, length-drop}
+use Rattle.std.proofs.lemmas.Simd.{map-map}
+use Rattle.n2k_table.specs.Field.{Meaning, number, shifted, named, flags, text, bytes, digits, string, FieldParts, is_string}
+use Rattle.n2k_table.specs.Shown.{ShownParts, all_shown}
+use Rattle.n2k_table.specs.Repeat.{RepeatParts, own_bytes, strings_size, if_inside, set_size, sets_from, sets, all_sets}
+
+-- how many sets lie wholly in data of so many bytes, where each has the repeat's bits
+abbrev pub older_count : RepeatParts → ℕ → ℕ
+older_count r n = (8 * n - r.at) / r.bits
+
+-- the bytes of set j, which then begins at bit `at + j * bits`
+abbrev pub older_bytes : RepeatParts → List ℕ → ℕ → List ℕ
+older_bytes r payload j = slice_range payload ((r.at + j * r.bits) / 8) ((r.at + j * r.bits + r.bits) / 8)
+
+no_own_bytes : (m : Meaning) (at : ℕ) (rest : Option (List ℕ)) → is_string m ≡ false → own_bytes m at rest ≡ Some 0
+no_own_bytes (number signed resolution) at rest none = refl
+no_own_bytes (shifted offset resolution) at rest none = refl
+no_own_bytes (named names) at rest none = refl
+no_own_bytes (flags names) at rest none = refl
+no_own_bytes text at rest none = refl
+no_own_bytes bytes at rest none = refl
+no_own_bytes digits at rest none = refl
+no_own_bytes (string form) at rest none = absurd cc
+
+-- fields that are no strings have no bytes beside the bits of their set
+no_strings : (fs : List FieldParts) (bs : List ℕ) → list_any (λ (f : FieldParts). is_string f.meaning) fs ≡ false → strings_size fs bs ≡ Some 0
+no_strings [] bs none = refl
+no_strings (f ∷ fs) bs none =
+    let both = or_parts (is_string f.meaning) (list_any (λ (g : FieldParts). is_string g.meaning) fs) none in
+    rw (no_own_bytes f.meaning f.at _ both.0, no_strings fs bs both.1) refl
+
+-- so each set has the repeat's bits
+fixed_size : (r : RepeatParts) (size : ℕ) (bs : List ℕ) → r.bits ≡ 8 * size → list_any (λ (f : FieldParts). is_string f.meaning) r.fields ≡ false
+    → set_size r bs ≡ if_inside size (length bs)
+fixed_size r size bs bits none =
+    let whole : r.bits / 8 + 0 ≡ size = omega (arith, bits) in
+    rw (no_strings r.fields bs none) (ap (λ n. if_inside n (length bs)) whole)
 
 -- as many sets by bits as by bytes
-pub count_by_bytes : (n f s : ℕ) → (8 * n - 8 * f) / (8 * s) ≡ (n - f) / s
+count_by_bytes : (n f s : ℕ) → (8 * n - 8 * f) / (8 * s) ≡ (n - f) / s
 count_by_bytes n f s =
     let eighth : (8 * n - 8 * f) / 8 ≡ n - f = omega arith in
     sym (div-div-eq-div-mul (8 * n - 8 * f) 8 s) ∙ ap (λ k. k / s) eighth
-
--- a set before as many as there are lies wholly in the data
-pub within_count : (at bits n j : ℕ) → 0 < bits → j < (n - at) / bits → at + j * bits + bits ≤ n
-within_count at bits n j some lt =
-    let more : suc j ≤ (n - at) / bits = omega (arith, lt) in
-    let le = (le-div_iff_mul-le some).0 more in
-    omega (arith, le, suc-mul j bits)
 
 -- j sets of s bytes, by bits
 eightfold : (j s : ℕ) → j * (8 * s) ≡ 8 * (j * s)
 eightfold j s = mul_left_comm j 8 s
 
-within_bytes : (f j s n : ℕ) → 8 * f + j * (8 * s) + 8 * s ≤ 8 * n → f + j * s + s ≤ n
-within_bytes f j s n le = let e = eightfold j s in omega (arith, e, le)
-
--- the same of a repeat as the code keeps it
-pub within : (f j s n : ℕ) (fields : List FieldParts) (r : RepeatParts) → record { at = 8 * f; bits = 8 * s; fields = fields } ≡ r
-    → r.at + j * r.bits + r.bits ≤ 8 * n → f + j * s + s ≤ n
-within f j s n fields r is le = within_bytes f j s n (subst (λ (q : RepeatParts). q.at + j * q.bits + q.bits ≤ 8 * n) (sym is) le)
-
-place : (f j s : ℕ) → (8 * f + j * (8 * s)) / 8 ≡ f + j * s
-place f j s = let e = eightfold j s in omega (arith, e)
+begin : (f j s : ℕ) → (8 * f + j * (8 * s)) / 8 ≡ f + j * s
+begin f j s = let e = eightfold j s in omega (arith, e)
 
 end : (f j s : ℕ) → (8 * f + j * (8 * s) + 8 * s) / 8 ≡ f + j * s + s
 end f j s = let e = eightfold j s in omega (arith, e)
 
-pub bytes_of_set : (payload : List ℕ) (f j s : ℕ) (fields : List FieldParts)
-    → slice_range payload (f + j * s) (f + j * s + s) ≡ set_bytes (record { at = 8 * f; bits = 8 * s; fields = fields }) payload j
-bytes_of_set payload f j s fields =
-    sym (ap (λ a. slice_range payload a ((8 * f + j * (8 * s) + 8 * s) / 8)) (place f j s) ∙ ap (λ b. slice_range payload (f + j * s) b) (end f j s))
+-- the bytes of set j, by bytes
+bytes_of_set : (r : RepeatParts) (payload : List ℕ) (f s j : ℕ) → r.at ≡ 8 * f → r.bits ≡ 8 * s → take s (drop (f + j * s) payload) ≡ older_bytes r payload j
+bytes_of_set r payload f s j at bits =
+    let long : f + j * s + s - (f + j * s) ≡ s = omega arith in
+    rw (at, bits, begin f j s, end f j s, long) refl
 
--- the first of some numbers, and the others
-pub first_number : (a n : ℕ) → (n ≡ 0 → ⊥) → range_with_len a n ≡ a ∷ range_with_len (a + 1) (n - 1)
-first_number a zero some = absurd (some refl)
-first_number a (suc n) some = let e : suc n - 1 ≡ n = omega arith in ap (λ k. a ∷ range_with_len (a + 1) k) (sym e)
+-- no set is left in less than one
+none_left : (left s : ℕ) → left < s → left / s ≡ 0
+none_left left s lt = div-eq_of_lt lt
+
+-- one set, and those in the bytes behind it
+one_of : (left s : ℕ) → 1 ≤ s → s ≤ left → left / s ≡ suc ((left - s) / s)
+one_of left s some le =
+    let whole : left ≡ left - s + s = omega (arith, le) in
+    let more : left / s ≡ (left - s) / s + 1 = ap (λ k. k / s) whole ∙ add-div_right (left - s) (omega (arith, some)) in
+    omega (arith, more)
+
+-- the sets from set j on
+from_set : (r : RepeatParts) (payload : List ℕ) (f s : ℕ) → r.at ≡ 8 * f → r.bits ≡ 8 * s → 1 ≤ s → list_any (λ (g : FieldParts). is_string g.meaning) r.fields ≡ false
+    → (most j : ℕ) → length payload - (f + j * s) ≤ most
+    → sets_from r most (drop (f + j * s) payload) ≡ map (older_bytes r payload) (range_with_len j ((length payload - (f + j * s)) / s))
+from_set r payload f s at bits some none zero j enough =
+    let n : (length payload - (f + j * s)) / s ≡ 0 = none_left _ s (omega (arith, some, enough)) in
+    rw n refl
+from_set r payload f s at bits some none (suc most) j enough =
+    let here = f + j * s in
+    let left : length (drop here payload) ≡ length payload - here = length-drop here payload in
+    elim (cases_Bool (nat_le s (length (drop here payload)))) [
+      | inl inside ↦
+          let le : s ≤ length payload - here = grind (arith, nat_tests) in
+          let next : here + s ≡ f + (j + 1) * s = omega (arith, suc-mul j s) in
+          let rest = from_set r payload f s at bits some none most (j + 1) (omega (arith, next, enough, some)) in
+          let behind : drop s (drop here payload) ≡ drop (f + (j + 1) * s) payload = drop-drop s here payload ∙ ap (λ n. drop n payload) next in
+          let fewer : (length payload - here - s) / s ≡ (length payload - (f + (j + 1) * s)) / s = ap (λ n. n / s) (omega (arith, next)) in
+          let count : (length payload - here) / s ≡ suc ((length payload - (f + (j + 1) * s)) / s) = one_of _ s some le ∙ ap suc fewer in
+          rw (fixed_size r s (drop here payload) bits none, inside, count, behind, rest, bytes_of_set r payload f s j at bits) refl
+      | inr past ↦
+          let lt : length payload - here < s = grind (arith, nat_tests) in
+          rw (fixed_size r s (drop here payload) bits none, past, none_left _ s lt) refl
+    ]
+
+-- The sets of a repeat without strings are those of its bits, so each set of a table of format 1 or 2 is what it was.
+pub same_sets : (r : RepeatParts) (payload : List ℕ) (f s : ℕ) → r.at ≡ 8 * f → r.bits ≡ 8 * s → 1 ≤ s → r.behind ≡ []
+    → list_any (λ (g : FieldParts). is_string g.meaning) r.fields ≡ false → sets r payload ≡ map (older_bytes r payload) (range_with_len 0 (older_count r (length payload)))
+same_sets r payload f s at bits some fixed none =
+    let first : r.at / 8 ≡ f + 0 * s = omega (arith, at) in
+    let all : length payload - (f + 0 * s) ≡ length payload - f = omega arith in
+    let count : (length payload - (f + 0 * s)) / s ≡ older_count r (length payload) = rw (at, bits) (ap (λ n. n / s) all ∙ sym (count_by_bytes (length payload) f s)) in
+    let enough : length payload - (f + 0 * s) ≤ length (drop (f + 0 * s) payload) = omega (arith, length-drop (f + 0 * s) payload) in
+    rw (fixed, first) (from_set r payload f s at bits some none (length (drop (f + 0 * s) payload)) 0 enough ∙ ap (λ n. map (older_bytes r payload) (range_with_len 0 n)) count)
+
+-- and so is what they show
+pub same_all_sets : (r : RepeatParts) (payload : List ℕ) (f s : ℕ) → r.at ≡ 8 * f → r.bits ≡ 8 * s → 1 ≤ s → r.behind ≡ []
+    → list_any (λ (g : FieldParts). is_string g.meaning) r.fields ≡ false
+    → all_sets r payload ≡ map (λ j. all_shown r.fields (older_bytes r payload j)) (range_with_len 0 (older_count r (length payload)))
+same_all_sets r payload f s at bits some fixed none =
+    let numbers = range_with_len 0 (older_count r (length payload)) in
+    ap (map (all_shown r.fields)) (same_sets r payload f s at bits some fixed none) ∙ map-map (all_shown r.fields) (older_bytes r payload) numbers
