@@ -1,5 +1,5 @@
 -- Where sets without strings stand: each has as many bytes as the one before, so its place is known by its number.
-use Rattle.std.proofs.Common.{◌≡◌, ◌+◌, ◌*◌, ◌-◌, ◌/◌, ◌≤◌, ◌<◌, ◌∙◌, ◌∷◌, ◌||◌, ℕ, zero, suc, Bool, true, false, nat_le, List, [], length, map, take, drop, slice_range, Option, Some, ap, sym, refl, inl, inr, arith}
+use Rattle.std.proofs.Common.{◌≡◌, ◌+◌, ◌*◌, ◌-◌, ◌/◌, ◌≤◌, ◌<◌, ◌∙◌, ◌∷◌, ℕ, zero, suc, false, nat_le, List, [], length, map, take, drop, slice_range, Option, Some, ap, sym, refl, inl, inr, arith}
 use Rattle.std.specs.List.{list_any, range_with_len}
 use Rattle.std.proofs.Math.Nat.{div-div-eq-div-mul, div-eq_of_lt, add-div_right, mul_left_comm, suc-mul}
 use Rattle.std.proofs.lemmas.Bool.{cases_Bool, or_parts}
@@ -7,7 +7,7 @@ use Rattle.std.proofs.lemmas.Bool.Decides.{nat_tests}
 use Rattle.std.proofs.lemmas.List.{drop-drop, length-drop}
 use Rattle.std.proofs.lemmas.Simd.{map-map}
 use Rattle.n2k_table.specs.Field.{Meaning, number, shifted, named, flags, text, bytes, digits, string, FieldParts, is_string}
-use Rattle.n2k_table.specs.Shown.{ShownParts, all_shown}
+use Rattle.n2k_table.specs.Shown.{all_shown}
 use Rattle.n2k_table.specs.Repeat.{RepeatParts, own_bytes, strings_size, if_inside, set_size, sets_from, sets, all_sets}
 
 -- how many sets lie wholly in data of so many bytes, where each has the repeat's bits
