@@ -8,6 +8,8 @@ mod format_3;
 mod limits;
 mod lines;
 mod reading;
+mod sets_read;
+mod sets_shown;
 mod shown;
 mod strings_read;
 mod strings_shown;
