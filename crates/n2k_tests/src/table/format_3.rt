@@ -127,15 +127,15 @@ const SETS: [(&str, &str, &str); 9] = [
     ),
     ("Range", "bits = 8", "kind = 'digits', at = 0, bits = 16"),
     ("Range", "bits = 0", "kind = 'digits', at = 0, bits = 8"),
+    // sets stand behind a string of the message, and a field behind one of its set
     (
-        "Key",
+        "Lookup",
         "bits = 8, after = 'F'",
         "kind = 'digits', at = 0, bits = 8",
     ),
-    // a set has no strings, and nothing stands behind one
-    ("Text", "bits = 8", "kind = 'string', at = 0, form = 'lz'"),
+    ("reads", "bits = 8", "kind = 'string', at = 0, form = 'lz'"),
     (
-        "Key",
+        "Lookup",
         "bits = 8",
         "kind = 'digits', at = 0, bits = 8, after = 'F'",
     ),
