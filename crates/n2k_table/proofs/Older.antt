@@ -258,27 +258,28 @@ same_fields : (format : TableFormat) (holder : Holder) (lookups : List LookupPar
 unfolding fields
 same_fields format holder lookups m older =
     bind_same (elements_at (codes "fields") most_fields m) _ _ (λ ds.
-    rw (same_each (field format holder lookups) (older_field holder lookups) (λ before d. same_field format holder lookups before d older) ds [] ∙ bind_ok (each (older_field holder lookups) ds)) refl)
+    let alone = same_each (field format holder lookups) (older_field holder lookups) (λ before d. same_field format holder lookups before d older) ds [] in
+    rw (alone ∙ bind_ok (each (older_field holder lookups) ds)) refl)
 
 same_repeat_key : (format : TableFormat) (key : List ℕ) → is_extended format ≡ false → is_key (Repeat format) key ≡ older_repeat_key key
 same_repeat_key format key older = rw older (or_false (older_repeat_key key))
 
 -- what holds of a value that is there holds of what is made of it
-bind_if : {A B E : Type 0} {P : A → Type 0} {Q : B → Type 0} (r : Result A E) (f : A → Result B E) → IfOk r P → ((a : A) → P a → IfOk (f a) Q) → IfOk (r >>= f) Q
-bind_if (Ok a) f holds step = step a holds
-bind_if (Err e) f holds step = tt
+bind_if : {A B E : Type 0} {P : A → Type 0} (Q : B → Type 0) (r : Result A E) (f : A → Result B E) → IfOk r P → ((a : A) → P a → IfOk (f a) Q) → IfOk (r >>= f) Q
+bind_if Q (Ok a) f holds step = step a holds
+bind_if Q (Err e) f holds step = tt
 
 bind_same_if : {A B E : Type 0} {P : A → Type 0} (r : Result A E) (g h : A → Result B E) → IfOk r P → ((a : A) → P a → g a ≡ h a) → (r >>= g) ≡ (r >>= h)
 bind_same_if (Ok a) g h holds same = same a holds
 bind_same_if (Err e) g h holds same = refl
 
-bind_any : {A B E : Type 0} {Q : B → Type 0} (r : Result A E) (f : A → Result B E) → ((a : A) → IfOk (f a) Q) → IfOk (r >>= f) Q
-bind_any (Ok a) f step = step a
-bind_any (Err e) f step = tt
+bind_any : {A B E : Type 0} (Q : B → Type 0) (r : Result A E) (f : A → Result B E) → ((a : A) → IfOk (f a) Q) → IfOk (r >>= f) Q
+bind_any Q (Ok a) f step = step a
+bind_any Q (Err e) f step = tt
 
-if_either : {B E : Type 0} {Q : B → Type 0} (test : Bool) (x y : Result B E) → IfOk x Q → IfOk y Q → IfOk (if test then x else y) Q
-if_either true x y first second = first
-if_either false x y first second = second
+if_either : {B E : Type 0} (Q : B → Type 0) (test : Bool) (x y : Result B E) → IfOk x Q → IfOk y Q → IfOk (if test then x else y) Q
+if_either Q true x y first second = first
+if_either Q false x y first second = second
 
 least_in_range : (least most : ℕ) (z : ℤ) → IfOk (in_range least most z) (λ n. nat_le least n ≡ true)
 least_in_range least most (negsuc n) = tt
@@ -289,9 +290,9 @@ least_in_range least most (pos n) = elim (cases_Bool (nat_le least n && nat_le n
 
 bits_from_1 : (m : Members) → IfOk (bit_count 8 1 message_bits m) (λ n. nat_le 1 n ≡ true)
 bits_from_1 m =
-    bind_if (int_at (codes "bits") 1 message_bits m) (multiple_of 8)
-      (bind_any (get_required (codes "bits") m) _ (λ d. bind_any (ok_or (as_integer d) Key) _ (λ z. least_in_range 1 message_bits z)))
-      (λ n least. if_either (n % 8 == 0) (Ok n) (Err Range) least tt)
+    bind_if _ (int_at (codes "bits") 1 message_bits m) (multiple_of 8)
+      (bind_any _ (get_required (codes "bits") m) _ (λ d. bind_any _ (ok_or (as_integer d) Key) _ (λ z. least_in_range 1 message_bits z)))
+      (λ n least. if_either _ (n % 8 == 0) (Ok n) (Err Range) least tt)
 
 -- What repeats in a table of format 1 or 2 is what repeated, whatever stands before it. A set has a byte.
 pub same_repeat : (format : TableFormat) (lookups : List LookupParts) (own : List FieldParts) (d : Data) → is_extended format ≡ false
@@ -310,20 +311,20 @@ same_repeat format lookups own d older =
 -- the kinds that there were have bits
 older_has_bits : (name : List ℕ) → IfOk (older_kind name) (λ kind. has_bits kind ≡ true)
 older_has_bits name =
-    if_either (bytes_eq name (codes "number")) _ _ refl
-      (if_either (bytes_eq name (codes "lookup")) _ _ refl
-      (if_either (bytes_eq name (codes "text")) _ _ refl
-      (if_either (bytes_eq name (codes "bytes")) _ _ refl tt)))
+    if_either _ (bytes_eq name (codes "number")) _ _ refl
+      (if_either _ (bytes_eq name (codes "lookup")) _ _ refl
+      (if_either _ (bytes_eq name (codes "text")) _ _ refl
+      (if_either _ (bytes_eq name (codes "bytes")) _ _ refl tt)))
 
 older_no_string : (lookups : List LookupParts) (kind : FieldKind) (bits : ℕ) (f : Members) → has_bits kind ≡ true
     → IfOk (older_meaning lookups kind bits f) (λ m. is_string m ≡ false)
 older_no_string lookups kind.Number bits f some =
-    bind_any (bool_at (codes "signed") f) _ (λ signed.
-    bind_any (holds_or Range (not signed || nat_le 2 bits)) _ (λ room. bind_any (resolution_at f) _ (λ resolution. refl)))
-older_no_string lookups kind.Lookup bits f some = bind_any (lookup_named lookups f) _ (λ lookup. refl)
+    bind_any _ (bool_at (codes "signed") f) _ (λ signed.
+    bind_any _ (holds_or Range (not signed || nat_le 2 bits)) _ (λ room. bind_any _ (resolution_at f) _ (λ resolution. refl)))
+older_no_string lookups kind.Lookup bits f some = bind_any _ (lookup_named lookups f) _ (λ lookup. refl)
 older_no_string lookups kind.Text bits f some = refl
 older_no_string lookups kind.Bytes bits f some = refl
-older_no_string lookups kind.Flags bits f some = bind_any (lookup_named lookups f) _ (λ lookup. refl)
+older_no_string lookups kind.Flags bits f some = bind_any _ (lookup_named lookups f) _ (λ lookup. refl)
 older_no_string lookups kind.Digits bits f some = refl
 older_no_string lookups kind.String bits f some = absurd (false≢true some)
 
@@ -331,34 +332,34 @@ older_no_string lookups kind.String bits f some = absurd (false≢true some)
 pub field_is_plain : (holder : Holder) (lookups : List LookupParts) (d : Data)
     → IfOk (older_field holder lookups d) (λ f. (f.short ≡ false) × (f.behind ≡ []) × (is_string f.meaning ≡ false))
 field_is_plain holder lookups d =
-    bind_any (as_members d) _ (λ f.
-    bind_if (older_kind_of f) _ (bind_any (any_text_at (codes "kind") f) _ older_has_bits) (λ kind some.
-    bind_any (holds_or Key (only_keys (older_key kind holder) f)) _ (λ known.
-    bind_any (text_at (codes "name") f) _ (λ name.
-    bind_any (first_bit (alignment kind) f) _ (λ at.
-    bind_any (bits_of kind f) _ (λ bits.
-    bind_any (holds_or Range (nat_le (at + bits) (end_of holder))) _ (λ inside.
-    bind_if (older_meaning lookups kind bits f) _ (older_no_string lookups kind bits f some) (λ meaning plain.
-    bind_any (match_value_of kind holder bits f) _ (λ match_value. (refl, refl, plain))))))))))
+    bind_any _ (as_members d) _ (λ f.
+    bind_if _ (older_kind_of f) _ (bind_any _ (any_text_at (codes "kind") f) _ older_has_bits) (λ kind some.
+    bind_any _ (holds_or Key (only_keys (older_key kind holder) f)) _ (λ known.
+    bind_any _ (text_at (codes "name") f) _ (λ name.
+    bind_any _ (first_bit (alignment kind) f) _ (λ at.
+    bind_any _ (bits_of kind f) _ (λ bits.
+    bind_any _ (holds_or Range (nat_le (at + bits) (end_of holder))) _ (λ inside.
+    bind_if _ (older_meaning lookups kind bits f) _ (older_no_string lookups kind bits f some) (λ meaning plain.
+    bind_any _ (match_value_of kind holder bits f) _ (λ match_value. (refl, refl, plain))))))))))
 
 each_is_plain : (holder : Holder) (lookups : List LookupParts) (ds : List Data)
     → IfOk (each (older_field holder lookups) ds) (λ all. list_any (λ (f : FieldParts). is_string f.meaning) all ≡ false)
 each_is_plain holder lookups [] = refl
 each_is_plain holder lookups (d ∷ ds) =
-    bind_if (older_field holder lookups d) _ (field_is_plain holder lookups d) (λ f plain.
-    bind_if (each (older_field holder lookups) ds) _ (each_is_plain holder lookups ds) (λ all none. rw plain.1.1 none))
+    bind_if _ (older_field holder lookups d) _ (field_is_plain holder lookups d) (λ f plain.
+    bind_if _ (each (older_field holder lookups) ds) _ (each_is_plain holder lookups ds) (λ all none. rw plain.2 none))
 
 -- so what repeats stands behind no string, and has none
 pub repeat_is_plain : (lookups : List LookupParts) (d : Data)
     → IfOk (older_repeat lookups d) (λ r. (r.behind ≡ []) × (list_any (λ (f : FieldParts). is_string f.meaning) r.fields ≡ false))
 repeat_is_plain lookups d =
-    bind_any (as_members d) _ (λ m.
-    bind_any (holds_or Key (only_keys older_repeat_key m)) _ (λ known.
-    bind_any (first_bit 8 m) _ (λ at.
-    bind_any (bit_count 8 1 message_bits m) _ (λ bits.
-    bind_any (holds_or Range (nat_le (at + bits) message_bits)) _ (λ inside.
-    bind_if (older_fields (Set bits) lookups m) _
-      (bind_any (elements_at (codes "fields") most_fields m) _ (λ ds.
-       bind_if (each (older_field (Set bits) lookups) ds) _ (each_is_plain (Set bits) lookups ds) (λ all none.
-       bind_any (holds_or Twice (not (has_duplicate is_same_field all))) _ (λ differ. none))))
+    bind_any _ (as_members d) _ (λ m.
+    bind_any _ (holds_or Key (only_keys older_repeat_key m)) _ (λ known.
+    bind_any _ (first_bit 8 m) _ (λ at.
+    bind_any _ (bit_count 8 1 message_bits m) _ (λ bits.
+    bind_any _ (holds_or Range (nat_le (at + bits) message_bits)) _ (λ inside.
+    bind_if _ (older_fields (Set bits) lookups m) _
+      (bind_any _ (elements_at (codes "fields") most_fields m) _ (λ ds.
+       bind_if _ (each (older_field (Set bits) lookups) ds) _ (each_is_plain (Set bits) lookups ds) (λ all none.
+       bind_any _ (holds_or Twice (not (has_duplicate is_same_field all))) _ (λ differ. none))))
       (λ all none. (refl, none)))))))
