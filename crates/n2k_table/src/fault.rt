@@ -29,7 +29,8 @@ pub enum TableFault {
     /// lookup has a value twice.
     #[error("a name or a value stands twice")]
     Twice,
-    /// A field names a lookup that isn't there.
+    /// A field names a lookup that isn't there, or a string that doesn't stand before it, or a repeat names a string that
+    /// the message doesn't have.
     #[error("a field names a lookup that isn't there")]
     Lookup,
     /// Two definitions of one PGN have different kinds.
