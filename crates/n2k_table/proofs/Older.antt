@@ -284,15 +284,15 @@ if_either Q false x y first second = second
 least_in_range : (least most : ℕ) (z : ℤ) → IfOk (in_range least most z) (λ n. nat_le least n ≡ true)
 least_in_range least most (negsuc n) = tt
 least_in_range least most (pos n) = elim (cases_Bool (nat_le least n && nat_le n most)) [
-    | inl inside ↦ rw inside (and_parts (nat_le least n) (nat_le n most) inside).0
-    | inr other ↦ rw other tt
-  ]
+  | inl inside ↦ rw inside (and_parts (nat_le least n) (nat_le n most) inside).0
+  | inr other ↦ rw other tt
+]
 
 bits_from_1 : (m : Members) → IfOk (bit_count 8 1 message_bits m) (λ n. nat_le 1 n ≡ true)
 bits_from_1 m =
     bind_if _ (int_at (codes "bits") 1 message_bits m) (multiple_of 8)
-      (bind_any _ (get_required (codes "bits") m) _ (λ d. bind_any _ (ok_or (as_integer d) Key) _ (λ z. least_in_range 1 message_bits z)))
-      (λ n least. if_either _ (n % 8 == 0) (Ok n) (Err Range) least tt)
+    (bind_any _ (get_required (codes "bits") m) _ (λ d. bind_any _ (ok_or (as_integer d) Key) _ (λ z. least_in_range 1 message_bits z)))
+    (λ n least. if_either _ (n % 8 == 0) (Ok n) (Err Range) least tt)
 
 -- What repeats in a table of format 1 or 2 is what repeated, whatever stands before it. A set has a byte.
 pub same_repeat : (format : TableFormat) (lookups : List LookupParts) (own : List FieldParts) (d : Data) → is_extended format ≡ false
@@ -312,9 +312,9 @@ same_repeat format lookups own d older =
 older_has_bits : (name : List ℕ) → IfOk (older_kind name) (λ kind. has_bits kind ≡ true)
 older_has_bits name =
     if_either _ (bytes_eq name (codes "number")) _ _ refl
-      (if_either _ (bytes_eq name (codes "lookup")) _ _ refl
-      (if_either _ (bytes_eq name (codes "text")) _ _ refl
-      (if_either _ (bytes_eq name (codes "bytes")) _ _ refl tt)))
+    (if_either _ (bytes_eq name (codes "lookup")) _ _ refl
+    (if_either _ (bytes_eq name (codes "text")) _ _ refl
+    (if_either _ (bytes_eq name (codes "bytes")) _ _ refl tt)))
 
 older_no_string : (lookups : List LookupParts) (kind : FieldKind) (bits : ℕ) (f : Members) → has_bits kind ≡ true
     → IfOk (older_meaning lookups kind bits f) (λ m. is_string m ≡ false)
@@ -359,7 +359,7 @@ repeat_is_plain lookups d =
     bind_any _ (bit_count 8 1 message_bits m) _ (λ bits.
     bind_any _ (holds_or Range (nat_le (at + bits) message_bits)) _ (λ inside.
     bind_if _ (older_fields (Set bits) lookups m) _
-      (bind_any _ (elements_at (codes "fields") most_fields m) _ (λ ds.
-       bind_if _ (each (older_field (Set bits) lookups) ds) _ (each_is_plain (Set bits) lookups ds) (λ all none.
-       bind_any _ (holds_or Twice (not (has_duplicate is_same_field all))) _ (λ differ. none))))
-      (λ all none. (refl, none)))))))
+    (bind_any _ (elements_at (codes "fields") most_fields m) _ (λ ds.
+    bind_if _ (each (older_field (Set bits) lookups) ds) _ (each_is_plain (Set bits) lookups ds) (λ all none.
+    bind_any _ (holds_or Twice (not (has_duplicate is_same_field all))) _ (λ differ. none))))
+    (λ all none. (refl, none)))))))
