@@ -136,7 +136,8 @@ class Reader:
     def line(self, at):
         return self.text.count("\n", 0, at) + 1
 
-    def fail(self, what, at):
+    def fail(self, what, at, start=None):
+        """Tells what is wrong with what begins at `start`, or there where it is seen."""
         line = self.line(at)
         begins = [begin for begin in map(self.line, reversed(self.open)) if begin < line]
         first, last = map(self.line, self.lines_of_text)
@@ -144,7 +145,7 @@ class Reader:
             what += f"; within what begins in line {begins[0]}"
         elif first < last >= line - 1:
             what += f"; behind the text that begins in line {first}"
-        elif at == self.open[0] and self.first(at) and self.first(at) in "]},":
+        elif self.open[0] in (at, start) and self.first(at) and self.first(at) in "]},":
             what += f"; behind what begins in line {self.line(self.before)}"
         raise NotToml(what, at)
 
@@ -213,7 +214,7 @@ class Reader:
         """What defines a key with its value and answers the section, and the offset behind them."""
         path, end = self.key(at)
         if self.first(end) != "=":
-            self.fail("key with no value, expected `=`", end)
+            self.fail("key with no value, expected `=`", end, at)
         value, end = self.value(self.spaces(end + 1), depth)
 
         def define(_root, section, _start):
