@@ -36,7 +36,7 @@ class Differences:
         lines += self.field_lines(title, "", first["fields"], second["fields"])
         sets = first.get("repeat"), second.get("repeat")
         if all(sets):
-            lines += self.value_lines("the set: ", *sets, ("at", "bits"))
+            lines += self.value_lines("the set: ", *sets, ("at", "bits", "after"))
             lines += self.field_lines(title, "the set: ", sets[0]["fields"], sets[1]["fields"])
         elif any(sets):
             lines.append(f"  its set: only in {self.names[sets[0] is None]}")

@@ -11,18 +11,54 @@ import random
 import sys
 import tomllib
 
+HEADS = {"lau": 2, "lz": 1}  # bytes of a string before its characters
+LETTERS = "ABCabc012 -'\"\\}{,:@é日"
+
+
+def placed(fields, begin, rng):
+    """Fields that count from bit `begin`, with strings of up to 12 bytes: where the last one ends, the strings' first bytes
+    with their forms and sizes, and where each string ends."""
+    last, strings, ends = begin, [], {None: begin}
+    for f in fields:
+        end = ends[f.get("after")] + f["at"]
+        if f["kind"] == "string":
+            size = rng.randrange(13)
+            strings.append((end // 8, f["form"], size))
+            end = ends[f["name"]] = end + 8 * (size + HEADS[f["form"]])
+        else:
+            end += f["bits"]
+        last = max(last, end)
+    return last, strings, ends
+
+
+def put_string(data, at, form, size, rng):
+    """A string's length, encoding and characters, as far as they lie in the data."""
+    is_wide = form == "lau" and rng.random() < 0.5
+    text = "".join(rng.choices(LETTERS, k=size)).encode("utf-16-le" if is_wide else "utf-8")[:size]
+    string = bytes([size + 2, not is_wide] if form == "lau" else [size]) + text
+    data[at:at + len(string)] = string[:max(len(data) - at, 0)]
+
 
 def data_of(definition, rng):
     """The bytes that its fields take and up to three sets, a single frame eight, and where a field may be short some of
-    them: random, but for the match fields."""
-    bits = max((f["at"] + f["bits"] for f in definition["fields"]), default=8)
+    them: random, but for the strings and the match fields."""
+    bits, strings, ends = placed(definition["fields"], 0, rng)
+    bits = bits if definition["fields"] else 8
     if "repeat" in definition:
         sets = definition["repeat"]
-        bits = max(bits, sets["at"] + rng.randrange(4) * sets["bits"])
+        begin = ends[sets.get("after")] + sets["at"]
+        for _ in range(rng.randrange(4)):
+            _, of_set, _ = placed(sets["fields"], begin, rng)
+            strings += of_set
+            begin += sets["bits"] + sum(8 * (size + HEADS[form]) for _, form, size in of_set)
+        bits = max(bits, begin)
     size = 8 if definition["kind"] == "single" else min((bits + 7) // 8, 223)
     if size > 8 and any(f.get("short") for f in definition["fields"]):
         size = rng.randint(9, size)
-    data = rng.getrandbits(8 * size)
+    data = bytearray(rng.getrandbits(8 * size).to_bytes(size, "little"))
+    for at, form, length in strings:
+        put_string(data, at, form, length, rng)
+    data = int.from_bytes(data, "little")
     for f in definition["fields"]:
         if "match" in f:
             data &= ~(((1 << f["bits"]) - 1) << f["at"])

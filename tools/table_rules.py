@@ -136,7 +136,8 @@ class Reader:
     def line(self, at):
         return self.text.count("\n", 0, at) + 1
 
-    def fail(self, what, at):
+    def fail(self, what, at, start=None):
+        """Tells what is wrong with what begins at `start`, or there where it is seen."""
         line = self.line(at)
         begins = [begin for begin in map(self.line, reversed(self.open)) if begin < line]
         first, last = map(self.line, self.lines_of_text)
@@ -144,7 +145,7 @@ class Reader:
             what += f"; within what begins in line {begins[0]}"
         elif first < last >= line - 1:
             what += f"; behind the text that begins in line {first}"
-        elif at == self.open[0] and self.first(at) and self.first(at) in "]},":
+        elif self.open[0] in (at, start) and self.first(at) and self.first(at) in "]},":
             what += f"; behind what begins in line {self.line(self.before)}"
         raise NotToml(what, at)
 
@@ -213,7 +214,7 @@ class Reader:
         """What defines a key with its value and answers the section, and the offset behind them."""
         path, end = self.key(at)
         if self.first(end) != "=":
-            self.fail("key with no value, expected `=`", end)
+            self.fail("key with no value, expected `=`", end, at)
         value, end = self.value(self.spaces(end + 1), depth)
 
         def define(_root, section, _start):
@@ -411,8 +412,7 @@ FIELD_KEYS_OF_3 = {
     "string": (("name", "kind", "at", "form"), ("after", "short")),
 }
 KEYS_BY_FORMAT = {1: FIELD_KEYS, 2: FIELD_KEYS, 3: FIELD_KEYS_OF_3}
-KEYS_NOT_IN_SETS = ("match", "short", "after")
-KINDS_NOT_IN_SETS = ("string",)
+KEYS_NOT_IN_SETS = ("match", "short")
 MOST_BITS = {"number": 64, "lookup": 32, "text": LONGEST_MESSAGE, "bytes": LONGEST_MESSAGE, "flags": 64,
              "digits": LONGEST_MESSAGE}
 BY_BYTES = ("text", "bytes", "digits", "string")
@@ -425,6 +425,16 @@ class String:
     """A string that others may stand behind: where it begins in the text, and its fixed place, None where that isn't known."""
     at: int
     place: int | None
+
+
+@dataclasses.dataclass(frozen=True)
+class Fields:
+    """The fields of a message or of a set: those that are tables, where each name first stands, the strings by name, and the
+    kinds, None where one of them isn't known."""
+    tables: list
+    names: dict
+    strings: dict
+    kinds: list | None
 
 
 @dataclasses.dataclass(frozen=True)
@@ -481,6 +491,11 @@ def of_named(word, holder, ordinal):
     return f"{word} {quoted(name)}" if type(name) is str and name else f"{word} {ordinal}"
 
 
+def tables_of(array):
+    """The elements of what should be an array that are tables."""
+    return [item for item in array if type(item) is Table] if type(array) is Array else []
+
+
 def all_keys(by_kind):
     """The keys that fields of any kind may have."""
     required, optional = zip(*by_kind.values())
@@ -492,6 +507,7 @@ class Rules:
 
     def __init__(self, top, lines):
         self.top, self.lines, self.faults = top, lines, []
+        self.version, self.field_keys, self.lookups = None, {}, {}
         self.near = {}  # the lookup that is most like a name that none has
 
     def fault(self, name, at, where, what, *others):
@@ -526,19 +542,18 @@ class Rules:
                    f"{word} has {size} bytes, over {LONGEST_TEXT}")
         return None
 
-    def choice(self, table, key, names, where, newer=(), elsewhere=()):
-        """One of these names; of those of a newer format, and of those that a set has not, that is told."""
-        text = self.asked(table, key, str, where)
+    def choice(self, table, key, names, where, newer=(), others=()):
+        """One of these names; of those of a newer format that is told."""
+        text = self.asked(table, key, str, where, others)
         if text is None or text in names:
             return text
-        hint, others = ("; no set has it", []) if text in elsewhere else \
-            ("; format 3 has it", [self.top.keys_at["format"]]) if text in newer else ("", [])
+        hint, of_format = ("; format 3 has it", [self.top.keys_at["format"]]) if text in newer else ("", [])
         self.fault("Text", table.keys_at[key], where,
-                   f"{key} is {quoted(text)}, and not {', '.join(names[:-1])} or {names[-1]}{hint}", *others)
+                   f"{key} is {quoted(text)}, and not {', '.join(names[:-1])} or {names[-1]}{hint}", *of_format)
         return None
 
-    def whole(self, table, key, least, most, where, step=1, others=()):
-        value = self.asked(table, key, int, where)
+    def whole(self, table, key, least, most, where, step=1, others=(), asked_by=()):
+        value = self.asked(table, key, int, where, asked_by)
         return None if value is None else self.ranged(value, least, most, table.keys_at[key], where, key, step, others)
 
     def ranged(self, value, least, most, at, where, word, step=1, others=()):
@@ -561,8 +576,8 @@ class Rules:
             of_format = [self.top.keys_at["format"]] if key in newer else []
             self.fault("Key", table.keys_at[key], where, f"{what} has no key {quoted(key)}; {hint}", *others, *of_format)
 
-    def tables(self, holder, key, where, most, word):
-        """The tables of an array that has to be there, each with its ordinal, and how many elements it has."""
+    def elements(self, holder, key, where, most, word):
+        """The elements of an array that has to be there, each with its offset and ordinal; and how many there are is judged."""
         array = self.asked(holder, key, Array, where)
         if array is None:
             return []
@@ -570,17 +585,26 @@ class Rules:
             # Of elements with headers of their own the first too many is told.
             at = array.items_at[most] if array.by_headers else holder.keys_at[key]
             self.fault("TooMany", at, where, f"{len(array)} {word}, over {most}")
-        for ordinal, (item, at) in enumerate(zip(array, array.items_at), 1):
-            if type(item) is not Table:
-                self.fault("Key", at, where, f"element {ordinal} of {key} is {KIND_NAMES[type(item)]}, and not a table")
-        return [(ordinal, item) for ordinal, item in enumerate(array, 1) if type(item) is Table]
+        return list(zip(array, array.items_at, range(1, len(array) + 1)))
 
-    def once(self, seen, value, at, where, what, name="Twice"):
-        """Whether a value of which each may come once comes for the first time."""
-        if value in seen:
-            self.fault(name, at, where, f"{what} comes again, first in line {self.lines.line(seen[value])}")
-        else:
-            seen[value] = at
+    def tables(self, holder, key, where, most, word):
+        """The tables of an array that has to be there, each with its ordinal, one after the other."""
+        for item, at, ordinal in self.elements(holder, key, where, most, word):
+            if type(item) is Table:
+                yield ordinal, item
+            else:
+                self.fault("Key", at, where, f"element {ordinal} of {key} is {KIND_NAMES[type(item)]}, and not a table")
+
+    def unique(self, values):
+        """The values of which each may come once, each with where it first stands. They are given with what a fault says of
+        each: its offset, its place and its name."""
+        seen = {}
+        for value, at, where, what in values:
+            if value in seen:
+                self.fault("Twice", at, where, f"{what} comes again, first in line {self.lines.line(seen[value])}")
+            else:
+                seen[value] = at
+        return seen
 
     # ---- The top level and lookups ----
 
@@ -592,31 +616,27 @@ class Rules:
             self.fault("Format", at, "", f"format is {shown(version)}, and not 1, 2 or 3" if is_there else
                        "format is missing; it is 1, 2 or 3")
             return
-        self.field_keys = KEYS_BY_FORMAT[version]
+        self.version, self.field_keys = version, KEYS_BY_FORMAT[version]
         self.only_keys(self.top, ("format", "lookup", "pgn"), "", "the top level")
-        names = {}
+        names, kinds = [], []
         if "lookup" in self.top:
             for ordinal, lookup in self.tables(self.top, "lookup", "", MOST_LOOKUPS, "lookups"):
-                self.lookup(lookup, ordinal, names)
-        kinds = {}
+                self.lookup(lookup, of_named("lookup", lookup, ordinal), names)
+        self.lookups = self.unique(names)
         if "pgn" in self.top:
             for ordinal, definition in self.tables(self.top, "pgn", "", MOST_DEFINITIONS, "definitions"):
-                self.definition(definition, of_definition(definition, ordinal), version, names, kinds)
+                self.definition(definition, of_definition(definition, ordinal), kinds)
+        self.mixed(kinds)
 
-    def lookup(self, lookup, ordinal, names):
-        where = of_named("lookup", lookup, ordinal)
+    def lookup(self, lookup, where, names):
         self.only_keys(lookup, ("name", "entries"), where, "a lookup", elsewhere=("number", "kind", "description", "fields", "repeat"))
         name = self.text(lookup, "name", where)
         if name is not None:
-            self.once(names, name, lookup.keys_at["name"], where, f"name {quoted(name)}")
-        entries = self.asked(lookup, "entries", Array, where)
-        if entries is None:
-            return
-        if len(entries) > MOST_ENTRIES:
-            self.fault("TooMany", lookup.keys_at["entries"], where, f"{len(entries)} entries, over {MOST_ENTRIES}")
-        values = {}
-        for ordinal, (entry, at) in enumerate(zip(entries, entries.items_at), 1):
+            names.append((name, lookup.keys_at["name"], where, f"name {quoted(name)}"))
+        values = []
+        for entry, at, ordinal in self.elements(lookup, "entries", where, MOST_ENTRIES, "entries"):
             self.entry(entry, at, f"{where}, entry {ordinal}", values)
+        self.unique(values)
 
     def entry(self, entry, at, where, values):
         kinds = [type(part) for part in entry] if type(entry) is Array else None
@@ -630,39 +650,55 @@ class Rules:
         value = self.ranged(entry[0], 0, GREATEST_VALUE, value_at, where, "the value")
         self.sized(entry[1], name_at, where, "the name")
         if value is not None:
-            self.once(values, value, value_at, where, f"value {value}")
+            values.append((value, value_at, where, f"value {value}"))
 
     # ---- Definitions ----
 
-    def definition(self, definition, where, version, lookups, kinds):
+    def definition(self, definition, where, kinds):
         self.only_keys(definition, ("number", "kind", "description", "fields", "repeat"), where, "a definition")
-        if version == 1 and "repeat" in definition:
+        if self.version == 1 and "repeat" in definition:
             self.fault("Key", definition.keys_at["repeat"], where, "repeat stands in tables of format 2 and 3, and this is one "
                        "of format 1", self.top.keys_at["format"])
         number = self.whole(definition, "number", 0, GREATEST_PGN, where)
         kind = self.choice(definition, "kind", ("single", "fast"), where)
         self.text(definition, "description", where)
-        names = self.fields(definition, where, LONGEST_MESSAGE, None, lookups)
-        if version > 1 and "repeat" in definition:
+        own = self.fields(definition, where, LONGEST_MESSAGE, None)
+        if self.version > 1 and "repeat" in definition:
             repeat = self.asked(definition, "repeat", Table, where)
             if repeat is not None:
-                self.repeat(repeat, f"{where}, the set", lookups)
-                if "list" in names:
-                    self.fault("Twice", names["list"], where, 'a field is named "list", as the sets are in a JSON line',
+                self.repeat(repeat, f"{where}, the set", own)
+                if "list" in own.names:
+                    self.fault("Twice", own.names["list"], where, 'a field is named "list", as the sets are in a JSON line',
                                definition.keys_at["repeat"])
         if number is not None and kind is not None:
-            first = kinds.setdefault(number, definition)
+            kinds.append((definition, where))
+
+    def mixed(self, definitions):
+        """That the definitions of each PGN are of one kind."""
+        firsts = {}
+        for definition, where in definitions:
+            first, kind = firsts.setdefault(definition["number"], definition), definition["kind"]
             if first["kind"] != kind:
                 line = self.lines.line(first.keys_at["kind"])
                 self.fault("Mixed", definition.keys_at["kind"], where, f'kind is "{kind}", and "{first["kind"]}" in line {line}',
                            definition.keys_at["number"], first.keys_at["number"])
 
-    def repeat(self, repeat, where, lookups):
-        self.only_keys(repeat, ("at", "bits", "fields"), where, "a repeat")
+    def repeat(self, repeat, where, own):
+        """What repeats behind a message's own fields."""
+        has_strings = self.version == 3
+        keys = ("at", "bits", "after", "fields") if has_strings else ("at", "bits", "fields")
+        self.only_keys(repeat, keys, where, "a repeat", newer=("after",))
         at = self.whole(repeat, "at", 0, LONGEST_MESSAGE - 1, where, 8)
-        bits = self.whole(repeat, "bits", 8, LONGEST_MESSAGE, where, 8)
-        self.ends(repeat, at, bits, LONGEST_MESSAGE, where, None)
-        self.fields(repeat, where, bits, repeat, lookups)
+        bits = self.whole(repeat, "bits", 0 if has_strings else 8, LONGEST_MESSAGE, where, 8)
+        string, is_behind = None, has_strings and "after" in repeat
+        if is_behind:
+            string = self.string_of_message(repeat, where, own)
+        if not is_behind or string is not None and string.place is not None:
+            self.ends(repeat, at, bits, LONGEST_MESSAGE, where, None, string)
+        fields = self.fields(repeat, where, bits, repeat)
+        if bits == 0 and fields.kinds is not None and "string" not in fields.kinds:
+            self.fault("Range", repeat.keys_at["bits"], where, "bits is 0, and no field of the set is a string",
+                       repeat.keys_at["fields"])
 
     def ends(self, table, at, bits, end, where, repeat, string=None):
         """Whether bits end in a message, or in a set of this repeat, as far as the table says it: behind this string they
@@ -672,46 +708,48 @@ class Rules:
         fixed = at if string is None else string.place + at
         if fixed + bits <= end:
             return True
-        said = "at + bits" if string is None else "the fixed place + bits" if bits else "the fixed place"
+        said = ("at" if string is None else "the fixed place") + (" + bits" if bits else "")
         others = [table.keys_at["at"]] if string is None else [table.keys_at["at"], table.keys_at["after"], string.at]
         what = f"{said} is {fixed + bits}, over {end}" + (", the bits of the set" if repeat is not None else "")
         self.fault("Range", table.keys_at["bits" if "bits" in table else "at"], where, what, *others,
                    *([repeat.keys_at["bits"]] if repeat is not None else []))
         return False
 
-    def fields(self, holder, where, end, repeat, lookups):
-        """The names of the fields of a message, or of a set of this repeat, each with where it first stands."""
-        names, strings = {}, {}
-        not_here = KINDS_NOT_IN_SETS if repeat is not None else ()
-        kinds, newer = (tuple(kind for kind in keys if kind not in not_here) for keys in (self.field_keys, FIELD_KEYS_OF_3))
-        elsewhere = tuple(kind for kind in self.field_keys if kind in not_here)
-        fields = self.tables(holder, "fields", where, MOST_FIELDS, "fields")
-        for ordinal, field in fields:
+    def fields(self, holder, where, end, repeat):
+        """The fields of a message, or of a set of this repeat."""
+        names, strings, kinds = [], {}, []
+        array = holder.get("fields")
+        all_fields = tables_of(array)
+        newer = tuple(FIELD_KEYS_OF_3)
+        for ordinal, field in self.tables(holder, "fields", where, MOST_FIELDS, "fields"):
             of_field = f"{where}, {of_named('field', field, ordinal)}"
-            kind = self.choice(field, "kind", kinds, of_field, newer, elsewhere)
-            if kind is not None:
-                place = self.field(field, kind, of_field, end, repeat, lookups, strings, fields)
-                name = self.text(field, "name", of_field)
-                if name is not None and kind == "string":
-                    strings.setdefault(name, String(field.at, place))
-                if name is not None:
-                    self.once(names, name, field.keys_at["name"], of_field, f"name {quoted(name)}")
-            else:
+            kind = self.choice(field, "kind", tuple(self.field_keys), of_field, newer)
+            kinds.append(kind)
+            if kind is None:
                 self.only_keys(field, all_keys(self.field_keys), of_field, "a field", (), all_keys(FIELD_KEYS_OF_3))
-        return names
+                continue
+            name, place = self.field(field, kind, of_field, end, repeat, strings, all_fields)
+            if name is not None:
+                names.append((name, field.keys_at["name"], of_field, f"name {quoted(name)}"))
+                if kind == "string":
+                    strings.setdefault(name, String(field.at, place))
+        is_known = type(array) is Array and len(kinds) == len(array) and None not in kinds
+        return Fields(all_fields, self.unique(names), strings, kinds if is_known else None)
 
-    def field(self, field, kind, where, end, repeat, lookups, strings, fields):
-        """A field but for its name. Answered is its fixed place, None where that isn't known or is past the end."""
+    def field(self, field, kind, where, end, repeat, strings, fields):
+        """A field of a known kind. Answered are its name and its fixed place, None where that isn't known or is past the
+        end."""
         required, optional = self.keys_of(self.field_keys, kind, repeat)
         by_kind = (field.keys_at["kind"],)
         what = f"a {kind} field" + (" of a set" if repeat is not None else "")
         self.only_keys(field, required + optional, where, what, by_kind, self.keys_of(FIELD_KEYS_OF_3, kind, repeat)[1])
+        name = self.text(field, "name", where)
         step = 8 if kind in BY_BYTES else 1
         at = self.whole(field, "at", 0, LONGEST_MESSAGE - 1, where, step, by_kind)
-        bits = self.whole(field, "bits", step, MOST_BITS[kind], where, step, by_kind) if "bits" in required else 0
+        bits = self.whole(field, "bits", step, MOST_BITS[kind], where, step, by_kind, by_kind) if "bits" in required else 0
         string, is_behind = None, "after" in field and "after" in optional
         if is_behind:
-            string = self.string_before(field, where, strings, fields)
+            string = self.string_before(field, optional, where, strings, fields)
         # Behind a string whose own place has a fault nothing has a place.
         is_placed = not is_behind or string is not None and string.place is not None
         place = None
@@ -731,6 +769,10 @@ class Rules:
                 self.whole(field, "offset", LEAST_OFFSET, GREATEST_OFFSET, where)
         if "unit" in field and "unit" in optional:
             self.text(field, "unit", where)
+        if "lookup" in required:
+            self.named_lookup(field, where)
+        if "form" in required:
+            self.choice(field, "form", FORMS, where, others=by_kind)
         if "short" in field and "short" in optional:
             self.asked(field, "short", bool, where)
         if "match" in field and "match" in optional:
@@ -738,30 +780,43 @@ class Rules:
             if match is not None:
                 most, others = (2**63 - 1, ()) if bits is None else (2**bits - 1, (field.keys_at["bits"],))
                 self.ranged(match, 0, most, field.keys_at["match"], where, "match", others=others)
-        if "lookup" in required:
-            self.named_lookup(field, lookups, where)
-        if "form" in required:
-            self.choice(field, "form", FORMS, where)
-        return place
+        return name, place
 
-    def string_before(self, field, where, strings, fields):
+    def string_before(self, field, optional, where, strings, fields):
         """The string behind which a field stands, None where it names none of those before it."""
         if "match" in field:
-            self.fault("Key", field.keys_at["after"], where, "a field with a match has no after", field.keys_at["match"])
+            if "match" in optional:
+                self.fault("Key", field.keys_at["after"], where, "a field with a match has no after", field.keys_at["match"])
             return None
-        name = self.text(field, "after", where)
+        named = self.named_by_after(field, fields)
+        hint = "" if named is None else "is the field itself" if named is field else \
+            "stands behind it" if named.get("kind") == "string" else "is no string"
+        return self.named_string(field, where, strings, "string stands before it", "strings before it", named, hint)
+
+    def string_of_message(self, repeat, where, own):
+        """The string behind which the sets stand, None where the message's own fields have none of that name."""
+        named, hint = self.named_by_after(repeat, own.tables), "is no string"
+        if named is None:
+            named, hint = self.named_by_after(repeat, tables_of(repeat.get("fields"))), "is a field of the set"
+        return self.named_string(repeat, where, own.strings, "field of the message is a string", "strings of the message", named,
+                                 hint)
+
+    @staticmethod
+    def named_by_after(holder, fields):
+        """The first of these fields, of whatever kind, that `after` names."""
+        return next((field for field in fields if field.get("name") == holder["after"]), None)
+
+    def named_string(self, holder, where, strings, none, many, named, hint):
+        """The string that `after` names; where it names none, what has that name, and what that is, goes with the fault."""
+        name = self.text(holder, "after", where)
         if name is None or name in strings:
             return strings.get(name)
         known = [quoted(string) for string in strings]
-        said = "no string stands before it" if not known else f"not {known[0]}" if len(known) == 1 else \
-            f"not {', '.join(known[:-1])} or {known[-1]}" if len(known) <= MOST_NAMES else "none of the strings before it"
-        named = next((other for _, other in fields if other.get("name") == name), None)
+        said = f"no {none}" if not known else f"not {known[0]}" if len(known) == 1 else \
+            f"not {', '.join(known[:-1])} or {known[-1]}" if len(known) <= MOST_NAMES else f"none of the {many}"
         near = difflib.get_close_matches(name, strings, 1) if len(known) > MOST_NAMES else []
-        hint = f"; perhaps {quoted(near[0])}" if near else ""
-        if named is not None:
-            hint = f"; {quoted(name)} " + ("is the field itself" if named is field else "stands behind it"
-                                           if named.get("kind") == "string" else "is no string")
-        self.fault("Lookup", field.keys_at["after"], where, f"after is {quoted(name)}, and {said}{hint}",
+        more = f"; {quoted(name)} {hint}" if named is not None else f"; perhaps {quoted(near[0])}" if near else ""
+        self.fault("Lookup", holder.keys_at["after"], where, f"after is {quoted(name)}, and {said}{more}",
                    *([] if named is None else [named.at]))
         return None
 
@@ -781,12 +836,12 @@ class Rules:
             return
         self.ranged(int(text.replace(".", "")), 1, GREATEST_MANTISSA, at, where, f"the number of all digits of {said}")
 
-    def named_lookup(self, field, lookups, where):
+    def named_lookup(self, field, where):
         name = self.text(field, "lookup", where, (field.keys_at["kind"],))
-        if name is not None and name not in lookups:
+        if name is not None and name not in self.lookups:
             if name not in self.near:
-                self.near[name] = difflib.get_close_matches(name, lookups, 1)
-            hint = "".join(f"; perhaps {quoted(near)} of line {self.lines.line(lookups[near])}" for near in self.near[name])
+                self.near[name] = difflib.get_close_matches(name, self.lookups, 1)
+            hint = "".join(f"; perhaps {quoted(near)} of line {self.lines.line(self.lookups[near])}" for near in self.near[name])
             self.fault("Lookup", field.keys_at["lookup"], where, f"no lookup is named {quoted(name)}{hint}")
 
 
@@ -796,7 +851,8 @@ def not_toml(error, data):
 
 
 def judged(data):
-    """The document of a table's bytes, None where it is no TOML; its lines; and all its faults by line."""
+    """The document of a table's bytes, None where it is no TOML; its lines; and all its faults as they are judged: the first
+    is the one that the program answers."""
     try:
         text = text_of(data)
         top = Reader(text).document()
@@ -804,9 +860,9 @@ def judged(data):
         return None, None, [not_toml(error, data)]
     rules = Rules(top, Lines(text))
     rules.judge()
-    return top, rules.lines, sorted(rules.faults, key=lambda fault: fault.line)
+    return top, rules.lines, rules.faults
 
 
 def faults(data):
-    """All faults of a table's bytes, by line."""
+    """All faults of a table's bytes; the first is the one that the program answers."""
     return judged(data)[2]
