@@ -336,8 +336,10 @@ def strings_of(format, in_set):
 
 
 def string_place(rng, room, behind):
-    last = min(room, LAST)
-    return min(last, rng.choice([0, 0, 0, 8, -(-behind // 8) * 8, -(-behind // 8) * 8, 8 * rng.randint(0, 12), last, last - last % 16]))
+    last, usual = min(room, LAST), -(-behind // 8) * 8
+    if rng.random() < 0.08:
+        return rng.choice([last, last - last % 16])
+    return min(last, rng.choice([0, 0, 0, 8, usual, usual, usual, 8 * rng.randint(0, 12)]))
 
 
 def new_field(rng, format, lookups, room, behind, in_set, after=None):
@@ -376,7 +378,7 @@ def new_field(rng, format, lookups, room, behind, in_set, after=None):
 def new_fields(rng, format, lookups, room, in_set, barred=(), first=()):
     """The fields of a definition or of a set; `first` are some that it has."""
     fields, used = [dict(field) for field in first], {field["name"] for field in first}
-    count = rng.choice([0, 1, 2, 3, 4, 6, 9]) if rng.random() < 0.995 else 256 - len(fields)
+    count = rng.choice([0, 1, 2, 3, 4, *([2, 3] if in_set else [6, 9])]) if rng.random() < 0.995 else 256 - len(fields)
     behind = {None: 0}  # of the end of each string
     for _ in range(count):
         names = [*behind]
@@ -609,7 +611,7 @@ def put_sets(rng, definition, whole, lookups, some):
     """Puts sets into a message; the bytes where it may be cut."""
     repeat, begin, cuts = definition["repeat"], first_set(definition, bytes(whole)), []
     strange = rng.choice([0, 0, 0.02, 0.1])
-    for _ in range(rng.choice([0, 1, 2, 3, 4, 6, MOST])):
+    for _ in range(rng.choice([0, 1, 2, 3, 4, 6, 9, MOST, MOST])):
         if begin is None or begin >= MOST:
             break
         cuts += put_fields(rng, repeat["fields"], begin, whole, lookups, some, strange)
@@ -624,9 +626,10 @@ def data_with_strings(rng, definition, lookups):
     """A message with strings, often cut where one of them or a set begins or ends, or inside of it."""
     fields, whole = definition["fields"], bytearray(filled(rng, MOST))
     some = rng.choice([0, 0.3, 0.9])
-    cuts = put_fields(rng, fields, 0, whole, lookups, some, 0.2)
+    cuts = put_fields(rng, fields, 0, whole, lookups, some, rng.choice([0, 0, 0.2]) if "repeat" in definition else 0.2)
     if "repeat" in definition:
-        cuts += put_sets(rng, definition, whole, lookups, some)
+        of_sets = put_sets(rng, definition, whole, lookups, some)
+        cuts = of_sets if of_sets and rng.random() < 0.8 else cuts + of_sets
         for field in fields:
             if "match" in field and rng.random() < 0.9:
                 put(whole, field["at"], field["bits"], field["match"])
@@ -658,8 +661,12 @@ def data_of(rng, definition, lookups):
 
 def messages(rng, tree, lookups):
     """Messages as prio, PGN, src, dst and bytes."""
-    definitions = tree.get("pgn", [])
-    for definition in definitions * 4 + [one for one in definitions if varies(one)] * 4:
+    definitions, seen, some = tree.get("pgn", []), set(), []
+    for definition in definitions:
+        some += [definition] * (1 if definition["number"] in seen else 9 if varies(definition) else 4)
+        if not any("match" in field for field in definition["fields"]):
+            seen.add(definition["number"])  # no later one of the PGN is chosen
+    for definition in some:
         data = data_of(rng, definition, lookups)
         yield rng.randint(0, 7), definition["number"], rng.randint(0, 255), rng.randint(0, 255), data
     for _ in range(rng.randint(0, 2)):
