@@ -663,7 +663,7 @@ def messages(rng, tree, lookups):
     """Messages as prio, PGN, src, dst and bytes."""
     definitions, seen, some = tree.get("pgn", []), set(), []
     for definition in definitions:
-        some += [definition] * (1 if definition["number"] in seen else 9 if varies(definition) else 4)
+        some += [definition] * (2 if definition["number"] in seen else 10 if varies(definition) else 4)
         if not any("match" in field for field in definition["fields"]):
             seen.add(definition["number"])  # no later one of the PGN is chosen
     for definition in some:
