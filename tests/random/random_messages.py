@@ -1316,40 +1316,42 @@ def strings_st(at):
     return [{"name": "S", "kind": "string", "at": at, "form": "lau"}, {"name": "T", "kind": "string", "at": at, "form": "lz", "after": "S"}]
 
 
-def a_repeat(rng, format):
-    """Sets, with some changes."""
-    strings = strings_st(rng.choice([0, 8, 8])) if strings_of(format, True) else []
-    repeat = {"at": 8, "bits": 64, "fields": [dict(A)] + strings}
-    if rng.random() < 0.5:
-        return repeat
+def changed_repeat(rng, repeat, strings):
+    """Changes sets; there are `strings` for them where these may vary."""
     if strings and rng.random() < 0.6:
         repeat.update(after=rng.choice("ST"), at=8 * rng.choice([0, 1, *range(211, 217), *range(219, 224)]))
-    if strings and rng.random() < 0.5:
+    if rng.random() < 0.4:
         repeat["bits"] = 0
-    if rng.random() < 0.6:
+    if rng.random() < 0.5:
         repeat["fields"] = rng.choice([[], [], strings[:1], strings, [dict(A)], [dict(A), dict(A)], [5], 5, [dict(A)] * 257])
-    for _ in range(rng.choice([0, 0, 1, 2])):
-        key = rng.choice([*OF_REPEAT, "at", "bits", "after"])
+    for _ in range(rng.choice([0, 0, 1, 2, 3])):
+        key = rng.choice([*OF_REPEAT, "at", "at", "bits", "bits", "after", "after"])
         if rng.random() < 0.1:
-            repeat.pop(rng.choice([*repeat]))
+            repeat.pop(rng.choice([*repeat]), None)
         elif key in ("at", "bits", "after") or rng.random() < 0.3:
             repeat[key] = rng.choice(OF_REPEAT[key])
-    return rng.choice([5, [], [repeat], {}, "x"]) if rng.random() < 0.02 else repeat
 
 
 def several(rng, format):
     """The class of the first fault, or None, and the bytes of a table with a field and sets that may have several."""
+    of_sets = strings_st(rng.choice([0, 8, 8])) if strings_of(format, True) else []
     fields = [dict(A)] + strings_st(8) * bool(strings_of(format, False))
+    repeat = {"at": 8, "bits": 64, "fields": [dict(A)] + of_sets}
     definition = {"number": 130823, "kind": "fast", "description": "x", "fields": fields}
     if format > 1 or rng.random() < 0.02:
-        definition["repeat"] = a_repeat(rng, format)
-    if format > 1 and rng.random() < 0.15:
-        fields.insert(0, {"name": "list", "kind": "number", "at": 0, "bits": 8})
-    inner = definition["repeat"].get("fields") if format > 1 and type(definition["repeat"]) is dict else None
-    in_set = type(inner) is list and rng.random() < 0.4
-    if in_set or rng.random() < 0.6:
-        holder = inner if in_set else fields
-        holder.insert(rng.randint(0, len(holder)), a_field(rng, format, in_set))
+        definition["repeat"] = repeat
+    holder = fields if format == 1 or rng.random() < 0.4 else None
+    if holder is None:
+        if rng.random() < 0.7:
+            changed_repeat(rng, repeat, of_sets)
+        if rng.random() < 0.3:
+            fields.append({"name": "list", "kind": "number", "at": 0, "bits": 8})
+        if type(repeat.get("fields")) is list and rng.random() < 0.4:
+            holder = repeat["fields"]
+        if rng.random() < 0.03:
+            definition["repeat"] = rng.choice([5, [], [repeat], {}, "x"])
+    if holder is not None:
+        holder.insert(rng.randint(0, len(holder)), a_field(rng, format, holder is not fields))
     wanted = next(filter(None, definition_faults(definition, format)), None)
     tree = {"format": format, "lookup": [{"name": "L", "entries": [[1, "One"]]}], "pgn": [definition]}
     return wanted, table_text(tree).encode()
