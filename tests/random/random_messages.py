@@ -375,8 +375,8 @@ def new_field(rng, format, lookups, room, behind, in_set, after=None):
     return dict(rng.sample([*field.items()], len(field)))
 
 
-def new_fields(rng, format, lookups, room, in_set, barred=(), first=()):
-    """The fields of a definition or of a set; `first` are some that it has."""
+def new_fields(rng, format, lookups, room, in_set, barred=(), first=(), others=()):
+    """The fields of a definition or of a set; `first` are some that it has, and `others` names that it may have too."""
     fields, used = [dict(field) for field in first], {field["name"] for field in first}
     count = rng.choice([0, 1, 2, 3, 4, *([2, 3] if in_set else [6, 9])]) if rng.random() < 0.995 else 256 - len(fields)
     behind = {None: 0}  # of the end of each string
@@ -384,7 +384,12 @@ def new_fields(rng, format, lookups, room, in_set, barred=(), first=()):
         names = [*behind]
         after = names[-1] if rng.random() < 0.6 else rng.choice(names) if rng.random() < 0.7 else None
         field = new_field(rng, format, lookups, room - fixed(fields, after), behind[after], in_set, after)
-        field["name"] = new_name(rng, used, barred)
+        free = [name for name in others if name not in used]
+        if free and rng.random() < 0.3:
+            field["name"] = rng.choice(free)
+            used.add(field["name"])
+        else:
+            field["name"] = new_name(rng, used, barred)
         earliest = len(first) if after is None else 1 + [field["name"] for field in fields].index(after)
         fields.insert(rng.randint(earliest, len(fields)), field) if rng.random() < 0.1 else fields.append(field)
         behind[after] = field["at"] + field.get("bits", 0) + rng.choice([0, 0, 0, 1, 5, 8])
@@ -407,8 +412,9 @@ def new_repeat(rng, format, lookups, fields):
         bits = rng.choice([bits, bits, bits, 0])
     else:
         bits = max(bits, 8)
+    names = [field["name"] for field in fields]
     while True:
-        repeat = {"at": at, "bits": bits, "fields": new_fields(rng, format, lookups, bits, True)}
+        repeat = {"at": at, "bits": bits, "fields": new_fields(rng, format, lookups, bits, True, others=names)}
         if bits or has_string(repeat):
             break
     if after is not None:
@@ -417,12 +423,12 @@ def new_repeat(rng, format, lookups, fields):
 
 
 def has_string(holder):
-    """Whether a definition or its sets have a string."""
+    """Whether a definition's own fields, or those of a `repeat`, have a string."""
     return any(field["kind"] == "string" for field in holder["fields"])
 
 
 def varies(definition):
-    """Whether a definition or its sets have a string."""
+    """Whether a string decides where a field or a set of a definition stands."""
     return has_string(definition) or "repeat" in definition and has_string(definition["repeat"])
 
 
@@ -852,7 +858,7 @@ def repeat_out_of_range(rng, tree):
     definition = rng.choice([one for one in tree["pgn"] if "repeat" in one])
     repeat = definition["repeat"]
     at, bits, room = repeat["at"], repeat["bits"], ROOM - fixed(definition["fields"], repeat.get("after"))
-    needed = max((fixed(repeat["fields"], field.get("after")) + field["at"] + field.get("bits", 0) for field in repeat["fields"]), default=0)
+    needed = max([fixed(repeat["fields"], field.get("after")) + field["at"] + field.get("bits", 0) for field in repeat["fields"]] + [0])
     changes = [{"at": -8}, {"at": 1784}, {"at": 2**62}, {"at": at + rng.randint(1, 7)}, {"at": room - bits + 8},
                {"bits": -8}, {"bits": 1792}, {"bits": 2**62}, {"bits": bits - rng.randint(1, 7)},
                {"bits": bits + rng.randint(1, 7)}, {"bits": room - at + 8}]
