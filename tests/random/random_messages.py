@@ -1130,9 +1130,9 @@ def without_format(rng, tree):
 FAULTS = {
     "Format": [another_format, without_format],
     "Key": [strange_key] * 6 + [without_key, another_kind] * 2 + [strange_key_at_the_top, no_list_at_the_top, no_entry, no_field],
-    "Range": [place_out_of_range] * 6 + [repeat_out_of_range, match_out_of_range, value_out_of_range, number_out_of_range,
-                                         signed_bit, mantissa_out_of_range, offset_out_of_range] +
-             [fixed_place_out_of_range] * 2 + [set_of_no_bits],
+    "Range": [place_out_of_range] * 6 + [repeat_out_of_range, fixed_place_out_of_range] * 2 +
+             [match_out_of_range, value_out_of_range, number_out_of_range, signed_bit, mantissa_out_of_range, offset_out_of_range,
+              set_of_no_bits],
     "Text": [text_of_another_length, text_of_another_length, unknown_kind, unknown_kind, no_resolution, unknown_form],
     "Twice": [lookup_twice, value_twice, field_twice, field_named_list, string_twice],
     "Lookup": [unknown_lookup, no_string, no_string_of_sets],
@@ -1317,7 +1317,7 @@ OF_REPEAT = {"at": [0, 8, 16, 4, -8, 1760, 1768, 1776, 1784, "8"], "after": VALU
              "bits": [0, 0, 0, 0, 8, 16, 24, 4, -8, 1760, 1768, 1776, 1784, 1792, "8"]}
 
 
-def strings_st(at):
+def two_strings(at):
     """A string S and another one behind it."""
     return [{"name": "S", "kind": "string", "at": at, "form": "lau"}, {"name": "T", "kind": "string", "at": at, "form": "lz", "after": "S"}]
 
@@ -1340,8 +1340,8 @@ def changed_repeat(rng, repeat, strings):
 
 def several(rng, format):
     """The class of the first fault, or None, and the bytes of a table with a field and sets that may have several."""
-    of_sets = strings_st(rng.choice([0, 8, 8])) if strings_of(format, True) else []
-    fields = [dict(A)] + strings_st(8) * bool(strings_of(format, False))
+    of_sets = two_strings(rng.choice([0, 8, 8])) if strings_of(format, True) else []
+    fields = [dict(A)] + two_strings(8) * bool(strings_of(format, False))
     repeat = {"at": 8, "bits": 64, "fields": [dict(A)] + of_sets}
     definition = {"number": 130823, "kind": "fast", "description": "x", "fields": fields}
     if format > 1 or rng.random() < 0.02:
@@ -1431,7 +1431,7 @@ class Judge:
             self.fail(name, table, f"wanted: {wanted}", f"got: status {status}, {errors}")
 
 
-def main(program, seed, count, formats="1233", sets="all"):
+def main(program, seed, count, formats="12333", sets="all"):
     if sets == "fixed-sets":
         IN_SETS.clear()
     with tempfile.TemporaryDirectory() as room:
