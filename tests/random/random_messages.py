@@ -1,16 +1,17 @@
 #!/usr/bin/env python3
 """Makes random tables of formats 1, 2 and 3 with random messages, and compares what a program prints with the rules.
 
-    tests/random/random_messages.py PROGRAM SEED COUNT [FORMATS [no-strings]]
+    tests/random/random_messages.py PROGRAM SEED COUNT [FORMATS [fixed-sets]]
 
 Each of the COUNT tables has lookups with holes, fields of each kind at any place, chains of strings with fields behind
-them, matches, several definitions of a PGN and sets that repeat. Its messages are of 0 to 223 bytes, cut anywhere,
-most with values at a limit. What PROGRAM prints of them by `decode --whole`, in part with `--empty`, has to be what
-this script makes of them by itself, byte for byte. As many more tables have one fault each: the program has to refuse
-them by its class. As many again have a field with several faults or none: the first fault is answered. FORMATS is one
-of the formats or several, as `12`. With `no-strings` no table has a string, and a field that names one is a fault, as
-in a program that knows none. The rules were written from the format's pages alone, apart from the program and from
-tools/table_rules.py. Each failure is shown; the last line ends with `N failures` (Python 3.9 or newer).
+them, matches, several definitions of a PGN, and sets that repeat, with strings of their own or without. Its messages
+are of 0 to 223 bytes, cut anywhere, most with values at a limit. What PROGRAM prints of them by `decode --whole`, in
+part with `--empty`, has to be what this script makes of them by itself, byte for byte. As many more tables have one
+fault each: the program has to refuse them by its class. As many again have a field and sets with several faults or
+none: the first fault is answered. FORMATS is one of the formats or several, as `12`; one that stands there twice comes
+twice as often. With `fixed-sets` each set is as long as the next, and a string in one, or sets behind a string, are a
+fault, as in a program that knows none. The rules were written from the format's pages alone, apart from the program and
+from tools/table_rules.py. Each failure is shown; the last line ends with `N failures` (Python 3.9 or newer).
 """
 import collections
 import json
@@ -26,6 +27,7 @@ KINDS = {1: ["number", "number", "lookup", "text", "bytes"]}
 KINDS[2] = KINDS[1]
 KINDS[3] = KINDS[1] + ["number", "flags", "flags", "digits"]
 STRINGS = ["string"] * 7  # of format 3, in a definition's own fields
+IN_SETS = ["string"] * 6  # of format 3, in the fields of a set
 LAST = ROOM - 8  # the greatest first bit of a string
 FORMS = ("lau", "lz")
 BITS = {"number": 64, "lookup": 32, "flags": 64}  # the most; the other kinds have whole bytes, and a string has no bits
@@ -159,10 +161,31 @@ def members(fields, data, lookups, empty):
     return [f"{quoted(name)}:{value or 'null'}" for name, value in values if value or empty]
 
 
-def sets(repeat, data):
+def set_length(repeat, data):
+    """The bytes that a set at the front of `data` takes, or None where it is not there."""
+    found, length = ends(repeat["fields"], data), repeat["bits"] // 8
+    for field in repeat["fields"]:
+        if field["kind"] == "string":
+            end = found[field["name"]]
+            if end is None:
+                return None
+            length += end - (found[field.get("after")] + field["at"] // 8)
+    return length if length <= len(data) else None
+
+
+def first_set(definition, data):
+    """The byte where the first set begins, or None where the string before the sets has no end."""
+    begin = ends(definition["fields"], data)[definition["repeat"].get("after")]
+    return None if begin is None else begin + definition["repeat"]["at"] // 8
+
+
+def sets(definition, data):
     """The bytes of each set."""
-    for begin in range(repeat["at"], 8 * len(data) - repeat["bits"] + 1, repeat["bits"]):
-        yield data[begin // 8:(begin + repeat["bits"]) // 8]
+    begin = first_set(definition, data)
+    data = b"" if begin is None else data[begin:]
+    while (length := set_length(definition["repeat"], data)) is not None:
+        yield data[:length]
+        data = data[length:]
 
 
 def fits(definition, data):
@@ -184,7 +207,7 @@ def wanted_line(tree, lookups, message, empty):
         parts = members(definition["fields"], data, lookups, empty)
     if "repeat" in definition:
         repeat = definition["repeat"]
-        objects = ["{" + ",".join(members(repeat["fields"], part, lookups, empty)) + "}" for part in sets(repeat, data)]
+        objects = ["{" + ",".join(members(repeat["fields"], part, lookups, empty)) + "}" for part in sets(definition, data)]
         parts.append(f'"list":[{",".join(objects)}]')
     return (f'{{"timestamp":"t","prio":{prio},"src":{src},"dst":{dst},"pgn":{pgn},'
             f'"description":{quoted(definition["description"])},"fields":{{{",".join(parts)}}}}}\n')
@@ -307,14 +330,21 @@ def match(rng, bits):
     return min(2**63 - 1, rng.choice([0, 1, (1 << bits) - 1, 1 << bits - 1, rng.randrange(1 << bits)]) & (1 << bits) - 1)
 
 
+def strings_of(format, in_set):
+    """The kind `string`, as often as it is chosen; nothing where there is none."""
+    return [] if format < 3 else IN_SETS if in_set else STRINGS
+
+
 def string_place(rng, room, behind):
-    last = min(room, LAST)
-    return min(last, rng.choice([0, 0, 0, 8, -(-behind // 8) * 8, -(-behind // 8) * 8, 8 * rng.randint(0, 12), last, last - last % 16]))
+    last, usual = min(room, LAST), -(-behind // 8) * 8
+    if rng.random() < 0.08:
+        return rng.choice([last, last - last % 16])
+    return min(last, rng.choice([0, 0, 0, 8, usual, usual, usual, 8 * rng.randint(0, 12)]))
 
 
 def new_field(rng, format, lookups, room, behind, in_set, after=None):
     """A field without its name; `room` and `behind` count from the end of `after`."""
-    more = STRINGS * (format == 3 and not in_set) + ["text", "bytes"] * 2 * (after is not None)
+    more = strings_of(format, in_set) + ["text", "bytes"] * 2 * (after is not None)
     kind = rng.choice(KINDS[format] + more)
     if "lookup" in NEEDED[kind] and not lookups:
         kind = "number"
@@ -345,16 +375,21 @@ def new_field(rng, format, lookups, room, behind, in_set, after=None):
     return dict(rng.sample([*field.items()], len(field)))
 
 
-def new_fields(rng, format, lookups, room, in_set, barred=(), first=()):
-    """The fields of a definition or of a set; `first` are some that it has."""
+def new_fields(rng, format, lookups, room, in_set, barred=(), first=(), others=()):
+    """The fields of a definition or of a set; `first` are some that it has, and `others` names that it may have too."""
     fields, used = [dict(field) for field in first], {field["name"] for field in first}
-    count = rng.choice([0, 1, 2, 3, 4, 6, 9]) if rng.random() < 0.995 else 256 - len(fields)
+    count = rng.choice([0, 1, 2, 3, 4, *([2, 3] if in_set else [6, 9])]) if rng.random() < 0.995 else 256 - len(fields)
     behind = {None: 0}  # of the end of each string
     for _ in range(count):
         names = [*behind]
         after = names[-1] if rng.random() < 0.6 else rng.choice(names) if rng.random() < 0.7 else None
         field = new_field(rng, format, lookups, room - fixed(fields, after), behind[after], in_set, after)
-        field["name"] = new_name(rng, used, barred)
+        free = [name for name in others if name not in used]
+        if free and rng.random() < 0.3:
+            field["name"] = rng.choice(free)
+            used.add(field["name"])
+        else:
+            field["name"] = new_name(rng, used, barred)
         earliest = len(first) if after is None else 1 + [field["name"] for field in fields].index(after)
         fields.insert(rng.randint(earliest, len(fields)), field) if rng.random() < 0.1 else fields.append(field)
         behind[after] = field["at"] + field.get("bits", 0) + rng.choice([0, 0, 0, 1, 5, 8])
@@ -363,15 +398,46 @@ def new_fields(rng, format, lookups, room, in_set, barred=(), first=()):
     return fields
 
 
+def new_repeat(rng, format, lookups, fields):
+    """Sets of a definition; often they begin where its own fields end."""
+    strings = [field["name"] for field in fields if field["kind"] == "string"] if strings_of(format, True) else []
+    after = rng.choice([strings[-1], rng.choice(strings)]) if strings and rng.random() < 0.75 else None
+    room = ROOM - fixed(fields, after)
+    behind = max((field["at"] + field.get("bits", 0) for field in fields if field.get("after") == after), default=0)
+    usual = -(-behind // 8)
+    at = min(LAST, room, 8 * rng.choice([usual, usual, usual, 0, 1, 2, rng.randint(0, 12), rng.randint(0, MOST - 1)]))
+    most = (room - at) // 8
+    bits = 8 * min(most, rng.choice([1, 2, 3, 4, 8, 9, rng.randint(1, 30), rng.randint(0, most), most]))
+    if strings_of(format, True):
+        bits = rng.choice([bits, bits, bits, 0])
+    else:
+        bits = max(bits, 8)
+    names = [field["name"] for field in fields]
+    while True:
+        repeat = {"at": at, "bits": bits, "fields": new_fields(rng, format, lookups, bits, True, others=names)}
+        if bits or has_string(repeat):
+            break
+    if after is not None:
+        repeat["after"] = after
+    return dict(rng.sample([*repeat.items()], len(repeat)))
+
+
+def has_string(holder):
+    """Whether a definition's own fields, or those of a `repeat`, have a string."""
+    return any(field["kind"] == "string" for field in holder["fields"])
+
+
+def varies(definition):
+    """Whether a string decides where a field or a set of a definition stands."""
+    return has_string(definition) or "repeat" in definition and has_string(definition["repeat"])
+
+
 def new_definition(rng, format, lookups, number, kind, first):
-    repeats = format >= 2 and rng.random() < 0.4
+    repeats = format >= 2 and rng.random() < (0.6 if format == 3 else 0.4)
     fields = new_fields(rng, format, lookups, ROOM, False, ("list",) if repeats else (), first)
     definition = {"number": number, "kind": kind, "description": text(rng), "fields": fields}
     if repeats:
-        at = 8 * rng.choice([0, 1, 2, rng.randint(0, 12), rng.randint(0, MOST - 1)])
-        most = MOST - at // 8
-        bits = 8 * min(most, rng.choice([1, 2, 3, 8, 9, rng.randint(1, 30), rng.randint(1, most), most]))
-        definition["repeat"] = {"at": at, "bits": bits, "fields": new_fields(rng, format, lookups, bits, True)}
+        definition["repeat"] = new_repeat(rng, format, lookups, fields)
     return definition
 
 
@@ -413,7 +479,7 @@ def length_of(rng, definition):
     fields, repeat = definition["fields"], definition.get("repeat")
     way = rng.random()
     if repeat and way < 0.4:
-        bits = repeat["at"] + repeat["bits"] * rng.randint(0, 4) + rng.choice([0, 0, rng.randrange(repeat["bits"])])
+        bits = repeat["at"] + repeat["bits"] * rng.randint(0, 4) + rng.choice([0, 0, rng.randrange(repeat["bits"] or 64)])
     elif fields and way < 0.6:
         field = rng.choice(fields)
         bits = field.get("bits", 0)
@@ -488,28 +554,34 @@ def characters(rng, encoding):
     return b"".join(pieces)
 
 
-def string(rng, form):
-    """The bytes of a string, proper or not."""
+def string(rng, form, strange):
+    """The bytes of a string, proper or not; of so much of all the length is another one."""
     encoding = rng.choice([0, 0, 0, 0, 1, 1, 1, 1, 1, 1, 2, 255, rng.randint(2, 255)])
     some = characters(rng, encoding if form == "lau" else 1)
     if rng.random() < 0.04:
         some = (some * 200 or b"x" * 200)[:rng.randint(100, 253)]
     some = (bytes([encoding]) if form == "lau" else b"") + some
     count = len(some) + (form == "lau")
-    if rng.random() < 0.15:
+    if rng.random() < strange:
         count = rng.choice([0, 1, 2, 255, min(255, count + 1), max(0, count - 1), rng.randint(0, 255)])
     return bytes([count]) + some
 
 
-def put_strings(rng, fields, whole):
-    """Puts strings into a message, each behind the one that it stands behind; the bytes that they take."""
-    found, taken = {None: 0}, set()
+def put(whole, at, bits, raw):
+    """Writes a raw value into a message."""
+    number = int.from_bytes(whole, "little") & ~((1 << bits) - 1 << at) | raw << at
+    whole[:] = number.to_bytes(len(whole), "little")
+
+
+def put_strings(rng, fields, front, whole, strange):
+    """Puts the strings of a list that begins at byte `front` into a message; the bytes that they take."""
+    found, taken = {None: front}, set()
     for field in fields:
         begin = found.get(field.get("after"))
         if field["kind"] == "string" and begin is not None:
             begin += field["at"] // 8
-            if rng.random() < 0.9:
-                some = string(rng, field["form"])
+            if rng.random() >= strange / 2:
+                some = string(rng, field["form"], strange)
                 whole[begin:begin + len(some)] = some
                 del whole[MOST:]
             _, length = of_string(field, bytes(whole[begin:]))
@@ -519,65 +591,88 @@ def put_strings(rng, fields, whole):
     return taken
 
 
-def data_with_strings(rng, definition, lookups):
-    """A message with strings, often cut where one of them begins or ends, or inside of it."""
-    fields, whole = definition["fields"], bytearray(filled(rng, MOST))
-    taken = put_strings(rng, fields, whole)
-    some = rng.choice([0, 0.3, 0.9])
-    begins = ends(fields, bytes(whole))
-    cuts = [MOST]
+def put_fields(rng, fields, front, whole, lookups, some, strange):
+    """Puts the fields of a list that begins at byte `front` into a message; the bytes where it may be cut."""
+    taken = put_strings(rng, fields, front, whole, strange)
+    begins, cuts = ends(fields, bytes(whole[front:])), []
     for field in fields:
         begin = begins[field.get("after")]
         if begin is None:
             continue
-        begin += field["at"] // 8
+        begin += front + field["at"] // 8
         if field["kind"] == "string":
             length = whole[begin] + (field["form"] == "lz") if begin < MOST else 0
             cuts += [begin, begin + 1, begin + 2, begin + rng.randint(0, length), begin + length - 1, begin + length, begin + length + 1]
             continue
         end = begin + (field["at"] % 8 + field["bits"] + 7) // 8
         cuts += [end - 1, end, end, rng.randint(begin, end)]
-        if ("match" in field or rng.random() < some) and end <= MOST and (rng.random() < 0.1 or not taken & {*range(begin, end)}):
-            moved = dict(field, at=8 * begin + field["at"] % 8)
+        free = not taken & {*range(begin, end)} or rng.random() < strange / 2
+        if ("match" in field or rng.random() < some) and end <= MOST and free:
             raw = field["match"] if "match" in field and rng.random() < 0.9 else value(rng, field, lookups)
-            number = int.from_bytes(whole, "little") & ~((1 << field["bits"]) - 1 << moved["at"]) | raw << moved["at"]
-            whole = bytearray(number.to_bytes(MOST, "little"))
+            put(whole, 8 * begin + field["at"] % 8, field["bits"], raw)
+    return cuts
+
+
+def put_sets(rng, definition, whole, lookups, some):
+    """Puts sets into a message; the bytes where it may be cut."""
+    repeat, begin, cuts = definition["repeat"], first_set(definition, bytes(whole)), []
+    strange = rng.choice([0, 0, 0.02, 0.1])
+    for _ in range(rng.choice([0, 1, 2, 3, 4, 6, 9, MOST, MOST])):
+        if begin is None or begin >= MOST:
+            break
+        cuts += put_fields(rng, repeat["fields"], begin, whole, lookups, some, strange)
+        length = set_length(repeat, bytes(whole[begin:]))
+        begin = None if length is None else begin + length
+        if length is not None:
+            cuts += [begin - 1, begin, begin, begin, begin + 1]
+    return cuts
+
+
+def data_with_strings(rng, definition, lookups):
+    """A message with strings, often cut where one of them or a set begins or ends, or inside of it."""
+    fields, whole = definition["fields"], bytearray(filled(rng, MOST))
+    some = rng.choice([0, 0.3, 0.9])
+    cuts = put_fields(rng, fields, 0, whole, lookups, some, rng.choice([0, 0, 0.2]) if "repeat" in definition else 0.2)
+    if "repeat" in definition:
+        of_sets = put_sets(rng, definition, whole, lookups, some)
+        cuts = of_sets if of_sets and rng.random() < 0.8 else cuts + of_sets
+        for field in fields:
+            if "match" in field and rng.random() < 0.9:
+                put(whole, field["at"], field["bits"], field["match"])
     way = rng.random()
-    count = max(cuts[1:], default=MOST) if way < 0.3 else rng.choice(cuts) if way < 0.9 else length_of(rng, definition)
+    count = max(cuts, default=MOST) if way < 0.3 else rng.choice(cuts + [MOST]) if way < 0.9 else length_of(rng, definition)
     return bytes(whole[:max(0, min(MOST, count))])
 
 
 def data_of(rng, definition, lookups):
-    if any(field["kind"] == "string" for field in definition["fields"]):
+    if varies(definition):
         return data_with_strings(rng, definition, lookups)
     count = length_of(rng, definition)
-    whole = int.from_bytes(filled(rng, count), "little")
-
-    def put(field, begin, raw):
-        nonlocal whole
-        at, mask = begin + field["at"], (1 << field["bits"]) - 1
-        whole = whole & ~(mask << at) | raw << at
-
+    whole = bytearray(filled(rng, count)) + bytes(MOST - count)
     some = rng.choice([0, 0.3, 0.9])
     for field in definition["fields"]:
         if rng.random() < some:
-            put(field, 0, value(rng, field, lookups))
+            put(whole, field["at"], field["bits"], value(rng, field, lookups))
     if "repeat" in definition:
         repeat = definition["repeat"]
         for begin in range(repeat["at"], 8 * count - repeat["bits"] + 1, repeat["bits"]):
             for field in repeat["fields"]:
                 if rng.random() < some:
-                    put(field, begin, value(rng, field, lookups))
+                    put(whole, begin + field["at"], field["bits"], value(rng, field, lookups))
     for field in definition["fields"]:
         if "match" in field and rng.random() < 0.9:
-            put(field, 0, field["match"])
-    return (whole & (1 << 8 * count) - 1).to_bytes(count, "little")
+            put(whole, field["at"], field["bits"], field["match"])
+    return bytes(whole[:count])
 
 
 def messages(rng, tree, lookups):
     """Messages as prio, PGN, src, dst and bytes."""
-    definitions = tree.get("pgn", [])
-    for definition in definitions * 4 + [one for one in definitions if any("form" in field for field in one["fields"])] * 4:
+    definitions, seen, some = tree.get("pgn", []), set(), []
+    for definition in definitions:
+        some += [definition] * (2 if definition["number"] in seen else 10 if varies(definition) else 4)
+        if not any("match" in field for field in definition["fields"]):
+            seen.add(definition["number"])  # no later one of the PGN is chosen
+    for definition in some:
         data = data_of(rng, definition, lookups)
         yield rng.randint(0, 7), definition["number"], rng.randint(0, 255), rng.randint(0, 255), data
     for _ in range(rng.randint(0, 2)):
@@ -634,27 +729,50 @@ def a_holder(rng, tree):
     return rng.choice([definition, definition.get("repeat", definition)])
 
 
-def stringed(rng, tree):
-    """A definition with a string S and fields behind it, in a table of format 3; or None."""
-    if tree["format"] < 3 or not STRINGS:
-        return None
-    definition = spare_definition(rng, tree)
-    definition["fields"] += [
+def string_and_more(rng):
+    """A string S and fields behind it."""
+    return [
         {"name": "S", "kind": "string", "at": 8 * rng.randint(0, 3), "form": rng.choice(FORMS)},
         {"name": "T", "kind": "string", "at": 0, "form": rng.choice(FORMS), **({"after": "S"} if rng.random() < 0.5 else {})},
         {"name": "B", "kind": rng.choice(["number", "bytes", "digits", "text"]), "at": 0, "bits": 8, "after": rng.choice("ST")}]
+
+
+def stringed(rng, tree):
+    """A definition with a string S and fields behind it, in its sets too, in a table of format 3; or None."""
+    if tree["format"] < 3:
+        return None
+    definition = spare_definition(rng, tree)
+    definition["fields"] += string_and_more(rng)
+    if IN_SETS:
+        repeat = definition["repeat"]
+        repeat["fields"] += string_and_more(rng)
+        repeat["bits"] = 8 + 8 * rng.randint(3, 5)
+        if rng.random() < 0.5:
+            repeat["after"] = rng.choice("ST")
     return definition
 
 
+def lists(tree):
+    """The lists of fields, each with the bits that it has."""
+    for definition in tree.get("pgn", []):
+        yield definition["fields"], ROOM
+        if "repeat" in definition:
+            yield definition["repeat"]["fields"], definition["repeat"]["bits"]
+
+
+def list_of(tree, field):
+    return next(fields for fields, _ in lists(tree) if any(part is field for part in fields))
+
+
 def followers(tree):
-    """The fields that stand behind a string, each with the list that it is in."""
-    return [(field, definition["fields"]) for definition in tree.get("pgn", []) for field in definition["fields"] if "after" in field]
+    """The fields that stand behind a string."""
+    return [field for field, _ in places(tree) if "after" in field]
 
 
 def keys_of(format, field, in_set):
     """The keys that a field has to have, and those that it may have too."""
     kind, more = field["kind"], []
-    if format == 3 and not in_set and STRINGS and "match" not in field:
+    if strings_of(format, in_set) and "match" not in field:
         more += ["after"]
     if kind == "number":
         more += ["signed", "resolution"] + ["unit"] * (format == 3) + ["offset"] * (format == 3 and not field.get("signed"))
@@ -671,7 +789,7 @@ def some_part(rng, tree):
     found = {"lookup": [(spare_lookup(rng, tree), ["name", "entries"], [])],
              "pgn": [(spare_definition(rng, tree), ["number", "kind", "description", "fields"], ["repeat"] * (format >= 2))]}
     for repeat in repeats(tree):
-        found.setdefault("repeat", []).append((repeat, ["at", "bits", "fields"], []))
+        found.setdefault("repeat", []).append((repeat, ["at", "bits", "fields"], ["after"] * bool(strings_of(format, True))))
     for field, repeat in places(tree):
         kind = field["kind"], repeat is not None, field.get("signed")
         found.setdefault(kind, []).append((field, *keys_of(format, field, repeat is not None)))
@@ -734,14 +852,33 @@ def number_out_of_range(rng, tree):
 
 
 def repeat_out_of_range(rng, tree):
+    stringed(rng, tree)
     if not repeats(tree):
         return False
+    definition = rng.choice([one for one in tree["pgn"] if "repeat" in one])
+    repeat = definition["repeat"]
+    at, bits, room = repeat["at"], repeat["bits"], ROOM - fixed(definition["fields"], repeat.get("after"))
+    needed = max([fixed(repeat["fields"], field.get("after")) + field["at"] + field.get("bits", 0) for field in repeat["fields"]] + [0])
+    changes = [{"at": -8}, {"at": 1784}, {"at": 2**62}, {"at": at + rng.randint(1, 7)}, {"at": room - bits + 8},
+               {"bits": -8}, {"bits": 1792}, {"bits": 2**62}, {"bits": bits - rng.randint(1, 7)},
+               {"bits": bits + rng.randint(1, 7)}, {"bits": room - at + 8}]
+    if needed or not has_string(repeat):
+        changes += [{"bits": 0}] * 2
+    if needed > 8:
+        changes += [{"bits": 8 * rng.randint(1, (needed - 1) // 8)}] * 2
+    repeat.update(rng.choice(changes))
+
+
+def set_of_no_bits(rng, tree):
+    """Sets that would take no byte."""
+    if stringed(rng, tree) is None:
+        return False
     repeat = rng.choice(repeats(tree))
-    at, bits = repeat["at"], repeat["bits"]
-    repeat.update(rng.choice([
-        {"at": -8}, {"at": 1784}, {"at": 2**62}, {"at": at + rng.randint(1, 7)}, {"at": 1784 - bits + 8},
-        {"bits": 0}, {"bits": -8}, {"bits": 1792}, {"bits": 2**62}, {"bits": bits - rng.randint(1, 7)},
-        {"bits": bits + rng.randint(1, 7)}, {"bits": 1784 - at + 8}]))
+    repeat["bits"] = 0
+    if has_string(repeat) and rng.random() < 0.5:
+        repeat["fields"] = [field for field in repeat["fields"] if field["kind"] != "string" and "after" not in field]
+    else:
+        repeat["fields"] = []
 
 
 def place_out_of_range(rng, tree):
@@ -772,18 +909,19 @@ def place_out_of_range(rng, tree):
     field.update(rng.choice(changes))
 
 
-def list_of(tree, field):
-    return next(one["fields"] for one in tree["pgn"] if any(part is field for part in one["fields"]))
-
-
 def fixed_place_out_of_range(rng, tree):
-    """A chain of strings up to the limit, and one more behind it."""
+    """A chain of strings up to the limit, and one more field or a set behind it."""
     definition = stringed(rng, tree)
     if definition is None:
         return False
+    repeat, in_set = definition["repeat"], bool(IN_SETS) and rng.random() < 0.4
+    most = ROOM
+    if in_set:
+        most = repeat["bits"] = 8 * rng.choice([0, 1, 2, 9, MOST - 8, rng.randint(0, MOST - 8)])
+        repeat.update(at=0, after="S")
     fields, place, last = [], 0, rng.random() < 0.3
     while len(fields) < 6 and (len(fields) < 2 or rng.random() < 0.5):
-        room = (ROOM - place) // 8
+        room = (most - place) // 8
         at = 8 * min(room, rng.choice([0, 1, rng.randint(0, room)]))
         fields.append({"name": f"S{len(fields)}", "kind": "string", "at": min(at, LAST), "form": rng.choice(FORMS)})
         if len(fields) > 1:
@@ -792,16 +930,21 @@ def fixed_place_out_of_range(rng, tree):
     after = fields[-1]["name"]
     kind = rng.choice(["number", "number", "bytes", "digits", "text"]) if place > 0 else "bytes"
     bits, unit = (rng.randint(1, 64), 1) if kind == "number" else (8 * rng.randint(1, 8), 8)
-    at = ROOM - place - bits + unit
-    if last and 8 <= place <= ROOM:
-        fields.append({"name": "L", "kind": "string", "at": ROOM - place + 8, "after": after, "form": "lz"})
+    at = most - place - bits + unit
+    if IN_SETS and not in_set and rng.random() < 0.4:
+        fixed_bits = 8 * rng.randint(0, 3)
+        repeat.update(at=ROOM - place - fixed_bits + 8, bits=fixed_bits, after=after, fields=[fields[0] | {"at": 0}])
+        if not 0 <= repeat["at"] <= LAST:
+            return False
+    elif last:
+        fields.append({"name": "L", "kind": "string", "at": most - place + 8, "after": after, "form": "lz"})
         if fields[-1]["at"] > LAST:
             return False
     elif not 0 <= at < ROOM:
         return False
     else:
         fields.append({"name": "L", "kind": kind, "at": at, "bits": bits, "after": after})
-    definition["fields"] = fields
+    (repeat if in_set else definition)["fields"] = fields
 
 
 def match_out_of_range(rng, tree):
@@ -856,7 +999,7 @@ def unknown_kind(rng, tree):
     if "kind" not in needed:
         return False
     kinds = ["", "Number", "numbers", "String", "text ", "Fast", "slow"] + ["flags", "digits"] * 4 * (tree["format"] < 3)
-    if tree["format"] < 3 or not STRINGS or any(part is field and repeat for field, repeat in places(tree)):
+    if not strings_of(tree["format"], any(part is field and repeat for field, repeat in places(tree))):
         kinds += ["string"] * 4
     part["kind"] = rng.choice(kinds + ["number" if "number" in needed else "single"])
 
@@ -887,8 +1030,10 @@ def string_twice(rng, tree):
     definition = stringed(rng, tree)
     if definition is None:
         return False
-    name = rng.choice(["A", "S", "T", "B", "list"])
-    definition["fields"].append({"name": name, "kind": "string", "at": 0, "form": "lau"})
+    in_set = bool(IN_SETS) and rng.random() < 0.5
+    name = rng.choice(["A", "S", "T", "B"] + ["list"] * (not in_set))
+    holder = definition["repeat"] if in_set else definition
+    holder["fields"].append({"name": name, "kind": "string", "at": 0, "form": "lau"})
 
 
 def field_twice(rng, tree):
@@ -915,8 +1060,9 @@ def no_string(rng, tree):
     """A field stands behind what is no string before it."""
     if stringed(rng, tree) is None:
         return False
-    field, fields = rng.choice(followers(tree) if rng.random() < 0.8 else
-                               [(field, one["fields"]) for one in tree["pgn"] for field in one["fields"] if "match" not in field])
+    field = rng.choice(followers(tree) if rng.random() < 0.8 else
+                       [field for field, repeat in places(tree) if "match" not in field and strings_of(3, repeat is not None)])
+    fields, room = next((fields, room) for fields, room in lists(tree) if any(part is field for part in fields))
     at = next(at for at, part in enumerate(fields) if part is field)
     before = {part["name"] for part in fields[:at] if part["kind"] == "string"}
     others = {part["name"] for part, _ in places(tree)} - before | {field["name"], "list"} - before
@@ -940,7 +1086,18 @@ def no_string(rng, tree):
             name, after = string["name"], {key: string[key] for key in ("after",) if key in string}
             string.clear()
             string.update(name=name, kind="bytes", at=0, bits=8, **after)
-            return fixed(fields, after.get("after")) + 8 <= ROOM
+            return fixed(fields, after.get("after")) + 8 <= room
+
+
+def no_string_of_sets(rng, tree):
+    """Sets stand behind what is no string of the definition's own fields."""
+    if stringed(rng, tree) is None or not IN_SETS:
+        return False
+    definition = rng.choice([one for one in tree["pgn"] if "repeat" in one])
+    repeat, strings = definition["repeat"], {field["name"] for field in definition["fields"] if field["kind"] == "string"}
+    others = [field["name"] for field, _ in places(tree)] + [field["name"] for field in repeat["fields"]] * 3 + ["list", "Z"]
+    repeat["after"] = rng.choice(others + [cut(rng.choice([*strings, "S"]) + "S", 255)])
+    return repeat["after"] not in strings
 
 
 def mixed(rng, tree):
@@ -973,12 +1130,12 @@ def without_format(rng, tree):
 FAULTS = {
     "Format": [another_format, without_format],
     "Key": [strange_key] * 6 + [without_key, another_kind] * 2 + [strange_key_at_the_top, no_list_at_the_top, no_entry, no_field],
-    "Range": [place_out_of_range] * 6 + [repeat_out_of_range, match_out_of_range, value_out_of_range, number_out_of_range,
-                                         signed_bit, mantissa_out_of_range, offset_out_of_range] +
-             [fixed_place_out_of_range] * 2,
+    "Range": [place_out_of_range] * 6 + [repeat_out_of_range, fixed_place_out_of_range] * 2 +
+             [match_out_of_range, value_out_of_range, number_out_of_range, signed_bit, mantissa_out_of_range, offset_out_of_range,
+              set_of_no_bits],
     "Text": [text_of_another_length, text_of_another_length, unknown_kind, unknown_kind, no_resolution, unknown_form],
     "Twice": [lookup_twice, value_twice, field_twice, field_named_list, string_twice],
-    "Lookup": [unknown_lookup, no_string],
+    "Lookup": [unknown_lookup, no_string, no_string_of_sets],
     "Mixed": [mixed],
     "TooMany": [too_many_fields] * 4 + [too_many_others],
 }
@@ -1008,12 +1165,12 @@ def faulty(rng, format):
             return name, table_text(tree).encode()
 
 
-# ---- A field with several faults: the first of them is answered ----
+# ---- A field and sets with several faults: the first of them is answered ----
 
 OWN = {"number": ["signed", "resolution", "offset", "unit", "match"], "lookup": ["lookup", "match"], "text": ["short"],
        "bytes": ["short"], "flags": ["lookup"], "digits": [], "string": ["form", "short"]}
 OF_3 = ("offset", "unit", "short", "after", "form")
-VALUES = {"name": ["X", "X", "A", "", "x" * 256, 5], "kind": [*OWN, "Number", "", 5, "x" * 256], "x": [1],
+VALUES = {"name": ["X", "X", "A", "list", "", "x" * 256, 5], "kind": [*OWN, "Number", "", 5, "x" * 256], "x": [1],
           "at": [0, 8, 16, 1, 4, -8, 1752, 1760, 1768, 1776, 1783, 1784, "8", True],
           "bits": [1, 2, 8, 16, 12, 24, 32, 33, 64, 65, 0, -8, 1784, 1785, 1792, "8", 8.0], "signed": [True, True, False, 1],
           "resolution": ["1", "0.01", "0.00", ".1", "", 5], "offset": [0, -40, 2**32, -2**32 - 1, "1"], "unit": ["m", "", "x" * 256, 5],
@@ -1033,7 +1190,7 @@ def resolution_fault(text):
     if type(text) is not str:
         return "Key"
     whole, dot, part = text.partition(".")
-    if not whole.isdecimal() or len(whole) > 10 or dot and not (part.isdecimal() and len(part) <= 18):
+    if not whole.isdecimal() or not text.isascii() or len(whole) > 10 or dot and not (part.isdecimal() and len(part) <= 18):
         return "Text"
     return whole_fault(int(whole + part), 1, 2**32 - 1)
 
@@ -1044,11 +1201,11 @@ def field_faults(field, format, in_set, strings, room):
     if type(kind) is not str:
         yield "Key"
         return
-    if kind not in KINDS[format] and (kind != "string" or format < 3 or in_set or not STRINGS):
+    if kind not in KINDS[format] + strings_of(format, in_set):
         yield "Text"
         return
     own = ["name", "kind", "at", "after", *OWN[kind]] + ["bits"] * (kind != "string")
-    barred = [*OF_3 * (format < 3), *["match", "short", "after"] * in_set, *["after"] * (not STRINGS)]
+    barred = [*OF_3 * (format < 3), *["match", "short"] * in_set, *["after"] * (not strings_of(format, in_set))]
     if any(key not in own or key in barred for key in field):
         yield "Key"
     step = 1 if kind in BITS else 8
@@ -1087,17 +1244,66 @@ def key_fault(field, key):
     return "Lookup" if key == "lookup" and fault is None and value != "L" else fault
 
 
+def list_faults(fields, format, in_set, room, strings):
+    """The faults of a list of fields, in their order; `strings` gets the fixed places of its strings."""
+    if type(fields) is not list:
+        yield "Key"
+    if len(fields) > 256:
+        yield "TooMany"
+    for field in fields:
+        if type(field) is not dict:
+            yield "Key"
+        yield from field_faults(field, format, in_set, strings, room)
+        if field["kind"] == "string":
+            strings[field["name"]] = strings.get(field.get("after"), 0) + field["at"]
+    if len({field["name"] for field in fields}) < len(fields):
+        yield "Twice"
+
+
+def repeat_faults(repeat, format, strings):
+    """The faults of a `repeat`, in their order; `strings` are the fixed places of the definition's own."""
+    if type(repeat) is not dict:
+        yield "Key"
+    may_vary, room, inner = bool(strings_of(format, True)), ROOM, {}
+    if any(key not in ("at", "bits", "fields") and (key != "after" or not may_vary) for key in repeat):
+        yield "Key"
+    yield whole_fault(repeat.get("at"), 0, ROOM - 1, 8)
+    yield whole_fault(repeat.get("bits"), 0 if may_vary else 8, ROOM, 8)
+    if "after" in repeat:
+        yield text_fault(repeat["after"])
+        if repeat["after"] not in strings:
+            yield "Lookup"
+        room -= strings[repeat["after"]]
+    if repeat["at"] + repeat["bits"] > room:
+        yield "Range"
+    yield from list_faults(repeat.get("fields"), format, True, repeat["bits"], inner)
+    if repeat["bits"] == 0 and not inner:
+        yield "Range"
+
+
+def definition_faults(definition, format):
+    """The faults of a definition's fields and of its sets, in their order."""
+    strings = {}
+    if format == 1 and "repeat" in definition:
+        yield "Key"
+    yield from list_faults(definition["fields"], format, False, ROOM, strings)
+    if "repeat" in definition:
+        yield from repeat_faults(definition["repeat"], format, strings)
+        if any(field["name"] == "list" for field in definition["fields"]):
+            yield "Twice"
+
+
 def a_field(rng, format, in_set):
     """A field X, with some changes."""
-    kind = rng.choice(KINDS[format] + STRINGS * (format == 3 and not in_set))
+    kind = rng.choice(KINDS[format] + strings_of(format, in_set))
     field = {"name": "X", "kind": kind, "at": 0, "bits": 8}
     if kind == "string":
         del field["bits"]
     for key in NEEDED[kind]:
         field[key] = VALUES[key][0]
-    if format == 3 and not in_set and STRINGS and rng.random() < 0.5:
-        field.update(after=rng.choice(["S", "T", "T"]), at=8 * rng.choice([0, *range(217, 223)]))
-    for _ in range(rng.choice([1, 2, 2, 3, 4])):
+    if strings_of(format, in_set) and rng.random() < 0.5:
+        field.update(after=rng.choice(["S", "T", "T"]), at=8 * rng.choice([0, *(range(4, 9) if in_set else range(217, 223))]))
+    for _ in range(rng.choice([1, 2, 2, 3, 4] if not in_set else [0, 0, 1, 1, 2, 3])):
         key = rng.choice([rng.choice([*VALUES]), *OWN[kind], *field, "at", "bits", "after"])
         if rng.random() < 0.05 and key in field:
             del field[key]
@@ -1106,21 +1312,53 @@ def a_field(rng, format, in_set):
     return field
 
 
+A = {"name": "A", "kind": "number", "at": 0, "bits": 8}
+OF_REPEAT = {"at": [0, 8, 16, 4, -8, 1760, 1768, 1776, 1784, "8"], "after": VALUES["after"], "x": [1], "short": [True],
+             "bits": [0, 0, 0, 0, 8, 16, 24, 4, -8, 1760, 1768, 1776, 1784, 1792, "8"]}
+
+
+def two_strings(at):
+    """A string S and another one behind it."""
+    return [{"name": "S", "kind": "string", "at": at, "form": "lau"}, {"name": "T", "kind": "string", "at": at, "form": "lz", "after": "S"}]
+
+
+def changed_repeat(rng, repeat, strings):
+    """Changes sets; there are `strings` for them where these may vary."""
+    if strings and rng.random() < 0.6:
+        repeat.update(after=rng.choice("ST"), at=8 * rng.choice([0, 1, *range(211, 217), *range(219, 224)]))
+    if rng.random() < 0.4:
+        repeat["bits"] = 0
+    if rng.random() < 0.5:
+        repeat["fields"] = rng.choice([[], [], strings[:1], strings, [dict(A)], [dict(A), dict(A)], [5], 5, [dict(A)] * 257])
+    for _ in range(rng.choice([0, 0, 1, 2, 3])):
+        key = rng.choice([*OF_REPEAT, "at", "at", "bits", "bits", "after", "after"])
+        if rng.random() < 0.1:
+            repeat.pop(rng.choice([*repeat]), None)
+        elif key in ("at", "bits", "after") or rng.random() < 0.3:
+            repeat[key] = rng.choice(OF_REPEAT[key])
+
+
 def several(rng, format):
-    """The class of the first fault, or None, and the bytes of a table with a field that may have several."""
-    strings = [{"name": "S", "kind": "string", "at": 8, "form": "lau"}, {"name": "T", "kind": "string", "at": 8, "form": "lz", "after": "S"}]
-    fields = [{"name": "A", "kind": "number", "at": 0, "bits": 8}] + strings * (format == 3 and bool(STRINGS))
+    """The class of the first fault, or None, and the bytes of a table with a field and sets that may have several."""
+    of_sets = two_strings(rng.choice([0, 8, 8])) if strings_of(format, True) else []
+    fields = [dict(A)] + two_strings(8) * bool(strings_of(format, False))
+    repeat = {"at": 8, "bits": 64, "fields": [dict(A)] + of_sets}
     definition = {"number": 130823, "kind": "fast", "description": "x", "fields": fields}
-    if format > 1:
-        definition["repeat"] = {"at": 8, "bits": 64, "fields": [dict(fields[0])]}
-    in_set = format > 1 and rng.random() < 0.2
-    field, holder = a_field(rng, format, in_set), definition["repeat"]["fields"] if in_set else fields
-    at = rng.randint(0, len(holder))
-    before = {} if in_set else {part["name"]: fixed(fields, part["name"]) for part in fields[:at] if part["kind"] == "string"}
-    holder.insert(at, field)
-    wanted = next(filter(None, field_faults(field, format, in_set, before, 64 if in_set else ROOM)), None)
-    if wanted is None and field["name"] == "A":
-        wanted = "Twice"
+    if format > 1 or rng.random() < 0.02:
+        definition["repeat"] = repeat
+    holder = fields if format == 1 or rng.random() < 0.4 else None
+    if holder is None:
+        if rng.random() < 0.7:
+            changed_repeat(rng, repeat, of_sets)
+        if rng.random() < 0.3:
+            fields.append({"name": "list", "kind": "number", "at": 0, "bits": 8})
+        if type(repeat.get("fields")) is list and rng.random() < 0.4:
+            holder = repeat["fields"]
+        if rng.random() < 0.03:
+            definition["repeat"] = rng.choice([5, [], [repeat], {}, "x"])
+    if holder is not None:
+        holder.insert(rng.randint(0, len(holder)), a_field(rng, format, holder is not fields))
+    wanted = next(filter(None, definition_faults(definition, format)), None)
     tree = {"format": format, "lookup": [{"name": "L", "entries": [[1, "One"]]}], "pgn": [definition]}
     return wanted, table_text(tree).encode()
 
@@ -1181,7 +1419,7 @@ class Judge:
         self.class_of(name, wanted, table)
 
     def first_fault(self, name, rng, format):
-        """A field that may have several faults."""
+        """A field and sets that may have several faults."""
         self.class_of(name, *several(rng, format))
 
     def class_of(self, name, wanted, table):
@@ -1193,9 +1431,9 @@ class Judge:
             self.fail(name, table, f"wanted: {wanted}", f"got: status {status}, {errors}")
 
 
-def main(program, seed, count, formats="123", strings="strings"):
-    if strings != "strings":
-        STRINGS.clear()
+def main(program, seed, count, formats="12333", sets="all"):
+    if sets == "fixed-sets":
+        IN_SETS.clear()
     with tempfile.TemporaryDirectory() as room:
         judge = Judge(program, room)
         for number in range(int(count)):
@@ -1203,14 +1441,14 @@ def main(program, seed, count, formats="123", strings="strings"):
             format = int(rng.choice(formats))
             judge.messages(f"table {number}", rng, new_table(rng, format))
             judge.fault(f"table {number} with a fault", rng, format)
-            judge.first_fault(f"table {number} with a field of several faults", rng, format)
+            judge.first_fault(f"table {number} with several faults", rng, format)
     print(", ".join(f"{name} {judge.faults[name]}" for name in CLASSES))
-    print(f"{count} tables, {judge.lines} lines, {count} tables with a fault, {count} with a field that may have several, "
+    print(f"{count} tables, {judge.lines} lines, {count} tables with a fault, {count} that may have several, "
           f"{judge.failures} failures")
     sys.exit(judge.failures > 0)
 
 
 if __name__ == "__main__":
-    if len(sys.argv) not in (4, 5, 6):
+    if len(sys.argv) not in (4, 5, 6) or sys.argv[5:] not in ([], ["fixed-sets"]):
         sys.exit(__doc__)
     main(*sys.argv[1:])
