@@ -23,7 +23,8 @@
 //!
 //! - `run` prints the JSON line of each message that a log gives, `run_plain` each frame and each whole message as its
 //!   plain line, `run_frames` each whole message as the lines of the frames in which it is sent. All report each bad
-//!   line by its number, and `run` each broken group.
+//!   line by its number, and `run` each broken group. `run_plain_counted` and `run_frames_counted` also tell the counts
+//!   where they answer a fault.
 //! - `Options` say how the data of lines are packed, and whether absent fields are printed.
 //! - `Blocks` lends the lines of a log from a block of 4,096 bytes. A run holds no more of its log, and writes what
 //!   its lines gave before it reads on: so a live pipe shows each message when its line came.
@@ -65,13 +66,13 @@ pub use blocks::{Blocks, Next};
 pub use decoding::run;
 pub use device::{Failed, Sink, Source};
 pub use fault::{BytesFault, RunFault};
-pub use frames::run_frames;
+pub use frames::{run_frames, run_frames_counted};
 pub use memory::{MemorySink, MemorySource};
 pub use more::run_more;
 pub use n2k_join::{Counts, MOST_LINES};
 pub use options::Options;
 pub use part::{Part, PartFault, run_part, run_parts};
-pub use plain::run_plain;
+pub use plain::{run_plain, run_plain_counted};
 pub use reading::{MOST_READS, read_bytes};
 pub use standard::{StdSink, StdSource};
 pub use texts::{bad_text, broken_text, summary_text, write_summary};

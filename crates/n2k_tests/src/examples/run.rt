@@ -3,8 +3,8 @@ use crate::samples::sample as sample_table;
 use n2k_join::{Broken, Counts, Join, Window};
 use n2k_run::{
     Blocks, BytesFault, Failed, MemorySink, MemorySource, Next, Options, Sink, Source, StdSink,
-    StdSource, bad_text, broken_text, read_bytes, run, run_frames, run_more, run_part, run_parts,
-    run_plain, summary_text, write_all, write_summary,
+    StdSource, bad_text, broken_text, read_bytes, run, run_frames, run_frames_counted, run_more,
+    run_part, run_parts, run_plain, run_plain_counted, summary_text, write_all, write_summary,
 };
 use n2k_wire::{BadCause, Packing, is_interface};
 use std::test::Fail;
@@ -125,6 +125,45 @@ fn runs_that_send(rt: HostRuntime) -> Result<(), Fail> {
     let mut err = MemorySink::new(alloc, 4096, 0);
     assert!(rt; is_interface(b"can0"));
     run_frames(alloc, &table, Some("can0"), &mut log, &mut out, &mut err)?;
+    let sent = "(0000000010.300000) can0 1DFF0405#000BA39901414243\n\
+        (0000000010.300000) can0 1DFF0405#010000000000FFFF\n";
+    assert_eq!(rt; out.bytes(), sent.as_bytes());
+    Ok(())
+}
+
+#[test]
+fn runs_that_are_counted(rt: HostRuntime) -> Result<(), Fail> {
+    let alloc = rt.alloc();
+    let mut log = StdSource::new("(1.0) can0 18EAFF01#14F001\n".as_bytes());
+    let mut out = MemorySink::new(alloc, 4096, 0);
+    let mut err = MemorySink::new(alloc, 4096, 0);
+    let mut counts = Counts::NONE;
+    run_plain_counted(alloc, &mut counts, &mut log, &mut out, &mut err)?;
+    assert_eq!(rt; counts.messages, 1);
+    let line = "1970-01-01T00:00:01.000Z,6,59904,1,255,3,14,f0,01\n";
+    assert_eq!(rt; out.bytes(), line.as_bytes());
+    Ok(())
+}
+
+#[test]
+fn runs_that_send_and_are_counted(rt: HostRuntime) -> Result<(), Fail> {
+    let alloc = rt.alloc();
+    let table = sample_table(alloc)?;
+    let line = "1970-01-01T00:00:10.300Z,7,130820,5,255,11,a3,99,01,41,42,43,00,00,00,00,00";
+    let mut log = StdSource::new(line.as_bytes());
+    let mut out = MemorySink::new(alloc, 4096, 0);
+    let mut err = MemorySink::new(alloc, 4096, 0);
+    assert!(rt; is_interface(b"can0"));
+    let (name, mut counts) = (Some("can0"), Counts::NONE);
+    run_frames_counted(
+        alloc,
+        &table,
+        name,
+        &mut counts,
+        &mut log,
+        &mut out,
+        &mut err,
+    )?;
     let sent = "(0000000010.300000) can0 1DFF0405#000BA39901414243\n\
         (0000000010.300000) can0 1DFF0405#010000000000FFFF\n";
     assert_eq!(rt; out.bytes(), sent.as_bytes());

@@ -3,7 +3,7 @@ ghost use Rattle.std.specs.Prelude.{◌<◌};
 
 use super::options::{TWO_SOURCES, has_summary};
 use n2k_join::Counts;
-use n2k_run::{MemorySink, MemorySource, RunFault, read_bytes, run_plain};
+use n2k_run::{MemorySink, MemorySource, RunFault, read_bytes, run_plain, run_plain_counted};
 use std::alloc::{AllocError, Global};
 use std::process::Abort;
 use std::test::Fail;
@@ -229,6 +229,30 @@ fn a_block_is_written_before_the_next_is_read(rt: HostRuntime) -> Result<(), Fai
     assert_eq!(rt; answer, Err(RunFault::Write));
     let left = read_bytes(rt.alloc(), &mut reader, 1000)?;
     assert_eq!(rt; Some(left.as_slice()), TWO_SOURCES.as_bytes().get(60..));
+    Ok(())
+}
+
+// What was counted before a read failed: the lines that are printed, and no part of one.
+#[test]
+fn counts_of_a_log_that_fails(rt: HostRuntime) -> Result<(), Fail> {
+    let mut reader = MemorySource::new(TWO_SOURCES.as_bytes(), 60, 3);
+    let mut writer = MemorySink::new(rt.alloc(), 100, 0);
+    let mut reports = MemorySink::new(rt.alloc(), 100, 0);
+    let mut counts = Counts::NONE;
+    let answer = run_plain_counted(
+        rt.alloc(),
+        &mut counts,
+        &mut reader,
+        &mut writer,
+        &mut reports,
+    );
+    assert_eq!(rt; answer, Err(RunFault::Read));
+    assert_eq!(rt; (counts.lines, counts.messages, counts.bad), (2, 2, 0));
+    let text = TWO_SOURCES_TEXT.lines().take(2);
+    assert_eq!(rt;
+        writer.bytes().len(),
+        text.map(|line| line.len() + 1).sum::<usize>()
+    );
     Ok(())
 }
 
