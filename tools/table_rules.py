@@ -689,7 +689,8 @@ class Rules:
         keys = ("at", "bits", "after", "fields") if has_strings else ("at", "bits", "fields")
         self.only_keys(repeat, keys, where, "a repeat", newer=("after",))
         at = self.whole(repeat, "at", 0, LONGEST_MESSAGE - 1, where, 8)
-        bits = self.whole(repeat, "bits", 0 if has_strings else 8, LONGEST_MESSAGE, where, 8)
+        of_format = () if has_strings or repeat.get("bits") != 0 else (self.top.keys_at["format"],)
+        bits = self.whole(repeat, "bits", 0 if has_strings else 8, LONGEST_MESSAGE, where, 8, of_format)
         string, is_behind = None, has_strings and "after" in repeat
         if is_behind:
             string = self.string_of_message(repeat, where, own)

@@ -174,16 +174,13 @@ def naming(tree, name):
     return [path for path in places(tree) if path[-1] == "lookup" and len(path) > 1 and at(tree, path) == name]
 
 
-def of_string(tree, path):
-    """Where a change of a field, which may be a string, shows too: in the fields of its list, and in what repeats, as one of
+def of_strings(tree, paths):
+    """Where changes of fields, which may be strings, show too: in the fields of their lists, and in what repeats, as one of
     that shows in the fields of the set."""
-    if "fields" in path:
-        path = path[:len(path) - path[::-1].index("fields") - 1]
-    elif path[-2:-1] == ("repeat",):
-        path = path[:-1]
-    else:
-        return []
-    return [other for other in places(tree) if other[:len(path)] == path and other[-1] in ("after", "at", "bits")]
+    holders = {path[:len(path) - path[::-1].index("fields") - 1] if "fields" in path else path[:-1]
+               for path in paths if "fields" in path or path[-2:-1] == ("repeat",)}
+    return [path for path in places(tree) if path[-1] in ("after", "at", "bits") and
+            any(path[:len(holder)] == holder for holder in holders)]
 
 
 def of_lookup(tree, path):
@@ -356,7 +353,7 @@ def changed(rng, tree):
         path = rng.choice(by_key[rng.choice(sorted(by_key))]) if by_key else ()
         change = rng.choice(CHANGES)(rng, tree, path) if by_key else one_more_key(rng, tree, path)
         if change is not None:
-            change.keys += tuple(of_string(tree, path))
+            change.keys += tuple(of_strings(tree, [*change.keys, *change.begins]))
             return change
 
 
