@@ -212,7 +212,8 @@ fn convert(rt: &impl Print, alloc: Global, input: &Input, rounds: u64, seed: u64
 
     let mut log = Replay::new(alloc, input.bus(), SECONDS, 0, seed)?;
     log.go_on(rounds);
-    let counts = run_plain(alloc, &mut log, &mut texts, &mut reports)?;
+    let mut counts = Counts::NONE;
+    run_plain(alloc, &mut counts, &mut log, &mut texts, &mut reports)?;
     tell(rt, "plain", counts, texts, reports)?;
 
     for name in [None, Some("can0")] {
@@ -223,7 +224,16 @@ fn convert(rt: &impl Print, alloc: Global, input: &Input, rounds: u64, seed: u64
         let mut reports = Digest::new(alloc);
         let mut log = Replay::new(alloc, input.whole(), SECONDS, 0, seed)?;
         log.go_on(rounds);
-        let counts = run_frames(alloc, &table, name, &mut log, &mut texts, &mut reports)?;
+        let mut counts = Counts::NONE;
+        run_frames(
+            alloc,
+            &table,
+            name,
+            &mut counts,
+            &mut log,
+            &mut texts,
+            &mut reports,
+        )?;
         tell(rt, "frames", counts, texts, reports)?;
     }
 

@@ -1,6 +1,7 @@
 -- A run's promise in other words: by other functions that agree, and with another answer.
 use Rattle.std.proofs.Common.{◌≡◌, ℕ, List, ◌++◌, refl, sym, ap, ◌∙◌, subst, Option, Some, None, Result, Ok, Err, IfSome, append-nil}
 use Rattle.std.specs.Io.KnownBytes.{Consumes, IsAtEnd}
+use Rattle.std.specs.Prelude.{OnOk}
 use mathlib.Core.Path.{fun_ext}
 use Rattle.n2k_wire.specs.declared.entry.Entry.{Entry}
 use Rattle.n2k_wire.specs.declared.entry.Packing.{Packing}
@@ -29,8 +30,14 @@ all_came P (Some log) (Some rest) came given end here = subst P (sym (given ∙ 
 pub of_log : (o : Output) (stands : List Entry → Type 0) (before after : Devices) (P : List ℕ → Type 0) (whole : IsWhole o stands before after) → P whole.came → IfSome before.left P
 of_log o stands before after P whole here = all_came P before.left after.left whole.came whole.given whole.at_end here
 
+-- the same of an answer, where it is that of such a run
+pub log_if_ok : {T : Type 0} (o : Output) (stands : List Entry → Type 0) (before after : Devices) (P : List ℕ → Type 0) (result : Result T RunFault) → Runs o stands before after result
+    → ((whole : IsWhole o stands before after) → P whole.came) → OnOk result (IfSome before.left P)
+log_if_ok o stands before after P (Ok x) runs here = of_log o stands before after P runs.ends (here runs.ends)
+log_if_ok o stands before after P (Err fault) runs here = tt
+
 module _ (o : Output) (stands stands' : List Entry → Type 0) (before after : Devices) where
-  pub ok_more : {T U : Type 0} (x : T) (y : U) → Runs {T = T} o stands before after (Ok x) → ((es : List Entry) → stands es → stands' es) → Runs {T = U} o stands' before after (Ok y)
+  ok_more : {T U : Type 0} (x : T) (y : U) → Runs {T = T} o stands before after (Ok x) → ((es : List Entry) → stands es → stands' es) → Runs {T = U} o stands' before after (Ok y)
   ok_more x y runs follows = record {
     ends = record { came = runs.ends.came; given = runs.ends.given; at_end = runs.ends.at_end; numbered = runs.ends.numbered; gained = runs.ends.gained; holds = follows _ runs.ends.holds };
     fronts = tt;
@@ -48,7 +55,7 @@ module _ (o : Output) (stands stands' : List Entry → Type 0) (before after : D
   device_same T U Read d = d
   device_same T U _ d = d
 
-  pub err_more : (T U : Type 0) (fault : RunFault) → Runs {T = T} o stands before after (Err fault) → ((es : List Entry) → stands es → stands' es) → Runs {T = U} o stands' before after (Err fault)
+  err_more : (T U : Type 0) (fault : RunFault) → Runs {T = T} o stands before after (Err fault) → ((es : List Entry) → stands es → stands' es) → Runs {T = U} o stands' before after (Err fault)
   err_more T U fault runs follows = record {
     ends = ends_more T U fault follows runs.ends;
     fronts = runs.fronts;

@@ -1,5 +1,5 @@
 //! The run of `frames`: each whole message of a log as the lines of its frames.
-ghost use Rattle.std.specs.Prelude.{◌≡◌, ◌≤◌, length, option_map, IfOk, IfSome, OnErr, Some};
+ghost use Rattle.std.specs.Prelude.{◌≡◌, ◌≤◌, length, option_map, IfOk, IfSome, OnErr, OnOk, Some};
 ghost use Rattle.std.specs.Io.KnownBytes.{Appends};
 ghost use Rattle.n2k_wire.specs.Candump.{frame_payload};
 ghost use Rattle.n2k_wire.specs.Texts as texts;
@@ -212,7 +212,7 @@ impl<'a> EntryHandler for FrameLines<'a> {
 ///   the calendar from 1970 on, or the bus has no identifier for it. Such a message of a fast PGN has used its
 ///   number.
 ///
-/// A bad line is written in no part. The counts are those of lines, of messages written, and of bad lines. Faults as
+/// A bad line is written in no part. `counts` gets those of lines, of messages written, and of bad lines. Faults as
 /// for `run_plain`.
 ///
 /// ```rust
@@ -222,7 +222,10 @@ impl<'a> EntryHandler for FrameLines<'a> {
 /// let mut out = MemorySink::new(alloc, 4096, 0);
 /// let mut err = MemorySink::new(alloc, 4096, 0);
 /// assert!(rt; is_interface(b"can0"));
-/// run_frames(alloc, &table, Some("can0"), &mut log, &mut out, &mut err)?;
+/// let (name, mut counts) = (Some("can0"), Counts::NONE);
+/// run_frames(
+///     alloc, &table, name, &mut counts, &mut log, &mut out, &mut err,
+/// )?;
 /// let sent = "(0000000010.300000) can0 1DFF0405#000BA39901414243\n\
 ///     (0000000010.300000) can0 1DFF0405#010000000000FFFF\n";
 /// assert_eq!(rt; out.bytes(), sent.as_bytes());
@@ -231,24 +234,24 @@ pub fn run_frames<R: Source, W: Sink, E: Sink>(
     alloc: Global,
     table: &Table,
     interface: Option<&str>,
+    counts: &mut Counts,
     reader: &mut R,
     writer: &mut W,
     reporter: &mut E,
-) -> Result<Counts, RunFault>
+) -> Result<(), RunFault>
     requires { IsInterface (interface_of interface) }
     ensures runs { let before = seen R.Source W.Sink E.Sink reader.old writer.old reporter.old in
         let after = seen R.Source W.Sink E.Sink reader.new writer.new reporter.new in
         Runs (frames_output table.now (interface_of interface.entry))
-        (λ es. IfOk result (λ counts. counts ≡ frame_counts_of (kind table.now) (interface_of interface.entry) es))
-        before after result }
+        (λ es. counts.new ≡ frame_counts_of (kind table.now) (interface_of interface.entry) es) before after result }
 
     // Ok, where the bytes of the log are known: what `frames` makes of them.
-    ensures out { IfOk result (λ counts. IfSome (R.remaining reader.old) (λ log.
+    ensures out { OnOk result (IfSome (R.remaining reader.old) (λ log.
         Appends (W.contents writer.old) (W.contents writer.new)
         (frames_out table.now (interface_of interface.entry) log)
         × Appends (E.contents reporter.old) (E.contents reporter.new)
         (frames_reports table.now (interface_of interface.entry) log)
-        × (counts ≡ frames_counts table.now (interface_of interface.entry) log))) }
+        × (counts.new ≡ frames_counts table.now (interface_of interface.entry) log))) }
 {
     laws::splits_written();
     let handler = FrameLines { table, interface };
@@ -256,7 +259,7 @@ pub fn run_frames<R: Source, W: Sink, E: Sink>(
         sender: handler.sender(alloc),
         counts: Counts::NONE,
     };
-    match run_entries(
+    let ran = run_entries(
         alloc,
         &handler,
         Packing::Whole,
@@ -264,8 +267,7 @@ pub fn run_frames<R: Source, W: Sink, E: Sink>(
         reader,
         writer,
         reporter,
-    ) {
-        Ok(()) => Ok(state.counts),
-        Err(fault) => Err(fault),
-    }
+    );
+    *counts = state.counts;
+    ran
 }

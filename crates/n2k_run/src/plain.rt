@@ -1,5 +1,5 @@
 //! The run of `plain`: each frame and each whole message of a log as a plain line.
-ghost use Rattle.std.specs.Prelude.{◌≡◌, IfOk, IfSome};
+ghost use Rattle.std.specs.Prelude.{◌≡◌, IfSome, OnOk};
 ghost use Rattle.std.specs.Io.KnownBytes.{Appends};
 ghost use Rattle.n2k_run.specs.Plain.{plain_counts, plain_counts_of, plain_out, plain_output, plain_reports};
 ghost use Rattle.n2k_run.specs.Runs.{Runs, seen};
@@ -66,42 +66,43 @@ impl EntryHandler for PlainLines {
 /// reported. After any fault a front of the texts and of the reports has been written. No device failed but the one
 /// that the fault names.
 ///
+/// `counts` gets what the log counts, after `Read` and `TooManyLines` what the lines do that are printed and reported.
+///
 /// ```rust
 /// let mut log = StdSource::new("(1.0) can0 18EAFF01#14F001\n".as_bytes());
 /// let mut out = MemorySink::new(alloc, 4096, 0);
 /// let mut err = MemorySink::new(alloc, 4096, 0);
-/// let counts = run_plain(alloc, &mut log, &mut out, &mut err)?;
+/// let mut counts = Counts::NONE;
+/// run_plain(alloc, &mut counts, &mut log, &mut out, &mut err)?;
 /// assert_eq!(rt; counts.messages, 1);
 /// let line = "1970-01-01T00:00:01.000Z,6,59904,1,255,3,14,f0,01\n";
 /// assert_eq!(rt; out.bytes(), line.as_bytes());
 /// ```
 pub fn run_plain<R: Source, W: Sink, E: Sink>(
     alloc: Global,
+    counts: &mut Counts,
     reader: &mut R,
     writer: &mut W,
     reporter: &mut E,
-) -> Result<Counts, RunFault>
+) -> Result<(), RunFault>
     ensures runs { let before = seen R.Source W.Sink E.Sink reader.old writer.old reporter.old in
         let after = seen R.Source W.Sink E.Sink reader.new writer.new reporter.new in
-        Runs plain_output (λ es. IfOk result (λ counts. counts ≡ plain_counts_of es)) before after result }
+        Runs plain_output (λ es. counts.new ≡ plain_counts_of es) before after result }
 
     // Ok, where the bytes of the log are known: what `plain` makes of them.
-    ensures out { IfOk result (λ counts. IfSome (R.remaining reader.old) (λ log.
+    ensures out { OnOk result (IfSome (R.remaining reader.old) (λ log.
         Appends (W.contents writer.old) (W.contents writer.new) (plain_out log)
         × Appends (E.contents reporter.old) (E.contents reporter.new) (plain_reports log)
-        × (counts ≡ plain_counts log))) }
+        × (counts.new ≡ plain_counts log))) }
 {
-    let mut counts = Counts::NONE;
-    match run_entries(
+    *counts = Counts::NONE;
+    run_entries(
         alloc,
         &PlainLines,
         Packing::Frames,
-        &mut counts,
+        counts,
         reader,
         writer,
         reporter,
-    ) {
-        Ok(()) => Ok(counts),
-        Err(fault) => Err(fault),
-    }
+    )
 }

@@ -108,7 +108,8 @@ fn plain_runs(rt: HostRuntime) -> Result<(), Fail> {
     let mut log = StdSource::new("(1.0) can0 18EAFF01#14F001\n".as_bytes());
     let mut out = MemorySink::new(alloc, 4096, 0);
     let mut err = MemorySink::new(alloc, 4096, 0);
-    let counts = run_plain(alloc, &mut log, &mut out, &mut err)?;
+    let mut counts = Counts::NONE;
+    run_plain(alloc, &mut counts, &mut log, &mut out, &mut err)?;
     assert_eq!(rt; counts.messages, 1);
     let line = "1970-01-01T00:00:01.000Z,6,59904,1,255,3,14,f0,01\n";
     assert_eq!(rt; out.bytes(), line.as_bytes());
@@ -124,7 +125,10 @@ fn runs_that_send(rt: HostRuntime) -> Result<(), Fail> {
     let mut out = MemorySink::new(alloc, 4096, 0);
     let mut err = MemorySink::new(alloc, 4096, 0);
     assert!(rt; is_interface(b"can0"));
-    run_frames(alloc, &table, Some("can0"), &mut log, &mut out, &mut err)?;
+    let (name, mut counts) = (Some("can0"), Counts::NONE);
+    run_frames(
+        alloc, &table, name, &mut counts, &mut log, &mut out, &mut err,
+    )?;
     let sent = "(0000000010.300000) can0 1DFF0405#000BA39901414243\n\
         (0000000010.300000) can0 1DFF0405#010000000000FFFF\n";
     assert_eq!(rt; out.bytes(), sent.as_bytes());

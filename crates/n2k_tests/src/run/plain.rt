@@ -85,7 +85,14 @@ fn prints<R: Abort + AllocGlobal>(rt: &R, example: &Example, piece: usize) -> Re
     let mut reader = MemorySource::new(example.log.as_bytes(), piece, 0);
     let mut writer = MemorySink::new(rt.alloc(), piece, 0);
     let mut reports = MemorySink::new(rt.alloc(), piece, 0);
-    let counts = run_plain(rt.alloc(), &mut reader, &mut writer, &mut reports)?;
+    let mut counts = Counts::NONE;
+    run_plain(
+        rt.alloc(),
+        &mut counts,
+        &mut reader,
+        &mut writer,
+        &mut reports,
+    )?;
     assert_eq!(rt; writer.bytes(), example.text.as_bytes());
     assert_eq!(rt; reports.bytes(), example.reports.as_bytes());
     has_summary(rt, &counts, example.summary)
@@ -117,7 +124,14 @@ fn reports_in<R: Abort + AllocGlobal>(
     let mut reader = MemorySource::new(log, piece, 0);
     let mut writer = MemorySink::new(rt.alloc(), 100, 0);
     let mut reporter = MemorySink::new(rt.alloc(), 100, 0);
-    let counts = run_plain(rt.alloc(), &mut reader, &mut writer, &mut reporter)?;
+    let mut counts = Counts::NONE;
+    run_plain(
+        rt.alloc(),
+        &mut counts,
+        &mut reader,
+        &mut writer,
+        &mut reporter,
+    )?;
     assert_eq!(rt; writer.bytes(), text.as_bytes());
     assert_eq!(rt; reporter.bytes(), reports.as_bytes());
     assert_eq!(rt; counts, wanted);
@@ -225,7 +239,14 @@ fn a_block_is_written_before_the_next_is_read(rt: HostRuntime) -> Result<(), Fai
     let mut reader = MemorySource::new(TWO_SOURCES.as_bytes(), 60, 0);
     let mut writer = MemorySink::new(rt.alloc(), 100, 1);
     let mut reports = MemorySink::new(rt.alloc(), 100, 0);
-    let answer = run_plain(rt.alloc(), &mut reader, &mut writer, &mut reports);
+    let mut counts = Counts::NONE;
+    let answer = run_plain(
+        rt.alloc(),
+        &mut counts,
+        &mut reader,
+        &mut writer,
+        &mut reports,
+    );
     assert_eq!(rt; answer, Err(RunFault::Write));
     let left = read_bytes(rt.alloc(), &mut reader, 1000)?;
     assert_eq!(rt; Some(left.as_slice()), TWO_SOURCES.as_bytes().get(60..));
@@ -239,8 +260,15 @@ fn refused_memory_leaves_a_front(rt: HostRuntime) {
     let mut reader = MemorySource::new(TWO_SOURCES.as_bytes(), 60, 0);
     let mut writer = MemorySink::new(rt.alloc(), 10, 0);
     let mut reports = MemorySink::new(rt.alloc(), 10, 0);
-    match run_plain(rt.alloc(), &mut reader, &mut writer, &mut reports) {
-        Ok(counts) => {
+    let mut counts = Counts::NONE;
+    match run_plain(
+        rt.alloc(),
+        &mut counts,
+        &mut reader,
+        &mut writer,
+        &mut reports,
+    ) {
+        Ok(()) => {
             assert_eq!(rt; counts.messages, 4);
             assert_eq!(rt; writer.bytes(), TWO_SOURCES_TEXT.as_bytes());
         }

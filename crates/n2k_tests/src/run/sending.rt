@@ -121,12 +121,20 @@ pub(crate) fn frames_at(
     writer: &mut MemorySink,
     reporter: &mut MemorySink,
 ) -> Result<Counts, RunFault> {
+    let mut counts = Counts::NONE;
     match interface {
-        Some(name) if is_interface(name.as_bytes()) => {
-            run_frames(alloc, table, Some(name), reader, writer, reporter)
-        }
-        _ => run_frames(alloc, table, None, reader, writer, reporter),
+        Some(name) if is_interface(name.as_bytes()) => run_frames(
+            alloc,
+            table,
+            Some(name),
+            &mut counts,
+            reader,
+            writer,
+            reporter,
+        )?,
+        _ => run_frames(alloc, table, None, &mut counts, reader, writer, reporter)?,
     }
+    Ok(counts)
 }
 
 fn makes<R: Abort + AllocGlobal>(
@@ -189,6 +197,7 @@ fn frames_of<R: Abort + AllocGlobal>(
         rt.alloc(),
         table,
         None,
+        &mut Counts::NONE,
         &mut reader,
         &mut writer,
         &mut reporter,

@@ -10,7 +10,7 @@ use Rattle.n2k_run.specs.Fold.{after_all}
 use Rattle.n2k_run.specs.Runs.{output_from}
 use Rattle.n2k_run.specs.Inner.Counting.{counting_fold}
 use Rattle.n2k_run.proofs.Counting.{texts_are, reports_are, counts_from_none}
-use Rattle.n2k_run.proofs.Ending.{of_log, output_same, runs_same, ok_more, err_more}
+use Rattle.n2k_run.proofs.Ending.{log_if_ok, output_same, runs_same, runs_more}
 use Rattle.n2k_run.proofs.plain.run_plain.Goals as goal
 
 output_is : output_from (counting_fold entry_line is_packet (λ _. false)) Frames (record { lines = 0; messages = 0; bad = 0; unknown = 0; broken = 0; held = 0 }) ≡ plain_output
@@ -28,17 +28,12 @@ counts_are es =
     counts_from_none entry_line is_packet (λ _. false) es
     ∙ ap (λ n. let c : Counts = record { lines = length es; messages = count_by is_packet es; bad = count_by is_bad es; unknown = n; broken = 0; held = 0 } in c) (none_unknown es)
 
-pub returns-in-Ok-clause-runs : goal.returns-in-Ok-clause-runs
-returns-in-Ok-clause-runs g c =
-    let runs = runs_same _ _ _ _ _ _ output_is c.in-Ok.ensures.runs in
-    ok_more plain_output _ _ _ _ _ _ runs (λ es stands. stands ∙ counts_are es)
+pub returns-clause-runs : goal.returns-clause-runs
+returns-clause-runs g c =
+    let runs = runs_same _ _ _ _ _ _ output_is c.run_entries.ensures.runs in
+    runs_more plain_output _ _ _ _ _ runs (λ es stands. stands ∙ counts_are es)
 
-pub returns-in-Ok-clause-out : goal.returns-in-Ok-clause-out
-returns-in-Ok-clause-out g c =
-    let runs = runs_same _ _ _ _ _ _ output_is c.in-Ok.ensures.runs in
-    of_log plain_output _ _ _ _ runs.ends (runs.ends.gained.printed, runs.ends.gained.reported, runs.ends.holds ∙ counts_are _)
-
-pub returns-in-Err-clause-runs : goal.returns-in-Err-clause-runs
-returns-in-Err-clause-runs g c =
-    let runs = runs_same _ _ _ _ _ _ output_is c.in-Err.ensures.runs in
-    err_more plain_output _ _ _ _ _ _ c.in-Err.fault runs (λ es stands. tt)
+pub returns-clause-out : goal.returns-clause-out
+returns-clause-out g c =
+    let runs = runs_same _ _ _ _ _ _ output_is c.run_entries.ensures.runs in
+    log_if_ok plain_output _ _ _ _ _ runs (λ whole. (whole.gained.printed, whole.gained.reported, whole.holds ∙ counts_are _))
