@@ -73,11 +73,11 @@ module _ (had has : Option (List Kept)) (failed fails : ℕ) (errors summed : Pl
   unkept text counts r (inl closes) = (ap₂ (λ k n. shelf None k n) closes.0.kept closes.0.none_failed, closes.1)
   unkept text counts r (inr unsaved) = absurd (false≢true unsaved.1.named)
 
-  pub unkept_whole : (ended : Result Counts RunFault) (told : Result Part Stop) (r : Result Ending Fault) → AnswersWhole ended told
+  pub unkept_whole : (counts : Counts) (ended : Result (Unit {0}) RunFault) (told : Result Part Stop) (r : Result Ending Fault) → AnswersWhole counts ended told
       → ClosesPart (shelf None had failed) (shelf None has fails) errors summed told r → IsUnkept × ClosesWhole errors summed told r
-  unkept_whole (Ok counts) (Ok part) r tells closes = unkept part.state.items part.counts r closes
-  unkept_whole (Ok counts) (Err stop) r tells closes = absurd tells
-  unkept_whole (Err fault) told r tells closes =
+  unkept_whole counts (Ok x) (Ok part) r tells closes = unkept part.state.items part.counts r closes
+  unkept_whole counts (Ok x) (Err stop) r tells closes = absurd tells
+  unkept_whole counts (Err fault) told r tells closes =
       let is = subst (λ t. ClosesPart (shelf None had failed) (shelf None has fails) errors summed t r) tells closes in
       (is.1.0, subst (λ t. ClosesWhole errors summed t r) (sym tells) (is.0, is.1.1))
 
@@ -282,13 +282,13 @@ module _ (output : Output) (counts_of : List Entry → Counts) (before after : D
   nothing_follows stands run.TooManyLines same = λ es is. (same, refl)
   nothing_follows stands _ same = (same, refl)
 
-  pub ended_whole : (ended : Result Counts RunFault) (told : Result Part Stop) (r : Result Ending Fault)
-      → Runs output (λ es. IfOk ended (λ counts. counts ≡ counts_of es)) before (record after { reported = errors.text; failed_reports = errors.failed }) ended
-      → AnswersWhole ended told → ClosesWhole errors said told r → Ends whole_effect before after r
-  ended_whole (Ok counts) (Ok part) r runs tells closes =
-      ended_by_closing whole_effect _ before after errors counts [] part.counts runs (tells.1 ∙ runs.ends.holds, refl) r (closes_unsaved errors said part.counts r closes)
-  ended_whole (Ok counts) (Err stop) r runs tells closes = absurd tells
-  ended_whole (Err fault) told r runs tells closes =
+  pub ended_whole : (counts : Counts) (ended : Result (Unit {0}) RunFault) (told : Result Part Stop) (r : Result Ending Fault)
+      → Runs output (λ es. counts ≡ counts_of es) before (record after { reported = errors.text; failed_reports = errors.failed }) ended
+      → AnswersWhole counts ended told → ClosesWhole errors said told r → Ends whole_effect before after r
+  ended_whole counts (Ok x) (Ok part) r runs tells closes =
+      ended_by_closing whole_effect _ before after errors x [] part.counts runs (tells.1 ∙ runs.ends.holds, refl) r (closes_unsaved errors said part.counts r closes)
+  ended_whole counts (Ok x) (Err stop) r runs tells closes = absurd tells
+  ended_whole counts (Err fault) told r runs tells closes =
       let is = subst (λ t. ClosesWhole errors said t r) tells closes in
       subst (Ends whole_effect before after) (sym is.0)
       (left_by_run whole_effect _ before after errors fault runs (nothing_follows _ fault is.1) is.1)

@@ -10,6 +10,7 @@ use Rattle.n2kdec.specs.Asked.{asked, save_name}
 use Rattle.n2kdec.specs.Commands.{Kept, Performs, Place, shelf}
 use Rattle.n2kdec.specs.Machine.{AddsCalls, AddsFailures, AsksFor, DoesAsked, DoesTyped, FileUse, HasCalled, Hints, IsPerformed, IsPerformedOver, IsReadable, IsStateAdmitted, IsStateRefused, IsUnopened, IsUnread, IsUnreadFile, LogAfter, Opens, Outside, IsSentenceOf, IsTerminal, RunsCommand, RunsTyped, StandsBefore, World, WritesFault, all_files, files_before_log, if_named, table_bytes, with_log}
 use Rattle.n2kdec.specs.Fault.{status_of}
+use Rattle.n2kdec.specs.Found.{Finds}
 use Rattle.n2kdec.specs.Parser.{Shown}
 use Rattle.n2kdec.specs.declared.asked.Request.{Request}
 use Rattle.n2kdec.specs.declared.asked.Command.{Command}
@@ -17,6 +18,7 @@ use Rattle.n2kdec.specs.declared.asked.Files.{Files}
 use Rattle.n2kdec.specs.declared.ending.Ending.{Ending}
 use Rattle.n2kdec.specs.declared.fault.Fault.{Fault}
 use Rattle.n2kdec.specs.declared.fault.Fault.TheVariants.{TableSize, TableFile, StateSize, StateFile, Read, Memory, Save}
+use Rattle.n2kdec.specs.declared.found.Found.{Found}
 use Rattle.n2kdec.specs.declared.reason.Reason.{Reason}
 use Rattle.n2kdec.specs.declared.words.Words.{Words}
 
@@ -123,15 +125,19 @@ module _ (command : Command) (table : List ℕ) (handed : Option (List ℕ)) (be
   PerformsAfter held lent left calls failed = Performs command held lent (with_log left calls failed before) (with_log log.left log.calls log.failed after)
       (shelf (save_name command) before.kept before.failed_keeps) (shelf (save_name command) after.kept after.failed_keeps) result
 
+  abbrev pub FindsAfter : List ℕ → Option (List ℕ) → Option (List ℕ) → Type 0
+  FindsAfter held lent left = Finds command held lent left log.left result after.found
+
   pub performed_over : (held : List ℕ) (lent left known : Option (List ℕ)) (calls failed had : ℕ) → held ≡ table → lent ≡ handed → left ≡ known → calls ≡ 0 → failed ≡ 0
       → had ≡ before.files.failed → AddsFailures had after.files.failed log.failed → HasCalled before.files.reads after.files.reads log.calls
-      → PerformsAfter held lent left calls failed → IsPerformedOver command table handed known before after result
-  performed_over held lent left known calls failed had is_table is_state is none none_failed same counted called performs = record {
+      → PerformsAfter held lent left calls failed → FindsAfter held lent left → IsPerformedOver command table handed known before after result
+  performed_over held lent left known calls failed had is_table is_state is none none_failed same counted called performs finds = record {
     log = log;
     counted = subst (λ n. AddsFailures n after.files.failed log.failed) same counted;
     called = called;
     performs = subst (λ t. PerformsAfter t handed known 0 0) is_table (subst (λ h. PerformsAfter held h known 0 0) is_state
         (subst (λ l. PerformsAfter held lent l 0 0) is (subst (λ n. PerformsAfter held lent left 0 n) none_failed (subst (λ n. PerformsAfter held lent left n failed) none performs))));
+    finds = subst (λ t. FindsAfter t handed known) is_table (subst (λ h. FindsAfter held h known) is_state (subst (λ l. FindsAfter held lent l) is finds));
   }
 
 -- the bytes of a table that was read, or none
@@ -180,7 +186,7 @@ does_typed shown w words request before after result asks is does = inl (words, 
 
 -- a fault of what was typed is written behind what stands before its line
 pub reported : (shown : Shown) (w : World) (before done : Outside) (result : Result Ending Fault) (fault : Fault) (stood : List ℕ) (errors : Place) (status : ℕ) → DoesTyped shown w before done result
-    → result ≡ Err fault → StandsBefore shown w done.unkept fault stood → WritesFault stood fault done.errors errors → status ≡ status_of fault
+    → result ≡ Err fault → StandsBefore shown w done.unkept done.found fault stood → WritesFault stood fault done.errors errors → status ≡ status_of fault
     → RunsTyped shown w before (record done { errors = errors }) status
 reported shown w before done result fault stood errors status does is stands writes said = record {
   result = Err fault;
@@ -200,10 +206,10 @@ ended shown w before done result ending errors status does is hints said = recor
 }
 
 -- on a terminal the sentence of a fault stands before its line, where there is memory for it
-pub spoken : {V E : Type 0} (items : V → List ℕ) (shown : Shown) (w : World) (unkept : Text → Option Reason) (fault : Fault) (is_terminal : Bool) (said : Result V E) (none text : V)
-    → IsTerminal w is_terminal → is_terminal ≡ true → items none ≡ [] → IfOk said (λ said. IsSentenceOf shown w unkept fault (items said)) → text ≡ result_unwrap_or said none
-    → StandsBefore shown w unkept fault (items text)
-spoken items shown w unkept fault is_terminal (Ok said) none text terminal is empty sentence same =
-    (is_terminal, terminal, inr (is, subst (λ (v : _). IsSentenceOf shown w unkept fault (items v)) (sym same) sentence))
-spoken items shown w unkept fault is_terminal (Err why) none text terminal is empty sentence same =
+pub spoken : {V E : Type 0} (items : V → List ℕ) (shown : Shown) (w : World) (unkept : Text → Option Reason) (found : Option Found) (fault : Fault) (is_terminal : Bool) (said : Result V E) (none text : V)
+    → IsTerminal w is_terminal → is_terminal ≡ true → items none ≡ [] → IfOk said (λ said. IsSentenceOf shown w unkept found fault (items said)) → text ≡ result_unwrap_or said none
+    → StandsBefore shown w unkept found fault (items text)
+spoken items shown w unkept found fault is_terminal (Ok said) none text terminal is empty sentence same =
+    (is_terminal, terminal, inr (is, subst (λ (v : _). IsSentenceOf shown w unkept found fault (items v)) (sym same) sentence))
+spoken items shown w unkept found fault is_terminal (Err why) none text terminal is empty sentence same =
     (is_terminal, terminal, inl (inl (ap items same ∙ empty)))

@@ -1,22 +1,32 @@
 -- From what the work of a command and its closing leave to what the command leaves.
-use Rattle.std.proofs.Common.{◌≡◌, ℕ, List, [], ◌++◌, Option, Some, Ok, Err, Result, IfOk, IfSome, sym, subst, inl, inr}
+use Rattle.std.proofs.Common.{◌≡◌, ℕ, List, [], ◌++◌, Option, Some, Ok, Err, Result, IfOk, IfSome, ap, sym, subst, inl, inr}
 use Rattle.std.specs.Prelude.{None, IfErr}
+use Rattle.n2k_run.specs.Decoded.{join_fold}
+use Rattle.n2k_run.specs.Parts.{IsOfKind, RunsFrom}
+use Rattle.n2k_run.specs.declared.fault.RunFault.{RunFault}
+use Rattle.n2k_run.specs.declared.fault.RunFault.TheVariants as run
+use Rattle.n2k_run.specs.declared.options.Options.{Options}
+use Rattle.n2k_run.specs.declared.part.PartFault.{PartFault}
+use Rattle.n2k_run.specs.declared.part.PartFault.TheVariants as part_faults
+use Rattle.n2k_run.proofs.Parting.{told_stopped}
+use Rattle.n2kdec.specs.Found.{Counts as CountsOf, CountsLines, Finds, FoundIn, TellsLines}
+use Rattle.n2kdec.specs.declared.found.Found.{Found}
 use Rattle.n2k_run.proofs.Ending.{all_came}
 use Rattle.n2k_wire.specs.declared.entry.Entry.{Entry}
 use Rattle.n2k_join.specs.Messages.{counts}
 use Rattle.n2k_run.specs.Entries.{entries}
 use Rattle.n2k_run.specs.FramesOut.{frame_counts_of, frames_output}
 use Rattle.n2k_run.specs.Plain.{plain_counts_of, plain_output}
-use Rattle.n2k_run.specs.Runs.{Devices}
+use Rattle.n2k_run.specs.Runs.{Devices, Runs, output_from}
 use Rattle.n2k_run.specs.declared.part.Part.{Part}
 use Rattle.n2k_table.specs.Table.{faults, kind, table as table_of}
 use Rattle.clap.specs.Words.{Text}
 use Rattle.n2k_join.specs.declared.counts.Counts.{Counts}
 use Rattle.n2kdec.specs.Asked.{save_name}
 use Rattle.n2kdec.specs.Commands.{Effect, EndsByTable, IsDone, IsRefusal, Kept, Performs, Place, Shelf, HasStatus, decode_effect, entries_for, frames_effect, place, plain_effect, shelf}
-use Rattle.n2kdec.specs.Fault.{exit_status}
-use Rattle.n2kdec.specs.Inner.Closing.{ClosesPart, SumsUp}
-use Rattle.n2kdec.specs.Work.{DoesFrames, Works}
+use Rattle.n2kdec.specs.Fault.{exit_status, fault_of_run}
+use Rattle.n2kdec.specs.Inner.Closing.{Closes, ClosesPart, SumsUp}
+use Rattle.n2kdec.specs.Work.{AnswersWhole, DoesFrames, RefusesTable, Works, answer_of_part, lines_at}
 use Rattle.n2kdec.specs.declared.ending.Ending.{Ending}
 use Rattle.n2kdec.specs.declared.fault.Fault.{Fault}
 use Rattle.n2kdec.specs.declared.fault.Fault.TheVariants as fault
@@ -39,17 +49,17 @@ module _ (before after : Devices) (errors : Place) (had has : Option (List Kept)
   framed : (bytes : List ℕ) (interface : Option Text) (told : Result Part Stop) (r : Result Ending Fault) → faults bytes ≡ [] → DoesFrames (table_of bytes) interface before between told
       → Closed None told r → IsUnkept had has failed fails errors said × EndsByTable (faults bytes) (frames_effect (table_of bytes) interface) before after r
   framed bytes interface told r none does closes =
-      let whole = unkept_whole had has failed fails errors said does.ended told r does.told closes in (
+      let whole = unkept_whole had has failed fails errors said does.counts does.ended told r does.told closes in (
         whole.0,
         past_table (faults bytes) (frames_effect (table_of bytes) interface) before after r none
-            (ended_whole (frames_output (table_of bytes) interface) (frame_counts_of (kind (table_of bytes)) interface) before after errors does.ended told r does.runs does.told whole.1),
+            (ended_whole (frames_output (table_of bytes) interface) (frame_counts_of (kind (table_of bytes)) interface) before after errors does.counts does.ended told r does.runs does.told whole.1),
       )
 
   pub performs : (command : Command) (bytes : List ℕ) (handed : Option (List ℕ)) (told : Result Part Stop) (r : Result Ending Fault) → Works command bytes handed before between told
       → Closed (save_name command) told r → Performs command bytes handed before after (shelf (save_name command) had failed) (shelf (save_name command) has fails) r
   performs Plain bytes handed told r does closes =
-      let whole = unkept_whole had has failed fails errors said does.ended told r does.told closes in
-      (whole.0, ended_whole plain_output plain_counts_of before after errors does.ended told r does.runs does.told whole.1)
+      let whole = unkept_whole had has failed fails errors said does.counts does.ended told r does.told closes in
+      (whole.0, ended_whole plain_output plain_counts_of before after errors does.counts does.ended told r does.runs does.told whole.1)
   performs (Decode o save) bytes handed (Ok part) r does closes =
       decoded bytes o handed before after errors (shelf save had failed) (shelf save has fails) does.1.ended r does.0 does.1.runs (subst (λ a. Closed save a r) does.1.told closes)
   performs (Decode o save) bytes handed (Err stop) r (inl refuses) closes =
@@ -61,6 +71,72 @@ module _ (before after : Devices) (errors : Place) (had has : Option (List Kept)
       let is = subst (λ (s : Stop). Closed None (Err s) r) refuses.told closes in
       (is.1.0, refused_table (faults bytes) (frames_effect (table_of bytes) interface) before after errors stop r refuses closes.0 is.1.1)
   performs (Frames interface) bytes handed (Err stop) r (inr does) closes = framed bytes interface (Err stop) r does.0 does.1 closes
+
+-- ---- what is found out
+
+-- what a run counts that a failed read ended
+lines_of_run : (c : Effect) (counts : Counts) (before after : Devices) (f : RunFault) → Runs {T = Unit {0}} c.output (λ es. counts ≡ c.counts es) before after (Err f)
+    → TellsLines (CountsOf c before.left after.left) (fault_of_run f) (lines_at f counts)
+lines_of_run c counts before after run.Read runs = (runs.ends.came, runs.ends.given, ap (λ (n : Counts). n.lines) runs.ends.holds)
+lines_of_run c counts before after _ runs = tt
+
+-- the same of a whole log
+lines_of_whole : (c : Effect) (counts : Counts) (before after : Devices) (ended : Result (Unit {0}) RunFault) (stop : Stop) → Runs c.output (λ es. counts ≡ c.counts es) before after ended
+    → AnswersWhole counts ended (Err stop) → TellsLines (CountsOf c before.left after.left) stop.fault stop.lines
+lines_of_whole c counts before after (Ok x) stop runs tells = absurd tells
+lines_of_whole c counts before after (Err f) stop runs tells =
+    subst (λ (r : Result Part Stop). IfErr r (λ s. TellsLines (CountsOf c before.left after.left) s.fault s.lines)) (sym tells) (lines_of_run c counts before after f runs)
+
+-- a table or a state that is refused tells none
+lines_of_part : (o : Options) (save : Option Text) (bytes : List ℕ) (handed : Option (List ℕ)) (before after : Devices) (ended : Result Part PartFault)
+    → RunsFrom (table_of bytes) o handed before after ended
+    → IfErr (answer_of_part ended) (λ s. TellsLines (CountsLines (Decode o save) bytes handed before.left after.left) s.fault s.lines)
+lines_of_part o save bytes handed before after (Ok part) runs = tt
+lines_of_part o save bytes handed before after (Err (part_faults.State f)) runs = tt
+lines_of_part o save bytes handed before after (Err part_faults.Memory) runs = tt
+lines_of_part o save bytes handed before after (Err (part_faults.Run run.Read)) runs = absurd (go runs.fault_kinds)
+  where
+    go : IsOfKind (Err (part_faults.Run run.Read)) → ⊥
+    go (inl kind) = cc
+    go (inr (inl kind)) = cc
+    go (inr (inr kind)) = cc
+lines_of_part o save bytes handed before after (Err (part_faults.Run _)) runs = tt
+lines_of_part o save bytes handed before after (Err (part_faults.Stopped run.Read part)) runs = λ s is.
+    let ran = told_stopped (output_from (join_fold (table_of bytes) o.empty) o.packing s) before after _ run.Read part (runs.steps s is) in
+    (ran.ends.came, ran.ends.given, ap (λ (n : Counts). n.lines) ran.ends.holds.counted)
+lines_of_part o save bytes handed before after (Err (part_faults.Stopped _ part)) runs = tt
+
+module _ (bytes : List ℕ) (handed : Option (List ℕ)) (before after : Devices) (stop : Stop) where
+  abbrev Tells : Command → Type 0
+  Tells command = TellsLines (CountsLines command bytes handed before.left after.left) stop.fault stop.lines
+
+  refused_tells : (command : Command) → RefusesTable (faults bytes) before after stop → Tells command
+  refused_tells command refuses = subst (λ (s : Stop). TellsLines (CountsLines command bytes handed before.left after.left) s.fault s.lines) (sym refuses.told) tt
+
+  tells : (command : Command) → Works command bytes handed before after (Err stop) → Tells command
+  tells Plain does = lines_of_whole plain_effect does.counts before after does.ended stop does.runs does.told
+  tells (Decode o save) (inl refuses) = refused_tells (Decode o save) refuses
+  tells (Decode o save) (inr does) =
+      subst (λ (r : Result Part Stop). IfErr r (λ s. TellsLines (CountsLines (Decode o save) bytes handed before.left after.left) s.fault s.lines))
+      (sym does.1.told) (lines_of_part o save bytes handed before after does.1.ended does.1.runs)
+  tells (Frames interface) (inl refuses) = refused_tells (Frames interface) refuses
+  tells (Frames interface) (inr does) =
+      lines_of_whole (frames_effect (table_of bytes) interface) does.1.counts before after does.1.ended stop does.1.runs does.1.told
+
+-- what is found out in what was done is found out about what becomes of the command
+module _ (command : Command) (bytes : List ℕ) (handed : Option (List ℕ)) (before after : Devices) (found : Option Found) where
+  abbrev FindsSo : Result Ending Fault → Type 0
+  FindsSo r = Finds command bytes handed before.left after.left r found
+
+  found_whole : (keeper kept : Shelf) (errors summed : Place) (text : List ℕ) (counts : Counts) (r : Result Ending Fault) → Closes keeper kept errors summed text counts r → found ≡ None → FindsSo r
+  found_whole keeper kept errors summed text counts (Ok ending) closes none = none
+  found_whole keeper kept errors summed text counts (Err f) (inl closes) none = subst (λ g. FindsSo (Err g)) (sym closes.1.0) (None, tt, none)
+  found_whole keeper kept errors summed text counts (Err f) (inr closes) none = subst FindsSo (sym closes.0) (None, tt, none)
+
+  pub finds : (keeper kept : Shelf) (errors summed : Place) (told : Result Part Stop) (r : Result Ending Fault) → Works command bytes handed before after told
+      → ClosesPart keeper kept errors summed told r → FoundIn command bytes handed told found → FindsSo r
+  finds keeper kept errors summed (Ok part) r does closes none = found_whole keeper kept errors summed part.state.items part.counts r closes none
+  finds keeper kept errors summed (Err stop) r does closes at = subst FindsSo (sym closes.0) (stop.lines, tells bytes handed before after stop command does, at)
 
 -- ---- the status
 

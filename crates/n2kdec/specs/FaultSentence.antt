@@ -1,6 +1,6 @@
 -- What is said of a fault on a terminal, in one line: the file or the stream that it is of, what is wrong, and what to do.
-use Rattle.std.specs.Prelude.{◌≡◌, ◌++◌, ◌∷◌, ℕ, Bool, true, false, List, [], Option, Some, None}
-use Rattle.std.specs.Prelude.{codes, IfSome, option_map}
+use Rattle.std.specs.Prelude.{◌≡◌, ◌==◌, ◌++◌, ◌∷◌, ℕ, Bool, true, false, List, [], Option, Some, None}
+use Rattle.std.specs.Prelude.{codes, decimal, if◌then◌else◌, IfSome, option_map}
 use Rattle.std.specs.Option.{unwrap_or}
 use Rattle.clap.specs.Words.{Text}
 use Rattle.n2k_join.specs.declared.fault.StateFault.{StateFault}
@@ -15,6 +15,8 @@ use Rattle.n2kdec.specs.declared.fault.Fault.{Fault}
 use Rattle.n2kdec.specs.declared.fault.Fault.TheVariants.{Words, Interface, TableSize, StateSize, Table, State}
 use Rattle.n2kdec.specs.declared.fault.Fault.TheVariants.{TableFile, StateFile, Read, Write, Report, Memory, Lines}
 use Rattle.n2kdec.specs.declared.fault.Fault.TheVariants.{Save}
+use Rattle.n2kdec.specs.declared.found.Found.{Found}
+use Rattle.n2kdec.specs.declared.found.Found.TheVariants.{Tables, Windows, Lines as LinesTaken}
 use Rattle.n2kdec.specs.declared.reason.Reason.{Reason}
 use Rattle.n2kdec.specs.declared.reason.Reason.TheVariants.{System, Unfound, Harm}
 
@@ -134,14 +136,38 @@ abbrev pub named : Text → Text
 named [] = codes "''"
 named (byte ∷ name) = byte ∷ name
 
-abbrev pub line_of : Text → Text → Text → List ℕ
-line_of subject words advice = codes "n2kdec: " ++ escaped false (named subject ++ codes ": " ++ words ++ advice) ++ codes "\n"
+-- what was found out of a state's tables, of its windows, and of how far a log was read, if anywhere
+abbrev pub tables_text : Text → Text → Text → Text
+tables_text saved name id =
+    codes " (SHA-256 " ++ saved ++ codes "; that of " ++ named name ++ codes " is " ++ id ++ codes ")"
 
--- what is said of a fault, for this reason; nothing where it is of no file
-abbrev pub fault_sentence : Files → Command → Fault → Option Reason → List ℕ
-fault_sentence files command fault reason =
-    unwrap_or (option_map (λ subject. line_of subject (words_of fault reason) (advice_of fault reason))
-    (subject_of files command fault)) []
+abbrev pub windows_text : ℕ → ℕ → Text
+windows_text saved window = codes " (" ++ decimal saved ++ codes "; this run has " ++ decimal window ++ codes ")"
+
+abbrev pub some_lines_text : ℕ → Text
+some_lines_text lines = codes " (lines read before: " ++ decimal lines ++ codes ")"
+
+abbrev pub lines_text : ℕ → Text
+lines_text lines = if lines == 0 then [] else some_lines_text lines
+
+abbrev pub found_text : Files → Option Found → Text
+found_text files None = []
+found_text files (Some (Tables saved table)) = tables_text saved (unwrap_or files.table []) table
+found_text files (Some (Windows saved window)) = windows_text saved window
+found_text files (Some (LinesTaken lines)) = lines_text lines
+
+-- what is wrong with a subject, what was found out about it, and what to do
+abbrev pub told_of : Files → Text → Fault → Option Reason → Option Found → Text
+told_of files subject fault reason found =
+    named subject ++ codes ": " ++ words_of fault reason ++ found_text files found ++ advice_of fault reason
+
+abbrev pub line_of : Text → List ℕ
+line_of text = codes "n2kdec: " ++ escaped false text ++ codes "\n"
+
+-- what is said of a fault, for this reason and with what was found out; nothing where it is of no file
+abbrev pub fault_sentence : Files → Command → Fault → Option Reason → Option Found → List ℕ
+fault_sentence files command fault reason found =
+    unwrap_or (option_map (λ subject. line_of (told_of files subject fault reason found)) (subject_of files command fault)) []
 
 -- this is the known reason, where both are there
 abbrev pub IsAsKnown : Option Reason → Option Reason → Type 0

@@ -6,6 +6,7 @@ pub mod Ending
 pub mod Escape
 pub mod Fault
 pub mod FaultSentence
+pub mod Found
 pub mod Folder
 pub mod Inner
 pub mod Machine

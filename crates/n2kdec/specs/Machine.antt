@@ -12,6 +12,7 @@ use Rattle.n2kdec.specs.Commands.{Performs, Place, place, shelf}
 use Rattle.n2kdec.specs.Ending.{hint}
 use Rattle.n2kdec.specs.Fault.{IsBeforeLine, IsFaultMessage, longest_file, status_of}
 use Rattle.n2kdec.specs.FaultSentence.{IsAsKnown, fault_sentence, has_reason}
+use Rattle.n2kdec.specs.Found.{Finds}
 use Rattle.n2kdec.specs.Parser.{Shown, said_of}
 use Rattle.n2kdec.specs.Words.{IsAskedBy, IsRefused}
 use Rattle.n2kdec.specs.declared.asked.Request.{Request}
@@ -23,6 +24,7 @@ use Rattle.n2kdec.specs.declared.ending.Ending.{Ending}
 use Rattle.n2kdec.specs.declared.fault.Fault.{Fault}
 use Rattle.n2kdec.specs.declared.fault.Fault.TheVariants.{Words as WordsFault, TableSize, TableFile, StateSize}
 use Rattle.n2kdec.specs.declared.fault.Fault.TheVariants.{StateFile, Read, Memory, Save, Write}
+use Rattle.n2kdec.specs.declared.found.Found.{Found}
 use Rattle.n2kdec.specs.declared.keeper.Keeper.{Ghosts as OfKeeper}
 use Rattle.n2kdec.specs.declared.machine.Outlets.{Outlets}
 use Rattle.n2kdec.specs.declared.reason.Reason.{Reason}
@@ -107,8 +109,8 @@ abbrev pub HasCalled : ℕ → ℕ → ℕ → Type 0
 HasCalled before after calls = after < 2 ^ 64 - 1 → before + calls ≤ after
 
 -- What the program changes: the output, the errors, and what was kept under which name, with how many times a text could
--- not be kept and how many times a state was not admitted; and how files were used. Which states may be kept, and why
--- one is not, where that is known, it does not change.
+-- not be kept and how many times a state was not admitted; how files were used; and what is found out about a fault.
+-- Which states may be kept, and why one is not, where that is known, it does not change.
 pub record Outside : Type 0 where
   pub output : Place
   pub errors : Place
@@ -118,6 +120,7 @@ pub record Outside : Type 0 where
   pub files : FileUse
   pub admits : Text → Files → Option Bool
   pub unkept : Text → Option Reason
+  pub found : Option Found
 
 abbrev pub outside : {W E K : Type 0} → OfSink W → OfSink E → OfKeeper K → FileUse → Outlets W E K → Outside
 outside w e k files outlets = record {
@@ -129,6 +132,7 @@ outside w e k files outlets = record {
   files = files;
   admits = k.admits;
   unkept = k.unkept;
+  found = outlets.found;
 }
 
 -- ---- the files of a command
@@ -225,6 +229,7 @@ pub record IsPerformedOver (command : Command) (table : List ℕ) (handed left :
       (with_log log.left log.calls log.failed after)
       (shelf (save_name command) before.kept before.failed_keeps)
       (shelf (save_name command) after.kept after.failed_keeps) result
+  pub finds : Finds command table handed left log.left result after.found
 
 -- the state may be kept under the name that the command has for it, if any, by a run of these files
 abbrev pub IsStateAdmitted : (Text → Files → Option Bool) → Files → Command → Type 0
@@ -337,29 +342,29 @@ abbrev pub HasReason : World → (Text → Option Reason) → Files → Command 
 HasReason w unkept files command fault reason =
     IsAsKnown (reason_of w unkept files command fault) reason × (has_reason fault ≡ false → reason ≡ None)
 
--- the sentence of a fault, by the names that were typed and for its reason
-abbrev pub IsSentenceOf : Shown → World → (Text → Option Reason) → Fault → List ℕ → Type 0
-IsSentenceOf shown w unkept fault text =
+-- the sentence of a fault, by the names that were typed, for its reason and with what was found out
+abbrev pub IsSentenceOf : Shown → World → (Text → Option Reason) → Option Found → Fault → List ℕ → Type 0
+IsSentenceOf shown w unkept found fault text =
     (words : Words) × AsksFor shown w words
     × ((reason : Option Reason) × HasReason w unkept (files_of (asked words)) (command_of (asked words)) fault reason
-    × (text ≡ fault_sentence (files_of (asked words)) (command_of (asked words)) fault reason))
+    × (text ≡ fault_sentence (files_of (asked words)) (command_of (asked words)) fault reason found))
 
 -- This may stand before the line of a fault: on a terminal what is said of what was typed, where the words are refused,
 -- and else the sentence of the fault; off it nothing.
-abbrev pub StandsBefore : Shown → World → (Text → Option Reason) → Fault → List ℕ → Type 0
-StandsBefore shown w unkept fault text =
+abbrev pub StandsBefore : Shown → World → (Text → Option Reason) → Option Found → Fault → List ℕ → Type 0
+StandsBefore shown w unkept found fault text =
     (is_terminal : Bool) × IsTerminal w is_terminal
     × (IsBeforeLine (option_and_then (said_of shown) w.typed) is_terminal fault text
-    ⊎ ((is_terminal ≡ true) × IsSentenceOf shown w unkept fault text))
+    ⊎ ((is_terminal ≡ true) × IsSentenceOf shown w unkept found fault text))
 
 -- what is said of a fault is written behind this text, whole unless the place fails
 abbrev pub WritesFault : List ℕ → Fault → Place → Place → Type 0
 WritesFault stood fault before after =
     (text : List ℕ) × IsFaultMessage stood fault text × IsWrittenUnlessFailed before after text
 
-abbrev pub ReportsFault : Shown → World → (Text → Option Reason) → Fault → Place → Place → Type 0
-ReportsFault shown w unkept fault before after =
-    (stood : List ℕ) × StandsBefore shown w unkept fault stood × WritesFault stood fault before after
+abbrev pub ReportsFault : Shown → World → (Text → Option Reason) → Option Found → Fault → Place → Place → Type 0
+ReportsFault shown w unkept found fault before after =
+    (stood : List ℕ) × StandsBefore shown w unkept found fault stood × WritesFault stood fault before after
 
 -- On a terminal it is said behind all that a log has another form, unless the place fails; off it nothing is.
 abbrev pub HintsOn : Bool → Place → Place → Type 0
@@ -380,7 +385,7 @@ Concludes shown w (Ok ending) before after status =
     (status ≡ ending.status) × Hints w ending.has_other_form before.errors after.errors
     × (after ≡ record before { errors = after.errors })
 Concludes shown w (Err fault) before after status =
-    (status ≡ status_of fault) × ReportsFault shown w before.unkept fault before.errors after.errors
+    (status ≡ status_of fault) × ReportsFault shown w before.unkept before.found fault before.errors after.errors
     × (after ≡ record before { errors = after.errors })
 
 -- The program: what was typed is done, and the status is that of it.

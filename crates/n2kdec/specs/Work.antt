@@ -1,5 +1,5 @@
 -- The run of a command, from the bytes of a table and of a state, and why it stops.
-use Rattle.std.specs.Prelude.{◌≡◌, ◌≢◌, ◌⊎◌, ℕ, List, [], Option, Some, None, Result, Ok, Err, IfOk, Contains}
+use Rattle.std.specs.Prelude.{◌≡◌, ◌≢◌, ◌⊎◌, ℕ, List, [], Option, Some, None, Result, Ok, Err, Contains}
 use Rattle.n2k_table.specs.Table.{TableParts, faults, kind, table}
 use Rattle.n2k_table.specs.declared.fault.TableFault.{TableFault}
 use Rattle.n2k_table.specs.declared.fault.TableFault.TheVariants as table_faults
@@ -9,6 +9,7 @@ use Rattle.n2k_run.specs.Parts.{RunsFrom}
 use Rattle.n2k_run.specs.Plain.{plain_counts_of, plain_output}
 use Rattle.n2k_run.specs.Runs.{Devices, Runs}
 use Rattle.n2k_run.specs.declared.fault.RunFault.{RunFault}
+use Rattle.n2k_run.specs.declared.fault.RunFault.TheVariants as run_faults
 use Rattle.n2k_run.specs.declared.options.Options.{Options}
 use Rattle.n2k_run.specs.declared.part.Part.{Part}
 use Rattle.n2k_run.specs.declared.part.PartFault.{PartFault}
@@ -22,20 +23,30 @@ use Rattle.n2kdec.specs.declared.work.Stop.{Stop}
 
 -- ---- what is answered after a run
 
+-- how many lines were taken, where a read failed
+abbrev pub lines_at : RunFault → Counts → Option ℕ
+lines_at run_faults.Read counts = Some counts.lines
+lines_at _ counts = None
+
 -- a stop for a fault, with no Part
 abbrev pub stop_of : Fault → Stop
-stop_of fault = record { fault = fault; part = None }
+stop_of fault = record { fault = fault; part = None; lines = None }
 
--- after that of a whole log: its counts, and no state; or its fault
-abbrev pub AnswersWhole : Result Counts RunFault → Result Part Stop → Type 0
-AnswersWhole (Ok counts) (Ok part) = (part.state.items ≡ []) × (part.counts ≡ counts)
-AnswersWhole (Ok counts) (Err stop) = ⊥
-AnswersWhole (Err fault) result = result ≡ Err (stop_of (fault_of_run fault))
+-- one for the fault of a run that counted so much
+abbrev pub stop_of_run : RunFault → Counts → Stop
+stop_of_run fault counts = record { fault = fault_of_run fault; part = None; lines = lines_at fault counts }
+
+-- after that of a whole log, which counted so much: its counts, and no state; or its fault
+abbrev pub AnswersWhole : Counts → Result (Unit {0}) RunFault → Result Part Stop → Type 0
+AnswersWhole counts (Ok ended) (Ok part) = (part.state.items ≡ []) × (part.counts ≡ counts)
+AnswersWhole counts (Ok ended) (Err stop) = ⊥
+AnswersWhole counts (Err fault) result = result ≡ Err (stop_of_run fault counts)
 
 -- after that of a part: its Part; or its fault, with the Part that it has
 abbrev pub stop_of_part : PartFault → Stop
 stop_of_part (part_faults.State fault) = stop_of (State fault)
-stop_of_part (part_faults.Stopped fault part) = record { fault = fault_of_run fault; part = Some part }
+stop_of_part (part_faults.Stopped fault part) =
+    record { fault = fault_of_run fault; part = Some part; lines = lines_at fault part.counts }
 stop_of_part (part_faults.Run fault) = stop_of (fault_of_run fault)
 stop_of_part part_faults.Memory = stop_of Memory
 
@@ -47,17 +58,18 @@ answer_of_part (Err fault) = Err (stop_of_part fault)
 
 -- `plain`: the frames and whole messages of the log are printed
 pub record DoesPlain (before after : Devices) (result : Result Part Stop) : Type 0 where
-  pub ended : Result Counts RunFault
-  pub runs : Runs plain_output (λ es. IfOk ended (λ counts. counts ≡ plain_counts_of es)) before after ended
-  pub told : AnswersWhole ended result
+  pub ended : Result (Unit {0}) RunFault
+  pub counts : Counts
+  pub runs : Runs plain_output (λ es. counts ≡ plain_counts_of es) before after ended
+  pub told : AnswersWhole counts ended result
 
 -- `frames`, by a table and an interface: the messages of the log are written as frames
 pub record DoesFrames (t : TableParts) (interface : Option (List ℕ)) (before after : Devices)
     (result : Result Part Stop) : Type 0 where
-  pub ended : Result Counts RunFault
-  pub runs : Runs (frames_output t interface)
-      (λ es. IfOk ended (λ counts. counts ≡ frame_counts_of (kind t) interface es)) before after ended
-  pub told : AnswersWhole ended result
+  pub ended : Result (Unit {0}) RunFault
+  pub counts : Counts
+  pub runs : Runs (frames_output t interface) (λ es. counts ≡ frame_counts_of (kind t) interface es) before after ended
+  pub told : AnswersWhole counts ended result
 
 -- `decode`, by a table and options: the log is decoded from the state that is handed in, or from a log's beginning
 pub record DoesDecode (t : TableParts) (o : Options) (handed : Option (List ℕ)) (before after : Devices)

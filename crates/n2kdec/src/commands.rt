@@ -3,11 +3,13 @@ ghost use Rattle.std.specs.Prelude.{◌≡◌, ◌≤◌, IfErr, IfOk, IfSome, N
 ghost use Rattle.n2k_run.specs.Runs.{seen};
 ghost use Rattle.n2kdec.specs.Asked.{save_name};
 ghost use Rattle.n2kdec.specs.Commands.{HasStatus, IsRefusal, Performs, place, shelf};
+ghost use Rattle.n2kdec.specs.Found.{Finds};
 ghost use Rattle.n2kdec.specs.Inner.Closing.{Closes, ClosesPart, SumsUp};
 
 use crate::asked::Command;
 use crate::ending::{Ending, ending_of};
 use crate::fault::Fault;
+use crate::found::found_in;
 use crate::keeper::Keeper;
 use crate::machine::Outlets;
 use crate::work::{Stop, work};
@@ -93,7 +95,8 @@ fn close<K: Keeper, E: Sink>(
 /// fault, and after each fault of `plain` and `frames`, there is no summary, but for a part of it where the errors
 /// fail in it.
 ///
-/// A table or a state with a fault is refused before the log is read, and leaves each device as it was.
+/// A table or a state with a fault is refused before the log is read, and leaves each device as it was. What is found out
+/// about a fault goes to the outlets, too.
 pub fn run_command<R: Source, W: Sink, E: Sink, K: Keeper>(
     alloc: Global,
     command: &Command,
@@ -108,6 +111,8 @@ pub fn run_command<R: Source, W: Sink, E: Sink, K: Keeper>(
         (shelf (save_name command.now) (K.kept outlets.old.keeper) (K.failed_keeps outlets.old.keeper))
         (shelf (save_name command.now) (K.kept outlets.new.keeper) (K.failed_keeps outlets.new.keeper)) result }
     ensures admissions { K.failed_admissions outlets.new.keeper ≡ K.failed_admissions outlets.old.keeper }
+    ensures found { Finds command.now table.now (option_map (λ bytes. bytes.now) state.entry) (R.remaining log.old)
+        (R.remaining log.new) result outlets.new.found }
     ensures status { IfOk result (λ ending. IfSome (R.remaining log.old)
         (λ all. HasStatus command.now table.now (option_map (λ bytes. bytes.now) state.entry) all ending.status)) }
     ensures at_most_one { IfOk result (λ ending. ending.status ≤ 1) }
@@ -124,5 +129,6 @@ pub fn run_command<R: Source, W: Sink, E: Sink, K: Keeper>(
         &mut outlets.output,
         &mut outlets.errors,
     );
+    outlets.found = found_in(alloc, command, table, state, &ended);
     close(command, ended, &mut outlets.keeper, &mut outlets.errors)
 }

@@ -1,12 +1,14 @@
 //! What is said of a fault on a terminal, in one line: the file or the stream that it is of, what is wrong, what to do.
-ghost use Rattle.std.specs.Prelude.{◌≡◌, IfOk, option_map};
+ghost use Rattle.std.specs.Prelude.{◌≡◌, ◌++◌, IfOk, OnOk, decimal, option_map};
 ghost use Rattle.n2kdec.specs.FaultSentence.{advice_of, fault_sentence, fault_words};
 ghost use Rattle.n2kdec.specs.FaultSentence.{line_of, named, save_advice, state_advice, state_words, subject_of};
-ghost use Rattle.n2kdec.specs.FaultSentence.{table_advice, table_words, words_of};
+ghost use Rattle.n2kdec.specs.FaultSentence.{found_text, lines_text, some_lines_text, table_advice, table_words, tables_text, told_of};
+ghost use Rattle.n2kdec.specs.FaultSentence.{windows_text, words_of};
 
 use crate::asked::{Command, Files};
 use crate::escape::push_escaped;
 use crate::fault::Fault;
+use crate::found::Found;
 use crate::reason::Reason;
 use crate::words::Word;
 use n2k_join::StateFault;
@@ -75,6 +77,75 @@ fn words_of<'a>(fault: Fault, reason: &'a Option<Reason>) -> &'a str
         None => fault_words(fault),
         Some(Reason::System(words) | Reason::Unfound(words)) => words.as_str(),
         Some(Reason::Harm) => "this run reads it or prints to it, or to the new file beside it",
+    }
+}
+
+/// Appends a number.
+fn push_number(number: u64, text: &mut Vec<u8>) -> Result<(), AllocError>
+    ensures { OnOk result (text.new.items ≡ text.old.items ++ decimal number) }
+{
+    let mut buffer = itoa::Buffer::new();
+    text.extend_from_slice(buffer.format(number).as_bytes())
+}
+
+/// Appends the tables of a state that is another's: what it was saved under, and what the table of this name is.
+fn push_tables(saved: &str, name: &str, id: &str, text: &mut Vec<u8>) -> Result<(), AllocError>
+    ensures { OnOk result (text.new.items ≡ text.old.items ++ tables_text saved.now name.now id.now) }
+{
+    text.extend_from_slice(b" (SHA-256 ")?;
+    text.extend_from_slice(saved.as_bytes())?;
+    text.extend_from_slice(b"; that of ")?;
+    text.extend_from_slice(named(name).as_bytes())?;
+    text.extend_from_slice(b" is ")?;
+    text.extend_from_slice(id.as_bytes())?;
+    text.extend_from_slice(b")")
+}
+
+/// Appends the windows of a state that was saved under another.
+fn push_windows(saved: u64, window: u64, text: &mut Vec<u8>) -> Result<(), AllocError>
+    ensures { OnOk result (text.new.items ≡ text.old.items ++ windows_text saved window) }
+{
+    text.extend_from_slice(b" (")?;
+    push_number(saved, text)?;
+    text.extend_from_slice(b"; this run has ")?;
+    push_number(window, text)?;
+    text.extend_from_slice(b")")
+}
+
+/// Appends how many lines were read.
+fn push_some_lines(lines: u64, text: &mut Vec<u8>) -> Result<(), AllocError>
+    ensures { OnOk result (text.new.items ≡ text.old.items ++ some_lines_text lines) }
+{
+    text.extend_from_slice(b" (lines read before: ")?;
+    push_number(lines, text)?;
+    text.extend_from_slice(b")")
+}
+
+/// Appends how far a log was read, if anywhere.
+fn push_lines(lines: u64, text: &mut Vec<u8>) -> Result<(), AllocError>
+    ensures { OnOk result (text.new.items ≡ text.old.items ++ lines_text lines) }
+{
+    if lines == 0 {
+        Ok(())
+    } else {
+        push_some_lines(lines, text)
+    }
+}
+
+/// Appends what was found out about a fault.
+fn push_found(files: &Files, found: &Option<Found>, text: &mut Vec<u8>) -> Result<(), AllocError>
+    ensures { OnOk result (text.new.items ≡ text.old.items ++ found_text files.now found.now) }
+{
+    match found {
+        None => Ok(()),
+        Some(Found::Tables(saved, table)) => push_tables(
+            saved.as_str(),
+            text_of(&files.table).unwrap_or(""),
+            table.as_str(),
+            text,
+        ),
+        Some(Found::Windows(saved, window)) => push_windows(*saved, *window, text),
+        Some(Found::Lines(lines)) => push_lines(*lines, text),
     }
 }
 
@@ -160,37 +231,52 @@ fn named(subject: &str) -> &str
     if subject.is_empty() { "''" } else { subject }
 }
 
-/// The line of a subject, what is wrong with it, and what to do.
-fn line_of(alloc: Global, subject: &str, words: &str, advice: &str) -> Result<Vec<u8>, AllocError>
-    ensures { IfOk result (λ line. line.items ≡ line_of subject.now words.now advice.now) }
+/// A text as the line that is said of it: control characters are escaped, and an LF ends it.
+fn line_of(alloc: Global, text: &[u8]) -> Result<Vec<u8>, AllocError>
+    ensures { IfOk result (λ line. line.items ≡ line_of text.now) }
 {
-    let mut text = named(subject).as_bytes().to_vec(alloc)?;
-    text.extend_from_slice(b": ")?;
-    text.extend_from_slice(words.as_bytes())?;
-    text.extend_from_slice(advice.as_bytes())?;
     let mut line = b"n2kdec: ".to_vec(alloc)?;
-    push_escaped(false, &text, &mut line)?;
+    push_escaped(false, text, &mut line)?;
     line.extend_from_slice(b"\n")?;
     Ok(line)
 }
 
-/// What is said of a fault of a command over these files, for this reason: one line with its LF, in which control
-/// characters are escaped; nothing where it is of no file and no stream.
+/// What is said of a subject: what is wrong with it, what was found out, and what to do.
+fn told_of(
+    alloc: Global,
+    files: &Files,
+    subject: &str,
+    fault: Fault,
+    reason: &Option<Reason>,
+    found: &Option<Found>,
+) -> Result<Vec<u8>, AllocError>
+    ensures { IfOk result (λ text. text.items ≡ told_of files.now subject.now fault reason.now found.now) }
+{
+    let mut text = named(subject).as_bytes().to_vec(alloc)?;
+    text.extend_from_slice(b": ")?;
+    text.extend_from_slice(words_of(fault, reason).as_bytes())?;
+    push_found(files, found, &mut text)?;
+    text.extend_from_slice(advice_of(fault, reason).as_bytes())?;
+    Ok(text)
+}
+
+/// What is said of a fault of a command over these files, for this reason and with what was found out: one line with its
+/// LF, in which control characters are escaped; nothing where it is of no file and no stream.
 pub fn fault_sentence(
     alloc: Global,
     files: &Files,
     command: &Command,
     fault: Fault,
     reason: &Option<Reason>,
+    found: &Option<Found>,
 ) -> Result<Vec<u8>, AllocError>
-    ensures { IfOk result (λ text. text.items ≡ fault_sentence files.now command.now fault reason.now) }
+    ensures { IfOk result (λ text.
+        text.items ≡ fault_sentence files.now command.now fault reason.now found.now) }
 {
     match subject_of(files, command, fault) {
         Some(subject) => line_of(
             alloc,
-            subject,
-            words_of(fault, reason),
-            advice_of(fault, reason),
+            &told_of(alloc, files, subject, fault, reason, found)?,
         ),
         None => Ok(Vec::new(alloc)),
     }

@@ -4,12 +4,14 @@ ghost use Rattle.n2kdec.specs.FaultSentence.{IsAsKnown};
 ghost use Rattle.n2kdec.specs.Machine.{ClosesFile, FileUse, IsTerminal, OpensFile, World, bytes_named};
 
 use crate::fault::Fault;
+use crate::found::Found;
 use crate::reason::Reason;
 use crate::words::Word;
 use n2k_run::{Sink, Source};
 use std::alloc::Global;
 
-/// Where the program's texts go, each to a type of its own, so that one can't stand for the other.
+/// Where the program's texts go, each to a type of its own, so that one can't stand for the other; and what is found out
+/// about a fault.
 #[derive(Drop)]
 pub struct Outlets<W, E, K> {
     /// Standard output.
@@ -18,6 +20,8 @@ pub struct Outlets<W, E, K> {
     pub errors: E,
     /// What keeps a state.
     pub keeper: K,
+    /// What is found out about the fault that ended a command.
+    pub found: Option<Found>,
 }
 
 /// What the program meets.

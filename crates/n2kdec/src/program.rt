@@ -1,5 +1,5 @@
 //! From the words that were typed to the status that the program ends with, over any machine.
-ghost use Rattle.std.specs.Prelude.{◌≡◌, IfErr, IfOk, OnOk, map, option_and_then, option_map, string_bytes};
+ghost use Rattle.std.specs.Prelude.{◌≡◌, IfErr, IfOk, None, OnOk, map, option_and_then, option_map, string_bytes};
 ghost use Rattle.std.specs.Process.{exit_status};
 ghost use Rattle.clap.specs.Walk.{texts};
 ghost use Rattle.n2k_run.specs.Device.{HasFailed};
@@ -274,11 +274,13 @@ fn sentence_of<P: Parser, M: Machine, K: Keeper>(
     outlets: &Outlets<M::Output, M::Errors, K>,
     fault: Fault,
 ) -> Result<Vec<u8>, Fault>
-    ensures { IfOk result (λ text. IsSentenceOf (P.shown parser.now) (M.world machine.now) K.unkept fault text.items) }
+    ensures { IfOk result (λ text.
+        IsSentenceOf (P.shown parser.now) (M.world machine.now) K.unkept outlets.now.found fault text.items) }
 {
     let (files, command) = files_of(asked(typed_words(alloc, parser, machine)?));
     let reason = reason_of(alloc, machine, &files, &command, outlets, fault);
-    Ok(fault_sentence(alloc, &files, &command, fault, &reason)?)
+    let found = &outlets.found;
+    Ok(fault_sentence(alloc, &files, &command, fault, &reason, found)?)
 }
 
 /// What stands before the line of a fault. Where memory for it is refused, that is nothing.
@@ -289,7 +291,7 @@ fn text_before<P: Parser, M: Machine, K: Keeper>(
     outlets: &Outlets<M::Output, M::Errors, K>,
     fault: Fault,
 ) -> Vec<u8>
-    ensures { StandsBefore (P.shown parser.now) (M.world machine.now) K.unkept fault result.items }
+    ensures { StandsBefore (P.shown parser.now) (M.world machine.now) K.unkept outlets.now.found fault result.items }
 {
     if !machine.is_terminal() {
         return Vec::new(alloc);
@@ -330,6 +332,7 @@ pub fn run<P: Parser, M: Machine, K: Keeper>(
     machine: &mut M,
     outlets: &mut Outlets<M::Output, M::Errors, K>,
 ) -> ExitCode
+    requires { outlets.old.found ≡ None }
     ensures { RunsTyped (P.shown parser.now) (M.world machine.old)
         (outside M.Output.Sink M.Errors.Sink K.Keeper (M.files machine.old) outlets.old)
         (outside M.Output.Sink M.Errors.Sink K.Keeper (M.files machine.new) outlets.new) (exit_status result) }

@@ -495,6 +495,7 @@ fn what_was_typed_is_run(rt: HostRuntime) -> Result<(), Fail> {
         output: MemorySink::new(alloc, 100, 0),
         errors: MemorySink::new(alloc, 100, 0),
         keeper: MemoryKeeper::new(alloc),
+        found: None,
     };
     assert_eq!(rt;
         run(alloc, &ClapParser, &mut machine, &mut outlets),

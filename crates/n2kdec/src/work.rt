@@ -2,12 +2,14 @@
 ghost use Rattle.std.specs.Prelude.{◌≡◌, IfErr, None, option_map};
 ghost use Rattle.n2k_run.specs.Runs.{seen};
 ghost use Rattle.n2kdec.specs.Commands.{IsRefusal};
-ghost use Rattle.n2kdec.specs.Work.{AnswersWhole, Works, answer_of_part, stop_of, stop_of_part};
+ghost use Rattle.n2kdec.specs.Work.{AnswersWhole, Works, answer_of_part, lines_at, stop_of, stop_of_part, stop_of_run};
 
 use crate::asked::{Command, name_of};
 use crate::fault::Fault;
 use n2k_join::Counts;
-use n2k_run::{Part, PartFault, RunFault, Sink, Source, run_frames, run_part, run_plain};
+use n2k_run::{
+    Part, PartFault, RunFault, Sink, Source, run_frames_counted, run_part, run_plain_counted,
+};
 use n2k_table::Table;
 use std::alloc::Global;
 
@@ -19,6 +21,18 @@ pub struct Stop {
     /// Where `decode` stands after its last line, after a failed read and at the limit of lines: the log can go on from
     /// it.
     pub part: Option<Part>,
+    /// How many lines were taken before a failed read, those before a state too.
+    pub lines: Option<u64>,
+}
+
+/// How many lines were taken, where a read failed.
+fn lines_at(fault: RunFault, counts: &Counts) -> Option<u64>
+    ensures { result ≡ lines_at fault counts.now }
+{
+    match fault {
+        RunFault::Read => Some(counts.lines),
+        _ => None,
+    }
 }
 
 impl Stop {
@@ -26,7 +40,22 @@ impl Stop {
     fn from_fault(fault: Fault) -> Stop
         ensures { result ≡ stop_of fault }
     {
-        Stop { fault, part: None }
+        Stop {
+            fault,
+            part: None,
+            lines: None,
+        }
+    }
+
+    /// A stop for the fault of a run that counted so much.
+    fn from_run_fault(fault: RunFault, counts: &Counts) -> Stop
+        ensures { result ≡ stop_of_run fault counts.now }
+    {
+        Stop {
+            fault: Fault::from(fault),
+            part: None,
+            lines: lines_at(fault, counts),
+        }
     }
 
     /// A stop for the fault of a part, with the Part that it has.
@@ -37,6 +66,7 @@ impl Stop {
             PartFault::State(fault) => Stop::from_fault(Fault::State(fault)),
             PartFault::Stopped(fault, part) => Stop {
                 fault: Fault::from(fault),
+                lines: lines_at(fault, &part.counts),
                 part: Some(part),
             },
             PartFault::Run(fault) => Stop::from_fault(Fault::from(fault)),
@@ -45,16 +75,16 @@ impl Stop {
     }
 }
 
-/// What the run of a whole log comes to.
-fn whole(alloc: Global, ended: Result<Counts, RunFault>) -> Result<Part, Stop>
-    ensures { AnswersWhole ended result }
+/// What the run of a whole log comes to, which counted so much.
+fn whole(alloc: Global, counts: Counts, ended: Result<(), RunFault>) -> Result<Part, Stop>
+    ensures { AnswersWhole counts ended result }
 {
     match ended {
-        Ok(counts) => Ok(Part {
+        Ok(()) => Ok(Part {
             state: Vec::new(alloc),
             counts,
         }),
-        Err(fault) => Err(Stop::from_fault(Fault::from(fault))),
+        Err(fault) => Err(Stop::from_run_fault(fault, &counts)),
     }
 }
 
@@ -91,8 +121,9 @@ pub fn work<R: Source, W: Sink, E: Sink>(
 {
     match command {
         Command::Plain => {
-            let ended = run_plain(alloc, log, output, errors);
-            whole(alloc, ended)
+            let mut counts = Counts::NONE;
+            let ended = run_plain_counted(alloc, &mut counts, log, output, errors);
+            whole(alloc, counts, ended)
         }
         Command::Decode { options, .. } => match Table::read(alloc, table) {
             Ok(table) => {
@@ -103,8 +134,17 @@ pub fn work<R: Source, W: Sink, E: Sink>(
         },
         Command::Frames(interface) => match Table::read(alloc, table) {
             Ok(table) => {
-                let ended = run_frames(alloc, &table, name_of(interface), log, output, errors);
-                whole(alloc, ended)
+                let (name, mut counts) = (name_of(interface), Counts::NONE);
+                let ended = run_frames_counted(
+                    alloc,
+                    &table,
+                    name,
+                    &mut counts,
+                    log,
+                    output,
+                    errors,
+                );
+                whole(alloc, counts, ended)
             }
             Err(fault) => Err(Stop::from_fault(Fault::Table(fault))),
         },

@@ -67,6 +67,6 @@ returns-clause-runs g c =
           _ _ _ (bytes_named w files.log) _ _ _ is_table is_state (subst (λ v. g.M.File.Source.remaining c.in_ok-log.log ≡ bytes_named v files.log) (state.same ∙ table.same) opened.bytes) opened.none_called opened.none_failed
           (opened.files.answer.0 ∙ state.reads.answer.1 ∙ table.reads.answer.1) c.close.ensures.files.counted
           (called_more _ _ _ _ _ (called_after _ _ _ table.reads.called state.reads.called) opened.files.no_read c.close.ensures.files.called)
-          c.run_command-answer.ensures.performs;
+          c.run_command-answer.ensures.performs c.run_command-answer.ensures.found;
       none_refused = c.run_command-answer.ensures.admissions;
     })
